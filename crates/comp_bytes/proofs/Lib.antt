@@ -1,0 +1,10 @@
+pub mod Numbers
+pub mod Readers
+pub mod NumberLaws
+pub mod Writes
+pub mod PartLaws
+pub mod FormLaws
+pub mod DeclarationLaws
+pub mod HeldLaws
+pub mod NestedLaws
+pub mod ComponentLaws

@@ -1,0 +1,10 @@
+pub mod Number
+pub mod Form
+pub mod Raw
+pub mod Spelling
+pub mod Reading
+pub mod Answer
+pub mod Laws
+pub mod Writing
+pub mod Held
+pub mod FormatLaws

@@ -1,0 +1,93 @@
+//! Numbers in LEB128.
+
+ghost use Rattle.std.specs.Prelude.{◌≡◌, ◌≤◌, ◌+◌, ◌%◌, ◌++◌, length, OnOk, OnErr, IsOkUnless};
+ghost use Rattle.wit_model.specs.declared.error.Error.TheVariants.{Memory};
+ghost use Rattle.comp_bytes.specs.Writing.{u32_bytes};
+ghost use Rattle.comp_bytes.specs.Answer.{Gives, IsReadAt};
+ghost use Rattle.comp_bytes.specs.Number.{IsU32};
+ghost use Rattle.comp_bytes.specs.Reading.{unsigned_at, u32_at};
+
+use wit_model::{Cause, Error};
+
+/// A number in unsigned LEB128 of at most five bytes, and the bytes behind it.
+fn unsigned_of(bytes: &[u8]) -> Result<(u64, &[u8]), Cause>
+    ensures { Gives (λ n. n) result (unsigned_at 5 bytes.now) }
+{
+    let mut rest = bytes;
+    let mut value: u64 = 0;
+    let mut weight: u64 = 1;
+    for _ in 0..5u32 {
+        let Some((first, after)) = rest.split_first() else {
+            return Err(Cause::Truncated);
+        };
+        let byte = *first;
+        rest = after;
+        if byte < 128 {
+            return Ok((value + u64::from(byte) * weight, rest));
+        }
+        value += u64::from(byte - 128) * weight;
+        weight *= 128;
+    }
+    Err(Cause::BadNumber)
+}
+
+/// A number of 32 bits, and the bytes behind it.
+#[tactic(auto, unfolding(crate::specs::Reading::u32_at))]
+fn u32_of(bytes: &[u8]) -> Result<(u32, &[u8]), Cause>
+    ensures { Gives (λ n. n) result (u32_at bytes.now) }
+{
+    let (value, rest) = unsigned_of(bytes)?;
+    match u32::try_from(value) {
+        Ok(number) => Ok((number, rest)),
+        Err(_) => Err(Cause::BadNumber),
+    }
+}
+
+/// The number at the offset, and where it ends.
+pub fn read_u32(bytes: &[u8], at: usize) -> Result<(u32, usize), Error>
+    requires { at ≤ length bytes.now }
+    ensures { IsReadAt IsU32 bytes.now at result }
+{
+    let (_, rest) = bytes.split_at(at);
+    match u32_of(rest) {
+        Ok((number, rest)) => Ok((number, bytes.len() - rest.len())),
+        Err(cause) => Err(Error::NoReading(cause, at)),
+    }
+}
+
+/// Appends the shortest bytes of the number. An `Err` appends nothing.
+pub fn write_u32(out: &mut Vec<u8>, n: u32) -> Result<(), Error>
+    ensures ok { OnOk result (out.new.items ≡ out.old.items ++ u32_bytes n) }
+    ensures err { OnErr result (out.new.items ≡ out.old.items) }
+    ensures memory { IsOkUnless result Memory }
+{
+    if n < 0x80 {
+        Ok(out.extend_from_slice(&[n as u8])?)
+    } else if n < 0x4000 {
+        Ok(out.extend_from_slice(&[low_bits(n), (n / 0x80) as u8])?)
+    } else if n < 0x20_0000 {
+        Ok(out.extend_from_slice(&[low_bits(n), low_bits(n / 0x80), (n / 0x4000) as u8])?)
+    } else if n < 0x1000_0000 {
+        Ok(out.extend_from_slice(&[
+            low_bits(n),
+            low_bits(n / 0x80),
+            low_bits(n / 0x4000),
+            (n / 0x20_0000) as u8,
+        ])?)
+    } else {
+        Ok(out.extend_from_slice(&[
+            low_bits(n),
+            low_bits(n / 0x80),
+            low_bits(n / 0x4000),
+            low_bits(n / 0x20_0000),
+            (n / 0x1000_0000) as u8,
+        ])?)
+    }
+}
+
+/// The low seven bits, in a byte that others follow.
+fn low_bits(n: u32) -> u8
+    ensures { result ≡ n % 128 + 128 }
+{
+    (n % 0x80) as u8 + 0x80
+}

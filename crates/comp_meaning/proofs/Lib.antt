@@ -1,0 +1,2 @@
+pub mod MeaningLaws
+mod Rows

@@ -1,0 +1,27 @@
+-- What bytes mean is what reading them gives, so they mean one thing at most.
+use Rattle.std.proofs.Common.{List, Option, sym, ap, ◌∙◌}
+use Rattle.comp_bytes.specs.Raw.{Section}
+use Rattle.comp_bytes.specs.Reading.{component_of, ◌>>=◌}
+use Rattle.comp_meaning.specs.Reads.{package_meaning, world_package}
+use Rattle.comp_meaning.specs.Meanings.{OneMeaning, OneWorld, MeaningIsRead, WorldIsRead}
+use Rattle.comp_bytes.proofs.Readers.{bind_some}
+use Rattle.comp_bytes.proofs.PartLaws.{some_is}
+use Rattle.comp_bytes.proofs.ComponentLaws.{component_takes, component_again}
+
+pub meaning_is_read : MeaningIsRead
+meaning_is_read bytes m = (
+  λ r. ap (λ (found : Option (List Section)). found >>= package_meaning) (component_again bytes r.sections r.spelled) ∙ r.means,
+  λ e. let b = bind_some (component_of bytes) package_meaning m e in record { sections = b.0; spelled = component_takes bytes b.0 b.1; means = b.2 },
+)
+
+pub world_is_read : WorldIsRead
+world_is_read bytes m = (
+  λ r. ap (λ (found : Option (List Section)). found >>= world_package) (component_again bytes r.sections r.spelled) ∙ r.means,
+  λ e. let b = bind_some (component_of bytes) world_package m e in record { sections = b.0; spelled = component_takes bytes b.0 b.1; means = b.2 },
+)
+
+pub one_meaning : OneMeaning
+one_meaning bytes m n p q = some_is m n (sym ((meaning_is_read bytes m).0 p) ∙ (meaning_is_read bytes n).0 q)
+
+pub one_world : OneWorld
+one_world bytes m n p q = some_is m n (sym ((world_is_read bytes m).0 p) ∙ (world_is_read bytes n).0 q)

@@ -1,0 +1,5 @@
+pub mod Follow
+pub mod Same
+pub mod Rules
+pub mod Reads
+pub mod Meanings

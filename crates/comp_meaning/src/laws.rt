@@ -1,0 +1,11 @@
+//! Laws of the meaning of bytes.
+
+ghost use Rattle.comp_meaning.specs.Meanings.{MeaningIsRead, OneMeaning, OneWorld, WorldIsRead};
+
+/// A byte string means one package and one world at most, which is what reading it gives.
+pub fn one_meaning()
+    ensures one_package { OneMeaning }
+    ensures one_world { OneWorld }
+    ensures read { MeaningIsRead }
+    ensures read_world { WorldIsRead }
+{}

@@ -1,0 +1,16 @@
+//! The data of WIT packages: packages, interfaces, worlds and types that are named by number, their names, and validity.
+#![tactic(auto)]
+
+mod error;
+pub mod laws;
+mod model;
+mod names;
+
+pub use error::{Cause, ClashKind, EntryList, Error, Fault};
+pub use model::{
+    Case, Docs, Enum, EnumCase, Field, Flag, Flags, Function, FunctionKind, Handle, Interface,
+    InterfaceId, Map, Package, PackageId, PackageName, Param, Record, Resolve, Result_, Stability,
+    StringEncoding, Tuple, Type, TypeDef, TypeDefKind, TypeId, TypeOwner, Variant, World, WorldId,
+    WorldItem, WorldKey,
+};
+pub use names::{is_label, is_version};
