@@ -6,5 +6,10 @@ pub mod Reading
 pub mod Answer
 pub mod Laws
 pub mod Writing
+pub mod RawOf
+pub mod Fits
+pub mod Refusal
 pub mod Held
+pub mod Codes
+pub mod Appending
 pub mod FormatLaws

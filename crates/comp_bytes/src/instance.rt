@@ -1,20 +1,30 @@
 //! An instance type under construction.
 
-ghost use Rattle.std.specs.Prelude.{◌≡◌, [], ◌∷◌, ◌++◌, OnOk, OnErr};
-ghost use Rattle.comp_bytes.specs.Writing.{declaration_bytes, u32_bytes};
-ghost use Rattle.comp_bytes.specs.Raw.{Declaration, Alias};
-ghost use Rattle.comp_bytes.specs.Held.{Begins, type_slots};
+ghost use Rattle.std.specs.Prelude.{◌≡◌, [], ◌∷◌, ◌++◌, false, Err, OnOk, OnErr, IfErr};
+ghost use Rattle.wit_model.specs.declared.error.Error.TheVariants.{Size};
+ghost use Rattle.comp_bytes.specs.Raw.{Declaration};
+ghost use Rattle.comp_bytes.specs.RawOf.{raw_defined, raw_function, raw_alias, raw_name};
+ghost use Rattle.comp_bytes.specs.Held.{type_slots, fits_next};
+ghost use Rattle.comp_bytes.specs.Refusal.{IsMemoryOrSize};
 
-use wit_model::Error;
-use crate::number::write_u32;
+use crate::declare::{declare_alias, declare_defined, declare_export, declare_function};
+use crate::forms::{
+    Alias, ComponentDefinedType, ComponentExternName, ComponentFuncType, ComponentTypeRef,
+};
+use crate::nested::{counts_on, described_slots};
 use std::alloc::Global;
 use std::marker::Model;
+use wit_model::Error;
 
-/// The declarations of an instance type, as its bytes.
+/// The declarations of an instance type (`instancetype`), as their bytes.
+///
+/// Each call appends one declaration, in its shortest bytes, in amortised time linear in them. An `Err` appends nothing:
+/// `Memory` where a growth was refused, `Size` where a length or a count in the declaration, the number of declarations or
+/// the number of type indexes doesn't fit in 32 bits.
 #[derive(Drop)]
 pub struct InstanceType {
-    bytes: Vec<u8>,
-    count: u32,
+    pub(crate) bytes: Vec<u8>,
+    pub(crate) count: u32,
     types: u32,
 }
 
@@ -31,6 +41,7 @@ impl Model for InstanceType {
 }
 
 impl InstanceType {
+    /// No declarations. Takes no memory.
     pub fn new(alloc: Global) -> Self
         ensures { result ≡ [] }
     {
@@ -41,46 +52,67 @@ impl InstanceType {
         }
     }
 
-    /// How many type indexes the declarations take.
+    /// How many type indexes the declarations take: one for each type, each alias and each export of a type. Takes constant
+    /// time.
     pub fn type_count(&self) -> u32
         ensures { result ≡ type_slots self.now }
     {
         self.types
     }
 
-    /// Declares an alias of a type of a scope around. An `Err` declares nothing.
-    pub fn outer_alias(&mut self, scopes: u32, index: u32) -> Result<(), Error>
-        ensures ok { OnOk result (self.new ≡ self.old ++ Declaration.alias_of (Alias.of_outer scopes index) ∷ []) }
+    /// Defines a value type, which takes the next type index.
+    pub fn defined(&mut self, def: &ComponentDefinedType) -> Result<(), Error>
+        ensures ok { OnOk result (self.new ≡ self.old ++ Declaration.defined (raw_defined def.now) ∷ []) }
         ensures err { OnErr result (self.new ≡ self.old) }
+        ensures size { result ≡ Err Size → fits_next self.old (Declaration.defined (raw_defined def.now)) ≡ false }
+        ensures refuses { IfErr result IsMemoryOrSize }
     {
-        let Some(count) = self.count.checked_add(1) else {
-            return Err(Error::Size);
-        };
-        let Some(types) = self.types.checked_add(1) else {
-            return Err(Error::Size);
-        };
-        let length = self.bytes.len();
-        match put_outer_alias(&mut self.bytes, scopes, index) {
-            Ok(()) => {
-                self.count = count;
-                self.types = types;
-                Ok(())
-            }
-            Err(error) => {
-                self.bytes.truncate(length);
-                Err(error)
-            }
-        }
+        let (count, types) = counts_on(self.count, self.types, 1)?;
+        declare_defined(&mut self.bytes, def)?;
+        self.count = count;
+        self.types = types;
+        Ok(())
     }
-}
 
-/// Appends the bytes of an alias. An `Err` may leave some of them.
-fn put_outer_alias(out: &mut Vec<u8>, scopes: u32, index: u32) -> Result<(), Error>
-    ensures ok { OnOk result (out.new.items ≡ out.old.items ++ declaration_bytes (Declaration.alias_of (Alias.of_outer scopes index))) }
-    ensures err { OnErr result (Begins out.old.items out.new.items) }
-{
-    out.extend_from_slice(&[2, 3, 2])?;
-    write_u32(out, scopes)?;
-    write_u32(out, index)?;
-    Ok(())
+    /// Defines a function type, which takes the next type index.
+    pub fn function(&mut self, function: &ComponentFuncType) -> Result<(), Error>
+        ensures ok { OnOk result (self.new ≡ self.old ++ Declaration.function (raw_function function.now) ∷ []) }
+        ensures err { OnErr result (self.new ≡ self.old) }
+        ensures size { result ≡ Err Size → fits_next self.old (Declaration.function (raw_function function.now)) ≡ false }
+        ensures refuses { IfErr result IsMemoryOrSize }
+    {
+        let (count, types) = counts_on(self.count, self.types, 1)?;
+        declare_function(&mut self.bytes, function)?;
+        self.count = count;
+        self.types = types;
+        Ok(())
+    }
+
+    /// Takes the next type index for a type that stands elsewhere.
+    pub fn alias(&mut self, alias: &Alias) -> Result<(), Error>
+        ensures ok { OnOk result (self.new ≡ self.old ++ Declaration.alias_of (raw_alias alias.now) ∷ []) }
+        ensures err { OnErr result (self.new ≡ self.old) }
+        ensures size { result ≡ Err Size → fits_next self.old (Declaration.alias_of (raw_alias alias.now)) ≡ false }
+        ensures refuses { IfErr result IsMemoryOrSize }
+    {
+        let (count, types) = counts_on(self.count, self.types, 1)?;
+        declare_alias(&mut self.bytes, alias)?;
+        self.count = count;
+        self.types = types;
+        Ok(())
+    }
+
+    /// Exports something under a name. A type takes the next type index.
+    pub fn export(&mut self, name: &ComponentExternName, ty: ComponentTypeRef) -> Result<(), Error>
+        ensures ok { OnOk result (self.new ≡ self.old ++ Declaration.exported (raw_name name.now) ty ∷ []) }
+        ensures err { OnErr result (self.new ≡ self.old) }
+        ensures size { result ≡ Err Size → fits_next self.old (Declaration.exported (raw_name name.now) ty) ≡ false }
+        ensures refuses { IfErr result IsMemoryOrSize }
+    {
+        let (count, types) = counts_on(self.count, self.types, described_slots(ty))?;
+        declare_export(&mut self.bytes, name, ty)?;
+        self.count = count;
+        self.types = types;
+        Ok(())
+    }
 }

@@ -1,0 +1,84 @@
+-- How what one step appends goes with what the steps before it did.
+use Rattle.std.proofs.Common.{◌≡◌, ℕ, Bool, true, false, ◌&&◌, List, [], ◌∷◌, ◌++◌, Result, Ok, Err, OnOk, OnErr, IsOkUnless, IsErrAnd, refl, sym, ap, subst, ◌∙◌, append_assoc}
+use Rattle.std.proofs.lemmas.List.{append-nil}
+use Rattle.wit_model.specs.declared.error.Error.{Error}
+use Rattle.wit_model.specs.declared.error.Error.TheVariants as errors
+use Rattle.comp_bytes.specs.Form.{Spellings, Are, Tagged, Joined}
+use Rattle.comp_bytes.specs.Held.{Begins}
+use Rattle.comp_bytes.specs.Refusal.{IsMemoryOrSize}
+use Rattle.comp_bytes.specs.Appending.{Appended, Stopped, Appends}
+
+-- ---- what a test on the whole says where it fails on a part
+
+pub first_fails : (a b : Bool) → a ≡ false → a && b ≡ false
+first_fails false b e = refl
+first_fails true b e = absurd cc
+
+pub second_fails : (a b : Bool) → b ≡ false → a && b ≡ false
+second_fails false b e = refl
+second_fails true b e = e
+
+-- ---- refusals
+
+pub begins_same : (old : List ℕ) → Begins old old
+begins_same old = ([], sym (append-nil old))
+
+pub begins_after : (old text mid new : List ℕ) → mid ≡ old ++ text → Begins mid new → Begins old new
+begins_after old text mid new e b = (text ++ b.0, b.1 ∙ ap (λ (l : List ℕ). l ++ b.0) e ∙ append_assoc old text b.0)
+
+-- want of memory where nothing has been appended
+pub no_memory : (fits : Bool) (old new : List ℕ) (e : Error) → e ≡ errors.Memory → new ≡ old → Stopped fits old new e
+no_memory fits old new errors.Memory m same = record { kept = ([], same ∙ sym (append-nil old)); size = λ s. absurd cc; refuses = tt }
+no_memory fits old new e m same = absurd cc
+
+-- a refusal where nothing, or a first part, has been appended; the whole does not fit where the part does not
+pub stopped : (part whole : Bool) (old new : List ℕ) (e : Error) → Stopped part old new e → (part ≡ false → whole ≡ false) → Stopped whole old new e
+stopped part whole old new e s falls = record { kept = s.kept; size = λ is. falls (s.size is); refuses = s.refuses }
+
+pub stopped_after : (part whole : Bool) (form : Spellings) (text old mid new : List ℕ) (e : Error) → Appended form text old mid → Stopped part mid new e → (part ≡ false → whole ≡ false) → Stopped whole old new e
+stopped_after part whole form text old mid new e a s falls = record {
+  kept = begins_after old text mid new a.items s.kept;
+  size = λ is. falls (s.size is);
+  refuses = s.refuses;
+}
+
+pub no_memory_after : (fits : Bool) (form : Spellings) (text old mid new : List ℕ) (e : Error) → Appended form text old mid → e ≡ errors.Memory → new ≡ mid → Stopped fits old new e
+no_memory_after fits form text old mid new e a m same = stopped_after fits fits form text old mid new e a (no_memory fits mid new e m same) (λ h. h)
+
+-- as an answer
+pub refused : {X : Type 0} (form : Spellings) (text : List ℕ) (fits : Bool) (old new : List ℕ) (e : Error) → Stopped fits old new e → Appends {X = X} form text fits old new (Err e)
+refused form text fits old new e s = record { ok = tt; err = s }
+
+pub done : {X : Type 0} (form : Spellings) (text : List ℕ) (fits : Bool) (old new : List ℕ) (x : X) → new ≡ old ++ text → form text → Appends form text fits old new (Ok x)
+done form text fits old new x items spelled = record { ok = record { items = items; spelled = spelled }; err = tt }
+
+-- ---- a part behind the parts that stand
+
+-- a writer that refuses for want of memory alone, and then leaves the bytes as they were
+pub by_memory : {X : Type 0} (form : Spellings) (text : List ℕ) (fits : Bool) (old new : List ℕ) (r : Result X Error)
+    → form text → OnOk r (new ≡ old ++ text) → OnErr r (new ≡ old) → IsOkUnless r errors.Memory → Appends form text fits old new r
+by_memory form text fits old new (Ok x) s ok err memory = done form text fits old new x ok s
+by_memory form text fits old new (Err e) s ok err memory = refused form text fits old new e (no_memory fits old new e memory err)
+
+pub joined : {X : Type 0} (first second : Spellings) (front back : List ℕ) (part whole : Bool) (old mid new : List ℕ) (r : Result X Error)
+    → Appended first front old mid → Appends second back part mid new r → (part ≡ false → whole ≡ false) → Appends (Joined first second) (front ++ back) whole old new r
+joined first second front back part whole old mid new (Ok x) a b falls =
+    done (Joined first second) (front ++ back) whole old new x
+    (b.ok.items ∙ ap (λ (l : List ℕ). l ++ back) a.items ∙ append_assoc old front back)
+    (front, back, refl, a.spelled, b.ok.spelled)
+joined first second front back part whole old mid new (Err e) a b falls =
+    refused (Joined first second) (front ++ back) whole old new e (stopped_after part whole first front old mid new e a b.err falls)
+
+pub tagged : {X : Type 0} (tag : ℕ) (form : Spellings) (text : List ℕ) (fits : Bool) (old mid new : List ℕ) (r : Result X Error)
+    → mid ≡ old ++ tag ∷ [] → Appends form text fits mid new r → Appends (Tagged tag form) (tag ∷ text) fits old new r
+tagged tag form text fits old mid new (Ok x) e a =
+    done (Tagged tag form) (tag ∷ text) fits old new x
+    (a.ok.items ∙ ap (λ (l : List ℕ). l ++ text) e ∙ append_assoc old (tag ∷ []) text)
+    (text, refl, a.ok.spelled)
+tagged tag form text fits old mid new (Err x) e a =
+    refused (Tagged tag form) (tag ∷ text) fits old new x (stopped_after fits fits (Are (tag ∷ [])) (tag ∷ []) old mid new x (record { items = e; spelled = refl }) a.err (λ h. h))
+
+-- a refusal of a part that is passed on
+pub passed_on : {X : Type 0} (form : Spellings) (text : List ℕ) (fits : Bool) (old new : List ℕ) (e : Error) (r : Result X Error) → IsErrAnd r (λ given. given ≡ e) → Stopped fits old new e → Appends form text fits old new r
+passed_on form text fits old new e (Ok x) h s = absurd h
+passed_on form text fits old new e (Err given) h s = refused form text fits old new given (subst (λ (x : Error). Stopped fits old new x) (sym h) s)

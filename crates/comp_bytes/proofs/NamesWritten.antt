@@ -1,0 +1,54 @@
+-- A name of an import or an export, from what the steps that append it do.
+use Rattle.std.proofs.Common.{◌≡◌, ℕ, ◌+◌, ◌^◌, ◌<◌, ◌≤◌, Bool, true, false, ◌&&◌, List, [], ◌∷◌, ◌++◌, length, Option, Some, None, Result, refl, sym, ap, ◌∙◌, arith, length-append}
+use Rattle.std.specs.List.{flat_map}
+use Rattle.wit_model.specs.declared.error.Error.{Error}
+use Rattle.comp_bytes.specs.Form.{Spellings, Joined, Name, Sequence, Vector}
+use Rattle.comp_bytes.specs.Number.{IsU32}
+use Rattle.comp_bytes.specs.Raw.{ExternName}
+use Rattle.comp_bytes.specs.Spelling.{attribute, attributes, Attribute, NameWith, IsExternName}
+use Rattle.comp_bytes.specs.Reading.{plain_name}
+use Rattle.comp_bytes.specs.Writing.{u32_bytes, name_bytes, vector_bytes, attribute_bytes, attributed_bytes, extern_name_bytes}
+use Rattle.comp_bytes.specs.Fits.{fits_length, fits_given, fits_attributes, fits_name}
+use Rattle.comp_bytes.specs.Appending.{Appended, Appends}
+use Rattle.comp_bytes.proofs.Appends.{first_fails, second_fails, joined, tagged}
+use Rattle.comp_bytes.proofs.Writes.{bytes_1, spells_u32}
+use Rattle.comp_bytes.proofs.Sequences.{both, behind}
+
+length-attribute : (tag : ℕ) (text : Option (List ℕ)) → length (attribute tag text) ≤ 1
+length-attribute tag None = omega arith
+length-attribute tag (Some text) = omega arith
+
+pub length-attributes : (name : ExternName) → length (attributes name) ≤ 3
+length-attributes name =
+    let three = length-append (attribute 0 name.implements ++ attribute 1 name.version_suffix) (attribute 2 name.external_id) in
+    let two = length-append (attribute 0 name.implements) (attribute 1 name.version_suffix) in
+    omega (arith, three, two, length-attribute 0 name.implements, length-attribute 1 name.version_suffix, length-attribute 2 name.external_id)
+
+module _ {X : Type 0} where
+  -- the three attributes, each where it is given
+  pub three : (name : ExternName) (old one two new : List ℕ) (r : Result X Error)
+      → Appended (Sequence Attribute (attribute 0 name.implements)) (flat_map attribute_bytes (attribute 0 name.implements)) old one
+      → Appended (Sequence Attribute (attribute 1 name.version_suffix)) (flat_map attribute_bytes (attribute 1 name.version_suffix)) one two
+      → Appends (Sequence Attribute (attribute 2 name.external_id)) (flat_map attribute_bytes (attribute 2 name.external_id)) (fits_given name.external_id) two new r
+      → Appends (Sequence Attribute (attributes name)) (flat_map attribute_bytes (attributes name)) (fits_attributes name) old new r
+  three name old one two new r a b c =
+      let first = both Attribute attribute_bytes (attribute 0 name.implements) (attribute 1 name.version_suffix) old one two a b in
+      behind Attribute attribute_bytes (attribute 0 name.implements ++ attribute 1 name.version_suffix) (attribute 2 name.external_id) (fits_given name.external_id) (fits_attributes name) old two new r first c
+      (λ fails. second_fails (fits_given name.implements) _ (second_fails (fits_given name.version_suffix) _ fails))
+
+  -- 02, the text, the count of the attributes and the attributes
+  pub attributed : (given : List (ℕ × List ℕ)) (text : List ℕ) (n : ℕ) (part : Bool) (old tag named counted new : List ℕ) (r : Result X Error)
+      → 0 < n → n < 128 → n ≡ length given → tag ≡ old ++ 2 ∷ [] → Appended (Name text) (name_bytes text) tag named → counted ≡ named ++ n ∷ []
+      → Appends (Sequence Attribute given) (flat_map attribute_bytes given) part counted new r
+      → Appends (NameWith given text) (attributed_bytes given text) (fits_length text && part) old new r
+  attributed [] text n part old tag named counted new r some small e t a c b = absurd (omega arith)
+  attributed (first ∷ others) text n part old tag named counted new r some small e t a c b =
+      let bytes : u32_bytes (length (first ∷ others)) ≡ n ∷ [] = ap u32_bytes (sym e) ∙ bytes_1 n small in
+      let fits : length (first ∷ others) < 2 ^ 32 = omega arith in
+      let count : Appended (IsU32 (length (first ∷ others))) (u32_bytes (length (first ∷ others))) named counted = record {
+        items = c ∙ ap (λ (l : List ℕ). named ++ l) (sym bytes);
+        spelled = spells_u32 (length (first ∷ others)) fits;
+      } in
+      let vector = joined (IsU32 (length (first ∷ others))) (Sequence Attribute (first ∷ others)) (u32_bytes (length (first ∷ others))) (flat_map attribute_bytes (first ∷ others)) part part named counted new r count b (λ h. h) in
+      let whole = joined (Name text) (Vector Attribute (first ∷ others)) (name_bytes text) (vector_bytes attribute_bytes (first ∷ others)) part (fits_length text && part) tag named new r a vector (second_fails (fits_length text) part) in
+      tagged 2 (Joined (Name text) (Vector Attribute (first ∷ others))) (name_bytes text ++ vector_bytes attribute_bytes (first ∷ others)) (fits_length text && part) old tag new r t whole

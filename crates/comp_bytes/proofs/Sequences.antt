@@ -1,0 +1,88 @@
+-- One item behind the items that a loop has appended.
+use Rattle.std.proofs.Common.{◌≡◌, ℕ, suc, ◌+◌, ◌<◌, Bool, true, false, ◌&&◌, List, [], ◌∷◌, ◌++◌, length, get_or, take, drop, map, Result, Ok, Err, refl, sym, ap, subst, ◌∙◌, arith, append_assoc, add-one}
+use Rattle.std.specs.List.{flat_map, list_all}
+use Rattle.std.proofs.Math.Seq.{take-suc, drop-cons}
+use Rattle.std.proofs.Math.ListN.{get_or-map}
+use Rattle.std.proofs.lemmas.List.{append-nil, length-map, take-append-drop}
+use Rattle.std.proofs.lemmas.List.Folds.{list_all-append}
+use Rattle.wit_model.specs.declared.error.Error.{Error}
+use Rattle.comp_bytes.specs.Form.{Spellings, Sequence}
+use Rattle.comp_bytes.specs.Appending.{Appended, Stopped, Appends}
+use Rattle.comp_bytes.proofs.HeldLaws.{sequence_push}
+use Rattle.comp_bytes.proofs.Appends.{first_fails, second_fails, stopped_after, refused, done}
+
+flat_map-push : {A : Type 0} (f : A → List ℕ) (xs : List A) (y : A) → flat_map f (xs ++ y ∷ []) ≡ flat_map f xs ++ f y
+flat_map-push f [] y = append-nil (f y)
+flat_map-push f (x ∷ xs) y = ap (λ (l : List ℕ). f x ++ l) (flat_map-push f xs y) ∙ sym (append_assoc (f x) (flat_map f xs) (f y))
+
+module _ {A : Type 0} (form : A → Spellings) (bytes : A → List ℕ) where
+  pub one_more : (xs : List A) (y : A) (old now new : List ℕ) → Appended (Sequence form xs) (flat_map bytes xs) old now → Appended (form y) (bytes y) now new
+      → Appended (Sequence form (xs ++ y ∷ [])) (flat_map bytes (xs ++ y ∷ [])) old new
+  one_more xs y old now new a b = rw (flat_map-push bytes xs y) (record {
+    items = b.items ∙ ap (λ (l : List ℕ). l ++ bytes y) a.items ∙ append_assoc old (flat_map bytes xs) (bytes y);
+    spelled = sequence_push form xs y (flat_map bytes xs) (bytes y) a.spelled b.spelled;
+  })
+
+  -- the item at the index of the loop
+  pub next : (xs : List A) (i : ℕ) (d : A) (old now new : List ℕ) → i < length xs → Appended (Sequence form (take i xs)) (flat_map bytes (take i xs)) old now
+      → Appended (form (get_or xs i d)) (bytes (get_or xs i d)) now new → Appended (Sequence form (take (i + 1) xs)) (flat_map bytes (take (i + 1) xs)) old new
+  next xs i d old now new lt a b =
+      let e : take (i + 1) xs ≡ take i xs ++ get_or xs i d ∷ [] = rw add-one (take-suc xs i d lt) in
+      subst (λ (ys : List A). Appended (Sequence form ys) (flat_map bytes ys) old new) (sym e) (one_more (take i xs) (get_or xs i d) old now new a b)
+
+  -- the same, where the items are seen as forms
+  pub next_of : {S : Type 0} (view : S → A) (xs : List S) (i : ℕ) (d : S) (old now new : List ℕ) → i < length xs
+      → Appended (Sequence form (take i (map view xs))) (flat_map bytes (take i (map view xs))) old now
+      → Appended (form (view (get_or xs i d))) (bytes (view (get_or xs i d))) now new
+      → Appended (Sequence form (take (i + 1) (map view xs))) (flat_map bytes (take (i + 1) (map view xs))) old new
+  next_of view xs i d old now new lt a b =
+      let within : i < length (map view xs) = omega (arith, length-map xs view) in
+      let e : get_or (map view xs) i (view d) ≡ view (get_or xs i d) = get_or-map view xs i d in
+      next (map view xs) i (view d) old now new within a (subst (λ (y : A). Appended (form y) (bytes y) now new) (sym e) b)
+
+-- a test on all fails where it fails at one
+list_all-fails : {A : Type 0} (test : A → Bool) (xs : List A) (i : ℕ) (d : A) → i < length xs → test (get_or xs i d) ≡ false → list_all test xs ≡ false
+list_all-fails test xs i d lt e =
+    let parts : take i xs ++ (get_or xs i d ∷ drop (suc i) xs) ≡ xs = ap (λ l. take i xs ++ l) (sym (drop-cons xs i d lt)) ∙ take-append-drop i xs in
+    let split : list_all test xs ≡ (list_all test (take i xs) && (test (get_or xs i d) && list_all test (drop (suc i) xs))) =
+    ap (list_all test) (sym parts) ∙ list_all-append test (take i xs) (get_or xs i d ∷ drop (suc i) xs) in
+    split ∙ second_fails (list_all test (take i xs)) _ (first_fails (test (get_or xs i d)) _ e)
+
+pub stopped_at : {S A : Type 0} (form : A → Spellings) (bytes : A → List ℕ) (test : A → Bool) (view : S → A) (xs : List S) (i : ℕ) (d : S) (old now new : List ℕ) (e : Error) → i < length xs
+    → Appended (Sequence form (take i (map view xs))) (flat_map bytes (take i (map view xs))) old now → Stopped (test (view (get_or xs i d))) now new e → Stopped (list_all test (map view xs)) old new e
+stopped_at form bytes test view xs i d old now new e lt a s =
+    let within : i < length (map view xs) = omega (arith, length-map xs view) in
+    let is : get_or (map view xs) i (view d) ≡ view (get_or xs i d) = get_or-map view xs i d in
+    stopped_after (test (view (get_or xs i d))) (list_all test (map view xs)) (Sequence form (take i (map view xs))) (flat_map bytes (take i (map view xs))) old now new e a s
+    (λ fails. list_all-fails test (map view xs) i (view d) within (ap test is ∙ fails))
+
+-- ---- sequences behind sequences
+
+Sequence-append : {A : Type 0} (form : A → Spellings) (xs ys : List A) (front back : List ℕ) → Sequence form xs front → Sequence form ys back → Sequence form (xs ++ ys) (front ++ back)
+Sequence-append form [] ys front back s t = rw s t
+Sequence-append form (x ∷ xs) ys front back s t =
+    (s.0, s.1 ++ back, ap (λ (l : List ℕ). l ++ back) s.2 ∙ append_assoc s.0 s.1 back, s.3, Sequence-append form xs ys s.1 back s.4 t)
+
+flat_map-append : {A : Type 0} (f : A → List ℕ) (xs ys : List A) → flat_map f (xs ++ ys) ≡ flat_map f xs ++ flat_map f ys
+flat_map-append f [] ys = refl
+flat_map-append f (x ∷ xs) ys = ap (λ (l : List ℕ). f x ++ l) (flat_map-append f xs ys) ∙ sym (append_assoc (f x) (flat_map f xs) (flat_map f ys))
+
+module _ {A : Type 0} (form : A → Spellings) (bytes : A → List ℕ) where
+  pub both : (xs ys : List A) (old mid new : List ℕ) → Appended (Sequence form xs) (flat_map bytes xs) old mid → Appended (Sequence form ys) (flat_map bytes ys) mid new → Appended (Sequence form (xs ++ ys)) (flat_map bytes (xs ++ ys)) old new
+  both xs ys old mid new a b = rw (flat_map-append bytes xs ys) (record {
+    items = b.items ∙ ap (λ (l : List ℕ). l ++ flat_map bytes ys) a.items ∙ append_assoc old (flat_map bytes xs) (flat_map bytes ys);
+    spelled = Sequence-append form xs ys (flat_map bytes xs) (flat_map bytes ys) a.spelled b.spelled;
+  })
+
+module _ {A X : Type 0} (form : A → Spellings) (bytes : A → List ℕ) where
+  -- one item is a sequence
+  pub alone : (x : A) (fits : Bool) (old new : List ℕ) (r : Result X Error) → Appends (form x) (bytes x) fits old new r → Appends (Sequence form (x ∷ [])) (flat_map bytes (x ∷ [])) fits old new r
+  alone x fits old new (Ok y) a = done _ _ _ _ _ _
+      (a.ok.items ∙ ap (λ (l : List ℕ). old ++ l) (sym (append-nil (bytes x))))
+      (bytes x, [], refl, a.ok.spelled, refl)
+  alone x fits old new (Err e) a = refused _ _ _ _ _ _ a.err
+
+  pub behind : (xs ys : List A) (part whole : Bool) (old mid new : List ℕ) (r : Result X Error) → Appended (Sequence form xs) (flat_map bytes xs) old mid
+      → Appends (Sequence form ys) (flat_map bytes ys) part mid new r → (part ≡ false → whole ≡ false) → Appends (Sequence form (xs ++ ys)) (flat_map bytes (xs ++ ys)) whole old new r
+  behind xs ys part whole old mid new (Ok y) a b falls = record { ok = both form bytes xs ys old mid new a b.ok; err = tt }
+  behind xs ys part whole old mid new (Err e) a b falls = refused _ _ _ _ _ _ (stopped_after part whole (Sequence form xs) (flat_map bytes xs) old mid new e a b.err falls)

@@ -1,0 +1,16 @@
+use Rattle.std.proofs.Common.{arith}
+use Rattle.comp_bytes.specs.Spelling.{Case}
+use Rattle.comp_bytes.specs.Writing.{case_bytes}
+use Rattle.comp_bytes.specs.Fits.{fits_label}
+use Rattle.comp_bytes.specs.RawOf.{labeled}
+use Rattle.comp_bytes.proofs.Sequences.{next_of, stopped_at}
+use Rattle.comp_bytes.proofs.Appends.{passed_on}
+use Rattle.comp_bytes.proofs.append.append_each_case.Goals as goal
+
+pub loop-name-preserved : goal.loop-name-preserved
+loop-name-preserved c = next_of Case case_bytes labeled c.args.cases.now c.loop-name.name-index _ _ _ _ (omega arith) c.loop-name.invariant c.in_ok-append_case.ensures.ok
+
+pub returns-in_err-append_case : goal.returns-in_err-append_case
+returns-in_err-append_case c =
+    let s = stopped_at Case case_bytes fits_label labeled c.args.cases.now c.loop-name.name-index _ _ _ _ _ (omega arith) c.loop-name.invariant c.in_err-append_case.ensures.err in
+    passed_on _ _ _ _ _ _ _ c.from_residual.ensures.1 s

@@ -1,0 +1,58 @@
+-- Which forms fit: every count and every length in them is a number of 32 bits.
+use Rattle.std.specs.Prelude.{ℕ, ◌^◌, Bool, true, ◌&&◌, nat_lt, List, length, Option, Some, None}
+use Rattle.std.specs.List.{list_all}
+use Rattle.comp_bytes.specs.Raw.{Labeled, DefinedType, FunctionType, Alias, ExternName, Declaration}
+
+abbrev pub fits_length : {A : Type 0} → List A → Bool
+fits_length xs = nat_lt (length xs) (2 ^ 32)
+
+-- things with labels
+abbrev pub fits_label : {T : Type 0} → Labeled T → Bool
+fits_label x = fits_length x.label
+
+abbrev pub fits_labels : {T : Type 0} → List (Labeled T) → Bool
+fits_labels xs = fits_length xs && list_all fits_label xs
+
+abbrev pub fits_names : List (List ℕ) → Bool
+fits_names names = fits_length names && list_all fits_length names
+
+abbrev pub fits_defined : DefinedType → Bool
+fits_defined (DefinedType.record_of fields) = fits_labels fields
+fits_defined (DefinedType.variant_of cases) = fits_labels cases
+fits_defined (DefinedType.tuple_of vs) = fits_length vs
+fits_defined (DefinedType.flags_of names) = fits_names names
+fits_defined (DefinedType.enum_of names) = fits_names names
+fits_defined (DefinedType.primitive p) = true
+fits_defined (DefinedType.list_of v) = true
+fits_defined (DefinedType.fixed_length_list_of v n) = true
+fits_defined (DefinedType.option_of v) = true
+fits_defined (DefinedType.result_of ok err) = true
+fits_defined (DefinedType.own_of n) = true
+fits_defined (DefinedType.borrow_of n) = true
+fits_defined (DefinedType.stream_of v) = true
+fits_defined (DefinedType.future_of v) = true
+fits_defined (DefinedType.map_of k v) = true
+
+abbrev pub fits_function : FunctionType → Bool
+fits_function f = fits_labels f.parameters
+
+abbrev pub fits_alias : Alias → Bool
+fits_alias (Alias.of_export n name) = fits_length name
+fits_alias (Alias.of_outer scopes n) = true
+
+abbrev pub fits_given : Option (List ℕ) → Bool
+fits_given None = true
+fits_given (Some text) = fits_length text
+
+abbrev pub fits_attributes : ExternName → Bool
+fits_attributes name = fits_given name.implements && (fits_given name.version_suffix && fits_given name.external_id)
+
+abbrev pub fits_name : ExternName → Bool
+fits_name name = fits_length name.text && fits_attributes name
+
+abbrev pub fits_declaration : Declaration → Bool
+fits_declaration (Declaration.defined d) = fits_defined d
+fits_declaration (Declaration.function f) = fits_function f
+fits_declaration (Declaration.alias_of a) = fits_alias a
+fits_declaration (Declaration.imported name described) = fits_name name
+fits_declaration (Declaration.exported name described) = fits_name name

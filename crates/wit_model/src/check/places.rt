@@ -1,0 +1,155 @@
+//! The rule on places: interfaces and worlds have a package, and stand in its maps.
+
+ghost use Rattle.std.specs.Prelude.{◌≡◌, ◌&&◌, not, true, OnOk, IfErr, option_map, option_and_then};
+ghost use Rattle.std.specs.Option.{option_map_or};
+ghost use Rattle.std.specs.List.{list_all, list_any};
+ghost use Rattle.indexmap.specs.IndexMap.{keys};
+ghost use Rattle.wit_model.specs.Lookup.{package_at as package_at_lem, interface_at as interface_at_lem, world_at as world_at_lem};
+ghost use Rattle.wit_model.specs.Text.{text_eq, text_of};
+ghost use Rattle.wit_model.specs.Rules.{interface_belongs, is_id, package_number, passes, world_belongs, world_is_listed};
+ghost use Rattle.wit_model.specs.Valid.{places, IsFaultOf, IsFound, Keeps};
+ghost use Rattle.wit_model.specs.Plain.{IsPlain};
+
+use crate::check::lookup::{interface_at, package_at, world_at};
+use crate::check::walk::first_failing;
+use crate::{
+    EntryList, Fault, Interface, InterfaceId, Map, Package, PackageId, Resolve, World, WorldId,
+};
+
+fn is_package(number: usize, id: Option<PackageId>) -> bool
+    ensures { result ≡ is_id number (package_number id) }
+{
+    match id {
+        Some(id) => id.0 as usize == number,
+        None => false,
+    }
+}
+
+fn interface_fits(number: usize, key: &String, interface: &Interface) -> bool
+    ensures { result ≡ passes (λ name. is_id number (package_number interface.now.«package») && text_eq (text_of name) (text_of key.now)) interface.now.name }
+{
+    match &interface.name {
+        Some(name) => is_package(number, interface.package) && name == key,
+        None => true,
+    }
+}
+
+fn interface_stands(resolve: &Resolve, number: usize, key: &String, id: InterfaceId) -> bool
+    ensures { result ≡ interface_belongs resolve.now number (key.now, id) }
+{
+    match interface_at(resolve, id) {
+        Some(interface) => interface_fits(number, key, interface),
+        None => true,
+    }
+}
+
+fn world_stands(resolve: &Resolve, number: usize, key: &String, id: WorldId) -> bool
+    ensures { result ≡ world_belongs resolve.now number (key.now, id) }
+{
+    match world_at(resolve, id) {
+        Some(world) => is_package(number, world.package) && world.name == *key,
+        None => true,
+    }
+}
+
+fn interfaces_stand(resolve: &Resolve, number: usize, ids: &Map<String, InterfaceId>) -> bool
+    ensures { result ≡ list_all (interface_belongs resolve.now number) ids.now.entries }
+{
+    ids.iter()
+        .all(|(key, id)| interface_stands(resolve, number, key, *id))
+}
+
+fn worlds_stand(resolve: &Resolve, number: usize, ids: &Map<String, WorldId>) -> bool
+    ensures { result ≡ list_all (world_belongs resolve.now number) ids.now.entries }
+{
+    ids.iter()
+        .all(|(key, id)| world_stands(resolve, number, key, *id))
+}
+
+fn is_key(name: &String, ids: &Map<String, WorldId>) -> bool
+    ensures { result ≡ list_any (λ other. text_eq (text_of name.now) (text_of other)) (keys ids.now) }
+{
+    ids.contains_key(name)
+}
+
+fn are_unshared(interfaces: &Map<String, InterfaceId>, worlds: &Map<String, WorldId>) -> bool
+    ensures { result ≡ list_all (λ name. not (list_any (λ other. text_eq (text_of name) (text_of other)) (keys worlds.now))) (keys interfaces.now) }
+{
+    interfaces.keys().all(|name| !is_key(name, worlds))
+}
+
+fn is_listed(number: usize, name: &String, owner: &Package) -> bool
+    ensures { result ≡ world_is_listed number (text_of name.now) owner.now }
+{
+    match owner.worlds.get(name.as_str()) {
+        Some(id) => id.0 as usize == number,
+        None => false,
+    }
+}
+
+fn is_listed_in(resolve: &Resolve, number: usize, name: &String, id: PackageId) -> bool
+    ensures { result ≡ option_map_or (world_is_listed number (text_of name.now)) (package_at_lem resolve.now id.0) true }
+{
+    match package_at(resolve, id) {
+        Some(owner) => is_listed(number, name, owner),
+        None => true,
+    }
+}
+
+#[tactic(auto, unfolding(crate::specs::Valid::places))]
+fn package_passes(resolve: &Resolve, number: usize, entry: &Package) -> bool
+    ensures { result ≡ places.package_ resolve.now number entry.now }
+{
+    interfaces_stand(resolve, number, &entry.interfaces)
+        && worlds_stand(resolve, number, &entry.worlds)
+        && are_unshared(&entry.interfaces, &entry.worlds)
+}
+
+#[tactic(auto, unfolding(crate::specs::Valid::places))]
+fn world_passes(resolve: &Resolve, number: usize, entry: &World) -> bool
+    ensures { result ≡ places.world_ resolve.now number entry.now }
+{
+    match entry.package {
+        Some(id) => is_listed_in(resolve, number, &entry.name, id),
+        None => false,
+    }
+}
+
+fn first_package(resolve: &Resolve) -> Option<usize>
+    ensures { IsFound places resolve.now EntryList.Packages result }
+{
+    first_failing(&resolve.packages, |number, entry| {
+        package_passes(resolve, number, entry)
+    })
+}
+
+fn first_world(resolve: &Resolve) -> Option<usize>
+    ensures { IsFound places resolve.now EntryList.Worlds result }
+{
+    first_failing(&resolve.worlds, |number, entry| {
+        world_passes(resolve, number, entry)
+    })
+}
+
+/// Whether interfaces and worlds stand in the maps of their packages, and share no name there.
+pub(crate) fn check(resolve: &Resolve) -> Result<(), Fault>
+    requires plain { IsPlain resolve.now }
+    ensures kept { OnOk result (Keeps places resolve.now) }
+    ensures broken { IfErr result (IsFaultOf resolve.now) }
+{
+    if let Some(number) = first_package(resolve) {
+        return Err(Fault::Broken {
+            rule: 3,
+            list: EntryList::Packages,
+            number,
+        });
+    }
+    if let Some(number) = first_world(resolve) {
+        return Err(Fault::Broken {
+            rule: 3,
+            list: EntryList::Worlds,
+            number,
+        });
+    }
+    Ok(())
+}

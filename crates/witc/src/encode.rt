@@ -1,0 +1,29 @@
+//! The bytes of packages whose worlds have functions over primitive types alone.
+
+ghost use Rattle.std.specs.Prelude.{◌<◌, length};
+ghost use Rattle.wit_model.specs.Valid.{IsValid};
+ghost use Rattle.wit_model.specs.Plain.{IsPlain};
+
+mod function;
+mod key;
+mod package;
+mod world;
+
+use package::encode_package;
+use std::alloc::Global;
+use wit_model::{Error, PackageId, Resolve};
+
+/// The bytes of a package. Nothing that stands in a package of functions has a canonical name of its own, so the bytes are the
+/// same with canonical names.
+pub fn encode(
+    alloc: Global,
+    resolve: &Resolve,
+    package: PackageId,
+    _canonical_names: bool,
+) -> Result<Vec<u8>, Error>
+    requires valid { IsValid resolve.now }
+    requires plain { IsPlain resolve.now }
+    requires in_range { «package».0 < length resolve.now.packages.items }
+{
+    encode_package(alloc, resolve, &resolve.packages[package.0 as usize])
+}

@@ -1,0 +1,227 @@
+//! The component of a package.
+
+use crate::encode::world::{plain_name, world_type};
+use comp_bytes::{ComponentBuilder, ComponentType, ComponentTypeRef};
+use std::alloc::Global;
+use wit_model::{Error, Package, PackageName, Resolve, World};
+
+/// The path of a name in a package: `namespace:name/interface`, and `@version` where the package has one.
+fn path_in(alloc: Global, package: &PackageName, name: &str) -> Result<String, Error> {
+    let namespace = &package.namespace;
+    let short = &package.name;
+    match &package.version {
+        Some(version) => Ok(format!(in alloc; "{namespace}:{short}/{name}@{version}")?),
+        None => Ok(format!(in alloc; "{namespace}:{short}/{name}")?),
+    }
+}
+
+/// The wrapper of a world: its component type, exported under its path.
+fn wrapper_of(alloc: Global, package: &PackageName, world: &World) -> Result<ComponentType, Error> {
+    let path = path_in(alloc, package, &world.name)?;
+    let component = world_type(alloc, world)?;
+    let mut wrapper = ComponentType::new(alloc);
+    wrapper.component(&component)?;
+    wrapper.export(&plain_name(&path), ComponentTypeRef::Component(0))?;
+    Ok(wrapper)
+}
+
+/// Adds the wrapper of a world, and its export under the world's short name.
+fn add_world(
+    alloc: Global,
+    builder: &mut ComponentBuilder,
+    package: &PackageName,
+    name: &str,
+    world: &World,
+) -> Result<(), Error> {
+    let wrapper = wrapper_of(alloc, package, world)?;
+    let index = builder.type_component(&wrapper)?;
+    builder.export(name, index)?;
+    Ok(())
+}
+
+/// The component of a package: each world in its wrapper, in the order of the package's map.
+fn component_of(
+    alloc: Global,
+    resolve: &Resolve,
+    package: &Package,
+) -> Result<ComponentBuilder, Error> {
+    let mut builder = ComponentBuilder::new(alloc);
+    for (name, id) in package.worlds.iter() {
+        if let Some(world) = resolve.worlds.get(id.0 as usize) {
+            add_world(alloc, &mut builder, &package.name, name, world)?;
+        }
+    }
+    Ok(builder)
+}
+
+/// The bytes of a package.
+pub(crate) fn encode_package(
+    alloc: Global,
+    resolve: &Resolve,
+    package: &Package,
+) -> Result<Vec<u8>, Error> {
+    component_of(alloc, resolve, package)?.finish()
+}
+
+#[cfg(test)]
+mod tests {
+    use super::*;
+    use indexmap::IndexMap;
+    use semver::Version;
+    use std::test::Fail;
+    use wit_model::{
+        Docs, Function, FunctionKind, Map, Param, Stability, Type, WorldId, WorldItem, WorldKey,
+    };
+
+    type Items = Map<WorldKey, WorldItem>;
+
+    fn text(alloc: Global, text: &str) -> Result<String, Fail> {
+        Ok(String::from_str(alloc, text)?)
+    }
+
+    fn param(alloc: Global, name: &str, ty: Type) -> Result<Param, Fail> {
+        Ok(Param {
+            name: text(alloc, name)?,
+            ty,
+        })
+    }
+
+    fn function(
+        alloc: Global,
+        name: &str,
+        kind: FunctionKind,
+        params: Vec<Param>,
+        answer: Option<Type>,
+    ) -> Result<Function, Fail> {
+        Ok(Function {
+            name: text(alloc, name)?,
+            kind,
+            params,
+            result: answer,
+            docs: Docs { contents: None },
+            stability: Stability::Unknown,
+            external_id: None,
+        })
+    }
+
+    fn add(alloc: Global, items: &mut Items, function: Function) -> Result<(), Fail> {
+        let key = WorldKey::Name(text(alloc, &function.name)?);
+        items.insert(key, WorldItem::Function(function))?;
+        Ok(())
+    }
+
+    fn world(alloc: Global, imports: Items, exports: Items) -> Result<World, Fail> {
+        Ok(World {
+            name: text(alloc, "foo")?,
+            imports,
+            exports,
+            docs: Docs { contents: None },
+            stability: Stability::Unknown,
+            package: None,
+        })
+    }
+
+    // A package `a:b` of these worlds.
+    fn resolve(
+        alloc: Global,
+        worlds: Vec<World>,
+        version: Option<Version>,
+    ) -> Result<Resolve, Fail> {
+        let mut names = IndexMap::new(alloc);
+        if !worlds.is_empty() {
+            names.insert(text(alloc, "foo")?, WorldId(0))?;
+        }
+        let name = PackageName {
+            namespace: text(alloc, "a")?,
+            name: text(alloc, "b")?,
+            version,
+        };
+        let package = Package {
+            name,
+            docs: Docs { contents: None },
+            interfaces: IndexMap::new(alloc),
+            worlds: names,
+        };
+        Ok(Resolve {
+            packages: vec![in alloc; package]?,
+            interfaces: Vec::new(alloc),
+            worlds,
+            types: Vec::new(alloc),
+        })
+    }
+
+    fn bytes_of(alloc: Global, resolve: &Resolve) -> Result<Vec<u8>, Fail> {
+        match resolve.packages.first() {
+            Some(package) => Ok(encode_package(alloc, resolve, package)?),
+            None => Ok(Vec::new(alloc)),
+        }
+    }
+
+    #[test]
+    fn one_type_for_two_functions(rt: HostRuntime) -> Result<(), Fail> {
+        let alloc = rt.alloc();
+        let mut imports = IndexMap::new(alloc);
+        let mut exports = IndexMap::new(alloc);
+        let host = function(
+            alloc,
+            "host",
+            FunctionKind::Freestanding,
+            Vec::new(alloc),
+            None,
+        )?;
+        let guest = function(
+            alloc,
+            "guest",
+            FunctionKind::Freestanding,
+            Vec::new(alloc),
+            None,
+        )?;
+        add(alloc, &mut imports, host)?;
+        add(alloc, &mut exports, guest)?;
+        let worlds = vec![in alloc; world(alloc, imports, exports)?]?;
+        let expected = [
+            0x00, 0x61, 0x73, 0x6d, 0x0d, 0x00, 0x01, 0x00, 0x07, 0x2a, 0x01, 0x41, 0x02, 0x01,
+            0x41, 0x03, 0x01, 0x40, 0x00, 0x01, 0x00, 0x03, 0x00, 0x04, 0x68, 0x6f, 0x73, 0x74,
+            0x01, 0x00, 0x04, 0x00, 0x05, 0x67, 0x75, 0x65, 0x73, 0x74, 0x01, 0x00, 0x04, 0x00,
+            0x07, 0x61, 0x3a, 0x62, 0x2f, 0x66, 0x6f, 0x6f, 0x04, 0x00, 0x0b, 0x09, 0x01, 0x00,
+            0x03, 0x66, 0x6f, 0x6f, 0x03, 0x00, 0x00,
+        ];
+        let bytes = bytes_of(alloc, &resolve(alloc, worlds, None)?)?;
+        assert_eq!(rt; bytes.as_slice(), expected.as_slice());
+        Ok(())
+    }
+
+    #[test]
+    fn no_world(rt: HostRuntime) -> Result<(), Fail> {
+        let alloc = rt.alloc();
+        let expected = [0x00, 0x61, 0x73, 0x6d, 0x0d, 0x00, 0x01, 0x00];
+        let bytes = bytes_of(alloc, &resolve(alloc, Vec::new(alloc), None)?)?;
+        assert_eq!(rt; bytes.as_slice(), expected.as_slice());
+        Ok(())
+    }
+
+    #[test]
+    fn asynchronous(rt: HostRuntime) -> Result<(), Fail> {
+        let alloc = rt.alloc();
+        let params = vec![in alloc; param(alloc, "n", Type::U64)?]?;
+        let go = function(
+            alloc,
+            "go",
+            FunctionKind::AsyncFreestanding,
+            params,
+            Some(Type::String),
+        )?;
+        let mut exports = IndexMap::new(alloc);
+        add(alloc, &mut exports, go)?;
+        let worlds = vec![in alloc; world(alloc, IndexMap::new(alloc), exports)?]?;
+        let expected = [
+            0x00, 0x61, 0x73, 0x6d, 0x0d, 0x00, 0x01, 0x00, 0x07, 0x21, 0x01, 0x41, 0x02, 0x01,
+            0x41, 0x02, 0x01, 0x43, 0x01, 0x01, 0x6e, 0x77, 0x00, 0x73, 0x04, 0x00, 0x02, 0x67,
+            0x6f, 0x01, 0x00, 0x04, 0x00, 0x07, 0x61, 0x3a, 0x62, 0x2f, 0x66, 0x6f, 0x6f, 0x04,
+            0x00, 0x0b, 0x09, 0x01, 0x00, 0x03, 0x66, 0x6f, 0x6f, 0x03, 0x00, 0x00,
+        ];
+        let bytes = bytes_of(alloc, &resolve(alloc, worlds, None)?)?;
+        assert_eq!(rt; bytes.as_slice(), expected.as_slice());
+        Ok(())
+    }
+}
