@@ -5,7 +5,6 @@ use Rattle.wit_model.specs.declared.error.Error.{Error}
 use Rattle.wit_model.specs.declared.error.Error.TheVariants as errors
 use Rattle.comp_bytes.specs.Form.{Spellings, Are, Tagged, Joined}
 use Rattle.comp_bytes.specs.Held.{Begins}
-use Rattle.comp_bytes.specs.Refusal.{IsMemoryOrSize}
 use Rattle.comp_bytes.specs.Appending.{Appended, Stopped, Appends}
 
 -- ---- what a test on the whole says where it fails on a part

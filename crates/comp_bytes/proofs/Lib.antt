@@ -14,3 +14,6 @@ pub mod NamesWritten
 pub mod NamesRead
 pub mod NestedLaws
 pub mod ComponentLaws
+pub mod PartsLaws
+pub mod BuiltLaws
+pub mod BuiltSizes

@@ -1,16 +1,15 @@
 -- A name of an import or an export, from what the steps that append it do.
-use Rattle.std.proofs.Common.{◌≡◌, ℕ, ◌+◌, ◌^◌, ◌<◌, ◌≤◌, Bool, true, false, ◌&&◌, List, [], ◌∷◌, ◌++◌, length, Option, Some, None, Result, refl, sym, ap, ◌∙◌, arith, length-append}
+use Rattle.std.proofs.Common.{◌≡◌, ℕ, ◌^◌, ◌<◌, ◌≤◌, Bool, ◌&&◌, List, [], ◌∷◌, ◌++◌, length, Option, Some, None, Result, sym, ap, ◌∙◌, arith, length-append}
 use Rattle.std.specs.List.{flat_map}
 use Rattle.wit_model.specs.declared.error.Error.{Error}
-use Rattle.comp_bytes.specs.Form.{Spellings, Joined, Name, Sequence, Vector}
+use Rattle.comp_bytes.specs.Form.{Joined, Name, Sequence, Vector}
 use Rattle.comp_bytes.specs.Number.{IsU32}
 use Rattle.comp_bytes.specs.Raw.{ExternName}
-use Rattle.comp_bytes.specs.Spelling.{attribute, attributes, Attribute, NameWith, IsExternName}
-use Rattle.comp_bytes.specs.Reading.{plain_name}
-use Rattle.comp_bytes.specs.Writing.{u32_bytes, name_bytes, vector_bytes, attribute_bytes, attributed_bytes, extern_name_bytes}
-use Rattle.comp_bytes.specs.Fits.{fits_length, fits_given, fits_attributes, fits_name}
+use Rattle.comp_bytes.specs.Spelling.{attribute, attributes, Attribute, NameWith}
+use Rattle.comp_bytes.specs.Writing.{u32_bytes, name_bytes, vector_bytes, attribute_bytes, attributed_bytes}
+use Rattle.comp_bytes.specs.Fits.{fits_length, fits_given, fits_attributes}
 use Rattle.comp_bytes.specs.Appending.{Appended, Appends}
-use Rattle.comp_bytes.proofs.Appends.{first_fails, second_fails, joined, tagged}
+use Rattle.comp_bytes.proofs.Appends.{second_fails, joined, tagged}
 use Rattle.comp_bytes.proofs.Writes.{bytes_1, spells_u32}
 use Rattle.comp_bytes.proofs.Sequences.{both, behind}
 

@@ -12,6 +12,7 @@ use Rattle.comp_bytes.specs.declared.forms.ComponentTypeRef.{ComponentTypeRef}
 use Rattle.comp_bytes.specs.declared.forms.ComponentTypeRef.TheVariants as refs
 use Rattle.comp_bytes.specs.Raw.{Labeled, DefinedType, FunctionType, Alias, ExternName, Declaration, Declarations, TopType, TopExport}
 use Rattle.comp_bytes.specs.Spelling.{primitive_byte}
+use Rattle.comp_bytes.specs.Parts.{Part}
 
 -- ---- parts
 
@@ -301,3 +302,22 @@ top_type_code = code_by (DefinedType ⊎ (FunctionType ⊎ (Declarations ⊎ Dec
 
 abbrev pub top_export_code : Coded TopExport
 top_export_code = code_by (ExternName × ℕ) (coded× name_code coded_ℕ) (λ e. (e.exported_as, e.type_index)) (λ p. record { exported_as = p.0; type_index = p.1 }) (λ _. refl)
+
+-- what a component was given
+abbrev pub part_parts : Part → TopType ⊎ (TopExport ⊎ (List ℕ × List ℕ))
+part_parts (Part.top_type t) = inl t
+part_parts (Part.top_export e) = inr (inl e)
+part_parts (Part.custom name contents) = inr (inr (name, contents))
+
+abbrev pub part_from : TopType ⊎ (TopExport ⊎ (List ℕ × List ℕ)) → Part
+part_from (inl x) = Part.top_type x
+part_from (inr (inl x)) = Part.top_export x
+part_from (inr (inr x)) = Part.custom x.0 x.1
+
+pub part_from-parts : (x : Part) → part_from (part_parts x) ≡ x
+part_from-parts (Part.top_type t) = refl
+part_from-parts (Part.top_export e) = refl
+part_from-parts (Part.custom name contents) = refl
+
+abbrev pub parts_code : Coded (List Part)
+parts_code = coded_list (code_by (TopType ⊎ (TopExport ⊎ (List ℕ × List ℕ))) (coded⊎ top_type_code (coded⊎ top_export_code (coded× text_code text_code))) part_parts part_from part_from-parts)

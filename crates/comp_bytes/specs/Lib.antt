@@ -10,6 +10,8 @@ pub mod RawOf
 pub mod Fits
 pub mod Refusal
 pub mod Held
+pub mod Parts
+pub mod Built
 pub mod Codes
 pub mod Appending
 pub mod FormatLaws

@@ -4,7 +4,6 @@ use Rattle.std.specs.declared.alloc.Global.{Global}
 use Rattle.std.specs.Borrow.{Bor}
 use Rattle.std.specs.Cow.{cow_str_bytes}
 use Rattle.std.specs.declared.borrow.CowStr.{CowStr}
-use Rattle.comp_bytes.specs.declared.forms.ComponentValType.{ComponentValType}
 use Rattle.comp_bytes.specs.declared.forms.ComponentDefinedType.{ComponentDefinedType}
 use Rattle.comp_bytes.specs.declared.forms.ComponentDefinedType.TheVariants as forms
 use Rattle.comp_bytes.specs.declared.forms.ComponentFuncType.{ComponentFuncType}

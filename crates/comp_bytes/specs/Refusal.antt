@@ -1,5 +1,4 @@
 -- Why a writer refuses.
-use Rattle.std.specs.Prelude.{ℕ}
 use Rattle.wit_model.specs.declared.error.Error.{Error}
 use Rattle.wit_model.specs.declared.error.Error.TheVariants as errors
 

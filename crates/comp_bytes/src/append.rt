@@ -41,7 +41,7 @@ fn primitive_byte(primitive: PrimitiveValType) -> u8
 }
 
 pub(crate) fn append_value_type(out: &mut Vec<u8>, ty: ComponentValType) -> Result<(), Error>
-    ensures { Appends (ValueType ty) (value_bytes ty) (true) out.old.items out.new.items result }
+    ensures { Appends (ValueType ty) (value_bytes ty) true out.old.items out.new.items result }
 {
     match ty {
         ComponentValType::Primitive(primitive) => {
@@ -54,7 +54,8 @@ pub(crate) fn append_value_type(out: &mut Vec<u8>, ty: ComponentValType) -> Resu
 
 /// 00, or 01 and the type.
 fn append_optional(out: &mut Vec<u8>, ty: Option<ComponentValType>) -> Result<(), Error>
-    ensures { Appends (Optional ValueType ty) (optional_bytes value_bytes ty) (true) out.old.items out.new.items result }
+    ensures { Appends (Optional ValueType ty) (optional_bytes value_bytes ty) true out.old.items
+        out.new.items result }
 {
     match ty {
         None => {
@@ -69,7 +70,8 @@ fn append_optional(out: &mut Vec<u8>, ty: Option<ComponentValType>) -> Result<()
 }
 
 fn append_value_types(out: &mut Vec<u8>, types: &[ComponentValType]) -> Result<(), Error>
-    ensures { Appends (Vector ValueType types.now) (vector_bytes value_bytes types.now) (fits_length types.now) out.old.items out.new.items result }
+    ensures { Appends (Vector ValueType types.now) (vector_bytes value_bytes types.now)
+        (fits_length types.now) out.old.items out.new.items result }
 {
     append_count(out, types.len())?;
     append_each_value_type(out, types)
@@ -77,7 +79,8 @@ fn append_value_types(out: &mut Vec<u8>, types: &[ComponentValType]) -> Result<(
 
 /// The items alone, without their count.
 fn append_each_value_type(out: &mut Vec<u8>, types: &[ComponentValType]) -> Result<(), Error>
-    ensures { Appends (Sequence ValueType types.now) (flat_map value_bytes types.now) (true) out.old.items out.new.items result }
+    ensures { Appends (Sequence ValueType types.now) (flat_map value_bytes types.now) true
+        out.old.items out.new.items result }
 {
     for ty in types {
         append_value_type(out, *ty)?;
@@ -86,14 +89,18 @@ fn append_each_value_type(out: &mut Vec<u8>, types: &[ComponentValType]) -> Resu
 }
 
 fn append_names(out: &mut Vec<u8>, names: &[&str]) -> Result<(), Error>
-    ensures { Appends (Vector Name (map text_of names.now)) (vector_bytes name_bytes (map text_of names.now)) (fits_names (map text_of names.now)) out.old.items out.new.items result }
+    ensures { Appends (Vector Name (map text_of names.now))
+        (vector_bytes name_bytes (map text_of names.now)) (fits_names (map text_of names.now))
+        out.old.items out.new.items result }
 {
     append_count(out, names.len())?;
     append_each_name(out, names)
 }
 
 fn append_each_name(out: &mut Vec<u8>, names: &[&str]) -> Result<(), Error>
-    ensures { Appends (Sequence Name (map text_of names.now)) (flat_map name_bytes (map text_of names.now)) (list_all fits_length (map text_of names.now)) out.old.items out.new.items result }
+    ensures { Appends (Sequence Name (map text_of names.now))
+        (flat_map name_bytes (map text_of names.now))
+        (list_all fits_length (map text_of names.now)) out.old.items out.new.items result }
 {
     for name in names {
         append_name(out, name)?;
@@ -102,21 +109,26 @@ fn append_each_name(out: &mut Vec<u8>, names: &[&str]) -> Result<(), Error>
 }
 
 fn append_field(out: &mut Vec<u8>, name: &str, ty: ComponentValType) -> Result<(), Error>
-    ensures { Appends (Field (with_label name.now ty)) (field_bytes (with_label name.now ty)) (fits_length name.now) out.old.items out.new.items result }
+    ensures { Appends (Field (with_label name.now ty)) (field_bytes (with_label name.now ty))
+        (fits_length name.now) out.old.items out.new.items result }
 {
     append_name(out, name)?;
     append_value_type(out, ty)
 }
 
 fn append_fields(out: &mut Vec<u8>, fields: &[(&str, ComponentValType)]) -> Result<(), Error>
-    ensures { Appends (Vector Field (map labeled fields.now)) (vector_bytes field_bytes (map labeled fields.now)) (fits_labels (map labeled fields.now)) out.old.items out.new.items result }
+    ensures { Appends (Vector Field (map labeled fields.now))
+        (vector_bytes field_bytes (map labeled fields.now)) (fits_labels (map labeled fields.now))
+        out.old.items out.new.items result }
 {
     append_count(out, fields.len())?;
     append_each_field(out, fields)
 }
 
 fn append_each_field(out: &mut Vec<u8>, fields: &[(&str, ComponentValType)]) -> Result<(), Error>
-    ensures { Appends (Sequence Field (map labeled fields.now)) (flat_map field_bytes (map labeled fields.now)) (list_all fits_label (map labeled fields.now)) out.old.items out.new.items result }
+    ensures { Appends (Sequence Field (map labeled fields.now))
+        (flat_map field_bytes (map labeled fields.now))
+        (list_all fits_label (map labeled fields.now)) out.old.items out.new.items result }
 {
     for (name, ty) in fields {
         append_field(out, name, *ty)?;
@@ -125,7 +137,8 @@ fn append_each_field(out: &mut Vec<u8>, fields: &[(&str, ComponentValType)]) -> 
 }
 
 fn append_case(out: &mut Vec<u8>, name: &str, ty: Option<ComponentValType>) -> Result<(), Error>
-    ensures { Appends (Case (with_label name.now ty)) (case_bytes (with_label name.now ty)) (fits_length name.now) out.old.items out.new.items result }
+    ensures { Appends (Case (with_label name.now ty)) (case_bytes (with_label name.now ty))
+        (fits_length name.now) out.old.items out.new.items result }
 {
     append_name(out, name)?;
     append_optional(out, ty)?;
@@ -134,7 +147,9 @@ fn append_case(out: &mut Vec<u8>, name: &str, ty: Option<ComponentValType>) -> R
 }
 
 fn append_cases(out: &mut Vec<u8>, cases: &[(&str, Option<ComponentValType>)]) -> Result<(), Error>
-    ensures { Appends (Vector Case (map labeled cases.now)) (vector_bytes case_bytes (map labeled cases.now)) (fits_labels (map labeled cases.now)) out.old.items out.new.items result }
+    ensures { Appends (Vector Case (map labeled cases.now))
+        (vector_bytes case_bytes (map labeled cases.now)) (fits_labels (map labeled cases.now))
+        out.old.items out.new.items result }
 {
     append_count(out, cases.len())?;
     append_each_case(out, cases)
@@ -144,7 +159,9 @@ fn append_each_case(
     out: &mut Vec<u8>,
     cases: &[(&str, Option<ComponentValType>)],
 ) -> Result<(), Error>
-    ensures { Appends (Sequence Case (map labeled cases.now)) (flat_map case_bytes (map labeled cases.now)) (list_all fits_label (map labeled cases.now)) out.old.items out.new.items result }
+    ensures { Appends (Sequence Case (map labeled cases.now))
+        (flat_map case_bytes (map labeled cases.now))
+        (list_all fits_label (map labeled cases.now)) out.old.items out.new.items result }
 {
     for (name, ty) in cases {
         append_case(out, name, *ty)?;
@@ -156,7 +173,9 @@ pub(crate) fn append_defined_type(
     out: &mut Vec<u8>,
     def: &ComponentDefinedType,
 ) -> Result<(), Error>
-    ensures { Appends (IsDefinedType (raw_defined def.now)) (defined_type_bytes (raw_defined def.now)) (fits_defined (raw_defined def.now)) out.old.items out.new.items result }
+    ensures { Appends (IsDefinedType (raw_defined def.now))
+        (defined_type_bytes (raw_defined def.now)) (fits_defined (raw_defined def.now))
+        out.old.items out.new.items result }
 {
     match def {
         ComponentDefinedType::Primitive(primitive) => {
@@ -227,7 +246,8 @@ pub(crate) fn append_defined_type(
 
 /// 00 and the type of the result, or 01 00 where there is none.
 fn append_result(out: &mut Vec<u8>, ty: Option<ComponentValType>) -> Result<(), Error>
-    ensures { Appends (ResultList ty) (result_list_bytes ty) (true) out.old.items out.new.items result }
+    ensures { Appends (ResultList ty) (result_list_bytes ty) true out.old.items out.new.items
+        result }
 {
     match ty {
         Some(ty) => {
@@ -242,7 +262,9 @@ pub(crate) fn append_function_type(
     out: &mut Vec<u8>,
     function: &ComponentFuncType,
 ) -> Result<(), Error>
-    ensures { Appends (IsFunctionType (raw_function function.now)) (function_type_bytes (raw_function function.now)) (fits_function (raw_function function.now)) out.old.items out.new.items result }
+    ensures { Appends (IsFunctionType (raw_function function.now))
+        (function_type_bytes (raw_function function.now))
+        (fits_function (raw_function function.now)) out.old.items out.new.items result }
 {
     out.push(if function.async_ { 0x43 } else { 0x40 })?;
     append_fields(out, &function.params)?;
@@ -250,7 +272,8 @@ pub(crate) fn append_function_type(
 }
 
 pub(crate) fn append_alias(out: &mut Vec<u8>, alias: &Alias) -> Result<(), Error>
-    ensures { Appends (IsAlias (raw_alias alias.now)) (alias_bytes (raw_alias alias.now)) (fits_alias (raw_alias alias.now)) out.old.items out.new.items result }
+    ensures { Appends (IsAlias (raw_alias alias.now)) (alias_bytes (raw_alias alias.now))
+        (fits_alias (raw_alias alias.now)) out.old.items out.new.items result }
 {
     match alias {
         Alias::InstanceExport { instance, name } => {
@@ -268,7 +291,9 @@ pub(crate) fn append_alias(out: &mut Vec<u8>, alias: &Alias) -> Result<(), Error
 
 /// A tag and a text, where there is one.
 fn append_attribute(out: &mut Vec<u8>, tag: u8, text: &Option<CowStr>) -> Result<(), Error>
-    ensures { Appends (Sequence Attribute (attribute tag (text_given text.now))) (flat_map attribute_bytes (attribute tag (text_given text.now))) (fits_given (text_given text.now)) out.old.items out.new.items result }
+    ensures { Appends (Sequence Attribute (attribute tag (text_given text.now)))
+        (flat_map attribute_bytes (attribute tag (text_given text.now)))
+        (fits_given (text_given text.now)) out.old.items out.new.items result }
 {
     match text {
         None => Ok(()),
@@ -281,7 +306,9 @@ fn append_attribute(out: &mut Vec<u8>, tag: u8, text: &Option<CowStr>) -> Result
 
 /// The attributes, the tags rising, without their count.
 fn append_attributes(out: &mut Vec<u8>, name: &ComponentExternName) -> Result<(), Error>
-    ensures { Appends (Sequence Attribute (attributes (raw_name name.now))) (flat_map attribute_bytes (attributes (raw_name name.now))) (fits_attributes (raw_name name.now)) out.old.items out.new.items result }
+    ensures { Appends (Sequence Attribute (attributes (raw_name name.now)))
+        (flat_map attribute_bytes (attributes (raw_name name.now)))
+        (fits_attributes (raw_name name.now)) out.old.items out.new.items result }
 {
     append_attribute(out, 0x00, &name.implements)?;
     append_attribute(out, 0x01, &name.version_suffix)?;
@@ -305,7 +332,8 @@ fn append_attributed_name(
 ) -> Result<(), Error>
     requires counted { count ≡ length (attributes (raw_name name.now)) }
     requires some { 0 < count }
-    ensures { Appends (IsExternName (raw_name name.now)) (extern_name_bytes (raw_name name.now)) (fits_name (raw_name name.now)) out.old.items out.new.items result }
+    ensures { Appends (IsExternName (raw_name name.now)) (extern_name_bytes (raw_name name.now))
+        (fits_name (raw_name name.now)) out.old.items out.new.items result }
 {
     out.push(0x02)?;
     append_name(out, &name.name)?;
@@ -314,7 +342,8 @@ fn append_attributed_name(
 }
 
 pub(crate) fn append_extern_name(out: &mut Vec<u8>, name: &ComponentExternName) -> Result<(), Error>
-    ensures { Appends (IsExternName (raw_name name.now)) (extern_name_bytes (raw_name name.now)) (fits_name (raw_name name.now)) out.old.items out.new.items result }
+    ensures { Appends (IsExternName (raw_name name.now)) (extern_name_bytes (raw_name name.now))
+        (fits_name (raw_name name.now)) out.old.items out.new.items result }
 {
     let count = attribute_count(name);
     if count == 0 {
@@ -325,7 +354,8 @@ pub(crate) fn append_extern_name(out: &mut Vec<u8>, name: &ComponentExternName) 
 }
 
 pub(crate) fn append_description(out: &mut Vec<u8>, ty: ComponentTypeRef) -> Result<(), Error>
-    ensures { Appends (IsDescription ty) (description_bytes ty) (true) out.old.items out.new.items result }
+    ensures { Appends (IsDescription ty) (description_bytes ty) true out.old.items out.new.items
+        result }
 {
     match ty {
         ComponentTypeRef::Func(index) => {

@@ -1,19 +1,32 @@
 //! A component under construction.
 
+ghost use Rattle.std.specs.Prelude.{◌≡◌, [], ◌∷◌, ◌++◌, false, Err, IfOk, OnOk, OnErr, IfErr};
+ghost use Rattle.wit_model.specs.declared.error.Error.TheVariants.{Size};
+ghost use Rattle.comp_bytes.specs.Raw.{TopType};
+ghost use Rattle.comp_bytes.specs.Spelling.{IsComponent};
+ghost use Rattle.comp_bytes.specs.Writing.{component_bytes};
+ghost use Rattle.comp_bytes.specs.Parts.{Part, sections_of_parts, top_slots, fits_component, plain_export};
+ghost use Rattle.comp_bytes.specs.Refusal.{IsMemoryOrSize};
+
 use crate::component::ComponentType;
-use crate::name::{append_count, append_name, append_plain_name};
-use crate::nested::{append_body, count_on};
-use crate::number::write_u32;
+use crate::nested::count_on;
+use crate::section::{close, put_component, put_custom, put_export};
 use std::alloc::Global;
+use std::marker::Model;
 use wit_model::Error;
 
-/// A component of types and exports, as its bytes: whole sections, and the items of the section that is still open.
+/// A component of types, exports and custom sections, as its bytes: whole sections, and the items of the section that is still
+/// open.
+///
+/// Each call appends one part, in amortised time linear in its bytes. Neighbouring types share a section, and so do neighbouring
+/// exports. An `Err` appends nothing: `Memory` where a growth was refused, `Size` only where the component, with the new part,
+/// would be 2^32 bytes long or longer.
 #[derive(Drop)]
 pub struct ComponentBuilder {
     /// The preamble and whole sections, or nothing.
     done: Vec<u8>,
     /// The items of the open section, if their count isn't 0.
-    open: Vec<u8>,
+    items: Vec<u8>,
     count: u32,
     /// Whether the open section is one of exports.
     exports: bool,
@@ -21,240 +34,137 @@ pub struct ComponentBuilder {
     types: u32,
 }
 
+impl Model for ComponentBuilder {
+    ghost use Rattle.std.specs.Prelude.{List};
+    ghost use Rattle.comp_bytes.specs.Parts.{Part};
+    ghost use Rattle.comp_bytes.specs.Codes.{parts_code};
+    ghost use Rattle.comp_bytes.specs.Built.{kept_parts, Builds};
+
+    ghost Value = { List Part };
+
+    ghost coded = { parts_code };
+
+    ghost view = { λ b. kept_parts b.done.items b.items.items b.count b.exports };
+
+    ghost invariant = { λ b. Builds b.done.items b.items.items b.count b.exports b.types };
+}
+
 impl ComponentBuilder {
-    pub fn new(alloc: Global) -> Self {
+    /// No parts. Takes no memory.
+    pub fn new(alloc: Global) -> Self
+        ensures { result ≡ [] }
+    {
         ComponentBuilder {
             done: Vec::new(alloc),
-            open: Vec::new(alloc),
+            items: Vec::new(alloc),
             count: 0,
             exports: false,
             types: 0,
         }
     }
 
-    /// Defines a component type, and answers its index.
-    pub fn type_component(&mut self, component: &ComponentType) -> Result<u32, Error> {
+    /// Defines a component type, and answers the type index that it takes. The type is copied.
+    ///
+    /// Takes amortised time linear in the bytes that it appends. An `Err` appends nothing: `Memory` where a growth was refused, or
+    /// `Size` where the component with it would be 2^32 bytes long or longer.
+    pub fn type_component(&mut self, component: &ComponentType) -> Result<u32, Error>
+        ensures answer { IfOk result (λ index. index ≡ top_slots self.old) }
+        ensures ok { OnOk result (self.new ≡ self.old ++ Part.top_type (TopType.component component.now) ∷ []) }
+        ensures err { OnErr result (self.new ≡ self.old) }
+        ensures size { result ≡ Err Size → fits_component (self.old ++ Part.top_type (TopType.component component.now) ∷ []) ≡ false }
+        ensures refuses { IfErr result IsMemoryOrSize }
+    {
         let index = self.types;
-        let types = count_on(self.types, 1)?;
+        let types = count_on(index, 1)?;
         if self.count > 0 && !self.exports {
             let count = count_on(self.count, 1)?;
-            put_component(&mut self.open, component)?;
+            put_component(&mut self.items, component)?;
             self.count = count;
+            self.types = types;
+            Ok(index)
         } else {
             let mut items = Vec::new(*self.done.allocator());
             put_component(&mut items, component)?;
-            close(
-                &mut self.done,
-                section_id(self.exports),
-                self.count,
-                &self.open,
-            )?;
-            self.open = items;
+            close(&mut self.done, self.exports, self.count, &self.items)?;
+            self.items = items;
             self.count = 1;
             self.exports = false;
+            self.types = types;
+            Ok(index)
         }
-        self.types = types;
-        Ok(index)
     }
 
-    /// Exports the type of an index under a name, and answers the index that the export takes.
-    pub fn export(&mut self, name: &str, index: u32) -> Result<u32, Error> {
+    /// Exports the type of an index under a name without attributes, and answers the type index that the export takes.
+    ///
+    /// Takes amortised time linear in the bytes that it appends. An `Err` appends nothing: `Memory` where a growth was refused, or
+    /// `Size` where the component with it would be 2^32 bytes long or longer.
+    pub fn export(&mut self, name: &str, index: u32) -> Result<u32, Error>
+        ensures answer { IfOk result (λ taken. taken ≡ top_slots self.old) }
+        ensures ok { OnOk result (self.new ≡ self.old ++ Part.top_export (plain_export name.now index) ∷ []) }
+        ensures err { OnErr result (self.new ≡ self.old) }
+        ensures size { result ≡ Err Size → fits_component (self.old ++ Part.top_export (plain_export name.now index) ∷ []) ≡ false }
+        ensures refuses { IfErr result IsMemoryOrSize }
+    {
         let answer = self.types;
-        let types = count_on(self.types, 1)?;
+        let types = count_on(answer, 1)?;
         if self.count > 0 && self.exports {
             let count = count_on(self.count, 1)?;
-            put_export(&mut self.open, name, index)?;
+            put_export(&mut self.items, name, index)?;
             self.count = count;
+            self.types = types;
+            Ok(answer)
         } else {
             let mut items = Vec::new(*self.done.allocator());
             put_export(&mut items, name, index)?;
-            close(
-                &mut self.done,
-                section_id(self.exports),
-                self.count,
-                &self.open,
-            )?;
-            self.open = items;
+            close(&mut self.done, self.exports, self.count, &self.items)?;
+            self.items = items;
             self.count = 1;
             self.exports = true;
+            self.types = types;
+            Ok(answer)
         }
-        self.types = types;
-        Ok(answer)
     }
 
-    /// Adds a custom section.
-    pub fn custom_section(&mut self, name: &str, data: &[u8]) -> Result<(), Error> {
+    /// Adds a custom section. It ends the section before it.
+    ///
+    /// Takes amortised time linear in the bytes that it appends. An `Err` appends nothing: `Memory` where a growth was refused, or
+    /// `Size` where the component with it would be 2^32 bytes long or longer.
+    pub fn custom_section(&mut self, name: &str, contents: &[u8]) -> Result<(), Error>
+        ensures ok { OnOk result (self.new ≡ self.old ++ Part.custom name.now contents.now ∷ []) }
+        ensures err { OnErr result (self.new ≡ self.old) }
+        ensures size { result ≡ Err Size → fits_component (self.old ++ Part.custom name.now contents.now ∷ []) ≡ false }
+        ensures refuses { IfErr result IsMemoryOrSize }
+    {
         put_custom(
             &mut self.done,
-            section_id(self.exports),
+            self.exports,
             self.count,
-            &self.open,
+            &self.items,
             name,
-            data,
+            contents,
         )?;
-        self.open.clear();
+        self.items.clear();
         self.count = 0;
+        self.exports = false;
         Ok(())
     }
 
-    /// The bytes of the component.
-    pub fn finish(self) -> Result<Vec<u8>, Error> {
-        let ComponentBuilder {
-            mut done,
-            open,
-            count,
-            exports,
-            types: _,
-        } = self;
-        close(&mut done, section_id(exports), count, &open)?;
+    /// The bytes of the component: the preamble, and the sections of the parts in order, each in its shortest form. Takes time
+    /// linear in the section that is still open, which it copies once, and nothing else.
+    ///
+    /// Refuses with `Memory`, or with `Size` where the component is 2^32 bytes long or longer. The builder is given up, refused or
+    /// not.
+    pub fn finish(self) -> Result<Vec<u8>, Error>
+        ensures ok { IfOk result (λ bytes. bytes.items ≡ component_bytes (sections_of_parts self)) }
+        ensures spelled { IfOk result (λ bytes. IsComponent (sections_of_parts self) bytes.items) }
+        ensures size { result ≡ Err Size → fits_component self ≡ false }
+        ensures refuses { IfErr result IsMemoryOrSize }
+    {
+        let mut done = self.done;
+        close(&mut done, self.exports, self.count, &self.items)?;
         match u32::try_from(done.len()) {
             Ok(_) => Ok(done),
             Err(_) => Err(Error::Size),
-        }
-    }
-}
-
-fn section_id(exports: bool) -> u8 {
-    if exports { 0x0b } else { 0x07 }
-}
-
-fn append_component(out: &mut Vec<u8>, component: &ComponentType) -> Result<(), Error> {
-    append_body(out, 0x41, component.count, &component.bytes)
-}
-
-/// Appends a component type. An `Err` leaves what was there.
-fn put_component(out: &mut Vec<u8>, component: &ComponentType) -> Result<(), Error> {
-    let start = out.len();
-    match append_component(out, component) {
-        Ok(()) => Ok(()),
-        Err(error) => {
-            out.truncate(start);
-            Err(error)
-        }
-    }
-}
-
-fn append_export(out: &mut Vec<u8>, name: &str, index: u32) -> Result<(), Error> {
-    append_plain_name(out, name)?;
-    out.push(0x03)?;
-    write_u32(out, index)?;
-    out.push(0x00)?;
-    Ok(())
-}
-
-/// Appends an export. An `Err` leaves what was there.
-fn put_export(out: &mut Vec<u8>, name: &str, index: u32) -> Result<(), Error> {
-    let start = out.len();
-    match append_export(out, name, index) {
-        Ok(()) => Ok(()),
-        Err(error) => {
-            out.truncate(start);
-            Err(error)
-        }
-    }
-}
-
-/// The preamble of a component, if nothing stands there yet.
-fn append_preamble(out: &mut Vec<u8>) -> Result<(), Error> {
-    if out.is_empty() {
-        Ok(out.extend_from_slice(&[0x00, 0x61, 0x73, 0x6d, 0x0d, 0x00, 0x01, 0x00])?)
-    } else {
-        Ok(())
-    }
-}
-
-/// How many bytes a number takes in its shortest form.
-fn u32_length(number: u32) -> usize {
-    if number < 0x80 {
-        1
-    } else if number < 0x4000 {
-        2
-    } else if number < 0x20_0000 {
-        3
-    } else if number < 0x1000_0000 {
-        4
-    } else {
-        5
-    }
-}
-
-/// Appends a section: its id, its length, how many items it has, and the items.
-fn append_section(out: &mut Vec<u8>, id: u8, count: u32, items: &[u8]) -> Result<(), Error> {
-    let Some(length) = items.len().checked_add(u32_length(count)) else {
-        return Err(Error::Size);
-    };
-    out.push(id)?;
-    append_count(out, length)?;
-    write_u32(out, count)?;
-    out.extend_from_slice(items)?;
-    Ok(())
-}
-
-fn append_closed(out: &mut Vec<u8>, id: u8, count: u32, items: &[u8]) -> Result<(), Error> {
-    append_preamble(out)?;
-    if count > 0 {
-        append_section(out, id, count, items)
-    } else {
-        Ok(())
-    }
-}
-
-/// Appends the open section, and the preamble in front of the first. An `Err` leaves what was there.
-fn close(out: &mut Vec<u8>, id: u8, count: u32, items: &[u8]) -> Result<(), Error> {
-    let start = out.len();
-    match append_closed(out, id, count, items) {
-        Ok(()) => Ok(()),
-        Err(error) => {
-            out.truncate(start);
-            Err(error)
-        }
-    }
-}
-
-fn append_custom_contents(out: &mut Vec<u8>, name: &str, data: &[u8]) -> Result<(), Error> {
-    let Ok(size) = u32::try_from(name.len()) else {
-        return Err(Error::Size);
-    };
-    let Some(length) = name.len().checked_add(u32_length(size)) else {
-        return Err(Error::Size);
-    };
-    let Some(length) = length.checked_add(data.len()) else {
-        return Err(Error::Size);
-    };
-    out.push(0x00)?;
-    append_count(out, length)?;
-    append_name(out, name)?;
-    out.extend_from_slice(data)?;
-    Ok(())
-}
-
-fn append_custom(
-    out: &mut Vec<u8>,
-    id: u8,
-    count: u32,
-    items: &[u8],
-    name: &str,
-    data: &[u8],
-) -> Result<(), Error> {
-    append_closed(out, id, count, items)?;
-    append_custom_contents(out, name, data)
-}
-
-/// Appends the open section and a custom section. An `Err` leaves what was there.
-fn put_custom(
-    out: &mut Vec<u8>,
-    id: u8,
-    count: u32,
-    items: &[u8],
-    name: &str,
-    data: &[u8],
-) -> Result<(), Error> {
-    let start = out.len();
-    match append_custom(out, id, count, items, name, data) {
-        Ok(()) => Ok(()),
-        Err(error) => {
-            out.truncate(start);
-            Err(error)
         }
     }
 }

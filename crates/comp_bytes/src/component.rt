@@ -67,6 +67,9 @@ impl ComponentType {
     }
 
     /// Defines a value type, which takes the next type index.
+    ///
+    /// Takes amortised time linear in the bytes that it appends. An `Err` appends nothing: `Memory` where a growth was refused, or
+    /// `Size` where it, or a count with it, doesn't fit in 32 bits.
     pub fn defined(&mut self, def: &ComponentDefinedType) -> Result<(), Error>
         ensures ok { OnOk result (self.new ≡ append self.old (Declarations.declares (Declaration.defined (raw_defined def.now)) Declarations.no_more)) }
         ensures err { OnErr result (self.new ≡ self.old) }
@@ -81,6 +84,9 @@ impl ComponentType {
     }
 
     /// Defines a function type, which takes the next type index.
+    ///
+    /// Takes amortised time linear in the bytes that it appends. An `Err` appends nothing: `Memory` where a growth was refused, or
+    /// `Size` where it, or a count with it, doesn't fit in 32 bits.
     pub fn function(&mut self, function: &ComponentFuncType) -> Result<(), Error>
         ensures ok { OnOk result (self.new ≡ append self.old (Declarations.declares (Declaration.function (raw_function function.now)) Declarations.no_more)) }
         ensures err { OnErr result (self.new ≡ self.old) }
@@ -95,6 +101,9 @@ impl ComponentType {
     }
 
     /// Defines an instance type, which takes the next type index. It is copied.
+    ///
+    /// Takes amortised time linear in the bytes that it appends. An `Err` appends nothing: `Memory` where a growth was refused, or
+    /// `Size` where it, or a count with it, doesn't fit in 32 bits.
     pub fn instance(&mut self, instance: &InstanceType) -> Result<(), Error>
         ensures ok { OnOk result (self.new ≡ append self.old (Declarations.instance (from_list instance.now) Declarations.no_more)) }
         ensures err { OnErr result (self.new ≡ self.old) }
@@ -109,6 +118,9 @@ impl ComponentType {
     }
 
     /// Defines a component type, which takes the next type index. It is copied.
+    ///
+    /// Takes amortised time linear in the bytes that it appends. An `Err` appends nothing: `Memory` where a growth was refused, or
+    /// `Size` where it, or a count with it, doesn't fit in 32 bits.
     pub fn component(&mut self, component: &ComponentType) -> Result<(), Error>
         ensures ok { OnOk result (self.new ≡ append self.old (Declarations.component component.now Declarations.no_more)) }
         ensures err { OnErr result (self.new ≡ self.old) }
@@ -123,6 +135,9 @@ impl ComponentType {
     }
 
     /// Takes the next type index for a type that stands elsewhere.
+    ///
+    /// Takes amortised time linear in the bytes that it appends. An `Err` appends nothing: `Memory` where a growth was refused, or
+    /// `Size` where it, or a count with it, doesn't fit in 32 bits.
     pub fn alias(&mut self, alias: &Alias) -> Result<(), Error>
         ensures ok { OnOk result (self.new ≡ append self.old (Declarations.declares (Declaration.alias_of (raw_alias alias.now)) Declarations.no_more)) }
         ensures err { OnErr result (self.new ≡ self.old) }
@@ -137,6 +152,9 @@ impl ComponentType {
     }
 
     /// Imports something under a name. A type takes the next type index.
+    ///
+    /// Takes amortised time linear in the bytes that it appends. An `Err` appends nothing: `Memory` where a growth was refused, or
+    /// `Size` where it, or a count with it, doesn't fit in 32 bits.
     pub fn import(&mut self, name: &ComponentExternName, ty: ComponentTypeRef) -> Result<(), Error>
         ensures ok { OnOk result (self.new ≡ append self.old (Declarations.declares (Declaration.imported (raw_name name.now) ty) Declarations.no_more)) }
         ensures err { OnErr result (self.new ≡ self.old) }
@@ -151,6 +169,9 @@ impl ComponentType {
     }
 
     /// Exports something under a name. A type takes the next type index.
+    ///
+    /// Takes amortised time linear in the bytes that it appends. An `Err` appends nothing: `Memory` where a growth was refused, or
+    /// `Size` where it, or a count with it, doesn't fit in 32 bits.
     pub fn export(&mut self, name: &ComponentExternName, ty: ComponentTypeRef) -> Result<(), Error>
         ensures ok { OnOk result (self.new ≡ append self.old (Declarations.declares (Declaration.exported (raw_name name.now) ty) Declarations.no_more)) }
         ensures err { OnErr result (self.new ≡ self.old) }

@@ -20,7 +20,10 @@ use crate::forms::{
 use wit_model::Error;
 
 fn append_defined(out: &mut Vec<u8>, def: &ComponentDefinedType) -> Result<(), Error>
-    ensures { Appends (IsDeclaration (Declaration.defined (raw_defined def.now))) (declaration_bytes (Declaration.defined (raw_defined def.now))) (fits_declaration (Declaration.defined (raw_defined def.now))) out.old.items out.new.items result }
+    ensures { Appends (IsDeclaration (Declaration.defined (raw_defined def.now)))
+        (declaration_bytes (Declaration.defined (raw_defined def.now)))
+        (fits_declaration (Declaration.defined (raw_defined def.now))) out.old.items out.new.items
+        result }
 {
     out.push(0x01)?;
     append_defined_type(out, def)
@@ -44,7 +47,10 @@ pub(crate) fn declare_defined(out: &mut Vec<u8>, def: &ComponentDefinedType) -> 
 }
 
 fn append_function(out: &mut Vec<u8>, function: &ComponentFuncType) -> Result<(), Error>
-    ensures { Appends (IsDeclaration (Declaration.function (raw_function function.now))) (declaration_bytes (Declaration.function (raw_function function.now))) (fits_declaration (Declaration.function (raw_function function.now))) out.old.items out.new.items result }
+    ensures { Appends (IsDeclaration (Declaration.function (raw_function function.now)))
+        (declaration_bytes (Declaration.function (raw_function function.now)))
+        (fits_declaration (Declaration.function (raw_function function.now))) out.old.items
+        out.new.items result }
 {
     out.push(0x01)?;
     append_function_type(out, function)
@@ -68,7 +74,10 @@ pub(crate) fn declare_function(out: &mut Vec<u8>, function: &ComponentFuncType) 
 }
 
 fn append_alias_of(out: &mut Vec<u8>, alias: &Alias) -> Result<(), Error>
-    ensures { Appends (IsDeclaration (Declaration.alias_of (raw_alias alias.now))) (declaration_bytes (Declaration.alias_of (raw_alias alias.now))) (fits_declaration (Declaration.alias_of (raw_alias alias.now))) out.old.items out.new.items result }
+    ensures { Appends (IsDeclaration (Declaration.alias_of (raw_alias alias.now)))
+        (declaration_bytes (Declaration.alias_of (raw_alias alias.now)))
+        (fits_declaration (Declaration.alias_of (raw_alias alias.now))) out.old.items
+        out.new.items result }
 {
     out.push(0x02)?;
     append_alias(out, alias)
@@ -97,7 +106,9 @@ fn append_named(
     name: &ComponentExternName,
     ty: ComponentTypeRef,
 ) -> Result<(), Error>
-    ensures { Appends (Joined (IsExternName (raw_name name.now)) (IsDescription ty)) (extern_name_bytes (raw_name name.now) ++ description_bytes ty) (fits_name (raw_name name.now)) out.old.items out.new.items result }
+    ensures { Appends (Joined (IsExternName (raw_name name.now)) (IsDescription ty))
+        (extern_name_bytes (raw_name name.now) ++ description_bytes ty)
+        (fits_name (raw_name name.now)) out.old.items out.new.items result }
 {
     append_extern_name(out, name)?;
     append_description(out, ty)
@@ -108,7 +119,10 @@ fn append_import(
     name: &ComponentExternName,
     ty: ComponentTypeRef,
 ) -> Result<(), Error>
-    ensures { Appends (IsDeclaration (Declaration.imported (raw_name name.now) ty)) (declaration_bytes (Declaration.imported (raw_name name.now) ty)) (fits_declaration (Declaration.imported (raw_name name.now) ty)) out.old.items out.new.items result }
+    ensures { Appends (IsDeclaration (Declaration.imported (raw_name name.now) ty))
+        (declaration_bytes (Declaration.imported (raw_name name.now) ty))
+        (fits_declaration (Declaration.imported (raw_name name.now) ty)) out.old.items
+        out.new.items result }
 {
     out.push(0x03)?;
     append_named(out, name, ty)
@@ -119,7 +133,10 @@ fn append_export(
     name: &ComponentExternName,
     ty: ComponentTypeRef,
 ) -> Result<(), Error>
-    ensures { Appends (IsDeclaration (Declaration.exported (raw_name name.now) ty)) (declaration_bytes (Declaration.exported (raw_name name.now) ty)) (fits_declaration (Declaration.exported (raw_name name.now) ty)) out.old.items out.new.items result }
+    ensures { Appends (IsDeclaration (Declaration.exported (raw_name name.now) ty))
+        (declaration_bytes (Declaration.exported (raw_name name.now) ty))
+        (fits_declaration (Declaration.exported (raw_name name.now) ty)) out.old.items
+        out.new.items result }
 {
     out.push(0x04)?;
     append_named(out, name, ty)

@@ -61,6 +61,9 @@ impl InstanceType {
     }
 
     /// Defines a value type, which takes the next type index.
+    ///
+    /// Takes amortised time linear in the bytes that it appends. An `Err` appends nothing: `Memory` where a growth was refused, or
+    /// `Size` where it, or a count with it, doesn't fit in 32 bits.
     pub fn defined(&mut self, def: &ComponentDefinedType) -> Result<(), Error>
         ensures ok { OnOk result (self.new ≡ self.old ++ Declaration.defined (raw_defined def.now) ∷ []) }
         ensures err { OnErr result (self.new ≡ self.old) }
@@ -75,6 +78,9 @@ impl InstanceType {
     }
 
     /// Defines a function type, which takes the next type index.
+    ///
+    /// Takes amortised time linear in the bytes that it appends. An `Err` appends nothing: `Memory` where a growth was refused, or
+    /// `Size` where it, or a count with it, doesn't fit in 32 bits.
     pub fn function(&mut self, function: &ComponentFuncType) -> Result<(), Error>
         ensures ok { OnOk result (self.new ≡ self.old ++ Declaration.function (raw_function function.now) ∷ []) }
         ensures err { OnErr result (self.new ≡ self.old) }
@@ -89,6 +95,9 @@ impl InstanceType {
     }
 
     /// Takes the next type index for a type that stands elsewhere.
+    ///
+    /// Takes amortised time linear in the bytes that it appends. An `Err` appends nothing: `Memory` where a growth was refused, or
+    /// `Size` where it, or a count with it, doesn't fit in 32 bits.
     pub fn alias(&mut self, alias: &Alias) -> Result<(), Error>
         ensures ok { OnOk result (self.new ≡ self.old ++ Declaration.alias_of (raw_alias alias.now) ∷ []) }
         ensures err { OnErr result (self.new ≡ self.old) }
@@ -103,6 +112,9 @@ impl InstanceType {
     }
 
     /// Exports something under a name. A type takes the next type index.
+    ///
+    /// Takes amortised time linear in the bytes that it appends. An `Err` appends nothing: `Memory` where a growth was refused, or
+    /// `Size` where it, or a count with it, doesn't fit in 32 bits.
     pub fn export(&mut self, name: &ComponentExternName, ty: ComponentTypeRef) -> Result<(), Error>
         ensures ok { OnOk result (self.new ≡ self.old ++ Declaration.exported (raw_name name.now) ty ∷ []) }
         ensures err { OnErr result (self.new ≡ self.old) }

@@ -11,6 +11,7 @@ pub mod laws;
 mod name;
 mod nested;
 mod number;
+mod section;
 
 pub use builder::ComponentBuilder;
 pub use component::ComponentType;
@@ -21,3 +22,6 @@ pub use forms::{
 pub use instance::InstanceType;
 pub use name::{read_name, write_name};
 pub use number::{read_index, read_u32, write_index, write_u32};
+
+#[cfg(test)]
+mod tests;

@@ -78,7 +78,8 @@ pub fn write_name(out: &mut Vec<u8>, text: &str) -> Result<(), Error>
 
 /// Appends a name. An `Err` may leave some of its bytes.
 pub(crate) fn append_name(out: &mut Vec<u8>, text: &str) -> Result<(), Error>
-    ensures appends { Appends (Name text.now) (name_bytes text.now) (fits_length text.now) out.old.items out.new.items result }
+    ensures appends { Appends (Name text.now) (name_bytes text.now) (fits_length text.now)
+        out.old.items out.new.items result }
     ensures large { fits_length text.now ≡ false → result ≡ Err Size }
 {
     append_count(out, text.len())?;
@@ -88,7 +89,8 @@ pub(crate) fn append_name(out: &mut Vec<u8>, text: &str) -> Result<(), Error>
 
 /// Appends a count or a length.
 pub(crate) fn append_count(out: &mut Vec<u8>, count: usize) -> Result<(), Error>
-    ensures appends { Appends (IsU32 count) (u32_bytes count) (nat_lt count (2 ^ 32)) out.old.items out.new.items result }
+    ensures appends { Appends (IsU32 count) (u32_bytes count) (nat_lt count (2 ^ 32))
+        out.old.items out.new.items result }
     ensures large { nat_lt count (2 ^ 32) ≡ false → result ≡ Err Size }
 {
     match u32::try_from(count) {
@@ -99,7 +101,9 @@ pub(crate) fn append_count(out: &mut Vec<u8>, count: usize) -> Result<(), Error>
 
 /// Appends the name of an export without attributes. An `Err` may leave some of its bytes.
 pub(crate) fn append_plain_name(out: &mut Vec<u8>, text: &str) -> Result<(), Error>
-    ensures { Appends (IsExternName (plain_name text.now)) (extern_name_bytes (plain_name text.now)) (fits_name (plain_name text.now)) out.old.items out.new.items result }
+    ensures { Appends (IsExternName (plain_name text.now))
+        (extern_name_bytes (plain_name text.now)) (fits_name (plain_name text.now)) out.old.items
+        out.new.items result }
 {
     out.push(0x00)?;
     append_name(out, text)

@@ -1,2 +1,7 @@
 pub mod MeaningLaws
-mod Rows
+pub mod Computing
+mod PlainExamples
+mod ReadingExamples
+mod CornerExamples
+mod IndexExamples
+mod WholeExample

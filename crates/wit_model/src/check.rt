@@ -9,6 +9,8 @@ mod members;
 mod names;
 mod numbers;
 mod places;
+#[cfg(test)]
+mod tests;
 mod walk;
 
 ghost use Rattle.std.specs.Prelude.{OnOk, IfErr, IsOk};

@@ -1,0 +1,9 @@
+pub mod Keys
+pub mod Parts
+pub mod Functions
+pub mod Worlds
+pub mod Entries
+pub mod Packages
+pub mod Validity
+pub mod Means
+pub mod Counts

@@ -1,3 +1,4 @@
 pub mod Key
 pub mod Words
 pub mod Written
+pub mod Encoded

@@ -1,23 +1,39 @@
 //! The component of a package.
 
+ghost use Rattle.std.specs.Prelude.{◌≡◌, ◌++◌, [], option_map, string_bytes, OnOk, IfOk, IfErr};
+ghost use Rattle.wit_model.specs.declared.error.Error.TheVariants.{Memory};
+ghost use Rattle.wit_model.specs.Lookup.{identity_of, world_at};
+ghost use Rattle.wit_model.specs.Names.{path_in as path_in_lem};
+ghost use Rattle.wit_model.specs.Text.{text_of};
+ghost use Rattle.comp_bytes.specs.Spelling.{IsComponent};
+ghost use Rattle.comp_bytes.specs.Parts.{top_slots, sections_of_parts};
+ghost use Rattle.comp_bytes.specs.Refusal.{IsMemoryOrSize};
+ghost use Rattle.witc.specs.Written.{wrapper_of as wrapper_of_lem, world_parts, parts_of};
+
 use crate::encode::world::{plain_name, world_type};
 use comp_bytes::{ComponentBuilder, ComponentType, ComponentTypeRef};
 use std::alloc::Global;
-use wit_model::{Error, Package, PackageName, Resolve, World};
+use wit_model::{Error, Package, PackageName, Resolve, World, WorldId};
 
 /// The path of a name in a package: `namespace:name/interface`, and `@version` where the package has one.
-fn path_in(alloc: Global, package: &PackageName, name: &str) -> Result<String, Error> {
-    let namespace = &package.namespace;
-    let short = &package.name;
-    match &package.version {
+fn path_in(alloc: Global, own: &PackageName, name: &str) -> Result<String, Error>
+    ensures ok { IfOk result (λ path. string_bytes path ≡ path_in_lem (identity_of own.now) name.now) }
+    ensures refuses { IfErr result (λ e. e ≡ Memory) }
+{
+    let namespace = &own.namespace;
+    let short = &own.name;
+    match &own.version {
         Some(version) => Ok(format!(in alloc; "{namespace}:{short}/{name}@{version}")?),
         None => Ok(format!(in alloc; "{namespace}:{short}/{name}")?),
     }
 }
 
 /// The wrapper of a world: its component type, exported under its path.
-fn wrapper_of(alloc: Global, package: &PackageName, world: &World) -> Result<ComponentType, Error> {
-    let path = path_in(alloc, package, &world.name)?;
+fn wrapper_of(alloc: Global, own: &PackageName, world: &World) -> Result<ComponentType, Error>
+    ensures ok { IfOk result (λ wrapper. wrapper ≡ wrapper_of_lem (path_in_lem (identity_of own.now) (text_of world.now.name)) world.now) }
+    ensures refuses { IfErr result IsMemoryOrSize }
+{
+    let path = path_in(alloc, own, &world.name)?;
     let component = world_type(alloc, world)?;
     let mut wrapper = ComponentType::new(alloc);
     wrapper.component(&component)?;
@@ -29,26 +45,38 @@ fn wrapper_of(alloc: Global, package: &PackageName, world: &World) -> Result<Com
 fn add_world(
     alloc: Global,
     builder: &mut ComponentBuilder,
-    package: &PackageName,
+    own: &PackageName,
     name: &str,
     world: &World,
-) -> Result<(), Error> {
-    let wrapper = wrapper_of(alloc, package, world)?;
+) -> Result<(), Error>
+    ensures ok { OnOk result (builder.new ≡ builder.old ++ world_parts (identity_of own.now) (top_slots builder.old) name.now world.now) }
+    ensures refuses { IfErr result IsMemoryOrSize }
+{
+    let wrapper = wrapper_of(alloc, own, world)?;
     let index = builder.type_component(&wrapper)?;
     builder.export(name, index)?;
     Ok(())
+}
+
+fn world_of<'a>(resolve: &'a Resolve, id: WorldId) -> Option<&'a World>
+    ensures { option_map (λ w. w.now) result ≡ world_at resolve.now id.0 }
+{
+    resolve.worlds.get(id.0 as usize)
 }
 
 /// The component of a package: each world in its wrapper, in the order of the package's map.
 fn component_of(
     alloc: Global,
     resolve: &Resolve,
-    package: &Package,
-) -> Result<ComponentBuilder, Error> {
+    own: &Package,
+) -> Result<ComponentBuilder, Error>
+    ensures ok { IfOk result (λ builder. builder ≡ parts_of resolve.now (identity_of own.now.name) 0 own.now.worlds.entries) }
+    ensures refuses { IfErr result IsMemoryOrSize }
+{
     let mut builder = ComponentBuilder::new(alloc);
-    for (name, id) in package.worlds.iter() {
-        if let Some(world) = resolve.worlds.get(id.0 as usize) {
-            add_world(alloc, &mut builder, &package.name, name, world)?;
+    for (name, id) in own.worlds.iter() {
+        if let Some(world) = world_of(resolve, *id) {
+            add_world(alloc, &mut builder, &own.name, name, world)?;
         }
     }
     Ok(builder)
@@ -58,9 +86,12 @@ fn component_of(
 pub(crate) fn encode_package(
     alloc: Global,
     resolve: &Resolve,
-    package: &Package,
-) -> Result<Vec<u8>, Error> {
-    component_of(alloc, resolve, package)?.finish()
+    own: &Package,
+) -> Result<Vec<u8>, Error>
+    ensures ok { IfOk result (λ bytes. IsComponent (sections_of_parts (parts_of resolve.now (identity_of own.now.name) 0 own.now.worlds.entries)) bytes.items) }
+    ensures refuses { IfErr result IsMemoryOrSize }
+{
+    component_of(alloc, resolve, own)?.finish()
 }
 
 #[cfg(test)]
@@ -70,7 +101,7 @@ mod tests {
     use semver::Version;
     use std::test::Fail;
     use wit_model::{
-        Docs, Function, FunctionKind, Map, Param, Stability, Type, WorldId, WorldItem, WorldKey,
+        Docs, Function, FunctionKind, Map, Param, Stability, Type, WorldItem, WorldKey,
     };
 
     type Items = Map<WorldKey, WorldItem>;
@@ -152,7 +183,7 @@ mod tests {
 
     fn bytes_of(alloc: Global, resolve: &Resolve) -> Result<Vec<u8>, Fail> {
         match resolve.packages.first() {
-            Some(package) => Ok(encode_package(alloc, resolve, package)?),
+            Some(package) => Ok(encode_package(alloc, resolve, own)?),
             None => Ok(Vec::new(alloc)),
         }
     }

@@ -1,9 +1,11 @@
 //! The component type of a world of functions.
 
-ghost use Rattle.std.specs.Prelude.{◌≡◌, ◌↔◌, map, OnOk, OnErr, IfOk, IfErr};
+ghost use Rattle.std.specs.Prelude.{◌≡◌, OnOk, IfOk, IfErr};
 ghost use Rattle.comp_bytes.specs.RawOf.{raw_name};
-ghost use Rattle.witc.specs.Written.{plain_name as plain_name_lem};
 ghost use Rattle.comp_bytes.specs.Refusal.{IsMemoryOrSize};
+ghost use Rattle.indexmap.specs.IndexMap.{values};
+ghost use Rattle.comp_bytes.specs.Reading.{plain_name as plain_name_lem};
+ghost use Rattle.witc.specs.Written.{nothing_written, scope_view, index_of, write_type, write_function, write_items, write_world};
 
 use crate::encode::function::{function_type, key_of};
 use crate::encode::key::FunctionKey;
@@ -40,7 +42,9 @@ pub(crate) struct WorldScope<'a> {
 }
 
 impl<'a> WorldScope<'a> {
-    fn new(alloc: Global) -> Self {
+    fn new(alloc: Global) -> Self
+        ensures { scope_view result ≡ nothing_written }
+    {
         WorldScope {
             component: ComponentType::new(alloc),
             keys: IndexSet::new(alloc),
@@ -48,7 +52,11 @@ impl<'a> WorldScope<'a> {
     }
 
     /// The index of a function's type, which is defined where its key is new.
-    fn type_of(&mut self, alloc: Global, function: &'a Function) -> Result<u32, Error> {
+    fn type_of(&mut self, alloc: Global, function: &'a Function) -> Result<u32, Error>
+        ensures ok { OnOk result (scope_view self.new ≡ write_type function.now (scope_view self.old)) }
+        ensures index { IfOk result (λ n. n ≡ index_of function.now (scope_view self.old)) }
+        ensures refuses { IfErr result IsMemoryOrSize }
+    {
         let (index, is_new) = self.keys.insert_full(key_of(function))?;
         if is_new {
             self.component.function(&function_type(alloc, function)?)?;
@@ -64,7 +72,10 @@ impl<'a> WorldScope<'a> {
         alloc: Global,
         direction: Direction,
         function: &'a Function,
-    ) -> Result<(), Error> {
+    ) -> Result<(), Error>
+        ensures ok { OnOk result (scope_view self.new ≡ write_function direction function.now (scope_view self.old)) }
+        ensures refuses { IfErr result IsMemoryOrSize }
+    {
         let ty = ComponentTypeRef::Func(self.type_of(alloc, function)?);
         let name = plain_name(&function.name);
         match direction {
@@ -78,7 +89,10 @@ impl<'a> WorldScope<'a> {
         alloc: Global,
         direction: Direction,
         items: &'a Map<WorldKey, WorldItem>,
-    ) -> Result<(), Error> {
+    ) -> Result<(), Error>
+        ensures ok { OnOk result (scope_view self.new ≡ write_items direction (values items.now) (scope_view self.old)) }
+        ensures refuses { IfErr result IsMemoryOrSize }
+    {
         for item in items.values() {
             if let WorldItem::Function(function) = item {
                 self.add_function(alloc, direction, function)?;
@@ -89,7 +103,10 @@ impl<'a> WorldScope<'a> {
 }
 
 /// The component type of a world: its imports in order, then its exports.
-pub(crate) fn world_type(alloc: Global, world: &World) -> Result<ComponentType, Error> {
+pub(crate) fn world_type(alloc: Global, world: &World) -> Result<ComponentType, Error>
+    ensures ok { IfOk result (λ component. component ≡ (write_world world.now).declarations) }
+    ensures refuses { IfErr result IsMemoryOrSize }
+{
     let mut scope = WorldScope::new(alloc);
     scope.add_items(alloc, Direction::Import, &world.imports)?;
     scope.add_items(alloc, Direction::Export, &world.exports)?;

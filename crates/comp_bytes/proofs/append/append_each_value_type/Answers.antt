@@ -1,4 +1,4 @@
-use Rattle.std.proofs.Common.{◌<◌, length, arith}
+use Rattle.std.proofs.Common.{arith}
 use Rattle.comp_bytes.specs.Spelling.{ValueType}
 use Rattle.comp_bytes.specs.Writing.{value_bytes}
 use Rattle.comp_bytes.proofs.Sequences.{next}

@@ -1,4 +1,4 @@
-use Rattle.std.proofs.Common.{◌<◌, ◌^◌, arith, true}
+use Rattle.std.proofs.Common.{◌<◌, ◌^◌, arith}
 use Rattle.comp_bytes.proofs.Appends.{by_memory}
 use Rattle.comp_bytes.proofs.IndexWrites.{spells_index}
 use Rattle.comp_bytes.proofs.append.append_value_type.Goals as goal

@@ -1,0 +1,205 @@
+-- How long a component under construction is, at least: what doesn't fit makes it too long.
+use Rattle.std.proofs.Common.{◌≡◌, ℕ, ◌+◌, ◌^◌, ◌≤◌, Bool, false, List, [], ◌∷◌, ◌++◌, length, map, Result, Ok, Err, IsErrAnd, refl, sym, ap, subst, ◌∙◌, arith, length-append}
+use Rattle.std.specs.Prelude.{nat_lt}
+use Rattle.std.specs.List.{flat_map}
+use Rattle.std.proofs.lemmas.Bool.{le-ltb, lt-ltb, cases_lt, false≢true}
+use Rattle.std.proofs.lemmas.List.{append-nil}
+use Rattle.std.proofs.lemmas.List.Concat.{flat_map-append}
+use Rattle.std.proofs.Common.{inl, inr}
+use Rattle.wit_model.specs.declared.error.Error.{Error}
+use Rattle.wit_model.specs.declared.error.Error.TheVariants as errors
+use Rattle.comp_bytes.specs.Raw.{DefinedType, TopType, TopExport, Section}
+use Rattle.comp_bytes.specs.Spelling.{preamble}
+use Rattle.comp_bytes.specs.Fits.{fits_length}
+use Rattle.comp_bytes.specs.Writing.{u32_bytes, name_bytes, vector_bytes, extern_name_bytes, defined_type_bytes, top_type_bytes, top_export_bytes, framed, section_bytes, component_bytes}
+use Rattle.comp_bytes.specs.Parts.{Part, plain_export, sections_of_parts, top_slots, parts_in, parts_of, fits_component}
+use Rattle.comp_bytes.specs.Built.{Group, group_sections, group_in, sections_in, begun, section_id, closed_bytes, kept_parts, IsBuilt, Builds}
+use Rattle.comp_bytes.proofs.PartsLaws.{alone, put_behind, parts_of-sections_of_parts, sections_behind, top_slots-append, top_slots-push}
+use Rattle.comp_bytes.proofs.BuiltLaws.{all_sections, closed_begins, group_closed, StandsApart, custom_apart}
+
+-- a size that is passed on
+pub size_passed : {X Y : Type 0} (r : Result X Error) (e : Error) → IsErrAnd r (λ given. given ≡ e) → r ≡ Err errors.Size → ◌≡◌ {A = Result Y Error} (Err e) (Err errors.Size)
+size_passed (Ok x) e h is = absurd h
+size_passed {X} {Y} (Err given) e h is =
+    let same : e ≡ errors.Size = cc in
+    let wrap : Error → Result Y Error = λ x. Err x in
+    ap wrap same
+
+-- a number that is not below
+not_below : (n m : ℕ) → nat_lt n m ≡ false → m ≤ n
+not_below n m e =
+    elim (cases_lt n m) [
+      | inl lt ↦ absurd (false≢true (sym e ∙ lt-ltb n m lt))
+      | inr le ↦ le
+    ]
+
+-- a component that is too long doesn't fit
+too_long : (ps : List Part) → 2 ^ 32 ≤ length (component_bytes (sections_of_parts ps)) → fits_component ps ≡ false
+unfolding fits_component
+too_long ps le = le-ltb (length (component_bytes (sections_of_parts ps))) (2 ^ 32) le
+
+-- the bytes of sections
+total : List Section → List ℕ
+total sections = flat_map section_bytes sections
+
+long_sections : (ps : List Part) (sections : List Section) → sections_of_parts ps ≡ sections → 2 ^ 32 ≤ length (flat_map section_bytes sections) → fits_component ps ≡ false
+long_sections ps sections e le =
+    let more : 2 ^ 32 ≤ length (component_bytes sections) = omega (arith, length-append preamble (flat_map section_bytes sections)) in
+    too_long ps (subst (λ (l : List Section). 2 ^ 32 ≤ length (component_bytes l)) (sym e) more)
+
+-- ---- each item has a byte
+
+defined_filled : (d : DefinedType) → 1 ≤ length (defined_type_bytes d)
+defined_filled (DefinedType.primitive p) = omega arith
+defined_filled (DefinedType.record_of x) = omega arith
+defined_filled (DefinedType.variant_of x) = omega arith
+defined_filled (DefinedType.list_of x) = omega arith
+defined_filled (DefinedType.fixed_length_list_of x n) = omega arith
+defined_filled (DefinedType.tuple_of x) = omega arith
+defined_filled (DefinedType.flags_of x) = omega arith
+defined_filled (DefinedType.enum_of x) = omega arith
+defined_filled (DefinedType.option_of x) = omega arith
+defined_filled (DefinedType.result_of x y) = omega arith
+defined_filled (DefinedType.own_of n) = omega arith
+defined_filled (DefinedType.borrow_of n) = omega arith
+defined_filled (DefinedType.stream_of x) = omega arith
+defined_filled (DefinedType.future_of x) = omega arith
+defined_filled (DefinedType.map_of x y) = omega arith
+
+type_filled : (t : TopType) → 1 ≤ length (top_type_bytes t)
+type_filled (TopType.defined d) = defined_filled d
+type_filled (TopType.function f) = omega arith
+type_filled (TopType.component ds) = omega arith
+type_filled (TopType.instance ds) = omega arith
+
+export_filled : (e : TopExport) → 1 ≤ length (top_export_bytes e)
+export_filled e = omega (arith, length-append (extern_name_bytes e.exported_as) (3 ∷ (u32_bytes e.type_index ++ 0 ∷ [])))
+
+items_filled : {A : Type 0} (bytes_of : A → List ℕ) → ((x : A) → 1 ≤ length (bytes_of x)) → (xs : List A) → length xs ≤ length (flat_map bytes_of xs)
+items_filled bytes_of filled [] = omega arith
+items_filled bytes_of filled (x ∷ xs) = omega (arith, filled x, items_filled bytes_of filled xs, length-append (bytes_of x) (flat_map bytes_of xs))
+
+-- a section is longer than its contents
+framed_longer : (id : ℕ) (contents : List ℕ) → length contents ≤ length (framed id contents)
+framed_longer id contents = omega (arith, length-append (u32_bytes (length contents)) contents)
+
+vector_longer : {A : Type 0} (bytes_of : A → List ℕ) (xs : List A) → length (flat_map bytes_of xs) ≤ length (vector_bytes bytes_of xs)
+vector_longer bytes_of xs = omega (arith, length-append (u32_bytes (length xs)) (flat_map bytes_of xs))
+
+slots-types : (ts : List TopType) → top_slots (map Part.top_type ts) ≡ length ts
+slots-types [] = refl
+slots-types (t ∷ ts) = omega (arith, slots-types ts)
+
+slots-exports : (es : List TopExport) → top_slots (map Part.top_export es) ≡ length es
+slots-exports [] = refl
+slots-exports (e ∷ es) = omega (arith, slots-exports es)
+
+section_slots : (s : Section) → top_slots (parts_in s) ≤ length (section_bytes s)
+section_slots (Section.types ts) = omega (arith, slots-types ts, items_filled top_type_bytes type_filled ts, vector_longer top_type_bytes ts, framed_longer 7 (vector_bytes top_type_bytes ts))
+section_slots (Section.exports es) = omega (arith, slots-exports es, items_filled top_export_bytes export_filled es, vector_longer top_export_bytes es, framed_longer 0x0b (vector_bytes top_export_bytes es))
+section_slots (Section.custom name contents) = omega arith
+
+all_slots : (sections : List Section) → top_slots (parts_of sections) ≤ length (flat_map section_bytes sections)
+all_slots [] = omega arith
+all_slots (s ∷ rest) = omega (arith, section_slots s, all_slots rest, top_slots-append (parts_in s) (parts_of rest), length-append (section_bytes s) (flat_map section_bytes rest))
+
+-- too many type indexes
+slots_refused : (ps : List Part) → 2 ^ 32 ≤ top_slots ps → fits_component ps ≡ false
+slots_refused ps le =
+    long_sections ps (sections_of_parts ps) refl (omega (arith, all_slots (sections_of_parts ps), ap top_slots (parts_of-sections_of_parts ps)))
+
+-- the items of the open section take type indexes
+group_slots : (sections : List Section) (g : Group) (done items : List ℕ) (count : ℕ) (exports : Bool) (types : ℕ) → IsBuilt sections g done items count exports types → count ≤ types
+group_slots sections (Group.of_types []) done items count exports types h = omega (arith, h.held.1.counted)
+group_slots sections (Group.of_exports []) done items count exports types h = omega (arith, h.held.1.counted)
+group_slots sections (Group.of_types (u ∷ us)) done items count exports types h =
+    omega (arith, h.held.1.counted, h.slots, ap top_slots (flat_map-append parts_in sections (Section.types (u ∷ us) ∷ [])), top_slots-append (parts_of sections) (parts_of (Section.types (u ∷ us) ∷ [])), ap top_slots (append-nil (map Part.top_type (u ∷ us))), slots-types (u ∷ us))
+group_slots sections (Group.of_exports (u ∷ us)) done items count exports types h =
+    omega (arith, h.held.1.counted, h.slots, ap top_slots (flat_map-append parts_in sections (Section.exports (u ∷ us) ∷ [])), top_slots-append (parts_of sections) (parts_of (Section.exports (u ∷ us) ∷ [])), ap top_slots (append-nil (map Part.top_export (u ∷ us))), slots-exports (u ∷ us))
+
+-- ---- a name that is too long
+
+name_longer : (name : List ℕ) (index : ℕ) → length name ≤ length (top_export_bytes (plain_export name index))
+name_longer name index =
+    omega (arith, length-append (0 ∷ name_bytes name) (3 ∷ (u32_bytes index ++ 0 ∷ [])), length-append (u32_bytes (length name)) name)
+
+one_longer : {A : Type 0} (bytes_of : A → List ℕ) (xs : List A) (x : A) → length (bytes_of x) ≤ length (flat_map bytes_of (xs ++ x ∷ []))
+one_longer bytes_of [] x = omega (arith, length-append (bytes_of x) [])
+one_longer bytes_of (y ∷ xs) x = omega (arith, one_longer bytes_of xs x, length-append (bytes_of y) (flat_map bytes_of (xs ++ x ∷ [])))
+
+exports_longer : (es : List TopExport) (e : TopExport) (rest : List Section) → length (top_export_bytes e) ≤ length (flat_map section_bytes (Section.exports (es ++ e ∷ []) ∷ rest))
+exports_longer es e rest =
+    omega (arith, one_longer top_export_bytes es e, vector_longer top_export_bytes (es ++ e ∷ []), framed_longer 0x0b (vector_bytes top_export_bytes (es ++ e ∷ [])), length-append (section_bytes (Section.exports (es ++ e ∷ []))) (flat_map section_bytes rest))
+
+export_longer : (sections : List Section) (e : TopExport) → length (top_export_bytes e) ≤ length (flat_map section_bytes (put_behind sections (Part.top_export e)))
+export_longer [] e = exports_longer [] e []
+export_longer (Section.types ts ∷ []) e = omega (arith, exports_longer [] e [], length-append (section_bytes (Section.types ts)) (flat_map section_bytes (Section.exports (e ∷ []) ∷ [])))
+export_longer (Section.exports es ∷ []) e = exports_longer es e []
+export_longer (Section.custom name contents ∷ []) e = omega (arith, exports_longer [] e [], length-append (section_bytes (Section.custom name contents)) (flat_map section_bytes (Section.exports (e ∷ []) ∷ [])))
+export_longer (s ∷ t ∷ rest) e = omega (arith, export_longer (t ∷ rest) e, length-append (section_bytes s) (flat_map section_bytes (put_behind (t ∷ rest) (Part.top_export e))))
+
+-- ---- what is kept, and what it refuses
+
+module _ (done items : List ℕ) (count : ℕ) (exports : Bool) (types : ℕ) (h : Builds done items count exports types) where
+  abbrev ps : List Part
+  ps = kept_parts done items count exports
+
+  -- too many type indexes with one part more
+  pub types_refused : (p : Part) → top_slots (p ∷ []) ≡ 1 → nat_lt (types + 1) (2 ^ 32) ≡ false → fits_component (ps ++ p ∷ []) ≡ false
+  types_refused p one e =
+      let many : 2 ^ 32 ≤ types + 1 = not_below (types + 1) (2 ^ 32) e in
+      slots_refused (ps ++ p ∷ []) (omega (arith, h.slots, top_slots-push ps p))
+
+  -- too many items with one part more
+  pub count_refused : (p : Part) → top_slots (p ∷ []) ≡ 1 → nat_lt (count + 1) (2 ^ 32) ≡ false → fits_component (ps ++ p ∷ []) ≡ false
+  count_refused p one e =
+      let many : 2 ^ 32 ≤ count + 1 = not_below (count + 1) (2 ^ 32) e in
+      slots_refused (ps ++ p ∷ []) (omega (arith, h.slots, group_slots (sections_in done) (group_in exports count items) done items count exports types h, top_slots-push ps p))
+
+  -- a name that is too long
+  pub name_refused : (name : List ℕ) (index : ℕ) → fits_length name ≡ false → fits_component (ps ++ Part.top_export (plain_export name index) ∷ []) ≡ false
+  name_refused name index e =
+      let all : List Section = all_sections done items count exports types h in
+      let long : 2 ^ 32 ≤ length name = not_below (length name) (2 ^ 32) e in
+      long_sections (ps ++ Part.top_export (plain_export name index) ∷ []) (put_behind all (Part.top_export (plain_export name index))) (sections_behind all (Part.top_export (plain_export name index)) h.grouped)
+      (omega (arith, name_longer name index, export_longer all (plain_export name index)))
+
+  -- the open section is too long
+  closed_longer : length (closed_bytes (section_id exports) count items) ≤ length (flat_map section_bytes (all_sections done items count exports types h))
+  closed_longer =
+      omega (
+        arith,
+        ap length (group_closed (group_in exports count items) exports count items h.held),
+        ap length (flat_map-append section_bytes (sections_in done) (group_sections (group_in exports count items))),
+        length-append (flat_map section_bytes (sections_in done)) (flat_map section_bytes (group_sections (group_in exports count items))),
+      )
+
+  pub close_refused : 2 ^ 32 ≤ length (closed_bytes (section_id exports) count items) → fits_component ps ≡ false
+  close_refused le = long_sections ps (all_sections done items count exports types h) h.grouped (omega (arith, closed_longer))
+
+  -- behind it stands a part of its own
+  apart_longer : (p : Part) → StandsApart done items count exports types h p → sections_of_parts (ps ++ p ∷ []) ≡ all_sections done items count exports types h ++ alone p ∷ []
+  apart_longer p apart = sections_behind (all_sections done items count exports types h) p h.grouped ∙ apart
+
+  both_longer : (p : Part) → length (closed_bytes (section_id exports) count items) + length (section_bytes (alone p)) ≤ length (flat_map section_bytes (all_sections done items count exports types h ++ alone p ∷ []))
+  both_longer p =
+      omega (
+        arith,
+        closed_longer,
+        ap length (flat_map-append section_bytes (all_sections done items count exports types h) (alone p ∷ [])),
+        length-append (flat_map section_bytes (all_sections done items count exports types h)) (flat_map section_bytes (alone p ∷ [])),
+        length-append (section_bytes (alone p)) [],
+      )
+
+  pub start_refused : (p : Part) → StandsApart done items count exports types h p → 2 ^ 32 ≤ length (closed_bytes (section_id exports) count items) → fits_component (ps ++ p ∷ []) ≡ false
+  start_refused p apart le = long_sections (ps ++ p ∷ []) (all_sections done items count exports types h ++ alone p ∷ []) (apart_longer p apart) (omega (arith, both_longer p))
+
+  pub custom_refused : (name contents : List ℕ) → 2 ^ 32 ≤ length (closed_bytes (section_id exports) count items ++ framed 0 (name_bytes name ++ contents)) → fits_component (ps ++ Part.custom name contents ∷ []) ≡ false
+  custom_refused name contents le =
+      long_sections (ps ++ Part.custom name contents ∷ []) (all_sections done items count exports types h ++ Section.custom name contents ∷ []) (apart_longer (Part.custom name contents) (custom_apart done items count exports types h name contents))
+      (omega (arith, both_longer (Part.custom name contents), length-append (closed_bytes (section_id exports) count items) (framed 0 (name_bytes name ++ contents))))
+
+  -- the whole component is too long
+  pub length_refused : (bytes : List ℕ) → bytes ≡ begun done ++ closed_bytes (section_id exports) count items → 2 ^ 32 ≤ length bytes → fits_component ps ≡ false
+  length_refused bytes is le =
+      too_long ps (subst (λ (l : List Section). 2 ^ 32 ≤ length (component_bytes l)) (sym h.grouped) (subst (λ (l : List ℕ). 2 ^ 32 ≤ length l) (is ∙ closed_begins done items count exports types h) le))

@@ -1,0 +1,24 @@
+use Rattle.std.proofs.Common.{◌≡◌, sym, ap, ◌∙◌}
+use Rattle.comp_bytes.specs.Raw.{Declaration, FunctionType}
+use Rattle.witc.specs.declared.encode.world.WorldScope.{WorldScope}
+use Rattle.witc.specs.Written.{with_declaration}
+use Rattle.witc.proofs.Keys.{index_views, new_type, known_type}
+use Rattle.witc.proofs.encode.world.WorldScope.type_of.Goals as goal
+use Rattle.witc.proofs.encode.world.WorldScope.type_of.Goals.{then-is_new+in_ok-function_type+in_ok-function, else-is_new}
+
+pub returns-in-Ok-clause-ok : goal.returns-in-Ok-clause-ok
+returns-in-Ok-clause-ok c = elim c.if-is_new.branch [
+  then-is_new+in_ok-function_type+in_ok-function w ↦
+    new_type c.args.function.now c.key_of.result c.args.self.now c.if-is_new.self c.key_of.ensures
+    (ap (λ (s : WorldScope). s.keys.keys) w.self-is ∙ c.in_ok-index.ensures.keys)
+    (sym w.if-is_new.true ∙ c.in_ok-index.ensures.added)
+    (ap (λ (s : WorldScope). s.component) w.self-is ∙ w.in_ok-function.ensures.ok ∙ ap (λ (t : FunctionType). with_declaration (Declaration.function t) c.args.self.now.component) w.in_ok-function_type.ensures.ok)
+  | else-is_new w ↦
+    known_type c.args.function.now c.key_of.result c.args.self.now c.if-is_new.self c.key_of.ensures
+    (ap (λ (s : WorldScope). s.keys.keys) w.self-is ∙ c.in_ok-index.ensures.keys)
+    (sym w.if-is_new.false ∙ c.in_ok-index.ensures.added)
+    (ap (λ (s : WorldScope). s.component) w.self-is)
+]
+
+pub returns-in-Ok-clause-index : goal.returns-in-Ok-clause-index
+returns-in-Ok-clause-index c = c.in-Ok.ensures.1 ∙ c.in_ok-index.ensures.index ∙ index_views c.args.function.now c.key_of.result c.args.self.now c.key_of.ensures
