@@ -38,10 +38,6 @@ too_long : (ps : List Part) → 2 ^ 32 ≤ length (component_bytes (sections_of_
 unfolding fits_component
 too_long ps le = le-ltb (length (component_bytes (sections_of_parts ps))) (2 ^ 32) le
 
--- the bytes of sections
-total : List Section → List ℕ
-total sections = flat_map section_bytes sections
-
 long_sections : (ps : List Part) (sections : List Section) → sections_of_parts ps ≡ sections → 2 ^ 32 ≤ length (flat_map section_bytes sections) → fits_component ps ≡ false
 long_sections ps sections e le =
     let more : 2 ^ 32 ≤ length (component_bytes sections) = omega (arith, length-append preamble (flat_map section_bytes sections)) in

@@ -1,5 +1,5 @@
 -- What an answer of `check` says.
-use Rattle.std.proofs.Common.{◌≡◌, refl, Result, Ok, Err, OnOk, IfErr, IsOk}
+use Rattle.std.proofs.Common.{refl, Result, Ok, Err, OnOk, IfErr, IsOk}
 use Rattle.wit_model.specs.declared.error.Fault.{Fault}
 use Rattle.wit_model.specs.declared.error.Fault.TheVariants as faults
 use Rattle.wit_model.specs.declared.model.Resolve.{Resolve}

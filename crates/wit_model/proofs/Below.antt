@@ -1,5 +1,5 @@
 -- The numbers that a function and a kind refer to are those of their parts.
-use Rattle.std.proofs.Common.{◌≡◌, refl, ap, ◌∙◌, ℕ, Bool, ◌&&◌, List, ◌++◌, map, filter_map, option_to_list}
+use Rattle.std.proofs.Common.{◌≡◌, ap, ◌∙◌, ℕ, Bool, ◌&&◌, List, ◌++◌, map, filter_map, option_to_list}
 use Rattle.std.specs.List.{list_all}
 use Rattle.std.proofs.lemmas.List.Folds.{list_all-append}
 use Rattle.std.proofs.lemmas.List.Elements.{filter_map-append}

@@ -1,14 +1,12 @@
 -- What is spelled as a path reads back, and what reads as one is spelled so.
-use Rattle.std.proofs.Common.{◌≡◌, ◌↔◌, ◌⊎◌, inl, inr, refl, sym, ap, subst, ◌∙◌, ℕ, Bool, true, false, ◌&&◌, ◌||◌, ◌==◌, not, cond, List, [], ◌∷◌, ◌++◌, Option, Some, None, option_map, option_and_then, is_some, unwrap_or, T, eqb→eq, eq-eqb, append_assoc, append-nil, nat_lt, length, ◌^◌}
+use Rattle.std.proofs.Common.{◌≡◌, refl, sym, ap, subst, ◌∙◌, ℕ, Bool, true, false, ◌&&◌, ◌||◌, ◌==◌, not, cond, List, [], ◌∷◌, ◌++◌, Option, Some, None, option_map, option_and_then, is_some, T, eqb→eq, eq-eqb, append_assoc, append-nil, nat_lt, length}
 use Rattle.std.specs.Option.{option_map_or}
 use Rattle.std.specs.List.{list_all, join_with_byte}
 use Rattle.std.proofs.lemmas.Bool.{and_from, or_left, or_right, not-true}
 use Rattle.std.proofs.lemmas.Option.{some_pair_parts}
 use Rattle.std.proofs.lemmas.List.Folds.{list_all-append}
-use Rattle.semver.specs.declared.Version.{Version}
-use Rattle.semver.specs.Identifiers.{parts_of, version_text, parts_text}
 use Rattle.wit_model.specs.Text.{Text}
-use Rattle.wit_model.specs.Names.{is_lower_byte, is_upper_byte, is_fragment, is_label, IsLabel, PackageIdentity, path_in, at_version, is_identity, is_optional_version, IsPath, cut, versioned, known_path, read_path, without_version}
+use Rattle.wit_model.specs.Names.{is_lower_byte, is_upper_byte, is_fragment, is_label, IsLabel, PackageIdentity, path_in, at_version, is_identity, IsPath, cut, versioned, known_path, read_path, without_version}
 use Rattle.wit_model.specs.NameLaws.{IsSpelled, SpelledPathReads, ReadPathIsSpelled, PathGrammar, OnePath, PathWithoutVersion}
 use Rattle.wit_model.proofs.Lists.{first_true, second_true}
 use Rattle.wit_model.proofs.Labels.{label_of_test}

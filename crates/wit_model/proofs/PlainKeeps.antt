@@ -1,11 +1,10 @@
 -- Which rules a plain `Resolve` keeps, and what is left to test of the others.
-use Rattle.std.proofs.Common.{◌≡◌, refl, sym, ap, ◌∙◌, ℕ, ◌+◌, Bool, true, false, not, List, [], ◌∷◌, ◌++◌, length, flat_map, filter, Option, Some, None, nat_le, slice_get, option_and_then, option_to_list, filter_map, is_some, ◌==◌, ◌&&◌, ◌||◌}
+use Rattle.std.proofs.Common.{◌≡◌, refl, ap, ◌∙◌, ℕ, ◌+◌, Bool, true, false, not, List, [], ◌∷◌, ◌++◌, length, flat_map, filter, Option, Some, None, nat_le, slice_get, option_and_then, option_to_list, filter_map, is_some, ◌==◌, ◌&&◌, ◌||◌}
 use Rattle.std.specs.List.{list_all}
 use Rattle.std.specs.Option.{option_map_or}
 use Rattle.std.proofs.lemmas.Bool.{and_from}
 use Rattle.wit_model.specs.declared.error.EntryList.TheVariants as lists
 use Rattle.wit_model.specs.declared.model.Resolve.{Resolve}
-use Rattle.wit_model.specs.declared.model.World.{World}
 use Rattle.wit_model.specs.declared.model.WorldItem.{WorldItem}
 use Rattle.wit_model.specs.declared.model.WorldItem.TheVariants as item
 use Rattle.wit_model.specs.declared.model.TypeOwner.{TypeOwner}
@@ -17,7 +16,7 @@ use Rattle.wit_model.specs.Lookup.{interface_at, type_at}
 use Rattle.wit_model.specs.Types.{tree_of, trees_of, tree_of_definition, grow, number_of}
 use Rattle.wit_model.specs.Uses.{has, item_interface, direct_deps, interface_used_by, interfaces_used_by, items_of, once, used_interface}
 use Rattle.wit_model.specs.Parts.{function_types, function_numbers, met_by, met_of, met_at, numbered_from, has_owner, same_owner, is_resource, used_by_function, used_by_type, ends_in_resource, is_resource_type}
-use Rattle.wit_model.specs.Rules.{item_type, each_from, each_after, passes, is_named_of, are_in_order, used_by_number, interface_type_numbers, world_type_numbers, function_stays, is_shallow, used_interfaces, used_types, uses_stand_before}
+use Rattle.wit_model.specs.Rules.{item_type, each_from, each_after, passes, is_named_of, are_in_order, used_by_number, world_type_numbers, function_stays, is_shallow, uses_stand_before}
 use Rattle.wit_model.specs.Valid.{Rule, Keeps, list_keeps, as_world, functions_of_world, order_of_types, owners, shapes, named_kinds, handles, depths, order_of_items}
 use Rattle.wit_model.specs.Plain.{IsPlain}
 use Rattle.wit_model.proofs.Entries.{free_passes}

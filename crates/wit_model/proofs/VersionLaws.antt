@@ -1,5 +1,5 @@
 -- A version is known by its text, and a package by its name in paths.
-use Rattle.std.proofs.Common.{◌≡◌, ◌↔◌, refl, sym, ap, ◌∙◌, ℕ, ◌^◌, ◌<◌, Bool, true, false, ◌&&◌, ◌==◌, nat_lt, List, Option, Some, None, Result, Ok, eq-eqb}
+use Rattle.std.proofs.Common.{◌≡◌, refl, sym, ap, ◌∙◌, ℕ, ◌^◌, Bool, true, ◌&&◌, ◌==◌, nat_lt, Option, Some, None, Result, Ok, eq-eqb}
 use Rattle.std.proofs.lemmas.Bool.{and_parts, and_from, eqb-true, ltb-true}
 use Rattle.std.proofs.lemmas.Option.{same_Some}
 use Rattle.std.proofs.lemmas.Slice.Eq.{bytes_eq-Decides}
@@ -11,9 +11,8 @@ use Rattle.semver.specs.Identifiers.{parts_of, version_text, parts_text, pre_tex
 use Rattle.semver.specs.Grammar.{is_pre_release, is_build, IsValid}
 use Rattle.semver.specs.Parse.{Parts, version_parts}
 use Rattle.semver.proofs.Grammar.{version_parts-complete}
-use Rattle.wit_model.specs.declared.model.PackageName.{PackageName}
 use Rattle.wit_model.specs.Text.{Text, text_of, text_eq}
-use Rattle.wit_model.specs.Names.{is_version, PackageIdentity}
+use Rattle.wit_model.specs.Names.{is_version}
 use Rattle.wit_model.specs.Lookup.{identity_of, optional_version_text}
 use Rattle.wit_model.specs.Rules.{passes, same_version, same_package_name}
 use Rattle.wit_model.specs.NameLaws.{OneVersion, SameName}

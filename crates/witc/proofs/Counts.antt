@@ -90,9 +90,10 @@ second_false false b h = h
 distinct_end : (ks : List Key) (k : Key) → IsDistinct same_key ks → list_any (same_key k) ks ≡ false → IsDistinct same_key (ks ++ k ∷ [])
 unfolding IsDistinct
 distinct_end [] k d h = (tt, tt)
-distinct_end (x ∷ xs) k d h =
-    (all_end (λ y. same_key x y ≡ false) xs k d.0 (same_key-laws.symm x k ∙ first_false (same_key k x) (list_any (same_key k) xs) h),
-    distinct_end xs k d.1 (second_false (same_key k x) (list_any (same_key k) xs) h))
+distinct_end (x ∷ xs) k d h = (
+  all_end (λ y. same_key x y ≡ false) xs k d.0 (same_key-laws.symm x k ∙ first_false (same_key k x) (list_any (same_key k) xs) h),
+  distinct_end xs k d.1 (second_false (same_key k x) (list_any (same_key k) xs) h),
+)
 
 insert_distinct : (ks : List Key) (k : Key) → IsDistinct same_key ks → IsDistinct same_key (insert_key same_key ks k)
 insert_distinct ks k d = by_test (list_any (same_key k) ks) refl
@@ -162,11 +163,11 @@ world_counted w =
     let first = write_items directions.Import imports nothing_written in
     items_counted directions.Export exports first (items_counted directions.Import imports nothing_written refl)
     ∙ length-from_keys same_key-laws (write_world w).keys (map key_of (functions_of_world w))
-      (items_distinct directions.Export exports first (items_distinct directions.Import imports nothing_written nothing_distinct))
-      (λ q. items_members directions.Export exports first q
-        ∙ ap (λ (b : Bool). b || list_any (same_key q) (keys_of_items exports)) (items_members directions.Import imports nothing_written q)
-        ∙ sym (list_any-append (same_key q) (keys_of_items imports) (keys_of_items exports))
-        ∙ ap (list_any (same_key q)) (sym (keys_behind imports exports)))
+    (items_distinct directions.Export exports first (items_distinct directions.Import imports nothing_written nothing_distinct))
+    (λ q. items_members directions.Export exports first q
+    ∙ ap (λ (b : Bool). b || list_any (same_key q) (keys_of_items exports)) (items_members directions.Import imports nothing_written q)
+    ∙ sym (list_any-append (same_key q) (keys_of_items imports) (keys_of_items exports))
+    ∙ ap (list_any (same_key q)) (sym (keys_behind imports exports)))
 
 -- ---- a package
 

@@ -7,3 +7,5 @@ pub mod Packages
 pub mod Validity
 pub mod Means
 pub mod Counts
+pub mod Extents
+pub mod PackageExtents

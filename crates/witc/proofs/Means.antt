@@ -31,6 +31,7 @@ pub bytes_mean : (r : Resolve) (n : ℕ) (p : Package) (bytes : List ℕ) → Is
     → IsComponent (sections_of_parts (parts_of r (identity_of p.name) 0 p.worlds.entries)) bytes → HoldsWorld r n → MeansPackage r n bytes
 bytes_mean r n p bytes valid plain at spelled holds m =
     let some : has_items p.worlds.entries ≡ true = ap (λ (o : Option Package). option_map_or (λ q. has_items q.worlds.entries) o false) (sym at) ∙ holds in
-    let read : Reads bytes (meant.package_meaning r n p) = record { sections = sections_of_parts (parts_of r (identity_of p.name) 0 p.worlds.entries); spelled = spelled; means = package_means r n p valid plain at some } in
-    (λ means. let is = its_meaning r n p m at means in record { sections = read.sections; spelled = spelled; means = read.means ∙ ap Some is },
-    λ other. meant_by r n p m at (one_meaning bytes (meant.package_meaning r n p) m read other))
+    let read : Reads bytes (meant.package_meaning r n p) = record { sections = sections_of_parts (parts_of r (identity_of p.name) 0 p.worlds.entries); spelled = spelled; means = package_means r n p valid plain at some } in (
+      λ means. let is = its_meaning r n p m at means in record { sections = read.sections; spelled = spelled; means = read.means ∙ ap Some is },
+      λ other. meant_by r n p m at (one_meaning bytes (meant.package_meaning r n p) m read other),
+    )

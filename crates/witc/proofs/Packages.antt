@@ -109,7 +109,6 @@ one_longer : {A : Type 0} (xs : List A) (x : A) → length (xs ++ x ∷ []) ≡ 
 one_longer [] x = refl
 one_longer (y ∷ ys) x = ap suc (one_longer ys x)
 
-
 abbrev AreLabelled : List (Text × Declarations) → Type 0
 AreLabelled xs = list_all (λ x. is_label x.0) xs ≡ true
 
@@ -137,14 +136,15 @@ top_after (x ∷ xs) ds slots es k taken fresh labels =
     let longer = one_longer ds x.1 in
     let slots_longer : length ((slots ++ length ds ∷ []) ++ length ds ∷ []) ≡ suc (suc k) = one_longer (slots ++ length ds ∷ []) (length ds) ∙ ap suc (one_longer slots (length ds) ∙ ap suc taken) in
     let P : ℕ → Type 0 = λ n. IsFresh n (es ++ (x.0, length ds) ∷ []) in
-    let later = top_after xs (ds ++ x.1 ∷ []) ((slots ++ length ds ∷ []) ++ length ds ∷ []) (es ++ (x.0, length ds) ∷ []) (suc (suc k)) slots_longer (subst P (sym longer) (fresh_next (length ds) es x.0 fresh)) (second_true (is_label x.0) (list_all (λ y. is_label y.0) xs) labels) in
-    (later.0,
-    next_world ds slots es k x.0 x.1 (sections_from (suc (suc k)) xs) taken fresh (first_true (is_label x.0) (list_all (λ y. is_label y.0) xs) labels) ∙ later.1
-    ∙ λ i. Some (record {
-        types = append_assoc ds (x.1 ∷ []) (map (λ y. y.1) xs) i;
-        slots = later.0;
-        exported = (ap (λ (n : ℕ). (es ++ (x.0, length ds) ∷ []) ++ numbers_from n xs) longer ∙ append_assoc es ((x.0, length ds) ∷ []) (numbers_from (suc (length ds)) xs)) i;
-      }))
+    let later = top_after xs (ds ++ x.1 ∷ []) ((slots ++ length ds ∷ []) ++ length ds ∷ []) (es ++ (x.0, length ds) ∷ []) (suc (suc k)) slots_longer (subst P (sym longer) (fresh_next (length ds) es x.0 fresh)) (second_true (is_label x.0) (list_all (λ y. is_label y.0) xs) labels) in (
+      later.0,
+      next_world ds slots es k x.0 x.1 (sections_from (suc (suc k)) xs) taken fresh (first_true (is_label x.0) (list_all (λ y. is_label y.0) xs) labels) ∙ later.1
+          ∙ λ i. Some (record {
+            types = append_assoc ds (x.1 ∷ []) (map (λ y. y.1) xs) i;
+            slots = later.0;
+            exported = (ap (λ (n : ℕ). (es ++ (x.0, length ds) ∷ []) ++ numbers_from n xs) longer ∙ append_assoc es ((x.0, length ds) ∷ []) (numbers_from (suc (length ds)) xs)) i;
+          }),
+    )
 
 as_many : (n : ℕ) (xs : List (Text × Declarations)) → length (numbers_from n xs) ≡ length (map (λ x. x.1) xs)
 as_many n [] = refl
@@ -162,7 +162,7 @@ each_found front [] = refl
 each_found front (x ∷ xs) =
     let whole : (front ++ x.1 ∷ []) ++ map (λ y. y.1) xs ≡ front ++ map (λ y. y.1) (x ∷ xs) = append_assoc front (x.1 ∷ []) (map (λ y. y.1) xs) in
     let later : each (find_in (front ++ map (λ y. y.1) (x ∷ xs))) (numbers_from (suc (length front)) xs) ≡ Some xs =
-      (λ i. each (find_in (sym whole i)) (numbers_from (sym (one_longer front x.1) i) xs)) ∙ each_found (front ++ x.1 ∷ []) xs in
+    (λ i. each (find_in (sym whole i)) (numbers_from (sym (one_longer front x.1) i) xs)) ∙ each_found (front ++ x.1 ∷ []) xs in
     ap (λ (o : Option Declarations). (o >>= λ ds. Some (x.0, ds)) >>= λ y. each (find_in (front ++ map (λ y. y.1) (x ∷ xs))) (numbers_from (suc (length front)) xs) >>= λ ys. Some (y ∷ ys)) (last_found front x.1 (map (λ y. y.1) xs))
     ∙ ap (λ (o : Option (List (Text × Declarations))). o >>= λ ys. Some (x ∷ ys)) later
 
@@ -202,7 +202,7 @@ world_is_member r p e h named =
     let label : is_label (text_of h.shown.name) ≡ true = ap is_label h.name ∙ h.label in
     ap (λ (o : Option (PackageIdentity × reads.Part)). o >>= λ q. Some (record { label = text_of e.0; package_ = q.0; part = q.1 }))
     (wrapper_is_part (text_of e.0) (path_in p (text_of h.shown.name)) (text_of h.shown.name) p (write_world h.shown).declarations (scope_of_world r h.shown h.functions)
-      (spelled_path_reads p (text_of h.shown.name) named label) (text_eq_same _ _ h.name) (world_followed r h.shown h.functions) (world_obeys r h.shown h.functions))
+    (spelled_path_reads p (text_of h.shown.name) named label) (text_eq_same _ _ h.name) (world_followed r h.shown h.functions) (world_obeys r h.shown h.functions))
 
 are_members : (r : Resolve) (p : PackageIdentity) (es : List (String Global × WorldId)) (h : AreWorldEntries r es) → is_identity p ≡ true → each member (wrappers r p es h) ≡ Some (members r p es h)
 are_members r p [] h named = refl
@@ -244,7 +244,7 @@ package_is : (r : Resolve) (p : PackageIdentity) (es : List (String Global × Wo
     → package_with p (members r p es h) ≡ Some (worlds_alone p (map (λ e. (text_of e.0, world_meaning_at r e.1.0)) es))
 package_is r p es h =
     ap (λ (seen : List Sight). provided (list_all (λ m. same_identity p m.package_) (members r p es h) && (list_all (stands_at_top p (members r p es h)) seen && (all_agree seen && are_interfaces seen)))
-      (record { identity = p; interfaces = flat_map interfaces_of (members r p es h); worlds = flat_map worlds_of (members r p es h); foreign = from_entries (map (seen_meaning seen) (filter (λ s. not (is_of p s.path)) seen)) }))
+    (record { identity = p; interfaces = flat_map interfaces_of (members r p es h); worlds = flat_map worlds_of (members r p es h); foreign = from_entries (map (seen_meaning seen) (filter (λ s. not (is_of p s.path)) seen)) }))
     (nothing_seen r p es h)
     ∙ (λ i. provided (one_package r p es h i && true) (record { identity = p; interfaces = no_interfaces r p es h i; worlds = worlds_mean r p es h i; foreign = from_entries [] }))
 

@@ -89,7 +89,7 @@ all_at p (y ∷ ys) zero x h at = subst (λ z. p z ≡ true) (same_Some y x at) 
 all_at p (y ∷ ys) (suc n) x h at = all_at p ys n x (second_true (p y) (list_all p ys) h) at
 
 -- what a rule says of a package and of a world
-of_package : (rule : Rule) (r : Resolve) (n : ℕ) (p : Package) → Keeps rule r → package_at r n ≡ Some p → rule.package_ r n p ≡ true
+pub of_package : (rule : Rule) (r : Resolve) (n : ℕ) (p : Package) → Keeps rule r → package_at r n ≡ Some p → rule.package_ r n p ≡ true
 of_package rule r n p keeps at = subst (λ (m : ℕ). rule.package_ r m p ≡ true) (zero-add n) (each_from_at (rule.package_ r) 0 r.packages.items n p (lists_pass rule r keeps).0 at)
 
 of_world : (rule : Rule) (r : Resolve) (n : ℕ) (w : World) → Keeps rule r → world_at r n ≡ Some w → rule.world_ r n w ≡ true
@@ -166,10 +166,11 @@ entries_are r n [] plain range labelled named bare = tt
 entries_are r n (e ∷ es) plain range labelled named bare =
     let here = λ (e : WorldKey × WorldItem). key_in_range r e.0 && item_in_range r e.1 in
     let label = λ (e : WorldKey × WorldItem). key_label e.0 e.1 && item_labels e.1 in
-    let name = λ (e : WorldKey × WorldItem). passes (λ f. is_name_key (text_of f.name) e.0 && is_member r (as_world n) f) (item_function e.1) in
-    (entry_is r n e.0 e.1 plain (second_true (key_in_range r e.0) (item_in_range r e.1) (first_true (here e) (list_all here es) range)) (first_true (label e) (list_all label es) labelled)
-      (first_true (name e) (list_all name es) named) (first_true (is_plain_item e.1) (list_all is_plain_item (map (λ e. e.1) es)) bare),
-    entries_are r n es plain (second_true (here e) (list_all here es) range) (second_true (label e) (list_all label es) labelled) (second_true (name e) (list_all name es) named) (second_true (is_plain_item e.1) (list_all is_plain_item (map (λ e. e.1) es)) bare))
+    let name = λ (e : WorldKey × WorldItem). passes (λ f. is_name_key (text_of f.name) e.0 && is_member r (as_world n) f) (item_function e.1) in (
+      entry_is r n e.0 e.1 plain (second_true (key_in_range r e.0) (item_in_range r e.1) (first_true (here e) (list_all here es) range)) (first_true (label e) (list_all label es) labelled)
+          (first_true (name e) (list_all name es) named) (first_true (is_plain_item e.1) (list_all is_plain_item (map (λ e. e.1) es)) bare),
+      entries_are r n es plain (second_true (here e) (list_all here es) range) (second_true (label e) (list_all label es) labelled) (second_true (name e) (list_all name es) named) (second_true (is_plain_item e.1) (list_all is_plain_item (map (λ e. e.1) es)) bare),
+    )
 
 -- ---- distinct names
 
@@ -200,9 +201,9 @@ world_is r n w valid plain at =
     let items = second_true (is_unknown w.stability) (list_all is_plain_item (items_of w)) (second_true (is_undocumented w.docs) _ bare) in
     let name = λ (e : WorldKey × WorldItem). passes (λ f. is_name_key (text_of f.name) e.0 && is_member r (as_world n) f) (item_function e.1) in
     let imports = entries_are r n w.imports.entries plain (first_true (entries_in_range r w.imports.entries) (entries_in_range r w.exports.entries) both_range)
-      (first_true (entries_labels w.imports.entries) (entries_labels w.exports.entries) both_labels) (all_front name w.imports.entries w.exports.entries named) (all_front is_plain_item (map (λ e. e.1) w.imports.entries) (map (λ e. e.1) w.exports.entries) items) in
+    (first_true (entries_labels w.imports.entries) (entries_labels w.exports.entries) both_labels) (all_front name w.imports.entries w.exports.entries named) (all_front is_plain_item (map (λ e. e.1) w.imports.entries) (map (λ e. e.1) w.exports.entries) items) in
     let exports = entries_are r n w.exports.entries plain (second_true (entries_in_range r w.imports.entries) (entries_in_range r w.exports.entries) both_range)
-      (second_true (entries_labels w.imports.entries) (entries_labels w.exports.entries) both_labels) (all_back name w.imports.entries w.exports.entries named) (all_back is_plain_item (map (λ e. e.1) w.imports.entries) (map (λ e. e.1) w.exports.entries) items) in
+    (second_true (entries_labels w.imports.entries) (entries_labels w.exports.entries) both_labels) (all_back name w.imports.entries w.exports.entries named) (all_back is_plain_item (map (λ e. e.1) w.imports.entries) (map (λ e. e.1) w.exports.entries) items) in
     record {
       imports = imports;
       exports = exports;
@@ -234,9 +235,10 @@ world_entries : (r : Resolve) (es : List (String Global × WorldId)) → IsValid
 world_entries r [] valid plain range named = tt
 world_entries r (e ∷ es) valid plain range named =
     let rest = list_all (λ id. in_list r.worlds.items id.0) (map (λ (e : String Global × WorldId). e.1) es) in
-    let found = found_in r.worlds.items e.1.0 (first_true (in_list r.worlds.items e.1.0) rest range) in
-    (world_entry r e found.0 valid plain found.1 (first_true (names_world r e) (list_all (names_world r) es) named),
-    world_entries r es valid plain (second_true (in_list r.worlds.items e.1.0) rest range) (second_true (names_world r e) (list_all (names_world r) es) named))
+    let found = found_in r.worlds.items e.1.0 (first_true (in_list r.worlds.items e.1.0) rest range) in (
+      world_entry r e found.0 valid plain found.1 (first_true (names_world r e) (list_all (names_world r) es) named),
+      world_entries r es valid plain (second_true (in_list r.worlds.items e.1.0) rest range) (second_true (names_world r e) (list_all (names_world r) es) named),
+    )
 
 pub package_worlds : (r : Resolve) (n : ℕ) (p : Package) → IsValid r → IsPlain r → package_at r n ≡ Some p → AreWorldEntries r p.worlds.entries
 unfolding numbers_in_range names_in_packages

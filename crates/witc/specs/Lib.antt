@@ -2,3 +2,4 @@ pub mod Key
 pub mod Words
 pub mod Written
 pub mod Encoded
+pub mod Extent

@@ -137,11 +137,12 @@ wrapper_of path w = Declarations.component (write_world w).declarations (Declara
 abbrev pub world_parts : PackageIdentity → ℕ → Text → World → List Part
 world_parts p slots name w = Part.top_type (TopType.component (wrapper_of (path_in p (text_of w.name)) w)) ∷ Part.top_export (plain_export name slots) ∷ []
 
--- each world of the package's map, where so many type indexes are taken
+-- a world, if there is one, in front of the others, where so many type indexes are taken
+abbrev pub parts_from : PackageIdentity → ℕ → Text → Option World → (ℕ → List Part) → List Part
+parts_from p slots name None others = others slots
+parts_from p slots name (Some w) others = world_parts p slots name w ++ others (suc (suc slots))
+
+-- each world of the package's map
 abbrev pub parts_of : Resolve → PackageIdentity → ℕ → List (String Global × WorldId) → List Part
 parts_of r p slots [] = []
 parts_of r p slots (e ∷ rest) = parts_from p slots (text_of e.0) (world_at r e.1.0) (λ n. parts_of r p n rest)
-  where
-    parts_from : PackageIdentity → ℕ → Text → Option World → (ℕ → List Part) → List Part
-    parts_from p slots name None others = others slots
-    parts_from p slots name (Some w) others = world_parts p slots name w ++ others (suc (suc slots))

@@ -1,8 +1,10 @@
 //! The bytes of packages whose worlds have functions over primitive types alone.
 
-ghost use Rattle.std.specs.Prelude.{◌<◌, length, IfOk, IfErr};
+ghost use Rattle.std.specs.Prelude.{◌≡◌, ◌<◌, length, Err, IfOk, IfErr};
 ghost use Rattle.wit_model.specs.Valid.{IsValid};
+ghost use Rattle.wit_model.specs.declared.error.Error.TheVariants.{Size};
 ghost use Rattle.wit_model.specs.Plain.{IsPlain};
+ghost use Rattle.wit_model.specs.Weight.{package_weight};
 ghost use Rattle.comp_bytes.specs.Refusal.{IsMemoryOrSize};
 ghost use Rattle.witc.specs.Encoded.{HoldsWorld, MeansPackage, SharesFunctionTypes};
 
@@ -28,6 +30,7 @@ pub fn encode(
     requires in_range { «package».0 < length resolve.now.packages.items }
     ensures means { IfOk result (λ bytes. HoldsWorld resolve.now «package».0 → MeansPackage resolve.now «package».0 bytes.items) }
     ensures shares { IfOk result (λ bytes. SharesFunctionTypes resolve.now «package».0 bytes.items) }
+    ensures size { result ≡ Err Size → 4294967295 < package_weight resolve.now «package».0 }
     ensures refuses { IfErr result IsMemoryOrSize }
 {
     encode_package(alloc, resolve, &resolve.packages[package.0 as usize])

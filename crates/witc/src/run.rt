@@ -9,7 +9,8 @@ use crate::encode::encode;
 use crate::hex::hex_lines;
 use std::alloc::{AllocError, Global};
 use std::io::{Read, Write};
-use wit_model::{Error, Resolve, is_plain};
+use wit_model::{Error, is_plain};
+use wit_print::{OutputToString, WitPrinter};
 
 /// What is written where the words are no command.
 pub const USAGE: &str =
@@ -39,7 +40,9 @@ impl From<AllocError> for Refusal {
 }
 
 /// What the words ask for.
+#[derive(Clone, Copy)]
 enum Command {
+    DemoText,
     DemoHex,
 }
 
@@ -55,7 +58,11 @@ fn command_of(words: &[Vec<u8>]) -> Option<Command>
 fn demo_command(first: &Vec<u8>, second: &Vec<u8>) -> Option<Command>
     ensures { is_some result ≡ is_command (first.now ∷ second.now ∷ []) }
 {
-    if is(first, "demo") && is(second, "hex") {
+    if !is(first, "demo") {
+        None
+    } else if is(second, "text") {
+        Some(Command::DemoText)
+    } else if is(second, "hex") {
         Some(Command::DemoHex)
     } else {
         None
@@ -83,7 +90,7 @@ pub fn run<R: Read, W: Write>(
     ensures usage { result ≡ 2 → Appends (W.contents writer.old) (W.contents writer.new) USAGE.now }
 {
     match command_of(words) {
-        Some(Command::DemoHex) => match demo_hex(alloc) {
+        Some(command) => match output_of(alloc, command) {
             Ok(text) => {
                 if write_whole(writer, &text).is_ok() {
                     DONE
@@ -103,19 +110,23 @@ pub fn run<R: Read, W: Write>(
     }
 }
 
-/// The bytes of the demo's package, as lines of hexadecimal digits.
-fn demo_hex(alloc: Global) -> Result<String, Refusal> {
+/// What a command writes.
+fn output_of(alloc: Global, command: Command) -> Result<String, Refusal> {
     let resolve = demo::package(alloc)?;
-    let bytes = checked_bytes(alloc, &resolve)?;
-    Ok(hex_lines(alloc, &bytes)?)
-}
-
-/// The bytes of the demo's package, which is checked first.
-fn checked_bytes(alloc: Global, resolve: &Resolve) -> Result<Vec<u8>, Refusal> {
-    if resolve.packages.is_empty() || !is_plain(resolve) || resolve.check(alloc).is_err() {
+    if resolve.packages.is_empty() || !is_plain(&resolve) || resolve.check(alloc).is_err() {
         return Err(Refusal::Invalid);
     }
-    Ok(encode(alloc, resolve, demo::PACKAGE, false)?)
+    match command {
+        Command::DemoText => {
+            let mut printer = WitPrinter::new(OutputToString::new(alloc));
+            printer.print(alloc, &resolve, demo::PACKAGE, &[])?;
+            Ok(String::from(printer.output))
+        }
+        Command::DemoHex => {
+            let bytes = encode(alloc, &resolve, demo::PACKAGE, false)?;
+            Ok(hex_lines(alloc, &bytes)?)
+        }
+    }
 }
 
 fn write_whole<W: Write>(writer: &mut W, text: &str) -> std::io::Result<()>

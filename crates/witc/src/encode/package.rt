@@ -1,13 +1,15 @@
 //! The component of a package.
 
-ghost use Rattle.std.specs.Prelude.{◌≡◌, ◌++◌, [], option_map, string_bytes, OnOk, IfOk, IfErr};
-ghost use Rattle.wit_model.specs.declared.error.Error.TheVariants.{Memory};
+ghost use Rattle.std.specs.Prelude.{◌≡◌, ◌+◌, ◌<◌, ◌++◌, [], length, Err, option_map, string_bytes, OnOk, IfOk, IfErr};
+ghost use Rattle.wit_model.specs.declared.error.Error.TheVariants.{Memory, Size};
 ghost use Rattle.wit_model.specs.Lookup.{identity_of, world_at};
 ghost use Rattle.wit_model.specs.Names.{path_in as path_in_lem};
 ghost use Rattle.wit_model.specs.Text.{text_of};
+ghost use Rattle.wit_model.specs.Uses.{items_of};
 ghost use Rattle.comp_bytes.specs.Spelling.{IsComponent};
 ghost use Rattle.comp_bytes.specs.Parts.{top_slots, sections_of_parts};
 ghost use Rattle.comp_bytes.specs.Refusal.{IsMemoryOrSize};
+ghost use Rattle.witc.specs.Extent.{limit, items_weight, parts_extent, world_extent, worlds_extent};
 ghost use Rattle.witc.specs.Written.{wrapper_of as wrapper_of_lem, world_parts, parts_of};
 
 use crate::encode::world::{plain_name, world_type};
@@ -31,6 +33,7 @@ fn path_in(alloc: Global, own: &PackageName, name: &str) -> Result<String, Error
 /// The wrapper of a world: its component type, exported under its path.
 fn wrapper_of(alloc: Global, own: &PackageName, world: &World) -> Result<ComponentType, Error>
     ensures ok { IfOk result (λ wrapper. wrapper ≡ wrapper_of_lem (path_in_lem (identity_of own.now) (text_of world.now.name)) world.now) }
+    ensures size { result ≡ Err Size → limit < 64 + (length (path_in_lem (identity_of own.now) (text_of world.now.name)) + items_weight (items_of world.now)) }
     ensures refuses { IfErr result IsMemoryOrSize }
 {
     let path = path_in(alloc, own, &world.name)?;
@@ -50,6 +53,7 @@ fn add_world(
     world: &World,
 ) -> Result<(), Error>
     ensures ok { OnOk result (builder.new ≡ builder.old ++ world_parts (identity_of own.now) (top_slots builder.old) name.now world.now) }
+    ensures size { result ≡ Err Size → limit < 8 + (parts_extent builder.old + world_extent name.now (path_in_lem (identity_of own.now) (text_of world.now.name)) world.now) }
     ensures refuses { IfErr result IsMemoryOrSize }
 {
     let wrapper = wrapper_of(alloc, own, world)?;
@@ -65,12 +69,9 @@ fn world_of<'a>(resolve: &'a Resolve, id: WorldId) -> Option<&'a World>
 }
 
 /// The component of a package: each world in its wrapper, in the order of the package's map.
-fn component_of(
-    alloc: Global,
-    resolve: &Resolve,
-    own: &Package,
-) -> Result<ComponentBuilder, Error>
+fn component_of(alloc: Global, resolve: &Resolve, own: &Package) -> Result<ComponentBuilder, Error>
     ensures ok { IfOk result (λ builder. builder ≡ parts_of resolve.now (identity_of own.now.name) 0 own.now.worlds.entries) }
+    ensures size { result ≡ Err Size → limit < 8 + worlds_extent resolve.now (identity_of own.now.name) own.now.worlds.entries }
     ensures refuses { IfErr result IsMemoryOrSize }
 {
     let mut builder = ComponentBuilder::new(alloc);
@@ -89,6 +90,7 @@ pub(crate) fn encode_package(
     own: &Package,
 ) -> Result<Vec<u8>, Error>
     ensures ok { IfOk result (λ bytes. IsComponent (sections_of_parts (parts_of resolve.now (identity_of own.now.name) 0 own.now.worlds.entries)) bytes.items) }
+    ensures size { result ≡ Err Size → limit < 8 + worlds_extent resolve.now (identity_of own.now.name) own.now.worlds.entries }
     ensures refuses { IfErr result IsMemoryOrSize }
 {
     component_of(alloc, resolve, own)?.finish()
@@ -183,7 +185,7 @@ mod tests {
 
     fn bytes_of(alloc: Global, resolve: &Resolve) -> Result<Vec<u8>, Fail> {
         match resolve.packages.first() {
-            Some(package) => Ok(encode_package(alloc, resolve, own)?),
+            Some(own) => Ok(encode_package(alloc, resolve, own)?),
             None => Ok(Vec::new(alloc)),
         }
     }
@@ -253,6 +255,36 @@ mod tests {
         ];
         let bytes = bytes_of(alloc, &resolve(alloc, worlds, None)?)?;
         assert_eq!(rt; bytes.as_slice(), expected.as_slice());
+        Ok(())
+    }
+
+    // Adds `count` functions `f0`, `f1` and so on, all of one type.
+    fn add_functions(alloc: Global, items: &mut Items, count: u32) -> Result<(), Fail> {
+        for i in 0..count {
+            let name = format!(in alloc; "f{i}")?;
+            let added = function(
+                alloc,
+                &name,
+                FunctionKind::Freestanding,
+                Vec::new(alloc),
+                None,
+            )?;
+            add(alloc, items, added)?;
+        }
+        Ok(())
+    }
+
+    // The ten thousand imports take 5 bytes each beside the 48,890 of their names; the one type takes 5, the world's
+    // head 4, the export of the wrapper 12, the wrapper's head 2 and the count of types 1, the section's head 4, the
+    // exports' section 11 and the preamble 8.
+    #[test]
+    fn many_functions(rt: HostRuntime) -> Result<(), Fail> {
+        let alloc = rt.alloc();
+        let mut imports = IndexMap::new(alloc);
+        add_functions(alloc, &mut imports, 10000)?;
+        let worlds = vec![in alloc; world(alloc, imports, IndexMap::new(alloc))?]?;
+        let bytes = bytes_of(alloc, &resolve(alloc, worlds, None)?)?;
+        assert_eq!(rt; bytes.len(), 98937);
         Ok(())
     }
 }

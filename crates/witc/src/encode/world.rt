@@ -1,10 +1,14 @@
 //! The component type of a world of functions.
 
-ghost use Rattle.std.specs.Prelude.{◌≡◌, OnOk, IfOk, IfErr};
+ghost use Rattle.std.specs.Prelude.{◌≡◌, ◌+◌, ◌<◌, Err, OnOk, IfOk, IfErr};
+ghost use Rattle.wit_model.specs.declared.error.Error.TheVariants.{Size};
+ghost use Rattle.wit_model.specs.Uses.{items_of};
+ghost use Rattle.wit_model.specs.Weight.{function_weight};
 ghost use Rattle.comp_bytes.specs.RawOf.{raw_name};
 ghost use Rattle.comp_bytes.specs.Refusal.{IsMemoryOrSize};
 ghost use Rattle.indexmap.specs.IndexMap.{values};
 ghost use Rattle.comp_bytes.specs.Reading.{plain_name as plain_name_lem};
+ghost use Rattle.witc.specs.Extent.{limit, extent, items_weight};
 ghost use Rattle.witc.specs.Written.{nothing_written, scope_view, index_of, write_type, write_function, write_items, write_world};
 
 use crate::encode::function::{function_type, key_of};
@@ -55,6 +59,7 @@ impl<'a> WorldScope<'a> {
     fn type_of(&mut self, alloc: Global, function: &'a Function) -> Result<u32, Error>
         ensures ok { OnOk result (scope_view self.new ≡ write_type function.now (scope_view self.old)) }
         ensures index { IfOk result (λ n. n ≡ index_of function.now (scope_view self.old)) }
+        ensures size { result ≡ Err Size → limit < extent (scope_view self.old) + function_weight function.now }
         ensures refuses { IfErr result IsMemoryOrSize }
     {
         let (index, is_new) = self.keys.insert_full(key_of(function))?;
@@ -74,6 +79,7 @@ impl<'a> WorldScope<'a> {
         function: &'a Function,
     ) -> Result<(), Error>
         ensures ok { OnOk result (scope_view self.new ≡ write_function direction function.now (scope_view self.old)) }
+        ensures size { result ≡ Err Size → limit < extent (scope_view self.old) + function_weight function.now }
         ensures refuses { IfErr result IsMemoryOrSize }
     {
         let ty = ComponentTypeRef::Func(self.type_of(alloc, function)?);
@@ -91,6 +97,7 @@ impl<'a> WorldScope<'a> {
         items: &'a Map<WorldKey, WorldItem>,
     ) -> Result<(), Error>
         ensures ok { OnOk result (scope_view self.new ≡ write_items direction (values items.now) (scope_view self.old)) }
+        ensures size { result ≡ Err Size → limit < extent (scope_view self.old) + items_weight (values items.now) }
         ensures refuses { IfErr result IsMemoryOrSize }
     {
         for item in items.values() {
@@ -105,6 +112,7 @@ impl<'a> WorldScope<'a> {
 /// The component type of a world: its imports in order, then its exports.
 pub(crate) fn world_type(alloc: Global, world: &World) -> Result<ComponentType, Error>
     ensures ok { IfOk result (λ component. component ≡ (write_world world.now).declarations) }
+    ensures size { result ≡ Err Size → limit < items_weight (items_of world.now) }
     ensures refuses { IfErr result IsMemoryOrSize }
 {
     let mut scope = WorldScope::new(alloc);

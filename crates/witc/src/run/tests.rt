@@ -17,6 +17,21 @@ fn words(alloc: Global, texts: &[&[u8]]) -> Result<Vec<Vec<u8>>, AllocError> {
     Ok(words)
 }
 
+const DEMO_TEXT: &str =
+    "package a:b;\n\nworld foo {\n  import host: func();\n\n  export guest: func();\n}\n";
+
+#[test]
+fn demo_text(rt: HostRuntime) -> Result<(), Fail> {
+    let alloc = rt.alloc();
+    let words = words(alloc, &[b"demo".as_slice(), b"text".as_slice()])?;
+    let mut output: Vec<u8> = Vec::new(alloc);
+    let mut input: &[u8] = b"left alone";
+    assert_eq!(rt; run(alloc, &words, &mut input, &mut output), DONE);
+    assert_eq!(rt; output.as_slice(), DEMO_TEXT.as_bytes());
+    assert_eq!(rt; input, b"left alone".as_slice());
+    Ok(())
+}
+
 #[test]
 fn demo_hex(rt: HostRuntime) -> Result<(), Fail> {
     let alloc = rt.alloc();

@@ -7,6 +7,7 @@ use Rattle.comp_bytes.specs.Parts.{sections_of_parts}
 use Rattle.witc.specs.Written.{parts_of}
 use Rattle.witc.specs.Encoded.{HoldsWorld, MeansPackage, SharesFunctionTypes}
 use Rattle.witc.proofs.Means.{bytes_mean}
+use Rattle.witc.proofs.PackageExtents.{package_over}
 use Rattle.witc.proofs.Counts.{types_shared}
 use Rattle.witc.proofs.encode.encode.Goals as goal
 
@@ -27,3 +28,10 @@ returns-clause-shares c =
     let at = slice_get_read r.packages.items _ n p refl c.requires.in_range c.index.ensures in
     IfOk-weaker c.encode_package.result (λ bytes. IsComponent (sections_of_parts (parts_of r (identity_of p.name) 0 p.worlds.entries)) bytes.items) (λ bytes. SharesFunctionTypes r n bytes.items)
     (λ bytes spelled. types_shared r n p bytes.items c.requires.valid c.requires.plain at spelled) c.encode_package.ensures.ok
+
+pub returns-clause-size : goal.returns-clause-size
+returns-clause-size c = λ e.
+    let r = c.args.resolve.now in
+    let n = c.args.package.0 in
+    let p = c.index.result.now in
+    package_over r n p c.requires.valid (slice_get_read r.packages.items _ n p refl c.requires.in_range c.index.ensures) (c.encode_package.ensures.size e)

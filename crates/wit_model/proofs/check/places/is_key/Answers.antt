@@ -1,4 +1,4 @@
-use Rattle.std.proofs.Common.{◌∙◌, rules}
+use Rattle.std.proofs.Common.{◌∙◌}
 use Rattle.wit_model.specs.Text.{text_eq, text_of}
 use Rattle.wit_model.proofs.Lists.{lookup_any}
 use Rattle.wit_model.proofs.check.places.is_key.Goals as goal

@@ -1,0 +1,60 @@
+-- Tests of every byte of a text.
+use Rattle.std.proofs.Common.{◌≡◌, refl, sym, ap, ◌∙◌, ℕ, Bool, true, false, ◌&&◌, ◌||◌, ◌==◌, List, [], ◌∷◌, ◌++◌, inl, inr}
+use Rattle.std.specs.List.{list_all, slice_split, onto_first}
+use Rattle.std.proofs.lemmas.Bool.{cases_Bool}
+use Rattle.std.proofs.lemmas.List.Folds.{list_all-append}
+use Rattle.std.proofs.lemmas.List.Splits.{slice_split-cons_yes, slice_split-cons_no}
+
+pub both : (a b : Bool) → a ≡ true → b ≡ true → (a && b) ≡ true
+both a b p q = rw p q
+
+pub left_of : (a b : Bool) → (a && b) ≡ true → a ≡ true
+left_of true b e = refl
+left_of false b e = e
+
+pub right_of : (a b : Bool) → (a && b) ≡ true → b ≡ true
+right_of true b e = e
+right_of false b e = cc
+
+pub or_left : (a b : Bool) → a ≡ true → (a || b) ≡ true
+or_left a b p = rw p refl
+
+pub or_right : (a b : Bool) → b ≡ true → (a || b) ≡ true
+or_right true b p = refl
+or_right false b p = p
+
+pub refuted : (b : Bool) → (b ≡ true → ⊥) → b ≡ false
+refuted true h = absurd (h refl)
+refuted false h = refl
+
+pub weaker_all : {X : Type 0} (p q : X → Bool) → ((x : X) → p x ≡ true → q x ≡ true) → (xs : List X) → list_all p xs ≡ true → list_all q xs ≡ true
+weaker_all p q h [] e = refl
+weaker_all p q h (x ∷ xs) e = both _ _ (h x (left_of _ _ e)) (weaker_all p q h xs (right_of (p x) _ e))
+
+-- a byte that fails the test
+pub all_but_one : (p : ℕ → Bool) (front : List ℕ) (c : ℕ) (more : List ℕ) → p c ≡ false → list_all p ((front ++ c ∷ []) ++ more) ≡ true → ⊥
+all_but_one p front c more e h =
+    let one = left_of (list_all p (front ++ c ∷ [])) _ (sym (list_all-append p (front ++ c ∷ []) more) ∙ h) in
+    let two = right_of (list_all p front) _ (sym (list_all-append p front (c ∷ [])) ∙ one) in
+    let three : p c ≡ true = left_of (p c) true two in
+    cc
+
+-- one more byte on the first part
+first_part : (p : ℕ → Bool) (x : ℕ) (ps : List (List ℕ)) → list_all (list_all p) (onto_first x ps) ≡ true → (p x ≡ true) × (list_all (list_all p) ps ≡ true)
+first_part p x [] h = (left_of _ _ (left_of _ _ h), refl)
+first_part p x (part ∷ ps) h =
+    (left_of _ _ (left_of _ _ h), both _ _ (right_of (p x) _ (left_of _ _ h)) (right_of (p x && list_all p part) _ h))
+
+-- what the bytes of all parts pass, each byte passes or is the one at which they were cut
+pub parts_pass : (p : ℕ → Bool) (c : ℕ) (text : List ℕ) → list_all (list_all p) (slice_split (λ b. b == c) text) ≡ true → list_all (λ b. p b || (b == c)) text ≡ true
+parts_pass p c [] h = refl
+parts_pass p c (x ∷ xs) h =
+    elim (cases_Bool (x == c)) [
+      | inl cut ↦
+          let e = ap (list_all (list_all p)) (slice_split-cons_yes (λ b. b == c) x xs cut) in
+          both _ _ (or_right (p x) _ cut) (parts_pass p c xs (sym e ∙ h))
+      | inr other ↦
+          let e = ap (list_all (list_all p)) (slice_split-cons_no (λ b. b == c) x xs other) in
+          let f = first_part p x (slice_split (λ b. b == c) xs) (sym e ∙ h) in
+          both _ _ (or_left (p x) _ f.0) (parts_pass p c xs f.1)
+    ]

@@ -1,0 +1,114 @@
+-- How calls in turn move a view: one call and then the others, some calls and then some more.
+use Rattle.std.proofs.Common.{◌≡◌, List, [], ◌∷◌, ◌++◌, refl, sym, inl, inr, ◌∙◌, ap, subst, Result, Ok, Err, OnErr, OnOk, append-nil, append_assoc}
+use Rattle.std.specs.List.{flat_map}
+use Rattle.wit_print.specs.OutputCall.{OutputCall, View, after, after_all, body_calls, line_begun_after, Counts, Reaches, Moves, Begins}
+use Rattle.wit_print.specs.OutputCall.Moves.{nothing_moved, then_moved}
+use Rattle.wit_print.specs.OutputCall.Begins.{nothing_begun, begun_in, then_begun}
+use Rattle.wit_print.specs.OutputCall.OutputCall.{PushStr, IndentIfNeeded, IndentStart, IndentEnd, Newline, IndentAndPrint, Keyword, Ty, Param, Case, GenericArgsStart, GenericArgsEnd, Doc, Semicolon, Str}
+
+module _ {Kept : Type 0} (keeps : View Kept → OutputCall → Kept) where
+  -- some calls and then more
+  pub Moves-append : {calls more : List OutputCall} {u v w : View Kept} → Moves keeps u calls v → Moves keeps v more w → Moves keeps u (calls ++ more) w
+  Moves-append {more = more} {w = w} (nothing_moved e) m = subst (λ x. Moves keeps x more w) e m
+  Moves-append (then_moved h r) m = then_moved h (Moves-append r m)
+
+  -- some calls and then a refusal
+  pub Begins-append : {calls more : List OutputCall} {u v w : View Kept} → Moves keeps u calls v → Begins keeps v more w → Begins keeps u (calls ++ more) w
+  Begins-append {more = more} {w = w} (nothing_moved e) b = subst (λ x. Begins keeps x more w) e b
+  Begins-append (then_moved h r) b = then_begun h (Begins-append r b)
+
+  -- a refusal before more calls
+  pub Begins-more : {calls : List OutputCall} (more : List OutputCall) {u w : View Kept} → Begins keeps u calls w → Begins keeps u (calls ++ more) w
+  Begins-more more (nothing_begun e) = nothing_begun e
+  Begins-more more (begun_in r) = begun_in r
+  Begins-more more (then_begun h b) = then_begun h (Begins-more more b)
+
+  -- whether a line has just begun is the same, however the call counts
+  line_after_body : (call : OutputCall) (u : View Kept) → (after_all keeps u (body_calls call)).line_begun ≡ line_begun_after call u.line_begun
+  line_after_body (PushStr text) u = refl
+  line_after_body IndentIfNeeded u = refl
+  line_after_body IndentStart u = refl
+  line_after_body IndentEnd u = refl
+  line_after_body Newline u = refl
+  line_after_body (IndentAndPrint text) u = refl
+  line_after_body (Keyword text) u = refl
+  line_after_body (Ty text kind) u = refl
+  line_after_body (Param text) u = refl
+  line_after_body (Case text) u = refl
+  line_after_body GenericArgsStart u = refl
+  line_after_body GenericArgsEnd u = refl
+  line_after_body (Doc []) u = refl
+  line_after_body (Doc (c ∷ cs)) u = refl
+  line_after_body Semicolon u = refl
+  line_after_body (Str text) u = refl
+
+  pub Counts-line : (u : View Kept) (call : OutputCall) (v : View Kept) → Counts keeps u call v → v.line_begun ≡ line_begun_after call u.line_begun
+  Counts-line u call v h = elim h [ inl e ↦ ap (λ x. x.line_begun) e | inr e ↦ ap (λ x. x.line_begun) e ∙ line_after_body call u ]
+
+-- a fact of an error, whichever result it is
+pub at_err : {T E P : Type 0} (r : Result T E) → P → OnErr r P
+at_err (Ok v) p = tt
+at_err (Err e) p = p
+
+-- a fact of a value, whichever result it is
+pub at_ok : {T E P : Type 0} (r : Result T E) → P → OnOk r P
+at_ok (Ok v) p = p
+at_ok (Err e) p = tt
+
+pub on_ok : {T E P Q : Type 0} (r : Result T E) → (P → Q) → OnOk r P → OnOk r Q
+on_ok (Ok x) f p = f p
+on_ok (Err e) f p = tt
+
+pub on_err : {T E P Q : Type 0} (r : Result T E) → (P → Q) → OnErr r P → OnErr r Q
+on_err (Ok x) f p = tt
+on_err (Err e) f p = f p
+
+module _ {Kept : Type 0} {keeps : View Kept → OutputCall → Kept} where
+  -- one call, as a list
+  pub one_moved : {u v : View Kept} {call : OutputCall} → Counts keeps u call v → Moves keeps u (call ∷ []) v
+  one_moved h = then_moved h (nothing_moved refl)
+
+  -- first some calls and then others, which together are these
+  pub moved_on : {u v w : View Kept} {first then all : List OutputCall} → Moves keeps u first v → Moves keeps v then w → first ++ then ≡ all → Moves keeps u all w
+  moved_on {u = u} {w = w} a b e = subst (λ x. Moves keeps u x w) e (Moves-append keeps a b)
+
+  -- first some calls and then a refusal in others, which together are these
+  pub begun_on : {u v w : View Kept} {first then all : List OutputCall} → Moves keeps u first v → Begins keeps v then w → first ++ then ≡ all → Begins keeps u all w
+  begun_on {u = u} {w = w} a b e = subst (λ x. Begins keeps u x w) e (Begins-append keeps a b)
+
+  -- a refusal in the first of these
+  pub begun_first : {u w : View Kept} {first : List OutputCall} (then : List OutputCall) {all : List OutputCall} → Begins keeps u first w → first ++ then ≡ all → Begins keeps u all w
+  begun_first {u = u} {w = w} then b e = subst (λ x. Begins keeps u x w) e (Begins-more keeps then b)
+
+pub ruleset moving = (nothing_moved, then_moved, nothing_begun, begun_in, then_begun, one_moved, at_err)
+
+-- ---- a run of calls for each element of a list
+
+-- The runs of the elements before these are made, and no others.
+pub record Underway {Kept X : Type 0} (keeps : View Kept → OutputCall → Kept) (run : X → List OutputCall) (all left : List X) (old now : View Kept) : Type 0 where
+  pub made : List OutputCall
+  pub moved : Moves keeps old made now
+  pub whole : made ++ flat_map run left ≡ flat_map run all
+
+module _ {Kept X : Type 0} {keeps : View Kept → OutputCall → Kept} {run : X → List OutputCall} where
+  pub underway : (all left : List X) (old : View Kept) → left ≡ all → Underway keeps run all left old old
+  underway all left old e = record { made = []; moved = nothing_moved refl; whole = ap (flat_map run) e }
+
+  -- one more run
+  pub run_made : {all left : List X} {old now new : View Kept} (x : X) (others : List X) → Underway keeps run all left old now → left ≡ x ∷ others → Moves keeps now (run x) new → Underway keeps run all others old new
+  run_made x others u e m = record {
+    made = u.made ++ run x;
+    moved = Moves-append keeps u.moved m;
+    whole = append_assoc u.made (run x) (flat_map run others) ∙ ap (λ xs. u.made ++ flat_map run xs) (sym e) ∙ u.whole;
+  }
+
+  -- a refusal in a run
+  pub run_begun : {all left : List X} {old now new : View Kept} (x : X) (others : List X) → Underway keeps run all left old now → left ≡ x ∷ others → Begins keeps now (run x) new → Begins keeps old (flat_map run all) new
+  run_begun {old = old} {new = new} x others u e b =
+      let both : u.made ++ (run x ++ flat_map run others) ≡ flat_map run _ = ap (λ xs. u.made ++ flat_map run xs) (sym e) ∙ u.whole in
+      subst (λ calls. Begins keeps old calls new) both (Begins-append keeps u.moved (Begins-more keeps (flat_map run others) b))
+
+  -- all runs
+  pub runs_made : {all left : List X} {old now : View Kept} → Underway keeps run all left old now → left ≡ [] → Moves keeps old (flat_map run all) now
+  runs_made {old = old} {now = now} u e =
+      subst (λ calls. Moves keeps old calls now) (sym (append-nil u.made) ∙ ap (λ xs. u.made ++ flat_map run xs) (sym e) ∙ u.whole) u.moved

@@ -1,0 +1,142 @@
+-- Labels and versions have no line end in them, and begin with no space.
+use Rattle.std.proofs.Common.{◌≡◌, refl, sym, ap, subst, ◌∙◌, inl, inr, ◌⊎◌, ℕ, ◌^◌, nat_lt, Bool, true, false, IsTrue, ◌&&◌, ◌||◌, not, ◌==◌, List, [], ◌∷◌, ◌++◌, T, eqb→eq, if◌then◌else◌, arith, zero, suc, ◌/◌, ◌%◌}
+use Rattle.std.proofs.lemmas.Bool.Decides.{nat_tests}
+use Rattle.std.specs.List.{list_all, slice_split, join_with_byte}
+use Rattle.std.specs.Char.{is_ascii_alphabetic}
+use Rattle.std.specs.Fmt.{decimal, digits, digits_onto, digit_glyph}
+use Rattle.std.proofs.lemmas.List.Splits.{join_with_byte-slice_split}
+use Rattle.semver.specs.declared.Version.{Version}
+use Rattle.semver.specs.Identifiers.{version_text, pre_text, build_text, marked}
+use Rattle.semver.specs.Order.{parts}
+use Rattle.semver.specs.Grammar.{is_identifier_byte, is_build_identifier, is_pre_identifier, is_pre_release, is_build}
+use Rattle.wit_model.proofs.Lists.{first_true, second_true}
+use Rattle.wit_model.specs.Text.{Text}
+use Rattle.wit_model.specs.Names.{is_lower_byte, is_upper_byte, is_fragment, begins_with_letter, is_label, is_version}
+use Rattle.wit_print.specs.Keyword.{escaped, is_keyword}
+use Rattle.wit_print.specs.OutputCall.{is_one_line, has_no_space_first, may_begin}
+
+either_true : (a b : Bool) → (a || b) ≡ true → (a ≡ true) ⊎ (b ≡ true)
+either_true true b e = inl refl
+either_true false b e = inr e
+
+both_true : (a b : Bool) → a ≡ true → b ≡ true → (a && b) ≡ true
+both_true a b p q = rw p q
+
+-- what passes a test that n fails is not n
+other_than : (n : ℕ) (p : ℕ → Bool) → p n ≡ false → (b : ℕ) → p b ≡ true → not (b == n) ≡ true
+other_than n p e b h = go (b == n) refl
+  where
+    go : (v : Bool) → (b == n) ≡ v → not v ≡ true
+    go false q = refl
+    go true q = let wrong : true ≡ false = sym h ∙ (ap p (eqb→eq b n (subst T (sym q) tt)) ∙ e) in cc
+
+one_line_of : (p : ℕ → Bool) → p 10 ≡ false → (xs : Text) → list_all p xs ≡ true → is_one_line xs ≡ true
+one_line_of p e [] h = refl
+one_line_of p e (b ∷ bs) h = both_true _ _ (other_than 10 p e b (first_true _ _ h)) (one_line_of p e bs (second_true _ _ h))
+
+one_line_append : (xs ys : Text) → is_one_line xs ≡ true → is_one_line ys ≡ true → is_one_line (xs ++ ys) ≡ true
+one_line_append [] ys h k = k
+one_line_append (b ∷ bs) ys h k = both_true _ _ (first_true _ _ h) (one_line_append bs ys (second_true _ _ h) k)
+
+-- ---- labels
+
+fragment_one_line : (xs : Text) → is_fragment xs ≡ true → is_one_line xs ≡ true
+fragment_one_line xs h =
+    elim (either_true _ _ (second_true _ _ h)) [
+      | inl lower ↦ one_line_of is_lower_byte refl xs lower
+      | inr upper ↦ one_line_of is_upper_byte refl xs upper
+    ]
+
+joined_one_line : (fs : List Text) → list_all is_fragment fs ≡ true → is_one_line (join_with_byte 45 fs) ≡ true
+joined_one_line [] h = refl
+joined_one_line (f ∷ []) h = fragment_one_line f (first_true _ _ h)
+joined_one_line (f ∷ g ∷ gs) h = one_line_append f _ (fragment_one_line f (first_true _ _ h)) (joined_one_line (g ∷ gs) (second_true _ _ h))
+
+label_one_line : (text : Text) → is_label text ≡ true → is_one_line text ≡ true
+label_one_line text h =
+    subst (λ t. is_one_line t ≡ true) (join_with_byte-slice_split 45 text) (joined_one_line (slice_split (λ b. b == 45) text) (second_true _ _ h))
+
+letter_front : (text : Text) → begins_with_letter text ≡ true → has_no_space_first text ≡ true
+letter_front [] h = refl
+letter_front (b ∷ bs) h = other_than 32 is_ascii_alphabetic refl b h
+
+escaped_by : (b : Bool) (text : Text) → is_one_line text ≡ true → is_one_line (if b then 37 ∷ text else text) ≡ true
+escaped_by true text h = h
+escaped_by false text h = h
+
+front_by : (b : Bool) (text : Text) → has_no_space_first text ≡ true → has_no_space_first (if b then 37 ∷ text else text) ≡ true
+front_by true text h = refl
+front_by false text h = h
+
+pub escaped_one_line : (text : Text) → is_label text ≡ true → IsTrue (is_one_line (escaped text))
+escaped_one_line text h = escaped_by (is_keyword text) text (label_one_line text h)
+
+pub escaped_may_begin : (begun : Bool) (text : Text) → is_label text ≡ true → IsTrue (may_begin begun (escaped text))
+escaped_may_begin true text h = front_by (is_keyword text) text (letter_front text (first_true _ _ h))
+escaped_may_begin false text h = refl
+
+pub ruleset labels = (escaped_one_line, escaped_may_begin)
+
+-- ---- versions
+
+glyph_one_line : (n : ℕ) → not (digit_glyph false n == 10) ≡ true
+glyph_one_line n = grind (arith, nat_tests)
+
+digits_onto_one_line : (k n : ℕ) (text : Text) → is_one_line text ≡ true → is_one_line (digits_onto k 10 false n text) ≡ true
+digits_onto_one_line zero n text h = h
+digits_onto_one_line (suc k) n text h =
+    let more = both_true _ _ (glyph_one_line (n % 10)) h in
+    elim (n / 10 == 0) as (λ last. is_one_line (if last then digit_glyph false (n % 10) ∷ text else digits_onto k 10 false (n / 10) (digit_glyph false (n % 10) ∷ text)) ≡ true) [
+      | true ↦ more
+      | false ↦ digits_onto_one_line k (n / 10) (digit_glyph false (n % 10) ∷ text) more
+    ]
+
+decimal_one_line : (n : ℕ) → is_one_line (decimal n) ≡ true
+unfolding digits
+decimal_one_line n = digits_onto_one_line 64 n [] refl
+
+-- parts between points, each of identifier bytes
+parts_one_line : (test : Text → Bool) → ((part : Text) → test part ≡ true → list_all is_identifier_byte part ≡ true) → (ps : List Text) → list_all test ps ≡ true → is_one_line (join_with_byte 46 ps) ≡ true
+parts_one_line test bytes [] h = refl
+parts_one_line test bytes (p ∷ []) h = one_line_of is_identifier_byte refl p (bytes p (first_true _ _ h))
+parts_one_line test bytes (p ∷ q ∷ qs) h =
+    one_line_append p _ (one_line_of is_identifier_byte refl p (bytes p (first_true _ _ h))) (parts_one_line test bytes (q ∷ qs) (second_true _ _ h))
+
+points_one_line : (test : Text → Bool) → ((part : Text) → test part ≡ true → list_all is_identifier_byte part ≡ true) → (text : Text) → list_all test (parts text) ≡ true → is_one_line text ≡ true
+points_one_line test bytes text h = subst (λ t. is_one_line t ≡ true) (join_with_byte-slice_split 46 text) (parts_one_line test bytes (parts text) h)
+
+build_bytes : (part : Text) → is_build_identifier part ≡ true → list_all is_identifier_byte part ≡ true
+build_bytes part h = second_true _ _ h
+
+pre_bytes : (part : Text) → is_pre_identifier part ≡ true → list_all is_identifier_byte part ≡ true
+pre_bytes part h = build_bytes part (first_true _ _ h)
+
+marked_pre : (text : Text) → is_pre_release text ≡ true → is_one_line (marked 45 text) ≡ true
+marked_pre [] h = refl
+marked_pre (b ∷ bs) h = points_one_line is_pre_identifier pre_bytes (b ∷ bs) h
+
+marked_build : (text : Text) → is_build text ≡ true → is_one_line (marked 43 text) ≡ true
+marked_build [] h = refl
+marked_build (b ∷ bs) h = points_one_line is_build_identifier build_bytes (b ∷ bs) h
+
+last_two : (a b c d e : Bool) → (a && (b && (c && (d && e)))) ≡ true → (d ≡ true) × (e ≡ true)
+last_two a b c d e h =
+    let last = second_true c (d && e) (second_true b (c && (d && e)) (second_true a (b && (c && (d && e))) h)) in
+    (first_true d e last, second_true d e last)
+
+version_one_line : (v : Version) → is_version v ≡ true → IsTrue (is_one_line (64 ∷ version_text v))
+version_one_line v h =
+    let texts = last_two (nat_lt v.major (2 ^ 64)) (nat_lt v.minor (2 ^ 64)) (nat_lt v.patch (2 ^ 64)) (is_pre_release (pre_text v.pre)) (is_build (build_text v.build)) h in
+    one_line_append (decimal v.major) _ (decimal_one_line v.major)
+    (one_line_append (decimal v.minor) _ (decimal_one_line v.minor)
+    (one_line_append (decimal v.patch) _ (decimal_one_line v.patch)
+    (one_line_append (marked 45 (pre_text v.pre)) (marked 43 (build_text v.build)) (marked_pre (pre_text v.pre) texts.0) (marked_build (build_text v.build) texts.1))))
+
+marked_may_begin : (begun : Bool) (text : Text) → may_begin begun (64 ∷ text) ≡ true
+marked_may_begin true text = refl
+marked_may_begin false text = refl
+
+-- a version after `@` may stand anywhere
+pub version_may_stand : (begun : Bool) (v : Version) (text : Text) → text ≡ 64 ∷ version_text v → is_version v ≡ true → IsTrue (is_one_line text && may_begin begun text)
+version_may_stand begun v text e h =
+    subst (λ t. (is_one_line t && may_begin begun t) ≡ true) (sym e) (both_true _ _ (version_one_line v h) (marked_may_begin begun (version_text v)))

@@ -1,0 +1,22 @@
+-- A list up to an index, its next element, and the rest, under a map.
+use Rattle.std.proofs.Common.{◌≡◌, ◌<◌, ◌+◌, Bool, IsTrue, List, [], ◌∷◌, ◌++◌, ℕ, length, get_or, take, drop, refl, sym, ap, ◌∙◌, add-one, arith, rules, map}
+use Rattle.std.proofs.Math.Seq.{take-suc, drop-cons}
+use Rattle.std.proofs.lemmas.List.{take-append-drop, map-append}
+use Rattle.wit_print.specs.OutputCall.{OutputCall, may_follow, line_begun_after}
+
+module _ {X Y : Type 0} (f : X → Y) where
+  pub map-take_next : (l : List X) (i : ℕ) (x : X) → i < length l → x ≡ get_or l i x → map f (take (i + 1) l) ≡ map f (take i l) ++ f x ∷ []
+  map-take_next l i x h e =
+      let next : map f (take (i + 1) l) ≡ map f (take i l) ++ f (get_or l i x) ∷ [] = rw (add-one, take-suc l i x) (map-append f (take i l) (get_or l i x ∷ [])) in
+      next ∙ ap (λ y. map f (take i l) ++ f y ∷ []) (sym e)
+
+  pub map-drop_next : (l : List X) (i : ℕ) (x : X) → i < length l → x ≡ get_or l i x → map f (drop i l) ≡ f x ∷ map f (drop (i + 1) l)
+  map-drop_next l i x h e =
+      let next : map f (drop i l) ≡ f (get_or l i x) ∷ map f (drop (i + 1) l) = rw (add-one, drop-cons l i x) refl in
+      next ∙ ap (λ y. f y ∷ map f (drop (i + 1) l)) (sym e)
+
+  pub map-parted : (l : List X) (i : ℕ) (x : X) → i < length l → x ≡ get_or l i x → map f l ≡ map f (take i l) ++ (f x ∷ map f (drop (i + 1) l))
+  map-parted l i x h e = ap (λ y. map f y) (sym (take-append-drop i l)) ∙ map-append f (take i l) (drop i l) ∙ ap (λ y. map f (take i l) ++ y) (map-drop_next l i x h e)
+
+pub follow-rest : (b c : Bool) (call : OutputCall) (calls : List OutputCall) → IsTrue (may_follow b (call ∷ calls)) → c ≡ line_begun_after call b → IsTrue (may_follow c calls)
+follow-rest b c call calls h e = grind (arith, rules)

@@ -1,0 +1,218 @@
+-- What validity says of a plain `Resolve`: its worlds can be printed.
+use Rattle.std.proofs.Common.{◌≡◌, refl, sym, subst, ◌∙◌, ℕ, zero, suc, ◌<◌, ◌+◌, Bool, true, false, ◌&&◌, ◌||◌, not, List, [], ◌∷◌, ◌++◌, length, Option, Some, None, map, filter_map, slice_get, option_to_list, arith}
+use Rattle.std.specs.Prelude.{String, is_none}
+use Rattle.std.specs.List.{list_all, cons_option}
+use Rattle.std.specs.Option.{option_map_or}
+use Rattle.std.specs.Cmp.Lexicographic.{same_text}
+use Rattle.std.specs.declared.alloc.Global.{Global}
+use Rattle.std.proofs.lemmas.Bool.{ltb-true}
+use Rattle.std.proofs.lemmas.List.Folds.{list_all-map, list_all-append}
+use Rattle.indexmap.specs.IndexMap.{values}
+use Rattle.wit_model.specs.declared.model.Resolve.{Resolve}
+use Rattle.wit_model.specs.declared.model.Package.{Package}
+use Rattle.wit_model.specs.declared.model.PackageId.{PackageId}
+use Rattle.wit_model.specs.declared.model.World.{World}
+use Rattle.wit_model.specs.declared.model.WorldId.{WorldId}
+use Rattle.wit_model.specs.declared.model.WorldKey.{WorldKey}
+use Rattle.wit_model.specs.declared.model.WorldKey.TheVariants as key
+use Rattle.wit_model.specs.declared.model.WorldItem.{WorldItem}
+use Rattle.wit_model.specs.declared.model.WorldItem.TheVariants as item
+use Rattle.wit_model.specs.declared.model.Function.{Function}
+use Rattle.wit_model.specs.declared.model.Param.{Param}
+use Rattle.wit_model.specs.declared.model.«Type».{«Type» as ValueType}
+use Rattle.wit_model.specs.declared.model.«Type».TheVariants as value
+use Rattle.wit_model.specs.Text.{text_of, text_eq}
+use Rattle.wit_model.specs.Names.{is_label, is_version}
+use Rattle.wit_model.specs.Lookup.{package_at, world_at, resource_of}
+use Rattle.wit_model.specs.Uses.{items_of}
+use Rattle.wit_model.specs.Types.{number_of}
+use Rattle.wit_model.specs.Parts.{function_numbers, function_types}
+use Rattle.wit_model.specs.Rules.{in_list, passes, is_freestanding, function_in_range, key_in_range, item_in_range, entries_in_range, function_labels, are_member_labels, are_distinct, key_label, item_labels, entries_labels, is_stability, interface_belongs, world_belongs, is_id, package_number}
+use Rattle.wit_model.specs.Plain.{IsPlain, is_undocumented, is_unknown, is_plain_function, is_plain_item, is_plain_world}
+use Rattle.wit_model.specs.Valid.{IsValid, numbers_in_range, package_names, places, labels, is_place}
+use Rattle.wit_model.proofs.Lists.{first_true, second_true}
+use Rattle.wit_model.proofs.Entries.{each_from_at, lists_pass}
+use Rattle.wit_print.specs.Printable.{is_primitive, is_printable_param, is_printable_function, is_printable_entry, is_printable_world, is_printable_listed}
+
+both_true : (a b : Bool) → a ≡ true → b ≡ true → (a && b) ≡ true
+both_true a b p q = rw p q
+
+-- ---- lists
+
+found : {X : Type 0} (xs : List X) (n : ℕ) → n < length xs → (x : X) × (slice_get xs n ≡ Some x)
+found [] n h = absurd (omega arith)
+found (x ∷ xs) zero h = (x, refl)
+found (x ∷ xs) (suc n) h = found xs n (omega arith)
+
+at_index : {X : Type 0} (test : X → Bool) (xs : List X) (n : ℕ) (x : X) → list_all test xs ≡ true → slice_get xs n ≡ Some x → test x ≡ true
+at_index test [] n x h e = absurd cc
+at_index test (y ∷ ys) zero x h e = let same : y ≡ x = cc in subst (λ z. test z ≡ true) same (first_true _ _ h)
+at_index test (y ∷ ys) (suc n) x h e = at_index test ys n x (second_true (test y) _ h) e
+
+-- nothing is in an empty list
+none_in : {X : Type 0} (xs : List X) (n : ℕ) → xs ≡ [] → in_list xs n ≡ true → ⊥
+none_in {X} xs n e h =
+    let in_none : in_list {A = X} [] n ≡ true = subst (λ ys. in_list ys n ≡ true) e h in
+    let less : n < 0 = ltb-true n 0 in_none in
+    omega arith
+
+no_numbers : {X : Type 0} (xs : List X) (ns : List ℕ) → xs ≡ [] → list_all (in_list xs) ns ≡ true → ns ≡ []
+no_numbers xs [] e h = refl
+no_numbers xs (n ∷ ns) e h = absurd (none_in xs n e (first_true _ _ h))
+
+first_empty : {X : Type 0} (xs ys : List X) → xs ++ ys ≡ [] → xs ≡ []
+first_empty [] ys e = refl
+first_empty (x ∷ xs) ys e = absurd cc
+
+second_empty : {X : Type 0} (xs ys : List X) → xs ++ ys ≡ [] → ys ≡ []
+second_empty [] ys e = e
+second_empty (x ∷ xs) ys e = absurd cc
+
+none_of : {X : Type 0} (o : Option X) → option_to_list o ≡ [] → is_none o ≡ true
+none_of None e = refl
+none_of (Some x) e = absurd cc
+
+-- ---- functions
+
+primitive_or : (t : ValueType) (ns : List ℕ) → cons_option (number_of t) ns ≡ [] → (is_primitive t ≡ true) × (ns ≡ [])
+primitive_or (value.Id id) ns e = absurd cc
+primitive_or _ ns e = (refl, e)
+
+primitives : (ts : List ValueType) → filter_map number_of ts ≡ [] → list_all is_primitive ts ≡ true
+primitives [] e = refl
+primitives (t ∷ ts) e = let h = primitive_or t (filter_map number_of ts) e in both_true _ _ h.0 (primitives ts h.1)
+
+printable_params : (ps : List Param) → list_all is_label (map (λ p. text_of p.name) ps) ≡ true → list_all is_primitive (map (λ p. p.ty) ps) ≡ true → list_all is_printable_param ps ≡ true
+printable_params [] h k = refl
+printable_params (p ∷ ps) h k =
+    both_true (is_printable_param p) (list_all is_printable_param ps)
+    (both_true (is_label (text_of p.name)) (is_primitive p.ty) (first_true (is_label (text_of p.name)) _ h) (first_true (is_primitive p.ty) _ k))
+    (printable_params ps (second_true (is_label (text_of p.name)) _ h) (second_true (is_primitive p.ty) _ k))
+
+returned_primitive : (o : Option ValueType) → list_all is_primitive (option_to_list o) ≡ true → passes is_primitive o ≡ true
+returned_primitive None h = refl
+returned_primitive (Some t) h = first_true _ _ h
+
+named : (a b : Bool) → a ≡ true → (not a || b) ≡ true → b ≡ true
+named true b e h = h
+named false b e h = absurd cc
+
+valid_function : (r : Resolve) (f : Function) → r.types.items ≡ [] → function_in_range r f ≡ true → function_labels f ≡ true → is_plain_function f ≡ true → is_printable_function f ≡ true
+valid_function r f e range label plain =
+    let numbers : function_numbers f ≡ [] = no_numbers r.types.items (function_numbers f) e range in
+    let typed : filter_map number_of (function_types f) ≡ [] = first_empty (filter_map number_of (function_types f)) (option_to_list (resource_of f.kind)) numbers in
+    let free : is_freestanding f.kind ≡ true = none_of (resource_of f.kind) (second_empty (filter_map number_of (function_types f)) (option_to_list (resource_of f.kind)) numbers) in
+    let all : list_all is_primitive (map (λ p. p.ty) f.params.items ++ option_to_list f.result) ≡ true = primitives (function_types f) typed in
+    let split : (list_all is_primitive (map (λ p. p.ty) f.params.items) && list_all is_primitive (option_to_list f.result)) ≡ true = sym (list_all-append is_primitive (map (λ p. p.ty) f.params.items) (option_to_list f.result)) ∙ all in
+    let more = second_true (not (is_freestanding f.kind) || is_label (text_of f.name)) (are_member_labels (map (λ p. text_of p.name) f.params.items) && is_stability f.stability) label in
+    let members = first_true (are_member_labels (map (λ p. text_of p.name) f.params.items)) (is_stability f.stability) more in
+    let unknown = second_true (is_undocumented f.docs) (is_unknown f.stability && is_none f.external_id) plain in
+    both_true _ _ (named (is_freestanding f.kind) (is_label (text_of f.name)) free (first_true _ _ label))
+    (both_true _ _ free
+    (both_true _ _ (first_true _ _ unknown)
+    (both_true _ _ (second_true (is_unknown f.stability) (is_none f.external_id) unknown)
+    (both_true _ _ (printable_params f.params.items (first_true (list_all is_label (map (λ p. text_of p.name) f.params.items)) (are_distinct (map (λ p. text_of p.name) f.params.items)) members) (first_true _ _ split))
+    (returned_primitive f.result (second_true (list_all is_primitive (map (λ p. p.ty) f.params.items)) (list_all is_primitive (option_to_list f.result)) split))))))
+
+-- ---- items
+
+valid_entry : (r : Resolve) → r.types.items ≡ [] → r.interfaces.items ≡ [] → (k : WorldKey) (i : WorldItem) → (key_in_range r k && item_in_range r i) ≡ true → (key_label k i && item_labels i) ≡ true → is_plain_item i ≡ true → is_printable_entry (k, i) ≡ true
+valid_entry r types interfaces (key.Name s) (item.Function f) range label plain = valid_function r f types range (second_true (not (is_freestanding f.kind) || is_label (text_of s)) (function_labels f) label) plain
+valid_entry r types interfaces (key.Name s) (item.Interface id gates docs external_id) range label plain = absurd (none_in r.interfaces.items id.0 interfaces range)
+valid_entry r types interfaces (key.Name s) (item.Type_ id) range label plain = absurd (none_in r.types.items id.0 types range)
+valid_entry r types interfaces (key.Interface n) i range label plain = absurd (none_in r.interfaces.items n.0 interfaces (first_true (in_list r.interfaces.items n.0) (item_in_range r i) range))
+
+valid_entries : (r : Resolve) → r.types.items ≡ [] → r.interfaces.items ≡ [] → (es : List (WorldKey × WorldItem)) → entries_in_range r es ≡ true → entries_labels es ≡ true → list_all is_plain_item (map (λ e. e.1) es) ≡ true → list_all is_printable_entry es ≡ true
+valid_entries r types interfaces [] range label plain = refl
+valid_entries r types interfaces (e ∷ es) range label plain =
+    both_true _ _ (valid_entry r types interfaces e.0 e.1 (first_true _ _ range) (first_true _ _ label) (first_true _ _ plain))
+    (valid_entries r types interfaces es (second_true (key_in_range r e.0 && item_in_range r e.1) _ range) (second_true (key_label e.0 e.1 && item_labels e.1) _ label) (second_true (is_plain_item e.1) _ plain))
+
+-- ---- worlds
+
+last_three : (a b c d : Bool) → (a && (b && (c && d))) ≡ true → (b ≡ true) × (c ≡ true) × (d ≡ true)
+last_three true true true true h = (refl, refl, refl)
+last_three false b c d h = absurd cc
+last_three true false c d h = absurd cc
+last_three true true false d h = absurd cc
+last_three true true true false h = absurd cc
+
+world_labels : (r : Resolve) (n : ℕ) (w : World) → IsValid r → world_at r n ≡ Some w → (is_label (text_of w.name) ≡ true) × (entries_labels w.imports.entries ≡ true) × (entries_labels w.exports.entries ≡ true)
+unfolding labels
+world_labels r n w v e =
+    let here = each_from_at (labels.world_ r) 0 r.worlds.items n w (lists_pass labels r v.rules.labels).2 e in
+    let rest = last_three (is_label (text_of w.name)) (is_stability w.stability) (entries_labels w.imports.entries) (entries_labels w.exports.entries) here in
+    (first_true _ _ here, rest.1, rest.2)
+
+world_range : (r : Resolve) (n : ℕ) (w : World) → IsValid r → world_at r n ≡ Some w → (entries_in_range r w.imports.entries ≡ true) × (entries_in_range r w.exports.entries ≡ true)
+unfolding numbers_in_range
+world_range r n w v e =
+    let here = each_from_at (numbers_in_range.world_ r) 0 r.worlds.items n w (lists_pass numbers_in_range r v.rules.numbers_in_range).2 e in
+    let rest = last_three (is_place (0 + n)) (passes (in_list r.packages.items) (package_number w.«package»)) (entries_in_range r w.imports.entries) (entries_in_range r w.exports.entries) here in
+    (rest.1, rest.2)
+
+plain_items : (w : World) → is_plain_world w ≡ true → (is_unknown w.stability ≡ true) × (list_all is_plain_item (map (λ e. e.1) w.imports.entries) ≡ true) × (list_all is_plain_item (map (λ e. e.1) w.exports.entries) ≡ true)
+plain_items w h =
+    let rest = second_true (is_undocumented w.docs) (is_unknown w.stability && list_all is_plain_item (items_of w)) h in
+    let items = second_true (is_unknown w.stability) (list_all is_plain_item (items_of w)) rest in
+    let split : (list_all is_plain_item (map (λ e. e.1) w.imports.entries) && list_all is_plain_item (map (λ e. e.1) w.exports.entries)) ≡ true =
+    sym (list_all-append is_plain_item (map (λ e. e.1) w.imports.entries) (map (λ e. e.1) w.exports.entries)) ∙ items in
+    (first_true _ _ rest, first_true _ _ split, second_true (list_all is_plain_item (map (λ e. e.1) w.imports.entries)) _ split)
+
+valid_world : (r : Resolve) (here : PackageId) (n : ℕ) (w : World) → IsValid r → IsPlain r → world_at r n ≡ Some w → is_id here.0 (package_number w.«package») ≡ true → is_printable_world here w ≡ true
+valid_world r here n w v plain e belongs =
+    let names = world_labels r n w v e in
+    let range = world_range r n w v e in
+    let items = plain_items w (at_index is_plain_world r.worlds.items n w plain.worlds e) in
+    both_true _ _ items.0
+    (both_true _ _ belongs
+    (both_true _ _ (valid_entries r plain.no_types plain.no_interfaces w.imports.entries range.0 names.1 items.1) (valid_entries r plain.no_types plain.no_interfaces w.exports.entries range.1 names.2 items.2)))
+
+-- ---- packages
+
+given : {X : Type 0} (test : X → Bool) (o : Option X) (x : X) → o ≡ Some x → passes test o ≡ true → test x ≡ true
+given test o x e h = subst (λ p. passes test p ≡ true) e h
+
+valid_listed : (r : Resolve) (here : PackageId) (x : String Global × WorldId) → IsValid r → IsPlain r → in_list r.worlds.items x.1.0 ≡ true → world_belongs r here.0 x ≡ true → is_printable_listed r here x ≡ true
+valid_listed r here x v plain range belongs =
+    let world = found r.worlds.items x.1.0 (ltb-true x.1.0 (length r.worlds.items) range) in
+    let w = world.0 in
+    let listed = given (λ w. is_id here.0 (package_number w.«package») && text_eq (text_of w.name) (text_of x.0)) (world_at r x.1.0) w world.1 belongs in
+    let name : text_of w.name ≡ text_of x.0 = same_text (text_of w.name) (text_of x.0) (sym (second_true (is_id here.0 (package_number w.«package»)) (text_eq (text_of w.name) (text_of x.0)) listed)) in
+    let inside : option_map_or (is_printable_world here) (world_at r x.1.0) false ≡ true =
+    subst (λ o. option_map_or (is_printable_world here) o false ≡ true) (sym world.1) (valid_world r here x.1.0 w v plain world.1 (first_true _ _ listed)) in
+    both_true _ _ (subst (λ t. is_label t ≡ true) name (world_labels r x.1.0 w v world.1).0) inside
+
+all_listed : (r : Resolve) (here : PackageId) → IsValid r → IsPlain r → (xs : List (String Global × WorldId)) → list_all (λ x. in_list r.worlds.items x.1.0) xs ≡ true → list_all (world_belongs r here.0) xs ≡ true → list_all (is_printable_listed r here) xs ≡ true
+all_listed r here v plain [] range belongs = refl
+all_listed r here v plain (x ∷ xs) range belongs =
+    both_true _ _ (valid_listed r here x v plain (first_true _ _ range) (first_true _ _ belongs))
+    (all_listed r here v plain xs (second_true (in_list r.worlds.items x.1.0) _ range) (second_true (world_belongs r here.0 x) _ belongs))
+
+package_range : (r : Resolve) (n : ℕ) (p : Package) → IsValid r → package_at r n ≡ Some p → list_all (λ x. in_list r.worlds.items x.1.0) p.worlds.entries ≡ true
+unfolding numbers_in_range
+package_range r n p v e =
+    let here = each_from_at (numbers_in_range.package_ r) 0 r.packages.items n p (lists_pass numbers_in_range r v.rules.numbers_in_range).0 e in
+    let ids = second_true (list_all (λ id. in_list r.interfaces.items id.0) (values p.interfaces)) _ (second_true (is_place (0 + n)) _ here) in
+    sym (list_all-map (λ id. in_list r.worlds.items id.0) (λ x. x.1) p.worlds.entries) ∙ ids
+
+package_worlds : (r : Resolve) (n : ℕ) (p : Package) → IsValid r → package_at r n ≡ Some p → list_all (world_belongs r n) p.worlds.entries ≡ true
+unfolding places
+package_worlds r n p v e =
+    let at : 0 + n ≡ n = omega arith in
+    let here = each_from_at (places.package_ r) 0 r.packages.items n p (lists_pass places r v.rules.places).0 e in
+    let kept : places.package_ r n p ≡ true = subst (λ m. places.package_ r m p ≡ true) at here in
+    first_true _ _ (second_true (list_all (interface_belongs r n) p.interfaces.entries) _ kept)
+
+-- the worlds of a package can be printed
+pub valid_worlds : (r : Resolve) (here : PackageId) (p : Package) → IsValid r → IsPlain r → package_at r here.0 ≡ Some p → list_all (is_printable_listed r here) p.worlds.entries ≡ true
+valid_worlds r here p v plain e = all_listed r here v plain p.worlds.entries (package_range r here.0 p v e) (package_worlds r here.0 p v e)
+
+-- a package's name is one
+pub valid_name : (r : Resolve) (n : ℕ) (p : Package) → IsValid r → package_at r n ≡ Some p → (is_label (text_of p.name.namespace) ≡ true) × (is_label (text_of p.name.name) ≡ true) × (passes is_version p.name.version ≡ true)
+unfolding package_names
+valid_name r n p v e =
+    let here = each_from_at (package_names.package_ r) 0 r.packages.items n p (lists_pass package_names r v.rules.package_names).0 e in
+    let own = first_true (is_label (text_of p.name.namespace) && (is_label (text_of p.name.name) && passes is_version p.name.version)) _ here in
+    let rest = second_true (is_label (text_of p.name.namespace)) (is_label (text_of p.name.name) && passes is_version p.name.version) own in
+    (first_true _ _ own, first_true _ _ rest, second_true (is_label (text_of p.name.name)) (passes is_version p.name.version) rest)

@@ -1,0 +1,15 @@
+pub mod OutputCall
+pub mod Render
+pub mod Keyword
+pub mod Tree
+pub mod AsRead
+pub mod Calls
+pub mod Shown
+pub mod Expansion
+pub mod Token
+pub mod Grammar
+pub mod Reading
+pub mod WellNamed
+pub mod Drafted
+pub mod Printable
+pub mod Printer

@@ -1,0 +1,7 @@
+-- A printer.
+use Rattle.std.specs.Prelude.{Bool}
+use Rattle.wit_print.specs.declared.printer.WitPrinter.{WitPrinter}
+
+-- whether a printer prints documentation
+abbrev pub emits_docs : {O : Type 0} → WitPrinter O → Bool
+emits_docs p = p.emit_docs

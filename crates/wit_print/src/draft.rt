@@ -1,0 +1,157 @@
+//! The calls for one item are drafted first, and then made.
+
+ghost use Rattle.std.specs.Prelude.{◌≡◌, true, false, [], ◌∷◌, ◌++◌, IsTrue, OnOk, OnErr, IsOkUnless};
+ghost use Rattle.semver.specs.Identifiers.{version_text};
+ghost use Rattle.wit_model.specs.declared.error.Error.TheVariants.{Memory};
+ghost use Rattle.wit_model.specs.Names.{is_label, is_version};
+ghost use Rattle.wit_print.specs.OutputCall.{OutputCall, Moves, Begins, is_one_line, may_begin, may_stand, line_begun_after};
+ghost use Rattle.wit_print.specs.Drafted.{piece_call};
+ghost use Rattle.wit_print.specs.Keyword.{escaped};
+
+use crate::escape::escape;
+use crate::make::make_calls;
+use crate::output::Output;
+use crate::piece::Piece;
+use crate::type_kind::TypeKind;
+use semver::Version;
+use std::alloc::{AllocError, Global};
+use std::borrow::CowStr;
+use std::marker::Model;
+use wit_model::Error;
+
+/// Calls to be made of an output, each of which may follow those before it, wherever the first is made.
+#[derive(Drop)]
+pub(crate) struct Draft<'a> {
+    pieces: Vec<Piece<'a>>,
+    line_begun: bool,
+    alloc: Global,
+}
+
+impl<'a> Model for Draft<'a> {
+    ghost use Rattle.std.specs.Prelude.{◌≡◌, true, List, IsTrue};
+    ghost use Rattle.wit_print.specs.OutputCall.{OutputCall, View, may_follow, lines_begun_after};
+    ghost use Rattle.wit_print.specs.Drafted.{piece_calls};
+
+    ghost Value = { View (List OutputCall) };
+
+    ghost view = { λ it. record { line_begun = it.line_begun; kept = piece_calls it.pieces.items } };
+
+    ghost invariant = { λ it. IsTrue (may_follow true (piece_calls it.pieces.items)) × (it.line_begun ≡ lines_begun_after true (piece_calls it.pieces.items)) };
+}
+
+impl<'a> Draft<'a> {
+    /// No calls yet, as where a line has just begun.
+    pub(crate) fn new(alloc: Global) -> Draft<'a>
+        ensures line { result.line_begun ≡ true }
+        ensures calls { result.kept ≡ [] }
+    {
+        Draft {
+            pieces: Vec::new(alloc),
+            line_begun: true,
+            alloc,
+        }
+    }
+
+    /// Makes the calls, in order.
+    #[tactic(auto, using(crate::proofs::Drafts::anywhere))]
+    pub(crate) fn make<O: Output>(&self, output: &mut O) -> Result<(), Error>
+        ensures ok { OnOk result (Moves O.keeps (O.view output.old) self.now.kept (O.view output.new)) }
+        ensures err { OnErr result (Begins O.keeps (O.view output.old) self.now.kept (O.view output.new)) }
+        ensures memory { IsOkUnless result Memory }
+    {
+        make_calls(output, &self.pieces)
+    }
+
+    // One more call.
+    fn push(&mut self, piece: Piece<'a>, line_begun: bool) -> Result<(), AllocError>
+        requires may { IsTrue (may_stand self.old.line_begun (piece_call piece)) }
+        requires line { line_begun ≡ line_begun_after (piece_call piece) self.old.line_begun }
+        ensures ok { OnOk result (self.new ≡ record { line_begun = line_begun; kept = self.old.kept ++ piece_call piece.entry ∷ [] }) }
+        ensures err { OnErr result (self.new ≡ self.old) }
+    {
+        self.pieces.push(piece)?;
+        self.line_begun = line_begun;
+        Ok(())
+    }
+
+    pub(crate) fn keyword(&mut self, text: &'a str) -> Result<(), AllocError>
+        requires one_line { IsTrue (is_one_line text.now) }
+        requires front { IsTrue (may_begin self.old.line_begun text.now) }
+        ensures { OnOk result (self.new ≡ record { line_begun = false; kept = self.old.kept ++ OutputCall.Keyword text.now ∷ [] }) }
+    {
+        self.push(Piece::Keyword(text), false)
+    }
+
+    pub(crate) fn str(&mut self, text: &'a str) -> Result<(), AllocError>
+        requires one_line { IsTrue (is_one_line text.now) }
+        requires front { IsTrue (may_begin self.old.line_begun text.now) }
+        ensures { OnOk result (self.new ≡ record { line_begun = false; kept = self.old.kept ++ OutputCall.Str text.now ∷ [] }) }
+    {
+        self.push(Piece::Str(text), false)
+    }
+
+    /// A word of a kind, as it stands.
+    pub(crate) fn word(&mut self, text: &'a str, kind: TypeKind) -> Result<(), AllocError>
+        requires one_line { IsTrue (is_one_line text.now) }
+        requires front { IsTrue (may_begin self.old.line_begun text.now) }
+        ensures { OnOk result (self.new ≡ record { line_begun = false; kept = self.old.kept ++ OutputCall.Ty text.now kind ∷ [] }) }
+    {
+        self.push(Piece::Ty(CowStr::Borrowed(text), kind), false)
+    }
+
+    /// A name of a kind, as an id.
+    #[tactic(auto, using(crate::proofs::OneLine::labels))]
+    pub(crate) fn name(&mut self, label: &'a str, kind: TypeKind) -> Result<(), AllocError>
+        requires { is_label label.now ≡ true }
+        ensures { OnOk result (self.new ≡ record { line_begun = false; kept = self.old.kept ++ OutputCall.Ty (escaped label.now) kind ∷ [] }) }
+    {
+        let text = escape(self.alloc, label)?;
+        self.push(Piece::Ty(text, kind), false)
+    }
+
+    /// The name of a parameter or a field, as an id.
+    #[tactic(auto, using(crate::proofs::OneLine::labels))]
+    pub(crate) fn param(&mut self, label: &'a str) -> Result<(), AllocError>
+        requires { is_label label.now ≡ true }
+        ensures { OnOk result (self.new ≡ record { line_begun = false; kept = self.old.kept ++ OutputCall.Param (escaped label.now) ∷ [] }) }
+    {
+        let text = escape(self.alloc, label)?;
+        self.push(Piece::Param(text), false)
+    }
+
+    /// A version after its mark, `@`.
+    pub(crate) fn version(&mut self, version: &Version, kind: TypeKind) -> Result<(), AllocError>
+        requires { is_version version.now ≡ true }
+        ensures { OnOk result (self.new ≡ record { line_begun = false; kept = self.old.kept ++ OutputCall.Ty (64 ∷ version_text version.now) kind ∷ [] }) }
+    {
+        let text = format!(in self.alloc; "@{version}")?;
+        self.push(Piece::Ty(CowStr::Owned(text), kind), false)
+    }
+
+    pub(crate) fn doc(&mut self, line: &'a str) -> Result<(), AllocError>
+        requires { IsTrue (is_one_line line.now) }
+        ensures { OnOk result (self.new ≡ record { line_begun = true; kept = self.old.kept ++ OutputCall.Doc line.now ∷ [] }) }
+    {
+        self.push(Piece::Doc(line), true)
+    }
+
+    pub(crate) fn indent_start(&mut self) -> Result<(), AllocError>
+        requires { self.old.line_begun ≡ false }
+        ensures { OnOk result (self.new ≡ record { line_begun = true; kept = self.old.kept ++ OutputCall.IndentStart ∷ [] }) }
+    {
+        self.push(Piece::IndentStart, true)
+    }
+
+    pub(crate) fn newline(&mut self) -> Result<(), AllocError>
+        ensures { OnOk result (self.new ≡ record { line_begun = true; kept = self.old.kept ++ OutputCall.Newline ∷ [] }) }
+    {
+        self.push(Piece::Newline, true)
+    }
+
+    pub(crate) fn semicolon(&mut self) -> Result<(), AllocError>
+        requires { self.old.line_begun ≡ false }
+        ensures { OnOk result (self.new ≡ record { line_begun = true; kept = self.old.kept ++ OutputCall.Semicolon ∷ [] }) }
+    {
+        self.push(Piece::Semicolon, true)
+    }
+}

@@ -1,0 +1,24 @@
+//! Prints WIT packages as text.
+#![tactic(auto)]
+
+mod draft;
+mod escape;
+mod function;
+mod items;
+pub mod laws;
+mod make;
+mod output;
+mod output_to_string;
+mod package;
+mod parts;
+mod piece;
+mod printer;
+#[cfg(test)]
+mod tests;
+mod type_kind;
+mod world;
+
+pub use output::Output;
+pub use output_to_string::OutputToString;
+pub use printer::WitPrinter;
+pub use type_kind::TypeKind;
