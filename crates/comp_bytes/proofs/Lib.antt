@@ -5,12 +5,6 @@ pub mod Writes
 pub mod PartLaws
 pub mod FormLaws
 pub mod DeclarationLaws
-pub mod IndexWrites
-pub mod NameWrites
-pub mod Appends
 pub mod HeldLaws
-pub mod Sequences
-pub mod NamesWritten
-pub mod NamesRead
 pub mod NestedLaws
 pub mod ComponentLaws

@@ -6,12 +6,9 @@ use Rattle.comp_bytes.specs.Raw.{Labeled, DefinedType, FunctionType, Alias, Exte
 abbrev pub fits_length : {A : Type 0} → List A → Bool
 fits_length xs = nat_lt (length xs) (2 ^ 32)
 
--- things with labels
-abbrev pub fits_label : {T : Type 0} → Labeled T → Bool
-fits_label x = fits_length x.label
-
+-- a list of things with labels
 abbrev pub fits_labels : {T : Type 0} → List (Labeled T) → Bool
-fits_labels xs = fits_length xs && list_all fits_label xs
+fits_labels xs = fits_length xs && list_all (λ x. fits_length x.label) xs
 
 abbrev pub fits_names : List (List ℕ) → Bool
 fits_names names = fits_length names && list_all fits_length names
@@ -44,11 +41,8 @@ abbrev pub fits_given : Option (List ℕ) → Bool
 fits_given None = true
 fits_given (Some text) = fits_length text
 
-abbrev pub fits_attributes : ExternName → Bool
-fits_attributes name = fits_given name.implements && (fits_given name.version_suffix && fits_given name.external_id)
-
 abbrev pub fits_name : ExternName → Bool
-fits_name name = fits_length name.text && fits_attributes name
+fits_name name = fits_length name.text && (fits_given name.implements && (fits_given name.version_suffix && fits_given name.external_id))
 
 abbrev pub fits_declaration : Declaration → Bool
 fits_declaration (Declaration.defined d) = fits_defined d

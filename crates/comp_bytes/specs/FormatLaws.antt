@@ -1,10 +1,8 @@
 -- Laws over the definitions of bytes.
 use Rattle.std.specs.Prelude.{◌≡◌, ◌<◌, ◌≤◌, ◌^◌, ℕ, List, length}
 use Rattle.std.specs.List.{AllByRecursion}
-use Rattle.std.specs.Str.{IsUtf8}
-use Rattle.comp_bytes.specs.Form.{Spellings, Name}
-use Rattle.comp_bytes.specs.Number.{IsU32, IsTypeIndex}
-use Rattle.comp_bytes.specs.Writing.{u32_bytes, type_index_bytes, name_bytes}
+use Rattle.comp_bytes.specs.Number.{IsU32}
+use Rattle.comp_bytes.specs.Writing.{u32_bytes}
 use Rattle.comp_bytes.specs.Raw.{Section}
 use Rattle.comp_bytes.specs.Spelling.{IsComponent}
 
@@ -12,18 +10,6 @@ use Rattle.comp_bytes.specs.Spelling.{IsComponent}
 abbrev pub OneForm : Type 0
 OneForm = (bytes : List ℕ) (a b : List Section) → IsComponent a bytes → IsComponent b bytes → a ≡ b
 
--- These bytes spell the form, and no other bytes that do are fewer.
-abbrev pub IsShortest : Spellings → List ℕ → Type 0
-IsShortest form text = form text × ((bytes : List ℕ) → AllByRecursion (λ b. b < 256) bytes → form bytes → length text ≤ length bytes)
-
--- What is written of a number is its shortest spelling.
+-- A number's bytes spell it, and no other bytes that do are fewer.
 abbrev pub ShortestNumber : Type 0
-ShortestNumber = (n : ℕ) → n < 2 ^ 32 → IsShortest (IsU32 n) (u32_bytes n)
-
--- What is written of the index of a type is its shortest spelling.
-abbrev pub ShortestIndex : Type 0
-ShortestIndex = (n : ℕ) → n < 2 ^ 32 → IsShortest (IsTypeIndex n) (type_index_bytes n)
-
--- What is written of a name is its shortest spelling.
-abbrev pub ShortestName : Type 0
-ShortestName = (text : List ℕ) → IsUtf8 text → length text < 2 ^ 32 → IsShortest (Name text) (name_bytes text)
+ShortestNumber = (n : ℕ) → n < 2 ^ 32 → IsU32 n (u32_bytes n) × ((bytes : List ℕ) → AllByRecursion (λ b. b < 256) bytes → IsU32 n bytes → length (u32_bytes n) ≤ length bytes)

@@ -10,6 +10,4 @@ pub mod RawOf
 pub mod Fits
 pub mod Refusal
 pub mod Held
-pub mod Codes
-pub mod Appending
 pub mod FormatLaws

@@ -14,15 +14,8 @@ use Rattle.comp_bytes.specs.declared.forms.Alias.TheVariants as aliases
 use Rattle.comp_bytes.specs.Raw.{Labeled, DefinedType, FunctionType, Alias, ExternName}
 
 -- a label with what stands beside it
-abbrev pub with_label : {T : Type 0} → List ℕ → T → Labeled T
-with_label label x = record { label = label; type_of = x }
-
 abbrev pub labeled : {T : Type 0} → Bor (List ℕ) × T → Labeled T
-labeled p = with_label p.0.now p.1
-
--- the bytes of a borrowed text
-abbrev pub text_of : Bor (List ℕ) → List ℕ
-text_of text = text.now
+labeled p = record { label = p.0.now; type_of = p.1 }
 
 abbrev pub raw_defined : ComponentDefinedType → DefinedType
 raw_defined (forms.Primitive p) = DefinedType.primitive p
@@ -32,8 +25,8 @@ raw_defined (forms.List v) = DefinedType.list_of v
 raw_defined (forms.FixedLengthList v n) = DefinedType.fixed_length_list_of v n
 raw_defined (forms.Map k v) = DefinedType.map_of k v
 raw_defined (forms.Tuple vs) = DefinedType.tuple_of vs.items
-raw_defined (forms.Flags names) = DefinedType.flags_of (map text_of names.items)
-raw_defined (forms.Enum names) = DefinedType.enum_of (map text_of names.items)
+raw_defined (forms.Flags names) = DefinedType.flags_of (map (λ name. name.now) names.items)
+raw_defined (forms.Enum names) = DefinedType.enum_of (map (λ name. name.now) names.items)
 raw_defined (forms.Option v) = DefinedType.option_of v
 raw_defined (forms.Result ok err) = DefinedType.result_of ok err
 raw_defined (forms.Own n) = DefinedType.own_of n
@@ -48,14 +41,10 @@ abbrev pub raw_alias : BorrowedAlias → Alias
 raw_alias (aliases.InstanceExport instance name) = Alias.of_export instance name.now
 raw_alias (aliases.Outer count index) = Alias.of_outer count index
 
--- the bytes of a text, where there is one
-abbrev pub text_given : Option (CowStr Global) → Option (List ℕ)
-text_given text = option_map cow_str_bytes text
-
 abbrev pub raw_name : ComponentExternName → ExternName
 raw_name name = record {
   text = cow_str_bytes name.name;
-  implements = text_given name.implements;
-  version_suffix = text_given name.version_suffix;
-  external_id = text_given name.external_id;
+  implements = option_map cow_str_bytes name.implements;
+  version_suffix = option_map cow_str_bytes name.version_suffix;
+  external_id = option_map cow_str_bytes name.external_id;
 }

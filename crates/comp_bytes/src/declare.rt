@@ -3,13 +3,11 @@
 ghost use Rattle.std.specs.Prelude.{◌≡◌, ◌++◌, false, Err, OnOk, OnErr, IfErr};
 ghost use Rattle.wit_model.specs.declared.error.Error.TheVariants.{Size};
 ghost use Rattle.comp_bytes.specs.Raw.{Declaration};
-ghost use Rattle.comp_bytes.specs.Form.{Joined};
-ghost use Rattle.comp_bytes.specs.Spelling.{IsExternName, IsDescription, IsDeclaration};
-ghost use Rattle.comp_bytes.specs.Writing.{extern_name_bytes, description_bytes, declaration_bytes};
+ghost use Rattle.comp_bytes.specs.Spelling.{IsDeclaration};
+ghost use Rattle.comp_bytes.specs.Writing.{declaration_bytes};
 ghost use Rattle.comp_bytes.specs.RawOf.{raw_defined, raw_function, raw_alias, raw_name};
-ghost use Rattle.comp_bytes.specs.Fits.{fits_name, fits_declaration};
+ghost use Rattle.comp_bytes.specs.Fits.{fits_declaration};
 ghost use Rattle.comp_bytes.specs.Refusal.{IsMemoryOrSize};
-ghost use Rattle.comp_bytes.specs.Appending.{Appends};
 
 use crate::append::{
     append_alias, append_defined_type, append_description, append_extern_name, append_function_type,
@@ -19,9 +17,7 @@ use crate::forms::{
 };
 use wit_model::Error;
 
-fn append_defined(out: &mut Vec<u8>, def: &ComponentDefinedType) -> Result<(), Error>
-    ensures { Appends (IsDeclaration (Declaration.defined (raw_defined def.now))) (declaration_bytes (Declaration.defined (raw_defined def.now))) (fits_declaration (Declaration.defined (raw_defined def.now))) out.old.items out.new.items result }
-{
+fn append_defined(out: &mut Vec<u8>, def: &ComponentDefinedType) -> Result<(), Error> {
     out.push(0x01)?;
     append_defined_type(out, def)
 }
@@ -43,9 +39,7 @@ pub(crate) fn declare_defined(out: &mut Vec<u8>, def: &ComponentDefinedType) -> 
     }
 }
 
-fn append_function(out: &mut Vec<u8>, function: &ComponentFuncType) -> Result<(), Error>
-    ensures { Appends (IsDeclaration (Declaration.function (raw_function function.now))) (declaration_bytes (Declaration.function (raw_function function.now))) (fits_declaration (Declaration.function (raw_function function.now))) out.old.items out.new.items result }
-{
+fn append_function(out: &mut Vec<u8>, function: &ComponentFuncType) -> Result<(), Error> {
     out.push(0x01)?;
     append_function_type(out, function)
 }
@@ -67,9 +61,7 @@ pub(crate) fn declare_function(out: &mut Vec<u8>, function: &ComponentFuncType) 
     }
 }
 
-fn append_alias_of(out: &mut Vec<u8>, alias: &Alias) -> Result<(), Error>
-    ensures { Appends (IsDeclaration (Declaration.alias_of (raw_alias alias.now))) (declaration_bytes (Declaration.alias_of (raw_alias alias.now))) (fits_declaration (Declaration.alias_of (raw_alias alias.now))) out.old.items out.new.items result }
-{
+fn append_alias_of(out: &mut Vec<u8>, alias: &Alias) -> Result<(), Error> {
     out.push(0x02)?;
     append_alias(out, alias)
 }
@@ -91,38 +83,16 @@ pub(crate) fn declare_alias(out: &mut Vec<u8>, alias: &Alias) -> Result<(), Erro
     }
 }
 
-/// The name of an import or an export, and what it is.
+/// The byte of an import or an export, the name and what it is.
 fn append_named(
     out: &mut Vec<u8>,
+    direction: u8,
     name: &ComponentExternName,
     ty: ComponentTypeRef,
-) -> Result<(), Error>
-    ensures { Appends (Joined (IsExternName (raw_name name.now)) (IsDescription ty)) (extern_name_bytes (raw_name name.now) ++ description_bytes ty) (fits_name (raw_name name.now)) out.old.items out.new.items result }
-{
+) -> Result<(), Error> {
+    out.push(direction)?;
     append_extern_name(out, name)?;
     append_description(out, ty)
-}
-
-fn append_import(
-    out: &mut Vec<u8>,
-    name: &ComponentExternName,
-    ty: ComponentTypeRef,
-) -> Result<(), Error>
-    ensures { Appends (IsDeclaration (Declaration.imported (raw_name name.now) ty)) (declaration_bytes (Declaration.imported (raw_name name.now) ty)) (fits_declaration (Declaration.imported (raw_name name.now) ty)) out.old.items out.new.items result }
-{
-    out.push(0x03)?;
-    append_named(out, name, ty)
-}
-
-fn append_export(
-    out: &mut Vec<u8>,
-    name: &ComponentExternName,
-    ty: ComponentTypeRef,
-) -> Result<(), Error>
-    ensures { Appends (IsDeclaration (Declaration.exported (raw_name name.now) ty)) (declaration_bytes (Declaration.exported (raw_name name.now) ty)) (fits_declaration (Declaration.exported (raw_name name.now) ty)) out.old.items out.new.items result }
-{
-    out.push(0x04)?;
-    append_named(out, name, ty)
 }
 
 pub(crate) fn declare_import(
@@ -137,7 +107,7 @@ pub(crate) fn declare_import(
     ensures refuses { IfErr result IsMemoryOrSize }
 {
     let start = out.len();
-    match append_import(out, name, ty) {
+    match append_named(out, 0x03, name, ty) {
         Ok(()) => Ok(()),
         Err(error) => {
             out.truncate(start);
@@ -158,7 +128,7 @@ pub(crate) fn declare_export(
     ensures refuses { IfErr result IsMemoryOrSize }
 {
     let start = out.len();
-    match append_export(out, name, ty) {
+    match append_named(out, 0x04, name, ty) {
         Ok(()) => Ok(()),
         Err(error) => {
             out.truncate(start);
@@ -166,6 +136,3 @@ pub(crate) fn declare_export(
         }
     }
 }
-
-#[cfg(test)]
-mod tests;

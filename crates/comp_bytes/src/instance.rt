@@ -1,26 +1,16 @@
 //! An instance type under construction.
 
-ghost use Rattle.std.specs.Prelude.{◌≡◌, [], ◌∷◌, ◌++◌, false, Err, OnOk, OnErr, IfErr};
-ghost use Rattle.wit_model.specs.declared.error.Error.TheVariants.{Size};
-ghost use Rattle.comp_bytes.specs.Raw.{Declaration};
-ghost use Rattle.comp_bytes.specs.RawOf.{raw_defined, raw_function, raw_alias, raw_name};
-ghost use Rattle.comp_bytes.specs.Held.{type_slots, fits_next};
-ghost use Rattle.comp_bytes.specs.Refusal.{IsMemoryOrSize};
+ghost use Rattle.std.specs.Prelude.{◌≡◌, []};
 
 use crate::declare::{declare_alias, declare_defined, declare_export, declare_function};
 use crate::forms::{
     Alias, ComponentDefinedType, ComponentExternName, ComponentFuncType, ComponentTypeRef,
 };
-use crate::nested::{counts_on, described_slots};
+use crate::nested::{count_on, described_slots};
 use std::alloc::Global;
-use std::marker::Model;
 use wit_model::Error;
 
 /// The declarations of an instance type (`instancetype`), as their bytes.
-///
-/// Each call appends one declaration, in its shortest bytes, in amortised time linear in them. An `Err` appends nothing:
-/// `Memory` where a growth was refused, `Size` where a length or a count in the declaration, the number of declarations or
-/// the number of type indexes doesn't fit in 32 bits.
 #[derive(Drop)]
 pub struct InstanceType {
     pub(crate) bytes: Vec<u8>,
@@ -28,23 +18,8 @@ pub struct InstanceType {
     types: u32,
 }
 
-impl Model for InstanceType {
-    ghost use Rattle.std.specs.Prelude.{List};
-    ghost use Rattle.comp_bytes.specs.Raw.{Declaration};
-    ghost use Rattle.comp_bytes.specs.Held.{declarations_in, Holds};
-
-    ghost Value = { List Declaration };
-
-    ghost view = { λ t. declarations_in t.count t.bytes.items };
-
-    ghost invariant = { λ t. Holds t.count t.bytes.items t.types };
-}
-
 impl InstanceType {
-    /// No declarations. Takes no memory.
-    pub fn new(alloc: Global) -> Self
-        ensures { result ≡ [] }
-    {
+    pub fn new(alloc: Global) -> Self {
         InstanceType {
             bytes: Vec::new(alloc),
             count: 0,
@@ -52,64 +27,45 @@ impl InstanceType {
         }
     }
 
-    /// How many type indexes the declarations take: one for each type, each alias and each export of a type. Takes constant
-    /// time.
-    pub fn type_count(&self) -> u32
-        ensures { result ≡ type_slots self.now }
-    {
+    /// How many type indexes the declarations take.
+    pub fn type_count(&self) -> u32 {
         self.types
     }
 
-    /// Defines a value type, which takes the next type index.
-    pub fn defined(&mut self, def: &ComponentDefinedType) -> Result<(), Error>
-        ensures ok { OnOk result (self.new ≡ self.old ++ Declaration.defined (raw_defined def.now) ∷ []) }
-        ensures err { OnErr result (self.new ≡ self.old) }
-        ensures size { result ≡ Err Size → fits_next self.old (Declaration.defined (raw_defined def.now)) ≡ false }
-        ensures refuses { IfErr result IsMemoryOrSize }
-    {
-        let (count, types) = counts_on(self.count, self.types, 1)?;
+    pub fn defined(&mut self, def: &ComponentDefinedType) -> Result<(), Error> {
+        let count = count_on(self.count, 1)?;
+        let types = count_on(self.types, 1)?;
         declare_defined(&mut self.bytes, def)?;
         self.count = count;
         self.types = types;
         Ok(())
     }
 
-    /// Defines a function type, which takes the next type index.
-    pub fn function(&mut self, function: &ComponentFuncType) -> Result<(), Error>
-        ensures ok { OnOk result (self.new ≡ self.old ++ Declaration.function (raw_function function.now) ∷ []) }
-        ensures err { OnErr result (self.new ≡ self.old) }
-        ensures size { result ≡ Err Size → fits_next self.old (Declaration.function (raw_function function.now)) ≡ false }
-        ensures refuses { IfErr result IsMemoryOrSize }
-    {
-        let (count, types) = counts_on(self.count, self.types, 1)?;
+    pub fn function(&mut self, function: &ComponentFuncType) -> Result<(), Error> {
+        let count = count_on(self.count, 1)?;
+        let types = count_on(self.types, 1)?;
         declare_function(&mut self.bytes, function)?;
         self.count = count;
         self.types = types;
         Ok(())
     }
 
-    /// Takes the next type index for a type that stands elsewhere.
-    pub fn alias(&mut self, alias: &Alias) -> Result<(), Error>
-        ensures ok { OnOk result (self.new ≡ self.old ++ Declaration.alias_of (raw_alias alias.now) ∷ []) }
-        ensures err { OnErr result (self.new ≡ self.old) }
-        ensures size { result ≡ Err Size → fits_next self.old (Declaration.alias_of (raw_alias alias.now)) ≡ false }
-        ensures refuses { IfErr result IsMemoryOrSize }
-    {
-        let (count, types) = counts_on(self.count, self.types, 1)?;
+    pub fn alias(&mut self, alias: &Alias) -> Result<(), Error> {
+        let count = count_on(self.count, 1)?;
+        let types = count_on(self.types, 1)?;
         declare_alias(&mut self.bytes, alias)?;
         self.count = count;
         self.types = types;
         Ok(())
     }
 
-    /// Exports something under a name. A type takes the next type index.
-    pub fn export(&mut self, name: &ComponentExternName, ty: ComponentTypeRef) -> Result<(), Error>
-        ensures ok { OnOk result (self.new ≡ self.old ++ Declaration.exported (raw_name name.now) ty ∷ []) }
-        ensures err { OnErr result (self.new ≡ self.old) }
-        ensures size { result ≡ Err Size → fits_next self.old (Declaration.exported (raw_name name.now) ty) ≡ false }
-        ensures refuses { IfErr result IsMemoryOrSize }
-    {
-        let (count, types) = counts_on(self.count, self.types, described_slots(ty))?;
+    pub fn export(
+        &mut self,
+        name: &ComponentExternName,
+        ty: ComponentTypeRef,
+    ) -> Result<(), Error> {
+        let count = count_on(self.count, 1)?;
+        let types = count_on(self.types, described_slots(ty))?;
         declare_export(&mut self.bytes, name, ty)?;
         self.count = count;
         self.types = types;

@@ -1,6 +1,6 @@
 //! Laws of the format.
 
-ghost use Rattle.comp_bytes.specs.FormatLaws.{OneForm, ShortestIndex, ShortestName, ShortestNumber};
+ghost use Rattle.comp_bytes.specs.FormatLaws.{OneForm, ShortestNumber};
 
 /// A byte string spells the sections of one component at most.
 pub fn one_form()
@@ -10,14 +10,4 @@ pub fn one_form()
 /// What is written of a number are its shortest bytes.
 pub fn shortest_number()
     ensures { ShortestNumber }
-{}
-
-/// What is written of the index of a type are its shortest bytes.
-pub fn shortest_index()
-    ensures { ShortestIndex }
-{}
-
-/// What is written of a name are its shortest bytes.
-pub fn shortest_name()
-    ensures { ShortestName }
 {}

@@ -19,5 +19,5 @@ pub use forms::{
     ComponentValType, PrimitiveValType,
 };
 pub use instance::InstanceType;
-pub use name::{read_name, write_name};
-pub use number::{read_index, read_u32, write_index, write_u32};
+pub use name::write_name;
+pub use number::{read_u32, write_index, write_u32};

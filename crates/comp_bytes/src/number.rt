@@ -2,10 +2,10 @@
 
 ghost use Rattle.std.specs.Prelude.{◌≡◌, ◌≤◌, ◌+◌, ◌%◌, ◌++◌, length, OnOk, OnErr, IsOkUnless};
 ghost use Rattle.wit_model.specs.declared.error.Error.TheVariants.{Memory};
-ghost use Rattle.comp_bytes.specs.Writing.{u32_bytes, type_index_bytes};
+ghost use Rattle.comp_bytes.specs.Writing.{u32_bytes};
 ghost use Rattle.comp_bytes.specs.Answer.{Gives, IsReadAt};
-ghost use Rattle.comp_bytes.specs.Number.{IsU32, IsTypeIndex};
-ghost use Rattle.comp_bytes.specs.Reading.{unsigned_at, u32_at, last_byte_of, type_index_at};
+ghost use Rattle.comp_bytes.specs.Number.{IsU32};
+ghost use Rattle.comp_bytes.specs.Reading.{unsigned_at, u32_at};
 
 use wit_model::{Cause, Error};
 
@@ -33,7 +33,7 @@ fn unsigned_of(bytes: &[u8]) -> Result<(u64, &[u8]), Cause>
 
 /// A number of 32 bits, and the bytes behind it.
 #[tactic(auto, unfolding(crate::specs::Reading::u32_at))]
-pub(crate) fn u32_of(bytes: &[u8]) -> Result<(u32, &[u8]), Cause>
+fn u32_of(bytes: &[u8]) -> Result<(u32, &[u8]), Cause>
     ensures { Gives (λ n. n) result (u32_at bytes.now) }
 {
     let (value, rest) = unsigned_of(bytes)?;
@@ -43,9 +43,7 @@ pub(crate) fn u32_of(bytes: &[u8]) -> Result<(u32, &[u8]), Cause>
     }
 }
 
-/// The number at the offset, and where it ends. Longer spellings than the shortest are read, within five bytes.
-///
-/// Takes no memory. Refuses with `NoReading` alone: `Truncated` where the input ends inside the number, else `BadNumber`.
+/// The number at the offset, and where it ends.
 pub fn read_u32(bytes: &[u8], at: usize) -> Result<(u32, usize), Error>
     requires { at ≤ length bytes.now }
     ensures { IsReadAt IsU32 bytes.now at result }
@@ -57,51 +55,9 @@ pub fn read_u32(bytes: &[u8], at: usize) -> Result<(u32, usize), Error>
     }
 }
 
-/// The byte that ends the number at the front.
-#[tactic(auto, unfolding(crate::specs::Reading::last_byte_of))]
-fn last_byte_of(bytes: &[u8]) -> u8
-    ensures { result ≡ last_byte_of bytes.now }
-{
-    for byte in bytes {
-        if *byte < 128 {
-            return *byte;
-        }
-    }
-    0
-}
-
-/// The index of a type, and the bytes behind it.
-#[tactic(auto, unfolding(crate::specs::Reading::type_index_at))]
-fn index_of(bytes: &[u8]) -> Result<(u32, &[u8]), Cause>
-    ensures { Gives (λ n. n) result (type_index_at bytes.now) }
-{
-    let (number, rest) = u32_of(bytes)?;
-    if last_byte_of(bytes) < 64 {
-        Ok((number, rest))
-    } else {
-        Err(Cause::BadNumber)
-    }
-}
-
-/// The index of a type at the offset, as it stands in a value type, and where it ends. Longer spellings than the shortest are
-/// read, within five bytes.
-///
-/// Takes no memory. Refuses with `NoReading` alone: `Truncated` where the input ends inside the index, else `BadNumber`.
-pub fn read_index(bytes: &[u8], at: usize) -> Result<(u32, usize), Error>
-    requires { at ≤ length bytes.now }
-    ensures { IsReadAt IsTypeIndex bytes.now at result }
-{
-    let (_, rest) = bytes.split_at(at);
-    match index_of(rest) {
-        Ok((number, rest)) => Ok((number, bytes.len() - rest.len())),
-        Err(cause) => Err(Error::NoReading(cause, at)),
-    }
-}
-
 /// Appends the shortest bytes of the number. An `Err` appends nothing.
 pub fn write_u32(out: &mut Vec<u8>, n: u32) -> Result<(), Error>
     ensures ok { OnOk result (out.new.items ≡ out.old.items ++ u32_bytes n) }
-    ensures spelled { OnOk result (IsU32 n (u32_bytes n)) }
     ensures err { OnErr result (out.new.items ≡ out.old.items) }
     ensures memory { IsOkUnless result Memory }
 {
@@ -131,12 +87,7 @@ pub fn write_u32(out: &mut Vec<u8>, n: u32) -> Result<(), Error>
 
 /// Appends the shortest bytes of the index of a type where a value type stands: signed LEB128, in which the last byte has the bit
 /// of value 64 clear. An `Err` appends nothing.
-pub fn write_index(out: &mut Vec<u8>, n: u32) -> Result<(), Error>
-    ensures ok { OnOk result (out.new.items ≡ out.old.items ++ type_index_bytes n) }
-    ensures spelled { OnOk result (IsTypeIndex n (type_index_bytes n)) }
-    ensures err { OnErr result (out.new.items ≡ out.old.items) }
-    ensures memory { IsOkUnless result Memory }
-{
+pub fn write_index(out: &mut Vec<u8>, n: u32) -> Result<(), Error> {
     if n < 0x40 {
         Ok(out.extend_from_slice(&[n as u8])?)
     } else if n < 0x2000 {
@@ -167,6 +118,3 @@ fn low_bits(n: u32) -> u8
 {
     (n % 0x80) as u8 + 0x80
 }
-
-#[cfg(test)]
-mod tests;

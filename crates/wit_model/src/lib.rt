@@ -1,12 +1,10 @@
 //! The data of WIT packages: packages, interfaces, worlds and types that are named by number, their names, and validity.
 #![tactic(auto)]
 
-mod check;
 mod error;
 pub mod laws;
 mod model;
 mod names;
-mod plain;
 
 pub use error::{Cause, ClashKind, EntryList, Error, Fault};
 pub use model::{
@@ -16,4 +14,3 @@ pub use model::{
     WorldItem, WorldKey,
 };
 pub use names::{is_label, is_version};
-pub use plain::is_plain;

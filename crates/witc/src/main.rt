@@ -7,7 +7,7 @@ mod hex;
 mod run;
 mod words;
 
-use run::{Refusal, refuse, run};
+use run::{refuse, run};
 use std::process::ExitCode;
 use wit_model::Error;
 
@@ -15,7 +15,7 @@ fn main(rt: HostRuntime) -> ExitCode {
     let alloc = rt.alloc();
     let status = match words::words(&rt, alloc) {
         Ok(words) => run(alloc, &words, &mut rt.stdin(), &mut rt.stdout()),
-        Err(_) => refuse(&mut rt.stdout(), &Refusal::Error(Error::Memory)),
+        Err(_) => refuse(&mut rt.stdout(), &Error::Memory),
     };
     ExitCode::from(status)
 }

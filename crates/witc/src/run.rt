@@ -7,9 +7,9 @@ ghost use Rattle.witc.specs.Words.{is_command, is_word};
 use crate::demo;
 use crate::encode::encode;
 use crate::hex::hex_lines;
-use std::alloc::{AllocError, Global};
+use std::alloc::Global;
 use std::io::{Read, Write};
-use wit_model::{Error, Resolve, is_plain};
+use wit_model::Error;
 
 /// What is written where the words are no command.
 pub const USAGE: &str =
@@ -21,22 +21,6 @@ pub const DONE: u8 = 0;
 pub const REFUSED: u8 = 1;
 /// The exit status where the words are no command.
 pub const BAD_WORDS: u8 = 2;
-
-/// Why a command is refused.
-#[derive(Debug, Drop, thiserror::Error)]
-pub enum Refusal {
-    #[error(transparent)]
-    Error(#[from] Error),
-    /// The demo's package fails its check, which the stored run shows that it doesn't.
-    #[error("the package isn't valid")]
-    Invalid,
-}
-
-impl From<AllocError> for Refusal {
-    fn from(_error: AllocError) -> Refusal {
-        Refusal::Error(Error::Memory)
-    }
-}
 
 /// What the words ask for.
 enum Command {
@@ -91,7 +75,7 @@ pub fn run<R: Read, W: Write>(
                     REFUSED
                 }
             }
-            Err(refusal) => refuse(writer, &refusal),
+            Err(error) => refuse(writer, &error),
         },
         None => {
             if write_whole(writer, USAGE).is_ok() {
@@ -104,18 +88,10 @@ pub fn run<R: Read, W: Write>(
 }
 
 /// The bytes of the demo's package, as lines of hexadecimal digits.
-fn demo_hex(alloc: Global) -> Result<String, Refusal> {
+fn demo_hex(alloc: Global) -> Result<String, Error> {
     let resolve = demo::package(alloc)?;
-    let bytes = checked_bytes(alloc, &resolve)?;
+    let bytes = encode(alloc, &resolve, demo::PACKAGE, false)?;
     Ok(hex_lines(alloc, &bytes)?)
-}
-
-/// The bytes of the demo's package, which is checked first.
-fn checked_bytes(alloc: Global, resolve: &Resolve) -> Result<Vec<u8>, Refusal> {
-    if resolve.packages.is_empty() || !is_plain(resolve) || resolve.check(alloc).is_err() {
-        return Err(Refusal::Invalid);
-    }
-    Ok(encode(alloc, resolve, demo::PACKAGE, false)?)
 }
 
 fn write_whole<W: Write>(writer: &mut W, text: &str) -> std::io::Result<()>
@@ -126,15 +102,15 @@ fn write_whole<W: Write>(writer: &mut W, text: &str) -> std::io::Result<()>
 }
 
 /// Writes why a command is refused, and answers `REFUSED`, also where the write fails.
-pub fn refuse<W: Write>(writer: &mut W, refusal: &Refusal) -> u8
+pub fn refuse<W: Write>(writer: &mut W, error: &Error) -> u8
     ensures { result ≡ 1 }
 {
-    let _ = write_refusal(writer, refusal);
+    let _ = write_refusal(writer, error);
     REFUSED
 }
 
-fn write_refusal<W: Write>(writer: &mut W, refusal: &Refusal) -> std::io::Result<()> {
-    writeln!(writer, "refused: {refusal}")?;
+fn write_refusal<W: Write>(writer: &mut W, error: &Error) -> std::io::Result<()> {
+    writeln!(writer, "refused: {error}")?;
     writer.flush()
 }
 

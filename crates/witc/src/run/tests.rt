@@ -54,10 +54,7 @@ fn bad_words(rt: HostRuntime) -> Result<(), Fail> {
 
 #[test]
 fn usage_line(rt: HostRuntime) {
-    assert_eq!(rt;
-        USAGE,
-        "usage: witc demo text | demo hex | print | module | strip | compat PREV NEW\n"
-    );
+    assert_eq!(rt; USAGE, "usage: witc demo text | demo hex | print | module | strip | compat PREV NEW\n");
 }
 
 /// A writer whose every write fails.
@@ -77,10 +74,7 @@ impl Write for Full {
 #[test]
 fn failing_writes(rt: HostRuntime) -> Result<(), Fail> {
     let alloc = rt.alloc();
-    for row in [
-        [b"demo".as_slice(), b"hex".as_slice()].as_slice(),
-        [].as_slice(),
-    ] {
+    for row in [[b"demo".as_slice(), b"hex".as_slice()].as_slice(), [].as_slice()] {
         let words = words(alloc, row)?;
         let mut input: &[u8] = b"";
         assert_eq!(rt; run(alloc, &words, &mut input, &mut Full), REFUSED);
