@@ -1,0 +1,13 @@
+pub mod KeySteps
+pub mod Lists
+pub mod KindLaws
+pub mod Planning
+pub mod Written
+pub mod Agree
+pub mod Defining
+pub mod Encoding
+pub mod Functions
+pub mod Owned
+pub mod Validity
+pub mod TableSteps
+pub mod Tables

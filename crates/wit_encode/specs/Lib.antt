@@ -1,0 +1,12 @@
+pub mod Slots
+pub mod Key
+pub mod KeyLaws
+pub mod Kinds
+pub mod Maps
+pub mod Scope
+pub mod Plan
+pub mod Definition
+pub mod Counts
+pub mod Leaves
+pub mod Fits
+pub mod Table
