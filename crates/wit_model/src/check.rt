@@ -1,16 +1,29 @@
 //! Validity: one module for the tests of each rule.
 
+mod functions;
 mod items;
 mod keys;
 mod labels;
+mod levels;
+mod list_orders;
+mod listings;
 mod lookup;
 mod maps;
 mod members;
 mod names;
 mod numbers;
+mod owners;
+mod parts;
 mod places;
+mod references;
+mod resources;
+mod shapes;
+mod tables;
+#[cfg(test)]
+mod type_tests;
 #[cfg(test)]
 mod tests;
+mod types;
 mod walk;
 
 ghost use Rattle.std.specs.Prelude.{OnOk, IfErr, IsOk};

@@ -1,0 +1,23 @@
+use Rattle.std.proofs.Common.{◌≡◌, refl, sym, ap, ◌∙◌, Some, None, not, option_map, option_and_then}
+use Rattle.std.specs.List.{find}
+use Rattle.std.proofs.lemmas.Option.{slice_get_read}
+use Rattle.wit_model.specs.Text.{text_eq, text_of}
+use Rattle.wit_model.specs.Rules.{passes, item_type}
+use Rattle.wit_model.specs.Checks.{names_fit, has_name, key_fits}
+use Rattle.wit_model.proofs.Listings.{interface_fits, misnamed_in_interface_breaks}
+use Rattle.wit_model.proofs.check.listings.interface_names.Goals as goal
+
+pub returns-in-Some-clause-broken : goal.returns-in-Some-clause-broken
+returns-in-Some-clause-broken c =
+    let r = c.args.resolve.now in
+    let x = c.index.result.now in
+    let at = slice_get_read r.interfaces.items _ c.args.number x refl c.requires.in_range c.index.ensures in
+    misnamed_in_interface_breaks r c.args.number x at c.requires.own c.in-Some.number c.in-Some.ensures
+
+pub returns-in-None-clause-kept : goal.returns-in-None-clause-kept
+unfolding names_fit
+returns-in-None-clause-kept c =
+    let r = c.args.resolve.now in
+    let x = c.index.result.now in
+    let at = slice_get_read r.interfaces.items _ c.args.number x refl c.requires.in_range c.index.ensures in
+    ap (option_map (names_fit.interface_ r c.args.number)) at ∙ ap Some (interface_fits r x (sym c.in-None.ensures))
