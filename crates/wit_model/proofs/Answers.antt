@@ -1,5 +1,5 @@
 -- What an answer of `check` says.
-use Rattle.std.proofs.Common.{refl, Result, Ok, Err, OnOk, IfErr, IsOk}
+use Rattle.std.proofs.Common.{refl, Result, Ok, Err, OnOk, IfErr, IsOkUnless}
 use Rattle.wit_model.specs.declared.error.Fault.{Fault}
 use Rattle.wit_model.specs.declared.error.Fault.TheVariants as faults
 use Rattle.wit_model.specs.declared.model.Resolve.{Resolve}
@@ -10,8 +10,8 @@ pub on_ok : {A E : Type 0} (answer : Result A E) (P Q : Type 0) → OnOk answer 
 on_ok (Ok x) P Q h f = f h
 on_ok (Err e) P Q h f = h
 
--- a valid `Resolve` has no fault
-pub no_fault : {A : Type 0} (r : Resolve) (answer : Result A Fault) → IfErr answer (IsFaultOf r) → IsValid r → IsOk answer
-no_fault r (Ok x) h valid = refl
-no_fault r (Err faults.Memory) h valid = absurd h
+-- a valid `Resolve` is refused for want of memory alone
+pub no_fault : {A : Type 0} (r : Resolve) (answer : Result A Fault) → IfErr answer (IsFaultOf r) → IsValid r → IsOkUnless answer faults.Memory
+no_fault r (Ok x) h valid = tt
+no_fault r (Err faults.Memory) h valid = refl
 no_fault r (Err (faults.Broken rule list number)) h valid = absurd (none_breaks r valid.rules rule list number h)

@@ -1,50 +1,90 @@
 //! Validity: one module for the tests of each rule.
 
+#[cfg(test)]
+mod drafts;
+mod functions;
+#[cfg(test)]
+mod item_order_tests;
+mod item_orders;
 mod items;
+#[cfg(test)]
+mod key_tests;
 mod keys;
+#[cfg(test)]
+mod label_tests;
 mod labels;
+#[cfg(test)]
+mod large_tests;
+mod levels;
+mod list_orders;
+mod listings;
 mod lookup;
 mod maps;
+#[cfg(test)]
+mod member_tests;
 mod members;
+#[cfg(test)]
+mod name_tests;
+mod named;
 mod names;
+#[cfg(test)]
+mod number_tests;
 mod numbers;
+mod owners;
+mod parts;
+#[cfg(test)]
+mod place_tests;
 mod places;
+mod references;
+mod resources;
+#[cfg(test)]
+mod samples;
+mod shapes;
+mod shown;
+mod tables;
 #[cfg(test)]
 mod tests;
+#[cfg(test)]
+mod type_tests;
+mod types;
 mod walk;
 
-ghost use Rattle.std.specs.Prelude.{OnOk, IfErr, IsOk};
-ghost use Rattle.wit_model.specs.Plain.{IsPlain};
-ghost use Rattle.wit_model.specs.Valid.{IsFaultOf, IsValid, KeepsRules};
+ghost use Rattle.std.specs.Prelude.{OnOk, IfErr, IsOkUnless};
+ghost use Rattle.wit_model.specs.Valid.{HasDistinctKeys, IsFaultOf, IsValid, KeepsRules};
+ghost use Rattle.wit_model.specs.declared.error.Fault.TheVariants.{Memory as MemoryFault};
 
 use crate::{Fault, Resolve};
 use std::alloc::Global;
 
-fn check_rules(resolve: &Resolve) -> Result<(), Fault>
-    requires plain { IsPlain resolve.now }
+// The rules one after the other: a later one may rely on what an earlier one has shown.
+fn check_rules(alloc: Global, resolve: &Resolve) -> Result<(), Fault>
+    requires { HasDistinctKeys resolve.now }
     ensures kept { OnOk result (KeepsRules resolve.now) }
     ensures broken { IfErr result (IsFaultOf resolve.now) }
 {
     numbers::check(resolve)?;
-    names::check(resolve)?;
-    places::check(resolve)?;
-    labels::check(resolve)?;
+    names::check(alloc, resolve)?;
+    places::check(alloc, resolve)?;
+    labels::check(alloc, resolve)?;
+    types::check(alloc, resolve)?;
     members::check(resolve)?;
     items::check(resolve)?;
+    item_orders::check(alloc, resolve)?;
     keys::check(resolve)
 }
 
 impl Resolve {
-    /// Whether the `Resolve` is valid, or else a rule and an entry that breaks it. Which one of several is open.
-    /// The time is that of a walk over all entries, and of a comparison of each two packages and of each two
-    /// parameters of one function. No memory is taken as yet.
-    pub fn check(&self, _alloc: Global) -> Result<(), Fault>
-        requires plain { IsPlain self.now }
+    /// Whether the `Resolve` is valid, or else a rule and an entry that breaks it. Which one of several is open. `Memory` is answered
+    /// where a growth was refused.
+    ///
+    /// Takes a few passes over all entries, one over each interface's types for each world that has it, and tables of a word for each
+    /// type and each interface.
+    pub fn check(&self, alloc: Global) -> Result<(), Fault>
         ensures ok { OnOk result (IsValid self.now) }
         ensures broken { IfErr result (IsFaultOf self.now) }
-        ensures valid { IsValid self.now → IsOk result }
+        ensures valid { IsValid self.now → IsOkUnless result MemoryFault }
     {
         maps::read_all(self);
-        check_rules(self)
+        check_rules(alloc, self)
     }
 }

@@ -9,7 +9,7 @@ use crate::encode::encode;
 use crate::hex::hex_lines;
 use std::alloc::{AllocError, Global};
 use std::io::{Read, Write};
-use wit_model::{Error, is_plain};
+use wit_model::{Error, Fault, is_plain};
 use wit_print::{OutputToString, WitPrinter};
 
 /// What is written where the words are no command.
@@ -36,6 +36,15 @@ pub enum Refusal {
 impl From<AllocError> for Refusal {
     fn from(_error: AllocError) -> Refusal {
         Refusal::Error(Error::Memory)
+    }
+}
+
+impl From<Fault> for Refusal {
+    fn from(fault: Fault) -> Refusal {
+        match fault {
+            Fault::Memory => Refusal::Error(Error::Memory),
+            Fault::Broken { .. } => Refusal::Invalid,
+        }
     }
 }
 
@@ -113,9 +122,10 @@ pub fn run<R: Read, W: Write>(
 /// What a command writes.
 fn output_of(alloc: Global, command: Command) -> Result<String, Refusal> {
     let resolve = demo::package(alloc)?;
-    if resolve.packages.is_empty() || !is_plain(&resolve) || resolve.check(alloc).is_err() {
+    if resolve.packages.is_empty() || !is_plain(&resolve) {
         return Err(Refusal::Invalid);
     }
+    resolve.check(alloc)?;
     match command {
         Command::DemoText => {
             let mut printer = WitPrinter::new(OutputToString::new(alloc));

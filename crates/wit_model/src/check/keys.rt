@@ -6,7 +6,6 @@ ghost use Rattle.wit_model.specs.Lookup.{interface_at as interface_at_lem, world
 ghost use Rattle.wit_model.specs.Text.{text_eq, text_of};
 ghost use Rattle.wit_model.specs.Rules.{passes, text_is};
 ghost use Rattle.wit_model.specs.Valid.{names_in_packages, IsFaultOf, IsFound, Keeps};
-ghost use Rattle.wit_model.specs.Plain.{IsPlain};
 
 use crate::check::lookup::{interface_at, world_at};
 use crate::check::walk::first_failing;

@@ -1,20 +1,23 @@
 //! The rule on places: interfaces and worlds have a package, and stand in its maps.
 
-ghost use Rattle.std.specs.Prelude.{◌≡◌, ◌&&◌, not, true, OnOk, IfErr, option_map, option_and_then};
+ghost use Rattle.std.specs.Prelude.{◌≡◌, ◌&&◌, ◌<◌, length, not, true, Some, is_some, OnOk, IfErr, option_map, option_and_then};
 ghost use Rattle.std.specs.Option.{option_map_or};
 ghost use Rattle.std.specs.List.{list_all, list_any};
 ghost use Rattle.indexmap.specs.IndexMap.{keys};
 ghost use Rattle.wit_model.specs.Lookup.{package_at as package_at_lem, interface_at as interface_at_lem, world_at as world_at_lem};
 ghost use Rattle.wit_model.specs.Text.{text_eq, text_of};
-ghost use Rattle.wit_model.specs.Rules.{interface_belongs, is_id, package_number, passes, world_belongs, world_is_listed};
-ghost use Rattle.wit_model.specs.Valid.{places, IsFaultOf, IsFound, Keeps};
-ghost use Rattle.wit_model.specs.Plain.{IsPlain};
+ghost use Rattle.wit_model.specs.Checks.{KeepsIn};
+ghost use Rattle.wit_model.specs.Places.{IsShownTable, is_once_in, shown_entry};
+ghost use Rattle.wit_model.specs.Rules.{interface_belongs, interface_is_listed, is_id, package_number, passes, world_belongs, world_is_listed};
+ghost use Rattle.wit_model.specs.Valid.{places, entry_keeps, IsFaultOf, IsFound, Keeps};
 
 use crate::check::lookup::{interface_at, package_at, world_at};
+use crate::check::shown::{Shown, is_shown_once_in, shown_table};
 use crate::check::walk::first_failing;
 use crate::{
     EntryList, Fault, Interface, InterfaceId, Map, Package, PackageId, Resolve, World, WorldId,
 };
+use std::alloc::Global;
 
 fn is_package(number: usize, id: Option<PackageId>) -> bool
     ensures { result ≡ is_id number (package_number id) }
@@ -96,6 +99,45 @@ fn is_listed_in(resolve: &Resolve, number: usize, name: &String, id: PackageId) 
     }
 }
 
+fn is_interface_listed(number: usize, name: &String, owner: &Package) -> bool
+    ensures { result ≡ interface_is_listed number (text_of name.now) owner.now }
+{
+    match owner.interfaces.get(name.as_str()) {
+        Some(id) => id.0 as usize == number,
+        None => false,
+    }
+}
+
+fn is_interface_listed_in(resolve: &Resolve, number: usize, name: &String, id: PackageId) -> bool
+    ensures { result ≡ option_map_or (interface_is_listed number (text_of name.now)) (package_at_lem resolve.now id.0) true }
+{
+    match package_at(resolve, id) {
+        Some(owner) => is_interface_listed(number, name, owner),
+        None => true,
+    }
+}
+
+// Whether an interface has a package, and stands in its map or in one of its worlds.
+fn interface_is_placed(resolve: &Resolve, table: &[Shown], number: usize, entry: &Interface) -> bool
+    ensures { result ≡ (is_some entry.now.«package» && option_map_or (λ name. option_map_or (interface_is_listed number (text_of name)) (option_and_then (package_at_lem resolve.now) (package_number entry.now.«package»)) true) entry.now.name (is_once_in entry.now.«package» (shown_entry table.now number))) }
+{
+    match entry.package {
+        Some(id) => match &entry.name {
+            Some(name) => is_interface_listed_in(resolve, number, name, id),
+            None => is_shown_once_in(table, number, entry.package),
+        },
+        None => false,
+    }
+}
+
+fn interface_keeps(resolve: &Resolve, table: &[Shown], number: usize) -> bool
+    requires in_range { number < length resolve.now.interfaces.items }
+    requires table { IsShownTable resolve.now table.now }
+    ensures { entry_keeps places resolve.now EntryList.Interfaces number ≡ Some result }
+{
+    interface_is_placed(resolve, table, number, &resolve.interfaces[number])
+}
+
 #[tactic(auto, unfolding(crate::specs::Valid::places))]
 fn package_passes(resolve: &Resolve, number: usize, entry: &Package) -> bool
     ensures { result ≡ places.package_ resolve.now number entry.now }
@@ -131,25 +173,61 @@ fn first_world(resolve: &Resolve) -> Option<usize>
     })
 }
 
-/// Whether interfaces and worlds stand in the maps of their packages, and share no name there.
-pub(crate) fn check(resolve: &Resolve) -> Result<(), Fault>
-    requires plain { IsPlain resolve.now }
-    ensures kept { OnOk result (Keeps places resolve.now) }
+fn check_packages(resolve: &Resolve) -> Result<(), Fault>
+    ensures kept { OnOk result (KeepsIn places resolve.now EntryList.Packages) }
     ensures broken { IfErr result (IsFaultOf resolve.now) }
 {
-    if let Some(number) = first_package(resolve) {
-        return Err(Fault::Broken {
+    match first_package(resolve) {
+        Some(number) => Err(Fault::Broken {
             rule: 3,
             list: EntryList::Packages,
             number,
-        });
+        }),
+        None => Ok(()),
     }
-    if let Some(number) = first_world(resolve) {
-        return Err(Fault::Broken {
+}
+
+fn check_interfaces(resolve: &Resolve, table: &[Shown]) -> Result<(), Fault>
+    requires { IsShownTable resolve.now table.now }
+    ensures kept { OnOk result (KeepsIn places resolve.now EntryList.Interfaces) }
+    ensures broken { IfErr result (IsFaultOf resolve.now) }
+{
+    for number in 0..resolve.interfaces.len() {
+        if !interface_keeps(resolve, table, number) {
+            return Err(Fault::Broken {
+                rule: 3,
+                list: EntryList::Interfaces,
+                number,
+            });
+        }
+    }
+    Ok(())
+}
+
+fn check_worlds(resolve: &Resolve) -> Result<(), Fault>
+    ensures kept { OnOk result (KeepsIn places resolve.now EntryList.Worlds) }
+    ensures broken { IfErr result (IsFaultOf resolve.now) }
+{
+    match first_world(resolve) {
+        Some(number) => Err(Fault::Broken {
             rule: 3,
             list: EntryList::Worlds,
             number,
-        });
+        }),
+        None => Ok(()),
     }
+}
+
+/// Whether interfaces and worlds stand where they belong: named ones in the maps of their packages, where they share
+/// no name, and inline interfaces in one world of theirs. One pass over packages, interfaces and the items of worlds;
+/// as much memory as there are interfaces.
+pub(crate) fn check(alloc: Global, resolve: &Resolve) -> Result<(), Fault>
+    ensures kept { OnOk result (Keeps places resolve.now) }
+    ensures broken { IfErr result (IsFaultOf resolve.now) }
+{
+    let table = shown_table(alloc, resolve)?;
+    check_packages(resolve)?;
+    check_interfaces(resolve, &table)?;
+    check_worlds(resolve)?;
     Ok(())
 }

@@ -187,9 +187,11 @@ fn one_name_twice(rt: HostRuntime) -> Result<(), Fail> {
     let alloc = rt.alloc();
     let mut resolve = resolve_of(alloc, VALID)?;
     resolve.packages.push(package(alloc, "a", "foo")?)?;
-    assert_eq!(rt;
-        answer(alloc, &resolve),
-        Some(broken(2, EntryList::Packages))
-    );
+    let repeated = Fault::Broken {
+        rule: 2,
+        list: EntryList::Packages,
+        number: 1,
+    };
+    assert_eq!(rt; answer(alloc, &resolve), Some(Err(repeated)));
     Ok(())
 }

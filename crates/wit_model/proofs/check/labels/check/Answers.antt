@@ -1,10 +1,8 @@
+use Rattle.std.proofs.Common.{rules, refl}
 use Rattle.wit_model.specs.Valid.{labels}
-use Rattle.wit_model.proofs.Entries.{free_passes}
-use Rattle.wit_model.proofs.PlainKeeps.{plain_keeps}
+use Rattle.wit_model.proofs.Checks.{keeps_three}
 use Rattle.wit_model.proofs.check.labels.check.Goals as goal
 
-pub returns-in-None-clause-kept : goal.returns-in-None-clause-kept
+pub returns-clause-kept : goal.returns-clause-kept
 unfolding labels
-returns-in-None-clause-kept c =
-    let r = c.args.resolve.now in
-    plain_keeps labels r c.requires.plain (free_passes r 0 r.packages.items) c.in-None.ensures
+returns-clause-kept c = keeps_three labels c.args.resolve.now refl (search rules) (search rules) (search rules)

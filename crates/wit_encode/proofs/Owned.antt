@@ -1,0 +1,187 @@
+-- What is met from a type of an owner, without opening other interfaces, is of that owner or of another interface.
+use Rattle.std.proofs.Common.{◌≡◌, refl, sym, subst, ap, ◌∙◌, ℕ, ◌+◌, Bool, true, false, not, ◌&&◌, ◌||◌, ◌==◌, cond, T, eqb→eq, ◌⊎◌, inl, inr, Option, Some, None, is_some, nat_eq, arith}
+use Rattle.std.proofs.Math.Dec.{eqb_refl}
+use Rattle.std.specs.Prelude.{is_none}
+use Rattle.std.specs.List.{Contains, list_all}
+use Rattle.std.specs.Option.{option_map_or}
+use Rattle.wit_model.specs.Lookup.{type_at, interface_at}
+use Rattle.wit_model.specs.Uses.{alias_target, owner_interface}
+use Rattle.wit_model.specs.Parts.{kind_numbers, met_by, met_of, used_by_type, same_owner, has_owner}
+use Rattle.wit_model.specs.Rules.{is_use}
+use Rattle.wit_model.specs.Checks.{references}
+use Rattle.wit_model.specs.Valid.{IsValid, Keeps, owners}
+use Rattle.wit_model.specs.declared.model.Resolve.{Resolve}
+use Rattle.wit_model.specs.declared.model.TypeDef.{TypeDef}
+use Rattle.wit_model.specs.declared.model.TypeDefKind.{TypeDefKind}
+use Rattle.wit_model.specs.declared.model.TypeDefKind.TheVariants as kind
+use Rattle.wit_model.specs.declared.model.TypeOwner.{TypeOwner}
+use Rattle.wit_model.specs.declared.model.TypeOwner.TheVariants as owner
+use Rattle.wit_model.specs.declared.model.TypeId.{TypeId}
+use Rattle.wit_model.specs.declared.model.«Type».{«Type» as ValueType}
+use Rattle.wit_model.specs.declared.model.«Type».TheVariants as ty
+use Rattle.wit_model.proofs.Lists.{first_true, second_true}
+use Rattle.wit_model.proofs.Entries.{each_from_at, lists_pass, types_keep, each_from_all}
+use Rattle.wit_model.proofs.TreeTable.{kept_numbers}
+use Rattle.wit_model.proofs.Functions.{all_flat}
+use Rattle.wit_model.proofs.Owners.{named_met, unnamed_met}
+use Rattle.wit_encode.specs.Kinds.{parts_of}
+use Rattle.wit_encode.specs.Plan.{foreign_owner, Reaches, itself, through}
+use Rattle.wit_encode.specs.Table.{interface_of_owner, has_named_owner}
+use Rattle.wit_encode.proofs.Lists.{all-contained, one-contained}
+use Rattle.wit_encode.proofs.Planning.{part-number}
+
+-- ---- owners
+
+pub same-owner : (a b : TypeOwner) → same_owner a b ≡ true → a ≡ b
+same-owner (owner.World a) (owner.World b) e = ap (λ k. owner.World (record { 0 = k })) (eqb→eq a.0 b.0 (subst T (sym e) tt))
+same-owner (owner.Interface a) (owner.Interface b) e = ap (λ k. owner.Interface (record { 0 = k })) (eqb→eq a.0 b.0 (subst T (sym e) tt))
+same-owner owner.None owner.None e = refl
+same-owner (owner.World a) (owner.Interface b) e = let wrong : ⊥ = cc in absurd wrong
+same-owner (owner.World a) owner.None e = let wrong : ⊥ = cc in absurd wrong
+same-owner (owner.Interface a) (owner.World b) e = let wrong : ⊥ = cc in absurd wrong
+same-owner (owner.Interface a) owner.None e = let wrong : ⊥ = cc in absurd wrong
+same-owner owner.None (owner.World b) e = let wrong : ⊥ = cc in absurd wrong
+same-owner owner.None (owner.Interface b) e = let wrong : ⊥ = cc in absurd wrong
+
+-- a type that isn't foreign and belongs to an interface belongs to this one
+own-interface : (o a : TypeOwner) (i : ℕ) → owner_interface a ≡ Some i → foreign_owner (interface_of_owner o) a ≡ None → same_owner a o ≡ true
+own-interface o (owner.World w) i e f = let wrong : ⊥ = cc in absurd wrong
+own-interface o owner.None i e f = let wrong : ⊥ = cc in absurd wrong
+own-interface (owner.World w) (owner.Interface j) i e f = let wrong : ⊥ = cc in absurd wrong
+own-interface owner.None (owner.Interface j) i e f = let wrong : ⊥ = cc in absurd wrong
+own-interface (owner.Interface k) (owner.Interface j) i e f = go (nat_eq k.0 j.0) refl f
+  where
+    holds : (b : Bool) → T b → b ≡ true
+    holds true h = refl
+    holds false h = absurd h
+
+    go : (b : Bool) → nat_eq k.0 j.0 ≡ b → cond b None (Some j) ≡ None → (j.0 == k.0) ≡ true
+    go true q g = let same : k.0 ≡ j.0 = eqb→eq k.0 j.0 (subst T (sym q) tt) in subst (λ (n : ℕ). (j.0 == n) ≡ true) (sym same) (holds (j.0 == j.0) (eqb_refl j.0))
+    go false q g = let wrong : ⊥ = cc in absurd wrong
+
+-- ---- uses
+
+-- what holds of the target of an alias holds of its part
+alias-part : (test : ℕ → Bool) (k : TypeDefKind) (id : TypeId) → option_map_or test (alias_target k) false ≡ true → Contains (parts_of k) (ty.Id id) → test id.0 ≡ true
+alias-part test (kind.Type_ t) id h c = go t h (one-contained t (ty.Id id) c)
+  where
+    go : (t : ValueType) → option_map_or test (alias_target (kind.Type_ t)) false ≡ true → t ≡ ty.Id id → test id.0 ≡ true
+    go t h e = subst (λ (x : ValueType). option_map_or test (alias_target (kind.Type_ x)) false ≡ true) e h
+alias-part test (kind.Record x) id h c = let wrong : ⊥ = cc in absurd wrong
+alias-part test kind.Resource id h c = let wrong : ⊥ = cc in absurd wrong
+alias-part test (kind.Handle x) id h c = let wrong : ⊥ = cc in absurd wrong
+alias-part test (kind.Flags x) id h c = let wrong : ⊥ = cc in absurd wrong
+alias-part test (kind.Tuple x) id h c = let wrong : ⊥ = cc in absurd wrong
+alias-part test (kind.Variant x) id h c = let wrong : ⊥ = cc in absurd wrong
+alias-part test (kind.Enum x) id h c = let wrong : ⊥ = cc in absurd wrong
+alias-part test (kind.Option x) id h c = let wrong : ⊥ = cc in absurd wrong
+alias-part test (kind.Result x) id h c = let wrong : ⊥ = cc in absurd wrong
+alias-part test (kind.List x) id h c = let wrong : ⊥ = cc in absurd wrong
+alias-part test (kind.Map x y) id h c = let wrong : ⊥ = cc in absurd wrong
+alias-part test (kind.FixedLengthList x n) id h c = let wrong : ⊥ = cc in absurd wrong
+alias-part test (kind.Future x) id h c = let wrong : ⊥ = cc in absurd wrong
+alias-part test (kind.Stream x) id h c = let wrong : ⊥ = cc in absurd wrong
+
+some-of : {A B : Type 0} (f : A → B → Bool) (o : Option A) (b : B) → option_map_or (λ a. f a b) o false ≡ true → is_some o ≡ true
+some-of f None b h = let wrong : ⊥ = cc in absurd wrong
+some-of f (Some a) b h = refl
+
+or-cases : {P : Type 0} (a b : Bool) → (a || b) ≡ true → (a ≡ true → P) → (b ≡ true → P) → P
+or-cases true b h p q = p refl
+or-cases false b h p q = q h
+
+not-false : (b : Bool) → not b ≡ true → b ≡ true → ⊥
+not-false true h e = cc
+not-false false h e = cc
+
+-- ---- what is met
+
+pub valid-references : (r : Resolve) → IsValid r → Keeps references r
+unfolding references
+valid-references r v = types_keep (λ r n def. references.type_ r n def) r (each_from_all (references.type_ r) 0 r.types.items (λ n def is.
+    let at : n ≡ 0 + n = omega arith in
+    subst (λ m. references.type_ r m def ≡ true) at (kept_numbers r v.rules n def is)))
+
+-- the rule on owners, of one type
+owner-kept : (r : Resolve) → IsValid r → (n : ℕ) (def : TypeDef) → type_at r n ≡ Some def → (is_none def.name || (list_all (has_owner r def.owner) (used_by_type r def) || is_use r def)) ≡ true
+unfolding owners
+owner-kept r v n def is = each_from_at (owners.type_ r) 0 r.types.items n def (lists_pass owners r v.rules.owners).3 is
+
+module _ (r : Resolve) (v : IsValid r) (o : TypeOwner) where
+  -- every named type that is met at a number has the owner
+  abbrev pub stays : ℕ → Bool
+  stays n = list_all (has_owner r o) (met_by (met_of r) n)
+
+  -- a number of another interface isn't opened
+  abbrev pub Stays : ℕ → Type 0
+  Stays n = (def : TypeDef) → type_at r n ≡ Some def → foreign_owner (interface_of_owner o) def.owner ≡ None → stays n ≡ true
+
+  module _ (n : ℕ) (def : TypeDef) (is : type_at r n ≡ Some def) (id : TypeId) (c : Contains (parts_of def.kind) (ty.Id id)) where
+    from-all : list_all stays (kind_numbers def.kind) ≡ true → stays id.0 ≡ true
+    from-all h = all-contained stays (kind_numbers def.kind) id.0 h (part-number def.kind id c)
+
+    used-stay : same_owner def.owner o ≡ true → list_all (has_owner r def.owner) (used_by_type r def) ≡ true → stays id.0 ≡ true
+    used-stay s h =
+        from-all (sym (all_flat (has_owner r o) (met_by (met_of r)) (kind_numbers def.kind))
+        ∙ subst (λ (a : TypeOwner). list_all (has_owner r a) (used_by_type r def) ≡ true) (same-owner def.owner o s) h)
+
+    use-foreign : same_owner def.owner o ≡ true → is_use r def ≡ true → Stays id.0
+    use-foreign s h def' is' f =
+        let at = alias-part _ def.kind id h c in
+        let target = sym (ap (λ t. option_map_or (λ target. not (same_owner target.owner def.owner) && option_map_or (λ i. option_map_or (λ other. is_some other.name) (interface_at r i) false) (owner_interface target.owner) false) t false) is') ∙ at in
+        absurd (not-false (same_owner def'.owner def.owner) (first_true _ _ target)
+        (subst (λ (a : TypeOwner). same_owner def'.owner a ≡ true) (sym (same-owner def.owner o s)) (belongs (owner_interface def'.owner) refl (second_true _ _ target))))
+      where
+        belongs : (i : Option ℕ) → owner_interface def'.owner ≡ i → option_map_or (λ i. option_map_or (λ other. is_some other.name) (interface_at r i) false) i false ≡ true → same_owner def'.owner o ≡ true
+        belongs None e h = let wrong : ⊥ = cc in absurd wrong
+        belongs (Some i) e h = own-interface o def'.owner i e f
+
+    part-stays : stays n ≡ true → Stays id.0
+    part-stays h = go (is_some def.name) refl
+      where
+        some-none : {A : Type 0} (x : Option A) → is_some x ≡ true → is_none x ≡ true → ⊥
+        some-none None e f = cc
+        some-none (Some x) e f = cc
+
+        go : (b : Bool) → is_some def.name ≡ b → Stays id.0
+        go false e = λ _ _ _. from-all (unnamed_met r (valid-references r v) n def is o e ∙ h)
+        go true e =
+            let s : same_owner def.owner o ≡ true = named_met r (valid-references r v) n def is o e ∙ h in
+            or-cases (is_none def.name) (list_all (has_owner r def.owner) (used_by_type r def) || is_use r def) (owner-kept r v n def is)
+            (λ none. absurd (some-none def.name e none))
+            (λ rest. or-cases (list_all (has_owner r def.owner) (used_by_type r def)) (is_use r def) rest (λ used _ _ _. used-stay s used) (use-foreign s))
+
+    -- an alias that uses a type of another interface, which has a name
+    use-named : is_use r def ≡ true → (def' : TypeDef) → type_at r id.0 ≡ Some def' → has_named_owner r def' ≡ true
+    use-named h def' is' =
+        let at = alias-part _ def.kind id h c in
+        second_true _ _ (sym (ap (λ t. option_map_or (λ target. not (same_owner target.owner def.owner) && option_map_or (λ i. option_map_or (λ other. is_some other.name) (interface_at r i) false) (owner_interface target.owner) false) t false) is') ∙ at)
+
+    -- a named part is one of the owner, or of another interface, which has a name
+    part-owned : stays n ≡ true → (def' : TypeDef) → type_at r id.0 ≡ Some def' → is_some def'.name ≡ true → (same_owner def'.owner o ≡ true) ⊎ (has_named_owner r def' ≡ true)
+    part-owned h def' is' named = go (is_some def.name) refl
+      where
+        home : stays id.0 ≡ true → (same_owner def'.owner o ≡ true) ⊎ (has_named_owner r def' ≡ true)
+        home s = inl (named_met r (valid-references r v) id.0 def' is' o named ∙ s)
+
+        some-none : {A : Type 0} (x : Option A) → is_some x ≡ true → is_none x ≡ true → ⊥
+        some-none None e f = cc
+        some-none (Some x) e f = cc
+
+        go : (b : Bool) → is_some def.name ≡ b → (same_owner def'.owner o ≡ true) ⊎ (has_named_owner r def' ≡ true)
+        go false e = home (from-all (unnamed_met r (valid-references r v) n def is o e ∙ h))
+        go true e =
+            let s : same_owner def.owner o ≡ true = named_met r (valid-references r v) n def is o e ∙ h in
+            or-cases (is_none def.name) (list_all (has_owner r def.owner) (used_by_type r def) || is_use r def) (owner-kept r v n def is)
+            (λ none. absurd (some-none def.name e none))
+            (λ rest. or-cases (list_all (has_owner r def.owner) (used_by_type r def)) (is_use r def) rest (λ used. home (used-stay s used)) (λ used. inr (use-named used def' is')))
+
+  -- the same of each part of a type, by their names
+  pub parts-owned : (n : ℕ) (def : TypeDef) → type_at r n ≡ Some def → stays n ≡ true → (id : TypeId) → Contains (parts_of def.kind) (ty.Id id) → (def' : TypeDef) → type_at r id.0 ≡ Some def' → is_some def'.name ≡ true → (same_owner def'.owner o ≡ true) ⊎ (has_named_owner r def' ≡ true)
+  parts-owned n def is h id c = part-owned n def is id c h
+
+  -- what is met on the way down stays
+  pub reached-stays : (t : ValueType) (n : ℕ) → ((id : TypeId) → t ≡ ty.Id id → Stays id.0) → Reaches r (interface_of_owner o) t n → Stays n
+  reached-stays _ _ p (itself id) = p id refl
+  reached-stays _ _ p (through id def t n at f c re) =
+      reached-stays t n (λ id' e. part-stays id.0 def at id' (subst (λ (x : ValueType). Contains (parts_of def.kind) x) e c) (p id refl def at f)) re

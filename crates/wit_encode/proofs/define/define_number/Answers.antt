@@ -1,0 +1,58 @@
+use Rattle.std.proofs.Common.{refl, ◌≡◌, ◌∙◌, sym, Some, None, rules, false}
+use Rattle.std.specs.Prelude.{is_some}
+use Rattle.std.proofs.lemmas.Option.{slice_get_read}
+use Rattle.wit_model.specs.Lookup.{type_at}
+use Rattle.wit_encode.specs.Plan.{foreign_owner}
+use Rattle.wit_encode.specs.Maps.{IsKnown}
+use Rattle.wit_encode.proofs.Defining.{counts-none}
+use Rattle.wit_encode.proofs.Lists.{some-from}
+use Rattle.wit_encode.proofs.Encoding.{learns-nothing, tabled, foreign-undefined, foreign-unshown}
+use Rattle.wit_encode.proofs.Agree.{not-known}
+use Rattle.wit_encode.proofs.define.define_number.Given.{Over}
+use Rattle.wit_encode.proofs.define.define_number.Goals as goal
+use Rattle.wit_encode.proofs.define.define_number.Goals.{After-foreign}
+
+there : (g : Over) (c : After-foreign g) → type_at c.args.resolve.now c.args.id.0 ≡ Some c.index-def.result.now
+there g c = slice_get_read _ _ _ _ refl c.requires.in_range c.index-def.ensures
+
+owner_is : (g : Over) (c : After-foreign g) → c.foreign.result ≡ foreign_owner (g.E.ValtypeEncoder.scope c.args.enc.now).own_interface c.index-def.result.now.owner
+owner_is g c = let s = c.index_of.ensures.same in let e = c.interface-own.ensures in let f = c.foreign.ensures in search rules
+
+unknown : (g : Over) (c : After-foreign g) → IsKnown (g.E.LendsMaps.maps_of c.args.enc.now) c.args.id.0 → ⊥
+unknown g c k = not-known c.index_of.result (let e : is_some c.index_of.result ≡ false = search rules in e) (c.index_of.ensures.none k)
+
+pub import-requires : goal.import-requires
+import-requires g c = λ _. (
+  (refl, tt),
+  (let a = (goal.at.import-requires g c).After-foreign in
+      let f : foreign_owner (g.E.ValtypeEncoder.scope c.args.enc.now).own_interface c.index-def.result.now.owner ≡ Some c.in-Some.interface = sym (owner_is g a) ∙ c.in-Some.is in
+      rw c.index_of.ensures.same (
+        c.requires.packages,
+        ((c.requires.fits c.index-def.result.now (there g a)).foreign c.in-Some.interface f, (foreign-undefined c.args.resolve.now (g.E.ValtypeEncoder.scope c.args.enc.now) c.args.id.0 c.index-def.result.now c.in-Some.interface (there g a) f, (foreign-unshown c.args.resolve.now (g.E.ValtypeEncoder.scope c.args.enc.now) c.args.id.0 c.index-def.result.now c.in-Some.interface (there g a) f, (unknown g a, c.requires.agree)))),
+      )),
+)
+
+pub define_own-requires : goal.define_own-requires
+define_own-requires g c = λ _. (
+  (refl, tt),
+  (let a = (goal.at.define_own-requires g c).After-foreign in
+      let none : foreign_owner (g.E.ValtypeEncoder.scope c.args.enc.now).own_interface c.index-def.result.now.owner ≡ None = sym (owner_is g a) ∙ c.in_default.is in
+      rw c.index_of.ensures.same (
+        none,
+        (
+          there g a,
+          (
+            tabled c.args.resolve.now c.requires.layered c.args.id.0 c.index-def.result.now (there g a),
+            (c.requires.fits c.index-def.result.now (there g a), (c.requires.ready c.index-def.result.now (there g a) none, (unknown g a, c.requires.agree))),
+          ),
+        ),
+      )),
+)
+
+pub returns-then-is_some-clause-counts : goal.returns-then-is_some-clause-counts
+returns-then-is_some-clause-counts g c = rw c.index_of.ensures.same (counts-none c.args.resolve.now (g.E.ValtypeEncoder.scope c.args.enc.now) (g.E.LendsMaps.maps_of c.args.enc.now) (g.E.ValtypeEncoder.definitions c.args.enc.now))
+
+pub returns-then-is_some-clause-ok : goal.returns-then-is_some-clause-ok
+returns-then-is_some-clause-ok g c =
+    let k : IsKnown (g.E.LendsMaps.maps_of c.args.enc.now) c.args.id.0 = some-from _ c.index_of.result (search rules) c.index_of.ensures.some in
+    rw c.index_of.ensures.same (record { known = k; only = learns-nothing _ _ })

@@ -1,0 +1,4 @@
+use Rattle.wit_encode.proofs.lend.index_of_kind.Goals as goal
+
+pub returns-clause-none : goal.returns-clause-none
+returns-clause-none g c = rw c.type_encoding_maps.ensures.value at c.index_of_kind.ensures.none

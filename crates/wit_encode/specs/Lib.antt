@@ -1,0 +1,16 @@
+pub mod Slots
+pub mod Key
+pub mod KeyLaws
+pub mod Kinds
+pub mod Maps
+pub mod Resources
+pub mod Scope
+pub mod Formed
+pub mod Plan
+pub mod Definition
+pub mod Counts
+pub mod Leaves
+pub mod Fits
+pub mod Table
+pub mod Instance
+pub mod InstanceLaws

@@ -1,0 +1,334 @@
+//! Defines types whose parts are known, in a scope of any encoder.
+
+ghost use Rattle.std.specs.Prelude.{◌≡◌, ◌<◌, ◌&&◌, true, false, not, length, IfOk, OnOk, List, Some, None, is_some};
+ghost use Rattle.std.specs.List.{Contains};
+ghost use Rattle.comp_bytes.specs.RawOf.{raw_name};
+ghost use Rattle.wit_model.specs.Rules.{is_named_kind};
+ghost use Rattle.wit_model.specs.Text.{optional_text};
+ghost use Rattle.wit_model.specs.Tree.{named};
+ghost use Rattle.wit_model.specs.Types.{number_tree, tree_of, trees_of, tree_of_definition, declared_by};
+ghost use Rattle.wit_model.specs.Lookup.{type_at};
+ghost use Rattle.wit_model.specs.Meant.{type_meaning};
+ghost use Rattle.wit_encode.specs.Slots.{tree, Grows};
+ghost use Rattle.wit_encode.specs.Kinds.{parts_of, kind_of, kind_tree, has_form, has_definition};
+ghost use Rattle.wit_encode.specs.Maps.{MapsAgree, IsKnown, IsReady, AllReady, LacksKind, LearnsOne, LearnsOnly};
+ghost use Rattle.wit_encode.specs.Scope.{DeclaresSlot, DeclaresResource, IsImportable, IsDeclared, exported_name};
+ghost use Rattle.wit_encode.specs.Formed.{IsFormed};
+ghost use Rattle.wit_encode.specs.Plan.{foreign_owner, IsLayered, MetFrom};
+ghost use Rattle.wit_encode.specs.Fits.{Fits, FitsScope, CanEncode};
+ghost use Rattle.wit_encode.specs.Counts.{one_type_more, type_more_if, is_defined_by_name, is_defined_under_name, own_name, ExportsOne, AddsTypes};
+ghost use Rattle.wit_encode.specs.Leaves.{Leaves};
+
+use crate::encoder::ValtypeEncoder;
+use crate::lend::{
+    definition_of, index_of, index_of_kind, order_of, remember_id, remember_kind, value_of,
+};
+use crate::name::name_of;
+use crate::plan::foreign;
+use crate::shape::{Shape, shape_of};
+use comp_bytes::{ComponentDefinedType, ComponentExternName, ComponentValType};
+use std::alloc::Global;
+use wit_model::{Error, InterfaceId, Resolve, Type, TypeDef, TypeDefKind, TypeId};
+
+/// Adds a slot for a shape, and answers it.
+pub(crate) fn define_shape<'a, E: ValtypeEncoder<'a>>(
+    alloc: Global,
+    enc: &mut E,
+    resolve: &'a Resolve,
+    shape: Shape<'a, '_>,
+) -> Result<u32, Error>
+    requires ready { AllReady (E.maps_of enc.old) (parts_of (kind_of shape)) }
+    requires formed { IsFormed (E.scope enc.old) (kind_tree resolve.now (kind_of shape)) }
+    requires agree { MapsAgree resolve.now (E.maps_of enc.old) (E.stands enc.old) }
+    ensures ok { IfOk result (λ i. E.stands enc.new i (tree (kind_tree resolve.now (kind_of shape.entry)))) }
+    ensures grows { Grows (E.stands enc.old) (E.stands enc.new) (E.slot_count enc.old) (E.slot_count enc.new) }
+    ensures scope_stays { E.scope enc.new ≡ E.scope enc.old }
+    ensures maps_stay { E.maps_of enc.new ≡ E.maps_of enc.old }
+    ensures counts { OnOk result (E.definitions enc.new ≡ one_type_more (E.definitions enc.old)) }
+{
+    let def = definition_of(alloc, enc, shape)?;
+    enc.defined_type(def)
+}
+
+/// A slot for what another name stands for: that of the other name, or a new one for a primitive.
+fn define_alias<'a, E: ValtypeEncoder<'a>>(
+    enc: &mut E,
+    resolve: &'a Resolve,
+    ty: &Type,
+) -> Result<u32, Error>
+    requires ready { IsReady (E.maps_of enc.old) ty.now }
+    requires formed { has_definition (TypeDefKind.Type_ ty.now) ≡ true → IsFormed (E.scope enc.old) (kind_tree resolve.now (TypeDefKind.Type_ ty.now)) }
+    requires agree { MapsAgree resolve.now (E.maps_of enc.old) (E.stands enc.old) }
+    ensures ok { IfOk result (λ i. E.stands enc.new i (tree (tree_of (trees_of resolve.now) ty.now))) }
+    ensures grows { Grows (E.stands enc.old) (E.stands enc.new) (E.slot_count enc.old) (E.slot_count enc.new) }
+    ensures scope_stays { E.scope enc.new ≡ E.scope enc.old }
+    ensures maps_stay { E.maps_of enc.new ≡ E.maps_of enc.old }
+    ensures counts { OnOk result (E.definitions enc.new ≡ type_more_if (has_definition (TypeDefKind.Type_ ty.now)) (E.definitions enc.old)) }
+{
+    match value_of(enc, ty) {
+        ComponentValType::Type_(index) => Ok(index),
+        ComponentValType::Primitive(primitive) => {
+            enc.defined_type(ComponentDefinedType::Primitive(primitive))
+        }
+    }
+}
+
+/// A slot for what a kind declares.
+fn define_kind<'a, E: ValtypeEncoder<'a>>(
+    alloc: Global,
+    enc: &mut E,
+    resolve: &'a Resolve,
+    kind: &'a TypeDefKind,
+) -> Result<u32, Error>
+    requires kind { kind.now ≡ TypeDefKind.Resource → ⊥ }
+    requires ready { AllReady (E.maps_of enc.old) (parts_of kind.now) }
+    requires formed { has_definition kind.now ≡ true → IsFormed (E.scope enc.old) (kind_tree resolve.now kind.now) }
+    requires agree { MapsAgree resolve.now (E.maps_of enc.old) (E.stands enc.old) }
+    ensures ok { IfOk result (λ i. E.stands enc.new i (tree (kind_tree resolve.now kind.now))) }
+    ensures grows { Grows (E.stands enc.old) (E.stands enc.new) (E.slot_count enc.old) (E.slot_count enc.new) }
+    ensures scope_stays { E.scope enc.new ≡ E.scope enc.old }
+    ensures maps_stay { E.maps_of enc.new ≡ E.maps_of enc.old }
+    ensures counts { OnOk result (E.definitions enc.new ≡ type_more_if (has_definition kind.now) (E.definitions enc.old)) }
+{
+    if let TypeDefKind::Type_(ty) = kind {
+        return define_alias(enc, resolve, ty);
+    }
+    define_shape(alloc, enc, resolve, shape_of(kind))
+}
+
+/// Defines an unnamed kind that the maps lack.
+fn define_new_kind<'a, E: ValtypeEncoder<'a>>(
+    alloc: Global,
+    enc: &mut E,
+    resolve: &'a Resolve,
+    kind: &'a TypeDefKind,
+) -> Result<u32, Error>
+    requires unnamed { is_named_kind kind.now ≡ false }
+    requires lacks { LacksKind (E.maps_of enc.old) kind.now }
+    requires ready { AllReady (E.maps_of enc.old) (parts_of kind.now) }
+    requires formed { IsFormed (E.scope enc.old) (kind_tree resolve.now kind.now) }
+    requires agree { MapsAgree resolve.now (E.maps_of enc.old) (E.stands enc.old) }
+    ensures ok { IfOk result (λ i. E.stands enc.new i (tree (kind_tree resolve.now kind.now))) }
+    ensures numbers { OnOk result ((E.maps_of enc.new).id_to_index.items ≡ (E.maps_of enc.old).id_to_index.items) }
+    ensures leaves { Leaves resolve.now (E.scope enc.old) (E.scope enc.new) (E.slot_count enc.old) (E.slot_count enc.new) (E.stands enc.old) (E.stands enc.new) (E.maps_of enc.old) (E.maps_of enc.new) }
+    ensures counts { OnOk result (AddsTypes resolve.now (E.scope enc.old) (E.maps_of enc.old) (E.maps_of enc.new) (E.definitions enc.old) (E.definitions enc.new)) }
+{
+    let index = define_shape(alloc, enc, resolve, shape_of(kind))?;
+    remember_kind(enc, resolve, kind, index)?;
+    Ok(index)
+}
+
+/// The slot of an unnamed kind, which is defined where the maps lack it.
+fn define_unnamed_kind<'a, E: ValtypeEncoder<'a>>(
+    alloc: Global,
+    enc: &mut E,
+    resolve: &'a Resolve,
+    kind: &'a TypeDefKind,
+) -> Result<u32, Error>
+    requires unnamed { is_named_kind kind.now ≡ false }
+    requires ready { AllReady (E.maps_of enc.old) (parts_of kind.now) }
+    requires formed { IsFormed (E.scope enc.old) (kind_tree resolve.now kind.now) }
+    requires agree { MapsAgree resolve.now (E.maps_of enc.old) (E.stands enc.old) }
+    ensures ok { IfOk result (λ i. E.stands enc.new i (tree (kind_tree resolve.now kind.now))) }
+    ensures numbers { OnOk result ((E.maps_of enc.new).id_to_index.items ≡ (E.maps_of enc.old).id_to_index.items) }
+    ensures leaves { Leaves resolve.now (E.scope enc.old) (E.scope enc.new) (E.slot_count enc.old) (E.slot_count enc.new) (E.stands enc.old) (E.stands enc.new) (E.maps_of enc.old) (E.maps_of enc.new) }
+    ensures counts { OnOk result (AddsTypes resolve.now (E.scope enc.old) (E.maps_of enc.old) (E.maps_of enc.new) (E.definitions enc.old) (E.definitions enc.new)) }
+{
+    if let Some(index) = index_of_kind(enc, kind) {
+        return Ok(index);
+    }
+    define_new_kind(alloc, enc, resolve, kind)
+}
+
+/// Defines an unnamed type.
+fn define_unnamed<'a, E: ValtypeEncoder<'a>>(
+    alloc: Global,
+    enc: &mut E,
+    resolve: &'a Resolve,
+    id: TypeId,
+    kind: &'a TypeDefKind,
+) -> Result<(), Error>
+    requires unnamed { is_named_kind kind.now ≡ false }
+    requires no_name { is_defined_by_name resolve.now (E.scope enc.old) id.0 ≡ false }
+    requires not_shown { own_name resolve.now (E.scope enc.old) id.0 ≡ None }
+    requires same_tree { number_tree resolve.now id.0 ≡ kind_tree resolve.now kind.now }
+    requires ready { AllReady (E.maps_of enc.old) (parts_of kind.now) }
+    requires fresh { IsKnown (E.maps_of enc.old) id.0 → ⊥ }
+    requires formed { IsFormed (E.scope enc.old) (kind_tree resolve.now kind.now) }
+    requires agree { MapsAgree resolve.now (E.maps_of enc.old) (E.stands enc.old) }
+    ensures ok { OnOk result (LearnsOne (E.maps_of enc.old) (E.maps_of enc.new) id.0) }
+    ensures leaves { Leaves resolve.now (E.scope enc.old) (E.scope enc.new) (E.slot_count enc.old) (E.slot_count enc.new) (E.stands enc.old) (E.stands enc.new) (E.maps_of enc.old) (E.maps_of enc.new) }
+    ensures counts { OnOk result (AddsTypes resolve.now (E.scope enc.old) (E.maps_of enc.old) (E.maps_of enc.new) (E.definitions enc.old) (E.definitions enc.new)) }
+{
+    let index = define_unnamed_kind(alloc, enc, resolve, kind)?;
+    remember_id(enc, resolve, id, index)
+}
+
+/// Exports a fresh resource of this place.
+fn define_resource<'a, E: ValtypeEncoder<'a>>(
+    enc: &mut E,
+    resolve: &'a Resolve,
+    id: TypeId,
+    name: ComponentExternName<'a>,
+) -> Result<(), Error>
+    requires declared { DeclaresResource (E.scope enc.old) (raw_name name) }
+    requires shown { own_name resolve.now (E.scope enc.old) id.0 ≡ Some (raw_name name).text }
+    requires same_tree { number_tree resolve.now id.0 ≡ named (E.scope enc.old).place (raw_name name).text }
+    requires no_definition { is_defined_by_name resolve.now (E.scope enc.old) id.0 ≡ false }
+    requires fresh { IsKnown (E.maps_of enc.old) id.0 → ⊥ }
+    requires agree { MapsAgree resolve.now (E.maps_of enc.old) (E.stands enc.old) }
+    ensures ok { OnOk result (LearnsOne (E.maps_of enc.old) (E.maps_of enc.new) id.0) }
+    ensures leaves { Leaves resolve.now (E.scope enc.old) (E.scope enc.new) (E.slot_count enc.old) (E.slot_count enc.new) (E.stands enc.old) (E.stands enc.new) (E.maps_of enc.old) (E.maps_of enc.new) }
+    ensures counts { OnOk result (AddsTypes resolve.now (E.scope enc.old) (E.maps_of enc.old) (E.maps_of enc.new) (E.definitions enc.old) (E.definitions enc.new)) }
+{
+    let index = enc.export_resource(name)?;
+    remember_id(enc, resolve, id, index)
+}
+
+/// Exports the type of a slot under a name of this place, and answers the slot that stands for the name.
+fn export<'a, E: ValtypeEncoder<'a>>(
+    enc: &mut E,
+    index: u32,
+    name: ComponentExternName<'a>,
+) -> Result<u32, Error>
+    requires { DeclaresSlot (E.scope enc.old) (E.stands enc.old) (raw_name name) index }
+    ensures ok { IfOk result (λ i. E.stands enc.new i (tree (named (E.scope enc.old).place (raw_name name.entry).text))) }
+    ensures grows { Grows (E.stands enc.old) (E.stands enc.new) (E.slot_count enc.old) (E.slot_count enc.new) }
+    ensures scope_stays { E.scope enc.new ≡ E.scope enc.old }
+    ensures maps_stay { E.maps_of enc.new ≡ E.maps_of enc.old }
+    ensures counts { OnOk result (ExportsOne (E.scope enc.old) (E.definitions enc.old) (E.definitions enc.new) (raw_name name.entry)) }
+{
+    match enc.export_type(index, name)? {
+        Some(slot) => Ok(slot),
+        None => Ok(index),
+    }
+}
+
+/// Defines a named type of this place that is no resource.
+fn define_named<'a, E: ValtypeEncoder<'a>>(
+    alloc: Global,
+    enc: &mut E,
+    resolve: &'a Resolve,
+    id: TypeId,
+    def: &'a TypeDef,
+    name: ComponentExternName<'a>,
+) -> Result<(), Error>
+    requires kind { def.now.kind ≡ TypeDefKind.Resource → ⊥ }
+    requires name { raw_name name ≡ exported_name ((raw_name name).text, type_meaning resolve.now def.now) }
+    requires declared { IsDeclared (E.scope enc.old) ((raw_name name).text, type_meaning resolve.now def.now) }
+    requires shown { own_name resolve.now (E.scope enc.old) id.0 ≡ Some (raw_name name).text }
+    requires same_tree { number_tree resolve.now id.0 ≡ named (E.scope enc.old).place (raw_name name).text }
+    requires by_name { is_defined_by_name resolve.now (E.scope enc.old) id.0 ≡ has_definition def.now.kind }
+    requires ready { AllReady (E.maps_of enc.old) (parts_of def.now.kind) }
+    requires fresh { IsKnown (E.maps_of enc.old) id.0 → ⊥ }
+    requires formed { has_definition def.now.kind ≡ true → IsFormed (E.scope enc.old) (kind_tree resolve.now def.now.kind) }
+    requires agree { MapsAgree resolve.now (E.maps_of enc.old) (E.stands enc.old) }
+    ensures ok { OnOk result (LearnsOne (E.maps_of enc.old) (E.maps_of enc.new) id.0) }
+    ensures leaves { Leaves resolve.now (E.scope enc.old) (E.scope enc.new) (E.slot_count enc.old) (E.slot_count enc.new) (E.stands enc.old) (E.stands enc.new) (E.maps_of enc.old) (E.maps_of enc.new) }
+    ensures counts { OnOk result (AddsTypes resolve.now (E.scope enc.old) (E.maps_of enc.old) (E.maps_of enc.new) (E.definitions enc.old) (E.definitions enc.new)) }
+{
+    let index = define_kind(alloc, enc, resolve, &def.kind)?;
+    let slot = export(enc, index, name)?;
+    remember_id(enc, resolve, id, slot)
+}
+
+/// Defines a type of this place whose parts are known.
+fn define_own<'a, E: ValtypeEncoder<'a>>(
+    alloc: Global,
+    enc: &mut E,
+    resolve: &'a Resolve,
+    id: TypeId,
+    def: &'a TypeDef,
+) -> Result<(), Error>
+    requires own { foreign_owner (E.scope enc.old).own_interface def.now.owner ≡ None }
+    requires there { type_at resolve.now id.0 ≡ Some def.now }
+    requires same_tree { number_tree resolve.now id.0 ≡ tree_of_definition resolve.now (trees_of resolve.now) def.now }
+    requires fits { FitsScope resolve.now (E.scope enc.old) id.0 def.now }
+    requires ready { AllReady (E.maps_of enc.old) (parts_of def.now.kind) }
+    requires fresh { IsKnown (E.maps_of enc.old) id.0 → ⊥ }
+    requires agree { MapsAgree resolve.now (E.maps_of enc.old) (E.stands enc.old) }
+    ensures ok { OnOk result (LearnsOne (E.maps_of enc.old) (E.maps_of enc.new) id.0) }
+    ensures leaves { Leaves resolve.now (E.scope enc.old) (E.scope enc.new) (E.slot_count enc.old) (E.slot_count enc.new) (E.stands enc.old) (E.stands enc.new) (E.maps_of enc.old) (E.maps_of enc.new) }
+    ensures counts { OnOk result (AddsTypes resolve.now (E.scope enc.old) (E.maps_of enc.old) (E.maps_of enc.new) (E.definitions enc.old) (E.definitions enc.new)) }
+{
+    match &def.name {
+        None => define_unnamed(alloc, enc, resolve, id, &def.kind),
+        Some(label) => {
+            let name = name_of(label, &def.external_id);
+            if let TypeDefKind::Resource = &def.kind {
+                return define_resource(enc, resolve, id, name);
+            }
+            define_named(alloc, enc, resolve, id, def, name)
+        }
+    }
+}
+
+/// Defines a type number whose parts are known, unless it is known itself.
+fn define_number<'a, E: ValtypeEncoder<'a>>(
+    alloc: Global,
+    enc: &mut E,
+    resolve: &'a Resolve,
+    id: TypeId,
+) -> Result<(), Error>
+    requires packages { (E.scope enc.old).packages ≡ resolve.now }
+    requires layered { IsLayered resolve.now }
+    requires in_range { id.0 < length resolve.now.types.items }
+    requires fits { Fits resolve.now (E.scope enc.old) id.0 }
+    requires ready { (def : _) → type_at resolve.now id.0 ≡ Some def → foreign_owner (E.scope enc.old).own_interface def.owner ≡ None → AllReady (E.maps_of enc.old) (parts_of def.kind) }
+    requires agree { MapsAgree resolve.now (E.maps_of enc.old) (E.stands enc.old) }
+    ensures ok { OnOk result (LearnsOne (E.maps_of enc.old) (E.maps_of enc.new) id.0) }
+    ensures leaves { Leaves resolve.now (E.scope enc.old) (E.scope enc.new) (E.slot_count enc.old) (E.slot_count enc.new) (E.stands enc.old) (E.stands enc.new) (E.maps_of enc.old) (E.maps_of enc.new) }
+    ensures counts { OnOk result (AddsTypes resolve.now (E.scope enc.old) (E.maps_of enc.old) (E.maps_of enc.new) (E.definitions enc.old) (E.definitions enc.new)) }
+{
+    if index_of(enc, id).is_some() {
+        return Ok(());
+    }
+    let def = &resolve.types[id.0 as usize];
+    let own = enc.interface();
+    if let Some(interface) = foreign(own, def.owner) {
+        return import(enc, resolve, interface, id);
+    }
+    define_own(alloc, enc, resolve, id, def)
+}
+
+/// Imports a type number of another interface.
+fn import<'a, E: ValtypeEncoder<'a>>(
+    enc: &mut E,
+    resolve: &'a Resolve,
+    interface: InterfaceId,
+    id: TypeId,
+) -> Result<(), Error>
+    requires packages { (E.scope enc.old).packages ≡ resolve.now }
+    requires importable { IsImportable (E.scope enc.old) interface.0 id.0 }
+    requires no_definition { is_defined_by_name resolve.now (E.scope enc.old) id.0 ≡ false }
+    requires not_shown { own_name resolve.now (E.scope enc.old) id.0 ≡ None }
+    requires fresh { IsKnown (E.maps_of enc.old) id.0 → ⊥ }
+    requires agree { MapsAgree resolve.now (E.maps_of enc.old) (E.stands enc.old) }
+    ensures ok { OnOk result (LearnsOne (E.maps_of enc.old) (E.maps_of enc.new) id.0) }
+    ensures leaves { Leaves resolve.now (E.scope enc.old) (E.scope enc.new) (E.slot_count enc.old) (E.slot_count enc.new) (E.stands enc.old) (E.stands enc.new) (E.maps_of enc.old) (E.maps_of enc.new) }
+    ensures counts { OnOk result (AddsTypes resolve.now (E.scope enc.old) (E.maps_of enc.old) (E.maps_of enc.new) (E.definitions enc.old) (E.definitions enc.new)) }
+{
+    let index = enc.import_type(interface, id)?;
+    remember_id(enc, resolve, id, index)
+}
+
+/// Defines what types need, and the types themselves.
+pub(crate) fn define_parts<'a, E: ValtypeEncoder<'a>>(
+    alloc: Global,
+    enc: &mut E,
+    resolve: &'a Resolve,
+    types: &[Type],
+) -> Result<(), Error>
+    requires encodable { CanEncode resolve.now (E.scope enc.old) types.now }
+    requires agree { MapsAgree resolve.now (E.maps_of enc.old) (E.stands enc.old) }
+    ensures ready { OnOk result (AllReady (E.maps_of enc.new) types.now) }
+    ensures learns { OnOk result (LearnsOnly (MetFrom resolve.now (E.scope enc.old).own_interface (E.maps_of enc.old) types.now) (E.maps_of enc.old) (E.maps_of enc.new)) }
+    ensures leaves { Leaves resolve.now (E.scope enc.old) (E.scope enc.new) (E.slot_count enc.old) (E.slot_count enc.new) (E.stands enc.old) (E.stands enc.new) (E.maps_of enc.old) (E.maps_of enc.new) }
+    ensures counts { OnOk result (AddsTypes resolve.now (E.scope enc.old) (E.maps_of enc.old) (E.maps_of enc.new) (E.definitions enc.old) (E.definitions enc.new)) }
+{
+    let order = order_of(alloc, enc, resolve, types)?;
+    for n in &order {
+        define_number(alloc, enc, resolve, TypeId(*n))?;
+    }
+    Ok(())
+}

@@ -1,0 +1,396 @@
+//! Encodes types by any encoder that keeps the law.
+//!
+//! Each function answers a slot, or a type by it, that stands for the tree asked for. Also after a refusal the old slots stand for
+//! what they did and the maps agree with the slots. An unnamed kind, and a key of a function type, is defined only where the maps lack
+//! it, and then it is in the maps.
+
+ghost use Rattle.std.specs.Prelude.{◌≡◌, ◌∷◌, [], map, option_map, option_to_list, option_copied, length, ◌<◌, IfOk, OnOk, IfSome, Ok, Some, None, is_some, is_none, true};
+ghost use Rattle.std.specs.List.{AllZip};
+ghost use Rattle.wit_model.specs.Text.{text_of};
+ghost use Rattle.wit_model.specs.Types.{type_tree, number_tree};
+ghost use Rattle.wit_model.specs.Tree.{Tree, flags_tree, enum_tree, future_tree, stream_tree};
+ghost use Rattle.wit_model.specs.Lookup.{type_at};
+ghost use Rattle.wit_encode.specs.Plan.{foreign_owner, MetFrom};
+ghost use Rattle.wit_encode.specs.Scope.{IsImportable};
+ghost use Rattle.wit_model.specs.Meant.{signature_of};
+ghost use Rattle.wit_model.specs.Parts.{function_types};
+ghost use Rattle.wit_encode.specs.Slots.{tree, function, StandsFor, StandsForOptional, NamedStands, Follows, Grows};
+ghost use Rattle.wit_encode.specs.Kinds.{parts_of, kind_of, kind_tree};
+ghost use Rattle.wit_encode.specs.Maps.{MapsAgree, LearnsOnly};
+ghost use Rattle.wit_encode.specs.Fits.{CanEncode};
+ghost use Rattle.wit_encode.specs.Formed.{IsFormed};
+ghost use Rattle.wit_encode.specs.Counts.{one_type_more, type_more_if, AddsTypes, AddsFunction};
+ghost use Rattle.wit_encode.specs.Leaves.{Leaves};
+
+use crate::define::{define_parts, define_shape};
+use crate::definition::{case_names, flag_names};
+use crate::encoder::ValtypeEncoder;
+use crate::lend::{
+    params_of, remember_unit_future, remember_unit_stream, unit_future, unit_stream, value_of,
+};
+use crate::plan::foreign;
+use crate::shape::{Shape, param_types, shape_parts};
+use comp_bytes::{ComponentDefinedType, ComponentValType};
+use std::alloc::Global;
+use wit_model::{
+    Enum, Error, Flags, Param, Record, Resolve, Result_, Tuple, Type, TypeDefKind, TypeId, Variant,
+};
+
+/// Defines the parts of a shape, and then the shape itself.
+fn encode_shape<'a, E: ValtypeEncoder<'a>>(
+    alloc: Global,
+    enc: &mut E,
+    resolve: &'a Resolve,
+    shape: Shape<'a, '_>,
+) -> Result<ComponentValType, Error>
+    requires encodable { CanEncode resolve.now (E.scope enc.old) (parts_of (kind_of shape)) }
+    requires formed { IsFormed (E.scope enc.old) (kind_tree resolve.now (kind_of shape)) }
+    requires agree { MapsAgree resolve.now (E.maps_of enc.old) (E.stands enc.old) }
+    ensures ok { IfOk result (λ v. StandsFor (E.stands enc.new) v (kind_tree resolve.now (kind_of shape.entry))) }
+    ensures leaves { Leaves resolve.now (E.scope enc.old) (E.scope enc.new) (E.slot_count enc.old) (E.slot_count enc.new) (E.stands enc.old) (E.stands enc.new) (E.maps_of enc.old) (E.maps_of enc.new) }
+    ensures counts { OnOk result (AddsTypes resolve.now (E.scope enc.old) (E.maps_of enc.old) (E.maps_of enc.new) (one_type_more (E.definitions enc.old)) (E.definitions enc.new)) }
+{
+    let parts = shape_parts(alloc, shape)?;
+    define_parts(alloc, enc, resolve, &parts)?;
+    let index = define_shape(alloc, enc, resolve, shape)?;
+    Ok(ComponentValType::Type_(index))
+}
+
+/// Encodes a type, and what it needs before it, parts before wholes. A named type that is met for the first time is exported under its
+/// name, or imported where it is of another interface; an unnamed kind is defined where the maps lack it.
+///
+/// Takes a step for each reference between the types that are met for the first time, and searches the maps for each of them.
+pub fn encode_valtype<'a, E: ValtypeEncoder<'a>>(
+    alloc: Global,
+    enc: &mut E,
+    resolve: &'a Resolve,
+    ty: &Type,
+) -> Result<ComponentValType, Error>
+    requires encodable { CanEncode resolve.now (E.scope enc.old) (ty.now ∷ []) }
+    requires agree { MapsAgree resolve.now (E.maps_of enc.old) (E.stands enc.old) }
+    ensures ok { IfOk result (λ v. StandsFor (E.stands enc.new) v (type_tree resolve.now ty.now)) }
+    ensures learns { OnOk result (LearnsOnly (MetFrom resolve.now (E.scope enc.old).own_interface (E.maps_of enc.old) (ty.now ∷ [])) (E.maps_of enc.old) (E.maps_of enc.new)) }
+    ensures leaves { Leaves resolve.now (E.scope enc.old) (E.scope enc.new) (E.slot_count enc.old) (E.slot_count enc.new) (E.stands enc.old) (E.stands enc.new) (E.maps_of enc.old) (E.maps_of enc.new) }
+    ensures counts { OnOk result (AddsTypes resolve.now (E.scope enc.old) (E.maps_of enc.old) (E.maps_of enc.new) (E.definitions enc.old) (E.definitions enc.new)) }
+{
+    define_parts(alloc, enc, resolve, &[*ty])?;
+    Ok(value_of(enc, ty))
+}
+
+/// Encodes a type, where there is one.
+pub fn encode_optional_valtype<'a, E: ValtypeEncoder<'a>>(
+    alloc: Global,
+    enc: &mut E,
+    resolve: &'a Resolve,
+    ty: Option<&Type>,
+) -> Result<Option<ComponentValType>, Error>
+    requires encodable { CanEncode resolve.now (E.scope enc.old) (option_to_list (option_copied ty)) }
+    requires agree { MapsAgree resolve.now (E.maps_of enc.old) (E.stands enc.old) }
+    ensures ok { IfOk result (λ v. StandsForOptional (E.stands enc.new) v (option_map (type_tree resolve.now) (option_copied ty.entry))) }
+    ensures learns { OnOk result (LearnsOnly (MetFrom resolve.now (E.scope enc.old).own_interface (E.maps_of enc.old) (option_to_list (option_copied ty.entry))) (E.maps_of enc.old) (E.maps_of enc.new)) }
+    ensures leaves { Leaves resolve.now (E.scope enc.old) (E.scope enc.new) (E.slot_count enc.old) (E.slot_count enc.new) (E.stands enc.old) (E.stands enc.new) (E.maps_of enc.old) (E.maps_of enc.new) }
+    ensures counts { OnOk result (AddsTypes resolve.now (E.scope enc.old) (E.maps_of enc.old) (E.maps_of enc.new) (E.definitions enc.old) (E.definitions enc.new)) }
+{
+    match ty {
+        Some(ty) => {
+            let value = encode_valtype(alloc, enc, resolve, ty)?;
+            Ok(Some(value))
+        }
+        None => Ok(None),
+    }
+}
+
+/// Encodes the types of parameters, each under its name.
+pub fn encode_params<'a, E: ValtypeEncoder<'a>>(
+    alloc: Global,
+    enc: &mut E,
+    resolve: &'a Resolve,
+    params: &'a [Param],
+) -> Result<Vec<(&'a str, ComponentValType)>, Error>
+    requires encodable { CanEncode resolve.now (E.scope enc.old) (map (λ p. p.ty) params.now) }
+    requires agree { MapsAgree resolve.now (E.maps_of enc.old) (E.stands enc.old) }
+    ensures ok { IfOk result (λ v. AllZip (NamedStands (E.stands enc.new)) v.items (map (λ p. (text_of p.name, type_tree resolve.now p.ty)) params.now)) }
+    ensures learns { OnOk result (LearnsOnly (MetFrom resolve.now (E.scope enc.old).own_interface (E.maps_of enc.old) (map (λ p. p.ty) params.now)) (E.maps_of enc.old) (E.maps_of enc.new)) }
+    ensures leaves { Leaves resolve.now (E.scope enc.old) (E.scope enc.new) (E.slot_count enc.old) (E.slot_count enc.new) (E.stands enc.old) (E.stands enc.new) (E.maps_of enc.old) (E.maps_of enc.new) }
+    ensures counts { OnOk result (AddsTypes resolve.now (E.scope enc.old) (E.maps_of enc.old) (E.maps_of enc.new) (E.definitions enc.old) (E.definitions enc.new)) }
+{
+    let types = param_types(alloc, params)?;
+    define_parts(alloc, enc, resolve, &types)?;
+    let values = params_of(alloc, enc, params)?;
+    Ok(values)
+}
+
+/// Defines a record, and what it needs before it.
+pub fn encode_record<'a, E: ValtypeEncoder<'a>>(
+    alloc: Global,
+    enc: &mut E,
+    resolve: &'a Resolve,
+    ty: &'a Record,
+) -> Result<ComponentValType, Error>
+    requires encodable { CanEncode resolve.now (E.scope enc.old) (parts_of (TypeDefKind.Record ty.now)) }
+    requires formed { IsFormed (E.scope enc.old) (kind_tree resolve.now (TypeDefKind.Record ty.now)) }
+    requires agree { MapsAgree resolve.now (E.maps_of enc.old) (E.stands enc.old) }
+    ensures ok { IfOk result (λ v. StandsFor (E.stands enc.new) v (kind_tree resolve.now (TypeDefKind.Record ty.now))) }
+    ensures leaves { Leaves resolve.now (E.scope enc.old) (E.scope enc.new) (E.slot_count enc.old) (E.slot_count enc.new) (E.stands enc.old) (E.stands enc.new) (E.maps_of enc.old) (E.maps_of enc.new) }
+    ensures counts { OnOk result (AddsTypes resolve.now (E.scope enc.old) (E.maps_of enc.old) (E.maps_of enc.new) (one_type_more (E.definitions enc.old)) (E.definitions enc.new)) }
+{
+    encode_shape(alloc, enc, resolve, Shape::Record(ty))
+}
+
+/// Defines a tuple, and what it needs before it.
+pub fn encode_tuple<'a, E: ValtypeEncoder<'a>>(
+    alloc: Global,
+    enc: &mut E,
+    resolve: &'a Resolve,
+    ty: &Tuple,
+) -> Result<ComponentValType, Error>
+    requires encodable { CanEncode resolve.now (E.scope enc.old) (parts_of (TypeDefKind.Tuple ty.now)) }
+    requires formed { IsFormed (E.scope enc.old) (kind_tree resolve.now (TypeDefKind.Tuple ty.now)) }
+    requires agree { MapsAgree resolve.now (E.maps_of enc.old) (E.stands enc.old) }
+    ensures ok { IfOk result (λ v. StandsFor (E.stands enc.new) v (kind_tree resolve.now (TypeDefKind.Tuple ty.now))) }
+    ensures leaves { Leaves resolve.now (E.scope enc.old) (E.scope enc.new) (E.slot_count enc.old) (E.slot_count enc.new) (E.stands enc.old) (E.stands enc.new) (E.maps_of enc.old) (E.maps_of enc.new) }
+    ensures counts { OnOk result (AddsTypes resolve.now (E.scope enc.old) (E.maps_of enc.old) (E.maps_of enc.new) (one_type_more (E.definitions enc.old)) (E.definitions enc.new)) }
+{
+    encode_shape(alloc, enc, resolve, Shape::Tuple(ty))
+}
+
+/// Defines a variant, and what it needs before it.
+pub fn encode_variant<'a, E: ValtypeEncoder<'a>>(
+    alloc: Global,
+    enc: &mut E,
+    resolve: &'a Resolve,
+    ty: &'a Variant,
+) -> Result<ComponentValType, Error>
+    requires encodable { CanEncode resolve.now (E.scope enc.old) (parts_of (TypeDefKind.Variant ty.now)) }
+    requires formed { IsFormed (E.scope enc.old) (kind_tree resolve.now (TypeDefKind.Variant ty.now)) }
+    requires agree { MapsAgree resolve.now (E.maps_of enc.old) (E.stands enc.old) }
+    ensures ok { IfOk result (λ v. StandsFor (E.stands enc.new) v (kind_tree resolve.now (TypeDefKind.Variant ty.now))) }
+    ensures leaves { Leaves resolve.now (E.scope enc.old) (E.scope enc.new) (E.slot_count enc.old) (E.slot_count enc.new) (E.stands enc.old) (E.stands enc.new) (E.maps_of enc.old) (E.maps_of enc.new) }
+    ensures counts { OnOk result (AddsTypes resolve.now (E.scope enc.old) (E.maps_of enc.old) (E.maps_of enc.new) (one_type_more (E.definitions enc.old)) (E.definitions enc.new)) }
+{
+    encode_shape(alloc, enc, resolve, Shape::Variant(ty))
+}
+
+/// Defines a result, and what it needs before it.
+pub fn encode_result<'a, E: ValtypeEncoder<'a>>(
+    alloc: Global,
+    enc: &mut E,
+    resolve: &'a Resolve,
+    ty: &Result_,
+) -> Result<ComponentValType, Error>
+    requires encodable { CanEncode resolve.now (E.scope enc.old) (parts_of (TypeDefKind.Result ty.now)) }
+    requires formed { IsFormed (E.scope enc.old) (kind_tree resolve.now (TypeDefKind.Result ty.now)) }
+    requires agree { MapsAgree resolve.now (E.maps_of enc.old) (E.stands enc.old) }
+    ensures ok { IfOk result (λ v. StandsFor (E.stands enc.new) v (kind_tree resolve.now (TypeDefKind.Result ty.now))) }
+    ensures leaves { Leaves resolve.now (E.scope enc.old) (E.scope enc.new) (E.slot_count enc.old) (E.slot_count enc.new) (E.stands enc.old) (E.stands enc.new) (E.maps_of enc.old) (E.maps_of enc.new) }
+    ensures counts { OnOk result (AddsTypes resolve.now (E.scope enc.old) (E.maps_of enc.old) (E.maps_of enc.new) (one_type_more (E.definitions enc.old)) (E.definitions enc.new)) }
+{
+    encode_shape(alloc, enc, resolve, Shape::Result(ty))
+}
+
+/// Defines an option, and what it needs before it.
+pub fn encode_option<'a, E: ValtypeEncoder<'a>>(
+    alloc: Global,
+    enc: &mut E,
+    resolve: &'a Resolve,
+    payload: &Type,
+) -> Result<ComponentValType, Error>
+    requires encodable { CanEncode resolve.now (E.scope enc.old) (parts_of (TypeDefKind.Option payload.now)) }
+    requires formed { IsFormed (E.scope enc.old) (kind_tree resolve.now (TypeDefKind.Option payload.now)) }
+    requires agree { MapsAgree resolve.now (E.maps_of enc.old) (E.stands enc.old) }
+    ensures ok { IfOk result (λ v. StandsFor (E.stands enc.new) v (kind_tree resolve.now (TypeDefKind.Option payload.now))) }
+    ensures leaves { Leaves resolve.now (E.scope enc.old) (E.scope enc.new) (E.slot_count enc.old) (E.slot_count enc.new) (E.stands enc.old) (E.stands enc.new) (E.maps_of enc.old) (E.maps_of enc.new) }
+    ensures counts { OnOk result (AddsTypes resolve.now (E.scope enc.old) (E.maps_of enc.old) (E.maps_of enc.new) (one_type_more (E.definitions enc.old)) (E.definitions enc.new)) }
+{
+    encode_shape(alloc, enc, resolve, Shape::Option(*payload))
+}
+
+/// Defines a future, and what it needs before it.
+pub fn encode_future<'a, E: ValtypeEncoder<'a>>(
+    alloc: Global,
+    enc: &mut E,
+    resolve: &'a Resolve,
+    payload: &Option<Type>,
+) -> Result<ComponentValType, Error>
+    requires encodable { CanEncode resolve.now (E.scope enc.old) (parts_of (TypeDefKind.Future payload.now)) }
+    requires formed { IsFormed (E.scope enc.old) (kind_tree resolve.now (TypeDefKind.Future payload.now)) }
+    requires agree { MapsAgree resolve.now (E.maps_of enc.old) (E.stands enc.old) }
+    ensures ok { IfOk result (λ v. StandsFor (E.stands enc.new) v (kind_tree resolve.now (TypeDefKind.Future payload.now))) }
+    ensures leaves { Leaves resolve.now (E.scope enc.old) (E.scope enc.new) (E.slot_count enc.old) (E.slot_count enc.new) (E.stands enc.old) (E.stands enc.new) (E.maps_of enc.old) (E.maps_of enc.new) }
+    ensures counts { OnOk result (AddsTypes resolve.now (E.scope enc.old) (E.maps_of enc.old) (E.maps_of enc.new) (one_type_more (E.definitions enc.old)) (E.definitions enc.new)) }
+{
+    encode_shape(alloc, enc, resolve, Shape::Future(*payload))
+}
+
+/// Defines a stream, and what it needs before it.
+pub fn encode_stream<'a, E: ValtypeEncoder<'a>>(
+    alloc: Global,
+    enc: &mut E,
+    resolve: &'a Resolve,
+    payload: &Option<Type>,
+) -> Result<ComponentValType, Error>
+    requires encodable { CanEncode resolve.now (E.scope enc.old) (parts_of (TypeDefKind.Stream payload.now)) }
+    requires formed { IsFormed (E.scope enc.old) (kind_tree resolve.now (TypeDefKind.Stream payload.now)) }
+    requires agree { MapsAgree resolve.now (E.maps_of enc.old) (E.stands enc.old) }
+    ensures ok { IfOk result (λ v. StandsFor (E.stands enc.new) v (kind_tree resolve.now (TypeDefKind.Stream payload.now))) }
+    ensures leaves { Leaves resolve.now (E.scope enc.old) (E.scope enc.new) (E.slot_count enc.old) (E.slot_count enc.new) (E.stands enc.old) (E.stands enc.new) (E.maps_of enc.old) (E.maps_of enc.new) }
+    ensures counts { OnOk result (AddsTypes resolve.now (E.scope enc.old) (E.maps_of enc.old) (E.maps_of enc.new) (one_type_more (E.definitions enc.old)) (E.definitions enc.new)) }
+{
+    encode_shape(alloc, enc, resolve, Shape::Stream(*payload))
+}
+
+/// Adds a definition.
+fn define<'a, E: ValtypeEncoder<'a>>(
+    enc: &mut E,
+    def: ComponentDefinedType<'a>,
+) -> Result<ComponentValType, Error>
+    requires { (t : Tree) × Follows (E.stands enc.old) def t × IsFormed (E.scope enc.old) t }
+    ensures ok { IfOk result (λ v. (t : Tree) → Follows (E.stands enc.old) def.entry t → StandsFor (E.stands enc.new) v t) }
+    ensures grows { Grows (E.stands enc.old) (E.stands enc.new) (E.slot_count enc.old) (E.slot_count enc.new) }
+    ensures scope_stays { E.scope enc.new ≡ E.scope enc.old }
+    ensures maps_stay { E.maps_of enc.new ≡ E.maps_of enc.old }
+    ensures counts { OnOk result (E.definitions enc.new ≡ one_type_more (E.definitions enc.old)) }
+{
+    let index = enc.defined_type(def)?;
+    Ok(ComponentValType::Type_(index))
+}
+
+/// Defines flags.
+pub fn encode_flags<'a, E: ValtypeEncoder<'a>>(
+    alloc: Global,
+    enc: &mut E,
+    ty: &'a Flags,
+) -> Result<ComponentValType, Error>
+    requires formed { IsFormed (E.scope enc.old) (flags_tree (map (λ x. text_of x.name) ty.now.flags.items)) }
+    ensures ok { IfOk result (λ v. StandsFor (E.stands enc.new) v (flags_tree (map (λ x. text_of x.name) ty.now.flags.items))) }
+    ensures grows { Grows (E.stands enc.old) (E.stands enc.new) (E.slot_count enc.old) (E.slot_count enc.new) }
+    ensures scope_stays { E.scope enc.new ≡ E.scope enc.old }
+    ensures maps_stay { E.maps_of enc.new ≡ E.maps_of enc.old }
+    ensures counts { OnOk result (E.definitions enc.new ≡ one_type_more (E.definitions enc.old)) }
+{
+    let names = flag_names(alloc, &ty.flags)?;
+    define(enc, ComponentDefinedType::Flags(names))
+}
+
+/// Defines an enum.
+pub fn encode_enum<'a, E: ValtypeEncoder<'a>>(
+    alloc: Global,
+    enc: &mut E,
+    ty: &'a Enum,
+) -> Result<ComponentValType, Error>
+    requires formed { IsFormed (E.scope enc.old) (enum_tree (map (λ x. text_of x.name) ty.now.cases.items)) }
+    ensures ok { IfOk result (λ v. StandsFor (E.stands enc.new) v (enum_tree (map (λ x. text_of x.name) ty.now.cases.items))) }
+    ensures grows { Grows (E.stands enc.old) (E.stands enc.new) (E.slot_count enc.old) (E.slot_count enc.new) }
+    ensures scope_stays { E.scope enc.new ≡ E.scope enc.old }
+    ensures maps_stay { E.maps_of enc.new ≡ E.maps_of enc.old }
+    ensures counts { OnOk result (E.definitions enc.new ≡ one_type_more (E.definitions enc.old)) }
+{
+    let names = case_names(alloc, &ty.cases)?;
+    define(enc, ComponentDefinedType::Enum(names))
+}
+
+/// The future without an element that has a cache of its own: it is defined by the first call, and later calls answer the same index.
+///
+/// Takes constant time.
+pub fn encode_unit_future<'a, E: ValtypeEncoder<'a>>(
+    _alloc: Global,
+    enc: &mut E,
+) -> Result<u32, Error>
+    requires sound { (E.scope enc.old).is_sound ≡ true }
+    requires agree { MapsAgree (E.scope enc.old).packages (E.maps_of enc.old) (E.stands enc.old) }
+    ensures ok { IfOk result (λ i. E.stands enc.new i (tree (future_tree None))) }
+    ensures cached { IfOk result (λ i. (E.maps_of enc.new).unit_future ≡ Some i) }
+    ensures first { IfSome (E.maps_of enc.old).unit_future (λ i. result ≡ Ok i) }
+    ensures rest { E.maps_of enc.new ≡ record (E.maps_of enc.old) { unit_future = (E.maps_of enc.new).unit_future } }
+    ensures leaves { Leaves (E.scope enc.old).packages (E.scope enc.old) (E.scope enc.new) (E.slot_count enc.old) (E.slot_count enc.new) (E.stands enc.old) (E.stands enc.new) (E.maps_of enc.old) (E.maps_of enc.new) }
+    ensures counts { OnOk result (E.definitions enc.new ≡ type_more_if (is_none (E.maps_of enc.old).unit_future) (E.definitions enc.old)) }
+{
+    if let Some(index) = unit_future(enc) {
+        return Ok(index);
+    }
+    define_unit_future(enc)
+}
+
+/// Defines the future without an element.
+fn define_unit_future<'a, E: ValtypeEncoder<'a>>(enc: &mut E) -> Result<u32, Error>
+    requires sound { (E.scope enc.old).is_sound ≡ true }
+    requires agree { MapsAgree (E.scope enc.old).packages (E.maps_of enc.old) (E.stands enc.old) }
+    requires fresh { (E.maps_of enc.old).unit_future ≡ None }
+    ensures ok { IfOk result (λ i. E.stands enc.new i (tree (future_tree None))) }
+    ensures cached { IfOk result (λ i. (E.maps_of enc.new).unit_future ≡ Some i) }
+    ensures rest { E.maps_of enc.new ≡ record (E.maps_of enc.old) { unit_future = (E.maps_of enc.new).unit_future } }
+    ensures leaves { Leaves (E.scope enc.old).packages (E.scope enc.old) (E.scope enc.new) (E.slot_count enc.old) (E.slot_count enc.new) (E.stands enc.old) (E.stands enc.new) (E.maps_of enc.old) (E.maps_of enc.new) }
+    ensures counts { OnOk result (E.definitions enc.new ≡ one_type_more (E.definitions enc.old)) }
+{
+    let index = enc.defined_type(ComponentDefinedType::Future(None))?;
+    remember_unit_future(enc, index);
+    Ok(index)
+}
+
+/// The stream without an element that has a cache of its own: it is defined by the first call, and later calls answer the same index.
+///
+/// Takes constant time.
+pub fn encode_unit_stream<'a, E: ValtypeEncoder<'a>>(
+    _alloc: Global,
+    enc: &mut E,
+) -> Result<u32, Error>
+    requires sound { (E.scope enc.old).is_sound ≡ true }
+    requires agree { MapsAgree (E.scope enc.old).packages (E.maps_of enc.old) (E.stands enc.old) }
+    ensures ok { IfOk result (λ i. E.stands enc.new i (tree (stream_tree None))) }
+    ensures cached { IfOk result (λ i. (E.maps_of enc.new).unit_stream ≡ Some i) }
+    ensures first { IfSome (E.maps_of enc.old).unit_stream (λ i. result ≡ Ok i) }
+    ensures rest { E.maps_of enc.new ≡ record (E.maps_of enc.old) { unit_stream = (E.maps_of enc.new).unit_stream } }
+    ensures leaves { Leaves (E.scope enc.old).packages (E.scope enc.old) (E.scope enc.new) (E.slot_count enc.old) (E.slot_count enc.new) (E.stands enc.old) (E.stands enc.new) (E.maps_of enc.old) (E.maps_of enc.new) }
+    ensures counts { OnOk result (E.definitions enc.new ≡ type_more_if (is_none (E.maps_of enc.old).unit_stream) (E.definitions enc.old)) }
+{
+    if let Some(index) = unit_stream(enc) {
+        return Ok(index);
+    }
+    define_unit_stream(enc)
+}
+
+/// Defines the stream without an element.
+fn define_unit_stream<'a, E: ValtypeEncoder<'a>>(enc: &mut E) -> Result<u32, Error>
+    requires sound { (E.scope enc.old).is_sound ≡ true }
+    requires agree { MapsAgree (E.scope enc.old).packages (E.maps_of enc.old) (E.stands enc.old) }
+    requires fresh { (E.maps_of enc.old).unit_stream ≡ None }
+    ensures ok { IfOk result (λ i. E.stands enc.new i (tree (stream_tree None))) }
+    ensures cached { IfOk result (λ i. (E.maps_of enc.new).unit_stream ≡ Some i) }
+    ensures rest { E.maps_of enc.new ≡ record (E.maps_of enc.old) { unit_stream = (E.maps_of enc.new).unit_stream } }
+    ensures leaves { Leaves (E.scope enc.old).packages (E.scope enc.old) (E.scope enc.new) (E.slot_count enc.old) (E.slot_count enc.new) (E.stands enc.old) (E.stands enc.new) (E.maps_of enc.old) (E.maps_of enc.new) }
+    ensures counts { OnOk result (E.definitions enc.new ≡ one_type_more (E.definitions enc.old)) }
+{
+    let index = enc.defined_type(ComponentDefinedType::Stream(None))?;
+    remember_unit_stream(enc, index);
+    Ok(index)
+}
+
+/// Imports a type, where it is one of another interface.
+///
+/// Takes constant time beside the encoder's.
+pub fn maybe_import_type<'a, E: ValtypeEncoder<'a>>(
+    _alloc: Global,
+    enc: &mut E,
+    resolve: &'a Resolve,
+    id: TypeId,
+) -> Result<Option<u32>, Error>
+    requires packages { (E.scope enc.old).packages ≡ resolve.now }
+    requires in_range { id.0 < length resolve.now.types.items }
+    requires importable { (def : _) (i : _) → type_at resolve.now id.0 ≡ Some def → foreign_owner (E.scope enc.old).own_interface def.owner ≡ Some i → IsImportable (E.scope enc.old) i.0 id.0 }
+    ensures ok { IfOk result (λ o. IfSome o (λ i. E.stands enc.new i (tree (number_tree resolve.now id.0)))) }
+    ensures foreign { (def : _) → type_at resolve.now id.0 ≡ Some def → IfOk result (λ o. is_some o ≡ is_some (foreign_owner (E.scope enc.old).own_interface def.owner)) }
+    ensures grows { Grows (E.stands enc.old) (E.stands enc.new) (E.slot_count enc.old) (E.slot_count enc.new) }
+    ensures scope_stays { E.scope enc.new ≡ E.scope enc.old }
+    ensures maps_stay { E.maps_of enc.new ≡ E.maps_of enc.old }
+    ensures counts { OnOk result (E.definitions enc.new ≡ E.definitions enc.old) }
+{
+    let def = &resolve.types[id.0 as usize];
+    let own = enc.interface();
+    match foreign(own, def.owner) {
+        Some(interface) => {
+            let index = enc.import_type(interface, id)?;
+            Ok(Some(index))
+        }
+        None => Ok(None),
+    }
+}

@@ -1,0 +1,95 @@
+//! Encodes the types of functions by any encoder that keeps the law.
+
+ghost use Rattle.std.specs.Prelude.{◌≡◌, IfOk, OnOk};
+ghost use Rattle.wit_model.specs.Meant.{signature_of};
+ghost use Rattle.wit_model.specs.Parts.{function_types};
+ghost use Rattle.wit_encode.specs.Slots.{function, FollowsFunction};
+ghost use Rattle.wit_encode.specs.Key.{IsKeyOf};
+ghost use Rattle.wit_encode.specs.Maps.{MapsAgree, LacksKey, LearnsOnly};
+ghost use Rattle.wit_encode.specs.Plan.{MetFrom};
+ghost use Rattle.wit_encode.specs.Fits.{CanEncode};
+ghost use Rattle.wit_encode.specs.Formed.{IsFormedSignature};
+ghost use Rattle.wit_encode.specs.Counts.{AddsTypes, AddsFunction};
+ghost use Rattle.wit_encode.specs.Leaves.{Leaves};
+ghost use Rattle.wit_encode.specs.declared.key.FunctionKey.{FunctionKey as KeyValue};
+
+use crate::encode::{encode_optional_valtype, encode_params};
+use crate::encoder::ValtypeEncoder;
+use crate::key::{FunctionKey, key_of};
+use crate::lend::{index_of_key, remember_key};
+use comp_bytes::ComponentFuncType;
+use std::alloc::Global;
+use wit_model::{Error, Function, Resolve};
+
+/// The type of a function, over the types of its parameters and its result.
+fn function_of<'a, E: ValtypeEncoder<'a>>(
+    alloc: Global,
+    enc: &mut E,
+    resolve: &'a Resolve,
+    func: &'a Function,
+    async_: bool,
+) -> Result<ComponentFuncType<'a>, Error>
+    requires encodable { CanEncode resolve.now (E.scope enc.old) (function_types func.now) }
+    requires asynchronous { async_ ≡ (signature_of resolve.now func.now).is_async }
+    requires agree { MapsAgree resolve.now (E.maps_of enc.old) (E.stands enc.old) }
+    ensures ok { IfOk result (λ f. FollowsFunction (E.stands enc.new) f (signature_of resolve.now func.now)) }
+    ensures learns { OnOk result (LearnsOnly (MetFrom resolve.now (E.scope enc.old).own_interface (E.maps_of enc.old) (function_types func.now)) (E.maps_of enc.old) (E.maps_of enc.new)) }
+    ensures leaves { Leaves resolve.now (E.scope enc.old) (E.scope enc.new) (E.slot_count enc.old) (E.slot_count enc.new) (E.stands enc.old) (E.stands enc.new) (E.maps_of enc.old) (E.maps_of enc.new) }
+    ensures counts { OnOk result (AddsTypes resolve.now (E.scope enc.old) (E.maps_of enc.old) (E.maps_of enc.new) (E.definitions enc.old) (E.definitions enc.new)) }
+{
+    let params = encode_params(alloc, enc, resolve, &func.params)?;
+    let result = encode_optional_valtype(alloc, enc, resolve, func.result.as_ref())?;
+    Ok(ComponentFuncType {
+        async_,
+        params,
+        result,
+    })
+}
+
+/// Defines the type of a function whose key the maps lack.
+fn define_key<'a, E: ValtypeEncoder<'a>>(
+    alloc: Global,
+    enc: &mut E,
+    resolve: &'a Resolve,
+    func: &'a Function,
+    key: FunctionKey<'a>,
+) -> Result<u32, Error>
+    requires encodable { CanEncode resolve.now (E.scope enc.old) (function_types func.now) }
+    requires is_key { IsKeyOf key func.now }
+    requires lacks { LacksKey (E.maps_of enc.old) key }
+    requires formed { IsFormedSignature (E.scope enc.old) (signature_of resolve.now func.now) }
+    requires agree { MapsAgree resolve.now (E.maps_of enc.old) (E.stands enc.old) }
+    ensures ok { IfOk result (λ i. E.stands enc.new i (function (signature_of resolve.now func.now))) }
+    ensures learns { OnOk result (LearnsOnly (MetFrom resolve.now (E.scope enc.old).own_interface (E.maps_of enc.old) (function_types func.now)) (E.maps_of enc.old) (E.maps_of enc.new)) }
+    ensures leaves { Leaves resolve.now (E.scope enc.old) (E.scope enc.new) (E.slot_count enc.old) (E.slot_count enc.new) (E.stands enc.old) (E.stands enc.new) (E.maps_of enc.old) (E.maps_of enc.new) }
+    ensures counts { IfOk result (AddsFunction resolve.now (E.scope enc.old) (E.maps_of enc.old) (E.maps_of enc.new) (E.definitions enc.old) (E.definitions enc.new) key.entry) }
+{
+    let def = function_of(alloc, enc, resolve, func, key.async_)?;
+    let index = enc.define_function_type(def)?;
+    remember_key(enc, resolve, key, index)?;
+    Ok(index)
+}
+
+/// Encodes the type of a function, and what it needs before it. A function with an equal key shares it.
+///
+/// Takes as long as its parameters and its result, and one search among the keys.
+pub fn encode_func_type<'a, E: ValtypeEncoder<'a>>(
+    alloc: Global,
+    enc: &mut E,
+    resolve: &'a Resolve,
+    func: &'a Function,
+) -> Result<u32, Error>
+    requires encodable { CanEncode resolve.now (E.scope enc.old) (function_types func.now) }
+    requires formed { IsFormedSignature (E.scope enc.old) (signature_of resolve.now func.now) }
+    requires agree { MapsAgree resolve.now (E.maps_of enc.old) (E.stands enc.old) }
+    ensures ok { IfOk result (λ i. E.stands enc.new i (function (signature_of resolve.now func.now))) }
+    ensures learns { OnOk result (LearnsOnly (MetFrom resolve.now (E.scope enc.old).own_interface (E.maps_of enc.old) (function_types func.now)) (E.maps_of enc.old) (E.maps_of enc.new)) }
+    ensures leaves { Leaves resolve.now (E.scope enc.old) (E.scope enc.new) (E.slot_count enc.old) (E.slot_count enc.new) (E.stands enc.old) (E.stands enc.new) (E.maps_of enc.old) (E.maps_of enc.new) }
+    ensures counts { IfOk result (λ i. (key : KeyValue) × IsKeyOf key func.now × AddsFunction resolve.now (E.scope enc.old) (E.maps_of enc.old) (E.maps_of enc.new) (E.definitions enc.old) (E.definitions enc.new) key i) }
+{
+    let key = key_of(func);
+    if let Some(index) = index_of_key(enc, &key) {
+        return Ok(index);
+    }
+    define_key(alloc, enc, resolve, func, key)
+}

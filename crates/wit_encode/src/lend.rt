@@ -1,0 +1,184 @@
+//! The maps of an encoder: read, where it stays as it is, and written, where the rest of it does.
+
+ghost use Rattle.std.specs.Prelude.{◌≡◌, IfOk, OnOk, IfSome, IfNone, IsSome, map};
+ghost use Rattle.std.specs.List.{Contains, AllZip};
+ghost use Rattle.wit_model.specs.Types.{number_tree};
+ghost use Rattle.wit_model.specs.Tree.{future_tree, stream_tree};
+ghost use Rattle.wit_encode.specs.Slots.{tree, function};
+ghost use Rattle.wit_encode.specs.Key.{key_signature};
+ghost use Rattle.wit_encode.specs.Kinds.{kind_tree, kind_of, parts_of};
+ghost use Rattle.wit_encode.specs.Maps.{MapsAgree, IsKnown, HasKind, LacksKind, HasKey, LacksKey, IsReady, AllReady, IsWritten, LearnsNumber, LearnsKind, LearnsKey};
+ghost use Rattle.wit_encode.specs.Definition.{IsWrittenParam, FollowsKind};
+ghost use Rattle.wit_encode.specs.Plan.{IsLayered, AllInRange, IsOrderOf};
+ghost use Rattle.wit_encode.specs.Leaves.{Leaves};
+
+use crate::definition::{definition, params_in};
+use crate::encoder::ValtypeEncoder;
+use crate::key::FunctionKey;
+use crate::maps::value_in;
+use crate::shape::Shape;
+use comp_bytes::{ComponentDefinedType, ComponentValType};
+use std::alloc::{AllocError, Global};
+use wit_model::{Error, Param, Resolve, Type, TypeDefKind, TypeId};
+
+// ---- reads
+
+pub(crate) fn index_of<'a, E: ValtypeEncoder<'a>>(enc: &mut E, id: TypeId) -> Option<u32>
+    ensures same { enc.new ≡ enc.old }
+    ensures some { IfSome result (λ i. Contains (E.maps_of enc.old).id_to_index.items (id, i)) }
+    ensures none { IsKnown (E.maps_of enc.old) id.0 → IsSome result }
+{
+    enc.type_encoding_maps().index_of(id)
+}
+
+pub(crate) fn index_of_kind<'a, E: ValtypeEncoder<'a>>(
+    enc: &mut E,
+    kind: &TypeDefKind,
+) -> Option<u32>
+    ensures same { enc.new ≡ enc.old }
+    ensures some { IfSome result (HasKind (E.maps_of enc.old) kind.now) }
+    ensures none { IfNone result (LacksKind (E.maps_of enc.old) kind.now) }
+{
+    enc.type_encoding_maps().index_of_kind(kind)
+}
+
+pub(crate) fn index_of_key<'a, E: ValtypeEncoder<'a>>(enc: &mut E, key: &FunctionKey) -> Option<u32>
+    ensures same { enc.new ≡ enc.old }
+    ensures some { IfSome result (HasKey (E.maps_of enc.old) key.now) }
+    ensures none { IfNone result (LacksKey (E.maps_of enc.old) key.now) }
+{
+    enc.type_encoding_maps().index_of_key(key)
+}
+
+pub(crate) fn unit_future<'a, E: ValtypeEncoder<'a>>(enc: &mut E) -> Option<u32>
+    ensures same { enc.new ≡ enc.old }
+    ensures value { result ≡ (E.maps_of enc.old).unit_future }
+{
+    enc.type_encoding_maps().unit_future
+}
+
+pub(crate) fn unit_stream<'a, E: ValtypeEncoder<'a>>(enc: &mut E) -> Option<u32>
+    ensures same { enc.new ≡ enc.old }
+    ensures value { result ≡ (E.maps_of enc.old).unit_stream }
+{
+    enc.type_encoding_maps().unit_stream
+}
+
+pub(crate) fn value_of<'a, E: ValtypeEncoder<'a>>(enc: &mut E, ty: &Type) -> ComponentValType
+    requires { IsReady (E.maps_of enc.old) ty.now }
+    ensures same { enc.new ≡ enc.old }
+    ensures value { IsWritten (E.maps_of enc.old) result ty.now }
+{
+    value_in(enc.type_encoding_maps(), ty)
+}
+
+pub(crate) fn params_of<'a, E: ValtypeEncoder<'a>>(
+    alloc: Global,
+    enc: &mut E,
+    params: &'a [Param],
+) -> Result<Vec<(&'a str, ComponentValType)>, AllocError>
+    requires { AllReady (E.maps_of enc.old) (map (λ p. p.ty) params.now) }
+    ensures same { enc.new ≡ enc.old }
+    ensures value { IfOk result (λ v. AllZip (IsWrittenParam (E.maps_of enc.old)) v.items params.now) }
+{
+    params_in(alloc, enc.type_encoding_maps(), params)
+}
+
+pub(crate) fn definition_of<'a, E: ValtypeEncoder<'a>>(
+    alloc: Global,
+    enc: &mut E,
+    shape: Shape<'a, '_>,
+) -> Result<ComponentDefinedType<'a>, AllocError>
+    requires { AllReady (E.maps_of enc.old) (parts_of (kind_of shape)) }
+    ensures same { enc.new ≡ enc.old }
+    ensures value { IfOk result (FollowsKind (E.maps_of enc.old) (kind_of shape.entry)) }
+{
+    definition(alloc, enc.type_encoding_maps(), shape)
+}
+
+pub(crate) fn order_of<'a, E: ValtypeEncoder<'a>>(
+    alloc: Global,
+    enc: &mut E,
+    resolve: &'a Resolve,
+    types: &[Type],
+) -> Result<Vec<u32>, AllocError>
+    requires layered { IsLayered resolve.now }
+    requires in_range { AllInRange resolve.now types.now }
+    ensures same { enc.new ≡ enc.old }
+    ensures order { IfOk result (λ v. IsOrderOf resolve.now (E.scope enc.old).own_interface (E.maps_of enc.old) types.now v.items) }
+{
+    let own = enc.interface();
+    crate::plan::order_of(alloc, resolve, enc.type_encoding_maps(), own, types)
+}
+
+// ---- writes
+
+pub(crate) fn remember_id<'a, E: ValtypeEncoder<'a>>(
+    enc: &mut E,
+    resolve: &'a Resolve,
+    id: TypeId,
+    index: u32,
+) -> Result<(), Error>
+    requires stands { E.stands enc.old index (tree (number_tree resolve.now id.0)) }
+    requires fresh { IsKnown (E.maps_of enc.old) id.0 → ⊥ }
+    requires agree { MapsAgree resolve.now (E.maps_of enc.old) (E.stands enc.old) }
+    ensures ok { OnOk result (LearnsNumber (E.maps_of enc.old) (E.maps_of enc.new) id index) }
+    ensures leaves { Leaves resolve.now (E.scope enc.old) (E.scope enc.new) (E.slot_count enc.old) (E.slot_count enc.new) (E.stands enc.old) (E.stands enc.new) (E.maps_of enc.old) (E.maps_of enc.new) }
+    ensures counts { E.definitions enc.new ≡ E.definitions enc.old }
+{
+    enc.type_encoding_maps().remember_id(id, index)
+}
+
+pub(crate) fn remember_kind<'a, E: ValtypeEncoder<'a>>(
+    enc: &mut E,
+    resolve: &'a Resolve,
+    kind: &'a TypeDefKind,
+    index: u32,
+) -> Result<(), Error>
+    requires stands { E.stands enc.old index (tree (kind_tree resolve.now kind.now)) }
+    requires fresh { LacksKind (E.maps_of enc.old) kind.now }
+    requires agree { MapsAgree resolve.now (E.maps_of enc.old) (E.stands enc.old) }
+    ensures ok { OnOk result (LearnsKind (E.maps_of enc.old) (E.maps_of enc.new) kind.entry index) }
+    ensures leaves { Leaves resolve.now (E.scope enc.old) (E.scope enc.new) (E.slot_count enc.old) (E.slot_count enc.new) (E.stands enc.old) (E.stands enc.new) (E.maps_of enc.old) (E.maps_of enc.new) }
+    ensures counts { E.definitions enc.new ≡ E.definitions enc.old }
+{
+    enc.type_encoding_maps().remember_kind(kind, index)
+}
+
+pub(crate) fn remember_key<'a, E: ValtypeEncoder<'a>>(
+    enc: &mut E,
+    resolve: &'a Resolve,
+    key: FunctionKey<'a>,
+    index: u32,
+) -> Result<(), Error>
+    requires stands { E.stands enc.old index (function (key_signature resolve.now key)) }
+    requires fresh { LacksKey (E.maps_of enc.old) key }
+    requires agree { MapsAgree resolve.now (E.maps_of enc.old) (E.stands enc.old) }
+    ensures ok { OnOk result (LearnsKey (E.maps_of enc.old) (E.maps_of enc.new) key.entry index) }
+    ensures leaves { Leaves resolve.now (E.scope enc.old) (E.scope enc.new) (E.slot_count enc.old) (E.slot_count enc.new) (E.stands enc.old) (E.stands enc.new) (E.maps_of enc.old) (E.maps_of enc.new) }
+    ensures counts { E.definitions enc.new ≡ E.definitions enc.old }
+{
+    enc.type_encoding_maps().remember_key(key, index)
+}
+
+pub(crate) fn remember_unit_future<'a, E: ValtypeEncoder<'a>>(enc: &mut E, index: u32)
+    requires stands { E.stands enc.old index (tree (future_tree None)) }
+    requires fresh { (E.maps_of enc.old).unit_future ≡ None }
+    requires agree { MapsAgree (E.scope enc.old).packages (E.maps_of enc.old) (E.stands enc.old) }
+    ensures value { E.maps_of enc.new ≡ record (E.maps_of enc.old) { unit_future = Some index } }
+    ensures leaves { Leaves (E.scope enc.old).packages (E.scope enc.old) (E.scope enc.new) (E.slot_count enc.old) (E.slot_count enc.new) (E.stands enc.old) (E.stands enc.new) (E.maps_of enc.old) (E.maps_of enc.new) }
+    ensures counts { E.definitions enc.new ≡ E.definitions enc.old }
+{
+    enc.type_encoding_maps().remember_unit_future(index);
+}
+
+pub(crate) fn remember_unit_stream<'a, E: ValtypeEncoder<'a>>(enc: &mut E, index: u32)
+    requires stands { E.stands enc.old index (tree (stream_tree None)) }
+    requires fresh { (E.maps_of enc.old).unit_stream ≡ None }
+    requires agree { MapsAgree (E.scope enc.old).packages (E.maps_of enc.old) (E.stands enc.old) }
+    ensures value { E.maps_of enc.new ≡ record (E.maps_of enc.old) { unit_stream = Some index } }
+    ensures leaves { Leaves (E.scope enc.old).packages (E.scope enc.old) (E.scope enc.new) (E.slot_count enc.old) (E.slot_count enc.new) (E.stands enc.old) (E.stands enc.new) (E.maps_of enc.old) (E.maps_of enc.new) }
+    ensures counts { E.definitions enc.new ≡ E.definitions enc.old }
+{
+    enc.type_encoding_maps().remember_unit_stream(index);
+}

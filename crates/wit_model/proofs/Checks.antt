@@ -1,0 +1,115 @@
+-- A list keeps a rule where each number of it passes, and a rule is kept where its four lists keep it.
+use Rattle.std.proofs.Common.{◌≡◌, refl, sym, ap, subst, ◌∙◌, ℕ, zero, suc, ◌+◌, ◌<◌, ◌≤◌, Bool, true, false, ◌&&◌, List, [], ◌∷◌, ◌++◌, Some, None, Option, slice_get, unwrap_or, option_map, length, nat_lt, T, ltb→lt, lit≤, arith}
+use Rattle.std.specs.List.{list_all}
+use Rattle.std.proofs.lemmas.Option.{slice_get_within, slice_get_past}
+use Rattle.wit_model.specs.declared.error.EntryList.TheVariants as lists
+use Rattle.wit_model.specs.declared.model.Resolve.{Resolve}
+use Rattle.wit_model.specs.declared.model.TypeDef.{TypeDef}
+use Rattle.wit_model.specs.Lookup.{type_at}
+use Rattle.wit_model.specs.Parts.{kind_numbers}
+use Rattle.wit_model.specs.Rules.{each_from}
+use Rattle.wit_model.specs.Valid.{Rule, Keeps, Breaks, free, entry_keeps, order_of_types}
+use Rattle.wit_model.specs.Checks.{KeepsIn, references, flags, entry_of}
+use Rattle.wit_model.proofs.Entries.{each_from_all, each_from_at, lists_pass, free_passes}
+
+both_true : (a b : Bool) → a ≡ true → b ≡ true → (a && b) ≡ true
+both_true a b p q = rw p q
+
+some_same : {A : Type 0} (x y : A) → Some x ≡ Some y → x ≡ y
+some_same x y e = ap (λ o. unwrap_or o x) e
+
+-- each number of the list passes the test
+all_pass : {A : Type 0} (test : ℕ → A → Bool) (xs : List A) → ((n : ℕ) → n < length xs → option_map (test n) (slice_get xs n) ≡ Some true) → each_from test 0 xs ≡ true
+all_pass test xs all = each_from_all test 0 xs (λ n x e.
+    let here : n ≡ 0 + n = omega arith in
+    subst (λ m. test m x ≡ true) here (some_same _ _ (sym (ap (option_map (test n)) e) ∙ all n (slice_get_within xs n x e))))
+
+pub packages_pass : (rule : Rule) (r : Resolve) → ((n : ℕ) → n < length r.packages.items → entry_keeps rule r lists.Packages n ≡ Some true) → KeepsIn rule r lists.Packages
+packages_pass rule r all = all_pass (rule.package_ r) r.packages.items all
+
+pub interfaces_pass : (rule : Rule) (r : Resolve) → ((n : ℕ) → n < length r.interfaces.items → entry_keeps rule r lists.Interfaces n ≡ Some true) → KeepsIn rule r lists.Interfaces
+interfaces_pass rule r all = all_pass (rule.interface_ r) r.interfaces.items all
+
+pub worlds_pass : (rule : Rule) (r : Resolve) → ((n : ℕ) → n < length r.worlds.items → entry_keeps rule r lists.Worlds n ≡ Some true) → KeepsIn rule r lists.Worlds
+worlds_pass rule r all = all_pass (rule.world_ r) r.worlds.items all
+
+pub types_pass : (rule : Rule) (r : Resolve) → ((n : ℕ) → n < length r.types.items → entry_keeps rule r lists.Types n ≡ Some true) → KeepsIn rule r lists.Types
+types_pass rule r all = all_pass (rule.type_ r) r.types.items all
+
+-- the four lists together
+pub keeps_lists : (rule : Rule) (r : Resolve) → KeepsIn rule r lists.Packages → KeepsIn rule r lists.Interfaces → KeepsIn rule r lists.Worlds → KeepsIn rule r lists.Types → Keeps rule r
+keeps_lists rule r ps is ws ts = both_true _ _ ps (both_true _ _ is (both_true _ _ ws ts))
+
+-- a rule that asks nothing of packages
+pub keeps_three : (rule : Rule) (r : Resolve) → rule.package_ ≡ free → KeepsIn rule r lists.Interfaces → KeepsIn rule r lists.Worlds → KeepsIn rule r lists.Types → Keeps rule r
+keeps_three rule r e is ws ts = keeps_lists rule r (ap (λ test. each_from (test r) 0 r.packages.items) e ∙ free_passes r 0 r.packages.items) is ws ts
+
+-- a rule that asks nothing of packages and types
+pub keeps_two : (rule : Rule) (r : Resolve) → rule.package_ ≡ free → rule.type_ ≡ free → KeepsIn rule r lists.Interfaces → KeepsIn rule r lists.Worlds → Keeps rule r
+keeps_two rule r e t is ws = keeps_three rule r e is ws (ap (λ test. each_from (test r) 0 r.types.items) t ∙ free_passes r 0 r.types.items)
+
+-- a rule on types alone
+pub references_kept : (r : Resolve) → KeepsIn references r lists.Types → Keeps references r
+unfolding references
+references_kept r ts = keeps_lists references r (free_passes r 0 r.packages.items) (free_passes r 0 r.interfaces.items) (free_passes r 0 r.worlds.items) ts
+
+-- a type refers to smaller numbers alone
+pub below_at : (r : Resolve) → Keeps references r → (n : ℕ) (def : TypeDef) → type_at r n ≡ Some def → list_all (λ m. nat_lt m n) (kind_numbers def.kind) ≡ true
+unfolding references
+below_at r h n def is =
+    let here : 0 + n ≡ n = omega arith in
+    subst (λ m. references.type_ r m def ≡ true) here (each_from_at (references.type_ r) 0 r.types.items n def (lists_pass references r h).3 is)
+
+fails_first : (a b : Bool) → a ≡ false → (a && b) ≡ false
+fails_first a b e = ap (λ x. x && b) e
+
+-- a type that refers to a number that isn't smaller breaks the rule on the order of types
+pub reference_breaks : (r : Resolve) (n : ℕ) → entry_keeps references r lists.Types n ≡ Some false → Breaks r 5 lists.Types n
+unfolding references order_of_types
+reference_breaks r n e = (lit≤ tt, go (type_at r n) e)
+  where
+    go : (o : Option TypeDef) → option_map (references.type_ r n) o ≡ Some false → option_map (order_of_types.type_ r n) o ≡ Some false
+    go None h = cc
+    go (Some def) h = ap Some (fails_first _ _ (some_same _ _ h))
+
+-- a fact on every number, below a limit and from it on
+pub below_or_past : (P : ℕ → Type 0) (k : ℕ) → ((n : ℕ) → n < k → P n) → ((n : ℕ) → k ≤ n → P n) → (n : ℕ) → P n
+below_or_past P k low high n = go (nat_lt n k) refl
+  where
+    go : (b : Bool) → nat_lt n k ≡ b → P n
+    go true e = low n (ltb→lt n k (subst T (sym e) tt))
+    go false e = let past : k ≤ n = grind (arith, e) in high n past
+
+-- ---- tables that are made by pushing
+
+pub get_before : {X : Type 0} (xs : List X) (x : X) (n : ℕ) → n < length xs → slice_get (xs ++ x ∷ []) n ≡ slice_get xs n
+get_before [] x n h = absurd (omega (arith, h))
+get_before (y ∷ ys) x zero h = refl
+get_before (y ∷ ys) x (suc n) h = get_before ys x n (omega (arith, h))
+
+pub get_last : {X : Type 0} (xs : List X) (x : X) → slice_get (xs ++ x ∷ []) (length xs) ≡ Some x
+get_last [] x = refl
+get_last (y ∷ ys) x = get_last ys x
+
+-- One more entry of a table that holds what f says of each number. The default d stands past the end.
+pub table_more : {X : Type 0} (d : X) (f : ℕ → X) (xs : List X) (x : X) (k : ℕ) → length xs ≡ k → ((n : ℕ) → n < k → unwrap_or (slice_get xs n) d ≡ f n) → x ≡ f k → (n : ℕ) → n < k + 1 → unwrap_or (slice_get (xs ++ x ∷ []) n) d ≡ f n
+table_more d f xs x k len all last n h =
+    below_or_past (λ m. m < k + 1 → unwrap_or (slice_get (xs ++ x ∷ []) m) d ≡ f m) k
+    (λ m low within. ap (λ o. unwrap_or o d) (get_before xs x m (omega (arith, len, low))) ∙ all m low)
+    (λ m high within.
+    let here : k ≡ m = omega (arith, high, within) in
+    subst (λ j. unwrap_or (slice_get (xs ++ x ∷ []) j) d ≡ f j) here
+    (subst (λ j. unwrap_or (slice_get (xs ++ x ∷ []) j) d ≡ f k) len (ap (λ o. unwrap_or o d) (get_last xs x) ∙ last)))
+    n h
+
+pub flags_more : (f : ℕ → Bool) (xs : List Bool) (x : Bool) (k : ℕ) → length xs ≡ k → ((n : ℕ) → n < k → flags xs n ≡ f n) → x ≡ f k → (n : ℕ) → n < k + 1 → flags (xs ++ x ∷ []) n ≡ f n
+flags_more f xs x k len all last n h = table_more false f xs x k len all last n h
+
+pub flags_past : (xs : List Bool) (n : ℕ) → length xs ≤ n → flags xs n ≡ false
+flags_past xs n h = ap (λ o. unwrap_or o false) (slice_get_past xs n h)
+
+pub entries_more : (f : ℕ → ℕ) (xs : List ℕ) (x : ℕ) (k : ℕ) → length xs ≡ k → ((n : ℕ) → n < k → entry_of xs n ≡ f n) → x ≡ f k → (n : ℕ) → n < k + 1 → entry_of (xs ++ x ∷ []) n ≡ f n
+entries_more f xs x k len all last n h = table_more 0 f xs x k len all last n h
+
+pub entries_past : (xs : List ℕ) (n : ℕ) → length xs ≤ n → entry_of xs n ≡ 0
+entries_past xs n h = ap (λ o. unwrap_or o 0) (slice_get_past xs n h)

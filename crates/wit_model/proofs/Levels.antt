@@ -1,0 +1,214 @@
+-- The unnamed levels of a type may be computed along the list of types, where each refers to smaller numbers alone.
+use Rattle.std.proofs.Common.{◌≡◌, refl, sym, ap, subst, ◌∙◌, ℕ, ◌+◌, ◌<◌, ◌≤◌, min, max, Bool, true, false, ◌&&◌, nat_lt, nat_le, T, ltb→lt, List, [], ◌∷◌, ◌++◌, length, map, filter_map, option_map, option_to_list, Some, None, Option, unwrap_or, append-nil, arith}
+use Rattle.std.specs.List.{list_all, cons_option}
+use Rattle.std.specs.Option.{option_map_or}
+use Rattle.std.proofs.lemmas.Option.{slice_get_past}
+use Rattle.wit_model.specs.declared.model.Resolve.{Resolve}
+use Rattle.wit_model.specs.declared.model.TypeDef.{TypeDef}
+use Rattle.wit_model.specs.declared.model.TypeDefKind.{TypeDefKind}
+use Rattle.wit_model.specs.declared.model.TypeDefKind.TheVariants as kind
+use Rattle.wit_model.specs.declared.model.Handle.{Handle}
+use Rattle.wit_model.specs.declared.model.Handle.TheVariants as handle
+use Rattle.wit_model.specs.declared.model.Field.{Field}
+use Rattle.wit_model.specs.declared.model.Case.{Case}
+use Rattle.wit_model.specs.declared.model.Function.{Function}
+use Rattle.wit_model.specs.declared.model.«Type».{«Type» as ValueType}
+use Rattle.wit_model.specs.declared.model.«Type».TheVariants as ty
+use Rattle.wit_model.specs.Text.{Text, text_of}
+use Rattle.wit_model.specs.Lookup.{type_at, place_of}
+use Rattle.wit_model.specs.Tree.{Tree, levels, deepest, children, given, named}
+use Rattle.wit_model.specs.Types.{number_of, no_tree, tree_at, tree_of, declared_by, tree_of_declaration, tree_of_definition, trees_of, number_tree}
+use Rattle.wit_model.specs.Parts.{kind_numbers, function_types}
+use Rattle.wit_model.specs.Rules.{is_shallow}
+use Rattle.wit_model.specs.Valid.{Keeps}
+use Rattle.wit_model.specs.Checks.{references, highest, levels_above, capped_levels, all_values}
+use Rattle.wit_model.proofs.Lists.{first_true, second_true}
+use Rattle.wit_model.proofs.Tables.{grow_keeps}
+use Rattle.wit_model.proofs.TreeTable.{trees_at}
+use Rattle.wit_model.proofs.Checks.{below_at}
+use Rattle.wit_model.proofs.Functions.{types_test, functions_test}
+
+-- ---- the levels of what a kind declares
+
+max-zero : (n : ℕ) → max 0 n ≡ n
+max-zero n = omega arith
+
+max-none : (n : ℕ) → max n 0 ≡ n
+max-none n = omega arith
+
+module _ (trees : List Tree) where
+  abbrev of_number : ℕ → ℕ
+  of_number m = levels (tree_at trees m)
+
+  -- a type at the front of a list
+  type_head : (t : ValueType) (x : ℕ) (ns : List ℕ) → x ≡ highest of_number ns → max (levels (tree_of trees t)) x ≡ highest of_number (cons_option (number_of t) ns)
+  type_head (ty.Id id) x ns e = ap (max (of_number id.0)) e
+  type_head ty.Bool x ns e = max-zero x ∙ e
+  type_head ty.U8 x ns e = max-zero x ∙ e
+  type_head ty.U16 x ns e = max-zero x ∙ e
+  type_head ty.U32 x ns e = max-zero x ∙ e
+  type_head ty.U64 x ns e = max-zero x ∙ e
+  type_head ty.S8 x ns e = max-zero x ∙ e
+  type_head ty.S16 x ns e = max-zero x ∙ e
+  type_head ty.S32 x ns e = max-zero x ∙ e
+  type_head ty.S64 x ns e = max-zero x ∙ e
+  type_head ty.F32 x ns e = max-zero x ∙ e
+  type_head ty.F64 x ns e = max-zero x ∙ e
+  type_head ty.Char x ns e = max-zero x ∙ e
+  type_head ty.String x ns e = max-zero x ∙ e
+  type_head ty.ErrorContext x ns e = max-zero x ∙ e
+
+  of_types : (ts : List ValueType) → deepest (children (map (tree_of trees) ts)) ≡ highest of_number (filter_map number_of ts)
+  of_types [] = refl
+  of_types (t ∷ ts) = type_head t _ (filter_map number_of ts) (of_types ts)
+
+  of_fields : (fs : List Field) → deepest (children (map (λ (f : Text × Tree). f.1) (map (λ f. (text_of f.name, tree_of trees f.ty)) fs))) ≡ highest of_number (filter_map number_of (map (λ f. f.ty) fs))
+  of_fields [] = refl
+  of_fields (f ∷ fs) = type_head f.ty _ (filter_map number_of (map (λ f. f.ty) fs)) (of_fields fs)
+
+  -- a type that may be left out, at the front of a list
+  option_head : (o : Option ValueType) (os : List (Option Tree)) (ts : List ValueType) → deepest (given os) ≡ highest of_number (filter_map number_of ts) → deepest (given (option_map (tree_of trees) o ∷ os)) ≡ highest of_number (filter_map number_of (cons_option o ts))
+  option_head None os ts e = e
+  option_head (Some t) os ts e = type_head t _ (filter_map number_of ts) e
+
+  of_cases : (cs : List Case) → deepest (given (map (λ (c : Text × Option Tree). c.1) (map (λ c. (text_of c.name, option_map (tree_of trees) c.ty)) cs))) ≡ highest of_number (filter_map number_of (filter_map (λ c. c.ty) cs))
+  of_cases [] = refl
+  of_cases (c ∷ cs) = option_head c.ty _ (filter_map (λ c. c.ty) cs) (of_cases cs)
+
+  one_option : (o : Option ValueType) → deepest (given (option_map (tree_of trees) o ∷ [])) ≡ highest of_number (filter_map number_of (option_to_list o))
+  one_option None = refl
+  one_option (Some t) = option_head (Some t) [] [] refl
+
+  two_options : (a b : Option ValueType) → deepest (given (option_map (tree_of trees) a ∷ option_map (tree_of trees) b ∷ [])) ≡ highest of_number (filter_map number_of (option_to_list a ++ option_to_list b))
+  two_options None b = one_option b
+  two_options (Some t) b = type_head t _ (filter_map number_of (option_to_list b)) (one_option b)
+
+  -- without a handle and an alias
+  plainly : (x : ℕ) (ns : List ℕ) → x ≡ highest of_number ns → x + 1 ≡ highest of_number (ns ++ []) + 1
+  plainly x ns e = ap (λ n. n + 1) (e ∙ ap (highest of_number) (sym (append-nil ns)))
+
+  aliased : (t : ValueType) → levels (tree_of trees t) ≡ highest of_number (option_to_list (number_of t))
+  aliased t = sym (max-none (levels (tree_of trees t))) ∙ (type_head t 0 [] refl ∙ go (number_of t))
+    where
+      go : (o : Option ℕ) → highest of_number (cons_option o []) ≡ highest of_number (option_to_list o)
+      go None = refl
+      go (Some n) = refl
+
+  handled_levels : (h : Handle) → levels (tree_of_declaration (declared_by trees (kind.Handle h))) ≡ highest of_number (kind_numbers (kind.Handle h)) + 1
+  handled_levels (handle.Own id) = refl
+  handled_levels (handle.Borrow id) = refl
+
+  -- what a kind declares has the levels that its numbers give
+  pub declared_levels : (k : TypeDefKind) → levels (tree_of_declaration (declared_by trees k)) ≡ levels_above (highest of_number (kind_numbers k)) k
+  declared_levels (kind.Record x) = plainly _ (filter_map number_of (map (λ f. f.ty) x.fields.items)) (of_fields x.fields.items)
+  declared_levels (kind.Variant x) = plainly _ (filter_map number_of (filter_map (λ c. c.ty) x.cases.items)) (of_cases x.cases.items)
+  declared_levels (kind.Tuple x) = plainly _ (filter_map number_of x.types.items) (of_types x.types.items)
+  declared_levels (kind.Option t) = plainly _ (filter_map number_of (t ∷ [])) (of_types (t ∷ []))
+  declared_levels (kind.List t) = plainly _ (filter_map number_of (t ∷ [])) (of_types (t ∷ []))
+  declared_levels (kind.FixedLengthList t n) = plainly _ (filter_map number_of (t ∷ [])) (of_types (t ∷ []))
+  declared_levels (kind.Map a b) = plainly _ (filter_map number_of (a ∷ b ∷ [])) (of_types (a ∷ b ∷ []))
+  declared_levels (kind.Result x) = plainly _ (filter_map number_of (option_to_list x.ok ++ option_to_list x.err)) (two_options x.ok x.err)
+  declared_levels (kind.Future t) = plainly _ (filter_map number_of (option_to_list t)) (one_option t)
+  declared_levels (kind.Stream t) = plainly _ (filter_map number_of (option_to_list t)) (one_option t)
+  declared_levels (kind.Handle h) = handled_levels h
+  declared_levels (kind.Type_ t) = aliased t
+  declared_levels kind.Resource = refl
+  declared_levels (kind.Flags x) = refl
+  declared_levels (kind.Enum x) = refl
+
+-- ---- the cap
+
+cap_max : (a b : ℕ) → max (min 101 a) (min 101 b) ≡ min 101 (max a b)
+cap_max a b = omega arith
+
+cap_highest : (f : ℕ → ℕ) (ns : List ℕ) → highest (λ m. min 101 (f m)) ns ≡ min 101 (highest f ns)
+cap_highest f [] = refl
+cap_highest f (n ∷ ns) = ap (max (min 101 (f n))) (cap_highest f ns) ∙ cap_max (f n) (highest f ns)
+
+cap_above : (h : ℕ) → min 101 (min 101 h + 1) ≡ min 101 (h + 1)
+cap_above h = omega arith
+
+cap_same : (h : ℕ) → min 101 (min 101 h) ≡ min 101 h
+cap_same h = omega arith
+
+cap_kind : (h : ℕ) (k : TypeDefKind) → min 101 (levels_above (min 101 h) k) ≡ min 101 (levels_above h k)
+cap_kind h kind.Resource = refl
+cap_kind h (kind.Type_ t) = cap_same h
+cap_kind h (kind.Record x) = cap_above h
+cap_kind h (kind.Handle x) = cap_above h
+cap_kind h (kind.Flags x) = cap_above h
+cap_kind h (kind.Tuple x) = cap_above h
+cap_kind h (kind.Variant x) = cap_above h
+cap_kind h (kind.Enum x) = cap_above h
+cap_kind h (kind.Option x) = cap_above h
+cap_kind h (kind.Result x) = cap_above h
+cap_kind h (kind.List x) = cap_above h
+cap_kind h (kind.Map x y) = cap_above h
+cap_kind h (kind.FixedLengthList x y) = cap_above h
+cap_kind h (kind.Future x) = cap_above h
+cap_kind h (kind.Stream x) = cap_above h
+
+pub highest_same : (f g : ℕ → ℕ) (n : ℕ) (ns : List ℕ) → ((m : ℕ) → m < n → f m ≡ g m) → list_all (λ m. nat_lt m n) ns ≡ true → highest f ns ≡ highest g ns
+highest_same f g n [] same h = refl
+highest_same f g n (m ∷ ns) same h = λ i. max (same m (ltb→lt m n (subst T (sym (first_true _ _ h)) tt)) i) (highest_same f g n ns same (second_true _ _ h) i)
+
+-- the levels of a type hang on smaller numbers alone
+pub levels_same : (f g : ℕ → ℕ) (n : ℕ) (def : TypeDef) → ((m : ℕ) → m < n → f m ≡ g m) → list_all (λ m. nat_lt m n) (kind_numbers def.kind) ≡ true → capped_levels f def ≡ capped_levels g def
+levels_same f g n def same h = ap (λ x. option_map_or (λ name. 0) def.name (min 101 (levels_above x def.kind))) (highest_same f g n (kind_numbers def.kind) same h)
+
+module _ (r : Resolve) where
+  abbrev capped : ℕ → ℕ
+  capped n = min 101 (levels (number_tree r n))
+
+  defined : (def : TypeDef) (o : Option _) → min 101 (levels (option_map_or (λ name. named (place_of r def.owner) (text_of name)) o (tree_of_declaration (declared_by (trees_of r) def.kind)))) ≡ option_map_or (λ name. 0) o (min 101 (levels_above (highest capped (kind_numbers def.kind)) def.kind))
+  defined def (Some name) = refl
+  defined def None =
+      ap (min 101) (declared_levels (trees_of r) def.kind)
+      ∙ (sym (cap_kind (highest (λ m. levels (number_tree r m)) (kind_numbers def.kind)) def.kind)
+      ∙ ap (λ x. min 101 (levels_above x def.kind)) (sym (cap_highest (λ m. levels (number_tree r m)) (kind_numbers def.kind))))
+
+  -- the levels of a number are those of its definition
+  pub levels_step : Keeps references r → (n : ℕ) (def : TypeDef) → type_at r n ≡ Some def → capped n ≡ capped_levels capped def
+  levels_step below n def is =
+      ap (λ o. min 101 (levels (unwrap_or o no_tree))) (trees_at r n def is (below_at r below n def is)) ∙ defined def def.name
+
+  -- a number past the list has none
+  pub no_levels : (n : ℕ) → length r.types.items ≤ n → capped n ≡ 0
+  unfolding trees_of
+  no_levels n h =
+      let made = grow_keeps (tree_of_definition r) [] r.types.items in
+      let long : length (trees_of r) ≤ n = omega (arith, h, ap length made.1, made.2) in
+      ap (λ o. min 101 (levels (unwrap_or o no_tree))) (slice_get_past (trees_of r) n long)
+
+-- ---- the tests, by any levels that agree
+
+and-true : (b : Bool) → (b && true) ≡ b
+and-true true = refl
+and-true false = refl
+
+cap_shallow : (n : ℕ) → nat_le (min 101 n) 100 ≡ nat_le n 100
+cap_shallow n = grind arith
+
+module _ (r : Resolve) (f : ℕ → ℕ) (same : (n : ℕ) → f n ≡ min 101 (levels (number_tree r n))) where
+  shallow : (t : ValueType) → list_all (λ n. nat_le (f n) 100) (option_to_list (number_of t)) ≡ is_shallow r t
+  shallow (ty.Id id) = and-true (nat_le (f id.0) 100) ∙ (ap (λ x. nat_le x 100) (same id.0) ∙ cap_shallow (levels (number_tree r id.0)))
+  shallow ty.Bool = refl
+  shallow ty.U8 = refl
+  shallow ty.U16 = refl
+  shallow ty.U32 = refl
+  shallow ty.U64 = refl
+  shallow ty.S8 = refl
+  shallow ty.S16 = refl
+  shallow ty.S32 = refl
+  shallow ty.S64 = refl
+  shallow ty.F32 = refl
+  shallow ty.F64 = refl
+  shallow ty.Char = refl
+  shallow ty.String = refl
+  shallow ty.ErrorContext = refl
+
+  pub shallow_types : (ts : List ValueType) → list_all (λ n. nat_le (f n) 100) (filter_map number_of ts) ≡ list_all (is_shallow r) ts
+  shallow_types ts = types_test (λ n. nat_le (f n) 100) (is_shallow r) shallow ts
+
+  pub shallow_functions : (fs : List Function) → list_all (λ n. nat_le (f n) 100) (all_values fs) ≡ list_all (λ x. list_all (is_shallow r) (function_types x)) fs
+  shallow_functions fs = functions_test (λ n. nat_le (f n) 100) (is_shallow r) shallow fs

@@ -1,0 +1,162 @@
+-- What is met at a number may be summed up along the list of types, where each refers to smaller numbers alone.
+use Rattle.std.proofs.Common.{◌≡◌, refl, sym, ap, subst, ◌∙◌, ℕ, zero, suc, ◌+◌, ◌<◌, ◌≤◌, Bool, true, false, ◌&&◌, ◌||◌, not, cond, ◌==◌, nat_lt, nat_le, T, ltb→lt, eqb→eq, List, [], ◌∷◌, ◌++◌, length, take, filter, flat_map, option_to_list, Some, None, Option, unwrap_or, slice_get, is_some, arith, String}
+use Rattle.std.specs.declared.alloc.Global.{Global}
+use Rattle.std.specs.List.{list_all}
+use Rattle.std.specs.Option.{option_map_or}
+use Rattle.std.proofs.lemmas.Option.{slice_get_past}
+use Rattle.std.proofs.lemmas.List.Folds.{list_all-append}
+use Rattle.std.proofs.lemmas.Bool.Decides.{nat_tests}
+use Rattle.indexmap.specs.IndexMap.{values}
+use Rattle.wit_model.specs.declared.check.owners.Met.{Met}
+use Rattle.wit_model.specs.declared.model.Resolve.{Resolve}
+use Rattle.wit_model.specs.declared.model.Interface.{Interface}
+use Rattle.wit_model.specs.declared.model.TypeDef.{TypeDef}
+use Rattle.wit_model.specs.declared.model.TypeOwner.{TypeOwner}
+use Rattle.wit_model.specs.declared.model.Function.{Function}
+use Rattle.wit_model.specs.Lookup.{type_at, interface_at}
+use Rattle.wit_model.specs.Parts.{kind_numbers, function_numbers, met_by, met_at, met_of, numbered_from, used_by_type, same_owner, has_owner}
+use Rattle.wit_model.specs.Uses.{once, interface_used_by, interfaces_used_by, direct_deps}
+use Rattle.wit_model.specs.Rules.{function_stays}
+use Rattle.wit_model.specs.Valid.{Keeps}
+use Rattle.wit_model.specs.Checks.{references, values_of, resources_of, all_values, all_resources}
+use Rattle.wit_model.specs.Owners.{stays, met_entry, IsMetTable}
+use Rattle.wit_model.proofs.Lists.{first_true, second_true, list_all_filter_map}
+use Rattle.wit_model.proofs.Tables.{grow_at, grow_keeps}
+use Rattle.wit_model.proofs.Checks.{below_at}
+use Rattle.wit_model.proofs.Functions.{all_flat}
+
+numbered_at : {A : Type 0} (k : ℕ) (xs : List A) (n : ℕ) (x : A) → slice_get xs n ≡ Some x → slice_get (numbered_from k xs) n ≡ Some (k + n, x)
+numbered_at k [] n x e = absurd (none_some e)
+  where
+    none_some : None ≡ Some x → ⊥
+    none_some q = cc
+numbered_at k (y ∷ ys) zero x e = λ i. Some (here i, same i)
+  where
+    here : k ≡ k + 0
+    here = omega arith
+
+    same : y ≡ x
+    same = ap (λ o. unwrap_or o y) e
+numbered_at k (y ∷ ys) (suc n) x e =
+    let next : (k + 1) + n ≡ k + suc n = omega arith in
+    subst (λ m. slice_get (numbered_from (k + 1) ys) n ≡ Some (m, x)) next (numbered_at (k + 1) ys n x e)
+
+numbered_long : {A : Type 0} (k : ℕ) (xs : List A) → length (numbered_from k xs) ≡ length xs
+numbered_long k [] = refl
+numbered_long k (x ∷ xs) = ap suc (numbered_long (k + 1) xs)
+
+get_take : {X : Type 0} (xs : List X) (n m : ℕ) → m < n → slice_get (take n xs) m ≡ slice_get xs m
+get_take [] zero m h = refl
+get_take [] (suc n) m h = refl
+get_take (x ∷ xs) zero m h = absurd (omega (arith, h))
+get_take (x ∷ xs) (suc n) zero h = refl
+get_take (x ∷ xs) (suc n) (suc m) h = get_take xs n m (omega (arith, h))
+
+flat_same : {X : Type 0} (f g : ℕ → List X) (n : ℕ) (ns : List ℕ) → ((m : ℕ) → m < n → f m ≡ g m) → list_all (λ m. nat_lt m n) ns ≡ true → flat_map f ns ≡ flat_map g ns
+flat_same f g n [] same h = refl
+flat_same f g n (m ∷ ns) same h = λ i. same m (ltb→lt m n (subst T (sym (first_true _ _ h)) tt)) i ++ flat_same f g n ns same (second_true _ _ h) i
+
+-- what is met at a number: itself where it has a name, and else what its type uses
+pub met_step : (r : Resolve) → Keeps references r → (n : ℕ) (def : TypeDef) → type_at r n ≡ Some def → met_by (met_of r) n ≡ option_map_or (λ name. n ∷ []) def.name (used_by_type r def)
+unfolding met_of
+met_step r below n def is =
+    ap (λ o. unwrap_or o []) (grow_at met_at (numbered_from 0 r.types.items) n (n, def) here)
+    ∙ ap (λ xs. option_map_or (λ name. n ∷ []) def.name xs) (flat_same (met_by (take n (met_of r))) (met_by (met_of r)) n (kind_numbers def.kind) (λ m low. ap (λ o. unwrap_or o []) (get_take (met_of r) n m low)) (below_at r below n def is))
+  where
+    here : slice_get (numbered_from 0 r.types.items) n ≡ Some (n, def)
+    here = let zero_n : 0 + n ≡ n = omega arith in subst (λ m. slice_get (numbered_from 0 r.types.items) n ≡ Some (m, def)) zero_n (numbered_at 0 r.types.items n def is)
+
+pub nothing_past : (r : Resolve) (n : ℕ) → length r.types.items ≤ n → met_by (met_of r) n ≡ []
+unfolding met_of
+nothing_past r n h =
+    let made = grow_keeps met_at [] (numbered_from 0 r.types.items) in
+    let long : length (met_of r) ≤ n = omega (arith, h, ap length made.1, made.2, numbered_long 0 r.types.items) in
+    ap (λ o. unwrap_or o []) (slice_get_past (met_of r) n long)
+
+and-true : (b : Bool) → (b && true) ≡ b
+and-true true = refl
+and-true false = refl
+
+module _ (r : Resolve) (below : Keeps references r) (n : ℕ) (def : TypeDef) (is : type_at r n ≡ Some def) (o : TypeOwner) where
+  -- a named type is met alone
+  pub named_met : is_some def.name ≡ true → same_owner def.owner o ≡ list_all (has_owner r o) (met_by (met_of r) n)
+  named_met h = sym (ap (list_all (has_owner r o)) (met_step r below n def is) ∙ go def.name h)
+    where
+      go : (name : Option (String Global)) → is_some name ≡ true → list_all (has_owner r o) (option_map_or (λ name. n ∷ []) name (used_by_type r def)) ≡ same_owner def.owner o
+      go None e = cc
+      go (Some name) e = and-true (has_owner r o n) ∙ ap (λ d. option_map_or (λ x. same_owner x.owner o) d false) is
+
+  -- an unnamed type is opened
+  pub unnamed_met : is_some def.name ≡ false → list_all (λ m. list_all (has_owner r o) (met_by (met_of r) m)) (kind_numbers def.kind) ≡ list_all (has_owner r o) (met_by (met_of r) n)
+  unnamed_met h = sym (ap (list_all (has_owner r o)) (met_step r below n def is ∙ go def.name h) ∙ all_flat (has_owner r o) (met_by (met_of r)) (kind_numbers def.kind))
+    where
+      go : (name : Option (String Global)) → is_some name ≡ false → option_map_or (λ name. n ∷ []) name (used_by_type r def) ≡ used_by_type r def
+      go None e = refl
+      go (Some name) e = cc
+
+pub all_same_below : (p q : ℕ → Bool) (n : ℕ) (ns : List ℕ) → ((m : ℕ) → m < n → p m ≡ q m) → list_all (λ m. nat_lt m n) ns ≡ true → list_all p ns ≡ list_all q ns
+all_same_below p q n [] same h = refl
+all_same_below p q n (m ∷ ns) same h = λ i. same m (ltb→lt m n (subst T (sym (first_true _ _ h)) tt)) i && all_same_below p q n ns same (second_true _ _ h) i
+
+-- ---- the tests, by a table
+
+module _ (r : Resolve) (table : List Met) (right : IsMetTable r table) where
+  -- what numbers meet
+  pub numbers_stay : (o : TypeOwner) (ns : List ℕ) → list_all (λ n. stays (met_entry table n) o) ns ≡ list_all (has_owner r o) (flat_map (met_by (met_of r)) ns)
+  numbers_stay o ns = ap (λ p. list_all p ns) (λ i n. right n o i) ∙ sym (all_flat (has_owner r o) (met_by (met_of r)) ns)
+
+  all_swap : (a b x y : Bool) → ((a && b) && (x && y)) ≡ ((a && x) && (b && y))
+  all_swap true b true y = refl
+  all_swap true true false y = refl
+  all_swap true false false y = refl
+  all_swap false b x y = refl
+
+  function_stay : (o : TypeOwner) (f : Function) → (list_all (λ n. stays (met_entry table n) o) (values_of f) && list_all (λ n. stays (met_entry table n) o) (resources_of f)) ≡ function_stays r o f
+  function_stay o f = sym (list_all-append (λ n. stays (met_entry table n) o) (values_of f) (resources_of f)) ∙ numbers_stay o (function_numbers f)
+
+  pub functions_stay : (o : TypeOwner) (fs : List Function) → (list_all (λ n. stays (met_entry table n) o) (all_values fs) && list_all (λ n. stays (met_entry table n) o) (all_resources fs)) ≡ list_all (function_stays r o) fs
+  functions_stay o [] = refl
+  functions_stay o (f ∷ fs) =
+      let p : ℕ → Bool = λ n. stays (met_entry table n) o in
+      (λ i. list_all-append p (values_of f) (all_values fs) i && list_all-append p (resources_of f) (all_resources fs) i)
+      ∙ (all_swap (list_all p (values_of f)) (list_all p (all_values fs)) (list_all p (resources_of f)) (list_all p (all_resources fs))
+      ∙ (λ i. function_stay o f i && functions_stay o fs i))
+
+-- ---- an interface uses smaller ones alone
+
+pub all_filter : (p q : ℕ → Bool) (ns : List ℕ) → list_all p (filter q ns) ≡ list_all (λ n. not (q n) || p n) ns
+all_filter p q [] = refl
+all_filter p q (n ∷ ns) = go (all_filter p q ns) (q n)
+  where
+    go : list_all p (filter q ns) ≡ list_all (λ n. not (q n) || p n) ns → (b : Bool) → list_all p (cond b (n ∷ filter q ns) (filter q ns)) ≡ ((not b || p n) && list_all (λ n. not (q n) || p n) ns)
+    go rest true = ap (λ b. p n && b) rest
+    go rest false = rest
+
+-- a test that a number passes asks nothing of its repetitions
+repeated : (p : ℕ → Bool) (n : ℕ) → p n ≡ true → (m : ℕ) → (not (not (m == n)) || p m) ≡ p m
+repeated p n e m = go (m == n) refl
+  where
+    go : (b : Bool) → (m == n) ≡ b → (not (not b) || p m) ≡ p m
+    go true q = sym (ap p (eqb→eq m n (subst T (sym q) tt)) ∙ e)
+    go false q = refl
+
+pub all_once : (p : ℕ → Bool) (ns : List ℕ) → list_all p (once ns) ≡ list_all p ns
+all_once p [] = refl
+all_once p (n ∷ ns) = go (all_once p ns) (p n) refl
+  where
+    go : list_all p (once ns) ≡ list_all p ns → (b : Bool) → p n ≡ b → (b && list_all p (filter (λ m. not (m == n)) (once ns))) ≡ (b && list_all p ns)
+    go rest false e = refl
+    go rest true e = all_filter p (λ m. not (m == n)) (once ns) ∙ (ap (λ test. list_all test (once ns)) (λ i m. repeated p n e m i) ∙ rest)
+
+within : (n m : ℕ) → (not (not (m == n)) || nat_lt m n) ≡ nat_le m n
+within n m = grind (arith, nat_tests)
+
+pub used_within : (r : Resolve) (n : ℕ) (i : Interface) → interface_at r n ≡ Some i →
+    list_all (λ id. list_all (λ m. nat_le m n) (option_to_list (interface_used_by r id.0))) (values i.types) ≡ list_all (λ m. nat_lt m n) (direct_deps r n)
+used_within r n i is =
+    let used = interfaces_used_by r i in
+    sym (list_all_filter_map (λ m. nat_le m n) (λ id. interface_used_by r id.0) (values i.types))
+    ∙ (sym (all_once (λ m. nat_le m n) used)
+    ∙ (ap (λ test. list_all test (once used)) (λ j m. sym (within n m) j)
+    ∙ (sym (all_filter (λ m. nat_lt m n) (λ m. not (m == n)) (once used))
+    ∙ ap (λ o. list_all (λ m. nat_lt m n) (filter (λ m. not (m == n)) (once (option_map_or (interfaces_used_by r) o [])))) (sym is))))

@@ -1,0 +1,106 @@
+-- What is a resource may be computed along the list of types, where each refers to smaller numbers alone.
+use Rattle.std.proofs.Common.{◌≡◌, refl, sym, ap, subst, ◌∙◌, ℕ, zero, suc, ◌<◌, ◌≤◌, Bool, true, false, ◌&&◌, nat_lt, T, ltb→lt, List, length, Some, None, Option, option_to_list, filter_map, not, arith}
+use Rattle.std.specs.List.{list_all}
+use Rattle.std.specs.Option.{option_map_or}
+use Rattle.std.proofs.lemmas.Option.{slice_get_within, slice_get_past}
+use Rattle.wit_model.specs.declared.model.Resolve.{Resolve}
+use Rattle.wit_model.specs.declared.model.TypeDef.{TypeDef}
+use Rattle.wit_model.specs.declared.model.TypeDefKind.{TypeDefKind}
+use Rattle.wit_model.specs.declared.model.TypeDefKind.TheVariants as kind
+use Rattle.wit_model.specs.declared.model.«Type».{«Type» as ValueType}
+use Rattle.wit_model.specs.declared.model.«Type».TheVariants as ty
+use Rattle.wit_model.specs.Lookup.{type_at}
+use Rattle.wit_model.specs.Types.{number_of}
+use Rattle.wit_model.specs.declared.model.Function.{Function}
+use Rattle.wit_model.specs.Parts.{kind_numbers, member_types, handled, function_types, is_resource, is_resource_type, is_resource_kind, ends_in_resource}
+use Rattle.wit_model.specs.Rules.{passes}
+use Rattle.wit_model.specs.Valid.{Keeps}
+use Rattle.wit_model.specs.Checks.{references, all_values}
+use Rattle.wit_model.proofs.Lists.{first_true}
+use Rattle.wit_model.proofs.Checks.{below_at}
+use Rattle.wit_model.proofs.Functions.{types_test, functions_test}
+
+-- whether a kind is a resource hangs on smaller numbers alone
+pub kind_same : (f g : ℕ → Bool) (n : ℕ) (k : TypeDefKind) → ((m : ℕ) → m < n → f m ≡ g m) → list_all (λ m. nat_lt m n) (kind_numbers k) ≡ true → is_resource_kind f k ≡ is_resource_kind g k
+kind_same f g n (kind.Type_ (ty.Id id)) same h = same id.0 (ltb→lt id.0 n (subst T (sym (first_true _ _ h)) tt))
+kind_same f g n (kind.Type_ ty.Bool) same h = refl
+kind_same f g n (kind.Type_ ty.U8) same h = refl
+kind_same f g n (kind.Type_ ty.U16) same h = refl
+kind_same f g n (kind.Type_ ty.U32) same h = refl
+kind_same f g n (kind.Type_ ty.U64) same h = refl
+kind_same f g n (kind.Type_ ty.S8) same h = refl
+kind_same f g n (kind.Type_ ty.S16) same h = refl
+kind_same f g n (kind.Type_ ty.S32) same h = refl
+kind_same f g n (kind.Type_ ty.S64) same h = refl
+kind_same f g n (kind.Type_ ty.F32) same h = refl
+kind_same f g n (kind.Type_ ty.F64) same h = refl
+kind_same f g n (kind.Type_ ty.Char) same h = refl
+kind_same f g n (kind.Type_ ty.String) same h = refl
+kind_same f g n (kind.Type_ ty.ErrorContext) same h = refl
+kind_same f g n kind.Resource same h = refl
+kind_same f g n (kind.Record x) same h = refl
+kind_same f g n (kind.Handle x) same h = refl
+kind_same f g n (kind.Flags x) same h = refl
+kind_same f g n (kind.Tuple x) same h = refl
+kind_same f g n (kind.Variant x) same h = refl
+kind_same f g n (kind.Enum x) same h = refl
+kind_same f g n (kind.Option x) same h = refl
+kind_same f g n (kind.Result x) same h = refl
+kind_same f g n (kind.List x) same h = refl
+kind_same f g n (kind.Map x y) same h = refl
+kind_same f g n (kind.FixedLengthList x y) same h = refl
+kind_same f g n (kind.Future x) same h = refl
+kind_same f g n (kind.Stream x) same h = refl
+
+module _ (r : Resolve) (below : Keeps references r) where
+  -- one more step changes nothing, where there were more than the number
+  stable : (s n : ℕ) → n < s → ends_in_resource r s n ≡ ends_in_resource r (suc s) n
+  unfolding ends_in_resource
+  stable zero n h = absurd (omega (arith, h))
+  stable (suc s) n h = go (λ m low. stable s m (omega (arith, low, h))) (type_at r n) refl
+    where
+      go : ((m : ℕ) → m < n → ends_in_resource r s m ≡ ends_in_resource r (suc s) m) → (o : Option TypeDef) → type_at r n ≡ o → option_map_or (λ def. is_resource_kind (ends_in_resource r s) def.kind) o false ≡ option_map_or (λ def. is_resource_kind (ends_in_resource r (suc s)) def.kind) o false
+      go same None e = refl
+      go same (Some def) e = kind_same (ends_in_resource r s) (ends_in_resource r (suc s)) n def.kind same (below_at r below n def e)
+
+  step_at : (s n : ℕ) (def : TypeDef) → n < s → type_at r n ≡ Some def → ends_in_resource r s n ≡ is_resource_kind (ends_in_resource r s) def.kind
+  unfolding ends_in_resource
+  step_at zero n def h is = absurd (omega (arith, h))
+  step_at (suc s) n def h is =
+      ap (λ o. option_map_or (λ def. is_resource_kind (ends_in_resource r s) def.kind) o false) is
+      ∙ kind_same (ends_in_resource r s) (ends_in_resource r (suc s)) n def.kind (λ m low. stable s m (omega (arith, low, h))) (below_at r below n def is)
+
+  -- a number is a resource where its kind is one, or an alias of one
+  pub resource_step : (n : ℕ) (def : TypeDef) → type_at r n ≡ Some def → is_resource r n ≡ is_resource_kind (is_resource r) def.kind
+  resource_step n def is = step_at (length r.types.items) n def (slice_get_within r.types.items n def is) is
+
+-- a number past the list is none
+pub no_resource : (r : Resolve) (n : ℕ) → length r.types.items ≤ n → is_resource r n ≡ false
+unfolding ends_in_resource
+no_resource r n h = go (length r.types.items)
+  where
+    go : (s : ℕ) → ends_in_resource r s n ≡ false
+    go zero = refl
+    go (suc s) = ap (λ o. option_map_or (λ def. is_resource_kind (ends_in_resource r s) def.kind) o false) (slice_get_past r.types.items n h)
+
+-- ---- the tests, by any marks that agree
+
+and-true : (b : Bool) → (b && true) ≡ b
+and-true true = refl
+and-true false = refl
+
+module _ (r : Resolve) (f : ℕ → Bool) (same : (n : ℕ) → f n ≡ is_resource r n) where
+  unmarked : (t : ValueType) → list_all (λ n. not (f n)) (option_to_list (number_of t)) ≡ not (is_resource_type r t)
+  unmarked t = go (number_of t)
+    where
+      go : (o : Option ℕ) → list_all (λ n. not (f n)) (option_to_list o) ≡ not (option_map_or (is_resource r) o false)
+      go None = refl
+      go (Some n) = and-true (not (f n)) ∙ ap not (same n)
+
+  pub marked_type : (k : TypeDefKind) →
+      (list_all (λ n. not (f n)) (filter_map number_of (member_types k)) && passes f (handled k))
+      ≡ (list_all (λ t. not (is_resource_type r t)) (member_types k) && passes (is_resource r) (handled k))
+  marked_type k = λ i. types_test (λ n. not (f n)) (λ t. not (is_resource_type r t)) unmarked (member_types k) i && passes (λ n. same n i) (handled k)
+
+  pub marked_functions : (fs : List Function) → list_all (λ n. not (f n)) (all_values fs) ≡ list_all (λ x. list_all (λ t. not (is_resource_type r t)) (function_types x)) fs
+  marked_functions fs = functions_test (λ n. not (f n)) (λ t. not (is_resource_type r t)) unmarked fs

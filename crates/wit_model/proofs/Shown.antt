@@ -1,0 +1,123 @@
+-- Which interfaces stand before an item, item by item.
+use Rattle.std.proofs.Common.{◌≡◌, refl, sym, ap, ◌∙◌, ℕ, Bool, true, false, ◌&&◌, ◌||◌, not, ◌==◌, List, [], ◌∷◌, ◌++◌, filter, filter_map, option_to_list, Some, None, Option, append_assoc, append-nil}
+use Rattle.std.specs.List.{list_all, list_any, cons_option}
+use Rattle.std.specs.Option.{option_map_or}
+use Rattle.std.proofs.lemmas.List.Elements.{filter_map-append}
+use Rattle.std.proofs.lemmas.List.Folds.{list_any-append}
+use Rattle.indexmap.specs.IndexMap.{values}
+use Rattle.wit_model.specs.declared.model.Resolve.{Resolve}
+use Rattle.wit_model.specs.declared.model.Interface.{Interface}
+use Rattle.wit_model.specs.declared.model.World.{World}
+use Rattle.wit_model.specs.declared.model.WorldItem.{WorldItem}
+use Rattle.wit_model.specs.Lookup.{interface_at}
+use Rattle.wit_model.specs.Uses.{has, once, item_interface, interface_used_by, interfaces_used_by, direct_deps, items_of}
+use Rattle.wit_model.specs.Rules.{is_id, each_after, used_interfaces}
+use Rattle.wit_model.specs.ItemOrders.{shown_with, shown_after, uses_are_shown}
+use Rattle.wit_model.proofs.Lists.{list_all_filter_map}
+use Rattle.wit_model.proofs.Owners.{all_filter, all_once}
+
+-- ---- tests of each element with those before it
+
+and_assoc : (a b c : Bool) → (a && (b && c)) ≡ ((a && b) && c)
+and_assoc true b c = refl
+and_assoc false b c = refl
+
+and_swap : (a b x y : Bool) → ((a && b) && (x && y)) ≡ ((a && x) && (b && y))
+and_swap true b true y = refl
+and_swap true true false y = refl
+and_swap true false false y = refl
+and_swap false b x y = refl
+
+pub after_both : {A : Type 0} (p q : List A → A → Bool) (before xs : List A) → each_after (λ b x. p b x && q b x) before xs ≡ (each_after p before xs && each_after q before xs)
+after_both p q before [] = refl
+after_both p q before (x ∷ xs) =
+    ap (λ b. (p before x && q before x) && b) (after_both p q (before ++ x ∷ []) xs)
+    ∙ and_swap (p before x) (q before x) (each_after p (before ++ x ∷ []) xs) (each_after q (before ++ x ∷ []) xs)
+
+pub after_append : {A : Type 0} (p : List A → A → Bool) (before xs ys : List A) → each_after p before (xs ++ ys) ≡ (each_after p before xs && each_after p (before ++ xs) ys)
+after_append p before [] ys = ap (λ b. each_after p b ys) (sym (append-nil before))
+after_append p before (x ∷ xs) ys =
+    ap (λ b. p before x && b) (after_append p (before ++ x ∷ []) xs ys)
+    ∙ (ap (λ b. p before x && (each_after p (before ++ x ∷ []) xs && each_after p b ys)) (append_assoc before (x ∷ []) xs)
+    ∙ and_assoc (p before x) (each_after p (before ++ x ∷ []) xs) (each_after p (before ++ x ∷ xs) ys))
+
+-- ---- what is shown
+
+or_turn : (a b c : Bool) → (a || (b || c)) ≡ ((b || a) || c)
+or_turn true true c = refl
+or_turn true false c = refl
+or_turn false true c = refl
+or_turn false false c = refl
+
+or_swap : (a b : Bool) → (a || (b || false)) ≡ (b || a)
+or_swap true true = refl
+or_swap true false = refl
+or_swap false true = refl
+or_swap false false = refl
+
+has_one : (ns : List ℕ) (o : Option ℕ) (n : ℕ) → (has ns n || has (cons_option o []) n) ≡ (is_id n o || has ns n)
+has_one ns None n = or_swap (has ns n) false
+has_one ns (Some m) n = or_swap (has ns n) (m == n)
+
+one_more : (before : List WorldItem) (i : WorldItem) (n : ℕ) → has (filter_map item_interface (before ++ i ∷ [])) n ≡ shown_with i (has (filter_map item_interface before)) n
+one_more before i n =
+    ap (λ ns. has ns n) (filter_map-append item_interface before (i ∷ []))
+    ∙ (list_any-append (λ m. m == n) (filter_map item_interface before) (cons_option (item_interface i) [])
+    ∙ has_one (filter_map item_interface before) (item_interface i) n)
+
+-- the test by what stands before is the test by what is shown
+pub interfaces_before : (r : Resolve) (before items : List WorldItem) →
+    each_after (λ b i. list_all (has (filter_map item_interface b)) (used_interfaces r i)) before items ≡ uses_are_shown r (has (filter_map item_interface before)) items
+interfaces_before r before [] = refl
+interfaces_before r before (i ∷ items) =
+    ap (λ b. list_all (has (filter_map item_interface before)) (used_interfaces r i) && b)
+    (interfaces_before r (before ++ i ∷ []) items ∙ ap (λ shown. uses_are_shown r shown items) (λ j n. one_more before i n j))
+
+-- one more item is shown
+pub after_more : (i : WorldItem) (items : List WorldItem) (old new : ℕ → Bool) → ((n : ℕ) → new n ≡ shown_with i old n) → (n : ℕ) → shown_after items new n ≡ shown_after (i ∷ items) old n
+after_more i items old new same n =
+    ap (λ b. list_any (λ x. is_id n (item_interface x)) items || b) (same n)
+    ∙ or_turn (list_any (λ x. is_id n (item_interface x)) items) (is_id n (item_interface i)) (old n)
+
+pub ready_more : (r : Resolve) (i : WorldItem) (items : List WorldItem) (old new : ℕ → Bool) → ((n : ℕ) → new n ≡ shown_with i old n) → list_all old (used_interfaces r i) ≡ true → uses_are_shown r new items ≡ uses_are_shown r old (i ∷ items)
+ready_more r i items old new same ready =
+    ap (λ shown. uses_are_shown r shown items) (λ j n. same n j)
+    ∙ ap (λ b. b && uses_are_shown r (shown_with i old) items) (sym ready)
+
+pub shown_append : (r : Resolve) (shown : ℕ → Bool) (xs ys : List WorldItem) → uses_are_shown r shown (xs ++ ys) ≡ (uses_are_shown r shown xs && uses_are_shown r (shown_after xs shown) ys)
+shown_append r shown [] ys = refl
+shown_append r shown (x ∷ xs) ys =
+    ap (λ b. list_all shown (used_interfaces r x) && b)
+    (shown_append r (shown_with x shown) xs ys
+    ∙ ap (λ s. uses_are_shown r (shown_with x shown) xs && uses_are_shown r s ys) (λ j n. after_more x xs shown (shown_with x shown) (λ m. refl) n j))
+    ∙ and_assoc (list_all shown (used_interfaces r x)) (uses_are_shown r (shown_with x shown) xs) (uses_are_shown r (shown_after (x ∷ xs) shown) ys)
+
+-- a world whose imports aren't ready isn't either
+pub imports_first : (r : Resolve) (shown : ℕ → Bool) (w : World) → uses_are_shown r shown (values w.imports) ≡ false → uses_are_shown r shown (items_of w) ≡ false
+imports_first r shown w e =
+    shown_append r shown (values w.imports) (values w.exports)
+    ∙ ap (λ b. b && uses_are_shown r (shown_after (values w.imports) shown) (values w.exports)) e
+
+pub exports_next : (r : Resolve) (shown new : ℕ → Bool) (w : World) → uses_are_shown r shown (values w.imports) ≡ true → ((n : ℕ) → new n ≡ shown_after (values w.imports) shown n) →
+    uses_are_shown r new (values w.exports) ≡ uses_are_shown r shown (items_of w)
+exports_next r shown new w e same =
+    ap (λ s. uses_are_shown r s (values w.exports)) (λ j n. same n j)
+    ∙ (ap (λ b. b && uses_are_shown r (shown_after (values w.imports) shown) (values w.exports)) (sym e)
+    ∙ sym (shown_append r shown (values w.imports) (values w.exports)))
+
+-- ---- what an interface uses
+
+no_not : (b : Bool) → not (not b) ≡ b
+no_not true = refl
+no_not false = refl
+
+-- a test of what an interface uses is a test of its types
+pub deps_pass : (p : ℕ → Bool) (r : Resolve) (n : ℕ) (i : Interface) → interface_at r n ≡ Some i →
+    list_all (λ id. list_all (λ m. (m == n) || p m) (option_to_list (interface_used_by r id.0))) (values i.types) ≡ list_all p (direct_deps r n)
+deps_pass p r n i is =
+    let used = interfaces_used_by r i in
+    sym (list_all_filter_map (λ m. (m == n) || p m) (λ id. interface_used_by r id.0) (values i.types))
+    ∙ (sym (all_once (λ m. (m == n) || p m) used)
+    ∙ (ap (λ test. list_all test (once used)) (λ j m. sym (no_not (m == n)) j || p m)
+    ∙ (sym (all_filter p (λ m. not (m == n)) (once used))
+    ∙ ap (λ o. list_all p (filter (λ m. not (m == n)) (once (option_map_or (interfaces_used_by r) o [])))) (sym is))))
