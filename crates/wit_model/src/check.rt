@@ -43,6 +43,8 @@ mod shapes;
 mod shown;
 mod tables;
 #[cfg(test)]
+mod tests;
+#[cfg(test)]
 mod type_tests;
 mod types;
 mod walk;
