@@ -1,5 +1,6 @@
 -- Maps that agree with slots, over what a call adds.
-use Rattle.std.proofs.Common.{◌≡◌, refl, sym, subst, ap, ◌∙◌, ℕ, Bool, true, false, List, ◌⊎◌, inl, inr, Result, Ok, Err, OnOk, OnErr, Some, None, nat_eq, arith}
+use Rattle.std.proofs.Common.{◌≡◌, refl, sym, subst, ap, ◌∙◌, ℕ, Bool, true, false, List, ◌⊎◌, inl, inr, Result, Ok, Err, OnOk, OnErr, Option, Some, None, nat_eq, arith}
+use Rattle.std.specs.Prelude.{is_some, IsSome}
 use Rattle.std.specs.List.{Contains, AllPairs}
 use Rattle.std.specs.Borrow.{Bor}
 use Rattle.std.proofs.lemmas.List.Elements.{Contains-append_left, Contains-push_cases, Contains-push, Contains-get_or}
@@ -14,7 +15,7 @@ use Rattle.wit_encode.specs.Key.{same_key}
 use Rattle.wit_encode.specs.Slots.{Pairs, Keeps}
 use Rattle.wit_encode.specs.Scope.{Scope}
 use Rattle.wit_encode.specs.Leaves.{Leaves}
-use Rattle.wit_encode.specs.Maps.{Known, by_number, by_kind, by_key, by_unit_future, by_unit_stream, Holds, standing_of, same_kind, IsOnce, MapsAgree, MapsGrow, IsKnown, LacksKind, LacksKey, SameMaps, LearnsNumber, LearnsKind, LearnsKey}
+use Rattle.wit_encode.specs.Maps.{Known, by_number, by_kind, by_key, by_unit_future, by_unit_stream, Holds, standing_of, same_kind, IsOnce, MapsAgree, MapsGrow, IsKnown, LacksKind, LacksKey, SameMaps, LearnsNumber, LearnsKind, LearnsKey, LearnsOne}
 
 pub either : {A E : Type 0} (x : Result A E) (P Q : Type 0) → OnOk x P → OnErr x Q → P ⊎ Q
 either (Ok x) P Q p q = inl p
@@ -232,3 +233,15 @@ known-learnt m m' id i l = (i, subst (λ (xs : List (TypeId × ℕ)). Contains x
 
 pub known-grow : (m m' : TypeEncodingMaps) (n : ℕ) → MapsGrow m m' → IsKnown m n → IsKnown m' n
 known-grow m m' n g k = (k.0, g.keeps (by_number (record { 0 = n })) k.0 k.1)
+
+pub not-known : (o : Option ℕ) → is_some o ≡ false → IsSome o → ⊥
+not-known o e h = let f : is_some o ≡ true = h in let z : ⊥ = cc in z
+
+pub learnt-one : (m m₁ m' : TypeEncodingMaps) (id : TypeId) (i : ℕ) → m₁.id_to_index.items ≡ m.id_to_index.items → LearnsNumber m₁ m' id i → LearnsOne m m' id.0
+learnt-one m m₁ m' id i e l = record { known = known-learnt m₁ m' id i l; only = record { each = only } }
+  where
+    only : (x : TypeId) (j : ℕ) → Contains m'.id_to_index.items (x, j) → Contains m.id_to_index.items (x, j) ⊎ (x.0 ≡ id.0)
+    only x j c = elim (Contains-push_cases _ _ _ (subst (λ (xs : List (TypeId × ℕ)). Contains xs (x, j)) l.more c)) [
+      | inl q ↦ inl (subst (λ (xs : List (TypeId × ℕ)). Contains xs (x, j)) e q)
+      | inr q ↦ inr (sym (ap (λ (p : TypeId × ℕ). p.0.0) q))
+    ]

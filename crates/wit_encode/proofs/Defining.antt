@@ -1,5 +1,5 @@
 -- What is defined, call by call.
-use Rattle.std.proofs.Common.{◌≡◌, refl, sym, subst, ap, ◌∙◌, ℕ, ◌+◌, Bool, true, false, cond, List, [], ◌∷◌, ◌++◌, Result, Ok, Err, IfOk, Option, Some, None, length, length-append, arith, count_by, zero-add, map}
+use Rattle.std.proofs.Common.{◌≡◌, refl, sym, subst, ap, ◌∙◌, ℕ, ◌+◌, ◌<◌, inl, inr, append_assoc, append-nil, Bool, true, false, cond, List, [], ◌∷◌, ◌++◌, Result, Ok, Err, IfOk, Option, Some, None, length, length-append, arith, count_by, zero-add, map}
 use Rattle.std.proofs.lemmas.List.Sums.{sum_by-append}
 use Rattle.wit_model.specs.Rules.{is_named_kind}
 use Rattle.wit_model.specs.Tree.{Tree, Declaration}
@@ -11,7 +11,11 @@ use Rattle.wit_model.specs.declared.model.TypeDefKind.{TypeDefKind}
 use Rattle.wit_model.specs.declared.model.TypeDefKind.TheVariants as kind
 use Rattle.wit_model.specs.declared.model.«Type».{«Type» as ValueType}
 use Rattle.std.specs.Borrow.{Bor}
-use Rattle.std.specs.List.{AllZip}
+use Rattle.std.specs.List.{AllZip, Contains, cons_option}
+use Rattle.std.proofs.lemmas.List.{map-append}
+use Rattle.std.proofs.lemmas.List.Elements.{Contains-append_cases, Contains-push_cases, filter_map-append}
+use Rattle.wit_model.specs.Meaning.{TypeMeaning}
+use Rattle.comp_bytes.specs.Raw.{ExternName}
 use Rattle.comp_bytes.specs.declared.forms.ComponentValType.{ComponentValType}
 use Rattle.comp_bytes.specs.declared.forms.ComponentValType.TheVariants as v
 use Rattle.comp_bytes.specs.declared.forms.ComponentDefinedType.{ComponentDefinedType}
@@ -23,9 +27,10 @@ use Rattle.wit_encode.specs.Maps.{Says, MapsAgree, IsWritten, HasKind, by_kind, 
 use Rattle.wit_model.specs.Text.{Text, text_of}
 use Rattle.wit_model.specs.declared.model.Param.{Param}
 use Rattle.wit_encode.specs.Definition.{FollowsKind, IsWrittenParam}
-use Rattle.wit_encode.proofs.Lists.{zip-along}
+use Rattle.wit_encode.proofs.Lists.{zip-along, one-contained}
 use Rattle.wit_encode.specs.Scope.{Scope}
-use Rattle.wit_encode.specs.Counts.{Definitions, one_type_more, type_more_if, is_defined_by_name, names_defined, AddsTypes}
+use Rattle.wit_encode.specs.Unnamed.{IsUnnamedKind, LearnsKinds}
+use Rattle.wit_encode.specs.Counts.{Definitions, one_type_more, type_more_if, is_defined_by_name, own_name, names_defined, ExportsOne, Shows, AddsTypes}
 use Rattle.wit_encode.specs.Leaves.{Leaves}
 use Rattle.wit_encode.proofs.Written.{written-stands}
 use Rattle.wit_encode.proofs.KindLaws.{same_tree}
@@ -102,44 +107,118 @@ own-form _ n m = refl
 
 -- ---- counts
 
+pub none-in : {X : Type 0} {P : Type 0} (x : X) → Contains [] x → P
+none-in x c = absurd (let l : c.0 < 0 = c.1 in omega arith)
+
+pub shows-none : (r : Resolve) (scope : Scope) (m m' : TypeEncodingMaps) (d d' : Definitions) → m'.id_to_index.items ≡ m.id_to_index.items → d'.exports ≡ d.exports → Shows r scope m m' d d'
+shows-none r scope m m' d d' e f = record { learnt = []; shown = []; numbers = e ∙ sym (append-nil m.id_to_index.items); exports = f ∙ sym (append-nil d.exports); declared = λ x c. none-in x c; names = refl }
+
+pub shows-trans : {r : Resolve} {scope : Scope} {a b c : TypeEncodingMaps} {d e f : Definitions} → Shows r scope a b d e → Shows r scope b c e f → Shows r scope a c d f
+shows-trans {r} {scope} {a} {b} {c} {d} {e} {f} p q = record {
+  learnt = p.learnt ++ q.learnt;
+  shown = p.shown ++ q.shown;
+  numbers = q.numbers ∙ ap (λ xs. xs ++ q.learnt) p.numbers ∙ append_assoc a.id_to_index.items p.learnt q.learnt;
+  exports = q.exports ∙ ap (λ xs. xs ++ q.shown) p.exports ∙ append_assoc d.exports p.shown q.shown;
+  declared = λ x h. elim (Contains-append_cases p.shown q.shown x h) [ inl y ↦ p.declared x y | inr y ↦ q.declared x y ];
+  names = map-append (λ (x : Text × TypeMeaning). x.0) p.shown q.shown ∙ (λ i. p.names i ++ q.names i) ∙ sym (filter_map-append (λ e. own_name r scope e.0.0) p.learnt q.learnt);
+}
+
+one-name : (o : Option Text) (t : Text) → o ≡ Some t → cons_option o [] ≡ t ∷ []
+one-name o t e = ap (λ x. cons_option x []) e
+
+-- a number that shows nothing
+shows-unshown : (r : Resolve) (scope : Scope) (m m' : TypeEncodingMaps) (d d' : Definitions) (id : TypeId) (i : ℕ) → LearnsNumber m m' id i → own_name r scope id.0 ≡ None → d'.exports ≡ d.exports → Shows r scope m m' d d'
+shows-unshown r scope m m' d d' id i l n e = record {
+  learnt = (id, i) ∷ [];
+  shown = [];
+  numbers = l.more;
+  exports = e ∙ sym (append-nil d.exports);
+  declared = λ x c. none-in x c;
+  names = sym (ap (λ x. cons_option x []) n);
+}
+
+-- a number that is shown by its name
+shows-shown : (r : Resolve) (scope : Scope) (m m' : TypeEncodingMaps) (d d₁ d' : Definitions) (id : TypeId) (i : ℕ) (name : ExternName) → LearnsNumber m m' id i → own_name r scope id.0 ≡ Some name.text → d₁.exports ≡ d.exports → ExportsOne scope d₁ d' name → Shows r scope m m' d d'
+shows-shown r scope m m' d d₁ d' id i name l n e x = record {
+  learnt = (id, i) ∷ [];
+  shown = x.declaration ∷ [];
+  numbers = l.more;
+  exports = ap (λ (z : Definitions). z.exports) x.one_more ∙ ap (λ xs. xs ++ x.declaration ∷ []) e;
+  declared = λ y c. subst (λ z. Contains scope.declarations z) (one-contained x.declaration y c) x.there;
+  names = ap (λ (z : ExternName). z.text ∷ []) (sym x.named_) ∙ sym (one-name (own_name r scope id.0) name.text n);
+}
+
+pub kinds-same : (r : Resolve) (m m' : TypeEncodingMaps) → m'.def_to_index.items ≡ m.def_to_index.items → LearnsKinds r m m'
+kinds-same r m m' e = record { each = λ k i c. inl (subst (λ (xs : List (Bor TypeDefKind × ℕ)). Contains xs (k, i)) e c) }
+
+kinds-learnt : (r : Resolve) (m m' : TypeEncodingMaps) (k : Bor TypeDefKind) (i : ℕ) → LearnsKind m m' k i → IsUnnamedKind r k.now → LearnsKinds r m m'
+kinds-learnt r m m' k i l u = record {
+  each = λ x j c. elim (Contains-push_cases m.def_to_index.items (k, i) (x, j) (subst (λ (xs : List (Bor TypeDefKind × ℕ)). Contains xs (x, j)) l.more c)) [
+    | inl h ↦ inl h
+    | inr h ↦ inr (subst (λ (z : Bor TypeDefKind × ℕ). IsUnnamedKind r z.0.now) h u)
+  ];
+}
+
+pub kinds-trans : {r : Resolve} {a b c : TypeEncodingMaps} → LearnsKinds r a b → LearnsKinds r b c → LearnsKinds r a c
+kinds-trans p q = record { each = λ k i h. elim (q.each k i h) [ inl x ↦ p.each k i x | inr u ↦ inr u ] }
+
 pub counts-none : (r : Resolve) (scope : Scope) (m : TypeEncodingMaps) (d : Definitions) → AddsTypes r scope m m d d
-counts-none r scope m d = record { types = refl; functions = refl; keys = refl }
+counts-none r scope m d = record { types = refl; functions = refl; keys = refl; shows = shows-none r scope m m d d refl refl; kinds = kinds-same r m m refl }
 
 pub counts-trans : {r : Resolve} {scope scope' : Scope} {a b c : TypeEncodingMaps} {d e f : Definitions} → scope' ≡ scope → AddsTypes r scope a b d e → AddsTypes r scope' b c e f → AddsTypes r scope a c d f
 counts-trans {r} {scope} {scope'} {a} {b} {c} {d} {e} {f} s p q =
     let q' : AddsTypes r scope b c e f = subst (λ (z : Scope). AddsTypes r z b c e f) s q in
-    record { types = (let x = p.types in let y = q'.types in omega arith); functions = q'.functions ∙ p.functions; keys = q'.keys ∙ p.keys }
+    record { types = (let x = p.types in let y = q'.types in omega arith); functions = q'.functions ∙ p.functions; keys = q'.keys ∙ p.keys; shows = shows-trans p.shows q'.shows; kinds = kinds-trans p.kinds q'.kinds }
 
-pub counts-kind : (r : Resolve) (scope : Scope) (m m' : TypeEncodingMaps) (d d' : Definitions) (k : Bor TypeDefKind) (i : ℕ) → LearnsKind m m' k i → d' ≡ one_type_more d → AddsTypes r scope m m' d d'
-counts-kind r scope m m' d d' k i l e =
+pub counts-kind : (r : Resolve) (scope : Scope) (m m' : TypeEncodingMaps) (d d' : Definitions) (k : Bor TypeDefKind) (i : ℕ) → LearnsKind m m' k i → IsUnnamedKind r k.now → d' ≡ one_type_more d → AddsTypes r scope m m' d d'
+counts-kind r scope m m' d d' k i l u e =
     let a : d'.types ≡ d.types + 1 = ap (λ (z : Definitions). z.types) e in
     let b : length m'.def_to_index.items ≡ length m.def_to_index.items + 1 = ap length l.more ∙ length-append m.def_to_index.items ((k, i) ∷ []) in
     let c : names_defined r scope m' ≡ names_defined r scope m = ap (count_by (λ q. is_defined_by_name r scope q.0.0)) l.rest.numbers in
-    record { types = omega arith; functions = ap (λ (z : Definitions). z.functions) e; keys = l.rest.keys }
+    record { types = omega arith; functions = ap (λ (z : Definitions). z.functions) e; keys = l.rest.keys; shows = shows-none r scope m m' d d' l.rest.numbers (ap (λ (z : Definitions). z.exports) e); kinds = kinds-learnt r m m' k i l u }
 
-count-push : {X : Type 0} (p : X → Bool) (xs : List X) (x : X) → count_by p (xs ++ x ∷ []) ≡ count_by p xs + cond (p x) 1 0
+pub count-push : {X : Type 0} (p : X → Bool) (xs : List X) (x : X) → count_by p (xs ++ x ∷ []) ≡ count_by p xs + cond (p x) 1 0
 count-push p xs x = sum_by-append (λ y. cond (p y) 1 0) xs (x ∷ []) ∙ ap (λ n. count_by p xs + n) (zero-add (cond (p x) 1 0))
 
-number-types : {X : Type 0} (b : Bool) (ys xs : List X) (x : X) (p : X → Bool) (n n' : ℕ) (d d' : Definitions) → p x ≡ b → ys ≡ xs ++ x ∷ [] → n' ≡ n → d' ≡ type_more_if b d → d'.types + (n + count_by p xs) ≡ d.types + (n' + count_by p ys)
-number-types true ys xs x p n n' d d' q l s e =
-    let a : d'.types ≡ d.types + 1 = ap (λ (z : Definitions). z.types) e in
-    let c : count_by p ys ≡ count_by p xs + 1 = ap (count_by p) l ∙ count-push p xs x ∙ ap (λ (z : Bool). count_by p xs + cond z 1 0) q in
-    omega arith
-number-types false ys xs x p n n' d d' q l s e =
-    let a : d'.types ≡ d.types = ap (λ (z : Definitions). z.types) e in
-    let c : count_by p ys ≡ count_by p xs + 0 = ap (count_by p) l ∙ count-push p xs x ∙ ap (λ (z : Bool). count_by p xs + cond z 1 0) q in
+number-types : {X : Type 0} (b : Bool) (ys xs : List X) (x : X) (p : X → Bool) (n n' : ℕ) (d d' : ℕ) → p x ≡ b → ys ≡ xs ++ x ∷ [] → n' ≡ n → d' ≡ d + cond b 1 0 → d' + (n + count_by p xs) ≡ d + (n' + count_by p ys)
+number-types b ys xs x p n n' d d' q l s e =
+    let c : count_by p ys ≡ count_by p xs + cond b 1 0 = ap (count_by p) l ∙ count-push p xs x ∙ ap (λ (z : Bool). count_by p xs + cond z 1 0) q in
     omega arith
 
-number-functions : (b : Bool) (d d' : Definitions) → d' ≡ type_more_if b d → d'.functions ≡ d.functions
-number-functions true d d' e = ap (λ (z : Definitions). z.functions) e
-number-functions false d d' e = ap (λ (z : Definitions). z.functions) e
+more-types : (b : Bool) (d : Definitions) → (type_more_if b d).types ≡ d.types + cond b 1 0
+more-types true d = refl
+more-types false d = omega arith
 
-pub counts-number : (r : Resolve) (scope : Scope) (m m' : TypeEncodingMaps) (d d' : Definitions) (id : TypeId) (i : ℕ) → LearnsNumber m m' id i → d' ≡ type_more_if (is_defined_by_name r scope id.0) d → AddsTypes r scope m m' d d'
-counts-number r scope m m' d d' id i l e = record {
-  types = number-types (is_defined_by_name r scope id.0) m'.id_to_index.items m.id_to_index.items (id, i) (λ q. is_defined_by_name r scope q.0.0) (length m.def_to_index.items) (length m'.def_to_index.items) d d' refl l.more (ap length l.rest.kinds) e;
-  functions = number-functions (is_defined_by_name r scope id.0) d d' e;
-  keys = l.rest.keys;
-}
+more-functions : (b : Bool) (d : Definitions) → (type_more_if b d).functions ≡ d.functions
+more-functions true d = refl
+more-functions false d = refl
+
+more-exports : (b : Bool) (d : Definitions) → (type_more_if b d).exports ≡ d.exports
+more-exports true d = refl
+more-exports false d = refl
+
+counts-learnt : (r : Resolve) (scope : Scope) (m m' : TypeEncodingMaps) (d d₁ d' : Definitions) (id : TypeId) (i : ℕ) → LearnsNumber m m' id i → d₁ ≡ type_more_if (is_defined_by_name r scope id.0) d → d'.types ≡ d₁.types → d'.functions ≡ d₁.functions → Shows r scope m m' d d' → AddsTypes r scope m m' d d'
+counts-learnt r scope m m' d d₁ d' id i l e t f s =
+    let b = is_defined_by_name r scope id.0 in
+    record {
+      types = number-types b m'.id_to_index.items m.id_to_index.items (id, i) (λ q. is_defined_by_name r scope q.0.0) (length m.def_to_index.items) (length m'.def_to_index.items) d.types d'.types refl l.more (ap length l.rest.kinds)
+          (t ∙ ap (λ (z : Definitions). z.types) e ∙ more-types b d);
+      functions = f ∙ ap (λ (z : Definitions). z.functions) e ∙ more-functions b d;
+      keys = l.rest.keys;
+      shows = s;
+      kinds = kinds-same r m m' l.rest.kinds;
+    }
+
+-- a number that is exported under no name
+pub counts-number : (r : Resolve) (scope : Scope) (m m' : TypeEncodingMaps) (d d' : Definitions) (id : TypeId) (i : ℕ) → LearnsNumber m m' id i → own_name r scope id.0 ≡ None → d' ≡ type_more_if (is_defined_by_name r scope id.0) d → AddsTypes r scope m m' d d'
+counts-number r scope m m' d d' id i l n e =
+    counts-learnt r scope m m' d d' d' id i l e refl refl (shows-unshown r scope m m' d d' id i l n (ap (λ (z : Definitions). z.exports) e ∙ more-exports (is_defined_by_name r scope id.0) d))
+
+-- a number that is exported under its name
+pub counts-named : (r : Resolve) (scope : Scope) (m m' : TypeEncodingMaps) (d d₁ d' : Definitions) (id : TypeId) (i : ℕ) (name : ExternName) → LearnsNumber m m' id i → own_name r scope id.0 ≡ Some name.text → d₁ ≡ type_more_if (is_defined_by_name r scope id.0) d → ExportsOne scope d₁ d' name → AddsTypes r scope m m' d d'
+counts-named r scope m m' d d₁ d' id i name l n e x =
+    counts-learnt r scope m m' d d₁ d' id i l e (ap (λ (z : Definitions). z.types) x.one_more) (ap (λ (z : Definitions). z.functions) x.one_more)
+    (shows-shown r scope m m' d d₁ d' id i name l n (ap (λ (z : Definitions). z.exports) e ∙ more-exports (is_defined_by_name r scope id.0) d) x)
 
 -- ---- what calls leave
 

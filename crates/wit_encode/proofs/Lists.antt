@@ -1,5 +1,5 @@
 -- Lists, element by element.
-use Rattle.std.proofs.Common.{◌≡◌, refl, sym, ap, ◌∙◌, subst, ℕ, zero, suc, ◌+◌, ◌<◌, List, [], ◌∷◌, ◌++◌, map, filter_map, option_to_list, length, get_or, take, arith, Option, Some, None, Bool, true}
+use Rattle.std.proofs.Common.{◌≡◌, refl, sym, ap, ◌∙◌, subst, ℕ, zero, suc, ◌+◌, ◌<◌, List, [], ◌∷◌, ◌++◌, map, filter_map, option_to_list, length, get_or, take, arith, Option, Some, None, Bool, true, false, ◌&&◌}
 use Rattle.std.specs.List.{Contains, AllZip, cons_option, list_all}
 use Rattle.wit_model.proofs.Lists.{first_true, second_true}
 use Rattle.std.specs.Option.{is_some}
@@ -83,3 +83,8 @@ all-contained p (y ∷ xs) x h (suc i, l, e) = all-contained p xs x (second_true
 pub some-from : {X : Type 0} (P : X → Type 0) (o : Option X) → is_some o ≡ true → IfSome o P → (x : X) × P x
 some-from P None e h = absurd (let z : ⊥ = cc in z)
 some-from P (Some x) e h = (x, h)
+
+pub both : (a b : Bool) → a ≡ true → b ≡ true → (a && b) ≡ true
+both true true p q = refl
+both true false p q = q
+both false b p q = p

@@ -1,5 +1,5 @@
 -- What is met from a type of an owner, without opening other interfaces, is of that owner or of another interface.
-use Rattle.std.proofs.Common.{◌≡◌, refl, sym, subst, ap, ◌∙◌, ℕ, ◌+◌, Bool, true, false, not, ◌&&◌, ◌||◌, ◌==◌, cond, T, eqb→eq, Option, Some, None, is_some, nat_eq, arith}
+use Rattle.std.proofs.Common.{◌≡◌, refl, sym, subst, ap, ◌∙◌, ℕ, ◌+◌, Bool, true, false, not, ◌&&◌, ◌||◌, ◌==◌, cond, T, eqb→eq, ◌⊎◌, inl, inr, Option, Some, None, is_some, nat_eq, arith}
 use Rattle.std.proofs.Math.Dec.{eqb_refl}
 use Rattle.std.specs.Prelude.{is_none}
 use Rattle.std.specs.List.{Contains, list_all}
@@ -26,7 +26,7 @@ use Rattle.wit_model.proofs.Functions.{all_flat}
 use Rattle.wit_model.proofs.Owners.{named_met, unnamed_met}
 use Rattle.wit_encode.specs.Kinds.{parts_of}
 use Rattle.wit_encode.specs.Plan.{foreign_owner, Reaches, itself, through}
-use Rattle.wit_encode.specs.Table.{interface_of_owner}
+use Rattle.wit_encode.specs.Table.{interface_of_owner, has_named_owner}
 use Rattle.wit_encode.proofs.Lists.{all-contained, one-contained}
 use Rattle.wit_encode.proofs.Planning.{part-number}
 
@@ -44,7 +44,7 @@ same-owner owner.None (owner.World b) e = let wrong : ⊥ = cc in absurd wrong
 same-owner owner.None (owner.Interface b) e = let wrong : ⊥ = cc in absurd wrong
 
 -- a type that isn't foreign and belongs to an interface belongs to this one
-own-interface : (o a : TypeOwner) (i : ℕ) → owner_interface a ≡ Some i → foreign_owner (interface_of_owner o) a ≡ None → same_owner a o ≡ true
+pub own-interface : (o a : TypeOwner) (i : ℕ) → owner_interface a ≡ Some i → foreign_owner (interface_of_owner o) a ≡ None → same_owner a o ≡ true
 own-interface o (owner.World w) i e f = let wrong : ⊥ = cc in absurd wrong
 own-interface o owner.None i e f = let wrong : ⊥ = cc in absurd wrong
 own-interface (owner.World w) (owner.Interface j) i e f = let wrong : ⊥ = cc in absurd wrong
@@ -62,7 +62,7 @@ own-interface (owner.Interface k) (owner.Interface j) i e f = go (nat_eq k.0 j.0
 -- ---- uses
 
 -- what holds of the target of an alias holds of its part
-alias-part : (test : ℕ → Bool) (k : TypeDefKind) (id : TypeId) → option_map_or test (alias_target k) false ≡ true → Contains (parts_of k) (ty.Id id) → test id.0 ≡ true
+pub alias-part : (test : ℕ → Bool) (k : TypeDefKind) (id : TypeId) → option_map_or test (alias_target k) false ≡ true → Contains (parts_of k) (ty.Id id) → test id.0 ≡ true
 alias-part test (kind.Type_ t) id h c = go t h (one-contained t (ty.Id id) c)
   where
     go : (t : ValueType) → option_map_or test (alias_target (kind.Type_ t)) false ≡ true → t ≡ ty.Id id → test id.0 ≡ true
@@ -86,11 +86,11 @@ some-of : {A B : Type 0} (f : A → B → Bool) (o : Option A) (b : B) → optio
 some-of f None b h = let wrong : ⊥ = cc in absurd wrong
 some-of f (Some a) b h = refl
 
-or-cases : {P : Type 0} (a b : Bool) → (a || b) ≡ true → (a ≡ true → P) → (b ≡ true → P) → P
+pub or-cases : {P : Type 0} (a b : Bool) → (a || b) ≡ true → (a ≡ true → P) → (b ≡ true → P) → P
 or-cases true b h p q = p refl
 or-cases false b h p q = q h
 
-not-false : (b : Bool) → not b ≡ true → b ≡ true → ⊥
+pub not-false : (b : Bool) → not b ≡ true → b ≡ true → ⊥
 not-false true h e = cc
 not-false false h e = cc
 
@@ -136,20 +136,38 @@ module _ (r : Resolve) (v : IsValid r) (o : TypeOwner) where
         belongs None e h = let wrong : ⊥ = cc in absurd wrong
         belongs (Some i) e h = own-interface o def'.owner i e f
 
-    part-stays : stays n ≡ true → Stays id.0
-    part-stays h = go (is_some def.name) refl
+    -- a part of a type that stays does so too, unless it is that of a named alias which uses another interface
+    pub part-met : {P : Type 0} → stays n ≡ true → (stays id.0 ≡ true → P) → (is_some def.name ≡ true → same_owner def.owner o ≡ true → is_use r def ≡ true → P) → P
+    part-met {P} h stay uses = go (is_some def.name) refl
       where
         some-none : {A : Type 0} (x : Option A) → is_some x ≡ true → is_none x ≡ true → ⊥
         some-none None e f = cc
         some-none (Some x) e f = cc
 
-        go : (b : Bool) → is_some def.name ≡ b → Stays id.0
-        go false e = λ _ _ _. from-all (unnamed_met r (valid-references r v) n def is o e ∙ h)
+        go : (b : Bool) → is_some def.name ≡ b → P
+        go false e = stay (from-all (unnamed_met r (valid-references r v) n def is o e ∙ h))
         go true e =
             let s : same_owner def.owner o ≡ true = named_met r (valid-references r v) n def is o e ∙ h in
             or-cases (is_none def.name) (list_all (has_owner r def.owner) (used_by_type r def) || is_use r def) (owner-kept r v n def is)
             (λ none. absurd (some-none def.name e none))
-            (λ rest. or-cases (list_all (has_owner r def.owner) (used_by_type r def)) (is_use r def) rest (λ used _ _ _. used-stay s used) (use-foreign s))
+            (λ rest. or-cases (list_all (has_owner r def.owner) (used_by_type r def)) (is_use r def) rest (λ used. stay (used-stay s used)) (uses e s))
+
+    part-stays : stays n ≡ true → Stays id.0
+    part-stays h = part-met h (λ s _ _ _. s) (λ _. use-foreign)
+
+    -- an alias that uses a type of another interface, which has a name
+    use-named : is_use r def ≡ true → (def' : TypeDef) → type_at r id.0 ≡ Some def' → has_named_owner r def' ≡ true
+    use-named h def' is' =
+        let at = alias-part _ def.kind id h c in
+        second_true _ _ (sym (ap (λ t. option_map_or (λ target. not (same_owner target.owner def.owner) && option_map_or (λ i. option_map_or (λ other. is_some other.name) (interface_at r i) false) (owner_interface target.owner) false) t false) is') ∙ at)
+
+    -- a named part is one of the owner, or of another interface, which has a name
+    part-owned : stays n ≡ true → (def' : TypeDef) → type_at r id.0 ≡ Some def' → is_some def'.name ≡ true → (same_owner def'.owner o ≡ true) ⊎ (has_named_owner r def' ≡ true)
+    part-owned h def' is' named = part-met h (λ s. inl (named_met r (valid-references r v) id.0 def' is' o named ∙ s)) (λ _ _ used. inr (use-named used def' is'))
+
+  -- the same of each part of a type, by their names
+  pub parts-owned : (n : ℕ) (def : TypeDef) → type_at r n ≡ Some def → stays n ≡ true → (id : TypeId) → Contains (parts_of def.kind) (ty.Id id) → (def' : TypeDef) → type_at r id.0 ≡ Some def' → is_some def'.name ≡ true → (same_owner def'.owner o ≡ true) ⊎ (has_named_owner r def' ≡ true)
+  parts-owned n def is h id c = part-owned n def is id c h
 
   -- what is met on the way down stays
   pub reached-stays : (t : ValueType) (n : ℕ) → ((id : TypeId) → t ≡ ty.Id id → Stays id.0) → Reaches r (interface_of_owner o) t n → Stays n

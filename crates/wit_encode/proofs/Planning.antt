@@ -23,7 +23,7 @@ use Rattle.wit_encode.specs.declared.maps.TypeEncodingMaps.{TypeEncodingMaps}
 use Rattle.wit_encode.specs.declared.plan.Order.{Order}
 use Rattle.wit_encode.specs.Kinds.{parts_of}
 use Rattle.wit_encode.specs.Maps.{IsKnown}
-use Rattle.wit_encode.specs.Plan.{foreign_owner, Reaches, itself, through, IsLayered, PartsStand, IsOrdered, MetStand, Stands, IsPlanned, IsOrderOf, rank}
+use Rattle.wit_encode.specs.Plan.{foreign_owner, Meets, at_once, further, IsLayered, PartsStand, IsOrdered, MetStand, Stands, IsPlanned, IsOrderOf, rank}
 use Rattle.wit_encode.proofs.Lists.{contains-filter_map, contains-one, one-contained, all-contained}
 
 none-of : {A : Type 0} (o : Option A) → is_some o ≡ false → o ≡ None
@@ -103,31 +103,31 @@ module _ (r : Resolve) (own : Option InterfaceId) (m : TypeEncodingMaps) where
   stands-one : (order : List ℕ) (x : ValueType) → Stands m order x → (t : ValueType) → Contains (x ∷ []) t → Stands m order t
   stands-one order x s t c id e = s id (one-contained x t c ∙ e)
 
-  pub planned-push : (before a : List ℕ) (after : Order) (id : TypeId) → after.numbers.items ≡ a ++ id.0 ∷ [] → MetStand m after → ((n : ℕ) → Contains before n → Contains a n) → ((n : ℕ) → Contains a n → Contains before n ⊎ Reaches r own (ty.Id id) n) → IsOrdered r own m a → PartsStand r own m a id.0
+  pub planned-push : (before a : List ℕ) (after : Order) (id : TypeId) → (IsKnown m id.0 → ⊥) → after.numbers.items ≡ a ++ id.0 ∷ [] → MetStand m after → ((n : ℕ) → Contains before n → Contains a n) → ((n : ℕ) → Contains a n → Contains before n ⊎ Meets r own m (ty.Id id) n) → IsOrdered r own m a → PartsStand r own m a id.0
       → IsPlanned r own m before (ty.Id id ∷ []) 1 after
-  planned-push before a after id is met kept added o p = record {
+  planned-push before a after id lacks is met kept added o p = record {
     kept = λ n h. subst (λ (xs : List ℕ). Contains xs n) (sym is) (Contains-append_left a _ n (kept n h));
     added = λ n h. elim (Contains-push_cases a id.0 n (subst (λ (xs : List ℕ). Contains xs n) is h)) [
       | inl q ↦ elim (added n q) [ inl b ↦ inl b | inr re ↦ inr (ty.Id id, contains-one (ty.Id id), re) ]
-      | inr e ↦ inr (ty.Id id, contains-one (ty.Id id), subst (λ x. Reaches r own (ty.Id id) x) e (itself id))
+      | inr e ↦ inr (ty.Id id, contains-one (ty.Id id), subst (λ x. Meets r own m (ty.Id id) x) e (at_once id lacks))
     ];
     ordered = subst (λ (xs : List ℕ). IsOrdered r own m xs) (sym is) (ordered-push a id.0 o p);
     met = met;
     stands = stands-one after.numbers.items (ty.Id id) (λ id' e. inr (let e' : id ≡ id' = cc in subst (λ (x : TypeId). Contains after.numbers.items x.0) e' (subst (λ (xs : List ℕ). Contains xs id.0) (sym is) (Contains-push a id.0))));
   }
 
-  pub planned-foreign : (before : List ℕ) (after : Order) (id : TypeId) (def : TypeDef) → after.numbers.items ≡ before ++ id.0 ∷ [] → MetStand m after → IsOrdered r own m before → type_at r id.0 ≡ Some def → is_some (foreign_owner own def.owner) ≡ true
+  pub planned-foreign : (before : List ℕ) (after : Order) (id : TypeId) (def : TypeDef) → (IsKnown m id.0 → ⊥) → after.numbers.items ≡ before ++ id.0 ∷ [] → MetStand m after → IsOrdered r own m before → type_at r id.0 ≡ Some def → is_some (foreign_owner own def.owner) ≡ true
       → IsPlanned r own m before (ty.Id id ∷ []) 1 after
-  planned-foreign before after id def is met o at f = planned-push before before after id is met (λ n h. h) (λ n h. inl h) o
+  planned-foreign before after id def lacks is met o at f = planned-push before before after id lacks is met (λ n h. h) (λ n h. inl h) o
       (λ def' p at' f' c. let e : def ≡ def' = cc in let bad : true ≡ false = sym f ∙ ap (λ (x : TypeDef). is_some (foreign_owner own x.owner)) e ∙ ap is_some f' in absurd (let z : ⊥ = cc in z))
 
-  pub planned-own : (before : List ℕ) (mid after : Order) (id : TypeId) (def : TypeDef) (ts : List ValueType) (i : ℕ) → after.numbers.items ≡ mid.numbers.items ++ id.0 ∷ [] → MetStand m after → type_at r id.0 ≡ Some def → is_some (foreign_owner own def.owner) ≡ false → ts ≡ parts_of def.kind → length ts ≤ i
+  pub planned-own : (before : List ℕ) (mid after : Order) (id : TypeId) (def : TypeDef) (ts : List ValueType) (i : ℕ) → (IsKnown m id.0 → ⊥) → after.numbers.items ≡ mid.numbers.items ++ id.0 ∷ [] → MetStand m after → type_at r id.0 ≡ Some def → is_some (foreign_owner own def.owner) ≡ false → ts ≡ parts_of def.kind → length ts ≤ i
       → IsPlanned r own m before ts i mid → IsPlanned r own m before (ty.Id id ∷ []) 1 after
-  planned-own before mid after id def ts i is met at f e le w =
-      planned-push before mid.numbers.items after id is met w.kept
+  planned-own before mid after id def ts i lacks is met at f e le w =
+      planned-push before mid.numbers.items after id lacks is met w.kept
       (λ n h. elim (w.added n h) [
         | inl q ↦ inl q
-        | inr q ↦ inr (through id def q.0 n at (none-of _ f) (subst (λ (xs : List ValueType). Contains xs q.0) (take_all i ts le ∙ e) q.1) q.2)
+        | inr q ↦ inr (further id def q.0 n lacks at (none-of _ f) (subst (λ (xs : List ValueType). Contains xs q.0) (take_all i ts le ∙ e) q.1) q.2)
       ])
       w.ordered
       (λ def' p at' f' c. let d : def ≡ def' = cc in

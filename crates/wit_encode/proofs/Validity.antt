@@ -1,36 +1,72 @@
 -- What a valid `Resolve` gives for encoding.
-use Rattle.std.proofs.Common.{◌≡◌, refl, sym, subst, ap, ◌∙◌, ℕ, zero, suc, ◌+◌, ◌<◌, inl, inr, Bool, true, false, cond, not, ◌||◌, T, nat_lt, ltb→lt, List, [], ◌∷◌, length, flat_map, slice_get, unwrap_or, Option, Some, None, String, arith}
+use Rattle.std.proofs.Common.{◌≡◌, refl, sym, subst, ap, ◌∙◌, ℕ, zero, suc, ◌+◌, ◌<◌, ◌⊎◌, inl, inr, Bool, true, false, cond, not, ◌&&◌, ◌||◌, T, nat_lt, ltb→lt, List, [], ◌∷◌, length, flat_map, slice_get, unwrap_or, Option, Some, None, String, arith, ◌++◌, map, option_map, option_to_list}
 use Rattle.std.specs.declared.alloc.Global.{Global}
 use Rattle.std.specs.Prelude.{is_some, is_none}
 use Rattle.std.specs.List.{Contains, list_all}
 use Rattle.std.specs.Option.{option_map_or}
 use Rattle.std.proofs.lemmas.Bool.{cases_eq}
 use Rattle.std.proofs.lemmas.List.Elements.{Contains-append_left, Contains-append_right}
-use Rattle.wit_model.specs.Text.{text_of}
-use Rattle.wit_model.specs.Lookup.{type_at, place_of}
-use Rattle.wit_model.specs.Meant.{type_meaning}
-use Rattle.wit_model.specs.Parts.{kind_numbers, same_owner}
+use Rattle.wit_model.specs.Text.{text_of, Text}
+use Rattle.wit_model.specs.Lookup.{type_at, place_of, interface_at, is_async}
+use Rattle.wit_model.specs.Meant.{type_meaning, signature_of}
+use Rattle.wit_model.specs.Parts.{kind_numbers, same_owner, member_types, handled, function_types, is_resource, is_resource_kind, is_resource_type}
 use Rattle.wit_model.specs.Uses.{alias_target}
 use Rattle.wit_model.specs.Rules.{is_named_kind, is_named_number, is_listed, owner_in_range, passes}
-use Rattle.wit_model.specs.Valid.{IsValid, named_kinds, numbers_in_range, order_of_types}
+use Rattle.wit_model.specs.Valid.{IsValid, named_kinds, order_of_types, Rule, Keeps, shapes, handles, functions_of_interface}
+use Rattle.std.proofs.lemmas.List.Folds.{list_all-append}
+use Rattle.wit_model.specs.Tree.{Tree}
+use Rattle.wit_model.specs.Types.{type_tree, number_tree, no_tree, trees_of, tree_of_definition, declaration_of}
+use Rattle.wit_model.specs.Meaning.{Signature}
 use Rattle.wit_model.specs.declared.model.Resolve.{Resolve}
+use Rattle.wit_model.specs.declared.model.Interface.{Interface}
+use Rattle.wit_model.specs.declared.model.Function.{Function}
+use Rattle.wit_model.specs.declared.model.Param.{Param}
 use Rattle.wit_model.specs.declared.model.TypeDef.{TypeDef}
 use Rattle.wit_model.specs.declared.model.TypeOwner.{TypeOwner}
-use Rattle.wit_model.specs.declared.model.TypeOwner.TheVariants as owner
 use Rattle.wit_model.specs.declared.model.TypeId.{TypeId}
 use Rattle.wit_model.specs.declared.model.InterfaceId.{InterfaceId}
 use Rattle.wit_model.specs.declared.model.«Type».{«Type» as ValueType}
-use Rattle.wit_model.specs.declared.model.«Type».TheVariants as ty
 use Rattle.wit_model.proofs.Lists.{first_true, second_true}
 use Rattle.wit_model.proofs.Entries.{each_from_at, lists_pass}
-use Rattle.wit_model.proofs.TreeTable.{kept_numbers}
+use Rattle.wit_model.proofs.TreeTable.{kept_numbers, kept_trees_at}
+use Rattle.std.proofs.lemmas.Option.{slice_get_within}
+use Rattle.std.proofs.lemmas.Bool.{lt-ltb}
+use Rattle.wit_model.specs.declared.model.TypeDefKind.{TypeDefKind}
+use Rattle.wit_model.specs.declared.model.TypeDefKind.TheVariants as kind
+use Rattle.wit_model.specs.declared.model.Handle.TheVariants as handle
 use Rattle.wit_model.proofs.Owners.{named_met}
-use Rattle.wit_encode.specs.Plan.{IsLayered, AllInRange, foreign_owner, is_interface}
+use Rattle.wit_encode.specs.Plan.{IsLayered, InRange, AllInRange, foreign_owner, is_interface}
 use Rattle.wit_encode.specs.Fits.{FitsScope, CanEncode}
-use Rattle.wit_encode.specs.Scope.{IsImportable}
-use Rattle.wit_encode.specs.Table.{table_scope, below, interface_of_owner, declaration_in, named_declaration, is_met_by}
-use Rattle.wit_encode.proofs.Lists.{contains-one}
-use Rattle.wit_encode.proofs.Owned.{same-owner, valid-references, Stays, reached-stays}
+use Rattle.wit_encode.specs.Scope.{IsImportable, IsDeclared, Scope}
+use Rattle.wit_encode.specs.Table.{table_scope, below, interface_of_owner, declaration_in, named_declaration, is_met_by, is_met_owner, has_named_owner}
+use Rattle.wit_encode.proofs.Lists.{contains-one, all-contained}
+use Rattle.wit_encode.proofs.Owned.{same-owner, valid-references, stays, Stays, reached-stays, parts-owned}
+use Rattle.wit_encode.proofs.Planning.{part-smaller}
+use Rattle.wit_encode.proofs.Paths.{found-in}
+use Rattle.wit_encode.proofs.Naming.{HaveHomes, or-first, or-second, named-owner, valid-owner_in_range, one-home, names-agree}
+use Rattle.wit_model.proofs.Resources.{resource_step}
+use Rattle.wit_encode.specs.Kinds.{parts_of, has_definition, kind_tree}
+use Rattle.wit_encode.specs.Resources.{Names, is_resource_tree, is_resource_declaration, is_named_interface, resource_names}
+use Rattle.wit_encode.specs.Formed.{is_formed, are_values, IsFormedSignature}
+use Rattle.wit_encode.proofs.Forming.{Agree, kind-formed, kind-alike, values-of, optional-values}
+use Rattle.wit_model.specs.declared.model.TypeOwner.TheVariants as owner
+use Rattle.wit_model.specs.declared.model.«Type».TheVariants as ty
+
+abbrev signature_like : Resolve → Bool → List Param → Option ValueType → Signature
+signature_like r a ps o = record { is_async = a; params = map (λ p. (text_of p.name, type_tree r p.ty)) ps; result = option_map (type_tree r) o }
+
+pub signature-formed : (r : Resolve) (scope : Scope) (ps : List Param) (o : Option ValueType) → scope.is_sound ≡ true → (a : Bool) → list_all (λ t. not (is_resource_type r t)) (map (λ p. p.ty) ps ++ option_to_list o) ≡ true → Agree r scope.resources (map (λ p. p.ty) ps ++ option_to_list o) → IsFormedSignature scope (signature_like r a ps o)
+signature-formed r scope ps o sound a h agree =
+    let split = sym (list_all-append (λ t. not (is_resource_type r t)) (map (λ p. p.ty) ps) (option_to_list o)) ∙ h in
+    record {
+      sound = sound;
+      params = ap (are_values scope.resources) (param-trees r ps) ∙ values-of r scope.resources (map (λ p. p.ty) ps) (first_true _ _ split) (λ t c. agree t (Contains-append_left (map (λ p. p.ty) ps) (option_to_list o) t c));
+      result_ = optional-values r scope.resources o (second_true (list_all (λ t. not (is_resource_type r t)) (map (λ p. p.ty) ps)) _ split) (λ t c. agree t (Contains-append_right (map (λ p. p.ty) ps) (option_to_list o) t c));
+    }
+  where
+    param-trees : (r : Resolve) (ps : List Param) → map (λ p. p.1) (map {B = Text × Tree} (λ p. (text_of p.name, type_tree r p.ty)) ps) ≡ map (type_tree r) (map (λ p. p.ty) ps)
+    param-trees r [] = refl
+    param-trees r (p ∷ ps) = ap (λ ts. type_tree r p.ty ∷ ts) (param-trees r ps)
 
 -- types refer to smaller numbers alone
 pub valid-layered : (r : Resolve) → IsValid r → IsLayered r
@@ -49,19 +85,48 @@ valid-unnamed r v n def is none =
     let passed : named_kinds.type_ r (0 + n) def ≡ true = each_from_at (named_kinds.type_ r) 0 r.types.items n def (lists_pass named_kinds r v.rules.named_kinds).3 is in
     unnamed-of (is_named_kind def.kind) (is_some def.name) (first_true (not (is_named_kind def.kind) || is_some def.name) (passes (is_named_number r) (alias_target def.kind)) passed) (ap is_some none)
 
+-- ---- what is well formed
+
+-- an entry passes the tests of a rule that is kept
+pub type_passes : (rule : Rule) (r : Resolve) → Keeps rule r → (n : ℕ) (def : TypeDef) → type_at r n ≡ Some def → rule.type_ r n def ≡ true
+type_passes rule r k n def at = let here : 0 + n ≡ n = omega arith in subst (λ (m : ℕ). rule.type_ r m def ≡ true) here (each_from_at (rule.type_ r) 0 r.types.items n def (lists_pass rule r k).3 at)
+
+pub interface_passes : (rule : Rule) (r : Resolve) → Keeps rule r → (n : ℕ) (i : Interface) → interface_at r n ≡ Some i → rule.interface_ r n i ≡ true
+interface_passes rule r k n i at = let here : 0 + n ≡ n = omega arith in subst (λ (m : ℕ). rule.interface_ r m i ≡ true) here (each_from_at (rule.interface_ r) 0 r.interfaces.items n i (lists_pass rule r k).1 at)
+
+-- a type is a resource where its kind is one, or an alias of one
+pub valid-resource : (r : Resolve) → IsValid r → (n : ℕ) (def : TypeDef) → type_at r n ≡ Some def → is_resource r n ≡ is_resource_kind (is_resource r) def.kind
+valid-resource r v n def at = resource_step r (valid-references r v) n def at
+
+-- what a type is defined as is well formed
+pub valid-formed : (r : Resolve) (resources : Names) → IsValid r → (n : ℕ) (def : TypeDef) → type_at r n ≡ Some def → Agree r resources (parts_of def.kind) → has_definition def.kind ≡ true → is_formed resources (kind_tree r def.kind) ≡ true
+unfolding shapes handles
+valid-formed r resources v n def at agree d =
+    let parts = type_passes handles r v.rules.handles n def at in
+    kind-formed r resources def.kind d (type_passes shapes r v.rules.shapes n def at)
+    (first_true (list_all (λ t. not (is_resource_type r t)) (member_types def.kind)) (passes (is_resource r) (handled def.kind)) parts)
+    (second_true (list_all (λ t. not (is_resource_type r t)) (member_types def.kind)) (passes (is_resource r) (handled def.kind)) parts)
+    agree
+
+-- a name stands for a resource where it declares one
+pub valid-alike : (r : Resolve) (resources : Names) → IsValid r → (n : ℕ) (def : TypeDef) → type_at r n ≡ Some def → Agree r resources (parts_of def.kind) → is_resource_declaration resources (declaration_of r def) ≡ is_resource r n
+valid-alike r resources v n def at agree = kind-alike r resources def.kind agree ∙ sym (valid-resource r v n def at)
+
+-- a function of an interface takes and gives no resource by itself
+pub valid-signature : (r : Resolve) (scope : Scope) → IsValid r → scope.is_sound ≡ true → (n : ℕ) (i : Interface) (f : Function) → interface_at r n ≡ Some i → Contains (functions_of_interface i) f → Agree r scope.resources (function_types f) → IsFormedSignature scope (signature_of r f)
+unfolding handles
+valid-signature r scope v sound n i f at c agree =
+    let of_all : list_all (λ t. not (is_resource_type r t)) (function_types f) ≡ true = all-contained (λ f. list_all (λ t. not (is_resource_type r t)) (function_types f)) (functions_of_interface i) f (interface_passes handles r v.rules.handles n i at) c in
+    signature-formed r scope f.params.items f.result sound (is_async f.kind) of_all agree
+
 -- ---- the table of an owner
 
 -- an unnamed type has no owner
-valid-ownerless : (r : Resolve) → IsValid r → (n : ℕ) (def : TypeDef) → type_at r n ≡ Some def → def.name ≡ None → same_owner def.owner owner.None ≡ true
+pub valid-ownerless : (r : Resolve) → IsValid r → (n : ℕ) (def : TypeDef) → type_at r n ≡ Some def → def.name ≡ None → same_owner def.owner owner.None ≡ true
 unfolding order_of_types
 valid-ownerless r v n def is none =
     let passed = second_true (list_all (λ m. nat_lt m (0 + n)) (kind_numbers def.kind)) _ (each_from_at (order_of_types.type_ r) 0 r.types.items n def (lists_pass order_of_types r v.rules.order_of_types).3 is) in
     ap (λ o. option_map_or (λ name. is_listed r (0 + n) (text_of name) def.owner) o (same_owner def.owner owner.None)) (sym none) ∙ passed
-
--- an owner is in range
-valid-owner_in_range : (r : Resolve) → IsValid r → (n : ℕ) (def : TypeDef) → type_at r n ≡ Some def → owner_in_range r def.owner ≡ true
-unfolding numbers_in_range
-valid-owner_in_range r v n def is = second_true _ _ (second_true _ _ (each_from_at (numbers_in_range.type_ r) 0 r.types.items n def (lists_pass numbers_in_range r v.rules.numbers_in_range).3 is))
 
 foreign-interface : (own : Option InterfaceId) (a : TypeOwner) (i : InterfaceId) → foreign_owner own a ≡ Some i → a ≡ owner.Interface i
 foreign-interface own (owner.World w) i e = let wrong : ⊥ = cc in absurd wrong
@@ -87,11 +152,76 @@ contains-flat_map f [] n x y e c = let wrong : ⊥ = cc in absurd wrong
 contains-flat_map f (z ∷ xs) zero x y e c = Contains-append_left (f z) (flat_map f xs) y (subst (λ w. Contains (f w) y) (sym (ap (λ o. unwrap_or o z) e)) c)
 contains-flat_map f (z ∷ xs) (suc n) x y e c = Contains-append_right (f z) (flat_map f xs) y (contains-flat_map f xs n x y e c)
 
-same-back : (a b : TypeOwner) → same_owner a b ≡ true → same_owner b a ≡ true
+pub same-back : (a b : TypeOwner) → same_owner a b ≡ true → same_owner b a ≡ true
 same-back a b e = let q = same-owner a b e in subst (λ (x : TypeOwner). same_owner b x ≡ true) (sym q) (subst (λ (x : TypeOwner). same_owner x b ≡ true) q e)
 
-has-name : {A : Type 0} (o : Option A) (x : A) → o ≡ Some x → is_some o ≡ true
+pub has-name : {A : Type 0} (o : Option A) (x : A) → o ≡ Some x → is_some o ≡ true
 has-name o x e = ap is_some e
+
+-- an unnamed type is no resource
+unnamed-kind : (r : Resolve) (resources : Names) (f : ℕ → Bool) (k : TypeDefKind) → is_named_kind k ≡ false → is_resource_tree resources (kind_tree r k) ≡ is_resource_kind f k
+unnamed-kind r resources f kind.Resource e = let wrong : ⊥ = cc in absurd wrong
+unnamed-kind r resources f (kind.Type_ t) e = let wrong : ⊥ = cc in absurd wrong
+unnamed-kind r resources f (kind.Handle (handle.Own id)) e = refl
+unnamed-kind r resources f (kind.Handle (handle.Borrow id)) e = refl
+unnamed-kind r resources f _ e = refl
+
+all-at : {X : Type 0} (p : X → Bool) (xs : List X) (n : ℕ) (x : X) → list_all p xs ≡ true → slice_get xs n ≡ Some x → p x ≡ true
+all-at p [] n x h e = let wrong : ⊥ = cc in absurd wrong
+all-at p (y ∷ xs) zero x h e = subst (λ z. p z ≡ true) (ap (λ w. unwrap_or w y) e) (first_true _ _ h)
+all-at p (y ∷ xs) (suc n) x h e = all-at p xs n x (second_true _ _ h) e
+
+nameless : {A : Type 0} (x : Option A) → is_some x ≡ true → is_none x ≡ false
+nameless None e = let wrong : ⊥ = cc in absurd wrong
+nameless (Some x) e = refl
+
+or-right : (a b : Bool) → a ≡ false → (a || b) ≡ true → b ≡ true
+or-right true b e h = let wrong : ⊥ = cc in absurd wrong
+or-right false b e h = h
+
+-- ---- the names of resources
+
+-- the named types of a list belong to owners that are met
+abbrev pub OwnersMet : Resolve → (TypeOwner → Bool) → List ValueType → Type 0
+OwnersMet r met ts = (t : ValueType) → Contains ts t → (id : TypeId) → t ≡ ty.Id id → (def : TypeDef) → type_at r id.0 ≡ Some def → is_some def.name ≡ true → met def.owner ≡ true
+
+-- the parts of a type are in range
+pub parts-in_range : (r : Resolve) → IsValid r → (n : ℕ) (def : TypeDef) → type_at r n ≡ Some def → AllInRange r (parts_of def.kind)
+parts-in_range r v n def is t c id e =
+    let below : id.0 < n = part-smaller r (valid-layered r v) n def id is (subst (λ (x : ValueType). Contains (parts_of def.kind) x) e c) in
+    let within : n < length r.types.items = slice_get_within r.types.items n def is in
+    omega arith
+
+module _ (r : Resolve) (v : IsValid r) (met : TypeOwner → Bool) (homes : HaveHomes r met) where
+  number-agrees : (n : ℕ) (def : TypeDef) → type_at r n ≡ Some def → (is_some def.name ≡ true → met def.owner ≡ true) → is_resource_tree (resource_names r met) (number_tree r n) ≡ is_resource r n
+  number-agrees n def at is = ap (λ x. is_resource_tree (resource_names r met) (unwrap_or x no_tree)) (kept_trees_at r v.rules n def at) ∙ go def.name refl
+    where
+      go : (x : Option (String Global)) → def.name ≡ x → is_resource_tree (resource_names r met) (tree_of_definition r (trees_of r) def) ≡ is_resource r n
+      go None q =
+          ap (λ x. is_resource_tree (resource_names r met) (option_map_or (λ name. Tree.named (place_of r def.owner) (text_of name)) x (kind_tree r def.kind))) q
+          ∙ unnamed-kind r (resource_names r met) (is_resource r) def.kind (valid-unnamed r v n def at q) ∙ sym (valid-resource r v n def at)
+      go (Some name) q =
+          ap (λ x. is_resource_tree (resource_names r met) (option_map_or (λ name. Tree.named (place_of r def.owner) (text_of name)) x (kind_tree r def.kind))) q
+          ∙ names-agree r v met homes n def name at q (is (has-name def.name name q))
+
+  -- names stand for resources exactly where types that are met are resources
+  pub met-agree : (ts : List ValueType) → AllInRange r ts → OwnersMet r met ts → Agree r (resource_names r met) ts
+  met-agree ts inside all t c = go t (inside t c) (all t c)
+    where
+      go : (t : ValueType) → InRange r t → ((id : TypeId) → t ≡ ty.Id id → (def : TypeDef) → type_at r id.0 ≡ Some def → is_some def.name ≡ true → met def.owner ≡ true)
+          → is_resource_tree (resource_names r met) (type_tree r t) ≡ is_resource_type r t
+      go (ty.Id id) inside is =
+          let found = found-in r.types.items id.0 (lt-ltb id.0 (length r.types.items) (inside id refl)) in
+          number-agrees id.0 found.0 found.1 (is id refl found.0 found.1)
+      go _ inside is = refl
+
+  pub parts-agree : (n : ℕ) (def : TypeDef) → type_at r n ≡ Some def → OwnersMet r met (parts_of def.kind) → Agree r (resource_names r met) (parts_of def.kind)
+  parts-agree n def is all = met-agree (parts_of def.kind) (parts-in_range r v n def is) all
+
+  -- the name of a type that is met is one of a resource where it declares one
+  pub declared-alike : (n : ℕ) (def : TypeDef) → type_at r n ≡ Some def → (name : String Global) → def.name ≡ Some name → met def.owner ≡ true → OwnersMet r met (parts_of def.kind)
+      → resource_names r met (place_of r def.owner) (text_of name) ≡ is_resource_declaration (resource_names r met) (declaration_of r def)
+  declared-alike n def is name e own all = names-agree r v met homes n def name is e own ∙ sym (valid-alike r (resource_names r met) v n def is (parts-agree n def is all))
 
 module _ (r : Resolve) (v : IsValid r) (o : TypeOwner) where
   -- a type of another interface can be imported
@@ -117,13 +247,38 @@ module _ (r : Resolve) (v : IsValid r) (o : TypeOwner) where
       (subst (λ (b : Bool). Contains (cond b (named_declaration r def.name def) []) (text_of name, type_meaning r def)) (sym (same-back def.owner o s))
       (subst (λ (x : Option (String Global)). Contains (named_declaration r x def) (text_of name, type_meaning r def)) (sym e) (contains-one (text_of name, type_meaning r def))))
 
-  -- a type that is of the owner or of another interface fits the owner's table
-  pub fits-table : (n : ℕ) (def : TypeDef) → type_at r n ≡ Some def → (foreign_owner (interface_of_owner o) def.owner ≡ None → is_some def.name ≡ true → same_owner def.owner o ≡ true) → FitsScope r (table_scope r o) n def
-  fits-table n def is home = record {
+  -- the named types of a list belong to owners that are met in the table
+  abbrev pub AreMet : List ValueType → Type 0
+  AreMet = OwnersMet r (is_met_owner r o)
+
+  own-met : (def : TypeDef) → same_owner def.owner o ≡ true → is_met_owner r o def.owner ≡ true
+  own-met def s = or-first (same_owner o def.owner) (is_named_interface r def.owner) (same-back def.owner o s)
+
+  owner-met : (def : TypeDef) → (same_owner def.owner o ≡ true) ⊎ (has_named_owner r def ≡ true) → is_met_owner r o def.owner ≡ true
+  owner-met def (inl s) = own-met def s
+  owner-met def (inr h) = or-second (same_owner o def.owner) (is_named_interface r def.owner) (named-owner r v def h)
+
+  -- the names in the table stand for resources exactly where types that are met are resources
+  pub table-agree : (ts : List ValueType) → AllInRange r ts → AreMet ts → Agree r (resource_names r (is_met_owner r o)) ts
+  table-agree = met-agree r v (is_met_owner r o) (one-home r v o)
+
+  -- ---- what fits
+
+  own-declared : (n : ℕ) (def : TypeDef) → type_at r n ≡ Some def → (name : String Global) → def.name ≡ Some name → same_owner def.owner o ≡ true → AreMet (parts_of def.kind) → IsDeclared (table_scope r o) (text_of name, type_meaning r def)
+  own-declared n def is name e s met = record {
+    there = declared-there n def is name e s;
+    alike = ap (λ a. resource_names r (is_met_owner r o) (place_of r a) (text_of name)) (sym (same-owner def.owner o s)) ∙ declared-alike r v (is_met_owner r o) (one-home r v o) n def is name e (own-met def s) met;
+    sound = refl;
+  }
+
+  -- a type that is of the owner or of another interface fits the owner's table, where its parts are met
+  pub fits-table : (n : ℕ) (def : TypeDef) → type_at r n ≡ Some def → (foreign_owner (interface_of_owner o) def.owner ≡ None → is_some def.name ≡ true → same_owner def.owner o ≡ true) → (foreign_owner (interface_of_owner o) def.owner ≡ None → AreMet (parts_of def.kind)) → FitsScope r (table_scope r o) n def
+  fits-table n def is home met = record {
     foreign = importable n def is;
     unnamed = λ f none. valid-unnamed r v n def is none;
     placed = λ f name e. ap (place_of r) (same-owner def.owner o (home f (has-name def.name name e)));
-    declared = λ f name e. declared-there n def is name e (home f (has-name def.name name e));
+    declared = λ f name e. own-declared n def is name e (home f (has-name def.name name e)) (met f);
+    formed = λ f d. record { sound = refl; formed = valid-formed r (resource_names r (is_met_owner r o)) v n def is (parts-agree r v (is_met_owner r o) (one-home r v o) n def is (met f)) d };
   }
 
   -- types that meet types of the owner alone, where those of other interfaces aren't opened, can be encoded in the owner's table
@@ -132,34 +287,39 @@ module _ (r : Resolve) (v : IsValid r) (o : TypeOwner) where
     packages_ = refl;
     layered = valid-layered r v;
     in_range = inside;
-    fits = λ t c n re def is. fits-table n def is (λ f named. named_met r (valid-references r v) n def is o named ∙ reached-stays r v o t n (all t c) re def is f);
-  }
-
-  -- the same of any types, where each type is of the owner or of another interface
-  pub met-encode : list_all (is_met_by o) r.types.items ≡ true → (ts : List ValueType) → AllInRange r ts → CanEncode r (table_scope r o) ts
-  met-encode met ts inside = record {
-    packages_ = refl;
-    layered = valid-layered r v;
-    in_range = inside;
-    fits = λ t c n re def is. fits-table n def is (λ f named. at-home def f named (all-at (is_met_by o) r.types.items n def met is));
+    fits = λ t c n re def is. stay n def is (reached-stays r v o t n (all t c) re def is);
   }
     where
-      all-at : {X : Type 0} (p : X → Bool) (xs : List X) (n : ℕ) (x : X) → list_all p xs ≡ true → slice_get xs n ≡ Some x → p x ≡ true
-      all-at p [] n x h e = let wrong : ⊥ = cc in absurd wrong
-      all-at p (y ∷ xs) zero x h e = subst (λ z. p z ≡ true) (ap (λ w. unwrap_or w y) e) (first_true _ _ h)
-      all-at p (y ∷ xs) (suc n) x h e = all-at p xs n x (second_true _ _ h) e
+      stay : (n : ℕ) (def : TypeDef) → type_at r n ≡ Some def → (foreign_owner (interface_of_owner o) def.owner ≡ None → stays r v o n ≡ true) → FitsScope r (table_scope r o) n def
+      stay n def is s = fits-table n def is
+          (λ f named. named_met r (valid-references r v) n def is o named ∙ s f)
+          (λ f t c id e def' is' named. owner-met def' (parts-owned r v o n def is (s f) id (subst (λ (x : ValueType). Contains (parts_of def.kind) x) e c) def' is' named))
 
-      at-home : (def : TypeDef) → foreign_owner (interface_of_owner o) def.owner ≡ None → is_some def.name ≡ true → is_met_by o def ≡ true → same_owner def.owner o ≡ true
-      at-home def f named h = go (same_owner def.owner o) (or-right (is_none def.name) _ (nameless def.name named) h)
-        where
-          nameless : (x : Option (String Global)) → is_some x ≡ true → is_none x ≡ false
-          nameless None e = let wrong : ⊥ = cc in absurd wrong
-          nameless (Some x) e = refl
+  module _ (met : list_all (is_met_by r o) r.types.items ≡ true) where
+    named-met : (n : ℕ) (def : TypeDef) → type_at r n ≡ Some def → is_some def.name ≡ true → (same_owner def.owner o || (is_some (foreign_owner (interface_of_owner o) def.owner) && has_named_owner r def)) ≡ true
+    named-met n def is named = or-right (is_none def.name) _ (nameless def.name named) (all-at (is_met_by r o) r.types.items n def met is)
 
-          or-right : (a b : Bool) → a ≡ false → (a || b) ≡ true → b ≡ true
-          or-right true b e h = let wrong : ⊥ = cc in absurd wrong
-          or-right false b e h = h
+    -- the named types are met, where all are
+    pub all-met : (ts : List ValueType) → AreMet ts
+    all-met ts t c id e def is named = owner-met def (either-owner (same_owner def.owner o) (is_some (foreign_owner (interface_of_owner o) def.owner)) (has_named_owner r def) (named-met id.0 def is named))
+      where
+        either-owner : (a b c : Bool) → (a || (b && c)) ≡ true → (a ≡ true) ⊎ (c ≡ true)
+        either-owner true b c h = inl refl
+        either-owner false true c h = inr h
+        either-owner false false c h = let wrong : ⊥ = cc in absurd wrong
 
-          go : (b : Bool) → (b || is_some (foreign_owner (interface_of_owner o) def.owner)) ≡ true → b ≡ true
-          go true h = refl
-          go false h = ap is_some (sym f) ∙ h
+    at-home : (n : ℕ) (def : TypeDef) → type_at r n ≡ Some def → foreign_owner (interface_of_owner o) def.owner ≡ None → is_some def.name ≡ true → same_owner def.owner o ≡ true
+    at-home n def is f named = go (same_owner def.owner o) (named-met n def is named)
+      where
+        go : (b : Bool) → (b || (is_some (foreign_owner (interface_of_owner o) def.owner) && has_named_owner r def)) ≡ true → b ≡ true
+        go true h = refl
+        go false h = ap is_some (sym f) ∙ first_true _ _ h
+
+    -- any types can be encoded in the owner's table, where each type is of the owner or of another interface, which has a name
+    pub met-encode : (ts : List ValueType) → AllInRange r ts → CanEncode r (table_scope r o) ts
+    met-encode ts inside = record {
+      packages_ = refl;
+      layered = valid-layered r v;
+      in_range = inside;
+      fits = λ t c n re def is. fits-table n def is (at-home n def is) (λ f. all-met (parts_of def.kind));
+    }

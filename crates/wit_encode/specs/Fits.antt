@@ -1,5 +1,5 @@
 -- What a type asks of the scope that it is encoded in.
-use Rattle.std.specs.Prelude.{ℕ, ◌≡◌, false, List, Some, None, String}
+use Rattle.std.specs.Prelude.{ℕ, ◌≡◌, false, List, Some, None, String, true}
 use Rattle.std.specs.List.{Contains}
 use Rattle.std.specs.declared.alloc.Global.{Global}
 use Rattle.wit_model.specs.Text.{text_of}
@@ -11,15 +11,18 @@ use Rattle.wit_model.specs.declared.model.TypeDef.{TypeDef}
 use Rattle.wit_model.specs.declared.model.«Type».{«Type» as ValueType}
 use Rattle.wit_model.specs.declared.model.InterfaceId.{InterfaceId}
 use Rattle.wit_encode.specs.Plan.{foreign_owner, Reaches, IsLayered, AllInRange}
-use Rattle.wit_encode.specs.Scope.{Scope, IsImportable}
+use Rattle.wit_encode.specs.Kinds.{kind_tree, has_definition}
+use Rattle.wit_encode.specs.Scope.{Scope, IsImportable, IsDeclared}
+use Rattle.wit_encode.specs.Formed.{IsFormed}
 
--- A type of another interface can be imported. A named type of the place is declared there.
+-- A type of another interface can be imported. A named type of the place is declared there, and what is defined is well formed.
 -- An unnamed type is of no kind that has to be named.
 pub record FitsScope (r : Resolve) (scope : Scope) (n : ℕ) (def : TypeDef) : Type 0 where
   pub foreign : (i : InterfaceId) → foreign_owner scope.own_interface def.owner ≡ Some i → IsImportable scope i.0 n
   pub unnamed : foreign_owner scope.own_interface def.owner ≡ None → def.name ≡ None → is_named_kind def.kind ≡ false
   pub placed : foreign_owner scope.own_interface def.owner ≡ None → (name : String Global) → def.name ≡ Some name → place_of r def.owner ≡ scope.place
-  pub declared : foreign_owner scope.own_interface def.owner ≡ None → (name : String Global) → def.name ≡ Some name → Contains scope.declarations (text_of name, type_meaning r def)
+  pub declared : foreign_owner scope.own_interface def.owner ≡ None → (name : String Global) → def.name ≡ Some name → IsDeclared scope (text_of name, type_meaning r def)
+  pub formed : foreign_owner scope.own_interface def.owner ≡ None → has_definition def.kind ≡ true → IsFormed scope (kind_tree r def.kind)
 
 abbrev pub Fits : Resolve → Scope → ℕ → Type 0
 Fits r scope n = (def : TypeDef) → type_at r n ≡ Some def → FitsScope r scope n def

@@ -1,5 +1,5 @@
 -- What the maps of an encoder hold, and what they say of its slots.
-use Rattle.std.specs.Prelude.{ℕ, ◌≡◌, ◌++◌, Bool, true, false, List, [], ◌∷◌, Some, None, AllPairs, nat_eq}
+use Rattle.std.specs.Prelude.{ℕ, ◌≡◌, ◌++◌, Bool, true, false, List, [], ◌∷◌, Some, None, AllPairs, nat_eq, ◌⊎◌}
 use Rattle.std.specs.List.{Contains}
 use Rattle.std.specs.Borrow.{Bor}
 use Rattle.wit_model.specs.Tree.{future_tree, stream_tree}
@@ -108,6 +108,15 @@ pub record LearnsKind (m m' : TypeEncodingMaps) (kind : Bor TypeDefKind) (i : �
 pub record LearnsKey (m m' : TypeEncodingMaps) (key : FunctionKey) (i : ℕ) : Type 0 where
   pub rest : SameMaps m (record m' { func_type_map = m.func_type_map })
   pub more : m'.func_type_map.items ≡ m.func_type_map.items ++ (key, i) ∷ []
+
+-- each type number that has been learnt is one of these
+pub record LearnsOnly (P : ℕ → Type 0) (m m' : TypeEncodingMaps) : Type 0 where
+  pub each : (id : TypeId) (i : ℕ) → Contains m'.id_to_index.items (id, i) → Contains m.id_to_index.items (id, i) ⊎ P id.0
+
+-- number n is known, and no other has been learnt
+pub record LearnsOne (m m' : TypeEncodingMaps) (n : ℕ) : Type 0 where
+  pub known : IsKnown m' n
+  pub only : LearnsOnly (λ k. k ≡ n) m m'
 
 -- ---- parts by their indexes
 

@@ -33,6 +33,15 @@ pub data Reaches (r : Resolve) (own : Option InterfaceId) : ValueType → ℕ �
   itself : (id : TypeId) → Reaches r own (ty.Id id) id.0
   through : (id : TypeId) (def : TypeDef) (t : ValueType) (n : ℕ) → type_at r id.0 ≡ Some def → foreign_owner own def.owner ≡ None → Contains (parts_of def.kind) t → Reaches r own t n → Reaches r own (ty.Id id) n
 
+-- the same by way of numbers that the maps lack, which lack n too
+pub data Meets (r : Resolve) (own : Option InterfaceId) (m : TypeEncodingMaps) : ValueType → ℕ → Type 0 where
+  at_once : (id : TypeId) → (IsKnown m id.0 → ⊥) → Meets r own m (ty.Id id) id.0
+  further : (id : TypeId) (def : TypeDef) (t : ValueType) (n : ℕ) → (IsKnown m id.0 → ⊥) → type_at r id.0 ≡ Some def → foreign_owner own def.owner ≡ None → Contains (parts_of def.kind) t → Meets r own m t n → Meets r own m (ty.Id id) n
+
+-- from one of the types
+abbrev pub MetFrom : Resolve → Option InterfaceId → TypeEncodingMaps → List ValueType → ℕ → Type 0
+MetFrom r own m ts n = (t : ValueType) × Contains ts t × Meets r own m t n
+
 -- each type refers to smaller numbers alone
 pub record IsLayered (r : Resolve) : Type 0 where
   pub smaller : (n : ℕ) (def : TypeDef) → type_at r n ≡ Some def → list_all (λ m. nat_lt m n) (kind_numbers def.kind) ≡ true
@@ -62,7 +71,7 @@ Stands m order t = (id : TypeId) → t ≡ ty.Id id → IsKnown m id.0 ⊎ Conta
 -- what the first i types need has been added to an order
 pub record IsPlanned (r : Resolve) (own : Option InterfaceId) (m : TypeEncodingMaps) (before : List ℕ) (ts : List ValueType) (i : ℕ) (after : Order) : Type 0 where
   pub kept : (n : ℕ) → Contains before n → Contains after.numbers.items n
-  pub added : (n : ℕ) → Contains after.numbers.items n → Contains before n ⊎ ((t : ValueType) × Contains (take i ts) t × Reaches r own t n)
+  pub added : (n : ℕ) → Contains after.numbers.items n → Contains before n ⊎ MetFrom r own m (take i ts) n
   pub ordered : IsOrdered r own m after.numbers.items
   pub met : MetStand m after
   pub stands : (t : ValueType) → Contains (take i ts) t → Stands m after.numbers.items t
@@ -74,6 +83,6 @@ rank _ = 0
 
 -- the numbers that some types need, in order
 pub record IsOrderOf (r : Resolve) (own : Option InterfaceId) (m : TypeEncodingMaps) (ts : List ValueType) (order : List ℕ) : Type 0 where
-  pub added : (n : ℕ) → Contains order n → (t : ValueType) × Contains ts t × Reaches r own t n
+  pub added : (n : ℕ) → Contains order n → MetFrom r own m ts n
   pub ordered : IsOrdered r own m order
   pub stands : (t : ValueType) → Contains ts t → Stands m order t

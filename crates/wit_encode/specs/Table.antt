@@ -1,23 +1,30 @@
 -- What the slots of a plain table stand for: each is read with the slots before it.
-use Rattle.std.specs.Prelude.{ℕ, ◌<◌, ◌≡◌, ◌⊎◌, Bool, true, false, ◌||◌, cond, List, [], ◌∷◌, length, reverse, count_by, flat_map, Option, Some, None, String, is_some, is_none}
-use Rattle.std.specs.List.{list_all}
+use Rattle.std.specs.Prelude.{ℕ, ◌<◌, ◌≡◌, ◌⊎◌, Bool, true, false, ◌||◌, cond, List, [], ◌∷◌, length, reverse, count_by, flat_map, Option, Some, None, String, is_some, is_none, ◌&&◌, option_to_list}
 use Prim.Native.Nat.{zero, suc}
 use Rattle.std.proofs.Common.{subst, inl, inr, arith}
 use Rattle.std.proofs.lemmas.List.{length-reverse}
 use Rattle.std.specs.declared.alloc.Global.{Global}
-use Rattle.wit_model.specs.Text.{Text, text_of}
+use Rattle.std.specs.List.{Contains, list_all, find}
+use Rattle.std.specs.Option.{option_eq, option_map_or}
+use Rattle.wit_model.specs.Text.{Text, text_of, text_eq}
 use Rattle.wit_model.specs.Tree.{Place, named}
 use Rattle.wit_model.specs.Types.{number_tree}
 use Rattle.wit_model.specs.Meaning.{TypeMeaning}
 use Rattle.wit_model.specs.Meant.{type_meaning}
-use Rattle.wit_model.specs.Lookup.{place_of}
+use Rattle.wit_model.specs.Lookup.{place_of, interface_at, type_at}
+use Rattle.wit_model.specs.Uses.{owner_interface}
 use Rattle.wit_model.specs.Parts.{same_owner}
 use Rattle.wit_model.specs.Valid.{IsValid}
 use Rattle.wit_model.specs.declared.model.Resolve.{Resolve}
 use Rattle.wit_model.specs.declared.model.TypeDef.{TypeDef}
 use Rattle.wit_model.specs.declared.model.InterfaceId.{InterfaceId}
+use Rattle.wit_model.specs.declared.model.TypeId.{TypeId}
+use Rattle.wit_model.specs.declared.model.«Type».{«Type» as ValueType}
+use Rattle.wit_model.specs.declared.model.«Type».TheVariants as ty
+use Rattle.wit_encode.specs.Kinds.{has_definition}
 use Rattle.wit_model.specs.declared.model.TypeOwner.{TypeOwner}
 use Rattle.wit_model.specs.declared.model.TypeOwner.TheVariants as owner
+use Rattle.comp_bytes.specs.Raw.{Declarations, ExternName}
 use Rattle.comp_bytes.specs.RawOf.{raw_name}
 use Rattle.wit_encode.specs.declared.table.Slot.{Slot}
 use Rattle.wit_encode.specs.declared.table.TableOf.{TableOf}
@@ -26,6 +33,7 @@ use Rattle.wit_encode.specs.Maps.{MapsAgree}
 use Rattle.wit_encode.specs.declared.table.Slot.TheVariants as slot
 use Rattle.wit_encode.specs.Slots.{Pairs, Standing, tree, Defines, DefinesFunction}
 use Rattle.wit_encode.specs.Plan.{foreign_owner}
+use Rattle.wit_encode.specs.Resources.{resource_names, is_named_interface}
 use Rattle.wit_encode.specs.Scope.{Scope}
 use Rattle.wit_encode.specs.Counts.{Definitions}
 
@@ -60,6 +68,14 @@ abbrev pub below : ℕ → List ℕ
 below zero = []
 below (suc n) = n ∷ below n
 
+-- whether the types of an owner have names in the table of another: its own, and those of named interfaces
+abbrev pub is_met_owner : Resolve → TypeOwner → TypeOwner → Bool
+is_met_owner r o other = same_owner o other || is_named_interface r other
+
+-- whether a type belongs to an interface that has a name
+abbrev pub has_named_owner : Resolve → TypeDef → Bool
+has_named_owner r def = option_map_or (λ i. option_map_or (λ other. is_some other.name) (interface_at r i) false) (owner_interface def.owner) false
+
 abbrev pub table_scope : Resolve → TypeOwner → Scope
 table_scope r o = record {
   packages = r;
@@ -67,18 +83,29 @@ table_scope r o = record {
   declarations = flat_map (declaration_in r o) r.types.items;
   own_interface = interface_of_owner o;
   instances = below (length r.interfaces.items);
+  resources = resource_names r (is_met_owner r o);
+  functions = [];
+  around = Declarations.no_more;
+  is_sound = true;
 }
 
--- whether a type may be met from the types of an owner: an unnamed one, one of the owner, and one of another interface
-abbrev pub is_met_by : TypeOwner → TypeDef → Bool
-is_met_by o def = is_none def.name || (same_owner def.owner o || is_some (foreign_owner (interface_of_owner o) def.owner))
+-- whether a type may be met from the types of an owner: an unnamed one, one of the owner, and one of another interface, which has a name
+abbrev pub is_met_by : Resolve → TypeOwner → TypeDef → Bool
+is_met_by r o def = is_none def.name || (same_owner def.owner o || (is_some (foreign_owner (interface_of_owner o) def.owner) && has_named_owner r def))
+
+-- a type with a definition of its own: no resource, and no alias of a number
+abbrev pub IsDefined : Resolve → ValueType → Type 0
+IsDefined r t = (id : TypeId) → t ≡ ty.Id id → (def : TypeDef) → type_at r id.0 ≡ Some def → has_definition def.kind ≡ true
+
+abbrev pub AllDefined : Resolve → List ValueType → Type 0
+AllDefined r ts = (t : ValueType) → Contains ts t → IsDefined r t
 
 -- the table of an interface in valid packages, whose maps agree with its slots
 pub record IsTable (t : TableOf TypeEncodingMaps) : Type 0 where
   pub own : InterfaceId
   pub owned : t.owner ≡ owner.Interface own
   pub valid : IsValid t.resolve.now
-  pub met : list_all (is_met_by t.owner) t.resolve.now.types.items ≡ true
+  pub met : list_all (is_met_by t.resolve.now t.owner) t.resolve.now.types.items ≡ true
   pub agree : MapsAgree t.resolve.now t.maps (TableReads t.resolve.now (place_of t.resolve.now t.owner) t.slots.items)
 
 abbrev pub is_definition : Slot → Bool
@@ -89,8 +116,17 @@ abbrev pub is_function : Slot → Bool
 is_function (slot.Function f) = true
 is_function _ = false
 
-abbrev pub table_definitions : List Slot → Definitions
-table_definitions slots = record { types = count_by is_definition slots; functions = count_by is_function slots }
+-- whether a name declares this: the same text and the same external id
+abbrev pub is_name_of : ExternName → Text × TypeMeaning → Bool
+is_name_of name d = text_eq name.text d.0 && option_eq text_eq name.external_id d.1.external_id
+
+abbrev pub exported_by : List (Text × TypeMeaning) → Slot → List (Text × TypeMeaning)
+exported_by declarations (slot.Export i name) = option_to_list (find (is_name_of (raw_name name)) declarations)
+exported_by declarations (slot.Resource name) = option_to_list (find (is_name_of (raw_name name)) declarations)
+exported_by declarations _ = []
+
+abbrev pub table_definitions : List (Text × TypeMeaning) → List Slot → Definitions
+table_definitions declarations slots = record { types = count_by is_definition slots; functions = count_by is_function slots; exports = flat_map (exported_by declarations) slots }
 
 reads-below : (r : Resolve) (place : Place) (xs : List Slot) (i : ℕ) (m : Standing) → Reads r place xs i m → i < length xs
 reads-below r place [] i m h = absurd h

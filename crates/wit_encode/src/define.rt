@@ -11,11 +11,13 @@ ghost use Rattle.wit_model.specs.Lookup.{type_at};
 ghost use Rattle.wit_model.specs.Meant.{type_meaning};
 ghost use Rattle.wit_encode.specs.Slots.{tree, Grows};
 ghost use Rattle.wit_encode.specs.Kinds.{parts_of, kind_of, kind_tree, has_form, has_definition};
-ghost use Rattle.wit_encode.specs.Maps.{MapsAgree, IsKnown, IsReady, AllReady, LacksKind};
-ghost use Rattle.wit_encode.specs.Scope.{DeclaresSlot, DeclaresResource, IsImportable, exported_name};
-ghost use Rattle.wit_encode.specs.Plan.{foreign_owner, IsLayered};
+ghost use Rattle.wit_encode.specs.Maps.{MapsAgree, IsKnown, IsReady, AllReady, LacksKind, LearnsOne, LearnsOnly};
+ghost use Rattle.wit_encode.specs.Scope.{DeclaresSlot, DeclaresResource, IsImportable, IsDeclared, exported_name};
+ghost use Rattle.wit_encode.specs.Formed.{IsFormed};
+ghost use Rattle.wit_encode.specs.Plan.{foreign_owner, IsLayered, MetFrom};
 ghost use Rattle.wit_encode.specs.Fits.{Fits, FitsScope, CanEncode};
-ghost use Rattle.wit_encode.specs.Counts.{one_type_more, type_more_if, is_defined_by_name, is_defined_under_name, AddsTypes};
+ghost use Rattle.wit_encode.specs.Counts.{one_type_more, type_more_if, is_defined_by_name, is_defined_under_name, own_name, ExportsOne, AddsTypes};
+ghost use Rattle.wit_encode.specs.Unnamed.{IsUnnamedKind};
 ghost use Rattle.wit_encode.specs.Leaves.{Leaves};
 
 use crate::encoder::ValtypeEncoder;
@@ -37,6 +39,7 @@ pub(crate) fn define_shape<'a, E: ValtypeEncoder<'a>>(
     shape: Shape<'a, '_>,
 ) -> Result<u32, Error>
     requires ready { AllReady (E.maps_of enc.old) (parts_of (kind_of shape)) }
+    requires formed { IsFormed (E.scope enc.old) (kind_tree resolve.now (kind_of shape)) }
     requires agree { MapsAgree resolve.now (E.maps_of enc.old) (E.stands enc.old) }
     ensures ok { IfOk result (λ i. E.stands enc.new i (tree (kind_tree resolve.now (kind_of shape.entry)))) }
     ensures grows { Grows (E.stands enc.old) (E.stands enc.new) (E.slot_count enc.old) (E.slot_count enc.new) }
@@ -55,6 +58,7 @@ fn define_alias<'a, E: ValtypeEncoder<'a>>(
     ty: &Type,
 ) -> Result<u32, Error>
     requires ready { IsReady (E.maps_of enc.old) ty.now }
+    requires formed { has_definition (TypeDefKind.Type_ ty.now) ≡ true → IsFormed (E.scope enc.old) (kind_tree resolve.now (TypeDefKind.Type_ ty.now)) }
     requires agree { MapsAgree resolve.now (E.maps_of enc.old) (E.stands enc.old) }
     ensures ok { IfOk result (λ i. E.stands enc.new i (tree (tree_of (trees_of resolve.now) ty.now))) }
     ensures grows { Grows (E.stands enc.old) (E.stands enc.new) (E.slot_count enc.old) (E.slot_count enc.new) }
@@ -79,6 +83,7 @@ fn define_kind<'a, E: ValtypeEncoder<'a>>(
 ) -> Result<u32, Error>
     requires kind { kind.now ≡ TypeDefKind.Resource → ⊥ }
     requires ready { AllReady (E.maps_of enc.old) (parts_of kind.now) }
+    requires formed { has_definition kind.now ≡ true → IsFormed (E.scope enc.old) (kind_tree resolve.now kind.now) }
     requires agree { MapsAgree resolve.now (E.maps_of enc.old) (E.stands enc.old) }
     ensures ok { IfOk result (λ i. E.stands enc.new i (tree (kind_tree resolve.now kind.now))) }
     ensures grows { Grows (E.stands enc.old) (E.stands enc.new) (E.slot_count enc.old) (E.slot_count enc.new) }
@@ -100,8 +105,10 @@ fn define_new_kind<'a, E: ValtypeEncoder<'a>>(
     kind: &'a TypeDefKind,
 ) -> Result<u32, Error>
     requires unnamed { is_named_kind kind.now ≡ false }
+    requires there { IsUnnamedKind resolve.now kind.now }
     requires lacks { LacksKind (E.maps_of enc.old) kind.now }
     requires ready { AllReady (E.maps_of enc.old) (parts_of kind.now) }
+    requires formed { IsFormed (E.scope enc.old) (kind_tree resolve.now kind.now) }
     requires agree { MapsAgree resolve.now (E.maps_of enc.old) (E.stands enc.old) }
     ensures ok { IfOk result (λ i. E.stands enc.new i (tree (kind_tree resolve.now kind.now))) }
     ensures numbers { OnOk result ((E.maps_of enc.new).id_to_index.items ≡ (E.maps_of enc.old).id_to_index.items) }
@@ -121,7 +128,9 @@ fn define_unnamed_kind<'a, E: ValtypeEncoder<'a>>(
     kind: &'a TypeDefKind,
 ) -> Result<u32, Error>
     requires unnamed { is_named_kind kind.now ≡ false }
+    requires there { IsUnnamedKind resolve.now kind.now }
     requires ready { AllReady (E.maps_of enc.old) (parts_of kind.now) }
+    requires formed { IsFormed (E.scope enc.old) (kind_tree resolve.now kind.now) }
     requires agree { MapsAgree resolve.now (E.maps_of enc.old) (E.stands enc.old) }
     ensures ok { IfOk result (λ i. E.stands enc.new i (tree (kind_tree resolve.now kind.now))) }
     ensures numbers { OnOk result ((E.maps_of enc.new).id_to_index.items ≡ (E.maps_of enc.old).id_to_index.items) }
@@ -143,12 +152,15 @@ fn define_unnamed<'a, E: ValtypeEncoder<'a>>(
     kind: &'a TypeDefKind,
 ) -> Result<(), Error>
     requires unnamed { is_named_kind kind.now ≡ false }
+    requires there { IsUnnamedKind resolve.now kind.now }
     requires no_name { is_defined_by_name resolve.now (E.scope enc.old) id.0 ≡ false }
+    requires not_shown { own_name resolve.now (E.scope enc.old) id.0 ≡ None }
     requires same_tree { number_tree resolve.now id.0 ≡ kind_tree resolve.now kind.now }
     requires ready { AllReady (E.maps_of enc.old) (parts_of kind.now) }
     requires fresh { IsKnown (E.maps_of enc.old) id.0 → ⊥ }
+    requires formed { IsFormed (E.scope enc.old) (kind_tree resolve.now kind.now) }
     requires agree { MapsAgree resolve.now (E.maps_of enc.old) (E.stands enc.old) }
-    ensures ok { OnOk result (IsKnown (E.maps_of enc.new) id.0) }
+    ensures ok { OnOk result (LearnsOne (E.maps_of enc.old) (E.maps_of enc.new) id.0) }
     ensures leaves { Leaves resolve.now (E.scope enc.old) (E.scope enc.new) (E.slot_count enc.old) (E.slot_count enc.new) (E.stands enc.old) (E.stands enc.new) (E.maps_of enc.old) (E.maps_of enc.new) }
     ensures counts { OnOk result (AddsTypes resolve.now (E.scope enc.old) (E.maps_of enc.old) (E.maps_of enc.new) (E.definitions enc.old) (E.definitions enc.new)) }
 {
@@ -164,11 +176,12 @@ fn define_resource<'a, E: ValtypeEncoder<'a>>(
     name: ComponentExternName<'a>,
 ) -> Result<(), Error>
     requires declared { DeclaresResource (E.scope enc.old) (raw_name name) }
+    requires shown { own_name resolve.now (E.scope enc.old) id.0 ≡ Some (raw_name name).text }
     requires same_tree { number_tree resolve.now id.0 ≡ named (E.scope enc.old).place (raw_name name).text }
     requires no_definition { is_defined_by_name resolve.now (E.scope enc.old) id.0 ≡ false }
     requires fresh { IsKnown (E.maps_of enc.old) id.0 → ⊥ }
     requires agree { MapsAgree resolve.now (E.maps_of enc.old) (E.stands enc.old) }
-    ensures ok { OnOk result (IsKnown (E.maps_of enc.new) id.0) }
+    ensures ok { OnOk result (LearnsOne (E.maps_of enc.old) (E.maps_of enc.new) id.0) }
     ensures leaves { Leaves resolve.now (E.scope enc.old) (E.scope enc.new) (E.slot_count enc.old) (E.slot_count enc.new) (E.stands enc.old) (E.stands enc.new) (E.maps_of enc.old) (E.maps_of enc.new) }
     ensures counts { OnOk result (AddsTypes resolve.now (E.scope enc.old) (E.maps_of enc.old) (E.maps_of enc.new) (E.definitions enc.old) (E.definitions enc.new)) }
 {
@@ -187,7 +200,7 @@ fn export<'a, E: ValtypeEncoder<'a>>(
     ensures grows { Grows (E.stands enc.old) (E.stands enc.new) (E.slot_count enc.old) (E.slot_count enc.new) }
     ensures scope_stays { E.scope enc.new ≡ E.scope enc.old }
     ensures maps_stay { E.maps_of enc.new ≡ E.maps_of enc.old }
-    ensures counts { OnOk result (E.definitions enc.new ≡ E.definitions enc.old) }
+    ensures counts { OnOk result (ExportsOne (E.scope enc.old) (E.definitions enc.old) (E.definitions enc.new) (raw_name name.entry)) }
 {
     match enc.export_type(index, name)? {
         Some(slot) => Ok(slot),
@@ -206,13 +219,15 @@ fn define_named<'a, E: ValtypeEncoder<'a>>(
 ) -> Result<(), Error>
     requires kind { def.now.kind ≡ TypeDefKind.Resource → ⊥ }
     requires name { raw_name name ≡ exported_name ((raw_name name).text, type_meaning resolve.now def.now) }
-    requires declared { Contains (E.scope enc.old).declarations ((raw_name name).text, type_meaning resolve.now def.now) }
+    requires declared { IsDeclared (E.scope enc.old) ((raw_name name).text, type_meaning resolve.now def.now) }
+    requires shown { own_name resolve.now (E.scope enc.old) id.0 ≡ Some (raw_name name).text }
     requires same_tree { number_tree resolve.now id.0 ≡ named (E.scope enc.old).place (raw_name name).text }
     requires by_name { is_defined_by_name resolve.now (E.scope enc.old) id.0 ≡ has_definition def.now.kind }
     requires ready { AllReady (E.maps_of enc.old) (parts_of def.now.kind) }
     requires fresh { IsKnown (E.maps_of enc.old) id.0 → ⊥ }
+    requires formed { has_definition def.now.kind ≡ true → IsFormed (E.scope enc.old) (kind_tree resolve.now def.now.kind) }
     requires agree { MapsAgree resolve.now (E.maps_of enc.old) (E.stands enc.old) }
-    ensures ok { OnOk result (IsKnown (E.maps_of enc.new) id.0) }
+    ensures ok { OnOk result (LearnsOne (E.maps_of enc.old) (E.maps_of enc.new) id.0) }
     ensures leaves { Leaves resolve.now (E.scope enc.old) (E.scope enc.new) (E.slot_count enc.old) (E.slot_count enc.new) (E.stands enc.old) (E.stands enc.new) (E.maps_of enc.old) (E.maps_of enc.new) }
     ensures counts { OnOk result (AddsTypes resolve.now (E.scope enc.old) (E.maps_of enc.old) (E.maps_of enc.new) (E.definitions enc.old) (E.definitions enc.new)) }
 {
@@ -236,7 +251,7 @@ fn define_own<'a, E: ValtypeEncoder<'a>>(
     requires ready { AllReady (E.maps_of enc.old) (parts_of def.now.kind) }
     requires fresh { IsKnown (E.maps_of enc.old) id.0 → ⊥ }
     requires agree { MapsAgree resolve.now (E.maps_of enc.old) (E.stands enc.old) }
-    ensures ok { OnOk result (IsKnown (E.maps_of enc.new) id.0) }
+    ensures ok { OnOk result (LearnsOne (E.maps_of enc.old) (E.maps_of enc.new) id.0) }
     ensures leaves { Leaves resolve.now (E.scope enc.old) (E.scope enc.new) (E.slot_count enc.old) (E.slot_count enc.new) (E.stands enc.old) (E.stands enc.new) (E.maps_of enc.old) (E.maps_of enc.new) }
     ensures counts { OnOk result (AddsTypes resolve.now (E.scope enc.old) (E.maps_of enc.old) (E.maps_of enc.new) (E.definitions enc.old) (E.definitions enc.new)) }
 {
@@ -265,7 +280,7 @@ fn define_number<'a, E: ValtypeEncoder<'a>>(
     requires fits { Fits resolve.now (E.scope enc.old) id.0 }
     requires ready { (def : _) → type_at resolve.now id.0 ≡ Some def → foreign_owner (E.scope enc.old).own_interface def.owner ≡ None → AllReady (E.maps_of enc.old) (parts_of def.kind) }
     requires agree { MapsAgree resolve.now (E.maps_of enc.old) (E.stands enc.old) }
-    ensures ok { OnOk result (IsKnown (E.maps_of enc.new) id.0) }
+    ensures ok { OnOk result (LearnsOne (E.maps_of enc.old) (E.maps_of enc.new) id.0) }
     ensures leaves { Leaves resolve.now (E.scope enc.old) (E.scope enc.new) (E.slot_count enc.old) (E.slot_count enc.new) (E.stands enc.old) (E.stands enc.new) (E.maps_of enc.old) (E.maps_of enc.new) }
     ensures counts { OnOk result (AddsTypes resolve.now (E.scope enc.old) (E.maps_of enc.old) (E.maps_of enc.new) (E.definitions enc.old) (E.definitions enc.new)) }
 {
@@ -290,9 +305,10 @@ fn import<'a, E: ValtypeEncoder<'a>>(
     requires packages { (E.scope enc.old).packages ≡ resolve.now }
     requires importable { IsImportable (E.scope enc.old) interface.0 id.0 }
     requires no_definition { is_defined_by_name resolve.now (E.scope enc.old) id.0 ≡ false }
+    requires not_shown { own_name resolve.now (E.scope enc.old) id.0 ≡ None }
     requires fresh { IsKnown (E.maps_of enc.old) id.0 → ⊥ }
     requires agree { MapsAgree resolve.now (E.maps_of enc.old) (E.stands enc.old) }
-    ensures ok { OnOk result (IsKnown (E.maps_of enc.new) id.0) }
+    ensures ok { OnOk result (LearnsOne (E.maps_of enc.old) (E.maps_of enc.new) id.0) }
     ensures leaves { Leaves resolve.now (E.scope enc.old) (E.scope enc.new) (E.slot_count enc.old) (E.slot_count enc.new) (E.stands enc.old) (E.stands enc.new) (E.maps_of enc.old) (E.maps_of enc.new) }
     ensures counts { OnOk result (AddsTypes resolve.now (E.scope enc.old) (E.maps_of enc.old) (E.maps_of enc.new) (E.definitions enc.old) (E.definitions enc.new)) }
 {
@@ -310,6 +326,7 @@ pub(crate) fn define_parts<'a, E: ValtypeEncoder<'a>>(
     requires encodable { CanEncode resolve.now (E.scope enc.old) types.now }
     requires agree { MapsAgree resolve.now (E.maps_of enc.old) (E.stands enc.old) }
     ensures ready { OnOk result (AllReady (E.maps_of enc.new) types.now) }
+    ensures learns { OnOk result (LearnsOnly (MetFrom resolve.now (E.scope enc.old).own_interface (E.maps_of enc.old) types.now) (E.maps_of enc.old) (E.maps_of enc.new)) }
     ensures leaves { Leaves resolve.now (E.scope enc.old) (E.scope enc.new) (E.slot_count enc.old) (E.slot_count enc.new) (E.stands enc.old) (E.stands enc.new) (E.maps_of enc.old) (E.maps_of enc.new) }
     ensures counts { OnOk result (AddsTypes resolve.now (E.scope enc.old) (E.maps_of enc.old) (E.maps_of enc.new) (E.definitions enc.old) (E.definitions enc.new)) }
 {

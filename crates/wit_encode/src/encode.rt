@@ -4,20 +4,21 @@
 //! what they did and the maps agree with the slots. An unnamed kind, and a key of a function type, is defined only where the maps lack
 //! it, and then it is in the maps.
 
-ghost use Rattle.std.specs.Prelude.{◌≡◌, ◌∷◌, [], map, option_map, option_to_list, option_copied, length, ◌<◌, IfOk, OnOk, IfSome, Ok, Some, None, is_some, is_none};
+ghost use Rattle.std.specs.Prelude.{◌≡◌, ◌∷◌, [], map, option_map, option_to_list, option_copied, length, ◌<◌, IfOk, OnOk, IfSome, Ok, Some, None, is_some, is_none, true};
 ghost use Rattle.std.specs.List.{AllZip};
 ghost use Rattle.wit_model.specs.Text.{text_of};
 ghost use Rattle.wit_model.specs.Types.{type_tree, number_tree};
 ghost use Rattle.wit_model.specs.Tree.{Tree, flags_tree, enum_tree, future_tree, stream_tree};
 ghost use Rattle.wit_model.specs.Lookup.{type_at};
-ghost use Rattle.wit_encode.specs.Plan.{foreign_owner};
+ghost use Rattle.wit_encode.specs.Plan.{foreign_owner, MetFrom};
 ghost use Rattle.wit_encode.specs.Scope.{IsImportable};
 ghost use Rattle.wit_model.specs.Meant.{signature_of};
 ghost use Rattle.wit_model.specs.Parts.{function_types};
 ghost use Rattle.wit_encode.specs.Slots.{tree, function, StandsFor, StandsForOptional, NamedStands, Follows, Grows};
 ghost use Rattle.wit_encode.specs.Kinds.{parts_of, kind_of, kind_tree};
-ghost use Rattle.wit_encode.specs.Maps.{MapsAgree};
+ghost use Rattle.wit_encode.specs.Maps.{MapsAgree, IsReady, LearnsOnly};
 ghost use Rattle.wit_encode.specs.Fits.{CanEncode};
+ghost use Rattle.wit_encode.specs.Formed.{IsFormed};
 ghost use Rattle.wit_encode.specs.Counts.{one_type_more, type_more_if, AddsTypes, AddsFunction};
 ghost use Rattle.wit_encode.specs.Leaves.{Leaves};
 
@@ -43,6 +44,7 @@ fn encode_shape<'a, E: ValtypeEncoder<'a>>(
     shape: Shape<'a, '_>,
 ) -> Result<ComponentValType, Error>
     requires encodable { CanEncode resolve.now (E.scope enc.old) (parts_of (kind_of shape)) }
+    requires formed { IsFormed (E.scope enc.old) (kind_tree resolve.now (kind_of shape)) }
     requires agree { MapsAgree resolve.now (E.maps_of enc.old) (E.stands enc.old) }
     ensures ok { IfOk result (λ v. StandsFor (E.stands enc.new) v (kind_tree resolve.now (kind_of shape.entry))) }
     ensures leaves { Leaves resolve.now (E.scope enc.old) (E.scope enc.new) (E.slot_count enc.old) (E.slot_count enc.new) (E.stands enc.old) (E.stands enc.new) (E.maps_of enc.old) (E.maps_of enc.new) }
@@ -67,14 +69,18 @@ pub fn encode_valtype<'a, E: ValtypeEncoder<'a>>(
     requires encodable { CanEncode resolve.now (E.scope enc.old) (ty.now ∷ []) }
     requires agree { MapsAgree resolve.now (E.maps_of enc.old) (E.stands enc.old) }
     ensures ok { IfOk result (λ v. StandsFor (E.stands enc.new) v (type_tree resolve.now ty.now)) }
+    ensures learns { OnOk result (LearnsOnly (MetFrom resolve.now (E.scope enc.old).own_interface (E.maps_of enc.old) (ty.now ∷ [])) (E.maps_of enc.old) (E.maps_of enc.new)) }
     ensures leaves { Leaves resolve.now (E.scope enc.old) (E.scope enc.new) (E.slot_count enc.old) (E.slot_count enc.new) (E.stands enc.old) (E.stands enc.new) (E.maps_of enc.old) (E.maps_of enc.new) }
     ensures counts { OnOk result (AddsTypes resolve.now (E.scope enc.old) (E.maps_of enc.old) (E.maps_of enc.new) (E.definitions enc.old) (E.definitions enc.new)) }
+    ensures knows { OnOk result (IsReady (E.maps_of enc.new) ty.now) }
 {
     define_parts(alloc, enc, resolve, &[*ty])?;
     Ok(value_of(enc, ty))
 }
 
 /// Encodes a type, where there is one.
+///
+/// Takes as long as `encode_valtype`.
 pub fn encode_optional_valtype<'a, E: ValtypeEncoder<'a>>(
     alloc: Global,
     enc: &mut E,
@@ -84,6 +90,7 @@ pub fn encode_optional_valtype<'a, E: ValtypeEncoder<'a>>(
     requires encodable { CanEncode resolve.now (E.scope enc.old) (option_to_list (option_copied ty)) }
     requires agree { MapsAgree resolve.now (E.maps_of enc.old) (E.stands enc.old) }
     ensures ok { IfOk result (λ v. StandsForOptional (E.stands enc.new) v (option_map (type_tree resolve.now) (option_copied ty.entry))) }
+    ensures learns { OnOk result (LearnsOnly (MetFrom resolve.now (E.scope enc.old).own_interface (E.maps_of enc.old) (option_to_list (option_copied ty.entry))) (E.maps_of enc.old) (E.maps_of enc.new)) }
     ensures leaves { Leaves resolve.now (E.scope enc.old) (E.scope enc.new) (E.slot_count enc.old) (E.slot_count enc.new) (E.stands enc.old) (E.stands enc.new) (E.maps_of enc.old) (E.maps_of enc.new) }
     ensures counts { OnOk result (AddsTypes resolve.now (E.scope enc.old) (E.maps_of enc.old) (E.maps_of enc.new) (E.definitions enc.old) (E.definitions enc.new)) }
 {
@@ -97,6 +104,8 @@ pub fn encode_optional_valtype<'a, E: ValtypeEncoder<'a>>(
 }
 
 /// Encodes the types of parameters, each under its name.
+///
+/// Takes as long as `encode_valtype` of each.
 pub fn encode_params<'a, E: ValtypeEncoder<'a>>(
     alloc: Global,
     enc: &mut E,
@@ -106,6 +115,7 @@ pub fn encode_params<'a, E: ValtypeEncoder<'a>>(
     requires encodable { CanEncode resolve.now (E.scope enc.old) (map (λ p. p.ty) params.now) }
     requires agree { MapsAgree resolve.now (E.maps_of enc.old) (E.stands enc.old) }
     ensures ok { IfOk result (λ v. AllZip (NamedStands (E.stands enc.new)) v.items (map (λ p. (text_of p.name, type_tree resolve.now p.ty)) params.now)) }
+    ensures learns { OnOk result (LearnsOnly (MetFrom resolve.now (E.scope enc.old).own_interface (E.maps_of enc.old) (map (λ p. p.ty) params.now)) (E.maps_of enc.old) (E.maps_of enc.new)) }
     ensures leaves { Leaves resolve.now (E.scope enc.old) (E.scope enc.new) (E.slot_count enc.old) (E.slot_count enc.new) (E.stands enc.old) (E.stands enc.new) (E.maps_of enc.old) (E.maps_of enc.new) }
     ensures counts { OnOk result (AddsTypes resolve.now (E.scope enc.old) (E.maps_of enc.old) (E.maps_of enc.new) (E.definitions enc.old) (E.definitions enc.new)) }
 {
@@ -116,6 +126,8 @@ pub fn encode_params<'a, E: ValtypeEncoder<'a>>(
 }
 
 /// Defines a record, and what it needs before it.
+///
+/// Takes as long as `encode_valtype` of each of its parts.
 pub fn encode_record<'a, E: ValtypeEncoder<'a>>(
     alloc: Global,
     enc: &mut E,
@@ -123,6 +135,7 @@ pub fn encode_record<'a, E: ValtypeEncoder<'a>>(
     ty: &'a Record,
 ) -> Result<ComponentValType, Error>
     requires encodable { CanEncode resolve.now (E.scope enc.old) (parts_of (TypeDefKind.Record ty.now)) }
+    requires formed { IsFormed (E.scope enc.old) (kind_tree resolve.now (TypeDefKind.Record ty.now)) }
     requires agree { MapsAgree resolve.now (E.maps_of enc.old) (E.stands enc.old) }
     ensures ok { IfOk result (λ v. StandsFor (E.stands enc.new) v (kind_tree resolve.now (TypeDefKind.Record ty.now))) }
     ensures leaves { Leaves resolve.now (E.scope enc.old) (E.scope enc.new) (E.slot_count enc.old) (E.slot_count enc.new) (E.stands enc.old) (E.stands enc.new) (E.maps_of enc.old) (E.maps_of enc.new) }
@@ -132,6 +145,8 @@ pub fn encode_record<'a, E: ValtypeEncoder<'a>>(
 }
 
 /// Defines a tuple, and what it needs before it.
+///
+/// Takes as long as `encode_valtype` of each of its parts.
 pub fn encode_tuple<'a, E: ValtypeEncoder<'a>>(
     alloc: Global,
     enc: &mut E,
@@ -139,6 +154,7 @@ pub fn encode_tuple<'a, E: ValtypeEncoder<'a>>(
     ty: &Tuple,
 ) -> Result<ComponentValType, Error>
     requires encodable { CanEncode resolve.now (E.scope enc.old) (parts_of (TypeDefKind.Tuple ty.now)) }
+    requires formed { IsFormed (E.scope enc.old) (kind_tree resolve.now (TypeDefKind.Tuple ty.now)) }
     requires agree { MapsAgree resolve.now (E.maps_of enc.old) (E.stands enc.old) }
     ensures ok { IfOk result (λ v. StandsFor (E.stands enc.new) v (kind_tree resolve.now (TypeDefKind.Tuple ty.now))) }
     ensures leaves { Leaves resolve.now (E.scope enc.old) (E.scope enc.new) (E.slot_count enc.old) (E.slot_count enc.new) (E.stands enc.old) (E.stands enc.new) (E.maps_of enc.old) (E.maps_of enc.new) }
@@ -148,6 +164,8 @@ pub fn encode_tuple<'a, E: ValtypeEncoder<'a>>(
 }
 
 /// Defines a variant, and what it needs before it.
+///
+/// Takes as long as `encode_valtype` of each of its parts.
 pub fn encode_variant<'a, E: ValtypeEncoder<'a>>(
     alloc: Global,
     enc: &mut E,
@@ -155,6 +173,7 @@ pub fn encode_variant<'a, E: ValtypeEncoder<'a>>(
     ty: &'a Variant,
 ) -> Result<ComponentValType, Error>
     requires encodable { CanEncode resolve.now (E.scope enc.old) (parts_of (TypeDefKind.Variant ty.now)) }
+    requires formed { IsFormed (E.scope enc.old) (kind_tree resolve.now (TypeDefKind.Variant ty.now)) }
     requires agree { MapsAgree resolve.now (E.maps_of enc.old) (E.stands enc.old) }
     ensures ok { IfOk result (λ v. StandsFor (E.stands enc.new) v (kind_tree resolve.now (TypeDefKind.Variant ty.now))) }
     ensures leaves { Leaves resolve.now (E.scope enc.old) (E.scope enc.new) (E.slot_count enc.old) (E.slot_count enc.new) (E.stands enc.old) (E.stands enc.new) (E.maps_of enc.old) (E.maps_of enc.new) }
@@ -164,6 +183,8 @@ pub fn encode_variant<'a, E: ValtypeEncoder<'a>>(
 }
 
 /// Defines a result, and what it needs before it.
+///
+/// Takes as long as `encode_valtype` of each of its parts.
 pub fn encode_result<'a, E: ValtypeEncoder<'a>>(
     alloc: Global,
     enc: &mut E,
@@ -171,6 +192,7 @@ pub fn encode_result<'a, E: ValtypeEncoder<'a>>(
     ty: &Result_,
 ) -> Result<ComponentValType, Error>
     requires encodable { CanEncode resolve.now (E.scope enc.old) (parts_of (TypeDefKind.Result ty.now)) }
+    requires formed { IsFormed (E.scope enc.old) (kind_tree resolve.now (TypeDefKind.Result ty.now)) }
     requires agree { MapsAgree resolve.now (E.maps_of enc.old) (E.stands enc.old) }
     ensures ok { IfOk result (λ v. StandsFor (E.stands enc.new) v (kind_tree resolve.now (TypeDefKind.Result ty.now))) }
     ensures leaves { Leaves resolve.now (E.scope enc.old) (E.scope enc.new) (E.slot_count enc.old) (E.slot_count enc.new) (E.stands enc.old) (E.stands enc.new) (E.maps_of enc.old) (E.maps_of enc.new) }
@@ -180,6 +202,8 @@ pub fn encode_result<'a, E: ValtypeEncoder<'a>>(
 }
 
 /// Defines an option, and what it needs before it.
+///
+/// Takes as long as `encode_valtype` of each of its parts.
 pub fn encode_option<'a, E: ValtypeEncoder<'a>>(
     alloc: Global,
     enc: &mut E,
@@ -187,6 +211,7 @@ pub fn encode_option<'a, E: ValtypeEncoder<'a>>(
     payload: &Type,
 ) -> Result<ComponentValType, Error>
     requires encodable { CanEncode resolve.now (E.scope enc.old) (parts_of (TypeDefKind.Option payload.now)) }
+    requires formed { IsFormed (E.scope enc.old) (kind_tree resolve.now (TypeDefKind.Option payload.now)) }
     requires agree { MapsAgree resolve.now (E.maps_of enc.old) (E.stands enc.old) }
     ensures ok { IfOk result (λ v. StandsFor (E.stands enc.new) v (kind_tree resolve.now (TypeDefKind.Option payload.now))) }
     ensures leaves { Leaves resolve.now (E.scope enc.old) (E.scope enc.new) (E.slot_count enc.old) (E.slot_count enc.new) (E.stands enc.old) (E.stands enc.new) (E.maps_of enc.old) (E.maps_of enc.new) }
@@ -196,6 +221,8 @@ pub fn encode_option<'a, E: ValtypeEncoder<'a>>(
 }
 
 /// Defines a future, and what it needs before it.
+///
+/// Takes as long as `encode_valtype` of each of its parts.
 pub fn encode_future<'a, E: ValtypeEncoder<'a>>(
     alloc: Global,
     enc: &mut E,
@@ -203,6 +230,7 @@ pub fn encode_future<'a, E: ValtypeEncoder<'a>>(
     payload: &Option<Type>,
 ) -> Result<ComponentValType, Error>
     requires encodable { CanEncode resolve.now (E.scope enc.old) (parts_of (TypeDefKind.Future payload.now)) }
+    requires formed { IsFormed (E.scope enc.old) (kind_tree resolve.now (TypeDefKind.Future payload.now)) }
     requires agree { MapsAgree resolve.now (E.maps_of enc.old) (E.stands enc.old) }
     ensures ok { IfOk result (λ v. StandsFor (E.stands enc.new) v (kind_tree resolve.now (TypeDefKind.Future payload.now))) }
     ensures leaves { Leaves resolve.now (E.scope enc.old) (E.scope enc.new) (E.slot_count enc.old) (E.slot_count enc.new) (E.stands enc.old) (E.stands enc.new) (E.maps_of enc.old) (E.maps_of enc.new) }
@@ -212,6 +240,8 @@ pub fn encode_future<'a, E: ValtypeEncoder<'a>>(
 }
 
 /// Defines a stream, and what it needs before it.
+///
+/// Takes as long as `encode_valtype` of each of its parts.
 pub fn encode_stream<'a, E: ValtypeEncoder<'a>>(
     alloc: Global,
     enc: &mut E,
@@ -219,6 +249,7 @@ pub fn encode_stream<'a, E: ValtypeEncoder<'a>>(
     payload: &Option<Type>,
 ) -> Result<ComponentValType, Error>
     requires encodable { CanEncode resolve.now (E.scope enc.old) (parts_of (TypeDefKind.Stream payload.now)) }
+    requires formed { IsFormed (E.scope enc.old) (kind_tree resolve.now (TypeDefKind.Stream payload.now)) }
     requires agree { MapsAgree resolve.now (E.maps_of enc.old) (E.stands enc.old) }
     ensures ok { IfOk result (λ v. StandsFor (E.stands enc.new) v (kind_tree resolve.now (TypeDefKind.Stream payload.now))) }
     ensures leaves { Leaves resolve.now (E.scope enc.old) (E.scope enc.new) (E.slot_count enc.old) (E.slot_count enc.new) (E.stands enc.old) (E.stands enc.new) (E.maps_of enc.old) (E.maps_of enc.new) }
@@ -232,7 +263,7 @@ fn define<'a, E: ValtypeEncoder<'a>>(
     enc: &mut E,
     def: ComponentDefinedType<'a>,
 ) -> Result<ComponentValType, Error>
-    requires { (t : Tree) × Follows (E.stands enc.old) def t }
+    requires { (t : Tree) × Follows (E.stands enc.old) def t × IsFormed (E.scope enc.old) t }
     ensures ok { IfOk result (λ v. (t : Tree) → Follows (E.stands enc.old) def.entry t → StandsFor (E.stands enc.new) v t) }
     ensures grows { Grows (E.stands enc.old) (E.stands enc.new) (E.slot_count enc.old) (E.slot_count enc.new) }
     ensures scope_stays { E.scope enc.new ≡ E.scope enc.old }
@@ -244,11 +275,14 @@ fn define<'a, E: ValtypeEncoder<'a>>(
 }
 
 /// Defines flags.
+///
+/// Takes a step for each name.
 pub fn encode_flags<'a, E: ValtypeEncoder<'a>>(
     alloc: Global,
     enc: &mut E,
     ty: &'a Flags,
 ) -> Result<ComponentValType, Error>
+    requires formed { IsFormed (E.scope enc.old) (flags_tree (map (λ x. text_of x.name) ty.now.flags.items)) }
     ensures ok { IfOk result (λ v. StandsFor (E.stands enc.new) v (flags_tree (map (λ x. text_of x.name) ty.now.flags.items))) }
     ensures grows { Grows (E.stands enc.old) (E.stands enc.new) (E.slot_count enc.old) (E.slot_count enc.new) }
     ensures scope_stays { E.scope enc.new ≡ E.scope enc.old }
@@ -260,11 +294,14 @@ pub fn encode_flags<'a, E: ValtypeEncoder<'a>>(
 }
 
 /// Defines an enum.
+///
+/// Takes a step for each name.
 pub fn encode_enum<'a, E: ValtypeEncoder<'a>>(
     alloc: Global,
     enc: &mut E,
     ty: &'a Enum,
 ) -> Result<ComponentValType, Error>
+    requires formed { IsFormed (E.scope enc.old) (enum_tree (map (λ x. text_of x.name) ty.now.cases.items)) }
     ensures ok { IfOk result (λ v. StandsFor (E.stands enc.new) v (enum_tree (map (λ x. text_of x.name) ty.now.cases.items))) }
     ensures grows { Grows (E.stands enc.old) (E.stands enc.new) (E.slot_count enc.old) (E.slot_count enc.new) }
     ensures scope_stays { E.scope enc.new ≡ E.scope enc.old }
@@ -282,6 +319,7 @@ pub fn encode_unit_future<'a, E: ValtypeEncoder<'a>>(
     _alloc: Global,
     enc: &mut E,
 ) -> Result<u32, Error>
+    requires sound { (E.scope enc.old).is_sound ≡ true }
     requires agree { MapsAgree (E.scope enc.old).packages (E.maps_of enc.old) (E.stands enc.old) }
     ensures ok { IfOk result (λ i. E.stands enc.new i (tree (future_tree None))) }
     ensures cached { IfOk result (λ i. (E.maps_of enc.new).unit_future ≡ Some i) }
@@ -298,6 +336,7 @@ pub fn encode_unit_future<'a, E: ValtypeEncoder<'a>>(
 
 /// Defines the future without an element.
 fn define_unit_future<'a, E: ValtypeEncoder<'a>>(enc: &mut E) -> Result<u32, Error>
+    requires sound { (E.scope enc.old).is_sound ≡ true }
     requires agree { MapsAgree (E.scope enc.old).packages (E.maps_of enc.old) (E.stands enc.old) }
     requires fresh { (E.maps_of enc.old).unit_future ≡ None }
     ensures ok { IfOk result (λ i. E.stands enc.new i (tree (future_tree None))) }
@@ -318,6 +357,7 @@ pub fn encode_unit_stream<'a, E: ValtypeEncoder<'a>>(
     _alloc: Global,
     enc: &mut E,
 ) -> Result<u32, Error>
+    requires sound { (E.scope enc.old).is_sound ≡ true }
     requires agree { MapsAgree (E.scope enc.old).packages (E.maps_of enc.old) (E.stands enc.old) }
     ensures ok { IfOk result (λ i. E.stands enc.new i (tree (stream_tree None))) }
     ensures cached { IfOk result (λ i. (E.maps_of enc.new).unit_stream ≡ Some i) }
@@ -334,6 +374,7 @@ pub fn encode_unit_stream<'a, E: ValtypeEncoder<'a>>(
 
 /// Defines the stream without an element.
 fn define_unit_stream<'a, E: ValtypeEncoder<'a>>(enc: &mut E) -> Result<u32, Error>
+    requires sound { (E.scope enc.old).is_sound ≡ true }
     requires agree { MapsAgree (E.scope enc.old).packages (E.maps_of enc.old) (E.stands enc.old) }
     requires fresh { (E.maps_of enc.old).unit_stream ≡ None }
     ensures ok { IfOk result (λ i. E.stands enc.new i (tree (stream_tree None))) }

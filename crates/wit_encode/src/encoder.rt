@@ -8,7 +8,8 @@ ghost use Rattle.wit_model.specs.Types.{number_tree};
 ghost use Rattle.comp_bytes.specs.RawOf.{raw_name};
 ghost use Rattle.wit_encode.specs.Slots.{Standing, tree, Keeps, Grows, AddsSlot, Exports, StandsFor, Follows, FollowsFunction, Defines, DefinesFunction};
 ghost use Rattle.wit_encode.specs.Scope.{Scope, DeclaresSlot, DeclaresResource, IsImportable};
-ghost use Rattle.wit_encode.specs.Counts.{Definitions, one_type_more, one_function_more};
+ghost use Rattle.wit_encode.specs.Formed.{IsFormed, IsFormedSignature};
+ghost use Rattle.wit_encode.specs.Counts.{Definitions, one_type_more, one_function_more, ExportsOne};
 ghost use Rattle.wit_encode.specs.declared.maps.TypeEncodingMaps.{TypeEncodingMaps as MapsValue};
 
 use crate::maps::TypeEncodingMaps;
@@ -46,12 +47,12 @@ pub trait ValtypeEncoder<'a>: LendsMaps<TypeEncodingMaps<'a>> {
 
     ghost stands: { Self → ℕ → Standing → Type 0 };
 
-    // how much has been defined
+    // how much has been defined, and what has been exported
     ghost definitions: { Self → Definitions };
 
     /// Adds a slot that stands for the definition, and answers it.
     fn defined_type(&mut self, def: ComponentDefinedType<'a>) -> Result<u32, Error>
-        requires { (t : Tree) × Follows (stands self.old) def t }
+        requires { (t : Tree) × Follows (stands self.old) def t × IsFormed (scope self.old) t }
         ensures ok { IfOk result (λ i. AddsSlot (stands self.old) (stands self.new) (slot_count self.old) (slot_count self.new) i (Defines (stands self.old) def.entry)) }
         ensures grows { Grows (stands self.old) (stands self.new) (slot_count self.old) (slot_count self.new) }
         ensures scope_stays { scope self.new ≡ scope self.old }
@@ -60,7 +61,7 @@ pub trait ValtypeEncoder<'a>: LendsMaps<TypeEncodingMaps<'a>> {
 
     /// Adds a slot that stands for the type of a function, and answers it.
     fn define_function_type(&mut self, def: ComponentFuncType<'a>) -> Result<u32, Error>
-        requires { (s : Signature) × FollowsFunction (stands self.old) def s }
+        requires { (s : Signature) × FollowsFunction (stands self.old) def s × IsFormedSignature (scope self.old) s }
         ensures ok { IfOk result (λ i. AddsSlot (stands self.old) (stands self.new) (slot_count self.old) (slot_count self.new) i (DefinesFunction (stands self.old) def.entry)) }
         ensures grows { Grows (stands self.old) (stands self.new) (slot_count self.old) (slot_count self.new) }
         ensures scope_stays { scope self.new ≡ scope self.old }
@@ -79,7 +80,7 @@ pub trait ValtypeEncoder<'a>: LendsMaps<TypeEncodingMaps<'a>> {
         ensures grows { Grows (stands self.old) (stands self.new) (slot_count self.old) (slot_count self.new) }
         ensures scope_stays { scope self.new ≡ scope self.old }
         ensures maps_stay { Self.maps_of self.new ≡ Self.maps_of self.old }
-        ensures counts { OnOk result (definitions self.new ≡ definitions self.old) };
+        ensures counts { OnOk result (ExportsOne (scope self.old) (definitions self.old) (definitions self.new) (raw_name name.entry)) };
 
     /// Exports a fresh resource under a name that declares one, and answers its slot.
     fn export_resource(&mut self, name: ComponentExternName<'a>) -> Result<u32, Error>
@@ -88,7 +89,7 @@ pub trait ValtypeEncoder<'a>: LendsMaps<TypeEncodingMaps<'a>> {
         ensures grows { Grows (stands self.old) (stands self.new) (slot_count self.old) (slot_count self.new) }
         ensures scope_stays { scope self.new ≡ scope self.old }
         ensures maps_stay { Self.maps_of self.new ≡ Self.maps_of self.old }
-        ensures counts { OnOk result (definitions self.new ≡ definitions self.old) };
+        ensures counts { OnOk result (ExportsOne (scope self.old) (definitions self.old) (definitions self.new) (raw_name name.entry)) };
 
     /// Makes a type of another interface, whose instance stands, known in this scope, and answers its slot.
     fn import_type(&mut self, interface: InterfaceId, id: TypeId) -> Result<u32, Error>

@@ -5,8 +5,10 @@ ghost use Rattle.wit_model.specs.Meant.{signature_of};
 ghost use Rattle.wit_model.specs.Parts.{function_types};
 ghost use Rattle.wit_encode.specs.Slots.{function, FollowsFunction};
 ghost use Rattle.wit_encode.specs.Key.{IsKeyOf};
-ghost use Rattle.wit_encode.specs.Maps.{MapsAgree, LacksKey};
+ghost use Rattle.wit_encode.specs.Maps.{MapsAgree, LacksKey, LearnsOnly};
+ghost use Rattle.wit_encode.specs.Plan.{MetFrom};
 ghost use Rattle.wit_encode.specs.Fits.{CanEncode};
+ghost use Rattle.wit_encode.specs.Formed.{IsFormedSignature};
 ghost use Rattle.wit_encode.specs.Counts.{AddsTypes, AddsFunction};
 ghost use Rattle.wit_encode.specs.Leaves.{Leaves};
 ghost use Rattle.wit_encode.specs.declared.key.FunctionKey.{FunctionKey as KeyValue};
@@ -31,6 +33,7 @@ fn function_of<'a, E: ValtypeEncoder<'a>>(
     requires asynchronous { async_ ≡ (signature_of resolve.now func.now).is_async }
     requires agree { MapsAgree resolve.now (E.maps_of enc.old) (E.stands enc.old) }
     ensures ok { IfOk result (λ f. FollowsFunction (E.stands enc.new) f (signature_of resolve.now func.now)) }
+    ensures learns { OnOk result (LearnsOnly (MetFrom resolve.now (E.scope enc.old).own_interface (E.maps_of enc.old) (function_types func.now)) (E.maps_of enc.old) (E.maps_of enc.new)) }
     ensures leaves { Leaves resolve.now (E.scope enc.old) (E.scope enc.new) (E.slot_count enc.old) (E.slot_count enc.new) (E.stands enc.old) (E.stands enc.new) (E.maps_of enc.old) (E.maps_of enc.new) }
     ensures counts { OnOk result (AddsTypes resolve.now (E.scope enc.old) (E.maps_of enc.old) (E.maps_of enc.new) (E.definitions enc.old) (E.definitions enc.new)) }
 {
@@ -54,8 +57,10 @@ fn define_key<'a, E: ValtypeEncoder<'a>>(
     requires encodable { CanEncode resolve.now (E.scope enc.old) (function_types func.now) }
     requires is_key { IsKeyOf key func.now }
     requires lacks { LacksKey (E.maps_of enc.old) key }
+    requires formed { IsFormedSignature (E.scope enc.old) (signature_of resolve.now func.now) }
     requires agree { MapsAgree resolve.now (E.maps_of enc.old) (E.stands enc.old) }
     ensures ok { IfOk result (λ i. E.stands enc.new i (function (signature_of resolve.now func.now))) }
+    ensures learns { OnOk result (LearnsOnly (MetFrom resolve.now (E.scope enc.old).own_interface (E.maps_of enc.old) (function_types func.now)) (E.maps_of enc.old) (E.maps_of enc.new)) }
     ensures leaves { Leaves resolve.now (E.scope enc.old) (E.scope enc.new) (E.slot_count enc.old) (E.slot_count enc.new) (E.stands enc.old) (E.stands enc.new) (E.maps_of enc.old) (E.maps_of enc.new) }
     ensures counts { IfOk result (AddsFunction resolve.now (E.scope enc.old) (E.maps_of enc.old) (E.maps_of enc.new) (E.definitions enc.old) (E.definitions enc.new) key.entry) }
 {
@@ -75,8 +80,10 @@ pub fn encode_func_type<'a, E: ValtypeEncoder<'a>>(
     func: &'a Function,
 ) -> Result<u32, Error>
     requires encodable { CanEncode resolve.now (E.scope enc.old) (function_types func.now) }
+    requires formed { IsFormedSignature (E.scope enc.old) (signature_of resolve.now func.now) }
     requires agree { MapsAgree resolve.now (E.maps_of enc.old) (E.stands enc.old) }
     ensures ok { IfOk result (λ i. E.stands enc.new i (function (signature_of resolve.now func.now))) }
+    ensures learns { OnOk result (LearnsOnly (MetFrom resolve.now (E.scope enc.old).own_interface (E.maps_of enc.old) (function_types func.now)) (E.maps_of enc.old) (E.maps_of enc.new)) }
     ensures leaves { Leaves resolve.now (E.scope enc.old) (E.scope enc.new) (E.slot_count enc.old) (E.slot_count enc.new) (E.stands enc.old) (E.stands enc.new) (E.maps_of enc.old) (E.maps_of enc.new) }
     ensures counts { IfOk result (λ i. (key : KeyValue) × IsKeyOf key func.now × AddsFunction resolve.now (E.scope enc.old) (E.maps_of enc.old) (E.maps_of enc.new) (E.definitions enc.old) (E.definitions enc.new) key i) }
 {

@@ -35,8 +35,8 @@ fn is_async(kind: FunctionKind) -> bool
     }
 }
 
-/// The key of a function.
-pub(crate) fn key_of<'a>(func: &'a Function) -> FunctionKey<'a>
+/// The key of a function. Takes constant time and no memory.
+pub fn key_of<'a>(func: &'a Function) -> FunctionKey<'a>
     ensures { IsKeyOf result func.now }
 {
     FunctionKey {

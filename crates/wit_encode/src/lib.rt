@@ -6,13 +6,16 @@ mod definition;
 mod encode;
 mod encoder;
 mod func_type;
+mod interface;
 mod key;
 mod lend;
 mod maps;
 mod name;
+mod order;
 mod plan;
 mod shape;
 mod table;
+mod uses;
 
 pub use encode::{
     encode_enum, encode_flags, encode_future, encode_option, encode_optional_valtype,
@@ -21,9 +24,9 @@ pub use encode::{
 };
 pub use encoder::{LendsMaps, ValtypeEncoder};
 pub use func_type::encode_func_type;
-pub use key::{FunctionKey, ParamSignatures};
+pub use interface::{InterfaceEncoder, InterfaceEncoderOf, OpenInterface};
+pub use key::{FunctionKey, ParamSignatures, key_of};
 pub use maps::TypeEncodingMaps;
 pub use name::extern_name;
-
-#[cfg(test)]
-mod tests;
+pub use table::{Slot, Table, TableOf};
+pub use uses::stands_alone;

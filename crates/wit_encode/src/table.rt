@@ -68,7 +68,7 @@ impl<'a> ValtypeEncoder<'a> for TableOf<'a, TypeEncodingMaps<'a>> {
 
     ghost stands = { λ e. TableReads e.resolve.now (place_of e.resolve.now e.owner) e.slots.items };
 
-    ghost definitions = { λ e. table_definitions e.slots.items };
+    ghost definitions = { λ e. table_definitions (table_scope e.resolve.now e.owner).declarations e.slots.items };
 
     fn defined_type(&mut self, def: ComponentDefinedType<'a>) -> Result<u32, Error> {
         push(&mut self.slots, Slot::Definition(def))

@@ -1,51 +1,27 @@
-//! Validity: one module for the tests of each rule.
+//! Validity: one module for what is tested of each rule.
 
-#[cfg(test)]
-mod drafts;
 mod functions;
-#[cfg(test)]
-mod item_order_tests;
 mod item_orders;
 mod items;
-#[cfg(test)]
-mod key_tests;
 mod keys;
-#[cfg(test)]
-mod label_tests;
 mod labels;
-#[cfg(test)]
-mod large_tests;
 mod levels;
 mod list_orders;
 mod listings;
 mod lookup;
 mod maps;
-#[cfg(test)]
-mod member_tests;
 mod members;
-#[cfg(test)]
-mod name_tests;
 mod named;
 mod names;
-#[cfg(test)]
-mod number_tests;
 mod numbers;
 mod owners;
 mod parts;
-#[cfg(test)]
-mod place_tests;
 mod places;
 mod references;
 mod resources;
-#[cfg(test)]
-mod samples;
 mod shapes;
 mod shown;
 mod tables;
-#[cfg(test)]
-mod tests;
-#[cfg(test)]
-mod type_tests;
 mod types;
 mod walk;
 

@@ -1,17 +1,22 @@
+use Rattle.comp_bytes.specs.RawOf.{raw_name}
 use Rattle.std.proofs.Common.{◌∙◌, ap, sym, subst, Bool}
 use Rattle.wit_encode.specs.declared.maps.TypeEncodingMaps.{TypeEncodingMaps}
 use Rattle.wit_encode.specs.Maps.{LearnsNumber}
-use Rattle.wit_encode.specs.Counts.{type_more_if}
-use Rattle.wit_encode.proofs.Agree.{on_ok, known-learnt}
-use Rattle.wit_encode.proofs.Defining.{counts-number}
+use Rattle.wit_encode.specs.Scope.{Scope}
+use Rattle.wit_encode.specs.Counts.{Definitions, ExportsOne, type_more_if}
+use Rattle.wit_encode.proofs.Agree.{on_ok, learnt-one}
+use Rattle.wit_encode.proofs.Defining.{counts-named}
 use Rattle.wit_encode.proofs.define.define_named.Goals as goal
 
 pub returns-clause-ok : goal.returns-clause-ok
-returns-clause-ok g c = on_ok c.remember_id.result _ _ (λ l. known-learnt _ _ c.args.id _ l) c.remember_id.ensures.ok
+returns-clause-ok g c = on_ok c.remember_id.result _ _ (λ l. learnt-one (g.E.LendsMaps.maps_of c.args.enc.now) _ _ c.args.id _ (ap (λ (z : TypeEncodingMaps). z.id_to_index.items) (c.export.ensures.maps_stay ∙ c.define_kind.ensures.maps_stay)) l) c.remember_id.ensures.ok
 
 pub returns-clause-counts : goal.returns-clause-counts
 returns-clause-counts g c = on_ok c.remember_id.result _ _
-    (λ l. counts-number c.args.resolve.now (g.E.ValtypeEncoder.scope c.args.enc.now) (g.E.LendsMaps.maps_of c.args.enc.now) _ (g.E.ValtypeEncoder.definitions c.args.enc.now) _ c.args.id c.in_ok-slot.slot
+    (λ l. counts-named c.args.resolve.now (g.E.ValtypeEncoder.scope c.args.enc.now) (g.E.LendsMaps.maps_of c.args.enc.now) _ (g.E.ValtypeEncoder.definitions c.args.enc.now) (g.E.ValtypeEncoder.definitions c.define_kind.new.enc) _ c.args.id c.in_ok-slot.slot (raw_name c.args.name)
     (subst (λ (z : TypeEncodingMaps). LearnsNumber z (g.E.LendsMaps.maps_of c.remember_id.new.enc) c.args.id c.in_ok-slot.slot) (c.export.ensures.maps_stay ∙ c.define_kind.ensures.maps_stay) l)
-    (c.remember_id.ensures.counts ∙ c.in_ok-slot.ensures.counts ∙ c.in_ok-index.ensures.counts ∙ ap (λ (b : Bool). type_more_if b (g.E.ValtypeEncoder.definitions c.args.enc.now)) (sym c.requires.by_name)))
+    c.requires.shown
+    (c.in_ok-index.ensures.counts ∙ ap (λ (b : Bool). type_more_if b (g.E.ValtypeEncoder.definitions c.args.enc.now)) (sym c.requires.by_name))
+    (subst (λ (z : Definitions). ExportsOne (g.E.ValtypeEncoder.scope c.args.enc.now) (g.E.ValtypeEncoder.definitions c.define_kind.new.enc) z (raw_name c.args.name)) (sym c.remember_id.ensures.counts)
+    (subst (λ (z : Scope). ExportsOne z (g.E.ValtypeEncoder.definitions c.define_kind.new.enc) (g.E.ValtypeEncoder.definitions c.export.new.enc) (raw_name c.args.name)) c.define_kind.ensures.scope_stays c.in_ok-slot.ensures.counts)))
     c.remember_id.ensures.ok

@@ -1,9 +1,11 @@
-use Rattle.std.proofs.Common.{refl}
-use Rattle.wit_encode.proofs.Defining.{leaves-kept}
+use Rattle.std.proofs.Common.{refl, ◌∙◌, subst}
+use Rattle.wit_encode.specs.declared.maps.TypeEncodingMaps.{TypeEncodingMaps}
+use Rattle.wit_encode.specs.Maps.{LearnsKind}
+use Rattle.wit_encode.proofs.Defining.{leaves-kept, counts-kind}
 use Rattle.wit_encode.proofs.define.define_new_kind.Goals as goal
 
 pub define_shape-requires : goal.define_shape-requires
-define_shape-requires g c = λ _. ((refl, tt), (rw c.shape_of.ensures c.requires.ready, c.requires.agree))
+define_shape-requires g c = λ _. ((refl, tt), (rw c.shape_of.ensures c.requires.ready, (rw c.shape_of.ensures c.requires.formed, c.requires.agree)))
 
 pub remember_kind-requires : goal.remember_kind-requires
 remember_kind-requires g c = λ _. (
@@ -16,3 +18,9 @@ remember_kind-requires g c = λ _. (
     ),
   ),
 )
+
+pub returns-clause-counts : goal.returns-clause-counts
+returns-clause-counts g c =
+    counts-kind c.args.resolve.now (g.E.ValtypeEncoder.scope c.args.enc.now) (g.E.LendsMaps.maps_of c.args.enc.now) _ (g.E.ValtypeEncoder.definitions c.args.enc.now) _ c.args.kind c.in_ok-index.index
+    (subst (λ (z : TypeEncodingMaps). LearnsKind z (g.E.LendsMaps.maps_of c.remember_kind.new.enc) c.args.kind c.in_ok-index.index) c.define_shape.ensures.maps_stay c.in_ok-remember_kind.ensures.ok)
+    c.requires.there (c.remember_kind.ensures.counts ∙ c.in_ok-index.ensures.counts)

@@ -4,7 +4,10 @@ use Rattle.std.proofs.lemmas.Option.{slice_get_read}
 use Rattle.wit_model.specs.Lookup.{type_at}
 use Rattle.wit_encode.specs.Plan.{foreign_owner}
 use Rattle.wit_encode.specs.Maps.{IsKnown}
-use Rattle.wit_encode.proofs.Encoding.{not-known, tabled, foreign-undefined}
+use Rattle.wit_encode.proofs.Defining.{counts-none}
+use Rattle.wit_encode.proofs.Lists.{some-from}
+use Rattle.wit_encode.proofs.Encoding.{learns-nothing, tabled, foreign-undefined, foreign-unshown}
+use Rattle.wit_encode.proofs.Agree.{not-known}
 use Rattle.wit_encode.proofs.define.define_number.Given.{Over}
 use Rattle.wit_encode.proofs.define.define_number.Goals as goal
 use Rattle.wit_encode.proofs.define.define_number.Goals.{After-foreign}
@@ -25,7 +28,7 @@ import-requires g c = λ _. (
       let f : foreign_owner (g.E.ValtypeEncoder.scope c.args.enc.now).own_interface c.index-def.result.now.owner ≡ Some c.in-Some.interface = sym (owner_is g a) ∙ c.in-Some.is in
       rw c.index_of.ensures.same (
         c.requires.packages,
-        ((c.requires.fits c.index-def.result.now (there g a)).foreign c.in-Some.interface f, (foreign-undefined c.args.resolve.now (g.E.ValtypeEncoder.scope c.args.enc.now) c.args.id.0 c.index-def.result.now c.in-Some.interface (there g a) f, (unknown g a, c.requires.agree))),
+        ((c.requires.fits c.index-def.result.now (there g a)).foreign c.in-Some.interface f, (foreign-undefined c.args.resolve.now (g.E.ValtypeEncoder.scope c.args.enc.now) c.args.id.0 c.index-def.result.now c.in-Some.interface (there g a) f, (foreign-unshown c.args.resolve.now (g.E.ValtypeEncoder.scope c.args.enc.now) c.args.id.0 c.index-def.result.now c.in-Some.interface (there g a) f, (unknown g a, c.requires.agree)))),
       )),
 )
 
@@ -45,3 +48,11 @@ define_own-requires g c = λ _. (
         ),
       )),
 )
+
+pub returns-then-is_some-clause-counts : goal.returns-then-is_some-clause-counts
+returns-then-is_some-clause-counts g c = rw c.index_of.ensures.same (counts-none c.args.resolve.now (g.E.ValtypeEncoder.scope c.args.enc.now) (g.E.LendsMaps.maps_of c.args.enc.now) (g.E.ValtypeEncoder.definitions c.args.enc.now))
+
+pub returns-then-is_some-clause-ok : goal.returns-then-is_some-clause-ok
+returns-then-is_some-clause-ok g c =
+    let k : IsKnown (g.E.LendsMaps.maps_of c.args.enc.now) c.args.id.0 = some-from _ c.index_of.result (search rules) c.index_of.ensures.some in
+    rw c.index_of.ensures.same (record { known = k; only = learns-nothing _ _ })

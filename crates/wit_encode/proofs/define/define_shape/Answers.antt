@@ -10,7 +10,7 @@ followed : (g : Over) (c : In_ok-def g) → Follows (g.E.ValtypeEncoder.stands c
 followed g c = rw c.definition_of.ensures.same (definition-stands c.args.resolve.now (g.E.LendsMaps.maps_of c.args.enc.now) (g.E.ValtypeEncoder.stands c.args.enc.now) (kind_of c.args.shape) c.in_ok-def.def c.requires.agree c.in_ok-def.ensures.value)
 
 pub defined_type-requires : goal.defined_type-requires
-defined_type-requires g c = λ _. ((refl, tt), (_, followed g (goal.at.defined_type-requires g c).In_ok-def))
+defined_type-requires g c = λ _. ((refl, tt), (_, followed g (goal.at.defined_type-requires g c).In_ok-def, rw c.definition_of.ensures.same c.requires.formed))
 
 pub returns-clause-ok : goal.returns-clause-ok
 returns-clause-ok g c =

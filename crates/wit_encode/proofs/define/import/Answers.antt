@@ -1,5 +1,18 @@
-use Rattle.wit_encode.proofs.Agree.{on_ok, known-learnt}
+use Rattle.std.proofs.Common.{◌∙◌, sym, ap, subst}
+use Rattle.wit_encode.specs.declared.maps.TypeEncodingMaps.{TypeEncodingMaps}
+use Rattle.wit_encode.specs.Maps.{LearnsNumber}
+use Rattle.wit_encode.specs.Counts.{type_more_if}
+use Rattle.wit_encode.proofs.Agree.{on_ok, learnt-one}
+use Rattle.wit_encode.proofs.Defining.{counts-number}
 use Rattle.wit_encode.proofs.define.import.Goals as goal
 
 pub returns-clause-ok : goal.returns-clause-ok
-returns-clause-ok g c = on_ok c.remember_id.result _ _ (λ l. known-learnt _ _ c.args.id _ l) c.remember_id.ensures.ok
+returns-clause-ok g c = on_ok c.remember_id.result _ _ (λ l. learnt-one (g.E.LendsMaps.maps_of c.args.enc.now) _ _ c.args.id _ (ap (λ (z : TypeEncodingMaps). z.id_to_index.items) c.import_type.ensures.maps_stay) l) c.remember_id.ensures.ok
+
+pub returns-clause-counts : goal.returns-clause-counts
+returns-clause-counts g c = on_ok c.remember_id.result _ _
+    (λ l. counts-number c.args.resolve.now (g.E.ValtypeEncoder.scope c.args.enc.now) (g.E.LendsMaps.maps_of c.args.enc.now) _ (g.E.ValtypeEncoder.definitions c.args.enc.now) _ c.args.id c.in_ok-index.index
+    (subst (λ (z : TypeEncodingMaps). LearnsNumber z (g.E.LendsMaps.maps_of c.remember_id.new.enc) c.args.id c.in_ok-index.index) c.import_type.ensures.maps_stay l)
+    c.requires.not_shown
+    (c.remember_id.ensures.counts ∙ c.in_ok-index.ensures.counts ∙ sym (ap (λ b. type_more_if b (g.E.ValtypeEncoder.definitions c.args.enc.now)) c.requires.no_definition)))
+    c.remember_id.ensures.ok

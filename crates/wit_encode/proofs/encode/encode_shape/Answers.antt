@@ -2,4 +2,4 @@ use Rattle.std.proofs.Common.{refl}
 use Rattle.wit_encode.proofs.encode.encode_shape.Goals as goal
 
 pub define_shape-requires : goal.define_shape-requires
-define_shape-requires g c = λ _. ((refl, tt), ((rw (c.deref.ensures.value, c.in_ok-parts.ensures) at c.in_ok-define_parts.ensures.ready), c.define_parts.ensures.leaves.agree))
+define_shape-requires g c = λ _. ((refl, tt), ((rw (c.deref.ensures.value, c.in_ok-parts.ensures) at c.in_ok-define_parts.ensures.ready), (rw c.define_parts.ensures.leaves.scope_stays c.requires.formed, c.define_parts.ensures.leaves.agree)))

@@ -1,10 +1,11 @@
-use Rattle.std.proofs.Common.{refl, ◌∙◌, sym, subst}
+use Rattle.std.proofs.Common.{ap, refl, ◌∙◌, sym, subst}
 use Rattle.wit_model.specs.Meaning.{Signature}
 use Rattle.wit_model.specs.Meant.{signature_of}
 use Rattle.wit_encode.specs.declared.maps.TypeEncodingMaps.{TypeEncodingMaps}
 use Rattle.wit_encode.specs.Maps.{LearnsKey}
 use Rattle.wit_encode.specs.Slots.{function}
 use Rattle.wit_encode.proofs.Defining.{leaves-kept, leaves-trans}
+use Rattle.wit_encode.proofs.Encoding.{learns-same}
 use Rattle.wit_encode.proofs.Functions.{key-signature, counts-key, lacks-same}
 use Rattle.wit_encode.proofs.func_type.define_key.Given.{Over}
 use Rattle.wit_encode.proofs.func_type.define_key.Goals as goal
@@ -14,7 +15,7 @@ pub function_of-requires : goal.function_of-requires
 function_of-requires g c = λ _. ((refl, tt), (c.requires.encodable, (c.requires.is_key.async, c.requires.agree)))
 
 pub define_function_type-requires : goal.define_function_type-requires
-define_function_type-requires g c = λ _. ((refl, tt), (_, c.in_ok-def.ensures.ok))
+define_function_type-requires g c = λ _. ((refl, tt), (_, c.in_ok-def.ensures.ok, rw c.function_of.ensures.leaves.scope_stays c.requires.formed))
 
 stands : (g : Over) (c : In_ok-index g) → g.E.ValtypeEncoder.stands c.define_function_type.new.self c.in_ok-index.index (function (signature_of c.args.resolve.now c.args.func.now))
 stands g c = c.in_ok-index.ensures.ok.adds.new (function (signature_of c.args.resolve.now c.args.func.now)) c.in_ok-def.ensures.ok
@@ -43,3 +44,7 @@ returns-clause-counts g c =
     c.requires.lacks c.in_ok-def.ensures.counts
     (subst (λ (z : TypeEncodingMaps). LearnsKey z (g.E.LendsMaps.maps_of c.remember_key.new.enc) c.args.key c.in_ok-index.index) c.define_function_type.ensures.maps_stay c.in_ok-remember_key.ensures.ok)
     (c.remember_key.ensures.counts ∙ c.in_ok-index.ensures.counts)
+
+pub returns-clause-learns : goal.returns-clause-learns
+returns-clause-learns g c = learns-same (g.E.LendsMaps.maps_of c.args.enc.now) (g.E.LendsMaps.maps_of c.function_of.new.enc) (g.E.LendsMaps.maps_of c.remember_key.new.enc) c.in_ok-def.ensures.learns
+    (c.in_ok-remember_key.ensures.ok.rest.numbers ∙ ap (λ (z : TypeEncodingMaps). z.id_to_index.items) c.define_function_type.ensures.maps_stay)

@@ -1,4 +1,5 @@
 use Rattle.std.proofs.Common.{refl}
+use Rattle.wit_encode.proofs.Encoding.{learns-nothing}
 use Rattle.wit_encode.proofs.Functions.{key-stands, counts-known, ok-map}
 use Rattle.wit_encode.proofs.func_type.encode_func_type.Goals as goal
 
@@ -9,7 +10,13 @@ pub returns-in-Some-clause-counts : goal.returns-in-Some-clause-counts
 returns-in-Some-clause-counts g c = (c.key_of-key.result, c.key_of-key.ensures, rw c.index_of_key.ensures.same (counts-known c.args.resolve.now (g.E.ValtypeEncoder.scope c.args.enc.now) (g.E.LendsMaps.maps_of c.args.enc.now) (g.E.ValtypeEncoder.definitions c.args.enc.now) c.key_of-key.result c.in-Some.index c.in-Some.ensures.some))
 
 pub define_key-requires : goal.define_key-requires
-define_key-requires g c = λ _. ((refl, tt), rw c.index_of_key.ensures.same (c.requires.encodable, (c.key_of-key.ensures, ((rw c.in_default.is at c.index_of_key.ensures.none), c.requires.agree))))
+define_key-requires g c = λ _. ((refl, tt), rw c.index_of_key.ensures.same (c.requires.encodable, (c.key_of-key.ensures, ((rw c.in_default.is at c.index_of_key.ensures.none), (c.requires.formed, c.requires.agree)))))
 
 pub returns-clause-counts : goal.returns-clause-counts
 returns-clause-counts g c = ok-map c.define_key.result _ _ (λ i h. (c.key_of-key.result, c.key_of-key.ensures, h)) (rw c.index_of_key.ensures.same at c.define_key.ensures.counts)
+
+pub returns-in-Some-clause-learns : goal.returns-in-Some-clause-learns
+returns-in-Some-clause-learns g c = rw c.index_of_key.ensures.same (learns-nothing _ (g.E.LendsMaps.maps_of c.args.enc.now))
+
+pub returns-clause-learns : goal.returns-clause-learns
+returns-clause-learns g c = rw c.index_of_key.ensures.same at c.define_key.ensures.learns

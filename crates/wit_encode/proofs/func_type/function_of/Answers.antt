@@ -1,5 +1,7 @@
-use Rattle.std.proofs.Common.{refl, map, option_to_list}
+use Rattle.std.proofs.Common.{ap, refl, map, option_to_list}
 use Rattle.wit_encode.specs.Slots.{NamedStands}
+use Rattle.wit_encode.specs.Scope.{Scope}
+use Rattle.wit_encode.proofs.Encoding.{learns-both}
 use Rattle.wit_encode.proofs.Functions.{encode-left, encode-right}
 use Rattle.wit_encode.proofs.Defining.{leaves-trans, counts-trans, zip-kept, stands-more}
 use Rattle.wit_encode.proofs.func_type.function_of.Goals as goal
@@ -28,3 +30,9 @@ returns-clause-leaves g c = leaves-trans c.encode_params.ensures.leaves c.encode
 
 pub returns-clause-counts : goal.returns-clause-counts
 returns-clause-counts g c = counts-trans c.encode_params.ensures.leaves.scope_stays c.in_ok-params.ensures.counts c.in_ok-result.ensures.counts
+
+pub returns-clause-learns : goal.returns-clause-learns
+returns-clause-learns g c =
+    learns-both c.args.resolve.now (g.E.ValtypeEncoder.scope c.args.enc.now).own_interface (g.E.ValtypeEncoder.scope c.encode_params.new.enc).own_interface (g.E.LendsMaps.maps_of c.args.enc.now) (g.E.LendsMaps.maps_of c.encode_params.new.enc) (g.E.LendsMaps.maps_of c.encode_optional_valtype.new.enc)
+    (map (λ p. p.ty) c.args.func.now.params.items) (option_to_list c.args.func.now.result)
+    (ap (λ (z : Scope). z.own_interface) c.encode_params.ensures.leaves.scope_stays) c.encode_params.ensures.leaves.maps_grow (rw c.deref.ensures.value at c.in_ok-params.ensures.learns) (rw c.as_ref.ensures.value at c.in_ok-result.ensures.learns)

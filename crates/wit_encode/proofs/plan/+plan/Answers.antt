@@ -11,6 +11,7 @@ use Rattle.wit_encode.specs.Kinds.{parts_of}
 use Rattle.wit_encode.specs.Maps.{IsKnown}
 use Rattle.wit_encode.specs.Plan.{foreign_owner, rank}
 use Rattle.wit_encode.proofs.Lists.{some-from}
+use Rattle.wit_encode.proofs.Agree.{not-known}
 use Rattle.wit_encode.proofs.Planning.{planned-there, planned-foreign, planned-own, planned-step, stands-id, part-smaller, rank_below}
 use Rattle.wit_encode.proofs.plan.+plan.Goals as goal
 
@@ -24,7 +25,8 @@ pub returns-then-is_some-2 : goal.returns-then-is_some-2
 returns-then-is_some-2 t c =
     let at : type_at c.args.resolve.now c.in-Id.id.0 ≡ Some c.index-def.result.now = slice_get_read _ _ _ _ refl (c.requires.in_range c.in-Id.id c.in-Id.is) c.index-def.ensures in
     let f : is_some (foreign_owner c.args.own c.index-def.result.now.owner) ≡ true = search rules in
-    rw c.in-Id.is (planned-foreign c.args.resolve.now c.args.own c.args.maps.now c.args.order.now.numbers.items c.push.new.self c.in-Id.id c.index-def.result.now c.in_ok-push.ensures.numbers c.in_ok-push.ensures.met c.requires.ordered at f)
+    let lacks : is_some c.index_of.result ≡ false = search rules in
+    rw c.in-Id.is (planned-foreign c.args.resolve.now c.args.own c.args.maps.now c.args.order.now.numbers.items c.push.new.self c.in-Id.id c.index-def.result.now (λ k. not-known c.index_of.result lacks (c.index_of.ensures.none k)) c.in_ok-push.ensures.numbers c.in_ok-push.ensures.met c.requires.ordered at f)
 
 pub plan-requires : goal.plan-requires
 plan-requires t c =
@@ -46,5 +48,6 @@ pub returns : goal.returns
 returns t c =
     let at : type_at c.args.resolve.now c.in-Id.id.0 ≡ Some c.index-def.result.now = slice_get_read _ _ _ _ refl (c.requires.in_range c.in-Id.id c.in-Id.is) c.index-def.ensures in
     let f : is_some (foreign_owner c.args.own c.index-def.result.now.owner) ≡ false = search rules in
+    let lacks : is_some c.index_of.result ≡ false = search rules in
     let e = c.deref-part-items.ensures.value ∙ c.in_ok-parts.ensures in
-    rw c.in-Id.is (planned-own c.args.resolve.now c.args.own c.args.maps.now c.args.order.now.numbers.items c.loop-part.order c.push-2.new.self c.in-Id.id c.index-def.result.now _ _ c.in_ok-push-2.ensures.numbers c.in_ok-push-2.ensures.met at f e c.loop-part-test.false c.loop-part.invariant)
+    rw c.in-Id.is (planned-own c.args.resolve.now c.args.own c.args.maps.now c.args.order.now.numbers.items c.loop-part.order c.push-2.new.self c.in-Id.id c.index-def.result.now _ _ (λ k. not-known c.index_of.result lacks (c.index_of.ensures.none k)) c.in_ok-push-2.ensures.numbers c.in_ok-push-2.ensures.met at f e c.loop-part-test.false c.loop-part.invariant)

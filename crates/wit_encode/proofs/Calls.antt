@@ -1,0 +1,336 @@
+-- What the calls of an encoder of interfaces do to what it holds.
+use Rattle.std.proofs.Common.{◌≡◌, refl, sym, subst, ap, ◌∙◌, ℕ, ◌+◌, Bool, true, false, not, cond, List, [], ◌∷◌, ◌++◌, map, Result, Ok, Err, IfOk, OnOk, OnErr, Option, Some, None, slice_get, length, arith}
+use Rattle.std.specs.List.{list_all}
+use Rattle.std.specs.Option.{option_map_or, is_some}
+use Rattle.std.proofs.lemmas.List.{map-append}
+use Rattle.wit_model.specs.Text.{Text}
+use Rattle.wit_model.specs.Tree as tree_of_types
+use Rattle.wit_model.specs.Tree.{Place, Tree, named}
+use Rattle.wit_model.specs.Meaning.{Signature, TypeMeaning}
+use Rattle.wit_model.specs.declared.model.Resolve.{Resolve}
+use Rattle.wit_model.specs.declared.model.InterfaceId.{InterfaceId}
+use Rattle.wit_model.proofs.Lists.{first_true, second_true}
+use Rattle.comp_bytes.specs.declared.forms.ComponentDefinedType.{ComponentDefinedType}
+use Rattle.comp_bytes.specs.declared.forms.ComponentFuncType.{ComponentFuncType}
+use Rattle.comp_bytes.specs.declared.forms.ComponentTypeRef.{ComponentTypeRef}
+use Rattle.comp_bytes.specs.declared.forms.ComponentTypeRef.TheVariants as refs
+use Rattle.comp_bytes.specs.Raw.{Declaration, Declarations, ExternName}
+use Rattle.comp_bytes.specs.RawOf.{raw_defined, raw_function}
+use Rattle.comp_bytes.specs.Held.{type_slots}
+use Rattle.comp_bytes.specs.Reading.{◌>>=◌}
+use Rattle.comp_meaning.specs.Follow as follow
+use Rattle.comp_meaning.specs.Follow.{Slot, InstanceScope, ShownType, new_instance, new_scope, definition, function_signature, named_type, named_like, declared_by, is_simple, show_type, instance_step, component_step, in_instance, in_scope}
+use Rattle.wit_encode.specs.Slots.{Standing, tree, function, AddsSlot, Grows, Follows, FollowsFunction, Defines, DefinesFunction}
+use Rattle.wit_encode.specs.Resources.{Names, is_resource_tree, is_resource_declaration}
+use Rattle.wit_encode.specs.Scope.{Scope, IsDeclared, DeclaresSlot, DeclaresResource, exported_name}
+use Rattle.wit_encode.specs.Formed.{IsFormed, IsFormedSignature, is_formed}
+use Rattle.wit_encode.specs.Counts.{one_type_more, one_function_more, ExportsOne}
+use Rattle.wit_encode.specs.Instance.{standing_at, SlotsStand, is_slot_of, Contents, no_view, outer_slots, inner_scope, inner_contents, is_value_type, is_function_type, place_in, resources_in, scope_with, definitions_with}
+use Rattle.wit_encode.proofs.Defining.{count-push}
+use Rattle.wit_encode.proofs.Strict.{bind, slot-at, definition-strict, function-strict, follows-once, signature-once}
+use Rattle.wit_encode.proofs.Contents.{IsOf, Grew, grew-adds, grew-grows, same-grows, grew-scope}
+use Rattle.wit_encode.proofs.Steps as steps
+
+-- what a call that adds a slot ensures
+pub record Calls {E : Type 0} (res : Result ℕ E) (s s' : Scope) (c c' : Contents) (P : Standing → Type 0) (counts : Type 0) : Type 0 where
+  pub ok : IfOk res (λ k. AddsSlot (SlotsStand c.slots) (SlotsStand c'.slots) (length c.slots) (length c'.slots) k P)
+  pub grows : Grows (SlotsStand c.slots) (SlotsStand c'.slots) (length c.slots) (length c'.slots)
+  pub scope_stays : s' ≡ s
+  pub counted : OnOk res counts
+
+pub calls-from : {E : Type 0} (res : Result ℕ E) (r : Resolve) (interface : Option InterfaceId) (around : Declarations) (c c' : Contents) (P : Standing → Type 0) (counts : Type 0) (x : Slot)
+    → (scope_with r interface around c).is_sound ≡ true → is_slot_of (resources_in r interface) x ≡ true → IsOf x P → IfOk res (λ k. (k ≡ length c.slots) × Grew c c' x × counts) → OnErr res (c' ≡ c)
+    → Calls res (scope_with r interface around c) (scope_with r interface around c') c c' P counts
+calls-from (Ok k) r interface around c c' P counts x sound o is h e = record {
+  ok = grew-adds c c' x k P h.1 h.0 is;
+  grows = grew-grows c c' x h.1;
+  scope_stays = grew-scope r interface around c c' x h.1 o sound;
+  counted = h.2;
+}
+calls-from (Err q) r interface around c c' P counts x sound o is h e = record {
+  ok = h;
+  grows = same-grows c c' e;
+  scope_stays = ap (scope_with r interface around) e;
+  counted = h;
+}
+
+-- ---- what is there
+
+pub some-of : {A : Type 0} (o : Option A) → is_some o ≡ true → (x : A) × (o ≡ Some x)
+some-of None e = absurd (let z : ⊥ = cc in z)
+some-of (Some x) e = (x, refl)
+
+pub record InnerAt (place : Place) (outer : Declarations) (ds : List Declaration) : Type 0 where
+  pub scope : InstanceScope
+  pub is : inner_scope place outer ds ≡ Some scope
+  pub slots : (inner_contents place outer ds).slots ≡ scope.slots
+
+pub inner-at : (place : Place) (outer : Declarations) (ds : List Declaration) → (inner_contents place outer ds).is_followed ≡ true → InnerAt place outer ds
+unfolding inner_contents
+inner-at place outer ds e = let m = some-of (inner_scope place outer ds) e in record { scope = m.0; is = m.1; slots = ap (λ o. option_map_or (λ s. s.slots) o []) m.1 }
+
+-- the slot of a new declaration has the next number
+inner-index : (place : Place) (outer : Declarations) (ds : List Declaration) (a : InnerAt place outer ds) → type_slots ds ≡ length (inner_contents place outer ds).slots
+inner-index place outer ds a =
+    let e = steps.steps-count place (outer_slots outer) new_instance a.scope ds a.is in
+    let f : length (inner_contents place outer ds).slots ≡ length a.scope.slots = ap length a.slots in
+    omega arith
+
+-- one declaration more, which adds a slot
+record InnerMore (place : Place) (outer : Declarations) (ds : List Declaration) (d : Declaration) (x : Slot) (shown : List ShownType) : Type 0 where
+  pub at : InnerAt place outer ds
+  pub after : InstanceScope
+  pub step : instance_step place (outer_slots outer) at.scope d ≡ Some after
+  pub one : after.slots ≡ at.scope.slots ++ x ∷ []
+  pub types : after.shown.types ≡ at.scope.shown.types ++ shown
+  pub functions : after.shown.functions ≡ at.scope.shown.functions
+
+inner-grew : (place : Place) (outer : Declarations) (ds : List Declaration) (d : Declaration) (x : Slot) (shown : List ShownType) → InnerMore place outer ds d x shown → Grew (inner_contents place outer ds) (inner_contents place outer (ds ++ d ∷ [])) x
+unfolding inner_contents
+inner-grew place outer ds d x shown m =
+    let next = steps.steps-more place (outer_slots outer) new_instance m.at.scope m.after ds d m.at.is m.step in
+    record {
+      slots = ap (λ o. option_map_or (λ s. s.slots) o []) next ∙ m.one ∙ ap (λ xs. xs ++ x ∷ []) (sym m.at.slots);
+      functions_shown = ap (λ o. (option_map_or (λ s. s.shown) o no_view).functions) next ∙ m.functions ∙ sym (ap (λ o. (option_map_or (λ s. s.shown) o no_view).functions) m.at.is);
+      followed = ap is_some next ∙ sym (ap is_some m.at.is);
+    }
+
+abbrev pub shown_meanings : List ShownType → List (Text × TypeMeaning)
+shown_meanings ts = map (λ t. (t.name, t.meaning)) ts
+
+inner-definitions : (place : Place) (outer : Declarations) (ds : List Declaration) (d : Declaration) (x : Slot) (shown : List ShownType) → InnerMore place outer ds d x shown → (types functions : ℕ)
+    → (inner_contents place outer ds).types + cond (is_value_type d) 1 0 ≡ types → (inner_contents place outer ds).functions + cond (is_function_type d) 1 0 ≡ functions
+    → definitions_with (inner_contents place outer (ds ++ d ∷ [])) ≡ record { types = types; functions = functions; exports = (definitions_with (inner_contents place outer ds)).exports ++ shown_meanings shown }
+unfolding inner_contents
+inner-definitions place outer ds d x shown m types functions t f =
+    let next = steps.steps-more place (outer_slots outer) new_instance m.at.scope m.after ds d m.at.is m.step in
+    let exports = ap (λ o. shown_meanings (option_map_or (λ s. s.shown) o no_view).types) next ∙ ap shown_meanings m.types ∙ map-append (λ (t : ShownType). (t.name, t.meaning)) m.at.scope.shown.types shown
+    ∙ ap (λ xs. xs ++ shown_meanings shown) (sym (ap (λ o. shown_meanings (option_map_or (λ s. s.shown) o no_view).types) m.at.is)) in
+    λ i. record { types = (count-push is_value_type ds d ∙ t) i; functions = (count-push is_function_type ds d ∙ f) i; exports = exports i }
+
+-- ---- what stands in the new slot
+
+pub defines-of : (slots : List Slot) (d : ComponentDefinedType) (t : Tree) → Follows (SlotsStand slots) d t → IsOf (Slot.value t) (Defines (SlotsStand slots) d)
+defines-of slots d t h = record { gives = gives; only = λ m e. subst (Defines (SlotsStand slots) d) (same m e) h }
+  where
+    gives : (m : Standing) → Defines (SlotsStand slots) d m → standing_at (Some (Slot.value t)) ≡ Some m
+    gives (tree u) k = ap (λ z. Some (tree z)) (follows-once slots d t u h k)
+    gives (function s) k = absurd k
+
+    same : (m : Standing) → Some (tree t) ≡ Some m → tree t ≡ m
+    same m e = cc
+
+pub function-of : (slots : List Slot) (f : ComponentFuncType) (s : Signature) → FollowsFunction (SlotsStand slots) f s → IsOf (Slot.function s) (DefinesFunction (SlotsStand slots) f)
+function-of slots f s h = record { gives = gives; only = λ m e. subst (DefinesFunction (SlotsStand slots) f) (same m e) h }
+  where
+    gives : (m : Standing) → DefinesFunction (SlotsStand slots) f m → standing_at (Some (Slot.function s)) ≡ Some m
+    gives (tree u) k = absurd k
+    gives (function q) k = ap (λ z. Some (function z)) (signature-once slots f s q h k)
+
+    same : (m : Standing) → Some (function s) ≡ Some m → function s ≡ m
+    same m e = cc
+
+not-true : (b : Bool) → b ≡ false → not b ≡ true
+not-true true e = sym e
+not-true false e = refl
+
+-- what is well formed is no name of a resource
+pub formed-value : (resources : Names) (t : Tree) → is_formed resources t ≡ true → not (is_resource_tree resources t) ≡ true
+formed-value resources (Tree.primitive p) h = refl
+formed-value resources (Tree.named place name) h = absurd (let z : ⊥ = cc in z)
+formed-value resources (Tree.node form ts) h = refl
+
+-- a scope in which a named type has been found and shown
+abbrev shown-next : ExternName → InstanceScope → tree_of_types.Declaration × Slot → Option InstanceScope
+shown-next name scope found = Some (record {
+  slots = scope.slots ++ found.1 ∷ [];
+  shown = record {
+    types = scope.shown.types ++ record { name = name.text; meaning = record { declaration = found.0; external_id = name.external_id }; slot = found.1 } ∷ [];
+    functions = scope.shown.functions;
+  };
+})
+
+-- ---- an instance type
+
+module _ {E : Type 0} (res : Result ℕ E) (r : Resolve) (i : InterfaceId) (outer : Declarations) (ds ds' : List Declaration) where
+  abbrev here : Option InterfaceId
+  here = Some i
+
+  abbrev before : Contents
+  before = inner_contents (place_in r here) outer ds
+
+  abbrev after : Contents
+  after = inner_contents (place_in r here) outer ds'
+
+  module _ (sound : (scope_with r here outer before).is_sound ≡ true) where
+    inner-there : InnerAt (place_in r here) outer ds
+    inner-there = inner-at (place_in r here) outer ds (first_true before.is_followed (list_all (is_slot_of (resources_in r here)) before.slots) sound)
+
+    inner-slots : list_all (is_slot_of (resources_in r here)) before.slots ≡ true
+    inner-slots = second_true before.is_followed (list_all (is_slot_of (resources_in r here)) before.slots) sound
+
+    more-ok : (d : Declaration) (x : Slot) (shown : List ShownType) (counts : Type 0) → InnerMore (place_in r here) outer ds d x shown → (ds' ≡ ds ++ d ∷ [] → counts)
+        → IfOk res (λ k. (k ≡ type_slots ds) × (ds' ≡ ds ++ d ∷ [])) → IfOk res (λ k. (k ≡ length before.slots) × Grew before after x × counts)
+    more-ok d x shown counts m q h = ok-each res (λ k w. (
+      w.0 ∙ inner-index (place_in r here) outer ds m.at,
+      subst (λ (zs : List Declaration). Grew before (inner_contents (place_in r here) outer zs) x) (sym w.1) (inner-grew (place_in r here) outer ds d x shown m),
+      q w.1,
+    )) h
+      where
+        ok-each : {P Q : ℕ → Type 0} (res : Result ℕ E) → ((k : ℕ) → P k → Q k) → IfOk res P → IfOk res Q
+        ok-each (Ok k) f h = f k h
+        ok-each (Err e) f h = h
+
+    err-same : OnErr res (ds' ≡ ds) → OnErr res (after ≡ before)
+    err-same h = err-each res (λ e. ap (inner_contents (place_in r here) outer) e) h
+      where
+        err-each : {P Q : Type 0} (res : Result ℕ E) → (P → Q) → OnErr res P → OnErr res Q
+        err-each (Ok k) f h = h
+        err-each (Err e) f h = f h
+
+    pub defined-inside : (d : ComponentDefinedType) (t : Tree) → Follows (SlotsStand before.slots) d t → IsFormed (scope_with r here outer before) t
+        → IfOk res (λ k. (k ≡ type_slots ds) × (ds' ≡ ds ++ Declaration.defined (raw_defined d) ∷ [])) → OnErr res (ds' ≡ ds)
+        → Calls res (scope_with r here outer before) (scope_with r here outer after) before after (Defines (SlotsStand before.slots) d) (definitions_with after ≡ one_type_more (definitions_with before))
+    defined-inside d t h f ok err =
+        let a = inner-there in
+        let strict : definition a.scope.slots (raw_defined d) ≡ Some t = ap (λ zs. definition zs (raw_defined d)) (sym a.slots) ∙ definition-strict (resources_in r here) before.slots inner-slots d t h f.formed in
+        let m : InnerMore (place_in r here) outer ds (Declaration.defined (raw_defined d)) (Slot.value t) [] = record {
+          at = a;
+          after = in_instance (Slot.value t) a.scope;
+          step = bind (definition a.scope.slots (raw_defined d)) t (λ u. Some (in_instance (Slot.value u) a.scope)) strict;
+          one = refl;
+          types = nothing a.scope.shown.types;
+          functions = refl;
+        } in
+        calls-from res r here outer before after _ _ (Slot.value t) sound (formed-value (resources_in r here) t f.formed) (defines-of before.slots d t h)
+        (more-ok (Declaration.defined (raw_defined d)) (Slot.value t) [] _ m (λ e. ap (λ zs. definitions_with (inner_contents (place_in r here) outer zs)) e
+        ∙ inner-definitions (place_in r here) outer ds (Declaration.defined (raw_defined d)) (Slot.value t) [] m (before.types + 1) before.functions refl (omega arith)
+        ∙ (λ j. record { types = before.types + 1; functions = before.functions; exports = sym (nothing-meant (definitions_with before).exports) j })) ok)
+        (err-same err)
+      where
+        nothing : (ts : List ShownType) → ts ≡ ts ++ []
+        nothing [] = refl
+        nothing (t ∷ ts) = ap (λ us. t ∷ us) (nothing ts)
+
+        nothing-meant : (ts : List (Text × TypeMeaning)) → ts ≡ ts ++ []
+        nothing-meant [] = refl
+        nothing-meant (t ∷ ts) = ap (λ us. t ∷ us) (nothing-meant ts)
+
+    pub function-inside : (d : ComponentFuncType) (s : Signature) → FollowsFunction (SlotsStand before.slots) d s → IsFormedSignature (scope_with r here outer before) s
+        → IfOk res (λ k. (k ≡ type_slots ds) × (ds' ≡ ds ++ Declaration.function (raw_function d) ∷ [])) → OnErr res (ds' ≡ ds)
+        → Calls res (scope_with r here outer before) (scope_with r here outer after) before after (DefinesFunction (SlotsStand before.slots) d) (definitions_with after ≡ one_function_more (definitions_with before))
+    function-inside d s h f ok err =
+        let a = inner-there in
+        let strict : function_signature a.scope.slots (raw_function d) ≡ Some s = ap (λ zs. function_signature zs (raw_function d)) (sym a.slots) ∙ function-strict (resources_in r here) before.slots inner-slots d s h f.params f.result_ in
+        let m : InnerMore (place_in r here) outer ds (Declaration.function (raw_function d)) (Slot.function s) [] = record {
+          at = a;
+          after = in_instance (Slot.function s) a.scope;
+          step = bind (function_signature a.scope.slots (raw_function d)) s (λ u. Some (in_instance (Slot.function u) a.scope)) strict;
+          one = refl;
+          types = nothing a.scope.shown.types;
+          functions = refl;
+        } in
+        calls-from res r here outer before after _ _ (Slot.function s) sound refl (function-of before.slots d s h)
+        (more-ok (Declaration.function (raw_function d)) (Slot.function s) [] _ m (λ e. ap (λ zs. definitions_with (inner_contents (place_in r here) outer zs)) e
+        ∙ inner-definitions (place_in r here) outer ds (Declaration.function (raw_function d)) (Slot.function s) [] m before.types (before.functions + 1) (omega arith) refl
+        ∙ (λ j. record { types = before.types; functions = before.functions + 1; exports = sym (nothing-meant (definitions_with before).exports) j })) ok)
+        (err-same err)
+      where
+        nothing : (ts : List ShownType) → ts ≡ ts ++ []
+        nothing [] = refl
+        nothing (t ∷ ts) = ap (λ us. t ∷ us) (nothing ts)
+
+        nothing-meant : (ts : List (Text × TypeMeaning)) → ts ≡ ts ++ []
+        nothing-meant [] = refl
+        nothing-meant (t ∷ ts) = ap (λ us. t ∷ us) (nothing-meant ts)
+
+    -- ---- exports of types
+
+    abbrev ShownAs : ExternName → Type 0
+    ShownAs name = ExportsOne (scope_with r here outer before) (definitions_with before) (definitions_with after) name
+
+    -- a declaration that is followed as it says
+    exported-inside : (described : ComponentTypeRef) (name : ExternName) (d : Text × TypeMeaning) (x : Slot) → IsDeclared (scope_with r here outer before) d → name ≡ exported_name d → is_slot_of (resources_in r here) x ≡ true
+        → standing_at (Some x) ≡ Some (tree (named (place_in r here) name.text)) → ((m : InstanceScope) → instance_step (place_in r here) (outer_slots outer) m (Declaration.exported name described) ≡ show_type (place_in r here) name described m)
+        → named_type before.slots (place_in r here) name.text described ≡ Some (d.1.declaration, x)
+        → IfOk res (λ k. (k ≡ type_slots ds) × (ds' ≡ ds ++ Declaration.exported name described ∷ [])) → OnErr res (ds' ≡ ds)
+        → Calls res (scope_with r here outer before) (scope_with r here outer after) before after (λ m. m ≡ tree (named (place_in r here) name.text)) (ShownAs name)
+    exported-inside described name d x declared is kept stands step found ok err =
+        let a = inner-there in
+        let t : ShownType = record { name = name.text; meaning = record { declaration = d.1.declaration; external_id = name.external_id }; slot = x } in
+        let next : InstanceScope = record { slots = a.scope.slots ++ x ∷ []; shown = record { types = a.scope.shown.types ++ t ∷ []; functions = a.scope.shown.functions } } in
+        let there : named_type a.scope.slots (place_in r here) name.text described ≡ Some (d.1.declaration, x) = ap (λ zs. named_type zs (place_in r here) name.text described) (sym a.slots) ∙ found in
+        let m : InnerMore (place_in r here) outer ds (Declaration.exported name described) x (t ∷ []) = record {
+          at = a;
+          after = next;
+          step = step a.scope ∙ ap (λ o. o >>= shown-next name a.scope) there;
+          one = refl;
+          types = refl;
+          functions = refl;
+        } in
+        let meant : (name.text, t.meaning) ≡ d = λ j. (ap (λ (n : ExternName). n.text) is j, record { declaration = d.1.declaration; external_id = ap (λ (n : ExternName). n.external_id) is j }) in
+        calls-from res r here outer before after _ _ x sound kept
+        (record { gives = λ m e. stands ∙ ap Some (sym e); only = λ m e. some-standing _ m (sym stands ∙ e) })
+        (more-ok (Declaration.exported name described) x (t ∷ []) _ m (λ e. record {
+          declaration = d;
+          there = declared.there;
+          named_ = is;
+          one_more = ap (λ zs. definitions_with (inner_contents (place_in r here) outer zs)) e
+              ∙ inner-definitions (place_in r here) outer ds (Declaration.exported name described) x (t ∷ []) m before.types before.functions (omega arith) (omega arith)
+              ∙ (λ j. record { types = before.types; functions = before.functions; exports = (definitions_with before).exports ++ meant j ∷ [] });
+        }) ok)
+        (err-same err)
+      where
+        some-standing : (u m : Standing) → Some u ≡ Some m → m ≡ u
+        some-standing u m e = cc
+
+    simple-name : (name : ExternName) (d : Text × TypeMeaning) → name ≡ exported_name d → is_simple name ≡ true
+    simple-name name d e = ap is_simple e
+
+    pub type-inside : (k : ℕ) (name : ExternName) → DeclaresSlot (scope_with r here outer before) (SlotsStand before.slots) name k
+        → IfOk res (λ k'. (k' ≡ type_slots ds) × (ds' ≡ ds ++ Declaration.exported name (refs.TypeEq k) ∷ [])) → OnErr res (ds' ≡ ds)
+        → Calls res (scope_with r here outer before) (scope_with r here outer after) before after (λ m. m ≡ tree (named (place_in r here) name.text)) (ShownAs name)
+    type-inside k name s ok err = go (slice_get before.slots k) refl s.stands
+      where
+        simple : is_simple name ≡ true
+        simple = simple-name name s.declaration s.named_
+
+        step : (m : InstanceScope) → instance_step (place_in r here) (outer_slots outer) m (Declaration.exported name (refs.TypeEq k)) ≡ show_type (place_in r here) name (refs.TypeEq k) m
+        step m = ap (λ b. follow.when b (show_type (place_in r here) name (refs.TypeEq k) m)) simple
+
+        text : name.text ≡ s.declaration.0
+        text = ap (λ (n : ExternName). n.text) s.named_
+
+        alike : resources_in r here (place_in r here) name.text ≡ is_resource_tree (resources_in r here) s.type_tree
+        alike = ap (resources_in r here (place_in r here)) text ∙ s.declared.alike ∙ ap (is_resource_declaration (resources_in r here)) s.is_type
+
+        found : (x y : Slot) → slice_get before.slots k ≡ Some x → declared_by x ≡ Some (tree_of_types.type_ s.type_tree) → named_like x (place_in r here) name.text ≡ y → named_type before.slots (place_in r here) name.text (refs.TypeEq k) ≡ Some (s.declaration.1.declaration, y)
+        found x y at by like =
+            bind (slice_get before.slots k) x (λ slot. declared_by slot >>= λ d. Some (d, named_like slot (place_in r here) name.text)) at
+            ∙ bind (declared_by x) (tree_of_types.type_ s.type_tree) (λ d. Some (d, named_like x (place_in r here) name.text)) by
+            ∙ (λ j. Some (sym s.is_type j, like j))
+
+        go : (o : Option Slot) → slice_get before.slots k ≡ o → standing_at o ≡ Some (tree s.type_tree)
+            → Calls res (scope_with r here outer before) (scope_with r here outer after) before after (λ m. m ≡ tree (named (place_in r here) name.text)) (ShownAs name)
+        go (Some (Slot.value u)) at q =
+            let same : u ≡ s.type_tree = cc in
+            let kept : not (resources_in r here (place_in r here) name.text) ≡ true = ap not (alike ∙ ap (is_resource_tree (resources_in r here)) (sym same)) ∙ slot-at (is_slot_of (resources_in r here)) before.slots k (Slot.value u) inner-slots at in
+            exported-inside (refs.TypeEq k) name s.declaration (Slot.value (named (place_in r here) name.text)) s.declared s.named_ kept refl step
+            (found (Slot.value u) (Slot.value (named (place_in r here) name.text)) at (ap (λ z. Some (tree_of_types.type_ z)) same) refl) ok err
+        go (Some (Slot.resource p n)) at q =
+            let same : named p n ≡ s.type_tree = cc in
+            let kept : resources_in r here (place_in r here) name.text ≡ true = alike ∙ ap (is_resource_tree (resources_in r here)) (sym same) ∙ slot-at (is_slot_of (resources_in r here)) before.slots k (Slot.resource p n) inner-slots at in
+            exported-inside (refs.TypeEq k) name s.declaration (Slot.resource (place_in r here) name.text) s.declared s.named_ kept refl step
+            (found (Slot.resource p n) (Slot.resource (place_in r here) name.text) at (ap (λ z. Some (tree_of_types.type_ z)) same) refl) ok err
+        go (Some (Slot.function x)) at q = absurd (let z : ⊥ = cc in z)
+        go (Some (Slot.instance xs n)) at q = absurd (let z : ⊥ = cc in z)
+        go None at q = absurd (let z : ⊥ = cc in z)
+
+    pub resource-inside : (name : ExternName) → DeclaresResource (scope_with r here outer before) name
+        → IfOk res (λ k'. (k' ≡ type_slots ds) × (ds' ≡ ds ++ Declaration.exported name refs.SubResource ∷ [])) → OnErr res (ds' ≡ ds)
+        → Calls res (scope_with r here outer before) (scope_with r here outer after) before after (λ m. m ≡ tree (named (place_in r here) name.text)) (ShownAs name)
+    resource-inside name s ok err =
+        let kept : resources_in r here (place_in r here) name.text ≡ true = ap (λ (n : ExternName). resources_in r here (place_in r here) n.text) s.named_ ∙ s.declared.alike ∙ ap (is_resource_declaration (resources_in r here)) s.is_resource in
+        exported-inside refs.SubResource name s.declaration (Slot.resource (place_in r here) name.text) s.declared s.named_ kept refl
+        (λ m. ap (λ b. follow.when b (show_type (place_in r here) name refs.SubResource m)) (simple-name name s.declaration s.named_))
+        (λ j. Some (sym s.is_resource j, Slot.resource (place_in r here) name.text)) ok err

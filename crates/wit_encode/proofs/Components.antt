@@ -1,0 +1,134 @@
+-- The declarations of a component type, followed one by one.
+use Rattle.std.proofs.Common.{◌≡◌, refl, sym, ap, ◌∙◌, ℕ, ◌+◌, Bool, cond, List, [], ◌∷◌, ◌++◌, count_by, Option, Some, None, slice_get, length, length-append, arith}
+use Rattle.comp_bytes.specs.declared.forms.ComponentTypeRef.{ComponentTypeRef}
+use Rattle.comp_bytes.specs.declared.forms.ComponentTypeRef.TheVariants as refs
+use Rattle.comp_bytes.specs.Raw.{Declaration, Declarations, Alias, ExternName, append, from_list}
+use Rattle.comp_bytes.specs.Held.{declaration_slots, type_slots_of}
+use Rattle.comp_bytes.specs.Reading.{◌>>=◌}
+use Rattle.wit_model.specs.Tree.{Place}
+use Rattle.std.specs.Prelude.{not, ◌==◌}
+use Rattle.std.specs.List.{list_any}
+use Rattle.wit_encode.proofs.Defining.{count-push}
+use Rattle.comp_meaning.specs.Follow.{View, Shown, Key, key_text, interface_of, place_of, used_view, Slot, Scope, Seen, Direction, import_, export_, see, when, definition, function_signature, function_in, named_type, exported_slot, key_of, see_instance, see_function, see_type, in_scope, component_step, component_steps, flat}
+use Rattle.wit_encode.specs.Instance.{count_declared}
+use Rattle.wit_encode.proofs.Steps.{unbind, unprovided}
+
+some-same : {A : Type 0} (a b : A) → Some a ≡ Some b → a ≡ b
+some-same a b e = cc
+
+see-slots : (direction : Direction) (seen : Seen) (s : Scope) → (see direction seen s).slots ≡ s.slots
+see-slots import_ seen s = refl
+see-slots export_ seen s = refl
+
+one-more : (s s' : Scope) (x : Slot) → s.slots ++ x ∷ [] ≡ s'.slots → length s'.slots ≡ length s.slots + 1
+one-more s s' x e = ap length (sym e) ∙ length-append s.slots (x ∷ [])
+
+none-more : (s s' : Scope) → s.slots ≡ s'.slots → length s'.slots ≡ length s.slots + 0
+none-more s s' e = ap length (sym e) ∙ (let y : length s.slots ≡ length s.slots + 0 = omega arith in y)
+
+seen-as : (direction : Direction) (name : ExternName) (n : ℕ) (s s' : Scope) (key : Key) (o : Option View)
+    → (o >>= λ view. Some (see direction (record { key = key_text key; shown = Shown.instance key view; external_id = name.external_id }) (record s { instances = s.instances ++ record { interface = interface_of key; view = view } ∷ []; used = s.used ++ n ∷ [] }))) ≡ Some s'
+    → length s'.slots ≡ length s.slots + 0
+seen-as direction name n s s' key None e = absurd (let z : ⊥ = cc in z)
+seen-as direction name n s s' key (Some view) e =
+    let t : Scope = record s { instances = s.instances ++ record { interface = interface_of key; view = view } ∷ []; used = s.used ++ n ∷ [] } in
+    let seen : Seen = record { key = key_text key; shown = Shown.instance key view; external_id = name.external_id } in
+    none-more s s' (sym (see-slots direction seen t) ∙ ap (λ (z : Scope). z.slots) (some-same (see direction seen t) s' e))
+
+instance-seen : (direction : Direction) (name : ExternName) (n : ℕ) (s s' : Scope) → see_instance direction name n s ≡ Some s' → length s'.slots ≡ length s.slots + 0
+instance-seen direction name n s s' e =
+    let a = unbind (key_of name) _ s' e in
+    seen-as direction name n s s' a.item (when (not (list_any (λ m. m == n) s.used)) (used_view s.slots (place_of (interface_of a.item)) (slice_get s.slots n))) a.then
+
+function-seen : (direction : Direction) (name : ExternName) (n : ℕ) (s s' : Scope) → see_function direction name n s ≡ Some s' → length s'.slots ≡ length s.slots + 0
+function-seen direction name n s s' e =
+    let a = unbind (function_in (slice_get s.slots n)) _ s' e in
+    none-more s s' (sym (see-slots direction _ s) ∙ ap (λ (z : Scope). z.slots) (unprovided _ _ s' a.then))
+
+type-seen : (name : ExternName) (described : ComponentTypeRef) (s s' : Scope) → see_type name described s ≡ Some s' → length s'.slots ≡ length s.slots + 1
+type-seen name described s s' e =
+    let a = unbind (named_type s.slots Place.here name.text described) _ s' e in
+    one-more s s' a.item.1 (ap (λ (z : Scope). z.slots) (unprovided _ _ s' a.then))
+
+step-count : (s s' : Scope) (d : Declaration) → component_step s d ≡ Some s' → length s'.slots ≡ length s.slots + declaration_slots d
+step-count s s' (Declaration.defined q) e =
+    let b = unbind (definition s.slots q) _ s' e in
+    one-more s s' (Slot.value b.item) (ap (λ (z : Scope). z.slots) (some-same _ s' b.then))
+step-count s s' (Declaration.function q) e =
+    let b = unbind (function_signature s.slots q) _ s' e in
+    one-more s s' (Slot.function b.item) (ap (λ (z : Scope). z.slots) (some-same _ s' b.then))
+step-count s s' (Declaration.alias_of (Alias.of_export m name)) e =
+    let b = unbind (exported_slot name (slice_get s.instances m)) _ s' e in
+    one-more s s' b.item (ap (λ (z : Scope). z.slots) (some-same _ s' b.then))
+step-count s s' (Declaration.alias_of (Alias.of_outer scopes n)) e = absurd (let z : ⊥ = cc in z)
+step-count s s' (Declaration.imported name (refs.Instance n)) e = instance-seen import_ name n s s' e
+step-count s s' (Declaration.imported name (refs.Func n)) e = function-seen import_ name n s s' e
+step-count s s' (Declaration.imported name (refs.TypeEq n)) e = type-seen name (refs.TypeEq n) s s' e
+step-count s s' (Declaration.imported name refs.SubResource) e = type-seen name refs.SubResource s s' e
+step-count s s' (Declaration.imported name (refs.Component n)) e = absurd (let z : ⊥ = cc in z)
+step-count s s' (Declaration.exported name (refs.Instance n)) e = instance-seen export_ name n s s' e
+step-count s s' (Declaration.exported name (refs.Func n)) e = function-seen export_ name n s s' e
+step-count s s' (Declaration.exported name (refs.TypeEq n)) e = absurd (let z : ⊥ = cc in z)
+step-count s s' (Declaration.exported name refs.SubResource) e = absurd (let z : ⊥ = cc in z)
+step-count s s' (Declaration.exported name (refs.Component n)) e = absurd (let z : ⊥ = cc in z)
+
+pub steps-count : (s s' : Scope) (ds : Declarations) → component_steps s ds ≡ Some s' → length s'.slots ≡ length s.slots + type_slots_of ds
+steps-count s s' Declarations.no_more e = none-more s s' (ap (λ (z : Scope). z.slots) (some-same s s' e))
+steps-count s s' (Declarations.declares d rest) e =
+    let b = unbind (component_step s d) _ s' e in
+    let one = step-count s b.item d b.is in
+    let more = steps-count b.item s' rest b.then in
+    omega arith
+steps-count s s' (Declarations.component inner rest) e = absurd (let z : ⊥ = cc in z)
+steps-count s s' (Declarations.instance inner rest) e =
+    let b = unbind (flat inner) _ s' e in
+    let x = Slot.instance b.item (length s.slots) in
+    let one : length (in_scope x s).slots ≡ length s.slots + 1 = length-append s.slots (x ∷ []) in
+    let more = steps-count (in_scope x s) s' rest b.then in
+    omega arith
+
+-- ---- one declaration more
+
+pub steps-more : (s m n : Scope) (ds : Declarations) (d : Declaration) → component_steps s ds ≡ Some m → component_step m d ≡ Some n → component_steps s (append ds (Declarations.declares d Declarations.no_more)) ≡ Some n
+steps-more s m n Declarations.no_more d e f =
+    ap (λ (x : Scope). component_step x d >>= λ next. Some next) (some-same s m e) ∙ ap (λ o. o >>= λ next. Some next) f
+steps-more s m n (Declarations.declares x rest) d e f =
+    let b = unbind (component_step s x) _ m e in
+    ap (λ o. o >>= λ next. component_steps next (append rest (Declarations.declares d Declarations.no_more))) b.is ∙ steps-more b.item m n rest d b.then f
+steps-more s m n (Declarations.component inner rest) d e f = absurd (let z : ⊥ = cc in z)
+steps-more s m n (Declarations.instance inner rest) d e f =
+    let b = unbind (flat inner) _ m e in
+    ap (λ o. o >>= λ ds. component_steps (in_scope (Slot.instance ds (length s.slots)) s) (append rest (Declarations.declares d Declarations.no_more))) b.is
+    ∙ steps-more (in_scope (Slot.instance b.item (length s.slots)) s) m n rest d b.then f
+
+flat-list : (ds : List Declaration) → flat (from_list ds) ≡ Some ds
+flat-list [] = refl
+flat-list (d ∷ ds) = ap (λ o. o >>= λ es. Some (d ∷ es)) (flat-list ds)
+
+-- an instance type more
+pub steps-instance : (s m : Scope) (ds : Declarations) (es : List Declaration) → component_steps s ds ≡ Some m → component_steps s (append ds (Declarations.instance (from_list es) Declarations.no_more)) ≡ Some (in_scope (Slot.instance es (length m.slots)) m)
+steps-instance s m Declarations.no_more es e =
+    ap (λ o. o >>= λ ds. component_steps (in_scope (Slot.instance ds (length s.slots)) s) Declarations.no_more) (flat-list es)
+    ∙ ap (λ (x : Scope). Some (in_scope (Slot.instance es (length x.slots)) x)) (some-same s m e)
+steps-instance s m (Declarations.declares x rest) es e =
+    let b = unbind (component_step s x) _ m e in
+    ap (λ o. o >>= λ next. component_steps next (append rest (Declarations.instance (from_list es) Declarations.no_more))) b.is ∙ steps-instance b.item m rest es b.then
+steps-instance s m (Declarations.component inner rest) es e = absurd (let z : ⊥ = cc in z)
+steps-instance s m (Declarations.instance inner rest) es e =
+    let b = unbind (flat inner) _ m e in
+    ap (λ o. o >>= λ ds. component_steps (in_scope (Slot.instance ds (length s.slots)) s) (append rest (Declarations.instance (from_list es) Declarations.no_more))) b.is
+    ∙ steps-instance (in_scope (Slot.instance b.item (length s.slots)) s) m rest es b.then
+
+-- ---- how many are such
+
+pub count-more : (test : Declaration → Bool) (ds : Declarations) (d : Declaration) → count_declared test (append ds (Declarations.declares d Declarations.no_more)) ≡ count_declared test ds + cond (test d) 1 0
+count-more test Declarations.no_more d = let e : count_by test (d ∷ []) ≡ count_by test [] + cond (test d) 1 0 = count-push test [] d in let z : count_by test [] ≡ 0 = refl in omega arith
+count-more test (Declarations.declares x rest) d = let more = count-more test rest d in omega arith
+count-more test (Declarations.component inner rest) d = count-more test rest d
+count-more test (Declarations.instance inner rest) d = count-more test rest d
+
+pub count-instance : (test : Declaration → Bool) (ds : Declarations) (inner : Declarations) → count_declared test (append ds (Declarations.instance inner Declarations.no_more)) ≡ count_declared test ds
+count-instance test Declarations.no_more inner = refl
+count-instance test (Declarations.declares x rest) inner = ap (λ n. count_by test (x ∷ []) + n) (count-instance test rest inner)
+count-instance test (Declarations.component i rest) inner = count-instance test rest inner
+count-instance test (Declarations.instance i rest) inner = count-instance test rest inner

@@ -1,0 +1,326 @@
+-- The types that are exported as those of an interface are encoded, one for each, in order.
+use Rattle.std.proofs.Common.{◌≡◌, refl, sym, subst, ap, ◌∙◌, ℕ, zero, suc, ◌+◌, ◌<◌, ◌≤◌, ◌⊎◌, inl, inr, Bool, true, false, cond, ◌==◌, nat_eq, List, [], ◌∷◌, ◌++◌, append-nil, take, length, get_or, map, filter_map, slice_get, Some, None, String, string_eq, string_bytes, nat_lt, option_map, option_and_then, option_to_list, arith}
+use Rattle.std.specs.declared.alloc.Global.{Global}
+use Rattle.std.specs.Prelude.{AllPairs, is_none}
+use Rattle.std.specs.List.{Contains, IsDistinct, AllByRecursion, list_all}
+use Rattle.std.specs.Str.{bytes_eq}
+use Rattle.std.specs.Map.{keys_of}
+use Rattle.std.specs.Option.{option_map_or}
+use Rattle.std.proofs.lemmas.Cmp.{nat_list_eq_equiv}
+use Rattle.std.proofs.lemmas.Option.{slice_get_within, get_or_from_slice_get}
+use Rattle.std.proofs.lemmas.List.{take_more, take_all, take-map, length-map}
+use Rattle.std.proofs.Math.ListN.{get_or-map}
+use Rattle.std.proofs.lemmas.List.Elements.{Contains-append_left, Contains-append_right, Contains-append_cases, Contains-push, Contains-push_cases}
+use Rattle.indexmap.specs.IndexMap.{values}
+use Rattle.wit_model.specs.Text.{Text, text_of}
+use Rattle.wit_model.specs.Lookup.{type_at, interface_at}
+use Rattle.wit_model.specs.Types.{number_of}
+use Rattle.wit_model.specs.Meaning.{TypeMeaning}
+use Rattle.wit_model.specs.Meant.{interface_meaning, interface_meaning_at, no_interface, type_meaning_at}
+use Rattle.wit_model.specs.Parts.{function_types, function_numbers, met_by, met_of, used_by_function, has_owner}
+use Rattle.wit_model.specs.Uses.{direct_deps}
+use Rattle.wit_model.specs.Lookup.{resource_of}
+use Rattle.wit_model.specs.Rules.{interface_type_numbers, function_stays}
+use Rattle.wit_model.specs.Valid.{IsValid, as_interface, functions_of_interface, owners}
+use Rattle.wit_model.specs.declared.model.Resolve.{Resolve}
+use Rattle.wit_model.specs.declared.model.Interface.{Interface}
+use Rattle.wit_model.specs.declared.model.InterfaceId.{InterfaceId}
+use Rattle.wit_model.specs.declared.model.Function.{Function}
+use Rattle.wit_model.specs.declared.model.TypeDef.{TypeDef}
+use Rattle.wit_model.specs.declared.model.TypeId.{TypeId}
+use Rattle.wit_model.specs.declared.model.«Type».{«Type» as ValueType}
+use Rattle.wit_model.specs.declared.model.«Type».TheVariants as ty
+use Rattle.wit_model.proofs.Lists.{first_true}
+use Rattle.wit_encode.specs.declared.maps.TypeEncodingMaps.{TypeEncodingMaps}
+use Rattle.wit_encode.specs.Kinds.{parts_of}
+use Rattle.wit_encode.specs.Maps.{IsKnown, IsReady, IsOnce, MapsGrow, LearnsOnly, by_number}
+use Rattle.wit_encode.specs.Plan.{foreign_owner, Meets, at_once, further, MetFrom}
+use Rattle.wit_encode.specs.Scope.{Scope}
+use Rattle.wit_encode.specs.Counts.{Definitions, Shows, own_name, name_of_own}
+use Rattle.wit_encode.specs.Instance.{declarations_in}
+use Rattle.wit_encode.specs.Exports.{AreTypesOf, ShowsFirst, AllKnown, KnowsUsed, UsesListed}
+use Rattle.wit_encode.proofs.Lists.{all-contained, contains-filter_map, contains-map, contains-one, one-contained}
+use Rattle.wit_encode.proofs.Owned.{same-owner, valid-references}
+use Rattle.wit_encode.proofs.Validity.{interface_passes}
+use Rattle.wit_encode.proofs.Numbers.{same-some, same-number, equal, contains-get, none-in, contains-later, contains-flat, has-contains, once-before, pairs-right, pairs-across, gives-none, gives-one, nothing-mapped, one-mapped}
+use Rattle.wit_encode.proofs.ListedTypes.{IsListedType, numbers, owned-listed, listed-type, type-there, number-there, listed-once, listed-key, uses-before}
+use Rattle.wit_encode.proofs.Meeting.{AllMeetKnown, part-uses, meets-unnamed}
+
+-- ---- what is learnt
+
+-- a number that has been learnt is one of these
+learnt-one : (P : ℕ → Type 0) (m m' : TypeEncodingMaps) (learnt : List (TypeId × ℕ)) → IsOnce m' → m'.id_to_index.items ≡ m.id_to_index.items ++ learnt
+    → LearnsOnly P m m' → (x : TypeId × ℕ) → Contains learnt x → P x.0.0
+learnt-one P m m' learnt once e l x c = elim (l.each x.0 x.1
+    (subst (λ (xs : List (TypeId × ℕ)). Contains xs x) (sym e) (Contains-append_right m.id_to_index.items learnt x c))) [
+      | inl q ↦ absurd (twice q)
+      | inr p ↦ p
+    ]
+  where
+    twice : Contains m.id_to_index.items x → ⊥
+    twice q =
+        let apart = pairs-across (λ a b. nat_eq a.0.0 b.0.0 ≡ false) m.id_to_index.items learnt x x
+        (subst (λ (xs : List (TypeId × ℕ)). AllPairs (λ a b. nat_eq a.0.0 b.0.0 ≡ false) xs) e once.numbers) q c in
+        let wrong : true ≡ false = sym (same-number x.0.0) ∙ apart in cc
+
+-- where nothing that is learnt is a named type of the place, nothing is exported
+pub shows-nothing : (r : Resolve) (scope : Scope) (m m' : TypeEncodingMaps) (d d' : Definitions) (P : ℕ → Type 0) → IsOnce m' → LearnsOnly P m m'
+    → ((n : ℕ) → P n → own_name r scope n ≡ None) → Shows r scope m m' d d' → d'.exports ≡ d.exports
+shows-nothing r scope m m' d d' P once l none s =
+    let names = s.names ∙ gives-none (λ e. own_name r scope e.0.0) s.learnt (λ x c. none x.0.0 (learnt-one P m m' s.learnt once s.numbers l x c)) in
+    s.exports ∙ ap (λ xs. d.exports ++ xs) (nothing-mapped (λ x. x.0) s.shown names) ∙ append-nil d.exports
+
+-- ---- functions
+
+-- what a function meets by way of unknown numbers is no named type of the place, where those that it uses are known
+pub function-unnamed : (r : Resolve) → IsValid r → (scope : Scope) (m : TypeEncodingMaps) (f : Function) → KnowsUsed r m f → (n : ℕ)
+    → MetFrom r scope.own_interface m (function_types f) n → own_name r scope n ≡ None
+function-unnamed r v scope m f known n (t, c, meets) = meets-unnamed r (valid-references r v) scope m t n met meets
+  where
+    met : AllMeetKnown r (valid-references r v) scope m t
+    met id q def at home x d = known x (contains-flat (met_by (met_of r)) (function_numbers f) id.0 x
+        (Contains-append_left (filter_map number_of (function_types f)) (option_to_list (resource_of f.kind)) id.0
+        (contains-filter_map number_of (function_types f) (ty.Id id) id.0 (subst (λ (u : ValueType). Contains (function_types f) u) q c) (contains-one id.0)))
+        d)
+
+functions-stay : (r : Resolve) → IsValid r → (i : ℕ) (interface : Interface) → interface_at r i ≡ Some interface
+    → list_all (function_stays r (as_interface i)) (functions_of_interface interface) ≡ true
+unfolding owners
+functions-stay r v i interface there = first_true (list_all (function_stays r (as_interface i)) (functions_of_interface interface))
+    (list_all (λ m. nat_lt m i) (direct_deps r i)) (interface_passes owners r v.rules.owners i interface there)
+
+-- the named types that a function of an interface uses stand in the interface's list
+pub uses-listed : (r : Resolve) → IsValid r → (i : ℕ) (interface : Interface) → interface_at r i ≡ Some interface → (f : Function)
+    → Contains (functions_of_interface interface) f → UsesListed r (values interface.types) f
+uses-listed r v i interface there f c n d =
+    let stays = all-contained (function_stays r (as_interface i)) (functions_of_interface interface) f (functions-stay r v i interface there) c in
+    has-contains (interface_type_numbers interface) n (owned-listed r v i interface there n (all-contained (has_owner r (as_interface i)) (used_by_function r f) n stays d))
+
+-- ---- the types, one by one
+
+-- entries with the same key are one
+unique-entry : {V : Type 0} (es : List (String Global × V)) → IsDistinct string_eq (keys_of es) → (j k : ℕ) (a b : String Global × V) → slice_get es j ≡ Some a
+    → slice_get es k ≡ Some b → text_of a.0 ≡ text_of b.0 → a ≡ b
+unfolding IsDistinct
+unique-entry [] h j k a b p q same = let wrong : ⊥ = cc in absurd wrong
+unique-entry {V} (x ∷ xs) h j k a b p q same = go (λ j k p q. unique-entry xs h.1 j k a b p q same) j k p q
+  where
+    equal-keys : (c d : String Global) → text_of c ≡ text_of d → string_eq c d ≡ true
+    equal-keys c d e = subst (λ (t : Text). bytes_eq (string_bytes c) t ≡ true) e (nat_list_eq_equiv.refl (string_bytes c))
+
+    apart : (es : List (String Global × V)) (n : ℕ) (y : String Global × V) → AllByRecursion (λ key. string_eq x.0 key ≡ false) (keys_of es) → slice_get es n ≡ Some y
+        → text_of x.0 ≡ text_of y.0 → ⊥
+    apart [] n y all e s = let wrong : ⊥ = cc in wrong
+    apart (z ∷ zs) zero y all e s =
+        let fails = ap (λ (w : String Global × V). string_eq x.0 w.0) (sym (same-some z y e)) ∙ all.0 in
+        let wrong : true ≡ false = sym (equal-keys x.0 y.0 s) ∙ fails in cc
+    apart (z ∷ zs) (suc n) y all e s = apart zs n y all.1 e s
+
+    go : ((j k : ℕ) → slice_get xs j ≡ Some a → slice_get xs k ≡ Some b → a ≡ b) → (j k : ℕ) → slice_get (x ∷ xs) j ≡ Some a → slice_get (x ∷ xs) k ≡ Some b → a ≡ b
+    go rest zero zero p q = sym (same-some x a p) ∙ same-some x b q
+    go rest zero (suc k) p q = absurd (apart xs k b h.0 q (ap (λ (w : String Global × V). text_of w.0) (same-some x a p) ∙ same))
+    go rest (suc j) zero p q = absurd (apart xs j a h.0 p (ap (λ (w : String Global × V). text_of w.0) (same-some x b q) ∙ sym same))
+    go rest (suc j) (suc k) p q = rest j k p q
+
+pub contains-mapped : {A B : Type 0} (f : A → B) (xs : List A) (y : B) → Contains (map f xs) y → (x : A) × Contains xs x × (f x ≡ y)
+contains-mapped f [] y c = none-in y c
+contains-mapped f (x ∷ xs) y (zero, l, e) = (x, (0, omega arith, refl), e)
+contains-mapped f (x ∷ xs) y (suc k, l, e) =
+    let more = contains-mapped f xs y (k, omega (arith, l), e) in
+    (more.0, contains-later x xs more.0 more.1, more.2)
+
+module _ (r : Resolve) (v : IsValid r) (scope : Scope) (id : InterfaceId) (interface : Interface) (own : scope.own_interface ≡ Some id)
+    (there : interface_at r id.0 ≡ Some interface)
+    (declares : scope.declarations ≡ (interface_meaning_at r id.0).types) where
+  abbrev declaration : String Global × TypeId → Text × TypeMeaning
+  declaration e = (text_of e.0, type_meaning_at r e.1.0)
+
+  declarations-are : scope.declarations ≡ map declaration interface.types.entries
+  declarations-are = declares ∙ ap (λ o. (option_map_or (interface_meaning r) o no_interface).types) there
+
+  pub starts : (m : TypeEncodingMaps) (d : Definitions) → m.id_to_index.items ≡ [] → d.exports ≡ [] → ShowsFirst r scope (values interface.types) 0 m d
+  starts m d e f = record {
+    known = λ t c. none-in t c;
+    alone = λ t i c. none-in (t, i) (subst (λ (xs : List (TypeId × ℕ)). Contains xs (t, i)) e c);
+    exported = f;
+  }
+
+  pub ends : (k : ℕ) (m : TypeEncodingMaps) (d : Definitions) → length (values interface.types) ≤ k → ShowsFirst r scope (values interface.types) k m d
+      → AllKnown m (values interface.types) × (d.exports ≡ scope.declarations)
+  ends k m d le s = (
+    (λ t c. s.known t (subst (λ (xs : List TypeId). Contains xs t) (sym (take_all k (values interface.types) le)) c)),
+    s.exported ∙ take_all k scope.declarations within,
+  )
+    where
+      within : length scope.declarations ≤ k
+      within =
+          let a = ap length declarations-are in
+          let b = length-map interface.types.entries declaration in
+          let c = length-map interface.types.entries (λ (x : String Global × TypeId). x.1) in
+          omega (arith, le, a, b, c)
+
+  module _ (k : ℕ) (e : String Global × TypeId) (at : slice_get interface.types.entries k ≡ Some e) (m m' : TypeEncodingMaps) (d d' : Definitions)
+      (first : ShowsFirst r scope (values interface.types) k m d) where
+    entry : IsListedType r id.0 e
+    entry = listed-type r v id.0 interface there k e at
+
+    known-before : (x : ℕ) → Contains (take k (numbers r v id.0 interface there)) x → IsKnown m x
+    known-before x c =
+        let found = contains-mapped (λ (t : TypeId). t.0) (take k (values interface.types)) x
+        (subst (λ (ns : List ℕ). Contains ns x) (take-map (λ (t : TypeId). t.0) k (values interface.types)) c) in
+        subst (λ (n : ℕ). IsKnown m n) found.2 (first.known found.0 found.1)
+
+    -- the type is named in the place
+    named : own_name r scope e.1.0 ≡ Some (text_of entry.name)
+    named =
+        ap (option_and_then (name_of_own scope)) entry.there
+        ∙ (λ i. cond (is_none (home i)) (option_map text_of (entry.named_ i)) None)
+      where
+        home : foreign_owner scope.own_interface entry.def.owner ≡ None
+        home =
+            (λ i. foreign_owner (own i) (same-owner entry.def.owner (as_interface id.0) entry.owned i))
+            ∙ ap (λ b. cond b None (Some id)) (same-number id.0)
+
+    -- and isn't known yet
+    fresh : IsKnown m e.1.0 → ⊥
+    fresh (i, c) = elim (first.alone e.1 i c) [
+      | inl none ↦ unnamed (sym named ∙ none)
+      | inr before ↦ once-before (numbers r v id.0 interface there) k e.1.0 (number-there r v id.0 interface there k e at) (listed-once r v id.0 interface there k e at entry)
+          (subst (λ (ns : List ℕ). Contains ns e.1.0) (sym (take-map (λ (t : TypeId). t.0) k (values interface.types)))
+          (contains-map (λ (t : TypeId). t.0) (take k (values interface.types)) e.1 before))
+    ]
+      where
+        unnamed : Some (text_of entry.name) ≡ None → ⊥
+        unnamed q = cc
+
+    -- no other named type of the place is met by way of unknown numbers
+    meets-no-other : (t : ValueType) (n : ℕ) → t ≡ ty.Id e.1 → Meets r scope.own_interface m t n → (n ≡ e.1.0 → ⊥) → own_name r scope n ≡ None
+    meets-no-other _ _ q (at_once id' lacks) other = let same : id' ≡ e.1 = cc in absurd (other (ap (λ (x : TypeId). x.0) same))
+    meets-no-other _ _ q (further id' def t n lacks is f c more) other = meets-unnamed r (valid-references r v) scope m t n parts more
+      where
+        same : id' ≡ e.1
+        same = cc
+
+        its : def ≡ entry.def
+        its = same-some def entry.def (sym is ∙ ap (λ (x : TypeId). type_at r x.0) same ∙ entry.there)
+
+        parts : AllMeetKnown r (valid-references r v) scope m t
+        parts part q' def' at' home x met =
+            let stands : Contains (parts_of entry.def.kind) (ty.Id part) = subst (λ (z : TypeDef). Contains (parts_of z.kind) (ty.Id part)) its
+            (subst (λ (u : ValueType). Contains (parts_of def.kind) u) q' c) in
+            elim (uses-before r v id.0 interface there k e at entry) [
+              | inl before ↦ known-before x (before x (part-uses r (valid-references r v) entry.def part x stands met))
+              | inr apart ↦ absurd (apart part stands def' at' (ap (λ o. foreign_owner o def'.owner) (sym own) ∙ home))
+            ]
+
+    met-no-other : (n : ℕ) → MetFrom r scope.own_interface m (ty.Id e.1 ∷ []) n → (n ≡ e.1.0 → ⊥) → own_name r scope n ≡ None
+    met-no-other n (t, c, meets) other = meets-no-other t n (sym (one-contained (ty.Id e.1) t c)) meets other
+
+    module _ (once : IsOnce m') (grow : MapsGrow m m') (ready : IsReady m' (ty.Id e.1)) (learns : LearnsOnly (MetFrom r scope.own_interface m (ty.Id e.1 ∷ [])) m m')
+        (shows : Shows r scope m m' d d') where
+      met-learnt : (x : TypeId × ℕ) → Contains shows.learnt x → MetFrom r scope.own_interface m (ty.Id e.1 ∷ []) x.0.0
+      met-learnt = learnt-one (MetFrom r scope.own_interface m (ty.Id e.1 ∷ [])) m m' shows.learnt once shows.numbers learns
+
+      -- its number has been learnt
+      itself : Contains shows.learnt (e.1, (ready e.1 refl).0)
+      itself = elim (Contains-append_cases m.id_to_index.items shows.learnt (e.1, (ready e.1 refl).0)
+          (subst (λ (xs : List (TypeId × ℕ)). Contains xs (e.1, (ready e.1 refl).0)) shows.numbers (ready e.1 refl).1)) [
+            | inl q ↦ absurd (fresh ((ready e.1 refl).0, q))
+            | inr q ↦ q
+          ]
+
+      one-name : filter_map (λ x. own_name r scope x.0.0) shows.learnt ≡ text_of entry.name ∷ []
+      one-name = gives-one (λ (x : TypeId × ℕ). x.0.0) (λ x. own_name r scope x.0.0) e.1.0 (text_of entry.name) shows.learnt
+          (pairs-right (λ a b. nat_eq a.0.0 b.0.0 ≡ false) m.id_to_index.items shows.learnt
+          (subst (λ (xs : List (TypeId × ℕ)). AllPairs (λ a b. nat_eq a.0.0 b.0.0 ≡ false) xs) shows.numbers once.numbers))
+          (λ x q. ap (own_name r scope) q ∙ named) (λ x c other. met-no-other x.0.0 (met-learnt x c) other) (e.1, (ready e.1 refl).0) itself refl
+
+      -- its declaration has been exported
+      one-shown : shows.shown ≡ declaration e ∷ []
+      one-shown =
+          let one = one-mapped (λ (x : Text × TypeMeaning). x.0) shows.shown (text_of entry.name) (shows.names ∙ one-name) in
+          let among = contains-mapped declaration interface.types.entries one.0
+          (subst (λ (xs : List (Text × TypeMeaning)). Contains xs one.0) declarations-are
+          (shows.declared one.0 (subst (λ (xs : List (Text × TypeMeaning)). Contains xs one.0) (sym one.1) (contains-one one.0)))) in
+          let place = contains-get interface.types.entries among.0 among.1 in
+          let same = unique-entry interface.types.entries (v.distinct_keys.interfaces id.0 interface there).0 place.0 k among.0 e place.1 at
+          (ap (λ (x : Text × TypeMeaning). x.0) among.2 ∙ one.2 ∙ sym (listed-key r v id.0 interface there k e at entry)) in
+          one.1 ∙ ap (λ x. x ∷ []) (sym among.2 ∙ ap declaration same)
+
+      within : k < length interface.types.entries
+      within = slice_get_within interface.types.entries k e at
+
+      types-more : take (k + 1) (values interface.types) ≡ take k (values interface.types) ++ e.1 ∷ []
+      types-more =
+          take_more (values interface.types) k e.1 (slice_get_within (values interface.types) k e.1 (type-there r v id.0 interface there k e at))
+          ∙ ap (λ x. take k (values interface.types) ++ x ∷ []) (get_or_from_slice_get (values interface.types) k e.1 e.1 (type-there r v id.0 interface there k e at))
+
+      declarations-more : take (k + 1) scope.declarations ≡ take k scope.declarations ++ declaration e ∷ []
+      declarations-more =
+          let long = ap length declarations-are in
+          let same-long = length-map interface.types.entries declaration in
+          take_more scope.declarations k (declaration e) (let w = within in omega (arith, w, long, same-long))
+          ∙ ap (λ x. take k scope.declarations ++ x ∷ []) (ap (λ xs. get_or xs k (declaration e)) declarations-are ∙ get_or-map declaration interface.types.entries k e
+          ∙ ap declaration (get_or_from_slice_get interface.types.entries k e e at))
+
+      pub next : ShowsFirst r scope (values interface.types) (k + 1) m' d'
+      next = record {
+        known = λ t c. elim (Contains-push_cases (take k (values interface.types)) e.1 t (subst (λ (xs : List TypeId). Contains xs t) types-more c)) [
+          | inl q ↦ (let old = first.known t q in (old.0, grow.keeps (by_number t) old.0 old.1))
+          | inr q ↦ subst (λ (x : TypeId). IsKnown m' x.0) q (ready e.1 refl)
+        ];
+        alone = λ t i c. elim (Contains-append_cases m.id_to_index.items shows.learnt (t, i) (subst (λ (xs : List (TypeId × ℕ)). Contains xs (t, i)) shows.numbers c)) [
+          | inl q ↦ elim (first.alone t i q) [
+            | inl none ↦ inl none
+            | inr before ↦ inr (subst (λ (xs : List TypeId). Contains xs t) (sym types-more) (Contains-append_left (take k (values interface.types)) (e.1 ∷ []) t before))
+          ]
+          | inr q ↦ new t i q (t.0 == e.1.0) refl
+        ];
+        exported = shows.exports ∙ (λ j. first.exported j ++ one-shown j) ∙ sym declarations-more;
+      }
+        where
+          new : (t : TypeId) (i : ℕ) → Contains shows.learnt (t, i) → (b : Bool) → (t.0 == e.1.0) ≡ b → (own_name r scope t.0 ≡ None)
+              ⊎ Contains (take (k + 1) (values interface.types)) t
+          new t i q true s =
+              let same : e.1 ≡ t = ap (λ n. record { 0 = n }) (sym (equal t.0 e.1.0 s)) in
+              inr (subst (λ (xs : List TypeId). Contains xs t) (sym types-more)
+              (subst (λ (x : TypeId). Contains (take k (values interface.types) ++ e.1 ∷ []) x) same (Contains-push (take k (values interface.types)) e.1)))
+          new t i q false s = inl (met-no-other t.0 (met-learnt (t, i) q) (λ same. differ same))
+            where
+              differ : t.0 ≡ e.1.0 → ⊥
+              differ same = let wrong : true ≡ false = sym (subst (λ (n : ℕ). (t.0 == n) ≡ true) same (same-number t.0)) ∙ s in cc
+
+-- ---- the types of the place
+
+entry-of : (es : List (String Global × TypeId)) (k : ℕ) (t : TypeId) → slice_get (map (λ x. x.1) es) k ≡ Some t
+    → (e : String Global × TypeId) × (slice_get es k ≡ Some e) × (e.1 ≡ t)
+entry-of [] k t h = let wrong : ⊥ = cc in absurd wrong
+entry-of (e ∷ es) zero t h = (e, refl, same-some e.1 t h)
+entry-of (e ∷ es) (suc k) t h = entry-of es k t h
+
+module _ (r : Resolve) (v : IsValid r) (scope : Scope) (types : List TypeId) (of : AreTypesOf r scope.own_interface types)
+    (declares : scope.declarations ≡ declarations_in r scope.own_interface) where
+  here : scope.declarations ≡ (interface_meaning_at r of.id.0).types
+  here = declares ∙ ap (declarations_in r) of.is
+
+  pub exports-start : (m : TypeEncodingMaps) (d : Definitions) → m.id_to_index.items ≡ [] → d.exports ≡ [] → ShowsFirst r scope types 0 m d
+  exports-start m d e f = subst (λ (ts : List TypeId). ShowsFirst r scope ts 0 m d) (sym of.listed) (starts r v scope of.id of.def of.is of.there here m d e f)
+
+  pub exports-end : (k : ℕ) (m : TypeEncodingMaps) (d : Definitions) → length types ≤ k → ShowsFirst r scope types k m d
+      → AllKnown m types × (d.exports ≡ declarations_in r scope.own_interface)
+  exports-end k m d le s =
+      let done = ends r v scope of.id of.def of.is of.there here k m d (subst (λ (ts : List TypeId). length ts ≤ k) of.listed le)
+      (subst (λ (ts : List TypeId). ShowsFirst r scope ts k m d) of.listed s) in
+      (subst (λ (ts : List TypeId). AllKnown m ts) (sym of.listed) done.0, done.1 ∙ declares)
+
+  pub exports-next : (k : ℕ) (t : TypeId) → slice_get types k ≡ Some t → (scope' : Scope) → scope' ≡ scope → (m m' : TypeEncodingMaps) (d d' : Definitions)
+      → ShowsFirst r scope types k m d → IsOnce m' → MapsGrow m m' → IsReady m' (ty.Id t)
+      → LearnsOnly (MetFrom r scope'.own_interface m (ty.Id t ∷ [])) m m' → Shows r scope' m m' d d' → ShowsFirst r scope types (k + 1) m' d'
+  exports-next k t at scope' same m m' d d' first once grow ready learns shows =
+      let e = entry-of of.def.types.entries k t (ap (λ ts. slice_get ts k) (sym of.listed) ∙ at) in
+      subst (λ (ts : List TypeId). ShowsFirst r scope ts (k + 1) m' d') (sym of.listed)
+      (next r v scope of.id of.def of.is of.there here k e.0 e.1 m m' d d' (subst (λ (ts : List TypeId). ShowsFirst r scope ts k m d) of.listed first) once grow
+      (subst (λ (x : TypeId). IsReady m' (ty.Id x)) (sym e.2) ready)
+      (subst (λ (x : TypeId). LearnsOnly (MetFrom r scope.own_interface m (ty.Id x ∷ [])) m m') (sym e.2)
+      (subst (λ (s : Scope). LearnsOnly (MetFrom r s.own_interface m (ty.Id t ∷ [])) m m') same learns))
+      (subst (λ (s : Scope). Shows r s m m' d d') same shows))

@@ -1,0 +1,199 @@
+-- A name in a place is that of one type among those that are met, so the names of resources are those of the types that are resources.
+use Rattle.std.proofs.Common.{◌≡◌, refl, sym, subst, ap, ◌∙◌, ℕ, zero, suc, ◌+◌, Bool, true, false, ◌&&◌, ◌||◌, nat_lt, List, [], ◌∷◌, slice_get, Option, Some, None, String, option_map, option_and_then, arith}
+use Rattle.std.specs.declared.alloc.Global.{Global}
+use Rattle.std.specs.Prelude.{is_some}
+use Rattle.std.specs.List.{list_all, list_any}
+use Rattle.std.specs.Option.{option_map_or}
+use Rattle.std.specs.HashMap.{get_by, get_by_text}
+use Rattle.std.proofs.lemmas.Cmp.{nat_list_eq_equiv}
+use Rattle.wit_model.specs.Text.{Text, text_of, text_eq}
+use Rattle.wit_model.specs.Tree.{Place, here, of_interface}
+use Rattle.wit_model.specs.Lookup.{type_at, interface_at, world_at, place_of, place_of_path, interface_path}
+use Rattle.wit_model.specs.Uses.{owner_interface}
+use Rattle.wit_model.specs.Parts.{kind_numbers, numbered_from, same_owner, is_resource}
+use Rattle.wit_model.specs.Rules.{passes, is_id, is_listed, is_listed_in_interface, is_listed_in_world, is_name_key, item_type, owner_in_range, text_is}
+use Rattle.wit_model.specs.Valid.{IsValid, numbers_in_range, order_of_types}
+use Rattle.wit_model.specs.declared.model.Resolve.{Resolve}
+use Rattle.wit_model.specs.declared.model.InterfaceId.{InterfaceId}
+use Rattle.wit_model.specs.declared.model.TypeDef.{TypeDef}
+use Rattle.wit_model.specs.declared.model.TypeOwner.{TypeOwner}
+use Rattle.wit_model.specs.declared.model.TypeOwner.TheVariants as owner
+use Rattle.wit_model.proofs.Lists.{first_true, second_true}
+use Rattle.wit_model.proofs.Distinct.{either_way}
+use Rattle.wit_model.proofs.Entries.{each_from_at, lists_pass}
+use Rattle.comp_meaning.specs.Same.{same_place}
+use Rattle.wit_encode.specs.KeyLaws.{text_same}
+use Rattle.wit_encode.specs.Resources.{is_named_interface, is_resource_entry, resource_names}
+use Rattle.wit_encode.specs.Table.{is_met_owner, has_named_owner}
+use Rattle.wit_encode.proofs.Lists.{both}
+use Rattle.wit_encode.proofs.Owned.{same-owner}
+use Rattle.wit_encode.proofs.Paths.{found-in, given-test, one-number, named-path, path-once}
+
+-- ---- numbered lists
+
+pub any-numbered : {A : Type 0} (p : ℕ × A → Bool) (j : ℕ) (xs : List A) → list_any p (numbered_from j xs) ≡ true → (k : ℕ) × (x : A) × (slice_get xs k ≡ Some x) × (p (j + k, x) ≡ true)
+any-numbered p j [] h = let wrong : ⊥ = cc in absurd wrong
+any-numbered p j (x ∷ xs) h = go (λ e. any-numbered p (j + 1) xs e) (p (j, x)) refl h
+  where
+    go : (list_any p (numbered_from (j + 1) xs) ≡ true → (k : ℕ) × (y : _) × (slice_get xs k ≡ Some y) × (p ((j + 1) + k, y) ≡ true)) → (b : Bool) → p (j, x) ≡ b → (b || list_any p (numbered_from (j + 1) xs)) ≡ true
+        → (k : ℕ) × (y : _) × (slice_get (x ∷ xs) k ≡ Some y) × (p (j + k, y) ≡ true)
+    go more true e h = let at : j ≡ j + 0 = omega arith in (0, x, refl, subst (λ (m : ℕ). p (m, x) ≡ true) at e)
+    go more false e h =
+        let rest = more h in
+        let at : (j + 1) + rest.0 ≡ j + suc rest.0 = omega arith in
+        (suc rest.0, rest.1, rest.2, subst (λ (m : ℕ). p (m, rest.1) ≡ true) at rest.3)
+
+pub or-first : (a b : Bool) → a ≡ true → (a || b) ≡ true
+or-first true b e = refl
+or-first false b e = let wrong : ⊥ = cc in absurd wrong
+
+pub or-second : (a b : Bool) → b ≡ true → (a || b) ≡ true
+or-second true b e = refl
+or-second false b e = e
+
+pub numbered-any : {A : Type 0} (p : ℕ × A → Bool) (j : ℕ) (xs : List A) (k : ℕ) (x : A) → slice_get xs k ≡ Some x → p (j + k, x) ≡ true → list_any p (numbered_from j xs) ≡ true
+numbered-any p j [] k x e h = let wrong : ⊥ = cc in absurd wrong
+numbered-any p j (y ∷ ys) zero x e h =
+    let at : j + 0 ≡ j = omega arith in
+    let same : x ≡ y = cc in
+    or-first _ _ (subst (λ (m : ℕ). p (m, y) ≡ true) at (subst (λ z. p (j + 0, z) ≡ true) same h))
+numbered-any p j (y ∷ ys) (suc k) x e h = let at : j + suc k ≡ (j + 1) + k = omega arith in or-second _ _ (numbered-any p (j + 1) ys k x e (subst (λ (m : ℕ). p (m, x) ≡ true) at h))
+
+-- ---- places
+
+pub place-alike : (a : Place) → same_place a a ≡ true
+place-alike (of_interface p) = nat_list_eq_equiv.refl p
+place-alike here = refl
+
+record HasPlace (r : Resolve) (a : TypeOwner) : Type 0 where
+  pub number : InterfaceId
+  pub is : a ≡ owner.Interface number
+  pub path : Text
+  pub has : interface_path r number.0 ≡ Some path
+
+named-place : (r : Resolve) (a : TypeOwner) → is_named_interface r a ≡ true → HasPlace r a
+named-place r (owner.World w) e = let wrong : ⊥ = cc in absurd wrong
+named-place r owner.None e = let wrong : ⊥ = cc in absurd wrong
+named-place r (owner.Interface i) e = go (interface_path r i.0) refl e
+  where
+    go : (o : Option Text) → interface_path r i.0 ≡ o → is_some o ≡ true → HasPlace r (owner.Interface i)
+    go None q e = let wrong : ⊥ = cc in absurd wrong
+    go (Some path) q e = record { number = i; is = refl; path = path; has = q }
+
+unnamed-place : (r : Resolve) (a : TypeOwner) → is_named_interface r a ≡ false → place_of r a ≡ here
+unnamed-place r (owner.World w) e = refl
+unnamed-place r owner.None e = refl
+unnamed-place r (owner.Interface i) e = go (interface_path r i.0) refl e
+  where
+    go : (o : Option Text) → interface_path r i.0 ≡ o → is_some o ≡ false → place_of_path o ≡ here
+    go None q e = refl
+    go (Some path) q e = let wrong : ⊥ = cc in absurd wrong
+
+its-place : (r : Resolve) (a : TypeOwner) (h : HasPlace r a) → place_of r a ≡ of_interface h.path
+its-place r a h = ap (place_of r) h.is ∙ ap place_of_path h.has
+
+other-met : (a b : Bool) → b ≡ false → (a || b) ≡ true → a ≡ true
+other-met true b e h = refl
+other-met false b e h = let wrong : ⊥ = cc in absurd wrong
+
+-- owners with places of their own
+abbrev pub HaveHomes : Resolve → (TypeOwner → Bool) → Type 0
+HaveHomes r met = (a b : TypeOwner) → met a ≡ true → met b ≡ true → same_place (place_of r a) (place_of r b) ≡ true → a ≡ b
+
+pub one-owner : (r : Resolve) (o : TypeOwner) → HaveHomes r (same_owner o)
+one-owner r o a b h k e = sym (same-owner o a h) ∙ same-owner o b k
+
+module _ (r : Resolve) (v : IsValid r) where
+  pub named-owner : (def : TypeDef) → has_named_owner r def ≡ true → is_named_interface r def.owner ≡ true
+  named-owner def h = go def.owner h
+    where
+      go : (a : TypeOwner) → option_map_or (λ i. option_map_or (λ other. is_some other.name) (interface_at r i) false) (owner_interface a) false ≡ true → is_named_interface r a ≡ true
+      go (owner.World w) h = let wrong : ⊥ = cc in absurd wrong
+      go owner.None h = let wrong : ⊥ = cc in absurd wrong
+      go (owner.Interface i) h = named-path r v i.0 h
+
+  -- an owner is in range
+  pub valid-owner_in_range : (n : ℕ) (def : TypeDef) → type_at r n ≡ Some def → owner_in_range r def.owner ≡ true
+  unfolding numbers_in_range
+  valid-owner_in_range n def is = second_true _ _ (second_true _ _ (each_from_at (numbers_in_range.type_ r) 0 r.types.items n def (lists_pass numbers_in_range r v.rules.numbers_in_range).3 is))
+
+  -- a named type stands in its owner's list
+  pub valid-listed : (n : ℕ) (def : TypeDef) (name : String Global) → type_at r n ≡ Some def → def.name ≡ Some name → is_listed r n (text_of name) def.owner ≡ true
+  unfolding order_of_types
+  valid-listed n def name is named =
+      let passed = second_true (list_all (λ m. nat_lt m (0 + n)) (kind_numbers def.kind)) _ (each_from_at (order_of_types.type_ r) 0 r.types.items n def (lists_pass order_of_types r v.rules.order_of_types).3 is) in
+      let here : 0 + n ≡ n = omega arith in
+      given-test (λ name. is_listed r n (text_of name) def.owner) def.name (same_owner def.owner owner.None) name named
+      (subst (λ (m : ℕ). option_map_or (λ name. is_listed r m (text_of name) def.owner) def.name (same_owner def.owner owner.None) ≡ true) here passed)
+
+  listed-once : (a : TypeOwner) (m n : ℕ) (t : Text) → owner_in_range r a ≡ true → is_listed r m t a ≡ true → is_listed r n t a ≡ true → m ≡ n
+  listed-once owner.None m n t inside e f = let wrong : ⊥ = cc in absurd wrong
+  listed-once (owner.Interface id) m n t inside e f =
+      let i = found-in r.interfaces.items id.0 inside in
+      let of_entry = λ (k : ℕ) (h : passes (is_listed_in_interface k t) (interface_at r id.0) ≡ true). first_true (is_id k (option_map (λ id. id.0) (get_by_text i.0.types t))) _ (ap (passes (is_listed_in_interface k t)) (sym i.1) ∙ h) in
+      one-number m n (option_map (λ id. id.0) (get_by_text i.0.types t)) (of_entry m e) (of_entry n f)
+  listed-once (owner.World id) m n t inside e f =
+      let w = found-in r.worlds.items id.0 inside in
+      let of_entry = λ (k : ℕ) (h : passes (is_listed_in_world k t) (world_at r id.0) ≡ true). first_true (is_id k (option_and_then item_type (get_by (is_name_key t) w.0.imports))) _ (ap (passes (is_listed_in_world k t)) (sym w.1) ∙ h) in
+      one-number m n (option_and_then item_type (get_by (is_name_key t) w.0.imports)) (of_entry m e) (of_entry n f)
+
+  module _ (o : TypeOwner) where
+    -- owners that are met have places of their own
+    pub one-home : HaveHomes r (is_met_owner r o)
+    one-home a b h k e = go (is_named_interface r a) refl (is_named_interface r b) refl
+      where
+        own : (c : TypeOwner) → is_met_owner r o c ≡ true → is_named_interface r c ≡ false → o ≡ c
+        own c h f = same-owner o c (other-met (same_owner o c) (is_named_interface r c) f h)
+
+        go : (x : Bool) → is_named_interface r a ≡ x → (y : Bool) → is_named_interface r b ≡ y → a ≡ b
+        go true p true q =
+            let x = named-place r a p in
+            let y = named-place r b q in
+            let same : text_eq x.path y.path ≡ true = ap (λ (z : Place). same_place z (of_interface y.path)) (sym (its-place r a x)) ∙ ap (same_place (place_of r a)) (sym (its-place r b y)) ∙ e in
+            let numbers : x.number.0 ≡ y.number.0 = path-once r v x.number.0 y.number.0 x.path x.has (y.has ∙ ap Some (sym (text_same x.path y.path same))) in
+            x.is ∙ ap (λ n. owner.Interface (record { 0 = n })) numbers ∙ sym y.is
+        go true p false q =
+            let wrong : false ≡ true = ap (λ (z : Place). same_place z here) (sym (its-place r a (named-place r a p))) ∙ ap (same_place (place_of r a)) (sym (unnamed-place r b q)) ∙ e in
+            let z : ⊥ = cc in absurd z
+        go false p true q =
+            let wrong : false ≡ true = ap (λ (z : Place). same_place z (of_interface (named-place r b q).path)) (sym (unnamed-place r a p)) ∙ ap (same_place (place_of r a)) (sym (its-place r b (named-place r b q))) ∙ e in
+            let z : ⊥ = cc in absurd z
+        go false p false q = sym (own a h p) ∙ own b k q
+
+  named-as : (x : Option (String Global)) (t : Text) → text_is x t ≡ true → (name : String Global) × (x ≡ Some name) × (text_of name ≡ t)
+  named-as None t e = let wrong : ⊥ = cc in absurd wrong
+  named-as (Some name) t e = (name, refl, text_same (text_of name) t e)
+
+  module _ (met : TypeOwner → Bool) (homes : HaveHomes r met) where
+    -- types that are met and have the same name in the same place are one
+    one-type : (m n : ℕ) (d d' : TypeDef) (name : String Global) → type_at r m ≡ Some d → type_at r n ≡ Some d' → d.name ≡ Some name → met d.owner ≡ true → met d'.owner ≡ true
+        → same_place (place_of r d.owner) (place_of r d'.owner) ≡ true → text_is d'.name (text_of name) ≡ true → m ≡ n
+    one-type m n d d' name at at' named h h' e t =
+        let home = homes d.owner d'.owner h h' e in
+        let other = named-as d'.name (text_of name) t in
+        listed-once d'.owner m n (text_of name) (valid-owner_in_range n d' at')
+        (subst (λ (a : TypeOwner). is_listed r m (text_of name) a ≡ true) home (valid-listed m d name at named))
+        (subst (λ (x : Text). is_listed r n x d'.owner ≡ true) other.2 (valid-listed n d' other.0 at' other.1))
+
+    -- the name of a type that is met is one of a resource where the type is one
+    pub names-agree : (n : ℕ) (def : TypeDef) (name : String Global) → type_at r n ≡ Some def → def.name ≡ Some name → met def.owner ≡ true
+        → resource_names r met (place_of r def.owner) (text_of name) ≡ is_resource r n
+    names-agree n def name at named is = either_way (resource_names r met (place_of r def.owner) (text_of name)) (is_resource r n) forth back
+      where
+        forth : resource_names r met (place_of r def.owner) (text_of name) ≡ true → is_resource r n ≡ true
+        forth h =
+            let found = any-numbered (is_resource_entry r met (place_of r def.owner) (text_of name)) 0 r.types.items h in
+            let here : 0 + found.0 ≡ found.0 = omega arith in
+            let passed = subst (λ (m : ℕ). is_resource_entry r met (place_of r def.owner) (text_of name) (m, found.1) ≡ true) here found.3 in
+            let first = first_true (met found.1.owner && is_resource r found.0) _ passed in
+            let second = second_true (met found.1.owner && is_resource r found.0) _ passed in
+            let same = one-type n found.0 def found.1 name at found.2 named is (first_true (met found.1.owner) _ first) (first_true (same_place (place_of r def.owner) (place_of r found.1.owner)) _ second) (second_true (same_place (place_of r def.owner) (place_of r found.1.owner)) _ second) in
+            subst (λ (m : ℕ). is_resource r m ≡ true) (sym same) (second_true (met found.1.owner) _ first)
+
+        back : is_resource r n ≡ true → resource_names r met (place_of r def.owner) (text_of name) ≡ true
+        back h =
+            let here : n ≡ 0 + n = omega arith in
+            let text : text_is def.name (text_of name) ≡ true = ap (λ x. text_is x (text_of name)) named ∙ nat_list_eq_equiv.refl (text_of name) in
+            numbered-any (is_resource_entry r met (place_of r def.owner) (text_of name)) 0 r.types.items n def at
+            (subst (λ (m : ℕ). is_resource_entry r met (place_of r def.owner) (text_of name) (m, def) ≡ true) here
+            (both _ _ (both _ _ is h) (both _ _ (place-alike (place_of r def.owner)) text)))

@@ -1,0 +1,181 @@
+-- Lists of numbers: what stands before a place, what stands once, and what is given by one element alone.
+use Rattle.std.proofs.Common.{◌≡◌, refl, sym, subst, ap, ◌∙◌, ℕ, zero, suc, ◌+◌, ◌≤◌, Bool, true, false, cond, ◌||◌, ◌==◌, T, eqb→eq, nat_eq, List, [], ◌∷◌, ◌++◌, append_assoc, append-nil, take, map, filter_map, flat_map, count_by, slice_get, unwrap_or, Option, Some, None, arith}
+use Rattle.std.proofs.Math.Dec.{eqb_refl}
+use Rattle.std.specs.Prelude.{AllPairs}
+use Rattle.std.specs.List.{Contains, cons_option}
+use Rattle.std.proofs.lemmas.Option.{slice_get-get_or}
+use Rattle.std.proofs.lemmas.List.Elements.{Contains-append_left, Contains-append_right}
+use Rattle.std.proofs.lemmas.List.Sums.{sum_by-cons}
+use Rattle.wit_model.specs.Uses.{has}
+use Rattle.wit_model.specs.Rules.{each_after}
+use Rattle.wit_model.proofs.Lists.{first_true, second_true}
+
+pub same-some : {A : Type 0} (x y : A) → Some x ≡ Some y → x ≡ y
+same-some x y e = ap (λ o. unwrap_or o x) e
+
+pub held : (b : Bool) → T b → b ≡ true
+held true h = refl
+held false h = absurd h
+
+pub same-number : (n : ℕ) → (n == n) ≡ true
+same-number n = held (n == n) (eqb_refl n)
+
+pub equal : (m n : ℕ) → (m == n) ≡ true → m ≡ n
+equal m n e = eqb→eq m n (subst T (sym e) tt)
+
+-- ---- elements
+
+pub contains-get : {X : Type 0} (xs : List X) (x : X) → Contains xs x → (k : ℕ) × (slice_get xs k ≡ Some x)
+contains-get xs x (k, l, e) = (k, slice_get-get_or xs k x l ∙ ap Some e)
+
+pub get-contains : {X : Type 0} (xs : List X) (k : ℕ) (x : X) → slice_get xs k ≡ Some x → Contains xs x
+get-contains [] k x e = let wrong : ⊥ = cc in absurd wrong
+get-contains (y ∷ ys) zero x e = (0, omega arith, same-some y x e)
+get-contains (y ∷ ys) (suc k) x e = let c = get-contains ys k x e in (suc c.0, (let l = c.1 in omega (arith, l)), c.2)
+
+pub none-in : {X : Type 0} (x : X) {P : Type 0} → Contains [] x → P
+none-in x (k, l, e) = absurd (omega (arith, l))
+
+pub contains-later : {X : Type 0} (y : X) (xs : List X) (x : X) → Contains xs x → Contains (y ∷ xs) x
+contains-later y xs x (k, l, e) = (suc k, omega (arith, l), e)
+
+pub contains-flat : {X Y : Type 0} (f : X → List Y) (xs : List X) (x : X) (y : Y) → Contains xs x → Contains (f x) y → Contains (flat_map f xs) y
+contains-flat f [] x y c d = none-in x c
+contains-flat f (z ∷ xs) x y (zero, l, e) d = Contains-append_left (f z) (flat_map f xs) y (subst (λ w. Contains (f w) y) (sym e) d)
+contains-flat f (z ∷ xs) x y (suc k, l, e) d = Contains-append_right (f z) (flat_map f xs) y (contains-flat f xs x y (k, omega (arith, l), e) d)
+
+-- ---- numbers by a test
+
+pub has-contains : (ns : List ℕ) (n : ℕ) → has ns n ≡ true → Contains ns n
+has-contains [] n h = let wrong : ⊥ = cc in absurd wrong
+has-contains (m ∷ ns) n h = go (has-contains ns n) (m == n) refl h
+  where
+    go : (has ns n ≡ true → Contains ns n) → (b : Bool) → (m == n) ≡ b → (b || has ns n) ≡ true → Contains (m ∷ ns) n
+    go rest true e h = (0, omega arith, equal m n e)
+    go rest false e h = contains-later m ns n (rest h)
+
+or-true : (b : Bool) → (b || true) ≡ true
+or-true true = refl
+or-true false = refl
+
+pub contains-has : (ns : List ℕ) (n : ℕ) → Contains ns n → has ns n ≡ true
+contains-has [] n c = none-in n c
+contains-has (m ∷ ns) n (zero, l, e) = ap (λ b. b || has ns n) (subst (λ (k : ℕ). (m == k) ≡ true) e (same-number m))
+contains-has (m ∷ ns) n (suc k, l, e) = ap (λ b. (m == n) || b) (contains-has ns n (k, omega (arith, l), e)) ∙ or-true (m == n)
+
+-- ---- what stands once
+
+-- how often one number is another
+abbrev same-times : ℕ → ℕ → ℕ
+same-times n m = cond (m == n) 1 0
+
+count-cons : (n m : ℕ) (ns : List ℕ) → count_by (λ k. k == n) (m ∷ ns) ≡ same-times n m + count_by (λ k. k == n) ns
+count-cons n m ns = sum_by-cons (λ x. cond (x == n) 1 0) m ns
+
+counted : (ns : List ℕ) (k n : ℕ) → slice_get ns k ≡ Some n → 1 ≤ count_by (λ m. m == n) ns
+counted [] k n e = let wrong : ⊥ = cc in absurd wrong
+counted (m ∷ ns) zero n e =
+    let here : same-times n m ≡ 1 = ap (λ b. cond b 1 0) (subst (λ (k : ℕ). (m == k) ≡ true) (same-some m n e) (same-number m)) in
+    omega (arith, here, count-cons n m ns)
+counted (m ∷ ns) (suc k) n e = let more = counted ns k n e in omega (arith, more, count-cons n m ns)
+
+-- a number that stands at a place and before it stands twice
+counted-twice : (ns : List ℕ) (k n : ℕ) → slice_get ns k ≡ Some n → has (take k ns) n ≡ true → 2 ≤ count_by (λ m. m == n) ns
+counted-twice [] k n e h = let wrong : ⊥ = cc in absurd wrong
+counted-twice (m ∷ ns) zero n e h = let wrong : ⊥ = cc in absurd wrong
+counted-twice (m ∷ ns) (suc k) n e h = go (counted-twice ns k n e) (m == n) refl h
+  where
+    go : (has (take k ns) n ≡ true → 2 ≤ count_by (λ m. m == n) ns) → (b : Bool) → (m == n) ≡ b → (b || has (take k ns) n) ≡ true → 2 ≤ count_by (λ m. m == n) (m ∷ ns)
+    go rest true q h =
+        let here : same-times n m ≡ 1 = ap (λ b. cond b 1 0) q in
+        let more = counted ns k n e in
+        omega (arith, here, more, count-cons n m ns)
+    go rest false q h = let more = rest h in omega (arith, more, count-cons n m ns)
+
+-- a number that stands once doesn't stand before its place
+pub once-before : (ns : List ℕ) (k n : ℕ) → slice_get ns k ≡ Some n → (count_by (λ m. m == n) ns == 1) ≡ true → Contains (take k ns) n → ⊥
+once-before ns k n e one c =
+    let two = counted-twice ns k n e (contains-has (take k ns) n c) in
+    let same : count_by (λ m. m == n) ns ≡ 1 = equal (count_by (λ m. m == n) ns) 1 one in
+    omega (arith, two, same)
+
+-- ---- each element, with those before it
+
+pub after-at : {V : Type 0} (q : List V → V → Bool) (before xs : List V) (k : ℕ) (v : V) → each_after q before xs ≡ true → slice_get xs k ≡ Some v
+    → q (before ++ take k xs) v ≡ true
+after-at q before [] k v h e = let wrong : ⊥ = cc in absurd wrong
+after-at q before (x ∷ xs) zero v h e = ap (λ b. q b v) (append-nil before)
+    ∙ (subst (λ z. q before z ≡ true) (same-some x v e) (first_true (q before x) (each_after q (before ++ x ∷ []) xs) h))
+after-at q before (x ∷ xs) (suc k) v h e =
+    ap (λ b. q b v) (sym (append_assoc before (x ∷ []) (take k xs)))
+    ∙ after-at q (before ++ x ∷ []) xs k v (second_true (q before x) (each_after q (before ++ x ∷ []) xs) h) e
+
+-- ---- pairs
+
+pub pairs-tail : {X : Type 0} (R : X → X → Type 0) (x : X) (xs : List X) → AllPairs R (x ∷ xs) → AllPairs R xs
+pairs-tail R x xs h = λ i j d lt within. h (suc i) (suc j) d (omega arith) (omega arith)
+
+pub pairs-head : {X : Type 0} (R : X → X → Type 0) (x : X) (xs : List X) (y : X) → AllPairs R (x ∷ xs) → Contains xs y → R x y
+pairs-head R x xs y h (k, l, e) = subst (λ z. R x z) e (h 0 (suc k) y (omega arith) (omega (arith, l)))
+
+pub pairs-right : {X : Type 0} (R : X → X → Type 0) (xs ys : List X) → AllPairs R (xs ++ ys) → AllPairs R ys
+pairs-right R [] ys h = h
+pairs-right R (x ∷ xs) ys h = pairs-right R xs ys (pairs-tail R x (xs ++ ys) h)
+
+pub pairs-across : {X : Type 0} (R : X → X → Type 0) (xs ys : List X) (x y : X) → AllPairs R (xs ++ ys) → Contains xs x → Contains ys y → R x y
+pairs-across R [] ys x y h c d = none-in x c
+pairs-across R (z ∷ xs) ys x y h (zero, l, e) d = subst (λ w. R w y) e (pairs-head R z (xs ++ ys) y h (Contains-append_right xs ys y d))
+pairs-across R (z ∷ xs) ys x y h (suc k, l, e) d = pairs-across R xs ys x y (pairs-tail R z (xs ++ ys) h) (k, omega (arith, l), e) d
+
+-- ---- what one element alone gives
+
+pub gives-none : {X Y : Type 0} (h : X → Option Y) (xs : List X) → ((x : X) → Contains xs x → h x ≡ None) → filter_map h xs ≡ []
+gives-none h [] all = refl
+gives-none h (x ∷ xs) all = ap (λ o. cons_option o (filter_map h xs)) (all x (0, omega arith, refl)) ∙ gives-none h xs (λ y c. all y (contains-later x xs y c))
+
+-- of elements with different numbers, the one of this number gives y, and the others give nothing
+pub gives-one : {X Y : Type 0} (number : X → ℕ) (h : X → Option Y) (n : ℕ) (y : Y) (xs : List X) → AllPairs (λ a b. nat_eq (number a) (number b) ≡ false) xs
+    → ((x : X) → number x ≡ n → h x ≡ Some y) → ((x : X) → Contains xs x → (number x ≡ n → ⊥) → h x ≡ None)
+    → (x : X) → Contains xs x → number x ≡ n → filter_map h xs ≡ y ∷ []
+gives-one number h n y [] apart is others x c e = none-in x c
+gives-one {X} {Y} number h n y (z ∷ zs) apart is others x c e =
+    go (gives-one number h n y zs (pairs-tail (λ a b. nat_eq (number a) (number b) ≡ false) z zs apart) is (λ w d. others w (contains-later z zs w d)) x) (number z == n) refl
+  where
+    later : (number z == n) ≡ false → (c : Contains (z ∷ zs) x) → Contains zs x
+    later f (zero, l, q) =
+        let wrong : true ≡ false = sym (subst (λ (k : ℕ). (number z == k) ≡ true) (ap number q ∙ e) (same-number (number z))) ∙ f in
+        let bad : ⊥ = cc in absurd bad
+    later f (suc k, l, q) = (k, omega (arith, l), q)
+
+    other : (number z == n) ≡ false → number z ≡ n → ⊥
+    other f q = let wrong : true ≡ false = sym (subst (λ (k : ℕ). (number z == k) ≡ true) q (same-number (number z))) ∙ f in cc
+
+    rest-differ : number z ≡ n → (w : X) → Contains zs w → number w ≡ n → ⊥
+    rest-differ q w d p =
+        let wrong : true ≡ false = sym (subst (λ (k : ℕ). nat_eq (number z) k ≡ true) (q ∙ sym p) (same-number (number z)))
+        ∙ pairs-head (λ a b. nat_eq (number a) (number b) ≡ false) z zs w apart d in
+        cc
+
+    go : (Contains zs x → number x ≡ n → filter_map h zs ≡ y ∷ []) → (b : Bool) → (number z == n) ≡ b → filter_map h (z ∷ zs) ≡ y ∷ []
+    go rest true q =
+        let here = equal (number z) n q in
+        ap (λ o. cons_option o (filter_map h zs)) (is z here) ∙ ap (λ ys. y ∷ ys) (gives-none h zs (λ w d. others w (contains-later z zs w d) (rest-differ here w d)))
+    go rest false q = ap (λ o. cons_option o (filter_map h zs)) (others z (0, omega arith, refl) (other q)) ∙ rest (later q c) e
+
+pub nothing-mapped : {A B : Type 0} (f : A → B) (xs : List A) → map f xs ≡ [] → xs ≡ []
+nothing-mapped f [] e = refl
+nothing-mapped f (x ∷ xs) e = let wrong : ⊥ = cc in absurd wrong
+
+head-or : {A : Type 0} → A → List A → A
+head-or d [] = d
+head-or d (x ∷ xs) = x
+
+tail-of : {A : Type 0} → List A → List A
+tail-of [] = []
+tail-of (x ∷ xs) = xs
+
+-- a list that is mapped to one element
+pub one-mapped : {A B : Type 0} (f : A → B) (xs : List A) (y : B) → map f xs ≡ y ∷ [] → (x : A) × (xs ≡ x ∷ []) × (f x ≡ y)
+unfolding head-or tail-of
+one-mapped f [] y e = let wrong : ⊥ = cc in absurd wrong
+one-mapped f (x ∷ xs) y e = (x, ap (λ zs. x ∷ zs) (nothing-mapped f xs (ap tail-of e)), ap (head-or y) e)

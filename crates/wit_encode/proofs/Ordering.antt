@@ -1,0 +1,320 @@
+-- Functions that are sorted by the places of their resources.
+use Rattle.std.proofs.Common.{◌≡◌, refl, sym, subst, ap, ◌∙◌, ℕ, zero, suc, ◌+◌, ◌<◌, ◌≤◌, Bool, true, false, cond, ◌⊎◌, inl, inr, List, [], ◌∷◌, ◌++◌, length, get_or, filter, map, nat_cmp, is_lt, Option, Some, None, arith, suc-le-suc, zero-le}
+use Rattle.std.specs.Prelude.{not, nat_eq, nat_lt, All, IsPermutation, String}
+use Rattle.std.specs.Borrow.{Bor}
+use Rattle.std.specs.declared.alloc.Global.{Global}
+use Rattle.std.specs.Option.{option_map_or, is_some}
+use Rattle.std.specs.List.{position, position_from, position_or_len}
+use Rattle.std.specs.BTreeMap.{BTreeMap, get, Updates}
+use Rattle.std.proofs.lemmas.Iterator.Adapters.{position_from-zero}
+use Rattle.std.proofs.lemmas.Bool.{eqb-true, true≢false}
+use Rattle.std.proofs.lemmas.List.Sums.{prefix_len-le-length}
+use Rattle.std.specs.List.Sorted.{ties, IsNonDecreasingBy, IsStableByKey}
+use Rattle.std.proofs.lemmas.Bool.{cond-true, cond-false, cases_Bool}
+use Rattle.std.proofs.lemmas.Bool.Decides.{nat_tests}
+use Rattle.std.proofs.lemmas.List.Elements.{filter_agree, All-head, All-tail}
+use Rattle.std.proofs.lemmas.List.Sorted.{length_permutation, All-permutation}
+use Rattle.wit_model.specs.Text.{Text}
+use Rattle.wit_model.specs.Lookup.{resource_of}
+use Rattle.wit_model.specs.declared.model.TypeId.{TypeId}
+use Rattle.wit_model.specs.declared.model.Function.{Function}
+use Rattle.wit_encode.specs.Instance.{placed_function}
+use Rattle.wit_encode.specs.Order.{is_function_of, by_resource, place_among, ArePlaces}
+
+-- ---- lists that rise
+
+abbrev AreAtLeast : {X : Type 0} → (X → ℕ) → ℕ → List X → Type 0
+AreAtLeast key n [] = Unit {0}
+AreAtLeast key n (y ∷ ys) = (n ≤ key y) × AreAtLeast key n ys
+
+abbrev pub Rises : {X : Type 0} → (X → ℕ) → List X → Type 0
+Rises key [] = Unit {0}
+Rises key (y ∷ ys) = AreAtLeast key (key y) ys × Rises key ys
+
+at-least-from : {X : Type 0} (key : X → ℕ) (n : ℕ) (ys : List X) → ((j : ℕ) (d : X) → j < length ys → n ≤ key (get_or ys j d)) → AreAtLeast key n ys
+at-least-from key n [] h = tt
+at-least-from key n (y ∷ ys) h = (h zero y (suc-le-suc zero-le), at-least-from key n ys (λ j d l. h (suc j) d (suc-le-suc l)))
+
+pub rises-from : {X : Type 0} (key : X → ℕ) (ys : List X) → IsNonDecreasingBy key ys → Rises key ys
+rises-from key [] h = tt
+rises-from key (y ∷ ys) h = (
+  at-least-from key (key y) ys (λ j d l. h zero (suc j) d zero-le (suc-le-suc l)),
+  rises-from key ys (λ i j d le l. h (suc i) (suc j) d (suc-le-suc le) (suc-le-suc l)),
+)
+
+kept : {X : Type 0} (p : X → Bool) (y : X) (ys : List X) → p y ≡ true → filter p (y ∷ ys) ≡ y ∷ filter p ys
+kept p y ys h = cond-true _ _ _ h
+
+dropped : {X : Type 0} (p : X → Bool) (y : X) (ys : List X) → p y ≡ false → filter p (y ∷ ys) ≡ filter p ys
+dropped p y ys h = cond-false _ _ _ h
+
+opposite : (b : Bool) → b ≡ false → not b ≡ true
+opposite b h = ap not h
+
+negated : (b : Bool) → b ≡ true → not b ≡ false
+negated b h = ap not h
+
+-- ---- a first class and the rest
+
+module _ {X : Type 0} (key key' : X → ℕ) (p : X → Bool) (first : (x : X) → p x ≡ true → key x ≡ 0) (later : (x : X) → p x ≡ false → key x ≡ 1 + key' x) where
+  rest : X → Bool
+  rest x = not (p x)
+
+  none-first : (n : ℕ) (ys : List X) → 0 < n → AreAtLeast key n ys → filter p ys ≡ []
+  none-first n [] l h = refl
+  none-first n (y ∷ ys) l h =
+      elim (cases_Bool (p y)) [
+        | inl e ↦ absurd (let z = first y e in let w = h.0 in omega arith)
+        | inr e ↦ dropped p y ys e ∙ none-first n ys l h.1
+      ]
+
+  all-later : (n : ℕ) (ys : List X) → 0 < n → AreAtLeast key n ys → filter (λ x. not (p x)) ys ≡ ys
+  all-later n [] l h = refl
+  all-later n (y ∷ ys) l h =
+      elim (cases_Bool (p y)) [
+        | inl e ↦ absurd (let z = first y e in let w = h.0 in omega arith)
+        | inr e ↦ kept (λ x. not (p x)) y ys (opposite (p y) e) ∙ ap (λ zs. y ∷ zs) (all-later n ys l h.1)
+      ]
+
+  split : (ys : List X) → Rises key ys → ys ≡ filter p ys ++ filter (λ x. not (p x)) ys
+  split [] h = refl
+  split (y ∷ ys) h =
+      elim (cases_Bool (p y)) [
+        | inl e ↦
+            ap (λ zs. y ∷ zs) (split ys h.1)
+            ∙ sym ((λ i. kept p y ys e i ++ dropped (λ x. not (p x)) y ys (negated (p y) e) i))
+        | inr e ↦
+            let n : 0 < key y = let z = later y e in omega arith in
+            sym ((λ i. (dropped p y ys e ∙ none-first (key y) ys n h.0) i ++
+            (kept (λ x. not (p x)) y ys (opposite (p y) e) ∙ ap (λ zs. y ∷ zs) (all-later (key y) ys n h.0)) i))
+      ]
+
+  at-least-later : (n : ℕ) (ys : List X) → AreAtLeast key (1 + n) ys → AreAtLeast key' n (filter (λ x. not (p x)) ys)
+  at-least-later n [] h = tt
+  at-least-later n (y ∷ ys) h =
+      elim (cases_Bool (p y)) [
+        | inl e ↦ absurd (let z = first y e in let w = h.0 in omega arith)
+        | inr e ↦
+            subst (AreAtLeast key' n) (sym (kept (λ x. not (p x)) y ys (opposite (p y) e)))
+            ((let z = later y e in let w = h.0 in omega arith), at-least-later n ys h.1)
+      ]
+
+  rises-later : (ys : List X) → Rises key ys → Rises key' (filter (λ x. not (p x)) ys)
+  rises-later [] h = tt
+  rises-later (y ∷ ys) h =
+      elim (cases_Bool (p y)) [
+        | inl e ↦ subst (Rises key') (sym (dropped (λ x. not (p x)) y ys (negated (p y) e))) (rises-later ys h.1)
+        | inr e ↦
+            subst (Rises key') (sym (kept (λ x. not (p x)) y ys (opposite (p y) e)))
+            (at-least-later (key' y) ys (subst (λ n. AreAtLeast key n ys) (later y e) h.0), rises-later ys h.1)
+      ]
+
+  class-first : (x : X) → p x ≡ nat_eq 0 (key x)
+  class-first x =
+      elim (cases_Bool (p x)) [
+        | inl e ↦ e ∙ sym (ap (nat_eq 0) (first x e))
+        | inr e ↦ e ∙ sym (let z = later x e in grind (arith, nat_tests))
+      ]
+
+  class-later : (k : ℕ) (ys : List X) → filter (λ x. nat_eq k (key' x)) (filter (λ x. not (p x)) ys) ≡ filter (λ x. nat_eq (1 + k) (key x)) ys
+  class-later k [] = refl
+  class-later k (y ∷ ys) =
+      elim (cases_Bool (p y)) [
+        | inl e ↦
+            ap (filter (λ x. nat_eq k (key' x))) (dropped (λ x. not (p x)) y ys (negated (p y) e)) ∙ class-later k ys
+            ∙ sym (dropped (λ x. nat_eq (1 + k) (key x)) y ys (let z = first y e in grind (arith, nat_tests)))
+        | inr e ↦
+            let same : nat_eq k (key' y) ≡ nat_eq (1 + k) (key y) = let z = later y e in grind (arith, nat_tests) in
+            ap (filter (λ x. nat_eq k (key' x))) (kept (λ x. not (p x)) y ys (opposite (p y) e))
+            ∙ (λ i. cond (same i) (y ∷ class-later k ys i) (class-later k ys i))
+      ]
+
+-- ---- by resource
+
+filter-all : {X : Type 0} (ys : List X) → filter (λ x. true) ys ≡ ys
+filter-all [] = refl
+filter-all (y ∷ ys) = ap (λ zs. y ∷ zs) (filter-all ys)
+
+place-first : (t : TypeId) (ts : List TypeId) (f : Text × Function) → is_function_of t f ≡ true → place_among (t ∷ ts) f.1 ≡ 0
+place-first t ts f e = cond-false _ _ _ (negated (is_function_of t f) e)
+
+place-later : (t : TypeId) (ts : List TypeId) (f : Text × Function) → is_function_of t f ≡ false → place_among (t ∷ ts) f.1 ≡ 1 + place_among ts f.1
+place-later t ts f e = cond-true _ _ _ (opposite (is_function_of t f) e)
+
+-- a list that rises by place and has the classes of xs is xs in order
+pub in-order : (ts : List TypeId) (xs ys : List (Text × Function)) → Rises (λ f. place_among ts f.1) ys
+    → ((k : ℕ) → filter (λ f. nat_eq k (place_among ts f.1)) ys ≡ filter (λ f. nat_eq k (place_among ts f.1)) xs) → ys ≡ by_resource ts xs
+in-order [] xs ys up same = sym (filter-all ys) ∙ same 0 ∙ filter-all xs
+in-order (t ∷ ts) xs ys up same =
+    let key : Text × Function → ℕ = λ f. place_among (t ∷ ts) f.1 in
+    let key' : Text × Function → ℕ = λ f. place_among ts f.1 in
+    let p : Text × Function → Bool = is_function_of t in
+    let a : filter p ys ≡ filter p xs =
+    filter_agree p (λ f. nat_eq 0 (key f)) (class-first key key' p (place-first t ts) (place-later t ts)) ys ∙ same 0
+    ∙ sym (filter_agree p (λ f. nat_eq 0 (key f)) (class-first key key' p (place-first t ts) (place-later t ts)) xs) in
+    let b : filter (λ f. not (p f)) ys ≡ by_resource ts (filter (λ f. not (p f)) xs) =
+    in-order ts (filter (λ f. not (p f)) xs) (filter (λ f. not (p f)) ys) (rises-later key key' p (place-first t ts) (place-later t ts) ys up)
+    (λ k. class-later key key' p (place-first t ts) (place-later t ts) k ys ∙ same (1 + k) ∙ sym (class-later key key' p (place-first t ts) (place-later t ts) k xs)) in
+    split key key' p (place-first t ts) (place-later t ts) ys up ∙ (λ i. a i ++ b i)
+
+-- ---- functions with their places
+
+abbrev Placed : Type 0
+Placed = ℕ × Bor (String Global) × Bor Function
+
+-- each place is that of the resource
+abbrev pub ArePlaced : List TypeId → List Placed → Type 0
+ArePlaced ts [] = Unit {0}
+ArePlaced ts (x ∷ xs) = (x.0 ≡ place_among ts x.2.now) × ArePlaced ts xs
+
+at-least-placed : (ts : List TypeId) (n : ℕ) (xs : List Placed) → ArePlaced ts xs → AreAtLeast (λ x. x.0) n xs
+    → AreAtLeast (λ f. place_among ts f.1) n (map placed_function xs)
+at-least-placed ts n [] h up = tt
+at-least-placed ts n (x ∷ xs) h up = (subst (λ m. n ≤ m) h.0 up.0, at-least-placed ts n xs h.1 up.1)
+
+rises-placed : (ts : List TypeId) (xs : List Placed) → ArePlaced ts xs → Rises (λ x. x.0) xs → Rises (λ f. place_among ts f.1) (map placed_function xs)
+rises-placed ts [] h up = tt
+rises-placed ts (x ∷ xs) h up = (
+  subst (λ m. AreAtLeast (λ f. place_among ts f.1) m (map placed_function xs)) h.0
+      (at-least-placed ts x.0 xs h.1 up.0),
+  rises-placed ts xs h.1 up.1,
+)
+
+class-placed : (ts : List TypeId) (k : ℕ) (xs : List Placed) → ArePlaced ts xs
+    → filter (λ f. nat_eq k (place_among ts f.1)) (map placed_function xs) ≡ map placed_function (filter (λ x. nat_eq k x.0) xs)
+class-placed ts k [] h = refl
+class-placed ts k (x ∷ xs) h =
+    let rest = class-placed ts k xs h.1 in
+    let same : nat_eq k (place_among ts x.2.now) ≡ nat_eq k x.0 = ap (nat_eq k) (sym h.0) in
+    elim (cases_Bool (nat_eq k x.0)) [
+      | inl e ↦ cond-true _ _ _ (same ∙ e) ∙ ap (λ zs. placed_function x ∷ zs) rest ∙ sym (ap (map placed_function) (kept (λ (y : Placed). nat_eq k y.0) x xs e))
+      | inr e ↦ cond-false _ _ _ (same ∙ e) ∙ rest ∙ sym (ap (map placed_function) (dropped (λ (y : Placed). nat_eq k y.0) x xs e))
+    ]
+
+tied : (m n : ℕ) → ties (λ x y. is_lt (nat_cmp x y)) m n ≡ nat_eq m n
+tied m n = grind (arith, nat_tests)
+
+no-more : {X : Type 0} (ys : List X) → length ys ≡ 0 → ys ≡ []
+no-more [] e = refl
+no-more (y ∷ ys) e = absurd (omega (arith, e))
+
+classes : (xs ys : List Placed) → length ys ≡ length xs → IsStableByKey (λ x. x.0) nat_cmp xs ys → (k : ℕ)
+    → filter (λ x. nat_eq k x.0) ys ≡ filter (λ x. nat_eq k x.0) xs
+classes [] ys l stable k = ap (filter (λ (x : Placed). nat_eq k x.0)) (no-more ys l)
+classes (x ∷ xs) ys l stable k =
+    let at : Placed = (k, x.1, x.2) in
+    let agree : (zs : List Placed) → filter (ties (λ (a b : Placed). is_lt (nat_cmp a.0 b.0)) at) zs ≡ filter (λ z. nat_eq k z.0) zs =
+    filter_agree (ties (λ (a b : Placed). is_lt (nat_cmp a.0 b.0)) at) (λ z. nat_eq k z.0) (λ z. tied k z.0) in
+    sym (agree ys) ∙ stable at ∙ agree (x ∷ xs)
+
+placed-all : (ts : List TypeId) (xs : List Placed) → All (λ x. x.0 ≡ place_among ts x.2.now) xs → ArePlaced ts xs
+placed-all ts [] h = tt
+placed-all ts (x ∷ xs) h = (
+  All-head (λ (y : Placed). y.0 ≡ place_among ts y.2.now) x xs h,
+  placed-all ts xs
+      (All-tail (λ (y : Placed). y.0 ≡ place_among ts y.2.now) x xs h),
+)
+
+-- a stable sort by their places puts functions in order
+pub sorted-in-order : (ts : List TypeId) (xs ys : List Placed) → All (λ x. x.0 ≡ place_among ts x.2.now) xs → IsPermutation xs ys → IsNonDecreasingBy (λ x. x.0) ys
+    → IsStableByKey (λ x. x.0) nat_cmp xs ys
+    → map placed_function ys ≡ by_resource ts (map placed_function xs)
+sorted-in-order ts xs ys h moved up stable =
+    let hx = placed-all ts xs h in
+    let hy = placed-all ts ys (All-permutation (λ (x : Placed). x.0 ≡ place_among ts x.2.now) xs ys moved h) in
+    in-order ts (map placed_function xs) (map placed_function ys) (rises-placed ts ys hy (rises-from (λ (x : Placed). x.0) ys up))
+    (λ k. class-placed ts k ys hy ∙ ap (map placed_function) (classes xs ys (length_permutation xs ys moved) stable k) ∙ sym (class-placed ts k xs hx))
+
+-- ---- places
+
+from-push : {X : Type 0} (p : X → Bool) (i : ℕ) (xs : List X) (y : X) → position_from p i (xs ++ y ∷ []) ≡ cond (is_some (position_from p i xs))
+    (position_from p i xs) (cond (p y) (Some (i + length xs)) None)
+from-push p i [] y = let e : i ≡ i + 0 = omega arith in ap (λ n. cond (p y) (Some n) None) e
+from-push p i (x ∷ xs) y =
+    elim (cases_Bool (p x)) [
+      | inl e ↦ cond-true _ _ _ e ∙ sym (ap (λ o. cond (is_some o) o (cond (p y) (Some (i + length (x ∷ xs))) None))
+          (cond-true (p x) (Some i) (position_from p (i + 1) xs) e))
+      | inr e ↦
+          let n : i + 1 + length xs ≡ i + length (x ∷ xs) = omega arith in
+          cond-false _ _ _ e ∙ from-push p (i + 1) xs y ∙ ap (λ n. cond (is_some (position_from p (i + 1) xs)) (position_from p (i + 1) xs)
+          (cond (p y) (Some n) None)) n
+          ∙ sym (ap (λ o. cond (is_some o) o (cond (p y) (Some (i + length (x ∷ xs))) None)) (cond-false (p x) (Some i) (position_from p (i + 1) xs) e))
+    ]
+
+pub position-push : {X : Type 0} (p : X → Bool) (xs : List X) (y : X) → position p (xs ++ y ∷ []) ≡ cond (is_some (position p xs)) (position p xs)
+    (cond (p y) (Some (length xs)) None)
+position-push p xs y =
+    position_from-zero p (xs ++ y ∷ []) ∙ from-push p 0 xs y
+    ∙ (let n : 0 + length xs ≡ length xs = omega arith in (λ i. cond (is_some (sym (position_from-zero p xs) i)) (sym (position_from-zero p xs) i)
+    (cond (p y) (Some (n i)) None)))
+
+pub position-some : {X : Type 0} (p : X → Bool) (xs : List X) (i : ℕ) → position p xs ≡ Some i → i ≡ position_or_len p xs
+position-some p xs i h =
+    elim (cases_Bool (nat_lt (position_or_len p xs) (length xs))) [
+      | inl e ↦ let z : Some (position_or_len p xs) ≡ Some i = sym (cond-true _ _ _ e) ∙ h in cc
+      | inr e ↦ absurd (let z : None ≡ Some i = sym (cond-false _ _ _ e) ∙ h in let w : ⊥ = cc in w)
+    ]
+
+pub position-none : {X : Type 0} (p : X → Bool) (xs : List X) → position p xs ≡ None → length xs ≡ position_or_len p xs
+position-none p xs h =
+    elim (cases_Bool (nat_lt (position_or_len p xs) (length xs))) [
+      | inl e ↦ absurd (let z : Some (position_or_len p xs) ≡ None = sym (cond-true _ _ _ e) ∙ h in let w : ⊥ = cc in w)
+      | inr e ↦ let a = prefix_len-le-length (λ x. not (p x)) xs in grind (arith, nat_tests)
+    ]
+
+none-among : (ts : List TypeId) → length ts ≡ position_or_len (λ t. false) ts
+none-among [] = refl
+none-among (t ∷ ts) = let a = none-among ts in omega arith
+
+-- the places of one more type, where its number has none yet
+module _ (ts : List TypeId) (places : BTreeMap ℕ ℕ) (t : TypeId) (h : ArePlaces ts places) where
+  number-push : (n : ℕ) → position (λ s. nat_eq n s.0) (ts ++ t ∷ []) ≡ cond (is_some (get nat_cmp places n)) (get nat_cmp places n)
+      (cond (nat_eq n t.0) (Some (length ts)) None)
+  number-push n = position-push (λ s. nat_eq n s.0) ts t ∙ ap (λ o. cond (is_some o) o (cond (nat_eq n t.0) (Some (length ts)) None)) (sym (h.at n))
+
+  -- it has one
+  pub places-same : is_some (get nat_cmp places t.0) ≡ true → ArePlaces (ts ++ t ∷ []) places
+  places-same there = record { at = λ n. sym (number-push n ∙ go n (get nat_cmp places n) refl) }
+    where
+      go : (n : ℕ) (o : Option ℕ) → get nat_cmp places n ≡ o → cond (is_some o) o (cond (nat_eq n t.0) (Some (length ts)) None) ≡ o
+      go n (Some i) e = refl
+      go n None e =
+          elim (cases_Bool (nat_eq n t.0)) [
+            | inl q ↦ absurd (true≢false (sym there ∙ ap (λ k. is_some (get nat_cmp places k)) (sym (eqb-true n t.0 q)) ∙ ap is_some e))
+            | inr q ↦ cond-false _ _ _ q
+          ]
+
+  -- it gets this one
+  pub places-more : (places' : BTreeMap ℕ ℕ) → is_some (get nat_cmp places t.0) ≡ false → Updates nat_cmp places places' t.0 (Some (length ts))
+      → ArePlaces (ts ++ t ∷ []) places'
+  places-more places' lacks u = record { at = λ n. go n (cases_Bool (nat_eq n t.0)) }
+    where
+      none : (o : Option ℕ) → is_some o ≡ false → o ≡ None
+      none None e = refl
+      none (Some i) e = absurd (true≢false e)
+
+      go : (n : ℕ) → (nat_eq n t.0 ≡ true) ⊎ (nat_eq n t.0 ≡ false) → get nat_cmp places' n ≡ position (λ s. nat_eq n s.0) (ts ++ t ∷ [])
+      go n (inl q) =
+          let e : n ≡ t.0 = eqb-true n t.0 q in
+          ap (get nat_cmp places') e ∙ u.1
+          ∙ sym (number-push n ∙ ap (λ o. cond (is_some o) o (cond (nat_eq n t.0) (Some (length ts)) None))
+          (ap (get nat_cmp places) e ∙ none (get nat_cmp places t.0) lacks) ∙ cond-true _ _ _ q)
+      go n (inr q) = u.2 n (let z = q in grind (arith, nat_tests)) ∙ sym (number-push n ∙ other (get nat_cmp places n))
+        where
+          other : (o : Option ℕ) → cond (is_some o) o (cond (nat_eq n t.0) (Some (length ts)) None) ≡ o
+          other (Some i) = refl
+          other None = cond-false _ _ _ q
+
+-- ---- the place of a function
+
+module _ (ts : List TypeId) (places : BTreeMap ℕ ℕ) (f : Function) (h : ArePlaces ts places) where
+  pub place-found : (n i : ℕ) → resource_of f.kind ≡ Some n → get nat_cmp places n ≡ Some i → i ≡ place_among ts f
+  place-found n i e g = position-some (λ t. nat_eq n t.0) ts i (sym (h.at n) ∙ g)
+      ∙ ap (λ o. position_or_len (λ (t : TypeId). option_map_or (λ k. nat_eq k t.0) o false) ts) (sym e)
+
+  pub place-missing : (n : ℕ) → resource_of f.kind ≡ Some n → get nat_cmp places n ≡ None → length ts ≡ place_among ts f
+  place-missing n e g = position-none (λ t. nat_eq n t.0) ts (sym (h.at n) ∙ g)
+      ∙ ap (λ o. position_or_len (λ (t : TypeId). option_map_or (λ k. nat_eq k t.0) o false) ts) (sym e)
+
+  pub place-without : resource_of f.kind ≡ None → length ts ≡ place_among ts f
+  place-without e = none-among ts ∙ ap (λ o. position_or_len (λ (t : TypeId). option_map_or (λ k. nat_eq k t.0) o false) ts) (sym e)

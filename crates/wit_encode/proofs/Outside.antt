@@ -1,0 +1,109 @@
+-- What the calls of an encoder of interfaces do between interfaces: then what is defined stands in the component type.
+use Rattle.std.proofs.Common.{◌≡◌, refl, sym, subst, ap, ◌∙◌, ℕ, ◌+◌, true, cond, [], ◌∷◌, ◌++◌, Result, Ok, Err, IfOk, OnErr, Some, None, length, arith}
+use Rattle.std.specs.List.{list_all}
+use Rattle.std.specs.Option.{option_map_or, is_some}
+use Rattle.wit_model.specs.Tree.{Tree}
+use Rattle.wit_model.specs.Meaning.{Signature}
+use Rattle.wit_model.specs.declared.model.Resolve.{Resolve}
+use Rattle.wit_model.proofs.Lists.{first_true, second_true}
+use Rattle.comp_bytes.specs.declared.forms.ComponentDefinedType.{ComponentDefinedType}
+use Rattle.comp_bytes.specs.declared.forms.ComponentFuncType.{ComponentFuncType}
+use Rattle.comp_bytes.specs.Raw.{Declaration, Declarations, append}
+use Rattle.comp_bytes.specs.RawOf.{raw_defined, raw_function}
+use Rattle.comp_bytes.specs.Held.{type_slots_of}
+use Rattle.comp_meaning.specs.Follow as follow
+use Rattle.comp_meaning.specs.Follow.{Slot, new_scope, definition, function_signature, component_step, in_scope}
+use Rattle.wit_encode.specs.Slots.{Follows, FollowsFunction, Defines, DefinesFunction}
+use Rattle.wit_encode.specs.Formed.{IsFormed, IsFormedSignature}
+use Rattle.wit_encode.specs.Counts.{one_type_more, one_function_more}
+use Rattle.wit_encode.specs.Instance.{SlotsStand, is_slot_of, Contents, outer_scope, outer_contents, is_value_type, is_function_type, resources_in, scope_with, definitions_with}
+use Rattle.wit_encode.proofs.Strict.{bind, definition-strict, function-strict}
+use Rattle.wit_encode.proofs.Contents.{Grew}
+use Rattle.wit_encode.proofs.Components.{steps-count, steps-more, count-more}
+use Rattle.wit_encode.proofs.Calls.{Calls, calls-from, some-of, defines-of, function-of, formed-value}
+
+pub record OuterAt (outer : Declarations) : Type 0 where
+  pub scope : follow.Scope
+  pub is : outer_scope outer ≡ Some scope
+  pub slots : (outer_contents outer).slots ≡ scope.slots
+
+pub outer-at : (outer : Declarations) → (outer_contents outer).is_followed ≡ true → OuterAt outer
+unfolding outer_contents
+outer-at outer e = let m = some-of (outer_scope outer) e in record { scope = m.0; is = m.1; slots = ap (λ o. option_map_or (λ s. s.slots) o []) m.1 }
+
+-- the slot of a new declaration has the next number
+pub outer-index : (outer : Declarations) → OuterAt outer → type_slots_of outer ≡ length (outer_contents outer).slots
+outer-index outer a =
+    let e = steps-count new_scope a.scope outer a.is in
+    let f : length (outer_contents outer).slots ≡ length a.scope.slots = ap length a.slots in
+    omega arith
+
+outer-grew : (outer : Declarations) (d : Declaration) (x : Slot) (a : OuterAt outer) → component_step a.scope d ≡ Some (in_scope x a.scope) → Grew (outer_contents outer) (outer_contents (append outer (Declarations.declares d Declarations.no_more))) x
+unfolding outer_contents
+outer-grew outer d x a step =
+    let next = steps-more new_scope a.scope (in_scope x a.scope) outer d a.is step in
+    record {
+      slots = ap (λ o. option_map_or (λ s. s.slots) o []) next ∙ ap (λ xs. xs ++ x ∷ []) (sym a.slots);
+      functions_shown = refl;
+      followed = ap is_some next ∙ sym (ap is_some a.is);
+    }
+
+outer-definitions : (outer : Declarations) (d : Declaration) (types functions : ℕ) → (outer_contents outer).types + cond (is_value_type d) 1 0 ≡ types → (outer_contents outer).functions + cond (is_function_type d) 1 0 ≡ functions
+    → definitions_with (outer_contents (append outer (Declarations.declares d Declarations.no_more))) ≡ record { types = types; functions = functions; exports = (definitions_with (outer_contents outer)).exports }
+unfolding outer_contents
+outer-definitions outer d types functions t f = λ i. record { types = (count-more is_value_type outer d ∙ t) i; functions = (count-more is_function_type outer d ∙ f) i; exports = [] }
+
+module _ {E : Type 0} (res : Result ℕ E) (r : Resolve) (outer outer' : Declarations) where
+  abbrev before : Contents
+  before = outer_contents outer
+
+  abbrev after : Contents
+  after = outer_contents outer'
+
+  module _ (sound : (scope_with r None Declarations.no_more before).is_sound ≡ true) where
+    outer-there : OuterAt outer
+    outer-there = outer-at outer (first_true before.is_followed (list_all (is_slot_of (resources_in r None)) before.slots) sound)
+
+    outer-slots : list_all (is_slot_of (resources_in r None)) before.slots ≡ true
+    outer-slots = second_true before.is_followed (list_all (is_slot_of (resources_in r None)) before.slots) sound
+
+    more-ok : (d : Declaration) (x : Slot) (counts : Type 0) → component_step outer-there.scope d ≡ Some (in_scope x outer-there.scope) → (outer' ≡ append outer (Declarations.declares d Declarations.no_more) → counts)
+        → IfOk res (λ k. (k ≡ type_slots_of outer) × (outer' ≡ append outer (Declarations.declares d Declarations.no_more))) → IfOk res (λ k. (k ≡ length before.slots) × Grew before after x × counts)
+    more-ok d x counts m q h = ok-each res (λ k w. (
+      w.0 ∙ outer-index outer outer-there,
+      subst (λ (zs : Declarations). Grew before (outer_contents zs) x) (sym w.1) (outer-grew outer d x outer-there m),
+      q w.1,
+    )) h
+      where
+        ok-each : {P Q : ℕ → Type 0} (res : Result ℕ E) → ((k : ℕ) → P k → Q k) → IfOk res P → IfOk res Q
+        ok-each (Ok k) f h = f k h
+        ok-each (Err e) f h = h
+
+    err-same : OnErr res (outer' ≡ outer) → OnErr res (after ≡ before)
+    err-same h = err-each res (λ e. ap outer_contents e) h
+      where
+        err-each : {P Q : Type 0} (res : Result ℕ E) → (P → Q) → OnErr res P → OnErr res Q
+        err-each (Ok k) f h = h
+        err-each (Err e) f h = f h
+
+    pub defined-outside : (d : ComponentDefinedType) (t : Tree) → Follows (SlotsStand before.slots) d t → IsFormed (scope_with r None Declarations.no_more before) t
+        → IfOk res (λ k. (k ≡ type_slots_of outer) × (outer' ≡ append outer (Declarations.declares (Declaration.defined (raw_defined d)) Declarations.no_more))) → OnErr res (outer' ≡ outer)
+        → Calls res (scope_with r None Declarations.no_more before) (scope_with r None Declarations.no_more after) before after (Defines (SlotsStand before.slots) d) (definitions_with after ≡ one_type_more (definitions_with before))
+    defined-outside d t h f ok err =
+        let a = outer-there in
+        let strict : definition a.scope.slots (raw_defined d) ≡ Some t = ap (λ zs. definition zs (raw_defined d)) (sym a.slots) ∙ definition-strict (resources_in r None) before.slots outer-slots d t h f.formed in
+        calls-from res r None Declarations.no_more before after _ _ (Slot.value t) sound (formed-value (resources_in r None) t f.formed) (defines-of before.slots d t h)
+        (more-ok (Declaration.defined (raw_defined d)) (Slot.value t) _ (bind (definition a.scope.slots (raw_defined d)) t (λ u. Some (in_scope (Slot.value u) a.scope)) strict) (λ e. ap (λ zs. definitions_with (outer_contents zs)) e
+        ∙ outer-definitions outer (Declaration.defined (raw_defined d)) (before.types + 1) before.functions refl (omega arith)) ok)
+        (err-same err)
+
+    pub function-outside : (d : ComponentFuncType) (s : Signature) → FollowsFunction (SlotsStand before.slots) d s → IsFormedSignature (scope_with r None Declarations.no_more before) s
+        → IfOk res (λ k. (k ≡ type_slots_of outer) × (outer' ≡ append outer (Declarations.declares (Declaration.function (raw_function d)) Declarations.no_more))) → OnErr res (outer' ≡ outer)
+        → Calls res (scope_with r None Declarations.no_more before) (scope_with r None Declarations.no_more after) before after (DefinesFunction (SlotsStand before.slots) d) (definitions_with after ≡ one_function_more (definitions_with before))
+    function-outside d s h f ok err =
+        let a = outer-there in
+        let strict : function_signature a.scope.slots (raw_function d) ≡ Some s = ap (λ zs. function_signature zs (raw_function d)) (sym a.slots) ∙ function-strict (resources_in r None) before.slots outer-slots d s h f.params f.result_ in
+        calls-from res r None Declarations.no_more before after _ _ (Slot.function s) sound refl (function-of before.slots d s h)
+        (more-ok (Declaration.function (raw_function d)) (Slot.function s) _ (bind (function_signature a.scope.slots (raw_function d)) s (λ u. Some (in_scope (Slot.function u) a.scope)) strict) (λ e. ap (λ zs. definitions_with (outer_contents zs)) e
+        ∙ outer-definitions outer (Declaration.function (raw_function d)) before.types (before.functions + 1) (omega arith) refl) ok)
+        (err-same err)

@@ -1,0 +1,63 @@
+-- A function that is exported from an instance type.
+use Rattle.std.proofs.Common.{◌≡◌, sym, subst, ap, ◌∙◌, ℕ, ◌+◌, true, List, [], ◌∷◌, ◌++◌, count_by, Result, Ok, Err, OnOk, Option, Some, None, slice_get, arith}
+use Rattle.std.specs.List.{list_all}
+use Rattle.std.specs.Option.{option_map_or, is_some}
+use Rattle.wit_model.specs.Text.{Text}
+use Rattle.wit_model.specs.Tree.{Place}
+use Rattle.wit_model.specs.Meaning.{Signature, FunctionMeaning}
+use Rattle.wit_model.specs.declared.model.Resolve.{Resolve}
+use Rattle.wit_model.proofs.Lists.{first_true}
+use Rattle.comp_bytes.specs.declared.forms.ComponentTypeRef.TheVariants as refs
+use Rattle.comp_bytes.specs.Raw.{Declaration, Declarations, ExternName}
+use Rattle.comp_meaning.specs.Follow as follow
+use Rattle.comp_meaning.specs.Follow.{Slot, InstanceScope, new_instance, is_simple, function_in, show_function, instance_step}
+use Rattle.wit_encode.specs.declared.interface.OpenInterface.{OpenInterface}
+use Rattle.wit_encode.specs.Slots.{function}
+use Rattle.wit_encode.specs.Instance.{standing_at, SlotsStand, is_slot_of, no_view, outer_slots, inner_contents, is_value_type, is_function_type, resources_in, contents_of, encoder_scope, ShowsFunction}
+use Rattle.wit_encode.proofs.Defining.{count-push}
+use Rattle.wit_encode.proofs.Strict.{bind}
+use Rattle.wit_encode.proofs.Calls.{inner-at}
+use Rattle.wit_encode.proofs.Steps as steps
+
+function-there : (slots : List Slot) (i : ℕ) (s : Signature) → SlotsStand slots i (function s) → function_in (slice_get slots i) ≡ Some s
+function-there slots i s h = go (slice_get slots i) h
+  where
+    go : (o : Option Slot) → standing_at o ≡ Some (function s) → function_in o ≡ Some s
+    go (Some (Slot.function x)) q = let e : x ≡ s = cc in ap Some e
+    go (Some (Slot.value u)) q = absurd (let z : ⊥ = cc in z)
+    go (Some (Slot.resource p n)) q = absurd (let z : ⊥ = cc in z)
+    go (Some (Slot.instance xs n)) q = absurd (let z : ⊥ = cc in z)
+    go None q = absurd (let z : ⊥ = cc in z)
+
+shows-inside : (place : Place) (outer : Declarations) (ds : List Declaration) (name : ExternName) (i : ℕ) (s : Signature) → (inner_contents place outer ds).is_followed ≡ true → is_simple name ≡ true → SlotsStand (inner_contents place outer ds).slots i (function s)
+    → ShowsFunction (inner_contents place outer ds) (inner_contents place outer (ds ++ Declaration.exported name (refs.Func i) ∷ [])) (name.text, record { signature = s; external_id = name.external_id })
+unfolding inner_contents
+shows-inside place outer ds name i s followed simple h =
+    let a = inner-at place outer ds followed in
+    let f : Text × FunctionMeaning = (name.text, record { signature = s; external_id = name.external_id }) in
+    let after : InstanceScope = record { slots = a.scope.slots; shown = record { types = a.scope.shown.types; functions = a.scope.shown.functions ++ f ∷ [] } } in
+    let there : function_in (slice_get a.scope.slots i) ≡ Some s = ap (λ zs. function_in (slice_get zs i)) (sym a.slots) ∙ function-there (inner_contents place outer ds).slots i s h in
+    let step : instance_step place (outer_slots outer) a.scope (Declaration.exported name (refs.Func i)) ≡ Some after =
+    ap (λ b. follow.when b (show_function name i a.scope)) simple
+    ∙ bind (function_in (slice_get a.scope.slots i)) s (λ g. Some (record { slots = a.scope.slots; shown = record { types = a.scope.shown.types; functions = a.scope.shown.functions ++ (name.text, record { signature = g; external_id = name.external_id }) ∷ [] } })) there in
+    let next = steps.steps-more place (outer_slots outer) new_instance a.scope after ds (Declaration.exported name (refs.Func i)) a.is step in
+    record {
+      slots = ap (λ o. option_map_or (λ s. s.slots) o []) next ∙ sym a.slots;
+      functions_shown = ap (λ o. (option_map_or (λ s. s.shown) o no_view).functions) next ∙ ap (λ xs. xs ++ f ∷ []) (sym (ap (λ o. (option_map_or (λ s. s.shown) o no_view).functions) a.is));
+      types_shown = ap (λ o. (option_map_or (λ s. s.shown) o no_view).types) next ∙ sym (ap (λ o. (option_map_or (λ s. s.shown) o no_view).types) a.is);
+      followed = ap is_some next ∙ sym (ap is_some a.is);
+      types = count-push is_value_type ds (Declaration.exported name (refs.Func i)) ∙ (let z : count_by is_value_type ds + 0 ≡ count_by is_value_type ds = omega arith in z);
+      functions = count-push is_function_type ds (Declaration.exported name (refs.Func i)) ∙ (let z : count_by is_function_type ds + 0 ≡ count_by is_function_type ds = omega arith in z);
+    }
+
+pub shows-within : {A E : Type 0} (res : Result A E) (r : Resolve) (outer : Declarations) (inner : Option OpenInterface) (current : OpenInterface) (ds' : List Declaration) (name : ExternName) (i : ℕ) (s : Signature)
+    → inner ≡ Some current → (encoder_scope r outer inner).is_sound ≡ true → is_simple name ≡ true → OnOk res (ds' ≡ current.declared ++ Declaration.exported name (refs.Func i) ∷ []) → SlotsStand (contents_of r outer inner).slots i (function s)
+    → OnOk res (ShowsFunction (contents_of r outer inner) (contents_of r outer (Some (record { interface = current.interface; declared = ds' }))) (name.text, record { signature = s; external_id = name.external_id }))
+shows-within (Err e) r outer inner current ds' name i s is sound simple ok h = ok
+shows-within (Ok a) r outer inner current ds' name i s is sound simple ok h =
+    subst (λ (o : Option OpenInterface). (encoder_scope r outer o).is_sound ≡ true → SlotsStand (contents_of r outer o).slots i (function s) → ShowsFunction (contents_of r outer o) (contents_of r outer (Some (record { interface = current.interface; declared = ds' }))) (name.text, record { signature = s; external_id = name.external_id }))
+    (sym is)
+    (λ sound h. subst (λ (zs : List Declaration). ShowsFunction (contents_of r outer (Some current)) (contents_of r outer (Some (record { interface = current.interface; declared = zs }))) (name.text, record { signature = s; external_id = name.external_id }))
+    (sym ok)
+    (shows-inside _ outer current.declared name i s (first_true (contents_of r outer (Some current)).is_followed (list_all (is_slot_of (resources_in r (Some current.interface))) (contents_of r outer (Some current)).slots) sound) simple h))
+    sound h

@@ -1,0 +1,88 @@
+-- The declarations of an instance type, followed one by one.
+use Rattle.std.proofs.Common.{◌≡◌, refl, sym, ap, ◌∙◌, ◌+◌, Bool, true, false, List, [], ◌∷◌, ◌++◌, Option, Some, None, slice_get, length, length-append, arith}
+use Rattle.comp_bytes.specs.declared.forms.ComponentTypeRef.{ComponentTypeRef}
+use Rattle.comp_bytes.specs.declared.forms.ComponentTypeRef.TheVariants as refs
+use Rattle.comp_bytes.specs.Raw.{Declaration, Alias, ExternName}
+use Rattle.comp_bytes.specs.Held.{declaration_slots, type_slots}
+use Rattle.comp_bytes.specs.Reading.{◌>>=◌}
+use Rattle.wit_model.specs.Tree.{Place}
+use Rattle.comp_meaning.specs.Follow.{Slot, InstanceScope, when, provided, is_simple, definition, function_signature, function_in, named_type, show_type, show_function, instance_step, instance_steps}
+
+-- ---- a way back through a step
+
+pub record Bound {A B : Type 0} (o : Option A) (f : A → Option B) (y : B) : Type 0 where
+  pub item : A
+  pub is : o ≡ Some item
+  pub then : f item ≡ Some y
+
+pub unbind : {A B : Type 0} (o : Option A) (f : A → Option B) (y : B) → (o >>= f) ≡ Some y → Bound o f y
+unbind None f y e = absurd (let z : ⊥ = cc in z)
+unbind (Some x) f y e = record { item = x; is = refl; then = e }
+
+pub unwhen : {A : Type 0} (b : Bool) (o : Option A) (y : A) → when b o ≡ Some y → o ≡ Some y
+unwhen true o y e = e
+unwhen false o y e = absurd (let z : ⊥ = cc in z)
+
+pub unprovided : {A : Type 0} (b : Bool) (x y : A) → provided b x ≡ Some y → x ≡ y
+unprovided true x y e = cc
+unprovided false x y e = absurd (let z : ⊥ = cc in z)
+
+-- ---- how many slots there are
+
+more-slots : (s s' : InstanceScope) (x : Slot) → s.slots ++ x ∷ [] ≡ s'.slots → length s'.slots ≡ length s.slots + 1
+more-slots s s' x e = ap length (sym e) ∙ length-append s.slots (x ∷ [])
+
+shown-count : (place : Place) (name : ExternName) (described : ComponentTypeRef) (s s' : InstanceScope) → show_type place name described s ≡ Some s' → length s'.slots ≡ length s.slots + 1
+shown-count place name described s s' e =
+    let b = unbind (named_type s.slots place name.text described) _ s' e in
+    let q : Some _ ≡ Some s' = b.then in
+    more-slots s s' b.item.1 (let z : s.slots ++ b.item.1 ∷ [] ≡ s'.slots = some-slots _ s' q in z)
+  where
+    some-slots : (a b : InstanceScope) → Some a ≡ Some b → a.slots ≡ b.slots
+    some-slots a b e = let z : a ≡ b = cc in ap (λ (s : InstanceScope). s.slots) z
+
+step-count : (place : Place) (outer : List Slot) (s s' : InstanceScope) (d : Declaration) → instance_step place outer s d ≡ Some s' → length s'.slots ≡ length s.slots + declaration_slots d
+step-count place outer s s' (Declaration.defined q) e =
+    let b = unbind (definition s.slots q) _ s' e in
+    more-slots s s' (Slot.value b.item) (let z : record { slots = s.slots ++ Slot.value b.item ∷ []; shown = s.shown } ≡ s' = some-same _ s' b.then in ap (λ (s : InstanceScope). s.slots) z)
+  where
+    some-same : (a b : InstanceScope) → Some a ≡ Some b → a ≡ b
+    some-same a b e = cc
+step-count place outer s s' (Declaration.function q) e =
+    let b = unbind (function_signature s.slots q) _ s' e in
+    more-slots s s' (Slot.function b.item) (let z : record { slots = s.slots ++ Slot.function b.item ∷ []; shown = s.shown } ≡ s' = some-same _ s' b.then in ap (λ (s : InstanceScope). s.slots) z)
+  where
+    some-same : (a b : InstanceScope) → Some a ≡ Some b → a ≡ b
+    some-same a b e = cc
+step-count place outer s s' (Declaration.alias_of (Alias.of_outer scopes n)) e =
+    let b = unbind (slice_get outer n) _ s' e in
+    more-slots s s' b.item (ap (λ (s : InstanceScope). s.slots) (unprovided _ _ s' b.then))
+step-count place outer s s' (Declaration.alias_of (Alias.of_export m n)) e = absurd (let z : ⊥ = cc in z)
+step-count place outer s s' (Declaration.imported name described) e = absurd (let z : ⊥ = cc in z)
+step-count place outer s s' (Declaration.exported name (refs.Func n)) e =
+    let b = unbind (function_in (slice_get s.slots n)) _ s' (unwhen (is_simple name) (show_function name n s) s' e) in
+    let z : s.slots ≡ s'.slots = some-slots _ s' b.then in
+    ap length (sym z) ∙ (let y : length s.slots ≡ length s.slots + 0 = omega arith in y)
+  where
+    some-slots : (a b : InstanceScope) → Some a ≡ Some b → a.slots ≡ b.slots
+    some-slots a b e = let z : a ≡ b = cc in ap (λ (s : InstanceScope). s.slots) z
+step-count place outer s s' (Declaration.exported name (refs.TypeEq n)) e = shown-count place name (refs.TypeEq n) s s' (unwhen (is_simple name) (show_type place name (refs.TypeEq n) s) s' e)
+step-count place outer s s' (Declaration.exported name refs.SubResource) e = shown-count place name refs.SubResource s s' (unwhen (is_simple name) (show_type place name refs.SubResource s) s' e)
+step-count place outer s s' (Declaration.exported name (refs.Component n)) e = absurd (let q = unwhen (is_simple name) (show_type place name (refs.Component n) s) s' e in let z : ⊥ = cc in z)
+step-count place outer s s' (Declaration.exported name (refs.Instance n)) e = absurd (let q = unwhen (is_simple name) (show_type place name (refs.Instance n) s) s' e in let z : ⊥ = cc in z)
+
+pub steps-count : (place : Place) (outer : List Slot) (s s' : InstanceScope) (ds : List Declaration) → instance_steps place outer s ds ≡ Some s' → length s'.slots ≡ length s.slots + type_slots ds
+steps-count place outer s s' [] e = let z : s ≡ s' = cc in ap (λ (s : InstanceScope). length s.slots) (sym z) ∙ (let y : length s.slots ≡ length s.slots + 0 = omega arith in y)
+steps-count place outer s s' (d ∷ ds) e =
+    let b = unbind (instance_step place outer s d) _ s' e in
+    let one = step-count place outer s b.item d b.is in
+    let rest = steps-count place outer b.item s' ds b.then in
+    omega arith
+
+-- ---- one declaration more
+
+pub steps-more : (place : Place) (outer : List Slot) (s m n : InstanceScope) (ds : List Declaration) (d : Declaration) → instance_steps place outer s ds ≡ Some m → instance_step place outer m d ≡ Some n → instance_steps place outer s (ds ++ d ∷ []) ≡ Some n
+steps-more place outer s m n [] d e f = let z : s ≡ m = cc in ap (λ (x : InstanceScope). instance_step place outer x d >>= λ next. Some next) z ∙ ap (λ o. o >>= λ next. Some next) f
+steps-more place outer s m n (x ∷ ds) d e f =
+    let b = unbind (instance_step place outer s x) _ m e in
+    ap (λ o. o >>= λ next. instance_steps place outer next (ds ++ d ∷ [])) b.is ∙ steps-more place outer b.item m n ds d b.then f

@@ -1,0 +1,75 @@
+use Rattle.std.proofs.Common.{◌≡◌, refl, sym, subst, ap, ◌∙◌, OnOk}
+use Rattle.wit_model.specs.declared.model.Resolve.{Resolve}
+use Rattle.wit_encode.specs.Scope.{Scope}
+use Rattle.wit_encode.specs.Instance.{encoder_scope, exports_in}
+use Rattle.wit_encode.specs.declared.maps.TypeEncodingMaps.{TypeEncodingMaps}
+use Rattle.wit_encode.specs.Maps.{MapsGrow}
+use Rattle.wit_model.specs.Text.{text_of}
+use Rattle.wit_model.specs.Meant.{signature_of, function_meaning}
+use Rattle.comp_bytes.specs.RawOf.{raw_name}
+use Rattle.wit_encode.proofs.Continuing.{Showed, function-showed}
+use Rattle.wit_encode.proofs.Counting.{function-counted, function-names}
+use Rattle.wit_encode.proofs.FunctionExports.{function-stays}
+use Rattle.wit_encode.proofs.interface.InterfaceEncoderOf+TypeEncodingMaps.encode_function.Goals as goal
+use Rattle.wit_encode.proofs.interface.InterfaceEncoderOf+TypeEncodingMaps.encode_function.Goals.{After-export_function}
+
+pub encode_func_type-requires : goal.encode_func_type-requires
+encode_func_type-requires c = λ _. ((refl, tt), rw c.requires.packages (c.requires.encodable.types, (c.requires.encodable.formed, c.requires.agree)))
+
+pub export_function-requires-clause-sound : goal.export_function-requires-clause-sound
+export_function-requires-clause-sound c =
+    ap (λ (s : Scope). s.is_sound) c.encode_func_type.ensures.leaves.scope_stays
+    ∙ ap (λ (r : Resolve). (encoder_scope r c.args.self.now.outer c.args.self.now.inner).is_sound) c.requires.packages ∙ c.requires.encodable.formed.sound
+
+showed : (c : After-export_function) → Showed c.export_function.result c.args.resolve.now c.args.self.now.outer c.export_function.new.self.outer c.args.self.now.inner c.export_function.new.self.inner c.args.self.now.maps c.export_function.new.self.maps (text_of c.args.name.now, function_meaning c.args.resolve.now c.args.func.now)
+showed c = function-showed c.export_function.result c.args.resolve.now c.args.self.now.resolve.now c.encode_func_type.new.enc.resolve.now c.export_function.new.self.resolve.now c.args.self.now.outer c.encode_func_type.new.enc.outer c.export_function.new.self.outer c.args.self.now.inner c.encode_func_type.new.enc.inner c.export_function.new.self.inner c.args.self.now.maps c.encode_func_type.new.enc.maps c.export_function.new.self.maps
+    (text_of c.args.name.now, function_meaning c.args.resolve.now c.args.func.now) ((raw_name c.name_of.result).text, record { signature = signature_of c.args.resolve.now c.args.func.now; external_id = (raw_name c.name_of.result).external_id })
+    c.requires.packages c.encode_func_type.ensures.leaves.scope_stays c.encode_func_type.ensures.leaves.agree (λ i. (c.export_function.ensures.resolve i).now) c.export_function.ensures.outer c.export_function.ensures.own c.export_function.ensures.maps
+    (λ i. (c.name_of.ensures.text i, record { signature = signature_of c.args.resolve.now c.args.func.now; external_id = c.name_of.ensures.external_id i }))
+    (c.export_function.ensures.ok (signature_of c.args.resolve.now c.args.func.now) c.in_ok-index.ensures.ok) c.export_function.ensures.err
+
+pub returns-clause-continues : goal.returns-clause-continues
+returns-clause-continues c = (showed (goal.at.returns-clause-continues c).After-export_function).continues
+
+pub returns-clause-shows : goal.returns-clause-shows
+returns-clause-shows c = (showed (goal.at.returns-clause-shows c).After-export_function).shows
+
+pub returns-clause-counts : goal.returns-clause-counts
+returns-clause-counts c =
+    function-counted c.export_function.result c.args.resolve.now c.args.self.now.resolve.now c.encode_func_type.new.enc.resolve.now
+    c.export_function.new.self.resolve.now c.args.self.now.outer c.encode_func_type.new.enc.outer c.export_function.new.self.outer c.args.self.now.inner
+    c.encode_func_type.new.enc.inner c.export_function.new.self.inner c.args.self.now.maps c.encode_func_type.new.enc.maps c.export_function.new.self.maps
+    c.args.func.now (
+      (raw_name c.name_of.result).text,
+      record {
+        signature = signature_of c.args.resolve.now c.args.func.now;
+        external_id = (raw_name c.name_of.result).external_id;
+      },
+    ) c.in_ok-index.index
+    c.requires.packages c.encode_func_type.ensures.leaves.scope_stays (λ i. (c.export_function.ensures.resolve i).now) c.export_function.ensures.maps
+    c.in_ok-index.ensures.counts (c.export_function.ensures.ok (signature_of c.args.resolve.now c.args.func.now) c.in_ok-index.ensures.ok)
+
+stays : (c : After-export_function) → OnOk c.export_function.result (exports_in c.args.resolve.now c.export_function.new.self.outer c.export_function.new.self.inner ≡ exports_in c.args.resolve.now c.args.self.now.outer c.args.self.now.inner)
+stays c = function-stays c.export_function.result c.args.resolve.now c.args.self.now.resolve.now c.encode_func_type.new.enc.resolve.now c.export_function.new.self.resolve.now c.args.self.now.outer c.encode_func_type.new.enc.outer c.export_function.new.self.outer
+    c.args.self.now.inner c.encode_func_type.new.enc.inner c.export_function.new.self.inner c.args.self.now.maps c.encode_func_type.new.enc.maps c.args.func.now
+    ((raw_name c.name_of.result).text, record { signature = signature_of c.args.resolve.now c.args.func.now; external_id = (raw_name c.name_of.result).external_id })
+    c.requires.valid c.requires.used c.requires.packages c.encode_func_type.ensures.leaves.scope_stays (λ i. (c.export_function.ensures.resolve i).now) c.encode_func_type.ensures.leaves.agree.once c.in_ok-index.ensures.learns c.in_ok-index.ensures.counts.2.shows
+    (c.export_function.ensures.ok (signature_of c.args.resolve.now c.args.func.now) c.in_ok-index.ensures.ok)
+
+pub returns-clause-types_stay : goal.returns-clause-types_stay
+returns-clause-types_stay c = stays (goal.at.returns-clause-types_stay c).After-export_function
+
+pub returns-clause-maps_grow : goal.returns-clause-maps_grow
+returns-clause-maps_grow c = subst (λ (m : TypeEncodingMaps). MapsGrow c.args.self.now.maps m) (sym c.export_function.ensures.maps) c.encode_func_type.ensures.leaves.maps_grow
+
+pub returns-clause-names_stay : goal.returns-clause-names_stay
+returns-clause-names_stay c =
+    function-names c.export_function.result c.args.resolve.now c.args.self.now.resolve.now c.encode_func_type.new.enc.resolve.now
+    c.export_function.new.self.resolve.now c.args.self.now.outer c.encode_func_type.new.enc.outer c.export_function.new.self.outer
+    c.args.self.now.inner c.encode_func_type.new.enc.inner c.export_function.new.self.inner c.args.self.now.maps c.encode_func_type.new.enc.maps
+    c.export_function.new.self.maps
+    ((raw_name c.name_of.result).text, record { signature = signature_of c.args.resolve.now c.args.func.now; external_id = (raw_name c.name_of.result).external_id })
+    c.requires.packages c.encode_func_type.ensures.leaves.scope_stays (λ i. (c.export_function.ensures.resolve i).now)
+    c.export_function.ensures.maps c.in_ok-index.ensures.counts.2.shows
+    (c.export_function.ensures.ok (signature_of c.args.resolve.now c.args.func.now) c.in_ok-index.ensures.ok)
+    (stays (goal.at.returns-clause-names_stay c).After-export_function)

@@ -1,0 +1,21 @@
+use Rattle.std.proofs.Common.{◌≡◌, ◌++◌, map, take}
+use Rattle.wit_encode.specs.Counts.{names_defined}
+use Rattle.wit_encode.specs.Distinct.{AddsFunctions}
+use Rattle.wit_encode.specs.Instance.{placed_function, meaning_of, own_of, contents_of, encoder_scope, definitions_with, Continues, exports_in}
+use Rattle.wit_encode.specs.Maps.{MapsGrow}
+use Rattle.wit_encode.proofs.interface.InterfaceEncoderOf+TypeEncodingMaps.encode_functions.Given as goal
+
+abbrev pub invariant-loop-entry : goal.invariant-loop-entry
+invariant-loop-entry l = record {
+  packages_ : l.self.resolve.now ≡ l.resolve;
+  own : own_of l.self.inner ≡ own_of l.fn.self.inner;
+  continues : Continues l.resolve l.resolve l.fn.self.outer l.self.outer l.fn.self.inner l.self.inner l.fn.self.maps l.self.maps;
+  shows : (contents_of l.resolve l.self.outer l.self.inner).shown.functions ≡ (contents_of l.resolve l.fn.self.outer l.fn.self.inner).shown.functions ++ map (λ f. meaning_of l.resolve (placed_function f)) (take l.entry-index l.functions);
+  counts : AddsFunctions l.resolve (encoder_scope l.resolve l.fn.self.outer l.fn.self.inner) l.fn.self.maps l.self.maps
+      (definitions_with (contents_of l.resolve l.fn.self.outer l.fn.self.inner)) (definitions_with (contents_of l.resolve l.self.outer l.self.inner))
+      (map (λ f. f.2.now) (take l.entry-index l.functions));
+  names : names_defined l.resolve (encoder_scope l.resolve l.fn.self.outer l.fn.self.inner) l.self.maps ≡ names_defined l.resolve
+      (encoder_scope l.resolve l.fn.self.outer l.fn.self.inner) l.fn.self.maps;
+  grow : MapsGrow l.fn.self.maps l.self.maps;
+  types_stay : exports_in l.resolve l.self.outer l.self.inner ≡ exports_in l.resolve l.fn.self.outer l.fn.self.inner;
+}

@@ -1,0 +1,52 @@
+use Rattle.std.proofs.Common.{◌≡◌, refl, sym, subst, ◌∙◌, List, Some}
+use Rattle.std.specs.List.{Contains}
+use Rattle.std.proofs.lemmas.Option.{slice_get_read}
+use Rattle.wit_model.specs.Lookup.{interface_at}
+use Rattle.wit_model.specs.declared.model.TypeId.{TypeId}
+use Rattle.wit_encode.specs.Distinct.{DefinesTypes}
+use Rattle.wit_encode.specs.Instance.{placed_function, EncodesInterface, CanEncodeInterface}
+use Rattle.wit_encode.proofs.Alone.{valid-encodable}
+use Rattle.wit_encode.proofs.Lists.{contains-map}
+use Rattle.wit_encode.proofs.Opening.{closes, close-each, permuted-contains}
+use Rattle.wit_encode.specs.Exports.{UsesListed}
+use Rattle.wit_encode.proofs.Exporting.{uses-listed}
+use Rattle.wit_encode.proofs.FunctionExports.{keyed-value}
+use Rattle.wit_encode.proofs.interface.InterfaceEncoderOf+TypeEncodingMaps.encode_instance.Goals as goal
+use Rattle.wit_encode.proofs.interface.InterfaceEncoderOf+TypeEncodingMaps.encode_instance.Goals.{After-index-def}
+
+there : (c : After-index-def) → interface_at c.args.self.now.resolve.now c.args.interface.0 ≡ Some c.index-def.result.now
+there c = slice_get_read _ _ _ _ refl c.requires.in_range c.index-def.ensures
+
+encodable : (c : After-index-def) → CanEncodeInterface c.args.self.now.resolve.now c.args.self.now.outer c.args.interface c.index-def.result.now
+encodable c = valid-encodable c.args.self.now.resolve.now c.requires.valid c.args.self.now.outer c.args.interface c.index-def.result.now (there c) c.requires.alone
+
+pub encode_inside-requires-clause-types : goal.encode_inside-requires-clause-types
+encode_inside-requires-clause-types c = λ t h.
+    (encodable (goal.at.encode_inside-requires-clause-types c).After-index-def).types t
+    (subst (λ (xs : List TypeId). Contains xs t) (c.deref.ensures.value ∙ c.in_ok-types.ensures) h)
+
+pub encode_inside-requires-clause-functions : goal.encode_inside-requires-clause-functions
+encode_inside-requires-clause-functions c = λ f h.
+    (encodable (goal.at.encode_inside-requires-clause-functions c).After-index-def).functions (placed_function f)
+    (permuted-contains _ _ (placed_function f) c.in_ok-functions.ensures.all (contains-map placed_function c.in_ok-functions.functions.items f (rw c.deref-2.ensures.value at h)))
+
+pub encode_inside-requires-clause-listed : goal.encode_inside-requires-clause-listed
+encode_inside-requires-clause-listed c = record {
+  id = c.args.interface;
+  is = refl;
+  def = c.index-def.result.now;
+  there = there (goal.at.encode_inside-requires-clause-listed c).After-index-def;
+  listed = c.deref.ensures.value ∙ c.in_ok-types.ensures;
+}
+
+pub encode_inside-requires-clause-uses : goal.encode_inside-requires-clause-uses
+encode_inside-requires-clause-uses c = λ f h. subst (λ (xs : List TypeId). UsesListed c.args.self.now.resolve.now xs f.2.now) (sym (c.deref.ensures.value ∙ c.in_ok-types.ensures))
+    (uses-listed c.args.self.now.resolve.now c.requires.valid c.args.interface.0 c.index-def.result.now (there (goal.at.encode_inside-requires-clause-uses c).After-index-def) f.2.now
+    (keyed-value c.index-def.result.now.functions.entries (placed_function f) (permuted-contains _ _ (placed_function f) c.in_ok-functions.ensures.all (contains-map placed_function c.in_ok-functions.functions.items f (rw c.deref-2.ensures.value at h)))))
+
+pub returns-clause-ok : goal.returns-clause-ok
+returns-clause-ok c =
+    let at = (goal.at.returns-clause-ok c).After-index-def in
+    close-each c.close.result (λ def. interface_at c.args.self.now.resolve.now c.args.interface.0 ≡ Some def) (λ def k. EncodesInterface c.args.self.now.resolve.now c.args.self.now.outer c.close.new.self.outer c.args.interface def k) c.index-def.result.now (there at)
+    (λ def is. closes c.close.result c.args.self.now.resolve.now c.args.self.now.outer c.encode_inside.new.self.outer c.close.new.self.outer c.args.interface def c.index-def.result.now c.in_ok-declared.declared c.in_ok-functions.functions.items c.deref-2.result.now
+    (sym (there at) ∙ is) c.encode_inside.ensures.outer c.deref-2.ensures.value c.in_ok-functions.ensures.all c.in_ok-functions.ensures.order c.in_ok-declared.ensures.function_types (subst (λ (ts : List TypeId). DefinesTypes c.args.self.now.resolve.now c.args.interface ts c.in_ok-declared.declared) (c.deref.ensures.value ∙ c.in_ok-types.ensures) c.in_ok-declared.ensures.value_types) c.in_ok-declared.ensures.ok c.close.ensures.ok c.requires.valid is)

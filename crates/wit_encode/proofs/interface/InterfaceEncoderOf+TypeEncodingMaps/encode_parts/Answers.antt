@@ -1,0 +1,33 @@
+use Rattle.std.proofs.Common.{subst, map}
+use Rattle.wit_encode.specs.Scope.{Scope}
+use Rattle.wit_encode.specs.Instance.{CanEncodeFunction, own_of, declarations_in}
+use Rattle.wit_encode.proofs.Continuing.{same-scope}
+use Rattle.wit_encode.proofs.Counting.{parts-counted, parts-named}
+use Rattle.wit_encode.proofs.FunctionExports.{listed-used, exported-after}
+use Rattle.wit_encode.proofs.interface.InterfaceEncoderOf+TypeEncodingMaps.encode_parts.Goals as goal
+
+pub encode_functions-requires-clause-encodable : goal.encode_functions-requires-clause-encodable
+encode_functions-requires-clause-encodable c = λ f h. subst (λ (s : Scope). CanEncodeFunction c.args.resolve.now s f.2.now)
+    (same-scope c.args.resolve.now c.args.self.now.resolve.now c.encode_types.new.self.resolve.now c.args.self.now.outer c.encode_types.new.self.outer c.args.self.now.inner c.encode_types.new.self.inner c.requires.packages c.encode_types.ensures.leaves.scope_stays)
+    (c.requires.functions f h)
+
+pub returns-clause-counts : goal.returns-clause-counts
+returns-clause-counts c =
+    parts-counted c.encode_functions.result c.args.resolve.now c.args.self.now.resolve.now c.encode_types.new.self.resolve.now c.args.self.now.outer
+    c.encode_types.new.self.outer c.encode_functions.new.self.outer c.args.self.now.inner c.encode_types.new.self.inner c.encode_functions.new.self.inner
+    c.args.self.now.maps c.encode_types.new.self.maps c.encode_functions.new.self.maps
+    (map (λ f. f.2.now) c.args.functions.now) c.requires.packages c.encode_types.ensures.leaves.scope_stays c.in_ok-encode_types.ensures.counts
+    c.encode_functions.ensures.counts
+
+pub encode_functions-requires-clause-used : goal.encode_functions-requires-clause-used
+encode_functions-requires-clause-used c = λ f h. listed-used c.args.resolve.now c.encode_types.new.self.maps c.args.types.now f.2.now c.in_ok-encode_types.ensures.known (c.requires.uses f h)
+
+pub returns-clause-exported : goal.returns-clause-exported
+returns-clause-exported c = exported-after c.encode_functions.result c.args.resolve.now c.args.self.now.resolve.now c.encode_types.new.self.resolve.now c.args.self.now.outer c.encode_types.new.self.outer c.encode_functions.new.self.outer
+    c.args.self.now.inner c.encode_types.new.self.inner c.encode_functions.new.self.inner (declarations_in c.args.resolve.now (own_of c.args.self.now.inner)) c.requires.packages c.encode_types.ensures.leaves.scope_stays c.in_ok-encode_types.ensures.exported c.encode_functions.ensures.types_stay
+
+pub returns-clause-defined : goal.returns-clause-defined
+returns-clause-defined c =
+    parts-named c.encode_functions.result c.args.resolve.now c.args.self.now.resolve.now c.encode_types.new.self.resolve.now c.args.self.now.outer
+    c.encode_types.new.self.outer c.args.self.now.inner c.encode_types.new.self.inner c.encode_types.new.self.maps c.encode_functions.new.self.maps _
+    c.encode_types.ensures.leaves.scope_stays c.in_ok-encode_types.ensures.defined c.encode_functions.ensures.names_stay

@@ -1,0 +1,25 @@
+use Rattle.std.proofs.Common.{ℕ, Result, Ok}
+use Rattle.wit_model.specs.declared.error.Error.{Error}
+use Rattle.comp_bytes.specs.RawOf.{raw_name}
+use Rattle.wit_encode.proofs.Within.{type-within}
+use Rattle.wit_encode.proofs.interface.InterfaceEncoderOfTypeEncodingMapsValtypeEncoder.export_type.Goals as goal
+
+pub returns-clause-ok : goal.returns-clause-ok
+returns-clause-ok c =
+    let res : Result ℕ Error = Ok c.in_ok-slot-in-Some.slot in
+    (type-within res c.args.self.now.resolve.now c.args.self.now.outer c.args.self.now.inner c.in-Some.current c.export_inside.new.inner c.in-Some.is c.args.index (raw_name c.args.name) c.requires c.in_ok-slot-in-Some.ensures.ok tt).ok
+
+pub returns-clause-grows : goal.returns-clause-grows
+returns-clause-grows c =
+    let res : Result ℕ Error = Ok c.in_ok-slot-in-Some.slot in
+    (type-within res c.args.self.now.resolve.now c.args.self.now.outer c.args.self.now.inner c.in-Some.current c.export_inside.new.inner c.in-Some.is c.args.index (raw_name c.args.name) c.requires c.in_ok-slot-in-Some.ensures.ok tt).grows
+
+pub returns-clause-scope_stays : goal.returns-clause-scope_stays
+returns-clause-scope_stays c =
+    let res : Result ℕ Error = Ok c.in_ok-slot-in-Some.slot in
+    (type-within res c.args.self.now.resolve.now c.args.self.now.outer c.args.self.now.inner c.in-Some.current c.export_inside.new.inner c.in-Some.is c.args.index (raw_name c.args.name) c.requires c.in_ok-slot-in-Some.ensures.ok tt).scope_stays
+
+pub returns-clause-counts : goal.returns-clause-counts
+returns-clause-counts c =
+    let res : Result ℕ Error = Ok c.in_ok-slot-in-Some.slot in
+    (type-within res c.args.self.now.resolve.now c.args.self.now.outer c.args.self.now.inner c.in-Some.current c.export_inside.new.inner c.in-Some.is c.args.index (raw_name c.args.name) c.requires c.in_ok-slot-in-Some.ensures.ok tt).counted

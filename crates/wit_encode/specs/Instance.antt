@@ -1,0 +1,247 @@
+-- What an encoder of interfaces holds: the component type around, and in it the instance type of the interface that it is encoding.
+-- What has been declared is followed, so each slot stands for what the bytes say.
+use Rattle.std.specs.Prelude.{length, ℕ, ◌≡◌, ◌+◌, ◌++◌, Bool, true, false, not, ◌&&◌, List, [], ◌∷◌, map, count_by, Option, Some, None, slice_get, is_some}
+use Rattle.std.specs.Option.{option_map_or}
+use Rattle.std.specs.List.{list_all}
+use Rattle.std.specs.Set.{distinct_count}
+use Rattle.std.specs.Prelude.{String}
+use Rattle.std.specs.Borrow.{Bor}
+use Rattle.std.specs.declared.alloc.Global.{Global}
+use Rattle.wit_model.specs.Text.{Text, text_of}
+use Rattle.wit_model.specs.Tree.{Place, here, named}
+use Rattle.wit_model.specs.Meaning.{TypeMeaning, FunctionMeaning}
+use Rattle.wit_model.specs.Meant.{interface_meaning_at}
+use Rattle.wit_model.specs.Lookup.{place_of}
+use Rattle.wit_model.specs.Parts.{same_owner}
+use Rattle.wit_model.specs.declared.model.Resolve.{Resolve}
+use Rattle.wit_model.specs.declared.model.InterfaceId.{InterfaceId}
+use Rattle.wit_model.specs.declared.model.TypeOwner.{TypeOwner}
+use Rattle.wit_model.specs.declared.model.TypeOwner.TheVariants as owner
+use Rattle.comp_bytes.specs.Raw.{Declaration, Declarations, append, from_list}
+use Rattle.comp_meaning.specs.Follow as follow
+use Rattle.comp_meaning.specs.Reads.{interface_meaning}
+use Rattle.comp_meaning.specs.Follow.{Slot, View, InstanceScope, instance_view, instance_steps, new_instance, component_steps, new_scope}
+use Rattle.wit_encode.specs.declared.interface.OpenInterface.{OpenInterface}
+use Rattle.std.specs.List.{Contains}
+use Rattle.indexmap.specs.IndexMap.{values}
+use Rattle.wit_model.specs.declared.model.Interface.{Interface}
+use Rattle.wit_model.specs.declared.model.TypeId.{TypeId}
+use Rattle.wit_model.specs.declared.model.«Type».TheVariants as ty
+use Rattle.comp_bytes.specs.Held.{type_slots_of}
+use Rattle.wit_encode.specs.Slots.{Pairs, Standing, tree, function}
+use Rattle.wit_encode.specs.Resources.{Names, is_resource_tree, resource_names}
+use Rattle.wit_model.specs.declared.model.Function.{Function}
+use Rattle.wit_model.specs.Meant.{signature_of, function_meaning}
+use Rattle.wit_model.specs.Parts.{function_types}
+use Rattle.wit_encode.specs.declared.maps.TypeEncodingMaps.{TypeEncodingMaps}
+use Rattle.wit_encode.specs.Maps.{MapsAgree}
+use Rattle.wit_encode.specs.Formed.{IsFormedSignature}
+use Rattle.wit_encode.specs.Fits.{CanEncode}
+use Rattle.wit_encode.specs.Scope.{Scope}
+use Rattle.wit_encode.specs.Order.{functions_in_order}
+pub use Rattle.wit_encode.specs.Distinct.{is_value_type, is_function_type}
+use Rattle.wit_encode.specs.Distinct.{key_of, are_same, DefinesTypes}
+use Rattle.wit_encode.specs.Counts.{Definitions}
+
+-- ---- slots
+
+-- what a slot that has been followed stands for
+abbrev pub standing_at : Option Slot → Option Standing
+standing_at (Some (Slot.value t)) = Some (tree t)
+standing_at (Some (Slot.resource place name)) = Some (tree (named place name))
+standing_at (Some (Slot.function s)) = Some (function s)
+standing_at (Some (Slot.instance ds n)) = None
+standing_at None = None
+
+abbrev pub SlotsStand : List Slot → Pairs
+SlotsStand slots i m = standing_at (slice_get slots i) ≡ Some m
+
+-- whether a slot is one of a resource exactly where its name stands for one
+abbrev pub is_slot_of : Names → Slot → Bool
+is_slot_of resources (Slot.value t) = not (is_resource_tree resources t)
+is_slot_of resources (Slot.resource place name) = resources place name
+is_slot_of resources (Slot.function s) = true
+is_slot_of resources (Slot.instance ds n) = true
+
+-- ---- what has been declared in a scope
+
+pub record Contents : Type 0 where
+  pub slots : List Slot
+  pub shown : View
+  pub is_followed : Bool
+  -- how many value types and how many types of functions are defined
+  pub types : ℕ
+  pub functions : ℕ
+
+abbrev pub no_view : View
+no_view = record { types = []; functions = [] }
+
+-- how many of the declarations at the first level are such
+abbrev pub count_declared : (Declaration → Bool) → Declarations → ℕ
+count_declared test Declarations.no_more = 0
+count_declared test (Declarations.declares d rest) = count_by test (d ∷ []) + count_declared test rest
+count_declared test (Declarations.component inner rest) = count_declared test rest
+count_declared test (Declarations.instance inner rest) = count_declared test rest
+
+abbrev pub outer_scope : Declarations → Option follow.Scope
+outer_scope outer = component_steps new_scope outer
+
+abbrev pub outer_slots : Declarations → List Slot
+outer_slots outer = option_map_or (λ s. s.slots) (outer_scope outer) []
+
+-- of the component type
+unfoldable pub outer_contents : Declarations → Contents
+outer_contents outer = record {
+  slots = outer_slots outer;
+  shown = no_view;
+  is_followed = is_some (outer_scope outer);
+  types = count_declared is_value_type outer;
+  functions = count_declared is_function_type outer;
+}
+
+abbrev pub inner_scope : Place → Declarations → List Declaration → Option InstanceScope
+inner_scope place outer ds = instance_steps place (outer_slots outer) new_instance ds
+
+-- of the instance type in it
+unfoldable pub inner_contents : Place → Declarations → List Declaration → Contents
+inner_contents place outer ds = record {
+  slots = option_map_or (λ s. s.slots) (inner_scope place outer ds) [];
+  shown = option_map_or (λ s. s.shown) (inner_scope place outer ds) no_view;
+  is_followed = is_some (inner_scope place outer ds);
+  types = count_by is_value_type ds;
+  functions = count_by is_function_type ds;
+}
+
+-- ---- the encoder
+
+abbrev pub own_of : Option OpenInterface → Option InterfaceId
+own_of None = None
+own_of (Some current) = Some current.interface
+
+abbrev pub place_in : Resolve → Option InterfaceId → Place
+place_in r None = here
+place_in r (Some i) = place_of r (owner.Interface i)
+
+-- the declarations of the interface, with the names of its resources
+abbrev pub declarations_in : Resolve → Option InterfaceId → List (Text × TypeMeaning)
+declarations_in r None = []
+declarations_in r (Some i) = (interface_meaning_at r i.0).types
+
+abbrev pub is_owner_in : Option InterfaceId → TypeOwner → Bool
+is_owner_in None o = false
+is_owner_in (Some i) o = same_owner (owner.Interface i) o
+
+abbrev pub resources_in : Resolve → Option InterfaceId → Names
+resources_in r interface = resource_names r (is_owner_in interface)
+
+abbrev pub contents_of : Resolve → Declarations → Option OpenInterface → Contents
+contents_of r outer None = outer_contents outer
+contents_of r outer (Some current) = inner_contents (place_of r (owner.Interface current.interface)) outer current.declared
+
+abbrev pub around_of : Declarations → Option OpenInterface → Declarations
+around_of outer None = Declarations.no_more
+around_of outer (Some current) = outer
+
+-- the surroundings, with these contents
+abbrev pub scope_with : Resolve → Option InterfaceId → Declarations → Contents → Scope
+scope_with r interface around contents = record {
+  packages = r;
+  place = place_in r interface;
+  declarations = declarations_in r interface;
+  own_interface = interface;
+  instances = [];
+  resources = resources_in r interface;
+  functions = contents.shown.functions;
+  around = around;
+  is_sound = contents.is_followed && list_all (is_slot_of (resources_in r interface)) contents.slots;
+}
+
+abbrev pub encoder_scope : Resolve → Declarations → Option OpenInterface → Scope
+encoder_scope r outer inner = scope_with r (own_of inner) (around_of outer inner) (contents_of r outer inner)
+
+abbrev pub definitions_with : Contents → Definitions
+definitions_with contents = record { types = contents.types; functions = contents.functions; exports = map (λ t. (t.name, t.meaning)) contents.shown.types }
+
+-- ---- what an encoder holds: what its slots stand for, how many there are, what has been defined, and what is shown
+
+abbrev pub stands_in : Resolve → Declarations → Option OpenInterface → Pairs
+stands_in r outer inner = SlotsStand (contents_of r outer inner).slots
+
+abbrev pub slots_in : Resolve → Declarations → Option OpenInterface → ℕ
+slots_in r outer inner = length (contents_of r outer inner).slots
+
+abbrev pub defined_in : Resolve → Declarations → Option OpenInterface → Definitions
+defined_in r outer inner = definitions_with (contents_of r outer inner)
+
+-- the types that have been exported, in order, and the functions
+abbrev pub exports_in : Resolve → Declarations → Option OpenInterface → List (Text × TypeMeaning)
+exports_in r outer inner = (defined_in r outer inner).exports
+
+abbrev pub shown_functions : Resolve → Declarations → Option OpenInterface → List (Text × FunctionMeaning)
+shown_functions r outer inner = (contents_of r outer inner).shown.functions
+
+-- what is held after a function has been exported: the slots are the same
+pub record ShowsFunction (c c' : Contents) (f : Text × FunctionMeaning) : Type 0 where
+  pub slots : c'.slots ≡ c.slots
+  pub functions_shown : c'.shown.functions ≡ c.shown.functions ++ f ∷ []
+  pub types_shown : c'.shown.types ≡ c.shown.types
+  pub followed : c'.is_followed ≡ c.is_followed
+  pub types : c'.types ≡ c.types
+  pub functions : c'.functions ≡ c.functions
+
+-- the surroundings after functions have been exported
+abbrev pub with_functions : Scope → List (Text × FunctionMeaning) → Scope
+with_functions scope functions = record scope { functions = functions }
+
+-- What a call leaves, also where it is refused: the surroundings but for the functions that have been exported, and maps that agree.
+pub record Continues (r r' : Resolve) (outer outer' : Declarations) (inner inner' : Option OpenInterface) (m m' : TypeEncodingMaps) : Type 0 where
+  pub scope_stays : encoder_scope r' outer' inner' ≡ with_functions (encoder_scope r outer inner) (contents_of r' outer' inner').shown.functions
+  pub agree : MapsAgree r m' (SlotsStand (contents_of r' outer' inner').slots)
+
+-- Functions of an interface can be encoded: their types can, and they take and give no resource by themselves.
+pub record CanEncodeFunction (r : Resolve) (scope : Scope) (f : Function) : Type 0 where
+  pub types : CanEncode r scope (function_types f)
+  pub formed : IsFormedSignature scope (signature_of r f)
+
+-- ---- functions by their names
+
+abbrev pub keyed : String Global × Function → Text × Function
+keyed e = (text_of e.0, e.1)
+
+-- with a place in an order
+abbrev pub placed_function : ℕ × Bor (String Global) × Bor Function → Text × Function
+placed_function f = (text_of f.1.now, f.2.now)
+
+abbrev pub meaning_of : Resolve → Text × Function → Text × FunctionMeaning
+meaning_of r f = (f.0, function_meaning r f.1)
+
+-- an interface of which nothing has been declared yet
+abbrev pub opened : InterfaceId → Option OpenInterface
+opened i = Some (record { interface = i; declared = [] })
+
+-- Declarations of an instance type that can be followed, with each resource in a slot of its own kind, and that show exactly the types of
+-- the interface, in order, and these functions.
+pub record IsInstance (r : Resolve) (outer : Declarations) (i : InterfaceId) (ds : List Declaration) (functions : List (Text × FunctionMeaning)) : Type 0 where
+  pub view : View
+  pub followed : instance_view (place_of r (owner.Interface i)) (outer_slots outer) ds ≡ Some view
+  pub shows : view.functions ≡ functions
+  pub types : map (λ t. (t.name, t.meaning)) view.types ≡ (interface_meaning_at r i.0).types
+
+-- what an interface asks for, when it is encoded in this component type
+pub record CanEncodeInterface (r : Resolve) (outer : Declarations) (i : InterfaceId) (def : Interface) : Type 0 where
+  pub types : (t : TypeId) → Contains (values def.types) t → CanEncode r (encoder_scope r outer (opened i)) (ty.Id t ∷ [])
+  pub functions : (f : Text × Function) → Contains (map keyed def.functions.entries) f → CanEncodeFunction r (encoder_scope r outer (opened i)) f.1
+
+-- Slot k of the component type is new: an instance type that can be followed, and that shows the types of the interface, in order, and its
+-- functions, with what they mean.
+pub record EncodesInterface (r : Resolve) (outer outer' : Declarations) (i : InterfaceId) (def : Interface) (k : ℕ) : Type 0 where
+  pub declared : List Declaration
+  pub functions : List (Text × FunctionMeaning)
+  pub index : k ≡ type_slots_of outer
+  pub one_more : outer' ≡ append outer (Declarations.instance (from_list declared) Declarations.no_more)
+  pub is_instance : IsInstance r outer i declared functions
+  pub means : interface_meaning is_instance.view is_instance.view.functions ≡ interface_meaning_at r i.0
+  pub in_order : functions ≡ map (meaning_of r) (functions_in_order def)
+  -- how many types of functions and how many value types are defined
+  pub function_types : count_by is_function_type declared ≡ distinct_count are_same (map key_of (values def.functions))
+  pub value_types : DefinesTypes r i (values def.types) declared

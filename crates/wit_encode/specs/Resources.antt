@@ -1,0 +1,42 @@
+-- Which names stand for resources: no value is of such a type, and a handle is of one.
+use Rattle.std.specs.Prelude.{ℕ, Bool, true, false, ◌&&◌, is_some}
+use Rattle.std.specs.List.{list_any}
+use Rattle.wit_model.specs.Text.{Text}
+use Rattle.wit_model.specs.Tree.{Tree, Place, primitive, named, node, Declaration, type_, resource}
+use Rattle.wit_model.specs.Lookup.{place_of, interface_path}
+use Rattle.wit_model.specs.Rules.{text_is}
+use Rattle.wit_model.specs.Parts.{is_resource, numbered_from}
+use Rattle.wit_model.specs.declared.model.Resolve.{Resolve}
+use Rattle.wit_model.specs.declared.model.TypeDef.{TypeDef}
+use Rattle.wit_model.specs.declared.model.TypeOwner.{TypeOwner}
+use Rattle.wit_model.specs.declared.model.TypeOwner.TheVariants as owner
+use Rattle.comp_meaning.specs.Same.{same_place}
+
+-- names in their places
+abbrev pub Names : Type 0
+Names = Place → Text → Bool
+
+-- whether a tree is such a name
+abbrev pub is_resource_tree : Names → Tree → Bool
+is_resource_tree resources (primitive p) = false
+is_resource_tree resources (named place name) = resources place name
+is_resource_tree resources (node form ts) = false
+
+-- whether a name that is declared so stands for a resource: it is a fresh one, or another name for one
+abbrev pub is_resource_declaration : Names → Declaration → Bool
+is_resource_declaration resources (type_ t) = is_resource_tree resources t
+is_resource_declaration resources resource = true
+
+-- ---- those of the packages
+
+-- whether the types of an owner are met in the scope of another: its own, and those of named interfaces
+abbrev pub is_named_interface : Resolve → TypeOwner → Bool
+is_named_interface r (owner.Interface i) = is_some (interface_path r i.0)
+is_named_interface r _ = false
+
+abbrev pub is_resource_entry : Resolve → (TypeOwner → Bool) → Place → Text → ℕ × TypeDef → Bool
+is_resource_entry r met place name e = (met e.1.owner && is_resource r e.0) && (same_place place (place_of r e.1.owner) && text_is e.1.name name)
+
+-- the names of the resources, and of the aliases of resources, that have such an owner
+abbrev pub resource_names : Resolve → (TypeOwner → Bool) → Names
+resource_names r met place name = list_any (is_resource_entry r met place name) (numbered_from 0 r.types.items)

@@ -1,0 +1,428 @@
+//! Encodes interfaces as instance types.
+
+ghost use Rattle.std.proofs.Common.{refl};
+ghost use Rattle.std.specs.Prelude.{◌≡◌, ◌++◌, ◌∷◌, [], Some, None, ◌<◌, true, length, map, IfOk, OnOk, OnErr, IsSome};
+ghost use Rattle.std.specs.List.{Contains};
+ghost use Rattle.comp_bytes.specs.Raw.{Declaration, Declarations, append, from_list};
+ghost use Rattle.comp_bytes.specs.RawOf.{raw_defined, raw_function, raw_name};
+ghost use Rattle.comp_bytes.specs.Held.{type_slots, type_slots_of};
+
+use crate::encode::encode_valtype;
+use crate::encoder::{LendsMaps, ValtypeEncoder};
+use crate::func_type::encode_func_type;
+use crate::maps::TypeEncodingMaps;
+use crate::name::name_of;
+use crate::order::{functions_in_order, types_in_order};
+use comp_bytes::{
+    ComponentDefinedType, ComponentExternName, ComponentFuncType, ComponentType, ComponentTypeRef,
+    InstanceType,
+};
+use std::alloc::Global;
+use std::mem;
+use wit_model::{Error, Function, InterfaceId, Resolve, Type, TypeId};
+
+/// An interface that is being encoded.
+#[derive(Drop)]
+pub struct OpenInterface {
+    pub interface: InterfaceId,
+    /// The instance type, so far.
+    pub declared: InstanceType,
+}
+
+/// An encoder of interfaces. `M` is the type of its maps.
+#[derive(Drop)]
+pub struct InterfaceEncoderOf<'a, M> {
+    pub resolve: &'a Resolve,
+    /// The component type in which the instance types stand.
+    pub outer: ComponentType,
+    /// The interface that is being encoded, if one is: then what is defined stands in its instance type.
+    pub inner: Option<OpenInterface>,
+    /// The maps of the scope that types are defined in.
+    pub maps: M,
+}
+
+/// An encoder of interfaces, each as an instance type in one component type.
+pub type InterfaceEncoder<'a> = InterfaceEncoderOf<'a, TypeEncodingMaps<'a>>;
+
+fn define_inside(inner: &mut InstanceType, def: &ComponentDefinedType) -> Result<u32, Error>
+    ensures ok { IfOk result (λ i. (i ≡ type_slots inner.old) × (inner.new ≡ inner.old ++ Declaration.defined (raw_defined def.now) ∷ [])) }
+    ensures err { OnErr result (inner.new ≡ inner.old) }
+{
+    let index = inner.type_count();
+    inner.defined(def)?;
+    Ok(index)
+}
+
+fn define_outside(outer: &mut ComponentType, def: &ComponentDefinedType) -> Result<u32, Error>
+    ensures ok { IfOk result (λ i. (i ≡ type_slots_of outer.old) × (outer.new ≡ append outer.old (Declarations.declares (Declaration.defined (raw_defined def.now)) Declarations.no_more))) }
+    ensures err { OnErr result (outer.new ≡ outer.old) }
+{
+    let index = outer.type_count();
+    outer.defined(def)?;
+    Ok(index)
+}
+
+fn define_function_inside(inner: &mut InstanceType, def: &ComponentFuncType) -> Result<u32, Error>
+    ensures ok { IfOk result (λ i. (i ≡ type_slots inner.old) × (inner.new ≡ inner.old ++ Declaration.function (raw_function def.now) ∷ [])) }
+    ensures err { OnErr result (inner.new ≡ inner.old) }
+{
+    let index = inner.type_count();
+    inner.function(def)?;
+    Ok(index)
+}
+
+fn define_function_outside(outer: &mut ComponentType, def: &ComponentFuncType) -> Result<u32, Error>
+    ensures ok { IfOk result (λ i. (i ≡ type_slots_of outer.old) × (outer.new ≡ append outer.old (Declarations.declares (Declaration.function (raw_function def.now)) Declarations.no_more))) }
+    ensures err { OnErr result (outer.new ≡ outer.old) }
+{
+    let index = outer.type_count();
+    outer.function(def)?;
+    Ok(index)
+}
+
+fn export_inside(
+    inner: &mut InstanceType,
+    name: &ComponentExternName,
+    ty: ComponentTypeRef,
+) -> Result<u32, Error>
+    ensures ok { IfOk result (λ i. (i ≡ type_slots inner.old) × (inner.new ≡ inner.old ++ Declaration.exported (raw_name name.now) ty ∷ [])) }
+    ensures err { OnErr result (inner.new ≡ inner.old) }
+{
+    let index = inner.type_count();
+    inner.export(name, ty)?;
+    Ok(index)
+}
+
+impl<'a, M> LendsMaps<M> for InterfaceEncoderOf<'a, M> {
+    ghost maps_of = { λ e. e.maps };
+
+    ghost with_maps = { λ e m. record e { maps = m } };
+
+    fn type_encoding_maps(&mut self) -> &mut M {
+        &mut self.maps
+    }
+
+    ghost maps_of_with_maps = { λ e m. refl };
+
+    ghost with_own_maps = { λ e. refl };
+}
+
+impl<'a> ValtypeEncoder<'a> for InterfaceEncoderOf<'a, TypeEncodingMaps<'a>> {
+    ghost use Rattle.wit_encode.specs.Instance.{SlotsStand, contents_of, encoder_scope, definitions_with};
+    ghost use Rattle.wit_encode.specs.InstanceLaws.{slots-in_range};
+
+    ghost scope = { λ e. encoder_scope e.resolve.now e.outer e.inner };
+
+    ghost slot_count = { λ e. length (contents_of e.resolve.now e.outer e.inner).slots };
+
+    ghost stands = { λ e. SlotsStand (contents_of e.resolve.now e.outer e.inner).slots };
+
+    ghost definitions = { λ e. definitions_with (contents_of e.resolve.now e.outer e.inner) };
+
+    fn defined_type(&mut self, def: ComponentDefinedType<'a>) -> Result<u32, Error> {
+        match &mut self.inner {
+            Some(current) => define_inside(&mut current.declared, &def),
+            None => define_outside(&mut self.outer, &def),
+        }
+    }
+
+    fn define_function_type(&mut self, def: ComponentFuncType<'a>) -> Result<u32, Error> {
+        match &mut self.inner {
+            Some(current) => define_function_inside(&mut current.declared, &def),
+            None => define_function_outside(&mut self.outer, &def),
+        }
+    }
+
+    fn export_type(
+        &mut self,
+        index: u32,
+        name: ComponentExternName<'a>,
+    ) -> Result<Option<u32>, Error> {
+        match &mut self.inner {
+            Some(current) => {
+                let slot = export_inside(
+                    &mut current.declared,
+                    &name,
+                    ComponentTypeRef::TypeEq(index),
+                )?;
+                Ok(Some(slot))
+            }
+            None => unreachable!(),
+        }
+    }
+
+    fn export_resource(&mut self, name: ComponentExternName<'a>) -> Result<u32, Error> {
+        match &mut self.inner {
+            Some(current) => {
+                export_inside(&mut current.declared, &name, ComponentTypeRef::SubResource)
+            }
+            None => unreachable!(),
+        }
+    }
+
+    fn import_type(&mut self, _interface: InterfaceId, _id: TypeId) -> Result<u32, Error> {
+        unreachable!()
+    }
+
+    fn interface(&self) -> Option<InterfaceId> {
+        match &self.inner {
+            Some(current) => Some(current.interface),
+            None => None,
+        }
+    }
+
+    ghost in_range = { λ e i m h. slots-in_range (contents_of e.resolve.now e.outer e.inner).slots i m h };
+
+    ghost scope_with_maps = { λ e m. refl };
+
+    ghost count_with_maps = { λ e m. refl };
+
+    ghost definitions_with_maps = { λ e m. refl };
+
+    ghost stands_with_maps = { λ e m i s h. h };
+
+    ghost stands_without_maps = { λ e m i s h. h };
+}
+
+impl<'a> InterfaceEncoderOf<'a, TypeEncodingMaps<'a>> {
+    ghost use Rattle.wit_model.specs.Meaning.{Signature};
+    ghost use Rattle.comp_meaning.specs.Follow.{is_simple};
+    ghost use Rattle.wit_encode.specs.Slots.{function};
+    ghost use Rattle.wit_model.specs.Text.{text_of};
+    ghost use Rattle.wit_model.specs.Lookup.{interface_at};
+    ghost use Rattle.wit_model.specs.Meant.{function_meaning};
+    ghost use Rattle.wit_model.specs.Uses.{direct_deps};
+    ghost use Rattle.wit_model.specs.Valid.{IsValid};
+    ghost use Rattle.wit_encode.specs.Maps.{MapsAgree};
+    ghost use Rattle.wit_encode.specs.Leaves.{Leaves};
+    ghost use Rattle.wit_encode.specs.Fits.{CanEncode};
+    ghost use Rattle.wit_encode.specs.Counts.{AddsTypes, names_defined};
+    ghost use Rattle.std.specs.Set.{distinct_count};
+    ghost use Rattle.std.specs.Prelude.{nat_eq};
+    ghost use Rattle.wit_encode.specs.Distinct.{AddsFunctions, DefinesKeys, DefinesTypes, defined_under_names};
+    ghost use Rattle.wit_model.specs.Valid.{IsValid};
+    ghost use Rattle.wit_encode.specs.Exports.{AreTypesOf, AllKnown, KnowsUsed, UsesListed};
+    ghost use Rattle.wit_model.specs.declared.model.«Type».TheVariants as ValueType;
+    ghost use Rattle.wit_encode.specs.Instance.{ShowsFunction, CanEncodeFunction, Continues, IsInstance, EncodesInterface};
+    ghost use Rattle.wit_encode.specs.Instance.{opened, placed_function, meaning_of, own_of, declarations_in, contents_of, encoder_scope};
+    ghost use Rattle.wit_encode.specs.Instance.{stands_in, slots_in, defined_in, exports_in, shown_functions};
+    ghost use Rattle.wit_encode.specs.Maps.{MapsGrow};
+
+    /// An encoder with an empty component type. Takes constant time and no memory.
+    pub fn new(alloc: Global, resolve: &'a Resolve) -> InterfaceEncoder<'a>
+        ensures outer { result.outer ≡ Declarations.no_more }
+        ensures closed { result.inner ≡ None }
+        ensures resolve { result.resolve.now ≡ resolve.now }
+    {
+        InterfaceEncoderOf {
+            resolve,
+            outer: ComponentType::new(alloc),
+            inner: None,
+            maps: TypeEncodingMaps::new(alloc),
+        }
+    }
+
+    /// Exports the type of a slot as a function of the interface that is being encoded.
+    fn export_function(&mut self, name: ComponentExternName<'a>, index: u32) -> Result<(), Error>
+        requires inside { IsSome self.old.inner }
+        requires simple { is_simple (raw_name name) ≡ true }
+        requires sound { (encoder_scope self.old.resolve.now self.old.outer self.old.inner).is_sound ≡ true }
+        requires stands { (s : Signature) × stands_in self.old.resolve.now self.old.outer self.old.inner index (function s) }
+        ensures ok { (s : Signature) → stands_in self.old.resolve.now self.old.outer self.old.inner index (function s) → OnOk result (ShowsFunction (contents_of self.old.resolve.now self.old.outer self.old.inner) (contents_of self.new.resolve.now self.new.outer self.new.inner) ((raw_name name.entry).text, record { signature = s; external_id = (raw_name name.entry).external_id })) }
+        ensures err { OnErr result (self.new.inner ≡ self.old.inner) }
+        ensures own { own_of self.new.inner ≡ own_of self.old.inner }
+        ensures resolve { self.new.resolve ≡ self.old.resolve }
+        ensures outer { self.new.outer ≡ self.old.outer }
+        ensures maps { self.new.maps ≡ self.old.maps }
+    {
+        match &mut self.inner {
+            Some(current) => current
+                .declared
+                .export(&name, ComponentTypeRef::Func(index)),
+            None => unreachable!(),
+        }
+    }
+
+    /// Encodes a function of the interface that is being encoded: its type, if its key is new, and its export.
+    fn encode_function(
+        &mut self,
+        alloc: Global,
+        resolve: &'a Resolve,
+        name: &'a String,
+        func: &'a Function,
+    ) -> Result<(), Error>
+        requires inside { IsSome self.old.inner }
+        requires packages { self.old.resolve.now ≡ resolve.now }
+        requires encodable { CanEncodeFunction resolve.now (encoder_scope resolve.now self.old.outer self.old.inner) func.now }
+        requires agree { MapsAgree resolve.now self.old.maps (stands_in resolve.now self.old.outer self.old.inner) }
+        requires valid { IsValid resolve.now }
+        requires used { KnowsUsed resolve.now self.old.maps func.now }
+        ensures packages { self.new.resolve.now ≡ resolve.now }
+        ensures inside { own_of self.new.inner ≡ own_of self.old.inner }
+        ensures continues { Continues resolve.now resolve.now self.old.outer self.new.outer self.old.inner self.new.inner self.old.maps self.new.maps }
+        ensures shows { OnOk result (shown_functions resolve.now self.new.outer self.new.inner ≡ shown_functions resolve.now self.old.outer self.old.inner ++ (text_of name.now, function_meaning resolve.now func.now) ∷ []) }
+        ensures counts { OnOk result (AddsFunctions resolve.now (encoder_scope resolve.now self.old.outer self.old.inner) self.old.maps self.new.maps (defined_in resolve.now self.old.outer self.old.inner) (defined_in resolve.now self.new.outer self.new.inner) (func.now ∷ [])) }
+        ensures maps_grow { MapsGrow self.old.maps self.new.maps }
+        ensures types_stay { OnOk result (exports_in resolve.now self.new.outer self.new.inner ≡ exports_in resolve.now self.old.outer self.old.inner) }
+        ensures names_stay { OnOk result (names_defined resolve.now (encoder_scope resolve.now self.old.outer self.old.inner) self.new.maps ≡ names_defined resolve.now (encoder_scope resolve.now self.old.outer self.old.inner) self.old.maps) }
+    {
+        let index = encode_func_type(alloc, self, resolve, func)?;
+        self.export_function(name_of(name, &func.external_id), index)
+    }
+
+    /// Encodes functions of the interface that is being encoded, in this order.
+    fn encode_functions(
+        &mut self,
+        alloc: Global,
+        resolve: &'a Resolve,
+        functions: &[(usize, &'a String, &'a Function)],
+    ) -> Result<(), Error>
+        requires inside { IsSome self.old.inner }
+        requires packages { self.old.resolve.now ≡ resolve.now }
+        requires encodable { (f : _) → Contains functions.now f → CanEncodeFunction resolve.now (encoder_scope resolve.now self.old.outer self.old.inner) f.2.now }
+        requires agree { MapsAgree resolve.now self.old.maps (stands_in resolve.now self.old.outer self.old.inner) }
+        requires valid { IsValid resolve.now }
+        requires used { (f : _) → Contains functions.now f → KnowsUsed resolve.now self.old.maps f.2.now }
+        ensures packages { self.new.resolve.now ≡ resolve.now }
+        ensures inside { own_of self.new.inner ≡ own_of self.old.inner }
+        ensures continues { Continues resolve.now resolve.now self.old.outer self.new.outer self.old.inner self.new.inner self.old.maps self.new.maps }
+        ensures shows { OnOk result (shown_functions resolve.now self.new.outer self.new.inner ≡ shown_functions resolve.now self.old.outer self.old.inner ++ map (λ f. meaning_of resolve.now (placed_function f)) functions.now) }
+        ensures counts { OnOk result (AddsFunctions resolve.now (encoder_scope resolve.now self.old.outer self.old.inner) self.old.maps self.new.maps (defined_in resolve.now self.old.outer self.old.inner) (defined_in resolve.now self.new.outer self.new.inner) (map (λ f. f.2.now) functions.now)) }
+        ensures types_stay { OnOk result (exports_in resolve.now self.new.outer self.new.inner ≡ exports_in resolve.now self.old.outer self.old.inner) }
+        ensures names_stay { OnOk result (names_defined resolve.now (encoder_scope resolve.now self.old.outer self.old.inner) self.new.maps ≡ names_defined resolve.now (encoder_scope resolve.now self.old.outer self.old.inner) self.old.maps) }
+    {
+        for entry in functions {
+            let (_, name, func) = *entry;
+            self.encode_function(alloc, resolve, name, func)?;
+        }
+        Ok(())
+    }
+
+    /// Encodes types of the interface that is being encoded, in this order, each with what it needs before it.
+    fn encode_types(
+        &mut self,
+        alloc: Global,
+        resolve: &'a Resolve,
+        types: &[TypeId],
+    ) -> Result<(), Error>
+        requires packages { self.old.resolve.now ≡ resolve.now }
+        requires encodable { (t : _) → Contains types.now t → CanEncode resolve.now (encoder_scope self.old.resolve.now self.old.outer self.old.inner) (ValueType.Id t ∷ []) }
+        requires agree { MapsAgree resolve.now self.old.maps (stands_in self.old.resolve.now self.old.outer self.old.inner) }
+        requires valid { IsValid resolve.now }
+        requires listed { AreTypesOf resolve.now (own_of self.old.inner) types.now }
+        requires fresh { self.old.maps.id_to_index.items ≡ [] }
+        requires unshown { exports_in self.old.resolve.now self.old.outer self.old.inner ≡ [] }
+        ensures leaves { Leaves resolve.now (encoder_scope self.old.resolve.now self.old.outer self.old.inner) (encoder_scope self.new.resolve.now self.new.outer self.new.inner) (slots_in self.old.resolve.now self.old.outer self.old.inner) (slots_in self.new.resolve.now self.new.outer self.new.inner) (stands_in self.old.resolve.now self.old.outer self.old.inner) (stands_in self.new.resolve.now self.new.outer self.new.inner) self.old.maps self.new.maps }
+        ensures counts { OnOk result (AddsTypes resolve.now (encoder_scope self.old.resolve.now self.old.outer self.old.inner) self.old.maps self.new.maps (defined_in self.old.resolve.now self.old.outer self.old.inner) (defined_in self.new.resolve.now self.new.outer self.new.inner)) }
+        ensures known { OnOk result (AllKnown self.new.maps types.now) }
+        ensures exported { OnOk result (exports_in self.new.resolve.now self.new.outer self.new.inner ≡ declarations_in resolve.now (own_of self.old.inner)) }
+        ensures defined { OnOk result (names_defined resolve.now (encoder_scope self.old.resolve.now self.old.outer self.old.inner) self.new.maps ≡ distinct_count nat_eq (defined_under_names resolve.now (own_of self.old.inner) types.now)) }
+    {
+        for id in types {
+            encode_valtype(alloc, self, resolve, &Type::Id(*id))?;
+        }
+        Ok(())
+    }
+
+    /// Encodes types and functions of the interface that is being encoded.
+    fn encode_parts(
+        &mut self,
+        alloc: Global,
+        resolve: &'a Resolve,
+        types: &[TypeId],
+        functions: &[(usize, &'a String, &'a Function)],
+    ) -> Result<(), Error>
+        requires inside { IsSome self.old.inner }
+        requires packages { self.old.resolve.now ≡ resolve.now }
+        requires types { (t : _) → Contains types.now t → CanEncode resolve.now (encoder_scope self.old.resolve.now self.old.outer self.old.inner) (ValueType.Id t ∷ []) }
+        requires functions { (f : _) → Contains functions.now f → CanEncodeFunction resolve.now (encoder_scope self.old.resolve.now self.old.outer self.old.inner) f.2.now }
+        requires agree { MapsAgree resolve.now self.old.maps (stands_in self.old.resolve.now self.old.outer self.old.inner) }
+        requires valid { IsValid resolve.now }
+        requires listed { AreTypesOf resolve.now (own_of self.old.inner) types.now }
+        requires fresh { self.old.maps.id_to_index.items ≡ [] }
+        requires unshown { exports_in self.old.resolve.now self.old.outer self.old.inner ≡ [] }
+        requires uses { (f : _) → Contains functions.now f → UsesListed resolve.now types.now f.2.now }
+        ensures packages { self.new.resolve.now ≡ resolve.now }
+        ensures inside { own_of self.new.inner ≡ own_of self.old.inner }
+        ensures continues { Continues resolve.now resolve.now self.old.outer self.new.outer self.old.inner self.new.inner self.old.maps self.new.maps }
+        ensures shows { OnOk result (shown_functions resolve.now self.new.outer self.new.inner ≡ shown_functions resolve.now self.old.outer self.old.inner ++ map (λ f. meaning_of resolve.now (placed_function f)) functions.now) }
+        ensures counts { OnOk result (AddsFunctions resolve.now (encoder_scope resolve.now self.old.outer self.old.inner) self.old.maps self.new.maps (defined_in resolve.now self.old.outer self.old.inner) (defined_in resolve.now self.new.outer self.new.inner) (map (λ f. f.2.now) functions.now)) }
+        ensures exported { OnOk result (exports_in resolve.now self.new.outer self.new.inner ≡ declarations_in resolve.now (own_of self.old.inner)) }
+        ensures defined { OnOk result (names_defined resolve.now (encoder_scope resolve.now self.old.outer self.old.inner) self.new.maps ≡ distinct_count nat_eq (defined_under_names resolve.now (own_of self.old.inner) types.now)) }
+    {
+        self.encode_types(alloc, resolve, types)?;
+        self.encode_functions(alloc, resolve, functions)
+    }
+
+    /// Encodes types and functions of an interface as an instance type, in a scope of its own.
+    fn encode_inside(
+        &mut self,
+        alloc: Global,
+        interface: InterfaceId,
+        types: &[TypeId],
+        functions: &[(usize, &'a String, &'a Function)],
+    ) -> Result<InstanceType, Error>
+        requires types { (t : _) → Contains types.now t → CanEncode self.old.resolve.now (encoder_scope self.old.resolve.now self.old.outer (opened interface)) (ValueType.Id t ∷ []) }
+        requires functions { (f : _) → Contains functions.now f → CanEncodeFunction self.old.resolve.now (encoder_scope self.old.resolve.now self.old.outer (opened interface)) f.2.now }
+        requires valid { IsValid self.old.resolve.now }
+        requires listed { AreTypesOf self.old.resolve.now (Some interface) types.now }
+        requires uses { (f : _) → Contains functions.now f → UsesListed self.old.resolve.now types.now f.2.now }
+        ensures closed { self.new.inner ≡ None }
+        ensures resolve { self.new.resolve.now ≡ self.old.resolve.now }
+        ensures outer { self.new.outer ≡ self.old.outer }
+        ensures maps { self.new.maps ≡ self.old.maps }
+        ensures ok { IfOk result (λ ds. IsInstance self.old.resolve.now self.old.outer interface ds (map (λ f. meaning_of self.old.resolve.now (placed_function f)) functions.now)) }
+        ensures function_types { IfOk result (DefinesKeys (map (λ f. f.2.now) functions.now)) }
+        ensures value_types { IfOk result (DefinesTypes self.old.resolve.now interface types.now) }
+    {
+        let resolve = self.resolve;
+        let saved = mem::replace(&mut self.maps, TypeEncodingMaps::new(alloc));
+        self.inner = Some(OpenInterface {
+            interface,
+            declared: InstanceType::new(alloc),
+        });
+        let outcome = self.encode_parts(alloc, resolve, types, functions);
+        self.maps = saved;
+        let inner = mem::replace(&mut self.inner, None);
+        outcome?;
+        match inner {
+            Some(current) => Ok(current.declared),
+            None => unreachable!(),
+        }
+    }
+
+    /// Adds an instance type to the component type, and answers its slot.
+    fn close(&mut self, declared: &InstanceType) -> Result<u32, Error>
+        ensures ok { IfOk result (λ k. (k ≡ type_slots_of self.old.outer) × (self.new.outer ≡ append self.old.outer (Declarations.instance (from_list declared.now) Declarations.no_more))) }
+        ensures err { OnErr result (self.new.outer ≡ self.old.outer) }
+        ensures rest { self.new ≡ record self.old { outer = self.new.outer } }
+    {
+        let index = self.outer.type_count();
+        self.outer.instance(declared)?;
+        Ok(index)
+    }
+
+    /// Encodes an interface as an instance type, and answers its slot: its types in order, then functions of resources by the order of
+    /// their resource, then the others. The type of a function is defined just before its export, where its key is new.
+    ///
+    /// The interface uses no other, as `stands_alone` tests. No instance stands by this call alone. After a refusal the encoder is as it was.
+    ///
+    /// Takes as long as encoding the types and functions and sorting the functions.
+    pub fn encode_instance(&mut self, alloc: Global, interface: InterfaceId) -> Result<u32, Error>
+        requires closed { self.old.inner ≡ None }
+        requires in_range { interface.0 < length self.old.resolve.now.interfaces.items }
+        requires valid { IsValid self.old.resolve.now }
+        requires alone { direct_deps self.old.resolve.now interface.0 ≡ [] }
+        ensures closed { self.new.inner ≡ None }
+        ensures resolve { self.new.resolve.now ≡ self.old.resolve.now }
+        ensures maps { self.new.maps ≡ self.old.maps }
+        ensures err { OnErr result (self.new.outer ≡ self.old.outer) }
+        ensures ok { IfOk result (λ k. (def : _) → interface_at self.old.resolve.now interface.0 ≡ Some def → EncodesInterface self.old.resolve.now self.old.outer self.new.outer interface def k) }
+    {
+        let def = &self.resolve.interfaces[interface.0 as usize];
+        let types = types_in_order(alloc, def)?;
+        let functions = functions_in_order(alloc, def)?;
+        let declared = self.encode_inside(alloc, interface, &types, &functions)?;
+        self.close(&declared)
+    }
+}

@@ -1,0 +1,6 @@
+use Rattle.std.proofs.Common.{map, take}
+use Rattle.wit_encode.specs.Table.{AllDefined}
+use Rattle.wit_encode_tests.proofs.encoded.are_defined.Given as goal
+
+abbrev pub invariant-loop-param : goal.invariant-loop-param
+invariant-loop-param l = AllDefined l.resolve (map (λ p. p.ty) (take l.param-index l.params))

@@ -1,0 +1,368 @@
+//! `Resolve`s to start from, and what is added to them: package 0 is `a:b` with the empty interface `i` and the empty world `w`,
+//! both number 0. Each call takes time and memory for what it adds alone, and is refused for want of memory alone.
+
+use std::alloc::{AllocError, Global};
+use wit_model::{
+    Docs, EntryList, Fault, Function, FunctionKind, Interface, InterfaceId, Map, Package,
+    PackageId, PackageName, Param, Resolve, Stability, Type, TypeDef, TypeDefKind, TypeId,
+    TypeOwner, World, WorldId, WorldItem, WorldKey,
+};
+
+/// Interface 0 as an owner.
+pub const INTERFACE: TypeOwner = TypeOwner::Interface(InterfaceId(0));
+
+/// World 0 as an owner.
+pub const WORLD: TypeOwner = TypeOwner::World(WorldId(0));
+
+/// No documentation.
+pub const NO_DOCS: Docs = Docs { contents: None };
+
+// The number of an entry behind so many.
+fn next(count: usize) -> u32 {
+    u32::try_from(count).unwrap_or(u32::MAX)
+}
+
+/// What `check` answers where this entry breaks this rule.
+pub const fn broken(rule: u8, list: EntryList, number: usize) -> Result<(), Fault> {
+    Err(Fault::Broken { rule, list, number })
+}
+
+// ---- packages, interfaces and worlds
+
+/// A package without interfaces and worlds.
+pub fn package(alloc: Global, namespace: &str, name: &str) -> Result<Package, AllocError> {
+    let name = PackageName {
+        namespace: String::from_str(alloc, namespace)?,
+        name: String::from_str(alloc, name)?,
+        version: None,
+    };
+    Ok(Package {
+        name,
+        docs: NO_DOCS,
+        interfaces: Map::new(alloc),
+        worlds: Map::new(alloc),
+    })
+}
+
+/// An empty interface of package 0, inline where it has no name.
+pub fn interface(alloc: Global, name: Option<&str>) -> Result<Interface, AllocError> {
+    let name = match name {
+        Some(name) => Some(String::from_str(alloc, name)?),
+        None => None,
+    };
+    Ok(Interface {
+        name,
+        types: Map::new(alloc),
+        functions: Map::new(alloc),
+        docs: NO_DOCS,
+        stability: Stability::Unknown,
+        package: Some(PackageId(0)),
+    })
+}
+
+/// An empty world of package 0.
+pub fn world(alloc: Global, name: &str) -> Result<World, AllocError> {
+    Ok(World {
+        name: String::from_str(alloc, name)?,
+        imports: Map::new(alloc),
+        exports: Map::new(alloc),
+        docs: NO_DOCS,
+        stability: Stability::Unknown,
+        package: Some(PackageId(0)),
+    })
+}
+
+/// No entry at all.
+pub fn empty(alloc: Global) -> Resolve {
+    Resolve {
+        packages: Vec::new(alloc),
+        interfaces: Vec::new(alloc),
+        worlds: Vec::new(alloc),
+        types: Vec::new(alloc),
+    }
+}
+
+/// Package `a:b` with interface `i` and world `w`.
+pub fn draft(alloc: Global) -> Result<Resolve, AllocError> {
+    let mut resolve = empty(alloc);
+    resolve.packages.push(package(alloc, "a", "b")?)?;
+    add_interface(alloc, &mut resolve, "i")?;
+    add_world(alloc, &mut resolve, "w")?;
+    Ok(resolve)
+}
+
+/// An empty package of the next number.
+pub fn add_package(
+    alloc: Global,
+    resolve: &mut Resolve,
+    namespace: &str,
+    name: &str,
+) -> Result<(), AllocError> {
+    resolve.packages.push(package(alloc, namespace, name)?)?;
+    Ok(())
+}
+
+/// Puts an interface number into the map of a package.
+pub fn list_interface(
+    alloc: Global,
+    resolve: &mut Resolve,
+    number: usize,
+    name: &str,
+    id: InterfaceId,
+) -> Result<(), AllocError> {
+    if let Some(package) = resolve.packages.get_mut(number) {
+        package
+            .interfaces
+            .insert(String::from_str(alloc, name)?, id)?;
+    }
+    Ok(())
+}
+
+/// Puts a world number into the map of a package.
+pub fn list_world(
+    alloc: Global,
+    resolve: &mut Resolve,
+    number: usize,
+    name: &str,
+    id: WorldId,
+) -> Result<(), AllocError> {
+    if let Some(package) = resolve.packages.get_mut(number) {
+        package.worlds.insert(String::from_str(alloc, name)?, id)?;
+    }
+    Ok(())
+}
+
+/// An empty interface of the next number in package 0.
+pub fn add_interface(alloc: Global, resolve: &mut Resolve, name: &str) -> Result<(), AllocError> {
+    let id = InterfaceId(next(resolve.interfaces.len()));
+    resolve.interfaces.push(interface(alloc, Some(name))?)?;
+    list_interface(alloc, resolve, 0, name, id)
+}
+
+/// An empty inline interface of the next number, of package 0, which no world shows yet.
+pub fn add_inline(alloc: Global, resolve: &mut Resolve) -> Result<(), AllocError> {
+    resolve.interfaces.push(interface(alloc, None)?)?;
+    Ok(())
+}
+
+/// An empty world of the next number in package 0.
+pub fn add_world(alloc: Global, resolve: &mut Resolve, name: &str) -> Result<(), AllocError> {
+    let id = WorldId(next(resolve.worlds.len()));
+    resolve.worlds.push(world(alloc, name)?)?;
+    list_world(alloc, resolve, 0, name, id)
+}
+
+// ---- types
+
+/// A type of the next number without name and owner.
+pub fn add_unnamed(resolve: &mut Resolve, kind: TypeDefKind) -> Result<(), AllocError> {
+    resolve.types.push(TypeDef {
+        name: None,
+        kind,
+        owner: TypeOwner::None,
+        docs: NO_DOCS,
+        stability: Stability::Unknown,
+        external_id: None,
+    })?;
+    Ok(())
+}
+
+/// A type of the next number with a name and an owner, whose list it doesn't stand in yet.
+pub fn add_unlisted(
+    alloc: Global,
+    resolve: &mut Resolve,
+    name: &str,
+    kind: TypeDefKind,
+    owner: TypeOwner,
+) -> Result<(), AllocError> {
+    resolve.types.push(TypeDef {
+        name: Some(String::from_str(alloc, name)?),
+        kind,
+        owner,
+        docs: NO_DOCS,
+        stability: Stability::Unknown,
+        external_id: None,
+    })?;
+    Ok(())
+}
+
+/// Puts a type number into the list of an interface.
+pub fn list_type(
+    alloc: Global,
+    resolve: &mut Resolve,
+    number: usize,
+    name: &str,
+    id: TypeId,
+) -> Result<(), AllocError> {
+    if let Some(interface) = resolve.interfaces.get_mut(number) {
+        interface.types.insert(String::from_str(alloc, name)?, id)?;
+    }
+    Ok(())
+}
+
+/// A named type of the next number, of the interface of this number.
+pub fn add_type_of(
+    alloc: Global,
+    resolve: &mut Resolve,
+    number: u32,
+    name: &str,
+    kind: TypeDefKind,
+) -> Result<(), AllocError> {
+    let id = TypeId(next(resolve.types.len()));
+    let owner = TypeOwner::Interface(InterfaceId(number));
+    add_unlisted(alloc, resolve, name, kind, owner)?;
+    list_type(alloc, resolve, number as usize, name, id)
+}
+
+/// A named type of the next number, of interface 0.
+pub fn add_type(
+    alloc: Global,
+    resolve: &mut Resolve,
+    name: &str,
+    kind: TypeDefKind,
+) -> Result<(), AllocError> {
+    add_type_of(alloc, resolve, 0, name, kind)
+}
+
+/// A named type of the next number, imported by world 0.
+pub fn add_world_type(
+    alloc: Global,
+    resolve: &mut Resolve,
+    name: &str,
+    kind: TypeDefKind,
+) -> Result<(), AllocError> {
+    let id = TypeId(next(resolve.types.len()));
+    add_unlisted(alloc, resolve, name, kind, WORLD)?;
+    import(alloc, resolve, name, WorldItem::Type_ { id })
+}
+
+// ---- functions
+
+/// A function without parameters.
+pub fn nullary(
+    alloc: Global,
+    name: &str,
+    kind: FunctionKind,
+    answer: Option<Type>,
+) -> Result<Function, AllocError> {
+    Ok(Function {
+        name: String::from_str(alloc, name)?,
+        kind,
+        params: Vec::new(alloc),
+        result: answer,
+        docs: NO_DOCS,
+        stability: Stability::Unknown,
+        external_id: None,
+    })
+}
+
+/// A parameter.
+pub fn param(alloc: Global, name: &str, ty: Type) -> Result<Param, AllocError> {
+    let name = String::from_str(alloc, name)?;
+    Ok(Param { name, ty })
+}
+
+/// A function of one parameter `x`.
+pub fn function(
+    alloc: Global,
+    name: &str,
+    kind: FunctionKind,
+    ty: Type,
+    answer: Option<Type>,
+) -> Result<Function, AllocError> {
+    let mut function = nullary(alloc, name, kind, answer)?;
+    function.params.push(param(alloc, "x", ty)?)?;
+    Ok(function)
+}
+
+/// Puts a function into the map of an interface.
+pub fn put_function(
+    alloc: Global,
+    resolve: &mut Resolve,
+    number: usize,
+    key: &str,
+    item: Function,
+) -> Result<(), AllocError> {
+    if let Some(interface) = resolve.interfaces.get_mut(number) {
+        interface
+            .functions
+            .insert(String::from_str(alloc, key)?, item)?;
+    }
+    Ok(())
+}
+
+/// `f: func(x: PARAM)` of interface 0.
+pub fn add_function(alloc: Global, resolve: &mut Resolve, ty: Type) -> Result<(), AllocError> {
+    let item = function(alloc, "f", FunctionKind::Freestanding, ty, None)?;
+    put_function(alloc, resolve, 0, "f", item)
+}
+
+/// `f: func(x: PARAM)`, imported by world 0.
+pub fn add_world_function(
+    alloc: Global,
+    resolve: &mut Resolve,
+    ty: Type,
+) -> Result<(), AllocError> {
+    let item = function(alloc, "f", FunctionKind::Freestanding, ty, None)?;
+    import(alloc, resolve, "f", WorldItem::Function(item))
+}
+
+// ---- items
+
+/// An interface as an item.
+pub fn shown(number: u32) -> WorldItem {
+    WorldItem::Interface {
+        id: InterfaceId(number),
+        stability: Stability::Unknown,
+        docs: NO_DOCS,
+        external_id: None,
+    }
+}
+
+/// An import of the world of this number, the last of its list.
+pub fn import_into(
+    resolve: &mut Resolve,
+    number: usize,
+    key: WorldKey,
+    item: WorldItem,
+) -> Result<(), AllocError> {
+    if let Some(world) = resolve.worlds.get_mut(number) {
+        world.imports.insert(key, item)?;
+    }
+    Ok(())
+}
+
+/// An export of the world of this number, the last of its list.
+pub fn export_from(
+    resolve: &mut Resolve,
+    number: usize,
+    key: WorldKey,
+    item: WorldItem,
+) -> Result<(), AllocError> {
+    if let Some(world) = resolve.worlds.get_mut(number) {
+        world.exports.insert(key, item)?;
+    }
+    Ok(())
+}
+
+/// An import of world 0 under a name.
+pub fn import(
+    alloc: Global,
+    resolve: &mut Resolve,
+    name: &str,
+    item: WorldItem,
+) -> Result<(), AllocError> {
+    let key = WorldKey::Name(String::from_str(alloc, name)?);
+    import_into(resolve, 0, key, item)
+}
+
+/// An export of world 0 under a name.
+pub fn export(
+    alloc: Global,
+    resolve: &mut Resolve,
+    name: &str,
+    item: WorldItem,
+) -> Result<(), AllocError> {
+    let key = WorldKey::Name(String::from_str(alloc, name)?);
+    export_from(resolve, 0, key, item)
+}

@@ -1,0 +1,104 @@
+//! Packages of one plain world, each with one thing changed.
+
+use crate::drafts::{add_package, broken, empty, export, import, list_world, nullary, world};
+use std::alloc::{AllocError, Global};
+use std::test::Fail;
+use wit_model::{EntryList, Fault, FunctionKind, PackageId, Resolve, WorldId, WorldItem, is_plain};
+
+// A package of one world, which imports one function and exports another.
+#[derive(Clone, Copy)]
+struct Plain {
+    namespace: &'static str,
+    // the key of the world in the package's map, and its name
+    key: &'static str,
+    world: &'static str,
+    home: Option<PackageId>,
+    // the key of the imported function, and its name
+    import: &'static str,
+    function: &'static str,
+}
+
+// package a:b; world foo { import host: func(); export guest: func(); }
+const VALID: Plain = Plain {
+    namespace: "a",
+    key: "foo",
+    world: "foo",
+    home: Some(PackageId(0)),
+    import: "host",
+    function: "host",
+};
+
+const FREE: FunctionKind = FunctionKind::Freestanding;
+
+fn resolve_of(alloc: Global, plain: Plain) -> Result<Resolve, AllocError> {
+    let mut resolve = empty(alloc);
+    add_package(alloc, &mut resolve, plain.namespace, "b")?;
+    let mut entry = world(alloc, plain.world)?;
+    entry.package = plain.home;
+    resolve.worlds.push(entry)?;
+    list_world(alloc, &mut resolve, 0, plain.key, WorldId(0))?;
+    let host = nullary(alloc, plain.function, FREE, None)?;
+    import(alloc, &mut resolve, plain.import, WorldItem::Function(host))?;
+    let guest = nullary(alloc, "guest", FREE, None)?;
+    export(alloc, &mut resolve, "guest", WorldItem::Function(guest))?;
+    Ok(resolve)
+}
+
+// What `check` answers, if the `Resolve` is plain.
+fn answer(alloc: Global, plain: Plain) -> Result<Option<Result<(), Fault>>, Fault> {
+    let resolve = resolve_of(alloc, plain)?;
+    if is_plain(&resolve) {
+        Ok(Some(resolve.check(alloc)))
+    } else {
+        Ok(None)
+    }
+}
+
+// The world without a home breaks the rule on places beside its package, which is named. A world under another name breaks the
+// rule on names in packages too.
+#[test]
+fn one_world(rt: HostRuntime) -> Result<(), Fail> {
+    let rows = [
+        (VALID, Ok(())),
+        (
+            Plain {
+                namespace: "2a",
+                ..VALID
+            },
+            broken(2, EntryList::Packages, 0),
+        ),
+        (
+            Plain {
+                home: None,
+                ..VALID
+            },
+            broken(3, EntryList::Packages, 0),
+        ),
+        (
+            Plain {
+                key: "bar",
+                ..VALID
+            },
+            broken(3, EntryList::Packages, 0),
+        ),
+        (
+            Plain {
+                key: "Foo",
+                world: "Foo",
+                ..VALID
+            },
+            broken(4, EntryList::Worlds, 0),
+        ),
+        (
+            Plain {
+                import: "other",
+                ..VALID
+            },
+            broken(11, EntryList::Worlds, 0),
+        ),
+    ];
+    for (plain, expected) in rows {
+        assert_eq!(rt; answer(rt.alloc(), plain)?, Some(expected));
+    }
+    Ok(())
+}

@@ -1,0 +1,133 @@
+//! Whole samples: valid `Resolve`s of each kind of type, of deep types and of many entries.
+
+use crate::drafts::{
+    add_function, add_interface, add_package, add_type, add_type_of, add_unnamed, add_world,
+    add_world_function, add_world_type, draft, empty, export, function, import, nullary,
+    put_function,
+};
+use crate::kinds::{
+    alias_of, borrow_of, enum_of, flags_of, id, own_of, record_of, result_of, tuple_of, variant_of,
+};
+use std::alloc::{AllocError, Global};
+use wit_model::{FunctionKind, Resolve, Type, TypeDefKind, WorldItem};
+
+/// `package a:b; world foo { import host: func(); export guest: func(); }`
+pub fn host_and_guest(alloc: Global) -> Result<Resolve, AllocError> {
+    let mut resolve = empty(alloc);
+    add_package(alloc, &mut resolve, "a", "b")?;
+    add_world(alloc, &mut resolve, "foo")?;
+    let host = nullary(alloc, "host", FunctionKind::Freestanding, None)?;
+    import(alloc, &mut resolve, "host", WorldItem::Function(host))?;
+    let guest = nullary(alloc, "guest", FunctionKind::Freestanding, None)?;
+    export(alloc, &mut resolve, "guest", WorldItem::Function(guest))?;
+    Ok(resolve)
+}
+
+// Types 0 to 6 are named: p, r, g, v, e, l and s, an alias of r.
+fn add_named(alloc: Global, resolve: &mut Resolve) -> Result<(), AllocError> {
+    add_type(alloc, resolve, "p", record_of(alloc, &["a"], Type::U8)?)?;
+    add_type(alloc, resolve, "r", TypeDefKind::Resource)?;
+    add_type(alloc, resolve, "g", flags_of(alloc, &["a"])?)?;
+    add_type(alloc, resolve, "v", variant_of(alloc, &["a"], Some(id(0)))?)?;
+    add_type(alloc, resolve, "e", enum_of(alloc, &["a"])?)?;
+    add_type(alloc, resolve, "l", TypeDefKind::List(id(3)))?;
+    add_type(alloc, resolve, "s", alias_of(1))
+}
+
+// Types 7 to 16 aren't: two handles, a tuple of them, and one of each other kind, each around the one before.
+fn add_others(alloc: Global, resolve: &mut Resolve) -> Result<(), AllocError> {
+    add_unnamed(resolve, own_of(1))?;
+    add_unnamed(resolve, borrow_of(6))?;
+    add_unnamed(resolve, tuple_of(alloc, &[id(7), id(8), id(5)])?)?;
+    add_unnamed(resolve, TypeDefKind::Option(id(9)))?;
+    add_unnamed(resolve, result_of(Some(id(10)), None))?;
+    add_unnamed(resolve, TypeDefKind::Map(Type::String, id(11)))?;
+    add_unnamed(resolve, TypeDefKind::FixedLengthList(id(12), 4))?;
+    add_unnamed(resolve, TypeDefKind::Future(Some(id(13))))?;
+    add_unnamed(resolve, TypeDefKind::Stream(Some(id(14))))?;
+    add_unnamed(resolve, TypeDefKind::List(id(15)))
+}
+
+/// A type of each kind: seven named ones of interface `i` and ten unnamed ones, which the function `f` of `i` takes; an alias in
+/// interface `j` of a type of `i`; a type of world `w` and a function that takes it.
+pub fn each_kind(alloc: Global) -> Result<Resolve, AllocError> {
+    let mut resolve = draft(alloc)?;
+    add_named(alloc, &mut resolve)?;
+    add_others(alloc, &mut resolve)?;
+    add_function(alloc, &mut resolve, id(16))?;
+    add_interface(alloc, &mut resolve, "j")?;
+    add_type_of(alloc, &mut resolve, 1, "p", alias_of(0))?;
+    add_world_type(alloc, &mut resolve, "t", TypeDefKind::Option(Type::U8))?;
+    add_world_function(alloc, &mut resolve, id(18))?;
+    Ok(resolve)
+}
+
+/// Options around `u8`, each of the one before: the last has this many unnamed levels, at least one.
+pub fn with_options(alloc: Global, levels: u32) -> Result<Resolve, AllocError> {
+    let mut resolve = draft(alloc)?;
+    add_unnamed(&mut resolve, TypeDefKind::Option(Type::U8))?;
+    for number in 1..levels {
+        add_unnamed(&mut resolve, TypeDefKind::Option(id(number - 1)))?;
+    }
+    Ok(resolve)
+}
+
+// The type of the last number.
+fn last(resolve: &Resolve) -> Type {
+    let count = u32::try_from(resolve.types.len()).unwrap_or(u32::MAX);
+    id(count.saturating_sub(1))
+}
+
+// Nine lists around the last type, each of the one before.
+fn add_lists(resolve: &mut Resolve) -> Result<(), AllocError> {
+    for _ in 0..9_u32 {
+        let before = last(resolve);
+        add_unnamed(resolve, TypeDefKind::List(before))?;
+    }
+    Ok(())
+}
+
+/// So many records, each but the first with a field of nine lists around the one before: ten types for each.
+pub fn records_in_plenty(alloc: Global, records: u32) -> Result<Resolve, AllocError> {
+    let mut resolve = draft(alloc)?;
+    let mut ty = Type::U8;
+    for count in 0..records {
+        let name = format!(in alloc; "t{count}")?;
+        let kind = record_of(alloc, &["a"], ty)?;
+        add_type(alloc, &mut resolve, &name, kind)?;
+        add_lists(&mut resolve)?;
+        ty = last(&resolve);
+    }
+    Ok(resolve)
+}
+
+fn add_functions(
+    alloc: Global,
+    resolve: &mut Resolve,
+    number: usize,
+    functions: u32,
+) -> Result<(), AllocError> {
+    for count in 0..functions {
+        let name = format!(in alloc; "f{count}")?;
+        let item = function(alloc, &name, FunctionKind::Freestanding, id(0), Some(id(0)))?;
+        put_function(alloc, resolve, number, &name, item)?;
+    }
+    Ok(())
+}
+
+/// Interface `i` and this many others, each with so many functions that take and give a list of bytes.
+pub fn functions_in_plenty(
+    alloc: Global,
+    interfaces: usize,
+    functions: u32,
+) -> Result<Resolve, AllocError> {
+    let mut resolve = draft(alloc)?;
+    add_unnamed(&mut resolve, TypeDefKind::List(Type::U8))?;
+    for count in 0..interfaces {
+        let name = format!(in alloc; "i{count}")?;
+        let number = resolve.interfaces.len();
+        add_interface(alloc, &mut resolve, &name)?;
+        add_functions(alloc, &mut resolve, number, functions)?;
+    }
+    Ok(resolve)
+}
