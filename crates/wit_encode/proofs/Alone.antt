@@ -25,6 +25,7 @@ use Rattle.wit_model.specs.declared.model.InterfaceId.{InterfaceId}
 use Rattle.wit_model.specs.declared.model.Function.{Function}
 use Rattle.wit_model.specs.declared.model.TypeDef.{TypeDef}
 use Rattle.wit_model.specs.declared.model.TypeId.{TypeId}
+use Rattle.std.specs.declared.vec.Vec.{Vec}
 use Rattle.wit_model.specs.declared.model.TypeOwner.{TypeOwner}
 use Rattle.wit_model.specs.declared.model.TypeOwner.TheVariants as owner
 use Rattle.wit_model.specs.declared.model.«Type».{«Type» as ValueType}
@@ -37,7 +38,7 @@ use Rattle.comp_bytes.specs.Raw.{Declarations}
 use Rattle.wit_encode.specs.KeyLaws.{text_same}
 use Rattle.wit_encode.specs.Kinds.{parts_of, kind_tree, has_definition}
 use Rattle.wit_encode.specs.Plan.{foreign_owner, AllInRange, Reaches, itself, through}
-use Rattle.wit_encode.specs.Resources.{resource_names, is_resource_declaration}
+use Rattle.wit_encode.specs.Resources.{is_named_interface, is_met_owner, resource_names, is_resource_declaration}
 use Rattle.wit_encode.specs.Formed.{IsFormed}
 use Rattle.wit_encode.specs.Fits.{FitsScope, CanEncode}
 use Rattle.wit_encode.specs.Scope.{Scope, IsDeclared}
@@ -45,7 +46,7 @@ use Rattle.wit_encode.specs.Instance.{CanEncodeFunction, CanEncodeInterface, enc
 use Rattle.wit_encode.proofs.Lists.{all-contained, one-contained, contains-one, contains-map, contains-filter_map}
 use Rattle.wit_encode.proofs.Owned.{same-owner, valid-references, stays, part-met}
 use Rattle.wit_encode.proofs.Paths.{equal-numbers, found-in, some-of}
-use Rattle.wit_encode.proofs.Naming.{one-owner, valid-listed}
+use Rattle.wit_encode.proofs.Naming.{or-first, one-home, valid-listed}
 use Rattle.wit_encode.proofs.Opening.{opened-sound}
 use Rattle.wit_encode.proofs.Validity.{OwnersMet, valid-layered, valid-unnamed, valid-ownerless, valid-formed, valid-signature, interface_passes, has-name, same-back, met-agree, parts-agree, declared-alike}
 
@@ -232,34 +233,37 @@ module _ (r : Resolve) (v : IsValid r) (i : InterfaceId) (home : Interface) (the
         reached-alone t n (λ id' e. part-alone id.0 def at (p id refl) id' (subst (λ (x : ValueType). Contains (parts_of def.kind) x) e c)) re
 
     -- names stand for resources as the types that stay do
-    stay-met : (ts : List ValueType) → ((id : TypeId) → Contains ts (ty.Id id) → Stay id.0) → OwnersMet r (same_owner own) ts
-    stay-met ts all t c id e def is named = same-back def.owner own (owned id.0 def is (all id (subst (λ (x : ValueType). Contains ts x) e c)) named)
+    own-met : (def : TypeDef) → same_owner own def.owner ≡ true → is_met_owner r own def.owner ≡ true
+    own-met def s = or-first (same_owner own def.owner) (is_named_interface r def.owner) s
 
-    parts-met : (n : ℕ) (def : TypeDef) → type_at r n ≡ Some def → Stay n → OwnersMet r (same_owner own) (parts_of def.kind)
+    stay-met : (ts : List ValueType) → ((id : TypeId) → Contains ts (ty.Id id) → Stay id.0) → OwnersMet r (is_met_owner r own) ts
+    stay-met ts all t c id e def is named = own-met def (same-back def.owner own (owned id.0 def is (all id (subst (λ (x : ValueType). Contains ts x) e c)) named))
+
+    parts-met : (n : ℕ) (def : TypeDef) → type_at r n ≡ Some def → Stay n → OwnersMet r (is_met_owner r own) (parts_of def.kind)
     parts-met n def is s = stay-met (parts_of def.kind) (part-alone n def is s)
 
     stay-alike : (n : ℕ) (def : TypeDef) → type_at r n ≡ Some def → Stay n → (name : String Global) → def.name ≡ Some name
-        → resource_names r (same_owner own) (place_of r own) (text_of name) ≡ is_resource_declaration (resource_names r (same_owner own)) (declaration_of r def)
+        → resource_names r (is_met_owner r own) (place_of r own) (text_of name) ≡ is_resource_declaration (resource_names r (is_met_owner r own)) (declaration_of r def)
     stay-alike n def is s name e =
         let here = owned n def is s (has-name def.name name e) in
-        ap (λ a. resource_names r (same_owner own) (place_of r a) (text_of name)) (sym (same-owner def.owner own here))
-        ∙ declared-alike r v (same_owner own) (one-owner r own) n def is name e (same-back def.owner own here) (parts-met n def is s)
+        ap (λ a. resource_names r (is_met_owner r own) (place_of r a) (text_of name)) (sym (same-owner def.owner own here))
+        ∙ declared-alike r v (is_met_owner r own) (one-home r v own) n def is name e (own-met def (same-back def.owner own here)) (parts-met n def is s)
 
-    module _ (outer : Declarations) where
+    module _ (outer : Declarations) (known : Vec (TypeId × ℕ) Global) where
       abbrev scope : Scope
-      scope = encoder_scope r outer (opened i)
+      scope = encoder_scope r outer (opened i known)
 
       own-declared : (n : ℕ) (def : TypeDef) → type_at r n ≡ Some def → Stay n → (name : String Global) → def.name ≡ Some name → IsDeclared scope (text_of name, type_meaning r def)
       own-declared n def is s name e = record {
         there = own-there n def name is e (same-owner def.owner own (owned n def is s (has-name def.name name e)));
         alike = stay-alike n def is s name e;
-        sound = opened-sound r outer i;
+        sound = opened-sound r outer i known;
       }
 
       own-formed : (n : ℕ) (def : TypeDef) → type_at r n ≡ Some def → Stay n → has_definition def.kind ≡ true → IsFormed scope (kind_tree r def.kind)
       own-formed n def is s d = record {
-        sound = opened-sound r outer i;
-        formed = valid-formed r (resource_names r (same_owner own)) v n def is (parts-agree r v (same_owner own) (one-owner r own) n def is (parts-met n def is s)) d;
+        sound = opened-sound r outer i known;
+        formed = valid-formed r (resource_names r (is_met_owner r own)) v n def is (parts-agree r v (is_met_owner r own) (one-home r v own) n def is (parts-met n def is s)) d;
       }
 
       -- a type that stays fits the scope of the interface
@@ -294,18 +298,18 @@ module _ (r : Resolve) (v : IsValid r) (i : InterfaceId) (home : Interface) (the
       function-encodes : (f : Function) → Contains (functions_of_interface home) f → CanEncodeFunction r scope f
       function-encodes f c =
           let inside = functions-inside f c in
-          let agree = met-agree r v (same_owner own) (one-owner r own) (function_types f) inside (stay-met (function_types f) (function-stays f c)) in
+          let agree = met-agree r v (is_met_owner r own) (one-home r v own) (function_types f) inside (stay-met (function_types f) (function-stays f c)) in
           record {
             types = stay-encode (function_types f) inside (function-stays f c);
-            formed = valid-signature r scope v (opened-sound r outer i) i.0 home f there c agree;
+            formed = valid-signature r scope v (opened-sound r outer i known) i.0 home f there c agree;
           }
 
 -- In valid packages an interface that uses no other can be encoded.
-pub valid-encodable : (r : Resolve) → IsValid r → (outer : Declarations) (i : InterfaceId) (def : Interface) → interface_at r i.0 ≡ Some def → direct_deps r i.0 ≡ []
-    → CanEncodeInterface r outer i def
-valid-encodable r v outer i def there alone = record {
-  types = type-encodes r v i def there alone outer;
-  functions = λ f c. function-encodes r v i def there alone outer f.1 (listed f c);
+pub valid-encodable : (r : Resolve) → IsValid r → (outer : Declarations) (i : InterfaceId) (known : Vec (TypeId × ℕ) Global) (def : Interface) → interface_at r i.0 ≡ Some def → direct_deps r i.0 ≡ []
+    → CanEncodeInterface r outer i known def
+valid-encodable r v outer i known def there alone = record {
+  types = type-encodes r v i def there alone outer known;
+  functions = λ f c. function-encodes r v i def there alone outer known f.1 (listed f c);
 }
   where
     listed : (f : Text × Function) → Contains (map keyed def.functions.entries) f → Contains (functions_of_interface def) f.1

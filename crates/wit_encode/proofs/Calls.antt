@@ -14,18 +14,19 @@ use Rattle.comp_bytes.specs.declared.forms.ComponentDefinedType.{ComponentDefine
 use Rattle.comp_bytes.specs.declared.forms.ComponentFuncType.{ComponentFuncType}
 use Rattle.comp_bytes.specs.declared.forms.ComponentTypeRef.{ComponentTypeRef}
 use Rattle.comp_bytes.specs.declared.forms.ComponentTypeRef.TheVariants as refs
-use Rattle.comp_bytes.specs.Raw.{Declaration, Declarations, ExternName}
+use Rattle.comp_bytes.specs.Raw.{Alias, Declaration, Declarations, ExternName}
 use Rattle.comp_bytes.specs.RawOf.{raw_defined, raw_function}
 use Rattle.comp_bytes.specs.Held.{type_slots}
 use Rattle.comp_bytes.specs.Reading.{◌>>=◌}
 use Rattle.comp_meaning.specs.Follow as follow
-use Rattle.comp_meaning.specs.Follow.{Slot, InstanceScope, ShownType, new_instance, new_scope, definition, function_signature, named_type, named_like, declared_by, is_simple, show_type, instance_step, component_step, in_instance, in_scope}
+use Rattle.comp_meaning.specs.Follow.{Slot, InstanceScope, ShownType, new_instance, new_scope, definition, function_signature, named_type, named_like, declared_by, is_foreign_name, is_simple, show_type, instance_step, component_step, in_instance, in_scope}
 use Rattle.wit_encode.specs.Slots.{Standing, tree, function, AddsSlot, Grows, Follows, FollowsFunction, Defines, DefinesFunction}
 use Rattle.wit_encode.specs.Resources.{Names, is_resource_tree, is_resource_declaration}
 use Rattle.wit_encode.specs.Scope.{Scope, IsDeclared, DeclaresSlot, DeclaresResource, exported_name}
 use Rattle.wit_encode.specs.Formed.{IsFormed, IsFormedSignature, is_formed}
 use Rattle.wit_encode.specs.Counts.{one_type_more, one_function_more, ExportsOne}
 use Rattle.wit_encode.specs.Instance.{standing_at, SlotsStand, is_slot_of, Contents, no_view, outer_slots, inner_scope, inner_contents, is_value_type, is_function_type, place_in, resources_in, scope_with, definitions_with}
+use Rattle.wit_encode.specs.Known.{Known}
 use Rattle.wit_encode.proofs.Defining.{count-push}
 use Rattle.wit_encode.proofs.Strict.{bind, slot-at, definition-strict, function-strict, follows-once, signature-once}
 use Rattle.wit_encode.proofs.Contents.{IsOf, Grew, grew-adds, grew-grows, same-grows, grew-scope}
@@ -38,19 +39,19 @@ pub record Calls {E : Type 0} (res : Result ℕ E) (s s' : Scope) (c c' : Conten
   pub scope_stays : s' ≡ s
   pub counted : OnOk res counts
 
-pub calls-from : {E : Type 0} (res : Result ℕ E) (r : Resolve) (interface : Option InterfaceId) (around : Declarations) (c c' : Contents) (P : Standing → Type 0) (counts : Type 0) (x : Slot)
-    → (scope_with r interface around c).is_sound ≡ true → is_slot_of (resources_in r interface) x ≡ true → IsOf x P → IfOk res (λ k. (k ≡ length c.slots) × Grew c c' x × counts) → OnErr res (c' ≡ c)
-    → Calls res (scope_with r interface around c) (scope_with r interface around c') c c' P counts
-calls-from (Ok k) r interface around c c' P counts x sound o is h e = record {
+pub calls-from : {E : Type 0} (res : Result ℕ E) (r : Resolve) (interface : Option InterfaceId) (around : Declarations) (known : Known) (c c' : Contents) (P : Standing → Type 0) (counts : Type 0) (x : Slot)
+    → (scope_with r interface around known c).is_sound ≡ true → is_slot_of (resources_in r interface) x ≡ true → IsOf x P → IfOk res (λ k. (k ≡ length c.slots) × Grew c c' x × counts) → OnErr res (c' ≡ c)
+    → Calls res (scope_with r interface around known c) (scope_with r interface around known c') c c' P counts
+calls-from (Ok k) r interface around known c c' P counts x sound o is h e = record {
   ok = grew-adds c c' x k P h.1 h.0 is;
   grows = grew-grows c c' x h.1;
-  scope_stays = grew-scope r interface around c c' x h.1 o sound;
+  scope_stays = grew-scope r interface around known c c' x h.1 o sound;
   counted = h.2;
 }
-calls-from (Err q) r interface around c c' P counts x sound o is h e = record {
+calls-from (Err q) r interface around known c c' P counts x sound o is h e = record {
   ok = h;
   grows = same-grows c c' e;
-  scope_stays = ap (scope_with r interface around) e;
+  scope_stays = ap (scope_with r interface around known) e;
   counted = h;
 }
 
@@ -150,9 +151,16 @@ shown-next name scope found = Some (record {
   };
 })
 
+nothing-more : {A : Type 0} (xs : List A) → xs ≡ xs ++ []
+nothing-more [] = refl
+nothing-more (x ∷ xs) = ap (λ ys. x ∷ ys) (nothing-more xs)
+
+some-standing : (u m : Standing) → Some u ≡ Some m → m ≡ u
+some-standing u m e = cc
+
 -- ---- an instance type
 
-module _ {E : Type 0} (res : Result ℕ E) (r : Resolve) (i : InterfaceId) (outer : Declarations) (ds ds' : List Declaration) where
+module _ {E : Type 0} (res : Result ℕ E) (r : Resolve) (i : InterfaceId) (outer : Declarations) (known : Known) (ds ds' : List Declaration) where
   abbrev here : Option InterfaceId
   here = Some i
 
@@ -162,7 +170,7 @@ module _ {E : Type 0} (res : Result ℕ E) (r : Resolve) (i : InterfaceId) (oute
   abbrev after : Contents
   after = inner_contents (place_in r here) outer ds'
 
-  module _ (sound : (scope_with r here outer before).is_sound ≡ true) where
+  module _ (sound : (scope_with r here outer known before).is_sound ≡ true) where
     inner-there : InnerAt (place_in r here) outer ds
     inner-there = inner-at (place_in r here) outer ds (first_true before.is_followed (list_all (is_slot_of (resources_in r here)) before.slots) sound)
 
@@ -188,9 +196,9 @@ module _ {E : Type 0} (res : Result ℕ E) (r : Resolve) (i : InterfaceId) (oute
         err-each (Ok k) f h = h
         err-each (Err e) f h = f h
 
-    pub defined-inside : (d : ComponentDefinedType) (t : Tree) → Follows (SlotsStand before.slots) d t → IsFormed (scope_with r here outer before) t
+    pub defined-inside : (d : ComponentDefinedType) (t : Tree) → Follows (SlotsStand before.slots) d t → IsFormed (scope_with r here outer known before) t
         → IfOk res (λ k. (k ≡ type_slots ds) × (ds' ≡ ds ++ Declaration.defined (raw_defined d) ∷ [])) → OnErr res (ds' ≡ ds)
-        → Calls res (scope_with r here outer before) (scope_with r here outer after) before after (Defines (SlotsStand before.slots) d) (definitions_with after ≡ one_type_more (definitions_with before))
+        → Calls res (scope_with r here outer known before) (scope_with r here outer known after) before after (Defines (SlotsStand before.slots) d) (definitions_with after ≡ one_type_more (definitions_with before))
     defined-inside d t h f ok err =
         let a = inner-there in
         let strict : definition a.scope.slots (raw_defined d) ≡ Some t = ap (λ zs. definition zs (raw_defined d)) (sym a.slots) ∙ definition-strict (resources_in r here) before.slots inner-slots d t h f.formed in
@@ -199,26 +207,18 @@ module _ {E : Type 0} (res : Result ℕ E) (r : Resolve) (i : InterfaceId) (oute
           after = in_instance (Slot.value t) a.scope;
           step = bind (definition a.scope.slots (raw_defined d)) t (λ u. Some (in_instance (Slot.value u) a.scope)) strict;
           one = refl;
-          types = nothing a.scope.shown.types;
+          types = nothing-more a.scope.shown.types;
           functions = refl;
         } in
-        calls-from res r here outer before after _ _ (Slot.value t) sound (formed-value (resources_in r here) t f.formed) (defines-of before.slots d t h)
+        calls-from res r here outer known before after _ _ (Slot.value t) sound (formed-value (resources_in r here) t f.formed) (defines-of before.slots d t h)
         (more-ok (Declaration.defined (raw_defined d)) (Slot.value t) [] _ m (λ e. ap (λ zs. definitions_with (inner_contents (place_in r here) outer zs)) e
         ∙ inner-definitions (place_in r here) outer ds (Declaration.defined (raw_defined d)) (Slot.value t) [] m (before.types + 1) before.functions refl (omega arith)
-        ∙ (λ j. record { types = before.types + 1; functions = before.functions; exports = sym (nothing-meant (definitions_with before).exports) j })) ok)
+        ∙ (λ j. record { types = before.types + 1; functions = before.functions; exports = sym (nothing-more (definitions_with before).exports) j })) ok)
         (err-same err)
-      where
-        nothing : (ts : List ShownType) → ts ≡ ts ++ []
-        nothing [] = refl
-        nothing (t ∷ ts) = ap (λ us. t ∷ us) (nothing ts)
 
-        nothing-meant : (ts : List (Text × TypeMeaning)) → ts ≡ ts ++ []
-        nothing-meant [] = refl
-        nothing-meant (t ∷ ts) = ap (λ us. t ∷ us) (nothing-meant ts)
-
-    pub function-inside : (d : ComponentFuncType) (s : Signature) → FollowsFunction (SlotsStand before.slots) d s → IsFormedSignature (scope_with r here outer before) s
+    pub function-inside : (d : ComponentFuncType) (s : Signature) → FollowsFunction (SlotsStand before.slots) d s → IsFormedSignature (scope_with r here outer known before) s
         → IfOk res (λ k. (k ≡ type_slots ds) × (ds' ≡ ds ++ Declaration.function (raw_function d) ∷ [])) → OnErr res (ds' ≡ ds)
-        → Calls res (scope_with r here outer before) (scope_with r here outer after) before after (DefinesFunction (SlotsStand before.slots) d) (definitions_with after ≡ one_function_more (definitions_with before))
+        → Calls res (scope_with r here outer known before) (scope_with r here outer known after) before after (DefinesFunction (SlotsStand before.slots) d) (definitions_with after ≡ one_function_more (definitions_with before))
     function-inside d s h f ok err =
         let a = inner-there in
         let strict : function_signature a.scope.slots (raw_function d) ≡ Some s = ap (λ zs. function_signature zs (raw_function d)) (sym a.slots) ∙ function-strict (resources_in r here) before.slots inner-slots d s h f.params f.result_ in
@@ -227,34 +227,49 @@ module _ {E : Type 0} (res : Result ℕ E) (r : Resolve) (i : InterfaceId) (oute
           after = in_instance (Slot.function s) a.scope;
           step = bind (function_signature a.scope.slots (raw_function d)) s (λ u. Some (in_instance (Slot.function u) a.scope)) strict;
           one = refl;
-          types = nothing a.scope.shown.types;
+          types = nothing-more a.scope.shown.types;
           functions = refl;
         } in
-        calls-from res r here outer before after _ _ (Slot.function s) sound refl (function-of before.slots d s h)
+        calls-from res r here outer known before after _ _ (Slot.function s) sound refl (function-of before.slots d s h)
         (more-ok (Declaration.function (raw_function d)) (Slot.function s) [] _ m (λ e. ap (λ zs. definitions_with (inner_contents (place_in r here) outer zs)) e
         ∙ inner-definitions (place_in r here) outer ds (Declaration.function (raw_function d)) (Slot.function s) [] m before.types (before.functions + 1) (omega arith) refl
-        ∙ (λ j. record { types = before.types; functions = before.functions + 1; exports = sym (nothing-meant (definitions_with before).exports) j })) ok)
+        ∙ (λ j. record { types = before.types; functions = before.functions + 1; exports = sym (nothing-more (definitions_with before).exports) j })) ok)
         (err-same err)
-      where
-        nothing : (ts : List ShownType) → ts ≡ ts ++ []
-        nothing [] = refl
-        nothing (t ∷ ts) = ap (λ us. t ∷ us) (nothing ts)
 
-        nothing-meant : (ts : List (Text × TypeMeaning)) → ts ≡ ts ++ []
-        nothing-meant [] = refl
-        nothing-meant (t ∷ ts) = ap (λ us. t ∷ us) (nothing-meant ts)
+    -- a type around that is the name of a named interface
+    pub alias-inside : (k : ℕ) (x : Slot) (t : Tree) → slice_get (outer_slots outer) k ≡ Some x → is_foreign_name x ≡ true → is_slot_of (resources_in r here) x ≡ true → standing_at (Some x) ≡ Some (tree t)
+        → IfOk res (λ k'. (k' ≡ type_slots ds) × (ds' ≡ ds ++ Declaration.alias_of (Alias.of_outer 1 k) ∷ [])) → OnErr res (ds' ≡ ds)
+        → Calls res (scope_with r here outer known before) (scope_with r here outer known after) before after (λ m. m ≡ tree t) (definitions_with after ≡ definitions_with before)
+    alias-inside k x t at foreign kept stands ok err =
+        let a = inner-there in
+        let d : Declaration = Declaration.alias_of (Alias.of_outer 1 k) in
+        let m : InnerMore (place_in r here) outer ds (Declaration.alias_of (Alias.of_outer 1 k)) x [] = record {
+          at = a;
+          after = in_instance x a.scope;
+          step = bind (slice_get (outer_slots outer) k) x (λ slot. follow.provided (is_foreign_name slot) (in_instance slot a.scope)) at
+              ∙ ap (λ b. follow.provided b (in_instance x a.scope)) foreign;
+          one = refl;
+          types = nothing-more a.scope.shown.types;
+          functions = refl;
+        } in
+        calls-from res r here outer known before after _ _ x sound kept
+        (record { gives = λ m e. stands ∙ ap Some (sym e); only = λ m e. some-standing _ m (sym stands ∙ e) })
+        (more-ok d x [] _ m (λ e. ap (λ zs. definitions_with (inner_contents (place_in r here) outer zs)) e
+        ∙ inner-definitions (place_in r here) outer ds (Declaration.alias_of (Alias.of_outer 1 k)) x [] m before.types before.functions (omega arith) (omega arith)
+        ∙ (λ j. record { types = before.types; functions = before.functions; exports = sym (nothing-more (definitions_with before).exports) j })) ok)
+        (err-same err)
 
     -- ---- exports of types
 
     abbrev ShownAs : ExternName → Type 0
-    ShownAs name = ExportsOne (scope_with r here outer before) (definitions_with before) (definitions_with after) name
+    ShownAs name = ExportsOne (scope_with r here outer known before) (definitions_with before) (definitions_with after) name
 
     -- a declaration that is followed as it says
-    exported-inside : (described : ComponentTypeRef) (name : ExternName) (d : Text × TypeMeaning) (x : Slot) → IsDeclared (scope_with r here outer before) d → name ≡ exported_name d → is_slot_of (resources_in r here) x ≡ true
+    exported-inside : (described : ComponentTypeRef) (name : ExternName) (d : Text × TypeMeaning) (x : Slot) → IsDeclared (scope_with r here outer known before) d → name ≡ exported_name d → is_slot_of (resources_in r here) x ≡ true
         → standing_at (Some x) ≡ Some (tree (named (place_in r here) name.text)) → ((m : InstanceScope) → instance_step (place_in r here) (outer_slots outer) m (Declaration.exported name described) ≡ show_type (place_in r here) name described m)
         → named_type before.slots (place_in r here) name.text described ≡ Some (d.1.declaration, x)
         → IfOk res (λ k. (k ≡ type_slots ds) × (ds' ≡ ds ++ Declaration.exported name described ∷ [])) → OnErr res (ds' ≡ ds)
-        → Calls res (scope_with r here outer before) (scope_with r here outer after) before after (λ m. m ≡ tree (named (place_in r here) name.text)) (ShownAs name)
+        → Calls res (scope_with r here outer known before) (scope_with r here outer known after) before after (λ m. m ≡ tree (named (place_in r here) name.text)) (ShownAs name)
     exported-inside described name d x declared is kept stands step found ok err =
         let a = inner-there in
         let t : ShownType = record { name = name.text; meaning = record { declaration = d.1.declaration; external_id = name.external_id }; slot = x } in
@@ -269,7 +284,7 @@ module _ {E : Type 0} (res : Result ℕ E) (r : Resolve) (i : InterfaceId) (oute
           functions = refl;
         } in
         let meant : (name.text, t.meaning) ≡ d = λ j. (ap (λ (n : ExternName). n.text) is j, record { declaration = d.1.declaration; external_id = ap (λ (n : ExternName). n.external_id) is j }) in
-        calls-from res r here outer before after _ _ x sound kept
+        calls-from res r here outer known before after _ _ x sound kept
         (record { gives = λ m e. stands ∙ ap Some (sym e); only = λ m e. some-standing _ m (sym stands ∙ e) })
         (more-ok (Declaration.exported name described) x (t ∷ []) _ m (λ e. record {
           declaration = d;
@@ -280,16 +295,13 @@ module _ {E : Type 0} (res : Result ℕ E) (r : Resolve) (i : InterfaceId) (oute
               ∙ (λ j. record { types = before.types; functions = before.functions; exports = (definitions_with before).exports ++ meant j ∷ [] });
         }) ok)
         (err-same err)
-      where
-        some-standing : (u m : Standing) → Some u ≡ Some m → m ≡ u
-        some-standing u m e = cc
 
     simple-name : (name : ExternName) (d : Text × TypeMeaning) → name ≡ exported_name d → is_simple name ≡ true
     simple-name name d e = ap is_simple e
 
-    pub type-inside : (k : ℕ) (name : ExternName) → DeclaresSlot (scope_with r here outer before) (SlotsStand before.slots) name k
+    pub type-inside : (k : ℕ) (name : ExternName) → DeclaresSlot (scope_with r here outer known before) (SlotsStand before.slots) name k
         → IfOk res (λ k'. (k' ≡ type_slots ds) × (ds' ≡ ds ++ Declaration.exported name (refs.TypeEq k) ∷ [])) → OnErr res (ds' ≡ ds)
-        → Calls res (scope_with r here outer before) (scope_with r here outer after) before after (λ m. m ≡ tree (named (place_in r here) name.text)) (ShownAs name)
+        → Calls res (scope_with r here outer known before) (scope_with r here outer known after) before after (λ m. m ≡ tree (named (place_in r here) name.text)) (ShownAs name)
     type-inside k name s ok err = go (slice_get before.slots k) refl s.stands
       where
         simple : is_simple name ≡ true
@@ -311,7 +323,7 @@ module _ {E : Type 0} (res : Result ℕ E) (r : Resolve) (i : InterfaceId) (oute
             ∙ (λ j. Some (sym s.is_type j, like j))
 
         go : (o : Option Slot) → slice_get before.slots k ≡ o → standing_at o ≡ Some (tree s.type_tree)
-            → Calls res (scope_with r here outer before) (scope_with r here outer after) before after (λ m. m ≡ tree (named (place_in r here) name.text)) (ShownAs name)
+            → Calls res (scope_with r here outer known before) (scope_with r here outer known after) before after (λ m. m ≡ tree (named (place_in r here) name.text)) (ShownAs name)
         go (Some (Slot.value u)) at q =
             let same : u ≡ s.type_tree = cc in
             let kept : not (resources_in r here (place_in r here) name.text) ≡ true = ap not (alike ∙ ap (is_resource_tree (resources_in r here)) (sym same)) ∙ slot-at (is_slot_of (resources_in r here)) before.slots k (Slot.value u) inner-slots at in
@@ -326,9 +338,9 @@ module _ {E : Type 0} (res : Result ℕ E) (r : Resolve) (i : InterfaceId) (oute
         go (Some (Slot.instance xs n)) at q = absurd (let z : ⊥ = cc in z)
         go None at q = absurd (let z : ⊥ = cc in z)
 
-    pub resource-inside : (name : ExternName) → DeclaresResource (scope_with r here outer before) name
+    pub resource-inside : (name : ExternName) → DeclaresResource (scope_with r here outer known before) name
         → IfOk res (λ k'. (k' ≡ type_slots ds) × (ds' ≡ ds ++ Declaration.exported name refs.SubResource ∷ [])) → OnErr res (ds' ≡ ds)
-        → Calls res (scope_with r here outer before) (scope_with r here outer after) before after (λ m. m ≡ tree (named (place_in r here) name.text)) (ShownAs name)
+        → Calls res (scope_with r here outer known before) (scope_with r here outer known after) before after (λ m. m ≡ tree (named (place_in r here) name.text)) (ShownAs name)
     resource-inside name s ok err =
         let kept : resources_in r here (place_in r here) name.text ≡ true = ap (λ (n : ExternName). resources_in r here (place_in r here) n.text) s.named_ ∙ s.declared.alike ∙ ap (is_resource_declaration (resources_in r here)) s.is_resource in
         exported-inside refs.SubResource name s.declaration (Slot.resource (place_in r here) name.text) s.declared s.named_ kept refl

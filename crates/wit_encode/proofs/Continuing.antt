@@ -13,7 +13,7 @@ use Rattle.wit_encode.specs.declared.interface.OpenInterface.{OpenInterface}
 use Rattle.wit_encode.specs.Maps.{MapsAgree}
 use Rattle.wit_encode.specs.Scope.{Scope, IsImportable, IsDeclared}
 use Rattle.wit_encode.specs.Fits.{CanEncode}
-use Rattle.wit_encode.specs.Instance.{SlotsStand, place_in, declarations_in, is_slot_of, resources_in, own_of, around_of, contents_of, encoder_scope, ShowsFunction, with_functions, Continues, CanEncodeFunction}
+use Rattle.wit_encode.specs.Instance.{SlotsStand, is_slot_of, resources_in, own_of, around_of, known_of, scope_from, contents_of, encoder_scope, ShowsFunction, with_functions, Continues, CanEncodeFunction}
 
 -- ---- what is asked of a scope doesn't hang on the functions
 
@@ -52,22 +52,12 @@ module _ {r r' : Resolve} {outer outer' : Declarations} {inner inner' : Option O
 
   -- a function that is exported
   pub continues-shown : {f : Text × FunctionMeaning} → r' ≡ r → outer' ≡ outer → own_of inner' ≡ own_of inner → ShowsFunction (contents_of r outer inner) (contents_of r' outer' inner') f → MapsAgree r m (SlotsStand (contents_of r outer inner).slots) → m' ≡ m
-      → around_of outer' inner' ≡ around_of outer inner → Continues r r' outer outer' inner inner' m m'
-  continues-shown e o w s a q around =
+      → around_of outer' inner' ≡ around_of outer inner → known_of inner' ≡ known_of inner → Continues r r' outer outer' inner inner' m m'
+  continues-shown e o w s a q around known =
       let sound : ((contents_of r' outer' inner').is_followed && list_all (is_slot_of (resources_in r' (own_of inner'))) (contents_of r' outer' inner').slots) ≡ ((contents_of r outer inner).is_followed && list_all (is_slot_of (resources_in r (own_of inner))) (contents_of r outer inner).slots) =
       (λ i. s.followed i && list_all (is_slot_of (resources_in (e i) (w i))) (s.slots i)) in
       record {
-        scope_stays = λ i. record {
-          packages = e i;
-          place = place_in (e i) (w i);
-          declarations = declarations_in (e i) (w i);
-          own_interface = w i;
-          instances = [];
-          resources = resources_in (e i) (w i);
-          functions = (contents_of r' outer' inner').shown.functions;
-          around = around i;
-          is_sound = sound i;
-        };
+        scope_stays = λ i. scope_from (e i) (w i) (around i) (known i) (contents_of r' outer' inner').shown.functions (sound i);
         agree = subst (λ (z : TypeEncodingMaps). MapsAgree r z (SlotsStand (contents_of r' outer' inner').slots)) (sym q) (subst (λ (xs : List Slot). MapsAgree r m (SlotsStand xs)) (sym s.slots) a);
       }
 
@@ -90,9 +80,9 @@ pub record Showed {A E : Type 0} (res : Result A E) (r : Resolve) (o₀ o₂ : D
   pub shows : OnOk res ((contents_of r o₂ i₂).shown.functions ≡ (contents_of r o₀ i₀).shown.functions ++ f ∷ [])
 
 pub function-showed : {A E : Type 0} (res : Result A E) (r r₀ r₁ r₂ : Resolve) (o₀ o₁ o₂ : Declarations) (i₀ i₁ i₂ : Option OpenInterface) (m₀ m₁ m₂ : TypeEncodingMaps) (f g : Text × FunctionMeaning) → r₀ ≡ r
-    → encoder_scope r₁ o₁ i₁ ≡ encoder_scope r₀ o₀ i₀ → MapsAgree r m₁ (SlotsStand (contents_of r₁ o₁ i₁).slots) → r₂ ≡ r₁ → o₂ ≡ o₁ → own_of i₂ ≡ own_of i₁ → m₂ ≡ m₁ → g ≡ f
+    → encoder_scope r₁ o₁ i₁ ≡ encoder_scope r₀ o₀ i₀ → MapsAgree r m₁ (SlotsStand (contents_of r₁ o₁ i₁).slots) → r₂ ≡ r₁ → o₂ ≡ o₁ → own_of i₂ ≡ own_of i₁ → known_of i₂ ≡ known_of i₁ → m₂ ≡ m₁ → g ≡ f
     → OnOk res (ShowsFunction (contents_of r₁ o₁ i₁) (contents_of r₂ o₂ i₂) g) → OnErr res (i₂ ≡ i₁) → Showed res r o₀ o₂ i₀ i₂ m₀ m₂ f
-function-showed res r r₀ r₁ r₂ o₀ o₁ o₂ i₀ i₁ i₂ m₀ m₁ m₂ f g e s agree e₂ eo ei em eg ok err =
+function-showed res r r₀ r₁ r₂ o₀ o₁ o₂ i₀ i₁ i₂ m₀ m₁ m₂ f g e s agree e₂ eo ei ek em eg ok err =
     let e₁ : r₁ ≡ r₀ = ap (λ (z : Scope). z.packages) s in
     let agree₁ : MapsAgree r₁ m₁ (SlotsStand (contents_of r₁ o₁ i₁).slots) = subst (λ (z : Resolve). MapsAgree z m₁ (SlotsStand (contents_of r₁ o₁ i₁).slots)) (sym (e₁ ∙ e)) agree in
     let first : Continues r₀ r₁ o₀ o₁ i₀ i₁ m₀ m₁ = continues-kept s (subst (λ (z : Resolve). MapsAgree z m₁ (SlotsStand (contents_of r₁ o₁ i₁).slots)) e₁ agree₁) in
@@ -107,7 +97,7 @@ function-showed res r r₀ r₁ r₂ o₀ o₁ o₂ i₀ i₁ i₂ m₀ m₁ m�
     around = ap (λ (z : Declarations). around_of z i₂) eo ∙ around-by-own o₁ i₂ i₁ ei
 
     second : {A E : Type 0} (res : Result A E) → MapsAgree r₁ m₁ (SlotsStand (contents_of r₁ o₁ i₁).slots) → OnOk res (ShowsFunction (contents_of r₁ o₁ i₁) (contents_of r₂ o₂ i₂) g) → OnErr res (i₂ ≡ i₁) → Continues r₁ r₂ o₁ o₂ i₁ i₂ m₁ m₂
-    second (Ok a) agree ok err = continues-shown e₂ eo ei ok agree em around
+    second (Ok a) agree ok err = continues-shown e₂ eo ei ok agree em around ek
     second (Err x) agree ok err = record {
       scope_stays = λ j. with_functions (encoder_scope (e₂ j) (eo j) (err j)) (contents_of r₂ o₂ i₂).shown.functions;
       agree = subst (λ (z : TypeEncodingMaps). MapsAgree r₁ z (SlotsStand (contents_of r₂ o₂ i₂).slots)) (sym em) (subst (λ (xs : List Slot). MapsAgree r₁ m₁ (SlotsStand xs)) (λ j. (contents_of (sym e₂ j) (sym eo j) (sym err j)).slots) agree);

@@ -8,6 +8,7 @@ use Rattle.std.specs.Option.{option_map, option_map_or, option_and_then, is_some
 use Rattle.std.specs.Set.{is_member, distinct_count}
 use Rattle.std.specs.Cmp.{IsEquivalence, bool_eq_equiv}
 use Rattle.std.specs.Cmp.Lexicographic.{options_equiv}
+use Rattle.std.specs.declared.vec.Vec.{Vec}
 use Rattle.std.proofs.lemmas.Bool.{cases_Bool, cond-true, cond-false, eqb-true, eq-eqb}
 use Rattle.std.proofs.lemmas.Cmp.{on_equiv, and_equiv, lists_equiv, nat_eq_equiv}
 use Rattle.std.proofs.lemmas.List.{take_more, map-append, length-map, get_or-map}
@@ -214,16 +215,16 @@ pub record Counted (r : Resolve) (i : InterfaceId) (fs : List Function) (ts : Li
   pub keys : DefinesKeys fs ds
   pub types : DefinesTypes r i ts ds
 
-pub closed-counts : (r : Resolve) (outer outer' : Declarations) (i : InterfaceId) (inner' : Option OpenInterface) (current : OpenInterface) (m m' : TypeEncodingMaps)
+pub closed-counts : (r : Resolve) (outer outer' : Declarations) (i : InterfaceId) (known : Vec (TypeId × ℕ) Global) (inner' : Option OpenInterface) (current : OpenInterface) (m m' : TypeEncodingMaps)
     (S : Pairs) (fs : List Function) (ts : List TypeId) → inner' ≡ Some current → Began m
-    → AddsFunctions r (encoder_scope r outer (opened i)) m m' (definitions_with (contents_of r outer (opened i))) (definitions_with (contents_of r outer' inner')) fs
+    → AddsFunctions r (encoder_scope r outer (opened i known)) m m' (definitions_with (contents_of r outer (opened i known))) (definitions_with (contents_of r outer' inner')) fs
     → MapsAgree r m' S
-    → names_defined r (encoder_scope r outer (opened i)) m' ≡ distinct_count nat_eq (defined_under_names r (Some i) ts) → Counted r i fs ts current.declared
+    → names_defined r (encoder_scope r outer (opened i known)) m' ≡ distinct_count nat_eq (defined_under_names r (Some i) ts) → Counted r i fs ts current.declared
 unfolding inner_contents
-closed-counts r outer outer' i inner' current m m' S fs ts is b a agree defined = record {
-  keys = defines-keys r (encoder_scope r outer (opened i)) m m' S (definitions_with (contents_of r outer (opened i)))
+closed-counts r outer outer' i known inner' current m m' S fs ts is b a agree defined = record {
+  keys = defines-keys r (encoder_scope r outer (opened i known)) m m' S (definitions_with (contents_of r outer (opened i known)))
       (definitions_with (contents_of r outer' inner')) fs current.declared b refl (ap (λ (o : Option OpenInterface). (contents_of r outer' o).functions) is) a agree;
-  types = defines-types r (encoder_scope r outer (opened i)) i m m' S (definitions_with (contents_of r outer (opened i)))
+  types = defines-types r (encoder_scope r outer (opened i known)) i m m' S (definitions_with (contents_of r outer (opened i known)))
       (definitions_with (contents_of r outer' inner')) fs ts current.declared b refl (ap (λ (o : Option OpenInterface). (contents_of r outer' o).types) is)
       a agree defined;
 }

@@ -35,3 +35,4 @@ pub mod FunctionExports
 pub mod Alone
 pub mod UsesNone
 pub mod Reordering
+pub mod Importing

@@ -6,6 +6,8 @@ use Rattle.wit_encode.proofs.Lists.{contains-map}
 use Rattle.std.specs.Prelude.{IsPermutation, IfOk, map, String}
 use Rattle.std.specs.Borrow.{Bor}
 use Rattle.std.specs.declared.alloc.Global.{Global}
+use Rattle.std.specs.declared.vec.Vec.{Vec}
+use Rattle.wit_model.specs.declared.model.TypeId.{TypeId}
 use Rattle.std.proofs.lemmas.List.Sorted.{IsPermutation-map}
 use Rattle.wit_model.specs.declared.model.Interface.{Interface}
 use Rattle.wit_model.specs.declared.model.Function.{Function}
@@ -37,17 +39,17 @@ use Rattle.wit_encode.specs.Instance.{is_slot_of, no_view, outer_slots, inner_co
 use Rattle.wit_encode.proofs.Calls.{inner-at}
 use Rattle.wit_encode.proofs.Reordering.{functions-mean}
 
-pub opened-sound : (r : Resolve) (outer : Declarations) (i : InterfaceId) → (encoder_scope r outer (opened i)).is_sound ≡ true
+pub opened-sound : (r : Resolve) (outer : Declarations) (i : InterfaceId) (known : Vec (TypeId × ℕ) Global) → (encoder_scope r outer (opened i known)).is_sound ≡ true
 unfolding inner_contents
-opened-sound r outer i = refl
+opened-sound r outer i known = refl
 
-pub opened-shows : (r : Resolve) (outer : Declarations) (i : InterfaceId) → (contents_of r outer (opened i)).shown.functions ≡ []
+pub opened-shows : (r : Resolve) (outer : Declarations) (i : InterfaceId) (known : Vec (TypeId × ℕ) Global) → (contents_of r outer (opened i known)).shown.functions ≡ []
 unfolding inner_contents
-opened-shows r outer i = refl
+opened-shows r outer i known = refl
 
-pub opened-exports : (r : Resolve) (outer : Declarations) (i : InterfaceId) → (definitions_with (contents_of r outer (opened i))).exports ≡ []
+pub opened-exports : (r : Resolve) (outer : Declarations) (i : InterfaceId) (known : Vec (TypeId × ℕ) Global) → (definitions_with (contents_of r outer (opened i known))).exports ≡ []
 unfolding inner_contents
-opened-exports r outer i = refl
+opened-exports r outer i known = refl
 
 view-at : (place : Place) (outer : Declarations) (ds : List Declaration) → (inner_contents place outer ds).is_followed ≡ true → instance_view place (outer_slots outer) ds ≡ Some (inner_contents place outer ds).shown
 unfolding inner_contents
@@ -56,25 +58,25 @@ view-at place outer ds e =
     ap (λ o. o >>= λ scope. Some scope.shown) a.is ∙ ap Some (sym (ap (λ o. option_map_or (λ s. s.shown) o no_view) a.is))
 
 -- what is closed is an instance type that can be followed
-pub closed-instance : (r : Resolve) (outer outer' : Declarations) (i : InterfaceId) (inner' : Option OpenInterface) (current : OpenInterface) (m m' : TypeEncodingMaps) (fs : List (Text × FunctionMeaning)) → inner' ≡ Some current → own_of inner' ≡ Some i
-    → Continues r r outer outer' (opened i) inner' m m' → (contents_of r outer' inner').shown.functions ≡ (contents_of r outer (opened i)).shown.functions ++ fs → outer' ≡ outer
+pub closed-instance : (r : Resolve) (outer outer' : Declarations) (i : InterfaceId) (known : Vec (TypeId × ℕ) Global) (inner' : Option OpenInterface) (current : OpenInterface) (m m' : TypeEncodingMaps) (fs : List (Text × FunctionMeaning)) → inner' ≡ Some current → own_of inner' ≡ Some i
+    → Continues r r outer outer' (opened i known) inner' m m' → (contents_of r outer' inner').shown.functions ≡ (contents_of r outer (opened i known)).shown.functions ++ fs → outer' ≡ outer
     → (definitions_with (contents_of r outer' inner')).exports ≡ (interface_meaning_at r i.0).types → IsInstance r outer i current.declared fs
-closed-instance r outer outer' i inner' current m m' fs is own c h same exported =
+closed-instance r outer outer' i known inner' current m m' fs is own c h same exported =
     let at : contents_of r outer' inner' ≡ inner_contents (place_of r (owner.Interface i)) outer current.declared =
     (λ j. contents_of r (same j) (is j)) ∙ ap (λ (k : InterfaceId). inner_contents (place_of r (owner.Interface k)) outer current.declared) (let e : Some current.interface ≡ Some i = sym (ap own_of is) ∙ own in let z : current.interface ≡ i = cc in z) in
-    let sound : (encoder_scope r outer' inner').is_sound ≡ true = ap (λ (s : Scope). s.is_sound) c.scope_stays ∙ opened-sound r outer i in
+    let sound : (encoder_scope r outer' inner').is_sound ≡ true = ap (λ (s : Scope). s.is_sound) c.scope_stays ∙ opened-sound r outer i known in
     let followed : (contents_of r outer' inner').is_followed ≡ true = first_true (contents_of r outer' inner').is_followed (list_all (is_slot_of (resources_in r (own_of inner'))) (contents_of r outer' inner').slots) sound in
     record {
       view = (inner_contents (place_of r (owner.Interface i)) outer current.declared).shown;
       followed = view-at (place_of r (owner.Interface i)) outer current.declared (sym (ap (λ z. z.is_followed) at) ∙ followed);
-      shows = sym (ap (λ z. z.shown.functions) at) ∙ h ∙ ap (λ zs. zs ++ fs) (opened-shows r outer i);
+      shows = sym (ap (λ z. z.shown.functions) at) ∙ h ∙ ap (λ zs. zs ++ fs) (opened-shows r outer i known);
       types = sym (ap (λ z. (definitions_with z).exports) at) ∙ exported;
     }
 
 -- the component type around is the same
-pub closed-outer : (r : Resolve) (outer outer' : Declarations) (i : InterfaceId) (inner' : Option OpenInterface) (m m' : TypeEncodingMaps) → own_of inner' ≡ Some i → Continues r r outer outer' (opened i) inner' m m' → outer' ≡ outer
-closed-outer r outer outer' i None m m' own c = absurd (let z : ⊥ = cc in z)
-closed-outer r outer outer' i (Some current) m m' own c = ap (λ (s : Scope). s.around) c.scope_stays
+pub closed-outer : (r : Resolve) (outer outer' : Declarations) (i : InterfaceId) (known : Vec (TypeId × ℕ) Global) (inner' : Option OpenInterface) (m m' : TypeEncodingMaps) → own_of inner' ≡ Some i → Continues r r outer outer' (opened i known) inner' m m' → outer' ≡ outer
+closed-outer r outer outer' i known None m m' own c = absurd (let z : ⊥ = cc in z)
+closed-outer r outer outer' i known (Some current) m m' own c = ap (λ (s : Scope). s.around) c.scope_stays
 
 map-twice : {A B C : Type 0} (f : B → C) (g : A → B) (xs : List A) → map f (map g xs) ≡ map (λ x. f (g x)) xs
 map-twice f g [] = refl

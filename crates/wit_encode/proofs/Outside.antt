@@ -60,7 +60,7 @@ module _ {E : Type 0} (res : Result ℕ E) (r : Resolve) (outer outer' : Declara
   abbrev after : Contents
   after = outer_contents outer'
 
-  module _ (sound : (scope_with r None Declarations.no_more before).is_sound ≡ true) where
+  module _ (sound : (scope_with r None Declarations.no_more [] before).is_sound ≡ true) where
     outer-there : OuterAt outer
     outer-there = outer-at outer (first_true before.is_followed (list_all (is_slot_of (resources_in r None)) before.slots) sound)
 
@@ -86,24 +86,24 @@ module _ {E : Type 0} (res : Result ℕ E) (r : Resolve) (outer outer' : Declara
         err-each (Ok k) f h = h
         err-each (Err e) f h = f h
 
-    pub defined-outside : (d : ComponentDefinedType) (t : Tree) → Follows (SlotsStand before.slots) d t → IsFormed (scope_with r None Declarations.no_more before) t
+    pub defined-outside : (d : ComponentDefinedType) (t : Tree) → Follows (SlotsStand before.slots) d t → IsFormed (scope_with r None Declarations.no_more [] before) t
         → IfOk res (λ k. (k ≡ type_slots_of outer) × (outer' ≡ append outer (Declarations.declares (Declaration.defined (raw_defined d)) Declarations.no_more))) → OnErr res (outer' ≡ outer)
-        → Calls res (scope_with r None Declarations.no_more before) (scope_with r None Declarations.no_more after) before after (Defines (SlotsStand before.slots) d) (definitions_with after ≡ one_type_more (definitions_with before))
+        → Calls res (scope_with r None Declarations.no_more [] before) (scope_with r None Declarations.no_more [] after) before after (Defines (SlotsStand before.slots) d) (definitions_with after ≡ one_type_more (definitions_with before))
     defined-outside d t h f ok err =
         let a = outer-there in
         let strict : definition a.scope.slots (raw_defined d) ≡ Some t = ap (λ zs. definition zs (raw_defined d)) (sym a.slots) ∙ definition-strict (resources_in r None) before.slots outer-slots d t h f.formed in
-        calls-from res r None Declarations.no_more before after _ _ (Slot.value t) sound (formed-value (resources_in r None) t f.formed) (defines-of before.slots d t h)
+        calls-from res r None Declarations.no_more [] before after _ _ (Slot.value t) sound (formed-value (resources_in r None) t f.formed) (defines-of before.slots d t h)
         (more-ok (Declaration.defined (raw_defined d)) (Slot.value t) _ (bind (definition a.scope.slots (raw_defined d)) t (λ u. Some (in_scope (Slot.value u) a.scope)) strict) (λ e. ap (λ zs. definitions_with (outer_contents zs)) e
         ∙ outer-definitions outer (Declaration.defined (raw_defined d)) (before.types + 1) before.functions refl (omega arith)) ok)
         (err-same err)
 
-    pub function-outside : (d : ComponentFuncType) (s : Signature) → FollowsFunction (SlotsStand before.slots) d s → IsFormedSignature (scope_with r None Declarations.no_more before) s
+    pub function-outside : (d : ComponentFuncType) (s : Signature) → FollowsFunction (SlotsStand before.slots) d s → IsFormedSignature (scope_with r None Declarations.no_more [] before) s
         → IfOk res (λ k. (k ≡ type_slots_of outer) × (outer' ≡ append outer (Declarations.declares (Declaration.function (raw_function d)) Declarations.no_more))) → OnErr res (outer' ≡ outer)
-        → Calls res (scope_with r None Declarations.no_more before) (scope_with r None Declarations.no_more after) before after (DefinesFunction (SlotsStand before.slots) d) (definitions_with after ≡ one_function_more (definitions_with before))
+        → Calls res (scope_with r None Declarations.no_more [] before) (scope_with r None Declarations.no_more [] after) before after (DefinesFunction (SlotsStand before.slots) d) (definitions_with after ≡ one_function_more (definitions_with before))
     function-outside d s h f ok err =
         let a = outer-there in
         let strict : function_signature a.scope.slots (raw_function d) ≡ Some s = ap (λ zs. function_signature zs (raw_function d)) (sym a.slots) ∙ function-strict (resources_in r None) before.slots outer-slots d s h f.params f.result_ in
-        calls-from res r None Declarations.no_more before after _ _ (Slot.function s) sound refl (function-of before.slots d s h)
+        calls-from res r None Declarations.no_more [] before after _ _ (Slot.function s) sound refl (function-of before.slots d s h)
         (more-ok (Declaration.function (raw_function d)) (Slot.function s) _ (bind (function_signature a.scope.slots (raw_function d)) s (λ u. Some (in_scope (Slot.function u) a.scope)) strict) (λ e. ap (λ zs. definitions_with (outer_contents zs)) e
         ∙ outer-definitions outer (Declaration.function (raw_function d)) before.types (before.functions + 1) (omega arith) refl) ok)
         (err-same err)

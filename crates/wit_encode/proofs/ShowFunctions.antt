@@ -52,12 +52,12 @@ shows-inside place outer ds name i s followed simple h =
 
 pub shows-within : {A E : Type 0} (res : Result A E) (r : Resolve) (outer : Declarations) (inner : Option OpenInterface) (current : OpenInterface) (ds' : List Declaration) (name : ExternName) (i : ℕ) (s : Signature)
     → inner ≡ Some current → (encoder_scope r outer inner).is_sound ≡ true → is_simple name ≡ true → OnOk res (ds' ≡ current.declared ++ Declaration.exported name (refs.Func i) ∷ []) → SlotsStand (contents_of r outer inner).slots i (function s)
-    → OnOk res (ShowsFunction (contents_of r outer inner) (contents_of r outer (Some (record { interface = current.interface; declared = ds' }))) (name.text, record { signature = s; external_id = name.external_id }))
+    → OnOk res (ShowsFunction (contents_of r outer inner) (contents_of r outer (Some (record current { declared = ds' }))) (name.text, record { signature = s; external_id = name.external_id }))
 shows-within (Err e) r outer inner current ds' name i s is sound simple ok h = ok
 shows-within (Ok a) r outer inner current ds' name i s is sound simple ok h =
-    subst (λ (o : Option OpenInterface). (encoder_scope r outer o).is_sound ≡ true → SlotsStand (contents_of r outer o).slots i (function s) → ShowsFunction (contents_of r outer o) (contents_of r outer (Some (record { interface = current.interface; declared = ds' }))) (name.text, record { signature = s; external_id = name.external_id }))
+    subst (λ (o : Option OpenInterface). (encoder_scope r outer o).is_sound ≡ true → SlotsStand (contents_of r outer o).slots i (function s) → ShowsFunction (contents_of r outer o) (contents_of r outer (Some (record current { declared = ds' }))) (name.text, record { signature = s; external_id = name.external_id }))
     (sym is)
-    (λ sound h. subst (λ (zs : List Declaration). ShowsFunction (contents_of r outer (Some current)) (contents_of r outer (Some (record { interface = current.interface; declared = zs }))) (name.text, record { signature = s; external_id = name.external_id }))
+    (λ sound h. subst (λ (zs : List Declaration). ShowsFunction (contents_of r outer (Some current)) (contents_of r outer (Some (record current { declared = zs }))) (name.text, record { signature = s; external_id = name.external_id }))
     (sym ok)
     (shows-inside _ outer current.declared name i s (first_true (contents_of r outer (Some current)).is_followed (list_all (is_slot_of (resources_in r (Some current.interface))) (contents_of r outer (Some current)).slots) sound) simple h))
     sound h

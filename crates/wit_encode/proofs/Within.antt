@@ -40,27 +40,27 @@ ShowsTo res r outer inner inner' name = CallsTo res r outer inner outer inner' (
 module _ {E : Type 0} (res : Result ℕ E) (r : Resolve) (outer : Declarations) (inner : Option OpenInterface) where
   module _ (current : OpenInterface) (ds' : List Declaration) (is : inner ≡ Some current) where
     abbrev next : Option OpenInterface
-    next = Some (record { interface = current.interface; declared = ds' })
+    next = Some (record current { declared = ds' })
 
     pub defined-within : (d : ComponentDefinedType) → CanDefine r outer inner d
         → IfOk res (λ k. (k ≡ type_slots current.declared) × (ds' ≡ current.declared ++ Declaration.defined (raw_defined d) ∷ [])) → OnErr res (ds' ≡ current.declared) → DefinesTo res r outer inner outer next d
     defined-within d q ok err = subst (λ (o : Option OpenInterface). CanDefine r outer o d → DefinesTo res r outer o outer next d) (sym is)
-        (λ q. defined-inside res r current.interface outer current.declared ds' q.2.sound d q.0 q.1 q.2 ok err) q
+        (λ q. defined-inside res r current.interface outer current.known.items current.declared ds' q.2.sound d q.0 q.1 q.2 ok err) q
 
     pub function-within : (d : ComponentFuncType) → CanDefineFunction r outer inner d
         → IfOk res (λ k. (k ≡ type_slots current.declared) × (ds' ≡ current.declared ++ Declaration.function (raw_function d) ∷ [])) → OnErr res (ds' ≡ current.declared) → DefinesFunctionTo res r outer inner outer next d
     function-within d q ok err = subst (λ (o : Option OpenInterface). CanDefineFunction r outer o d → DefinesFunctionTo res r outer o outer next d) (sym is)
-        (λ q. function-inside res r current.interface outer current.declared ds' q.2.sound d q.0 q.1 q.2 ok err) q
+        (λ q. function-inside res r current.interface outer current.known.items current.declared ds' q.2.sound d q.0 q.1 q.2 ok err) q
 
     pub type-within : (k : ℕ) (name : ExternName) → DeclaresSlot (encoder_scope r outer inner) (SlotsStand (contents_of r outer inner).slots) name k
         → IfOk res (λ k'. (k' ≡ type_slots current.declared) × (ds' ≡ current.declared ++ Declaration.exported name (refs.TypeEq k) ∷ [])) → OnErr res (ds' ≡ current.declared) → ShowsTo res r outer inner next name
     type-within k name q ok err = subst (λ (o : Option OpenInterface). DeclaresSlot (encoder_scope r outer o) (SlotsStand (contents_of r outer o).slots) name k → ShowsTo res r outer o next name) (sym is)
-        (λ q. type-inside res r current.interface outer current.declared ds' q.declared.sound k name q ok err) q
+        (λ q. type-inside res r current.interface outer current.known.items current.declared ds' q.declared.sound k name q ok err) q
 
     pub resource-within : (name : ExternName) → DeclaresResource (encoder_scope r outer inner) name
         → IfOk res (λ k'. (k' ≡ type_slots current.declared) × (ds' ≡ current.declared ++ Declaration.exported name refs.SubResource ∷ [])) → OnErr res (ds' ≡ current.declared) → ShowsTo res r outer inner next name
     resource-within name q ok err = subst (λ (o : Option OpenInterface). DeclaresResource (encoder_scope r outer o) name → ShowsTo res r outer o next name) (sym is)
-        (λ q. resource-inside res r current.interface outer current.declared ds' q.declared.sound name q ok err) q
+        (λ q. resource-inside res r current.interface outer current.known.items current.declared ds' q.declared.sound name q ok err) q
 
   module _ (outer' : Declarations) (is : inner ≡ None) where
     pub defined-without : (d : ComponentDefinedType) → CanDefine r outer inner d

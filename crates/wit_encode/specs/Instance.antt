@@ -1,18 +1,18 @@
 -- What an encoder of interfaces holds: the component type around, and in it the instance type of the interface that it is encoding.
 -- What has been declared is followed, so each slot stands for what the bytes say.
-use Rattle.std.specs.Prelude.{length, ℕ, ◌≡◌, ◌+◌, ◌++◌, Bool, true, false, not, ◌&&◌, List, [], ◌∷◌, map, count_by, Option, Some, None, slice_get, is_some}
+use Rattle.std.specs.Prelude.{length, ℕ, ◌≡◌, ◌+◌, ◌++◌, Bool, false, ◌&&◌, List, [], ◌∷◌, map, count_by, Option, Some, None, is_some}
 use Rattle.std.specs.Option.{option_map_or}
 use Rattle.std.specs.List.{list_all}
 use Rattle.std.specs.Set.{distinct_count}
-use Rattle.std.specs.Prelude.{String}
+use Rattle.std.specs.Prelude.{String, if◌then◌else◌}
+use Rattle.std.specs.declared.vec.Vec.{Vec}
 use Rattle.std.specs.Borrow.{Bor}
 use Rattle.std.specs.declared.alloc.Global.{Global}
 use Rattle.wit_model.specs.Text.{Text, text_of}
-use Rattle.wit_model.specs.Tree.{Place, here, named}
+use Rattle.wit_model.specs.Tree.{Place, here}
 use Rattle.wit_model.specs.Meaning.{TypeMeaning, FunctionMeaning}
 use Rattle.wit_model.specs.Meant.{interface_meaning_at}
 use Rattle.wit_model.specs.Lookup.{place_of}
-use Rattle.wit_model.specs.Parts.{same_owner}
 use Rattle.wit_model.specs.declared.model.Resolve.{Resolve}
 use Rattle.wit_model.specs.declared.model.InterfaceId.{InterfaceId}
 use Rattle.wit_model.specs.declared.model.TypeOwner.{TypeOwner}
@@ -28,8 +28,10 @@ use Rattle.wit_model.specs.declared.model.Interface.{Interface}
 use Rattle.wit_model.specs.declared.model.TypeId.{TypeId}
 use Rattle.wit_model.specs.declared.model.«Type».TheVariants as ty
 use Rattle.comp_bytes.specs.Held.{type_slots_of}
-use Rattle.wit_encode.specs.Slots.{Pairs, Standing, tree, function}
-use Rattle.wit_encode.specs.Resources.{Names, is_resource_tree, resource_names}
+use Rattle.wit_encode.specs.Slots.{Pairs}
+use Rattle.wit_encode.specs.Resources.{Names, is_met_owner, resource_names}
+pub use Rattle.wit_encode.specs.Standing.{standing_at, SlotsStand, is_slot_of}
+use Rattle.wit_encode.specs.Known.{Known, instances_around}
 use Rattle.wit_model.specs.declared.model.Function.{Function}
 use Rattle.wit_model.specs.Meant.{signature_of, function_meaning}
 use Rattle.wit_model.specs.Parts.{function_types}
@@ -42,26 +44,6 @@ use Rattle.wit_encode.specs.Order.{functions_in_order}
 pub use Rattle.wit_encode.specs.Distinct.{is_value_type, is_function_type}
 use Rattle.wit_encode.specs.Distinct.{key_of, are_same, DefinesTypes}
 use Rattle.wit_encode.specs.Counts.{Definitions}
-
--- ---- slots
-
--- what a slot that has been followed stands for
-abbrev pub standing_at : Option Slot → Option Standing
-standing_at (Some (Slot.value t)) = Some (tree t)
-standing_at (Some (Slot.resource place name)) = Some (tree (named place name))
-standing_at (Some (Slot.function s)) = Some (function s)
-standing_at (Some (Slot.instance ds n)) = None
-standing_at None = None
-
-abbrev pub SlotsStand : List Slot → Pairs
-SlotsStand slots i m = standing_at (slice_get slots i) ≡ Some m
-
--- whether a slot is one of a resource exactly where its name stands for one
-abbrev pub is_slot_of : Names → Slot → Bool
-is_slot_of resources (Slot.value t) = not (is_resource_tree resources t)
-is_slot_of resources (Slot.resource place name) = resources place name
-is_slot_of resources (Slot.function s) = true
-is_slot_of resources (Slot.instance ds n) = true
 
 -- ---- what has been declared in a scope
 
@@ -88,6 +70,9 @@ outer_scope outer = component_steps new_scope outer
 
 abbrev pub outer_slots : Declarations → List Slot
 outer_slots outer = option_map_or (λ s. s.slots) (outer_scope outer) []
+
+abbrev pub outer_instances : Declarations → List follow.Instance
+outer_instances outer = option_map_or (λ s. s.instances) (outer_scope outer) []
 
 -- of the component type
 unfoldable pub outer_contents : Declarations → Contents
@@ -127,12 +112,12 @@ abbrev pub declarations_in : Resolve → Option InterfaceId → List (Text × Ty
 declarations_in r None = []
 declarations_in r (Some i) = (interface_meaning_at r i.0).types
 
-abbrev pub is_owner_in : Option InterfaceId → TypeOwner → Bool
-is_owner_in None o = false
-is_owner_in (Some i) o = same_owner (owner.Interface i) o
+abbrev pub is_owner_in : Resolve → Option InterfaceId → TypeOwner → Bool
+is_owner_in r None o = false
+is_owner_in r (Some i) o = is_met_owner r (owner.Interface i) o
 
 abbrev pub resources_in : Resolve → Option InterfaceId → Names
-resources_in r interface = resource_names r (is_owner_in interface)
+resources_in r interface = resource_names r (is_owner_in r interface)
 
 abbrev pub contents_of : Resolve → Declarations → Option OpenInterface → Contents
 contents_of r outer None = outer_contents outer
@@ -142,22 +127,34 @@ abbrev pub around_of : Declarations → Option OpenInterface → Declarations
 around_of outer None = Declarations.no_more
 around_of outer (Some current) = outer
 
--- the surroundings, with these contents
-abbrev pub scope_with : Resolve → Option InterfaceId → Declarations → Contents → Scope
-scope_with r interface around contents = record {
+abbrev pub known_of : Option OpenInterface → Known
+known_of None = []
+known_of (Some current) = current.known.items
+
+-- whether what has been declared can be followed, with each resource in a slot of its own kind
+abbrev pub is_sound_in : Resolve → Option InterfaceId → Contents → Bool
+is_sound_in r interface contents = contents.is_followed && list_all (is_slot_of (resources_in r interface)) contents.slots
+
+-- The surroundings. Types of other interfaces are known where what has been declared can be followed.
+abbrev pub scope_from : Resolve → Option InterfaceId → Declarations → Known → List (Text × FunctionMeaning) → Bool → Scope
+scope_from r interface around known functions sound = record {
   packages = r;
   place = place_in r interface;
   declarations = declarations_in r interface;
   own_interface = interface;
-  instances = [];
+  instances = if sound then instances_around r (resources_in r interface) known (outer_instances around) (outer_slots around) else [];
   resources = resources_in r interface;
-  functions = contents.shown.functions;
+  functions = functions;
   around = around;
-  is_sound = contents.is_followed && list_all (is_slot_of (resources_in r interface)) contents.slots;
+  is_sound = sound;
 }
 
+-- the surroundings, with these contents
+abbrev pub scope_with : Resolve → Option InterfaceId → Declarations → Known → Contents → Scope
+scope_with r interface around known contents = scope_from r interface around known contents.shown.functions (is_sound_in r interface contents)
+
 abbrev pub encoder_scope : Resolve → Declarations → Option OpenInterface → Scope
-encoder_scope r outer inner = scope_with r (own_of inner) (around_of outer inner) (contents_of r outer inner)
+encoder_scope r outer inner = scope_with r (own_of inner) (around_of outer inner) (known_of inner) (contents_of r outer inner)
 
 abbrev pub definitions_with : Contents → Definitions
 definitions_with contents = record { types = contents.types; functions = contents.functions; exports = map (λ t. (t.name, t.meaning)) contents.shown.types }
@@ -215,9 +212,9 @@ placed_function f = (text_of f.1.now, f.2.now)
 abbrev pub meaning_of : Resolve → Text × Function → Text × FunctionMeaning
 meaning_of r f = (f.0, function_meaning r f.1)
 
--- an interface of which nothing has been declared yet
-abbrev pub opened : InterfaceId → Option OpenInterface
-opened i = Some (record { interface = i; declared = [] })
+-- an interface of which nothing has been declared yet, where these types of others are known
+abbrev pub opened : InterfaceId → Vec (TypeId × ℕ) Global → Option OpenInterface
+opened i known = Some (record { interface = i; declared = []; known = known })
 
 -- Declarations of an instance type that can be followed, with each resource in a slot of its own kind, and that show exactly the types of
 -- the interface, in order, and these functions.
@@ -228,9 +225,9 @@ pub record IsInstance (r : Resolve) (outer : Declarations) (i : InterfaceId) (ds
   pub types : map (λ t. (t.name, t.meaning)) view.types ≡ (interface_meaning_at r i.0).types
 
 -- what an interface asks for, when it is encoded in this component type
-pub record CanEncodeInterface (r : Resolve) (outer : Declarations) (i : InterfaceId) (def : Interface) : Type 0 where
-  pub types : (t : TypeId) → Contains (values def.types) t → CanEncode r (encoder_scope r outer (opened i)) (ty.Id t ∷ [])
-  pub functions : (f : Text × Function) → Contains (map keyed def.functions.entries) f → CanEncodeFunction r (encoder_scope r outer (opened i)) f.1
+pub record CanEncodeInterface (r : Resolve) (outer : Declarations) (i : InterfaceId) (known : Vec (TypeId × ℕ) Global) (def : Interface) : Type 0 where
+  pub types : (t : TypeId) → Contains (values def.types) t → CanEncode r (encoder_scope r outer (opened i known)) (ty.Id t ∷ [])
+  pub functions : (f : Text × Function) → Contains (map keyed def.functions.entries) f → CanEncodeFunction r (encoder_scope r outer (opened i known)) f.1
 
 -- Slot k of the component type is new: an instance type that can be followed, and that shows the types of the interface, in order, and its
 -- functions, with what they mean.

@@ -5,6 +5,8 @@ pub mod Kinds
 pub mod Maps
 pub mod Resources
 pub mod Scope
+pub mod Standing
+pub mod Known
 pub mod Formed
 pub mod Plan
 pub mod Definition

@@ -1,11 +1,11 @@
 -- Which names stand for resources: no value is of such a type, and a handle is of one.
-use Rattle.std.specs.Prelude.{ℕ, Bool, true, false, ◌&&◌, is_some}
+use Rattle.std.specs.Prelude.{ℕ, Bool, true, false, ◌&&◌, ◌||◌, is_some}
 use Rattle.std.specs.List.{list_any}
 use Rattle.wit_model.specs.Text.{Text}
 use Rattle.wit_model.specs.Tree.{Tree, Place, primitive, named, node, Declaration, type_, resource}
 use Rattle.wit_model.specs.Lookup.{place_of, interface_path}
 use Rattle.wit_model.specs.Rules.{text_is}
-use Rattle.wit_model.specs.Parts.{is_resource, numbered_from}
+use Rattle.wit_model.specs.Parts.{is_resource, numbered_from, same_owner}
 use Rattle.wit_model.specs.declared.model.Resolve.{Resolve}
 use Rattle.wit_model.specs.declared.model.TypeDef.{TypeDef}
 use Rattle.wit_model.specs.declared.model.TypeOwner.{TypeOwner}
@@ -29,10 +29,13 @@ is_resource_declaration resources resource = true
 
 -- ---- those of the packages
 
--- whether the types of an owner are met in the scope of another: its own, and those of named interfaces
 abbrev pub is_named_interface : Resolve → TypeOwner → Bool
 is_named_interface r (owner.Interface i) = is_some (interface_path r i.0)
 is_named_interface r _ = false
+
+-- whether the types of an owner are met in the scope of another: its own, and those of named interfaces
+abbrev pub is_met_owner : Resolve → TypeOwner → TypeOwner → Bool
+is_met_owner r o other = same_owner o other || is_named_interface r other
 
 abbrev pub is_resource_entry : Resolve → (TypeOwner → Bool) → Place → Text → ℕ × TypeDef → Bool
 is_resource_entry r met place name e = (met e.1.owner && is_resource r e.0) && (same_place place (place_of r e.1.owner) && text_is e.1.name name)

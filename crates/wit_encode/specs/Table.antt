@@ -1,6 +1,5 @@
 -- What the slots of a plain table stand for: each is read with the slots before it.
 use Rattle.std.specs.Prelude.{ℕ, ◌<◌, ◌≡◌, ◌⊎◌, Bool, true, false, ◌||◌, cond, List, [], ◌∷◌, length, reverse, count_by, flat_map, Option, Some, None, String, is_some, is_none, ◌&&◌, option_to_list}
-use Prim.Native.Nat.{zero, suc}
 use Rattle.std.proofs.Common.{subst, inl, inr, arith}
 use Rattle.std.proofs.lemmas.List.{length-reverse}
 use Rattle.std.specs.declared.alloc.Global.{Global}
@@ -33,7 +32,9 @@ use Rattle.wit_encode.specs.Maps.{MapsAgree}
 use Rattle.wit_encode.specs.declared.table.Slot.TheVariants as slot
 use Rattle.wit_encode.specs.Slots.{Pairs, Standing, tree, Defines, DefinesFunction}
 use Rattle.wit_encode.specs.Plan.{foreign_owner}
-use Rattle.wit_encode.specs.Resources.{resource_names, is_named_interface}
+use Rattle.wit_encode.specs.Resources.{resource_names}
+pub use Rattle.wit_encode.specs.Resources.{is_met_owner}
+pub use Rattle.wit_encode.specs.Known.{below}
 use Rattle.wit_encode.specs.Scope.{Scope}
 use Rattle.wit_encode.specs.Counts.{Definitions}
 
@@ -63,14 +64,6 @@ declaration_in r o def = cond (same_owner o def.owner) (named_declaration r def.
 abbrev pub interface_of_owner : TypeOwner → Option InterfaceId
 interface_of_owner (owner.Interface i) = Some i
 interface_of_owner _ = None
-
-abbrev pub below : ℕ → List ℕ
-below zero = []
-below (suc n) = n ∷ below n
-
--- whether the types of an owner have names in the table of another: its own, and those of named interfaces
-abbrev pub is_met_owner : Resolve → TypeOwner → TypeOwner → Bool
-is_met_owner r o other = same_owner o other || is_named_interface r other
 
 -- whether a type belongs to an interface that has a name
 abbrev pub has_named_owner : Resolve → TypeDef → Bool

@@ -3,7 +3,8 @@
 ghost use Rattle.std.proofs.Common.{refl};
 ghost use Rattle.std.specs.Prelude.{◌≡◌, ◌++◌, ◌∷◌, [], Some, None, ◌<◌, true, length, map, IfOk, OnOk, OnErr, IsSome};
 ghost use Rattle.std.specs.List.{Contains};
-ghost use Rattle.comp_bytes.specs.Raw.{Declaration, Declarations, append, from_list};
+ghost use Rattle.comp_bytes.specs.Raw.{Alias as RawAlias, Declaration, Declarations, append, from_list};
+ghost use Rattle.wit_encode.specs.Known.{known_slot};
 ghost use Rattle.comp_bytes.specs.RawOf.{raw_defined, raw_function, raw_name};
 ghost use Rattle.comp_bytes.specs.Held.{type_slots, type_slots_of};
 
@@ -14,8 +15,8 @@ use crate::maps::TypeEncodingMaps;
 use crate::name::name_of;
 use crate::order::{functions_in_order, types_in_order};
 use comp_bytes::{
-    ComponentDefinedType, ComponentExternName, ComponentFuncType, ComponentType, ComponentTypeRef,
-    InstanceType,
+    Alias, ComponentDefinedType, ComponentExternName, ComponentFuncType, ComponentType,
+    ComponentTypeRef, InstanceType,
 };
 use std::alloc::Global;
 use std::mem;
@@ -27,6 +28,8 @@ pub struct OpenInterface {
     pub interface: InterfaceId,
     /// The instance type, so far.
     pub declared: InstanceType,
+    /// Types of other interfaces that stand in the component type around, each with its slot there. Of two slots of a type the first counts.
+    pub known: Vec<(TypeId, u32)>,
 }
 
 /// An encoder of interfaces. `M` is the type of its maps.
@@ -91,6 +94,26 @@ fn export_inside(
     let index = inner.type_count();
     inner.export(name, ty)?;
     Ok(index)
+}
+
+fn alias_inside(inner: &mut InstanceType, slot: u32) -> Result<u32, Error>
+    ensures ok { IfOk result (λ i. (i ≡ type_slots inner.old) × (inner.new ≡ inner.old ++ Declaration.alias_of (RawAlias.of_outer 1 slot) ∷ [])) }
+    ensures err { OnErr result (inner.new ≡ inner.old) }
+{
+    let index = inner.type_count();
+    inner.alias(&Alias::Outer {
+        count: 1,
+        index: slot,
+    })?;
+    Ok(index)
+}
+
+// The slot around of a type that is known.
+fn slot_around(known: &[(TypeId, u32)], id: TypeId) -> Option<u32>
+    ensures { result ≡ known_slot known.now id.0 }
+{
+    let entry = known.iter().find(|entry| entry.0.0 == id.0)?;
+    Some(entry.1)
 }
 
 impl<'a, M> LendsMaps<M> for InterfaceEncoderOf<'a, M> {
@@ -160,8 +183,14 @@ impl<'a> ValtypeEncoder<'a> for InterfaceEncoderOf<'a, TypeEncodingMaps<'a>> {
         }
     }
 
-    fn import_type(&mut self, _interface: InterfaceId, _id: TypeId) -> Result<u32, Error> {
-        unreachable!()
+    fn import_type(&mut self, _interface: InterfaceId, id: TypeId) -> Result<u32, Error> {
+        match &mut self.inner {
+            Some(current) => match slot_around(&current.known, id) {
+                Some(slot) => alias_inside(&mut current.declared, slot),
+                None => unreachable!(),
+            },
+            None => unreachable!(),
+        }
     }
 
     fn interface(&self) -> Option<InterfaceId> {
@@ -204,7 +233,7 @@ impl<'a> InterfaceEncoderOf<'a, TypeEncodingMaps<'a>> {
     ghost use Rattle.wit_encode.specs.Exports.{AreTypesOf, AllKnown, KnowsUsed, UsesListed};
     ghost use Rattle.wit_model.specs.declared.model.«Type».TheVariants as ValueType;
     ghost use Rattle.wit_encode.specs.Instance.{ShowsFunction, CanEncodeFunction, Continues, IsInstance, EncodesInterface};
-    ghost use Rattle.wit_encode.specs.Instance.{opened, placed_function, meaning_of, own_of, declarations_in, contents_of, encoder_scope};
+    ghost use Rattle.wit_encode.specs.Instance.{opened, placed_function, meaning_of, own_of, known_of, declarations_in, contents_of, encoder_scope};
     ghost use Rattle.wit_encode.specs.Instance.{stands_in, slots_in, defined_in, exports_in, shown_functions};
     ghost use Rattle.wit_encode.specs.Maps.{MapsGrow};
 
@@ -231,6 +260,7 @@ impl<'a> InterfaceEncoderOf<'a, TypeEncodingMaps<'a>> {
         ensures ok { (s : Signature) → stands_in self.old.resolve.now self.old.outer self.old.inner index (function s) → OnOk result (ShowsFunction (contents_of self.old.resolve.now self.old.outer self.old.inner) (contents_of self.new.resolve.now self.new.outer self.new.inner) ((raw_name name.entry).text, record { signature = s; external_id = (raw_name name.entry).external_id })) }
         ensures err { OnErr result (self.new.inner ≡ self.old.inner) }
         ensures own { own_of self.new.inner ≡ own_of self.old.inner }
+        ensures known { known_of self.new.inner ≡ known_of self.old.inner }
         ensures resolve { self.new.resolve ≡ self.old.resolve }
         ensures outer { self.new.outer ≡ self.old.outer }
         ensures maps { self.new.maps ≡ self.old.maps }
@@ -359,11 +389,12 @@ impl<'a> InterfaceEncoderOf<'a, TypeEncodingMaps<'a>> {
         &mut self,
         alloc: Global,
         interface: InterfaceId,
+        known: Vec<(TypeId, u32)>,
         types: &[TypeId],
         functions: &[(usize, &'a String, &'a Function)],
     ) -> Result<InstanceType, Error>
-        requires types { (t : _) → Contains types.now t → CanEncode self.old.resolve.now (encoder_scope self.old.resolve.now self.old.outer (opened interface)) (ValueType.Id t ∷ []) }
-        requires functions { (f : _) → Contains functions.now f → CanEncodeFunction self.old.resolve.now (encoder_scope self.old.resolve.now self.old.outer (opened interface)) f.2.now }
+        requires types { (t : _) → Contains types.now t → CanEncode self.old.resolve.now (encoder_scope self.old.resolve.now self.old.outer (opened interface known)) (ValueType.Id t ∷ []) }
+        requires functions { (f : _) → Contains functions.now f → CanEncodeFunction self.old.resolve.now (encoder_scope self.old.resolve.now self.old.outer (opened interface known)) f.2.now }
         requires valid { IsValid self.old.resolve.now }
         requires listed { AreTypesOf self.old.resolve.now (Some interface) types.now }
         requires uses { (f : _) → Contains functions.now f → UsesListed self.old.resolve.now types.now f.2.now }
@@ -380,6 +411,7 @@ impl<'a> InterfaceEncoderOf<'a, TypeEncodingMaps<'a>> {
         self.inner = Some(OpenInterface {
             interface,
             declared: InstanceType::new(alloc),
+            known,
         });
         let outcome = self.encode_parts(alloc, resolve, types, functions);
         self.maps = saved;
@@ -422,7 +454,8 @@ impl<'a> InterfaceEncoderOf<'a, TypeEncodingMaps<'a>> {
         let def = &self.resolve.interfaces[interface.0 as usize];
         let types = types_in_order(alloc, def)?;
         let functions = functions_in_order(alloc, def)?;
-        let declared = self.encode_inside(alloc, interface, &types, &functions)?;
+        let known = Vec::new(alloc);
+        let declared = self.encode_inside(alloc, interface, known, &types, &functions)?;
         self.close(&declared)
     }
 }

@@ -38,3 +38,6 @@ encode_function-requires-clause-used c = used-kept c.args.resolve.now c.args.sel
 pub returns-clause-shows : goal.returns-clause-shows
 returns-clause-shows c = c.loop-entry.invariant.shows
     ∙ ap (λ fs. (contents_of c.args.resolve.now c.args.self.now.outer c.args.self.now.inner).shown.functions ++ map (λ f. meaning_of c.args.resolve.now (placed_function f)) fs) (take_all c.loop-entry.entry-index c.args.functions.now c.loop-entry-test.false)
+
+pub returns-in_err-encode_function-clause-continues : goal.returns-in_err-encode_function-clause-continues
+returns-in_err-encode_function-clause-continues c = continues-trans c.loop-entry.invariant.continues c.encode_function.ensures.continues refl

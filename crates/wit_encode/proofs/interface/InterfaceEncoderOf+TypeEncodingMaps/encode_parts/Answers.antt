@@ -1,10 +1,11 @@
-use Rattle.std.proofs.Common.{subst, map}
+use Rattle.std.proofs.Common.{refl, subst, map}
 use Rattle.wit_encode.specs.Scope.{Scope}
-use Rattle.wit_encode.specs.Instance.{CanEncodeFunction, own_of, declarations_in}
-use Rattle.wit_encode.proofs.Continuing.{same-scope}
+use Rattle.wit_encode.specs.Instance.{CanEncodeFunction, Continues, own_of, declarations_in}
+use Rattle.wit_encode.proofs.Continuing.{same-scope, after-types, continues-trans}
 use Rattle.wit_encode.proofs.Counting.{parts-counted, parts-named}
 use Rattle.wit_encode.proofs.FunctionExports.{listed-used, exported-after}
 use Rattle.wit_encode.proofs.interface.InterfaceEncoderOf+TypeEncodingMaps.encode_parts.Goals as goal
+use Rattle.wit_encode.proofs.interface.InterfaceEncoderOf+TypeEncodingMaps.encode_parts.Goals.{After-encode_types}
 
 pub encode_functions-requires-clause-encodable : goal.encode_functions-requires-clause-encodable
 encode_functions-requires-clause-encodable c = λ f h. subst (λ (s : Scope). CanEncodeFunction c.args.resolve.now s f.2.now)
@@ -31,3 +32,13 @@ returns-clause-defined c =
     parts-named c.encode_functions.result c.args.resolve.now c.args.self.now.resolve.now c.encode_types.new.self.resolve.now c.args.self.now.outer
     c.encode_types.new.self.outer c.args.self.now.inner c.encode_types.new.self.inner c.encode_types.new.self.maps c.encode_functions.new.self.maps _
     c.encode_types.ensures.leaves.scope_stays c.in_ok-encode_types.ensures.defined c.encode_functions.ensures.names_stay
+
+types-continue : (c : After-encode_types) → Continues c.args.resolve.now c.args.resolve.now c.args.self.now.outer c.encode_types.new.self.outer c.args.self.now.inner c.encode_types.new.self.inner c.args.self.now.maps c.encode_types.new.self.maps
+types-continue c = after-types c.args.resolve.now c.args.self.now.resolve.now c.encode_types.new.self.resolve.now c.args.self.now.outer c.encode_types.new.self.outer c.args.self.now.inner c.encode_types.new.self.inner
+    c.args.self.now.maps c.encode_types.new.self.maps c.requires.packages c.encode_types.ensures.leaves.scope_stays c.encode_types.ensures.leaves.agree
+
+pub returns-in_err-encode_types-clause-continues : goal.returns-in_err-encode_types-clause-continues
+returns-in_err-encode_types-clause-continues c = types-continue (goal.at.returns-in_err-encode_types-clause-continues c).After-encode_types
+
+pub returns-clause-continues : goal.returns-clause-continues
+returns-clause-continues c = continues-trans (types-continue (goal.at.returns-clause-continues c).After-encode_types) c.encode_functions.ensures.continues refl

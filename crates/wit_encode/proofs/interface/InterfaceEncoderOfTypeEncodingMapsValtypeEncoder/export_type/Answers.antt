@@ -1,6 +1,7 @@
-use Rattle.std.proofs.Common.{ℕ, Result, Ok}
+use Rattle.std.proofs.Common.{sym, ap, ◌∙◌, ℕ, Result, Ok, Some}
 use Rattle.wit_model.specs.declared.error.Error.{Error}
 use Rattle.comp_bytes.specs.RawOf.{raw_name}
+use Rattle.wit_encode.specs.Instance.{encoder_scope}
 use Rattle.wit_encode.proofs.Within.{type-within}
 use Rattle.wit_encode.proofs.interface.InterfaceEncoderOfTypeEncodingMapsValtypeEncoder.export_type.Goals as goal
 
@@ -23,3 +24,6 @@ pub returns-clause-counts : goal.returns-clause-counts
 returns-clause-counts c =
     let res : Result ℕ Error = Ok c.in_ok-slot-in-Some.slot in
     (type-within res c.args.self.now.resolve.now c.args.self.now.outer c.args.self.now.inner c.in-Some.current c.export_inside.new.inner c.in-Some.is c.args.index (raw_name c.args.name) c.requires c.in_ok-slot-in-Some.ensures.ok tt).counted
+
+pub returns-in_err-slot-in-Some-clause-scope_stays : goal.returns-in_err-slot-in-Some-clause-scope_stays
+returns-in_err-slot-in-Some-clause-scope_stays c = ap (encoder_scope c.args.self.now.resolve.now c.args.self.now.outer) ((λ i. Some (record c.in-Some.current { declared = c.in_err-slot-in-Some.ensures.err i })) ∙ sym c.in-Some.is)
