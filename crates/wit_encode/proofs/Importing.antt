@@ -157,10 +157,10 @@ module _ {E : Type 0} (res : Result ℕ E) (r : Resolve) (outer : Declarations) 
       → IfOk res (λ k'. (k' ≡ type_slots current.declared) × (ds' ≡ current.declared ++ Declaration.alias_of (Alias.of_outer 1 k) ∷ [])) → OnErr res (ds' ≡ current.declared) → ImportsTo inner n
   imported j n k m at ok err = subst (λ (o : Option OpenInterface). IsImportable (encoder_scope r outer o) j n → ImportsTo o n) (sym is)
       (λ m.
-        let known = importable-known r current.interface outer current.known.items n (contents_of r outer (Some current)) j m in
-        let same : known.number ≡ k = one-number known.number k (sym known.is ∙ at) in
-        let there : slice_get (outer_slots outer) k ≡ Some known.slot = ap (slice_get (outer_slots outer)) (sym same) ∙ known.at in
-        alias-inside res r current.interface outer current.known.items current.declared ds' (importable-sound _ _ j m.stands) k known.slot (number_tree r n) there known.foreign known.kept known.stands ok err) m
+      let known = importable-known r current.interface outer current.known.items n (contents_of r outer (Some current)) j m in
+      let same : known.number ≡ k = one-number known.number k (sym known.is ∙ at) in
+      let there : slice_get (outer_slots outer) k ≡ Some known.slot = ap (slice_get (outer_slots outer)) (sym same) ∙ known.at in
+      alias-inside res r current.interface outer current.known.items current.declared ds' (importable-sound _ _ j m.stands) k known.slot (number_tree r n) there known.foreign known.kept known.stands ok err) m
     where
       one-number : (a b : ℕ) → Some a ≡ Some b → a ≡ b
       one-number a b e = cc
