@@ -146,6 +146,7 @@ scope_from r interface around known functions sound = record {
   resources = resources_in r interface;
   functions = functions;
   around = around;
+  known = known;
   is_sound = sound;
 }
 

@@ -79,6 +79,7 @@ table_scope r o = record {
   resources = resource_names r (is_met_owner r o);
   functions = [];
   around = Declarations.no_more;
+  known = [];
   is_sound = true;
 }
 
