@@ -32,7 +32,7 @@ pub mod Meeting
 pub mod ListedTypes
 pub mod Exporting
 pub mod FunctionExports
-pub mod Alone
+pub mod Encodable
 pub mod UsesNone
 pub mod Reordering
 pub mod Importing

@@ -35,13 +35,17 @@ use Rattle.wit_encode.specs.Order.{functions_in_order}
 use Rattle.wit_encode.specs.Distinct.{DefinesKeys, DefinesTypes}
 use Rattle.indexmap.specs.IndexMap.{values}
 use Rattle.wit_encode.proofs.Counting.{count-keys}
-use Rattle.wit_encode.specs.Instance.{is_slot_of, no_view, outer_slots, inner_contents, own_of, resources_in, contents_of, encoder_scope, opened, keyed, placed_function, meaning_of, EncodesInterface, IsInstance, Continues, definitions_with}
+use Rattle.wit_encode.specs.Instance.{is_slot_of, no_view, outer_slots, inner_contents, own_of, known_of, standing_instances, resources_in, contents_of, encoder_scope, opened, keyed, placed_function, meaning_of, EncodesInterface, IsInstance, Continues, definitions_with}
 use Rattle.wit_encode.proofs.Calls.{inner-at}
 use Rattle.wit_encode.proofs.Reordering.{functions-mean}
 
 pub opened-sound : (r : Resolve) (outer : Declarations) (i : InterfaceId) (known : Vec (TypeId × ℕ) Global) → (encoder_scope r outer (opened i known)).is_sound ≡ true
 unfolding inner_contents
 opened-sound r outer i known = refl
+
+pub opened-around : (r : Resolve) (outer : Declarations) (i : InterfaceId) (known : Vec (TypeId × ℕ) Global) (j : ℕ) → Contains (standing_instances r outer i known.items) j → Contains (encoder_scope r outer (opened i known)).instances j
+unfolding inner_contents
+opened-around r outer i known j c = c
 
 pub opened-shows : (r : Resolve) (outer : Declarations) (i : InterfaceId) (known : Vec (TypeId × ℕ) Global) → (contents_of r outer (opened i known)).shown.functions ≡ []
 unfolding inner_contents
@@ -77,6 +81,14 @@ closed-instance r outer outer' i known inner' current m m' fs is own c h same ex
 pub closed-outer : (r : Resolve) (outer outer' : Declarations) (i : InterfaceId) (known : Vec (TypeId × ℕ) Global) (inner' : Option OpenInterface) (m m' : TypeEncodingMaps) → own_of inner' ≡ Some i → Continues r r outer outer' (opened i known) inner' m m' → outer' ≡ outer
 closed-outer r outer outer' i known None m m' own c = absurd (let z : ⊥ = cc in z)
 closed-outer r outer outer' i known (Some current) m m' own c = ap (λ (s : Scope). s.around) c.scope_stays
+
+-- what was known is still
+pub closed-known : (r : Resolve) (outer outer' : Declarations) (i : InterfaceId) (known : Vec (TypeId × ℕ) Global) (inner' : Option OpenInterface) (current : OpenInterface) (m m' : TypeEncodingMaps) → inner' ≡ Some current → Continues r r outer outer' (opened i known) inner' m m' → current.known.items ≡ known.items
+closed-known r outer outer' i known inner' current m m' is c = sym (ap known_of is) ∙ ap (λ (s : Scope). s.known) c.scope_stays
+
+-- an interface is opened with what is known
+pub opened-with : (i : InterfaceId) (ds : List Declaration) (known known' : Vec (TypeId × ℕ) Global) → ds ≡ [] → known ≡ known' → ◌≡◌ {A = Option OpenInterface} (Some (record { interface = i; declared = ds; known = known })) (opened i known')
+opened-with i ds known known' e f = λ j. Some (record { interface = i; declared = e j; known = f j })
 
 map-twice : {A B C : Type 0} (f : B → C) (g : A → B) (xs : List A) → map f (map g xs) ≡ map (λ x. f (g x)) xs
 map-twice f g [] = refl

@@ -128,7 +128,7 @@ valid-ownerless r v n def is none =
     let passed = second_true (list_all (λ m. nat_lt m (0 + n)) (kind_numbers def.kind)) _ (each_from_at (order_of_types.type_ r) 0 r.types.items n def (lists_pass order_of_types r v.rules.order_of_types).3 is) in
     ap (λ o. option_map_or (λ name. is_listed r (0 + n) (text_of name) def.owner) o (same_owner def.owner owner.None)) (sym none) ∙ passed
 
-foreign-interface : (own : Option InterfaceId) (a : TypeOwner) (i : InterfaceId) → foreign_owner own a ≡ Some i → a ≡ owner.Interface i
+pub foreign-interface : (own : Option InterfaceId) (a : TypeOwner) (i : InterfaceId) → foreign_owner own a ≡ Some i → a ≡ owner.Interface i
 foreign-interface own (owner.World w) i e = let wrong : ⊥ = cc in absurd wrong
 foreign-interface own owner.None i e = let wrong : ⊥ = cc in absurd wrong
 foreign-interface own (owner.Interface j) i e = go (is_interface own j) e
@@ -254,7 +254,7 @@ module _ (r : Resolve) (v : IsValid r) (o : TypeOwner) where
   own-met : (def : TypeDef) → same_owner def.owner o ≡ true → is_met_owner r o def.owner ≡ true
   own-met def s = or-first (same_owner o def.owner) (is_named_interface r def.owner) (same-back def.owner o s)
 
-  owner-met : (def : TypeDef) → (same_owner def.owner o ≡ true) ⊎ (has_named_owner r def ≡ true) → is_met_owner r o def.owner ≡ true
+  pub owner-met : (def : TypeDef) → (same_owner def.owner o ≡ true) ⊎ (has_named_owner r def ≡ true) → is_met_owner r o def.owner ≡ true
   owner-met def (inl s) = own-met def s
   owner-met def (inr h) = or-second (same_owner o def.owner) (is_named_interface r def.owner) (named-owner r v def h)
 

@@ -225,6 +225,10 @@ pub record IsInstance (r : Resolve) (outer : Declarations) (i : InterfaceId) (ds
   pub shows : view.functions ≡ functions
   pub types : map (λ t. (t.name, t.meaning)) view.types ≡ (interface_meaning_at r i.0).types
 
+-- the interfaces whose instances stand in a component type, and whose types are known there, for an interface that is encoded
+abbrev pub standing_instances : Resolve → Declarations → InterfaceId → Known → List ℕ
+standing_instances r outer i known = instances_around r (resources_in r (Some i)) known (outer_instances outer) (outer_slots outer)
+
 -- what an interface asks for, when it is encoded in this component type
 pub record CanEncodeInterface (r : Resolve) (outer : Declarations) (i : InterfaceId) (known : Vec (TypeId × ℕ) Global) (def : Interface) : Type 0 where
   pub types : (t : TypeId) → Contains (values def.types) t → CanEncode r (encoder_scope r outer (opened i known)) (ty.Id t ∷ [])

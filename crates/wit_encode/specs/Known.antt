@@ -2,13 +2,14 @@
 -- (Component Model Explainer.md, "Alias Definitions").
 use Rattle.std.specs.Prelude.{ℕ, Bool, false, not, ◌&&◌, ◌||◌, ◌==◌, List, [], ◌∷◌, length, Option, option_map, slice_get, is_some}
 use Prim.Native.Nat.{zero, suc}
-use Rattle.std.specs.List.{find, filter, list_all, list_any}
+use Rattle.std.specs.List.{Contains, find, filter, list_all, list_any}
 use Rattle.std.specs.Option.{option_map_or}
 use Rattle.wit_model.specs.Text.{Text, text_eq}
 use Rattle.wit_model.specs.Tree.{Tree, named}
 use Rattle.wit_model.specs.Types.{number_tree}
 use Rattle.wit_model.specs.Lookup.{interface_path}
 use Rattle.wit_model.specs.Parts.{same_owner, numbered_from}
+use Rattle.wit_model.specs.Uses.{direct_deps}
 use Rattle.wit_model.specs.declared.model.Resolve.{Resolve}
 use Rattle.wit_model.specs.declared.model.TypeDef.{TypeDef}
 use Rattle.wit_model.specs.declared.model.TypeId.{TypeId}
@@ -60,3 +61,7 @@ below (suc n) = n ∷ below n
 
 abbrev pub instances_around : Resolve → Names → Known → List Instance → List Slot → List ℕ
 instances_around r resources known instances around = filter (stands_around r resources known instances around) (below (length r.interfaces.items))
+
+-- each interface that an interface uses is one of those around
+abbrev pub UsedStand : Resolve → List ℕ → ℕ → Type 0
+UsedStand r around i = (j : ℕ) → Contains (direct_deps r i) j → Contains around j

@@ -42,6 +42,9 @@ pub struct InterfaceEncoderOf<'a, M> {
     pub inner: Option<OpenInterface>,
     /// The maps of the scope that types are defined in.
     pub maps: M,
+    /// Types of other interfaces that stand in the component type, each with its slot there. Of two slots of a type the first counts.
+    /// While an interface is encoded they are lent to it, as `OpenInterface::known`.
+    pub outer_type_map: Vec<(TypeId, u32)>,
 }
 
 /// An encoder of interfaces, each as an instance type in one component type.
@@ -220,7 +223,7 @@ impl<'a> InterfaceEncoderOf<'a, TypeEncodingMaps<'a>> {
     ghost use Rattle.wit_model.specs.Text.{text_of};
     ghost use Rattle.wit_model.specs.Lookup.{interface_at};
     ghost use Rattle.wit_model.specs.Meant.{function_meaning};
-    ghost use Rattle.wit_model.specs.Uses.{direct_deps};
+    ghost use Rattle.wit_encode.specs.Known.{UsedStand};
     ghost use Rattle.wit_model.specs.Valid.{IsValid};
     ghost use Rattle.wit_encode.specs.Maps.{MapsAgree};
     ghost use Rattle.wit_encode.specs.Leaves.{Leaves};
@@ -233,7 +236,7 @@ impl<'a> InterfaceEncoderOf<'a, TypeEncodingMaps<'a>> {
     ghost use Rattle.wit_encode.specs.Exports.{AreTypesOf, AllKnown, KnowsUsed, UsesListed};
     ghost use Rattle.wit_model.specs.declared.model.«Type».TheVariants as ValueType;
     ghost use Rattle.wit_encode.specs.Instance.{ShowsFunction, CanEncodeFunction, Continues, IsInstance, EncodesInterface};
-    ghost use Rattle.wit_encode.specs.Instance.{opened, placed_function, meaning_of, own_of, known_of, declarations_in, contents_of, encoder_scope};
+    ghost use Rattle.wit_encode.specs.Instance.{opened, standing_instances, placed_function, meaning_of, own_of, known_of, declarations_in, contents_of, encoder_scope};
     ghost use Rattle.wit_encode.specs.Instance.{stands_in, slots_in, defined_in, exports_in, shown_functions};
     ghost use Rattle.wit_encode.specs.Maps.{MapsGrow};
 
@@ -241,6 +244,7 @@ impl<'a> InterfaceEncoderOf<'a, TypeEncodingMaps<'a>> {
     pub fn new(alloc: Global, resolve: &'a Resolve) -> InterfaceEncoder<'a>
         ensures outer { result.outer ≡ Declarations.no_more }
         ensures closed { result.inner ≡ None }
+        ensures known { result.outer_type_map.items ≡ [] }
         ensures resolve { result.resolve.now ≡ resolve.now }
     {
         InterfaceEncoderOf {
@@ -248,6 +252,7 @@ impl<'a> InterfaceEncoderOf<'a, TypeEncodingMaps<'a>> {
             outer: ComponentType::new(alloc),
             inner: None,
             maps: TypeEncodingMaps::new(alloc),
+            outer_type_map: Vec::new(alloc),
         }
     }
 
@@ -384,17 +389,16 @@ impl<'a> InterfaceEncoderOf<'a, TypeEncodingMaps<'a>> {
         self.encode_functions(alloc, resolve, functions)
     }
 
-    /// Encodes types and functions of an interface as an instance type, in a scope of its own.
+    /// Encodes types and functions of an interface as an instance type, in a scope of its own. What is known around is lent to it.
     fn encode_inside(
         &mut self,
         alloc: Global,
         interface: InterfaceId,
-        known: Vec<(TypeId, u32)>,
         types: &[TypeId],
         functions: &[(usize, &'a String, &'a Function)],
     ) -> Result<InstanceType, Error>
-        requires types { (t : _) → Contains types.now t → CanEncode self.old.resolve.now (encoder_scope self.old.resolve.now self.old.outer (opened interface known)) (ValueType.Id t ∷ []) }
-        requires functions { (f : _) → Contains functions.now f → CanEncodeFunction self.old.resolve.now (encoder_scope self.old.resolve.now self.old.outer (opened interface known)) f.2.now }
+        requires types { (t : _) → Contains types.now t → CanEncode self.old.resolve.now (encoder_scope self.old.resolve.now self.old.outer (opened interface self.old.outer_type_map)) (ValueType.Id t ∷ []) }
+        requires functions { (f : _) → Contains functions.now f → CanEncodeFunction self.old.resolve.now (encoder_scope self.old.resolve.now self.old.outer (opened interface self.old.outer_type_map)) f.2.now }
         requires valid { IsValid self.old.resolve.now }
         requires listed { AreTypesOf self.old.resolve.now (Some interface) types.now }
         requires uses { (f : _) → Contains functions.now f → UsesListed self.old.resolve.now types.now f.2.now }
@@ -402,12 +406,14 @@ impl<'a> InterfaceEncoderOf<'a, TypeEncodingMaps<'a>> {
         ensures resolve { self.new.resolve.now ≡ self.old.resolve.now }
         ensures outer { self.new.outer ≡ self.old.outer }
         ensures maps { self.new.maps ≡ self.old.maps }
+        ensures known { self.new.outer_type_map.items ≡ self.old.outer_type_map.items }
         ensures ok { IfOk result (λ ds. IsInstance self.old.resolve.now self.old.outer interface ds (map (λ f. meaning_of self.old.resolve.now (placed_function f)) functions.now)) }
         ensures function_types { IfOk result (DefinesKeys (map (λ f. f.2.now) functions.now)) }
         ensures value_types { IfOk result (DefinesTypes self.old.resolve.now interface types.now) }
     {
         let resolve = self.resolve;
         let saved = mem::replace(&mut self.maps, TypeEncodingMaps::new(alloc));
+        let known = mem::replace(&mut self.outer_type_map, Vec::new(alloc));
         self.inner = Some(OpenInterface {
             interface,
             declared: InstanceType::new(alloc),
@@ -416,9 +422,12 @@ impl<'a> InterfaceEncoderOf<'a, TypeEncodingMaps<'a>> {
         let outcome = self.encode_parts(alloc, resolve, types, functions);
         self.maps = saved;
         let inner = mem::replace(&mut self.inner, None);
-        outcome?;
         match inner {
-            Some(current) => Ok(current.declared),
+            Some(current) => {
+                self.outer_type_map = current.known;
+                outcome?;
+                Ok(current.declared)
+            }
             None => unreachable!(),
         }
     }
@@ -437,25 +446,27 @@ impl<'a> InterfaceEncoderOf<'a, TypeEncodingMaps<'a>> {
     /// Encodes an interface as an instance type, and answers its slot: its types in order, then functions of resources by the order of
     /// their resource, then the others. The type of a function is defined just before its export, where its key is new.
     ///
-    /// The interface uses no other, as `stands_alone` tests. No instance stands by this call alone. After a refusal the encoder is as it was.
+    /// Of each interface that it uses, an instance stands in the component type, and each of its types is in `outer_type_map`, with the slot
+    /// of its name there. An interface that uses no other, as `stands_alone` tests, asks for nothing. No instance stands by this call alone.
+    /// After a refusal the encoder is as it was.
     ///
     /// Takes as long as encoding the types and functions and sorting the functions.
     pub fn encode_instance(&mut self, alloc: Global, interface: InterfaceId) -> Result<u32, Error>
         requires closed { self.old.inner ≡ None }
         requires in_range { interface.0 < length self.old.resolve.now.interfaces.items }
         requires valid { IsValid self.old.resolve.now }
-        requires alone { direct_deps self.old.resolve.now interface.0 ≡ [] }
+        requires around { UsedStand self.old.resolve.now (standing_instances self.old.resolve.now self.old.outer interface self.old.outer_type_map.items) interface.0 }
         ensures closed { self.new.inner ≡ None }
         ensures resolve { self.new.resolve.now ≡ self.old.resolve.now }
         ensures maps { self.new.maps ≡ self.old.maps }
+        ensures known { self.new.outer_type_map.items ≡ self.old.outer_type_map.items }
         ensures err { OnErr result (self.new.outer ≡ self.old.outer) }
         ensures ok { IfOk result (λ k. (def : _) → interface_at self.old.resolve.now interface.0 ≡ Some def → EncodesInterface self.old.resolve.now self.old.outer self.new.outer interface def k) }
     {
         let def = &self.resolve.interfaces[interface.0 as usize];
         let types = types_in_order(alloc, def)?;
         let functions = functions_in_order(alloc, def)?;
-        let known = Vec::new(alloc);
-        let declared = self.encode_inside(alloc, interface, known, &types, &functions)?;
+        let declared = self.encode_inside(alloc, interface, &types, &functions)?;
         self.close(&declared)
     }
 }

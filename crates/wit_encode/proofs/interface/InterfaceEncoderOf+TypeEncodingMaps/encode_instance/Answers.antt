@@ -1,13 +1,11 @@
-use Rattle.std.proofs.Common.{◌≡◌, refl, sym, subst, ◌∙◌, ℕ, List, Some}
-use Rattle.std.specs.declared.alloc.Global.{Global}
-use Rattle.std.specs.declared.vec.Vec.{Vec}
+use Rattle.std.proofs.Common.{◌≡◌, refl, sym, subst, ◌∙◌, List, Some}
 use Rattle.std.specs.List.{Contains}
 use Rattle.std.proofs.lemmas.Option.{slice_get_read}
 use Rattle.wit_model.specs.Lookup.{interface_at}
 use Rattle.wit_model.specs.declared.model.TypeId.{TypeId}
 use Rattle.wit_encode.specs.Distinct.{DefinesTypes}
 use Rattle.wit_encode.specs.Instance.{placed_function, EncodesInterface, CanEncodeInterface}
-use Rattle.wit_encode.proofs.Alone.{valid-encodable}
+use Rattle.wit_encode.proofs.Encodable.{valid-encodable}
 use Rattle.wit_encode.proofs.Lists.{contains-map}
 use Rattle.wit_encode.proofs.Opening.{closes, close-each, permuted-contains}
 use Rattle.wit_encode.specs.Exports.{UsesListed}
@@ -19,17 +17,17 @@ use Rattle.wit_encode.proofs.interface.InterfaceEncoderOf+TypeEncodingMaps.encod
 there : (c : After-index-def) → interface_at c.args.self.now.resolve.now c.args.interface.0 ≡ Some c.index-def.result.now
 there c = slice_get_read _ _ _ _ refl c.requires.in_range c.index-def.ensures
 
-encodable : (c : After-index-def) (known : Vec (TypeId × ℕ) Global) → CanEncodeInterface c.args.self.now.resolve.now c.args.self.now.outer c.args.interface known c.index-def.result.now
-encodable c known = valid-encodable c.args.self.now.resolve.now c.requires.valid c.args.self.now.outer c.args.interface known c.index-def.result.now (there c) c.requires.alone
+encodable : (c : After-index-def) → CanEncodeInterface c.args.self.now.resolve.now c.args.self.now.outer c.args.interface c.args.self.now.outer_type_map c.index-def.result.now
+encodable c = valid-encodable c.args.self.now.resolve.now c.requires.valid c.args.self.now.outer c.args.interface c.args.self.now.outer_type_map c.index-def.result.now (there c) c.requires.around
 
 pub encode_inside-requires-clause-types : goal.encode_inside-requires-clause-types
 encode_inside-requires-clause-types c = λ t h.
-    (encodable (goal.at.encode_inside-requires-clause-types c).After-index-def c.new-known.result).types t
+    (encodable (goal.at.encode_inside-requires-clause-types c).After-index-def).types t
     (subst (λ (xs : List TypeId). Contains xs t) (c.deref.ensures.value ∙ c.in_ok-types.ensures) h)
 
 pub encode_inside-requires-clause-functions : goal.encode_inside-requires-clause-functions
 encode_inside-requires-clause-functions c = λ f h.
-    (encodable (goal.at.encode_inside-requires-clause-functions c).After-index-def c.new-known.result).functions (placed_function f)
+    (encodable (goal.at.encode_inside-requires-clause-functions c).After-index-def).functions (placed_function f)
     (permuted-contains _ _ (placed_function f) c.in_ok-functions.ensures.all (contains-map placed_function c.in_ok-functions.functions.items f (rw c.deref-2.ensures.value at h)))
 
 pub encode_inside-requires-clause-listed : goal.encode_inside-requires-clause-listed
