@@ -139,9 +139,34 @@ pub fn add_interface(alloc: Global, resolve: &mut Resolve, name: &str) -> Result
     list_interface(alloc, resolve, 0, name, id)
 }
 
+/// An empty interface of the next number and of this package, inline where it has no name, which no map holds yet.
+pub fn add_unlisted_interface(
+    alloc: Global,
+    resolve: &mut Resolve,
+    name: Option<&str>,
+    package: Option<PackageId>,
+) -> Result<(), AllocError> {
+    let mut entry = interface(alloc, name)?;
+    entry.package = package;
+    resolve.interfaces.push(entry)?;
+    Ok(())
+}
+
 /// An empty inline interface of the next number, of package 0, which no world shows yet.
 pub fn add_inline(alloc: Global, resolve: &mut Resolve) -> Result<(), AllocError> {
-    resolve.interfaces.push(interface(alloc, None)?)?;
+    add_unlisted_interface(alloc, resolve, None, Some(PackageId(0)))
+}
+
+/// An empty world of the next number and of this package, which no map holds yet.
+pub fn add_unlisted_world(
+    alloc: Global,
+    resolve: &mut Resolve,
+    name: &str,
+    package: Option<PackageId>,
+) -> Result<(), AllocError> {
+    let mut entry = world(alloc, name)?;
+    entry.package = package;
+    resolve.worlds.push(entry)?;
     Ok(())
 }
 
@@ -154,17 +179,26 @@ pub fn add_world(alloc: Global, resolve: &mut Resolve, name: &str) -> Result<(),
 
 // ---- types
 
-/// A type of the next number without name and owner.
-pub fn add_unnamed(resolve: &mut Resolve, kind: TypeDefKind) -> Result<(), AllocError> {
+/// A type of the next number without name, of this owner. A valid one has none.
+pub fn add_owned(
+    resolve: &mut Resolve,
+    kind: TypeDefKind,
+    owner: TypeOwner,
+) -> Result<(), AllocError> {
     resolve.types.push(TypeDef {
         name: None,
         kind,
-        owner: TypeOwner::None,
+        owner,
         docs: NO_DOCS,
         stability: Stability::Unknown,
         external_id: None,
     })?;
     Ok(())
+}
+
+/// A type of the next number without name and owner.
+pub fn add_unnamed(resolve: &mut Resolve, kind: TypeDefKind) -> Result<(), AllocError> {
+    add_owned(resolve, kind, TypeOwner::None)
 }
 
 /// A type of the next number with a name and an owner, whose list it doesn't stand in yet.
@@ -319,6 +353,16 @@ pub fn shown(number: u32) -> WorldItem {
     }
 }
 
+// Puts an item into a list of a world.
+fn insert(
+    items: &mut Map<WorldKey, WorldItem>,
+    key: WorldKey,
+    item: WorldItem,
+) -> Result<(), AllocError> {
+    items.insert(key, item)?;
+    Ok(())
+}
+
 /// An import of the world of this number, the last of its list.
 pub fn import_into(
     resolve: &mut Resolve,
@@ -326,10 +370,10 @@ pub fn import_into(
     key: WorldKey,
     item: WorldItem,
 ) -> Result<(), AllocError> {
-    if let Some(world) = resolve.worlds.get_mut(number) {
-        world.imports.insert(key, item)?;
+    match resolve.worlds.get_mut(number) {
+        Some(world) => insert(&mut world.imports, key, item),
+        None => Ok(()),
     }
-    Ok(())
 }
 
 /// An export of the world of this number, the last of its list.
@@ -339,10 +383,10 @@ pub fn export_from(
     key: WorldKey,
     item: WorldItem,
 ) -> Result<(), AllocError> {
-    if let Some(world) = resolve.worlds.get_mut(number) {
-        world.exports.insert(key, item)?;
+    match resolve.worlds.get_mut(number) {
+        Some(world) => insert(&mut world.exports, key, item),
+        None => Ok(()),
     }
-    Ok(())
 }
 
 /// An import of world 0 under a name.

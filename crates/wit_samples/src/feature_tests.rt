@@ -5,107 +5,134 @@ use crate::drafts::{
     put_function, world,
 };
 use std::alloc::{AllocError, Global};
-use std::test::Fail;
 use wit_model::{
-    EntryList, Fault, FunctionKind, InterfaceId, Stability, Type, TypeDef, TypeDefKind, TypeOwner,
-    WorldId, WorldItem,
+    EntryList, Fault, FunctionKind, InterfaceId, Resolve, Stability, Type, TypeDef, TypeDefKind,
+    TypeOwner, WorldId, WorldItem,
 };
 
-fn unstable(alloc: Global, feature: &str) -> Result<Stability, AllocError> {
-    Ok(Stability::Unstable {
-        feature: String::from_str(alloc, feature)?,
-        deprecated: None,
-    })
+// What may be unstable.
+#[derive(Clone, Copy)]
+enum Place {
+    Interface,
+    World,
+    Type,
+    Function,
+    ImportedFunction,
+    Item,
 }
 
-fn of_interface(alloc: Global, feature: &str) -> Result<(), Fault> {
-    let mut resolve = draft(alloc)?;
+fn add_interface(
+    alloc: Global,
+    resolve: &mut Resolve,
+    stability: Stability,
+) -> Result<(), AllocError> {
     let mut entry = interface(alloc, Some("j"))?;
-    entry.stability = unstable(alloc, feature)?;
+    entry.stability = stability;
     resolve.interfaces.push(entry)?;
-    list_interface(alloc, &mut resolve, 0, "j", InterfaceId(1))?;
-    resolve.check(alloc)
+    list_interface(alloc, resolve, 0, "j", InterfaceId(1))
 }
 
-fn of_world(alloc: Global, feature: &str) -> Result<(), Fault> {
-    let mut resolve = draft(alloc)?;
+fn add_world(alloc: Global, resolve: &mut Resolve, stability: Stability) -> Result<(), AllocError> {
     let mut entry = world(alloc, "v")?;
-    entry.stability = unstable(alloc, feature)?;
+    entry.stability = stability;
     resolve.worlds.push(entry)?;
-    list_world(alloc, &mut resolve, 0, "v", WorldId(1))?;
-    resolve.check(alloc)
+    list_world(alloc, resolve, 0, "v", WorldId(1))
 }
 
-fn of_type(alloc: Global, feature: &str) -> Result<(), Fault> {
-    let mut resolve = draft(alloc)?;
+fn add_type(resolve: &mut Resolve, stability: Stability) -> Result<(), AllocError> {
     resolve.types.push(TypeDef {
         name: None,
         kind: TypeDefKind::List(Type::U8),
         owner: TypeOwner::None,
         docs: NO_DOCS,
-        stability: unstable(alloc, feature)?,
+        stability,
         external_id: None,
     })?;
-    resolve.check(alloc)
-}
-
-#[test]
-fn features_of_entries(rt: HostRuntime) -> Result<(), Fail> {
-    let alloc = rt.alloc();
-    assert_eq!(rt; of_interface(alloc, "f"), Ok(()));
-    assert_eq!(rt;
-        of_interface(alloc, ""),
-        broken(4, EntryList::Interfaces, 1)
-    );
-    assert_eq!(rt; of_world(alloc, "f"), Ok(()));
-    assert_eq!(rt; of_world(alloc, "1f"), broken(4, EntryList::Worlds, 1));
-    assert_eq!(rt; of_type(alloc, "f"), Ok(()));
-    assert_eq!(rt; of_type(alloc, "f_g"), broken(4, EntryList::Types, 0));
     Ok(())
 }
 
-fn of_function(alloc: Global, feature: &str) -> Result<(), Fault> {
-    let mut resolve = draft(alloc)?;
+fn add_function(
+    alloc: Global,
+    resolve: &mut Resolve,
+    stability: Stability,
+) -> Result<(), AllocError> {
     let mut item = nullary(alloc, "f", FunctionKind::Freestanding, None)?;
-    item.stability = unstable(alloc, feature)?;
-    put_function(alloc, &mut resolve, 0, "f", item)?;
-    resolve.check(alloc)
+    item.stability = stability;
+    put_function(alloc, resolve, 0, "f", item)
 }
 
-fn of_imported_function(alloc: Global, feature: &str) -> Result<(), Fault> {
-    let mut resolve = draft(alloc)?;
+fn add_imported_function(
+    alloc: Global,
+    resolve: &mut Resolve,
+    stability: Stability,
+) -> Result<(), AllocError> {
     let mut item = nullary(alloc, "f", FunctionKind::Freestanding, None)?;
-    item.stability = unstable(alloc, feature)?;
-    import(alloc, &mut resolve, "f", WorldItem::Function(item))?;
-    resolve.check(alloc)
+    item.stability = stability;
+    import(alloc, resolve, "f", WorldItem::Function(item))
 }
 
-fn of_item(alloc: Global, feature: &str) -> Result<(), Fault> {
-    let mut resolve = draft(alloc)?;
+fn add_item(alloc: Global, resolve: &mut Resolve, stability: Stability) -> Result<(), AllocError> {
     let item = WorldItem::Interface {
         id: InterfaceId(0),
-        stability: unstable(alloc, feature)?,
+        stability,
         docs: NO_DOCS,
         external_id: None,
     };
-    export(alloc, &mut resolve, "x", item)?;
+    export(alloc, resolve, "x", item)
+}
+
+fn add(
+    alloc: Global,
+    resolve: &mut Resolve,
+    place: Place,
+    stability: Stability,
+) -> Result<(), AllocError> {
+    match place {
+        Place::Interface => add_interface(alloc, resolve, stability),
+        Place::World => add_world(alloc, resolve, stability),
+        Place::Type => add_type(resolve, stability),
+        Place::Function => add_function(alloc, resolve, stability),
+        Place::ImportedFunction => add_imported_function(alloc, resolve, stability),
+        Place::Item => add_item(alloc, resolve, stability),
+    }
+}
+
+// What `check` answers where this is of a feature of this name.
+fn answer(alloc: Global, place: Place, feature: &str) -> Result<(), Fault> {
+    let stability = Stability::Unstable {
+        feature: String::from_str(alloc, feature)?,
+        deprecated: None,
+    };
+    let mut resolve = draft(alloc)?;
+    add(alloc, &mut resolve, place, stability)?;
     resolve.check(alloc)
 }
 
+// A feature `f` is valid, and one of this name isn't: it breaks the rule in this entry.
 #[test]
-fn features_of_functions_and_items(rt: HostRuntime) -> Result<(), Fail> {
-    let alloc = rt.alloc();
-    assert_eq!(rt; of_function(alloc, "f"), Ok(()));
-    assert_eq!(rt;
-        of_function(alloc, "f!"),
-        broken(4, EntryList::Interfaces, 0)
-    );
-    assert_eq!(rt; of_imported_function(alloc, "f"), Ok(()));
-    assert_eq!(rt;
-        of_imported_function(alloc, "f!"),
-        broken(4, EntryList::Worlds, 0)
-    );
-    assert_eq!(rt; of_item(alloc, "f"), Ok(()));
-    assert_eq!(rt; of_item(alloc, "f!"), broken(4, EntryList::Worlds, 0));
-    Ok(())
+fn features_of_entries(rt: HostRuntime) {
+    static ROWS: [(Place, &str, EntryList, usize); 3] = [
+        (Place::Interface, "", EntryList::Interfaces, 1),
+        (Place::World, "1f", EntryList::Worlds, 1),
+        (Place::Type, "f_g", EntryList::Types, 0),
+    ];
+    for (place, wrong, list, number) in ROWS {
+        let refused = broken(4, list, number);
+        assert_eq!(rt; answer(rt.alloc(), place, "f"), Ok(()), "{wrong}");
+        assert_eq!(rt; answer(rt.alloc(), place, wrong), refused, "{wrong}");
+    }
+}
+
+#[test]
+fn features_of_functions_and_items(rt: HostRuntime) {
+    static ROWS: [(Place, &str, EntryList); 3] = [
+        (Place::Function, "f!", EntryList::Interfaces),
+        (Place::ImportedFunction, "f!", EntryList::Worlds),
+        (Place::Item, "f!", EntryList::Worlds),
+    ];
+    for (index, (place, wrong, list)) in ROWS.iter().enumerate() {
+        let refused = broken(4, *list, 0);
+        assert_eq!(rt; answer(rt.alloc(), *place, "f"), Ok(()), "{index}");
+        assert_eq!(rt; answer(rt.alloc(), *place, *wrong), refused, "{index}");
+    }
 }

@@ -1,211 +1,138 @@
 //! Items of worlds under their keys, and names in packages.
 
-use crate::drafts::{
-    WORLD, add_inline, add_interface, add_type, add_unlisted, add_world_type, broken, draft,
-    export, export_from, import, import_into, list_interface, list_world, nullary, shown,
-};
-use std::alloc::Global;
-use std::test::Fail;
-use wit_model::{
-    EntryList, Fault, FunctionKind, InterfaceId, Type, TypeDefKind, TypeId, WorldId, WorldItem,
-    WorldKey,
-};
+use crate::drafts::WORLD;
+use crate::steps::Expected::{Broken, Valid};
+use crate::steps::{Case, Expected, FUNCTION, Item, Key, Kind, Signature, Step, first_wrong};
+use wit_model::{EntryList, FunctionKind, PackageId, Type, TypeId};
+
+const NUMBER: Kind = Kind::Alias(Type::U8);
+
+// An interface of two under the key of the first, imported and exported.
+const IMPORTED_FIRST: Step = Step::Import(0, Key::Path(0), Item::Interface(0));
+
+const IMPORTED_SECOND: Step = Step::Import(0, Key::Path(0), Item::Interface(1));
+
+const EXPORTED_FIRST: Step = Step::Export(0, Key::Path(0), Item::Interface(0));
+
+const EXPORTED_SECOND: Step = Step::Export(0, Key::Path(0), Item::Interface(1));
+
+const SECOND: Step = Step::Interface("j");
+
+// Inline interface 1, and under its number.
+const INLINE: Step = Step::UnlistedInterface(None, Some(PackageId(0)));
+
+const IMPORTED_INLINE: Step = Step::Import(0, Key::Path(1), Item::Interface(1));
+
+const EXPORTED_INLINE: Step = Step::Export(0, Key::Path(1), Item::Interface(1));
 
 // ---- keys of interfaces
 
-// A world that imports this interface of two under the key of the first.
-fn interface_under_its_key(alloc: Global, number: u32) -> Result<(), Fault> {
-    let mut resolve = draft(alloc)?;
-    add_interface(alloc, &mut resolve, "j")?;
-    let key = WorldKey::Interface(InterfaceId(0));
-    import_into(&mut resolve, 0, key, shown(number))?;
-    resolve.check(alloc)
-}
-
-fn interface_exported(alloc: Global, number: u32) -> Result<(), Fault> {
-    let mut resolve = draft(alloc)?;
-    add_interface(alloc, &mut resolve, "j")?;
-    let key = WorldKey::Interface(InterfaceId(0));
-    export_from(&mut resolve, 0, key, shown(number))?;
-    resolve.check(alloc)
-}
-
-fn inline_under_its_number(alloc: Global) -> Result<(), Fault> {
-    let mut resolve = draft(alloc)?;
-    add_inline(alloc, &mut resolve)?;
-    let key = WorldKey::Interface(InterfaceId(1));
-    import_into(&mut resolve, 0, key, shown(1))?;
-    resolve.check(alloc)
-}
-
-fn inline_exported(alloc: Global) -> Result<(), Fault> {
-    let mut resolve = draft(alloc)?;
-    add_inline(alloc, &mut resolve)?;
-    let key = WorldKey::Interface(InterfaceId(1));
-    export_from(&mut resolve, 0, key, shown(1))?;
-    resolve.check(alloc)
-}
-
 #[test]
-fn interface_keys(rt: HostRuntime) -> Result<(), Fail> {
-    let alloc = rt.alloc();
-    let refused = broken(12, EntryList::Worlds, 0);
-    assert_eq!(rt; interface_under_its_key(alloc, 0), Ok(()));
-    assert_eq!(rt; interface_under_its_key(alloc, 1), refused);
-    assert_eq!(rt; interface_exported(alloc, 0), Ok(()));
-    assert_eq!(rt; interface_exported(alloc, 1), refused);
-    assert_eq!(rt; inline_under_its_number(alloc), refused);
-    assert_eq!(rt; inline_exported(alloc), refused);
-    Ok(())
+fn interface_keys(rt: HostRuntime) {
+    const REFUSED: Expected = Broken(12, EntryList::Worlds, 0);
+    static CASES: [Case; 6] = [
+        (&[SECOND, IMPORTED_FIRST], Valid),
+        (&[SECOND, IMPORTED_SECOND], REFUSED),
+        (&[SECOND, EXPORTED_FIRST], Valid),
+        (&[SECOND, EXPORTED_SECOND], REFUSED),
+        (&[INLINE, IMPORTED_INLINE], REFUSED),
+        (&[INLINE, EXPORTED_INLINE], REFUSED),
+    ];
+    assert_eq!(rt; first_wrong(rt.alloc(), &[], &CASES), None);
 }
 
-// It doesn't stand under its name, which breaks the rule on functions' names too: that is named.
-fn function_under_an_interface(alloc: Global) -> Result<(), Fault> {
-    let mut resolve = draft(alloc)?;
-    let item = nullary(alloc, "f", FunctionKind::Freestanding, None)?;
-    let key = WorldKey::Interface(InterfaceId(0));
-    import_into(&mut resolve, 0, key, WorldItem::Function(item))?;
-    resolve.check(alloc)
-}
-
-// It doesn't stand under its name, which breaks the rule on the order of types too: that is named.
-fn type_under_an_interface(alloc: Global) -> Result<(), Fault> {
-    let mut resolve = draft(alloc)?;
-    add_unlisted(
-        alloc,
-        &mut resolve,
-        "t",
-        TypeDefKind::Type_(Type::U8),
-        WORLD,
-    )?;
-    let key = WorldKey::Interface(InterfaceId(0));
-    import_into(&mut resolve, 0, key, WorldItem::Type_ { id: TypeId(0) })?;
-    resolve.check(alloc)
-}
-
+// They don't stand under their names: a function breaks the rule on functions' names too, and a type that on the order of types.
+// These are named.
 #[test]
-fn other_items_under_interface_keys(rt: HostRuntime) -> Result<(), Fail> {
-    let alloc = rt.alloc();
-    assert_eq!(rt;
-        function_under_an_interface(alloc),
-        broken(11, EntryList::Worlds, 0)
-    );
-    assert_eq!(rt;
-        type_under_an_interface(alloc),
-        broken(5, EntryList::Types, 0)
-    );
-    Ok(())
+fn other_items_under_interface_keys(rt: HostRuntime) {
+    static CASES: [Case; 2] = [
+        (
+            &[Step::Import(0, Key::Path(0), Item::Function(FUNCTION))],
+            Broken(11, EntryList::Worlds, 0),
+        ),
+        (
+            &[
+                Step::UnlistedType("t", NUMBER, WORLD),
+                Step::Import(0, Key::Path(0), Item::Type(0)),
+            ],
+            Broken(5, EntryList::Types, 0),
+        ),
+    ];
+    assert_eq!(rt; first_wrong(rt.alloc(), &[], &CASES), None);
 }
 
 // ---- types and exports
 
+const IMPORTED_T: Step = Step::Import(0, Key::Name("t"), Item::Type(0));
+
+const IMPORTED_U: Step = Step::Import(0, Key::Name("u"), Item::Type(0));
+
+const EXPORTED_T: Step = Step::Export(0, Key::Name("t"), Item::Type(0));
+
 // An import under another name, or of another owner's type, breaks the rule on the order of types too, which is named: its tests
 // have these.
-fn type_under_another_name(alloc: Global) -> Result<(), Fault> {
-    let mut resolve = draft(alloc)?;
-    add_world_type(alloc, &mut resolve, "t", TypeDefKind::Type_(Type::U8))?;
-    import(alloc, &mut resolve, "u", WorldItem::Type_ { id: TypeId(0) })?;
-    resolve.check(alloc)
+#[test]
+fn types_are_imports_of_the_world(rt: HostRuntime) {
+    static CASES: [Case; 3] = [
+        (
+            &[Step::WorldType("t", NUMBER), IMPORTED_U],
+            Broken(5, EntryList::Types, 0),
+        ),
+        (
+            &[Step::Type(0, "t", NUMBER), IMPORTED_T],
+            Broken(5, EntryList::Worlds, 0),
+        ),
+        (
+            &[Step::WorldType("t", NUMBER), EXPORTED_T],
+            Broken(12, EntryList::Worlds, 0),
+        ),
+    ];
+    assert_eq!(rt; first_wrong(rt.alloc(), &[], &CASES), None);
 }
 
-fn type_of_an_interface(alloc: Global) -> Result<(), Fault> {
-    let mut resolve = draft(alloc)?;
-    add_type(alloc, &mut resolve, "t", TypeDefKind::Type_(Type::U8))?;
-    import(alloc, &mut resolve, "t", WorldItem::Type_ { id: TypeId(0) })?;
-    resolve.check(alloc)
-}
+// Resource `r` of the world.
+static RESOURCE: [Step; 1] = [Step::WorldType("r", Kind::Resource)];
 
-fn type_exported(alloc: Global) -> Result<(), Fault> {
-    let mut resolve = draft(alloc)?;
-    add_world_type(alloc, &mut resolve, "t", TypeDefKind::Type_(Type::U8))?;
-    export(alloc, &mut resolve, "t", WorldItem::Type_ { id: TypeId(0) })?;
-    resolve.check(alloc)
-}
+// A static function of it.
+const MEMBER: Signature = Signature {
+    name: "[static]r.f",
+    kind: FunctionKind::Static(TypeId(0)),
+    ..FUNCTION
+};
 
-// Resource `r` of the world, and a function of it among the imports.
-fn member_imported(alloc: Global) -> Result<(), Fault> {
-    let mut resolve = draft(alloc)?;
-    add_world_type(alloc, &mut resolve, "r", TypeDefKind::Resource)?;
-    let item = nullary(alloc, "[static]r.f", FunctionKind::Static(TypeId(0)), None)?;
-    import(
-        alloc,
-        &mut resolve,
-        "[static]r.f",
-        WorldItem::Function(item),
-    )?;
-    resolve.check(alloc)
-}
+const IMPORTED_MEMBER: Step = Step::Import(0, Key::Name("[static]r.f"), Item::Function(MEMBER));
 
-fn member_exported(alloc: Global) -> Result<(), Fault> {
-    let mut resolve = draft(alloc)?;
-    add_world_type(alloc, &mut resolve, "r", TypeDefKind::Resource)?;
-    let item = nullary(alloc, "[static]r.f", FunctionKind::Static(TypeId(0)), None)?;
-    export(
-        alloc,
-        &mut resolve,
-        "[static]r.f",
-        WorldItem::Function(item),
-    )?;
-    resolve.check(alloc)
-}
+const EXPORTED_MEMBER: Step = Step::Export(0, Key::Name("[static]r.f"), Item::Function(MEMBER));
 
 #[test]
-fn types_are_imports_of_the_world(rt: HostRuntime) -> Result<(), Fail> {
-    let alloc = rt.alloc();
-    assert_eq!(rt;
-        type_under_another_name(alloc),
-        broken(5, EntryList::Types, 0)
-    );
-    assert_eq!(rt;
-        type_of_an_interface(alloc),
-        broken(5, EntryList::Worlds, 0)
-    );
-    assert_eq!(rt; type_exported(alloc), broken(12, EntryList::Worlds, 0));
-    Ok(())
-}
-
-#[test]
-fn exports_are_interfaces_and_functions(rt: HostRuntime) -> Result<(), Fail> {
-    assert_eq!(rt; member_imported(rt.alloc()), Ok(()));
-    assert_eq!(rt;
-        member_exported(rt.alloc()),
-        broken(12, EntryList::Worlds, 0)
-    );
-    Ok(())
+fn exports_are_interfaces_and_functions(rt: HostRuntime) {
+    static CASES: [Case; 2] = [
+        (&[IMPORTED_MEMBER], Valid),
+        (&[EXPORTED_MEMBER], Broken(12, EntryList::Worlds, 0)),
+    ];
+    assert_eq!(rt; first_wrong(rt.alloc(), &RESOURCE, &CASES), None);
 }
 
 // ---- names in packages
 
-fn inline_in_a_package(alloc: Global) -> Result<(), Fault> {
-    let mut resolve = draft(alloc)?;
-    add_inline(alloc, &mut resolve)?;
-    import(alloc, &mut resolve, "x", shown(1))?;
-    list_interface(alloc, &mut resolve, 0, "x", InterfaceId(1))?;
-    resolve.check(alloc)
-}
-
-fn interface_under_another_name(alloc: Global) -> Result<(), Fault> {
-    let mut resolve = draft(alloc)?;
-    list_interface(alloc, &mut resolve, 0, "j", InterfaceId(0))?;
-    resolve.check(alloc)
-}
-
-fn world_under_another_name(alloc: Global) -> Result<(), Fault> {
-    let mut resolve = draft(alloc)?;
-    list_world(alloc, &mut resolve, 0, "x", WorldId(0))?;
-    resolve.check(alloc)
-}
+const LABELLED_INLINE: Step = Step::Import(0, Key::Name("x"), Item::Interface(1));
 
 // What has another name than its key breaks the rule on places too, which is named: only what has none breaks this rule alone.
 #[test]
-fn names_in_packages(rt: HostRuntime) -> Result<(), Fail> {
-    let alloc = rt.alloc();
-    let refused = broken(3, EntryList::Packages, 0);
-    assert_eq!(rt;
-        inline_in_a_package(alloc),
-        broken(14, EntryList::Packages, 0)
-    );
-    assert_eq!(rt; interface_under_another_name(alloc), refused);
-    assert_eq!(rt; world_under_another_name(alloc), refused);
-    Ok(())
+fn names_in_packages(rt: HostRuntime) {
+    static CASES: [Case; 3] = [
+        (
+            &[INLINE, LABELLED_INLINE, Step::ListInterface(0, "x", 1)],
+            Broken(14, EntryList::Packages, 0),
+        ),
+        (
+            &[Step::ListInterface(0, "j", 0)],
+            Broken(3, EntryList::Packages, 0),
+        ),
+        (
+            &[Step::ListWorld(0, "x", 0)],
+            Broken(3, EntryList::Packages, 0),
+        ),
+    ];
+    assert_eq!(rt; first_wrong(rt.alloc(), &[], &CASES), None);
 }

@@ -1,228 +1,214 @@
 //! Names are labels, and those of one list are distinct.
 
-use crate::drafts::{
-    add_function, add_interface, add_type, add_world, add_world_type, broken, draft, export,
-    function, import, nullary, param, put_function, shown,
-};
-use crate::kinds::{enum_of, flags_of, record_of, variant_of};
-use std::alloc::Global;
-use std::test::Fail;
-use wit_model::{EntryList, Fault, FunctionKind, Type, TypeDefKind, TypeId, WorldItem};
+use crate::steps::Expected::{Broken, Valid};
+use crate::steps::{Case, Expected, FUNCTION, Item, Key, Kind, Signature, Step, first_wrong};
+use wit_model::{EntryList, FunctionKind, Type, TypeId};
 
-const FREE: FunctionKind = FunctionKind::Freestanding;
-
-fn interface_named(alloc: Global, name: &str) -> Result<(), Fault> {
-    let mut resolve = draft(alloc)?;
-    add_interface(alloc, &mut resolve, name)?;
-    resolve.check(alloc)
-}
-
-fn world_named(alloc: Global, name: &str) -> Result<(), Fault> {
-    let mut resolve = draft(alloc)?;
-    add_world(alloc, &mut resolve, name)?;
-    resolve.check(alloc)
-}
-
-fn type_named(alloc: Global, name: &str) -> Result<(), Fault> {
-    let mut resolve = draft(alloc)?;
-    add_type(alloc, &mut resolve, name, TypeDefKind::Type_(Type::U8))?;
-    resolve.check(alloc)
-}
+const NUMBER: Kind = Kind::Alias(Type::U8);
 
 #[test]
-fn names_of_entries(rt: HostRuntime) -> Result<(), Fail> {
-    let alloc = rt.alloc();
-    assert_eq!(rt; interface_named(alloc, "i-2"), Ok(()));
-    assert_eq!(rt;
-        interface_named(alloc, "i_2"),
-        broken(4, EntryList::Interfaces, 1)
-    );
-    assert_eq!(rt; world_named(alloc, "W"), Ok(()));
-    assert_eq!(rt;
-        world_named(alloc, "World"),
-        broken(4, EntryList::Worlds, 1)
-    );
-    assert_eq!(rt; type_named(alloc, "t"), Ok(()));
-    assert_eq!(rt; type_named(alloc, "-t"), broken(4, EntryList::Types, 0));
-    Ok(())
+fn names_of_entries(rt: HostRuntime) {
+    static CASES: [Case; 6] = [
+        (&[Step::Interface("i-2")], Valid),
+        (
+            &[Step::Interface("i_2")],
+            Broken(4, EntryList::Interfaces, 1),
+        ),
+        (&[Step::World("W")], Valid),
+        (&[Step::World("World")], Broken(4, EntryList::Worlds, 1)),
+        (&[Step::Type(0, "t", NUMBER)], Valid),
+        (
+            &[Step::Type(0, "-t", NUMBER)],
+            Broken(4, EntryList::Types, 0),
+        ),
+    ];
+    assert_eq!(rt; first_wrong(rt.alloc(), &[], &CASES), None);
 }
 
 // ---- functions
 
-// A function of interface `i`, in which `r` is a resource.
-fn function_named(alloc: Global, kind: FunctionKind, name: &str) -> Result<(), Fault> {
-    let mut resolve = draft(alloc)?;
-    add_type(alloc, &mut resolve, "r", TypeDefKind::Resource)?;
-    let item = nullary(alloc, name, kind, None)?;
-    put_function(alloc, &mut resolve, 0, name, item)?;
-    resolve.check(alloc)
-}
+// Resource `r` of interface `i`.
+static RESOURCE: [Step; 1] = [Step::Type(0, "r", Kind::Resource)];
 
-// A function with the parameters `x` and this one.
-fn param_named(alloc: Global, name: &str) -> Result<(), Fault> {
-    let mut resolve = draft(alloc)?;
-    let mut item = function(alloc, "f", FREE, Type::U8, None)?;
-    item.params.push(param(alloc, name, Type::U8)?)?;
-    put_function(alloc, &mut resolve, 0, "f", item)?;
-    resolve.check(alloc)
-}
+const STATIC: Signature = Signature {
+    name: "[static]r.f",
+    kind: FunctionKind::Static(TypeId(0)),
+    ..FUNCTION
+};
 
-fn world_param_named(alloc: Global, name: &str) -> Result<(), Fault> {
-    let mut resolve = draft(alloc)?;
-    let mut item = function(alloc, "f", FREE, Type::U8, None)?;
-    item.params.push(param(alloc, name, Type::U8)?)?;
-    export(alloc, &mut resolve, "f", WorldItem::Function(item))?;
-    resolve.check(alloc)
-}
+const FREE_STATIC: Signature = Signature {
+    name: "[static]r.f",
+    ..FUNCTION
+};
+
+const MIXED_CASE: Signature = Signature {
+    name: "Fg",
+    kind: FunctionKind::AsyncFreestanding,
+    ..FUNCTION
+};
 
 #[test]
-fn names_of_functions(rt: HostRuntime) -> Result<(), Fail> {
-    let alloc = rt.alloc();
-    let refused = broken(4, EntryList::Interfaces, 0);
-    let member = FunctionKind::Static(TypeId(0));
-    assert_eq!(rt; function_named(alloc, FREE, "f"), Ok(()));
-    assert_eq!(rt; function_named(alloc, FREE, "[static]r.f"), refused);
-    assert_eq!(rt;
-        function_named(alloc, FunctionKind::AsyncFreestanding, "Fg"),
-        refused
-    );
-    assert_eq!(rt; function_named(alloc, member, "[static]r.f"), Ok(()));
-    Ok(())
+fn names_of_functions(rt: HostRuntime) {
+    const REFUSED: Expected = Broken(4, EntryList::Interfaces, 0);
+    static CASES: [Case; 4] = [
+        (&[Step::Function(0, "f", FUNCTION)], Valid),
+        (&[Step::Function(0, "[static]r.f", FREE_STATIC)], REFUSED),
+        (&[Step::Function(0, "Fg", MIXED_CASE)], REFUSED),
+        (&[Step::Function(0, "[static]r.f", STATIC)], Valid),
+    ];
+    assert_eq!(rt; first_wrong(rt.alloc(), &RESOURCE, &CASES), None);
 }
+
+// `f: func(x: u8)`
+const F: Signature = Signature {
+    first: Some(("x", Type::U8)),
+    ..FUNCTION
+};
+
+// `f` with a second parameter of a name.
+const WITH_Y: Signature = Signature {
+    second: Some(("y", Type::U8)),
+    ..F
+};
+
+const WITH_NO_LABEL: Signature = Signature {
+    second: Some(("y!", Type::U8)),
+    ..F
+};
+
+const WITH_X: Signature = Signature {
+    second: Some(("x", Type::U8)),
+    ..F
+};
 
 #[test]
-fn names_of_parameters(rt: HostRuntime) -> Result<(), Fail> {
-    let alloc = rt.alloc();
-    let refused = broken(4, EntryList::Interfaces, 0);
-    assert_eq!(rt; param_named(alloc, "y"), Ok(()));
-    assert_eq!(rt; param_named(alloc, "y!"), refused);
-    assert_eq!(rt; param_named(alloc, "x"), refused);
-    assert_eq!(rt; world_param_named(alloc, "y"), Ok(()));
-    assert_eq!(rt;
-        world_param_named(alloc, "x"),
-        broken(4, EntryList::Worlds, 0)
-    );
-    Ok(())
+fn names_of_parameters(rt: HostRuntime) {
+    const REFUSED: Expected = Broken(4, EntryList::Interfaces, 0);
+    static CASES: [Case; 5] = [
+        (&[Step::Function(0, "f", WITH_Y)], Valid),
+        (&[Step::Function(0, "f", WITH_NO_LABEL)], REFUSED),
+        (&[Step::Function(0, "f", WITH_X)], REFUSED),
+        (
+            &[Step::Export(0, Key::Name("f"), Item::Function(WITH_Y))],
+            Valid,
+        ),
+        (
+            &[Step::Export(0, Key::Name("f"), Item::Function(WITH_X))],
+            Broken(4, EntryList::Worlds, 0),
+        ),
+    ];
+    assert_eq!(rt; first_wrong(rt.alloc(), &[], &CASES), None);
 }
 
-// An interface with the function `f` and this type.
-fn type_beside_function(alloc: Global, name: &str) -> Result<(), Fault> {
-    let mut resolve = draft(alloc)?;
-    add_function(alloc, &mut resolve, Type::U8)?;
-    add_type(alloc, &mut resolve, name, TypeDefKind::Type_(Type::U8))?;
-    resolve.check(alloc)
-}
-
+// An interface with the function `f` and a type.
 #[test]
-fn a_type_and_a_function(rt: HostRuntime) -> Result<(), Fail> {
-    let refused = broken(4, EntryList::Interfaces, 0);
-    assert_eq!(rt; type_beside_function(rt.alloc(), "t"), Ok(()));
-    assert_eq!(rt; type_beside_function(rt.alloc(), "f"), refused);
-    Ok(())
+fn a_type_and_a_function(rt: HostRuntime) {
+    static BESIDE: [Step; 1] = [Step::Function(0, "f", F)];
+    static CASES: [Case; 2] = [
+        (&[Step::Type(0, "t", NUMBER)], Valid),
+        (
+            &[Step::Type(0, "f", NUMBER)],
+            Broken(4, EntryList::Interfaces, 0),
+        ),
+    ];
+    assert_eq!(rt; first_wrong(rt.alloc(), &BESIDE, &CASES), None);
 }
 
 // ---- keys of worlds
 
-fn function_under(alloc: Global, key: &str, name: &str) -> Result<(), Fault> {
-    let mut resolve = draft(alloc)?;
-    let item = nullary(alloc, name, FREE, None)?;
-    import(alloc, &mut resolve, key, WorldItem::Function(item))?;
-    resolve.check(alloc)
-}
+const REFUSED_WORLD: Expected = Broken(4, EntryList::Worlds, 0);
 
-fn interface_under(alloc: Global, key: &str) -> Result<(), Fault> {
-    let mut resolve = draft(alloc)?;
-    import(alloc, &mut resolve, key, shown(0))?;
-    resolve.check(alloc)
-}
+const PATH: Signature = Signature {
+    name: "f/g",
+    ..FUNCTION
+};
 
-fn export_under(alloc: Global, key: &str) -> Result<(), Fault> {
-    let mut resolve = draft(alloc)?;
-    export(alloc, &mut resolve, key, shown(0))?;
-    resolve.check(alloc)
-}
+const UNDER_ITS_NAME: Step = Step::Import(0, Key::Name("f"), Item::Function(FUNCTION));
 
-// The type breaks the rule too.
-fn world_type_under(alloc: Global, key: &str) -> Result<(), Fault> {
-    let mut resolve = draft(alloc)?;
-    add_world_type(alloc, &mut resolve, key, TypeDefKind::Type_(Type::U8))?;
-    resolve.check(alloc)
-}
+const UNDER_A_PATH: Step = Step::Import(0, Key::Name("f/g"), Item::Function(FUNCTION));
+
+const PATH_UNDER_A_PATH: Step = Step::Import(0, Key::Name("f/g"), Item::Function(PATH));
+
+const INTERFACE: Step = Step::Import(0, Key::Name("x"), Item::Interface(0));
+
+const INTERFACE_UNDER_A_PATH: Step = Step::Import(0, Key::Name("x/y"), Item::Interface(0));
 
 // A key that isn't the function's name breaks the rule on functions' names too.
 #[test]
-fn keys_of_worlds(rt: HostRuntime) -> Result<(), Fail> {
-    let alloc = rt.alloc();
-    let refused = broken(4, EntryList::Worlds, 0);
-    assert_eq!(rt; function_under(alloc, "f", "f"), Ok(()));
-    assert_eq!(rt; function_under(alloc, "f/g", "f/g"), refused);
-    assert_eq!(rt; function_under(alloc, "f/g", "f"), refused);
-    assert_eq!(rt; interface_under(alloc, "x"), Ok(()));
-    assert_eq!(rt; interface_under(alloc, "x/y"), refused);
-    Ok(())
+fn keys_of_worlds(rt: HostRuntime) {
+    static CASES: [Case; 5] = [
+        (&[UNDER_ITS_NAME], Valid),
+        (&[PATH_UNDER_A_PATH], REFUSED_WORLD),
+        (&[UNDER_A_PATH], REFUSED_WORLD),
+        (&[INTERFACE], Valid),
+        (&[INTERFACE_UNDER_A_PATH], REFUSED_WORLD),
+    ];
+    assert_eq!(rt; first_wrong(rt.alloc(), &[], &CASES), None);
 }
 
+const EXPORT: Step = Step::Export(0, Key::Name("x"), Item::Interface(0));
+
+const MIXED_CASE_EXPORT: Step = Step::Export(0, Key::Name("Xy"), Item::Interface(0));
+
+// In the last case the type breaks the rule too.
 #[test]
-fn keys_of_exports_and_types(rt: HostRuntime) -> Result<(), Fail> {
-    let alloc = rt.alloc();
-    let refused = broken(4, EntryList::Worlds, 0);
-    assert_eq!(rt; export_under(alloc, "x"), Ok(()));
-    assert_eq!(rt; export_under(alloc, "Xy"), refused);
-    assert_eq!(rt; world_type_under(alloc, "t"), Ok(()));
-    assert_eq!(rt; world_type_under(alloc, "t-"), refused);
-    Ok(())
+fn keys_of_exports_and_types(rt: HostRuntime) {
+    static CASES: [Case; 4] = [
+        (&[EXPORT], Valid),
+        (&[MIXED_CASE_EXPORT], REFUSED_WORLD),
+        (&[Step::WorldType("t", NUMBER)], Valid),
+        (&[Step::WorldType("t-", NUMBER)], REFUSED_WORLD),
+    ];
+    assert_eq!(rt; first_wrong(rt.alloc(), &[], &CASES), None);
 }
 
 // ---- fields, cases and flags
 
-fn of_kind(alloc: Global, kind: TypeDefKind) -> Result<(), Fault> {
-    let mut resolve = draft(alloc)?;
-    add_type(alloc, &mut resolve, "p", kind)?;
-    resolve.check(alloc)
-}
+const REFUSED_TYPE: Expected = Broken(4, EntryList::Types, 0);
 
-// A record of the fields `x` and this one.
-fn record(alloc: Global, name: &str) -> Result<(), Fault> {
-    of_kind(alloc, record_of(alloc, &["x", name], Type::U8)?)
-}
-
-// A variant of the cases `x` and this one.
-fn variant(alloc: Global, name: &str) -> Result<(), Fault> {
-    of_kind(alloc, variant_of(alloc, &["x", name], None)?)
-}
-
-// An enum of the cases `x` and this one.
-fn enumeration(alloc: Global, name: &str) -> Result<(), Fault> {
-    of_kind(alloc, enum_of(alloc, &["x", name])?)
-}
-
-// The flags `x` and this one.
-fn flags(alloc: Global, name: &str) -> Result<(), Fault> {
-    of_kind(alloc, flags_of(alloc, &["x", name])?)
+#[test]
+fn names_of_fields_and_cases(rt: HostRuntime) {
+    const FIELDS: Kind = Kind::Record(&["x", "y"], Type::U8);
+    const TWICE: Kind = Kind::Record(&["x", "x"], Type::U8);
+    const MIXED: Kind = Kind::Record(&["x", "xY"], Type::U8);
+    static CASES: [Case; 6] = [
+        (&[Step::Type(0, "p", FIELDS)], Valid),
+        (&[Step::Type(0, "p", TWICE)], REFUSED_TYPE),
+        (&[Step::Type(0, "p", MIXED)], REFUSED_TYPE),
+        (
+            &[Step::Type(0, "p", Kind::Variant(&["x", "y"], None))],
+            Valid,
+        ),
+        (
+            &[Step::Type(0, "p", Kind::Variant(&["x", "x"], None))],
+            REFUSED_TYPE,
+        ),
+        (
+            &[Step::Type(0, "p", Kind::Variant(&["x", "xY"], None))],
+            REFUSED_TYPE,
+        ),
+    ];
+    assert_eq!(rt; first_wrong(rt.alloc(), &[], &CASES), None);
 }
 
 #[test]
-fn names_of_fields_and_cases(rt: HostRuntime) -> Result<(), Fail> {
-    let alloc = rt.alloc();
-    let refused = broken(4, EntryList::Types, 0);
-    assert_eq!(rt; record(alloc, "y"), Ok(()));
-    assert_eq!(rt; record(alloc, "x"), refused);
-    assert_eq!(rt; record(alloc, "xY"), refused);
-    assert_eq!(rt; variant(alloc, "y"), Ok(()));
-    assert_eq!(rt; variant(alloc, "x"), refused);
-    assert_eq!(rt; variant(alloc, "xY"), refused);
-    Ok(())
-}
-
-#[test]
-fn names_of_cases_of_enums_and_flags(rt: HostRuntime) -> Result<(), Fail> {
-    let alloc = rt.alloc();
-    let refused = broken(4, EntryList::Types, 0);
-    assert_eq!(rt; enumeration(alloc, "y"), Ok(()));
-    assert_eq!(rt; enumeration(alloc, "x"), refused);
-    assert_eq!(rt; enumeration(alloc, "xY"), refused);
-    assert_eq!(rt; flags(alloc, "y"), Ok(()));
-    assert_eq!(rt; flags(alloc, "x"), refused);
-    assert_eq!(rt; flags(alloc, "xY"), refused);
-    Ok(())
+fn names_of_cases_of_enums_and_flags(rt: HostRuntime) {
+    static CASES: [Case; 6] = [
+        (&[Step::Type(0, "p", Kind::Enum(&["x", "y"]))], Valid),
+        (&[Step::Type(0, "p", Kind::Enum(&["x", "x"]))], REFUSED_TYPE),
+        (
+            &[Step::Type(0, "p", Kind::Enum(&["x", "xY"]))],
+            REFUSED_TYPE,
+        ),
+        (&[Step::Type(0, "p", Kind::Flags(&["x", "y"]))], Valid),
+        (
+            &[Step::Type(0, "p", Kind::Flags(&["x", "x"]))],
+            REFUSED_TYPE,
+        ),
+        (
+            &[Step::Type(0, "p", Kind::Flags(&["x", "xY"]))],
+            REFUSED_TYPE,
+        ),
+    ];
+    assert_eq!(rt; first_wrong(rt.alloc(), &[], &CASES), None);
 }

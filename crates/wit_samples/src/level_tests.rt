@@ -1,116 +1,121 @@
 //! Value types have at most 100 unnamed levels where they stand.
 
-use crate::drafts::{
-    add_function, add_type, add_unnamed, add_world_function, broken, draft, nullary, put_function,
-};
-use crate::kinds::{id, result_of};
-use crate::samples::with_options;
-use std::alloc::Global;
-use std::test::Fail;
-use wit_model::{EntryList, Fault, FunctionKind, Resolve, Type, TypeDefKind};
+use crate::steps::Expected::{Broken, Valid};
+use crate::steps::{Case, Expected, FUNCTION, Item, Key, Kind, Signature, Step, first_wrong};
+use wit_model::{EntryList, Type, TypeId, TypeOwner};
+
+const REFUSED: Expected = Broken(10, EntryList::Interfaces, 0);
 
 // The last of so many options stands nowhere; its part has one level less.
-fn part(alloc: Global, levels: u32) -> Result<(), Fault> {
-    with_options(alloc, levels.saturating_add(1))?.check(alloc)
-}
-
-// A parameter of so many levels, where there are types of 101.
-fn parameter(alloc: Global, levels: u32) -> Result<(), Fault> {
-    let mut resolve = with_options(alloc, 101)?;
-    add_function(alloc, &mut resolve, id(levels.saturating_sub(1)))?;
-    resolve.check(alloc)
-}
-
-fn answer(alloc: Global, levels: u32) -> Result<(), Fault> {
-    let mut resolve = with_options(alloc, 101)?;
-    let ty = id(levels.saturating_sub(1));
-    let item = nullary(alloc, "f", FunctionKind::Freestanding, Some(ty))?;
-    put_function(alloc, &mut resolve, 0, "f", item)?;
-    resolve.check(alloc)
-}
-
-fn world_parameter(alloc: Global, levels: u32) -> Result<(), Fault> {
-    let mut resolve = with_options(alloc, 101)?;
-    add_world_function(alloc, &mut resolve, id(levels.saturating_sub(1)))?;
-    resolve.check(alloc)
-}
-
 #[test]
-fn parts_of_types(rt: HostRuntime) -> Result<(), Fail> {
-    assert_eq!(rt; part(rt.alloc(), 100), Ok(()));
-    assert_eq!(rt; part(rt.alloc(), 101), broken(10, EntryList::Types, 101));
-    Ok(())
+fn parts_of_types(rt: HostRuntime) {
+    static CASES: [Case; 2] = [
+        (&[Step::Options(101)], Valid),
+        (&[Step::Options(102)], Broken(10, EntryList::Types, 101)),
+    ];
+    assert_eq!(rt; first_wrong(rt.alloc(), &[], &CASES), None);
 }
 
+// `f: func(x: PARAM)`, the type by number.
+const TAKES_99: Signature = Signature {
+    first: Some(("x", Type::Id(TypeId(99)))),
+    ..FUNCTION
+};
+
+const TAKES_100: Signature = Signature {
+    first: Some(("x", Type::Id(TypeId(100)))),
+    ..FUNCTION
+};
+
+const TAKES_101: Signature = Signature {
+    first: Some(("x", Type::Id(TypeId(101)))),
+    ..FUNCTION
+};
+
+const GIVES_99: Signature = Signature {
+    answer: Some(Type::Id(TypeId(99))),
+    ..FUNCTION
+};
+
+const GIVES_100: Signature = Signature {
+    answer: Some(Type::Id(TypeId(100))),
+    ..FUNCTION
+};
+
+// Types of at most 101 levels: number 99 has 100 of them.
 #[test]
-fn parameters_and_results(rt: HostRuntime) -> Result<(), Fail> {
-    let alloc = rt.alloc();
-    let refused = broken(10, EntryList::Interfaces, 0);
-    assert_eq!(rt; parameter(alloc, 100), Ok(()));
-    assert_eq!(rt; parameter(alloc, 101), refused);
-    assert_eq!(rt; answer(alloc, 100), Ok(()));
-    assert_eq!(rt; answer(alloc, 101), refused);
-    assert_eq!(rt; world_parameter(alloc, 100), Ok(()));
-    assert_eq!(rt;
-        world_parameter(alloc, 101),
-        broken(10, EntryList::Worlds, 0)
-    );
-    Ok(())
+fn parameters_and_results(rt: HostRuntime) {
+    static OPTIONS: [Step; 1] = [Step::Options(101)];
+    static CASES: [Case; 6] = [
+        (&[Step::Function(0, "f", TAKES_99)], Valid),
+        (&[Step::Function(0, "f", TAKES_100)], REFUSED),
+        (&[Step::Function(0, "f", GIVES_99)], Valid),
+        (&[Step::Function(0, "f", GIVES_100)], REFUSED),
+        (
+            &[Step::Import(0, Key::Name("f"), Item::Function(TAKES_99))],
+            Valid,
+        ),
+        (
+            &[Step::Import(0, Key::Name("f"), Item::Function(TAKES_100))],
+            Broken(10, EntryList::Worlds, 0),
+        ),
+    ];
+    assert_eq!(rt; first_wrong(rt.alloc(), &OPTIONS, &CASES), None);
 }
 
 // ---- where levels begin
 
-// So many lists around the type of number 0.
-fn lists_around(alloc: Global, resolve: &mut Resolve, lists: u32) -> Result<(), Fault> {
-    for number in 0..lists {
-        add_unnamed(resolve, TypeDefKind::List(id(number)))?;
-    }
-    add_function(alloc, resolve, id(lists))?;
-    resolve.check(alloc)
+const NAMED: Step = Step::Type(0, "t", Kind::List(Type::U8));
+
+const FUTURE: Step = Step::Unnamed(Kind::Future(None), TypeOwner::None);
+
+// A function takes the last of the lists. A named type has no level, however deep it is; an unnamed one without a part has one.
+#[test]
+fn where_levels_begin(rt: HostRuntime) {
+    static CASES: [Case; 4] = [
+        (
+            &[NAMED, Step::Lists(100), Step::Function(0, "f", TAKES_100)],
+            Valid,
+        ),
+        (
+            &[NAMED, Step::Lists(101), Step::Function(0, "f", TAKES_101)],
+            REFUSED,
+        ),
+        (
+            &[FUTURE, Step::Lists(99), Step::Function(0, "f", TAKES_99)],
+            Valid,
+        ),
+        (
+            &[FUTURE, Step::Lists(100), Step::Function(0, "f", TAKES_100)],
+            REFUSED,
+        ),
+    ];
+    assert_eq!(rt; first_wrong(rt.alloc(), &[], &CASES), None);
 }
 
-// A named type has no level, however deep it is.
-fn around_named(alloc: Global, lists: u32) -> Result<(), Fault> {
-    let mut resolve = draft(alloc)?;
-    add_type(alloc, &mut resolve, "t", TypeDefKind::List(Type::U8))?;
-    lists_around(alloc, &mut resolve, lists)
-}
+// A result whose ok is `u8` and whose err has 99 levels, and 100.
+const AROUND_99: Kind = Kind::Result(Some(Type::U8), Some(Type::Id(TypeId(98))));
 
-// An unnamed type without a part has one.
-fn around_future(alloc: Global, lists: u32) -> Result<(), Fault> {
-    let mut resolve = draft(alloc)?;
-    add_unnamed(&mut resolve, TypeDefKind::Future(None))?;
-    lists_around(alloc, &mut resolve, lists)
-}
+const AROUND_100: Kind = Kind::Result(Some(Type::U8), Some(Type::Id(TypeId(99))));
 
 #[test]
-fn where_levels_begin(rt: HostRuntime) -> Result<(), Fail> {
-    let alloc = rt.alloc();
-    let refused = broken(10, EntryList::Interfaces, 0);
-    assert_eq!(rt; around_named(alloc, 100), Ok(()));
-    assert_eq!(rt; around_named(alloc, 101), refused);
-    assert_eq!(rt; around_future(alloc, 99), Ok(()));
-    assert_eq!(rt; around_future(alloc, 100), refused);
-    Ok(())
-}
-
-// The deepest part counts: a result whose ok is `u8` and whose err has so many levels.
-fn beside_deep(alloc: Global, levels: u32) -> Result<(), Fault> {
-    let mut resolve = with_options(alloc, 100)?;
-    add_unnamed(
-        &mut resolve,
-        result_of(Some(Type::U8), Some(id(levels.saturating_sub(1)))),
-    )?;
-    add_function(alloc, &mut resolve, id(100))?;
-    resolve.check(alloc)
-}
-
-#[test]
-fn the_deepest_part_counts(rt: HostRuntime) -> Result<(), Fail> {
-    assert_eq!(rt; beside_deep(rt.alloc(), 99), Ok(()));
-    assert_eq!(rt;
-        beside_deep(rt.alloc(), 100),
-        broken(10, EntryList::Interfaces, 0)
-    );
-    Ok(())
+fn the_deepest_part_counts(rt: HostRuntime) {
+    static OPTIONS: [Step; 1] = [Step::Options(100)];
+    static CASES: [Case; 2] = [
+        (
+            &[
+                Step::Unnamed(AROUND_99, TypeOwner::None),
+                Step::Function(0, "f", TAKES_100),
+            ],
+            Valid,
+        ),
+        (
+            &[
+                Step::Unnamed(AROUND_100, TypeOwner::None),
+                Step::Function(0, "f", TAKES_100),
+            ],
+            REFUSED,
+        ),
+    ];
+    assert_eq!(rt; first_wrong(rt.alloc(), &OPTIONS, &CASES), None);
 }

@@ -37,4 +37,6 @@ pub mod samples;
 #[cfg(test)]
 mod shape_tests;
 #[cfg(test)]
+mod steps;
+#[cfg(test)]
 mod type_order_tests;

@@ -1,29 +1,13 @@
 //! Functions stand under their names, and those of resources are named after them, take and give them.
 
-use crate::drafts::{
-    add_interface, add_type, add_type_of, add_unnamed, add_world_type, broken, draft, export,
-    import, nullary, param, put_function,
+use crate::steps::Expected::{Broken, Valid};
+use crate::steps::{
+    Case, Expected, FUNCTION, Item, Key, Kind, Signature, Step, answer, first_wrong,
 };
-use crate::kinds::{alias_of, borrow_of, own_of, record_of, result_of};
-use std::alloc::{AllocError, Global};
-use std::test::Fail;
-use wit_model::{
-    EntryList, Fault, Function, FunctionKind, Resolve, Type, TypeDefKind, TypeId, WorldItem,
-};
+use std::alloc::Global;
+use wit_model::{EntryList, Fault, FunctionKind, Type, TypeId, TypeOwner};
 
-// A function of interface `i` or of world `w`, under a key.
-#[derive(Clone, Copy)]
-struct Member {
-    key: &'static str,
-    name: &'static str,
-    kind: FunctionKind,
-    first: Option<(&'static str, Type)>,
-    answer: Option<Type>,
-}
-
-// The types by number: a resource `r`; a borrow, an own and a result of one; an alias `s` of `r` and a borrow of it;
-// a resource `q` and a borrow of it; a named borrow, own and result of `r`; a result of no resource; owns of `s` and `q`;
-// a record `p`.
+// The types by number.
 const R: TypeId = TypeId(0);
 
 const BORROW: Type = Type::Id(TypeId(1));
@@ -52,75 +36,60 @@ const OTHER_OWN: Type = Type::Id(TypeId(13));
 
 const P: TypeId = TypeId(14);
 
-const FUNCTION: Member = Member {
-    key: "f",
-    name: "f",
-    kind: FunctionKind::Freestanding,
-    first: None,
-    answer: None,
-};
+// A resource `r`; a borrow, an own and a result of one; an alias `s` of `r` and a borrow of it; a resource `q` and a borrow of it;
+// a named borrow, own and result of `r`; a result of no resource; owns of `s` and `q`; a record `p`.
+static TYPES: [Step; 15] = [
+    Step::Type(0, "r", Kind::Resource),
+    Step::Unnamed(Kind::Borrow(0), TypeOwner::None),
+    Step::Unnamed(Kind::Own(0), TypeOwner::None),
+    Step::Unnamed(Kind::Result(Some(OWN), None), TypeOwner::None),
+    Step::Type(0, "s", Kind::Alias(Type::Id(R))),
+    Step::Unnamed(Kind::Borrow(4), TypeOwner::None),
+    Step::Type(0, "q", Kind::Resource),
+    Step::Unnamed(Kind::Borrow(6), TypeOwner::None),
+    Step::Type(0, "b", Kind::Borrow(0)),
+    Step::Type(0, "o", Kind::Own(0)),
+    Step::Type(0, "e", Kind::Result(Some(OWN), None)),
+    Step::Unnamed(Kind::Result(Some(Type::U8), None), TypeOwner::None),
+    Step::Unnamed(Kind::Own(4), TypeOwner::None),
+    Step::Unnamed(Kind::Own(6), TypeOwner::None),
+    Step::Type(0, "p", Kind::Record(&["a"], Type::U8)),
+];
 
-const METHOD: Member = Member {
-    key: "[method]r.f",
+const METHOD: Signature = Signature {
     name: "[method]r.f",
     kind: FunctionKind::Method(R),
     first: Some(("self", BORROW)),
-    answer: None,
+    ..FUNCTION
 };
 
-const STATIC: Member = Member {
-    key: "[static]r.f",
+const STATIC: Signature = Signature {
     name: "[static]r.f",
     kind: FunctionKind::Static(R),
-    first: None,
-    answer: None,
+    ..FUNCTION
 };
 
-const CONSTRUCTOR: Member = Member {
-    key: "[constructor]r",
+const CONSTRUCTOR: Signature = Signature {
     name: "[constructor]r",
     kind: FunctionKind::Constructor(R),
-    first: None,
     answer: Some(OWN),
+    ..FUNCTION
 };
 
-fn add_own_types(alloc: Global, resolve: &mut Resolve) -> Result<(), AllocError> {
-    add_type(alloc, resolve, "r", TypeDefKind::Resource)?;
-    add_unnamed(resolve, borrow_of(0))?;
-    add_unnamed(resolve, own_of(0))?;
-    add_unnamed(resolve, result_of(Some(OWN), None))?;
-    add_type(alloc, resolve, "s", alias_of(0))?;
-    add_unnamed(resolve, borrow_of(4))
-}
-
-fn add_other_types(alloc: Global, resolve: &mut Resolve) -> Result<(), AllocError> {
-    add_type(alloc, resolve, "q", TypeDefKind::Resource)?;
-    add_unnamed(resolve, borrow_of(6))?;
-    add_type(alloc, resolve, "b", borrow_of(0))?;
-    add_type(alloc, resolve, "o", own_of(0))?;
-    add_type(alloc, resolve, "e", result_of(Some(OWN), None))?;
-    add_unnamed(resolve, result_of(Some(Type::U8), None))?;
-    add_unnamed(resolve, own_of(4))?;
-    add_unnamed(resolve, own_of(6))?;
-    add_type(alloc, resolve, "p", record_of(alloc, &["a"], Type::U8)?)
-}
-
-fn function_of(alloc: Global, member: Member) -> Result<Function, AllocError> {
-    let mut function = nullary(alloc, member.name, member.kind, member.answer)?;
-    if let Some((name, ty)) = member.first {
-        function.params.push(param(alloc, name, ty)?)?;
+// The first of these functions for which `check` doesn't answer this where it stands in interface `i` under its name.
+fn first_not(
+    alloc: Global,
+    functions: &[Signature],
+    expected: Result<(), Fault>,
+) -> Option<(usize, Result<(), Fault>)> {
+    for (index, function) in functions.iter().enumerate() {
+        let step = Step::Function(0, function.name, *function);
+        let answered = answer(alloc, &TYPES, &[step]);
+        if answered != expected {
+            return Some((index, answered));
+        }
     }
-    Ok(function)
-}
-
-// The function in interface `i`.
-fn answer(alloc: Global, member: Member) -> Result<(), Fault> {
-    let mut resolve = draft(alloc)?;
-    add_own_types(alloc, &mut resolve)?;
-    add_other_types(alloc, &mut resolve)?;
-    let item = function_of(alloc, member)?;
-    put_function(alloc, &mut resolve, 0, member.key, item)?;
-    resolve.check(alloc)
+    None
 }
 
 const REFUSED: Result<(), Fault> = Err(Fault::Broken {
@@ -130,103 +99,80 @@ const REFUSED: Result<(), Fault> = Err(Fault::Broken {
 });
 
 #[test]
-fn functions_stand(rt: HostRuntime) -> Result<(), Fail> {
-    let kept_async = Member {
-        kind: FunctionKind::AsyncMethod(R),
-        ..METHOD
-    };
-    let static_async = Member {
-        kind: FunctionKind::AsyncStatic(R),
-        ..STATIC
-    };
-    let may_fail = Member {
-        answer: Some(RESULT),
-        ..CONSTRUCTOR
-    };
-    for member in [
+fn functions_stand(rt: HostRuntime) {
+    static FUNCTIONS: [Signature; 7] = [
         FUNCTION,
         METHOD,
         STATIC,
         CONSTRUCTOR,
-        kept_async,
-        static_async,
-        may_fail,
-    ] {
-        assert_eq!(rt; answer(rt.alloc(), member), Ok(()), "{}", member.name);
-    }
-    Ok(())
-}
-
-#[test]
-fn functions_stand_under_their_names(rt: HostRuntime) -> Result<(), Fail> {
-    let members = [
-        Member {
-            key: "g",
-            ..FUNCTION
-        },
-        Member {
-            key: "[method]r.g",
+        Signature {
+            kind: FunctionKind::AsyncMethod(R),
             ..METHOD
         },
-        Member {
-            key: "[constructor]q",
+        Signature {
+            kind: FunctionKind::AsyncStatic(R),
+            ..STATIC
+        },
+        Signature {
+            answer: Some(RESULT),
             ..CONSTRUCTOR
         },
     ];
-    for member in members {
-        assert_eq!(rt; answer(rt.alloc(), member), REFUSED, "{}", member.key);
-    }
-    Ok(())
-}
-
-// The function under this name and key.
-fn renamed(name: &'static str, member: Member) -> Member {
-    Member {
-        key: name,
-        name,
-        ..member
-    }
+    assert_eq!(rt; first_not(rt.alloc(), &FUNCTIONS, Ok(())), None);
 }
 
 #[test]
-fn names_say_what_they_belong_to(rt: HostRuntime) -> Result<(), Fail> {
-    let members = [
-        renamed("[method]q.f", METHOD),
-        renamed("[method]r.2f", METHOD),
-        renamed("[method]r", METHOD),
-        renamed("[static]r.f", METHOD),
-        renamed("[method]r.f", STATIC),
-        renamed("[static]r.", STATIC),
-        renamed("f", STATIC),
-        renamed("[constructor]r.f", CONSTRUCTOR),
-        renamed("[constructor]q", CONSTRUCTOR),
+fn functions_stand_under_their_names(rt: HostRuntime) {
+    const REFUSED: Expected = Broken(11, EntryList::Interfaces, 0);
+    static CASES: [Case; 3] = [
+        (&[Step::Function(0, "g", FUNCTION)], REFUSED),
+        (&[Step::Function(0, "[method]r.g", METHOD)], REFUSED),
+        (&[Step::Function(0, "[constructor]q", CONSTRUCTOR)], REFUSED),
     ];
-    for member in members {
-        assert_eq!(rt; answer(rt.alloc(), member), REFUSED, "{}", member.name);
+    assert_eq!(rt; first_wrong(rt.alloc(), &TYPES, &CASES), None);
+}
+
+#[test]
+fn names_say_what_they_belong_to(rt: HostRuntime) {
+    static ROWS: [(&str, Signature); 9] = [
+        ("[method]q.f", METHOD),
+        ("[method]r.2f", METHOD),
+        ("[method]r", METHOD),
+        ("[static]r.f", METHOD),
+        ("[method]r.f", STATIC),
+        ("[static]r.", STATIC),
+        ("f", STATIC),
+        ("[constructor]r.f", CONSTRUCTOR),
+        ("[constructor]q", CONSTRUCTOR),
+    ];
+    for (name, function) in ROWS {
+        let renamed = Signature { name, ..function };
+        assert_eq!(rt; first_not(rt.alloc(), &[renamed], REFUSED), None, "{name}");
     }
-    Ok(())
 }
 
 // An alias of a resource is none, nor is a record.
 #[test]
-fn members_belong_to_a_resource(rt: HostRuntime) -> Result<(), Fail> {
-    let of_alias = Member {
-        kind: FunctionKind::Method(S),
-        first: Some(("self", BORROW_OF_ALIAS)),
-        ..renamed("[method]s.f", METHOD)
-    };
-    let of_record = Member {
-        kind: FunctionKind::Static(P),
-        ..renamed("[static]p.f", STATIC)
-    };
-    assert_eq!(rt; answer(rt.alloc(), of_alias), REFUSED);
-    assert_eq!(rt; answer(rt.alloc(), of_record), REFUSED);
-    Ok(())
+fn members_belong_to_a_resource(rt: HostRuntime) {
+    static FUNCTIONS: [Signature; 2] = [
+        Signature {
+            name: "[method]s.f",
+            kind: FunctionKind::Method(S),
+            first: Some(("self", BORROW_OF_ALIAS)),
+            ..FUNCTION
+        },
+        Signature {
+            name: "[static]p.f",
+            kind: FunctionKind::Static(P),
+            ..FUNCTION
+        },
+    ];
+    assert_eq!(rt; first_not(rt.alloc(), &FUNCTIONS, REFUSED), None);
 }
 
 #[test]
-fn methods_take_self(rt: HostRuntime) -> Result<(), Fail> {
-    let firsts = [
+fn methods_take_self(rt: HostRuntime) {
+    static FIRSTS: [Option<(&str, Type)>; 7] = [
         None,
         Some(("this", BORROW)),
         Some(("self", Type::U8)),
@@ -235,16 +181,18 @@ fn methods_take_self(rt: HostRuntime) -> Result<(), Fail> {
         Some(("self", OTHER_BORROW)),
         Some(("self", BORROW_OF_ALIAS)),
     ];
-    for first in firsts {
-        let member = Member { first, ..METHOD };
-        assert_eq!(rt; answer(rt.alloc(), member), REFUSED);
+    for (index, first) in FIRSTS.iter().enumerate() {
+        let method = Signature {
+            first: *first,
+            ..METHOD
+        };
+        assert_eq!(rt; first_not(rt.alloc(), &[method], REFUSED), None, "{index}");
     }
-    Ok(())
 }
 
 #[test]
-fn constructors_give_their_resource(rt: HostRuntime) -> Result<(), Fail> {
-    let answers = [
+fn constructors_give_their_resource(rt: HostRuntime) {
+    static ANSWERS: [Option<Type>; 8] = [
         None,
         Some(Type::U8),
         Some(BORROW),
@@ -254,88 +202,75 @@ fn constructors_give_their_resource(rt: HostRuntime) -> Result<(), Fail> {
         Some(OWN_OF_ALIAS),
         Some(OTHER_OWN),
     ];
-    for result in answers {
-        let member = Member {
-            answer: result,
+    for (index, given) in ANSWERS.iter().enumerate() {
+        let constructor = Signature {
+            answer: *given,
             ..CONSTRUCTOR
         };
-        assert_eq!(rt; answer(rt.alloc(), member), REFUSED);
+        assert_eq!(rt;
+            first_not(rt.alloc(), &[constructor], REFUSED),
+            None,
+            "{index}"
+        );
     }
-    Ok(())
 }
 
 // ---- another owner's resource: the rule on owners is broken too, and named
 
-// Interface `j` has the resource `q`, number 0, and a borrow of it.
-fn foreign(alloc: Global, member: Member) -> Result<(), Fault> {
-    let mut resolve = draft(alloc)?;
-    add_interface(alloc, &mut resolve, "j")?;
-    add_type_of(alloc, &mut resolve, 1, "q", TypeDefKind::Resource)?;
-    add_unnamed(&mut resolve, borrow_of(0))?;
-    let item = function_of(alloc, member)?;
-    put_function(alloc, &mut resolve, 0, member.key, item)?;
-    resolve.check(alloc)
-}
+const OTHER_METHOD: Signature = Signature {
+    name: "[method]q.f",
+    ..METHOD
+};
 
-// A world with a function of a resource of interface `i`.
-fn foreign_in_world(alloc: Global, member: Member) -> Result<(), Fault> {
-    let mut resolve = draft(alloc)?;
-    add_type(alloc, &mut resolve, "r", TypeDefKind::Resource)?;
-    let item = function_of(alloc, member)?;
-    import(alloc, &mut resolve, member.key, WorldItem::Function(item))?;
-    resolve.check(alloc)
-}
+const IMPORTED_STATIC: Step = Step::Import(0, Key::Name("[static]r.f"), Item::Function(STATIC));
 
+// Interface `j` has the resource `q`, number 0, and a borrow of it; interface `i` has a method of it. And a world has a function of
+// a resource of interface `i`.
 #[test]
-fn members_belong_to_a_resource_of_the_owner(rt: HostRuntime) -> Result<(), Fail> {
-    let method = renamed("[method]q.f", METHOD);
-    assert_eq!(rt;
-        foreign(rt.alloc(), method),
-        broken(6, EntryList::Interfaces, 0)
-    );
-    assert_eq!(rt;
-        foreign_in_world(rt.alloc(), STATIC),
-        broken(6, EntryList::Worlds, 0)
-    );
-    Ok(())
+fn members_belong_to_a_resource_of_the_owner(rt: HostRuntime) {
+    static CASES: [Case; 2] = [
+        (
+            &[
+                Step::Interface("j"),
+                Step::Type(1, "q", Kind::Resource),
+                Step::Unnamed(Kind::Borrow(0), TypeOwner::None),
+                Step::Function(0, "[method]q.f", OTHER_METHOD),
+            ],
+            Broken(6, EntryList::Interfaces, 0),
+        ),
+        (
+            &[Step::Type(0, "r", Kind::Resource), IMPORTED_STATIC],
+            Broken(6, EntryList::Worlds, 0),
+        ),
+    ];
+    assert_eq!(rt; first_wrong(rt.alloc(), &[], &CASES), None);
 }
 
 // ---- worlds
 
-// A world with its own resource `r` and a function.
-fn in_world(alloc: Global, member: Member) -> Result<(), Fault> {
-    let mut resolve = draft(alloc)?;
-    add_world_type(alloc, &mut resolve, "r", TypeDefKind::Resource)?;
-    let item = function_of(alloc, member)?;
-    import(alloc, &mut resolve, member.key, WorldItem::Function(item))?;
-    resolve.check(alloc)
-}
+// The world's own resource.
+const RESOURCE: Step = Step::WorldType("r", Kind::Resource);
 
-// A world that exports a function.
-fn exported(alloc: Global, member: Member) -> Result<(), Fault> {
-    let mut resolve = draft(alloc)?;
-    let item = function_of(alloc, member)?;
-    export(alloc, &mut resolve, member.key, WorldItem::Function(item))?;
-    resolve.check(alloc)
-}
+const RENAMED_STATIC: Step = Step::Import(0, Key::Name("[static]r.g"), Item::Function(STATIC));
+
+const IMPORTED: Step = Step::Import(0, Key::Name("f"), Item::Function(FUNCTION));
+
+const IMPORTED_AS_G: Step = Step::Import(0, Key::Name("g"), Item::Function(FUNCTION));
+
+const EXPORTED: Step = Step::Export(0, Key::Name("f"), Item::Function(FUNCTION));
+
+const EXPORTED_AS_G: Step = Step::Export(0, Key::Name("g"), Item::Function(FUNCTION));
 
 #[test]
-fn functions_of_worlds(rt: HostRuntime) -> Result<(), Fail> {
-    let alloc = rt.alloc();
-    let refused = broken(11, EntryList::Worlds, 0);
-    let renamed = Member {
-        key: "[static]r.g",
-        ..STATIC
-    };
-    let other = Member {
-        key: "g",
-        ..FUNCTION
-    };
-    assert_eq!(rt; in_world(alloc, STATIC), Ok(()));
-    assert_eq!(rt; in_world(alloc, FUNCTION), Ok(()));
-    assert_eq!(rt; in_world(alloc, renamed), refused);
-    assert_eq!(rt; in_world(alloc, other), refused);
-    assert_eq!(rt; exported(alloc, FUNCTION), Ok(()));
-    assert_eq!(rt; exported(alloc, other), refused);
-    Ok(())
+fn functions_of_worlds(rt: HostRuntime) {
+    const REFUSED: Expected = Broken(11, EntryList::Worlds, 0);
+    static CASES: [Case; 6] = [
+        (&[RESOURCE, IMPORTED_STATIC], Valid),
+        (&[RESOURCE, IMPORTED], Valid),
+        (&[RESOURCE, RENAMED_STATIC], REFUSED),
+        (&[RESOURCE, IMPORTED_AS_G], REFUSED),
+        (&[EXPORTED], Valid),
+        (&[EXPORTED_AS_G], REFUSED),
+    ];
+    assert_eq!(rt; first_wrong(rt.alloc(), &[], &CASES), None);
 }

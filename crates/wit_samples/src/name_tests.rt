@@ -1,39 +1,34 @@
 //! Namespaces and names of packages are labels, and no two packages have the same namespace, name and version. Each of two such
 //! breaks the rule; the later one is named. No test shows a version that is none: `semver` makes no such value.
 
-use crate::drafts::{add_package, broken, draft, package};
+use crate::drafts::{broken, draft, package};
+use crate::steps::Expected::{Broken, Valid};
+use crate::steps::{Case, Expected, Step, first_wrong};
 use semver::Version;
 use std::alloc::Global;
-use std::test::Fail;
 use wit_model::{EntryList, Fault};
 
-// A second package behind `a:b`.
-fn pair(alloc: Global, namespace: &str, name: &str) -> Result<(), Fault> {
-    let mut resolve = draft(alloc)?;
-    add_package(alloc, &mut resolve, namespace, name)?;
-    resolve.check(alloc)
+#[test]
+fn namespaces_and_names_are_labels(rt: HostRuntime) {
+    const REFUSED: Expected = Broken(2, EntryList::Packages, 1);
+    static CASES: [Case; 6] = [
+        (&[Step::Package("a", "c")], Valid),
+        (&[Step::Package("c", "b")], Valid),
+        (&[Step::Package("2c", "b")], REFUSED),
+        (&[Step::Package("c", "2b")], REFUSED),
+        (&[Step::Package("a", "b_")], REFUSED),
+        (&[Step::Package("", "b")], REFUSED),
+    ];
+    assert_eq!(rt; first_wrong(rt.alloc(), &[], &CASES), None);
 }
 
 #[test]
-fn namespaces_and_names_are_labels(rt: HostRuntime) -> Result<(), Fail> {
-    let alloc = rt.alloc();
-    let refused = broken(2, EntryList::Packages, 1);
-    assert_eq!(rt; pair(alloc, "a", "c"), Ok(()));
-    assert_eq!(rt; pair(alloc, "c", "b"), Ok(()));
-    assert_eq!(rt; pair(alloc, "2c", "b"), refused);
-    assert_eq!(rt; pair(alloc, "c", "2b"), refused);
-    assert_eq!(rt; pair(alloc, "a", "b_"), refused);
-    assert_eq!(rt; pair(alloc, "", "b"), refused);
-    Ok(())
-}
-
-#[test]
-fn no_name_stands_twice(rt: HostRuntime) -> Result<(), Fail> {
-    assert_eq!(rt;
-        pair(rt.alloc(), "a", "b"),
-        broken(2, EntryList::Packages, 1)
-    );
-    Ok(())
+fn no_name_stands_twice(rt: HostRuntime) {
+    static CASES: [Case; 1] = [(
+        &[Step::Package("a", "b")],
+        Broken(2, EntryList::Packages, 1),
+    )];
+    assert_eq!(rt; first_wrong(rt.alloc(), &[], &CASES), None);
 }
 
 // Two packages `c:d` of these versions.
@@ -49,7 +44,7 @@ fn versions(alloc: Global, first: Option<Version>, second: Option<Version>) -> R
 }
 
 #[test]
-fn versions_tell_packages_apart(rt: HostRuntime) -> Result<(), Fail> {
+fn versions_tell_packages_apart(rt: HostRuntime) {
     let alloc = rt.alloc();
     let (one, more) = (Version::new(1, 0, 0), Version::new(1, 1, 0));
     assert_eq!(rt; versions(alloc, Some(one), Some(more)), Ok(()));
@@ -59,5 +54,4 @@ fn versions_tell_packages_apart(rt: HostRuntime) -> Result<(), Fail> {
         versions(alloc, Some(one), Some(same)),
         broken(2, EntryList::Packages, 2)
     );
-    Ok(())
 }

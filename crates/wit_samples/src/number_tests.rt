@@ -1,259 +1,247 @@
 //! Each number is in range of its list. What is out of range is mostly passed over by the other rules.
 
-use crate::drafts::{
-    INTERFACE, WORLD, add_package, add_unlisted, add_unnamed, broken, draft, empty, export,
-    export_from, function, import, import_into, interface, list_interface, list_type, list_world,
-    nullary, put_function, shown, world,
+use crate::drafts::{INTERFACE, WORLD, broken, empty};
+use crate::steps::Expected::{Broken, Valid};
+use crate::steps::{
+    Case, Expected, FUNCTION, Item, Key, Kind, Signature, Step, answer, first_wrong,
 };
-use crate::kinds::id;
 use std::alloc::Global;
-use std::test::Fail;
-use wit_model::{
-    EntryList, Fault, FunctionKind, InterfaceId, PackageId, Type, TypeDefKind, TypeId, WorldId,
-    WorldItem, WorldKey,
-};
-
-const FREE: FunctionKind = FunctionKind::Freestanding;
-
-fn unchanged(alloc: Global) -> Result<(), Fault> {
-    draft(alloc)?.check(alloc)
-}
+use wit_model::{EntryList, Fault, FunctionKind, PackageId, Type, TypeId, TypeOwner};
 
 fn nothing(alloc: Global) -> Result<(), Fault> {
     empty(alloc).check(alloc)
 }
 
 #[test]
-fn small_ones_are_valid(rt: HostRuntime) -> Result<(), Fail> {
+fn small_ones_are_valid(rt: HostRuntime) {
     assert_eq!(rt; nothing(rt.alloc()), Ok(()));
-    assert_eq!(rt; unchanged(rt.alloc()), Ok(()));
-    Ok(())
+    assert_eq!(rt; answer(rt.alloc(), &[], &[]), Ok(()));
 }
 
 // ---- packages: the map has a number, and its entry is there or isn't
 
-fn interface_of_package(alloc: Global, is_there: bool) -> Result<(), Fault> {
-    let mut resolve = draft(alloc)?;
-    list_interface(alloc, &mut resolve, 0, "j", InterfaceId(1))?;
-    if is_there {
-        resolve.interfaces.push(interface(alloc, Some("j"))?)?;
-    }
-    resolve.check(alloc)
-}
+const FIRST: Option<PackageId> = Some(PackageId(0));
 
-fn world_of_package(alloc: Global, is_there: bool) -> Result<(), Fault> {
-    let mut resolve = draft(alloc)?;
-    list_world(alloc, &mut resolve, 0, "v", WorldId(1))?;
-    if is_there {
-        resolve.worlds.push(world(alloc, "v")?)?;
-    }
-    resolve.check(alloc)
-}
+const LISTED_INTERFACE: Step = Step::ListInterface(0, "j", 1);
+
+const LISTED_WORLD: Step = Step::ListWorld(0, "v", 1);
 
 #[test]
-fn entries_of_packages(rt: HostRuntime) -> Result<(), Fail> {
-    let alloc = rt.alloc();
-    let refused = broken(1, EntryList::Packages, 0);
-    assert_eq!(rt; interface_of_package(alloc, true), Ok(()));
-    assert_eq!(rt; interface_of_package(alloc, false), refused);
-    assert_eq!(rt; world_of_package(alloc, true), Ok(()));
-    assert_eq!(rt; world_of_package(alloc, false), refused);
-    Ok(())
+fn entries_of_packages(rt: HostRuntime) {
+    const REFUSED: Expected = Broken(1, EntryList::Packages, 0);
+    static CASES: [Case; 4] = [
+        (
+            &[LISTED_INTERFACE, Step::UnlistedInterface(Some("j"), FIRST)],
+            Valid,
+        ),
+        (&[LISTED_INTERFACE], REFUSED),
+        (&[LISTED_WORLD, Step::UnlistedWorld("v", FIRST)], Valid),
+        (&[LISTED_WORLD], REFUSED),
+    ];
+    assert_eq!(rt; first_wrong(rt.alloc(), &[], &CASES), None);
 }
 
-// ---- interfaces and worlds: their package
+// ---- interfaces and worlds: their package, which is there or isn't
 
-fn package_of_interface(alloc: Global, is_there: bool) -> Result<(), Fault> {
-    let mut resolve = draft(alloc)?;
-    let mut entry = interface(alloc, Some("j"))?;
-    entry.package = Some(PackageId(1));
-    resolve.interfaces.push(entry)?;
-    if is_there {
-        add_package(alloc, &mut resolve, "c", "d")?;
-        list_interface(alloc, &mut resolve, 1, "j", InterfaceId(1))?;
-    }
-    resolve.check(alloc)
-}
+const SECOND: Option<PackageId> = Some(PackageId(1));
 
-fn package_of_world(alloc: Global, is_there: bool) -> Result<(), Fault> {
-    let mut resolve = draft(alloc)?;
-    let mut entry = world(alloc, "v")?;
-    entry.package = Some(PackageId(1));
-    resolve.worlds.push(entry)?;
-    if is_there {
-        add_package(alloc, &mut resolve, "c", "d")?;
-        list_world(alloc, &mut resolve, 1, "v", WorldId(1))?;
-    }
-    resolve.check(alloc)
-}
+const INTERFACE_OF_SECOND: Step = Step::UnlistedInterface(Some("j"), SECOND);
+
+const WORLD_OF_SECOND: Step = Step::UnlistedWorld("v", SECOND);
+
+const SECOND_PACKAGE: Step = Step::Package("c", "d");
 
 #[test]
-fn packages_of_entries(rt: HostRuntime) -> Result<(), Fail> {
-    let alloc = rt.alloc();
-    let refused = broken(1, EntryList::Interfaces, 1);
-    assert_eq!(rt; package_of_interface(alloc, true), Ok(()));
-    assert_eq!(rt; package_of_interface(alloc, false), refused);
-    let refused = broken(1, EntryList::Worlds, 1);
-    assert_eq!(rt; package_of_world(alloc, true), Ok(()));
-    assert_eq!(rt; package_of_world(alloc, false), refused);
-    Ok(())
+fn packages_of_entries(rt: HostRuntime) {
+    static CASES: [Case; 4] = [
+        (
+            &[
+                INTERFACE_OF_SECOND,
+                SECOND_PACKAGE,
+                Step::ListInterface(1, "j", 1),
+            ],
+            Valid,
+        ),
+        (&[INTERFACE_OF_SECOND], Broken(1, EntryList::Interfaces, 1)),
+        (
+            &[WORLD_OF_SECOND, SECOND_PACKAGE, Step::ListWorld(1, "v", 1)],
+            Valid,
+        ),
+        (&[WORLD_OF_SECOND], Broken(1, EntryList::Worlds, 1)),
+    ];
+    assert_eq!(rt; first_wrong(rt.alloc(), &[], &CASES), None);
 }
 
 // ---- interfaces: types and functions
 
-fn type_of_interface(alloc: Global, is_there: bool) -> Result<(), Fault> {
-    let mut resolve = draft(alloc)?;
-    list_type(alloc, &mut resolve, 0, "t", TypeId(0))?;
-    if is_there {
-        let kind = TypeDefKind::Type_(Type::U8);
-        add_unlisted(alloc, &mut resolve, "t", kind, INTERFACE)?;
-    }
-    resolve.check(alloc)
-}
+const REFUSED: Expected = Broken(1, EntryList::Interfaces, 0);
+
+const NUMBER: Kind = Kind::Alias(Type::U8);
+
+const LISTED_TYPE: Step = Step::ListType(0, "t", 0);
 
 #[test]
-fn types_of_interfaces(rt: HostRuntime) -> Result<(), Fail> {
-    let refused = broken(1, EntryList::Interfaces, 0);
-    assert_eq!(rt; type_of_interface(rt.alloc(), true), Ok(()));
-    assert_eq!(rt; type_of_interface(rt.alloc(), false), refused);
-    Ok(())
+fn types_of_interfaces(rt: HostRuntime) {
+    static CASES: [Case; 2] = [
+        (
+            &[LISTED_TYPE, Step::UnlistedType("t", NUMBER, INTERFACE)],
+            Valid,
+        ),
+        (&[LISTED_TYPE], REFUSED),
+    ];
+    assert_eq!(rt; first_wrong(rt.alloc(), &[], &CASES), None);
 }
 
-// A function with this parameter, result and kind, and one type.
-fn function_of(
-    alloc: Global,
-    ty: Type,
-    answer: Option<Type>,
-    kind: FunctionKind,
-) -> Result<(), Fault> {
-    let mut resolve = draft(alloc)?;
-    add_unnamed(&mut resolve, TypeDefKind::List(Type::U8))?;
-    let item = function(alloc, "f", kind, ty, answer)?;
-    put_function(alloc, &mut resolve, 0, "f", item)?;
-    resolve.check(alloc)
-}
+// One type.
+static LIST: [Step; 1] = [Step::Unnamed(Kind::List(Type::U8), TypeOwner::None)];
+
+const THERE: Type = Type::Id(TypeId(0));
+
+const FAR: Type = Type::Id(TypeId(1));
+
+// Functions that take a type, and give one.
+const TAKES: Signature = Signature {
+    first: Some(("x", THERE)),
+    ..FUNCTION
+};
+
+const TAKES_AND_GIVES: Signature = Signature {
+    answer: Some(THERE),
+    ..TAKES
+};
+
+const GIVES_FAR: Signature = Signature {
+    answer: Some(FAR),
+    ..TAKES
+};
+
+const TAKES_FAR: Signature = Signature {
+    first: Some(("x", FAR)),
+    ..FUNCTION
+};
+
+const TAKES_FARTHEST: Signature = Signature {
+    first: Some(("x", Type::Id(TypeId(u32::MAX)))),
+    ..FUNCTION
+};
 
 #[test]
-fn types_of_functions(rt: HostRuntime) -> Result<(), Fail> {
-    let alloc = rt.alloc();
-    let refused = broken(1, EntryList::Interfaces, 0);
-    assert_eq!(rt; function_of(alloc, id(0), Some(id(0)), FREE), Ok(()));
-    assert_eq!(rt; function_of(alloc, id(1), None, FREE), refused);
-    assert_eq!(rt; function_of(alloc, id(0), Some(id(1)), FREE), refused);
-    assert_eq!(rt; function_of(alloc, id(u32::MAX), None, FREE), refused);
-    Ok(())
+fn types_of_functions(rt: HostRuntime) {
+    static CASES: [Case; 4] = [
+        (&[Step::Function(0, "f", TAKES_AND_GIVES)], Valid),
+        (&[Step::Function(0, "f", TAKES_FAR)], REFUSED),
+        (&[Step::Function(0, "f", GIVES_FAR)], REFUSED),
+        (&[Step::Function(0, "f", TAKES_FARTHEST)], REFUSED),
+    ];
+    assert_eq!(rt; first_wrong(rt.alloc(), &LIST, &CASES), None);
 }
 
 // A function of a resource that isn't there breaks the rule on functions' names too: that on numbers is named.
-fn resource_of(alloc: Global, kind: FunctionKind) -> Result<(), Fault> {
-    function_of(alloc, id(0), None, kind)
-}
-
 #[test]
-fn resources_of_functions(rt: HostRuntime) -> Result<(), Fail> {
-    let alloc = rt.alloc();
+fn resources_of_functions(rt: HostRuntime) {
+    const RESOURCE: TypeId = TypeId(1);
+    static KINDS: [FunctionKind; 5] = [
+        FunctionKind::Method(RESOURCE),
+        FunctionKind::AsyncMethod(RESOURCE),
+        FunctionKind::Static(RESOURCE),
+        FunctionKind::AsyncStatic(RESOURCE),
+        FunctionKind::Constructor(RESOURCE),
+    ];
     let refused = broken(1, EntryList::Interfaces, 0);
-    let far = TypeId(1);
-    assert_eq!(rt; resource_of(alloc, FunctionKind::Method(far)), refused);
-    assert_eq!(rt; resource_of(alloc, FunctionKind::AsyncMethod(far)), refused);
-    assert_eq!(rt; resource_of(alloc, FunctionKind::Static(far)), refused);
-    assert_eq!(rt; resource_of(alloc, FunctionKind::AsyncStatic(far)), refused);
-    assert_eq!(rt; resource_of(alloc, FunctionKind::Constructor(far)), refused);
-    Ok(())
+    for (index, kind) in KINDS.iter().enumerate() {
+        let step = Step::Function(
+            0,
+            "f",
+            Signature {
+                kind: *kind,
+                ..TAKES
+            },
+        );
+        assert_eq!(rt; answer(rt.alloc(), &LIST, &[step]), refused, "{index}");
+    }
 }
 
 // ---- worlds
 
-// A world that imports this interface under this key.
-fn keyed(alloc: Global, key: u32, number: u32) -> Result<(), Fault> {
-    let mut resolve = draft(alloc)?;
-    let key = WorldKey::Interface(InterfaceId(key));
-    import_into(&mut resolve, 0, key, shown(number))?;
-    resolve.check(alloc)
-}
-
-fn keyed_export(alloc: Global, key: u32, number: u32) -> Result<(), Fault> {
-    let mut resolve = draft(alloc)?;
-    let key = WorldKey::Interface(InterfaceId(key));
-    export_from(&mut resolve, 0, key, shown(number))?;
-    resolve.check(alloc)
-}
+const REFUSED_WORLD: Expected = Broken(1, EntryList::Worlds, 0);
 
 // A key and an item of which one alone is in range differ, which breaks the rule on keys too.
 #[test]
-fn interfaces_under_keys(rt: HostRuntime) -> Result<(), Fail> {
-    let alloc = rt.alloc();
-    let refused = broken(1, EntryList::Worlds, 0);
-    assert_eq!(rt; keyed(alloc, 0, 0), Ok(()));
-    assert_eq!(rt; keyed(alloc, 1, 1), refused);
-    assert_eq!(rt; keyed(alloc, 1, 0), refused);
-    assert_eq!(rt; keyed(alloc, 0, 1), refused);
-    assert_eq!(rt; keyed_export(alloc, 0, 0), Ok(()));
-    assert_eq!(rt; keyed_export(alloc, 1, 1), refused);
-    Ok(())
-}
-
-fn labelled(alloc: Global, number: u32) -> Result<(), Fault> {
-    let mut resolve = draft(alloc)?;
-    import(alloc, &mut resolve, "x", shown(number))?;
-    resolve.check(alloc)
-}
-
-fn labelled_export(alloc: Global, number: u32) -> Result<(), Fault> {
-    let mut resolve = draft(alloc)?;
-    export(alloc, &mut resolve, "x", shown(number))?;
-    resolve.check(alloc)
-}
-
-#[test]
-fn interfaces_under_labels(rt: HostRuntime) -> Result<(), Fail> {
-    let alloc = rt.alloc();
-    let refused = broken(1, EntryList::Worlds, 0);
-    assert_eq!(rt; labelled(alloc, 0), Ok(()));
-    assert_eq!(rt; labelled(alloc, 1), refused);
-    assert_eq!(rt; labelled_export(alloc, 0), Ok(()));
-    assert_eq!(rt; labelled_export(alloc, u32::MAX), refused);
-    Ok(())
-}
-
-fn type_of_world(alloc: Global, is_there: bool) -> Result<(), Fault> {
-    let mut resolve = draft(alloc)?;
-    import(alloc, &mut resolve, "t", WorldItem::Type_ { id: TypeId(0) })?;
-    if is_there {
-        let kind = TypeDefKind::Type_(Type::U8);
-        add_unlisted(alloc, &mut resolve, "t", kind, WORLD)?;
-    }
-    resolve.check(alloc)
-}
-
-fn world_function_of(alloc: Global, ty: Type, answer: Option<Type>) -> Result<(), Fault> {
-    let mut resolve = draft(alloc)?;
-    add_unnamed(&mut resolve, TypeDefKind::List(Type::U8))?;
-    let item = function(alloc, "f", FREE, ty, answer)?;
-    export(alloc, &mut resolve, "f", WorldItem::Function(item))?;
-    resolve.check(alloc)
-}
-
-// It breaks the rules on functions' names and on exports too.
-fn world_resource_of(alloc: Global, kind: FunctionKind) -> Result<(), Fault> {
-    let mut resolve = draft(alloc)?;
-    let item = nullary(alloc, "f", kind, None)?;
-    export(alloc, &mut resolve, "f", WorldItem::Function(item))?;
-    resolve.check(alloc)
+fn interfaces_under_keys(rt: HostRuntime) {
+    static CASES: [Case; 6] = [
+        (&[Step::Import(0, Key::Path(0), Item::Interface(0))], Valid),
+        (
+            &[Step::Import(0, Key::Path(1), Item::Interface(1))],
+            REFUSED_WORLD,
+        ),
+        (
+            &[Step::Import(0, Key::Path(1), Item::Interface(0))],
+            REFUSED_WORLD,
+        ),
+        (
+            &[Step::Import(0, Key::Path(0), Item::Interface(1))],
+            REFUSED_WORLD,
+        ),
+        (&[Step::Export(0, Key::Path(0), Item::Interface(0))], Valid),
+        (
+            &[Step::Export(0, Key::Path(1), Item::Interface(1))],
+            REFUSED_WORLD,
+        ),
+    ];
+    assert_eq!(rt; first_wrong(rt.alloc(), &[], &CASES), None);
 }
 
 #[test]
-fn types_of_worlds(rt: HostRuntime) -> Result<(), Fail> {
-    let alloc = rt.alloc();
-    let refused = broken(1, EntryList::Worlds, 0);
-    assert_eq!(rt; type_of_world(alloc, true), Ok(()));
-    assert_eq!(rt; type_of_world(alloc, false), refused);
-    assert_eq!(rt; world_function_of(alloc, id(0), Some(id(0))), Ok(()));
-    assert_eq!(rt; world_function_of(alloc, id(1), None), refused);
-    assert_eq!(rt; world_function_of(alloc, id(0), Some(id(1))), refused);
-    assert_eq!(rt;
-        world_resource_of(alloc, FunctionKind::Static(TypeId(0))),
-        refused
-    );
-    Ok(())
+fn interfaces_under_labels(rt: HostRuntime) {
+    const LABEL: Key = Key::Name("x");
+    static CASES: [Case; 4] = [
+        (&[Step::Import(0, LABEL, Item::Interface(0))], Valid),
+        (&[Step::Import(0, LABEL, Item::Interface(1))], REFUSED_WORLD),
+        (&[Step::Export(0, LABEL, Item::Interface(0))], Valid),
+        (
+            &[Step::Export(0, LABEL, Item::Interface(u32::MAX))],
+            REFUSED_WORLD,
+        ),
+    ];
+    assert_eq!(rt; first_wrong(rt.alloc(), &[], &CASES), None);
+}
+
+const IMPORTED_TYPE: Step = Step::Import(0, Key::Name("t"), Item::Type(0));
+
+// A function of a resource that isn't there.
+const FAR_STATIC: Signature = Signature {
+    kind: FunctionKind::Static(TypeId(0)),
+    ..FUNCTION
+};
+
+const EXPORTED_STATIC: Step = Step::Export(0, Key::Name("f"), Item::Function(FAR_STATIC));
+
+// The last case breaks the rules on functions' names and on exports too.
+#[test]
+fn types_of_worlds(rt: HostRuntime) {
+    static CASES: [Case; 3] = [
+        (
+            &[IMPORTED_TYPE, Step::UnlistedType("t", NUMBER, WORLD)],
+            Valid,
+        ),
+        (&[IMPORTED_TYPE], REFUSED_WORLD),
+        (&[EXPORTED_STATIC], REFUSED_WORLD),
+    ];
+    assert_eq!(rt; first_wrong(rt.alloc(), &[], &CASES), None);
+    const F: Key = Key::Name("f");
+    static FUNCTIONS: [Case; 3] = [
+        (
+            &[Step::Export(0, F, Item::Function(TAKES_AND_GIVES))],
+            Valid,
+        ),
+        (
+            &[Step::Export(0, F, Item::Function(TAKES_FAR))],
+            REFUSED_WORLD,
+        ),
+        (
+            &[Step::Export(0, F, Item::Function(GIVES_FAR))],
+            REFUSED_WORLD,
+        ),
+    ];
+    assert_eq!(rt; first_wrong(rt.alloc(), &LIST, &FUNCTIONS), None);
 }

@@ -1,136 +1,103 @@
 //! The numbers of types are in range. A part that is out of range isn't smaller than the type's own number, so it breaks the rule
 //! on the order of types too, and where it is a handle's target or a map's key the rule on these: that on numbers is named.
 
-use crate::drafts::{
-    add_interface, add_type, add_unlisted, add_unnamed, add_world, broken, draft, import_into,
-    list_type,
-};
-use crate::kinds::{borrow_of, id, own_of, record_of, result_of, tuple_of, variant_of};
-use std::alloc::Global;
-use std::test::Fail;
-use wit_model::{
-    EntryList, Fault, InterfaceId, Type, TypeDefKind, TypeId, TypeOwner, WorldId, WorldItem,
-    WorldKey,
-};
+use crate::steps::Expected::{Broken, Valid};
+use crate::steps::{Case, Expected, Item, Key, Kind, Step, first_wrong};
+use wit_model::{EntryList, InterfaceId, Type, TypeId, TypeOwner, WorldId};
 
-// A named type of this kind, number 1, behind a list, number 0.
-fn type_of(alloc: Global, kind: TypeDefKind) -> Result<(), Fault> {
-    let mut resolve = draft(alloc)?;
-    add_unnamed(&mut resolve, TypeDefKind::List(Type::U8))?;
-    add_type(alloc, &mut resolve, "p", kind)?;
-    resolve.check(alloc)
-}
+// A list, number 0. A type `p` behind it has number 1.
+static LIST: [Step; 1] = [Step::Unnamed(Kind::List(Type::U8), TypeOwner::None)];
+
+const FAR: Type = Type::Id(TypeId(2));
+
+const REFUSED: Expected = Broken(1, EntryList::Types, 1);
 
 // A number in range that isn't smaller breaks the rule on the order of types alone.
 #[test]
-fn kinds_of_one_type(rt: HostRuntime) -> Result<(), Fail> {
-    let alloc = rt.alloc();
-    let refused = broken(1, EntryList::Types, 1);
-    assert_eq!(rt; type_of(alloc, TypeDefKind::Option(id(0))), Ok(()));
-    assert_eq!(rt;
-        type_of(alloc, TypeDefKind::Option(id(1))),
-        broken(5, EntryList::Types, 1)
-    );
-    assert_eq!(rt; type_of(alloc, TypeDefKind::Option(id(2))), refused);
-    assert_eq!(rt; type_of(alloc, TypeDefKind::List(id(2))), refused);
-    assert_eq!(rt;
-        type_of(alloc, TypeDefKind::FixedLengthList(id(2), 4)),
-        refused
-    );
-    assert_eq!(rt; type_of(alloc, TypeDefKind::Type_(id(2))), refused);
-    assert_eq!(rt; type_of(alloc, TypeDefKind::List(id(u32::MAX))), refused);
-    Ok(())
+fn kinds_of_one_type(rt: HostRuntime) {
+    const BEFORE: Kind = Kind::Option(Type::Id(TypeId(0)));
+    const ITSELF: Kind = Kind::Option(Type::Id(TypeId(1)));
+    const FARTHEST: Kind = Kind::List(Type::Id(TypeId(u32::MAX)));
+    static CASES: [Case; 7] = [
+        (&[Step::Type(0, "p", BEFORE)], Valid),
+        (
+            &[Step::Type(0, "p", ITSELF)],
+            Broken(5, EntryList::Types, 1),
+        ),
+        (&[Step::Type(0, "p", Kind::Option(FAR))], REFUSED),
+        (&[Step::Type(0, "p", Kind::List(FAR))], REFUSED),
+        (
+            &[Step::Type(0, "p", Kind::FixedLengthList(FAR, 4))],
+            REFUSED,
+        ),
+        (&[Step::Type(0, "p", Kind::Alias(FAR))], REFUSED),
+        (&[Step::Type(0, "p", FARTHEST)], REFUSED),
+    ];
+    assert_eq!(rt; first_wrong(rt.alloc(), &LIST, &CASES), None);
 }
 
 #[test]
-fn futures_streams_and_handles(rt: HostRuntime) -> Result<(), Fail> {
-    let alloc = rt.alloc();
-    let refused = broken(1, EntryList::Types, 1);
-    assert_eq!(rt; type_of(alloc, TypeDefKind::Future(Some(id(2)))), refused);
-    assert_eq!(rt; type_of(alloc, TypeDefKind::Stream(Some(id(2)))), refused);
-    assert_eq!(rt; type_of(alloc, own_of(2)), refused);
-    assert_eq!(rt; type_of(alloc, borrow_of(2)), refused);
-    Ok(())
+fn futures_streams_and_handles(rt: HostRuntime) {
+    static CASES: [Case; 4] = [
+        (&[Step::Type(0, "p", Kind::Future(Some(FAR)))], REFUSED),
+        (&[Step::Type(0, "p", Kind::Stream(Some(FAR)))], REFUSED),
+        (&[Step::Type(0, "p", Kind::Own(2))], REFUSED),
+        (&[Step::Type(0, "p", Kind::Borrow(2))], REFUSED),
+    ];
+    assert_eq!(rt; first_wrong(rt.alloc(), &LIST, &CASES), None);
 }
 
 #[test]
-fn kinds_of_two_types(rt: HostRuntime) -> Result<(), Fail> {
-    let alloc = rt.alloc();
-    let refused = broken(1, EntryList::Types, 1);
-    assert_eq!(rt; type_of(alloc, TypeDefKind::Map(Type::U8, id(2))), refused);
-    assert_eq!(rt; type_of(alloc, TypeDefKind::Map(id(2), Type::U8)), refused);
-    assert_eq!(rt; type_of(alloc, result_of(Some(id(2)), None)), refused);
-    assert_eq!(rt;
-        type_of(alloc, result_of(Some(Type::U8), Some(id(2)))),
-        refused
-    );
-    Ok(())
-}
-
-fn record(alloc: Global) -> Result<(), Fault> {
-    type_of(alloc, record_of(alloc, &["x"], id(2))?)
-}
-
-fn variant(alloc: Global) -> Result<(), Fault> {
-    type_of(alloc, variant_of(alloc, &["x"], Some(id(2)))?)
-}
-
-fn tuple(alloc: Global) -> Result<(), Fault> {
-    type_of(alloc, tuple_of(alloc, &[Type::U8, id(2)])?)
+fn kinds_of_two_types(rt: HostRuntime) {
+    const OK: Kind = Kind::Result(Some(FAR), None);
+    const ERR: Kind = Kind::Result(Some(Type::U8), Some(FAR));
+    static CASES: [Case; 4] = [
+        (&[Step::Type(0, "p", Kind::Map(Type::U8, FAR))], REFUSED),
+        (&[Step::Type(0, "p", Kind::Map(FAR, Type::U8))], REFUSED),
+        (&[Step::Type(0, "p", OK)], REFUSED),
+        (&[Step::Type(0, "p", ERR)], REFUSED),
+    ];
+    assert_eq!(rt; first_wrong(rt.alloc(), &LIST, &CASES), None);
 }
 
 #[test]
-fn kinds_of_lists_of_types(rt: HostRuntime) -> Result<(), Fail> {
-    let refused = broken(1, EntryList::Types, 1);
-    assert_eq!(rt; record(rt.alloc()), refused);
-    assert_eq!(rt; variant(rt.alloc()), refused);
-    assert_eq!(rt; tuple(rt.alloc()), refused);
-    Ok(())
+fn kinds_of_lists_of_types(rt: HostRuntime) {
+    const RECORD: Kind = Kind::Record(&["x"], FAR);
+    const VARIANT: Kind = Kind::Variant(&["x"], Some(FAR));
+    const TUPLE: Kind = Kind::Tuple(&[Type::U8, FAR]);
+    static CASES: [Case; 3] = [
+        (&[Step::Type(0, "p", RECORD)], REFUSED),
+        (&[Step::Type(0, "p", VARIANT)], REFUSED),
+        (&[Step::Type(0, "p", TUPLE)], REFUSED),
+    ];
+    assert_eq!(rt; first_wrong(rt.alloc(), &LIST, &CASES), None);
 }
 
 // ---- owners, which alone break this rule alone
 
-fn of_interface(alloc: Global, is_there: bool) -> Result<(), Fault> {
-    let mut resolve = draft(alloc)?;
-    let owner = TypeOwner::Interface(InterfaceId(1));
-    add_unlisted(
-        alloc,
-        &mut resolve,
-        "t",
-        TypeDefKind::Type_(Type::U8),
-        owner,
-    )?;
-    if is_there {
-        add_interface(alloc, &mut resolve, "j")?;
-        list_type(alloc, &mut resolve, 1, "t", TypeId(0))?;
-    }
-    resolve.check(alloc)
-}
+const NUMBER: Kind = Kind::Alias(Type::U8);
 
-fn of_world(alloc: Global, is_there: bool) -> Result<(), Fault> {
-    let mut resolve = draft(alloc)?;
-    let owner = TypeOwner::World(WorldId(1));
-    add_unlisted(
-        alloc,
-        &mut resolve,
-        "t",
-        TypeDefKind::Type_(Type::U8),
-        owner,
-    )?;
-    if is_there {
-        add_world(alloc, &mut resolve, "v")?;
-        let key = WorldKey::Name(String::from_str(alloc, "t")?);
-        import_into(&mut resolve, 1, key, WorldItem::Type_ { id: TypeId(0) })?;
-    }
-    resolve.check(alloc)
-}
+const OF_INTERFACE: Step = Step::UnlistedType("t", NUMBER, TypeOwner::Interface(InterfaceId(1)));
+
+const OF_WORLD: Step = Step::UnlistedType("t", NUMBER, TypeOwner::World(WorldId(1)));
+
+const IMPORTED: Step = Step::Import(1, Key::Name("t"), Item::Type(0));
 
 #[test]
-fn owners_of_types(rt: HostRuntime) -> Result<(), Fail> {
-    let refused = broken(1, EntryList::Types, 0);
-    assert_eq!(rt; of_interface(rt.alloc(), true), Ok(()));
-    assert_eq!(rt; of_interface(rt.alloc(), false), refused);
-    assert_eq!(rt; of_world(rt.alloc(), true), Ok(()));
-    assert_eq!(rt; of_world(rt.alloc(), false), refused);
-    Ok(())
+fn owners_of_types(rt: HostRuntime) {
+    const REFUSED: Expected = Broken(1, EntryList::Types, 0);
+    static CASES: [Case; 4] = [
+        (
+            &[
+                OF_INTERFACE,
+                Step::Interface("j"),
+                Step::ListType(1, "t", 0),
+            ],
+            Valid,
+        ),
+        (&[OF_INTERFACE], REFUSED),
+        (&[OF_WORLD, Step::World("v"), IMPORTED], Valid),
+        (&[OF_WORLD], REFUSED),
+    ];
+    assert_eq!(rt; first_wrong(rt.alloc(), &[], &CASES), None);
 }

@@ -1,125 +1,104 @@
 //! Resources stand as targets of handles and of aliases alone, and the targets of handles are resources.
 
-use crate::drafts::{
-    add_function, add_type, add_unnamed, add_world_function, add_world_type, broken, draft,
-    nullary, put_function,
+use crate::steps::Expected::{Broken, Valid};
+use crate::steps::{Case, Expected, FUNCTION, Item, Key, Kind, Signature, Step, first_wrong};
+use wit_model::{EntryList, Type, TypeId, TypeOwner};
+
+const R: Type = Type::Id(TypeId(0));
+
+const S: Type = Type::Id(TypeId(1));
+
+// Resource r is number 0, and s is an alias of it. A type `p` behind them has number 2.
+static RESOURCE: [Step; 2] = [
+    Step::Type(0, "r", Kind::Resource),
+    Step::Type(0, "s", Kind::Alias(R)),
+];
+
+const REFUSED: Expected = Broken(9, EntryList::Types, 2);
+
+// A function that takes an own of s.
+const TAKES_OWN: Signature = Signature {
+    first: Some(("x", Type::Id(TypeId(3)))),
+    ..FUNCTION
 };
-use crate::kinds::{alias_of, borrow_of, id, own_of, record_of, result_of, tuple_of, variant_of};
-use std::alloc::{AllocError, Global};
-use std::test::Fail;
-use wit_model::{EntryList, Fault, FunctionKind, Resolve, Type, TypeDefKind};
 
-// Resource r is number 0, and s is an alias of it.
-fn with_resource(alloc: Global) -> Result<Resolve, AllocError> {
-    let mut resolve = draft(alloc)?;
-    add_type(alloc, &mut resolve, "r", TypeDefKind::Resource)?;
-    add_type(alloc, &mut resolve, "s", alias_of(0))?;
-    Ok(resolve)
-}
+const HANDLES: [Step; 3] = [
+    Step::Unnamed(Kind::Own(0), TypeOwner::None),
+    Step::Unnamed(Kind::Own(1), TypeOwner::None),
+    Step::Function(0, "f", TAKES_OWN),
+];
 
-fn handles_of_resources(alloc: Global) -> Result<(), Fault> {
-    let mut resolve = with_resource(alloc)?;
-    add_unnamed(&mut resolve, own_of(0))?;
-    add_unnamed(&mut resolve, own_of(1))?;
-    add_function(alloc, &mut resolve, id(3))?;
-    resolve.check(alloc)
-}
-
-// A named type 2 of this kind.
-fn in_kind(alloc: Global, kind: TypeDefKind) -> Result<(), Fault> {
-    let mut resolve = with_resource(alloc)?;
-    add_type(alloc, &mut resolve, "p", kind)?;
-    resolve.check(alloc)
-}
-
-fn in_record(alloc: Global) -> Result<(), Fault> {
-    in_kind(alloc, record_of(alloc, &["a"], id(0))?)
-}
-
-fn in_variant(alloc: Global) -> Result<(), Fault> {
-    in_kind(alloc, variant_of(alloc, &["a"], Some(id(0)))?)
-}
-
-fn in_tuple(alloc: Global) -> Result<(), Fault> {
-    in_kind(alloc, tuple_of(alloc, &[Type::U8, id(1)])?)
+#[test]
+fn resources_in_types(rt: HostRuntime) {
+    const VARIANT: Kind = Kind::Variant(&["a"], Some(R));
+    const TUPLE: Kind = Kind::Tuple(&[Type::U8, S]);
+    static CASES: [Case; 6] = [
+        (&HANDLES, Valid),
+        (&[Step::Type(0, "p", Kind::List(R))], REFUSED),
+        (&[Step::Type(0, "p", Kind::List(S))], REFUSED),
+        (&[Step::Type(0, "p", Kind::Record(&["a"], R))], REFUSED),
+        (&[Step::Type(0, "p", VARIANT)], REFUSED),
+        (&[Step::Type(0, "p", TUPLE)], REFUSED),
+    ];
+    assert_eq!(rt; first_wrong(rt.alloc(), &RESOURCE, &CASES), None);
 }
 
 #[test]
-fn resources_in_types(rt: HostRuntime) -> Result<(), Fail> {
-    let alloc = rt.alloc();
-    let refused = broken(9, EntryList::Types, 2);
-    assert_eq!(rt; handles_of_resources(alloc), Ok(()));
-    assert_eq!(rt; in_kind(alloc, TypeDefKind::List(id(0))), refused);
-    assert_eq!(rt; in_kind(alloc, TypeDefKind::List(id(1))), refused);
-    assert_eq!(rt; in_record(alloc), refused);
-    assert_eq!(rt; in_variant(alloc), refused);
-    assert_eq!(rt; in_tuple(alloc), refused);
-    Ok(())
+fn resources_in_unnamed_kinds(rt: HostRuntime) {
+    static CASES: [Case; 6] = [
+        (&[Step::Type(0, "p", Kind::Option(R))], REFUSED),
+        (&[Step::Type(0, "p", Kind::Result(None, Some(R)))], REFUSED),
+        (&[Step::Type(0, "p", Kind::Map(Type::U8, R))], REFUSED),
+        (&[Step::Type(0, "p", Kind::FixedLengthList(R, 1))], REFUSED),
+        (&[Step::Type(0, "p", Kind::Future(Some(R)))], REFUSED),
+        (&[Step::Type(0, "p", Kind::Stream(Some(R)))], REFUSED),
+    ];
+    assert_eq!(rt; first_wrong(rt.alloc(), &RESOURCE, &CASES), None);
 }
+
+const TAKES_S: Signature = Signature {
+    first: Some(("x", S)),
+    ..FUNCTION
+};
+
+const GIVES_R: Signature = Signature {
+    answer: Some(R),
+    ..FUNCTION
+};
+
+const TAKES_R: Signature = Signature {
+    first: Some(("x", R)),
+    ..FUNCTION
+};
+
+const IMPORTED_TAKES_R: Step = Step::Import(0, Key::Name("f"), Item::Function(TAKES_R));
 
 #[test]
-fn resources_in_unnamed_kinds(rt: HostRuntime) -> Result<(), Fail> {
-    let alloc = rt.alloc();
-    let refused = broken(9, EntryList::Types, 2);
-    assert_eq!(rt; in_kind(alloc, TypeDefKind::Option(id(0))), refused);
-    assert_eq!(rt; in_kind(alloc, result_of(None, Some(id(0)))), refused);
-    assert_eq!(rt; in_kind(alloc, TypeDefKind::Map(Type::U8, id(0))), refused);
-    assert_eq!(rt;
-        in_kind(alloc, TypeDefKind::FixedLengthList(id(0), 1)),
-        refused
-    );
-    assert_eq!(rt; in_kind(alloc, TypeDefKind::Future(Some(id(0)))), refused);
-    assert_eq!(rt; in_kind(alloc, TypeDefKind::Stream(Some(id(0)))), refused);
-    Ok(())
+fn resources_in_functions(rt: HostRuntime) {
+    const REFUSED: Expected = Broken(9, EntryList::Interfaces, 0);
+    static CASES: [Case; 2] = [
+        (&[Step::Function(0, "f", TAKES_S)], REFUSED),
+        (&[Step::Function(0, "f", GIVES_R)], REFUSED),
+    ];
+    assert_eq!(rt; first_wrong(rt.alloc(), &RESOURCE, &CASES), None);
+    static OF_WORLD: [Case; 1] = [(
+        &[Step::WorldType("r", Kind::Resource), IMPORTED_TAKES_R],
+        Broken(9, EntryList::Worlds, 0),
+    )];
+    assert_eq!(rt; first_wrong(rt.alloc(), &[], &OF_WORLD), None);
 }
 
-fn as_parameter(alloc: Global) -> Result<(), Fault> {
-    let mut resolve = with_resource(alloc)?;
-    add_function(alloc, &mut resolve, id(1))?;
-    resolve.check(alloc)
-}
+const OWN: Step = Step::Unnamed(Kind::Own(0), TypeOwner::None);
 
-fn as_result(alloc: Global) -> Result<(), Fault> {
-    let mut resolve = with_resource(alloc)?;
-    let item = nullary(alloc, "f", FunctionKind::Freestanding, Some(id(0)))?;
-    put_function(alloc, &mut resolve, 0, "f", item)?;
-    resolve.check(alloc)
-}
-
-fn as_world_parameter(alloc: Global) -> Result<(), Fault> {
-    let mut resolve = draft(alloc)?;
-    add_world_type(alloc, &mut resolve, "r", TypeDefKind::Resource)?;
-    add_world_function(alloc, &mut resolve, id(0))?;
-    resolve.check(alloc)
-}
+const BORROW: Step = Step::Unnamed(Kind::Borrow(0), TypeOwner::None);
 
 #[test]
-fn resources_in_functions(rt: HostRuntime) -> Result<(), Fail> {
-    let refused = broken(9, EntryList::Interfaces, 0);
-    assert_eq!(rt; as_parameter(rt.alloc()), refused);
-    assert_eq!(rt; as_result(rt.alloc()), refused);
-    assert_eq!(rt;
-        as_world_parameter(rt.alloc()),
-        broken(9, EntryList::Worlds, 0)
-    );
-    Ok(())
-}
-
-fn handle_of(alloc: Global, target: TypeDefKind, handle: TypeDefKind) -> Result<(), Fault> {
-    let mut resolve = draft(alloc)?;
-    add_type(alloc, &mut resolve, "t", target)?;
-    add_unnamed(&mut resolve, handle)?;
-    resolve.check(alloc)
-}
-
-#[test]
-fn targets_of_handles(rt: HostRuntime) -> Result<(), Fail> {
-    let alloc = rt.alloc();
-    let refused = broken(9, EntryList::Types, 1);
-    let number = TypeDefKind::Type_(Type::U8);
-    assert_eq!(rt; handle_of(alloc, TypeDefKind::Resource, own_of(0)), Ok(()));
-    assert_eq!(rt; handle_of(alloc, number, own_of(0)), refused);
-    let list = TypeDefKind::List(Type::U8);
-    assert_eq!(rt; handle_of(alloc, list, borrow_of(0)), refused);
-    Ok(())
+fn targets_of_handles(rt: HostRuntime) {
+    const REFUSED: Expected = Broken(9, EntryList::Types, 1);
+    static CASES: [Case; 3] = [
+        (&[Step::Type(0, "t", Kind::Resource), OWN], Valid),
+        (&[Step::Type(0, "t", Kind::Alias(Type::U8)), OWN], REFUSED),
+        (&[Step::Type(0, "t", Kind::List(Type::U8)), BORROW], REFUSED),
+    ];
+    assert_eq!(rt; first_wrong(rt.alloc(), &[], &CASES), None);
 }

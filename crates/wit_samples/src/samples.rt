@@ -62,29 +62,36 @@ pub fn each_kind(alloc: Global) -> Result<Resolve, AllocError> {
     Ok(resolve)
 }
 
-/// Options around `u8`, each of the one before: the last has this many unnamed levels, at least one.
-pub fn with_options(alloc: Global, levels: u32) -> Result<Resolve, AllocError> {
-    let mut resolve = draft(alloc)?;
-    add_unnamed(&mut resolve, TypeDefKind::Option(Type::U8))?;
-    for number in 1..levels {
-        add_unnamed(&mut resolve, TypeDefKind::Option(id(number - 1)))?;
-    }
-    Ok(resolve)
-}
-
 // The type of the last number.
 fn last(resolve: &Resolve) -> Type {
     let count = u32::try_from(resolve.types.len()).unwrap_or(u32::MAX);
     id(count.saturating_sub(1))
 }
 
-// Nine lists around the last type, each of the one before.
-fn add_lists(resolve: &mut Resolve) -> Result<(), AllocError> {
-    for _ in 0..9_u32 {
+/// Options around `u8`, each of the one before: the last has this many unnamed levels, at least one.
+pub fn add_options(resolve: &mut Resolve, levels: u32) -> Result<(), AllocError> {
+    add_unnamed(resolve, TypeDefKind::Option(Type::U8))?;
+    for _ in 1..levels {
+        let before = last(resolve);
+        add_unnamed(resolve, TypeDefKind::Option(before))?;
+    }
+    Ok(())
+}
+
+/// So many lists around the last type, each of the one before.
+pub fn add_lists(resolve: &mut Resolve, lists: u32) -> Result<(), AllocError> {
+    for _ in 0..lists {
         let before = last(resolve);
         add_unnamed(resolve, TypeDefKind::List(before))?;
     }
     Ok(())
+}
+
+/// So many options around `u8`, at least one.
+pub fn with_options(alloc: Global, levels: u32) -> Result<Resolve, AllocError> {
+    let mut resolve = draft(alloc)?;
+    add_options(&mut resolve, levels)?;
+    Ok(resolve)
 }
 
 /// So many records, each but the first with a field of nine lists around the one before: ten types for each.
@@ -95,7 +102,7 @@ pub fn records_in_plenty(alloc: Global, records: u32) -> Result<Resolve, AllocEr
         let name = format!(in alloc; "t{count}")?;
         let kind = record_of(alloc, &["a"], ty)?;
         add_type(alloc, &mut resolve, &name, kind)?;
-        add_lists(&mut resolve)?;
+        add_lists(&mut resolve, 9)?;
         ty = last(&resolve);
     }
     Ok(resolve)
