@@ -5,6 +5,7 @@ use crate::drafts::{
     put_function, world,
 };
 use std::alloc::{AllocError, Global};
+use std::process::Abort;
 use wit_model::{
     EntryList, Fault, FunctionKind, InterfaceId, Resolve, Stability, Type, TypeDef, TypeDefKind,
     TypeOwner, WorldId, WorldItem,
@@ -108,31 +109,42 @@ fn answer(alloc: Global, place: Place, feature: &str) -> Result<(), Fault> {
     resolve.check(alloc)
 }
 
-// A feature `f` is valid, and one of this name isn't: it breaks the rule in this entry.
+// Asserts that a feature `f` is valid there, and that one of this name breaks the rule in this entry.
+fn assert_label(
+    rt: &impl Abort,
+    alloc: Global,
+    place: Place,
+    wrong: &str,
+    list: EntryList,
+    number: usize,
+) {
+    assert_eq!(rt; answer(alloc, place, "f"), Ok(()), "beside {wrong}");
+    assert_eq!(rt;
+        answer(alloc, place, wrong),
+        broken(4, list, number),
+        "{wrong}"
+    );
+}
+
 #[test]
 fn features_of_entries(rt: HostRuntime) {
-    static ROWS: [(Place, &str, EntryList, usize); 3] = [
-        (Place::Interface, "", EntryList::Interfaces, 1),
-        (Place::World, "1f", EntryList::Worlds, 1),
-        (Place::Type, "f_g", EntryList::Types, 0),
-    ];
-    for (place, wrong, list, number) in ROWS {
-        let refused = broken(4, list, number);
-        assert_eq!(rt; answer(rt.alloc(), place, "f"), Ok(()), "{wrong}");
-        assert_eq!(rt; answer(rt.alloc(), place, wrong), refused, "{wrong}");
-    }
+    let alloc = rt.alloc();
+    assert_label(&rt, alloc, Place::Interface, "", EntryList::Interfaces, 1);
+    assert_label(&rt, alloc, Place::World, "1f", EntryList::Worlds, 1);
+    assert_label(&rt, alloc, Place::Type, "f_g", EntryList::Types, 0);
 }
 
 #[test]
 fn features_of_functions_and_items(rt: HostRuntime) {
-    static ROWS: [(Place, &str, EntryList); 3] = [
-        (Place::Function, "f!", EntryList::Interfaces),
-        (Place::ImportedFunction, "f!", EntryList::Worlds),
-        (Place::Item, "f!", EntryList::Worlds),
-    ];
-    for (index, (place, wrong, list)) in ROWS.iter().enumerate() {
-        let refused = broken(4, *list, 0);
-        assert_eq!(rt; answer(rt.alloc(), *place, "f"), Ok(()), "{index}");
-        assert_eq!(rt; answer(rt.alloc(), *place, *wrong), refused, "{index}");
-    }
+    let alloc = rt.alloc();
+    assert_label(&rt, alloc, Place::Function, "f!", EntryList::Interfaces, 0);
+    assert_label(
+        &rt,
+        alloc,
+        Place::ImportedFunction,
+        "f!",
+        EntryList::Worlds,
+        0,
+    );
+    assert_label(&rt, alloc, Place::Item, "f!", EntryList::Worlds, 0);
 }

@@ -2,7 +2,7 @@
 
 use crate::drafts::WORLD;
 use crate::steps::Expected::{Broken, Valid};
-use crate::steps::{Case, Expected, FUNCTION, Item, Key, Kind, Signature, Step, first_wrong};
+use crate::steps::{Case, Expected, FUNCTION, Item, Key, Kind, Signature, Step, assert_answers};
 use wit_model::{EntryList, FunctionKind, PackageId, Type, TypeId, TypeOwner};
 
 const REFUSED: Expected = Broken(13, EntryList::Worlds, 0);
@@ -41,7 +41,7 @@ fn an_interface_stands_after_those_that_it_uses(rt: HostRuntime) {
         (&[USER, BASE], REFUSED),
         (&[USER], REFUSED),
     ];
-    assert_eq!(rt; first_wrong(rt.alloc(), &TWO_INTERFACES, &CASES), None);
+    assert_answers(&rt, rt.alloc(), &TWO_INTERFACES, &CASES);
 }
 
 #[test]
@@ -51,7 +51,7 @@ fn an_interface_under_a_label_stands_too(rt: HostRuntime) {
         (&[BASE, LABELLED_USER], Valid),
         (&[LABELLED_USER, BASE], REFUSED),
     ];
-    assert_eq!(rt; first_wrong(rt.alloc(), &TWO_INTERFACES, &CASES), None);
+    assert_answers(&rt, rt.alloc(), &TWO_INTERFACES, &CASES);
 }
 
 #[test]
@@ -62,7 +62,7 @@ fn exports_stand_after_imports(rt: HostRuntime) {
         (&[USER, EXPORTED_BASE], REFUSED),
         (&[EXPORTED_USER, EXPORTED_BASE], REFUSED),
     ];
-    assert_eq!(rt; first_wrong(rt.alloc(), &TWO_INTERFACES, &CASES), None);
+    assert_answers(&rt, rt.alloc(), &TWO_INTERFACES, &CASES);
 }
 
 // World `v`, and its imports.
@@ -81,7 +81,7 @@ fn each_world_shows_its_own_interfaces(rt: HostRuntime) {
         (&[OTHER_WORLD, OTHER_USER], REFUSED),
         (&[OTHER_WORLD, BASE, OTHER_USER], REFUSED),
     ];
-    assert_eq!(rt; first_wrong(rt.alloc(), &TWO_INTERFACES, &CASES), None);
+    assert_answers(&rt, rt.alloc(), &TWO_INTERFACES, &CASES);
 }
 
 // world w { use i.{t}; }
@@ -105,7 +105,7 @@ fn a_use_stands_after_its_interface(rt: HostRuntime) {
         (&[INLINE, USE_IN_INLINE, BASE, INLINE_SHOWN], Valid),
         (&[INLINE, USE_IN_INLINE, INLINE_SHOWN, BASE], REFUSED),
     ];
-    assert_eq!(rt; first_wrong(rt.alloc(), &TWO_INTERFACES, &CASES), None);
+    assert_answers(&rt, rt.alloc(), &TWO_INTERFACES, &CASES);
 }
 
 // ---- types of the world
@@ -136,7 +136,7 @@ fn a_function_stands_after_its_types(rt: HostRuntime) {
         (&[T, EXPORTED_TAKE], Valid),
         (&[IMPORTED_TAKE, T], REFUSED),
     ];
-    assert_eq!(rt; first_wrong(rt.alloc(), &LIST, &CASES), None);
+    assert_answers(&rt, rt.alloc(), &LIST, &CASES);
 }
 
 // resource r;
@@ -156,7 +156,7 @@ const IMPORTED_MAKE: Step = Step::Import(0, Key::Name("[static]r.make"), Item::F
 #[test]
 fn a_function_stands_after_its_resource(rt: HostRuntime) {
     static CASES: [Case; 2] = [(&[R, IMPORTED_MAKE], Valid), (&[IMPORTED_MAKE, R], REFUSED)];
-    assert_eq!(rt; first_wrong(rt.alloc(), &RESOURCE, &CASES), None);
+    assert_answers(&rt, rt.alloc(), &RESOURCE, &CASES);
 }
 
 // type a = u8;  type b = a;
@@ -173,5 +173,5 @@ const B: Step = Step::Import(0, Key::Name("b"), Item::Type(1));
 #[test]
 fn a_type_stands_after_those_that_it_uses(rt: HostRuntime) {
     static CASES: [Case; 2] = [(&[A, B], Valid), (&[B, A], Broken(5, EntryList::Worlds, 0))];
-    assert_eq!(rt; first_wrong(rt.alloc(), &TWO_TYPES, &CASES), None);
+    assert_answers(&rt, rt.alloc(), &TWO_TYPES, &CASES);
 }

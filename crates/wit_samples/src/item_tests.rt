@@ -2,7 +2,7 @@
 
 use crate::drafts::WORLD;
 use crate::steps::Expected::{Broken, Valid};
-use crate::steps::{Case, Expected, FUNCTION, Item, Key, Kind, Signature, Step, first_wrong};
+use crate::steps::{Case, Expected, FUNCTION, Item, Key, Kind, Signature, Step, assert_answers};
 use wit_model::{EntryList, FunctionKind, PackageId, Type, TypeId};
 
 const NUMBER: Kind = Kind::Alias(Type::U8);
@@ -38,7 +38,7 @@ fn interface_keys(rt: HostRuntime) {
         (&[INLINE, IMPORTED_INLINE], REFUSED),
         (&[INLINE, EXPORTED_INLINE], REFUSED),
     ];
-    assert_eq!(rt; first_wrong(rt.alloc(), &[], &CASES), None);
+    assert_answers(&rt, rt.alloc(), &[], &CASES);
 }
 
 // They don't stand under their names: a function breaks the rule on functions' names too, and a type that on the order of types.
@@ -58,7 +58,7 @@ fn other_items_under_interface_keys(rt: HostRuntime) {
             Broken(5, EntryList::Types, 0),
         ),
     ];
-    assert_eq!(rt; first_wrong(rt.alloc(), &[], &CASES), None);
+    assert_answers(&rt, rt.alloc(), &[], &CASES);
 }
 
 // ---- types and exports
@@ -87,7 +87,7 @@ fn types_are_imports_of_the_world(rt: HostRuntime) {
             Broken(12, EntryList::Worlds, 0),
         ),
     ];
-    assert_eq!(rt; first_wrong(rt.alloc(), &[], &CASES), None);
+    assert_answers(&rt, rt.alloc(), &[], &CASES);
 }
 
 // Resource `r` of the world.
@@ -110,7 +110,7 @@ fn exports_are_interfaces_and_functions(rt: HostRuntime) {
         (&[IMPORTED_MEMBER], Valid),
         (&[EXPORTED_MEMBER], Broken(12, EntryList::Worlds, 0)),
     ];
-    assert_eq!(rt; first_wrong(rt.alloc(), &RESOURCE, &CASES), None);
+    assert_answers(&rt, rt.alloc(), &RESOURCE, &CASES);
 }
 
 // ---- names in packages
@@ -134,5 +134,5 @@ fn names_in_packages(rt: HostRuntime) {
             Broken(3, EntryList::Packages, 0),
         ),
     ];
-    assert_eq!(rt; first_wrong(rt.alloc(), &[], &CASES), None);
+    assert_answers(&rt, rt.alloc(), &[], &CASES);
 }

@@ -1,7 +1,7 @@
 //! Names are labels, and those of one list are distinct.
 
 use crate::steps::Expected::{Broken, Valid};
-use crate::steps::{Case, Expected, FUNCTION, Item, Key, Kind, Signature, Step, first_wrong};
+use crate::steps::{Case, Expected, FUNCTION, Item, Key, Kind, Signature, Step, assert_answers};
 use wit_model::{EntryList, FunctionKind, Type, TypeId};
 
 const NUMBER: Kind = Kind::Alias(Type::U8);
@@ -22,7 +22,7 @@ fn names_of_entries(rt: HostRuntime) {
             Broken(4, EntryList::Types, 0),
         ),
     ];
-    assert_eq!(rt; first_wrong(rt.alloc(), &[], &CASES), None);
+    assert_answers(&rt, rt.alloc(), &[], &CASES);
 }
 
 // ---- functions
@@ -56,7 +56,7 @@ fn names_of_functions(rt: HostRuntime) {
         (&[Step::Function(0, "Fg", MIXED_CASE)], REFUSED),
         (&[Step::Function(0, "[static]r.f", STATIC)], Valid),
     ];
-    assert_eq!(rt; first_wrong(rt.alloc(), &RESOURCE, &CASES), None);
+    assert_answers(&rt, rt.alloc(), &RESOURCE, &CASES);
 }
 
 // `f: func(x: u8)`
@@ -97,7 +97,7 @@ fn names_of_parameters(rt: HostRuntime) {
             Broken(4, EntryList::Worlds, 0),
         ),
     ];
-    assert_eq!(rt; first_wrong(rt.alloc(), &[], &CASES), None);
+    assert_answers(&rt, rt.alloc(), &[], &CASES);
 }
 
 // An interface with the function `f` and a type.
@@ -111,7 +111,7 @@ fn a_type_and_a_function(rt: HostRuntime) {
             Broken(4, EntryList::Interfaces, 0),
         ),
     ];
-    assert_eq!(rt; first_wrong(rt.alloc(), &BESIDE, &CASES), None);
+    assert_answers(&rt, rt.alloc(), &BESIDE, &CASES);
 }
 
 // ---- keys of worlds
@@ -143,7 +143,7 @@ fn keys_of_worlds(rt: HostRuntime) {
         (&[INTERFACE], Valid),
         (&[INTERFACE_UNDER_A_PATH], REFUSED_WORLD),
     ];
-    assert_eq!(rt; first_wrong(rt.alloc(), &[], &CASES), None);
+    assert_answers(&rt, rt.alloc(), &[], &CASES);
 }
 
 const EXPORT: Step = Step::Export(0, Key::Name("x"), Item::Interface(0));
@@ -159,7 +159,7 @@ fn keys_of_exports_and_types(rt: HostRuntime) {
         (&[Step::WorldType("t", NUMBER)], Valid),
         (&[Step::WorldType("t-", NUMBER)], REFUSED_WORLD),
     ];
-    assert_eq!(rt; first_wrong(rt.alloc(), &[], &CASES), None);
+    assert_answers(&rt, rt.alloc(), &[], &CASES);
 }
 
 // ---- fields, cases and flags
@@ -188,7 +188,7 @@ fn names_of_fields_and_cases(rt: HostRuntime) {
             REFUSED_TYPE,
         ),
     ];
-    assert_eq!(rt; first_wrong(rt.alloc(), &[], &CASES), None);
+    assert_answers(&rt, rt.alloc(), &[], &CASES);
 }
 
 #[test]
@@ -210,5 +210,5 @@ fn names_of_cases_of_enums_and_flags(rt: HostRuntime) {
             REFUSED_TYPE,
         ),
     ];
-    assert_eq!(rt; first_wrong(rt.alloc(), &[], &CASES), None);
+    assert_answers(&rt, rt.alloc(), &[], &CASES);
 }

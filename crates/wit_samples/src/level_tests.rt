@@ -1,7 +1,7 @@
 //! Value types have at most 100 unnamed levels where they stand.
 
 use crate::steps::Expected::{Broken, Valid};
-use crate::steps::{Case, Expected, FUNCTION, Item, Key, Kind, Signature, Step, first_wrong};
+use crate::steps::{Case, Expected, FUNCTION, Item, Key, Kind, Signature, Step, assert_answers};
 use wit_model::{EntryList, Type, TypeId, TypeOwner};
 
 const REFUSED: Expected = Broken(10, EntryList::Interfaces, 0);
@@ -13,7 +13,7 @@ fn parts_of_types(rt: HostRuntime) {
         (&[Step::Options(101)], Valid),
         (&[Step::Options(102)], Broken(10, EntryList::Types, 101)),
     ];
-    assert_eq!(rt; first_wrong(rt.alloc(), &[], &CASES), None);
+    assert_answers(&rt, rt.alloc(), &[], &CASES);
 }
 
 // `f: func(x: PARAM)`, the type by number.
@@ -60,7 +60,7 @@ fn parameters_and_results(rt: HostRuntime) {
             Broken(10, EntryList::Worlds, 0),
         ),
     ];
-    assert_eq!(rt; first_wrong(rt.alloc(), &OPTIONS, &CASES), None);
+    assert_answers(&rt, rt.alloc(), &OPTIONS, &CASES);
 }
 
 // ---- where levels begin
@@ -90,7 +90,7 @@ fn where_levels_begin(rt: HostRuntime) {
             REFUSED,
         ),
     ];
-    assert_eq!(rt; first_wrong(rt.alloc(), &[], &CASES), None);
+    assert_answers(&rt, rt.alloc(), &[], &CASES);
 }
 
 // A result whose ok is `u8` and whose err has 99 levels, and 100.
@@ -117,5 +117,5 @@ fn the_deepest_part_counts(rt: HostRuntime) {
             REFUSED,
         ),
     ];
-    assert_eq!(rt; first_wrong(rt.alloc(), &OPTIONS, &CASES), None);
+    assert_answers(&rt, rt.alloc(), &OPTIONS, &CASES);
 }

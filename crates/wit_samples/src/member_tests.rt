@@ -2,10 +2,11 @@
 
 use crate::steps::Expected::{Broken, Valid};
 use crate::steps::{
-    Case, Expected, FUNCTION, Item, Key, Kind, Signature, Step, answer, first_wrong,
+    Case, Expected, FUNCTION, Item, Key, Kind, Signature, Step, assert_answer, assert_answers,
 };
 use std::alloc::Global;
-use wit_model::{EntryList, Fault, FunctionKind, Type, TypeId, TypeOwner};
+use std::process::Abort;
+use wit_model::{EntryList, FunctionKind, Type, TypeId, TypeOwner};
 
 // The types by number.
 const R: TypeId = TypeId(0);
@@ -76,27 +77,19 @@ const CONSTRUCTOR: Signature = Signature {
     ..FUNCTION
 };
 
-// The first of these functions for which `check` doesn't answer this where it stands in interface `i` under its name.
-fn first_not(
-    alloc: Global,
-    functions: &[Signature],
-    expected: Result<(), Fault>,
-) -> Option<(usize, Result<(), Fault>)> {
-    for (index, function) in functions.iter().enumerate() {
-        let step = Step::Function(0, function.name, *function);
-        let answered = answer(alloc, &TYPES, &[step]);
-        if answered != expected {
-            return Some((index, answered));
-        }
-    }
-    None
-}
+const REFUSED: Expected = Broken(11, EntryList::Interfaces, 0);
 
-const REFUSED: Result<(), Fault> = Err(Fault::Broken {
-    rule: 11,
-    list: EntryList::Interfaces,
-    number: 0,
-});
+// Asserts what `check` answers where the function stands in interface `i` under its name.
+fn assert_member(
+    rt: &impl Abort,
+    alloc: Global,
+    function: Signature,
+    expected: Expected,
+    index: usize,
+) {
+    let step = Step::Function(0, function.name, function);
+    assert_answer(rt, alloc, &TYPES, &[step], expected, index);
+}
 
 #[test]
 fn functions_stand(rt: HostRuntime) {
@@ -118,18 +111,19 @@ fn functions_stand(rt: HostRuntime) {
             ..CONSTRUCTOR
         },
     ];
-    assert_eq!(rt; first_not(rt.alloc(), &FUNCTIONS, Ok(())), None);
+    for (index, function) in FUNCTIONS.iter().enumerate() {
+        assert_member(&rt, rt.alloc(), *function, Valid, index);
+    }
 }
 
 #[test]
 fn functions_stand_under_their_names(rt: HostRuntime) {
-    const REFUSED: Expected = Broken(11, EntryList::Interfaces, 0);
     static CASES: [Case; 3] = [
         (&[Step::Function(0, "g", FUNCTION)], REFUSED),
         (&[Step::Function(0, "[method]r.g", METHOD)], REFUSED),
         (&[Step::Function(0, "[constructor]q", CONSTRUCTOR)], REFUSED),
     ];
-    assert_eq!(rt; first_wrong(rt.alloc(), &TYPES, &CASES), None);
+    assert_answers(&rt, rt.alloc(), &TYPES, &CASES);
 }
 
 #[test]
@@ -145,9 +139,12 @@ fn names_say_what_they_belong_to(rt: HostRuntime) {
         ("[constructor]r.f", CONSTRUCTOR),
         ("[constructor]q", CONSTRUCTOR),
     ];
-    for (name, function) in ROWS {
-        let renamed = Signature { name, ..function };
-        assert_eq!(rt; first_not(rt.alloc(), &[renamed], REFUSED), None, "{name}");
+    for (index, (name, function)) in ROWS.iter().enumerate() {
+        let renamed = Signature {
+            name: *name,
+            ..*function
+        };
+        assert_member(&rt, rt.alloc(), renamed, REFUSED, index);
     }
 }
 
@@ -167,7 +164,9 @@ fn members_belong_to_a_resource(rt: HostRuntime) {
             ..FUNCTION
         },
     ];
-    assert_eq!(rt; first_not(rt.alloc(), &FUNCTIONS, REFUSED), None);
+    for (index, function) in FUNCTIONS.iter().enumerate() {
+        assert_member(&rt, rt.alloc(), *function, REFUSED, index);
+    }
 }
 
 #[test]
@@ -186,7 +185,7 @@ fn methods_take_self(rt: HostRuntime) {
             first: *first,
             ..METHOD
         };
-        assert_eq!(rt; first_not(rt.alloc(), &[method], REFUSED), None, "{index}");
+        assert_member(&rt, rt.alloc(), method, REFUSED, index);
     }
 }
 
@@ -207,11 +206,7 @@ fn constructors_give_their_resource(rt: HostRuntime) {
             answer: *given,
             ..CONSTRUCTOR
         };
-        assert_eq!(rt;
-            first_not(rt.alloc(), &[constructor], REFUSED),
-            None,
-            "{index}"
-        );
+        assert_member(&rt, rt.alloc(), constructor, REFUSED, index);
     }
 }
 
@@ -243,7 +238,7 @@ fn members_belong_to_a_resource_of_the_owner(rt: HostRuntime) {
             Broken(6, EntryList::Worlds, 0),
         ),
     ];
-    assert_eq!(rt; first_wrong(rt.alloc(), &[], &CASES), None);
+    assert_answers(&rt, rt.alloc(), &[], &CASES);
 }
 
 // ---- worlds
@@ -272,5 +267,5 @@ fn functions_of_worlds(rt: HostRuntime) {
         (&[EXPORTED], Valid),
         (&[EXPORTED_AS_G], REFUSED),
     ];
-    assert_eq!(rt; first_wrong(rt.alloc(), &[], &CASES), None);
+    assert_answers(&rt, rt.alloc(), &[], &CASES);
 }

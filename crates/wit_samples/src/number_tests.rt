@@ -1,9 +1,9 @@
 //! Each number is in range of its list. What is out of range is mostly passed over by the other rules.
 
-use crate::drafts::{INTERFACE, WORLD, broken, empty};
+use crate::drafts::{INTERFACE, WORLD, empty};
 use crate::steps::Expected::{Broken, Valid};
 use crate::steps::{
-    Case, Expected, FUNCTION, Item, Key, Kind, Signature, Step, answer, first_wrong,
+    Case, Expected, FUNCTION, Item, Key, Kind, Signature, Step, assert_answer, assert_answers,
 };
 use std::alloc::Global;
 use wit_model::{EntryList, Fault, FunctionKind, PackageId, Type, TypeId, TypeOwner};
@@ -15,7 +15,7 @@ fn nothing(alloc: Global) -> Result<(), Fault> {
 #[test]
 fn small_ones_are_valid(rt: HostRuntime) {
     assert_eq!(rt; nothing(rt.alloc()), Ok(()));
-    assert_eq!(rt; answer(rt.alloc(), &[], &[]), Ok(()));
+    assert_answer(&rt, rt.alloc(), &[], &[], Valid, 0);
 }
 
 // ---- packages: the map has a number, and its entry is there or isn't
@@ -38,7 +38,7 @@ fn entries_of_packages(rt: HostRuntime) {
         (&[LISTED_WORLD, Step::UnlistedWorld("v", FIRST)], Valid),
         (&[LISTED_WORLD], REFUSED),
     ];
-    assert_eq!(rt; first_wrong(rt.alloc(), &[], &CASES), None);
+    assert_answers(&rt, rt.alloc(), &[], &CASES);
 }
 
 // ---- interfaces and worlds: their package, which is there or isn't
@@ -69,7 +69,7 @@ fn packages_of_entries(rt: HostRuntime) {
         ),
         (&[WORLD_OF_SECOND], Broken(1, EntryList::Worlds, 1)),
     ];
-    assert_eq!(rt; first_wrong(rt.alloc(), &[], &CASES), None);
+    assert_answers(&rt, rt.alloc(), &[], &CASES);
 }
 
 // ---- interfaces: types and functions
@@ -89,7 +89,7 @@ fn types_of_interfaces(rt: HostRuntime) {
         ),
         (&[LISTED_TYPE], REFUSED),
     ];
-    assert_eq!(rt; first_wrong(rt.alloc(), &[], &CASES), None);
+    assert_answers(&rt, rt.alloc(), &[], &CASES);
 }
 
 // One type.
@@ -133,7 +133,7 @@ fn types_of_functions(rt: HostRuntime) {
         (&[Step::Function(0, "f", GIVES_FAR)], REFUSED),
         (&[Step::Function(0, "f", TAKES_FARTHEST)], REFUSED),
     ];
-    assert_eq!(rt; first_wrong(rt.alloc(), &LIST, &CASES), None);
+    assert_answers(&rt, rt.alloc(), &LIST, &CASES);
 }
 
 // A function of a resource that isn't there breaks the rule on functions' names too: that on numbers is named.
@@ -147,17 +147,13 @@ fn resources_of_functions(rt: HostRuntime) {
         FunctionKind::AsyncStatic(RESOURCE),
         FunctionKind::Constructor(RESOURCE),
     ];
-    let refused = broken(1, EntryList::Interfaces, 0);
     for (index, kind) in KINDS.iter().enumerate() {
-        let step = Step::Function(
-            0,
-            "f",
-            Signature {
-                kind: *kind,
-                ..TAKES
-            },
-        );
-        assert_eq!(rt; answer(rt.alloc(), &LIST, &[step]), refused, "{index}");
+        let function = Signature {
+            kind: *kind,
+            ..TAKES
+        };
+        let step = Step::Function(0, "f", function);
+        assert_answer(&rt, rt.alloc(), &LIST, &[step], REFUSED, index);
     }
 }
 
@@ -188,7 +184,7 @@ fn interfaces_under_keys(rt: HostRuntime) {
             REFUSED_WORLD,
         ),
     ];
-    assert_eq!(rt; first_wrong(rt.alloc(), &[], &CASES), None);
+    assert_answers(&rt, rt.alloc(), &[], &CASES);
 }
 
 #[test]
@@ -203,7 +199,7 @@ fn interfaces_under_labels(rt: HostRuntime) {
             REFUSED_WORLD,
         ),
     ];
-    assert_eq!(rt; first_wrong(rt.alloc(), &[], &CASES), None);
+    assert_answers(&rt, rt.alloc(), &[], &CASES);
 }
 
 const IMPORTED_TYPE: Step = Step::Import(0, Key::Name("t"), Item::Type(0));
@@ -227,7 +223,7 @@ fn types_of_worlds(rt: HostRuntime) {
         (&[IMPORTED_TYPE], REFUSED_WORLD),
         (&[EXPORTED_STATIC], REFUSED_WORLD),
     ];
-    assert_eq!(rt; first_wrong(rt.alloc(), &[], &CASES), None);
+    assert_answers(&rt, rt.alloc(), &[], &CASES);
     const F: Key = Key::Name("f");
     static FUNCTIONS: [Case; 3] = [
         (
@@ -243,5 +239,5 @@ fn types_of_worlds(rt: HostRuntime) {
             REFUSED_WORLD,
         ),
     ];
-    assert_eq!(rt; first_wrong(rt.alloc(), &LIST, &FUNCTIONS), None);
+    assert_answers(&rt, rt.alloc(), &LIST, &FUNCTIONS);
 }

@@ -1,7 +1,7 @@
 //! Types and functions meet types of their own owner alone, but for aliases of types of other, named, interfaces.
 
 use crate::steps::Expected::{Broken, Valid};
-use crate::steps::{Case, FUNCTION, Item, Key, Kind, Signature, Step, first_wrong};
+use crate::steps::{Case, FUNCTION, Item, Key, Kind, Signature, Step, assert_answers};
 use wit_model::{EntryList, PackageId, Type, TypeId, TypeOwner};
 
 const NUMBER: Kind = Kind::Alias(Type::U8);
@@ -50,7 +50,7 @@ fn types_and_functions_of_interfaces(rt: HostRuntime) {
             Broken(6, EntryList::Interfaces, 0),
         ),
     ];
-    assert_eq!(rt; first_wrong(rt.alloc(), &ANOTHER, &CASES), None);
+    assert_answers(&rt, rt.alloc(), &ANOTHER, &CASES);
 }
 
 const IMPORTED: Step = Step::Import(0, Key::Name("f"), Item::Function(TAKES_T));
@@ -66,7 +66,7 @@ fn types_and_functions_of_worlds(rt: HostRuntime) {
             Broken(6, EntryList::Types, 1),
         ),
     ];
-    assert_eq!(rt; first_wrong(rt.alloc(), &ANOTHER, &CASES), None);
+    assert_answers(&rt, rt.alloc(), &ANOTHER, &CASES);
     // World 1 has a function of a type of world 0.
     static OF_ANOTHER_WORLD: [Case; 1] = [(
         &[
@@ -76,7 +76,7 @@ fn types_and_functions_of_worlds(rt: HostRuntime) {
         ],
         Broken(6, EntryList::Worlds, 1),
     )];
-    assert_eq!(rt; first_wrong(rt.alloc(), &[], &OF_ANOTHER_WORLD), None);
+    assert_answers(&rt, rt.alloc(), &[], &OF_ANOTHER_WORLD);
 }
 
 // ---- aliases
@@ -125,5 +125,5 @@ fn aliases(rt: HostRuntime) {
         (&ALIAS_OF_INLINE, Broken(6, EntryList::Types, 1)),
         (&ALIAS_IN_INLINE, Valid),
     ];
-    assert_eq!(rt; first_wrong(rt.alloc(), &[], &CASES), None);
+    assert_answers(&rt, rt.alloc(), &[], &CASES);
 }

@@ -2,7 +2,7 @@
 //! on the order of types too, and where it is a handle's target or a map's key the rule on these: that on numbers is named.
 
 use crate::steps::Expected::{Broken, Valid};
-use crate::steps::{Case, Expected, Item, Key, Kind, Step, first_wrong};
+use crate::steps::{Case, Expected, Item, Key, Kind, Step, assert_answers};
 use wit_model::{EntryList, InterfaceId, Type, TypeId, TypeOwner, WorldId};
 
 // A list, number 0. A type `p` behind it has number 1.
@@ -33,7 +33,7 @@ fn kinds_of_one_type(rt: HostRuntime) {
         (&[Step::Type(0, "p", Kind::Alias(FAR))], REFUSED),
         (&[Step::Type(0, "p", FARTHEST)], REFUSED),
     ];
-    assert_eq!(rt; first_wrong(rt.alloc(), &LIST, &CASES), None);
+    assert_answers(&rt, rt.alloc(), &LIST, &CASES);
 }
 
 #[test]
@@ -44,7 +44,7 @@ fn futures_streams_and_handles(rt: HostRuntime) {
         (&[Step::Type(0, "p", Kind::Own(2))], REFUSED),
         (&[Step::Type(0, "p", Kind::Borrow(2))], REFUSED),
     ];
-    assert_eq!(rt; first_wrong(rt.alloc(), &LIST, &CASES), None);
+    assert_answers(&rt, rt.alloc(), &LIST, &CASES);
 }
 
 #[test]
@@ -57,7 +57,7 @@ fn kinds_of_two_types(rt: HostRuntime) {
         (&[Step::Type(0, "p", OK)], REFUSED),
         (&[Step::Type(0, "p", ERR)], REFUSED),
     ];
-    assert_eq!(rt; first_wrong(rt.alloc(), &LIST, &CASES), None);
+    assert_answers(&rt, rt.alloc(), &LIST, &CASES);
 }
 
 #[test]
@@ -70,7 +70,7 @@ fn kinds_of_lists_of_types(rt: HostRuntime) {
         (&[Step::Type(0, "p", VARIANT)], REFUSED),
         (&[Step::Type(0, "p", TUPLE)], REFUSED),
     ];
-    assert_eq!(rt; first_wrong(rt.alloc(), &LIST, &CASES), None);
+    assert_answers(&rt, rt.alloc(), &LIST, &CASES);
 }
 
 // ---- owners, which alone break this rule alone
@@ -99,5 +99,5 @@ fn owners_of_types(rt: HostRuntime) {
         (&[OF_WORLD, Step::World("v"), IMPORTED], Valid),
         (&[OF_WORLD], REFUSED),
     ];
-    assert_eq!(rt; first_wrong(rt.alloc(), &[], &CASES), None);
+    assert_answers(&rt, rt.alloc(), &[], &CASES);
 }

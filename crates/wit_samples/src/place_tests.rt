@@ -1,7 +1,7 @@
 //! Interfaces and worlds stand in their packages, and inline interfaces in one world of theirs.
 
 use crate::steps::Expected::{Broken, Valid};
-use crate::steps::{Case, Expected, Item, Key, Step, first_wrong};
+use crate::steps::{Case, Expected, Item, Key, Step, assert_answers};
 use wit_model::{EntryList, PackageId};
 
 const FIRST: Option<PackageId> = Some(PackageId(0));
@@ -40,7 +40,7 @@ fn named_interfaces_stand_in_their_package(rt: HostRuntime) {
         (&[OF_FIRST], REFUSED),
         (&[OF_NONE], REFUSED),
     ];
-    assert_eq!(rt; first_wrong(rt.alloc(), &TWO_PACKAGES, &CASES), None);
+    assert_answers(&rt, rt.alloc(), &TWO_PACKAGES, &CASES);
 }
 
 const REFUSED_FIRST: Expected = Broken(3, EntryList::Packages, 0);
@@ -56,7 +56,7 @@ fn named_interfaces_stand_nowhere_else(rt: HostRuntime) {
         (&[OF_SECOND, IN_FIRST, IN_SECOND], REFUSED_FIRST),
         (&[OF_FIRST, IN_FIRST, IN_SECOND], REFUSED_SECOND),
     ];
-    assert_eq!(rt; first_wrong(rt.alloc(), &TWO_PACKAGES, &CASES), None);
+    assert_answers(&rt, rt.alloc(), &TWO_PACKAGES, &CASES);
 }
 
 // A wrong key breaks the rule on names in packages too.
@@ -66,7 +66,7 @@ fn named_interfaces_stand_under_their_names(rt: HostRuntime) {
         (&[OF_FIRST, IN_FIRST_AS_K], REFUSED_FIRST),
         (&[OF_FIRST, IN_FIRST, IN_FIRST_AS_K], REFUSED_FIRST),
     ];
-    assert_eq!(rt; first_wrong(rt.alloc(), &TWO_PACKAGES, &CASES), None);
+    assert_answers(&rt, rt.alloc(), &TWO_PACKAGES, &CASES);
 }
 
 // Interface 1 is named as a world.
@@ -95,7 +95,7 @@ fn interfaces_and_worlds_share_no_name(rt: HostRuntime) {
             REFUSED_SECOND,
         ),
     ];
-    assert_eq!(rt; first_wrong(rt.alloc(), &TWO_PACKAGES, &CASES), None);
+    assert_answers(&rt, rt.alloc(), &TWO_PACKAGES, &CASES);
 }
 
 // ---- worlds
@@ -123,7 +123,7 @@ fn worlds_stand_in_their_package(rt: HostRuntime) {
         (&[WORLD_OF_FIRST], REFUSED),
         (&[WORLD_OF_NONE], REFUSED),
     ];
-    assert_eq!(rt; first_wrong(rt.alloc(), &TWO_PACKAGES, &CASES), None);
+    assert_answers(&rt, rt.alloc(), &TWO_PACKAGES, &CASES);
 }
 
 // The last one breaks the rule on names in packages too.
@@ -138,7 +138,7 @@ fn worlds_stand_nowhere_else(rt: HostRuntime) {
         ),
         (&[WORLD_OF_FIRST, WORLD_IN_FIRST_AS_X], REFUSED_FIRST),
     ];
-    assert_eq!(rt; first_wrong(rt.alloc(), &TWO_PACKAGES, &CASES), None);
+    assert_answers(&rt, rt.alloc(), &TWO_PACKAGES, &CASES);
 }
 
 // ---- interfaces in worlds
@@ -181,7 +181,7 @@ fn interfaces_stand(rt: HostRuntime) {
         (&[INLINE, EXPORTED], Valid),
         (&[INLINE_OF_SECOND, ELSEWHERE], Valid),
     ];
-    assert_eq!(rt; first_wrong(rt.alloc(), &TWO_PACKAGES, &CASES), None);
+    assert_answers(&rt, rt.alloc(), &TWO_PACKAGES, &CASES);
 }
 
 const REFUSED_INLINE: Expected = Broken(3, EntryList::Interfaces, 1);
@@ -194,7 +194,7 @@ fn inline_interfaces_stand_once(rt: HostRuntime) {
         (&[INLINE, IMPORTED, EXPORTED], REFUSED_INLINE),
         (&[INLINE, IMPORTED, ELSEWHERE], REFUSED_INLINE),
     ];
-    assert_eq!(rt; first_wrong(rt.alloc(), &TWO_PACKAGES, &CASES), None);
+    assert_answers(&rt, rt.alloc(), &TWO_PACKAGES, &CASES);
 }
 
 #[test]
@@ -203,5 +203,5 @@ fn inline_interfaces_have_their_worlds_package(rt: HostRuntime) {
         (&[INLINE_OF_NONE, IMPORTED], REFUSED_INLINE),
         (&[INLINE_OF_SECOND, IMPORTED], REFUSED_INLINE),
     ];
-    assert_eq!(rt; first_wrong(rt.alloc(), &TWO_PACKAGES, &CASES), None);
+    assert_answers(&rt, rt.alloc(), &TWO_PACKAGES, &CASES);
 }

@@ -1,6 +1,8 @@
 //! Packages of one plain world, each with one thing changed.
 
-use crate::drafts::{add_package, broken, empty, export, import, list_world, nullary, world};
+use crate::drafts::{
+    add_package, add_unlisted_world, broken, empty, export, import, list_world, nullary,
+};
 use std::alloc::{AllocError, Global};
 use std::test::Fail;
 use wit_model::{EntryList, Fault, FunctionKind, PackageId, Resolve, WorldId, WorldItem, is_plain};
@@ -30,23 +32,20 @@ const VALID: Plain = Plain {
 
 const FREE: FunctionKind = FunctionKind::Freestanding;
 
-fn resolve_of(alloc: Global, plain: Plain) -> Result<Resolve, AllocError> {
-    let mut resolve = empty(alloc);
-    add_package(alloc, &mut resolve, plain.namespace, "b")?;
-    let mut entry = world(alloc, plain.world)?;
-    entry.package = plain.home;
-    resolve.worlds.push(entry)?;
-    list_world(alloc, &mut resolve, 0, plain.key, WorldId(0))?;
+fn add(alloc: Global, resolve: &mut Resolve, plain: Plain) -> Result<(), AllocError> {
+    add_package(alloc, resolve, plain.namespace, "b")?;
+    add_unlisted_world(alloc, resolve, plain.world, plain.home)?;
+    list_world(alloc, resolve, 0, plain.key, WorldId(0))?;
     let host = nullary(alloc, plain.function, FREE, None)?;
-    import(alloc, &mut resolve, plain.import, WorldItem::Function(host))?;
+    import(alloc, resolve, plain.import, WorldItem::Function(host))?;
     let guest = nullary(alloc, "guest", FREE, None)?;
-    export(alloc, &mut resolve, "guest", WorldItem::Function(guest))?;
-    Ok(resolve)
+    export(alloc, resolve, "guest", WorldItem::Function(guest))
 }
 
 // What `check` answers, if the `Resolve` is plain.
 fn answer(alloc: Global, plain: Plain) -> Result<Option<Result<(), Fault>>, Fault> {
-    let resolve = resolve_of(alloc, plain)?;
+    let mut resolve = empty(alloc);
+    add(alloc, &mut resolve, plain)?;
     if is_plain(&resolve) {
         Ok(Some(resolve.check(alloc)))
     } else {

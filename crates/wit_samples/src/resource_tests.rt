@@ -1,7 +1,7 @@
 //! Resources stand as targets of handles and of aliases alone, and the targets of handles are resources.
 
 use crate::steps::Expected::{Broken, Valid};
-use crate::steps::{Case, Expected, FUNCTION, Item, Key, Kind, Signature, Step, first_wrong};
+use crate::steps::{Case, Expected, FUNCTION, Item, Key, Kind, Signature, Step, assert_answers};
 use wit_model::{EntryList, Type, TypeId, TypeOwner};
 
 const R: Type = Type::Id(TypeId(0));
@@ -40,7 +40,7 @@ fn resources_in_types(rt: HostRuntime) {
         (&[Step::Type(0, "p", VARIANT)], REFUSED),
         (&[Step::Type(0, "p", TUPLE)], REFUSED),
     ];
-    assert_eq!(rt; first_wrong(rt.alloc(), &RESOURCE, &CASES), None);
+    assert_answers(&rt, rt.alloc(), &RESOURCE, &CASES);
 }
 
 #[test]
@@ -53,7 +53,7 @@ fn resources_in_unnamed_kinds(rt: HostRuntime) {
         (&[Step::Type(0, "p", Kind::Future(Some(R)))], REFUSED),
         (&[Step::Type(0, "p", Kind::Stream(Some(R)))], REFUSED),
     ];
-    assert_eq!(rt; first_wrong(rt.alloc(), &RESOURCE, &CASES), None);
+    assert_answers(&rt, rt.alloc(), &RESOURCE, &CASES);
 }
 
 const TAKES_S: Signature = Signature {
@@ -80,12 +80,12 @@ fn resources_in_functions(rt: HostRuntime) {
         (&[Step::Function(0, "f", TAKES_S)], REFUSED),
         (&[Step::Function(0, "f", GIVES_R)], REFUSED),
     ];
-    assert_eq!(rt; first_wrong(rt.alloc(), &RESOURCE, &CASES), None);
+    assert_answers(&rt, rt.alloc(), &RESOURCE, &CASES);
     static OF_WORLD: [Case; 1] = [(
         &[Step::WorldType("r", Kind::Resource), IMPORTED_TAKES_R],
         Broken(9, EntryList::Worlds, 0),
     )];
-    assert_eq!(rt; first_wrong(rt.alloc(), &[], &OF_WORLD), None);
+    assert_answers(&rt, rt.alloc(), &[], &OF_WORLD);
 }
 
 const OWN: Step = Step::Unnamed(Kind::Own(0), TypeOwner::None);
@@ -100,5 +100,5 @@ fn targets_of_handles(rt: HostRuntime) {
         (&[Step::Type(0, "t", Kind::Alias(Type::U8)), OWN], REFUSED),
         (&[Step::Type(0, "t", Kind::List(Type::U8)), BORROW], REFUSED),
     ];
-    assert_eq!(rt; first_wrong(rt.alloc(), &[], &CASES), None);
+    assert_answers(&rt, rt.alloc(), &[], &CASES);
 }

@@ -4,61 +4,58 @@ use crate::drafts::broken;
 use crate::samples::{
     each_kind, functions_in_plenty, host_and_guest, records_in_plenty, with_options,
 };
-use std::alloc::Global;
-use std::test::Fail;
-use wit_model::{EntryList, Fault};
+use std::alloc::{AllocError, Global};
+use wit_model::{EntryList, Fault, Resolve};
 
-fn small(alloc: Global) -> Result<(), Fault> {
-    let resolve = host_and_guest(alloc)?;
-    resolve.check(alloc)
+// A sample, with what it has so many of.
+#[derive(Clone, Copy)]
+enum Sample {
+    HostAndGuest,
+    EachKind,
+    Options(u32),
+    Records(u32),
+    Functions(usize, u32),
 }
 
-fn kinds(alloc: Global) -> Result<(), Fault> {
-    let resolve = each_kind(alloc)?;
+fn resolve_of(alloc: Global, sample: Sample) -> Result<Resolve, AllocError> {
+    match sample {
+        Sample::HostAndGuest => host_and_guest(alloc),
+        Sample::EachKind => each_kind(alloc),
+        Sample::Options(levels) => with_options(alloc, levels),
+        Sample::Records(records) => records_in_plenty(alloc, records),
+        Sample::Functions(interfaces, functions) => {
+            functions_in_plenty(alloc, interfaces, functions)
+        }
+    }
+}
+
+fn answer(alloc: Global, sample: Sample) -> Result<(), Fault> {
+    let resolve = resolve_of(alloc, sample)?;
     resolve.check(alloc)
 }
 
 #[test]
-fn small_samples(rt: HostRuntime) -> Result<(), Fail> {
-    assert_eq!(rt; small(rt.alloc()), Ok(()));
-    assert_eq!(rt; kinds(rt.alloc()), Ok(()));
-    Ok(())
-}
-
-fn deep(alloc: Global, levels: u32) -> Result<(), Fault> {
-    let resolve = with_options(alloc, levels)?;
-    resolve.check(alloc)
+fn small_samples(rt: HostRuntime) {
+    let alloc = rt.alloc();
+    assert_eq!(rt; answer(alloc, Sample::HostAndGuest), Ok(()));
+    assert_eq!(rt; answer(alloc, Sample::EachKind), Ok(()));
 }
 
 #[test]
-fn a_chain_of_200_000(rt: HostRuntime) -> Result<(), Fail> {
-    assert_eq!(rt;
-        deep(rt.alloc(), 200_000),
-        broken(10, EntryList::Types, 101)
-    );
-    Ok(())
-}
-
-fn wide(alloc: Global, records: u32) -> Result<(), Fault> {
-    let resolve = records_in_plenty(alloc, records)?;
-    resolve.check(alloc)
+fn a_chain_of_200_000(rt: HostRuntime) {
+    let refused = broken(10, EntryList::Types, 101);
+    assert_eq!(rt; answer(rt.alloc(), Sample::Options(200_000)), refused);
 }
 
 // 200,000 types.
 #[test]
-fn many_types(rt: HostRuntime) -> Result<(), Fail> {
-    assert_eq!(rt; wide(rt.alloc(), 20_000), Ok(()));
-    Ok(())
-}
-
-fn busy(alloc: Global, interfaces: usize, functions: u32) -> Result<(), Fault> {
-    let resolve = functions_in_plenty(alloc, interfaces, functions)?;
-    resolve.check(alloc)
+fn many_types(rt: HostRuntime) {
+    assert_eq!(rt; answer(rt.alloc(), Sample::Records(20_000)), Ok(()));
 }
 
 // 2,000 interfaces with functions.
 #[test]
-fn many_functions(rt: HostRuntime) -> Result<(), Fail> {
-    assert_eq!(rt; busy(rt.alloc(), 2_000, 100), Ok(()));
-    Ok(())
+fn many_functions(rt: HostRuntime) {
+    let sample = Sample::Functions(2_000, 100);
+    assert_eq!(rt; answer(rt.alloc(), sample), Ok(()));
 }

@@ -11,15 +11,19 @@ use crate::kinds::{
 use std::alloc::{AllocError, Global};
 use wit_model::{FunctionKind, Resolve, Type, TypeDefKind, WorldItem};
 
+fn add_host_and_guest(alloc: Global, resolve: &mut Resolve) -> Result<(), AllocError> {
+    add_package(alloc, resolve, "a", "b")?;
+    add_world(alloc, resolve, "foo")?;
+    let host = nullary(alloc, "host", FunctionKind::Freestanding, None)?;
+    import(alloc, resolve, "host", WorldItem::Function(host))?;
+    let guest = nullary(alloc, "guest", FunctionKind::Freestanding, None)?;
+    export(alloc, resolve, "guest", WorldItem::Function(guest))
+}
+
 /// `package a:b; world foo { import host: func(); export guest: func(); }`
 pub fn host_and_guest(alloc: Global) -> Result<Resolve, AllocError> {
     let mut resolve = empty(alloc);
-    add_package(alloc, &mut resolve, "a", "b")?;
-    add_world(alloc, &mut resolve, "foo")?;
-    let host = nullary(alloc, "host", FunctionKind::Freestanding, None)?;
-    import(alloc, &mut resolve, "host", WorldItem::Function(host))?;
-    let guest = nullary(alloc, "guest", FunctionKind::Freestanding, None)?;
-    export(alloc, &mut resolve, "guest", WorldItem::Function(guest))?;
+    add_host_and_guest(alloc, &mut resolve)?;
     Ok(resolve)
 }
 
@@ -48,17 +52,22 @@ fn add_others(alloc: Global, resolve: &mut Resolve) -> Result<(), AllocError> {
     add_unnamed(resolve, TypeDefKind::List(id(15)))
 }
 
+// Interface `j` and what the world has.
+fn add_users(alloc: Global, resolve: &mut Resolve) -> Result<(), AllocError> {
+    add_function(alloc, resolve, id(16))?;
+    add_interface(alloc, resolve, "j")?;
+    add_type_of(alloc, resolve, 1, "p", alias_of(0))?;
+    add_world_type(alloc, resolve, "t", TypeDefKind::Option(Type::U8))?;
+    add_world_function(alloc, resolve, id(18))
+}
+
 /// A type of each kind: seven named ones of interface `i` and ten unnamed ones, which the function `f` of `i` takes; an alias in
 /// interface `j` of a type of `i`; a type of world `w` and a function that takes it.
 pub fn each_kind(alloc: Global) -> Result<Resolve, AllocError> {
     let mut resolve = draft(alloc)?;
     add_named(alloc, &mut resolve)?;
     add_others(alloc, &mut resolve)?;
-    add_function(alloc, &mut resolve, id(16))?;
-    add_interface(alloc, &mut resolve, "j")?;
-    add_type_of(alloc, &mut resolve, 1, "p", alias_of(0))?;
-    add_world_type(alloc, &mut resolve, "t", TypeDefKind::Option(Type::U8))?;
-    add_world_function(alloc, &mut resolve, id(18))?;
+    add_users(alloc, &mut resolve)?;
     Ok(resolve)
 }
 

@@ -1,8 +1,7 @@
 //! Shapes of types, and kinds that are named.
 
-use crate::drafts::broken;
 use crate::steps::Expected::{Broken, Valid};
-use crate::steps::{Case, Expected, Kind, Step, answer, first_wrong};
+use crate::steps::{Case, Expected, Kind, Step, assert_answer, assert_answers};
 use wit_model::{EntryList, Type, TypeId, TypeOwner};
 
 // ---- shapes
@@ -18,7 +17,7 @@ fn what_has_members_has_one(rt: HostRuntime) {
         (&[Step::Type(0, "p", Kind::Enum(&[]))], REFUSED),
         (&[Step::Type(0, "p", Kind::Tuple(&[]))], REFUSED),
     ];
-    assert_eq!(rt; first_wrong(rt.alloc(), &[], &CASES), None);
+    assert_answers(&rt, rt.alloc(), &[], &CASES);
 }
 
 // A map whose key is an alias of `u8`.
@@ -46,7 +45,7 @@ fn lengths_and_keys(rt: HostRuntime) {
         ),
         (&[Step::Type(0, "p", ERROR_CONTEXT)], REFUSED),
     ];
-    assert_eq!(rt; first_wrong(rt.alloc(), &[], &CASES), None);
+    assert_answers(&rt, rt.alloc(), &[], &CASES);
 }
 
 #[test]
@@ -66,7 +65,7 @@ fn plain_keys(rt: HostRuntime) {
     ];
     for (index, key) in KEYS.iter().enumerate() {
         let step = Step::Type(0, "p", Kind::Map(*key, Type::U8));
-        assert_eq!(rt; answer(rt.alloc(), &[], &[step]), Ok(()), "{index}");
+        assert_answer(&rt, rt.alloc(), &[], &[step], Valid, index);
     }
 }
 
@@ -74,6 +73,7 @@ fn plain_keys(rt: HostRuntime) {
 
 #[test]
 fn named_kinds(rt: HostRuntime) {
+    const REFUSED: Expected = Broken(8, EntryList::Types, 0);
     static KINDS: [Kind; 6] = [
         Kind::Record(&["a"], Type::U8),
         Kind::Flags(&["a"]),
@@ -82,10 +82,9 @@ fn named_kinds(rt: HostRuntime) {
         Kind::Resource,
         Kind::Alias(Type::U8),
     ];
-    let refused = broken(8, EntryList::Types, 0);
     for (index, kind) in KINDS.iter().enumerate() {
         let step = Step::Unnamed(*kind, TypeOwner::None);
-        assert_eq!(rt; answer(rt.alloc(), &[], &[step]), refused, "{index}");
+        assert_answer(&rt, rt.alloc(), &[], &[step], REFUSED, index);
     }
 }
 
@@ -106,5 +105,5 @@ fn targets_of_aliases(rt: HostRuntime) {
             Valid,
         ),
     ];
-    assert_eq!(rt; first_wrong(rt.alloc(), &[], &CASES), None);
+    assert_answers(&rt, rt.alloc(), &[], &CASES);
 }

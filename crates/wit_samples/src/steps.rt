@@ -10,6 +10,7 @@ use crate::kinds::{
 };
 use crate::samples::{add_lists, add_options};
 use std::alloc::{AllocError, Global};
+use std::process::Abort;
 use wit_model::{
     EntryList, Fault, Function, FunctionKind, InterfaceId, PackageId, Resolve, Type, TypeDefKind,
     TypeId, TypeOwner, WorldId, WorldItem, WorldKey,
@@ -191,13 +192,8 @@ fn add(alloc: Global, resolve: &mut Resolve, step: Step) -> Result<(), AllocErro
         Step::Options(levels) => add_options(resolve, levels),
         Step::Lists(levels) => add_lists(resolve, levels),
         Step::Function(interface, key, signature) => {
-            put_function(
-                alloc,
-                resolve,
-                interface,
-                key,
-                function_of(alloc, signature)?,
-            )
+            let item = function_of(alloc, signature)?;
+            put_function(alloc, resolve, interface, key, item)
         }
         Step::Import(world, key, item) => {
             import_into(resolve, world, key_of(alloc, key)?, item_of(alloc, item)?)
@@ -215,8 +211,8 @@ fn add_all(alloc: Global, resolve: &mut Resolve, steps: &[Step]) -> Result<(), A
     Ok(())
 }
 
-/// What `check` answers of package `a:b` after these steps and then those.
-pub fn answer(alloc: Global, given: &[Step], steps: &[Step]) -> Result<(), Fault> {
+// What `check` answers of package `a:b` after these steps and then those.
+fn answer(alloc: Global, given: &[Step], steps: &[Step]) -> Result<(), Fault> {
     let mut resolve = draft(alloc)?;
     add_all(alloc, &mut resolve, given)?;
     add_all(alloc, &mut resolve, steps)?;
@@ -230,24 +226,28 @@ pub enum Expected {
     Broken(u8, EntryList, usize),
 }
 
-/// What `check` is to answer after these steps.
-pub type Case = (&'static [Step], Expected);
-
-/// The number of the first case that `check` answers otherwise, after these steps and those of the case, and what it answers.
-pub fn first_wrong(
+/// Asserts what `check` answers after these steps and then those of the case of this index.
+pub fn assert_answer(
+    rt: &impl Abort,
     alloc: Global,
     given: &[Step],
-    cases: &[Case],
-) -> Option<(usize, Result<(), Fault>)> {
+    steps: &[Step],
+    expected: Expected,
+    index: usize,
+) {
+    let wanted = match expected {
+        Expected::Valid => Ok(()),
+        Expected::Broken(rule, list, number) => broken(rule, list, number),
+    };
+    assert_eq!(rt; answer(alloc, given, steps), wanted, "case {index}");
+}
+
+/// Steps, and what `check` is to answer after them.
+pub type Case = (&'static [Step], Expected);
+
+/// Asserts what `check` answers after these steps and then those of each case.
+pub fn assert_answers(rt: &impl Abort, alloc: Global, given: &[Step], cases: &[Case]) {
     for (index, (steps, expected)) in cases.iter().enumerate() {
-        let answered = answer(alloc, given, *steps);
-        let wanted = match *expected {
-            Expected::Valid => Ok(()),
-            Expected::Broken(rule, list, number) => broken(rule, list, number),
-        };
-        if answered != wanted {
-            return Some((index, answered));
-        }
+        assert_answer(rt, alloc, given, *steps, *expected, index);
     }
-    None
 }

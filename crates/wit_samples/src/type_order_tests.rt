@@ -3,7 +3,7 @@
 
 use crate::drafts::{INTERFACE, WORLD};
 use crate::steps::Expected::{Broken, Valid};
-use crate::steps::{Case, Expected, Item, Key, Kind, Step, first_wrong};
+use crate::steps::{Case, Expected, Item, Key, Kind, Step, assert_answers};
 use wit_model::{EntryList, Type, TypeId, TypeOwner};
 
 const NUMBER: Kind = Kind::Alias(Type::U8);
@@ -34,7 +34,7 @@ fn smaller_numbers(rt: HostRuntime) {
         (&[Step::Unnamed(Kind::Own(0), TypeOwner::None)], REFUSED),
         (&[Step::Type(0, "t", Kind::Alias(FIRST))], REFUSED),
     ];
-    assert_eq!(rt; first_wrong(rt.alloc(), &[], &CASES), None);
+    assert_answers(&rt, rt.alloc(), &[], &CASES);
 }
 
 // ---- a named type stands in its owner's list, once
@@ -46,7 +46,7 @@ fn named_types_have_an_owner(rt: HostRuntime) {
         (&[Step::UnlistedType("t", NUMBER, INTERFACE)], REFUSED),
         (&[Step::UnlistedType("t", NUMBER, WORLD)], REFUSED),
     ];
-    assert_eq!(rt; first_wrong(rt.alloc(), &[], &CASES), None);
+    assert_answers(&rt, rt.alloc(), &[], &CASES);
 }
 
 // A type `t` of interface `i`, which lists it under names.
@@ -61,7 +61,7 @@ fn named_types_are_listed_once(rt: HostRuntime) {
             REFUSED,
         ),
     ];
-    assert_eq!(rt; first_wrong(rt.alloc(), &OF_INTERFACE, &CASES), None);
+    assert_answers(&rt, rt.alloc(), &OF_INTERFACE, &CASES);
 }
 
 const IMPORTED: Step = Step::Import(0, Key::Name("t"), Item::Type(0));
@@ -77,7 +77,7 @@ fn types_of_worlds_are_listed_once(rt: HostRuntime) {
         (&[IMPORTED_AS_U], REFUSED),
         (&[IMPORTED, IMPORTED_AS_U], REFUSED),
     ];
-    assert_eq!(rt; first_wrong(rt.alloc(), &OF_WORLD, &CASES), None);
+    assert_answers(&rt, rt.alloc(), &OF_WORLD, &CASES);
 }
 
 // ---- unnamed types have no owner, and lists hold named types of their owner
@@ -89,7 +89,7 @@ fn unnamed_types_have_no_owner(rt: HostRuntime) {
         (&[Step::Unnamed(LIST, INTERFACE)], REFUSED),
         (&[Step::Unnamed(LIST, WORLD)], REFUSED),
     ];
-    assert_eq!(rt; first_wrong(rt.alloc(), &[], &CASES), None);
+    assert_answers(&rt, rt.alloc(), &[], &CASES);
 }
 
 // An unnamed type in the lists of an interface and of a world, and a type of interface `i` in those of another interface and of
@@ -110,7 +110,7 @@ fn lists_hold_their_own_named_types(rt: HostRuntime) {
         (&[UNNAMED, IMPORTED], Broken(5, EntryList::Worlds, 0)),
         (&[NAMED, IMPORTED], Broken(5, EntryList::Worlds, 0)),
     ];
-    assert_eq!(rt; first_wrong(rt.alloc(), &[], &CASES), None);
+    assert_answers(&rt, rt.alloc(), &[], &CASES);
 }
 
 // ---- what a type uses stands before it in their list
@@ -135,5 +135,5 @@ fn users_stand_after_what_they_use(rt: HostRuntime) {
             REFUSED,
         ),
     ];
-    assert_eq!(rt; first_wrong(rt.alloc(), &USER, &CASES), None);
+    assert_answers(&rt, rt.alloc(), &USER, &CASES);
 }
