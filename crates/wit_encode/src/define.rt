@@ -1,8 +1,9 @@
 //! Defines types whose parts are known, in a scope of any encoder.
 
-ghost use Rattle.std.specs.Prelude.{◌≡◌, ◌<◌, ◌&&◌, true, false, not, length, IfOk, OnOk, List, Some, None, is_some};
+ghost use Rattle.std.specs.Prelude.{◌≡◌, ◌<◌, ◌&&◌, true, false, not, length, IfOk, OnOk, List, Some, None, is_some, IfErr};
 ghost use Rattle.std.specs.List.{Contains};
 ghost use Rattle.comp_bytes.specs.RawOf.{raw_name};
+ghost use Rattle.comp_bytes.specs.Refusal.{IsMemoryOrSize};
 ghost use Rattle.wit_model.specs.Rules.{is_named_kind};
 ghost use Rattle.wit_model.specs.Text.{optional_text};
 ghost use Rattle.wit_model.specs.Tree.{named};
@@ -46,6 +47,7 @@ pub(crate) fn define_shape<'a, E: ValtypeEncoder<'a>>(
     ensures scope_stays { E.scope enc.new ≡ E.scope enc.old }
     ensures maps_stay { E.maps_of enc.new ≡ E.maps_of enc.old }
     ensures counts { OnOk result (E.definitions enc.new ≡ one_type_more (E.definitions enc.old)) }
+    ensures refuses { IfErr result IsMemoryOrSize }
 {
     let def = definition_of(alloc, enc, shape)?;
     enc.defined_type(def)
@@ -65,6 +67,7 @@ fn define_alias<'a, E: ValtypeEncoder<'a>>(
     ensures scope_stays { E.scope enc.new ≡ E.scope enc.old }
     ensures maps_stay { E.maps_of enc.new ≡ E.maps_of enc.old }
     ensures counts { OnOk result (E.definitions enc.new ≡ type_more_if (has_definition (TypeDefKind.Type_ ty.now)) (E.definitions enc.old)) }
+    ensures refuses { IfErr result IsMemoryOrSize }
 {
     match value_of(enc, ty) {
         ComponentValType::Type_(index) => Ok(index),
@@ -90,6 +93,7 @@ fn define_kind<'a, E: ValtypeEncoder<'a>>(
     ensures scope_stays { E.scope enc.new ≡ E.scope enc.old }
     ensures maps_stay { E.maps_of enc.new ≡ E.maps_of enc.old }
     ensures counts { OnOk result (E.definitions enc.new ≡ type_more_if (has_definition kind.now) (E.definitions enc.old)) }
+    ensures refuses { IfErr result IsMemoryOrSize }
 {
     if let TypeDefKind::Type_(ty) = kind {
         return define_alias(enc, resolve, ty);
@@ -114,6 +118,7 @@ fn define_new_kind<'a, E: ValtypeEncoder<'a>>(
     ensures numbers { OnOk result ((E.maps_of enc.new).id_to_index.items ≡ (E.maps_of enc.old).id_to_index.items) }
     ensures leaves { Leaves resolve.now (E.scope enc.old) (E.scope enc.new) (E.slot_count enc.old) (E.slot_count enc.new) (E.stands enc.old) (E.stands enc.new) (E.maps_of enc.old) (E.maps_of enc.new) }
     ensures counts { OnOk result (AddsTypes resolve.now (E.scope enc.old) (E.maps_of enc.old) (E.maps_of enc.new) (E.definitions enc.old) (E.definitions enc.new)) }
+    ensures refuses { IfErr result IsMemoryOrSize }
 {
     let index = define_shape(alloc, enc, resolve, shape_of(kind))?;
     remember_kind(enc, resolve, kind, index)?;
@@ -136,6 +141,7 @@ fn define_unnamed_kind<'a, E: ValtypeEncoder<'a>>(
     ensures numbers { OnOk result ((E.maps_of enc.new).id_to_index.items ≡ (E.maps_of enc.old).id_to_index.items) }
     ensures leaves { Leaves resolve.now (E.scope enc.old) (E.scope enc.new) (E.slot_count enc.old) (E.slot_count enc.new) (E.stands enc.old) (E.stands enc.new) (E.maps_of enc.old) (E.maps_of enc.new) }
     ensures counts { OnOk result (AddsTypes resolve.now (E.scope enc.old) (E.maps_of enc.old) (E.maps_of enc.new) (E.definitions enc.old) (E.definitions enc.new)) }
+    ensures refuses { IfErr result IsMemoryOrSize }
 {
     if let Some(index) = index_of_kind(enc, kind) {
         return Ok(index);
@@ -163,6 +169,7 @@ fn define_unnamed<'a, E: ValtypeEncoder<'a>>(
     ensures ok { OnOk result (LearnsOne (E.maps_of enc.old) (E.maps_of enc.new) id.0) }
     ensures leaves { Leaves resolve.now (E.scope enc.old) (E.scope enc.new) (E.slot_count enc.old) (E.slot_count enc.new) (E.stands enc.old) (E.stands enc.new) (E.maps_of enc.old) (E.maps_of enc.new) }
     ensures counts { OnOk result (AddsTypes resolve.now (E.scope enc.old) (E.maps_of enc.old) (E.maps_of enc.new) (E.definitions enc.old) (E.definitions enc.new)) }
+    ensures refuses { IfErr result IsMemoryOrSize }
 {
     let index = define_unnamed_kind(alloc, enc, resolve, kind)?;
     remember_id(enc, resolve, id, index)
@@ -184,6 +191,7 @@ fn define_resource<'a, E: ValtypeEncoder<'a>>(
     ensures ok { OnOk result (LearnsOne (E.maps_of enc.old) (E.maps_of enc.new) id.0) }
     ensures leaves { Leaves resolve.now (E.scope enc.old) (E.scope enc.new) (E.slot_count enc.old) (E.slot_count enc.new) (E.stands enc.old) (E.stands enc.new) (E.maps_of enc.old) (E.maps_of enc.new) }
     ensures counts { OnOk result (AddsTypes resolve.now (E.scope enc.old) (E.maps_of enc.old) (E.maps_of enc.new) (E.definitions enc.old) (E.definitions enc.new)) }
+    ensures refuses { IfErr result IsMemoryOrSize }
 {
     let index = enc.export_resource(name)?;
     remember_id(enc, resolve, id, index)
@@ -201,6 +209,7 @@ fn export<'a, E: ValtypeEncoder<'a>>(
     ensures scope_stays { E.scope enc.new ≡ E.scope enc.old }
     ensures maps_stay { E.maps_of enc.new ≡ E.maps_of enc.old }
     ensures counts { OnOk result (ExportsOne (E.scope enc.old) (E.definitions enc.old) (E.definitions enc.new) (raw_name name.entry)) }
+    ensures refuses { IfErr result IsMemoryOrSize }
 {
     match enc.export_type(index, name)? {
         Some(slot) => Ok(slot),
@@ -230,6 +239,7 @@ fn define_named<'a, E: ValtypeEncoder<'a>>(
     ensures ok { OnOk result (LearnsOne (E.maps_of enc.old) (E.maps_of enc.new) id.0) }
     ensures leaves { Leaves resolve.now (E.scope enc.old) (E.scope enc.new) (E.slot_count enc.old) (E.slot_count enc.new) (E.stands enc.old) (E.stands enc.new) (E.maps_of enc.old) (E.maps_of enc.new) }
     ensures counts { OnOk result (AddsTypes resolve.now (E.scope enc.old) (E.maps_of enc.old) (E.maps_of enc.new) (E.definitions enc.old) (E.definitions enc.new)) }
+    ensures refuses { IfErr result IsMemoryOrSize }
 {
     let index = define_kind(alloc, enc, resolve, &def.kind)?;
     let slot = export(enc, index, name)?;
@@ -254,6 +264,7 @@ fn define_own<'a, E: ValtypeEncoder<'a>>(
     ensures ok { OnOk result (LearnsOne (E.maps_of enc.old) (E.maps_of enc.new) id.0) }
     ensures leaves { Leaves resolve.now (E.scope enc.old) (E.scope enc.new) (E.slot_count enc.old) (E.slot_count enc.new) (E.stands enc.old) (E.stands enc.new) (E.maps_of enc.old) (E.maps_of enc.new) }
     ensures counts { OnOk result (AddsTypes resolve.now (E.scope enc.old) (E.maps_of enc.old) (E.maps_of enc.new) (E.definitions enc.old) (E.definitions enc.new)) }
+    ensures refuses { IfErr result IsMemoryOrSize }
 {
     match &def.name {
         None => define_unnamed(alloc, enc, resolve, id, &def.kind),
@@ -283,6 +294,7 @@ fn define_number<'a, E: ValtypeEncoder<'a>>(
     ensures ok { OnOk result (LearnsOne (E.maps_of enc.old) (E.maps_of enc.new) id.0) }
     ensures leaves { Leaves resolve.now (E.scope enc.old) (E.scope enc.new) (E.slot_count enc.old) (E.slot_count enc.new) (E.stands enc.old) (E.stands enc.new) (E.maps_of enc.old) (E.maps_of enc.new) }
     ensures counts { OnOk result (AddsTypes resolve.now (E.scope enc.old) (E.maps_of enc.old) (E.maps_of enc.new) (E.definitions enc.old) (E.definitions enc.new)) }
+    ensures refuses { IfErr result IsMemoryOrSize }
 {
     if index_of(enc, id).is_some() {
         return Ok(());
@@ -311,6 +323,7 @@ fn import<'a, E: ValtypeEncoder<'a>>(
     ensures ok { OnOk result (LearnsOne (E.maps_of enc.old) (E.maps_of enc.new) id.0) }
     ensures leaves { Leaves resolve.now (E.scope enc.old) (E.scope enc.new) (E.slot_count enc.old) (E.slot_count enc.new) (E.stands enc.old) (E.stands enc.new) (E.maps_of enc.old) (E.maps_of enc.new) }
     ensures counts { OnOk result (AddsTypes resolve.now (E.scope enc.old) (E.maps_of enc.old) (E.maps_of enc.new) (E.definitions enc.old) (E.definitions enc.new)) }
+    ensures refuses { IfErr result IsMemoryOrSize }
 {
     let index = enc.import_type(interface, id)?;
     remember_id(enc, resolve, id, index)
@@ -329,6 +342,7 @@ pub(crate) fn define_parts<'a, E: ValtypeEncoder<'a>>(
     ensures learns { OnOk result (LearnsOnly (MetFrom resolve.now (E.scope enc.old).own_interface (E.maps_of enc.old) types.now) (E.maps_of enc.old) (E.maps_of enc.new)) }
     ensures leaves { Leaves resolve.now (E.scope enc.old) (E.scope enc.new) (E.slot_count enc.old) (E.slot_count enc.new) (E.stands enc.old) (E.stands enc.new) (E.maps_of enc.old) (E.maps_of enc.new) }
     ensures counts { OnOk result (AddsTypes resolve.now (E.scope enc.old) (E.maps_of enc.old) (E.maps_of enc.new) (E.definitions enc.old) (E.definitions enc.new)) }
+    ensures refuses { IfErr result IsMemoryOrSize }
 {
     let order = order_of(alloc, enc, resolve, types)?;
     for n in &order {

@@ -4,8 +4,9 @@
 //! what they did and the maps agree with the slots. An unnamed kind, and a key of a function type, is defined only where the maps lack
 //! it, and then it is in the maps.
 
-ghost use Rattle.std.specs.Prelude.{◌≡◌, ◌∷◌, [], map, option_map, option_to_list, option_copied, length, ◌<◌, IfOk, OnOk, IfSome, Ok, Some, None, is_some, is_none, true};
+ghost use Rattle.std.specs.Prelude.{◌≡◌, ◌∷◌, [], map, option_map, option_to_list, option_copied, length, ◌<◌, IfOk, OnOk, IfSome, Ok, Some, None, is_some, is_none, true, IfErr};
 ghost use Rattle.std.specs.List.{AllZip};
+ghost use Rattle.comp_bytes.specs.Refusal.{IsMemoryOrSize};
 ghost use Rattle.wit_model.specs.Text.{text_of};
 ghost use Rattle.wit_model.specs.Types.{type_tree, number_tree};
 ghost use Rattle.wit_model.specs.Tree.{Tree, flags_tree, enum_tree, future_tree, stream_tree};
@@ -49,6 +50,7 @@ fn encode_shape<'a, E: ValtypeEncoder<'a>>(
     ensures ok { IfOk result (λ v. StandsFor (E.stands enc.new) v (kind_tree resolve.now (kind_of shape.entry))) }
     ensures leaves { Leaves resolve.now (E.scope enc.old) (E.scope enc.new) (E.slot_count enc.old) (E.slot_count enc.new) (E.stands enc.old) (E.stands enc.new) (E.maps_of enc.old) (E.maps_of enc.new) }
     ensures counts { OnOk result (AddsTypes resolve.now (E.scope enc.old) (E.maps_of enc.old) (E.maps_of enc.new) (one_type_more (E.definitions enc.old)) (E.definitions enc.new)) }
+    ensures refuses { IfErr result IsMemoryOrSize }
 {
     let parts = shape_parts(alloc, shape)?;
     define_parts(alloc, enc, resolve, &parts)?;
@@ -73,6 +75,7 @@ pub fn encode_valtype<'a, E: ValtypeEncoder<'a>>(
     ensures leaves { Leaves resolve.now (E.scope enc.old) (E.scope enc.new) (E.slot_count enc.old) (E.slot_count enc.new) (E.stands enc.old) (E.stands enc.new) (E.maps_of enc.old) (E.maps_of enc.new) }
     ensures counts { OnOk result (AddsTypes resolve.now (E.scope enc.old) (E.maps_of enc.old) (E.maps_of enc.new) (E.definitions enc.old) (E.definitions enc.new)) }
     ensures knows { OnOk result (IsReady (E.maps_of enc.new) ty.now) }
+    ensures refuses { IfErr result IsMemoryOrSize }
 {
     define_parts(alloc, enc, resolve, &[*ty])?;
     Ok(value_of(enc, ty))
@@ -93,6 +96,7 @@ pub fn encode_optional_valtype<'a, E: ValtypeEncoder<'a>>(
     ensures learns { OnOk result (LearnsOnly (MetFrom resolve.now (E.scope enc.old).own_interface (E.maps_of enc.old) (option_to_list (option_copied ty.entry))) (E.maps_of enc.old) (E.maps_of enc.new)) }
     ensures leaves { Leaves resolve.now (E.scope enc.old) (E.scope enc.new) (E.slot_count enc.old) (E.slot_count enc.new) (E.stands enc.old) (E.stands enc.new) (E.maps_of enc.old) (E.maps_of enc.new) }
     ensures counts { OnOk result (AddsTypes resolve.now (E.scope enc.old) (E.maps_of enc.old) (E.maps_of enc.new) (E.definitions enc.old) (E.definitions enc.new)) }
+    ensures refuses { IfErr result IsMemoryOrSize }
 {
     match ty {
         Some(ty) => {
@@ -118,6 +122,7 @@ pub fn encode_params<'a, E: ValtypeEncoder<'a>>(
     ensures learns { OnOk result (LearnsOnly (MetFrom resolve.now (E.scope enc.old).own_interface (E.maps_of enc.old) (map (λ p. p.ty) params.now)) (E.maps_of enc.old) (E.maps_of enc.new)) }
     ensures leaves { Leaves resolve.now (E.scope enc.old) (E.scope enc.new) (E.slot_count enc.old) (E.slot_count enc.new) (E.stands enc.old) (E.stands enc.new) (E.maps_of enc.old) (E.maps_of enc.new) }
     ensures counts { OnOk result (AddsTypes resolve.now (E.scope enc.old) (E.maps_of enc.old) (E.maps_of enc.new) (E.definitions enc.old) (E.definitions enc.new)) }
+    ensures refuses { IfErr result IsMemoryOrSize }
 {
     let types = param_types(alloc, params)?;
     define_parts(alloc, enc, resolve, &types)?;
@@ -140,6 +145,7 @@ pub fn encode_record<'a, E: ValtypeEncoder<'a>>(
     ensures ok { IfOk result (λ v. StandsFor (E.stands enc.new) v (kind_tree resolve.now (TypeDefKind.Record ty.now))) }
     ensures leaves { Leaves resolve.now (E.scope enc.old) (E.scope enc.new) (E.slot_count enc.old) (E.slot_count enc.new) (E.stands enc.old) (E.stands enc.new) (E.maps_of enc.old) (E.maps_of enc.new) }
     ensures counts { OnOk result (AddsTypes resolve.now (E.scope enc.old) (E.maps_of enc.old) (E.maps_of enc.new) (one_type_more (E.definitions enc.old)) (E.definitions enc.new)) }
+    ensures refuses { IfErr result IsMemoryOrSize }
 {
     encode_shape(alloc, enc, resolve, Shape::Record(ty))
 }
@@ -159,6 +165,7 @@ pub fn encode_tuple<'a, E: ValtypeEncoder<'a>>(
     ensures ok { IfOk result (λ v. StandsFor (E.stands enc.new) v (kind_tree resolve.now (TypeDefKind.Tuple ty.now))) }
     ensures leaves { Leaves resolve.now (E.scope enc.old) (E.scope enc.new) (E.slot_count enc.old) (E.slot_count enc.new) (E.stands enc.old) (E.stands enc.new) (E.maps_of enc.old) (E.maps_of enc.new) }
     ensures counts { OnOk result (AddsTypes resolve.now (E.scope enc.old) (E.maps_of enc.old) (E.maps_of enc.new) (one_type_more (E.definitions enc.old)) (E.definitions enc.new)) }
+    ensures refuses { IfErr result IsMemoryOrSize }
 {
     encode_shape(alloc, enc, resolve, Shape::Tuple(ty))
 }
@@ -178,6 +185,7 @@ pub fn encode_variant<'a, E: ValtypeEncoder<'a>>(
     ensures ok { IfOk result (λ v. StandsFor (E.stands enc.new) v (kind_tree resolve.now (TypeDefKind.Variant ty.now))) }
     ensures leaves { Leaves resolve.now (E.scope enc.old) (E.scope enc.new) (E.slot_count enc.old) (E.slot_count enc.new) (E.stands enc.old) (E.stands enc.new) (E.maps_of enc.old) (E.maps_of enc.new) }
     ensures counts { OnOk result (AddsTypes resolve.now (E.scope enc.old) (E.maps_of enc.old) (E.maps_of enc.new) (one_type_more (E.definitions enc.old)) (E.definitions enc.new)) }
+    ensures refuses { IfErr result IsMemoryOrSize }
 {
     encode_shape(alloc, enc, resolve, Shape::Variant(ty))
 }
@@ -197,6 +205,7 @@ pub fn encode_result<'a, E: ValtypeEncoder<'a>>(
     ensures ok { IfOk result (λ v. StandsFor (E.stands enc.new) v (kind_tree resolve.now (TypeDefKind.Result ty.now))) }
     ensures leaves { Leaves resolve.now (E.scope enc.old) (E.scope enc.new) (E.slot_count enc.old) (E.slot_count enc.new) (E.stands enc.old) (E.stands enc.new) (E.maps_of enc.old) (E.maps_of enc.new) }
     ensures counts { OnOk result (AddsTypes resolve.now (E.scope enc.old) (E.maps_of enc.old) (E.maps_of enc.new) (one_type_more (E.definitions enc.old)) (E.definitions enc.new)) }
+    ensures refuses { IfErr result IsMemoryOrSize }
 {
     encode_shape(alloc, enc, resolve, Shape::Result(ty))
 }
@@ -216,6 +225,7 @@ pub fn encode_option<'a, E: ValtypeEncoder<'a>>(
     ensures ok { IfOk result (λ v. StandsFor (E.stands enc.new) v (kind_tree resolve.now (TypeDefKind.Option payload.now))) }
     ensures leaves { Leaves resolve.now (E.scope enc.old) (E.scope enc.new) (E.slot_count enc.old) (E.slot_count enc.new) (E.stands enc.old) (E.stands enc.new) (E.maps_of enc.old) (E.maps_of enc.new) }
     ensures counts { OnOk result (AddsTypes resolve.now (E.scope enc.old) (E.maps_of enc.old) (E.maps_of enc.new) (one_type_more (E.definitions enc.old)) (E.definitions enc.new)) }
+    ensures refuses { IfErr result IsMemoryOrSize }
 {
     encode_shape(alloc, enc, resolve, Shape::Option(*payload))
 }
@@ -235,6 +245,7 @@ pub fn encode_future<'a, E: ValtypeEncoder<'a>>(
     ensures ok { IfOk result (λ v. StandsFor (E.stands enc.new) v (kind_tree resolve.now (TypeDefKind.Future payload.now))) }
     ensures leaves { Leaves resolve.now (E.scope enc.old) (E.scope enc.new) (E.slot_count enc.old) (E.slot_count enc.new) (E.stands enc.old) (E.stands enc.new) (E.maps_of enc.old) (E.maps_of enc.new) }
     ensures counts { OnOk result (AddsTypes resolve.now (E.scope enc.old) (E.maps_of enc.old) (E.maps_of enc.new) (one_type_more (E.definitions enc.old)) (E.definitions enc.new)) }
+    ensures refuses { IfErr result IsMemoryOrSize }
 {
     encode_shape(alloc, enc, resolve, Shape::Future(*payload))
 }
@@ -254,6 +265,7 @@ pub fn encode_stream<'a, E: ValtypeEncoder<'a>>(
     ensures ok { IfOk result (λ v. StandsFor (E.stands enc.new) v (kind_tree resolve.now (TypeDefKind.Stream payload.now))) }
     ensures leaves { Leaves resolve.now (E.scope enc.old) (E.scope enc.new) (E.slot_count enc.old) (E.slot_count enc.new) (E.stands enc.old) (E.stands enc.new) (E.maps_of enc.old) (E.maps_of enc.new) }
     ensures counts { OnOk result (AddsTypes resolve.now (E.scope enc.old) (E.maps_of enc.old) (E.maps_of enc.new) (one_type_more (E.definitions enc.old)) (E.definitions enc.new)) }
+    ensures refuses { IfErr result IsMemoryOrSize }
 {
     encode_shape(alloc, enc, resolve, Shape::Stream(*payload))
 }
@@ -269,6 +281,7 @@ fn define<'a, E: ValtypeEncoder<'a>>(
     ensures scope_stays { E.scope enc.new ≡ E.scope enc.old }
     ensures maps_stay { E.maps_of enc.new ≡ E.maps_of enc.old }
     ensures counts { OnOk result (E.definitions enc.new ≡ one_type_more (E.definitions enc.old)) }
+    ensures refuses { IfErr result IsMemoryOrSize }
 {
     let index = enc.defined_type(def)?;
     Ok(ComponentValType::Type_(index))
@@ -288,6 +301,7 @@ pub fn encode_flags<'a, E: ValtypeEncoder<'a>>(
     ensures scope_stays { E.scope enc.new ≡ E.scope enc.old }
     ensures maps_stay { E.maps_of enc.new ≡ E.maps_of enc.old }
     ensures counts { OnOk result (E.definitions enc.new ≡ one_type_more (E.definitions enc.old)) }
+    ensures refuses { IfErr result IsMemoryOrSize }
 {
     let names = flag_names(alloc, &ty.flags)?;
     define(enc, ComponentDefinedType::Flags(names))
@@ -307,6 +321,7 @@ pub fn encode_enum<'a, E: ValtypeEncoder<'a>>(
     ensures scope_stays { E.scope enc.new ≡ E.scope enc.old }
     ensures maps_stay { E.maps_of enc.new ≡ E.maps_of enc.old }
     ensures counts { OnOk result (E.definitions enc.new ≡ one_type_more (E.definitions enc.old)) }
+    ensures refuses { IfErr result IsMemoryOrSize }
 {
     let names = case_names(alloc, &ty.cases)?;
     define(enc, ComponentDefinedType::Enum(names))
@@ -327,6 +342,7 @@ pub fn encode_unit_future<'a, E: ValtypeEncoder<'a>>(
     ensures rest { E.maps_of enc.new ≡ record (E.maps_of enc.old) { unit_future = (E.maps_of enc.new).unit_future } }
     ensures leaves { Leaves (E.scope enc.old).packages (E.scope enc.old) (E.scope enc.new) (E.slot_count enc.old) (E.slot_count enc.new) (E.stands enc.old) (E.stands enc.new) (E.maps_of enc.old) (E.maps_of enc.new) }
     ensures counts { OnOk result (E.definitions enc.new ≡ type_more_if (is_none (E.maps_of enc.old).unit_future) (E.definitions enc.old)) }
+    ensures refuses { IfErr result IsMemoryOrSize }
 {
     if let Some(index) = unit_future(enc) {
         return Ok(index);
@@ -344,6 +360,7 @@ fn define_unit_future<'a, E: ValtypeEncoder<'a>>(enc: &mut E) -> Result<u32, Err
     ensures rest { E.maps_of enc.new ≡ record (E.maps_of enc.old) { unit_future = (E.maps_of enc.new).unit_future } }
     ensures leaves { Leaves (E.scope enc.old).packages (E.scope enc.old) (E.scope enc.new) (E.slot_count enc.old) (E.slot_count enc.new) (E.stands enc.old) (E.stands enc.new) (E.maps_of enc.old) (E.maps_of enc.new) }
     ensures counts { OnOk result (E.definitions enc.new ≡ one_type_more (E.definitions enc.old)) }
+    ensures refuses { IfErr result IsMemoryOrSize }
 {
     let index = enc.defined_type(ComponentDefinedType::Future(None))?;
     remember_unit_future(enc, index);
@@ -365,6 +382,7 @@ pub fn encode_unit_stream<'a, E: ValtypeEncoder<'a>>(
     ensures rest { E.maps_of enc.new ≡ record (E.maps_of enc.old) { unit_stream = (E.maps_of enc.new).unit_stream } }
     ensures leaves { Leaves (E.scope enc.old).packages (E.scope enc.old) (E.scope enc.new) (E.slot_count enc.old) (E.slot_count enc.new) (E.stands enc.old) (E.stands enc.new) (E.maps_of enc.old) (E.maps_of enc.new) }
     ensures counts { OnOk result (E.definitions enc.new ≡ type_more_if (is_none (E.maps_of enc.old).unit_stream) (E.definitions enc.old)) }
+    ensures refuses { IfErr result IsMemoryOrSize }
 {
     if let Some(index) = unit_stream(enc) {
         return Ok(index);
@@ -382,6 +400,7 @@ fn define_unit_stream<'a, E: ValtypeEncoder<'a>>(enc: &mut E) -> Result<u32, Err
     ensures rest { E.maps_of enc.new ≡ record (E.maps_of enc.old) { unit_stream = (E.maps_of enc.new).unit_stream } }
     ensures leaves { Leaves (E.scope enc.old).packages (E.scope enc.old) (E.scope enc.new) (E.slot_count enc.old) (E.slot_count enc.new) (E.stands enc.old) (E.stands enc.new) (E.maps_of enc.old) (E.maps_of enc.new) }
     ensures counts { OnOk result (E.definitions enc.new ≡ one_type_more (E.definitions enc.old)) }
+    ensures refuses { IfErr result IsMemoryOrSize }
 {
     let index = enc.defined_type(ComponentDefinedType::Stream(None))?;
     remember_unit_stream(enc, index);
@@ -406,6 +425,7 @@ pub fn maybe_import_type<'a, E: ValtypeEncoder<'a>>(
     ensures scope_stays { E.scope enc.new ≡ E.scope enc.old }
     ensures maps_stay { E.maps_of enc.new ≡ E.maps_of enc.old }
     ensures counts { OnOk result (E.definitions enc.new ≡ E.definitions enc.old) }
+    ensures refuses { IfErr result IsMemoryOrSize }
 {
     let def = &resolve.types[id.0 as usize];
     let own = enc.interface();

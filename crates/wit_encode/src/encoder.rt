@@ -1,11 +1,12 @@
 //! What defines types in a scope, and the law that it keeps.
 
-ghost use Rattle.std.specs.Prelude.{◌≡◌, ◌+◌, ◌<◌, ℕ, List, Option, IfOk, OnOk};
+ghost use Rattle.std.specs.Prelude.{◌≡◌, ◌+◌, ◌<◌, ℕ, List, Option, IfOk, OnOk, IfErr};
 ghost use Rattle.std.specs.Borrow.{sem, Lends};
 ghost use Rattle.wit_model.specs.Tree.{Tree, named};
 ghost use Rattle.wit_model.specs.Meaning.{Signature};
 ghost use Rattle.wit_model.specs.Types.{number_tree};
 ghost use Rattle.comp_bytes.specs.RawOf.{raw_name};
+ghost use Rattle.comp_bytes.specs.Refusal.{IsMemoryOrSize};
 ghost use Rattle.wit_encode.specs.Slots.{Standing, tree, Keeps, Grows, AddsSlot, Exports, StandsFor, Follows, FollowsFunction, Defines, DefinesFunction};
 ghost use Rattle.wit_encode.specs.Scope.{Scope, DeclaresSlot, DeclaresResource, IsImportable};
 ghost use Rattle.wit_encode.specs.Formed.{IsFormed, IsFormedSignature};
@@ -57,7 +58,8 @@ pub trait ValtypeEncoder<'a>: LendsMaps<TypeEncodingMaps<'a>> {
         ensures grows { Grows (stands self.old) (stands self.new) (slot_count self.old) (slot_count self.new) }
         ensures scope_stays { scope self.new ≡ scope self.old }
         ensures maps_stay { Self.maps_of self.new ≡ Self.maps_of self.old }
-        ensures counts { OnOk result (definitions self.new ≡ one_type_more (definitions self.old)) };
+        ensures counts { OnOk result (definitions self.new ≡ one_type_more (definitions self.old)) }
+        ensures refuses { IfErr result IsMemoryOrSize };
 
     /// Adds a slot that stands for the type of a function, and answers it.
     fn define_function_type(&mut self, def: ComponentFuncType<'a>) -> Result<u32, Error>
@@ -66,7 +68,8 @@ pub trait ValtypeEncoder<'a>: LendsMaps<TypeEncodingMaps<'a>> {
         ensures grows { Grows (stands self.old) (stands self.new) (slot_count self.old) (slot_count self.new) }
         ensures scope_stays { scope self.new ≡ scope self.old }
         ensures maps_stay { Self.maps_of self.new ≡ Self.maps_of self.old }
-        ensures counts { OnOk result (definitions self.new ≡ one_function_more (definitions self.old)) };
+        ensures counts { OnOk result (definitions self.new ≡ one_function_more (definitions self.old)) }
+        ensures refuses { IfErr result IsMemoryOrSize };
 
     /// Exports the type of a slot under a name that declares it, and answers the slot of the name.
     /// Without a slot for the name, the slot of the type stands for the name too.
@@ -80,7 +83,8 @@ pub trait ValtypeEncoder<'a>: LendsMaps<TypeEncodingMaps<'a>> {
         ensures grows { Grows (stands self.old) (stands self.new) (slot_count self.old) (slot_count self.new) }
         ensures scope_stays { scope self.new ≡ scope self.old }
         ensures maps_stay { Self.maps_of self.new ≡ Self.maps_of self.old }
-        ensures counts { OnOk result (ExportsOne (scope self.old) (definitions self.old) (definitions self.new) (raw_name name.entry)) };
+        ensures counts { OnOk result (ExportsOne (scope self.old) (definitions self.old) (definitions self.new) (raw_name name.entry)) }
+        ensures refuses { IfErr result IsMemoryOrSize };
 
     /// Exports a fresh resource under a name that declares one, and answers its slot.
     fn export_resource(&mut self, name: ComponentExternName<'a>) -> Result<u32, Error>
@@ -89,7 +93,8 @@ pub trait ValtypeEncoder<'a>: LendsMaps<TypeEncodingMaps<'a>> {
         ensures grows { Grows (stands self.old) (stands self.new) (slot_count self.old) (slot_count self.new) }
         ensures scope_stays { scope self.new ≡ scope self.old }
         ensures maps_stay { Self.maps_of self.new ≡ Self.maps_of self.old }
-        ensures counts { OnOk result (ExportsOne (scope self.old) (definitions self.old) (definitions self.new) (raw_name name.entry)) };
+        ensures counts { OnOk result (ExportsOne (scope self.old) (definitions self.old) (definitions self.new) (raw_name name.entry)) }
+        ensures refuses { IfErr result IsMemoryOrSize };
 
     /// Makes a type of another interface, whose instance stands, known in this scope, and answers its slot.
     fn import_type(&mut self, interface: InterfaceId, id: TypeId) -> Result<u32, Error>
@@ -98,7 +103,8 @@ pub trait ValtypeEncoder<'a>: LendsMaps<TypeEncodingMaps<'a>> {
         ensures grows { Grows (stands self.old) (stands self.new) (slot_count self.old) (slot_count self.new) }
         ensures scope_stays { scope self.new ≡ scope self.old }
         ensures maps_stay { Self.maps_of self.new ≡ Self.maps_of self.old }
-        ensures counts { OnOk result (definitions self.new ≡ definitions self.old) };
+        ensures counts { OnOk result (definitions self.new ≡ definitions self.old) }
+        ensures refuses { IfErr result IsMemoryOrSize };
 
     /// The interface whose types are encoded.
     fn interface(&self) -> Option<InterfaceId>

@@ -1,6 +1,7 @@
 //! Encodes the types of functions by any encoder that keeps the law.
 
-ghost use Rattle.std.specs.Prelude.{◌≡◌, IfOk, OnOk};
+ghost use Rattle.std.specs.Prelude.{◌≡◌, IfOk, OnOk, IfErr};
+ghost use Rattle.comp_bytes.specs.Refusal.{IsMemoryOrSize};
 ghost use Rattle.wit_model.specs.Meant.{signature_of};
 ghost use Rattle.wit_model.specs.Parts.{function_types};
 ghost use Rattle.wit_encode.specs.Slots.{function, FollowsFunction};
@@ -36,6 +37,7 @@ fn function_of<'a, E: ValtypeEncoder<'a>>(
     ensures learns { OnOk result (LearnsOnly (MetFrom resolve.now (E.scope enc.old).own_interface (E.maps_of enc.old) (function_types func.now)) (E.maps_of enc.old) (E.maps_of enc.new)) }
     ensures leaves { Leaves resolve.now (E.scope enc.old) (E.scope enc.new) (E.slot_count enc.old) (E.slot_count enc.new) (E.stands enc.old) (E.stands enc.new) (E.maps_of enc.old) (E.maps_of enc.new) }
     ensures counts { OnOk result (AddsTypes resolve.now (E.scope enc.old) (E.maps_of enc.old) (E.maps_of enc.new) (E.definitions enc.old) (E.definitions enc.new)) }
+    ensures refuses { IfErr result IsMemoryOrSize }
 {
     let params = encode_params(alloc, enc, resolve, &func.params)?;
     let result = encode_optional_valtype(alloc, enc, resolve, func.result.as_ref())?;
@@ -63,6 +65,7 @@ fn define_key<'a, E: ValtypeEncoder<'a>>(
     ensures learns { OnOk result (LearnsOnly (MetFrom resolve.now (E.scope enc.old).own_interface (E.maps_of enc.old) (function_types func.now)) (E.maps_of enc.old) (E.maps_of enc.new)) }
     ensures leaves { Leaves resolve.now (E.scope enc.old) (E.scope enc.new) (E.slot_count enc.old) (E.slot_count enc.new) (E.stands enc.old) (E.stands enc.new) (E.maps_of enc.old) (E.maps_of enc.new) }
     ensures counts { IfOk result (AddsFunction resolve.now (E.scope enc.old) (E.maps_of enc.old) (E.maps_of enc.new) (E.definitions enc.old) (E.definitions enc.new) key.entry) }
+    ensures refuses { IfErr result IsMemoryOrSize }
 {
     let def = function_of(alloc, enc, resolve, func, key.async_)?;
     let index = enc.define_function_type(def)?;
@@ -86,6 +89,7 @@ pub fn encode_func_type<'a, E: ValtypeEncoder<'a>>(
     ensures learns { OnOk result (LearnsOnly (MetFrom resolve.now (E.scope enc.old).own_interface (E.maps_of enc.old) (function_types func.now)) (E.maps_of enc.old) (E.maps_of enc.new)) }
     ensures leaves { Leaves resolve.now (E.scope enc.old) (E.scope enc.new) (E.slot_count enc.old) (E.slot_count enc.new) (E.stands enc.old) (E.stands enc.new) (E.maps_of enc.old) (E.maps_of enc.new) }
     ensures counts { IfOk result (λ i. (key : KeyValue) × IsKeyOf key func.now × AddsFunction resolve.now (E.scope enc.old) (E.maps_of enc.old) (E.maps_of enc.new) (E.definitions enc.old) (E.definitions enc.new) key i) }
+    ensures refuses { IfErr result IsMemoryOrSize }
 {
     let key = key_of(func);
     if let Some(index) = index_of_key(enc, &key) {

@@ -1,12 +1,13 @@
 //! Encodes interfaces as instance types.
 
 ghost use Rattle.std.proofs.Common.{refl};
-ghost use Rattle.std.specs.Prelude.{◌≡◌, ◌++◌, ◌∷◌, [], Some, None, ◌<◌, true, length, map, IfOk, OnOk, OnErr, IsSome};
+ghost use Rattle.std.specs.Prelude.{◌≡◌, ◌++◌, ◌∷◌, [], Some, None, ◌<◌, true, length, map, IfOk, OnOk, OnErr, IsSome, IfErr};
 ghost use Rattle.std.specs.List.{Contains};
 ghost use Rattle.comp_bytes.specs.Raw.{Alias as RawAlias, Declaration, Declarations, append, from_list};
 ghost use Rattle.wit_encode.specs.Known.{known_slot};
 ghost use Rattle.comp_bytes.specs.RawOf.{raw_defined, raw_function, raw_name};
 ghost use Rattle.comp_bytes.specs.Held.{type_slots, type_slots_of};
+ghost use Rattle.comp_bytes.specs.Refusal.{IsMemoryOrSize};
 
 use crate::encode::encode_valtype;
 use crate::encoder::{LendsMaps, ValtypeEncoder};
@@ -53,6 +54,7 @@ pub type InterfaceEncoder<'a> = InterfaceEncoderOf<'a, TypeEncodingMaps<'a>>;
 fn define_inside(inner: &mut InstanceType, def: &ComponentDefinedType) -> Result<u32, Error>
     ensures ok { IfOk result (λ i. (i ≡ type_slots inner.old) × (inner.new ≡ inner.old ++ Declaration.defined (raw_defined def.now) ∷ [])) }
     ensures err { OnErr result (inner.new ≡ inner.old) }
+    ensures refuses { IfErr result IsMemoryOrSize }
 {
     let index = inner.type_count();
     inner.defined(def)?;
@@ -62,6 +64,7 @@ fn define_inside(inner: &mut InstanceType, def: &ComponentDefinedType) -> Result
 fn define_outside(outer: &mut ComponentType, def: &ComponentDefinedType) -> Result<u32, Error>
     ensures ok { IfOk result (λ i. (i ≡ type_slots_of outer.old) × (outer.new ≡ append outer.old (Declarations.declares (Declaration.defined (raw_defined def.now)) Declarations.no_more))) }
     ensures err { OnErr result (outer.new ≡ outer.old) }
+    ensures refuses { IfErr result IsMemoryOrSize }
 {
     let index = outer.type_count();
     outer.defined(def)?;
@@ -71,6 +74,7 @@ fn define_outside(outer: &mut ComponentType, def: &ComponentDefinedType) -> Resu
 fn define_function_inside(inner: &mut InstanceType, def: &ComponentFuncType) -> Result<u32, Error>
     ensures ok { IfOk result (λ i. (i ≡ type_slots inner.old) × (inner.new ≡ inner.old ++ Declaration.function (raw_function def.now) ∷ [])) }
     ensures err { OnErr result (inner.new ≡ inner.old) }
+    ensures refuses { IfErr result IsMemoryOrSize }
 {
     let index = inner.type_count();
     inner.function(def)?;
@@ -80,6 +84,7 @@ fn define_function_inside(inner: &mut InstanceType, def: &ComponentFuncType) -> 
 fn define_function_outside(outer: &mut ComponentType, def: &ComponentFuncType) -> Result<u32, Error>
     ensures ok { IfOk result (λ i. (i ≡ type_slots_of outer.old) × (outer.new ≡ append outer.old (Declarations.declares (Declaration.function (raw_function def.now)) Declarations.no_more))) }
     ensures err { OnErr result (outer.new ≡ outer.old) }
+    ensures refuses { IfErr result IsMemoryOrSize }
 {
     let index = outer.type_count();
     outer.function(def)?;
@@ -93,6 +98,7 @@ fn export_inside(
 ) -> Result<u32, Error>
     ensures ok { IfOk result (λ i. (i ≡ type_slots inner.old) × (inner.new ≡ inner.old ++ Declaration.exported (raw_name name.now) ty ∷ [])) }
     ensures err { OnErr result (inner.new ≡ inner.old) }
+    ensures refuses { IfErr result IsMemoryOrSize }
 {
     let index = inner.type_count();
     inner.export(name, ty)?;
@@ -102,6 +108,7 @@ fn export_inside(
 fn alias_inside(inner: &mut InstanceType, slot: u32) -> Result<u32, Error>
     ensures ok { IfOk result (λ i. (i ≡ type_slots inner.old) × (inner.new ≡ inner.old ++ Declaration.alias_of (RawAlias.of_outer 1 slot) ∷ [])) }
     ensures err { OnErr result (inner.new ≡ inner.old) }
+    ensures refuses { IfErr result IsMemoryOrSize }
 {
     let index = inner.type_count();
     inner.alias(&Alias::Outer {
@@ -269,6 +276,7 @@ impl<'a> InterfaceEncoderOf<'a, TypeEncodingMaps<'a>> {
         ensures resolve { self.new.resolve ≡ self.old.resolve }
         ensures outer { self.new.outer ≡ self.old.outer }
         ensures maps { self.new.maps ≡ self.old.maps }
+        ensures refuses { IfErr result IsMemoryOrSize }
     {
         match &mut self.inner {
             Some(current) => current
@@ -300,6 +308,7 @@ impl<'a> InterfaceEncoderOf<'a, TypeEncodingMaps<'a>> {
         ensures maps_grow { MapsGrow self.old.maps self.new.maps }
         ensures types_stay { OnOk result (exports_in resolve.now self.new.outer self.new.inner ≡ exports_in resolve.now self.old.outer self.old.inner) }
         ensures names_stay { OnOk result (names_defined resolve.now (encoder_scope resolve.now self.old.outer self.old.inner) self.new.maps ≡ names_defined resolve.now (encoder_scope resolve.now self.old.outer self.old.inner) self.old.maps) }
+        ensures refuses { IfErr result IsMemoryOrSize }
     {
         let index = encode_func_type(alloc, self, resolve, func)?;
         self.export_function(name_of(name, &func.external_id), index)
@@ -325,6 +334,7 @@ impl<'a> InterfaceEncoderOf<'a, TypeEncodingMaps<'a>> {
         ensures counts { OnOk result (AddsFunctions resolve.now (encoder_scope resolve.now self.old.outer self.old.inner) self.old.maps self.new.maps (defined_in resolve.now self.old.outer self.old.inner) (defined_in resolve.now self.new.outer self.new.inner) (map (λ f. f.2.now) functions.now)) }
         ensures types_stay { OnOk result (exports_in resolve.now self.new.outer self.new.inner ≡ exports_in resolve.now self.old.outer self.old.inner) }
         ensures names_stay { OnOk result (names_defined resolve.now (encoder_scope resolve.now self.old.outer self.old.inner) self.new.maps ≡ names_defined resolve.now (encoder_scope resolve.now self.old.outer self.old.inner) self.old.maps) }
+        ensures refuses { IfErr result IsMemoryOrSize }
     {
         for entry in functions {
             let (_, name, func) = *entry;
@@ -352,6 +362,7 @@ impl<'a> InterfaceEncoderOf<'a, TypeEncodingMaps<'a>> {
         ensures known { OnOk result (AllKnown self.new.maps types.now) }
         ensures exported { OnOk result (exports_in self.new.resolve.now self.new.outer self.new.inner ≡ declarations_in resolve.now (own_of self.old.inner)) }
         ensures defined { OnOk result (names_defined resolve.now (encoder_scope self.old.resolve.now self.old.outer self.old.inner) self.new.maps ≡ distinct_count nat_eq (defined_under_names resolve.now (own_of self.old.inner) types.now)) }
+        ensures refuses { IfErr result IsMemoryOrSize }
     {
         for id in types {
             encode_valtype(alloc, self, resolve, &Type::Id(*id))?;
@@ -384,6 +395,7 @@ impl<'a> InterfaceEncoderOf<'a, TypeEncodingMaps<'a>> {
         ensures counts { OnOk result (AddsFunctions resolve.now (encoder_scope resolve.now self.old.outer self.old.inner) self.old.maps self.new.maps (defined_in resolve.now self.old.outer self.old.inner) (defined_in resolve.now self.new.outer self.new.inner) (map (λ f. f.2.now) functions.now)) }
         ensures exported { OnOk result (exports_in resolve.now self.new.outer self.new.inner ≡ declarations_in resolve.now (own_of self.old.inner)) }
         ensures defined { OnOk result (names_defined resolve.now (encoder_scope resolve.now self.old.outer self.old.inner) self.new.maps ≡ distinct_count nat_eq (defined_under_names resolve.now (own_of self.old.inner) types.now)) }
+        ensures refuses { IfErr result IsMemoryOrSize }
     {
         self.encode_types(alloc, resolve, types)?;
         self.encode_functions(alloc, resolve, functions)
@@ -410,6 +422,7 @@ impl<'a> InterfaceEncoderOf<'a, TypeEncodingMaps<'a>> {
         ensures ok { IfOk result (λ ds. IsInstance self.old.resolve.now self.old.outer interface ds (map (λ f. meaning_of self.old.resolve.now (placed_function f)) functions.now)) }
         ensures function_types { IfOk result (DefinesKeys (map (λ f. f.2.now) functions.now)) }
         ensures value_types { IfOk result (DefinesTypes self.old.resolve.now interface types.now) }
+        ensures refuses { IfErr result IsMemoryOrSize }
     {
         let resolve = self.resolve;
         let saved = mem::replace(&mut self.maps, TypeEncodingMaps::new(alloc));
@@ -437,6 +450,7 @@ impl<'a> InterfaceEncoderOf<'a, TypeEncodingMaps<'a>> {
         ensures ok { IfOk result (λ k. (k ≡ type_slots_of self.old.outer) × (self.new.outer ≡ append self.old.outer (Declarations.instance (from_list declared.now) Declarations.no_more))) }
         ensures err { OnErr result (self.new.outer ≡ self.old.outer) }
         ensures rest { self.new ≡ record self.old { outer = self.new.outer } }
+        ensures refuses { IfErr result IsMemoryOrSize }
     {
         let index = self.outer.type_count();
         self.outer.instance(declared)?;
@@ -462,6 +476,7 @@ impl<'a> InterfaceEncoderOf<'a, TypeEncodingMaps<'a>> {
         ensures known { self.new.outer_type_map.items ≡ self.old.outer_type_map.items }
         ensures err { OnErr result (self.new.outer ≡ self.old.outer) }
         ensures ok { IfOk result (λ k. (def : _) → interface_at self.old.resolve.now interface.0 ≡ Some def → EncodesInterface self.old.resolve.now self.old.outer self.new.outer interface def k) }
+        ensures refuses { IfErr result IsMemoryOrSize }
     {
         let def = &self.resolve.interfaces[interface.0 as usize];
         let types = types_in_order(alloc, def)?;

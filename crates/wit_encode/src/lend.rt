@@ -1,7 +1,8 @@
 //! The maps of an encoder: read, where it stays as it is, and written, where the rest of it does.
 
-ghost use Rattle.std.specs.Prelude.{◌≡◌, IfOk, OnOk, IfSome, IfNone, IsSome, map};
+ghost use Rattle.std.specs.Prelude.{◌≡◌, IfOk, OnOk, IfSome, IfNone, IsSome, map, IfErr};
 ghost use Rattle.std.specs.List.{Contains, AllZip};
+ghost use Rattle.comp_bytes.specs.Refusal.{IsMemoryOrSize};
 ghost use Rattle.wit_model.specs.Types.{number_tree};
 ghost use Rattle.wit_model.specs.Tree.{future_tree, stream_tree};
 ghost use Rattle.wit_encode.specs.Slots.{tree, function};
@@ -125,6 +126,7 @@ pub(crate) fn remember_id<'a, E: ValtypeEncoder<'a>>(
     ensures ok { OnOk result (LearnsNumber (E.maps_of enc.old) (E.maps_of enc.new) id index) }
     ensures leaves { Leaves resolve.now (E.scope enc.old) (E.scope enc.new) (E.slot_count enc.old) (E.slot_count enc.new) (E.stands enc.old) (E.stands enc.new) (E.maps_of enc.old) (E.maps_of enc.new) }
     ensures counts { E.definitions enc.new ≡ E.definitions enc.old }
+    ensures refuses { IfErr result IsMemoryOrSize }
 {
     enc.type_encoding_maps().remember_id(id, index)
 }
@@ -141,6 +143,7 @@ pub(crate) fn remember_kind<'a, E: ValtypeEncoder<'a>>(
     ensures ok { OnOk result (LearnsKind (E.maps_of enc.old) (E.maps_of enc.new) kind.entry index) }
     ensures leaves { Leaves resolve.now (E.scope enc.old) (E.scope enc.new) (E.slot_count enc.old) (E.slot_count enc.new) (E.stands enc.old) (E.stands enc.new) (E.maps_of enc.old) (E.maps_of enc.new) }
     ensures counts { E.definitions enc.new ≡ E.definitions enc.old }
+    ensures refuses { IfErr result IsMemoryOrSize }
 {
     enc.type_encoding_maps().remember_kind(kind, index)
 }
@@ -157,6 +160,7 @@ pub(crate) fn remember_key<'a, E: ValtypeEncoder<'a>>(
     ensures ok { OnOk result (LearnsKey (E.maps_of enc.old) (E.maps_of enc.new) key.entry index) }
     ensures leaves { Leaves resolve.now (E.scope enc.old) (E.scope enc.new) (E.slot_count enc.old) (E.slot_count enc.new) (E.stands enc.old) (E.stands enc.new) (E.maps_of enc.old) (E.maps_of enc.new) }
     ensures counts { E.definitions enc.new ≡ E.definitions enc.old }
+    ensures refuses { IfErr result IsMemoryOrSize }
 {
     enc.type_encoding_maps().remember_key(key, index)
 }
