@@ -3,6 +3,8 @@
 
 mod demo;
 mod encode;
+#[cfg(test)]
+mod example;
 mod hex;
 mod run;
 mod words;
