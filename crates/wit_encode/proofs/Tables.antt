@@ -28,10 +28,10 @@ use Rattle.wit_encode.specs.Kinds.{parts_of, has_definition, kind_tree}
 use Rattle.wit_encode.specs.Formed.{IsFormed, IsFormedSignature, are_values}
 use Rattle.wit_encode.specs.Plan.{InRange, AllInRange, foreign_owner}
 use Rattle.wit_encode.specs.Maps.{MapsAgree}
-use Rattle.wit_encode.specs.Slots.{Grows}
+use Rattle.wit_encode.specs.Slots.{SlotsGrow}
 use Rattle.wit_encode.specs.Scope.{Scope, IsImportable}
 use Rattle.wit_encode.specs.Leaves.{Leaves}
-use Rattle.wit_encode.specs.Table.{table_scope, interface_of_owner, is_met_by, IsTable, TableReads, IsDefined, AllDefined}
+use Rattle.wit_encode.specs.Table.{table_scope, table_view, interface_of_owner, is_met_by, IsTable, TableReads, IsDefined, AllDefined}
 use Rattle.wit_encode.proofs.Lists.{both, one-contained}
 use Rattle.wit_encode.proofs.Forming.{optional-values}
 use Rattle.wit_encode.proofs.Paths.{found-in}
@@ -67,11 +67,11 @@ module _ (t t' : TableOf TypeEncodingMaps) (i : IsTable t) (same : table_scope t
   }
 
 -- a table after a call
-pub table-leaves : (t t' : TableOf TypeEncodingMaps) → IsTable t → {n n' : ℕ} → Leaves t.resolve.now (table_scope t.resolve.now t.owner) (table_scope t'.resolve.now t'.owner) n n' (TableReads t.resolve.now (place_of t.resolve.now t.owner) t.slots.items) (TableReads t'.resolve.now (place_of t'.resolve.now t'.owner) t'.slots.items) t.maps t'.maps → IsTable t'
+pub table-leaves : (t t' : TableOf TypeEncodingMaps) → IsTable t → Leaves t.resolve.now (table_view t) (table_view t') → IsTable t'
 table-leaves t t' i l = stays-table t t' i l.scope_stays l.agree
 
 -- a table after a call that learns nothing
-pub table-grows : (t t' : TableOf TypeEncodingMaps) → IsTable t → table_scope t'.resolve.now t'.owner ≡ table_scope t.resolve.now t.owner → t'.maps ≡ t.maps → {n n' : ℕ} → Grows (TableReads t.resolve.now (place_of t.resolve.now t.owner) t.slots.items) (TableReads t'.resolve.now (place_of t'.resolve.now t'.owner) t'.slots.items) n n' → IsTable t'
+pub table-grows : (t t' : TableOf TypeEncodingMaps) → IsTable t → table_scope t'.resolve.now t'.owner ≡ table_scope t.resolve.now t.owner → t'.maps ≡ t.maps → {n n' : ℕ} → SlotsGrow (TableReads t.resolve.now (place_of t.resolve.now t.owner) t.slots.items) (TableReads t'.resolve.now (place_of t'.resolve.now t'.owner) t'.slots.items) n n' → IsTable t'
 table-grows t t' i scope maps g = stays-table t t' i scope (subst (λ (m : TypeEncodingMaps). MapsAgree t.resolve.now m (TableReads t'.resolve.now (place_of t'.resolve.now t'.owner) t'.slots.items)) (sym maps) (record { says = λ k j h. g.kept j _ (i.agree.says k j h); once = i.agree.once }))
 
 -- a type of another interface can be imported into a table

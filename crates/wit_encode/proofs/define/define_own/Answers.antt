@@ -15,17 +15,17 @@ use Rattle.wit_encode.proofs.define.define_own.Goals.{After-name_of-name}
 exported : (g : Over) (c : After-name_of-name g) → raw_name c.name_of-name.result ≡ exported_name ((raw_name c.name_of-name.result).text, type_meaning c.args.resolve.now c.args.def.now)
 exported g c = exported-as _ _ (type_meaning c.args.resolve.now c.args.def.now) refl c.name_of-name.ensures.implements c.name_of-name.ensures.version_suffix c.name_of-name.ensures.external_id
 
-declared : (g : Over) (c : After-name_of-name g) → IsDeclared (g.E.ValtypeEncoder.scope c.args.enc.now) ((raw_name c.name_of-name.result).text, type_meaning c.args.resolve.now c.args.def.now)
-declared g c = declared-here c.args.resolve.now (g.E.ValtypeEncoder.scope c.args.enc.now) c.args.id.0 c.args.def.now c.in-Some.label _ c.requires.fits c.requires.own c.in-Some.is c.name_of-name.ensures.text
+declared : (g : Over) (c : After-name_of-name g) → IsDeclared (g.E.ValtypeEncoder.view c.args.enc.now).scope ((raw_name c.name_of-name.result).text, type_meaning c.args.resolve.now c.args.def.now)
+declared g c = declared-here c.args.resolve.now (g.E.ValtypeEncoder.view c.args.enc.now).scope c.args.id.0 c.args.def.now c.in-Some.label _ c.requires.fits c.requires.own c.in-Some.is c.name_of-name.ensures.text
 
-the_tree : (g : Over) (c : After-name_of-name g) → number_tree c.args.resolve.now c.args.id.0 ≡ named (g.E.ValtypeEncoder.scope c.args.enc.now).place (raw_name c.name_of-name.result).text
+the_tree : (g : Over) (c : After-name_of-name g) → number_tree c.args.resolve.now c.args.id.0 ≡ named (g.E.ValtypeEncoder.view c.args.enc.now).scope.place (raw_name c.name_of-name.result).text
 the_tree g c = named-tree c.args.resolve.now _ c.args.id.0 c.args.def.now c.in-Some.label _ c.requires.same_tree c.in-Some.is (c.requires.fits.placed c.requires.own c.in-Some.label c.in-Some.is) c.name_of-name.ensures.text
 
-by_name : (g : Over) (c : After-name_of-name g) → is_defined_by_name c.args.resolve.now (g.E.ValtypeEncoder.scope c.args.enc.now) c.args.id.0 ≡ has_definition c.args.def.now.kind
-by_name g c = named-defined c.args.resolve.now (g.E.ValtypeEncoder.scope c.args.enc.now) c.args.id.0 c.args.def.now c.in-Some.label c.requires.there c.requires.own c.in-Some.is
+by_name : (g : Over) (c : After-name_of-name g) → is_defined_by_name c.args.resolve.now (g.E.ValtypeEncoder.view c.args.enc.now).scope c.args.id.0 ≡ has_definition c.args.def.now.kind
+by_name g c = named-defined c.args.resolve.now (g.E.ValtypeEncoder.view c.args.enc.now).scope c.args.id.0 c.args.def.now c.in-Some.label c.requires.there c.requires.own c.in-Some.is
 
-shown : (g : Over) (c : After-name_of-name g) → own_name c.args.resolve.now (g.E.ValtypeEncoder.scope c.args.enc.now) c.args.id.0 ≡ Some (raw_name c.name_of-name.result).text
-shown g c = named-shown c.args.resolve.now (g.E.ValtypeEncoder.scope c.args.enc.now) c.args.id.0 c.args.def.now c.in-Some.label c.requires.there c.requires.own c.in-Some.is ∙ ap Some (sym c.name_of-name.ensures.text)
+shown : (g : Over) (c : After-name_of-name g) → own_name c.args.resolve.now (g.E.ValtypeEncoder.view c.args.enc.now).scope c.args.id.0 ≡ Some (raw_name c.name_of-name.result).text
+shown g c = named-shown c.args.resolve.now (g.E.ValtypeEncoder.view c.args.enc.now).scope c.args.id.0 c.args.def.now c.in-Some.label c.requires.there c.requires.own c.in-Some.is ∙ ap Some (sym c.name_of-name.ensures.text)
 
 pub define_resource-requires : goal.define_resource-requires
 define_resource-requires g c = λ _. (

@@ -6,7 +6,7 @@ pub returns-in_ok-value-in-Some-clause-learns : goal.returns-in_ok-value-in-Some
 returns-in_ok-value-in-Some-clause-learns g c = rw c.in-Some.is c.in_ok-value-in-Some.ensures.learns
 
 pub returns-in-None-clause-counts : goal.returns-in-None-clause-counts
-returns-in-None-clause-counts g c = counts-none c.args.resolve.now (g.E.ValtypeEncoder.scope c.args.enc.now) (g.E.LendsMaps.maps_of c.args.enc.now) (g.E.ValtypeEncoder.definitions c.args.enc.now)
+returns-in-None-clause-counts g c = counts-none c.args.resolve.now (g.E.ValtypeEncoder.view c.args.enc.now).scope (g.E.ValtypeEncoder.view c.args.enc.now).maps (g.E.ValtypeEncoder.view c.args.enc.now).definitions
 
 pub returns-in-None-clause-learns : goal.returns-in-None-clause-learns
-returns-in-None-clause-learns g c = learns-nothing _ (g.E.LendsMaps.maps_of c.args.enc.now)
+returns-in-None-clause-learns g c = learns-nothing _ (g.E.ValtypeEncoder.view c.args.enc.now).maps
