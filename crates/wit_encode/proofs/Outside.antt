@@ -107,3 +107,8 @@ module _ {E : Type 0} (res : Result ℕ E) (r : Resolve) (outer outer' : Declara
         (more-ok (Declaration.function (raw_function d)) (Slot.function s) _ (bind (function_signature a.scope.slots (raw_function d)) s (λ u. Some (in_scope (Slot.function u) a.scope)) strict) (λ e. ap (λ zs. definitions_with (outer_contents zs)) e
         ∙ outer-definitions outer (Declaration.function (raw_function d)) before.types (before.functions + 1) (omega arith) refl) ok)
         (err-same err)
+
+-- a component type in which nothing has been declared yet
+pub fresh-sound : (r : Resolve) (outer : Declarations) → outer ≡ Declarations.no_more → (scope_with r None Declarations.no_more [] (outer_contents outer)).is_sound ≡ true
+unfolding outer_contents
+fresh-sound r outer e = ap (λ (z : Declarations). (scope_with r None Declarations.no_more [] (outer_contents z)).is_sound) e

@@ -239,6 +239,8 @@ impl<'a> InterfaceEncoderOf<'a, TypeEncodingMaps<'a>> {
         ensures closed { result.inner ≡ None }
         ensures known { result.outer_type_map.items ≡ [] }
         ensures resolve { result.resolve.now ≡ resolve.now }
+        ensures agree { Agrees resolve.now (encoder_view result) }
+        ensures sound { (encoder_view result).scope.is_sound ≡ true }
     {
         InterfaceEncoderOf {
             resolve,
