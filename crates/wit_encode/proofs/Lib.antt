@@ -36,3 +36,4 @@ pub mod Encodable
 pub mod UsesNone
 pub mod Reordering
 pub mod Importing
+pub mod OwnerScope

@@ -38,6 +38,7 @@ use Rattle.wit_model.proofs.Owners.{named_met}
 use Rattle.wit_encode.specs.Plan.{IsLayered, InRange, AllInRange, foreign_owner, is_interface}
 use Rattle.wit_encode.specs.Fits.{FitsScope, CanEncode}
 use Rattle.wit_encode.specs.Scope.{IsImportable, IsDeclared, Scope}
+use Rattle.wit_encode.specs.OwnerScope.{NamesAgree}
 use Rattle.wit_encode.specs.Table.{table_scope, below, interface_of_owner, declaration_in, named_declaration, is_met_by, is_met_owner, has_named_owner}
 use Rattle.wit_encode.proofs.Lists.{contains-one, all-contained}
 use Rattle.wit_encode.proofs.Owned.{same-owner, valid-references, stays, Stays, reached-stays, parts-owned}
@@ -192,36 +193,48 @@ parts-in_range r v n def is t c id e =
     let within : n < length r.types.items = slice_get_within r.types.items n def is in
     omega arith
 
-module _ (r : Resolve) (v : IsValid r) (met : TypeOwner → Bool) (homes : HaveHomes r met) where
-  number-agrees : (n : ℕ) (def : TypeDef) → type_at r n ≡ Some def → (is_some def.name ≡ true → met def.owner ≡ true) → is_resource_tree (resource_names r met) (number_tree r n) ≡ is_resource r n
-  number-agrees n def at is = ap (λ x. is_resource_tree (resource_names r met) (unwrap_or x no_tree)) (kept_trees_at r v.rules n def at) ∙ go def.name refl
+module _ (r : Resolve) (v : IsValid r) (names : Names) (met : TypeOwner → Bool) (agree : NamesAgree r names met) where
+  number-agrees : (n : ℕ) (def : TypeDef) → type_at r n ≡ Some def → (is_some def.name ≡ true → met def.owner ≡ true) → is_resource_tree names (number_tree r n) ≡ is_resource r n
+  number-agrees n def at is = ap (λ x. is_resource_tree names (unwrap_or x no_tree)) (kept_trees_at r v.rules n def at) ∙ go def.name refl
     where
-      go : (x : Option (String Global)) → def.name ≡ x → is_resource_tree (resource_names r met) (tree_of_definition r (trees_of r) def) ≡ is_resource r n
+      go : (x : Option (String Global)) → def.name ≡ x → is_resource_tree names (tree_of_definition r (trees_of r) def) ≡ is_resource r n
       go None q =
-          ap (λ x. is_resource_tree (resource_names r met) (option_map_or (λ name. Tree.named (place_of r def.owner) (text_of name)) x (kind_tree r def.kind))) q
-          ∙ unnamed-kind r (resource_names r met) (is_resource r) def.kind (valid-unnamed r v n def at q) ∙ sym (valid-resource r v n def at)
+          ap (λ x. is_resource_tree names (option_map_or (λ name. Tree.named (place_of r def.owner) (text_of name)) x (kind_tree r def.kind))) q
+          ∙ unnamed-kind r names (is_resource r) def.kind (valid-unnamed r v n def at q) ∙ sym (valid-resource r v n def at)
       go (Some name) q =
-          ap (λ x. is_resource_tree (resource_names r met) (option_map_or (λ name. Tree.named (place_of r def.owner) (text_of name)) x (kind_tree r def.kind))) q
-          ∙ names-agree r v met homes n def name at q (is (has-name def.name name q))
+          ap (λ x. is_resource_tree names (option_map_or (λ name. Tree.named (place_of r def.owner) (text_of name)) x (kind_tree r def.kind))) q
+          ∙ agree n def name at q (is (has-name def.name name q))
 
   -- names stand for resources exactly where types that are met are resources
-  pub met-agree : (ts : List ValueType) → AllInRange r ts → OwnersMet r met ts → Agree r (resource_names r met) ts
-  met-agree ts inside all t c = go t (inside t c) (all t c)
+  pub named-agree : (ts : List ValueType) → AllInRange r ts → OwnersMet r met ts → Agree r names ts
+  named-agree ts inside all t c = go t (inside t c) (all t c)
     where
       go : (t : ValueType) → InRange r t → ((id : TypeId) → t ≡ ty.Id id → (def : TypeDef) → type_at r id.0 ≡ Some def → is_some def.name ≡ true → met def.owner ≡ true)
-          → is_resource_tree (resource_names r met) (type_tree r t) ≡ is_resource_type r t
+          → is_resource_tree names (type_tree r t) ≡ is_resource_type r t
       go (ty.Id id) inside is =
           let found = found-in r.types.items id.0 (lt-ltb id.0 (length r.types.items) (inside id refl)) in
           number-agrees id.0 found.0 found.1 (is id refl found.0 found.1)
       go _ inside is = refl
 
-  pub parts-agree : (n : ℕ) (def : TypeDef) → type_at r n ≡ Some def → OwnersMet r met (parts_of def.kind) → Agree r (resource_names r met) (parts_of def.kind)
-  parts-agree n def is all = met-agree (parts_of def.kind) (parts-in_range r v n def is) all
+  pub named-parts : (n : ℕ) (def : TypeDef) → type_at r n ≡ Some def → OwnersMet r met (parts_of def.kind) → Agree r names (parts_of def.kind)
+  named-parts n def is all = named-agree (parts_of def.kind) (parts-in_range r v n def is) all
 
   -- the name of a type that is met is one of a resource where it declares one
+  pub named-alike : (n : ℕ) (def : TypeDef) → type_at r n ≡ Some def → (name : String Global) → def.name ≡ Some name → met def.owner ≡ true → OwnersMet r met (parts_of def.kind)
+      → names (place_of r def.owner) (text_of name) ≡ is_resource_declaration names (declaration_of r def)
+  named-alike n def is name e own all = agree n def name is e own ∙ sym (valid-alike r names v n def is (named-parts n def is all))
+
+-- the same of the names of the packages' resources
+module _ (r : Resolve) (v : IsValid r) (met : TypeOwner → Bool) (homes : HaveHomes r met) where
+  pub met-agree : (ts : List ValueType) → AllInRange r ts → OwnersMet r met ts → Agree r (resource_names r met) ts
+  met-agree = named-agree r v (resource_names r met) met (names-agree r v met homes)
+
+  pub parts-agree : (n : ℕ) (def : TypeDef) → type_at r n ≡ Some def → OwnersMet r met (parts_of def.kind) → Agree r (resource_names r met) (parts_of def.kind)
+  parts-agree = named-parts r v (resource_names r met) met (names-agree r v met homes)
+
   pub declared-alike : (n : ℕ) (def : TypeDef) → type_at r n ≡ Some def → (name : String Global) → def.name ≡ Some name → met def.owner ≡ true → OwnersMet r met (parts_of def.kind)
       → resource_names r met (place_of r def.owner) (text_of name) ≡ is_resource_declaration (resource_names r met) (declaration_of r def)
-  declared-alike n def is name e own all = names-agree r v met homes n def name is e own ∙ sym (valid-alike r (resource_names r met) v n def is (parts-agree n def is all))
+  declared-alike = named-alike r v (resource_names r met) met (names-agree r v met homes)
 
 module _ (r : Resolve) (v : IsValid r) (o : TypeOwner) where
   -- a type of another interface can be imported
@@ -242,7 +255,7 @@ module _ (r : Resolve) (v : IsValid r) (o : TypeOwner) where
         stands = below-contains (length r.interfaces.items) i.0 (ltb→lt i.0 (length r.interfaces.items) (subst T (sym (ap (owner_in_range r) (sym owned) ∙ valid-owner_in_range r v n def is)) tt));
       }
 
-  declared-there : (n : ℕ) (def : TypeDef) → type_at r n ≡ Some def → (name : String Global) → def.name ≡ Some name → same_owner def.owner o ≡ true → Contains (table_scope r o).declarations (text_of name, type_meaning r def)
+  pub declared-there : (n : ℕ) (def : TypeDef) → type_at r n ≡ Some def → (name : String Global) → def.name ≡ Some name → same_owner def.owner o ≡ true → Contains (table_scope r o).declarations (text_of name, type_meaning r def)
   declared-there n def is name e s = contains-flat_map (declaration_in r o) r.types.items n def (text_of name, type_meaning r def) is
       (subst (λ (b : Bool). Contains (cond b (named_declaration r def.name def) []) (text_of name, type_meaning r def)) (sym (same-back def.owner o s))
       (subst (λ (x : Option (String Global)). Contains (named_declaration r x def) (text_of name, type_meaning r def)) (sym e) (contains-one (text_of name, type_meaning r def))))

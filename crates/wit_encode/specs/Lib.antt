@@ -21,3 +21,4 @@ pub mod Instance
 pub mod InstanceLaws
 pub mod Exports
 pub mod UsesAlone
+pub mod OwnerScope

@@ -1,0 +1,26 @@
+//! Laws of the scopes in which types and functions are encoded, for whoever brings an encoder of their own.
+
+ghost use Rattle.wit_encode.specs.OwnerScope.{FunctionsEncode, FunctionsUse, NamesEncode, TableScope, TypesEncode, TypesUse};
+
+/// Types can be encoded in the scope of an owner, where each name that is met is of the place, or of a named interface whose instance stands.
+pub fn names_encode()
+    ensures { NamesEncode }
+{}
+
+/// The named types of an owner, an interface or a world, can be encoded in its scope, where of each other interface whose types are met
+/// an instance stands. So it is where one stands of each interface that the types of the owner use.
+pub fn types_encode()
+    ensures encode { TypesEncode }
+    ensures uses { TypesUse }
+{}
+
+/// The same of the functions of an owner.
+pub fn functions_encode()
+    ensures encode { FunctionsEncode }
+    ensures uses { FunctionsUse }
+{}
+
+/// The scope of a table is that of its owner.
+pub fn table_scope_is_of_owner()
+    ensures { TableScope }
+{}
