@@ -34,14 +34,12 @@ use Rattle.std.proofs.lemmas.Bool.{lt-ltb}
 use Rattle.wit_model.specs.declared.model.TypeDefKind.{TypeDefKind}
 use Rattle.wit_model.specs.declared.model.TypeDefKind.TheVariants as kind
 use Rattle.wit_model.specs.declared.model.Handle.TheVariants as handle
-use Rattle.wit_model.proofs.Owners.{named_met}
 use Rattle.wit_encode.specs.Plan.{IsLayered, InRange, AllInRange, foreign_owner, is_interface}
-use Rattle.wit_encode.specs.Fits.{FitsScope, CanEncode}
-use Rattle.wit_encode.specs.Scope.{IsImportable, IsDeclared, Scope}
+use Rattle.wit_encode.specs.Scope.{IsImportable, Scope}
 use Rattle.wit_encode.specs.OwnerScope.{NamesAgree}
 use Rattle.wit_encode.specs.Table.{table_scope, below, interface_of_owner, declaration_in, named_declaration, is_met_by, is_met_owner, has_named_owner}
 use Rattle.wit_encode.proofs.Lists.{contains-one, all-contained}
-use Rattle.wit_encode.proofs.Owned.{same-owner, valid-references, stays, Stays, reached-stays, parts-owned}
+use Rattle.wit_encode.proofs.Owned.{same-owner, valid-references}
 use Rattle.wit_encode.proofs.Planning.{part-smaller}
 use Rattle.wit_encode.proofs.Paths.{found-in}
 use Rattle.wit_encode.proofs.Naming.{HaveHomes, or-first, or-second, named-owner, valid-owner_in_range, one-home, names-agree}
@@ -275,41 +273,9 @@ module _ (r : Resolve) (v : IsValid r) (o : TypeOwner) where
   pub table-agree : (ts : List ValueType) → AllInRange r ts → AreMet ts → Agree r (resource_names r (is_met_owner r o)) ts
   table-agree = met-agree r v (is_met_owner r o) (one-home r v o)
 
-  -- ---- what fits
-
-  own-declared : (n : ℕ) (def : TypeDef) → type_at r n ≡ Some def → (name : String Global) → def.name ≡ Some name → same_owner def.owner o ≡ true → AreMet (parts_of def.kind) → IsDeclared (table_scope r o) (text_of name, type_meaning r def)
-  own-declared n def is name e s met = record {
-    there = declared-there n def is name e s;
-    alike = ap (λ a. resource_names r (is_met_owner r o) (place_of r a) (text_of name)) (sym (same-owner def.owner o s)) ∙ declared-alike r v (is_met_owner r o) (one-home r v o) n def is name e (own-met def s) met;
-    sound = refl;
-  }
-
-  -- a type that is of the owner or of another interface fits the owner's table, where its parts are met
-  pub fits-table : (n : ℕ) (def : TypeDef) → type_at r n ≡ Some def → (foreign_owner (interface_of_owner o) def.owner ≡ None → is_some def.name ≡ true → same_owner def.owner o ≡ true) → (foreign_owner (interface_of_owner o) def.owner ≡ None → AreMet (parts_of def.kind)) → FitsScope r (table_scope r o) n def
-  fits-table n def is home met = record {
-    foreign = importable n def is;
-    unnamed = λ f none. valid-unnamed r v n def is none;
-    placed = λ f name e. ap (place_of r) (same-owner def.owner o (home f (has-name def.name name e)));
-    declared = λ f name e. own-declared n def is name e (home f (has-name def.name name e)) (met f);
-    formed = λ f d. record { sound = refl; formed = valid-formed r (resource_names r (is_met_owner r o)) v n def is (parts-agree r v (is_met_owner r o) (one-home r v o) n def is (met f)) d };
-  }
-
-  -- types that meet types of the owner alone, where those of other interfaces aren't opened, can be encoded in the owner's table
-  pub stays-encode : (ts : List ValueType) → AllInRange r ts → ((t : ValueType) → Contains ts t → (id : TypeId) → t ≡ ty.Id id → Stays r v o id.0) → CanEncode r (table_scope r o) ts
-  stays-encode ts inside all = record {
-    packages_ = refl;
-    layered = valid-layered r v;
-    in_range = inside;
-    fits = λ t c n re def is. stay n def is (reached-stays r v o t n (all t c) re def is);
-  }
-    where
-      stay : (n : ℕ) (def : TypeDef) → type_at r n ≡ Some def → (foreign_owner (interface_of_owner o) def.owner ≡ None → stays r v o n ≡ true) → FitsScope r (table_scope r o) n def
-      stay n def is s = fits-table n def is
-          (λ f named. named_met r (valid-references r v) n def is o named ∙ s f)
-          (λ f t c id e def' is' named. owner-met def' (parts-owned r v o n def is (s f) id (subst (λ (x : ValueType). Contains (parts_of def.kind) x) e c) def' is' named))
-
   module _ (met : list_all (is_met_by r o) r.types.items ≡ true) where
-    named-met : (n : ℕ) (def : TypeDef) → type_at r n ≡ Some def → is_some def.name ≡ true → (same_owner def.owner o || (is_some (foreign_owner (interface_of_owner o) def.owner) && has_named_owner r def)) ≡ true
+    -- a named type is of the owner, or of another interface, which has a name
+    pub named-met : (n : ℕ) (def : TypeDef) → type_at r n ≡ Some def → is_some def.name ≡ true → (same_owner def.owner o || (is_some (foreign_owner (interface_of_owner o) def.owner) && has_named_owner r def)) ≡ true
     named-met n def is named = or-right (is_none def.name) _ (nameless def.name named) (all-at (is_met_by r o) r.types.items n def met is)
 
     -- the named types are met, where all are
@@ -320,19 +286,3 @@ module _ (r : Resolve) (v : IsValid r) (o : TypeOwner) where
         either-owner true b c h = inl refl
         either-owner false true c h = inr h
         either-owner false false c h = let wrong : ⊥ = cc in absurd wrong
-
-    at-home : (n : ℕ) (def : TypeDef) → type_at r n ≡ Some def → foreign_owner (interface_of_owner o) def.owner ≡ None → is_some def.name ≡ true → same_owner def.owner o ≡ true
-    at-home n def is f named = go (same_owner def.owner o) (named-met n def is named)
-      where
-        go : (b : Bool) → (b || (is_some (foreign_owner (interface_of_owner o) def.owner) && has_named_owner r def)) ≡ true → b ≡ true
-        go true h = refl
-        go false h = ap is_some (sym f) ∙ first_true _ _ h
-
-    -- any types can be encoded in the owner's table, where each type is of the owner or of another interface, which has a name
-    pub met-encode : (ts : List ValueType) → AllInRange r ts → CanEncode r (table_scope r o) ts
-    met-encode ts inside = record {
-      packages_ = refl;
-      layered = valid-layered r v;
-      in_range = inside;
-      fits = λ t c n re def is. fits-table n def is (at-home n def is) (λ f. all-met (parts_of def.kind));
-    }

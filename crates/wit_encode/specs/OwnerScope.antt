@@ -1,6 +1,6 @@
 -- The scope of an owner of types and functions: an interface with a name, an inline interface, or a world
 -- (WIT.md, "Interfaces: use" and "Worlds"; Component Model Binary.md, "Index Spaces").
-use Rattle.std.specs.Prelude.{ℕ, ◌≡◌, ◌⊎◌, Bool, true, List, [], ◌∷◌, Some, String, is_some}
+use Rattle.std.specs.Prelude.{ℕ, ◌≡◌, ◌<◌, ◌⊎◌, length, Bool, true, List, [], ◌∷◌, Some, String, is_some}
 use Rattle.std.specs.List.{Contains}
 use Rattle.std.specs.Option.{option_map_or}
 use Rattle.std.specs.declared.alloc.Global.{Global}
@@ -9,7 +9,7 @@ use Rattle.wit_model.specs.Lookup.{type_at, interface_at, world_at, place_of}
 use Rattle.wit_model.specs.Meant.{type_meaning}
 use Rattle.wit_model.specs.Parts.{is_resource, function_types}
 use Rattle.wit_model.specs.Rules.{is_use}
-use Rattle.wit_model.specs.Uses.{used_interface}
+use Rattle.wit_model.specs.Uses.{used_interface, direct_deps}
 use Rattle.wit_model.specs.Valid.{IsValid, functions_of_interface, functions_of_world}
 use Rattle.wit_model.specs.declared.model.Resolve.{Resolve}
 use Rattle.wit_model.specs.declared.model.TypeDef.{TypeDef}
@@ -116,6 +116,10 @@ TypesUse = (r : Resolve) (o : TypeOwner) (scope : Scope) (id : TypeId) → IsVal
 abbrev pub FunctionsUse : Type 0
 FunctionsUse = (r : Resolve) (o : TypeOwner) (scope : Scope) (f : Function) → IsValid r → IsScopeOf r o scope → Contains (functions_of r o) f → UsesStand r o scope
     → InstancesStand r scope (function_types f)
+
+-- The interfaces that an interface uses are those that its types are aliases of.
+abbrev pub InterfaceUses : Type 0
+InterfaceUses = (r : Resolve) (i : InterfaceId) (j : ℕ) → IsValid r → i.0 < length r.interfaces.items → IsUsedBy r (owner.Interface i) j → Contains (direct_deps r i.0) j
 
 -- The scope of a table is that of its owner.
 abbrev pub TableScope : Type 0

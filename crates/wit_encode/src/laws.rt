@@ -1,6 +1,6 @@
 //! Laws of the scopes in which types and functions are encoded, for whoever brings an encoder of their own.
 
-ghost use Rattle.wit_encode.specs.OwnerScope.{FunctionsEncode, FunctionsUse, NamesEncode, TableScope, TypesEncode, TypesUse};
+ghost use Rattle.wit_encode.specs.OwnerScope.{FunctionsEncode, FunctionsUse, InterfaceUses, NamesEncode, TableScope, TypesEncode, TypesUse};
 
 /// Types can be encoded in the scope of an owner, where each name that is met is of the place, or of a named interface whose instance stands.
 pub fn names_encode()
@@ -18,6 +18,11 @@ pub fn types_encode()
 pub fn functions_encode()
     ensures encode { FunctionsEncode }
     ensures uses { FunctionsUse }
+{}
+
+/// The interfaces that the types of an interface use are its direct dependencies.
+pub fn interface_uses_dependencies()
+    ensures { InterfaceUses }
 {}
 
 /// The scope of a table is that of its owner.
