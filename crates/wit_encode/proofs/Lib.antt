@@ -37,3 +37,4 @@ pub mod UsesNone
 pub mod Reordering
 pub mod Importing
 pub mod OwnerScope
+pub mod MetKinds

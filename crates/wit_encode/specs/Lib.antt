@@ -22,3 +22,4 @@ pub mod InstanceLaws
 pub mod Exports
 pub mod UsesAlone
 pub mod OwnerScope
+pub mod MetKinds

@@ -1,5 +1,6 @@
 //! Laws of the scopes in which types and functions are encoded, for whoever brings an encoder of their own.
 
+ghost use Rattle.wit_encode.specs.MetKinds.{MetKindsAreHeld};
 ghost use Rattle.wit_encode.specs.OwnerScope.{FunctionsEncode, FunctionsUse, InterfaceUses, NamesEncode, TableScope, TypesEncode, TypesUse};
 
 /// Types can be encoded in the scope of an owner, where each name that is met is of the place, or of a named interface whose instance stands.
@@ -28,4 +29,10 @@ pub fn interface_uses_dependencies()
 /// The scope of a table is that of its owner.
 pub fn table_scope_is_of_owner()
     ensures { TableScope }
+{}
+
+/// Maps that were empty, and have learnt what is met from some types and nothing else, hold the kinds of the unnamed types that are met,
+/// each once.
+pub fn met_kinds_are_held()
+    ensures { MetKindsAreHeld }
 {}
