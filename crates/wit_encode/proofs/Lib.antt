@@ -38,3 +38,4 @@ pub mod Reordering
 pub mod Importing
 pub mod OwnerScope
 pub mod MetKinds
+pub mod Learning

@@ -12,13 +12,14 @@ ghost use Rattle.wit_model.specs.Lookup.{type_at};
 ghost use Rattle.wit_model.specs.Meant.{type_meaning};
 ghost use Rattle.wit_encode.specs.Slots.{tree, Grows};
 ghost use Rattle.wit_encode.specs.Kinds.{parts_of, kind_of, kind_tree, has_form, has_definition};
-ghost use Rattle.wit_encode.specs.Maps.{MapsAgree, IsKnown, IsReady, AllReady, LacksKind, LearnsOne, LearnsOnly};
+ghost use Rattle.wit_encode.specs.Maps.{MapsAgree, IsKnown, IsReady, AllReady, LacksKind, LearnsOne};
 ghost use Rattle.wit_encode.specs.Scope.{DeclaresSlot, DeclaresResource, IsImportable, IsDeclared, exported_name};
 ghost use Rattle.wit_encode.specs.Formed.{IsFormed};
-ghost use Rattle.wit_encode.specs.Plan.{foreign_owner, IsLayered, MetFrom};
+ghost use Rattle.wit_encode.specs.Plan.{foreign_owner, IsLayered};
 ghost use Rattle.wit_encode.specs.Fits.{Fits, FitsScope, CanEncode};
 ghost use Rattle.wit_encode.specs.Counts.{one_type_more, type_more_if, is_defined_by_name, is_defined_under_name, own_name, ExportsOne, AddsTypes};
 ghost use Rattle.wit_encode.specs.Unnamed.{IsUnnamedKind};
+ghost use Rattle.wit_encode.specs.MetKinds.{Learns, LearnsMet, LearnsKindOf};
 ghost use Rattle.wit_encode.specs.Leaves.{Leaves};
 
 use crate::encoder::ValtypeEncoder;
@@ -118,6 +119,7 @@ fn define_new_kind<'a, E: ValtypeEncoder<'a>>(
     ensures numbers { OnOk result ((E.maps_of enc.new).id_to_index.items ≡ (E.maps_of enc.old).id_to_index.items) }
     ensures leaves { Leaves resolve.now (E.scope enc.old) (E.scope enc.new) (E.slot_count enc.old) (E.slot_count enc.new) (E.stands enc.old) (E.stands enc.new) (E.maps_of enc.old) (E.maps_of enc.new) }
     ensures counts { OnOk result (AddsTypes resolve.now (E.scope enc.old) (E.maps_of enc.old) (E.maps_of enc.new) (E.definitions enc.old) (E.definitions enc.new)) }
+    ensures kinds { OnOk result (LearnsKindOf (E.maps_of enc.old) (E.maps_of enc.new) kind.now) }
     ensures refuses { IfErr result IsMemoryOrSize }
 {
     let index = define_shape(alloc, enc, resolve, shape_of(kind))?;
@@ -141,6 +143,7 @@ fn define_unnamed_kind<'a, E: ValtypeEncoder<'a>>(
     ensures numbers { OnOk result ((E.maps_of enc.new).id_to_index.items ≡ (E.maps_of enc.old).id_to_index.items) }
     ensures leaves { Leaves resolve.now (E.scope enc.old) (E.scope enc.new) (E.slot_count enc.old) (E.slot_count enc.new) (E.stands enc.old) (E.stands enc.new) (E.maps_of enc.old) (E.maps_of enc.new) }
     ensures counts { OnOk result (AddsTypes resolve.now (E.scope enc.old) (E.maps_of enc.old) (E.maps_of enc.new) (E.definitions enc.old) (E.definitions enc.new)) }
+    ensures kinds { OnOk result (LearnsKindOf (E.maps_of enc.old) (E.maps_of enc.new) kind.now) }
     ensures refuses { IfErr result IsMemoryOrSize }
 {
     if let Some(index) = index_of_kind(enc, kind) {
@@ -169,6 +172,7 @@ fn define_unnamed<'a, E: ValtypeEncoder<'a>>(
     ensures ok { OnOk result (LearnsOne (E.maps_of enc.old) (E.maps_of enc.new) id.0) }
     ensures leaves { Leaves resolve.now (E.scope enc.old) (E.scope enc.new) (E.slot_count enc.old) (E.slot_count enc.new) (E.stands enc.old) (E.stands enc.new) (E.maps_of enc.old) (E.maps_of enc.new) }
     ensures counts { OnOk result (AddsTypes resolve.now (E.scope enc.old) (E.maps_of enc.old) (E.maps_of enc.new) (E.definitions enc.old) (E.definitions enc.new)) }
+    ensures kinds { OnOk result (LearnsKindOf (E.maps_of enc.old) (E.maps_of enc.new) kind.now) }
     ensures refuses { IfErr result IsMemoryOrSize }
 {
     let index = define_unnamed_kind(alloc, enc, resolve, kind)?;
@@ -191,6 +195,7 @@ fn define_resource<'a, E: ValtypeEncoder<'a>>(
     ensures ok { OnOk result (LearnsOne (E.maps_of enc.old) (E.maps_of enc.new) id.0) }
     ensures leaves { Leaves resolve.now (E.scope enc.old) (E.scope enc.new) (E.slot_count enc.old) (E.slot_count enc.new) (E.stands enc.old) (E.stands enc.new) (E.maps_of enc.old) (E.maps_of enc.new) }
     ensures counts { OnOk result (AddsTypes resolve.now (E.scope enc.old) (E.maps_of enc.old) (E.maps_of enc.new) (E.definitions enc.old) (E.definitions enc.new)) }
+    ensures kinds { OnOk result ((E.maps_of enc.new).def_to_index.items ≡ (E.maps_of enc.old).def_to_index.items) }
     ensures refuses { IfErr result IsMemoryOrSize }
 {
     let index = enc.export_resource(name)?;
@@ -239,6 +244,7 @@ fn define_named<'a, E: ValtypeEncoder<'a>>(
     ensures ok { OnOk result (LearnsOne (E.maps_of enc.old) (E.maps_of enc.new) id.0) }
     ensures leaves { Leaves resolve.now (E.scope enc.old) (E.scope enc.new) (E.slot_count enc.old) (E.slot_count enc.new) (E.stands enc.old) (E.stands enc.new) (E.maps_of enc.old) (E.maps_of enc.new) }
     ensures counts { OnOk result (AddsTypes resolve.now (E.scope enc.old) (E.maps_of enc.old) (E.maps_of enc.new) (E.definitions enc.old) (E.definitions enc.new)) }
+    ensures kinds { OnOk result ((E.maps_of enc.new).def_to_index.items ≡ (E.maps_of enc.old).def_to_index.items) }
     ensures refuses { IfErr result IsMemoryOrSize }
 {
     let index = define_kind(alloc, enc, resolve, &def.kind)?;
@@ -264,6 +270,7 @@ fn define_own<'a, E: ValtypeEncoder<'a>>(
     ensures ok { OnOk result (LearnsOne (E.maps_of enc.old) (E.maps_of enc.new) id.0) }
     ensures leaves { Leaves resolve.now (E.scope enc.old) (E.scope enc.new) (E.slot_count enc.old) (E.slot_count enc.new) (E.stands enc.old) (E.stands enc.new) (E.maps_of enc.old) (E.maps_of enc.new) }
     ensures counts { OnOk result (AddsTypes resolve.now (E.scope enc.old) (E.maps_of enc.old) (E.maps_of enc.new) (E.definitions enc.old) (E.definitions enc.new)) }
+    ensures learns { OnOk result (Learns resolve.now (E.scope enc.old).own_interface (E.maps_of enc.old) (E.maps_of enc.new)) }
     ensures refuses { IfErr result IsMemoryOrSize }
 {
     match &def.name {
@@ -294,6 +301,7 @@ fn define_number<'a, E: ValtypeEncoder<'a>>(
     ensures ok { OnOk result (LearnsOne (E.maps_of enc.old) (E.maps_of enc.new) id.0) }
     ensures leaves { Leaves resolve.now (E.scope enc.old) (E.scope enc.new) (E.slot_count enc.old) (E.slot_count enc.new) (E.stands enc.old) (E.stands enc.new) (E.maps_of enc.old) (E.maps_of enc.new) }
     ensures counts { OnOk result (AddsTypes resolve.now (E.scope enc.old) (E.maps_of enc.old) (E.maps_of enc.new) (E.definitions enc.old) (E.definitions enc.new)) }
+    ensures learns { OnOk result (Learns resolve.now (E.scope enc.old).own_interface (E.maps_of enc.old) (E.maps_of enc.new)) }
     ensures refuses { IfErr result IsMemoryOrSize }
 {
     if index_of(enc, id).is_some() {
@@ -323,6 +331,7 @@ fn import<'a, E: ValtypeEncoder<'a>>(
     ensures ok { OnOk result (LearnsOne (E.maps_of enc.old) (E.maps_of enc.new) id.0) }
     ensures leaves { Leaves resolve.now (E.scope enc.old) (E.scope enc.new) (E.slot_count enc.old) (E.slot_count enc.new) (E.stands enc.old) (E.stands enc.new) (E.maps_of enc.old) (E.maps_of enc.new) }
     ensures counts { OnOk result (AddsTypes resolve.now (E.scope enc.old) (E.maps_of enc.old) (E.maps_of enc.new) (E.definitions enc.old) (E.definitions enc.new)) }
+    ensures kinds { OnOk result ((E.maps_of enc.new).def_to_index.items ≡ (E.maps_of enc.old).def_to_index.items) }
     ensures refuses { IfErr result IsMemoryOrSize }
 {
     let index = enc.import_type(interface, id)?;
@@ -339,7 +348,7 @@ pub(crate) fn define_parts<'a, E: ValtypeEncoder<'a>>(
     requires encodable { CanEncode resolve.now (E.scope enc.old) types.now }
     requires agree { MapsAgree resolve.now (E.maps_of enc.old) (E.stands enc.old) }
     ensures ready { OnOk result (AllReady (E.maps_of enc.new) types.now) }
-    ensures learns { OnOk result (LearnsOnly (MetFrom resolve.now (E.scope enc.old).own_interface (E.maps_of enc.old) types.now) (E.maps_of enc.old) (E.maps_of enc.new)) }
+    ensures learns { OnOk result (LearnsMet resolve.now (E.scope enc.old).own_interface types.now (E.maps_of enc.old) (E.maps_of enc.new)) }
     ensures leaves { Leaves resolve.now (E.scope enc.old) (E.scope enc.new) (E.slot_count enc.old) (E.slot_count enc.new) (E.stands enc.old) (E.stands enc.new) (E.maps_of enc.old) (E.maps_of enc.new) }
     ensures counts { OnOk result (AddsTypes resolve.now (E.scope enc.old) (E.maps_of enc.old) (E.maps_of enc.new) (E.definitions enc.old) (E.definitions enc.new)) }
     ensures refuses { IfErr result IsMemoryOrSize }

@@ -11,13 +11,14 @@ ghost use Rattle.wit_model.specs.Text.{text_of};
 ghost use Rattle.wit_model.specs.Types.{type_tree, number_tree};
 ghost use Rattle.wit_model.specs.Tree.{Tree, flags_tree, enum_tree, future_tree, stream_tree};
 ghost use Rattle.wit_model.specs.Lookup.{type_at};
-ghost use Rattle.wit_encode.specs.Plan.{foreign_owner, MetFrom};
+ghost use Rattle.wit_encode.specs.Plan.{foreign_owner};
 ghost use Rattle.wit_encode.specs.Scope.{IsImportable};
 ghost use Rattle.wit_model.specs.Meant.{signature_of};
 ghost use Rattle.wit_model.specs.Parts.{function_types};
 ghost use Rattle.wit_encode.specs.Slots.{tree, function, StandsFor, StandsForOptional, NamedStands, Follows, Grows};
 ghost use Rattle.wit_encode.specs.Kinds.{parts_of, kind_of, kind_tree};
-ghost use Rattle.wit_encode.specs.Maps.{MapsAgree, IsReady, LearnsOnly};
+ghost use Rattle.wit_encode.specs.Maps.{MapsAgree, IsReady, AllReady};
+ghost use Rattle.wit_encode.specs.MetKinds.{LearnsMet};
 ghost use Rattle.wit_encode.specs.Fits.{CanEncode};
 ghost use Rattle.wit_encode.specs.Formed.{IsFormed};
 ghost use Rattle.wit_encode.specs.Counts.{one_type_more, type_more_if, AddsTypes, AddsFunction};
@@ -48,6 +49,7 @@ fn encode_shape<'a, E: ValtypeEncoder<'a>>(
     requires formed { IsFormed (E.scope enc.old) (kind_tree resolve.now (kind_of shape)) }
     requires agree { MapsAgree resolve.now (E.maps_of enc.old) (E.stands enc.old) }
     ensures ok { IfOk result (λ v. StandsFor (E.stands enc.new) v (kind_tree resolve.now (kind_of shape.entry))) }
+    ensures learns { OnOk result (LearnsMet resolve.now (E.scope enc.old).own_interface (parts_of (kind_of shape.entry)) (E.maps_of enc.old) (E.maps_of enc.new)) }
     ensures leaves { Leaves resolve.now (E.scope enc.old) (E.scope enc.new) (E.slot_count enc.old) (E.slot_count enc.new) (E.stands enc.old) (E.stands enc.new) (E.maps_of enc.old) (E.maps_of enc.new) }
     ensures counts { OnOk result (AddsTypes resolve.now (E.scope enc.old) (E.maps_of enc.old) (E.maps_of enc.new) (one_type_more (E.definitions enc.old)) (E.definitions enc.new)) }
     ensures refuses { IfErr result IsMemoryOrSize }
@@ -71,7 +73,7 @@ pub fn encode_valtype<'a, E: ValtypeEncoder<'a>>(
     requires encodable { CanEncode resolve.now (E.scope enc.old) (ty.now ∷ []) }
     requires agree { MapsAgree resolve.now (E.maps_of enc.old) (E.stands enc.old) }
     ensures ok { IfOk result (λ v. StandsFor (E.stands enc.new) v (type_tree resolve.now ty.now)) }
-    ensures learns { OnOk result (LearnsOnly (MetFrom resolve.now (E.scope enc.old).own_interface (E.maps_of enc.old) (ty.now ∷ [])) (E.maps_of enc.old) (E.maps_of enc.new)) }
+    ensures learns { OnOk result (LearnsMet resolve.now (E.scope enc.old).own_interface (ty.now ∷ []) (E.maps_of enc.old) (E.maps_of enc.new)) }
     ensures leaves { Leaves resolve.now (E.scope enc.old) (E.scope enc.new) (E.slot_count enc.old) (E.slot_count enc.new) (E.stands enc.old) (E.stands enc.new) (E.maps_of enc.old) (E.maps_of enc.new) }
     ensures counts { OnOk result (AddsTypes resolve.now (E.scope enc.old) (E.maps_of enc.old) (E.maps_of enc.new) (E.definitions enc.old) (E.definitions enc.new)) }
     ensures knows { OnOk result (IsReady (E.maps_of enc.new) ty.now) }
@@ -93,9 +95,10 @@ pub fn encode_optional_valtype<'a, E: ValtypeEncoder<'a>>(
     requires encodable { CanEncode resolve.now (E.scope enc.old) (option_to_list (option_copied ty)) }
     requires agree { MapsAgree resolve.now (E.maps_of enc.old) (E.stands enc.old) }
     ensures ok { IfOk result (λ v. StandsForOptional (E.stands enc.new) v (option_map (type_tree resolve.now) (option_copied ty.entry))) }
-    ensures learns { OnOk result (LearnsOnly (MetFrom resolve.now (E.scope enc.old).own_interface (E.maps_of enc.old) (option_to_list (option_copied ty.entry))) (E.maps_of enc.old) (E.maps_of enc.new)) }
+    ensures learns { OnOk result (LearnsMet resolve.now (E.scope enc.old).own_interface (option_to_list (option_copied ty.entry)) (E.maps_of enc.old) (E.maps_of enc.new)) }
     ensures leaves { Leaves resolve.now (E.scope enc.old) (E.scope enc.new) (E.slot_count enc.old) (E.slot_count enc.new) (E.stands enc.old) (E.stands enc.new) (E.maps_of enc.old) (E.maps_of enc.new) }
     ensures counts { OnOk result (AddsTypes resolve.now (E.scope enc.old) (E.maps_of enc.old) (E.maps_of enc.new) (E.definitions enc.old) (E.definitions enc.new)) }
+    ensures knows { OnOk result (AllReady (E.maps_of enc.new) (option_to_list (option_copied ty.entry))) }
     ensures refuses { IfErr result IsMemoryOrSize }
 {
     match ty {
@@ -119,9 +122,10 @@ pub fn encode_params<'a, E: ValtypeEncoder<'a>>(
     requires encodable { CanEncode resolve.now (E.scope enc.old) (map (λ p. p.ty) params.now) }
     requires agree { MapsAgree resolve.now (E.maps_of enc.old) (E.stands enc.old) }
     ensures ok { IfOk result (λ v. AllZip (NamedStands (E.stands enc.new)) v.items (map (λ p. (text_of p.name, type_tree resolve.now p.ty)) params.now)) }
-    ensures learns { OnOk result (LearnsOnly (MetFrom resolve.now (E.scope enc.old).own_interface (E.maps_of enc.old) (map (λ p. p.ty) params.now)) (E.maps_of enc.old) (E.maps_of enc.new)) }
+    ensures learns { OnOk result (LearnsMet resolve.now (E.scope enc.old).own_interface (map (λ p. p.ty) params.now) (E.maps_of enc.old) (E.maps_of enc.new)) }
     ensures leaves { Leaves resolve.now (E.scope enc.old) (E.scope enc.new) (E.slot_count enc.old) (E.slot_count enc.new) (E.stands enc.old) (E.stands enc.new) (E.maps_of enc.old) (E.maps_of enc.new) }
     ensures counts { OnOk result (AddsTypes resolve.now (E.scope enc.old) (E.maps_of enc.old) (E.maps_of enc.new) (E.definitions enc.old) (E.definitions enc.new)) }
+    ensures knows { OnOk result (AllReady (E.maps_of enc.new) (map (λ p. p.ty) params.now)) }
     ensures refuses { IfErr result IsMemoryOrSize }
 {
     let types = param_types(alloc, params)?;
@@ -143,6 +147,7 @@ pub fn encode_record<'a, E: ValtypeEncoder<'a>>(
     requires formed { IsFormed (E.scope enc.old) (kind_tree resolve.now (TypeDefKind.Record ty.now)) }
     requires agree { MapsAgree resolve.now (E.maps_of enc.old) (E.stands enc.old) }
     ensures ok { IfOk result (λ v. StandsFor (E.stands enc.new) v (kind_tree resolve.now (TypeDefKind.Record ty.now))) }
+    ensures learns { OnOk result (LearnsMet resolve.now (E.scope enc.old).own_interface (parts_of (TypeDefKind.Record ty.now)) (E.maps_of enc.old) (E.maps_of enc.new)) }
     ensures leaves { Leaves resolve.now (E.scope enc.old) (E.scope enc.new) (E.slot_count enc.old) (E.slot_count enc.new) (E.stands enc.old) (E.stands enc.new) (E.maps_of enc.old) (E.maps_of enc.new) }
     ensures counts { OnOk result (AddsTypes resolve.now (E.scope enc.old) (E.maps_of enc.old) (E.maps_of enc.new) (one_type_more (E.definitions enc.old)) (E.definitions enc.new)) }
     ensures refuses { IfErr result IsMemoryOrSize }
@@ -163,6 +168,7 @@ pub fn encode_tuple<'a, E: ValtypeEncoder<'a>>(
     requires formed { IsFormed (E.scope enc.old) (kind_tree resolve.now (TypeDefKind.Tuple ty.now)) }
     requires agree { MapsAgree resolve.now (E.maps_of enc.old) (E.stands enc.old) }
     ensures ok { IfOk result (λ v. StandsFor (E.stands enc.new) v (kind_tree resolve.now (TypeDefKind.Tuple ty.now))) }
+    ensures learns { OnOk result (LearnsMet resolve.now (E.scope enc.old).own_interface (parts_of (TypeDefKind.Tuple ty.now)) (E.maps_of enc.old) (E.maps_of enc.new)) }
     ensures leaves { Leaves resolve.now (E.scope enc.old) (E.scope enc.new) (E.slot_count enc.old) (E.slot_count enc.new) (E.stands enc.old) (E.stands enc.new) (E.maps_of enc.old) (E.maps_of enc.new) }
     ensures counts { OnOk result (AddsTypes resolve.now (E.scope enc.old) (E.maps_of enc.old) (E.maps_of enc.new) (one_type_more (E.definitions enc.old)) (E.definitions enc.new)) }
     ensures refuses { IfErr result IsMemoryOrSize }
@@ -183,6 +189,7 @@ pub fn encode_variant<'a, E: ValtypeEncoder<'a>>(
     requires formed { IsFormed (E.scope enc.old) (kind_tree resolve.now (TypeDefKind.Variant ty.now)) }
     requires agree { MapsAgree resolve.now (E.maps_of enc.old) (E.stands enc.old) }
     ensures ok { IfOk result (λ v. StandsFor (E.stands enc.new) v (kind_tree resolve.now (TypeDefKind.Variant ty.now))) }
+    ensures learns { OnOk result (LearnsMet resolve.now (E.scope enc.old).own_interface (parts_of (TypeDefKind.Variant ty.now)) (E.maps_of enc.old) (E.maps_of enc.new)) }
     ensures leaves { Leaves resolve.now (E.scope enc.old) (E.scope enc.new) (E.slot_count enc.old) (E.slot_count enc.new) (E.stands enc.old) (E.stands enc.new) (E.maps_of enc.old) (E.maps_of enc.new) }
     ensures counts { OnOk result (AddsTypes resolve.now (E.scope enc.old) (E.maps_of enc.old) (E.maps_of enc.new) (one_type_more (E.definitions enc.old)) (E.definitions enc.new)) }
     ensures refuses { IfErr result IsMemoryOrSize }
@@ -203,6 +210,7 @@ pub fn encode_result<'a, E: ValtypeEncoder<'a>>(
     requires formed { IsFormed (E.scope enc.old) (kind_tree resolve.now (TypeDefKind.Result ty.now)) }
     requires agree { MapsAgree resolve.now (E.maps_of enc.old) (E.stands enc.old) }
     ensures ok { IfOk result (λ v. StandsFor (E.stands enc.new) v (kind_tree resolve.now (TypeDefKind.Result ty.now))) }
+    ensures learns { OnOk result (LearnsMet resolve.now (E.scope enc.old).own_interface (parts_of (TypeDefKind.Result ty.now)) (E.maps_of enc.old) (E.maps_of enc.new)) }
     ensures leaves { Leaves resolve.now (E.scope enc.old) (E.scope enc.new) (E.slot_count enc.old) (E.slot_count enc.new) (E.stands enc.old) (E.stands enc.new) (E.maps_of enc.old) (E.maps_of enc.new) }
     ensures counts { OnOk result (AddsTypes resolve.now (E.scope enc.old) (E.maps_of enc.old) (E.maps_of enc.new) (one_type_more (E.definitions enc.old)) (E.definitions enc.new)) }
     ensures refuses { IfErr result IsMemoryOrSize }
@@ -223,6 +231,7 @@ pub fn encode_option<'a, E: ValtypeEncoder<'a>>(
     requires formed { IsFormed (E.scope enc.old) (kind_tree resolve.now (TypeDefKind.Option payload.now)) }
     requires agree { MapsAgree resolve.now (E.maps_of enc.old) (E.stands enc.old) }
     ensures ok { IfOk result (λ v. StandsFor (E.stands enc.new) v (kind_tree resolve.now (TypeDefKind.Option payload.now))) }
+    ensures learns { OnOk result (LearnsMet resolve.now (E.scope enc.old).own_interface (parts_of (TypeDefKind.Option payload.now)) (E.maps_of enc.old) (E.maps_of enc.new)) }
     ensures leaves { Leaves resolve.now (E.scope enc.old) (E.scope enc.new) (E.slot_count enc.old) (E.slot_count enc.new) (E.stands enc.old) (E.stands enc.new) (E.maps_of enc.old) (E.maps_of enc.new) }
     ensures counts { OnOk result (AddsTypes resolve.now (E.scope enc.old) (E.maps_of enc.old) (E.maps_of enc.new) (one_type_more (E.definitions enc.old)) (E.definitions enc.new)) }
     ensures refuses { IfErr result IsMemoryOrSize }
@@ -243,6 +252,7 @@ pub fn encode_future<'a, E: ValtypeEncoder<'a>>(
     requires formed { IsFormed (E.scope enc.old) (kind_tree resolve.now (TypeDefKind.Future payload.now)) }
     requires agree { MapsAgree resolve.now (E.maps_of enc.old) (E.stands enc.old) }
     ensures ok { IfOk result (λ v. StandsFor (E.stands enc.new) v (kind_tree resolve.now (TypeDefKind.Future payload.now))) }
+    ensures learns { OnOk result (LearnsMet resolve.now (E.scope enc.old).own_interface (parts_of (TypeDefKind.Future payload.now)) (E.maps_of enc.old) (E.maps_of enc.new)) }
     ensures leaves { Leaves resolve.now (E.scope enc.old) (E.scope enc.new) (E.slot_count enc.old) (E.slot_count enc.new) (E.stands enc.old) (E.stands enc.new) (E.maps_of enc.old) (E.maps_of enc.new) }
     ensures counts { OnOk result (AddsTypes resolve.now (E.scope enc.old) (E.maps_of enc.old) (E.maps_of enc.new) (one_type_more (E.definitions enc.old)) (E.definitions enc.new)) }
     ensures refuses { IfErr result IsMemoryOrSize }
@@ -263,6 +273,7 @@ pub fn encode_stream<'a, E: ValtypeEncoder<'a>>(
     requires formed { IsFormed (E.scope enc.old) (kind_tree resolve.now (TypeDefKind.Stream payload.now)) }
     requires agree { MapsAgree resolve.now (E.maps_of enc.old) (E.stands enc.old) }
     ensures ok { IfOk result (λ v. StandsFor (E.stands enc.new) v (kind_tree resolve.now (TypeDefKind.Stream payload.now))) }
+    ensures learns { OnOk result (LearnsMet resolve.now (E.scope enc.old).own_interface (parts_of (TypeDefKind.Stream payload.now)) (E.maps_of enc.old) (E.maps_of enc.new)) }
     ensures leaves { Leaves resolve.now (E.scope enc.old) (E.scope enc.new) (E.slot_count enc.old) (E.slot_count enc.new) (E.stands enc.old) (E.stands enc.new) (E.maps_of enc.old) (E.maps_of enc.new) }
     ensures counts { OnOk result (AddsTypes resolve.now (E.scope enc.old) (E.maps_of enc.old) (E.maps_of enc.new) (one_type_more (E.definitions enc.old)) (E.definitions enc.new)) }
     ensures refuses { IfErr result IsMemoryOrSize }

@@ -6,8 +6,8 @@ ghost use Rattle.wit_model.specs.Meant.{signature_of};
 ghost use Rattle.wit_model.specs.Parts.{function_types};
 ghost use Rattle.wit_encode.specs.Slots.{function, FollowsFunction};
 ghost use Rattle.wit_encode.specs.Key.{IsKeyOf};
-ghost use Rattle.wit_encode.specs.Maps.{MapsAgree, LacksKey, LearnsOnly};
-ghost use Rattle.wit_encode.specs.Plan.{MetFrom};
+ghost use Rattle.wit_encode.specs.Maps.{MapsAgree, AllReady, LacksKey};
+ghost use Rattle.wit_encode.specs.MetKinds.{LearnsMet};
 ghost use Rattle.wit_encode.specs.Fits.{CanEncode};
 ghost use Rattle.wit_encode.specs.Formed.{IsFormedSignature};
 ghost use Rattle.wit_encode.specs.Counts.{AddsTypes, AddsFunction};
@@ -34,9 +34,10 @@ fn function_of<'a, E: ValtypeEncoder<'a>>(
     requires asynchronous { async_ ≡ (signature_of resolve.now func.now).is_async }
     requires agree { MapsAgree resolve.now (E.maps_of enc.old) (E.stands enc.old) }
     ensures ok { IfOk result (λ f. FollowsFunction (E.stands enc.new) f (signature_of resolve.now func.now)) }
-    ensures learns { OnOk result (LearnsOnly (MetFrom resolve.now (E.scope enc.old).own_interface (E.maps_of enc.old) (function_types func.now)) (E.maps_of enc.old) (E.maps_of enc.new)) }
+    ensures learns { OnOk result (LearnsMet resolve.now (E.scope enc.old).own_interface (function_types func.now) (E.maps_of enc.old) (E.maps_of enc.new)) }
     ensures leaves { Leaves resolve.now (E.scope enc.old) (E.scope enc.new) (E.slot_count enc.old) (E.slot_count enc.new) (E.stands enc.old) (E.stands enc.new) (E.maps_of enc.old) (E.maps_of enc.new) }
     ensures counts { OnOk result (AddsTypes resolve.now (E.scope enc.old) (E.maps_of enc.old) (E.maps_of enc.new) (E.definitions enc.old) (E.definitions enc.new)) }
+    ensures knows { OnOk result (AllReady (E.maps_of enc.new) (function_types func.now)) }
     ensures refuses { IfErr result IsMemoryOrSize }
 {
     let params = encode_params(alloc, enc, resolve, &func.params)?;
@@ -62,7 +63,7 @@ fn define_key<'a, E: ValtypeEncoder<'a>>(
     requires formed { IsFormedSignature (E.scope enc.old) (signature_of resolve.now func.now) }
     requires agree { MapsAgree resolve.now (E.maps_of enc.old) (E.stands enc.old) }
     ensures ok { IfOk result (λ i. E.stands enc.new i (function (signature_of resolve.now func.now))) }
-    ensures learns { OnOk result (LearnsOnly (MetFrom resolve.now (E.scope enc.old).own_interface (E.maps_of enc.old) (function_types func.now)) (E.maps_of enc.old) (E.maps_of enc.new)) }
+    ensures learns { OnOk result (LearnsMet resolve.now (E.scope enc.old).own_interface (function_types func.now) (E.maps_of enc.old) (E.maps_of enc.new)) }
     ensures leaves { Leaves resolve.now (E.scope enc.old) (E.scope enc.new) (E.slot_count enc.old) (E.slot_count enc.new) (E.stands enc.old) (E.stands enc.new) (E.maps_of enc.old) (E.maps_of enc.new) }
     ensures counts { IfOk result (AddsFunction resolve.now (E.scope enc.old) (E.maps_of enc.old) (E.maps_of enc.new) (E.definitions enc.old) (E.definitions enc.new) key.entry) }
     ensures refuses { IfErr result IsMemoryOrSize }
@@ -86,7 +87,7 @@ pub fn encode_func_type<'a, E: ValtypeEncoder<'a>>(
     requires formed { IsFormedSignature (E.scope enc.old) (signature_of resolve.now func.now) }
     requires agree { MapsAgree resolve.now (E.maps_of enc.old) (E.stands enc.old) }
     ensures ok { IfOk result (λ i. E.stands enc.new i (function (signature_of resolve.now func.now))) }
-    ensures learns { OnOk result (LearnsOnly (MetFrom resolve.now (E.scope enc.old).own_interface (E.maps_of enc.old) (function_types func.now)) (E.maps_of enc.old) (E.maps_of enc.new)) }
+    ensures learns { OnOk result (LearnsMet resolve.now (E.scope enc.old).own_interface (function_types func.now) (E.maps_of enc.old) (E.maps_of enc.new)) }
     ensures leaves { Leaves resolve.now (E.scope enc.old) (E.scope enc.new) (E.slot_count enc.old) (E.slot_count enc.new) (E.stands enc.old) (E.stands enc.new) (E.maps_of enc.old) (E.maps_of enc.new) }
     ensures counts { IfOk result (λ i. (key : KeyValue) × IsKeyOf key func.now × AddsFunction resolve.now (E.scope enc.old) (E.maps_of enc.old) (E.maps_of enc.new) (E.definitions enc.old) (E.definitions enc.new) key i) }
     ensures refuses { IfErr result IsMemoryOrSize }

@@ -1,4 +1,5 @@
 use Rattle.std.proofs.Common.{refl}
+use Rattle.wit_encode.proofs.Learning.{kind-had}
 use Rattle.wit_encode.proofs.Defining.{kind-stands, counts-none}
 use Rattle.wit_encode.proofs.define.define_unnamed_kind.Goals as goal
 
@@ -10,3 +11,6 @@ define_new_kind-requires g c = λ _. ((refl, tt), rw c.index_of_kind.ensures.sam
 
 pub returns-in-Some-clause-counts : goal.returns-in-Some-clause-counts
 returns-in-Some-clause-counts g c = rw c.index_of_kind.ensures.same (counts-none c.args.resolve.now (g.E.ValtypeEncoder.scope c.args.enc.now) (g.E.LendsMaps.maps_of c.args.enc.now) (g.E.ValtypeEncoder.definitions c.args.enc.now))
+
+pub returns-in-Some-clause-kinds : goal.returns-in-Some-clause-kinds
+returns-in-Some-clause-kinds g c = rw c.index_of_kind.ensures.same (kind-had (g.E.LendsMaps.maps_of c.args.enc.now) c.args.kind.now c.in-Some.index c.in-Some.ensures.some)
