@@ -6,11 +6,11 @@ ghost use Rattle.wit_model.specs.Meant.{signature_of};
 ghost use Rattle.wit_model.specs.Parts.{function_types};
 ghost use Rattle.wit_encode.specs.Slots.{function, FollowsFunction};
 ghost use Rattle.wit_encode.specs.Key.{IsKeyOf};
-ghost use Rattle.wit_encode.specs.Maps.{LacksKey};
+ghost use Rattle.wit_encode.specs.Maps.{AllReady, LacksKey};
 ghost use Rattle.wit_encode.specs.Fits.{CanEncode};
 ghost use Rattle.wit_encode.specs.Formed.{IsFormedSignature};
 ghost use Rattle.wit_encode.specs.View.{Agrees};
-ghost use Rattle.wit_encode.specs.Leaves.{Leaves, LearnsMet, CountsTypes, CountsFunction};
+ghost use Rattle.wit_encode.specs.Leaves.{Leaves, LearnsFrom, CountsTypes, CountsFunction};
 ghost use Rattle.wit_encode.specs.declared.key.FunctionKey.{FunctionKey as KeyValue};
 
 use crate::encode::{encode_optional_valtype, encode_params};
@@ -33,9 +33,10 @@ fn function_of<'a, E: ValtypeEncoder<'a>>(
     requires asynchronous { async_ ≡ (signature_of resolve.now func.now).is_async }
     requires agree { Agrees resolve.now (E.view enc.old) }
     ensures ok { IfOk result (λ f. FollowsFunction (E.view enc.new).stands f (signature_of resolve.now func.now)) }
-    ensures learns { OnOk result (LearnsMet resolve.now (function_types func.now) (E.view enc.old) (E.view enc.new)) }
+    ensures learns { OnOk result (LearnsFrom resolve.now (function_types func.now) (E.view enc.old) (E.view enc.new)) }
     ensures leaves { Leaves resolve.now (E.view enc.old) (E.view enc.new) }
     ensures counts { OnOk result (CountsTypes resolve.now (E.view enc.old) (E.view enc.new)) }
+    ensures knows { OnOk result (AllReady (E.view enc.new).maps (function_types func.now)) }
     ensures refuses { IfErr result IsMemoryOrSize }
 {
     let params = encode_params(alloc, enc, resolve, &func.params)?;
@@ -61,7 +62,7 @@ fn define_key<'a, E: ValtypeEncoder<'a>>(
     requires formed { IsFormedSignature (E.view enc.old).scope (signature_of resolve.now func.now) }
     requires agree { Agrees resolve.now (E.view enc.old) }
     ensures ok { IfOk result (λ i. (E.view enc.new).stands i (function (signature_of resolve.now func.now))) }
-    ensures learns { OnOk result (LearnsMet resolve.now (function_types func.now) (E.view enc.old) (E.view enc.new)) }
+    ensures learns { OnOk result (LearnsFrom resolve.now (function_types func.now) (E.view enc.old) (E.view enc.new)) }
     ensures leaves { Leaves resolve.now (E.view enc.old) (E.view enc.new) }
     ensures counts { IfOk result (CountsFunction resolve.now (E.view enc.old) (E.view enc.new) key.entry) }
     ensures refuses { IfErr result IsMemoryOrSize }
@@ -85,7 +86,7 @@ pub fn encode_func_type<'a, E: ValtypeEncoder<'a>>(
     requires formed { IsFormedSignature (E.view enc.old).scope (signature_of resolve.now func.now) }
     requires agree { Agrees resolve.now (E.view enc.old) }
     ensures ok { IfOk result (λ i. (E.view enc.new).stands i (function (signature_of resolve.now func.now))) }
-    ensures learns { OnOk result (LearnsMet resolve.now (function_types func.now) (E.view enc.old) (E.view enc.new)) }
+    ensures learns { OnOk result (LearnsFrom resolve.now (function_types func.now) (E.view enc.old) (E.view enc.new)) }
     ensures leaves { Leaves resolve.now (E.view enc.old) (E.view enc.new) }
     ensures counts { IfOk result (λ i. (key : KeyValue) × IsKeyOf key func.now × CountsFunction resolve.now (E.view enc.old) (E.view enc.new) key i) }
     ensures refuses { IfErr result IsMemoryOrSize }
