@@ -36,7 +36,9 @@ use Rattle.wit_encode.specs.Fits.{CanEncode}
 use Rattle.wit_encode.specs.Scope.{Scope}
 use Rattle.wit_encode.specs.Known.{UsedStand}
 use Rattle.wit_encode.specs.Instance.{CanEncodeFunction, CanEncodeInterface, encoder_scope, opened, keyed, standing_instances}
-use Rattle.wit_encode.proofs.Lists.{all-contained, both, contains-map}
+use Rattle.wit_model.specs.declared.model.«Type».{«Type» as ValueType}
+use Rattle.wit_encode.specs.Plan.{Reaches, itself, through}
+use Rattle.wit_encode.proofs.Lists.{all-contained, both, contains-map, one-contained}
 use Rattle.wit_encode.proofs.Owned.{same-owner, or-cases}
 use Rattle.wit_encode.proofs.Paths.{equal-numbers, found-in, some-of, some-same}
 use Rattle.wit_encode.proofs.Naming.{or-first, or-second, one-home, valid-listed}
@@ -44,7 +46,7 @@ use Rattle.wit_encode.specs.OwnerScope.{IsScopeOf, IsUsedBy, UsesStand, IsTypeOf
 use Rattle.wit_encode.proofs.OwnerScope.{types_encode, types_use, functions_encode, functions_use}
 use Rattle.wit_encode.proofs.Naming.{names-agree}
 use Rattle.wit_encode.proofs.Opening.{opened-sound, opened-around}
-use Rattle.wit_encode.proofs.Validity.{interface_passes}
+use Rattle.wit_encode.proofs.Validity.{interface_passes, valid-layered}
 
 -- ---- look-ups
 
@@ -255,3 +257,16 @@ valid-encodable r v outer i known def there around = record {
   where
     listed : (f : Text × Function) → Contains (map keyed def.functions.entries) f → Contains (functions_of_interface def) f.1
     listed f c = subst (λ (fs : List Function). Contains fs f.1) (map-map (λ e. e.1) keyed def.functions.entries) (contains-map (λ e. e.1) (map keyed def.functions.entries) f c)
+
+-- a primitive type can be encoded in any scope of valid packages
+pub primitive-encodes : (r : Resolve) → IsValid r → (s : Scope) → s.packages ≡ r → CanEncode r s (ty.U32 ∷ [])
+primitive-encodes r v s p = record {
+  packages_ = p;
+  layered = valid-layered r v;
+  in_range = λ t h id e. absurd (let q = one-contained ty.U32 t h ∙ e in let z : ⊥ = cc in z);
+  fits = λ t h n k. absurd (nothing-reached t n (one-contained ty.U32 t h) k);
+}
+  where
+    nothing-reached : (t : ValueType) (n : ℕ) → ty.U32 ≡ t → Reaches r s.own_interface t n → ⊥
+    nothing-reached _ _ e (itself id) = let z : ⊥ = cc in z
+    nothing-reached _ _ e (through id def t n at f c k) = let z : ⊥ = cc in z

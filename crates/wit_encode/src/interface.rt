@@ -242,11 +242,12 @@ impl<'a> InterfaceEncoderOf<'a, TypeEncodingMaps<'a>> {
         ensures agree { Agrees resolve.now (encoder_view result) }
         ensures sound { (encoder_view result).scope.is_sound ≡ true }
     {
+        let maps = TypeEncodingMaps::new(alloc);
         InterfaceEncoderOf {
             resolve,
             outer: ComponentType::new(alloc),
             inner: None,
-            maps: TypeEncodingMaps::new(alloc),
+            maps,
             outer_type_map: Vec::new(alloc),
         }
     }

@@ -5,6 +5,8 @@
 #[cfg(test)]
 mod encoded;
 #[cfg(test)]
+mod fresh;
+#[cfg(test)]
 mod functions;
 #[cfg(test)]
 mod instances;
