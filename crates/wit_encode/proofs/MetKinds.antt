@@ -38,7 +38,7 @@ unnamed-home r v own n def is e = ap (foreign_owner own) (same-owner def.owner o
 
 -- ---- keys
 
-params-same : (ps qs : List Param) → pointwise same_param ps qs ≡ true → map (λ p. p.ty) ps ≡ map (λ p. p.ty) qs
+pub params-same : (ps qs : List Param) → pointwise same_param ps qs ≡ true → map (λ p. p.ty) ps ≡ map (λ p. p.ty) qs
 params-same [] [] e = refl
 params-same [] (q ∷ qs) e = absurd (let z : ⊥ = cc in z)
 params-same (p ∷ ps) [] e = absurd (let z : ⊥ = cc in z)

@@ -240,6 +240,9 @@ impl<'a> InterfaceEncoderOf<'a, TypeEncodingMaps<'a>> {
     ghost use Rattle.std.specs.Prelude.{nat_eq};
     ghost use Rattle.wit_encode.specs.Distinct.{AddsFunctions, DefinesKeys, DefinesTypes, defined_under_names};
     ghost use Rattle.wit_model.specs.Valid.{IsValid};
+    ghost use Rattle.wit_encode.specs.MetKinds.{LearnsFrom, referred};
+    ghost use Rattle.wit_model.specs.Parts.{function_types};
+    ghost use Rattle.std.specs.List.{flat_map};
     ghost use Rattle.wit_encode.specs.Exports.{AreTypesOf, AllKnown, KnowsUsed, UsesListed};
     ghost use Rattle.wit_model.specs.declared.model.«Type».TheVariants as ValueType;
     ghost use Rattle.wit_encode.specs.Instance.{ShowsFunction, CanEncodeFunction, Continues, IsInstance, EncodesInterface};
@@ -305,6 +308,7 @@ impl<'a> InterfaceEncoderOf<'a, TypeEncodingMaps<'a>> {
         ensures continues { Continues resolve.now resolve.now self.old.outer self.new.outer self.old.inner self.new.inner self.old.maps self.new.maps }
         ensures shows { OnOk result (shown_functions resolve.now self.new.outer self.new.inner ≡ shown_functions resolve.now self.old.outer self.old.inner ++ (text_of name.now, function_meaning resolve.now func.now) ∷ []) }
         ensures counts { OnOk result (AddsFunctions resolve.now (encoder_scope resolve.now self.old.outer self.old.inner) self.old.maps self.new.maps (defined_in resolve.now self.old.outer self.old.inner) (defined_in resolve.now self.new.outer self.new.inner) (func.now ∷ [])) }
+        ensures learns { OnOk result (LearnsFrom resolve.now (own_of self.old.inner) (function_types func.now) self.old.maps self.new.maps) }
         ensures maps_grow { MapsGrow self.old.maps self.new.maps }
         ensures types_stay { OnOk result (exports_in resolve.now self.new.outer self.new.inner ≡ exports_in resolve.now self.old.outer self.old.inner) }
         ensures names_stay { OnOk result (names_defined resolve.now (encoder_scope resolve.now self.old.outer self.old.inner) self.new.maps ≡ names_defined resolve.now (encoder_scope resolve.now self.old.outer self.old.inner) self.old.maps) }
@@ -332,6 +336,7 @@ impl<'a> InterfaceEncoderOf<'a, TypeEncodingMaps<'a>> {
         ensures continues { Continues resolve.now resolve.now self.old.outer self.new.outer self.old.inner self.new.inner self.old.maps self.new.maps }
         ensures shows { OnOk result (shown_functions resolve.now self.new.outer self.new.inner ≡ shown_functions resolve.now self.old.outer self.old.inner ++ map (λ f. meaning_of resolve.now (placed_function f)) functions.now) }
         ensures counts { OnOk result (AddsFunctions resolve.now (encoder_scope resolve.now self.old.outer self.old.inner) self.old.maps self.new.maps (defined_in resolve.now self.old.outer self.old.inner) (defined_in resolve.now self.new.outer self.new.inner) (map (λ f. f.2.now) functions.now)) }
+        ensures learns { OnOk result (LearnsFrom resolve.now (own_of self.old.inner) (flat_map function_types (map (λ f. f.2.now) functions.now)) self.old.maps self.new.maps) }
         ensures types_stay { OnOk result (exports_in resolve.now self.new.outer self.new.inner ≡ exports_in resolve.now self.old.outer self.old.inner) }
         ensures names_stay { OnOk result (names_defined resolve.now (encoder_scope resolve.now self.old.outer self.old.inner) self.new.maps ≡ names_defined resolve.now (encoder_scope resolve.now self.old.outer self.old.inner) self.old.maps) }
         ensures refuses { IfErr result IsMemoryOrSize }
@@ -359,6 +364,7 @@ impl<'a> InterfaceEncoderOf<'a, TypeEncodingMaps<'a>> {
         requires unshown { exports_in self.old.resolve.now self.old.outer self.old.inner ≡ [] }
         ensures leaves { Leaves resolve.now (encoder_scope self.old.resolve.now self.old.outer self.old.inner) (encoder_scope self.new.resolve.now self.new.outer self.new.inner) (slots_in self.old.resolve.now self.old.outer self.old.inner) (slots_in self.new.resolve.now self.new.outer self.new.inner) (stands_in self.old.resolve.now self.old.outer self.old.inner) (stands_in self.new.resolve.now self.new.outer self.new.inner) self.old.maps self.new.maps }
         ensures counts { OnOk result (AddsTypes resolve.now (encoder_scope self.old.resolve.now self.old.outer self.old.inner) self.old.maps self.new.maps (defined_in self.old.resolve.now self.old.outer self.old.inner) (defined_in self.new.resolve.now self.new.outer self.new.inner)) }
+        ensures learns { OnOk result (LearnsFrom resolve.now (own_of self.old.inner) (map (λ t. ValueType.Id t) types.now) self.old.maps self.new.maps) }
         ensures known { OnOk result (AllKnown self.new.maps types.now) }
         ensures exported { OnOk result (exports_in self.new.resolve.now self.new.outer self.new.inner ≡ declarations_in resolve.now (own_of self.old.inner)) }
         ensures defined { OnOk result (names_defined resolve.now (encoder_scope self.old.resolve.now self.old.outer self.old.inner) self.new.maps ≡ distinct_count nat_eq (defined_under_names resolve.now (own_of self.old.inner) types.now)) }
@@ -393,6 +399,8 @@ impl<'a> InterfaceEncoderOf<'a, TypeEncodingMaps<'a>> {
         ensures continues { Continues resolve.now resolve.now self.old.outer self.new.outer self.old.inner self.new.inner self.old.maps self.new.maps }
         ensures shows { OnOk result (shown_functions resolve.now self.new.outer self.new.inner ≡ shown_functions resolve.now self.old.outer self.old.inner ++ map (λ f. meaning_of resolve.now (placed_function f)) functions.now) }
         ensures counts { OnOk result (AddsFunctions resolve.now (encoder_scope resolve.now self.old.outer self.old.inner) self.old.maps self.new.maps (defined_in resolve.now self.old.outer self.old.inner) (defined_in resolve.now self.new.outer self.new.inner) (map (λ f. f.2.now) functions.now)) }
+        ensures known { OnOk result (AllKnown self.new.maps types.now) }
+        ensures learns { OnOk result (LearnsFrom resolve.now (own_of self.old.inner) (referred types.now (map (λ f. f.2.now) functions.now)) self.old.maps self.new.maps) }
         ensures exported { OnOk result (exports_in resolve.now self.new.outer self.new.inner ≡ declarations_in resolve.now (own_of self.old.inner)) }
         ensures defined { OnOk result (names_defined resolve.now (encoder_scope resolve.now self.old.outer self.old.inner) self.new.maps ≡ distinct_count nat_eq (defined_under_names resolve.now (own_of self.old.inner) types.now)) }
         ensures refuses { IfErr result IsMemoryOrSize }
@@ -421,7 +429,7 @@ impl<'a> InterfaceEncoderOf<'a, TypeEncodingMaps<'a>> {
         ensures known { self.new.outer_type_map.items ≡ self.old.outer_type_map.items }
         ensures ok { IfOk result (λ ds. IsInstance self.old.resolve.now self.old.outer interface ds (map (λ f. meaning_of self.old.resolve.now (placed_function f)) functions.now)) }
         ensures function_types { IfOk result (DefinesKeys (map (λ f. f.2.now) functions.now)) }
-        ensures value_types { IfOk result (DefinesTypes self.old.resolve.now interface types.now) }
+        ensures value_types { IfOk result (DefinesTypes self.old.resolve.now interface types.now (map (λ f. f.2.now) functions.now)) }
         ensures refuses { IfErr result IsMemoryOrSize }
     {
         let resolve = self.resolve;
