@@ -1,5 +1,5 @@
 -- What the types and functions of an interface meet, and what maps learn of it, type by type and function by function.
-use Rattle.std.proofs.Common.{◌≡◌, refl, sym, subst, ap, ◌∙◌, ℕ, zero, suc, ◌+◌, ◌<◌, ◌≤◌, Bool, true, false, ◌&&◌, ◌||◌, inl, inr, List, [], ◌∷◌, ◌++◌, map, take, length, get_or, Option, Some, option_to_list, Result, Ok, Err, OnOk, arith}
+use Rattle.std.proofs.Common.{◌≡◌, refl, sym, subst, ap, ◌∙◌, ℕ, suc, ◌+◌, ◌<◌, ◌≤◌, Bool, true, ◌&&◌, ◌||◌, inl, inr, List, [], ◌∷◌, ◌++◌, map, take, length, get_or, Option, Some, option_to_list, Result, Ok, Err, OnOk, arith}
 use Rattle.std.specs.Prelude.{IsPermutation, flat_map}
 use Rattle.std.specs.List.{Contains, list_any}
 use Rattle.std.specs.Option.{option_eq}
@@ -36,7 +36,8 @@ use Rattle.wit_encode.proofs.Lists.{contains-map}
 use Rattle.wit_encode.proofs.KindLaws.{optional_same}
 use Rattle.wit_encode.proofs.Defining.{none-in}
 use Rattle.wit_encode.proofs.Encoding.{meets-reaches, learns-nothing}
-use Rattle.wit_encode.proofs.Counting.{Began, held_kinds, from-map, same_equiv}
+use Rattle.wit_encode.proofs.Counting.{Began, held_kinds, any-at, from-map, same_equiv}
+use Rattle.wit_encode.proofs.Naming.{or-second}
 use Rattle.wit_encode.proofs.Learning.{learns-none, learns-then}
 use Rattle.wit_encode.proofs.MetKinds.{met-kinds, params-same}
 use Rattle.wit_encode.proofs.Numbers.{contains-flat}
@@ -120,15 +121,6 @@ any-found {X} p (x ∷ xs) h = elim (cases_Bool (p x)) [
     later : (y : X) × Contains xs y × (p y ≡ true) → (y : X) × Contains (x ∷ xs) y × (p y ≡ true)
     later (y, (k, l, e), t) = (y, (suc k, omega (arith, l), e), t)
 
-or-true : (a b : Bool) → b ≡ true → (a || b) ≡ true
-or-true true b e = refl
-or-true false b e = e
-
-found-any : {X : Type 0} (p : X → Bool) (xs : List X) (x : X) → Contains xs x → p x ≡ true → list_any p xs ≡ true
-found-any p [] x c h = none-in x c
-found-any p (y ∷ xs) x (zero, l, e) h = ap (λ b. b || list_any p xs) (ap p e ∙ h)
-found-any p (y ∷ xs) x (suc k, l, e) h = or-true (p y) (list_any p xs) (found-any p xs x (k, omega (arith, l), e) h)
-
 same-types : (f : Function) (key : FunctionKey) → are_same (key_of f) (key_view key) ≡ true → function_types f ≡ key_types key
 same-types f key e =
     let a = key_of f in
@@ -149,8 +141,8 @@ module _ (r : Resolve) (scope : Scope) (own : Option InterfaceId) (m m' : TypeEn
     (a : AddsFunctions r scope m m' d d' fs) (l : LearnsFrom r own (referred types fs) m m') (known : AllKnown m' types) where
   function-ready : (f : Function) → Contains fs f → AllReady m' (function_types f)
   function-ready f c =
-      let here : is_member are_same (map key_of fs) (key_of f) ≡ true = found-any (are_same (key_of f)) (map key_of fs) (key_of f) (contains-map key_of fs f c) (same_equiv.refl (key_of f)) in
-      let member : is_member are_same (keys_of m') (key_of f) ≡ true = a.keys (key_of f) ∙ or-true (is_member are_same (keys_of m) (key_of f)) (is_member are_same (map key_of fs) (key_of f)) here in
+      let here : is_member are_same (map key_of fs) (key_of f) ≡ true = any-at (are_same (key_of f)) (map key_of fs) (key_of f) (contains-map key_of fs f c) (same_equiv.refl (key_of f)) in
+      let member : is_member are_same (keys_of m') (key_of f) ≡ true = a.keys (key_of f) ∙ or-second (is_member are_same (keys_of m) (key_of f)) (is_member are_same (map key_of fs) (key_of f)) here in
       let found = any-found (are_same (key_of f)) (keys_of m') member in
       let entry = from-map (λ (e : FunctionKey × ℕ). key_view e.0) m'.func_type_map.items found.0 found.1 in
       let same : are_same (key_of f) (key_view entry.0.0) ≡ true = ap (are_same (key_of f)) entry.2 ∙ found.2 in
