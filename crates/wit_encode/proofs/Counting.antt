@@ -38,9 +38,9 @@ use Rattle.wit_encode.specs.KeyLaws.{type_equiv, param_equiv}
 use Rattle.wit_encode.specs.Kinds.{has_definition}
 use Rattle.wit_encode.specs.Slots.{Pairs}
 use Rattle.wit_encode.specs.Plan.{foreign_owner}
-use Rattle.wit_encode.specs.Maps.{MapsAgree, IsOnce, IsKnown, HasKey, same_kind}
+use Rattle.wit_encode.specs.Maps.{MapsAgree, IsOnce, IsKnown, HasKey}
 use Rattle.wit_encode.specs.Scope.{Scope}
-use Rattle.wit_encode.specs.Unnamed.{IsUnnamedKind}
+use Rattle.wit_encode.specs.MetKinds.{AreMetKinds, referred}
 use Rattle.wit_encode.specs.Counts.{Definitions, names_defined, is_defined_by_name, is_defined_under_name, own_name, name_of_own, Shows, AddsTypes, AddsFunction}
 use Rattle.wit_encode.specs.Distinct.{Key, key_of, key_view, are_same, keys_of, defined_under_names, AddsFunctions, DefinesKeys, DefinesTypes, is_value_type, is_function_type}
 use Rattle.wit_encode.specs.Instance.{own_of, contents_of, inner_contents, encoder_scope, definitions_with, opened, ShowsFunction}
@@ -68,7 +68,7 @@ or-assoc : (a b c : Bool) → ((a || b) || c) ≡ (a || (b || c))
 or-assoc true b c = refl
 or-assoc false b c = refl
 
-any-at : {X : Type 0} (p : X → Bool) (xs : List X) (x : X) → Contains xs x → p x ≡ true → list_any p xs ≡ true
+pub any-at : {X : Type 0} (p : X → Bool) (xs : List X) (x : X) → Contains xs x → p x ≡ true → list_any p xs ≡ true
 any-at p [] x (i, l, e) h = absurd (omega (arith, l))
 any-at p (y ∷ xs) x (zero, l, e) h = ap (λ b. b || list_any p xs) (ap p e ∙ h)
 any-at p (y ∷ xs) x (suc i, l, e) h = or-second (p y) (list_any p xs) (any-at p xs x (i, omega (arith, l), e) h)
@@ -187,46 +187,40 @@ defines-keys r scope m m' S d d' fs ds b z n a agree = record {
   same = λ q. a.keys q ∙ ap (λ (xs : List (FunctionKey × ℕ)). is_member are_same (map (λ x. key_view x.0) xs) q || is_member are_same (map key_of fs) q) b.keys;
 }
 
-defines-types : (r : Resolve) (scope : Scope) (i : InterfaceId) (m m' : TypeEncodingMaps) (S : Pairs) (d d' : Definitions) (fs : List Function) (ts : List TypeId)
+abbrev pub held_kinds : TypeEncodingMaps → List TypeDefKind
+held_kinds m = map (λ e. e.0.now) m.def_to_index.items
+
+defines-types : (r : Resolve) (scope : Scope) (i : InterfaceId) (m m' : TypeEncodingMaps) (d d' : Definitions) (fs : List Function) (ts : List TypeId)
     (ds : List Declaration) → Began m → d.types ≡ 0 → d'.types ≡ count_by is_value_type ds
-    → AddsFunctions r scope m m' d d' fs → MapsAgree r m' S → names_defined r scope m' ≡ distinct_count nat_eq (defined_under_names r (Some i) ts)
-    → DefinesTypes r i ts ds
-defines-types r scope i m m' S d d' fs ts ds b z n a agree defined =
-    record {
-      kinds = map (λ (e : Bor TypeDefKind × ℕ). e.0.now) m'.def_to_index.items;
-      count =
-          let l : length m.def_to_index.items ≡ 0 = ap length b.kinds in
-          let c : names_defined r scope m ≡ 0 = ap (count_by (λ (e : TypeId × ℕ). is_defined_by_name r scope e.0.0)) b.numbers in
-          let x = a.types in
-          let k : length (map (λ (e : Bor TypeDefKind × ℕ). e.0.now) m'.def_to_index.items) ≡ length m'.def_to_index.items = length-map m'.def_to_index.items
-          (λ (e : Bor TypeDefKind × ℕ). e.0.now) in
-          omega arith;
-      different = pairs-map (λ (e : Bor TypeDefKind × ℕ). e.0.now) (λ x y. same_kind x y ≡ false) m'.def_to_index.items agree.once.kinds;
-      unnamed = λ kind h. unnamed kind (from-map (λ (e : Bor TypeDefKind × ℕ). e.0.now) m'.def_to_index.items kind h);
-    }
-  where
-    unnamed : (kind : TypeDefKind) → (x : Bor TypeDefKind × ℕ) × Contains m'.def_to_index.items x × (x.0.now ≡ kind) → IsUnnamedKind r kind
-    unnamed kind (x, c, e) = subst (IsUnnamedKind r) e (elim (a.kinds.each x.0 x.1 c) [ inl h ↦ absurd (none-in b.kinds h) | inr h ↦ h ])
-      where
-        none-in : {X : Type 0} {xs : List X} {x : X} → xs ≡ [] → Contains xs x → ⊥
-        none-in {X} {xs} {x} e (i, l, h) = let z : length xs ≡ 0 = ap length e in omega (arith, l)
+    → AddsFunctions r scope m m' d d' fs → AreMetKinds r (Some i) (referred ts fs) (held_kinds m') → names_defined r scope m' ≡ distinct_count nat_eq (defined_under_names r (Some i) ts)
+    → DefinesTypes r i ts fs ds
+defines-types r scope i m m' d d' fs ts ds b z n a met defined = record {
+  kinds = held_kinds m';
+  count =
+      let l : length m.def_to_index.items ≡ 0 = ap length b.kinds in
+      let c : names_defined r scope m ≡ 0 = ap (count_by (λ (e : TypeId × ℕ). is_defined_by_name r scope e.0.0)) b.numbers in
+      let x = a.types in
+      let k : length (held_kinds m') ≡ length m'.def_to_index.items = length-map m'.def_to_index.items (λ (e : Bor TypeDefKind × ℕ). e.0.now) in
+      omega arith;
+  met = met;
+}
 
 pub record Counted (r : Resolve) (i : InterfaceId) (fs : List Function) (ts : List TypeId) (ds : List Declaration) : Type 0 where
   pub keys : DefinesKeys fs ds
-  pub types : DefinesTypes r i ts ds
+  pub types : DefinesTypes r i ts fs ds
 
 pub closed-counts : (r : Resolve) (outer outer' : Declarations) (i : InterfaceId) (known : Vec (TypeId × ℕ) Global) (inner' : Option OpenInterface) (current : OpenInterface) (m m' : TypeEncodingMaps)
-    (S : Pairs) (fs : List Function) (ts : List TypeId) → inner' ≡ Some current → Began m
+    (S : Pairs) (fs : List Function) (ts : List TypeId) → inner' ≡ Some current → Began m → AreMetKinds r (Some i) (referred ts fs) (held_kinds m')
     → AddsFunctions r (encoder_scope r outer (opened i known)) m m' (definitions_with (contents_of r outer (opened i known))) (definitions_with (contents_of r outer' inner')) fs
     → MapsAgree r m' S
     → names_defined r (encoder_scope r outer (opened i known)) m' ≡ distinct_count nat_eq (defined_under_names r (Some i) ts) → Counted r i fs ts current.declared
 unfolding inner_contents
-closed-counts r outer outer' i known inner' current m m' S fs ts is b a agree defined = record {
+closed-counts r outer outer' i known inner' current m m' S fs ts is b met a agree defined = record {
   keys = defines-keys r (encoder_scope r outer (opened i known)) m m' S (definitions_with (contents_of r outer (opened i known)))
       (definitions_with (contents_of r outer' inner')) fs current.declared b refl (ap (λ (o : Option OpenInterface). (contents_of r outer' o).functions) is) a agree;
-  types = defines-types r (encoder_scope r outer (opened i known)) i m m' S (definitions_with (contents_of r outer (opened i known)))
+  types = defines-types r (encoder_scope r outer (opened i known)) i m m' (definitions_with (contents_of r outer (opened i known)))
       (definitions_with (contents_of r outer' inner')) fs ts current.declared b refl (ap (λ (o : Option OpenInterface). (contents_of r outer' o).types) is)
-      a agree defined;
+      a met defined;
 }
 
 -- the keys of functions in another order

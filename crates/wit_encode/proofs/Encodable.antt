@@ -222,7 +222,8 @@ module _ (r : Resolve) (v : IsValid r) (i : InterfaceId) (home : Interface) (the
     abbrev scope : Scope
     scope = encoder_scope r outer (opened i known)
 
-    opened-scope : IsScopeOf r own scope
+    -- the scope of the interface is that of its owner
+    pub opened-scope : IsScopeOf r own scope
     opened-scope = record {
       packages_ = refl;
       place_ = refl;

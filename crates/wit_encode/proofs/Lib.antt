@@ -39,3 +39,4 @@ pub mod Importing
 pub mod OwnerScope
 pub mod MetKinds
 pub mod Learning
+pub mod Referring

@@ -1,30 +1,26 @@
 -- Maps that began empty hold the kinds of the unnamed types that are met, each once.
-use Rattle.std.proofs.Common.{◌≡◌, refl, subst, ap, ℕ, ◌⊎◌, inl, inr, true, false, List, [], ◌∷◌, map, Option, Some, None}
+use Rattle.std.proofs.Common.{◌≡◌, refl, subst, ℕ, ◌⊎◌, inl, inr, true, false, List, [], ◌∷◌, map, Option}
 use Rattle.std.specs.List.{Contains}
 use Rattle.std.specs.Borrow.{Bor}
 use Rattle.std.specs.Cmp.Lexicographic.{pointwise}
-use Rattle.wit_model.specs.Lookup.{type_at}
 use Rattle.wit_model.specs.Text.{text_of, text_eq}
 use Rattle.wit_model.specs.Valid.{IsValid}
 use Rattle.wit_model.specs.declared.model.Resolve.{Resolve}
 use Rattle.wit_model.specs.declared.model.Param.{Param}
-use Rattle.wit_model.specs.declared.model.TypeDef.{TypeDef}
 use Rattle.wit_model.specs.declared.model.TypeDefKind.{TypeDefKind}
 use Rattle.wit_model.specs.declared.model.TypeId.{TypeId}
 use Rattle.wit_model.specs.declared.model.InterfaceId.{InterfaceId}
-use Rattle.wit_model.specs.declared.model.TypeOwner.TheVariants as owner
 use Rattle.wit_model.specs.declared.model.«Type».{«Type» as ValueType}
 use Rattle.wit_model.proofs.Lists.{first_true, second_true}
 use Rattle.wit_encode.specs.declared.maps.TypeEncodingMaps.{TypeEncodingMaps}
 use Rattle.wit_encode.specs.Key.{same_type, same_param}
 use Rattle.wit_encode.specs.Maps.{same_kind, IsKnown, IsReady, AllReady, IsOnce, LearnsOnly}
-use Rattle.wit_encode.specs.Plan.{foreign_owner, Reaches, itself, through}
+use Rattle.wit_encode.specs.Plan.{Reaches, itself, through}
 use Rattle.wit_encode.specs.MetKinds.{ReachedFrom, IsMetKind, HasSame, AreMetKinds, IsKnownKind, IsHeld, Learns, MetKindsAreHeld}
 use Rattle.wit_encode.proofs.Lists.{contains-map}
 use Rattle.wit_encode.proofs.KindLaws.{same_types}
 use Rattle.wit_encode.proofs.Defining.{none-in}
-use Rattle.wit_encode.proofs.Owned.{same-owner}
-use Rattle.wit_encode.proofs.Validity.{valid-ownerless}
+use Rattle.wit_encode.proofs.OwnerScope.{unnamed-home}
 use Rattle.wit_encode.proofs.Counting.{pairs-map, from-map}
 
 -- ---- empty maps
@@ -32,13 +28,9 @@ use Rattle.wit_encode.proofs.Counting.{pairs-map, from-map}
 none-known : (m : TypeEncodingMaps) (n : ℕ) → m.id_to_index.items ≡ [] → IsKnown m n → ⊥
 none-known m n e (i, c) = none-in (record { 0 = n }, i) (subst (λ (xs : List (TypeId × ℕ)). Contains xs (record { 0 = n }, i)) e c)
 
--- an unnamed type isn't one of another interface
-unnamed-home : (r : Resolve) → IsValid r → (own : Option InterfaceId) (n : ℕ) (def : TypeDef) → type_at r n ≡ Some def → def.name ≡ None → foreign_owner own def.owner ≡ None
-unnamed-home r v own n def is e = ap (foreign_owner own) (same-owner def.owner owner.None (valid-ownerless r v n def is e))
-
 -- ---- keys
 
-params-same : (ps qs : List Param) → pointwise same_param ps qs ≡ true → map (λ p. p.ty) ps ≡ map (λ p. p.ty) qs
+pub params-same : (ps qs : List Param) → pointwise same_param ps qs ≡ true → map (λ p. p.ty) ps ≡ map (λ p. p.ty) qs
 params-same [] [] e = refl
 params-same [] (q ∷ qs) e = absurd (let z : ⊥ = cc in z)
 params-same (p ∷ ps) [] e = absurd (let z : ⊥ = cc in z)

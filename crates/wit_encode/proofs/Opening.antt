@@ -97,7 +97,7 @@ map-twice f g (x ∷ xs) = ap (λ ys. f (g x) ∷ ys) (map-twice f g xs)
 abbrev Placed : Type 0
 Placed = ℕ × Bor (String Global) × Bor Function
 
-values-permuted : (def : Interface) (fs : List Placed) → IsPermutation (map keyed def.functions.entries) (map placed_function fs)
+pub values-permuted : (def : Interface) (fs : List Placed) → IsPermutation (map keyed def.functions.entries) (map placed_function fs)
     → IsPermutation (values def.functions) (map (λ f. f.2.now) fs)
 values-permuted def fs p =
     subst (λ (xs : List Function). IsPermutation xs (map (λ f. f.2.now) fs)) (map-twice (λ (x : Text × Function). x.1) keyed def.functions.entries)
@@ -106,7 +106,7 @@ values-permuted def fs p =
 
 -- the instance type takes its slot
 pub closes : {E : Type 0} (res : Result ℕ E) (r : Resolve) (outer outer₁ outer' : Declarations) (i : InterfaceId) (def def' : Interface) (declared : List Declaration) (fs items : List (ℕ × Bor (String Global) × Bor Function)) → Some def' ≡ Some def → outer₁ ≡ outer → items ≡ fs
-    → IsPermutation (map keyed def'.functions.entries) (map placed_function fs) → map placed_function fs ≡ functions_in_order def' → DefinesKeys (map (λ f. f.2.now) items) declared → DefinesTypes r i (values def'.types) declared → IsInstance r outer i declared (map (λ f. meaning_of r (placed_function f)) items)
+    → IsPermutation (map keyed def'.functions.entries) (map placed_function fs) → map placed_function fs ≡ functions_in_order def' → DefinesKeys (map (λ f. f.2.now) items) declared → DefinesTypes r i (values def'.types) (values def'.functions) declared → IsInstance r outer i declared (map (λ f. meaning_of r (placed_function f)) items)
     → IfOk res (λ k. (k ≡ type_slots_of outer₁) × (outer' ≡ append outer₁ (Declarations.instance (from_list declared) Declarations.no_more))) → IsValid r → interface_at r i.0 ≡ Some def → IfOk res (λ k. EncodesInterface r outer outer' i def k)
 closes (Err e) r outer outer₁ outer' i def def' declared fs items d o n p ordered keys types is h v there = h
 closes (Ok k) r outer outer₁ outer' i def def' declared fs items d o n p ordered keys types is h v there =
@@ -126,7 +126,7 @@ closes (Ok k) r outer outer₁ outer' i def def' declared fs items d o n p order
       function_types = count-keys (values def.functions) (map (λ f. f.2.now) items) declared
           (subst (λ (zs : List Placed). IsPermutation (values def.functions) (map (λ f. f.2.now) zs)) (sym n)
           (subst (λ (z : Interface). IsPermutation (values z.functions) (map (λ f. f.2.now) fs)) same (values-permuted def' fs p))) keys;
-      value_types = subst (λ (z : Interface). DefinesTypes r i (values z.types) declared) same types;
+      value_types = subst (λ (z : Interface). DefinesTypes r i (values z.types) (values z.functions) declared) same types;
     }
 
 map-itself : {A : Type 0} (xs : List A) → map (λ x. x) xs ≡ xs

@@ -75,7 +75,7 @@ at-home o a e = subst (λ (x : TypeOwner). foreign_owner (interface_of_owner o) 
     go owner.None = refl
 
 -- nor is an unnamed one
-unnamed-home : (r : Resolve) → IsValid r → (own : Option InterfaceId) (n : ℕ) (def : TypeDef) → type_at r n ≡ Some def → def.name ≡ None → foreign_owner own def.owner ≡ None
+pub unnamed-home : (r : Resolve) → IsValid r → (own : Option InterfaceId) (n : ℕ) (def : TypeDef) → type_at r n ≡ Some def → def.name ≡ None → foreign_owner own def.owner ≡ None
 unnamed-home r v own n def is e = ap (foreign_owner own) (same-owner def.owner owner.None (valid-ownerless r v n def is e))
 
 no-some : {A P : Type 0} {x : A} (o : Option A) → o ≡ None → o ≡ Some x → P

@@ -1,6 +1,6 @@
 -- How much the declarations of an instance type define: each function type and each unnamed kind once.
-use Rattle.std.specs.Prelude.{ℕ, ◌≡◌, ◌+◌, ◌&&◌, ◌||◌, Bool, true, false, nat_eq, List, map, filter, length, count_by, AllPairs, Option, Some}
-use Rattle.std.specs.List.{Contains, IsDistinct}
+use Rattle.std.specs.Prelude.{ℕ, ◌≡◌, ◌+◌, ◌&&◌, ◌||◌, Bool, true, false, nat_eq, List, map, filter, length, count_by, Option, Some}
+use Rattle.std.specs.List.{IsDistinct}
 use Rattle.std.specs.Option.{option_eq, option_map_or, is_some, is_none}
 use Rattle.std.specs.Set.{is_member, distinct_count}
 use Rattle.std.specs.Cmp.Lexicographic.{pointwise}
@@ -18,10 +18,10 @@ use Rattle.wit_encode.specs.declared.key.FunctionKey.{FunctionKey}
 use Rattle.wit_encode.specs.declared.maps.TypeEncodingMaps.{TypeEncodingMaps}
 use Rattle.wit_encode.specs.Key.{same_type, same_param}
 use Rattle.wit_encode.specs.Kinds.{has_definition}
-use Rattle.wit_encode.specs.Maps.{same_kind}
 use Rattle.wit_encode.specs.Plan.{foreign_owner}
 use Rattle.wit_encode.specs.Scope.{Scope}
-use Rattle.wit_encode.specs.Unnamed.{IsUnnamedKind, LearnsKinds}
+use Rattle.wit_encode.specs.Unnamed.{LearnsKinds}
+use Rattle.wit_encode.specs.MetKinds.{AreMetKinds, referred}
 use Rattle.wit_encode.specs.Counts.{Definitions, names_defined}
 
 -- ---- keys of functions
@@ -82,10 +82,9 @@ pub record DefinesKeys (functions : List Function) (declared : List Declaration)
   pub different : IsDistinct are_same keys
   pub same : (key : Key) → is_member are_same keys key ≡ is_member are_same (map key_of functions) key
 
--- one value type for each of these kinds of unnamed types, of which no two are the same, and for each type of the list that has a definition
+-- one value type for each kind of unnamed types that the types and functions meet, and for each type of the list that has a definition
 -- of its own under its name
-pub record DefinesTypes (r : Resolve) (i : InterfaceId) (types : List TypeId) (declared : List Declaration) : Type 0 where
+pub record DefinesTypes (r : Resolve) (i : InterfaceId) (types : List TypeId) (functions : List Function) (declared : List Declaration) : Type 0 where
   pub kinds : List TypeDefKind
   pub count : count_by is_value_type declared ≡ length kinds + distinct_count nat_eq (defined_under_names r (Some i) types)
-  pub different : AllPairs (λ x y. same_kind x y ≡ false) kinds
-  pub unnamed : (kind : TypeDefKind) → Contains kinds kind → IsUnnamedKind r kind
+  pub met : AreMetKinds r (Some i) (referred types functions) kinds

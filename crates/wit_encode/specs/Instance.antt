@@ -246,4 +246,4 @@ pub record EncodesInterface (r : Resolve) (outer outer' : Declarations) (i : Int
   pub in_order : functions ≡ map (meaning_of r) (functions_in_order def)
   -- how many types of functions and how many value types are defined
   pub function_types : count_by is_function_type declared ≡ distinct_count are_same (map key_of (values def.functions))
-  pub value_types : DefinesTypes r i (values def.types) declared
+  pub value_types : DefinesTypes r i (values def.types) (values def.functions) declared

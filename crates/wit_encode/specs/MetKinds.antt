@@ -81,6 +81,11 @@ pub record LearnsMet (r : Resolve) (own : Option InterfaceId) (ts : List ValueTy
   pub only : LearnsOnly (MetFrom r own m ts) m m'
   pub learns : Learns r own m m'
 
+-- The same, by what is met on the way down from them, known or not.
+pub record LearnsFrom (r : Resolve) (own : Option InterfaceId) (ts : List ValueType) (m m' : TypeEncodingMaps) : Type 0 where
+  pub only : LearnsOnly (ReachedFrom r own ts) m m'
+  pub learns : Learns r own m m'
+
 -- The kind is known, and no other has been learnt.
 pub record LearnsKindOf (m m' : TypeEncodingMaps) (kind : TypeDefKind) : Type 0 where
   pub known : (i : ℕ) × HasKind m' kind i

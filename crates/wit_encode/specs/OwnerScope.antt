@@ -21,7 +21,8 @@ use Rattle.wit_model.specs.declared.model.TypeOwner.TheVariants as owner
 use Rattle.wit_model.specs.declared.model.«Type».{«Type» as ValueType}
 use Rattle.wit_model.specs.declared.model.«Type».TheVariants as ty
 use Rattle.wit_encode.specs.Scope.{Scope}
-use Rattle.wit_encode.specs.Plan.{Reaches, AllInRange, foreign_owner}
+use Rattle.wit_encode.specs.Plan.{AllInRange, foreign_owner}
+use Rattle.wit_encode.specs.MetKinds.{ReachedFrom}
 use Rattle.wit_encode.specs.Resources.{Names, is_named_interface, is_met_owner}
 use Rattle.wit_encode.specs.Fits.{CanEncode}
 use Rattle.wit_encode.specs.Instance.{CanEncodeFunction}
@@ -47,7 +48,7 @@ pub record IsScopeOf (r : Resolve) (o : TypeOwner) (scope : Scope) : Type 0 wher
 
 -- n is met on the way down from one of the types: names of the place are opened, those of other interfaces aren't
 abbrev pub IsMet : Resolve → Scope → List ValueType → ℕ → Type 0
-IsMet r scope ts n = (t : ValueType) × Contains ts t × Reaches r scope.own_interface t n
+IsMet r scope ts n = ReachedFrom r scope.own_interface ts n
 
 -- the type is of a named interface whose instance stands
 pub record IsOfInstance (r : Resolve) (scope : Scope) (def : TypeDef) : Type 0 where
@@ -117,7 +118,7 @@ abbrev pub FunctionsUse : Type 0
 FunctionsUse = (r : Resolve) (o : TypeOwner) (scope : Scope) (f : Function) → IsValid r → IsScopeOf r o scope → Contains (functions_of r o) f → UsesStand r o scope
     → InstancesStand r scope (function_types f)
 
--- The interfaces that an interface uses are those that its types are aliases of.
+-- An interface that the types of an interface use is one of its direct dependencies.
 abbrev pub InterfaceUses : Type 0
 InterfaceUses = (r : Resolve) (i : InterfaceId) (j : ℕ) → IsValid r → i.0 < length r.interfaces.items → IsUsedBy r (owner.Interface i) j → Contains (direct_deps r i.0) j
 

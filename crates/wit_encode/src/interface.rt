@@ -227,6 +227,9 @@ impl<'a> InterfaceEncoderOf<'a, TypeEncodingMaps<'a>> {
     ghost use Rattle.std.specs.Prelude.{nat_eq};
     ghost use Rattle.wit_encode.specs.Distinct.{DefinesKeys, DefinesTypes, defined_under_names};
     ghost use Rattle.wit_model.specs.Valid.{IsValid};
+    ghost use Rattle.wit_encode.specs.MetKinds.{LearnsFrom, referred};
+    ghost use Rattle.wit_model.specs.Parts.{function_types};
+    ghost use Rattle.std.specs.List.{flat_map};
     ghost use Rattle.wit_encode.specs.Exports.{AreTypesOf, AllKnown, KnowsUsed, UsesListed};
     ghost use Rattle.wit_model.specs.declared.model.«Type».TheVariants as ValueType;
     ghost use Rattle.wit_encode.specs.Instance.{ShowsFunction, CanEncodeFunction, IsInstance, placed_function, meaning_of, own_of, known_of, declarations_in};
@@ -294,6 +297,7 @@ impl<'a> InterfaceEncoderOf<'a, TypeEncodingMaps<'a>> {
         ensures continues { GoesOn resolve.now self.old self.new }
         ensures shows { OnOk result ((view_of resolve.now self.new).scope.functions ≡ (view_of resolve.now self.old).scope.functions ++ (text_of name.now, function_meaning resolve.now func.now) ∷ []) }
         ensures counts { OnOk result (CountsFunctions resolve.now (view_of resolve.now self.old) (view_of resolve.now self.new) (func.now ∷ [])) }
+        ensures learns { OnOk result (LearnsFrom resolve.now (own_of self.old.inner) (function_types func.now) self.old.maps self.new.maps) }
         ensures maps_grow { MapsGrow self.old.maps self.new.maps }
         ensures types_stay { OnOk result ((view_of resolve.now self.new).definitions.exports ≡ (view_of resolve.now self.old).definitions.exports) }
         ensures names_stay { OnOk result (names_defined resolve.now (view_of resolve.now self.old).scope self.new.maps ≡ names_defined resolve.now (view_of resolve.now self.old).scope self.old.maps) }
@@ -321,6 +325,7 @@ impl<'a> InterfaceEncoderOf<'a, TypeEncodingMaps<'a>> {
         ensures continues { GoesOn resolve.now self.old self.new }
         ensures shows { OnOk result ((view_of resolve.now self.new).scope.functions ≡ (view_of resolve.now self.old).scope.functions ++ map (λ f. meaning_of resolve.now (placed_function f)) functions.now) }
         ensures counts { OnOk result (CountsFunctions resolve.now (view_of resolve.now self.old) (view_of resolve.now self.new) (map (λ f. f.2.now) functions.now)) }
+        ensures learns { OnOk result (LearnsFrom resolve.now (own_of self.old.inner) (flat_map function_types (map (λ f. f.2.now) functions.now)) self.old.maps self.new.maps) }
         ensures types_stay { OnOk result ((view_of resolve.now self.new).definitions.exports ≡ (view_of resolve.now self.old).definitions.exports) }
         ensures names_stay { OnOk result (names_defined resolve.now (view_of resolve.now self.old).scope self.new.maps ≡ names_defined resolve.now (view_of resolve.now self.old).scope self.old.maps) }
         ensures refuses { IfErr result IsMemoryOrSize }
@@ -348,6 +353,7 @@ impl<'a> InterfaceEncoderOf<'a, TypeEncodingMaps<'a>> {
         requires unshown { (encoder_view self.old).definitions.exports ≡ [] }
         ensures leaves { Leaves resolve.now (encoder_view self.old) (encoder_view self.new) }
         ensures counts { OnOk result (CountsTypes resolve.now (encoder_view self.old) (encoder_view self.new)) }
+        ensures learns { OnOk result (LearnsFrom resolve.now (own_of self.old.inner) (map (λ t. ValueType.Id t) types.now) self.old.maps self.new.maps) }
         ensures known { OnOk result (AllKnown self.new.maps types.now) }
         ensures exported { OnOk result ((encoder_view self.new).definitions.exports ≡ declarations_in resolve.now (own_of self.old.inner)) }
         ensures defined { OnOk result (names_defined resolve.now (encoder_view self.old).scope self.new.maps ≡ distinct_count nat_eq (defined_under_names resolve.now (own_of self.old.inner) types.now)) }
@@ -382,6 +388,8 @@ impl<'a> InterfaceEncoderOf<'a, TypeEncodingMaps<'a>> {
         ensures continues { GoesOn resolve.now self.old self.new }
         ensures shows { OnOk result ((view_of resolve.now self.new).scope.functions ≡ (view_of resolve.now self.old).scope.functions ++ map (λ f. meaning_of resolve.now (placed_function f)) functions.now) }
         ensures counts { OnOk result (CountsFunctions resolve.now (view_of resolve.now self.old) (view_of resolve.now self.new) (map (λ f. f.2.now) functions.now)) }
+        ensures known { OnOk result (AllKnown self.new.maps types.now) }
+        ensures learns { OnOk result (LearnsFrom resolve.now (own_of self.old.inner) (referred types.now (map (λ f. f.2.now) functions.now)) self.old.maps self.new.maps) }
         ensures exported { OnOk result ((view_of resolve.now self.new).definitions.exports ≡ declarations_in resolve.now (own_of self.old.inner)) }
         ensures defined { OnOk result (names_defined resolve.now (view_of resolve.now self.old).scope self.new.maps ≡ distinct_count nat_eq (defined_under_names resolve.now (own_of self.old.inner) types.now)) }
         ensures refuses { IfErr result IsMemoryOrSize }
@@ -410,7 +418,7 @@ impl<'a> InterfaceEncoderOf<'a, TypeEncodingMaps<'a>> {
         ensures known { self.new.outer_type_map.items ≡ self.old.outer_type_map.items }
         ensures ok { IfOk result (λ ds. IsInstance self.old.resolve.now self.old.outer interface ds (map (λ f. meaning_of self.old.resolve.now (placed_function f)) functions.now)) }
         ensures function_types { IfOk result (DefinesKeys (map (λ f. f.2.now) functions.now)) }
-        ensures value_types { IfOk result (DefinesTypes self.old.resolve.now interface types.now) }
+        ensures value_types { IfOk result (DefinesTypes self.old.resolve.now interface types.now (map (λ f. f.2.now) functions.now)) }
         ensures refuses { IfErr result IsMemoryOrSize }
     {
         let resolve = self.resolve;

@@ -21,7 +21,7 @@ pub fn functions_encode()
     ensures uses { FunctionsUse }
 {}
 
-/// The interfaces that the types of an interface use are its direct dependencies.
+/// An interface that the types of an interface use is one of its direct dependencies.
 pub fn interface_uses_dependencies()
     ensures { InterfaceUses }
 {}

@@ -7,6 +7,10 @@ use Rattle.wit_encode.specs.Maps.{MapsGrow}
 use Rattle.wit_model.specs.Text.{text_of}
 use Rattle.wit_model.specs.Meant.{signature_of, function_meaning}
 use Rattle.comp_bytes.specs.RawOf.{raw_name}
+use Rattle.wit_encode.specs.MetKinds.{LearnsFrom}
+use Rattle.wit_encode.proofs.Referring.{on-any, from-met}
+use Rattle.wit_model.specs.Parts.{function_types}
+use Rattle.wit_encode.specs.Instance.{own_of}
 use Rattle.wit_encode.proofs.Continuing.{Showed, function-showed, after-types}
 use Rattle.wit_encode.proofs.Counting.{function-counted, function-names}
 use Rattle.wit_encode.proofs.FunctionExports.{function-stays}
@@ -77,3 +81,7 @@ returns-clause-names_stay c =
 pub returns-in_err-index-clause-continues : goal.returns-in_err-index-clause-continues
 returns-in_err-index-clause-continues c = after-types c.args.resolve.now c.args.self.now.resolve.now c.encode_func_type.new.enc.resolve.now c.args.self.now.outer c.encode_func_type.new.enc.outer c.args.self.now.inner c.encode_func_type.new.enc.inner
     c.args.self.now.maps c.encode_func_type.new.enc.maps c.requires.packages c.encode_func_type.ensures.leaves.scope_stays c.encode_func_type.ensures.leaves.agree
+
+pub returns-clause-learns : goal.returns-clause-learns
+returns-clause-learns c = on-any c.export_function.result (subst (λ (m : TypeEncodingMaps). LearnsFrom c.args.resolve.now (own_of c.args.self.now.inner) (function_types c.args.func.now) c.args.self.now.maps m) (sym c.export_function.ensures.maps)
+    (from-met c.args.resolve.now (own_of c.args.self.now.inner) (function_types c.args.func.now) c.args.self.now.maps c.encode_func_type.new.enc.maps c.in_ok-index.ensures.learns))

@@ -2,6 +2,8 @@ use Rattle.std.proofs.Common.{rules, refl, arith, ℕ, String, Global, ◌∙◌
 use Rattle.std.specs.Borrow.{Bor}
 use Rattle.std.proofs.lemmas.Grind.{common_steps}
 use Rattle.wit_model.specs.declared.model.Function.{Function}
+use Rattle.wit_encode.specs.Instance.{own_of}
+use Rattle.wit_encode.proofs.Referring.{from-function, from-functions}
 use Rattle.wit_encode.proofs.Lists.{contains-at}
 use Rattle.wit_encode.proofs.Counting.{functions-counted, names-after}
 use Rattle.wit_encode.proofs.Continuing.{function-continues, continues-trans}
@@ -23,6 +25,8 @@ loop-entry-preserved c = record {
       functions-counted (λ (f : ℕ × Bor (String Global) × Bor Function). f.2.now)
       c.args.functions.now c.loop-entry.entry-index c.entry-item.result c.loop-entry-test.true c.entry-item.is c.loop-entry.invariant.own c.loop-entry.invariant.counts
       c.in_ok-encode_function.ensures.counts;
+  learns = from-function (λ (f : ℕ × Bor (String Global) × Bor Function). f.2.now) c.args.resolve.now (own_of c.args.self.now.inner) (own_of c.loop-entry.self.inner) c.args.functions.now c.loop-entry.entry-index c.entry-item.result
+      c.args.self.now.maps c.loop-entry.self.maps c.encode_function.new.self.maps c.loop-entry-test.true c.entry-item.is c.loop-entry.invariant.own c.loop-entry.invariant.learns c.in_ok-encode_function.ensures.learns;
   names =
       names-after c.args.resolve.now (encoder_scope c.args.resolve.now c.args.self.now.outer c.args.self.now.inner)
       (encoder_scope c.args.resolve.now c.loop-entry.self.outer c.loop-entry.self.inner) c.args.self.now.maps c.loop-entry.self.maps c.encode_function.new.self.maps
@@ -41,3 +45,7 @@ returns-clause-shows c = c.loop-entry.invariant.shows
 
 pub returns-in_err-encode_function-clause-continues : goal.returns-in_err-encode_function-clause-continues
 returns-in_err-encode_function-clause-continues c = continues-trans c.loop-entry.invariant.continues c.encode_function.ensures.continues refl
+
+pub returns-clause-learns : goal.returns-clause-learns
+returns-clause-learns c = from-functions (λ (f : ℕ × Bor (String Global) × Bor Function). f.2.now) c.args.resolve.now (own_of c.args.self.now.inner) c.args.functions.now c.loop-entry.entry-index c.args.self.now.maps c.loop-entry.self.maps
+    c.loop-entry-test.false c.loop-entry.invariant.learns

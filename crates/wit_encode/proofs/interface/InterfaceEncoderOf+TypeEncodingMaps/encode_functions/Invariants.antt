@@ -1,4 +1,7 @@
 use Rattle.std.proofs.Common.{◌≡◌, ◌++◌, map, take}
+use Rattle.std.specs.List.{flat_map}
+use Rattle.wit_model.specs.Parts.{function_types}
+use Rattle.wit_encode.specs.MetKinds.{LearnsFrom}
 use Rattle.wit_encode.specs.Counts.{names_defined}
 use Rattle.wit_encode.specs.Distinct.{AddsFunctions}
 use Rattle.wit_encode.specs.Instance.{placed_function, meaning_of, own_of, contents_of, encoder_scope, definitions_with, Continues, exports_in}
@@ -14,6 +17,7 @@ invariant-loop-entry l = record {
   counts : AddsFunctions l.resolve (encoder_scope l.resolve l.fn.self.outer l.fn.self.inner) l.fn.self.maps l.self.maps
       (definitions_with (contents_of l.resolve l.fn.self.outer l.fn.self.inner)) (definitions_with (contents_of l.resolve l.self.outer l.self.inner))
       (map (λ f. f.2.now) (take l.entry-index l.functions));
+  learns : LearnsFrom l.resolve (own_of l.fn.self.inner) (flat_map function_types (map (λ f. f.2.now) (take l.entry-index l.functions))) l.fn.self.maps l.self.maps;
   names : names_defined l.resolve (encoder_scope l.resolve l.fn.self.outer l.fn.self.inner) l.self.maps ≡ names_defined l.resolve
       (encoder_scope l.resolve l.fn.self.outer l.fn.self.inner) l.fn.self.maps;
   grow : MapsGrow l.fn.self.maps l.self.maps;

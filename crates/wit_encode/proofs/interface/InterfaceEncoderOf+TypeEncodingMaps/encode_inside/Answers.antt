@@ -6,6 +6,7 @@ use Rattle.wit_encode.specs.declared.interface.OpenInterface.{OpenInterface}
 use Rattle.wit_encode.specs.Fits.{CanEncode}
 use Rattle.wit_encode.specs.Distinct.{AddsFunctions}
 use Rattle.wit_encode.specs.Instance.{encoder_scope, contents_of, definitions_with, CanEncodeFunction, Continues, placed_function, meaning_of, exports_in, opened}
+use Rattle.wit_encode.proofs.Referring.{interface-kinds}
 use Rattle.wit_encode.proofs.Opening.{closed-instance, closed-outer, closed-known, opened-exports, opened-with}
 use Rattle.wit_encode.proofs.Counting.{Began, Counted, closed-counts}
 use Rattle.wit_encode.proofs.interface.InterfaceEncoderOf+TypeEncodingMaps.encode_inside.Goals as goal
@@ -65,6 +66,8 @@ counted c new =
     let fs : List Function = map (λ f. f.2.now) c.args.functions.now in
     closed-counts r c.args.self.now.outer after.outer c.args.interface c.args.self.now.outer_type_map after.inner c.in-Some.current _ _ _ fs c.args.types.now
     (sym c.replace-inner.ensures.value ∙ c.in-Some.is) new
+    (interface-kinds r _ (Some c.args.interface) c.replace-saved.new.dest after.maps _ _ c.args.types.now fs new c.in_ok-outcome-in-Some.ensures.counts c.in_ok-outcome-in-Some.ensures.learns
+    c.in_ok-outcome-in-Some.ensures.known c.requires.valid c.encode_parts-outcome.ensures.continues.agree.once)
     (subst (λ (o : Option OpenInterface). AddsFunctions c.args.self.now.resolve.now
     (encoder_scope c.args.self.now.resolve.now c.args.self.now.outer o)
     c.replace-saved.new.dest after.maps

@@ -5,6 +5,11 @@ use Rattle.wit_model.specs.Lookup.{interface_at}
 use Rattle.wit_model.specs.declared.model.TypeId.{TypeId}
 use Rattle.wit_encode.specs.Distinct.{DefinesTypes}
 use Rattle.wit_encode.specs.Instance.{placed_function, EncodesInterface, CanEncodeInterface}
+use Rattle.wit_encode.proofs.Referring.{permuted-types}
+use Rattle.wit_encode.proofs.Opening.{values-permuted}
+use Rattle.std.specs.Prelude.{map, IsPermutation}
+use Rattle.indexmap.specs.IndexMap.{values}
+use Rattle.wit_encode.specs.Instance.{placed_function}
 use Rattle.wit_encode.proofs.Encodable.{valid-encodable}
 use Rattle.wit_encode.proofs.Lists.{contains-map}
 use Rattle.wit_encode.proofs.Outside.{closed-keeps}
@@ -13,7 +18,7 @@ use Rattle.wit_encode.specs.Exports.{UsesListed}
 use Rattle.wit_encode.proofs.Exporting.{uses-listed}
 use Rattle.wit_encode.proofs.FunctionExports.{keyed-value}
 use Rattle.wit_encode.proofs.interface.InterfaceEncoderOf+TypeEncodingMaps.encode_instance.Goals as goal
-use Rattle.wit_encode.proofs.interface.InterfaceEncoderOf+TypeEncodingMaps.encode_instance.Goals.{After-index-def}
+use Rattle.wit_encode.proofs.interface.InterfaceEncoderOf+TypeEncodingMaps.encode_instance.Goals.{After-index-def, In_ok-declared}
 
 there : (c : After-index-def) → interface_at c.args.self.now.resolve.now c.args.interface.0 ≡ Some c.index-def.result.now
 there c = slice_get_read _ _ _ _ refl c.requires.in_range c.index-def.ensures
@@ -45,12 +50,17 @@ encode_inside-requires-clause-uses c = λ f h. subst (λ (xs : List TypeId). Use
     (uses-listed c.args.self.now.resolve.now c.requires.valid c.args.interface.0 c.index-def.result.now (there (goal.at.encode_inside-requires-clause-uses c).After-index-def) f.2.now
     (keyed-value c.index-def.result.now.functions.entries (placed_function f) (permuted-contains _ _ (placed_function f) c.in_ok-functions.ensures.all (contains-map placed_function c.in_ok-functions.functions.items f (rw c.deref-2.ensures.value at h)))))
 
+types_as_listed : (c : In_ok-declared) → DefinesTypes c.args.self.now.resolve.now c.args.interface (values c.index-def.result.now.types) (values c.index-def.result.now.functions) c.in_ok-declared.declared
+types_as_listed c = permuted-types c.args.self.now.resolve.now c.args.interface (values c.index-def.result.now.types) (values c.index-def.result.now.functions) (map (λ f. f.2.now) c.deref-2.result.now) c.in_ok-declared.declared
+    (subst (λ zs. IsPermutation (values c.index-def.result.now.functions) (map (λ f. f.2.now) zs)) (sym c.deref-2.ensures.value) (values-permuted c.index-def.result.now c.in_ok-functions.functions.items c.in_ok-functions.ensures.all))
+    (subst (λ (ts : List TypeId). DefinesTypes c.args.self.now.resolve.now c.args.interface ts (map (λ f. f.2.now) c.deref-2.result.now) c.in_ok-declared.declared) (c.deref.ensures.value ∙ c.in_ok-types.ensures) c.in_ok-declared.ensures.value_types)
+
 pub returns-clause-ok : goal.returns-clause-ok
 returns-clause-ok c =
     let at = (goal.at.returns-clause-ok c).After-index-def in
     close-each c.close.result (λ def. interface_at c.args.self.now.resolve.now c.args.interface.0 ≡ Some def) (λ def k. EncodesInterface c.args.self.now.resolve.now c.args.self.now.outer c.close.new.self.outer c.args.interface def k) c.index-def.result.now (there at)
     (λ def is. closes c.close.result c.args.self.now.resolve.now c.args.self.now.outer c.encode_inside.new.self.outer c.close.new.self.outer c.args.interface def c.index-def.result.now c.in_ok-declared.declared c.in_ok-functions.functions.items c.deref-2.result.now
-    (sym (there at) ∙ is) c.encode_inside.ensures.outer c.deref-2.ensures.value c.in_ok-functions.ensures.all c.in_ok-functions.ensures.order c.in_ok-declared.ensures.function_types (subst (λ (ts : List TypeId). DefinesTypes c.args.self.now.resolve.now c.args.interface ts c.in_ok-declared.declared) (c.deref.ensures.value ∙ c.in_ok-types.ensures) c.in_ok-declared.ensures.value_types) c.in_ok-declared.ensures.ok c.close.ensures.ok c.requires.valid is)
+    (sym (there at) ∙ is) c.encode_inside.ensures.outer c.deref-2.ensures.value c.in_ok-functions.ensures.all c.in_ok-functions.ensures.order c.in_ok-declared.ensures.function_types (types_as_listed (goal.at.returns-clause-ok c).In_ok-declared) c.in_ok-declared.ensures.ok c.close.ensures.ok c.requires.valid is)
 
 pub returns-clause-stands : goal.returns-clause-stands
 returns-clause-stands c = closed-keeps c.close.result c.args.self.now.resolve.now c.close.new.self.resolve.now c.args.self.now.outer c.encode_inside.new.self.outer c.close.new.self.outer c.args.self.now.inner c.close.new.self.inner c.in_ok-declared.declared c.requires.closed

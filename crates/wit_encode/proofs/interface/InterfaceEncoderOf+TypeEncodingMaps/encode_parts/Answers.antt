@@ -1,6 +1,9 @@
 use Rattle.std.proofs.Common.{refl, subst, map}
 use Rattle.wit_encode.specs.Scope.{Scope}
 use Rattle.wit_encode.specs.Instance.{CanEncodeFunction, Continues, own_of, declarations_in}
+use Rattle.std.proofs.Common.{ap}
+use Rattle.wit_encode.proofs.Agree.{on_ok, known-grow}
+use Rattle.wit_encode.proofs.Referring.{from-then}
 use Rattle.wit_encode.proofs.Continuing.{same-scope, after-types, continues-trans}
 use Rattle.wit_encode.proofs.Counting.{parts-counted, parts-named}
 use Rattle.wit_encode.proofs.FunctionExports.{listed-used, exported-after}
@@ -42,3 +45,9 @@ returns-in_err-encode_types-clause-continues c = types-continue (goal.at.returns
 
 pub returns-clause-continues : goal.returns-clause-continues
 returns-clause-continues c = continues-trans (types-continue (goal.at.returns-clause-continues c).After-encode_types) c.encode_functions.ensures.continues refl
+
+pub returns-clause-learns : goal.returns-clause-learns
+returns-clause-learns c = on_ok c.encode_functions.result _ _ (λ l. from-then (ap (λ (s : Scope). s.own_interface) c.encode_types.ensures.leaves.scope_stays) c.in_ok-encode_types.ensures.learns l) c.encode_functions.ensures.learns
+
+pub returns-clause-known : goal.returns-clause-known
+returns-clause-known c = on_ok c.encode_functions.result _ _ (λ l. λ t h. known-grow c.encode_types.new.self.maps c.encode_functions.new.self.maps t.0 l.learns.grow (c.in_ok-encode_types.ensures.known t h)) c.encode_functions.ensures.learns

@@ -7,6 +7,7 @@ use Rattle.wit_model.specs.declared.model.TypeId.{TypeId}
 use Rattle.wit_encode.specs.Scope.{Scope}
 use Rattle.wit_encode.specs.Fits.{CanEncode}
 use Rattle.wit_encode.specs.Instance.{own_of, declarations_in, contents_of, encoder_scope, definitions_with}
+use Rattle.wit_encode.proofs.Referring.{from-none, from-type, from-types}
 use Rattle.wit_encode.proofs.Defining.{leaves-kept, leaves-trans, counts-none, counts-trans}
 use Rattle.std.specs.List.{Contains}
 use Rattle.std.proofs.lemmas.List.{take_all}
@@ -17,6 +18,7 @@ use Rattle.wit_encode.proofs.interface.InterfaceEncoderOf+TypeEncodingMaps.encod
 pub loop-id-init : goal.loop-id-init
 loop-id-init c = record {
   leaves = leaves-kept c.requires.agree (record { kept = λ i m h. h; more = omega arith }) refl refl;
+  learns = from-none c.args.resolve.now (own_of c.args.self.now.inner) _ c.args.self.now.maps;
   first = exports-start c.args.resolve.now c.requires.valid (encoder_scope c.args.self.now.resolve.now c.args.self.now.outer c.args.self.now.inner) c.args.types.now c.requires.listed (ap (λ (z : Resolve). declarations_in z (own_of c.args.self.now.inner)) c.requires.packages) c.args.self.now.maps (definitions_with (contents_of c.args.self.now.resolve.now c.args.self.now.outer c.args.self.now.inner)) c.requires.fresh c.requires.unshown;
   counts = counts-none c.args.resolve.now _ c.args.self.now.maps (definitions_with (contents_of c.args.self.now.resolve.now c.args.self.now.outer c.args.self.now.inner));
 }
@@ -33,6 +35,8 @@ encode_valtype-requires c = λ _. (
 pub loop-id-preserved : goal.loop-id-preserved
 loop-id-preserved c = record {
   leaves = leaves-trans c.loop-id.invariant.leaves c.encode_valtype.ensures.leaves;
+  learns = from-type c.args.resolve.now (own_of c.args.self.now.inner) (own_of c.loop-id.self.inner) c.args.types.now c.loop-id.id-index (record { 0 = 0 }) c.args.self.now.maps c.loop-id.self.maps c.encode_valtype.new.enc.maps
+      c.loop-id-test.true (ap (λ (z : Scope). z.own_interface) c.loop-id.invariant.leaves.scope_stays) c.loop-id.invariant.learns c.in_ok-encode_valtype.ensures.learns;
   first = exports-next c.args.resolve.now c.requires.valid (encoder_scope c.args.self.now.resolve.now c.args.self.now.outer c.args.self.now.inner) c.args.types.now c.requires.listed (ap (λ (z : Resolve). declarations_in z (own_of c.args.self.now.inner)) c.requires.packages)
       c.loop-id.id-index (get_or c.args.types.now c.loop-id.id-index (record { 0 = 0 })) (slice_get-get_or c.args.types.now c.loop-id.id-index (record { 0 = 0 }) c.loop-id-test.true) _ c.loop-id.invariant.leaves.scope_stays _ _ _ _
       c.loop-id.invariant.first c.encode_valtype.ensures.leaves.agree.once c.encode_valtype.ensures.leaves.maps_grow c.in_ok-encode_valtype.ensures.knows c.in_ok-encode_valtype.ensures.learns.only c.in_ok-encode_valtype.ensures.counts.shows;
@@ -57,3 +61,6 @@ returns-clause-defined c =
     c.loop-id.self.maps c.args.types.now c.loop-id.invariant.leaves.agree.once
     (λ t h. c.loop-id.invariant.first.known t (subst (λ (ts : List TypeId). Contains ts t) (sym all) h))
     (λ t i h. elim (c.loop-id.invariant.first.alone t i h) [ inl n ↦ inl n | inr l ↦ inr (subst (λ (ts : List TypeId). Contains ts t) all l) ])
+
+pub returns-clause-learns : goal.returns-clause-learns
+returns-clause-learns c = from-types c.args.resolve.now (own_of c.args.self.now.inner) c.args.types.now c.loop-id.id-index c.args.self.now.maps c.loop-id.self.maps c.loop-id-test.false c.loop-id.invariant.learns

@@ -1,0 +1,196 @@
+-- What the types and functions of an interface meet, and what maps learn of it, type by type and function by function.
+use Rattle.std.proofs.Common.{◌≡◌, refl, sym, subst, ap, ◌∙◌, ℕ, suc, ◌+◌, ◌<◌, ◌≤◌, Bool, true, ◌&&◌, ◌||◌, inl, inr, List, [], ◌∷◌, ◌++◌, map, take, length, get_or, Option, Some, option_to_list, Result, Ok, Err, OnOk, arith}
+use Rattle.std.specs.Prelude.{IsPermutation, flat_map}
+use Rattle.std.specs.List.{Contains, list_any}
+use Rattle.std.specs.Option.{option_eq}
+use Rattle.std.specs.Cmp.Lexicographic.{pointwise}
+use Rattle.std.specs.Set.{is_member}
+use Rattle.std.proofs.lemmas.Bool.{cases_Bool}
+use Rattle.std.proofs.lemmas.Grind.{flat_map-append}
+use Rattle.std.proofs.lemmas.List.{take_more, take_all, map-append}
+use Rattle.std.proofs.lemmas.List.Elements.{Contains-append_left, Contains-append_right, Contains-append_cases}
+use Rattle.std.proofs.lemmas.List.Sorted.{IsPermutation-sym}
+use mathlib.Core.Bool.{beq}
+use Rattle.wit_model.specs.Parts.{function_types}
+use Rattle.wit_model.specs.Valid.{IsValid}
+use Rattle.wit_model.specs.declared.model.Resolve.{Resolve}
+use Rattle.wit_model.specs.declared.model.Function.{Function}
+use Rattle.wit_model.specs.declared.model.TypeDefKind.{TypeDefKind}
+use Rattle.wit_model.specs.declared.model.TypeId.{TypeId}
+use Rattle.wit_model.specs.declared.model.InterfaceId.{InterfaceId}
+use Rattle.wit_model.specs.declared.model.«Type».{«Type» as ValueType}
+use Rattle.wit_model.specs.declared.model.«Type».TheVariants as ty
+use Rattle.wit_model.proofs.Lists.{first_true, second_true}
+use Rattle.comp_bytes.specs.Raw.{Declaration}
+use Rattle.wit_encode.specs.declared.key.FunctionKey.{FunctionKey}
+use Rattle.wit_encode.specs.declared.maps.TypeEncodingMaps.{TypeEncodingMaps}
+use Rattle.wit_encode.specs.Plan.{Reaches}
+use Rattle.wit_encode.specs.Scope.{Scope}
+use Rattle.wit_encode.specs.Counts.{Definitions}
+use Rattle.wit_encode.specs.Key.{same_type, same_param}
+use Rattle.wit_encode.specs.Maps.{IsKnown, AllReady, IsOnce}
+use Rattle.wit_encode.specs.Exports.{AllKnown}
+use Rattle.wit_encode.specs.Distinct.{key_of, key_view, are_same, keys_of, AddsFunctions, DefinesTypes}
+use Rattle.wit_encode.specs.MetKinds.{referred, IsMetKind, AreMetKinds, LearnsMet, LearnsFrom, key_types}
+use Rattle.wit_encode.proofs.Lists.{contains-map}
+use Rattle.wit_encode.proofs.KindLaws.{optional_same}
+use Rattle.wit_encode.proofs.Defining.{none-in}
+use Rattle.wit_encode.proofs.Encoding.{meets-reaches, learns-nothing}
+use Rattle.wit_encode.proofs.Counting.{Began, held_kinds, any-at, from-map, same_equiv}
+use Rattle.wit_encode.proofs.Naming.{or-second}
+use Rattle.wit_encode.proofs.Learning.{learns-none, learns-then}
+use Rattle.wit_encode.proofs.MetKinds.{met-kinds, params-same}
+use Rattle.wit_encode.proofs.Numbers.{contains-flat}
+use Rattle.wit_encode.proofs.Opening.{permuted-contains}
+
+-- ---- what is learnt
+
+pub from-none : (r : Resolve) (own : Option InterfaceId) (ts : List ValueType) (m : TypeEncodingMaps) → LearnsFrom r own ts m m
+from-none r own ts m = record { only = learns-nothing _ m; learns = learns-none r own m }
+
+pub from-met : (r : Resolve) (own : Option InterfaceId) (ts : List ValueType) (m m' : TypeEncodingMaps) → LearnsMet r own ts m m' → LearnsFrom r own ts m m'
+from-met r own ts m m' l = record {
+  only = record { each = λ id i c. elim (l.only.each id i c) [ inl h ↦ inl h | inr x ↦ inr (x.0, x.1, meets-reaches r own m x.0 id.0 x.2) ] };
+  learns = l.learns;
+}
+
+pub from-then : {r : Resolve} {own own' : Option InterfaceId} {xs ys : List ValueType} {a b c : TypeEncodingMaps} → own' ≡ own → LearnsFrom r own xs a b → LearnsFrom r own' ys b c → LearnsFrom r own (xs ++ ys) a c
+from-then {r} {own} {own'} {xs} {ys} {a} {b} {c} e p q = record {
+  only = record {
+    each = λ id i h. elim (q.only.each id i h) [
+      | inl x ↦ elim (p.only.each id i x) [ inl y ↦ inl y | inr y ↦ inr (y.0, Contains-append_left xs ys y.0 y.1, y.2) ]
+      | inr y ↦ inr (y.0, Contains-append_right xs ys y.0 y.1, subst (λ (o : Option InterfaceId). Reaches r o y.0 id.0) e y.2)
+    ];
+  };
+  learns = learns-then e p.learns q.learns;
+}
+
+pub on-any : {A E P : Type 0} (x : Result A E) → P → OnOk x P
+on-any (Ok a) p = p
+on-any (Err e) p = tt
+
+pub on-both : {A E P Q R : Type 0} (x : Result A E) → (P → Q → R) → OnOk x P → OnOk x Q → OnOk x R
+on-both (Ok a) f p q = f p q
+on-both (Err e) f p q = q
+
+-- one type more
+pub from-type : (r : Resolve) (own own' : Option InterfaceId) (types : List TypeId) (i : ℕ) (t : TypeId) (a b c : TypeEncodingMaps) → i < length types → own' ≡ own
+    → LearnsFrom r own (map (λ t. ty.Id t) (take i types)) a b → LearnsMet r own' (ty.Id (get_or types i t) ∷ []) b c → LearnsFrom r own (map (λ t. ty.Id t) (take (i + 1) types)) a c
+from-type r own own' types i t a b c l e p q =
+    subst (λ (ts : List ValueType). LearnsFrom r own ts a c)
+    (sym (ap (map (λ t. ty.Id t)) (take_more types i t l) ∙ map-append (λ t. ty.Id t) (take i types) (get_or types i t ∷ [])))
+    (from-then e p (from-met r own' (ty.Id (get_or types i t) ∷ []) b c q))
+
+pub from-types : (r : Resolve) (own : Option InterfaceId) (types : List TypeId) (i : ℕ) (a b : TypeEncodingMaps) → length types ≤ i
+    → LearnsFrom r own (map (λ t. ty.Id t) (take i types)) a b → LearnsFrom r own (map (λ t. ty.Id t) types) a b
+from-types r own types i a b l p = subst (λ (ts : List TypeId). LearnsFrom r own (map (λ t. ty.Id t) ts) a b) (take_all i types l) p
+
+-- one function more
+pub from-function : {X : Type 0} (view : X → Function) (r : Resolve) (own own' : Option InterfaceId) (xs : List X) (i : ℕ) (x : X) (a b c : TypeEncodingMaps) → i < length xs → x ≡ get_or xs i x → own' ≡ own
+    → LearnsFrom r own (flat_map function_types (map view (take i xs))) a b → LearnsFrom r own' (function_types (view x)) b c
+    → LearnsFrom r own (flat_map function_types (map view (take (i + 1) xs))) a c
+from-function view r own own' xs i x a b c l is e p q =
+    subst (λ (ts : List ValueType). LearnsFrom r own ts a c) (sym (more ∙ flat_map-append function_types (map view (take i xs)) (view x ∷ [])))
+    (subst (λ (ts : List ValueType). LearnsFrom r own (flat_map function_types (map view (take i xs)) ++ ts) a c) one (from-then e p q))
+  where
+    more : flat_map function_types (map view (take (i + 1) xs)) ≡ flat_map function_types (map view (take i xs) ++ view x ∷ [])
+    more = ap (λ ys. flat_map function_types (map view ys)) (take_more xs i x l)
+        ∙ (ap (flat_map function_types) (map-append view (take i xs) (get_or xs i x ∷ []))
+        ∙ ap (λ y. flat_map function_types (map view (take i xs) ++ view y ∷ [])) (sym is))
+
+    append-none : {Y : Type 0} (ys : List Y) → ys ≡ ys ++ []
+    append-none [] = refl
+    append-none (y ∷ ys) = ap (λ zs. y ∷ zs) (append-none ys)
+
+    one : function_types (view x) ≡ flat_map function_types (view x ∷ [])
+    one = append-none (function_types (view x))
+
+pub from-functions : {X : Type 0} (view : X → Function) (r : Resolve) (own : Option InterfaceId) (xs : List X) (i : ℕ) (a b : TypeEncodingMaps) → length xs ≤ i
+    → LearnsFrom r own (flat_map function_types (map view (take i xs))) a b → LearnsFrom r own (flat_map function_types (map view xs)) a b
+from-functions view r own xs i a b l p = subst (λ ys. LearnsFrom r own (flat_map function_types (map view ys)) a b) (take_all i xs l) p
+
+-- ---- functions whose keys are held
+
+any-found : {X : Type 0} (p : X → Bool) (xs : List X) → list_any p xs ≡ true → (x : X) × Contains xs x × (p x ≡ true)
+any-found p [] h = absurd (let z : ⊥ = cc in z)
+any-found {X} p (x ∷ xs) h = elim (cases_Bool (p x)) [
+  | inl e ↦ (x, (0, omega arith, refl), e)
+  | inr e ↦ later (any-found p xs (sym (ap (λ b. b || list_any p xs) e) ∙ h))
+]
+  where
+    later : (y : X) × Contains xs y × (p y ≡ true) → (y : X) × Contains (x ∷ xs) y × (p y ≡ true)
+    later (y, (k, l, e), t) = (y, (suc k, omega (arith, l), e), t)
+
+same-types : (f : Function) (key : FunctionKey) → are_same (key_of f) (key_view key) ≡ true → function_types f ≡ key_types key
+same-types f key e =
+    let a = key_of f in
+    let b = key_view key in
+    let rest = second_true (beq a.is_async b.is_async) (pointwise same_param a.params b.params && option_eq same_type a.result_type b.result_type) e in
+    let params = params-same a.params b.params (first_true (pointwise same_param a.params b.params) (option_eq same_type a.result_type b.result_type) rest) in
+    let result = optional_same a.result_type b.result_type (second_true (pointwise same_param a.params b.params) (option_eq same_type a.result_type b.result_type) rest) in
+    λ i. params i ++ option_to_list (result i)
+
+from-flat : {X Y : Type 0} (f : X → List Y) (xs : List X) (y : Y) → Contains (flat_map f xs) y → (x : X) × Contains xs x × Contains (f x) y
+from-flat f [] y c = none-in y c
+from-flat {X} f (x ∷ xs) y c = elim (Contains-append_cases (f x) (flat_map f xs) y c) [ inl h ↦ (x, (0, omega arith, refl), h) | inr h ↦ later (from-flat f xs y h) ]
+  where
+    later : (z : X) × Contains xs z × Contains (f z) y → (z : X) × Contains (x ∷ xs) z × Contains (f z) y
+    later (z, (k, l, e), d) = (z, (suc k, omega (arith, l), e), d)
+
+module _ (r : Resolve) (scope : Scope) (own : Option InterfaceId) (m m' : TypeEncodingMaps) (d d' : Definitions) (types : List TypeId) (fs : List Function) (b : Began m)
+    (a : AddsFunctions r scope m m' d d' fs) (l : LearnsFrom r own (referred types fs) m m') (known : AllKnown m' types) where
+  function-ready : (f : Function) → Contains fs f → AllReady m' (function_types f)
+  function-ready f c =
+      let here : is_member are_same (map key_of fs) (key_of f) ≡ true = any-at (are_same (key_of f)) (map key_of fs) (key_of f) (contains-map key_of fs f c) (same_equiv.refl (key_of f)) in
+      let member : is_member are_same (keys_of m') (key_of f) ≡ true = a.keys (key_of f) ∙ or-second (is_member are_same (keys_of m) (key_of f)) (is_member are_same (map key_of fs) (key_of f)) here in
+      let found = any-found (are_same (key_of f)) (keys_of m') member in
+      let entry = from-map (λ (e : FunctionKey × ℕ). key_view e.0) m'.func_type_map.items found.0 found.1 in
+      let same : are_same (key_of f) (key_view entry.0.0) ≡ true = ap (are_same (key_of f)) entry.2 ∙ found.2 in
+      subst (AllReady m') (sym (same-types f entry.0.0 same)) (elim (l.learns.keys entry.0.0 entry.0.1 entry.1) [
+        | inl h ↦ none-in entry.0 (subst (λ (xs : List (FunctionKey × ℕ)). Contains xs entry.0) b.keys h)
+        | inr h ↦ h
+      ])
+
+  all-ready : AllReady m' (referred types fs)
+  all-ready t c = elim (Contains-append_cases (map (λ t. ty.Id t) types) (flat_map function_types fs) t c) [
+    | inl h ↦ type-ready (from-map (λ t. ty.Id t) types t h)
+    | inr h ↦ (let x = from-flat function_types fs t h in function-ready x.0 x.1 t x.2)
+  ]
+    where
+      type-ready : (x : TypeId) × Contains types x × (ty.Id x ≡ t) → (id : TypeId) → t ≡ ty.Id id → IsKnown m' id.0
+      type-ready (x, h, e) id q = let same : x ≡ id = cc in subst (λ (y : TypeId). IsKnown m' y.0) same (known x h)
+
+  -- what the types and functions of an interface meet
+  pub interface-kinds : IsValid r → IsOnce m' → AreMetKinds r own (referred types fs) (held_kinds m')
+  interface-kinds v once = met-kinds r v own (referred types fs) m m' l.learns b.numbers b.kinds all-ready l.only once
+
+-- ---- functions in another order
+
+module _ (r : Resolve) (own : Option InterfaceId) (types : List TypeId) (fs gs : List Function) (p : IsPermutation fs gs) where
+  refers-too : (xs ys : List Function) → ((f : Function) → Contains xs f → Contains ys f) → (t : ValueType) → Contains (referred types xs) t → Contains (referred types ys) t
+  refers-too xs ys h t c = elim (Contains-append_cases (map (λ t. ty.Id t) types) (flat_map function_types xs) t c) [
+    | inl q ↦ Contains-append_left (map (λ t. ty.Id t) types) (flat_map function_types ys) t q
+    | inr q ↦ (let x = from-flat function_types xs t q in Contains-append_right (map (λ t. ty.Id t) types) (flat_map function_types ys) t (contains-flat function_types ys x.0 t (h x.0 x.1) x.2))
+  ]
+
+  met-too : (xs ys : List Function) → ((f : Function) → Contains xs f → Contains ys f) → (kind : TypeDefKind) → IsMetKind r own (referred types xs) kind → IsMetKind r own (referred types ys) kind
+  met-too xs ys h kind k = record {
+    number = k.number;
+    met = (k.met.0, refers-too xs ys h k.met.0 k.met.1, k.met.2);
+    def = k.def;
+    there = k.there;
+    unnamed = k.unnamed;
+    same = k.same;
+  }
+
+  forth : (f : Function) → Contains gs f → Contains fs f
+  forth f c = permuted-contains fs gs f p c
+
+  back : (f : Function) → Contains fs f → Contains gs f
+  back f c = permuted-contains gs fs f (IsPermutation-sym fs gs p) c
+
+  pub permuted-kinds : (kinds : List TypeDefKind) → AreMetKinds r own (referred types gs) kinds → AreMetKinds r own (referred types fs) kinds
+  permuted-kinds kinds a = record { different = a.different; met = λ k c. met-too gs fs forth k (a.met k c); all = λ k x. a.all k (met-too fs gs back k x) }
+
+pub permuted-types : (r : Resolve) (i : InterfaceId) (types : List TypeId) (fs gs : List Function) (ds : List Declaration) → IsPermutation fs gs → DefinesTypes r i types gs ds → DefinesTypes r i types fs ds
+permuted-types r i types fs gs ds p t = record { kinds = t.kinds; count = t.count; met = permuted-kinds r (Some i) types fs gs p t.kinds t.met }
