@@ -24,6 +24,3 @@ pub use frames::{Section, Sections, custom_name};
 pub use instance::InstanceType;
 pub use name::{read_name, write_name};
 pub use number::{read_index, read_u32, write_index, write_u32};
-
-#[cfg(test)]
-mod tests;

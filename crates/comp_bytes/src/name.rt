@@ -108,6 +108,3 @@ pub(crate) fn append_plain_name(out: &mut Vec<u8>, text: &str) -> Result<(), Err
     out.push(0x00)?;
     append_name(out, text)
 }
-
-#[cfg(test)]
-mod tests;
