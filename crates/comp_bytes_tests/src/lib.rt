@@ -12,4 +12,6 @@ mod names;
 #[cfg(test)]
 mod numbers;
 #[cfg(test)]
+mod sections;
+#[cfg(test)]
 mod steps;
