@@ -4,10 +4,10 @@ use Rattle.wit_model.specs.declared.model.Resolve.{Resolve}
 use Rattle.wit_model.specs.declared.model.«Type».{«Type» as ValueType}
 use Rattle.wit_model.specs.declared.model.Function.{Function}
 use Rattle.wit_encode.specs.declared.key.FunctionKey.{FunctionKey}
-use Rattle.wit_encode.specs.Plan.{MetFrom}
-use Rattle.wit_encode.specs.Maps.{MapsGrow, LearnsOnly}
+use Rattle.wit_encode.specs.Maps.{MapsGrow}
 use Rattle.wit_encode.specs.Counts.{one_type_more, type_more_if, AddsTypes, AddsFunction}
 use Rattle.wit_encode.specs.Distinct.{AddsFunctions}
+use Rattle.wit_encode.specs.MetKinds.{MapsLearnMet}
 use Rattle.wit_encode.specs.View.{View, Agrees, Grows}
 
 -- The maps agree with the slots and have lost no entry, old slots stand for what they did, and the surroundings are the same.
@@ -17,9 +17,9 @@ pub record Leaves (r : Resolve) (v v' : View) : Type 0 where
   pub grows : Grows v v'
   pub scope_stays : v'.scope ≡ v.scope
 
--- each type number that has been learnt is met from one of the types
+-- what is met on the way down from these types has been learnt, and nothing else
 abbrev pub LearnsMet : Resolve → List ValueType → View → View → Type 0
-LearnsMet r ts v v' = LearnsOnly (MetFrom r v.scope.own_interface v.maps ts) v.maps v'.maps
+LearnsMet r ts v v' = MapsLearnMet r v.scope.own_interface ts v.maps v'.maps
 
 -- what has been defined is what the maps have learnt, and no type of a function is among it
 abbrev pub CountsTypes : Resolve → View → View → Type 0

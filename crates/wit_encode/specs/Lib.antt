@@ -23,3 +23,5 @@ pub mod Encoders
 pub mod InstanceLaws
 pub mod Exports
 pub mod UsesAlone
+pub mod OwnerScope
+pub mod MetKinds

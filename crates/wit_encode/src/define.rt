@@ -20,6 +20,7 @@ ghost use Rattle.wit_encode.specs.Plan.{foreign_owner, IsLayered};
 ghost use Rattle.wit_encode.specs.Fits.{Fits, FitsScope, CanEncode};
 ghost use Rattle.wit_encode.specs.Counts.{one_type_more, is_defined_by_name, own_name};
 ghost use Rattle.wit_encode.specs.Unnamed.{IsUnnamedKind};
+ghost use Rattle.wit_encode.specs.MetKinds.{Learns, LearnsKindOf};
 ghost use Rattle.wit_encode.specs.Leaves.{Leaves, LearnsMet, CountsTypes, DefinesIf};
 
 use crate::encoder::ValtypeEncoder;
@@ -119,6 +120,7 @@ fn define_new_kind<'a, E: ValtypeEncoder<'a>>(
     ensures numbers { OnOk result ((E.view enc.new).maps.id_to_index.items ≡ (E.view enc.old).maps.id_to_index.items) }
     ensures leaves { Leaves resolve.now (E.view enc.old) (E.view enc.new) }
     ensures counts { OnOk result (CountsTypes resolve.now (E.view enc.old) (E.view enc.new)) }
+    ensures kinds { OnOk result (LearnsKindOf (E.view enc.old).maps (E.view enc.new).maps kind.now) }
     ensures refuses { IfErr result IsMemoryOrSize }
 {
     let index = define_shape(alloc, enc, resolve, shape_of(kind))?;
@@ -142,6 +144,7 @@ fn define_unnamed_kind<'a, E: ValtypeEncoder<'a>>(
     ensures numbers { OnOk result ((E.view enc.new).maps.id_to_index.items ≡ (E.view enc.old).maps.id_to_index.items) }
     ensures leaves { Leaves resolve.now (E.view enc.old) (E.view enc.new) }
     ensures counts { OnOk result (CountsTypes resolve.now (E.view enc.old) (E.view enc.new)) }
+    ensures kinds { OnOk result (LearnsKindOf (E.view enc.old).maps (E.view enc.new).maps kind.now) }
     ensures refuses { IfErr result IsMemoryOrSize }
 {
     if let Some(index) = index_of_kind(enc, kind) {
@@ -170,6 +173,7 @@ fn define_unnamed<'a, E: ValtypeEncoder<'a>>(
     ensures ok { OnOk result (LearnsOne (E.view enc.old).maps (E.view enc.new).maps id.0) }
     ensures leaves { Leaves resolve.now (E.view enc.old) (E.view enc.new) }
     ensures counts { OnOk result (CountsTypes resolve.now (E.view enc.old) (E.view enc.new)) }
+    ensures kinds { OnOk result (LearnsKindOf (E.view enc.old).maps (E.view enc.new).maps kind.now) }
     ensures refuses { IfErr result IsMemoryOrSize }
 {
     let index = define_unnamed_kind(alloc, enc, resolve, kind)?;
@@ -192,6 +196,7 @@ fn define_resource<'a, E: ValtypeEncoder<'a>>(
     ensures ok { OnOk result (LearnsOne (E.view enc.old).maps (E.view enc.new).maps id.0) }
     ensures leaves { Leaves resolve.now (E.view enc.old) (E.view enc.new) }
     ensures counts { OnOk result (CountsTypes resolve.now (E.view enc.old) (E.view enc.new)) }
+    ensures kinds { OnOk result ((E.view enc.new).maps.def_to_index.items ≡ (E.view enc.old).maps.def_to_index.items) }
     ensures refuses { IfErr result IsMemoryOrSize }
 {
     let index = enc.export_resource(name)?;
@@ -240,6 +245,7 @@ fn define_named<'a, E: ValtypeEncoder<'a>>(
     ensures ok { OnOk result (LearnsOne (E.view enc.old).maps (E.view enc.new).maps id.0) }
     ensures leaves { Leaves resolve.now (E.view enc.old) (E.view enc.new) }
     ensures counts { OnOk result (CountsTypes resolve.now (E.view enc.old) (E.view enc.new)) }
+    ensures kinds { OnOk result ((E.view enc.new).maps.def_to_index.items ≡ (E.view enc.old).maps.def_to_index.items) }
     ensures refuses { IfErr result IsMemoryOrSize }
 {
     let index = define_kind(alloc, enc, resolve, &def.kind)?;
@@ -265,6 +271,7 @@ fn define_own<'a, E: ValtypeEncoder<'a>>(
     ensures ok { OnOk result (LearnsOne (E.view enc.old).maps (E.view enc.new).maps id.0) }
     ensures leaves { Leaves resolve.now (E.view enc.old) (E.view enc.new) }
     ensures counts { OnOk result (CountsTypes resolve.now (E.view enc.old) (E.view enc.new)) }
+    ensures learns { OnOk result (Learns resolve.now (E.view enc.old).scope.own_interface (E.view enc.old).maps (E.view enc.new).maps) }
     ensures refuses { IfErr result IsMemoryOrSize }
 {
     match &def.name {
@@ -295,6 +302,7 @@ fn define_number<'a, E: ValtypeEncoder<'a>>(
     ensures ok { OnOk result (LearnsOne (E.view enc.old).maps (E.view enc.new).maps id.0) }
     ensures leaves { Leaves resolve.now (E.view enc.old) (E.view enc.new) }
     ensures counts { OnOk result (CountsTypes resolve.now (E.view enc.old) (E.view enc.new)) }
+    ensures learns { OnOk result (Learns resolve.now (E.view enc.old).scope.own_interface (E.view enc.old).maps (E.view enc.new).maps) }
     ensures refuses { IfErr result IsMemoryOrSize }
 {
     if index_of(enc, id).is_some() {
@@ -324,6 +332,7 @@ fn import<'a, E: ValtypeEncoder<'a>>(
     ensures ok { OnOk result (LearnsOne (E.view enc.old).maps (E.view enc.new).maps id.0) }
     ensures leaves { Leaves resolve.now (E.view enc.old) (E.view enc.new) }
     ensures counts { OnOk result (CountsTypes resolve.now (E.view enc.old) (E.view enc.new)) }
+    ensures kinds { OnOk result ((E.view enc.new).maps.def_to_index.items ≡ (E.view enc.old).maps.def_to_index.items) }
     ensures refuses { IfErr result IsMemoryOrSize }
 {
     let index = enc.import_type(interface, id)?;

@@ -15,7 +15,7 @@ ghost use Rattle.wit_model.specs.Meant.{signature_of};
 ghost use Rattle.wit_model.specs.Parts.{function_types};
 ghost use Rattle.wit_encode.specs.Slots.{tree, function, StandsFor, StandsForOptional, NamedStands, Follows};
 ghost use Rattle.wit_encode.specs.Kinds.{parts_of, kind_of, kind_tree, named_tree};
-ghost use Rattle.wit_encode.specs.Maps.{IsReady};
+ghost use Rattle.wit_encode.specs.Maps.{IsReady, AllReady};
 ghost use Rattle.wit_encode.specs.Fits.{CanEncode, CanImport, is_foreign};
 ghost use Rattle.wit_encode.specs.Formed.{IsFormed};
 ghost use Rattle.wit_encode.specs.Counts.{one_type_more};
@@ -47,6 +47,7 @@ fn encode_shape<'a, E: ValtypeEncoder<'a>>(
     requires formed { IsFormed (E.view enc.old).scope (kind_tree resolve.now (kind_of shape)) }
     requires agree { Agrees resolve.now (E.view enc.old) }
     ensures ok { IfOk result (λ v. StandsFor (E.view enc.new).stands v (kind_tree resolve.now (kind_of shape.entry))) }
+    ensures learns { OnOk result (LearnsMet resolve.now (parts_of (kind_of shape.entry)) (E.view enc.old) (E.view enc.new)) }
     ensures leaves { Leaves resolve.now (E.view enc.old) (E.view enc.new) }
     ensures counts { OnOk result (CountsOneMore resolve.now (E.view enc.old) (E.view enc.new)) }
     ensures refuses { IfErr result IsMemoryOrSize }
@@ -95,6 +96,7 @@ pub fn encode_optional_valtype<'a, E: ValtypeEncoder<'a>>(
     ensures learns { OnOk result (LearnsMet resolve.now (option_to_list (option_copied ty.entry)) (E.view enc.old) (E.view enc.new)) }
     ensures leaves { Leaves resolve.now (E.view enc.old) (E.view enc.new) }
     ensures counts { OnOk result (CountsTypes resolve.now (E.view enc.old) (E.view enc.new)) }
+    ensures knows { OnOk result (AllReady (E.view enc.new).maps (option_to_list (option_copied ty.entry))) }
     ensures refuses { IfErr result IsMemoryOrSize }
 {
     match ty {
@@ -121,6 +123,7 @@ pub fn encode_params<'a, E: ValtypeEncoder<'a>>(
     ensures learns { OnOk result (LearnsMet resolve.now (map (λ p. p.ty) params.now) (E.view enc.old) (E.view enc.new)) }
     ensures leaves { Leaves resolve.now (E.view enc.old) (E.view enc.new) }
     ensures counts { OnOk result (CountsTypes resolve.now (E.view enc.old) (E.view enc.new)) }
+    ensures knows { OnOk result (AllReady (E.view enc.new).maps (map (λ p. p.ty) params.now)) }
     ensures refuses { IfErr result IsMemoryOrSize }
 {
     let types = param_types(alloc, params)?;
@@ -142,6 +145,7 @@ pub fn encode_record<'a, E: ValtypeEncoder<'a>>(
     requires formed { IsFormed (E.view enc.old).scope (kind_tree resolve.now (TypeDefKind.Record ty.now)) }
     requires agree { Agrees resolve.now (E.view enc.old) }
     ensures ok { IfOk result (λ v. StandsFor (E.view enc.new).stands v (kind_tree resolve.now (TypeDefKind.Record ty.now))) }
+    ensures learns { OnOk result (LearnsMet resolve.now (parts_of (TypeDefKind.Record ty.now)) (E.view enc.old) (E.view enc.new)) }
     ensures leaves { Leaves resolve.now (E.view enc.old) (E.view enc.new) }
     ensures counts { OnOk result (CountsOneMore resolve.now (E.view enc.old) (E.view enc.new)) }
     ensures refuses { IfErr result IsMemoryOrSize }
@@ -162,6 +166,7 @@ pub fn encode_tuple<'a, E: ValtypeEncoder<'a>>(
     requires formed { IsFormed (E.view enc.old).scope (kind_tree resolve.now (TypeDefKind.Tuple ty.now)) }
     requires agree { Agrees resolve.now (E.view enc.old) }
     ensures ok { IfOk result (λ v. StandsFor (E.view enc.new).stands v (kind_tree resolve.now (TypeDefKind.Tuple ty.now))) }
+    ensures learns { OnOk result (LearnsMet resolve.now (parts_of (TypeDefKind.Tuple ty.now)) (E.view enc.old) (E.view enc.new)) }
     ensures leaves { Leaves resolve.now (E.view enc.old) (E.view enc.new) }
     ensures counts { OnOk result (CountsOneMore resolve.now (E.view enc.old) (E.view enc.new)) }
     ensures refuses { IfErr result IsMemoryOrSize }
@@ -182,6 +187,7 @@ pub fn encode_variant<'a, E: ValtypeEncoder<'a>>(
     requires formed { IsFormed (E.view enc.old).scope (kind_tree resolve.now (TypeDefKind.Variant ty.now)) }
     requires agree { Agrees resolve.now (E.view enc.old) }
     ensures ok { IfOk result (λ v. StandsFor (E.view enc.new).stands v (kind_tree resolve.now (TypeDefKind.Variant ty.now))) }
+    ensures learns { OnOk result (LearnsMet resolve.now (parts_of (TypeDefKind.Variant ty.now)) (E.view enc.old) (E.view enc.new)) }
     ensures leaves { Leaves resolve.now (E.view enc.old) (E.view enc.new) }
     ensures counts { OnOk result (CountsOneMore resolve.now (E.view enc.old) (E.view enc.new)) }
     ensures refuses { IfErr result IsMemoryOrSize }
@@ -202,6 +208,7 @@ pub fn encode_result<'a, E: ValtypeEncoder<'a>>(
     requires formed { IsFormed (E.view enc.old).scope (kind_tree resolve.now (TypeDefKind.Result ty.now)) }
     requires agree { Agrees resolve.now (E.view enc.old) }
     ensures ok { IfOk result (λ v. StandsFor (E.view enc.new).stands v (kind_tree resolve.now (TypeDefKind.Result ty.now))) }
+    ensures learns { OnOk result (LearnsMet resolve.now (parts_of (TypeDefKind.Result ty.now)) (E.view enc.old) (E.view enc.new)) }
     ensures leaves { Leaves resolve.now (E.view enc.old) (E.view enc.new) }
     ensures counts { OnOk result (CountsOneMore resolve.now (E.view enc.old) (E.view enc.new)) }
     ensures refuses { IfErr result IsMemoryOrSize }
@@ -222,6 +229,7 @@ pub fn encode_option<'a, E: ValtypeEncoder<'a>>(
     requires formed { IsFormed (E.view enc.old).scope (kind_tree resolve.now (TypeDefKind.Option payload.now)) }
     requires agree { Agrees resolve.now (E.view enc.old) }
     ensures ok { IfOk result (λ v. StandsFor (E.view enc.new).stands v (kind_tree resolve.now (TypeDefKind.Option payload.now))) }
+    ensures learns { OnOk result (LearnsMet resolve.now (parts_of (TypeDefKind.Option payload.now)) (E.view enc.old) (E.view enc.new)) }
     ensures leaves { Leaves resolve.now (E.view enc.old) (E.view enc.new) }
     ensures counts { OnOk result (CountsOneMore resolve.now (E.view enc.old) (E.view enc.new)) }
     ensures refuses { IfErr result IsMemoryOrSize }
@@ -242,6 +250,7 @@ pub fn encode_future<'a, E: ValtypeEncoder<'a>>(
     requires formed { IsFormed (E.view enc.old).scope (kind_tree resolve.now (TypeDefKind.Future payload.now)) }
     requires agree { Agrees resolve.now (E.view enc.old) }
     ensures ok { IfOk result (λ v. StandsFor (E.view enc.new).stands v (kind_tree resolve.now (TypeDefKind.Future payload.now))) }
+    ensures learns { OnOk result (LearnsMet resolve.now (parts_of (TypeDefKind.Future payload.now)) (E.view enc.old) (E.view enc.new)) }
     ensures leaves { Leaves resolve.now (E.view enc.old) (E.view enc.new) }
     ensures counts { OnOk result (CountsOneMore resolve.now (E.view enc.old) (E.view enc.new)) }
     ensures refuses { IfErr result IsMemoryOrSize }
@@ -262,6 +271,7 @@ pub fn encode_stream<'a, E: ValtypeEncoder<'a>>(
     requires formed { IsFormed (E.view enc.old).scope (kind_tree resolve.now (TypeDefKind.Stream payload.now)) }
     requires agree { Agrees resolve.now (E.view enc.old) }
     ensures ok { IfOk result (λ v. StandsFor (E.view enc.new).stands v (kind_tree resolve.now (TypeDefKind.Stream payload.now))) }
+    ensures learns { OnOk result (LearnsMet resolve.now (parts_of (TypeDefKind.Stream payload.now)) (E.view enc.old) (E.view enc.new)) }
     ensures leaves { Leaves resolve.now (E.view enc.old) (E.view enc.new) }
     ensures counts { OnOk result (CountsOneMore resolve.now (E.view enc.old) (E.view enc.new)) }
     ensures refuses { IfErr result IsMemoryOrSize }

@@ -6,7 +6,7 @@ ghost use Rattle.wit_model.specs.Meant.{signature_of};
 ghost use Rattle.wit_model.specs.Parts.{function_types};
 ghost use Rattle.wit_encode.specs.Slots.{function, FollowsFunction};
 ghost use Rattle.wit_encode.specs.Key.{IsKeyOf};
-ghost use Rattle.wit_encode.specs.Maps.{LacksKey};
+ghost use Rattle.wit_encode.specs.Maps.{AllReady, LacksKey};
 ghost use Rattle.wit_encode.specs.Fits.{CanEncode};
 ghost use Rattle.wit_encode.specs.Formed.{IsFormedSignature};
 ghost use Rattle.wit_encode.specs.View.{Agrees};
@@ -36,6 +36,7 @@ fn function_of<'a, E: ValtypeEncoder<'a>>(
     ensures learns { OnOk result (LearnsMet resolve.now (function_types func.now) (E.view enc.old) (E.view enc.new)) }
     ensures leaves { Leaves resolve.now (E.view enc.old) (E.view enc.new) }
     ensures counts { OnOk result (CountsTypes resolve.now (E.view enc.old) (E.view enc.new)) }
+    ensures knows { OnOk result (AllReady (E.view enc.new).maps (function_types func.now)) }
     ensures refuses { IfErr result IsMemoryOrSize }
 {
     let params = encode_params(alloc, enc, resolve, &func.params)?;

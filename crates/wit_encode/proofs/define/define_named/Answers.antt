@@ -20,3 +20,6 @@ returns-clause-counts g c = on_ok c.remember_id.result _ _
     (subst (λ (z : Definitions). ExportsOne (g.E.ValtypeEncoder.view c.args.enc.now).scope (g.E.ValtypeEncoder.view c.define_kind.new.enc).definitions z (raw_name c.args.name)) (sym c.remember_id.ensures.counts)
     (subst (λ (z : Scope). ExportsOne z (g.E.ValtypeEncoder.view c.define_kind.new.enc).definitions (g.E.ValtypeEncoder.view c.export.new.enc).definitions (raw_name c.args.name)) c.define_kind.ensures.scope_stays c.in_ok-slot.ensures.counts)))
     c.remember_id.ensures.ok
+
+pub returns-clause-kinds : goal.returns-clause-kinds
+returns-clause-kinds g c = on_ok c.remember_id.result _ _ (λ l. l.rest.kinds ∙ ap (λ (z : TypeEncodingMaps). z.def_to_index.items) (c.export.ensures.maps_stay ∙ c.define_kind.ensures.maps_stay)) c.remember_id.ensures.ok

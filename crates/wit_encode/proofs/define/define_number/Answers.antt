@@ -4,6 +4,7 @@ use Rattle.std.proofs.lemmas.Option.{slice_get_read}
 use Rattle.wit_model.specs.Lookup.{type_at}
 use Rattle.wit_encode.specs.Plan.{foreign_owner}
 use Rattle.wit_encode.specs.Maps.{IsKnown}
+use Rattle.wit_encode.proofs.Learning.{learns-none, learns-call-foreign}
 use Rattle.wit_encode.proofs.Defining.{counts-none}
 use Rattle.wit_encode.proofs.Lists.{some-from}
 use Rattle.wit_encode.proofs.Encoding.{learns-nothing, tabled, foreign-undefined, foreign-unshown}
@@ -56,3 +57,14 @@ pub returns-then-is_some-clause-ok : goal.returns-then-is_some-clause-ok
 returns-then-is_some-clause-ok g c =
     let k : IsKnown (g.E.ValtypeEncoder.view c.args.enc.now).maps c.args.id.0 = some-from _ c.index_of.result (search rules) c.index_of.ensures.some in
     rw c.index_of.ensures.same (record { known = k; only = learns-nothing _ _ })
+
+pub returns-then-is_some-clause-learns : goal.returns-then-is_some-clause-learns
+returns-then-is_some-clause-learns g c = rw c.index_of.ensures.same (learns-none c.args.resolve.now (g.E.ValtypeEncoder.view c.args.enc.now).scope.own_interface (g.E.ValtypeEncoder.view c.args.enc.now).maps)
+
+pub returns-in-Some-clause-learns : goal.returns-in-Some-clause-learns
+returns-in-Some-clause-learns g c =
+    let a = (goal.at.returns-in-Some-clause-learns g c).After-foreign in
+    let f : foreign_owner (g.E.ValtypeEncoder.view c.args.enc.now).scope.own_interface c.index-def.result.now.owner ≡ Some c.in-Some.interface = sym (owner_is g a) ∙ c.in-Some.is in
+    learns-call-foreign c.import.result c.args.resolve.now (g.E.ValtypeEncoder.view c.args.enc.now).scope (g.E.ValtypeEncoder.view c.args.enc.now).maps (g.E.ValtypeEncoder.view c.import.new.enc).maps
+    (g.E.ValtypeEncoder.view c.args.enc.now).definitions (g.E.ValtypeEncoder.view c.import.new.enc).definitions c.args.id.0 c.index-def.result.now (there g a)
+    (rw c.index_of.ensures.same at c.import.ensures.ok) (rw c.index_of.ensures.same at c.import.ensures.leaves.maps_grow) (rw c.index_of.ensures.same at c.import.ensures.counts) (rw c.index_of.ensures.same at c.import.ensures.kinds) c.in-Some.interface f

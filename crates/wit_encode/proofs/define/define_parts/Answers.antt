@@ -3,6 +3,7 @@ use Rattle.wit_encode.specs.Scope.{Scope}
 use Rattle.wit_encode.specs.Fits.{Fits}
 use Rattle.wit_encode.specs.Plan.{IsOrderOf, foreign_owner}
 use Rattle.std.proofs.lemmas.List.Elements.{Contains-get_or}
+use Rattle.wit_encode.proofs.Learning.{learns-none, learns-then}
 use Rattle.wit_encode.proofs.Defining.{leaves-trans, leaves-kept, counts-trans, counts-none, none-in}
 use Rattle.wit_encode.proofs.Encoding.{ready-now, known-more, ready-at-last, reaches-in_range, meets-reaches, learns-more, learns-at-last, learns-nothing}
 use Rattle.wit_encode.proofs.define.define_parts.Given.{Over}
@@ -42,6 +43,7 @@ pub loop-n-preserved : goal.loop-n-preserved
 loop-n-preserved g c = record {
   known = known-more (g.E.ValtypeEncoder.view c.loop-n.enc).maps (g.E.ValtypeEncoder.view c.define_number.new.enc).maps c.deref-n-items.result.now c.loop-n.n-index c.loop-n-test.true c.define_number.ensures.leaves.maps_grow c.loop-n.invariant.known c.in_ok-define_number.ensures.ok.known;
   learns = learns-more (g.E.ValtypeEncoder.view c.args.enc.now).maps (g.E.ValtypeEncoder.view c.loop-n.enc).maps (g.E.ValtypeEncoder.view c.define_number.new.enc).maps c.deref-n-items.result.now c.loop-n.n-index c.loop-n-test.true c.loop-n.invariant.learns c.in_ok-define_number.ensures.ok;
+  learnt = learns-then (ap (λ (x : Scope). x.own_interface) c.loop-n.invariant.leaves.scope_stays) c.loop-n.invariant.learnt c.in_ok-define_number.ensures.learns;
   leaves = leaves-trans c.loop-n.invariant.leaves c.define_number.ensures.leaves;
   counts = counts-trans c.loop-n.invariant.leaves.scope_stays c.loop-n.invariant.counts c.in_ok-define_number.ensures.counts;
 }
@@ -51,13 +53,17 @@ returns-clause-ready g c = ready-at-last c.args.resolve.now (g.E.ValtypeEncoder.
     (ordered g (goal.at.returns-clause-ready g c).After-deref-n-items) c.loop-n-test.false c.loop-n.invariant.leaves.maps_grow c.loop-n.invariant.known
 
 pub returns-clause-learns : goal.returns-clause-learns
-returns-clause-learns g c = learns-at-last c.args.resolve.now (g.E.ValtypeEncoder.view c.args.enc.now).scope.own_interface (g.E.ValtypeEncoder.view c.args.enc.now).maps (g.E.ValtypeEncoder.view c.loop-n.enc).maps c.args.types.now c.deref-n-items.result.now c.loop-n.n-index
-    (ordered g (goal.at.returns-clause-learns g c).After-deref-n-items) c.loop-n-test.false c.loop-n.invariant.learns
+returns-clause-learns g c = record {
+  learns = c.loop-n.invariant.learnt;
+  only = learns-at-last c.args.resolve.now (g.E.ValtypeEncoder.view c.args.enc.now).scope.own_interface (g.E.ValtypeEncoder.view c.args.enc.now).maps (g.E.ValtypeEncoder.view c.loop-n.enc).maps c.args.types.now c.deref-n-items.result.now c.loop-n.n-index
+      (ordered g (goal.at.returns-clause-learns g c).After-deref-n-items) c.loop-n-test.false c.loop-n.invariant.learns;
+}
 
 pub loop-n-init : goal.loop-n-init
 loop-n-init g c = rw c.order_of.ensures.same (record {
   known = λ j k. none-in j k;
   learns = learns-nothing _ (g.E.ValtypeEncoder.view c.args.enc.now).maps;
+  learnt = learns-none c.args.resolve.now (g.E.ValtypeEncoder.view c.args.enc.now).scope.own_interface (g.E.ValtypeEncoder.view c.args.enc.now).maps;
   leaves = leaves-kept c.requires.agree (record { kept = λ i s h. h; more = omega arith }) refl refl;
   counts = counts-none c.args.resolve.now (g.E.ValtypeEncoder.view c.args.enc.now).scope (g.E.ValtypeEncoder.view c.args.enc.now).maps (g.E.ValtypeEncoder.view c.args.enc.now).definitions;
 })

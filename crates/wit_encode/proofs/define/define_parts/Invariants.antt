@@ -1,6 +1,7 @@
 use Rattle.std.proofs.Common.{ℕ, take}
 use Rattle.std.specs.List.{Contains}
 use Rattle.wit_encode.specs.Maps.{IsKnown, LearnsOnly}
+use Rattle.wit_encode.specs.MetKinds.{Learns}
 use Rattle.wit_encode.specs.Leaves.{Leaves, CountsTypes}
 use Rattle.wit_encode.proofs.define.define_parts.Given as goal
 
@@ -8,6 +9,7 @@ abbrev pub invariant-loop-n : goal.invariant-loop-n
 invariant-loop-n g l = record {
   known : (j : ℕ) → Contains (take l.n-index l.n-items) j → IsKnown (g.E.ValtypeEncoder.view l.enc).maps j;
   learns : LearnsOnly (λ n. Contains (take l.n-index l.n-items) n) (g.E.ValtypeEncoder.view l.fn.enc).maps (g.E.ValtypeEncoder.view l.enc).maps;
+  learnt : Learns l.resolve (g.E.ValtypeEncoder.view l.fn.enc).scope.own_interface (g.E.ValtypeEncoder.view l.fn.enc).maps (g.E.ValtypeEncoder.view l.enc).maps;
   leaves : Leaves l.resolve (g.E.ValtypeEncoder.view l.fn.enc) (g.E.ValtypeEncoder.view l.enc);
   counts : CountsTypes l.resolve (g.E.ValtypeEncoder.view l.fn.enc) (g.E.ValtypeEncoder.view l.enc);
 }

@@ -1,4 +1,4 @@
-use Rattle.std.proofs.Common.{sym, ap, subst}
+use Rattle.std.proofs.Common.{◌∙◌, sym, ap, subst}
 use Rattle.comp_bytes.specs.RawOf.{raw_name}
 use Rattle.wit_encode.specs.declared.maps.TypeEncodingMaps.{TypeEncodingMaps}
 use Rattle.wit_encode.specs.Maps.{LearnsNumber}
@@ -18,3 +18,6 @@ returns-clause-counts g c = on_ok c.remember_id.result _ _
     (sym (ap (λ b. type_more_if b (g.E.ValtypeEncoder.view c.args.enc.now).definitions) c.requires.no_definition))
     (subst (λ (z : Definitions). ExportsOne (g.E.ValtypeEncoder.view c.args.enc.now).scope (g.E.ValtypeEncoder.view c.args.enc.now).definitions z (raw_name c.args.name)) (sym c.remember_id.ensures.counts) c.in_ok-index.ensures.counts))
     c.remember_id.ensures.ok
+
+pub returns-clause-kinds : goal.returns-clause-kinds
+returns-clause-kinds g c = on_ok c.remember_id.result _ _ (λ l. l.rest.kinds ∙ ap (λ (z : TypeEncodingMaps). z.def_to_index.items) c.export_resource.ensures.maps_stay) c.remember_id.ensures.ok

@@ -1,6 +1,7 @@
 use Rattle.std.proofs.Common.{◌∙◌, sym, ap}
 use Rattle.wit_encode.specs.Scope.{Scope}
 use Rattle.wit_encode.specs.Counts.{type_more_if, own_name, is_defined_by_name}
+use Rattle.wit_encode.proofs.Learning.{kind-same}
 use Rattle.wit_encode.proofs.Agree.{on_ok, learnt-one}
 use Rattle.wit_encode.proofs.Defining.{counts-number, counts-trans}
 use Rattle.wit_encode.proofs.define.define_unnamed.Goals as goal
@@ -17,3 +18,6 @@ returns-clause-counts g c =
     (ap (λ (z : Scope). own_name c.args.resolve.now z c.args.id.0) s ∙ c.requires.not_shown)
     (c.remember_id.ensures.counts ∙ sym (ap (λ b. type_more_if b (g.E.ValtypeEncoder.view c.define_unnamed_kind.new.enc).definitions) (ap (λ (z : Scope). is_defined_by_name c.args.resolve.now z c.args.id.0) s ∙ c.requires.no_name)))))
     c.remember_id.ensures.ok
+
+pub returns-clause-kinds : goal.returns-clause-kinds
+returns-clause-kinds g c = on_ok c.remember_id.result _ _ (λ l. kind-same (g.E.ValtypeEncoder.view c.args.enc.now).maps _ (g.E.ValtypeEncoder.view c.remember_id.new.enc).maps c.args.kind.now l.rest.kinds c.in_ok-index.ensures.kinds) c.remember_id.ensures.ok

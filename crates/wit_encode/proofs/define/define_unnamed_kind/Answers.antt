@@ -1,4 +1,5 @@
 use Rattle.std.proofs.Common.{refl}
+use Rattle.wit_encode.proofs.Learning.{kind-had}
 use Rattle.wit_encode.proofs.Defining.{kind-stands, counts-none}
 use Rattle.wit_encode.proofs.define.define_unnamed_kind.Goals as goal
 
@@ -10,3 +11,6 @@ define_new_kind-requires g c = λ _. ((refl, tt), rw c.index_of_kind.ensures.sam
 
 pub returns-in-Some-clause-counts : goal.returns-in-Some-clause-counts
 returns-in-Some-clause-counts g c = rw c.index_of_kind.ensures.same (counts-none c.args.resolve.now (g.E.ValtypeEncoder.view c.args.enc.now).scope (g.E.ValtypeEncoder.view c.args.enc.now).maps (g.E.ValtypeEncoder.view c.args.enc.now).definitions)
+
+pub returns-in-Some-clause-kinds : goal.returns-in-Some-clause-kinds
+returns-in-Some-clause-kinds g c = rw c.index_of_kind.ensures.same (kind-had (g.E.ValtypeEncoder.view c.args.enc.now).maps c.args.kind.now c.in-Some.index c.in-Some.ensures.some)

@@ -16,3 +16,6 @@ returns-clause-counts g c = on_ok c.remember_id.result _ _
     c.requires.not_shown
     (c.remember_id.ensures.counts ∙ c.in_ok-index.ensures.counts ∙ sym (ap (λ b. type_more_if b (g.E.ValtypeEncoder.view c.args.enc.now).definitions) c.requires.no_definition)))
     c.remember_id.ensures.ok
+
+pub returns-clause-kinds : goal.returns-clause-kinds
+returns-clause-kinds g c = on_ok c.remember_id.result _ _ (λ l. l.rest.kinds ∙ ap (λ (z : TypeEncodingMaps). z.def_to_index.items) c.import_type.ensures.maps_stay) c.remember_id.ensures.ok

@@ -10,3 +10,6 @@ returns-clause-ok g c = rw c.params_of.ensures.same (params-stand c.args.resolve
 
 pub returns-clause-learns : goal.returns-clause-learns
 returns-clause-learns g c = rw c.params_of.ensures.same (rw (c.deref.ensures.value, c.in_ok-types.ensures) at c.in_ok-define_parts.ensures.learns)
+
+pub returns-clause-knows : goal.returns-clause-knows
+returns-clause-knows g c = rw c.params_of.ensures.same (rw (c.deref.ensures.value, c.in_ok-types.ensures) at c.in_ok-define_parts.ensures.ready)

@@ -1,11 +1,11 @@
-use Rattle.std.proofs.Common.{ap, refl, ◌∙◌, sym, subst}
+use Rattle.std.proofs.Common.{refl, ◌∙◌, sym, subst}
 use Rattle.wit_model.specs.Meaning.{Signature}
 use Rattle.wit_model.specs.Meant.{signature_of}
 use Rattle.wit_encode.specs.declared.maps.TypeEncodingMaps.{TypeEncodingMaps}
 use Rattle.wit_encode.specs.Maps.{LearnsKey}
 use Rattle.wit_encode.specs.Slots.{function}
 use Rattle.wit_encode.proofs.Defining.{leaves-kept, leaves-trans}
-use Rattle.wit_encode.proofs.Encoding.{learns-same}
+use Rattle.wit_encode.proofs.Learning.{met-key}
 use Rattle.wit_encode.proofs.Functions.{key-signature, counts-key, lacks-same}
 use Rattle.wit_encode.proofs.func_type.define_key.Given.{Over}
 use Rattle.wit_encode.proofs.func_type.define_key.Goals as goal
@@ -46,5 +46,5 @@ returns-clause-counts g c =
     (c.remember_key.ensures.counts ∙ c.in_ok-index.ensures.counts)
 
 pub returns-clause-learns : goal.returns-clause-learns
-returns-clause-learns g c = learns-same (g.E.ValtypeEncoder.view c.args.enc.now).maps (g.E.ValtypeEncoder.view c.function_of.new.enc).maps (g.E.ValtypeEncoder.view c.remember_key.new.enc).maps c.in_ok-def.ensures.learns
-    (c.in_ok-remember_key.ensures.ok.rest.numbers ∙ ap (λ (z : TypeEncodingMaps). z.id_to_index.items) c.define_function_type.ensures.maps_stay)
+returns-clause-learns g c = met-key c.args.resolve.now (g.E.ValtypeEncoder.view c.args.enc.now).scope.own_interface (g.E.ValtypeEncoder.view c.args.enc.now).maps (g.E.ValtypeEncoder.view c.function_of.new.enc).maps _ (g.E.ValtypeEncoder.view c.remember_key.new.enc).maps
+    c.args.key c.in_ok-index.index c.args.func.now c.requires.is_key c.in_ok-def.ensures.learns c.in_ok-def.ensures.knows c.define_function_type.ensures.maps_stay c.in_ok-remember_key.ensures.ok c.remember_key.ensures.leaves.maps_grow

@@ -1,5 +1,5 @@
 use Rattle.std.proofs.Common.{refl}
-use Rattle.wit_encode.proofs.Encoding.{learns-nothing}
+use Rattle.wit_encode.proofs.Learning.{met-nothing}
 use Rattle.wit_encode.proofs.Functions.{key-stands, counts-known, ok-map}
 use Rattle.wit_encode.proofs.func_type.encode_func_type.Goals as goal
 
@@ -16,7 +16,7 @@ pub returns-clause-counts : goal.returns-clause-counts
 returns-clause-counts g c = ok-map c.define_key.result _ _ (λ i h. (c.key_of-key.result, c.key_of-key.ensures, h)) (rw c.index_of_key.ensures.same at c.define_key.ensures.counts)
 
 pub returns-in-Some-clause-learns : goal.returns-in-Some-clause-learns
-returns-in-Some-clause-learns g c = rw c.index_of_key.ensures.same (learns-nothing _ (g.E.ValtypeEncoder.view c.args.enc.now).maps)
+returns-in-Some-clause-learns g c = rw c.index_of_key.ensures.same (met-nothing c.args.resolve.now (g.E.ValtypeEncoder.view c.args.enc.now).scope.own_interface _ (g.E.ValtypeEncoder.view c.args.enc.now).maps)
 
 pub returns-clause-learns : goal.returns-clause-learns
 returns-clause-learns g c = rw c.index_of_key.ensures.same at c.define_key.ensures.learns

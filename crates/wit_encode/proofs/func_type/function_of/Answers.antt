@@ -1,7 +1,7 @@
 use Rattle.std.proofs.Common.{ap, refl, map, option_to_list}
 use Rattle.wit_encode.specs.Slots.{NamedStands}
 use Rattle.wit_encode.specs.Scope.{Scope}
-use Rattle.wit_encode.proofs.Encoding.{learns-both}
+use Rattle.wit_encode.proofs.Learning.{met-both, ready-both}
 use Rattle.wit_encode.proofs.Functions.{encode-left, encode-right}
 use Rattle.wit_encode.proofs.Defining.{leaves-trans, counts-trans, zip-kept, stands-more}
 use Rattle.wit_encode.proofs.func_type.function_of.Goals as goal
@@ -33,6 +33,10 @@ returns-clause-counts g c = counts-trans c.encode_params.ensures.leaves.scope_st
 
 pub returns-clause-learns : goal.returns-clause-learns
 returns-clause-learns g c =
-    learns-both c.args.resolve.now (g.E.ValtypeEncoder.view c.args.enc.now).scope.own_interface (g.E.ValtypeEncoder.view c.encode_params.new.enc).scope.own_interface (g.E.ValtypeEncoder.view c.args.enc.now).maps (g.E.ValtypeEncoder.view c.encode_params.new.enc).maps (g.E.ValtypeEncoder.view c.encode_optional_valtype.new.enc).maps
+    met-both c.args.resolve.now (g.E.ValtypeEncoder.view c.args.enc.now).scope.own_interface (g.E.ValtypeEncoder.view c.encode_params.new.enc).scope.own_interface (g.E.ValtypeEncoder.view c.args.enc.now).maps (g.E.ValtypeEncoder.view c.encode_params.new.enc).maps (g.E.ValtypeEncoder.view c.encode_optional_valtype.new.enc).maps
     (map (λ p. p.ty) c.args.func.now.params.items) (option_to_list c.args.func.now.result)
-    (ap (λ (z : Scope). z.own_interface) c.encode_params.ensures.leaves.scope_stays) c.encode_params.ensures.leaves.maps_grow (rw c.deref.ensures.value at c.in_ok-params.ensures.learns) (rw c.as_ref.ensures.value at c.in_ok-result.ensures.learns)
+    (ap (λ (z : Scope). z.own_interface) c.encode_params.ensures.leaves.scope_stays) (rw c.deref.ensures.value at c.in_ok-params.ensures.learns) (rw c.as_ref.ensures.value at c.in_ok-result.ensures.learns)
+
+pub returns-clause-knows : goal.returns-clause-knows
+returns-clause-knows g c = ready-both (g.E.ValtypeEncoder.view c.encode_params.new.enc).maps (g.E.ValtypeEncoder.view c.encode_optional_valtype.new.enc).maps (map (λ p. p.ty) c.args.func.now.params.items) (option_to_list c.args.func.now.result)
+    c.encode_optional_valtype.ensures.leaves.maps_grow (rw c.deref.ensures.value at c.in_ok-params.ensures.knows) (rw c.as_ref.ensures.value at c.in_ok-result.ensures.knows)
