@@ -1,5 +1,5 @@
 -- Maps that agree with slots, over what a call adds.
-use Rattle.std.proofs.Common.{◌≡◌, refl, sym, subst, ap, ◌∙◌, ℕ, Bool, true, false, List, ◌⊎◌, inl, inr, Result, Ok, Err, OnOk, OnErr, Option, Some, None, nat_eq, arith}
+use Rattle.std.proofs.Common.{◌≡◌, refl, sym, subst, ap, ◌∙◌, ℕ, Bool, true, false, List, ◌⊎◌, inl, inr, Result, Ok, Err, OnOk, OnErr, Option, Some, None, nat_eq, arith, [], length}
 use Rattle.std.specs.Prelude.{is_some, IsSome}
 use Rattle.std.specs.List.{Contains, AllPairs}
 use Rattle.std.specs.Borrow.{Bor}
@@ -245,3 +245,20 @@ learnt-one m m₁ m' id i e l = record { known = known-learnt m₁ m' id i l; on
       | inl q ↦ inl (subst (λ (xs : List (TypeId × ℕ)). Contains xs (x, j)) e q)
       | inr q ↦ inr (sym (ap (λ (p : TypeId × ℕ). p.0.0) q))
     ]
+
+-- maps that hold nothing agree with any slots
+pub empty-agrees : (r : Resolve) (m : TypeEncodingMaps) (S : Pairs) → m.id_to_index.items ≡ [] → m.def_to_index.items ≡ [] → m.func_type_map.items ≡ [] → m.unit_future ≡ None → m.unit_stream ≡ None → MapsAgree r m S
+empty-agrees r m S ids kinds keys future stream = record { says = says; once = record { numbers = none-twice (λ x y. nat_eq x.0.0 y.0.0 ≡ false) ids; kinds = none-twice (λ x y. same_kind x.0.now y.0.now ≡ false) kinds; keys = none-twice (λ x y. same_key x.0 y.0 ≡ false) keys } }
+  where
+    none-in : {X : Type 0} {xs : List X} {x : X} {P : Type 0} → xs ≡ [] → Contains xs x → P
+    none-in {X} {xs} e (i, l, h) = let z : length xs ≡ 0 = ap length e in absurd (omega (arith, l))
+
+    none-twice : {X : Type 0} {xs : List X} (R : X → X → Type 0) → xs ≡ [] → AllPairs R xs
+    none-twice {X} {xs} R e i j d l n = let z : length xs ≡ 0 = ap length e in absurd (omega (arith, n))
+
+    says : (k : Known) (i : ℕ) → Holds m k i → S i (standing_of r k)
+    says (by_number id) i h = none-in ids h
+    says (by_kind k) i h = none-in kinds h
+    says (by_key k) i h = none-in keys h
+    says by_unit_future i h = absurd (let e = sym future ∙ h in let z : ⊥ = cc in z)
+    says by_unit_stream i h = absurd (let e = sym stream ∙ h in let z : ⊥ = cc in z)

@@ -429,6 +429,7 @@ pub fn maybe_import_type<'a, E: ValtypeEncoder<'a>>(
     requires in_range { id.0 < length resolve.now.types.items }
     requires importable { CanImport resolve.now (E.view enc.old).scope id.0 }
     ensures ok { IfOk result (λ o. IfSome o (λ i. (E.view enc.new).stands i (tree (number_tree resolve.now id.0)))) }
+    ensures none { result ≡ Ok None → enc.new ≡ enc.old }
     ensures foreign { (def : _) → type_at resolve.now id.0 ≡ Some def → IfOk result (λ o. is_some o ≡ is_foreign (E.view enc.old).scope def) }
     ensures grows { Grows (E.view enc.old) (E.view enc.new) }
     ensures scope_stays { (E.view enc.new).scope ≡ (E.view enc.old).scope }

@@ -215,7 +215,7 @@ impl<'a> ValtypeEncoder<'a> for InterfaceEncoderOf<'a, TypeEncodingMaps<'a>> {
 impl<'a> InterfaceEncoderOf<'a, TypeEncodingMaps<'a>> {
     ghost use Rattle.wit_model.specs.Meaning.{Signature};
     ghost use Rattle.comp_meaning.specs.Follow.{is_simple};
-    ghost use Rattle.wit_encode.specs.Slots.{function};
+    ghost use Rattle.wit_encode.specs.Slots.{Keeps, function};
     ghost use Rattle.wit_model.specs.Text.{text_of};
     ghost use Rattle.wit_model.specs.Meant.{function_meaning};
     ghost use Rattle.wit_model.specs.Valid.{IsValid};
@@ -239,6 +239,8 @@ impl<'a> InterfaceEncoderOf<'a, TypeEncodingMaps<'a>> {
         ensures closed { result.inner ≡ None }
         ensures known { result.outer_type_map.items ≡ [] }
         ensures resolve { result.resolve.now ≡ resolve.now }
+        ensures agree { Agrees resolve.now (encoder_view result) }
+        ensures sound { (encoder_view result).scope.is_sound ≡ true }
     {
         InterfaceEncoderOf {
             resolve,
@@ -462,6 +464,7 @@ impl<'a> InterfaceEncoderOf<'a, TypeEncodingMaps<'a>> {
         ensures known { self.new.outer_type_map.items ≡ self.old.outer_type_map.items }
         ensures err { OnErr result (self.new.outer ≡ self.old.outer) }
         ensures ok { IfOk result (EncodesAs self.old self.new interface) }
+        ensures stands { OnOk result (Keeps (encoder_view self.old).stands (encoder_view self.new).stands) }
         ensures refuses { IfErr result IsMemoryOrSize }
     {
         let def = &self.resolve.interfaces[interface.0 as usize];
