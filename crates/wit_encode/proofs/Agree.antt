@@ -1,5 +1,5 @@
 -- Maps that agree with slots, over what a call adds.
-use Rattle.std.proofs.Common.{◌≡◌, refl, sym, subst, ap, ◌∙◌, ℕ, Bool, true, false, List, ◌⊎◌, inl, inr, Result, Ok, Err, OnOk, OnErr, Option, Some, None, nat_eq, arith}
+use Rattle.std.proofs.Common.{◌≡◌, refl, sym, subst, ap, ◌∙◌, ℕ, Bool, true, false, List, ◌⊎◌, inl, inr, Result, Ok, Err, OnOk, OnErr, Option, Some, None, nat_eq, arith, [], length}
 use Rattle.std.specs.Prelude.{is_some, IsSome}
 use Rattle.std.specs.List.{Contains, AllPairs}
 use Rattle.std.specs.Borrow.{Bor}
@@ -13,7 +13,7 @@ use Rattle.wit_encode.specs.declared.maps.TypeEncodingMaps.{TypeEncodingMaps}
 use Rattle.wit_encode.specs.declared.key.FunctionKey.{FunctionKey}
 use Rattle.wit_encode.specs.Key.{same_key}
 use Rattle.wit_encode.specs.Slots.{Pairs, Keeps}
-use Rattle.wit_encode.specs.Scope.{Scope}
+use Rattle.wit_encode.specs.View.{View, SameRest}
 use Rattle.wit_encode.specs.Leaves.{Leaves}
 use Rattle.wit_encode.specs.Maps.{Known, by_number, by_kind, by_key, by_unit_future, by_unit_stream, Holds, standing_of, same_kind, IsOnce, MapsAgree, MapsGrow, IsKnown, LacksKind, LacksKey, SameMaps, LearnsNumber, LearnsKind, LearnsKey, LearnsOne}
 
@@ -225,8 +225,8 @@ module _ {E : Type 0} (x : Result (Unit {0}) E) (r : Resolve) (m₀ m m₁ m' : 
 pub changes-unit : (r : Resolve) (m m' : TypeEncodingMaps) (S S' : Pairs) (k : Known) (i : ℕ) → Keeps S S' → Learns m m' k i → MapsAgree r m S → S i (standing_of r k) → Changes r m m' S'
 changes-unit r m m' S S' k i keeps l a s = changes-learns r m m' S' k i l (record { says = λ k j h. keeps j (standing_of r k) (a.says k j h); once = a.once }) (keeps i (standing_of r k) s)
 
-pub leaves-changed : (r : Resolve) (scope scope' : Scope) (n n' : ℕ) (S S' : Pairs) (m m' : TypeEncodingMaps) → Changes r m m' S' → Keeps S S' → n' ≡ n → scope' ≡ scope → Leaves r scope scope' n n' S S' m m'
-leaves-changed r scope scope' n n' S S' m m' c k e s = record { agree = c.agree; maps_grow = c.grow; grows = record { kept = k; more = omega arith }; scope_stays = s }
+pub leaves-changed : (r : Resolve) (v v' : View) → SameRest v v' → Changes r v.maps v'.maps v'.stands → Leaves r v v'
+leaves-changed r v v' s c = record { agree = c.agree; maps_grow = c.grow; grows = record { kept = s.kept; more = (let e = s.slot_count_ in omega arith) }; scope_stays = s.scope_ }
 
 pub known-learnt : (m m' : TypeEncodingMaps) (id : TypeId) (i : ℕ) → LearnsNumber m m' id i → IsKnown m' id.0
 known-learnt m m' id i l = (i, subst (λ (xs : List (TypeId × ℕ)). Contains xs (id, i)) (sym l.more) (Contains-push m.id_to_index.items (id, i)))
@@ -245,3 +245,20 @@ learnt-one m m₁ m' id i e l = record { known = known-learnt m₁ m' id i l; on
       | inl q ↦ inl (subst (λ (xs : List (TypeId × ℕ)). Contains xs (x, j)) e q)
       | inr q ↦ inr (sym (ap (λ (p : TypeId × ℕ). p.0.0) q))
     ]
+
+-- maps that hold nothing agree with any slots
+pub empty-agrees : (r : Resolve) (m : TypeEncodingMaps) (S : Pairs) → m.id_to_index.items ≡ [] → m.def_to_index.items ≡ [] → m.func_type_map.items ≡ [] → m.unit_future ≡ None → m.unit_stream ≡ None → MapsAgree r m S
+empty-agrees r m S ids kinds keys future stream = record { says = says; once = record { numbers = none-twice (λ x y. nat_eq x.0.0 y.0.0 ≡ false) ids; kinds = none-twice (λ x y. same_kind x.0.now y.0.now ≡ false) kinds; keys = none-twice (λ x y. same_key x.0 y.0 ≡ false) keys } }
+  where
+    none-in : {X : Type 0} {xs : List X} {x : X} {P : Type 0} → xs ≡ [] → Contains xs x → P
+    none-in {X} {xs} e (i, l, h) = let z : length xs ≡ 0 = ap length e in absurd (omega (arith, l))
+
+    none-twice : {X : Type 0} {xs : List X} (R : X → X → Type 0) → xs ≡ [] → AllPairs R xs
+    none-twice {X} {xs} R e i j d l n = let z : length xs ≡ 0 = ap length e in absurd (omega (arith, n))
+
+    says : (k : Known) (i : ℕ) → Holds m k i → S i (standing_of r k)
+    says (by_number id) i h = none-in ids h
+    says (by_kind k) i h = none-in kinds h
+    says (by_key k) i h = none-in keys h
+    says by_unit_future i h = absurd (let e = sym future ∙ h in let z : ⊥ = cc in z)
+    says by_unit_stream i h = absurd (let e = sym stream ∙ h in let z : ⊥ = cc in z)

@@ -20,7 +20,7 @@ use Rattle.comp_bytes.specs.Held.{type_slots}
 use Rattle.comp_bytes.specs.Reading.{◌>>=◌}
 use Rattle.comp_meaning.specs.Follow as follow
 use Rattle.comp_meaning.specs.Follow.{Slot, InstanceScope, ShownType, new_instance, new_scope, definition, function_signature, named_type, named_like, declared_by, is_foreign_name, is_simple, show_type, instance_step, component_step, in_instance, in_scope}
-use Rattle.wit_encode.specs.Slots.{Standing, tree, function, AddsSlot, Grows, Follows, FollowsFunction, Defines, DefinesFunction}
+use Rattle.wit_encode.specs.Slots.{Standing, tree, function, SlotAdded, SlotsGrow, Follows, FollowsFunction, Defines, DefinesFunction}
 use Rattle.wit_encode.specs.Resources.{Names, is_resource_tree, is_resource_declaration}
 use Rattle.wit_encode.specs.Scope.{Scope, IsDeclared, DeclaresSlot, DeclaresResource, exported_name}
 use Rattle.wit_encode.specs.Formed.{IsFormed, IsFormedSignature, is_formed}
@@ -34,8 +34,8 @@ use Rattle.wit_encode.proofs.Steps as steps
 
 -- what a call that adds a slot ensures
 pub record Calls {E : Type 0} (res : Result ℕ E) (s s' : Scope) (c c' : Contents) (P : Standing → Type 0) (counts : Type 0) : Type 0 where
-  pub ok : IfOk res (λ k. AddsSlot (SlotsStand c.slots) (SlotsStand c'.slots) (length c.slots) (length c'.slots) k P)
-  pub grows : Grows (SlotsStand c.slots) (SlotsStand c'.slots) (length c.slots) (length c'.slots)
+  pub ok : IfOk res (λ k. SlotAdded (SlotsStand c.slots) (SlotsStand c'.slots) (length c.slots) (length c'.slots) k P)
+  pub grows : SlotsGrow (SlotsStand c.slots) (SlotsStand c'.slots) (length c.slots) (length c'.slots)
   pub scope_stays : s' ≡ s
   pub counted : OnOk res counts
 

@@ -7,7 +7,7 @@ use Rattle.wit_model.specs.declared.model.InterfaceId.{InterfaceId}
 use Rattle.wit_model.proofs.Lists.{second_true}
 use Rattle.comp_bytes.specs.Raw.{Declarations}
 use Rattle.comp_meaning.specs.Follow.{Slot}
-use Rattle.wit_encode.specs.Slots.{Standing, Adds, AddsSlot, Grows}
+use Rattle.wit_encode.specs.Slots.{Standing, Adds, SlotAdded, SlotsGrow}
 use Rattle.wit_encode.specs.Instance.{standing_at, SlotsStand, is_slot_of, Contents, resources_in, scope_from, scope_with}
 use Rattle.wit_encode.specs.Known.{Known}
 use Rattle.wit_encode.proofs.Lists.{both}
@@ -42,7 +42,7 @@ pub record Grew (c c' : Contents) (x : Slot) : Type 0 where
   pub functions_shown : c'.shown.functions ≡ c.shown.functions
   pub followed : c'.is_followed ≡ c.is_followed
 
-pub grew-adds : (c c' : Contents) (x : Slot) (i : ℕ) (P : Standing → Type 0) → Grew c c' x → i ≡ length c.slots → IsOf x P → AddsSlot (SlotsStand c.slots) (SlotsStand c'.slots) (length c.slots) (length c'.slots) i P
+pub grew-adds : (c c' : Contents) (x : Slot) (i : ℕ) (P : Standing → Type 0) → Grew c c' x → i ≡ length c.slots → IsOf x P → SlotAdded (SlotsStand c.slots) (SlotsStand c'.slots) (length c.slots) (length c'.slots) i P
 grew-adds c c' x i P g e o = record {
   index = e;
   one_more = ap length g.slots ∙ length-append c.slots (x ∷ []);
@@ -53,14 +53,14 @@ grew-adds c c' x i P g e o = record {
   }));
 }
 
-pub grew-grows : (c c' : Contents) (x : Slot) → Grew c c' x → Grows (SlotsStand c.slots) (SlotsStand c'.slots) (length c.slots) (length c'.slots)
+pub grew-grows : (c c' : Contents) (x : Slot) → Grew c c' x → SlotsGrow (SlotsStand c.slots) (SlotsStand c'.slots) (length c.slots) (length c'.slots)
 grew-grows c c' x g = record {
   kept = λ j m h. subst (λ (zs : List Slot). SlotsStand zs j m) (sym g.slots) (slots-kept x c.slots j m h);
   more = (let e : length c'.slots ≡ length c.slots + 1 = ap length g.slots ∙ length-append c.slots (x ∷ []) in omega arith);
 }
 
-pub same-grows : (c c' : Contents) → c' ≡ c → Grows (SlotsStand c.slots) (SlotsStand c'.slots) (length c.slots) (length c'.slots)
-same-grows c c' e = subst (λ (z : Contents). Grows (SlotsStand c.slots) (SlotsStand z.slots) (length c.slots) (length z.slots)) (sym e) (record { kept = λ i m h. h; more = omega arith })
+pub same-grows : (c c' : Contents) → c' ≡ c → SlotsGrow (SlotsStand c.slots) (SlotsStand c'.slots) (length c.slots) (length c'.slots)
+same-grows c c' e = subst (λ (z : Contents). SlotsGrow (SlotsStand c.slots) (SlotsStand z.slots) (length c.slots) (length z.slots)) (sym e) (record { kept = λ i m h. h; more = omega arith })
 
 -- the surroundings stay
 pub grew-scope : (r : Resolve) (interface : Option InterfaceId) (around : Declarations) (known : Known) (c c' : Contents) (x : Slot) → Grew c c' x → is_slot_of (resources_in r interface) x ≡ true → (scope_with r interface around known c).is_sound ≡ true → scope_with r interface around known c' ≡ scope_with r interface around known c

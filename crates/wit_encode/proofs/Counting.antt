@@ -154,7 +154,7 @@ adds-alike {r} {s} {s'} {m} {m'} {m''} {d} {d'} {e} {e'} {fs} o h a b a' b' p = 
 
 -- ---- an instance type as a whole
 
-pairs-map : {X Y : Type 0} (f : X → Y) (R : Y → Y → Type 0) (xs : List X) → AllPairs (λ x y. R (f x) (f y)) xs → AllPairs R (map f xs)
+pub pairs-map : {X Y : Type 0} (f : X → Y) (R : Y → Y → Type 0) (xs : List X) → AllPairs (λ x y. R (f x) (f y)) xs → AllPairs R (map f xs)
 pairs-map f R [] h i j d l n = absurd (omega (arith, n))
 pairs-map f R (x ∷ xs) h i j d l n =
     let m : j < length (x ∷ xs) = subst (λ (k : ℕ). j < k) (length-map (x ∷ xs) f) n in
@@ -162,7 +162,7 @@ pairs-map f R (x ∷ xs) h i j d l n =
     subst (λ y. R y (get_or (map f (x ∷ xs)) j d)) (sym (get_or-map f (x ∷ xs) i x d k))
     (subst (λ y. R (f (get_or (x ∷ xs) i x)) y) (sym (get_or-map f (x ∷ xs) j x d m)) (h i j x l m))
 
-from-map : {X Y : Type 0} (f : X → Y) (xs : List X) (y : Y) → Contains (map f xs) y → (x : X) × Contains xs x × (f x ≡ y)
+pub from-map : {X Y : Type 0} (f : X → Y) (xs : List X) (y : Y) → Contains (map f xs) y → (x : X) × Contains xs x × (f x ≡ y)
 from-map f [] y (i, l, e) = absurd (omega (arith, l))
 from-map f (x ∷ xs) y (zero, l, e) = (x, (0, omega arith, refl), e)
 from-map f (x ∷ xs) y (suc i, l, e) = let r = from-map f xs y (i, omega (arith, l), e) in (r.0, (suc r.1.0, (let n = r.1.1 in omega arith), r.1.2), r.2)

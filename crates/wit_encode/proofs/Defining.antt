@@ -21,9 +21,9 @@ use Rattle.comp_bytes.specs.declared.forms.ComponentValType.TheVariants as v
 use Rattle.comp_bytes.specs.declared.forms.ComponentDefinedType.{ComponentDefinedType}
 use Rattle.comp_bytes.specs.declared.forms.ComponentDefinedType.TheVariants as form
 use Rattle.wit_encode.specs.declared.maps.TypeEncodingMaps.{TypeEncodingMaps}
-use Rattle.wit_encode.specs.Slots.{Pairs, Standing, tree, Keeps, Grows, AddsSlot, StandsFor, StandsForOptional, NamedStands, CaseStands, Follows}
+use Rattle.wit_encode.specs.Slots.{Pairs, Standing, tree, Keeps, SlotsGrow, SlotAdded, StandsFor, StandsForOptional, NamedStands, CaseStands, Follows}
 use Rattle.wit_encode.specs.Kinds.{kind_tree, has_form}
-use Rattle.wit_encode.specs.Maps.{Says, MapsAgree, IsWritten, HasKind, by_kind, LearnsNumber, LearnsKind}
+use Rattle.wit_encode.specs.Maps.{Says, Holds, MapsAgree, IsWritten, HasKind, by_kind, LearnsNumber, LearnsKind}
 use Rattle.wit_model.specs.Text.{Text, text_of}
 use Rattle.wit_model.specs.declared.model.Param.{Param}
 use Rattle.wit_encode.specs.Definition.{FollowsKind, IsWrittenParam}
@@ -31,6 +31,7 @@ use Rattle.wit_encode.proofs.Lists.{zip-along, one-contained}
 use Rattle.wit_encode.specs.Scope.{Scope}
 use Rattle.wit_encode.specs.Unnamed.{IsUnnamedKind, LearnsKinds}
 use Rattle.wit_encode.specs.Counts.{Definitions, one_type_more, type_more_if, is_defined_by_name, own_name, names_defined, ExportsOne, Shows, AddsTypes}
+use Rattle.wit_encode.specs.View.{View, Agrees, Grows}
 use Rattle.wit_encode.specs.Leaves.{Leaves}
 use Rattle.wit_encode.proofs.Written.{written-stands}
 use Rattle.wit_encode.proofs.KindLaws.{same_tree}
@@ -85,7 +86,7 @@ pub params-stand : (r : Resolve) (m : TypeEncodingMaps) (S : Pairs) (xs : List (
     → AllZip (NamedStands S) xs (map (λ p. (text_of p.name, tree_of (trees_of r) p.ty)) ps)
 params-stand r m S xs ps a z = zip-along (IsWrittenParam m) (NamedStands S) (λ p. (text_of p.name, tree_of (trees_of r) p.ty)) (λ x p w. (w.0, value-stands r m S x.1 p.ty a w.1)) xs ps z
 
-pub adds-ok : {E : Type 0} (x : Result ℕ E) (S S' : Pairs) (n n' : ℕ) (P : Standing → Type 0) (m : Standing) → IfOk x (λ i. AddsSlot S S' n n' i P) → P m → IfOk x (λ i. S' i m)
+pub adds-ok : {E : Type 0} (x : Result ℕ E) (S S' : Pairs) (n n' : ℕ) (P : Standing → Type 0) (m : Standing) → IfOk x (λ i. SlotAdded S S' n n' i P) → P m → IfOk x (λ i. S' i m)
 adds-ok (Ok i) S S' n n' P m h p = h.adds.new m p
 adds-ok (Err e) S S' n n' P m h p = h
 
@@ -222,15 +223,15 @@ counts-named r scope m m' d d₁ d' id i name l n e x =
 
 -- ---- what calls leave
 
-pub leaves-kept : {r : Resolve} {scope scope' : Scope} {n n' : ℕ} {S S' : Pairs} {m m' : TypeEncodingMaps} → MapsAgree r m S → Grows S S' n n' → scope' ≡ scope → m' ≡ m → Leaves r scope scope' n n' S S' m m'
-leaves-kept {r} {scope} {scope'} {n} {n'} {S} {S'} {m} {m'} a g s e = subst (λ (z : TypeEncodingMaps). Leaves r scope scope' n n' S S' m z) (sym e) (record {
-  agree = record { says = λ k i h. g.kept i _ (a.says k i h); once = a.once };
-  maps_grow = record { keeps = λ k i h. h };
+pub leaves-kept : {r : Resolve} {v v' : View} → Agrees r v → Grows v v' → v'.scope ≡ v.scope → v'.maps ≡ v.maps → Leaves r v v'
+leaves-kept {r} {v} {v'} a g s e = record {
+  agree = subst (λ (z : TypeEncodingMaps). MapsAgree r z v'.stands) (sym e) (record { says = λ k i h. g.kept i _ (a.says k i h); once = a.once });
+  maps_grow = record { keeps = λ k i h. subst (λ (z : TypeEncodingMaps). Holds z k i) (sym e) h };
   grows = g;
   scope_stays = s;
-})
+}
 
-pub leaves-trans : {r : Resolve} {s s' s'' : Scope} {n n' n'' : ℕ} {S S' S'' : Pairs} {m m' m'' : TypeEncodingMaps} → Leaves r s s' n n' S S' m m' → Leaves r s' s'' n' n'' S' S'' m' m'' → Leaves r s s'' n n'' S S'' m m''
+pub leaves-trans : {r : Resolve} {v v' v'' : View} → Leaves r v v' → Leaves r v' v'' → Leaves r v v''
 leaves-trans p q = record {
   agree = q.agree;
   maps_grow = record { keeps = λ k i h. q.maps_grow.keeps k i (p.maps_grow.keeps k i h) };

@@ -1,24 +1,22 @@
 -- An interface meets types of its own, and types of interfaces that it uses: where these stand around, all of it can be encoded.
-use Rattle.std.proofs.Common.{◌≡◌, refl, sym, subst, ap, ◌∙◌, ℕ, zero, suc, ◌⊎◌, inl, inr, Bool, true, false, not, cond, ◌&&◌, ◌||◌, ◌==◌, eq-eqb, List, [], ◌∷◌, map, length, option_to_list, Option, Some, None, String, unwrap_or, is_some, arith}
-use Rattle.std.proofs.lemmas.Bool.{ltb-true}
+use Rattle.std.proofs.Common.{◌≡◌, refl, sym, subst, ap, ◌∙◌, ℕ, zero, suc, Bool, true, false, not, cond, ◌&&◌, ◌||◌, ◌==◌, eq-eqb, List, [], ◌∷◌, map, length, option_to_list, Option, Some, None, String, is_some, arith}
+use Rattle.std.proofs.lemmas.Bool.{lt-ltb}
 use Rattle.std.proofs.lemmas.Simd.{map-map}
 use Rattle.std.specs.declared.alloc.Global.{Global}
 use Rattle.std.specs.List.{Contains, list_all}
 use Rattle.std.specs.Option.{option_map_or}
 use Rattle.std.specs.Map.{lookup}
-use Rattle.std.specs.Prelude.{option_map, option_and_then, filter_map}
+use Rattle.std.specs.Prelude.{option_map, option_and_then}
 use Rattle.std.specs.Str.{bytes_eq}
 use Rattle.std.specs.HashMap.{get_by_text}
-use Rattle.std.proofs.lemmas.List.Elements.{Contains-append_left}
 use Rattle.indexmap.specs.IndexMap.{values}
 use Rattle.wit_model.specs.Text.{Text, text_of}
-use Rattle.wit_model.specs.Types.{number_of, declaration_of}
-use Rattle.wit_model.specs.Lookup.{type_at, interface_at, place_of, resource_of}
+use Rattle.wit_model.specs.Lookup.{type_at, interface_at}
 use Rattle.wit_model.specs.Meant.{type_meaning, type_meaning_at, interface_meaning, interface_meaning_at, no_interface, no_type}
 use Rattle.wit_model.specs.Uses.{alias_target, owner_interface, used_interface, interface_used_by, direct_deps, has}
-use Rattle.wit_model.specs.Parts.{met_by, met_of, same_owner, has_owner, function_types, function_numbers}
-use Rattle.wit_model.specs.Rules.{in_list, is_id, is_listed, is_listed_in_interface, is_named_of, is_use, passes, package_number, interface_type_numbers, function_in_range, function_stays}
-use Rattle.wit_model.specs.Valid.{IsValid, numbers_in_range, order_of_types, owners, is_place, functions_of_interface}
+use Rattle.wit_model.specs.Parts.{same_owner}
+use Rattle.wit_model.specs.Rules.{in_list, is_id, is_listed, is_listed_in_interface, is_named_of, is_use, passes, package_number, interface_type_numbers, function_in_range}
+use Rattle.wit_model.specs.Valid.{IsValid, numbers_in_range, order_of_types, is_place, functions_of_interface}
 use Rattle.wit_model.specs.declared.model.Resolve.{Resolve}
 use Rattle.wit_model.specs.declared.model.Interface.{Interface}
 use Rattle.wit_model.specs.declared.model.InterfaceId.{InterfaceId}
@@ -28,28 +26,25 @@ use Rattle.wit_model.specs.declared.model.TypeId.{TypeId}
 use Rattle.std.specs.declared.vec.Vec.{Vec}
 use Rattle.wit_model.specs.declared.model.TypeOwner.{TypeOwner}
 use Rattle.wit_model.specs.declared.model.TypeOwner.TheVariants as owner
-use Rattle.wit_model.specs.declared.model.«Type».{«Type» as ValueType}
 use Rattle.wit_model.specs.declared.model.«Type».TheVariants as ty
 use Rattle.wit_model.proofs.Lists.{first_true, second_true}
-use Rattle.wit_model.proofs.Owners.{named_met}
-use Rattle.wit_model.proofs.Functions.{all_flat}
 use Rattle.wit_model.proofs.Shown.{deps_pass}
 use Rattle.comp_bytes.specs.Raw.{Declarations}
 use Rattle.wit_encode.specs.KeyLaws.{text_same}
-use Rattle.wit_encode.specs.Kinds.{parts_of, kind_tree, has_definition}
-use Rattle.wit_encode.specs.Plan.{foreign_owner, AllInRange, Reaches, itself, through}
-use Rattle.wit_encode.specs.Resources.{is_named_interface, is_met_owner, resource_names, is_resource_declaration}
-use Rattle.wit_encode.specs.Formed.{IsFormed}
-use Rattle.wit_encode.specs.Fits.{FitsScope, CanEncode}
-use Rattle.wit_encode.specs.Scope.{Scope, IsDeclared, IsImportable}
+use Rattle.wit_encode.specs.Resources.{is_met_owner}
+use Rattle.wit_encode.specs.Fits.{CanEncode}
+use Rattle.wit_encode.specs.Scope.{Scope}
 use Rattle.wit_encode.specs.Known.{UsedStand}
 use Rattle.wit_encode.specs.Instance.{CanEncodeFunction, CanEncodeInterface, encoder_scope, opened, keyed, standing_instances}
-use Rattle.wit_encode.proofs.Lists.{all-contained, one-contained, both, contains-one, contains-map, contains-filter_map}
-use Rattle.wit_encode.proofs.Owned.{same-owner, valid-references, stays, part-met, parts-owned, own-interface, alias-part, or-cases}
+use Rattle.wit_encode.proofs.Lists.{all-contained, both, contains-map}
+use Rattle.wit_encode.proofs.Owned.{same-owner, or-cases}
 use Rattle.wit_encode.proofs.Paths.{equal-numbers, found-in, some-of, some-same}
 use Rattle.wit_encode.proofs.Naming.{or-first, or-second, one-home, valid-listed}
+use Rattle.wit_encode.specs.OwnerScope.{IsScopeOf, IsUsedBy, UsesStand, IsTypeOf, InterfaceUses, functions_of}
+use Rattle.wit_encode.proofs.OwnerScope.{types_encode, types_use, functions_encode, functions_use}
+use Rattle.wit_encode.proofs.Naming.{names-agree}
 use Rattle.wit_encode.proofs.Opening.{opened-sound, opened-around}
-use Rattle.wit_encode.proofs.Validity.{OwnersMet, valid-layered, valid-unnamed, valid-ownerless, valid-formed, valid-signature, interface_passes, has-name, same-back, met-agree, parts-agree, declared-alike, foreign-interface, owner-met}
+use Rattle.wit_encode.proofs.Validity.{interface_passes}
 
 -- ---- look-ups
 
@@ -116,21 +111,6 @@ used-other r def i own h = at-target (alias_target def.kind) refl h
     at-target None e h = let wrong : ⊥ = cc in absurd wrong
     at-target (Some t) e h = at-type t e (type_at r t) refl h
 
--- the target of an alias belongs to the interface that is used
-target-owner : (r : Resolve) (def : TypeDef) (m : ℕ) → used_interface r def ≡ Some m → (id : TypeId) → Contains (parts_of def.kind) (ty.Id id) → (def' : TypeDef) → type_at r id.0 ≡ Some def' → owner_interface def'.owner ≡ Some m
-target-owner r def m used id c def' is' = is-number (owner_interface def'.owner) (ap of-target (sym is') ∙ alias-part (λ t. of-target (type_at r t)) def.kind id (at-target (alias_target def.kind) used) c)
-  where
-    of-target : Option TypeDef → Bool
-    of-target o = is_id m (option_and_then (λ target. owner_interface target.owner) o)
-
-    at-target : (o : Option ℕ) → option_and_then (λ t. option_and_then (λ target. owner_interface target.owner) (type_at r t)) o ≡ Some m → option_map_or (λ t. of-target (type_at r t)) o false ≡ true
-    at-target None e = let wrong : ⊥ = cc in absurd wrong
-    at-target (Some t) e = ap (is_id m) e ∙ eq-eqb m m refl
-
-    is-number : (o : Option ℕ) → is_id m o ≡ true → o ≡ Some m
-    is-number None h = let wrong : ⊥ = cc in absurd wrong
-    is-number (Some k) h = ap Some (equal-numbers k m h)
-
 -- ---- numbers in a list
 
 has-contains : (ns : List ℕ) (n : ℕ) → has ns n ≡ true → Contains ns n
@@ -194,51 +174,6 @@ module _ (r : Resolve) (v : IsValid r) (i : InterfaceId) (home : Interface) (the
   types-inside : (t : TypeId) → Contains (values home.types) t → in_list r.types.items t.0 ≡ true
   types-inside t c = all-contained (λ id. in_list r.types.items id.0) (values home.types) t (first_true (list_all (λ id. in_list r.types.items id.0) (values home.types)) _ ranges) c
 
-  function-refers : (f : Function) (id : TypeId) → Contains (function_types f) (ty.Id id) → Contains (function_numbers f) id.0
-  function-refers f id c = Contains-append_left (filter_map number_of (function_types f)) (option_to_list (resource_of f.kind)) id.0
-      (contains-filter_map number_of (function_types f) (ty.Id id) id.0 c (contains-one id.0))
-
-  functions-inside : (f : Function) → Contains (functions_of_interface home) f → AllInRange r (function_types f)
-  functions-inside f c t d id e =
-      let passed = second_true (list_all (λ id. in_list r.types.items id.0) (values home.types)) _ ranges in
-      let one = all-contained (function_in_range r) (values home.functions) f passed c in
-      let refers = function-refers f id (subst (λ (x : ValueType). Contains (function_types f) x) e d) in
-      ltb-true id.0 (length r.types.items) (all-contained (in_list r.types.items) (function_numbers f) id.0 one refers)
-
-  -- ---- what is met
-
-  -- the named types that are met at a number are of the interface
-  abbrev Stay : ℕ → Type 0
-  Stay n = stays r v own n ≡ true
-
-  -- so it is with a type that is listed, and with one that a function refers to
-  type-stays : (t : TypeId) → Contains (values home.types) t → Stay t.0
-  type-stays t c =
-      let found = found-in r.types.items t.0 (types-inside t c) in
-      let listed = listed-own t c found.0 found.1 in
-      sym (named_met r (valid-references r v) t.0 found.0 found.1 own (first_true (is_some found.0.name) _ listed)) ∙ second_true (is_some found.0.name) _ listed
-
-  function-stays : (f : Function) → Contains (functions_of_interface home) f → (id : TypeId) → Contains (function_types f) (ty.Id id) → Stay id.0
-  unfolding owners
-  function-stays f c id d =
-      let passed = first_true (list_all (function_stays r own) (functions_of_interface home)) _ (interface_passes owners r v.rules.owners i.0 home there) in
-      let one = all-contained (function_stays r own) (functions_of_interface home) f passed c in
-      all-contained (stays r v own) (function_numbers f) id.0 (sym (all_flat (has_owner r own) (met_by (met_of r)) (function_numbers f)) ∙ one) (function-refers f id d)
-
-  owned : (n : ℕ) (def : TypeDef) → type_at r n ≡ Some def → Stay n → is_some def.name ≡ true → same_owner def.owner own ≡ true
-  owned n def is s named = named_met r (valid-references r v) n def is own named ∙ s
-
-  -- such a type is none of another interface
-  at-home : (n : ℕ) (def : TypeDef) → type_at r n ≡ Some def → Stay n → foreign_owner (Some i) def.owner ≡ None
-  at-home n def is s = go def.name refl
-    where
-      here : foreign_owner (Some i) own ≡ None
-      here = ap (λ b. cond b None (Some i)) (eq-eqb i.0 i.0 refl)
-
-      go : (x : Option (String Global)) → def.name ≡ x → foreign_owner (Some i) def.owner ≡ None
-      go None q = ap (foreign_owner (Some i)) (same-owner def.owner owner.None (valid-ownerless r v n def is q))
-      go (Some name) q = ap (foreign_owner (Some i)) (same-owner def.owner own (owned n def is s (has-name def.name name q))) ∙ here
-
   -- ---- types of interfaces that are used
 
   -- an interface is used where a type is an alias of a type of it
@@ -257,158 +192,58 @@ module _ (r : Resolve) (v : IsValid r) (i : InterfaceId) (home : Interface) (the
       let passed : (is_dep m && true) ≡ true = ap (λ o. list_all is_dep (option_to_list o)) (sym at) ∙ one in
       has-contains (direct_deps r i.0) m (sym (ap (λ b. b || has (direct_deps r i.0) m) other) ∙ first_true (is_dep m) true passed)
 
-  -- a type of an interface that is used
-  record IsUsed (def : TypeDef) : Type 0 where
-    pub interface : ℕ
-    pub owns : owner_interface def.owner ≡ Some interface
-    pub other : (interface == i.0) ≡ false
-    pub dep : Contains (direct_deps r i.0) interface
+  -- so each interface that its types use is one of these
+  used-there : (j : ℕ) → IsUsedBy r own j → Contains (direct_deps r i.0) j
+  used-there j u =
+      let name = some-of u.def.name u.named_ in
+      let used = used-other r u.def i u.owned u.uses in
+      let same : used.0 ≡ j = some-same used.0 j (sym used.1 ∙ u.interface) in
+      subst (λ (m : ℕ). Contains (direct_deps r i.0) m) same (dep-there u.number u.def name.0 u.there name.1 u.owned used.0 used.1 used.2)
 
-  -- that is what a named alias is of, where it uses another interface
-  used-part : (n : ℕ) (def : TypeDef) → type_at r n ≡ Some def → (id : TypeId) → Contains (parts_of def.kind) (ty.Id id) → is_some def.name ≡ true → same_owner def.owner own ≡ true → is_use r def ≡ true
-      → (def' : TypeDef) → type_at r id.0 ≡ Some def' → IsUsed def'
-  used-part n def is id c named here h def' is' =
-      let name = some-of def.name named in
-      let home_ = same-owner def.owner own here in
-      let used = used-other r def i home_ h in
+  -- ---- the scope
+
+  type-of : (t : TypeId) → Contains (values home.types) t → IsTypeOf r own t
+  type-of t c =
+      let found = found-in r.types.items t.0 (types-inside t c) in
+      let listed = listed-own t c found.0 found.1 in
       record {
-        interface = used.0;
-        owns = target-owner r def used.0 used.1 id c def' is';
-        other = used.2;
-        dep = dep-there n def name.0 is name.1 home_ used.0 used.1 used.2;
+        def = found.0;
+        there = found.1;
+        named_ = first_true (is_some found.0.name) _ listed;
+        owned = same-owner found.0.owner own (second_true (is_some found.0.name) _ listed);
       }
 
-  -- it is foreign
-  used-foreign : (def : TypeDef) → IsUsed def → foreign_owner (Some i) def.owner ≡ None → ⊥
-  used-foreign def u f =
-      let home_ = same-owner def.owner own (own-interface own def.owner u.interface u.owns f) in
-      let same : u.interface ≡ i.0 = some-same u.interface i.0 (sym u.owns ∙ ap owner_interface home_) in
-      let wrong : true ≡ false = sym (eq-eqb u.interface i.0 same) ∙ u.other in
-      let z : ⊥ = cc in z
-
-  -- ---- what is met on the way down
-
-  abbrev Met : ℕ → Type 0
-  Met n = Stay n ⊎ ((def : TypeDef) → type_at r n ≡ Some def → IsUsed def)
-
-  part-meets : (n : ℕ) (def : TypeDef) → type_at r n ≡ Some def → Stay n → (id : TypeId) → Contains (parts_of def.kind) (ty.Id id) → Met id.0
-  part-meets n def is s id c = part-met r v own n def is id c s inl (λ named here used. inr (used-part n def is id c named here used))
-
-  reached-met : (t : ValueType) (n : ℕ) → ((id : TypeId) → t ≡ ty.Id id → Met id.0) → Reaches r (Some i) t n → Met n
-  reached-met _ _ p (itself id) = p id refl
-  reached-met _ _ p (through id def t n at f c re) =
-      reached-met t n (λ id' e. further (p id refl) id' (subst (λ (x : ValueType). Contains (parts_of def.kind) x) e c)) re
-    where
-      further : Met id.0 → (id' : TypeId) → Contains (parts_of def.kind) (ty.Id id') → Met id'.0
-      further (inl s) id' c = part-meets id.0 def at s id' c
-      further (inr u) id' c = absurd (used-foreign def (u def at) f)
-
-  -- names stand for resources as the types that are met do
-  own-met : (def : TypeDef) → same_owner own def.owner ≡ true → is_met_owner r own def.owner ≡ true
-  own-met def s = or-first (same_owner own def.owner) (is_named_interface r def.owner) s
-
-  stay-met : (ts : List ValueType) → ((id : TypeId) → Contains ts (ty.Id id) → Stay id.0) → OwnersMet r (is_met_owner r own) ts
-  stay-met ts all t c id e def is named = own-met def (same-back def.owner own (owned id.0 def is (all id (subst (λ (x : ValueType). Contains ts x) e c)) named))
-
-  parts-met : (n : ℕ) (def : TypeDef) → type_at r n ≡ Some def → Stay n → OwnersMet r (is_met_owner r own) (parts_of def.kind)
-  parts-met n def is s t c id e def' is' named = owner-met r v own def' (parts-owned r v own n def is s id (subst (λ (x : ValueType). Contains (parts_of def.kind) x) e c) def' is' named)
-
-  stay-alike : (n : ℕ) (def : TypeDef) → type_at r n ≡ Some def → Stay n → (name : String Global) → def.name ≡ Some name
-      → resource_names r (is_met_owner r own) (place_of r own) (text_of name) ≡ is_resource_declaration (resource_names r (is_met_owner r own)) (declaration_of r def)
-  stay-alike n def is s name e =
-      let here = owned n def is s (has-name def.name name e) in
-      ap (λ a. resource_names r (is_met_owner r own) (place_of r a) (text_of name)) (sym (same-owner def.owner own here))
-      ∙ declared-alike r v (is_met_owner r own) (one-home r v own) n def is name e (own-met def (same-back def.owner own here)) (parts-met n def is s)
+  function-of : (f : Function) → Contains (functions_of_interface home) f → Contains (functions_of r own) f
+  function-of f c = subst (λ (o : Option Interface). Contains (option_map_or functions_of_interface o []) f) (sym there) c
 
   module _ (outer : Declarations) (known : Vec (TypeId × ℕ) Global) where
     abbrev scope : Scope
     scope = encoder_scope r outer (opened i known)
 
-    own-declared : (n : ℕ) (def : TypeDef) → type_at r n ≡ Some def → Stay n → (name : String Global) → def.name ≡ Some name → IsDeclared scope (text_of name, type_meaning r def)
-    own-declared n def is s name e = record {
-      there = own-there n def name is e (same-owner def.owner own (owned n def is s (has-name def.name name e)));
-      alike = stay-alike n def is s name e;
+    opened-scope : IsScopeOf r own scope
+    opened-scope = record {
+      packages_ = refl;
+      place_ = refl;
+      own = refl;
+      declares = own-there;
+      names = names-agree r v (is_met_owner r own) (one-home r v own);
       sound = opened-sound r outer i known;
     }
-
-    own-formed : (n : ℕ) (def : TypeDef) → type_at r n ≡ Some def → Stay n → has_definition def.kind ≡ true → IsFormed scope (kind_tree r def.kind)
-    own-formed n def is s d = record {
-      sound = opened-sound r outer i known;
-      formed = valid-formed r (resource_names r (is_met_owner r own)) v n def is (parts-agree r v (is_met_owner r own) (one-home r v own) n def is (parts-met n def is s)) d;
-    }
-
-    -- a type that stays fits the scope of the interface
-    stay-fits : (n : ℕ) (def : TypeDef) → type_at r n ≡ Some def → Stay n → FitsScope r scope n def
-    stay-fits n def is s = record {
-      foreign = λ j f. absurd (no-foreign (sym (at-home n def is s) ∙ f));
-      unnamed = λ f none. valid-unnamed r v n def is none;
-      placed = λ f name e. ap (place_of r) (same-owner def.owner own (owned n def is s (has-name def.name name e)));
-      declared = λ f. own-declared n def is s;
-      formed = λ f. own-formed n def is s;
-    }
-      where
-        no-foreign : {j : InterfaceId} → None ≡ Some j → ⊥
-        no-foreign e = cc
 
     module _ (around : UsedStand r (standing_instances r outer i known.items) i.0) where
-      -- a type of an interface that is used can be imported
-      used-importable : (n : ℕ) (def : TypeDef) → type_at r n ≡ Some def → IsUsed def → (j : InterfaceId) → foreign_owner (Some i) def.owner ≡ Some j → IsImportable scope j.0 n
-      used-importable n def is u j f = go def.name refl
-        where
-          owned_ : def.owner ≡ owner.Interface j
-          owned_ = foreign-interface (Some i) def.owner j f
-
-          same : u.interface ≡ j.0
-          same = some-same u.interface j.0 (sym u.owns ∙ ap owner_interface owned_)
-
-          go : (name : Option (String Global)) → def.name ≡ name → IsImportable scope j.0 n
-          go None e = let wrong = ap (λ a. same_owner a owner.None) (sym owned_) ∙ valid-ownerless r v n def is e in let z : ⊥ = cc in absurd z
-          go (Some name) e = record {
-            def = def;
-            name = name;
-            there = is;
-            named_ = e;
-            owned = owned_;
-            stands = opened-around r outer i known j.0 (around j.0 (subst (λ (m : ℕ). Contains (direct_deps r i.0) m) same u.dep));
-          }
-
-      used-fits : (n : ℕ) (def : TypeDef) → type_at r n ≡ Some def → IsUsed def → FitsScope r scope n def
-      used-fits n def is u = record {
-        foreign = used-importable n def is u;
-        unnamed = λ f. absurd (used-foreign def u f);
-        placed = λ f. absurd (used-foreign def u f);
-        declared = λ f. absurd (used-foreign def u f);
-        formed = λ f. absurd (used-foreign def u f);
-      }
-
-      stay-encode : (ts : List ValueType) → AllInRange r ts → ((id : TypeId) → Contains ts (ty.Id id) → Stay id.0) → CanEncode r scope ts
-      stay-encode ts inside all = record {
-        packages_ = refl;
-        layered = valid-layered r v;
-        in_range = inside;
-        fits = λ t c n re def is. met-fits n def is (reached-met t n (λ id e. inl (all id (subst (λ (x : ValueType). Contains ts x) e c))) re);
-      }
-        where
-          met-fits : (n : ℕ) (def : TypeDef) → type_at r n ≡ Some def → Met n → FitsScope r scope n def
-          met-fits n def is (inl s) = stay-fits n def is s
-          met-fits n def is (inr u) = used-fits n def is (u def is)
+      uses : UsesStand r own scope
+      uses j u = opened-around r outer i known j (around j (used-there j u))
 
       type-encodes : (t : TypeId) → Contains (values home.types) t → CanEncode r scope (ty.Id t ∷ [])
-      type-encodes t c = stay-encode (ty.Id t ∷ [])
-          (λ u d id e. ltb-true id.0 (length r.types.items) (one-id (λ k. in_list r.types.items k ≡ true) t id (one-contained (ty.Id t) u d ∙ e) (types-inside t c)))
-          (λ id d. one-id Stay t id (one-contained (ty.Id t) (ty.Id id) d) (type-stays t c))
-        where
-          one-id : (P : ℕ → Type 0) (a b : TypeId) → ty.Id a ≡ ty.Id b → P a.0 → P b.0
-          one-id P a b e h = subst P (ap (λ x. unwrap_or (number_of x) a.0) e) h
+      type-encodes t c = types_encode r own scope t v opened-scope (type-of t c) (types_use r own scope t v opened-scope (type-of t c) uses)
 
       function-encodes : (f : Function) → Contains (functions_of_interface home) f → CanEncodeFunction r scope f
-      function-encodes f c =
-          let inside = functions-inside f c in
-          let agree = met-agree r v (is_met_owner r own) (one-home r v own) (function_types f) inside (stay-met (function_types f) (function-stays f c)) in
-          record {
-            types = stay-encode (function_types f) inside (function-stays f c);
-            formed = valid-signature r scope v (opened-sound r outer i known) i.0 home f there c agree;
-          }
+      function-encodes f c = functions_encode r own scope f v opened-scope (function-of f c) (functions_use r own scope f v opened-scope (function-of f c) uses)
+
+pub interface_uses : InterfaceUses
+interface_uses r i j v inside u =
+    let found = found-in r.interfaces.items i.0 (lt-ltb i.0 (length r.interfaces.items) inside) in
+    used-there r v i found.0 found.1 j u
 
 -- In valid packages an interface can be encoded where those that it uses stand around.
 pub valid-encodable : (r : Resolve) → IsValid r → (outer : Declarations) (i : InterfaceId) (known : Vec (TypeId × ℕ) Global) (def : Interface) → interface_at r i.0 ≡ Some def

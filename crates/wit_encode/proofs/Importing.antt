@@ -21,7 +21,7 @@ use Rattle.comp_meaning.specs.Same.{same_place}
 use Rattle.comp_meaning.specs.Follow.{Slot, is_foreign_name}
 use Rattle.wit_encode.specs.KeyLaws.{text_same}
 use Rattle.wit_encode.specs.declared.interface.OpenInterface.{OpenInterface}
-use Rattle.wit_encode.specs.Slots.{tree, AddsSlot}
+use Rattle.wit_encode.specs.Slots.{tree, SlotAdded}
 use Rattle.wit_encode.specs.Known.{Known, known_slot, is_name_slot, is_known_as, is_known, is_named_of, is_instance_of, stands_around, below}
 use Rattle.wit_encode.specs.Scope.{IsImportable}
 use Rattle.wit_encode.specs.Instance.{standing_at, SlotsStand, is_slot_of, outer_slots, outer_instances, resources_in, is_sound_in, Contents, scope_with, contents_of, encoder_scope, definitions_with}
@@ -168,7 +168,7 @@ module _ {E : Type 0} (res : Result ℕ E) (r : Resolve) (outer : Declarations) 
   pub imported-stands : (n : ℕ) → ImportsTo inner n → IfOk res (λ k. SlotsStand (contents_of r outer next).slots k (tree (number_tree r n)))
   imported-stands n q = go res q.ok
     where
-      go : {E : Type 0} (res : Result ℕ E) → IfOk res (λ k. AddsSlot (SlotsStand (contents_of r outer inner).slots) (SlotsStand (contents_of r outer next).slots) (length (contents_of r outer inner).slots) (length (contents_of r outer next).slots) k (λ m. m ≡ tree (number_tree r n)))
+      go : {E : Type 0} (res : Result ℕ E) → IfOk res (λ k. SlotAdded (SlotsStand (contents_of r outer inner).slots) (SlotsStand (contents_of r outer next).slots) (length (contents_of r outer inner).slots) (length (contents_of r outer next).slots) k (λ m. m ≡ tree (number_tree r n)))
           → IfOk res (λ k. SlotsStand (contents_of r outer next).slots k (tree (number_tree r n)))
       go (Ok k) h = h.adds.new (tree (number_tree r n)) refl
       go (Err e) h = h

@@ -36,3 +36,6 @@ pub mod Encodable
 pub mod UsesNone
 pub mod Reordering
 pub mod Importing
+pub mod OwnerScope
+pub mod MetKinds
+pub mod Learning

@@ -1,5 +1,5 @@
 -- What the calls of an encoder of interfaces do between interfaces: then what is defined stands in the component type.
-use Rattle.std.proofs.Common.{◌≡◌, refl, sym, subst, ap, ◌∙◌, ℕ, ◌+◌, true, cond, [], ◌∷◌, ◌++◌, Result, Ok, Err, IfOk, OnErr, Some, None, length, arith}
+use Rattle.std.proofs.Common.{◌≡◌, refl, sym, subst, ap, ◌∙◌, ℕ, ◌+◌, true, cond, [], ◌∷◌, ◌++◌, List, Result, Ok, Err, IfOk, OnOk, OnErr, Option, Some, None, length, arith}
 use Rattle.std.specs.List.{list_all}
 use Rattle.std.specs.Option.{option_map_or, is_some}
 use Rattle.wit_model.specs.Tree.{Tree}
@@ -8,19 +8,27 @@ use Rattle.wit_model.specs.declared.model.Resolve.{Resolve}
 use Rattle.wit_model.proofs.Lists.{first_true, second_true}
 use Rattle.comp_bytes.specs.declared.forms.ComponentDefinedType.{ComponentDefinedType}
 use Rattle.comp_bytes.specs.declared.forms.ComponentFuncType.{ComponentFuncType}
-use Rattle.comp_bytes.specs.Raw.{Declaration, Declarations, append}
+use Rattle.comp_bytes.specs.Raw.{Declaration, Declarations, append, from_list}
 use Rattle.comp_bytes.specs.RawOf.{raw_defined, raw_function}
 use Rattle.comp_bytes.specs.Held.{type_slots_of}
 use Rattle.comp_meaning.specs.Follow as follow
 use Rattle.comp_meaning.specs.Follow.{Slot, new_scope, definition, function_signature, component_step, in_scope}
-use Rattle.wit_encode.specs.Slots.{Follows, FollowsFunction, Defines, DefinesFunction}
+use Rattle.wit_encode.specs.Slots.{Standing, Keeps, Follows, FollowsFunction, Defines, DefinesFunction}
+use Rattle.wit_encode.specs.declared.interface.OpenInterface.{OpenInterface}
 use Rattle.wit_encode.specs.Formed.{IsFormed, IsFormedSignature}
 use Rattle.wit_encode.specs.Counts.{one_type_more, one_function_more}
-use Rattle.wit_encode.specs.Instance.{SlotsStand, is_slot_of, Contents, outer_scope, outer_contents, is_value_type, is_function_type, resources_in, scope_with, definitions_with}
+use Rattle.wit_encode.specs.Instance.{SlotsStand, stands_in, is_slot_of, Contents, outer_scope, outer_contents, is_value_type, is_function_type, resources_in, scope_with, definitions_with}
 use Rattle.wit_encode.proofs.Strict.{bind, definition-strict, function-strict}
-use Rattle.wit_encode.proofs.Contents.{Grew}
-use Rattle.wit_encode.proofs.Components.{steps-count, steps-more, count-more}
+use Rattle.wit_encode.proofs.Contents.{Grew, slots-kept}
+use Rattle.wit_encode.proofs.Components.{steps-count, steps-more, steps-instance, count-more}
 use Rattle.wit_encode.proofs.Calls.{Calls, calls-from, some-of, defines-of, function-of, formed-value}
+
+-- no slot stands for anything
+nothing-stands : (i : ℕ) (m : Standing) → SlotsStand [] i m → ⊥
+nothing-stands i m h = let z : ⊥ = cc in z
+
+abbrev outer_slots_of : Declarations → List Slot
+outer_slots_of outer = option_map_or (λ s. s.slots) (outer_scope outer) []
 
 pub record OuterAt (outer : Declarations) : Type 0 where
   pub scope : follow.Scope
@@ -107,3 +115,30 @@ module _ {E : Type 0} (res : Result ℕ E) (r : Resolve) (outer outer' : Declara
         (more-ok (Declaration.function (raw_function d)) (Slot.function s) _ (bind (function_signature a.scope.slots (raw_function d)) s (λ u. Some (in_scope (Slot.function u) a.scope)) strict) (λ e. ap (λ zs. definitions_with (outer_contents zs)) e
         ∙ outer-definitions outer (Declaration.function (raw_function d)) before.types (before.functions + 1) (omega arith) refl) ok)
         (err-same err)
+
+-- a component type in which nothing has been declared yet
+pub fresh-sound : (r : Resolve) (outer : Declarations) → outer ≡ Declarations.no_more → (scope_with r None Declarations.no_more [] (outer_contents outer)).is_sound ≡ true
+unfolding outer_contents
+fresh-sound r outer e = ap (λ (z : Declarations). (scope_with r None Declarations.no_more [] (outer_contents z)).is_sound) e
+
+-- what old slots stand for stays behind one instance type more
+instance-keeps : (outer : Declarations) (es : List Declaration) → Keeps (SlotsStand (outer_contents outer).slots) (SlotsStand (outer_contents (append outer (Declarations.instance (from_list es) Declarations.no_more))).slots)
+unfolding outer_contents
+instance-keeps outer es i m h = go (outer_scope outer) refl
+  where
+    go : (o : Option follow.Scope) → outer_scope outer ≡ o → SlotsStand (outer_slots_of (append outer (Declarations.instance (from_list es) Declarations.no_more))) i m
+    go None q =
+        let old : SlotsStand [] i m = subst (λ (z : Option follow.Scope). SlotsStand (option_map_or (λ s. s.slots) z []) i m) q h in
+        absurd (nothing-stands i m old)
+    go (Some s) q =
+        let next : outer_slots_of (append outer (Declarations.instance (from_list es) Declarations.no_more)) ≡ s.slots ++ Slot.instance es (length s.slots) ∷ [] = ap (λ o. option_map_or (λ s. s.slots) o []) (steps-instance new_scope s outer es q) in
+        let old : SlotsStand s.slots i m = subst (λ (z : Option follow.Scope). SlotsStand (option_map_or (λ s. s.slots) z []) i m) q h in
+        subst (λ (xs : List Slot). SlotsStand xs i m) (sym next) (slots-kept (Slot.instance es (length s.slots)) s.slots i m old)
+
+pub closed-keeps : {E : Type 0} (res : Result ℕ E) (r r' : Resolve) (outer o₁ outer' : Declarations) (inner inner' : Option OpenInterface) (es : List Declaration) → inner ≡ None → inner' ≡ None → o₁ ≡ outer
+    → IfOk res (λ k. (k ≡ type_slots_of o₁) × (outer' ≡ append o₁ (Declarations.instance (from_list es) Declarations.no_more))) → OnOk res (Keeps (stands_in r outer inner) (stands_in r' outer' inner'))
+closed-keeps (Err e) r r' outer o₁ outer' inner inner' es a b c h = h
+closed-keeps (Ok k) r r' outer o₁ outer' inner inner' es a b c h =
+    subst (λ (o : Option OpenInterface). Keeps (stands_in r outer o) (stands_in r' outer' inner')) (sym a)
+    (subst (λ (o : Option OpenInterface). Keeps (stands_in r outer None) (stands_in r' outer' o)) (sym b)
+    (subst (λ (z : Declarations). Keeps (SlotsStand (outer_contents outer).slots) (SlotsStand (outer_contents z).slots)) (sym (h.1 ∙ ap (λ (z : Declarations). append z (Declarations.instance (from_list es) Declarations.no_more)) c)) (instance-keeps outer es)))

@@ -1,10 +1,10 @@
--- What is met from a type of an owner, without opening other interfaces, is of that owner or of another interface.
-use Rattle.std.proofs.Common.{◌≡◌, refl, sym, subst, ap, ◌∙◌, ℕ, ◌+◌, Bool, true, false, not, ◌&&◌, ◌||◌, ◌==◌, cond, T, eqb→eq, ◌⊎◌, inl, inr, Option, Some, None, is_some, nat_eq, arith}
+-- What is met from a type of an owner is of that owner, but for what its aliases of types of other interfaces name.
+use Rattle.std.proofs.Common.{◌≡◌, refl, sym, subst, ap, ◌∙◌, ℕ, ◌+◌, Bool, true, false, not, ◌||◌, ◌==◌, cond, T, eqb→eq, Option, Some, None, is_some, nat_eq, arith}
 use Rattle.std.proofs.Math.Dec.{eqb_refl}
 use Rattle.std.specs.Prelude.{is_none}
 use Rattle.std.specs.List.{Contains, list_all}
 use Rattle.std.specs.Option.{option_map_or}
-use Rattle.wit_model.specs.Lookup.{type_at, interface_at}
+use Rattle.wit_model.specs.Lookup.{type_at}
 use Rattle.wit_model.specs.Uses.{alias_target, owner_interface}
 use Rattle.wit_model.specs.Parts.{kind_numbers, met_by, met_of, used_by_type, same_owner, has_owner}
 use Rattle.wit_model.specs.Rules.{is_use}
@@ -19,14 +19,13 @@ use Rattle.wit_model.specs.declared.model.TypeOwner.TheVariants as owner
 use Rattle.wit_model.specs.declared.model.TypeId.{TypeId}
 use Rattle.wit_model.specs.declared.model.«Type».{«Type» as ValueType}
 use Rattle.wit_model.specs.declared.model.«Type».TheVariants as ty
-use Rattle.wit_model.proofs.Lists.{first_true, second_true}
 use Rattle.wit_model.proofs.Entries.{each_from_at, lists_pass, types_keep, each_from_all}
 use Rattle.wit_model.proofs.TreeTable.{kept_numbers}
 use Rattle.wit_model.proofs.Functions.{all_flat}
 use Rattle.wit_model.proofs.Owners.{named_met, unnamed_met}
 use Rattle.wit_encode.specs.Kinds.{parts_of}
-use Rattle.wit_encode.specs.Plan.{foreign_owner, Reaches, itself, through}
-use Rattle.wit_encode.specs.Table.{interface_of_owner, has_named_owner}
+use Rattle.wit_encode.specs.Plan.{foreign_owner}
+use Rattle.wit_encode.specs.Table.{interface_of_owner}
 use Rattle.wit_encode.proofs.Lists.{all-contained, one-contained}
 use Rattle.wit_encode.proofs.Planning.{part-number}
 
@@ -112,10 +111,6 @@ module _ (r : Resolve) (v : IsValid r) (o : TypeOwner) where
   abbrev pub stays : ℕ → Bool
   stays n = list_all (has_owner r o) (met_by (met_of r) n)
 
-  -- a number of another interface isn't opened
-  abbrev pub Stays : ℕ → Type 0
-  Stays n = (def : TypeDef) → type_at r n ≡ Some def → foreign_owner (interface_of_owner o) def.owner ≡ None → stays n ≡ true
-
   module _ (n : ℕ) (def : TypeDef) (is : type_at r n ≡ Some def) (id : TypeId) (c : Contains (parts_of def.kind) (ty.Id id)) where
     from-all : list_all stays (kind_numbers def.kind) ≡ true → stays id.0 ≡ true
     from-all h = all-contained stays (kind_numbers def.kind) id.0 h (part-number def.kind id c)
@@ -124,17 +119,6 @@ module _ (r : Resolve) (v : IsValid r) (o : TypeOwner) where
     used-stay s h =
         from-all (sym (all_flat (has_owner r o) (met_by (met_of r)) (kind_numbers def.kind))
         ∙ subst (λ (a : TypeOwner). list_all (has_owner r a) (used_by_type r def) ≡ true) (same-owner def.owner o s) h)
-
-    use-foreign : same_owner def.owner o ≡ true → is_use r def ≡ true → Stays id.0
-    use-foreign s h def' is' f =
-        let at = alias-part _ def.kind id h c in
-        let target = sym (ap (λ t. option_map_or (λ target. not (same_owner target.owner def.owner) && option_map_or (λ i. option_map_or (λ other. is_some other.name) (interface_at r i) false) (owner_interface target.owner) false) t false) is') ∙ at in
-        absurd (not-false (same_owner def'.owner def.owner) (first_true _ _ target)
-        (subst (λ (a : TypeOwner). same_owner def'.owner a ≡ true) (sym (same-owner def.owner o s)) (belongs (owner_interface def'.owner) refl (second_true _ _ target))))
-      where
-        belongs : (i : Option ℕ) → owner_interface def'.owner ≡ i → option_map_or (λ i. option_map_or (λ other. is_some other.name) (interface_at r i) false) i false ≡ true → same_owner def'.owner o ≡ true
-        belongs None e h = let wrong : ⊥ = cc in absurd wrong
-        belongs (Some i) e h = own-interface o def'.owner i e f
 
     -- a part of a type that stays does so too, unless it is that of a named alias which uses another interface
     pub part-met : {P : Type 0} → stays n ≡ true → (stays id.0 ≡ true → P) → (is_some def.name ≡ true → same_owner def.owner o ≡ true → is_use r def ≡ true → P) → P
@@ -151,26 +135,3 @@ module _ (r : Resolve) (v : IsValid r) (o : TypeOwner) where
             or-cases (is_none def.name) (list_all (has_owner r def.owner) (used_by_type r def) || is_use r def) (owner-kept r v n def is)
             (λ none. absurd (some-none def.name e none))
             (λ rest. or-cases (list_all (has_owner r def.owner) (used_by_type r def)) (is_use r def) rest (λ used. stay (used-stay s used)) (uses e s))
-
-    part-stays : stays n ≡ true → Stays id.0
-    part-stays h = part-met h (λ s _ _ _. s) (λ _. use-foreign)
-
-    -- an alias that uses a type of another interface, which has a name
-    use-named : is_use r def ≡ true → (def' : TypeDef) → type_at r id.0 ≡ Some def' → has_named_owner r def' ≡ true
-    use-named h def' is' =
-        let at = alias-part _ def.kind id h c in
-        second_true _ _ (sym (ap (λ t. option_map_or (λ target. not (same_owner target.owner def.owner) && option_map_or (λ i. option_map_or (λ other. is_some other.name) (interface_at r i) false) (owner_interface target.owner) false) t false) is') ∙ at)
-
-    -- a named part is one of the owner, or of another interface, which has a name
-    part-owned : stays n ≡ true → (def' : TypeDef) → type_at r id.0 ≡ Some def' → is_some def'.name ≡ true → (same_owner def'.owner o ≡ true) ⊎ (has_named_owner r def' ≡ true)
-    part-owned h def' is' named = part-met h (λ s. inl (named_met r (valid-references r v) id.0 def' is' o named ∙ s)) (λ _ _ used. inr (use-named used def' is'))
-
-  -- the same of each part of a type, by their names
-  pub parts-owned : (n : ℕ) (def : TypeDef) → type_at r n ≡ Some def → stays n ≡ true → (id : TypeId) → Contains (parts_of def.kind) (ty.Id id) → (def' : TypeDef) → type_at r id.0 ≡ Some def' → is_some def'.name ≡ true → (same_owner def'.owner o ≡ true) ⊎ (has_named_owner r def' ≡ true)
-  parts-owned n def is h id c = part-owned n def is id c h
-
-  -- what is met on the way down stays
-  pub reached-stays : (t : ValueType) (n : ℕ) → ((id : TypeId) → t ≡ ty.Id id → Stays id.0) → Reaches r (interface_of_owner o) t n → Stays n
-  reached-stays _ _ p (itself id) = p id refl
-  reached-stays _ _ p (through id def t n at f c re) =
-      reached-stays t n (λ id' e. part-stays id.0 def at id' (subst (λ (x : ValueType). Contains (parts_of def.kind) x) e c) (p id refl def at f)) re

@@ -21,7 +21,7 @@ use Rattle.std.proofs.lemmas.List.{length-reverse, reverse-append}
 use Rattle.wit_model.specs.Tree.{Place}
 use Rattle.wit_model.specs.declared.model.Resolve.{Resolve}
 use Rattle.wit_encode.specs.declared.table.Slot.{Slot}
-use Rattle.wit_encode.specs.Slots.{Adds, AddsSlot, Grows}
+use Rattle.wit_encode.specs.Slots.{Adds, SlotAdded, SlotsGrow}
 use Rattle.wit_encode.specs.Table.{ReadsAs, TableReads, is_definition, is_function, is_name_of, exported_by, table_definitions}
 
 module _ (r : Resolve) (place : Place) (old : List Slot) (x : Slot) where
@@ -35,7 +35,7 @@ module _ (r : Resolve) (place : Place) (old : List Slot) (x : Slot) where
     only = λ j m h. elim h [ inl q ↦ inl q | inr q ↦ inr (q.0 ∙ length-reverse old, q.1) ];
   })
 
-  pub slot-ok : {E : Type 0} (res : Result ℕ E) (new : List Slot) → IfOk res (λ i. (i ≡ length old) × (new ≡ old ++ x ∷ [])) → IfOk res (λ i. AddsSlot (TableReads r place old) (TableReads r place new) (length old) (length new) i (ReadsAs r place (TableReads r place old) x))
+  pub slot-ok : {E : Type 0} (res : Result ℕ E) (new : List Slot) → IfOk res (λ i. (i ≡ length old) × (new ≡ old ++ x ∷ [])) → IfOk res (λ i. SlotAdded (TableReads r place old) (TableReads r place new) (length old) (length new) i (ReadsAs r place (TableReads r place old) x))
   slot-ok (Ok i) new h = rw h.1 (record {
     index = h.0;
     one_more = length-append old (x ∷ []);
@@ -43,7 +43,7 @@ module _ (r : Resolve) (place : Place) (old : List Slot) (x : Slot) where
   })
   slot-ok (Err e) new h = h
 
-  pub slot-grows : {E : Type 0} (res : Result ℕ E) (new : List Slot) → IfOk res (λ i. (i ≡ length old) × (new ≡ old ++ x ∷ [])) → OnErr res (new ≡ old) → Grows (TableReads r place old) (TableReads r place new) (length old) (length new)
+  pub slot-grows : {E : Type 0} (res : Result ℕ E) (new : List Slot) → IfOk res (λ i. (i ≡ length old) × (new ≡ old ++ x ∷ [])) → OnErr res (new ≡ old) → SlotsGrow (TableReads r place old) (TableReads r place new) (length old) (length new)
   slot-grows (Ok i) new h g = rw h.1 (record { kept = reads-push.kept; more = (let e = length-append old (x ∷ []) in omega arith) })
   slot-grows (Err e) new h g = rw g (record { kept = λ i m q. q; more = omega arith })
 

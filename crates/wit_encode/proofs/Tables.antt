@@ -1,5 +1,5 @@
 -- The table of an interface in valid packages: what can be encoded in it, and that it stays one.
-use Rattle.std.proofs.Common.{◌≡◌, refl, sym, subst, ap, ◌∙◌, ℕ, suc, ◌+◌, ◌<◌, Bool, true, false, not, Option, None, option_map, option_to_list, List, [], ◌∷◌, ◌++◌, inl, inr, map, take, length, get_or, Some, unwrap_or, arith}
+use Rattle.std.proofs.Common.{◌⊎◌, ◌≡◌, refl, sym, subst, ap, ◌∙◌, ℕ, suc, ◌+◌, ◌<◌, Bool, true, false, not, ◌&&◌, ◌||◌, is_some, Option, None, option_map, option_to_list, List, [], ◌∷◌, ◌++◌, inl, inr, map, take, length, get_or, Some, unwrap_or, arith}
 use Rattle.std.proofs.lemmas.List.{take_more, map-append}
 use Rattle.std.proofs.lemmas.List.Elements.{Contains-append_cases}
 use Rattle.std.specs.List.{Contains, list_all}
@@ -28,18 +28,40 @@ use Rattle.wit_encode.specs.Kinds.{parts_of, has_definition, kind_tree}
 use Rattle.wit_encode.specs.Formed.{IsFormed, IsFormedSignature, are_values}
 use Rattle.wit_encode.specs.Plan.{InRange, AllInRange, foreign_owner}
 use Rattle.wit_encode.specs.Maps.{MapsAgree}
-use Rattle.wit_encode.specs.Slots.{Grows}
+use Rattle.wit_encode.specs.Slots.{SlotsGrow}
 use Rattle.wit_encode.specs.Scope.{Scope, IsImportable}
 use Rattle.wit_encode.specs.Leaves.{Leaves}
-use Rattle.wit_encode.specs.Table.{table_scope, interface_of_owner, is_met_by, IsTable, TableReads, IsDefined, AllDefined}
+use Rattle.wit_encode.specs.Table.{table_scope, table_view, interface_of_owner, is_met_by, has_named_owner, IsTable, TableReads, IsDefined, AllDefined}
 use Rattle.wit_encode.proofs.Lists.{both, one-contained}
 use Rattle.wit_encode.proofs.Forming.{optional-values}
-use Rattle.wit_encode.proofs.Paths.{found-in}
+use Rattle.wit_encode.proofs.Paths.{found-in, some-of}
 use Rattle.wit_encode.proofs.Planning.{part-smaller}
-use Rattle.wit_encode.proofs.Validity.{valid-layered, valid-resource, valid-formed, signature-formed, table-agree, all-met, met-encode, importable}
+use Rattle.wit_encode.proofs.Validity.{valid-layered, valid-resource, valid-formed, signature-formed, table-agree, all-met, named-met, foreign-interface, importable}
+use Rattle.wit_encode.specs.OwnerScope.{NamesStand, IsOfInstance}
+use Rattle.wit_encode.proofs.OwnerScope.{names_encode, table_is_scope}
+use Rattle.wit_encode.proofs.Owned.{same-owner}
+use Rattle.wit_encode.proofs.Naming.{named-owner}
+use Rattle.wit_model.specs.Parts.{same_owner}
+use Rattle.wit_model.proofs.Lists.{first_true, second_true}
+
+-- each name that is met is of the owner, or of another interface, which has a name
+named-stands : (t : TableOf TypeEncodingMaps) → IsTable t → (ts : List ValueType) → NamesStand t.resolve.now t.owner (table_scope t.resolve.now t.owner) ts
+named-stands t i ts n def m is named = go (same_owner def.owner t.owner) refl (named-met t.resolve.now i.valid t.owner i.met n def is named)
+  where
+    go : (b : Bool) → same_owner def.owner t.owner ≡ b → (b || (is_some (foreign_owner (interface_of_owner t.owner) def.owner) && has_named_owner t.resolve.now def)) ≡ true
+        → (def.owner ≡ t.owner) ⊎ IsOfInstance t.resolve.now (table_scope t.resolve.now t.owner) def
+    go true e h = inl (same-owner def.owner t.owner e)
+    go false e h =
+        let f = some-of (foreign_owner (interface_of_owner t.owner) def.owner) (first_true _ (has_named_owner t.resolve.now def) h) in
+        inr (record {
+          interface = f.0;
+          owned = foreign-interface (interface_of_owner t.owner) def.owner f.0 f.1;
+          named_ = named-owner t.resolve.now i.valid def (second_true (is_some (foreign_owner (interface_of_owner t.owner) def.owner)) _ h);
+          stands = (importable t.resolve.now i.valid t.owner n def is f.0 f.1).stands;
+        })
 
 pub table-encodes : (t : TableOf TypeEncodingMaps) → IsTable t → (ts : List ValueType) → AllInRange t.resolve.now ts → CanEncode t.resolve.now (table_scope t.resolve.now t.owner) ts
-table-encodes t i ts inside = met-encode t.resolve.now i.valid t.owner i.met ts inside
+table-encodes t i ts inside = names_encode t.resolve.now t.owner (table_scope t.resolve.now t.owner) ts i.valid (table_is_scope t.resolve.now t.owner i.valid) inside (named-stands t i ts)
 
 -- the owner of a table is known by its scope
 same-own : (a : TypeOwner) (i : InterfaceId) → interface_of_owner a ≡ Some i → a ≡ owner.Interface i
@@ -67,11 +89,11 @@ module _ (t t' : TableOf TypeEncodingMaps) (i : IsTable t) (same : table_scope t
   }
 
 -- a table after a call
-pub table-leaves : (t t' : TableOf TypeEncodingMaps) → IsTable t → {n n' : ℕ} → Leaves t.resolve.now (table_scope t.resolve.now t.owner) (table_scope t'.resolve.now t'.owner) n n' (TableReads t.resolve.now (place_of t.resolve.now t.owner) t.slots.items) (TableReads t'.resolve.now (place_of t'.resolve.now t'.owner) t'.slots.items) t.maps t'.maps → IsTable t'
+pub table-leaves : (t t' : TableOf TypeEncodingMaps) → IsTable t → Leaves t.resolve.now (table_view t) (table_view t') → IsTable t'
 table-leaves t t' i l = stays-table t t' i l.scope_stays l.agree
 
 -- a table after a call that learns nothing
-pub table-grows : (t t' : TableOf TypeEncodingMaps) → IsTable t → table_scope t'.resolve.now t'.owner ≡ table_scope t.resolve.now t.owner → t'.maps ≡ t.maps → {n n' : ℕ} → Grows (TableReads t.resolve.now (place_of t.resolve.now t.owner) t.slots.items) (TableReads t'.resolve.now (place_of t'.resolve.now t'.owner) t'.slots.items) n n' → IsTable t'
+pub table-grows : (t t' : TableOf TypeEncodingMaps) → IsTable t → table_scope t'.resolve.now t'.owner ≡ table_scope t.resolve.now t.owner → t'.maps ≡ t.maps → {n n' : ℕ} → SlotsGrow (TableReads t.resolve.now (place_of t.resolve.now t.owner) t.slots.items) (TableReads t'.resolve.now (place_of t'.resolve.now t'.owner) t'.slots.items) n n' → IsTable t'
 table-grows t t' i scope maps g = stays-table t t' i scope (subst (λ (m : TypeEncodingMaps). MapsAgree t.resolve.now m (TableReads t'.resolve.now (place_of t'.resolve.now t'.owner) t'.slots.items)) (sym maps) (record { says = λ k j h. g.kept j _ (i.agree.says k j h); once = i.agree.once }))
 
 -- a type of another interface can be imported into a table

@@ -34,13 +34,12 @@ use Rattle.std.proofs.lemmas.Bool.{lt-ltb}
 use Rattle.wit_model.specs.declared.model.TypeDefKind.{TypeDefKind}
 use Rattle.wit_model.specs.declared.model.TypeDefKind.TheVariants as kind
 use Rattle.wit_model.specs.declared.model.Handle.TheVariants as handle
-use Rattle.wit_model.proofs.Owners.{named_met}
 use Rattle.wit_encode.specs.Plan.{IsLayered, InRange, AllInRange, foreign_owner, is_interface}
-use Rattle.wit_encode.specs.Fits.{FitsScope, CanEncode}
-use Rattle.wit_encode.specs.Scope.{IsImportable, IsDeclared, Scope}
+use Rattle.wit_encode.specs.Scope.{IsImportable, Scope}
+use Rattle.wit_encode.specs.OwnerScope.{NamesAgree}
 use Rattle.wit_encode.specs.Table.{table_scope, below, interface_of_owner, declaration_in, named_declaration, is_met_by, is_met_owner, has_named_owner}
 use Rattle.wit_encode.proofs.Lists.{contains-one, all-contained}
-use Rattle.wit_encode.proofs.Owned.{same-owner, valid-references, stays, Stays, reached-stays, parts-owned}
+use Rattle.wit_encode.proofs.Owned.{same-owner, valid-references}
 use Rattle.wit_encode.proofs.Planning.{part-smaller}
 use Rattle.wit_encode.proofs.Paths.{found-in}
 use Rattle.wit_encode.proofs.Naming.{HaveHomes, or-first, or-second, named-owner, valid-owner_in_range, one-home, names-agree}
@@ -192,36 +191,48 @@ parts-in_range r v n def is t c id e =
     let within : n < length r.types.items = slice_get_within r.types.items n def is in
     omega arith
 
-module _ (r : Resolve) (v : IsValid r) (met : TypeOwner → Bool) (homes : HaveHomes r met) where
-  number-agrees : (n : ℕ) (def : TypeDef) → type_at r n ≡ Some def → (is_some def.name ≡ true → met def.owner ≡ true) → is_resource_tree (resource_names r met) (number_tree r n) ≡ is_resource r n
-  number-agrees n def at is = ap (λ x. is_resource_tree (resource_names r met) (unwrap_or x no_tree)) (kept_trees_at r v.rules n def at) ∙ go def.name refl
+module _ (r : Resolve) (v : IsValid r) (names : Names) (met : TypeOwner → Bool) (agree : NamesAgree r names met) where
+  number-agrees : (n : ℕ) (def : TypeDef) → type_at r n ≡ Some def → (is_some def.name ≡ true → met def.owner ≡ true) → is_resource_tree names (number_tree r n) ≡ is_resource r n
+  number-agrees n def at is = ap (λ x. is_resource_tree names (unwrap_or x no_tree)) (kept_trees_at r v.rules n def at) ∙ go def.name refl
     where
-      go : (x : Option (String Global)) → def.name ≡ x → is_resource_tree (resource_names r met) (tree_of_definition r (trees_of r) def) ≡ is_resource r n
+      go : (x : Option (String Global)) → def.name ≡ x → is_resource_tree names (tree_of_definition r (trees_of r) def) ≡ is_resource r n
       go None q =
-          ap (λ x. is_resource_tree (resource_names r met) (option_map_or (λ name. Tree.named (place_of r def.owner) (text_of name)) x (kind_tree r def.kind))) q
-          ∙ unnamed-kind r (resource_names r met) (is_resource r) def.kind (valid-unnamed r v n def at q) ∙ sym (valid-resource r v n def at)
+          ap (λ x. is_resource_tree names (option_map_or (λ name. Tree.named (place_of r def.owner) (text_of name)) x (kind_tree r def.kind))) q
+          ∙ unnamed-kind r names (is_resource r) def.kind (valid-unnamed r v n def at q) ∙ sym (valid-resource r v n def at)
       go (Some name) q =
-          ap (λ x. is_resource_tree (resource_names r met) (option_map_or (λ name. Tree.named (place_of r def.owner) (text_of name)) x (kind_tree r def.kind))) q
-          ∙ names-agree r v met homes n def name at q (is (has-name def.name name q))
+          ap (λ x. is_resource_tree names (option_map_or (λ name. Tree.named (place_of r def.owner) (text_of name)) x (kind_tree r def.kind))) q
+          ∙ agree n def name at q (is (has-name def.name name q))
 
   -- names stand for resources exactly where types that are met are resources
-  pub met-agree : (ts : List ValueType) → AllInRange r ts → OwnersMet r met ts → Agree r (resource_names r met) ts
-  met-agree ts inside all t c = go t (inside t c) (all t c)
+  pub named-agree : (ts : List ValueType) → AllInRange r ts → OwnersMet r met ts → Agree r names ts
+  named-agree ts inside all t c = go t (inside t c) (all t c)
     where
       go : (t : ValueType) → InRange r t → ((id : TypeId) → t ≡ ty.Id id → (def : TypeDef) → type_at r id.0 ≡ Some def → is_some def.name ≡ true → met def.owner ≡ true)
-          → is_resource_tree (resource_names r met) (type_tree r t) ≡ is_resource_type r t
+          → is_resource_tree names (type_tree r t) ≡ is_resource_type r t
       go (ty.Id id) inside is =
           let found = found-in r.types.items id.0 (lt-ltb id.0 (length r.types.items) (inside id refl)) in
           number-agrees id.0 found.0 found.1 (is id refl found.0 found.1)
       go _ inside is = refl
 
-  pub parts-agree : (n : ℕ) (def : TypeDef) → type_at r n ≡ Some def → OwnersMet r met (parts_of def.kind) → Agree r (resource_names r met) (parts_of def.kind)
-  parts-agree n def is all = met-agree (parts_of def.kind) (parts-in_range r v n def is) all
+  pub named-parts : (n : ℕ) (def : TypeDef) → type_at r n ≡ Some def → OwnersMet r met (parts_of def.kind) → Agree r names (parts_of def.kind)
+  named-parts n def is all = named-agree (parts_of def.kind) (parts-in_range r v n def is) all
 
   -- the name of a type that is met is one of a resource where it declares one
+  pub named-alike : (n : ℕ) (def : TypeDef) → type_at r n ≡ Some def → (name : String Global) → def.name ≡ Some name → met def.owner ≡ true → OwnersMet r met (parts_of def.kind)
+      → names (place_of r def.owner) (text_of name) ≡ is_resource_declaration names (declaration_of r def)
+  named-alike n def is name e own all = agree n def name is e own ∙ sym (valid-alike r names v n def is (named-parts n def is all))
+
+-- the same of the names of the packages' resources
+module _ (r : Resolve) (v : IsValid r) (met : TypeOwner → Bool) (homes : HaveHomes r met) where
+  pub met-agree : (ts : List ValueType) → AllInRange r ts → OwnersMet r met ts → Agree r (resource_names r met) ts
+  met-agree = named-agree r v (resource_names r met) met (names-agree r v met homes)
+
+  pub parts-agree : (n : ℕ) (def : TypeDef) → type_at r n ≡ Some def → OwnersMet r met (parts_of def.kind) → Agree r (resource_names r met) (parts_of def.kind)
+  parts-agree = named-parts r v (resource_names r met) met (names-agree r v met homes)
+
   pub declared-alike : (n : ℕ) (def : TypeDef) → type_at r n ≡ Some def → (name : String Global) → def.name ≡ Some name → met def.owner ≡ true → OwnersMet r met (parts_of def.kind)
       → resource_names r met (place_of r def.owner) (text_of name) ≡ is_resource_declaration (resource_names r met) (declaration_of r def)
-  declared-alike n def is name e own all = names-agree r v met homes n def name is e own ∙ sym (valid-alike r (resource_names r met) v n def is (parts-agree n def is all))
+  declared-alike = named-alike r v (resource_names r met) met (names-agree r v met homes)
 
 module _ (r : Resolve) (v : IsValid r) (o : TypeOwner) where
   -- a type of another interface can be imported
@@ -242,7 +253,7 @@ module _ (r : Resolve) (v : IsValid r) (o : TypeOwner) where
         stands = below-contains (length r.interfaces.items) i.0 (ltb→lt i.0 (length r.interfaces.items) (subst T (sym (ap (owner_in_range r) (sym owned) ∙ valid-owner_in_range r v n def is)) tt));
       }
 
-  declared-there : (n : ℕ) (def : TypeDef) → type_at r n ≡ Some def → (name : String Global) → def.name ≡ Some name → same_owner def.owner o ≡ true → Contains (table_scope r o).declarations (text_of name, type_meaning r def)
+  pub declared-there : (n : ℕ) (def : TypeDef) → type_at r n ≡ Some def → (name : String Global) → def.name ≡ Some name → same_owner def.owner o ≡ true → Contains (table_scope r o).declarations (text_of name, type_meaning r def)
   declared-there n def is name e s = contains-flat_map (declaration_in r o) r.types.items n def (text_of name, type_meaning r def) is
       (subst (λ (b : Bool). Contains (cond b (named_declaration r def.name def) []) (text_of name, type_meaning r def)) (sym (same-back def.owner o s))
       (subst (λ (x : Option (String Global)). Contains (named_declaration r x def) (text_of name, type_meaning r def)) (sym e) (contains-one (text_of name, type_meaning r def))))
@@ -262,41 +273,9 @@ module _ (r : Resolve) (v : IsValid r) (o : TypeOwner) where
   pub table-agree : (ts : List ValueType) → AllInRange r ts → AreMet ts → Agree r (resource_names r (is_met_owner r o)) ts
   table-agree = met-agree r v (is_met_owner r o) (one-home r v o)
 
-  -- ---- what fits
-
-  own-declared : (n : ℕ) (def : TypeDef) → type_at r n ≡ Some def → (name : String Global) → def.name ≡ Some name → same_owner def.owner o ≡ true → AreMet (parts_of def.kind) → IsDeclared (table_scope r o) (text_of name, type_meaning r def)
-  own-declared n def is name e s met = record {
-    there = declared-there n def is name e s;
-    alike = ap (λ a. resource_names r (is_met_owner r o) (place_of r a) (text_of name)) (sym (same-owner def.owner o s)) ∙ declared-alike r v (is_met_owner r o) (one-home r v o) n def is name e (own-met def s) met;
-    sound = refl;
-  }
-
-  -- a type that is of the owner or of another interface fits the owner's table, where its parts are met
-  pub fits-table : (n : ℕ) (def : TypeDef) → type_at r n ≡ Some def → (foreign_owner (interface_of_owner o) def.owner ≡ None → is_some def.name ≡ true → same_owner def.owner o ≡ true) → (foreign_owner (interface_of_owner o) def.owner ≡ None → AreMet (parts_of def.kind)) → FitsScope r (table_scope r o) n def
-  fits-table n def is home met = record {
-    foreign = importable n def is;
-    unnamed = λ f none. valid-unnamed r v n def is none;
-    placed = λ f name e. ap (place_of r) (same-owner def.owner o (home f (has-name def.name name e)));
-    declared = λ f name e. own-declared n def is name e (home f (has-name def.name name e)) (met f);
-    formed = λ f d. record { sound = refl; formed = valid-formed r (resource_names r (is_met_owner r o)) v n def is (parts-agree r v (is_met_owner r o) (one-home r v o) n def is (met f)) d };
-  }
-
-  -- types that meet types of the owner alone, where those of other interfaces aren't opened, can be encoded in the owner's table
-  pub stays-encode : (ts : List ValueType) → AllInRange r ts → ((t : ValueType) → Contains ts t → (id : TypeId) → t ≡ ty.Id id → Stays r v o id.0) → CanEncode r (table_scope r o) ts
-  stays-encode ts inside all = record {
-    packages_ = refl;
-    layered = valid-layered r v;
-    in_range = inside;
-    fits = λ t c n re def is. stay n def is (reached-stays r v o t n (all t c) re def is);
-  }
-    where
-      stay : (n : ℕ) (def : TypeDef) → type_at r n ≡ Some def → (foreign_owner (interface_of_owner o) def.owner ≡ None → stays r v o n ≡ true) → FitsScope r (table_scope r o) n def
-      stay n def is s = fits-table n def is
-          (λ f named. named_met r (valid-references r v) n def is o named ∙ s f)
-          (λ f t c id e def' is' named. owner-met def' (parts-owned r v o n def is (s f) id (subst (λ (x : ValueType). Contains (parts_of def.kind) x) e c) def' is' named))
-
   module _ (met : list_all (is_met_by r o) r.types.items ≡ true) where
-    named-met : (n : ℕ) (def : TypeDef) → type_at r n ≡ Some def → is_some def.name ≡ true → (same_owner def.owner o || (is_some (foreign_owner (interface_of_owner o) def.owner) && has_named_owner r def)) ≡ true
+    -- a named type is of the owner, or of another interface, which has a name
+    pub named-met : (n : ℕ) (def : TypeDef) → type_at r n ≡ Some def → is_some def.name ≡ true → (same_owner def.owner o || (is_some (foreign_owner (interface_of_owner o) def.owner) && has_named_owner r def)) ≡ true
     named-met n def is named = or-right (is_none def.name) _ (nameless def.name named) (all-at (is_met_by r o) r.types.items n def met is)
 
     -- the named types are met, where all are
@@ -307,19 +286,3 @@ module _ (r : Resolve) (v : IsValid r) (o : TypeOwner) where
         either-owner true b c h = inl refl
         either-owner false true c h = inr h
         either-owner false false c h = let wrong : ⊥ = cc in absurd wrong
-
-    at-home : (n : ℕ) (def : TypeDef) → type_at r n ≡ Some def → foreign_owner (interface_of_owner o) def.owner ≡ None → is_some def.name ≡ true → same_owner def.owner o ≡ true
-    at-home n def is f named = go (same_owner def.owner o) (named-met n def is named)
-      where
-        go : (b : Bool) → (b || (is_some (foreign_owner (interface_of_owner o) def.owner) && has_named_owner r def)) ≡ true → b ≡ true
-        go true h = refl
-        go false h = ap is_some (sym f) ∙ first_true _ _ h
-
-    -- any types can be encoded in the owner's table, where each type is of the owner or of another interface, which has a name
-    pub met-encode : (ts : List ValueType) → AllInRange r ts → CanEncode r (table_scope r o) ts
-    met-encode ts inside = record {
-      packages_ = refl;
-      layered = valid-layered r v;
-      in_range = inside;
-      fits = λ t c n re def is. fits-table n def is (at-home n def is) (λ f. all-met (parts_of def.kind));
-    }

@@ -1,5 +1,5 @@
 -- What a type asks of the scope that it is encoded in.
-use Rattle.std.specs.Prelude.{ℕ, ◌≡◌, false, List, Some, None, String, true}
+use Rattle.std.specs.Prelude.{ℕ, ◌≡◌, Bool, false, List, Some, None, is_some, String, true}
 use Rattle.std.specs.List.{Contains}
 use Rattle.std.specs.declared.alloc.Global.{Global}
 use Rattle.wit_model.specs.Text.{text_of}
@@ -23,6 +23,14 @@ pub record FitsScope (r : Resolve) (scope : Scope) (n : ℕ) (def : TypeDef) : T
   pub placed : foreign_owner scope.own_interface def.owner ≡ None → (name : String Global) → def.name ≡ Some name → place_of r def.owner ≡ scope.place
   pub declared : foreign_owner scope.own_interface def.owner ≡ None → (name : String Global) → def.name ≡ Some name → IsDeclared scope (text_of name, type_meaning r def)
   pub formed : foreign_owner scope.own_interface def.owner ≡ None → has_definition def.kind ≡ true → IsFormed scope (kind_tree r def.kind)
+
+-- whether a type is of another interface
+abbrev pub is_foreign : Scope → TypeDef → Bool
+is_foreign scope def = is_some (foreign_owner scope.own_interface def.owner)
+
+-- a type of another interface can be imported
+abbrev pub CanImport : Resolve → Scope → ℕ → Type 0
+CanImport r scope n = (def : TypeDef) (i : InterfaceId) → type_at r n ≡ Some def → foreign_owner scope.own_interface def.owner ≡ Some i → IsImportable scope i.0 n
 
 abbrev pub Fits : Resolve → Scope → ℕ → Type 0
 Fits r scope n = (def : TypeDef) → type_at r n ≡ Some def → FitsScope r scope n def

@@ -8,7 +8,9 @@ use Rattle.wit_model.specs.declared.model.Handle.TheVariants as handle
 use Rattle.wit_model.specs.declared.model.Resolve.{Resolve}
 use Rattle.wit_model.specs.Parts.{member_types}
 use Rattle.wit_model.specs.Tree.{Tree}
-use Rattle.wit_model.specs.Types.{trees_of, declared_by, tree_of_declaration}
+use Rattle.wit_model.specs.Text.{Text, text_of}
+use Rattle.wit_model.specs.declared.model.Param.{Param}
+use Rattle.wit_model.specs.Types.{trees_of, type_tree, declared_by, tree_of_declaration}
 use Rattle.wit_encode.specs.declared.shape.Shape.{Shape}
 use Rattle.wit_encode.specs.declared.shape.Shape.TheVariants as shape
 
@@ -50,3 +52,7 @@ kind_of (shape.Handle h) = kind.Handle h
 -- the tree of an unnamed type of this kind
 abbrev pub kind_tree : Resolve → TypeDefKind → Tree
 kind_tree r k = tree_of_declaration (declared_by (trees_of r) k)
+
+-- a parameter: its name with its tree
+abbrev pub named_tree : Resolve → Param → Text × Tree
+named_tree r p = (text_of p.name, type_tree r p.ty)

@@ -1,14 +1,42 @@
--- What a call leaves, also where it is refused.
-use Rattle.std.specs.Prelude.{ℕ, ◌≡◌}
+-- What a call leaves, also where it is refused, and what it has learnt and defined.
+use Rattle.std.specs.Prelude.{ℕ, ◌≡◌, Bool, List}
 use Rattle.wit_model.specs.declared.model.Resolve.{Resolve}
-use Rattle.wit_encode.specs.declared.maps.TypeEncodingMaps.{TypeEncodingMaps}
-use Rattle.wit_encode.specs.Slots.{Pairs, Grows}
-use Rattle.wit_encode.specs.Scope.{Scope}
-use Rattle.wit_encode.specs.Maps.{MapsAgree, MapsGrow}
+use Rattle.wit_model.specs.declared.model.«Type».{«Type» as ValueType}
+use Rattle.wit_model.specs.declared.model.Function.{Function}
+use Rattle.wit_encode.specs.declared.key.FunctionKey.{FunctionKey}
+use Rattle.wit_encode.specs.Maps.{MapsGrow}
+use Rattle.wit_encode.specs.Counts.{one_type_more, type_more_if, AddsTypes, AddsFunction}
+use Rattle.wit_encode.specs.Distinct.{AddsFunctions}
+use Rattle.wit_encode.specs.MetKinds.{MapsLearnMet}
+use Rattle.wit_encode.specs.View.{View, Agrees, Grows}
 
 -- The maps agree with the slots and have lost no entry, old slots stand for what they did, and the surroundings are the same.
-pub record Leaves (r : Resolve) (scope scope' : Scope) (n n' : ℕ) (S S' : Pairs) (m m' : TypeEncodingMaps) : Type 0 where
-  pub agree : MapsAgree r m' S'
-  pub maps_grow : MapsGrow m m'
-  pub grows : Grows S S' n n'
-  pub scope_stays : scope' ≡ scope
+pub record Leaves (r : Resolve) (v v' : View) : Type 0 where
+  pub agree : Agrees r v'
+  pub maps_grow : MapsGrow v.maps v'.maps
+  pub grows : Grows v v'
+  pub scope_stays : v'.scope ≡ v.scope
+
+-- what is met on the way down from these types has been learnt, and nothing else
+abbrev pub LearnsMet : Resolve → List ValueType → View → View → Type 0
+LearnsMet r ts v v' = MapsLearnMet r v.scope.own_interface ts v.maps v'.maps
+
+-- what has been defined is what the maps have learnt, and no type of a function is among it
+abbrev pub CountsTypes : Resolve → View → View → Type 0
+CountsTypes r v v' = AddsTypes r v.scope v.maps v'.maps v.definitions v'.definitions
+
+-- the same, and one value type beside it
+abbrev pub CountsOneMore : Resolve → View → View → Type 0
+CountsOneMore r v v' = AddsTypes r v.scope v.maps v'.maps (one_type_more v.definitions) v'.definitions
+
+-- the same with the type of a function, which has this key and stands at this index
+abbrev pub CountsFunction : Resolve → View → View → FunctionKey → ℕ → Type 0
+CountsFunction r v v' key i = AddsFunction r v.scope v.maps v'.maps v.definitions v'.definitions key i
+
+-- the same with the types of these functions
+abbrev pub CountsFunctions : Resolve → View → View → List Function → Type 0
+CountsFunctions r v v' functions = AddsFunctions r v.scope v.maps v'.maps v.definitions v'.definitions functions
+
+-- one value type has been defined where this holds, and nothing else
+abbrev pub DefinesIf : Bool → View → View → Type 0
+DefinesIf b v v' = v'.definitions ≡ type_more_if b v.definitions

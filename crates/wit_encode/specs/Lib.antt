@@ -12,12 +12,16 @@ pub mod Plan
 pub mod Definition
 pub mod Unnamed
 pub mod Counts
-pub mod Leaves
+pub mod View
 pub mod Fits
 pub mod Table
 pub mod Order
 pub mod Distinct
+pub mod Leaves
 pub mod Instance
+pub mod Encoders
 pub mod InstanceLaws
 pub mod Exports
 pub mod UsesAlone
+pub mod OwnerScope
+pub mod MetKinds

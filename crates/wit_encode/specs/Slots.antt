@@ -33,12 +33,12 @@ pub record Adds (S S' : Pairs) (i : ℕ) (P : Standing → Type 0) : Type 0 wher
   pub only : (j : ℕ) (m : Standing) → S' j m → S j m ⊎ ((j ≡ i) × P m)
 
 -- there are at least as many slots, and the old ones stand for what they did
-pub record Grows (S S' : Pairs) (n n' : ℕ) : Type 0 where
+pub record SlotsGrow (S S' : Pairs) (n n' : ℕ) : Type 0 where
   pub kept : Keeps S S'
   pub more : n ≤ n'
 
 -- slot i is new, and stands for what P holds of
-pub record AddsSlot (S S' : Pairs) (n n' i : ℕ) (P : Standing → Type 0) : Type 0 where
+pub record SlotAdded (S S' : Pairs) (n n' i : ℕ) (P : Standing → Type 0) : Type 0 where
   pub index : i ≡ n
   pub one_more : n' ≡ n + 1
   pub adds : Adds S S' i P
@@ -117,6 +117,6 @@ DefinesFunction S f (tree t) = ⊥
 DefinesFunction S f (function s) = FollowsFunction S f s
 
 -- what an export leaves: a slot of its own for the name, or the index that it took stands for the name too
-abbrev pub Exports : Pairs → Pairs → ℕ → ℕ → ℕ → Tree → Option ℕ → Type 0
-Exports S S' n n' i t None = (n' ≡ n) × Adds S S' i (λ m. m ≡ tree t)
-Exports S S' n n' i t (Some j) = AddsSlot S S' n n' j (λ m. m ≡ tree t)
+abbrev pub NameAdded : Pairs → Pairs → ℕ → ℕ → ℕ → Tree → Option ℕ → Type 0
+NameAdded S S' n n' i t None = (n' ≡ n) × Adds S S' i (λ m. m ≡ tree t)
+NameAdded S S' n n' i t (Some j) = SlotAdded S S' n n' j (λ m. m ≡ tree t)

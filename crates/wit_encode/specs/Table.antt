@@ -28,7 +28,6 @@ use Rattle.comp_bytes.specs.RawOf.{raw_name}
 use Rattle.wit_encode.specs.declared.table.Slot.{Slot}
 use Rattle.wit_encode.specs.declared.table.TableOf.{TableOf}
 use Rattle.wit_encode.specs.declared.maps.TypeEncodingMaps.{TypeEncodingMaps}
-use Rattle.wit_encode.specs.Maps.{MapsAgree}
 use Rattle.wit_encode.specs.declared.table.Slot.TheVariants as slot
 use Rattle.wit_encode.specs.Slots.{Pairs, Standing, tree, Defines, DefinesFunction}
 use Rattle.wit_encode.specs.Plan.{foreign_owner}
@@ -37,6 +36,7 @@ pub use Rattle.wit_encode.specs.Resources.{is_met_owner}
 pub use Rattle.wit_encode.specs.Known.{below}
 use Rattle.wit_encode.specs.Scope.{Scope}
 use Rattle.wit_encode.specs.Counts.{Definitions}
+use Rattle.wit_encode.specs.View.{View, Agrees}
 
 -- what one slot stands for, after the slots that say S
 abbrev pub ReadsAs : Resolve → Place → Pairs → Slot → Standing → Type 0
@@ -94,14 +94,6 @@ IsDefined r t = (id : TypeId) → t ≡ ty.Id id → (def : TypeDef) → type_at
 abbrev pub AllDefined : Resolve → List ValueType → Type 0
 AllDefined r ts = (t : ValueType) → Contains ts t → IsDefined r t
 
--- the table of an interface in valid packages, whose maps agree with its slots
-pub record IsTable (t : TableOf TypeEncodingMaps) : Type 0 where
-  pub own : InterfaceId
-  pub owned : t.owner ≡ owner.Interface own
-  pub valid : IsValid t.resolve.now
-  pub met : list_all (is_met_by t.resolve.now t.owner) t.resolve.now.types.items ≡ true
-  pub agree : MapsAgree t.resolve.now t.maps (TableReads t.resolve.now (place_of t.resolve.now t.owner) t.slots.items)
-
 abbrev pub is_definition : Slot → Bool
 is_definition (slot.Definition d) = true
 is_definition _ = false
@@ -121,6 +113,23 @@ exported_by declarations _ = []
 
 abbrev pub table_definitions : List (Text × TypeMeaning) → List Slot → Definitions
 table_definitions declarations slots = record { types = count_by is_definition slots; functions = count_by is_function slots; exports = flat_map (exported_by declarations) slots }
+
+abbrev pub table_view : TableOf TypeEncodingMaps → View
+table_view t = record {
+  scope = table_scope t.resolve.now t.owner;
+  slot_count = length t.slots.items;
+  stands = TableReads t.resolve.now (place_of t.resolve.now t.owner) t.slots.items;
+  definitions = table_definitions (table_scope t.resolve.now t.owner).declarations t.slots.items;
+  maps = t.maps;
+}
+
+-- the table of an interface in valid packages, whose maps agree with its slots
+pub record IsTable (t : TableOf TypeEncodingMaps) : Type 0 where
+  pub own : InterfaceId
+  pub owned : t.owner ≡ owner.Interface own
+  pub valid : IsValid t.resolve.now
+  pub met : list_all (is_met_by t.resolve.now t.owner) t.resolve.now.types.items ≡ true
+  pub agree : Agrees t.resolve.now (table_view t)
 
 reads-below : (r : Resolve) (place : Place) (xs : List Slot) (i : ℕ) (m : Standing) → Reads r place xs i m → i < length xs
 reads-below r place [] i m h = absurd h

@@ -10,16 +10,18 @@ ghost use Rattle.wit_model.specs.Tree.{named};
 ghost use Rattle.wit_model.specs.Types.{number_tree, tree_of, trees_of, tree_of_definition, declared_by};
 ghost use Rattle.wit_model.specs.Lookup.{type_at};
 ghost use Rattle.wit_model.specs.Meant.{type_meaning};
-ghost use Rattle.wit_encode.specs.Slots.{tree, Grows};
+ghost use Rattle.wit_encode.specs.Slots.{tree};
+ghost use Rattle.wit_encode.specs.View.{Agrees, Grows, ExportsName};
 ghost use Rattle.wit_encode.specs.Kinds.{parts_of, kind_of, kind_tree, has_form, has_definition};
-ghost use Rattle.wit_encode.specs.Maps.{MapsAgree, IsKnown, IsReady, AllReady, LacksKind, LearnsOne, LearnsOnly};
+ghost use Rattle.wit_encode.specs.Maps.{IsKnown, IsReady, AllReady, LacksKind, LearnsOne};
 ghost use Rattle.wit_encode.specs.Scope.{DeclaresSlot, DeclaresResource, IsImportable, IsDeclared, exported_name};
 ghost use Rattle.wit_encode.specs.Formed.{IsFormed};
-ghost use Rattle.wit_encode.specs.Plan.{foreign_owner, IsLayered, MetFrom};
+ghost use Rattle.wit_encode.specs.Plan.{foreign_owner, IsLayered};
 ghost use Rattle.wit_encode.specs.Fits.{Fits, FitsScope, CanEncode};
-ghost use Rattle.wit_encode.specs.Counts.{one_type_more, type_more_if, is_defined_by_name, is_defined_under_name, own_name, ExportsOne, AddsTypes};
+ghost use Rattle.wit_encode.specs.Counts.{one_type_more, is_defined_by_name, own_name};
 ghost use Rattle.wit_encode.specs.Unnamed.{IsUnnamedKind};
-ghost use Rattle.wit_encode.specs.Leaves.{Leaves};
+ghost use Rattle.wit_encode.specs.MetKinds.{Learns, LearnsKindOf};
+ghost use Rattle.wit_encode.specs.Leaves.{Leaves, LearnsMet, CountsTypes, DefinesIf};
 
 use crate::encoder::ValtypeEncoder;
 use crate::lend::{
@@ -39,14 +41,14 @@ pub(crate) fn define_shape<'a, E: ValtypeEncoder<'a>>(
     resolve: &'a Resolve,
     shape: Shape<'a, '_>,
 ) -> Result<u32, Error>
-    requires ready { AllReady (E.maps_of enc.old) (parts_of (kind_of shape)) }
-    requires formed { IsFormed (E.scope enc.old) (kind_tree resolve.now (kind_of shape)) }
-    requires agree { MapsAgree resolve.now (E.maps_of enc.old) (E.stands enc.old) }
-    ensures ok { IfOk result (λ i. E.stands enc.new i (tree (kind_tree resolve.now (kind_of shape.entry)))) }
-    ensures grows { Grows (E.stands enc.old) (E.stands enc.new) (E.slot_count enc.old) (E.slot_count enc.new) }
-    ensures scope_stays { E.scope enc.new ≡ E.scope enc.old }
-    ensures maps_stay { E.maps_of enc.new ≡ E.maps_of enc.old }
-    ensures counts { OnOk result (E.definitions enc.new ≡ one_type_more (E.definitions enc.old)) }
+    requires ready { AllReady (E.view enc.old).maps (parts_of (kind_of shape)) }
+    requires formed { IsFormed (E.view enc.old).scope (kind_tree resolve.now (kind_of shape)) }
+    requires agree { Agrees resolve.now (E.view enc.old) }
+    ensures ok { IfOk result (λ i. (E.view enc.new).stands i (tree (kind_tree resolve.now (kind_of shape.entry)))) }
+    ensures grows { Grows (E.view enc.old) (E.view enc.new) }
+    ensures scope_stays { (E.view enc.new).scope ≡ (E.view enc.old).scope }
+    ensures maps_stay { (E.view enc.new).maps ≡ (E.view enc.old).maps }
+    ensures counts { OnOk result ((E.view enc.new).definitions ≡ one_type_more (E.view enc.old).definitions) }
     ensures refuses { IfErr result IsMemoryOrSize }
 {
     let def = definition_of(alloc, enc, shape)?;
@@ -59,14 +61,14 @@ fn define_alias<'a, E: ValtypeEncoder<'a>>(
     resolve: &'a Resolve,
     ty: &Type,
 ) -> Result<u32, Error>
-    requires ready { IsReady (E.maps_of enc.old) ty.now }
-    requires formed { has_definition (TypeDefKind.Type_ ty.now) ≡ true → IsFormed (E.scope enc.old) (kind_tree resolve.now (TypeDefKind.Type_ ty.now)) }
-    requires agree { MapsAgree resolve.now (E.maps_of enc.old) (E.stands enc.old) }
-    ensures ok { IfOk result (λ i. E.stands enc.new i (tree (tree_of (trees_of resolve.now) ty.now))) }
-    ensures grows { Grows (E.stands enc.old) (E.stands enc.new) (E.slot_count enc.old) (E.slot_count enc.new) }
-    ensures scope_stays { E.scope enc.new ≡ E.scope enc.old }
-    ensures maps_stay { E.maps_of enc.new ≡ E.maps_of enc.old }
-    ensures counts { OnOk result (E.definitions enc.new ≡ type_more_if (has_definition (TypeDefKind.Type_ ty.now)) (E.definitions enc.old)) }
+    requires ready { IsReady (E.view enc.old).maps ty.now }
+    requires formed { has_definition (TypeDefKind.Type_ ty.now) ≡ true → IsFormed (E.view enc.old).scope (kind_tree resolve.now (TypeDefKind.Type_ ty.now)) }
+    requires agree { Agrees resolve.now (E.view enc.old) }
+    ensures ok { IfOk result (λ i. (E.view enc.new).stands i (tree (tree_of (trees_of resolve.now) ty.now))) }
+    ensures grows { Grows (E.view enc.old) (E.view enc.new) }
+    ensures scope_stays { (E.view enc.new).scope ≡ (E.view enc.old).scope }
+    ensures maps_stay { (E.view enc.new).maps ≡ (E.view enc.old).maps }
+    ensures counts { OnOk result (DefinesIf (has_definition (TypeDefKind.Type_ ty.now)) (E.view enc.old) (E.view enc.new)) }
     ensures refuses { IfErr result IsMemoryOrSize }
 {
     match value_of(enc, ty) {
@@ -85,14 +87,14 @@ fn define_kind<'a, E: ValtypeEncoder<'a>>(
     kind: &'a TypeDefKind,
 ) -> Result<u32, Error>
     requires kind { kind.now ≡ TypeDefKind.Resource → ⊥ }
-    requires ready { AllReady (E.maps_of enc.old) (parts_of kind.now) }
-    requires formed { has_definition kind.now ≡ true → IsFormed (E.scope enc.old) (kind_tree resolve.now kind.now) }
-    requires agree { MapsAgree resolve.now (E.maps_of enc.old) (E.stands enc.old) }
-    ensures ok { IfOk result (λ i. E.stands enc.new i (tree (kind_tree resolve.now kind.now))) }
-    ensures grows { Grows (E.stands enc.old) (E.stands enc.new) (E.slot_count enc.old) (E.slot_count enc.new) }
-    ensures scope_stays { E.scope enc.new ≡ E.scope enc.old }
-    ensures maps_stay { E.maps_of enc.new ≡ E.maps_of enc.old }
-    ensures counts { OnOk result (E.definitions enc.new ≡ type_more_if (has_definition kind.now) (E.definitions enc.old)) }
+    requires ready { AllReady (E.view enc.old).maps (parts_of kind.now) }
+    requires formed { has_definition kind.now ≡ true → IsFormed (E.view enc.old).scope (kind_tree resolve.now kind.now) }
+    requires agree { Agrees resolve.now (E.view enc.old) }
+    ensures ok { IfOk result (λ i. (E.view enc.new).stands i (tree (kind_tree resolve.now kind.now))) }
+    ensures grows { Grows (E.view enc.old) (E.view enc.new) }
+    ensures scope_stays { (E.view enc.new).scope ≡ (E.view enc.old).scope }
+    ensures maps_stay { (E.view enc.new).maps ≡ (E.view enc.old).maps }
+    ensures counts { OnOk result (DefinesIf (has_definition kind.now) (E.view enc.old) (E.view enc.new)) }
     ensures refuses { IfErr result IsMemoryOrSize }
 {
     if let TypeDefKind::Type_(ty) = kind {
@@ -110,14 +112,15 @@ fn define_new_kind<'a, E: ValtypeEncoder<'a>>(
 ) -> Result<u32, Error>
     requires unnamed { is_named_kind kind.now ≡ false }
     requires there { IsUnnamedKind resolve.now kind.now }
-    requires lacks { LacksKind (E.maps_of enc.old) kind.now }
-    requires ready { AllReady (E.maps_of enc.old) (parts_of kind.now) }
-    requires formed { IsFormed (E.scope enc.old) (kind_tree resolve.now kind.now) }
-    requires agree { MapsAgree resolve.now (E.maps_of enc.old) (E.stands enc.old) }
-    ensures ok { IfOk result (λ i. E.stands enc.new i (tree (kind_tree resolve.now kind.now))) }
-    ensures numbers { OnOk result ((E.maps_of enc.new).id_to_index.items ≡ (E.maps_of enc.old).id_to_index.items) }
-    ensures leaves { Leaves resolve.now (E.scope enc.old) (E.scope enc.new) (E.slot_count enc.old) (E.slot_count enc.new) (E.stands enc.old) (E.stands enc.new) (E.maps_of enc.old) (E.maps_of enc.new) }
-    ensures counts { OnOk result (AddsTypes resolve.now (E.scope enc.old) (E.maps_of enc.old) (E.maps_of enc.new) (E.definitions enc.old) (E.definitions enc.new)) }
+    requires lacks { LacksKind (E.view enc.old).maps kind.now }
+    requires ready { AllReady (E.view enc.old).maps (parts_of kind.now) }
+    requires formed { IsFormed (E.view enc.old).scope (kind_tree resolve.now kind.now) }
+    requires agree { Agrees resolve.now (E.view enc.old) }
+    ensures ok { IfOk result (λ i. (E.view enc.new).stands i (tree (kind_tree resolve.now kind.now))) }
+    ensures numbers { OnOk result ((E.view enc.new).maps.id_to_index.items ≡ (E.view enc.old).maps.id_to_index.items) }
+    ensures leaves { Leaves resolve.now (E.view enc.old) (E.view enc.new) }
+    ensures counts { OnOk result (CountsTypes resolve.now (E.view enc.old) (E.view enc.new)) }
+    ensures kinds { OnOk result (LearnsKindOf (E.view enc.old).maps (E.view enc.new).maps kind.now) }
     ensures refuses { IfErr result IsMemoryOrSize }
 {
     let index = define_shape(alloc, enc, resolve, shape_of(kind))?;
@@ -134,13 +137,14 @@ fn define_unnamed_kind<'a, E: ValtypeEncoder<'a>>(
 ) -> Result<u32, Error>
     requires unnamed { is_named_kind kind.now ≡ false }
     requires there { IsUnnamedKind resolve.now kind.now }
-    requires ready { AllReady (E.maps_of enc.old) (parts_of kind.now) }
-    requires formed { IsFormed (E.scope enc.old) (kind_tree resolve.now kind.now) }
-    requires agree { MapsAgree resolve.now (E.maps_of enc.old) (E.stands enc.old) }
-    ensures ok { IfOk result (λ i. E.stands enc.new i (tree (kind_tree resolve.now kind.now))) }
-    ensures numbers { OnOk result ((E.maps_of enc.new).id_to_index.items ≡ (E.maps_of enc.old).id_to_index.items) }
-    ensures leaves { Leaves resolve.now (E.scope enc.old) (E.scope enc.new) (E.slot_count enc.old) (E.slot_count enc.new) (E.stands enc.old) (E.stands enc.new) (E.maps_of enc.old) (E.maps_of enc.new) }
-    ensures counts { OnOk result (AddsTypes resolve.now (E.scope enc.old) (E.maps_of enc.old) (E.maps_of enc.new) (E.definitions enc.old) (E.definitions enc.new)) }
+    requires ready { AllReady (E.view enc.old).maps (parts_of kind.now) }
+    requires formed { IsFormed (E.view enc.old).scope (kind_tree resolve.now kind.now) }
+    requires agree { Agrees resolve.now (E.view enc.old) }
+    ensures ok { IfOk result (λ i. (E.view enc.new).stands i (tree (kind_tree resolve.now kind.now))) }
+    ensures numbers { OnOk result ((E.view enc.new).maps.id_to_index.items ≡ (E.view enc.old).maps.id_to_index.items) }
+    ensures leaves { Leaves resolve.now (E.view enc.old) (E.view enc.new) }
+    ensures counts { OnOk result (CountsTypes resolve.now (E.view enc.old) (E.view enc.new)) }
+    ensures kinds { OnOk result (LearnsKindOf (E.view enc.old).maps (E.view enc.new).maps kind.now) }
     ensures refuses { IfErr result IsMemoryOrSize }
 {
     if let Some(index) = index_of_kind(enc, kind) {
@@ -159,16 +163,17 @@ fn define_unnamed<'a, E: ValtypeEncoder<'a>>(
 ) -> Result<(), Error>
     requires unnamed { is_named_kind kind.now ≡ false }
     requires there { IsUnnamedKind resolve.now kind.now }
-    requires no_name { is_defined_by_name resolve.now (E.scope enc.old) id.0 ≡ false }
-    requires not_shown { own_name resolve.now (E.scope enc.old) id.0 ≡ None }
+    requires no_name { is_defined_by_name resolve.now (E.view enc.old).scope id.0 ≡ false }
+    requires not_shown { own_name resolve.now (E.view enc.old).scope id.0 ≡ None }
     requires same_tree { number_tree resolve.now id.0 ≡ kind_tree resolve.now kind.now }
-    requires ready { AllReady (E.maps_of enc.old) (parts_of kind.now) }
-    requires fresh { IsKnown (E.maps_of enc.old) id.0 → ⊥ }
-    requires formed { IsFormed (E.scope enc.old) (kind_tree resolve.now kind.now) }
-    requires agree { MapsAgree resolve.now (E.maps_of enc.old) (E.stands enc.old) }
-    ensures ok { OnOk result (LearnsOne (E.maps_of enc.old) (E.maps_of enc.new) id.0) }
-    ensures leaves { Leaves resolve.now (E.scope enc.old) (E.scope enc.new) (E.slot_count enc.old) (E.slot_count enc.new) (E.stands enc.old) (E.stands enc.new) (E.maps_of enc.old) (E.maps_of enc.new) }
-    ensures counts { OnOk result (AddsTypes resolve.now (E.scope enc.old) (E.maps_of enc.old) (E.maps_of enc.new) (E.definitions enc.old) (E.definitions enc.new)) }
+    requires ready { AllReady (E.view enc.old).maps (parts_of kind.now) }
+    requires fresh { IsKnown (E.view enc.old).maps id.0 → ⊥ }
+    requires formed { IsFormed (E.view enc.old).scope (kind_tree resolve.now kind.now) }
+    requires agree { Agrees resolve.now (E.view enc.old) }
+    ensures ok { OnOk result (LearnsOne (E.view enc.old).maps (E.view enc.new).maps id.0) }
+    ensures leaves { Leaves resolve.now (E.view enc.old) (E.view enc.new) }
+    ensures counts { OnOk result (CountsTypes resolve.now (E.view enc.old) (E.view enc.new)) }
+    ensures kinds { OnOk result (LearnsKindOf (E.view enc.old).maps (E.view enc.new).maps kind.now) }
     ensures refuses { IfErr result IsMemoryOrSize }
 {
     let index = define_unnamed_kind(alloc, enc, resolve, kind)?;
@@ -182,15 +187,16 @@ fn define_resource<'a, E: ValtypeEncoder<'a>>(
     id: TypeId,
     name: ComponentExternName<'a>,
 ) -> Result<(), Error>
-    requires declared { DeclaresResource (E.scope enc.old) (raw_name name) }
-    requires shown { own_name resolve.now (E.scope enc.old) id.0 ≡ Some (raw_name name).text }
-    requires same_tree { number_tree resolve.now id.0 ≡ named (E.scope enc.old).place (raw_name name).text }
-    requires no_definition { is_defined_by_name resolve.now (E.scope enc.old) id.0 ≡ false }
-    requires fresh { IsKnown (E.maps_of enc.old) id.0 → ⊥ }
-    requires agree { MapsAgree resolve.now (E.maps_of enc.old) (E.stands enc.old) }
-    ensures ok { OnOk result (LearnsOne (E.maps_of enc.old) (E.maps_of enc.new) id.0) }
-    ensures leaves { Leaves resolve.now (E.scope enc.old) (E.scope enc.new) (E.slot_count enc.old) (E.slot_count enc.new) (E.stands enc.old) (E.stands enc.new) (E.maps_of enc.old) (E.maps_of enc.new) }
-    ensures counts { OnOk result (AddsTypes resolve.now (E.scope enc.old) (E.maps_of enc.old) (E.maps_of enc.new) (E.definitions enc.old) (E.definitions enc.new)) }
+    requires declared { DeclaresResource (E.view enc.old).scope (raw_name name) }
+    requires shown { own_name resolve.now (E.view enc.old).scope id.0 ≡ Some (raw_name name).text }
+    requires same_tree { number_tree resolve.now id.0 ≡ named (E.view enc.old).scope.place (raw_name name).text }
+    requires no_definition { is_defined_by_name resolve.now (E.view enc.old).scope id.0 ≡ false }
+    requires fresh { IsKnown (E.view enc.old).maps id.0 → ⊥ }
+    requires agree { Agrees resolve.now (E.view enc.old) }
+    ensures ok { OnOk result (LearnsOne (E.view enc.old).maps (E.view enc.new).maps id.0) }
+    ensures leaves { Leaves resolve.now (E.view enc.old) (E.view enc.new) }
+    ensures counts { OnOk result (CountsTypes resolve.now (E.view enc.old) (E.view enc.new)) }
+    ensures kinds { OnOk result ((E.view enc.new).maps.def_to_index.items ≡ (E.view enc.old).maps.def_to_index.items) }
     ensures refuses { IfErr result IsMemoryOrSize }
 {
     let index = enc.export_resource(name)?;
@@ -203,12 +209,12 @@ fn export<'a, E: ValtypeEncoder<'a>>(
     index: u32,
     name: ComponentExternName<'a>,
 ) -> Result<u32, Error>
-    requires { DeclaresSlot (E.scope enc.old) (E.stands enc.old) (raw_name name) index }
-    ensures ok { IfOk result (λ i. E.stands enc.new i (tree (named (E.scope enc.old).place (raw_name name.entry).text))) }
-    ensures grows { Grows (E.stands enc.old) (E.stands enc.new) (E.slot_count enc.old) (E.slot_count enc.new) }
-    ensures scope_stays { E.scope enc.new ≡ E.scope enc.old }
-    ensures maps_stay { E.maps_of enc.new ≡ E.maps_of enc.old }
-    ensures counts { OnOk result (ExportsOne (E.scope enc.old) (E.definitions enc.old) (E.definitions enc.new) (raw_name name.entry)) }
+    requires { DeclaresSlot (E.view enc.old).scope (E.view enc.old).stands (raw_name name) index }
+    ensures ok { IfOk result (λ i. (E.view enc.new).stands i (tree (named (E.view enc.old).scope.place (raw_name name.entry).text))) }
+    ensures grows { Grows (E.view enc.old) (E.view enc.new) }
+    ensures scope_stays { (E.view enc.new).scope ≡ (E.view enc.old).scope }
+    ensures maps_stay { (E.view enc.new).maps ≡ (E.view enc.old).maps }
+    ensures counts { OnOk result (ExportsName (E.view enc.old) (E.view enc.new) (raw_name name.entry)) }
     ensures refuses { IfErr result IsMemoryOrSize }
 {
     match enc.export_type(index, name)? {
@@ -228,17 +234,18 @@ fn define_named<'a, E: ValtypeEncoder<'a>>(
 ) -> Result<(), Error>
     requires kind { def.now.kind ≡ TypeDefKind.Resource → ⊥ }
     requires name { raw_name name ≡ exported_name ((raw_name name).text, type_meaning resolve.now def.now) }
-    requires declared { IsDeclared (E.scope enc.old) ((raw_name name).text, type_meaning resolve.now def.now) }
-    requires shown { own_name resolve.now (E.scope enc.old) id.0 ≡ Some (raw_name name).text }
-    requires same_tree { number_tree resolve.now id.0 ≡ named (E.scope enc.old).place (raw_name name).text }
-    requires by_name { is_defined_by_name resolve.now (E.scope enc.old) id.0 ≡ has_definition def.now.kind }
-    requires ready { AllReady (E.maps_of enc.old) (parts_of def.now.kind) }
-    requires fresh { IsKnown (E.maps_of enc.old) id.0 → ⊥ }
-    requires formed { has_definition def.now.kind ≡ true → IsFormed (E.scope enc.old) (kind_tree resolve.now def.now.kind) }
-    requires agree { MapsAgree resolve.now (E.maps_of enc.old) (E.stands enc.old) }
-    ensures ok { OnOk result (LearnsOne (E.maps_of enc.old) (E.maps_of enc.new) id.0) }
-    ensures leaves { Leaves resolve.now (E.scope enc.old) (E.scope enc.new) (E.slot_count enc.old) (E.slot_count enc.new) (E.stands enc.old) (E.stands enc.new) (E.maps_of enc.old) (E.maps_of enc.new) }
-    ensures counts { OnOk result (AddsTypes resolve.now (E.scope enc.old) (E.maps_of enc.old) (E.maps_of enc.new) (E.definitions enc.old) (E.definitions enc.new)) }
+    requires declared { IsDeclared (E.view enc.old).scope ((raw_name name).text, type_meaning resolve.now def.now) }
+    requires shown { own_name resolve.now (E.view enc.old).scope id.0 ≡ Some (raw_name name).text }
+    requires same_tree { number_tree resolve.now id.0 ≡ named (E.view enc.old).scope.place (raw_name name).text }
+    requires by_name { is_defined_by_name resolve.now (E.view enc.old).scope id.0 ≡ has_definition def.now.kind }
+    requires ready { AllReady (E.view enc.old).maps (parts_of def.now.kind) }
+    requires fresh { IsKnown (E.view enc.old).maps id.0 → ⊥ }
+    requires formed { has_definition def.now.kind ≡ true → IsFormed (E.view enc.old).scope (kind_tree resolve.now def.now.kind) }
+    requires agree { Agrees resolve.now (E.view enc.old) }
+    ensures ok { OnOk result (LearnsOne (E.view enc.old).maps (E.view enc.new).maps id.0) }
+    ensures leaves { Leaves resolve.now (E.view enc.old) (E.view enc.new) }
+    ensures counts { OnOk result (CountsTypes resolve.now (E.view enc.old) (E.view enc.new)) }
+    ensures kinds { OnOk result ((E.view enc.new).maps.def_to_index.items ≡ (E.view enc.old).maps.def_to_index.items) }
     ensures refuses { IfErr result IsMemoryOrSize }
 {
     let index = define_kind(alloc, enc, resolve, &def.kind)?;
@@ -254,16 +261,17 @@ fn define_own<'a, E: ValtypeEncoder<'a>>(
     id: TypeId,
     def: &'a TypeDef,
 ) -> Result<(), Error>
-    requires own { foreign_owner (E.scope enc.old).own_interface def.now.owner ≡ None }
+    requires own { foreign_owner (E.view enc.old).scope.own_interface def.now.owner ≡ None }
     requires there { type_at resolve.now id.0 ≡ Some def.now }
     requires same_tree { number_tree resolve.now id.0 ≡ tree_of_definition resolve.now (trees_of resolve.now) def.now }
-    requires fits { FitsScope resolve.now (E.scope enc.old) id.0 def.now }
-    requires ready { AllReady (E.maps_of enc.old) (parts_of def.now.kind) }
-    requires fresh { IsKnown (E.maps_of enc.old) id.0 → ⊥ }
-    requires agree { MapsAgree resolve.now (E.maps_of enc.old) (E.stands enc.old) }
-    ensures ok { OnOk result (LearnsOne (E.maps_of enc.old) (E.maps_of enc.new) id.0) }
-    ensures leaves { Leaves resolve.now (E.scope enc.old) (E.scope enc.new) (E.slot_count enc.old) (E.slot_count enc.new) (E.stands enc.old) (E.stands enc.new) (E.maps_of enc.old) (E.maps_of enc.new) }
-    ensures counts { OnOk result (AddsTypes resolve.now (E.scope enc.old) (E.maps_of enc.old) (E.maps_of enc.new) (E.definitions enc.old) (E.definitions enc.new)) }
+    requires fits { FitsScope resolve.now (E.view enc.old).scope id.0 def.now }
+    requires ready { AllReady (E.view enc.old).maps (parts_of def.now.kind) }
+    requires fresh { IsKnown (E.view enc.old).maps id.0 → ⊥ }
+    requires agree { Agrees resolve.now (E.view enc.old) }
+    ensures ok { OnOk result (LearnsOne (E.view enc.old).maps (E.view enc.new).maps id.0) }
+    ensures leaves { Leaves resolve.now (E.view enc.old) (E.view enc.new) }
+    ensures counts { OnOk result (CountsTypes resolve.now (E.view enc.old) (E.view enc.new)) }
+    ensures learns { OnOk result (Learns resolve.now (E.view enc.old).scope.own_interface (E.view enc.old).maps (E.view enc.new).maps) }
     ensures refuses { IfErr result IsMemoryOrSize }
 {
     match &def.name {
@@ -285,15 +293,16 @@ fn define_number<'a, E: ValtypeEncoder<'a>>(
     resolve: &'a Resolve,
     id: TypeId,
 ) -> Result<(), Error>
-    requires packages { (E.scope enc.old).packages ≡ resolve.now }
+    requires packages { (E.view enc.old).scope.packages ≡ resolve.now }
     requires layered { IsLayered resolve.now }
     requires in_range { id.0 < length resolve.now.types.items }
-    requires fits { Fits resolve.now (E.scope enc.old) id.0 }
-    requires ready { (def : _) → type_at resolve.now id.0 ≡ Some def → foreign_owner (E.scope enc.old).own_interface def.owner ≡ None → AllReady (E.maps_of enc.old) (parts_of def.kind) }
-    requires agree { MapsAgree resolve.now (E.maps_of enc.old) (E.stands enc.old) }
-    ensures ok { OnOk result (LearnsOne (E.maps_of enc.old) (E.maps_of enc.new) id.0) }
-    ensures leaves { Leaves resolve.now (E.scope enc.old) (E.scope enc.new) (E.slot_count enc.old) (E.slot_count enc.new) (E.stands enc.old) (E.stands enc.new) (E.maps_of enc.old) (E.maps_of enc.new) }
-    ensures counts { OnOk result (AddsTypes resolve.now (E.scope enc.old) (E.maps_of enc.old) (E.maps_of enc.new) (E.definitions enc.old) (E.definitions enc.new)) }
+    requires fits { Fits resolve.now (E.view enc.old).scope id.0 }
+    requires ready { (def : _) → type_at resolve.now id.0 ≡ Some def → foreign_owner (E.view enc.old).scope.own_interface def.owner ≡ None → AllReady (E.view enc.old).maps (parts_of def.kind) }
+    requires agree { Agrees resolve.now (E.view enc.old) }
+    ensures ok { OnOk result (LearnsOne (E.view enc.old).maps (E.view enc.new).maps id.0) }
+    ensures leaves { Leaves resolve.now (E.view enc.old) (E.view enc.new) }
+    ensures counts { OnOk result (CountsTypes resolve.now (E.view enc.old) (E.view enc.new)) }
+    ensures learns { OnOk result (Learns resolve.now (E.view enc.old).scope.own_interface (E.view enc.old).maps (E.view enc.new).maps) }
     ensures refuses { IfErr result IsMemoryOrSize }
 {
     if index_of(enc, id).is_some() {
@@ -314,15 +323,16 @@ fn import<'a, E: ValtypeEncoder<'a>>(
     interface: InterfaceId,
     id: TypeId,
 ) -> Result<(), Error>
-    requires packages { (E.scope enc.old).packages ≡ resolve.now }
-    requires importable { IsImportable (E.scope enc.old) interface.0 id.0 }
-    requires no_definition { is_defined_by_name resolve.now (E.scope enc.old) id.0 ≡ false }
-    requires not_shown { own_name resolve.now (E.scope enc.old) id.0 ≡ None }
-    requires fresh { IsKnown (E.maps_of enc.old) id.0 → ⊥ }
-    requires agree { MapsAgree resolve.now (E.maps_of enc.old) (E.stands enc.old) }
-    ensures ok { OnOk result (LearnsOne (E.maps_of enc.old) (E.maps_of enc.new) id.0) }
-    ensures leaves { Leaves resolve.now (E.scope enc.old) (E.scope enc.new) (E.slot_count enc.old) (E.slot_count enc.new) (E.stands enc.old) (E.stands enc.new) (E.maps_of enc.old) (E.maps_of enc.new) }
-    ensures counts { OnOk result (AddsTypes resolve.now (E.scope enc.old) (E.maps_of enc.old) (E.maps_of enc.new) (E.definitions enc.old) (E.definitions enc.new)) }
+    requires packages { (E.view enc.old).scope.packages ≡ resolve.now }
+    requires importable { IsImportable (E.view enc.old).scope interface.0 id.0 }
+    requires no_definition { is_defined_by_name resolve.now (E.view enc.old).scope id.0 ≡ false }
+    requires not_shown { own_name resolve.now (E.view enc.old).scope id.0 ≡ None }
+    requires fresh { IsKnown (E.view enc.old).maps id.0 → ⊥ }
+    requires agree { Agrees resolve.now (E.view enc.old) }
+    ensures ok { OnOk result (LearnsOne (E.view enc.old).maps (E.view enc.new).maps id.0) }
+    ensures leaves { Leaves resolve.now (E.view enc.old) (E.view enc.new) }
+    ensures counts { OnOk result (CountsTypes resolve.now (E.view enc.old) (E.view enc.new)) }
+    ensures kinds { OnOk result ((E.view enc.new).maps.def_to_index.items ≡ (E.view enc.old).maps.def_to_index.items) }
     ensures refuses { IfErr result IsMemoryOrSize }
 {
     let index = enc.import_type(interface, id)?;
@@ -336,12 +346,12 @@ pub(crate) fn define_parts<'a, E: ValtypeEncoder<'a>>(
     resolve: &'a Resolve,
     types: &[Type],
 ) -> Result<(), Error>
-    requires encodable { CanEncode resolve.now (E.scope enc.old) types.now }
-    requires agree { MapsAgree resolve.now (E.maps_of enc.old) (E.stands enc.old) }
-    ensures ready { OnOk result (AllReady (E.maps_of enc.new) types.now) }
-    ensures learns { OnOk result (LearnsOnly (MetFrom resolve.now (E.scope enc.old).own_interface (E.maps_of enc.old) types.now) (E.maps_of enc.old) (E.maps_of enc.new)) }
-    ensures leaves { Leaves resolve.now (E.scope enc.old) (E.scope enc.new) (E.slot_count enc.old) (E.slot_count enc.new) (E.stands enc.old) (E.stands enc.new) (E.maps_of enc.old) (E.maps_of enc.new) }
-    ensures counts { OnOk result (AddsTypes resolve.now (E.scope enc.old) (E.maps_of enc.old) (E.maps_of enc.new) (E.definitions enc.old) (E.definitions enc.new)) }
+    requires encodable { CanEncode resolve.now (E.view enc.old).scope types.now }
+    requires agree { Agrees resolve.now (E.view enc.old) }
+    ensures ready { OnOk result (AllReady (E.view enc.new).maps types.now) }
+    ensures learns { OnOk result (LearnsMet resolve.now types.now (E.view enc.old) (E.view enc.new)) }
+    ensures leaves { Leaves resolve.now (E.view enc.old) (E.view enc.new) }
+    ensures counts { OnOk result (CountsTypes resolve.now (E.view enc.old) (E.view enc.new)) }
     ensures refuses { IfErr result IsMemoryOrSize }
 {
     let order = order_of(alloc, enc, resolve, types)?;

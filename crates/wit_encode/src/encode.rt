@@ -11,17 +11,16 @@ ghost use Rattle.wit_model.specs.Text.{text_of};
 ghost use Rattle.wit_model.specs.Types.{type_tree, number_tree};
 ghost use Rattle.wit_model.specs.Tree.{Tree, flags_tree, enum_tree, future_tree, stream_tree};
 ghost use Rattle.wit_model.specs.Lookup.{type_at};
-ghost use Rattle.wit_encode.specs.Plan.{foreign_owner, MetFrom};
-ghost use Rattle.wit_encode.specs.Scope.{IsImportable};
 ghost use Rattle.wit_model.specs.Meant.{signature_of};
 ghost use Rattle.wit_model.specs.Parts.{function_types};
-ghost use Rattle.wit_encode.specs.Slots.{tree, function, StandsFor, StandsForOptional, NamedStands, Follows, Grows};
-ghost use Rattle.wit_encode.specs.Kinds.{parts_of, kind_of, kind_tree};
-ghost use Rattle.wit_encode.specs.Maps.{MapsAgree, IsReady, LearnsOnly};
-ghost use Rattle.wit_encode.specs.Fits.{CanEncode};
+ghost use Rattle.wit_encode.specs.Slots.{tree, function, StandsFor, StandsForOptional, NamedStands, Follows};
+ghost use Rattle.wit_encode.specs.Kinds.{parts_of, kind_of, kind_tree, named_tree};
+ghost use Rattle.wit_encode.specs.Maps.{IsReady, AllReady};
+ghost use Rattle.wit_encode.specs.Fits.{CanEncode, CanImport, is_foreign};
 ghost use Rattle.wit_encode.specs.Formed.{IsFormed};
-ghost use Rattle.wit_encode.specs.Counts.{one_type_more, type_more_if, AddsTypes, AddsFunction};
-ghost use Rattle.wit_encode.specs.Leaves.{Leaves};
+ghost use Rattle.wit_encode.specs.Counts.{one_type_more};
+ghost use Rattle.wit_encode.specs.View.{Agrees, Grows};
+ghost use Rattle.wit_encode.specs.Leaves.{Leaves, LearnsMet, CountsTypes, CountsOneMore, DefinesIf};
 
 use crate::define::{define_parts, define_shape};
 use crate::definition::{case_names, flag_names};
@@ -44,12 +43,13 @@ fn encode_shape<'a, E: ValtypeEncoder<'a>>(
     resolve: &'a Resolve,
     shape: Shape<'a, '_>,
 ) -> Result<ComponentValType, Error>
-    requires encodable { CanEncode resolve.now (E.scope enc.old) (parts_of (kind_of shape)) }
-    requires formed { IsFormed (E.scope enc.old) (kind_tree resolve.now (kind_of shape)) }
-    requires agree { MapsAgree resolve.now (E.maps_of enc.old) (E.stands enc.old) }
-    ensures ok { IfOk result (λ v. StandsFor (E.stands enc.new) v (kind_tree resolve.now (kind_of shape.entry))) }
-    ensures leaves { Leaves resolve.now (E.scope enc.old) (E.scope enc.new) (E.slot_count enc.old) (E.slot_count enc.new) (E.stands enc.old) (E.stands enc.new) (E.maps_of enc.old) (E.maps_of enc.new) }
-    ensures counts { OnOk result (AddsTypes resolve.now (E.scope enc.old) (E.maps_of enc.old) (E.maps_of enc.new) (one_type_more (E.definitions enc.old)) (E.definitions enc.new)) }
+    requires encodable { CanEncode resolve.now (E.view enc.old).scope (parts_of (kind_of shape)) }
+    requires formed { IsFormed (E.view enc.old).scope (kind_tree resolve.now (kind_of shape)) }
+    requires agree { Agrees resolve.now (E.view enc.old) }
+    ensures ok { IfOk result (λ v. StandsFor (E.view enc.new).stands v (kind_tree resolve.now (kind_of shape.entry))) }
+    ensures learns { OnOk result (LearnsMet resolve.now (parts_of (kind_of shape.entry)) (E.view enc.old) (E.view enc.new)) }
+    ensures leaves { Leaves resolve.now (E.view enc.old) (E.view enc.new) }
+    ensures counts { OnOk result (CountsOneMore resolve.now (E.view enc.old) (E.view enc.new)) }
     ensures refuses { IfErr result IsMemoryOrSize }
 {
     let parts = shape_parts(alloc, shape)?;
@@ -68,13 +68,13 @@ pub fn encode_valtype<'a, E: ValtypeEncoder<'a>>(
     resolve: &'a Resolve,
     ty: &Type,
 ) -> Result<ComponentValType, Error>
-    requires encodable { CanEncode resolve.now (E.scope enc.old) (ty.now ∷ []) }
-    requires agree { MapsAgree resolve.now (E.maps_of enc.old) (E.stands enc.old) }
-    ensures ok { IfOk result (λ v. StandsFor (E.stands enc.new) v (type_tree resolve.now ty.now)) }
-    ensures learns { OnOk result (LearnsOnly (MetFrom resolve.now (E.scope enc.old).own_interface (E.maps_of enc.old) (ty.now ∷ [])) (E.maps_of enc.old) (E.maps_of enc.new)) }
-    ensures leaves { Leaves resolve.now (E.scope enc.old) (E.scope enc.new) (E.slot_count enc.old) (E.slot_count enc.new) (E.stands enc.old) (E.stands enc.new) (E.maps_of enc.old) (E.maps_of enc.new) }
-    ensures counts { OnOk result (AddsTypes resolve.now (E.scope enc.old) (E.maps_of enc.old) (E.maps_of enc.new) (E.definitions enc.old) (E.definitions enc.new)) }
-    ensures knows { OnOk result (IsReady (E.maps_of enc.new) ty.now) }
+    requires encodable { CanEncode resolve.now (E.view enc.old).scope (ty.now ∷ []) }
+    requires agree { Agrees resolve.now (E.view enc.old) }
+    ensures ok { IfOk result (λ v. StandsFor (E.view enc.new).stands v (type_tree resolve.now ty.now)) }
+    ensures learns { OnOk result (LearnsMet resolve.now (ty.now ∷ []) (E.view enc.old) (E.view enc.new)) }
+    ensures leaves { Leaves resolve.now (E.view enc.old) (E.view enc.new) }
+    ensures counts { OnOk result (CountsTypes resolve.now (E.view enc.old) (E.view enc.new)) }
+    ensures knows { OnOk result (IsReady (E.view enc.new).maps ty.now) }
     ensures refuses { IfErr result IsMemoryOrSize }
 {
     define_parts(alloc, enc, resolve, &[*ty])?;
@@ -90,12 +90,13 @@ pub fn encode_optional_valtype<'a, E: ValtypeEncoder<'a>>(
     resolve: &'a Resolve,
     ty: Option<&Type>,
 ) -> Result<Option<ComponentValType>, Error>
-    requires encodable { CanEncode resolve.now (E.scope enc.old) (option_to_list (option_copied ty)) }
-    requires agree { MapsAgree resolve.now (E.maps_of enc.old) (E.stands enc.old) }
-    ensures ok { IfOk result (λ v. StandsForOptional (E.stands enc.new) v (option_map (type_tree resolve.now) (option_copied ty.entry))) }
-    ensures learns { OnOk result (LearnsOnly (MetFrom resolve.now (E.scope enc.old).own_interface (E.maps_of enc.old) (option_to_list (option_copied ty.entry))) (E.maps_of enc.old) (E.maps_of enc.new)) }
-    ensures leaves { Leaves resolve.now (E.scope enc.old) (E.scope enc.new) (E.slot_count enc.old) (E.slot_count enc.new) (E.stands enc.old) (E.stands enc.new) (E.maps_of enc.old) (E.maps_of enc.new) }
-    ensures counts { OnOk result (AddsTypes resolve.now (E.scope enc.old) (E.maps_of enc.old) (E.maps_of enc.new) (E.definitions enc.old) (E.definitions enc.new)) }
+    requires encodable { CanEncode resolve.now (E.view enc.old).scope (option_to_list (option_copied ty)) }
+    requires agree { Agrees resolve.now (E.view enc.old) }
+    ensures ok { IfOk result (λ v. StandsForOptional (E.view enc.new).stands v (option_map (type_tree resolve.now) (option_copied ty.entry))) }
+    ensures learns { OnOk result (LearnsMet resolve.now (option_to_list (option_copied ty.entry)) (E.view enc.old) (E.view enc.new)) }
+    ensures leaves { Leaves resolve.now (E.view enc.old) (E.view enc.new) }
+    ensures counts { OnOk result (CountsTypes resolve.now (E.view enc.old) (E.view enc.new)) }
+    ensures knows { OnOk result (AllReady (E.view enc.new).maps (option_to_list (option_copied ty.entry))) }
     ensures refuses { IfErr result IsMemoryOrSize }
 {
     match ty {
@@ -116,12 +117,13 @@ pub fn encode_params<'a, E: ValtypeEncoder<'a>>(
     resolve: &'a Resolve,
     params: &'a [Param],
 ) -> Result<Vec<(&'a str, ComponentValType)>, Error>
-    requires encodable { CanEncode resolve.now (E.scope enc.old) (map (λ p. p.ty) params.now) }
-    requires agree { MapsAgree resolve.now (E.maps_of enc.old) (E.stands enc.old) }
-    ensures ok { IfOk result (λ v. AllZip (NamedStands (E.stands enc.new)) v.items (map (λ p. (text_of p.name, type_tree resolve.now p.ty)) params.now)) }
-    ensures learns { OnOk result (LearnsOnly (MetFrom resolve.now (E.scope enc.old).own_interface (E.maps_of enc.old) (map (λ p. p.ty) params.now)) (E.maps_of enc.old) (E.maps_of enc.new)) }
-    ensures leaves { Leaves resolve.now (E.scope enc.old) (E.scope enc.new) (E.slot_count enc.old) (E.slot_count enc.new) (E.stands enc.old) (E.stands enc.new) (E.maps_of enc.old) (E.maps_of enc.new) }
-    ensures counts { OnOk result (AddsTypes resolve.now (E.scope enc.old) (E.maps_of enc.old) (E.maps_of enc.new) (E.definitions enc.old) (E.definitions enc.new)) }
+    requires encodable { CanEncode resolve.now (E.view enc.old).scope (map (λ p. p.ty) params.now) }
+    requires agree { Agrees resolve.now (E.view enc.old) }
+    ensures ok { IfOk result (λ v. AllZip (NamedStands (E.view enc.new).stands) v.items (map (named_tree resolve.now) params.now)) }
+    ensures learns { OnOk result (LearnsMet resolve.now (map (λ p. p.ty) params.now) (E.view enc.old) (E.view enc.new)) }
+    ensures leaves { Leaves resolve.now (E.view enc.old) (E.view enc.new) }
+    ensures counts { OnOk result (CountsTypes resolve.now (E.view enc.old) (E.view enc.new)) }
+    ensures knows { OnOk result (AllReady (E.view enc.new).maps (map (λ p. p.ty) params.now)) }
     ensures refuses { IfErr result IsMemoryOrSize }
 {
     let types = param_types(alloc, params)?;
@@ -139,12 +141,13 @@ pub fn encode_record<'a, E: ValtypeEncoder<'a>>(
     resolve: &'a Resolve,
     ty: &'a Record,
 ) -> Result<ComponentValType, Error>
-    requires encodable { CanEncode resolve.now (E.scope enc.old) (parts_of (TypeDefKind.Record ty.now)) }
-    requires formed { IsFormed (E.scope enc.old) (kind_tree resolve.now (TypeDefKind.Record ty.now)) }
-    requires agree { MapsAgree resolve.now (E.maps_of enc.old) (E.stands enc.old) }
-    ensures ok { IfOk result (λ v. StandsFor (E.stands enc.new) v (kind_tree resolve.now (TypeDefKind.Record ty.now))) }
-    ensures leaves { Leaves resolve.now (E.scope enc.old) (E.scope enc.new) (E.slot_count enc.old) (E.slot_count enc.new) (E.stands enc.old) (E.stands enc.new) (E.maps_of enc.old) (E.maps_of enc.new) }
-    ensures counts { OnOk result (AddsTypes resolve.now (E.scope enc.old) (E.maps_of enc.old) (E.maps_of enc.new) (one_type_more (E.definitions enc.old)) (E.definitions enc.new)) }
+    requires encodable { CanEncode resolve.now (E.view enc.old).scope (parts_of (TypeDefKind.Record ty.now)) }
+    requires formed { IsFormed (E.view enc.old).scope (kind_tree resolve.now (TypeDefKind.Record ty.now)) }
+    requires agree { Agrees resolve.now (E.view enc.old) }
+    ensures ok { IfOk result (λ v. StandsFor (E.view enc.new).stands v (kind_tree resolve.now (TypeDefKind.Record ty.now))) }
+    ensures learns { OnOk result (LearnsMet resolve.now (parts_of (TypeDefKind.Record ty.now)) (E.view enc.old) (E.view enc.new)) }
+    ensures leaves { Leaves resolve.now (E.view enc.old) (E.view enc.new) }
+    ensures counts { OnOk result (CountsOneMore resolve.now (E.view enc.old) (E.view enc.new)) }
     ensures refuses { IfErr result IsMemoryOrSize }
 {
     encode_shape(alloc, enc, resolve, Shape::Record(ty))
@@ -159,12 +162,13 @@ pub fn encode_tuple<'a, E: ValtypeEncoder<'a>>(
     resolve: &'a Resolve,
     ty: &Tuple,
 ) -> Result<ComponentValType, Error>
-    requires encodable { CanEncode resolve.now (E.scope enc.old) (parts_of (TypeDefKind.Tuple ty.now)) }
-    requires formed { IsFormed (E.scope enc.old) (kind_tree resolve.now (TypeDefKind.Tuple ty.now)) }
-    requires agree { MapsAgree resolve.now (E.maps_of enc.old) (E.stands enc.old) }
-    ensures ok { IfOk result (λ v. StandsFor (E.stands enc.new) v (kind_tree resolve.now (TypeDefKind.Tuple ty.now))) }
-    ensures leaves { Leaves resolve.now (E.scope enc.old) (E.scope enc.new) (E.slot_count enc.old) (E.slot_count enc.new) (E.stands enc.old) (E.stands enc.new) (E.maps_of enc.old) (E.maps_of enc.new) }
-    ensures counts { OnOk result (AddsTypes resolve.now (E.scope enc.old) (E.maps_of enc.old) (E.maps_of enc.new) (one_type_more (E.definitions enc.old)) (E.definitions enc.new)) }
+    requires encodable { CanEncode resolve.now (E.view enc.old).scope (parts_of (TypeDefKind.Tuple ty.now)) }
+    requires formed { IsFormed (E.view enc.old).scope (kind_tree resolve.now (TypeDefKind.Tuple ty.now)) }
+    requires agree { Agrees resolve.now (E.view enc.old) }
+    ensures ok { IfOk result (λ v. StandsFor (E.view enc.new).stands v (kind_tree resolve.now (TypeDefKind.Tuple ty.now))) }
+    ensures learns { OnOk result (LearnsMet resolve.now (parts_of (TypeDefKind.Tuple ty.now)) (E.view enc.old) (E.view enc.new)) }
+    ensures leaves { Leaves resolve.now (E.view enc.old) (E.view enc.new) }
+    ensures counts { OnOk result (CountsOneMore resolve.now (E.view enc.old) (E.view enc.new)) }
     ensures refuses { IfErr result IsMemoryOrSize }
 {
     encode_shape(alloc, enc, resolve, Shape::Tuple(ty))
@@ -179,12 +183,13 @@ pub fn encode_variant<'a, E: ValtypeEncoder<'a>>(
     resolve: &'a Resolve,
     ty: &'a Variant,
 ) -> Result<ComponentValType, Error>
-    requires encodable { CanEncode resolve.now (E.scope enc.old) (parts_of (TypeDefKind.Variant ty.now)) }
-    requires formed { IsFormed (E.scope enc.old) (kind_tree resolve.now (TypeDefKind.Variant ty.now)) }
-    requires agree { MapsAgree resolve.now (E.maps_of enc.old) (E.stands enc.old) }
-    ensures ok { IfOk result (λ v. StandsFor (E.stands enc.new) v (kind_tree resolve.now (TypeDefKind.Variant ty.now))) }
-    ensures leaves { Leaves resolve.now (E.scope enc.old) (E.scope enc.new) (E.slot_count enc.old) (E.slot_count enc.new) (E.stands enc.old) (E.stands enc.new) (E.maps_of enc.old) (E.maps_of enc.new) }
-    ensures counts { OnOk result (AddsTypes resolve.now (E.scope enc.old) (E.maps_of enc.old) (E.maps_of enc.new) (one_type_more (E.definitions enc.old)) (E.definitions enc.new)) }
+    requires encodable { CanEncode resolve.now (E.view enc.old).scope (parts_of (TypeDefKind.Variant ty.now)) }
+    requires formed { IsFormed (E.view enc.old).scope (kind_tree resolve.now (TypeDefKind.Variant ty.now)) }
+    requires agree { Agrees resolve.now (E.view enc.old) }
+    ensures ok { IfOk result (λ v. StandsFor (E.view enc.new).stands v (kind_tree resolve.now (TypeDefKind.Variant ty.now))) }
+    ensures learns { OnOk result (LearnsMet resolve.now (parts_of (TypeDefKind.Variant ty.now)) (E.view enc.old) (E.view enc.new)) }
+    ensures leaves { Leaves resolve.now (E.view enc.old) (E.view enc.new) }
+    ensures counts { OnOk result (CountsOneMore resolve.now (E.view enc.old) (E.view enc.new)) }
     ensures refuses { IfErr result IsMemoryOrSize }
 {
     encode_shape(alloc, enc, resolve, Shape::Variant(ty))
@@ -199,12 +204,13 @@ pub fn encode_result<'a, E: ValtypeEncoder<'a>>(
     resolve: &'a Resolve,
     ty: &Result_,
 ) -> Result<ComponentValType, Error>
-    requires encodable { CanEncode resolve.now (E.scope enc.old) (parts_of (TypeDefKind.Result ty.now)) }
-    requires formed { IsFormed (E.scope enc.old) (kind_tree resolve.now (TypeDefKind.Result ty.now)) }
-    requires agree { MapsAgree resolve.now (E.maps_of enc.old) (E.stands enc.old) }
-    ensures ok { IfOk result (λ v. StandsFor (E.stands enc.new) v (kind_tree resolve.now (TypeDefKind.Result ty.now))) }
-    ensures leaves { Leaves resolve.now (E.scope enc.old) (E.scope enc.new) (E.slot_count enc.old) (E.slot_count enc.new) (E.stands enc.old) (E.stands enc.new) (E.maps_of enc.old) (E.maps_of enc.new) }
-    ensures counts { OnOk result (AddsTypes resolve.now (E.scope enc.old) (E.maps_of enc.old) (E.maps_of enc.new) (one_type_more (E.definitions enc.old)) (E.definitions enc.new)) }
+    requires encodable { CanEncode resolve.now (E.view enc.old).scope (parts_of (TypeDefKind.Result ty.now)) }
+    requires formed { IsFormed (E.view enc.old).scope (kind_tree resolve.now (TypeDefKind.Result ty.now)) }
+    requires agree { Agrees resolve.now (E.view enc.old) }
+    ensures ok { IfOk result (λ v. StandsFor (E.view enc.new).stands v (kind_tree resolve.now (TypeDefKind.Result ty.now))) }
+    ensures learns { OnOk result (LearnsMet resolve.now (parts_of (TypeDefKind.Result ty.now)) (E.view enc.old) (E.view enc.new)) }
+    ensures leaves { Leaves resolve.now (E.view enc.old) (E.view enc.new) }
+    ensures counts { OnOk result (CountsOneMore resolve.now (E.view enc.old) (E.view enc.new)) }
     ensures refuses { IfErr result IsMemoryOrSize }
 {
     encode_shape(alloc, enc, resolve, Shape::Result(ty))
@@ -219,12 +225,13 @@ pub fn encode_option<'a, E: ValtypeEncoder<'a>>(
     resolve: &'a Resolve,
     payload: &Type,
 ) -> Result<ComponentValType, Error>
-    requires encodable { CanEncode resolve.now (E.scope enc.old) (parts_of (TypeDefKind.Option payload.now)) }
-    requires formed { IsFormed (E.scope enc.old) (kind_tree resolve.now (TypeDefKind.Option payload.now)) }
-    requires agree { MapsAgree resolve.now (E.maps_of enc.old) (E.stands enc.old) }
-    ensures ok { IfOk result (λ v. StandsFor (E.stands enc.new) v (kind_tree resolve.now (TypeDefKind.Option payload.now))) }
-    ensures leaves { Leaves resolve.now (E.scope enc.old) (E.scope enc.new) (E.slot_count enc.old) (E.slot_count enc.new) (E.stands enc.old) (E.stands enc.new) (E.maps_of enc.old) (E.maps_of enc.new) }
-    ensures counts { OnOk result (AddsTypes resolve.now (E.scope enc.old) (E.maps_of enc.old) (E.maps_of enc.new) (one_type_more (E.definitions enc.old)) (E.definitions enc.new)) }
+    requires encodable { CanEncode resolve.now (E.view enc.old).scope (parts_of (TypeDefKind.Option payload.now)) }
+    requires formed { IsFormed (E.view enc.old).scope (kind_tree resolve.now (TypeDefKind.Option payload.now)) }
+    requires agree { Agrees resolve.now (E.view enc.old) }
+    ensures ok { IfOk result (λ v. StandsFor (E.view enc.new).stands v (kind_tree resolve.now (TypeDefKind.Option payload.now))) }
+    ensures learns { OnOk result (LearnsMet resolve.now (parts_of (TypeDefKind.Option payload.now)) (E.view enc.old) (E.view enc.new)) }
+    ensures leaves { Leaves resolve.now (E.view enc.old) (E.view enc.new) }
+    ensures counts { OnOk result (CountsOneMore resolve.now (E.view enc.old) (E.view enc.new)) }
     ensures refuses { IfErr result IsMemoryOrSize }
 {
     encode_shape(alloc, enc, resolve, Shape::Option(*payload))
@@ -239,12 +246,13 @@ pub fn encode_future<'a, E: ValtypeEncoder<'a>>(
     resolve: &'a Resolve,
     payload: &Option<Type>,
 ) -> Result<ComponentValType, Error>
-    requires encodable { CanEncode resolve.now (E.scope enc.old) (parts_of (TypeDefKind.Future payload.now)) }
-    requires formed { IsFormed (E.scope enc.old) (kind_tree resolve.now (TypeDefKind.Future payload.now)) }
-    requires agree { MapsAgree resolve.now (E.maps_of enc.old) (E.stands enc.old) }
-    ensures ok { IfOk result (λ v. StandsFor (E.stands enc.new) v (kind_tree resolve.now (TypeDefKind.Future payload.now))) }
-    ensures leaves { Leaves resolve.now (E.scope enc.old) (E.scope enc.new) (E.slot_count enc.old) (E.slot_count enc.new) (E.stands enc.old) (E.stands enc.new) (E.maps_of enc.old) (E.maps_of enc.new) }
-    ensures counts { OnOk result (AddsTypes resolve.now (E.scope enc.old) (E.maps_of enc.old) (E.maps_of enc.new) (one_type_more (E.definitions enc.old)) (E.definitions enc.new)) }
+    requires encodable { CanEncode resolve.now (E.view enc.old).scope (parts_of (TypeDefKind.Future payload.now)) }
+    requires formed { IsFormed (E.view enc.old).scope (kind_tree resolve.now (TypeDefKind.Future payload.now)) }
+    requires agree { Agrees resolve.now (E.view enc.old) }
+    ensures ok { IfOk result (λ v. StandsFor (E.view enc.new).stands v (kind_tree resolve.now (TypeDefKind.Future payload.now))) }
+    ensures learns { OnOk result (LearnsMet resolve.now (parts_of (TypeDefKind.Future payload.now)) (E.view enc.old) (E.view enc.new)) }
+    ensures leaves { Leaves resolve.now (E.view enc.old) (E.view enc.new) }
+    ensures counts { OnOk result (CountsOneMore resolve.now (E.view enc.old) (E.view enc.new)) }
     ensures refuses { IfErr result IsMemoryOrSize }
 {
     encode_shape(alloc, enc, resolve, Shape::Future(*payload))
@@ -259,12 +267,13 @@ pub fn encode_stream<'a, E: ValtypeEncoder<'a>>(
     resolve: &'a Resolve,
     payload: &Option<Type>,
 ) -> Result<ComponentValType, Error>
-    requires encodable { CanEncode resolve.now (E.scope enc.old) (parts_of (TypeDefKind.Stream payload.now)) }
-    requires formed { IsFormed (E.scope enc.old) (kind_tree resolve.now (TypeDefKind.Stream payload.now)) }
-    requires agree { MapsAgree resolve.now (E.maps_of enc.old) (E.stands enc.old) }
-    ensures ok { IfOk result (λ v. StandsFor (E.stands enc.new) v (kind_tree resolve.now (TypeDefKind.Stream payload.now))) }
-    ensures leaves { Leaves resolve.now (E.scope enc.old) (E.scope enc.new) (E.slot_count enc.old) (E.slot_count enc.new) (E.stands enc.old) (E.stands enc.new) (E.maps_of enc.old) (E.maps_of enc.new) }
-    ensures counts { OnOk result (AddsTypes resolve.now (E.scope enc.old) (E.maps_of enc.old) (E.maps_of enc.new) (one_type_more (E.definitions enc.old)) (E.definitions enc.new)) }
+    requires encodable { CanEncode resolve.now (E.view enc.old).scope (parts_of (TypeDefKind.Stream payload.now)) }
+    requires formed { IsFormed (E.view enc.old).scope (kind_tree resolve.now (TypeDefKind.Stream payload.now)) }
+    requires agree { Agrees resolve.now (E.view enc.old) }
+    ensures ok { IfOk result (λ v. StandsFor (E.view enc.new).stands v (kind_tree resolve.now (TypeDefKind.Stream payload.now))) }
+    ensures learns { OnOk result (LearnsMet resolve.now (parts_of (TypeDefKind.Stream payload.now)) (E.view enc.old) (E.view enc.new)) }
+    ensures leaves { Leaves resolve.now (E.view enc.old) (E.view enc.new) }
+    ensures counts { OnOk result (CountsOneMore resolve.now (E.view enc.old) (E.view enc.new)) }
     ensures refuses { IfErr result IsMemoryOrSize }
 {
     encode_shape(alloc, enc, resolve, Shape::Stream(*payload))
@@ -275,12 +284,12 @@ fn define<'a, E: ValtypeEncoder<'a>>(
     enc: &mut E,
     def: ComponentDefinedType<'a>,
 ) -> Result<ComponentValType, Error>
-    requires { (t : Tree) × Follows (E.stands enc.old) def t × IsFormed (E.scope enc.old) t }
-    ensures ok { IfOk result (λ v. (t : Tree) → Follows (E.stands enc.old) def.entry t → StandsFor (E.stands enc.new) v t) }
-    ensures grows { Grows (E.stands enc.old) (E.stands enc.new) (E.slot_count enc.old) (E.slot_count enc.new) }
-    ensures scope_stays { E.scope enc.new ≡ E.scope enc.old }
-    ensures maps_stay { E.maps_of enc.new ≡ E.maps_of enc.old }
-    ensures counts { OnOk result (E.definitions enc.new ≡ one_type_more (E.definitions enc.old)) }
+    requires { (t : Tree) × Follows (E.view enc.old).stands def t × IsFormed (E.view enc.old).scope t }
+    ensures ok { IfOk result (λ v. (t : Tree) → Follows (E.view enc.old).stands def.entry t → StandsFor (E.view enc.new).stands v t) }
+    ensures grows { Grows (E.view enc.old) (E.view enc.new) }
+    ensures scope_stays { (E.view enc.new).scope ≡ (E.view enc.old).scope }
+    ensures maps_stay { (E.view enc.new).maps ≡ (E.view enc.old).maps }
+    ensures counts { OnOk result ((E.view enc.new).definitions ≡ one_type_more (E.view enc.old).definitions) }
     ensures refuses { IfErr result IsMemoryOrSize }
 {
     let index = enc.defined_type(def)?;
@@ -295,12 +304,12 @@ pub fn encode_flags<'a, E: ValtypeEncoder<'a>>(
     enc: &mut E,
     ty: &'a Flags,
 ) -> Result<ComponentValType, Error>
-    requires formed { IsFormed (E.scope enc.old) (flags_tree (map (λ x. text_of x.name) ty.now.flags.items)) }
-    ensures ok { IfOk result (λ v. StandsFor (E.stands enc.new) v (flags_tree (map (λ x. text_of x.name) ty.now.flags.items))) }
-    ensures grows { Grows (E.stands enc.old) (E.stands enc.new) (E.slot_count enc.old) (E.slot_count enc.new) }
-    ensures scope_stays { E.scope enc.new ≡ E.scope enc.old }
-    ensures maps_stay { E.maps_of enc.new ≡ E.maps_of enc.old }
-    ensures counts { OnOk result (E.definitions enc.new ≡ one_type_more (E.definitions enc.old)) }
+    requires formed { IsFormed (E.view enc.old).scope (flags_tree (map (λ x. text_of x.name) ty.now.flags.items)) }
+    ensures ok { IfOk result (λ v. StandsFor (E.view enc.new).stands v (flags_tree (map (λ x. text_of x.name) ty.now.flags.items))) }
+    ensures grows { Grows (E.view enc.old) (E.view enc.new) }
+    ensures scope_stays { (E.view enc.new).scope ≡ (E.view enc.old).scope }
+    ensures maps_stay { (E.view enc.new).maps ≡ (E.view enc.old).maps }
+    ensures counts { OnOk result ((E.view enc.new).definitions ≡ one_type_more (E.view enc.old).definitions) }
     ensures refuses { IfErr result IsMemoryOrSize }
 {
     let names = flag_names(alloc, &ty.flags)?;
@@ -315,12 +324,12 @@ pub fn encode_enum<'a, E: ValtypeEncoder<'a>>(
     enc: &mut E,
     ty: &'a Enum,
 ) -> Result<ComponentValType, Error>
-    requires formed { IsFormed (E.scope enc.old) (enum_tree (map (λ x. text_of x.name) ty.now.cases.items)) }
-    ensures ok { IfOk result (λ v. StandsFor (E.stands enc.new) v (enum_tree (map (λ x. text_of x.name) ty.now.cases.items))) }
-    ensures grows { Grows (E.stands enc.old) (E.stands enc.new) (E.slot_count enc.old) (E.slot_count enc.new) }
-    ensures scope_stays { E.scope enc.new ≡ E.scope enc.old }
-    ensures maps_stay { E.maps_of enc.new ≡ E.maps_of enc.old }
-    ensures counts { OnOk result (E.definitions enc.new ≡ one_type_more (E.definitions enc.old)) }
+    requires formed { IsFormed (E.view enc.old).scope (enum_tree (map (λ x. text_of x.name) ty.now.cases.items)) }
+    ensures ok { IfOk result (λ v. StandsFor (E.view enc.new).stands v (enum_tree (map (λ x. text_of x.name) ty.now.cases.items))) }
+    ensures grows { Grows (E.view enc.old) (E.view enc.new) }
+    ensures scope_stays { (E.view enc.new).scope ≡ (E.view enc.old).scope }
+    ensures maps_stay { (E.view enc.new).maps ≡ (E.view enc.old).maps }
+    ensures counts { OnOk result ((E.view enc.new).definitions ≡ one_type_more (E.view enc.old).definitions) }
     ensures refuses { IfErr result IsMemoryOrSize }
 {
     let names = case_names(alloc, &ty.cases)?;
@@ -334,14 +343,14 @@ pub fn encode_unit_future<'a, E: ValtypeEncoder<'a>>(
     _alloc: Global,
     enc: &mut E,
 ) -> Result<u32, Error>
-    requires sound { (E.scope enc.old).is_sound ≡ true }
-    requires agree { MapsAgree (E.scope enc.old).packages (E.maps_of enc.old) (E.stands enc.old) }
-    ensures ok { IfOk result (λ i. E.stands enc.new i (tree (future_tree None))) }
-    ensures cached { IfOk result (λ i. (E.maps_of enc.new).unit_future ≡ Some i) }
-    ensures first { IfSome (E.maps_of enc.old).unit_future (λ i. result ≡ Ok i) }
-    ensures rest { E.maps_of enc.new ≡ record (E.maps_of enc.old) { unit_future = (E.maps_of enc.new).unit_future } }
-    ensures leaves { Leaves (E.scope enc.old).packages (E.scope enc.old) (E.scope enc.new) (E.slot_count enc.old) (E.slot_count enc.new) (E.stands enc.old) (E.stands enc.new) (E.maps_of enc.old) (E.maps_of enc.new) }
-    ensures counts { OnOk result (E.definitions enc.new ≡ type_more_if (is_none (E.maps_of enc.old).unit_future) (E.definitions enc.old)) }
+    requires sound { (E.view enc.old).scope.is_sound ≡ true }
+    requires agree { Agrees (E.view enc.old).scope.packages (E.view enc.old) }
+    ensures ok { IfOk result (λ i. (E.view enc.new).stands i (tree (future_tree None))) }
+    ensures cached { IfOk result (λ i. (E.view enc.new).maps.unit_future ≡ Some i) }
+    ensures first { IfSome (E.view enc.old).maps.unit_future (λ i. result ≡ Ok i) }
+    ensures rest { (E.view enc.new).maps ≡ record (E.view enc.old).maps { unit_future = (E.view enc.new).maps.unit_future } }
+    ensures leaves { Leaves (E.view enc.old).scope.packages (E.view enc.old) (E.view enc.new) }
+    ensures counts { OnOk result (DefinesIf (is_none (E.view enc.old).maps.unit_future) (E.view enc.old) (E.view enc.new)) }
     ensures refuses { IfErr result IsMemoryOrSize }
 {
     if let Some(index) = unit_future(enc) {
@@ -352,14 +361,14 @@ pub fn encode_unit_future<'a, E: ValtypeEncoder<'a>>(
 
 /// Defines the future without an element.
 fn define_unit_future<'a, E: ValtypeEncoder<'a>>(enc: &mut E) -> Result<u32, Error>
-    requires sound { (E.scope enc.old).is_sound ≡ true }
-    requires agree { MapsAgree (E.scope enc.old).packages (E.maps_of enc.old) (E.stands enc.old) }
-    requires fresh { (E.maps_of enc.old).unit_future ≡ None }
-    ensures ok { IfOk result (λ i. E.stands enc.new i (tree (future_tree None))) }
-    ensures cached { IfOk result (λ i. (E.maps_of enc.new).unit_future ≡ Some i) }
-    ensures rest { E.maps_of enc.new ≡ record (E.maps_of enc.old) { unit_future = (E.maps_of enc.new).unit_future } }
-    ensures leaves { Leaves (E.scope enc.old).packages (E.scope enc.old) (E.scope enc.new) (E.slot_count enc.old) (E.slot_count enc.new) (E.stands enc.old) (E.stands enc.new) (E.maps_of enc.old) (E.maps_of enc.new) }
-    ensures counts { OnOk result (E.definitions enc.new ≡ one_type_more (E.definitions enc.old)) }
+    requires sound { (E.view enc.old).scope.is_sound ≡ true }
+    requires agree { Agrees (E.view enc.old).scope.packages (E.view enc.old) }
+    requires fresh { (E.view enc.old).maps.unit_future ≡ None }
+    ensures ok { IfOk result (λ i. (E.view enc.new).stands i (tree (future_tree None))) }
+    ensures cached { IfOk result (λ i. (E.view enc.new).maps.unit_future ≡ Some i) }
+    ensures rest { (E.view enc.new).maps ≡ record (E.view enc.old).maps { unit_future = (E.view enc.new).maps.unit_future } }
+    ensures leaves { Leaves (E.view enc.old).scope.packages (E.view enc.old) (E.view enc.new) }
+    ensures counts { OnOk result ((E.view enc.new).definitions ≡ one_type_more (E.view enc.old).definitions) }
     ensures refuses { IfErr result IsMemoryOrSize }
 {
     let index = enc.defined_type(ComponentDefinedType::Future(None))?;
@@ -374,14 +383,14 @@ pub fn encode_unit_stream<'a, E: ValtypeEncoder<'a>>(
     _alloc: Global,
     enc: &mut E,
 ) -> Result<u32, Error>
-    requires sound { (E.scope enc.old).is_sound ≡ true }
-    requires agree { MapsAgree (E.scope enc.old).packages (E.maps_of enc.old) (E.stands enc.old) }
-    ensures ok { IfOk result (λ i. E.stands enc.new i (tree (stream_tree None))) }
-    ensures cached { IfOk result (λ i. (E.maps_of enc.new).unit_stream ≡ Some i) }
-    ensures first { IfSome (E.maps_of enc.old).unit_stream (λ i. result ≡ Ok i) }
-    ensures rest { E.maps_of enc.new ≡ record (E.maps_of enc.old) { unit_stream = (E.maps_of enc.new).unit_stream } }
-    ensures leaves { Leaves (E.scope enc.old).packages (E.scope enc.old) (E.scope enc.new) (E.slot_count enc.old) (E.slot_count enc.new) (E.stands enc.old) (E.stands enc.new) (E.maps_of enc.old) (E.maps_of enc.new) }
-    ensures counts { OnOk result (E.definitions enc.new ≡ type_more_if (is_none (E.maps_of enc.old).unit_stream) (E.definitions enc.old)) }
+    requires sound { (E.view enc.old).scope.is_sound ≡ true }
+    requires agree { Agrees (E.view enc.old).scope.packages (E.view enc.old) }
+    ensures ok { IfOk result (λ i. (E.view enc.new).stands i (tree (stream_tree None))) }
+    ensures cached { IfOk result (λ i. (E.view enc.new).maps.unit_stream ≡ Some i) }
+    ensures first { IfSome (E.view enc.old).maps.unit_stream (λ i. result ≡ Ok i) }
+    ensures rest { (E.view enc.new).maps ≡ record (E.view enc.old).maps { unit_stream = (E.view enc.new).maps.unit_stream } }
+    ensures leaves { Leaves (E.view enc.old).scope.packages (E.view enc.old) (E.view enc.new) }
+    ensures counts { OnOk result (DefinesIf (is_none (E.view enc.old).maps.unit_stream) (E.view enc.old) (E.view enc.new)) }
     ensures refuses { IfErr result IsMemoryOrSize }
 {
     if let Some(index) = unit_stream(enc) {
@@ -392,14 +401,14 @@ pub fn encode_unit_stream<'a, E: ValtypeEncoder<'a>>(
 
 /// Defines the stream without an element.
 fn define_unit_stream<'a, E: ValtypeEncoder<'a>>(enc: &mut E) -> Result<u32, Error>
-    requires sound { (E.scope enc.old).is_sound ≡ true }
-    requires agree { MapsAgree (E.scope enc.old).packages (E.maps_of enc.old) (E.stands enc.old) }
-    requires fresh { (E.maps_of enc.old).unit_stream ≡ None }
-    ensures ok { IfOk result (λ i. E.stands enc.new i (tree (stream_tree None))) }
-    ensures cached { IfOk result (λ i. (E.maps_of enc.new).unit_stream ≡ Some i) }
-    ensures rest { E.maps_of enc.new ≡ record (E.maps_of enc.old) { unit_stream = (E.maps_of enc.new).unit_stream } }
-    ensures leaves { Leaves (E.scope enc.old).packages (E.scope enc.old) (E.scope enc.new) (E.slot_count enc.old) (E.slot_count enc.new) (E.stands enc.old) (E.stands enc.new) (E.maps_of enc.old) (E.maps_of enc.new) }
-    ensures counts { OnOk result (E.definitions enc.new ≡ one_type_more (E.definitions enc.old)) }
+    requires sound { (E.view enc.old).scope.is_sound ≡ true }
+    requires agree { Agrees (E.view enc.old).scope.packages (E.view enc.old) }
+    requires fresh { (E.view enc.old).maps.unit_stream ≡ None }
+    ensures ok { IfOk result (λ i. (E.view enc.new).stands i (tree (stream_tree None))) }
+    ensures cached { IfOk result (λ i. (E.view enc.new).maps.unit_stream ≡ Some i) }
+    ensures rest { (E.view enc.new).maps ≡ record (E.view enc.old).maps { unit_stream = (E.view enc.new).maps.unit_stream } }
+    ensures leaves { Leaves (E.view enc.old).scope.packages (E.view enc.old) (E.view enc.new) }
+    ensures counts { OnOk result ((E.view enc.new).definitions ≡ one_type_more (E.view enc.old).definitions) }
     ensures refuses { IfErr result IsMemoryOrSize }
 {
     let index = enc.defined_type(ComponentDefinedType::Stream(None))?;
@@ -416,15 +425,16 @@ pub fn maybe_import_type<'a, E: ValtypeEncoder<'a>>(
     resolve: &'a Resolve,
     id: TypeId,
 ) -> Result<Option<u32>, Error>
-    requires packages { (E.scope enc.old).packages ≡ resolve.now }
+    requires packages { (E.view enc.old).scope.packages ≡ resolve.now }
     requires in_range { id.0 < length resolve.now.types.items }
-    requires importable { (def : _) (i : _) → type_at resolve.now id.0 ≡ Some def → foreign_owner (E.scope enc.old).own_interface def.owner ≡ Some i → IsImportable (E.scope enc.old) i.0 id.0 }
-    ensures ok { IfOk result (λ o. IfSome o (λ i. E.stands enc.new i (tree (number_tree resolve.now id.0)))) }
-    ensures foreign { (def : _) → type_at resolve.now id.0 ≡ Some def → IfOk result (λ o. is_some o ≡ is_some (foreign_owner (E.scope enc.old).own_interface def.owner)) }
-    ensures grows { Grows (E.stands enc.old) (E.stands enc.new) (E.slot_count enc.old) (E.slot_count enc.new) }
-    ensures scope_stays { E.scope enc.new ≡ E.scope enc.old }
-    ensures maps_stay { E.maps_of enc.new ≡ E.maps_of enc.old }
-    ensures counts { OnOk result (E.definitions enc.new ≡ E.definitions enc.old) }
+    requires importable { CanImport resolve.now (E.view enc.old).scope id.0 }
+    ensures ok { IfOk result (λ o. IfSome o (λ i. (E.view enc.new).stands i (tree (number_tree resolve.now id.0)))) }
+    ensures none { result ≡ Ok None → enc.new ≡ enc.old }
+    ensures foreign { (def : _) → type_at resolve.now id.0 ≡ Some def → IfOk result (λ o. is_some o ≡ is_foreign (E.view enc.old).scope def) }
+    ensures grows { Grows (E.view enc.old) (E.view enc.new) }
+    ensures scope_stays { (E.view enc.new).scope ≡ (E.view enc.old).scope }
+    ensures maps_stay { (E.view enc.new).maps ≡ (E.view enc.old).maps }
+    ensures counts { OnOk result ((E.view enc.new).definitions ≡ (E.view enc.old).definitions) }
     ensures refuses { IfErr result IsMemoryOrSize }
 {
     let def = &resolve.types[id.0 as usize];

@@ -6,12 +6,11 @@ ghost use Rattle.wit_model.specs.Meant.{signature_of};
 ghost use Rattle.wit_model.specs.Parts.{function_types};
 ghost use Rattle.wit_encode.specs.Slots.{function, FollowsFunction};
 ghost use Rattle.wit_encode.specs.Key.{IsKeyOf};
-ghost use Rattle.wit_encode.specs.Maps.{MapsAgree, LacksKey, LearnsOnly};
-ghost use Rattle.wit_encode.specs.Plan.{MetFrom};
+ghost use Rattle.wit_encode.specs.Maps.{AllReady, LacksKey};
 ghost use Rattle.wit_encode.specs.Fits.{CanEncode};
 ghost use Rattle.wit_encode.specs.Formed.{IsFormedSignature};
-ghost use Rattle.wit_encode.specs.Counts.{AddsTypes, AddsFunction};
-ghost use Rattle.wit_encode.specs.Leaves.{Leaves};
+ghost use Rattle.wit_encode.specs.View.{Agrees};
+ghost use Rattle.wit_encode.specs.Leaves.{Leaves, LearnsMet, CountsTypes, CountsFunction};
 ghost use Rattle.wit_encode.specs.declared.key.FunctionKey.{FunctionKey as KeyValue};
 
 use crate::encode::{encode_optional_valtype, encode_params};
@@ -30,13 +29,14 @@ fn function_of<'a, E: ValtypeEncoder<'a>>(
     func: &'a Function,
     async_: bool,
 ) -> Result<ComponentFuncType<'a>, Error>
-    requires encodable { CanEncode resolve.now (E.scope enc.old) (function_types func.now) }
+    requires encodable { CanEncode resolve.now (E.view enc.old).scope (function_types func.now) }
     requires asynchronous { async_ ≡ (signature_of resolve.now func.now).is_async }
-    requires agree { MapsAgree resolve.now (E.maps_of enc.old) (E.stands enc.old) }
-    ensures ok { IfOk result (λ f. FollowsFunction (E.stands enc.new) f (signature_of resolve.now func.now)) }
-    ensures learns { OnOk result (LearnsOnly (MetFrom resolve.now (E.scope enc.old).own_interface (E.maps_of enc.old) (function_types func.now)) (E.maps_of enc.old) (E.maps_of enc.new)) }
-    ensures leaves { Leaves resolve.now (E.scope enc.old) (E.scope enc.new) (E.slot_count enc.old) (E.slot_count enc.new) (E.stands enc.old) (E.stands enc.new) (E.maps_of enc.old) (E.maps_of enc.new) }
-    ensures counts { OnOk result (AddsTypes resolve.now (E.scope enc.old) (E.maps_of enc.old) (E.maps_of enc.new) (E.definitions enc.old) (E.definitions enc.new)) }
+    requires agree { Agrees resolve.now (E.view enc.old) }
+    ensures ok { IfOk result (λ f. FollowsFunction (E.view enc.new).stands f (signature_of resolve.now func.now)) }
+    ensures learns { OnOk result (LearnsMet resolve.now (function_types func.now) (E.view enc.old) (E.view enc.new)) }
+    ensures leaves { Leaves resolve.now (E.view enc.old) (E.view enc.new) }
+    ensures counts { OnOk result (CountsTypes resolve.now (E.view enc.old) (E.view enc.new)) }
+    ensures knows { OnOk result (AllReady (E.view enc.new).maps (function_types func.now)) }
     ensures refuses { IfErr result IsMemoryOrSize }
 {
     let params = encode_params(alloc, enc, resolve, &func.params)?;
@@ -56,15 +56,15 @@ fn define_key<'a, E: ValtypeEncoder<'a>>(
     func: &'a Function,
     key: FunctionKey<'a>,
 ) -> Result<u32, Error>
-    requires encodable { CanEncode resolve.now (E.scope enc.old) (function_types func.now) }
+    requires encodable { CanEncode resolve.now (E.view enc.old).scope (function_types func.now) }
     requires is_key { IsKeyOf key func.now }
-    requires lacks { LacksKey (E.maps_of enc.old) key }
-    requires formed { IsFormedSignature (E.scope enc.old) (signature_of resolve.now func.now) }
-    requires agree { MapsAgree resolve.now (E.maps_of enc.old) (E.stands enc.old) }
-    ensures ok { IfOk result (λ i. E.stands enc.new i (function (signature_of resolve.now func.now))) }
-    ensures learns { OnOk result (LearnsOnly (MetFrom resolve.now (E.scope enc.old).own_interface (E.maps_of enc.old) (function_types func.now)) (E.maps_of enc.old) (E.maps_of enc.new)) }
-    ensures leaves { Leaves resolve.now (E.scope enc.old) (E.scope enc.new) (E.slot_count enc.old) (E.slot_count enc.new) (E.stands enc.old) (E.stands enc.new) (E.maps_of enc.old) (E.maps_of enc.new) }
-    ensures counts { IfOk result (AddsFunction resolve.now (E.scope enc.old) (E.maps_of enc.old) (E.maps_of enc.new) (E.definitions enc.old) (E.definitions enc.new) key.entry) }
+    requires lacks { LacksKey (E.view enc.old).maps key }
+    requires formed { IsFormedSignature (E.view enc.old).scope (signature_of resolve.now func.now) }
+    requires agree { Agrees resolve.now (E.view enc.old) }
+    ensures ok { IfOk result (λ i. (E.view enc.new).stands i (function (signature_of resolve.now func.now))) }
+    ensures learns { OnOk result (LearnsMet resolve.now (function_types func.now) (E.view enc.old) (E.view enc.new)) }
+    ensures leaves { Leaves resolve.now (E.view enc.old) (E.view enc.new) }
+    ensures counts { IfOk result (CountsFunction resolve.now (E.view enc.old) (E.view enc.new) key.entry) }
     ensures refuses { IfErr result IsMemoryOrSize }
 {
     let def = function_of(alloc, enc, resolve, func, key.async_)?;
@@ -82,13 +82,13 @@ pub fn encode_func_type<'a, E: ValtypeEncoder<'a>>(
     resolve: &'a Resolve,
     func: &'a Function,
 ) -> Result<u32, Error>
-    requires encodable { CanEncode resolve.now (E.scope enc.old) (function_types func.now) }
-    requires formed { IsFormedSignature (E.scope enc.old) (signature_of resolve.now func.now) }
-    requires agree { MapsAgree resolve.now (E.maps_of enc.old) (E.stands enc.old) }
-    ensures ok { IfOk result (λ i. E.stands enc.new i (function (signature_of resolve.now func.now))) }
-    ensures learns { OnOk result (LearnsOnly (MetFrom resolve.now (E.scope enc.old).own_interface (E.maps_of enc.old) (function_types func.now)) (E.maps_of enc.old) (E.maps_of enc.new)) }
-    ensures leaves { Leaves resolve.now (E.scope enc.old) (E.scope enc.new) (E.slot_count enc.old) (E.slot_count enc.new) (E.stands enc.old) (E.stands enc.new) (E.maps_of enc.old) (E.maps_of enc.new) }
-    ensures counts { IfOk result (λ i. (key : KeyValue) × IsKeyOf key func.now × AddsFunction resolve.now (E.scope enc.old) (E.maps_of enc.old) (E.maps_of enc.new) (E.definitions enc.old) (E.definitions enc.new) key i) }
+    requires encodable { CanEncode resolve.now (E.view enc.old).scope (function_types func.now) }
+    requires formed { IsFormedSignature (E.view enc.old).scope (signature_of resolve.now func.now) }
+    requires agree { Agrees resolve.now (E.view enc.old) }
+    ensures ok { IfOk result (λ i. (E.view enc.new).stands i (function (signature_of resolve.now func.now))) }
+    ensures learns { OnOk result (LearnsMet resolve.now (function_types func.now) (E.view enc.old) (E.view enc.new)) }
+    ensures leaves { Leaves resolve.now (E.view enc.old) (E.view enc.new) }
+    ensures counts { IfOk result (λ i. (key : KeyValue) × IsKeyOf key func.now × CountsFunction resolve.now (E.view enc.old) (E.view enc.new) key i) }
     ensures refuses { IfErr result IsMemoryOrSize }
 {
     let key = key_of(func);

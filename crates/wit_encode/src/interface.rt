@@ -141,16 +141,11 @@ impl<'a, M> LendsMaps<M> for InterfaceEncoderOf<'a, M> {
 }
 
 impl<'a> ValtypeEncoder<'a> for InterfaceEncoderOf<'a, TypeEncodingMaps<'a>> {
-    ghost use Rattle.wit_encode.specs.Instance.{SlotsStand, contents_of, encoder_scope, definitions_with};
+    ghost use Rattle.wit_encode.specs.Instance.{contents_of};
+    ghost use Rattle.wit_encode.specs.Encoders.{encoder_view};
     ghost use Rattle.wit_encode.specs.InstanceLaws.{slots-in_range};
 
-    ghost scope = { λ e. encoder_scope e.resolve.now e.outer e.inner };
-
-    ghost slot_count = { λ e. length (contents_of e.resolve.now e.outer e.inner).slots };
-
-    ghost stands = { λ e. SlotsStand (contents_of e.resolve.now e.outer e.inner).slots };
-
-    ghost definitions = { λ e. definitions_with (contents_of e.resolve.now e.outer e.inner) };
+    ghost view = { λ e. encoder_view e };
 
     fn defined_type(&mut self, def: ComponentDefinedType<'a>) -> Result<u32, Error> {
         match &mut self.inner {
@@ -212,39 +207,30 @@ impl<'a> ValtypeEncoder<'a> for InterfaceEncoderOf<'a, TypeEncodingMaps<'a>> {
 
     ghost in_range = { λ e i m h. slots-in_range (contents_of e.resolve.now e.outer e.inner).slots i m h };
 
-    ghost scope_with_maps = { λ e m. refl };
+    ghost maps_in_view = { λ e. refl };
 
-    ghost count_with_maps = { λ e m. refl };
-
-    ghost definitions_with_maps = { λ e m. refl };
-
-    ghost stands_with_maps = { λ e m i s h. h };
-
-    ghost stands_without_maps = { λ e m i s h. h };
+    ghost view_with_maps = { λ e m. record { scope_ = refl; slot_count_ = refl; definitions_ = refl; kept = λ i s h. h; back = λ i s h. h } };
 }
 
 impl<'a> InterfaceEncoderOf<'a, TypeEncodingMaps<'a>> {
     ghost use Rattle.wit_model.specs.Meaning.{Signature};
     ghost use Rattle.comp_meaning.specs.Follow.{is_simple};
-    ghost use Rattle.wit_encode.specs.Slots.{function};
+    ghost use Rattle.wit_encode.specs.Slots.{Keeps, function};
     ghost use Rattle.wit_model.specs.Text.{text_of};
-    ghost use Rattle.wit_model.specs.Lookup.{interface_at};
     ghost use Rattle.wit_model.specs.Meant.{function_meaning};
-    ghost use Rattle.wit_encode.specs.Known.{UsedStand};
     ghost use Rattle.wit_model.specs.Valid.{IsValid};
-    ghost use Rattle.wit_encode.specs.Maps.{MapsAgree};
-    ghost use Rattle.wit_encode.specs.Leaves.{Leaves};
+    ghost use Rattle.wit_encode.specs.View.{Agrees};
+    ghost use Rattle.wit_encode.specs.Leaves.{Leaves, CountsTypes, CountsFunctions};
     ghost use Rattle.wit_encode.specs.Fits.{CanEncode};
-    ghost use Rattle.wit_encode.specs.Counts.{AddsTypes, names_defined};
+    ghost use Rattle.wit_encode.specs.Counts.{names_defined};
     ghost use Rattle.std.specs.Set.{distinct_count};
     ghost use Rattle.std.specs.Prelude.{nat_eq};
-    ghost use Rattle.wit_encode.specs.Distinct.{AddsFunctions, DefinesKeys, DefinesTypes, defined_under_names};
+    ghost use Rattle.wit_encode.specs.Distinct.{DefinesKeys, DefinesTypes, defined_under_names};
     ghost use Rattle.wit_model.specs.Valid.{IsValid};
     ghost use Rattle.wit_encode.specs.Exports.{AreTypesOf, AllKnown, KnowsUsed, UsesListed};
     ghost use Rattle.wit_model.specs.declared.model.«Type».TheVariants as ValueType;
-    ghost use Rattle.wit_encode.specs.Instance.{ShowsFunction, CanEncodeFunction, Continues, IsInstance, EncodesInterface};
-    ghost use Rattle.wit_encode.specs.Instance.{opened, standing_instances, placed_function, meaning_of, own_of, known_of, declarations_in, contents_of, encoder_scope};
-    ghost use Rattle.wit_encode.specs.Instance.{stands_in, slots_in, defined_in, exports_in, shown_functions};
+    ghost use Rattle.wit_encode.specs.Instance.{ShowsFunction, CanEncodeFunction, IsInstance, placed_function, meaning_of, own_of, known_of, declarations_in};
+    ghost use Rattle.wit_encode.specs.Encoders.{encoder_view, view_of, contents_in, shown_as, scope_within, GoesOn, UsedAround, EncodesAs};
     ghost use Rattle.wit_encode.specs.Maps.{MapsGrow};
 
     /// An encoder with an empty component type. Takes constant time and no memory.
@@ -253,6 +239,8 @@ impl<'a> InterfaceEncoderOf<'a, TypeEncodingMaps<'a>> {
         ensures closed { result.inner ≡ None }
         ensures known { result.outer_type_map.items ≡ [] }
         ensures resolve { result.resolve.now ≡ resolve.now }
+        ensures agree { Agrees resolve.now (encoder_view result) }
+        ensures sound { (encoder_view result).scope.is_sound ≡ true }
     {
         InterfaceEncoderOf {
             resolve,
@@ -267,9 +255,9 @@ impl<'a> InterfaceEncoderOf<'a, TypeEncodingMaps<'a>> {
     fn export_function(&mut self, name: ComponentExternName<'a>, index: u32) -> Result<(), Error>
         requires inside { IsSome self.old.inner }
         requires simple { is_simple (raw_name name) ≡ true }
-        requires sound { (encoder_scope self.old.resolve.now self.old.outer self.old.inner).is_sound ≡ true }
-        requires stands { (s : Signature) × stands_in self.old.resolve.now self.old.outer self.old.inner index (function s) }
-        ensures ok { (s : Signature) → stands_in self.old.resolve.now self.old.outer self.old.inner index (function s) → OnOk result (ShowsFunction (contents_of self.old.resolve.now self.old.outer self.old.inner) (contents_of self.new.resolve.now self.new.outer self.new.inner) ((raw_name name.entry).text, record { signature = s; external_id = (raw_name name.entry).external_id })) }
+        requires sound { (encoder_view self.old).scope.is_sound ≡ true }
+        requires stands { (s : Signature) × (encoder_view self.old).stands index (function s) }
+        ensures ok { (s : Signature) → (encoder_view self.old).stands index (function s) → OnOk result (ShowsFunction (contents_in self.old) (contents_in self.new) (shown_as (raw_name name.entry) s)) }
         ensures err { OnErr result (self.new.inner ≡ self.old.inner) }
         ensures own { own_of self.new.inner ≡ own_of self.old.inner }
         ensures known { known_of self.new.inner ≡ known_of self.old.inner }
@@ -296,18 +284,18 @@ impl<'a> InterfaceEncoderOf<'a, TypeEncodingMaps<'a>> {
     ) -> Result<(), Error>
         requires inside { IsSome self.old.inner }
         requires packages { self.old.resolve.now ≡ resolve.now }
-        requires encodable { CanEncodeFunction resolve.now (encoder_scope resolve.now self.old.outer self.old.inner) func.now }
-        requires agree { MapsAgree resolve.now self.old.maps (stands_in resolve.now self.old.outer self.old.inner) }
+        requires encodable { CanEncodeFunction resolve.now (view_of resolve.now self.old).scope func.now }
+        requires agree { Agrees resolve.now (view_of resolve.now self.old) }
         requires valid { IsValid resolve.now }
         requires used { KnowsUsed resolve.now self.old.maps func.now }
         ensures packages { self.new.resolve.now ≡ resolve.now }
         ensures inside { own_of self.new.inner ≡ own_of self.old.inner }
-        ensures continues { Continues resolve.now resolve.now self.old.outer self.new.outer self.old.inner self.new.inner self.old.maps self.new.maps }
-        ensures shows { OnOk result (shown_functions resolve.now self.new.outer self.new.inner ≡ shown_functions resolve.now self.old.outer self.old.inner ++ (text_of name.now, function_meaning resolve.now func.now) ∷ []) }
-        ensures counts { OnOk result (AddsFunctions resolve.now (encoder_scope resolve.now self.old.outer self.old.inner) self.old.maps self.new.maps (defined_in resolve.now self.old.outer self.old.inner) (defined_in resolve.now self.new.outer self.new.inner) (func.now ∷ [])) }
+        ensures continues { GoesOn resolve.now self.old self.new }
+        ensures shows { OnOk result ((view_of resolve.now self.new).scope.functions ≡ (view_of resolve.now self.old).scope.functions ++ (text_of name.now, function_meaning resolve.now func.now) ∷ []) }
+        ensures counts { OnOk result (CountsFunctions resolve.now (view_of resolve.now self.old) (view_of resolve.now self.new) (func.now ∷ [])) }
         ensures maps_grow { MapsGrow self.old.maps self.new.maps }
-        ensures types_stay { OnOk result (exports_in resolve.now self.new.outer self.new.inner ≡ exports_in resolve.now self.old.outer self.old.inner) }
-        ensures names_stay { OnOk result (names_defined resolve.now (encoder_scope resolve.now self.old.outer self.old.inner) self.new.maps ≡ names_defined resolve.now (encoder_scope resolve.now self.old.outer self.old.inner) self.old.maps) }
+        ensures types_stay { OnOk result ((view_of resolve.now self.new).definitions.exports ≡ (view_of resolve.now self.old).definitions.exports) }
+        ensures names_stay { OnOk result (names_defined resolve.now (view_of resolve.now self.old).scope self.new.maps ≡ names_defined resolve.now (view_of resolve.now self.old).scope self.old.maps) }
         ensures refuses { IfErr result IsMemoryOrSize }
     {
         let index = encode_func_type(alloc, self, resolve, func)?;
@@ -323,17 +311,17 @@ impl<'a> InterfaceEncoderOf<'a, TypeEncodingMaps<'a>> {
     ) -> Result<(), Error>
         requires inside { IsSome self.old.inner }
         requires packages { self.old.resolve.now ≡ resolve.now }
-        requires encodable { (f : _) → Contains functions.now f → CanEncodeFunction resolve.now (encoder_scope resolve.now self.old.outer self.old.inner) f.2.now }
-        requires agree { MapsAgree resolve.now self.old.maps (stands_in resolve.now self.old.outer self.old.inner) }
+        requires encodable { (f : _) → Contains functions.now f → CanEncodeFunction resolve.now (view_of resolve.now self.old).scope f.2.now }
+        requires agree { Agrees resolve.now (view_of resolve.now self.old) }
         requires valid { IsValid resolve.now }
         requires used { (f : _) → Contains functions.now f → KnowsUsed resolve.now self.old.maps f.2.now }
         ensures packages { self.new.resolve.now ≡ resolve.now }
         ensures inside { own_of self.new.inner ≡ own_of self.old.inner }
-        ensures continues { Continues resolve.now resolve.now self.old.outer self.new.outer self.old.inner self.new.inner self.old.maps self.new.maps }
-        ensures shows { OnOk result (shown_functions resolve.now self.new.outer self.new.inner ≡ shown_functions resolve.now self.old.outer self.old.inner ++ map (λ f. meaning_of resolve.now (placed_function f)) functions.now) }
-        ensures counts { OnOk result (AddsFunctions resolve.now (encoder_scope resolve.now self.old.outer self.old.inner) self.old.maps self.new.maps (defined_in resolve.now self.old.outer self.old.inner) (defined_in resolve.now self.new.outer self.new.inner) (map (λ f. f.2.now) functions.now)) }
-        ensures types_stay { OnOk result (exports_in resolve.now self.new.outer self.new.inner ≡ exports_in resolve.now self.old.outer self.old.inner) }
-        ensures names_stay { OnOk result (names_defined resolve.now (encoder_scope resolve.now self.old.outer self.old.inner) self.new.maps ≡ names_defined resolve.now (encoder_scope resolve.now self.old.outer self.old.inner) self.old.maps) }
+        ensures continues { GoesOn resolve.now self.old self.new }
+        ensures shows { OnOk result ((view_of resolve.now self.new).scope.functions ≡ (view_of resolve.now self.old).scope.functions ++ map (λ f. meaning_of resolve.now (placed_function f)) functions.now) }
+        ensures counts { OnOk result (CountsFunctions resolve.now (view_of resolve.now self.old) (view_of resolve.now self.new) (map (λ f. f.2.now) functions.now)) }
+        ensures types_stay { OnOk result ((view_of resolve.now self.new).definitions.exports ≡ (view_of resolve.now self.old).definitions.exports) }
+        ensures names_stay { OnOk result (names_defined resolve.now (view_of resolve.now self.old).scope self.new.maps ≡ names_defined resolve.now (view_of resolve.now self.old).scope self.old.maps) }
         ensures refuses { IfErr result IsMemoryOrSize }
     {
         for entry in functions {
@@ -351,17 +339,17 @@ impl<'a> InterfaceEncoderOf<'a, TypeEncodingMaps<'a>> {
         types: &[TypeId],
     ) -> Result<(), Error>
         requires packages { self.old.resolve.now ≡ resolve.now }
-        requires encodable { (t : _) → Contains types.now t → CanEncode resolve.now (encoder_scope self.old.resolve.now self.old.outer self.old.inner) (ValueType.Id t ∷ []) }
-        requires agree { MapsAgree resolve.now self.old.maps (stands_in self.old.resolve.now self.old.outer self.old.inner) }
+        requires encodable { (t : _) → Contains types.now t → CanEncode resolve.now (encoder_view self.old).scope (ValueType.Id t ∷ []) }
+        requires agree { Agrees resolve.now (encoder_view self.old) }
         requires valid { IsValid resolve.now }
         requires listed { AreTypesOf resolve.now (own_of self.old.inner) types.now }
         requires fresh { self.old.maps.id_to_index.items ≡ [] }
-        requires unshown { exports_in self.old.resolve.now self.old.outer self.old.inner ≡ [] }
-        ensures leaves { Leaves resolve.now (encoder_scope self.old.resolve.now self.old.outer self.old.inner) (encoder_scope self.new.resolve.now self.new.outer self.new.inner) (slots_in self.old.resolve.now self.old.outer self.old.inner) (slots_in self.new.resolve.now self.new.outer self.new.inner) (stands_in self.old.resolve.now self.old.outer self.old.inner) (stands_in self.new.resolve.now self.new.outer self.new.inner) self.old.maps self.new.maps }
-        ensures counts { OnOk result (AddsTypes resolve.now (encoder_scope self.old.resolve.now self.old.outer self.old.inner) self.old.maps self.new.maps (defined_in self.old.resolve.now self.old.outer self.old.inner) (defined_in self.new.resolve.now self.new.outer self.new.inner)) }
+        requires unshown { (encoder_view self.old).definitions.exports ≡ [] }
+        ensures leaves { Leaves resolve.now (encoder_view self.old) (encoder_view self.new) }
+        ensures counts { OnOk result (CountsTypes resolve.now (encoder_view self.old) (encoder_view self.new)) }
         ensures known { OnOk result (AllKnown self.new.maps types.now) }
-        ensures exported { OnOk result (exports_in self.new.resolve.now self.new.outer self.new.inner ≡ declarations_in resolve.now (own_of self.old.inner)) }
-        ensures defined { OnOk result (names_defined resolve.now (encoder_scope self.old.resolve.now self.old.outer self.old.inner) self.new.maps ≡ distinct_count nat_eq (defined_under_names resolve.now (own_of self.old.inner) types.now)) }
+        ensures exported { OnOk result ((encoder_view self.new).definitions.exports ≡ declarations_in resolve.now (own_of self.old.inner)) }
+        ensures defined { OnOk result (names_defined resolve.now (encoder_view self.old).scope self.new.maps ≡ distinct_count nat_eq (defined_under_names resolve.now (own_of self.old.inner) types.now)) }
         ensures refuses { IfErr result IsMemoryOrSize }
     {
         for id in types {
@@ -380,21 +368,21 @@ impl<'a> InterfaceEncoderOf<'a, TypeEncodingMaps<'a>> {
     ) -> Result<(), Error>
         requires inside { IsSome self.old.inner }
         requires packages { self.old.resolve.now ≡ resolve.now }
-        requires types { (t : _) → Contains types.now t → CanEncode resolve.now (encoder_scope self.old.resolve.now self.old.outer self.old.inner) (ValueType.Id t ∷ []) }
-        requires functions { (f : _) → Contains functions.now f → CanEncodeFunction resolve.now (encoder_scope self.old.resolve.now self.old.outer self.old.inner) f.2.now }
-        requires agree { MapsAgree resolve.now self.old.maps (stands_in self.old.resolve.now self.old.outer self.old.inner) }
+        requires types { (t : _) → Contains types.now t → CanEncode resolve.now (encoder_view self.old).scope (ValueType.Id t ∷ []) }
+        requires functions { (f : _) → Contains functions.now f → CanEncodeFunction resolve.now (encoder_view self.old).scope f.2.now }
+        requires agree { Agrees resolve.now (encoder_view self.old) }
         requires valid { IsValid resolve.now }
         requires listed { AreTypesOf resolve.now (own_of self.old.inner) types.now }
         requires fresh { self.old.maps.id_to_index.items ≡ [] }
-        requires unshown { exports_in self.old.resolve.now self.old.outer self.old.inner ≡ [] }
+        requires unshown { (encoder_view self.old).definitions.exports ≡ [] }
         requires uses { (f : _) → Contains functions.now f → UsesListed resolve.now types.now f.2.now }
         ensures packages { self.new.resolve.now ≡ resolve.now }
         ensures inside { own_of self.new.inner ≡ own_of self.old.inner }
-        ensures continues { Continues resolve.now resolve.now self.old.outer self.new.outer self.old.inner self.new.inner self.old.maps self.new.maps }
-        ensures shows { OnOk result (shown_functions resolve.now self.new.outer self.new.inner ≡ shown_functions resolve.now self.old.outer self.old.inner ++ map (λ f. meaning_of resolve.now (placed_function f)) functions.now) }
-        ensures counts { OnOk result (AddsFunctions resolve.now (encoder_scope resolve.now self.old.outer self.old.inner) self.old.maps self.new.maps (defined_in resolve.now self.old.outer self.old.inner) (defined_in resolve.now self.new.outer self.new.inner) (map (λ f. f.2.now) functions.now)) }
-        ensures exported { OnOk result (exports_in resolve.now self.new.outer self.new.inner ≡ declarations_in resolve.now (own_of self.old.inner)) }
-        ensures defined { OnOk result (names_defined resolve.now (encoder_scope resolve.now self.old.outer self.old.inner) self.new.maps ≡ distinct_count nat_eq (defined_under_names resolve.now (own_of self.old.inner) types.now)) }
+        ensures continues { GoesOn resolve.now self.old self.new }
+        ensures shows { OnOk result ((view_of resolve.now self.new).scope.functions ≡ (view_of resolve.now self.old).scope.functions ++ map (λ f. meaning_of resolve.now (placed_function f)) functions.now) }
+        ensures counts { OnOk result (CountsFunctions resolve.now (view_of resolve.now self.old) (view_of resolve.now self.new) (map (λ f. f.2.now) functions.now)) }
+        ensures exported { OnOk result ((view_of resolve.now self.new).definitions.exports ≡ declarations_in resolve.now (own_of self.old.inner)) }
+        ensures defined { OnOk result (names_defined resolve.now (view_of resolve.now self.old).scope self.new.maps ≡ distinct_count nat_eq (defined_under_names resolve.now (own_of self.old.inner) types.now)) }
         ensures refuses { IfErr result IsMemoryOrSize }
     {
         self.encode_types(alloc, resolve, types)?;
@@ -409,8 +397,8 @@ impl<'a> InterfaceEncoderOf<'a, TypeEncodingMaps<'a>> {
         types: &[TypeId],
         functions: &[(usize, &'a String, &'a Function)],
     ) -> Result<InstanceType, Error>
-        requires types { (t : _) → Contains types.now t → CanEncode self.old.resolve.now (encoder_scope self.old.resolve.now self.old.outer (opened interface self.old.outer_type_map)) (ValueType.Id t ∷ []) }
-        requires functions { (f : _) → Contains functions.now f → CanEncodeFunction self.old.resolve.now (encoder_scope self.old.resolve.now self.old.outer (opened interface self.old.outer_type_map)) f.2.now }
+        requires types { (t : _) → Contains types.now t → CanEncode self.old.resolve.now (scope_within self.old interface) (ValueType.Id t ∷ []) }
+        requires functions { (f : _) → Contains functions.now f → CanEncodeFunction self.old.resolve.now (scope_within self.old interface) f.2.now }
         requires valid { IsValid self.old.resolve.now }
         requires listed { AreTypesOf self.old.resolve.now (Some interface) types.now }
         requires uses { (f : _) → Contains functions.now f → UsesListed self.old.resolve.now types.now f.2.now }
@@ -469,13 +457,14 @@ impl<'a> InterfaceEncoderOf<'a, TypeEncodingMaps<'a>> {
         requires closed { self.old.inner ≡ None }
         requires in_range { interface.0 < length self.old.resolve.now.interfaces.items }
         requires valid { IsValid self.old.resolve.now }
-        requires around { UsedStand self.old.resolve.now (standing_instances self.old.resolve.now self.old.outer interface self.old.outer_type_map.items) interface.0 }
+        requires around { UsedAround self.old interface }
         ensures closed { self.new.inner ≡ None }
         ensures resolve { self.new.resolve.now ≡ self.old.resolve.now }
         ensures maps { self.new.maps ≡ self.old.maps }
         ensures known { self.new.outer_type_map.items ≡ self.old.outer_type_map.items }
         ensures err { OnErr result (self.new.outer ≡ self.old.outer) }
-        ensures ok { IfOk result (λ k. (def : _) → interface_at self.old.resolve.now interface.0 ≡ Some def → EncodesInterface self.old.resolve.now self.old.outer self.new.outer interface def k) }
+        ensures ok { IfOk result (EncodesAs self.old self.new interface) }
+        ensures stands { OnOk result (Keeps (encoder_view self.old).stands (encoder_view self.new).stands) }
         ensures refuses { IfErr result IsMemoryOrSize }
     {
         let def = &self.resolve.interfaces[interface.0 as usize];

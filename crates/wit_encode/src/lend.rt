@@ -8,9 +8,10 @@ ghost use Rattle.wit_model.specs.Tree.{future_tree, stream_tree};
 ghost use Rattle.wit_encode.specs.Slots.{tree, function};
 ghost use Rattle.wit_encode.specs.Key.{key_signature};
 ghost use Rattle.wit_encode.specs.Kinds.{kind_tree, kind_of, parts_of};
-ghost use Rattle.wit_encode.specs.Maps.{MapsAgree, IsKnown, HasKind, LacksKind, HasKey, LacksKey, IsReady, AllReady, IsWritten, LearnsNumber, LearnsKind, LearnsKey};
+ghost use Rattle.wit_encode.specs.Maps.{IsKnown, HasKind, LacksKind, HasKey, LacksKey, IsReady, AllReady, IsWritten, LearnsNumber, LearnsKind, LearnsKey};
 ghost use Rattle.wit_encode.specs.Definition.{IsWrittenParam, FollowsKind};
 ghost use Rattle.wit_encode.specs.Plan.{IsLayered, AllInRange, IsOrderOf};
+ghost use Rattle.wit_encode.specs.View.{Agrees};
 ghost use Rattle.wit_encode.specs.Leaves.{Leaves};
 
 use crate::definition::{definition, params_in};
@@ -26,8 +27,8 @@ use wit_model::{Error, Param, Resolve, Type, TypeDefKind, TypeId};
 
 pub(crate) fn index_of<'a, E: ValtypeEncoder<'a>>(enc: &mut E, id: TypeId) -> Option<u32>
     ensures same { enc.new ≡ enc.old }
-    ensures some { IfSome result (λ i. Contains (E.maps_of enc.old).id_to_index.items (id, i)) }
-    ensures none { IsKnown (E.maps_of enc.old) id.0 → IsSome result }
+    ensures some { IfSome result (λ i. Contains (E.view enc.old).maps.id_to_index.items (id, i)) }
+    ensures none { IsKnown (E.view enc.old).maps id.0 → IsSome result }
 {
     enc.type_encoding_maps().index_of(id)
 }
@@ -37,38 +38,38 @@ pub(crate) fn index_of_kind<'a, E: ValtypeEncoder<'a>>(
     kind: &TypeDefKind,
 ) -> Option<u32>
     ensures same { enc.new ≡ enc.old }
-    ensures some { IfSome result (HasKind (E.maps_of enc.old) kind.now) }
-    ensures none { IfNone result (LacksKind (E.maps_of enc.old) kind.now) }
+    ensures some { IfSome result (HasKind (E.view enc.old).maps kind.now) }
+    ensures none { IfNone result (LacksKind (E.view enc.old).maps kind.now) }
 {
     enc.type_encoding_maps().index_of_kind(kind)
 }
 
 pub(crate) fn index_of_key<'a, E: ValtypeEncoder<'a>>(enc: &mut E, key: &FunctionKey) -> Option<u32>
     ensures same { enc.new ≡ enc.old }
-    ensures some { IfSome result (HasKey (E.maps_of enc.old) key.now) }
-    ensures none { IfNone result (LacksKey (E.maps_of enc.old) key.now) }
+    ensures some { IfSome result (HasKey (E.view enc.old).maps key.now) }
+    ensures none { IfNone result (LacksKey (E.view enc.old).maps key.now) }
 {
     enc.type_encoding_maps().index_of_key(key)
 }
 
 pub(crate) fn unit_future<'a, E: ValtypeEncoder<'a>>(enc: &mut E) -> Option<u32>
     ensures same { enc.new ≡ enc.old }
-    ensures value { result ≡ (E.maps_of enc.old).unit_future }
+    ensures value { result ≡ (E.view enc.old).maps.unit_future }
 {
     enc.type_encoding_maps().unit_future
 }
 
 pub(crate) fn unit_stream<'a, E: ValtypeEncoder<'a>>(enc: &mut E) -> Option<u32>
     ensures same { enc.new ≡ enc.old }
-    ensures value { result ≡ (E.maps_of enc.old).unit_stream }
+    ensures value { result ≡ (E.view enc.old).maps.unit_stream }
 {
     enc.type_encoding_maps().unit_stream
 }
 
 pub(crate) fn value_of<'a, E: ValtypeEncoder<'a>>(enc: &mut E, ty: &Type) -> ComponentValType
-    requires { IsReady (E.maps_of enc.old) ty.now }
+    requires { IsReady (E.view enc.old).maps ty.now }
     ensures same { enc.new ≡ enc.old }
-    ensures value { IsWritten (E.maps_of enc.old) result ty.now }
+    ensures value { IsWritten (E.view enc.old).maps result ty.now }
 {
     value_in(enc.type_encoding_maps(), ty)
 }
@@ -78,9 +79,9 @@ pub(crate) fn params_of<'a, E: ValtypeEncoder<'a>>(
     enc: &mut E,
     params: &'a [Param],
 ) -> Result<Vec<(&'a str, ComponentValType)>, AllocError>
-    requires { AllReady (E.maps_of enc.old) (map (λ p. p.ty) params.now) }
+    requires { AllReady (E.view enc.old).maps (map (λ p. p.ty) params.now) }
     ensures same { enc.new ≡ enc.old }
-    ensures value { IfOk result (λ v. AllZip (IsWrittenParam (E.maps_of enc.old)) v.items params.now) }
+    ensures value { IfOk result (λ v. AllZip (IsWrittenParam (E.view enc.old).maps) v.items params.now) }
 {
     params_in(alloc, enc.type_encoding_maps(), params)
 }
@@ -90,9 +91,9 @@ pub(crate) fn definition_of<'a, E: ValtypeEncoder<'a>>(
     enc: &mut E,
     shape: Shape<'a, '_>,
 ) -> Result<ComponentDefinedType<'a>, AllocError>
-    requires { AllReady (E.maps_of enc.old) (parts_of (kind_of shape)) }
+    requires { AllReady (E.view enc.old).maps (parts_of (kind_of shape)) }
     ensures same { enc.new ≡ enc.old }
-    ensures value { IfOk result (FollowsKind (E.maps_of enc.old) (kind_of shape.entry)) }
+    ensures value { IfOk result (FollowsKind (E.view enc.old).maps (kind_of shape.entry)) }
 {
     definition(alloc, enc.type_encoding_maps(), shape)
 }
@@ -106,7 +107,7 @@ pub(crate) fn order_of<'a, E: ValtypeEncoder<'a>>(
     requires layered { IsLayered resolve.now }
     requires in_range { AllInRange resolve.now types.now }
     ensures same { enc.new ≡ enc.old }
-    ensures order { IfOk result (λ v. IsOrderOf resolve.now (E.scope enc.old).own_interface (E.maps_of enc.old) types.now v.items) }
+    ensures order { IfOk result (λ v. IsOrderOf resolve.now (E.view enc.old).scope.own_interface (E.view enc.old).maps types.now v.items) }
 {
     let own = enc.interface();
     crate::plan::order_of(alloc, resolve, enc.type_encoding_maps(), own, types)
@@ -120,12 +121,12 @@ pub(crate) fn remember_id<'a, E: ValtypeEncoder<'a>>(
     id: TypeId,
     index: u32,
 ) -> Result<(), Error>
-    requires stands { E.stands enc.old index (tree (number_tree resolve.now id.0)) }
-    requires fresh { IsKnown (E.maps_of enc.old) id.0 → ⊥ }
-    requires agree { MapsAgree resolve.now (E.maps_of enc.old) (E.stands enc.old) }
-    ensures ok { OnOk result (LearnsNumber (E.maps_of enc.old) (E.maps_of enc.new) id index) }
-    ensures leaves { Leaves resolve.now (E.scope enc.old) (E.scope enc.new) (E.slot_count enc.old) (E.slot_count enc.new) (E.stands enc.old) (E.stands enc.new) (E.maps_of enc.old) (E.maps_of enc.new) }
-    ensures counts { E.definitions enc.new ≡ E.definitions enc.old }
+    requires stands { (E.view enc.old).stands index (tree (number_tree resolve.now id.0)) }
+    requires fresh { IsKnown (E.view enc.old).maps id.0 → ⊥ }
+    requires agree { Agrees resolve.now (E.view enc.old) }
+    ensures ok { OnOk result (LearnsNumber (E.view enc.old).maps (E.view enc.new).maps id index) }
+    ensures leaves { Leaves resolve.now (E.view enc.old) (E.view enc.new) }
+    ensures counts { (E.view enc.new).definitions ≡ (E.view enc.old).definitions }
     ensures refuses { IfErr result IsMemoryOrSize }
 {
     enc.type_encoding_maps().remember_id(id, index)
@@ -137,12 +138,12 @@ pub(crate) fn remember_kind<'a, E: ValtypeEncoder<'a>>(
     kind: &'a TypeDefKind,
     index: u32,
 ) -> Result<(), Error>
-    requires stands { E.stands enc.old index (tree (kind_tree resolve.now kind.now)) }
-    requires fresh { LacksKind (E.maps_of enc.old) kind.now }
-    requires agree { MapsAgree resolve.now (E.maps_of enc.old) (E.stands enc.old) }
-    ensures ok { OnOk result (LearnsKind (E.maps_of enc.old) (E.maps_of enc.new) kind.entry index) }
-    ensures leaves { Leaves resolve.now (E.scope enc.old) (E.scope enc.new) (E.slot_count enc.old) (E.slot_count enc.new) (E.stands enc.old) (E.stands enc.new) (E.maps_of enc.old) (E.maps_of enc.new) }
-    ensures counts { E.definitions enc.new ≡ E.definitions enc.old }
+    requires stands { (E.view enc.old).stands index (tree (kind_tree resolve.now kind.now)) }
+    requires fresh { LacksKind (E.view enc.old).maps kind.now }
+    requires agree { Agrees resolve.now (E.view enc.old) }
+    ensures ok { OnOk result (LearnsKind (E.view enc.old).maps (E.view enc.new).maps kind.entry index) }
+    ensures leaves { Leaves resolve.now (E.view enc.old) (E.view enc.new) }
+    ensures counts { (E.view enc.new).definitions ≡ (E.view enc.old).definitions }
     ensures refuses { IfErr result IsMemoryOrSize }
 {
     enc.type_encoding_maps().remember_kind(kind, index)
@@ -154,35 +155,35 @@ pub(crate) fn remember_key<'a, E: ValtypeEncoder<'a>>(
     key: FunctionKey<'a>,
     index: u32,
 ) -> Result<(), Error>
-    requires stands { E.stands enc.old index (function (key_signature resolve.now key)) }
-    requires fresh { LacksKey (E.maps_of enc.old) key }
-    requires agree { MapsAgree resolve.now (E.maps_of enc.old) (E.stands enc.old) }
-    ensures ok { OnOk result (LearnsKey (E.maps_of enc.old) (E.maps_of enc.new) key.entry index) }
-    ensures leaves { Leaves resolve.now (E.scope enc.old) (E.scope enc.new) (E.slot_count enc.old) (E.slot_count enc.new) (E.stands enc.old) (E.stands enc.new) (E.maps_of enc.old) (E.maps_of enc.new) }
-    ensures counts { E.definitions enc.new ≡ E.definitions enc.old }
+    requires stands { (E.view enc.old).stands index (function (key_signature resolve.now key)) }
+    requires fresh { LacksKey (E.view enc.old).maps key }
+    requires agree { Agrees resolve.now (E.view enc.old) }
+    ensures ok { OnOk result (LearnsKey (E.view enc.old).maps (E.view enc.new).maps key.entry index) }
+    ensures leaves { Leaves resolve.now (E.view enc.old) (E.view enc.new) }
+    ensures counts { (E.view enc.new).definitions ≡ (E.view enc.old).definitions }
     ensures refuses { IfErr result IsMemoryOrSize }
 {
     enc.type_encoding_maps().remember_key(key, index)
 }
 
 pub(crate) fn remember_unit_future<'a, E: ValtypeEncoder<'a>>(enc: &mut E, index: u32)
-    requires stands { E.stands enc.old index (tree (future_tree None)) }
-    requires fresh { (E.maps_of enc.old).unit_future ≡ None }
-    requires agree { MapsAgree (E.scope enc.old).packages (E.maps_of enc.old) (E.stands enc.old) }
-    ensures value { E.maps_of enc.new ≡ record (E.maps_of enc.old) { unit_future = Some index } }
-    ensures leaves { Leaves (E.scope enc.old).packages (E.scope enc.old) (E.scope enc.new) (E.slot_count enc.old) (E.slot_count enc.new) (E.stands enc.old) (E.stands enc.new) (E.maps_of enc.old) (E.maps_of enc.new) }
-    ensures counts { E.definitions enc.new ≡ E.definitions enc.old }
+    requires stands { (E.view enc.old).stands index (tree (future_tree None)) }
+    requires fresh { (E.view enc.old).maps.unit_future ≡ None }
+    requires agree { Agrees (E.view enc.old).scope.packages (E.view enc.old) }
+    ensures value { (E.view enc.new).maps ≡ record (E.view enc.old).maps { unit_future = Some index } }
+    ensures leaves { Leaves (E.view enc.old).scope.packages (E.view enc.old) (E.view enc.new) }
+    ensures counts { (E.view enc.new).definitions ≡ (E.view enc.old).definitions }
 {
     enc.type_encoding_maps().remember_unit_future(index);
 }
 
 pub(crate) fn remember_unit_stream<'a, E: ValtypeEncoder<'a>>(enc: &mut E, index: u32)
-    requires stands { E.stands enc.old index (tree (stream_tree None)) }
-    requires fresh { (E.maps_of enc.old).unit_stream ≡ None }
-    requires agree { MapsAgree (E.scope enc.old).packages (E.maps_of enc.old) (E.stands enc.old) }
-    ensures value { E.maps_of enc.new ≡ record (E.maps_of enc.old) { unit_stream = Some index } }
-    ensures leaves { Leaves (E.scope enc.old).packages (E.scope enc.old) (E.scope enc.new) (E.slot_count enc.old) (E.slot_count enc.new) (E.stands enc.old) (E.stands enc.new) (E.maps_of enc.old) (E.maps_of enc.new) }
-    ensures counts { E.definitions enc.new ≡ E.definitions enc.old }
+    requires stands { (E.view enc.old).stands index (tree (stream_tree None)) }
+    requires fresh { (E.view enc.old).maps.unit_stream ≡ None }
+    requires agree { Agrees (E.view enc.old).scope.packages (E.view enc.old) }
+    ensures value { (E.view enc.new).maps ≡ record (E.view enc.old).maps { unit_stream = Some index } }
+    ensures leaves { Leaves (E.view enc.old).scope.packages (E.view enc.old) (E.view enc.new) }
+    ensures counts { (E.view enc.new).definitions ≡ (E.view enc.old).definitions }
 {
     enc.type_encoding_maps().remember_unit_stream(index);
 }

@@ -8,6 +8,7 @@ mod encoder;
 mod func_type;
 mod interface;
 mod key;
+pub mod laws;
 mod lend;
 mod maps;
 mod name;

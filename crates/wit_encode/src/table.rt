@@ -62,15 +62,9 @@ impl<'a, M> LendsMaps<M> for TableOf<'a, M> {
 
 impl<'a> ValtypeEncoder<'a> for TableOf<'a, TypeEncodingMaps<'a>> {
     ghost use Rattle.wit_model.specs.Lookup.{place_of};
-    ghost use Rattle.wit_encode.specs.Table.{TableReads, table_scope, table_definitions, reads-in_range};
+    ghost use Rattle.wit_encode.specs.Table.{table_view, reads-in_range};
 
-    ghost scope = { λ e. table_scope e.resolve.now e.owner };
-
-    ghost slot_count = { λ e. length e.slots.items };
-
-    ghost stands = { λ e. TableReads e.resolve.now (place_of e.resolve.now e.owner) e.slots.items };
-
-    ghost definitions = { λ e. table_definitions (table_scope e.resolve.now e.owner).declarations e.slots.items };
+    ghost view = { λ e. table_view e };
 
     fn defined_type(&mut self, def: ComponentDefinedType<'a>) -> Result<u32, Error> {
         push(&mut self.slots, Slot::Definition(def))
@@ -106,28 +100,21 @@ impl<'a> ValtypeEncoder<'a> for TableOf<'a, TypeEncodingMaps<'a>> {
 
     ghost in_range = { λ e i m h. reads-in_range e.resolve.now (place_of e.resolve.now e.owner) e.slots.items i m h };
 
-    ghost scope_with_maps = { λ e m. refl };
+    ghost maps_in_view = { λ e. refl };
 
-    ghost count_with_maps = { λ e m. refl };
-
-    ghost definitions_with_maps = { λ e m. refl };
-
-    ghost stands_with_maps = { λ e m i s h. h };
-
-    ghost stands_without_maps = { λ e m i s h. h };
+    ghost view_with_maps = { λ e m. record { scope_ = refl; slot_count_ = refl; definitions_ = refl; kept = λ i s h. h; back = λ i s h. h } };
 }
 
 impl<'a> TableOf<'a, TypeEncodingMaps<'a>> {
-    ghost use Rattle.wit_model.specs.Lookup.{place_of};
-    ghost use Rattle.wit_encode.specs.Maps.{MapsAgree};
-    ghost use Rattle.wit_encode.specs.Table.{TableReads};
+    ghost use Rattle.wit_encode.specs.View.{Agrees};
+    ghost use Rattle.wit_encode.specs.Table.{table_view};
 
     /// A table without slots. Takes constant time and no memory.
     pub fn new(alloc: Global, resolve: &'a Resolve, owner: TypeOwner) -> Table<'a>
         ensures resolve { result.resolve.now ≡ resolve.entry.now }
         ensures owner { result.owner ≡ owner }
         ensures slots { result.slots.items ≡ [] }
-        ensures agree { MapsAgree resolve.entry.now result.maps (TableReads resolve.entry.now (place_of resolve.entry.now owner) result.slots.items) }
+        ensures agree { Agrees resolve.entry.now (table_view result) }
     {
         TableOf {
             resolve,

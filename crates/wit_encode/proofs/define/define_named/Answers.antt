@@ -9,14 +9,17 @@ use Rattle.wit_encode.proofs.Defining.{counts-named}
 use Rattle.wit_encode.proofs.define.define_named.Goals as goal
 
 pub returns-clause-ok : goal.returns-clause-ok
-returns-clause-ok g c = on_ok c.remember_id.result _ _ (λ l. learnt-one (g.E.LendsMaps.maps_of c.args.enc.now) _ _ c.args.id _ (ap (λ (z : TypeEncodingMaps). z.id_to_index.items) (c.export.ensures.maps_stay ∙ c.define_kind.ensures.maps_stay)) l) c.remember_id.ensures.ok
+returns-clause-ok g c = on_ok c.remember_id.result _ _ (λ l. learnt-one (g.E.ValtypeEncoder.view c.args.enc.now).maps _ _ c.args.id _ (ap (λ (z : TypeEncodingMaps). z.id_to_index.items) (c.export.ensures.maps_stay ∙ c.define_kind.ensures.maps_stay)) l) c.remember_id.ensures.ok
 
 pub returns-clause-counts : goal.returns-clause-counts
 returns-clause-counts g c = on_ok c.remember_id.result _ _
-    (λ l. counts-named c.args.resolve.now (g.E.ValtypeEncoder.scope c.args.enc.now) (g.E.LendsMaps.maps_of c.args.enc.now) _ (g.E.ValtypeEncoder.definitions c.args.enc.now) (g.E.ValtypeEncoder.definitions c.define_kind.new.enc) _ c.args.id c.in_ok-slot.slot (raw_name c.args.name)
-    (subst (λ (z : TypeEncodingMaps). LearnsNumber z (g.E.LendsMaps.maps_of c.remember_id.new.enc) c.args.id c.in_ok-slot.slot) (c.export.ensures.maps_stay ∙ c.define_kind.ensures.maps_stay) l)
+    (λ l. counts-named c.args.resolve.now (g.E.ValtypeEncoder.view c.args.enc.now).scope (g.E.ValtypeEncoder.view c.args.enc.now).maps _ (g.E.ValtypeEncoder.view c.args.enc.now).definitions (g.E.ValtypeEncoder.view c.define_kind.new.enc).definitions _ c.args.id c.in_ok-slot.slot (raw_name c.args.name)
+    (subst (λ (z : TypeEncodingMaps). LearnsNumber z (g.E.ValtypeEncoder.view c.remember_id.new.enc).maps c.args.id c.in_ok-slot.slot) (c.export.ensures.maps_stay ∙ c.define_kind.ensures.maps_stay) l)
     c.requires.shown
-    (c.in_ok-index.ensures.counts ∙ ap (λ (b : Bool). type_more_if b (g.E.ValtypeEncoder.definitions c.args.enc.now)) (sym c.requires.by_name))
-    (subst (λ (z : Definitions). ExportsOne (g.E.ValtypeEncoder.scope c.args.enc.now) (g.E.ValtypeEncoder.definitions c.define_kind.new.enc) z (raw_name c.args.name)) (sym c.remember_id.ensures.counts)
-    (subst (λ (z : Scope). ExportsOne z (g.E.ValtypeEncoder.definitions c.define_kind.new.enc) (g.E.ValtypeEncoder.definitions c.export.new.enc) (raw_name c.args.name)) c.define_kind.ensures.scope_stays c.in_ok-slot.ensures.counts)))
+    (c.in_ok-index.ensures.counts ∙ ap (λ (b : Bool). type_more_if b (g.E.ValtypeEncoder.view c.args.enc.now).definitions) (sym c.requires.by_name))
+    (subst (λ (z : Definitions). ExportsOne (g.E.ValtypeEncoder.view c.args.enc.now).scope (g.E.ValtypeEncoder.view c.define_kind.new.enc).definitions z (raw_name c.args.name)) (sym c.remember_id.ensures.counts)
+    (subst (λ (z : Scope). ExportsOne z (g.E.ValtypeEncoder.view c.define_kind.new.enc).definitions (g.E.ValtypeEncoder.view c.export.new.enc).definitions (raw_name c.args.name)) c.define_kind.ensures.scope_stays c.in_ok-slot.ensures.counts)))
     c.remember_id.ensures.ok
+
+pub returns-clause-kinds : goal.returns-clause-kinds
+returns-clause-kinds g c = on_ok c.remember_id.result _ _ (λ l. l.rest.kinds ∙ ap (λ (z : TypeEncodingMaps). z.def_to_index.items) (c.export.ensures.maps_stay ∙ c.define_kind.ensures.maps_stay)) c.remember_id.ensures.ok

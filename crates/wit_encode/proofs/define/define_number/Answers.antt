@@ -4,6 +4,7 @@ use Rattle.std.proofs.lemmas.Option.{slice_get_read}
 use Rattle.wit_model.specs.Lookup.{type_at}
 use Rattle.wit_encode.specs.Plan.{foreign_owner}
 use Rattle.wit_encode.specs.Maps.{IsKnown}
+use Rattle.wit_encode.proofs.Learning.{learns-none, learns-call-foreign}
 use Rattle.wit_encode.proofs.Defining.{counts-none}
 use Rattle.wit_encode.proofs.Lists.{some-from}
 use Rattle.wit_encode.proofs.Encoding.{learns-nothing, tabled, foreign-undefined, foreign-unshown}
@@ -15,20 +16,20 @@ use Rattle.wit_encode.proofs.define.define_number.Goals.{After-foreign}
 there : (g : Over) (c : After-foreign g) → type_at c.args.resolve.now c.args.id.0 ≡ Some c.index-def.result.now
 there g c = slice_get_read _ _ _ _ refl c.requires.in_range c.index-def.ensures
 
-owner_is : (g : Over) (c : After-foreign g) → c.foreign.result ≡ foreign_owner (g.E.ValtypeEncoder.scope c.args.enc.now).own_interface c.index-def.result.now.owner
+owner_is : (g : Over) (c : After-foreign g) → c.foreign.result ≡ foreign_owner (g.E.ValtypeEncoder.view c.args.enc.now).scope.own_interface c.index-def.result.now.owner
 owner_is g c = let s = c.index_of.ensures.same in let e = c.interface-own.ensures in let f = c.foreign.ensures in search rules
 
-unknown : (g : Over) (c : After-foreign g) → IsKnown (g.E.LendsMaps.maps_of c.args.enc.now) c.args.id.0 → ⊥
+unknown : (g : Over) (c : After-foreign g) → IsKnown (g.E.ValtypeEncoder.view c.args.enc.now).maps c.args.id.0 → ⊥
 unknown g c k = not-known c.index_of.result (let e : is_some c.index_of.result ≡ false = search rules in e) (c.index_of.ensures.none k)
 
 pub import-requires : goal.import-requires
 import-requires g c = λ _. (
   (refl, tt),
   (let a = (goal.at.import-requires g c).After-foreign in
-      let f : foreign_owner (g.E.ValtypeEncoder.scope c.args.enc.now).own_interface c.index-def.result.now.owner ≡ Some c.in-Some.interface = sym (owner_is g a) ∙ c.in-Some.is in
+      let f : foreign_owner (g.E.ValtypeEncoder.view c.args.enc.now).scope.own_interface c.index-def.result.now.owner ≡ Some c.in-Some.interface = sym (owner_is g a) ∙ c.in-Some.is in
       rw c.index_of.ensures.same (
         c.requires.packages,
-        ((c.requires.fits c.index-def.result.now (there g a)).foreign c.in-Some.interface f, (foreign-undefined c.args.resolve.now (g.E.ValtypeEncoder.scope c.args.enc.now) c.args.id.0 c.index-def.result.now c.in-Some.interface (there g a) f, (foreign-unshown c.args.resolve.now (g.E.ValtypeEncoder.scope c.args.enc.now) c.args.id.0 c.index-def.result.now c.in-Some.interface (there g a) f, (unknown g a, c.requires.agree)))),
+        ((c.requires.fits c.index-def.result.now (there g a)).foreign c.in-Some.interface f, (foreign-undefined c.args.resolve.now (g.E.ValtypeEncoder.view c.args.enc.now).scope c.args.id.0 c.index-def.result.now c.in-Some.interface (there g a) f, (foreign-unshown c.args.resolve.now (g.E.ValtypeEncoder.view c.args.enc.now).scope c.args.id.0 c.index-def.result.now c.in-Some.interface (there g a) f, (unknown g a, c.requires.agree)))),
       )),
 )
 
@@ -36,7 +37,7 @@ pub define_own-requires : goal.define_own-requires
 define_own-requires g c = λ _. (
   (refl, tt),
   (let a = (goal.at.define_own-requires g c).After-foreign in
-      let none : foreign_owner (g.E.ValtypeEncoder.scope c.args.enc.now).own_interface c.index-def.result.now.owner ≡ None = sym (owner_is g a) ∙ c.in_default.is in
+      let none : foreign_owner (g.E.ValtypeEncoder.view c.args.enc.now).scope.own_interface c.index-def.result.now.owner ≡ None = sym (owner_is g a) ∙ c.in_default.is in
       rw c.index_of.ensures.same (
         none,
         (
@@ -50,9 +51,20 @@ define_own-requires g c = λ _. (
 )
 
 pub returns-then-is_some-clause-counts : goal.returns-then-is_some-clause-counts
-returns-then-is_some-clause-counts g c = rw c.index_of.ensures.same (counts-none c.args.resolve.now (g.E.ValtypeEncoder.scope c.args.enc.now) (g.E.LendsMaps.maps_of c.args.enc.now) (g.E.ValtypeEncoder.definitions c.args.enc.now))
+returns-then-is_some-clause-counts g c = rw c.index_of.ensures.same (counts-none c.args.resolve.now (g.E.ValtypeEncoder.view c.args.enc.now).scope (g.E.ValtypeEncoder.view c.args.enc.now).maps (g.E.ValtypeEncoder.view c.args.enc.now).definitions)
 
 pub returns-then-is_some-clause-ok : goal.returns-then-is_some-clause-ok
 returns-then-is_some-clause-ok g c =
-    let k : IsKnown (g.E.LendsMaps.maps_of c.args.enc.now) c.args.id.0 = some-from _ c.index_of.result (search rules) c.index_of.ensures.some in
+    let k : IsKnown (g.E.ValtypeEncoder.view c.args.enc.now).maps c.args.id.0 = some-from _ c.index_of.result (search rules) c.index_of.ensures.some in
     rw c.index_of.ensures.same (record { known = k; only = learns-nothing _ _ })
+
+pub returns-then-is_some-clause-learns : goal.returns-then-is_some-clause-learns
+returns-then-is_some-clause-learns g c = rw c.index_of.ensures.same (learns-none c.args.resolve.now (g.E.ValtypeEncoder.view c.args.enc.now).scope.own_interface (g.E.ValtypeEncoder.view c.args.enc.now).maps)
+
+pub returns-in-Some-clause-learns : goal.returns-in-Some-clause-learns
+returns-in-Some-clause-learns g c =
+    let a = (goal.at.returns-in-Some-clause-learns g c).After-foreign in
+    let f : foreign_owner (g.E.ValtypeEncoder.view c.args.enc.now).scope.own_interface c.index-def.result.now.owner ≡ Some c.in-Some.interface = sym (owner_is g a) ∙ c.in-Some.is in
+    learns-call-foreign c.import.result c.args.resolve.now (g.E.ValtypeEncoder.view c.args.enc.now).scope (g.E.ValtypeEncoder.view c.args.enc.now).maps (g.E.ValtypeEncoder.view c.import.new.enc).maps
+    (g.E.ValtypeEncoder.view c.args.enc.now).definitions (g.E.ValtypeEncoder.view c.import.new.enc).definitions c.args.id.0 c.index-def.result.now (there g a)
+    (rw c.index_of.ensures.same at c.import.ensures.ok) (rw c.index_of.ensures.same at c.import.ensures.leaves.maps_grow) (rw c.index_of.ensures.same at c.import.ensures.counts) (rw c.index_of.ensures.same at c.import.ensures.kinds) c.in-Some.interface f

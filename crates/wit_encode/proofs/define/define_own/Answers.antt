@@ -6,6 +6,7 @@ use Rattle.wit_model.specs.Meant.{type_meaning}
 use Rattle.wit_encode.specs.Kinds.{has_definition}
 use Rattle.wit_encode.specs.Scope.{IsDeclared, exported_name}
 use Rattle.wit_encode.specs.Counts.{is_defined_by_name, own_name}
+use Rattle.wit_encode.proofs.Learning.{learns-call-unnamed, learns-call-named}
 use Rattle.wit_encode.proofs.Encoding.{named-defined, named-shown}
 use Rattle.wit_encode.proofs.Owning.{exported-as, named-tree, declared-here, resource-here}
 use Rattle.wit_encode.proofs.define.define_own.Given.{Over}
@@ -15,17 +16,17 @@ use Rattle.wit_encode.proofs.define.define_own.Goals.{After-name_of-name}
 exported : (g : Over) (c : After-name_of-name g) → raw_name c.name_of-name.result ≡ exported_name ((raw_name c.name_of-name.result).text, type_meaning c.args.resolve.now c.args.def.now)
 exported g c = exported-as _ _ (type_meaning c.args.resolve.now c.args.def.now) refl c.name_of-name.ensures.implements c.name_of-name.ensures.version_suffix c.name_of-name.ensures.external_id
 
-declared : (g : Over) (c : After-name_of-name g) → IsDeclared (g.E.ValtypeEncoder.scope c.args.enc.now) ((raw_name c.name_of-name.result).text, type_meaning c.args.resolve.now c.args.def.now)
-declared g c = declared-here c.args.resolve.now (g.E.ValtypeEncoder.scope c.args.enc.now) c.args.id.0 c.args.def.now c.in-Some.label _ c.requires.fits c.requires.own c.in-Some.is c.name_of-name.ensures.text
+declared : (g : Over) (c : After-name_of-name g) → IsDeclared (g.E.ValtypeEncoder.view c.args.enc.now).scope ((raw_name c.name_of-name.result).text, type_meaning c.args.resolve.now c.args.def.now)
+declared g c = declared-here c.args.resolve.now (g.E.ValtypeEncoder.view c.args.enc.now).scope c.args.id.0 c.args.def.now c.in-Some.label _ c.requires.fits c.requires.own c.in-Some.is c.name_of-name.ensures.text
 
-the_tree : (g : Over) (c : After-name_of-name g) → number_tree c.args.resolve.now c.args.id.0 ≡ named (g.E.ValtypeEncoder.scope c.args.enc.now).place (raw_name c.name_of-name.result).text
+the_tree : (g : Over) (c : After-name_of-name g) → number_tree c.args.resolve.now c.args.id.0 ≡ named (g.E.ValtypeEncoder.view c.args.enc.now).scope.place (raw_name c.name_of-name.result).text
 the_tree g c = named-tree c.args.resolve.now _ c.args.id.0 c.args.def.now c.in-Some.label _ c.requires.same_tree c.in-Some.is (c.requires.fits.placed c.requires.own c.in-Some.label c.in-Some.is) c.name_of-name.ensures.text
 
-by_name : (g : Over) (c : After-name_of-name g) → is_defined_by_name c.args.resolve.now (g.E.ValtypeEncoder.scope c.args.enc.now) c.args.id.0 ≡ has_definition c.args.def.now.kind
-by_name g c = named-defined c.args.resolve.now (g.E.ValtypeEncoder.scope c.args.enc.now) c.args.id.0 c.args.def.now c.in-Some.label c.requires.there c.requires.own c.in-Some.is
+by_name : (g : Over) (c : After-name_of-name g) → is_defined_by_name c.args.resolve.now (g.E.ValtypeEncoder.view c.args.enc.now).scope c.args.id.0 ≡ has_definition c.args.def.now.kind
+by_name g c = named-defined c.args.resolve.now (g.E.ValtypeEncoder.view c.args.enc.now).scope c.args.id.0 c.args.def.now c.in-Some.label c.requires.there c.requires.own c.in-Some.is
 
-shown : (g : Over) (c : After-name_of-name g) → own_name c.args.resolve.now (g.E.ValtypeEncoder.scope c.args.enc.now) c.args.id.0 ≡ Some (raw_name c.name_of-name.result).text
-shown g c = named-shown c.args.resolve.now (g.E.ValtypeEncoder.scope c.args.enc.now) c.args.id.0 c.args.def.now c.in-Some.label c.requires.there c.requires.own c.in-Some.is ∙ ap Some (sym c.name_of-name.ensures.text)
+shown : (g : Over) (c : After-name_of-name g) → own_name c.args.resolve.now (g.E.ValtypeEncoder.view c.args.enc.now).scope c.args.id.0 ≡ Some (raw_name c.name_of-name.result).text
+shown g c = named-shown c.args.resolve.now (g.E.ValtypeEncoder.view c.args.enc.now).scope c.args.id.0 c.args.def.now c.in-Some.label c.requires.there c.requires.own c.in-Some.is ∙ ap Some (sym c.name_of-name.ensures.text)
 
 pub define_resource-requires : goal.define_resource-requires
 define_resource-requires g c = λ _. (
@@ -44,3 +45,18 @@ define_named-requires g c = λ _. (
     (exported g a, (declared g a, (shown g a, (the_tree g a, (by_name g a, (c.requires.ready, (c.requires.fresh, (c.requires.fits.formed c.requires.own, c.requires.agree)))))))),
   )),
 )
+
+pub returns-in-None-clause-learns : goal.returns-in-None-clause-learns
+returns-in-None-clause-learns g c = learns-call-unnamed c.define_unnamed.result c.args.resolve.now (g.E.ValtypeEncoder.view c.args.enc.now).scope (g.E.ValtypeEncoder.view c.args.enc.now).maps (g.E.ValtypeEncoder.view c.define_unnamed.new.enc).maps
+    (g.E.ValtypeEncoder.view c.args.enc.now).definitions (g.E.ValtypeEncoder.view c.define_unnamed.new.enc).definitions c.args.id.0 c.args.def.now c.requires.there
+    c.define_unnamed.ensures.ok c.define_unnamed.ensures.leaves.maps_grow c.define_unnamed.ensures.counts c.define_unnamed.ensures.kinds c.requires.ready c.in-None.is
+
+pub returns-in-Resource-clause-learns : goal.returns-in-Resource-clause-learns
+returns-in-Resource-clause-learns g c = learns-call-named c.define_resource.result c.args.resolve.now (g.E.ValtypeEncoder.view c.args.enc.now).scope (g.E.ValtypeEncoder.view c.args.enc.now).maps (g.E.ValtypeEncoder.view c.define_resource.new.enc).maps
+    (g.E.ValtypeEncoder.view c.args.enc.now).definitions (g.E.ValtypeEncoder.view c.define_resource.new.enc).definitions c.args.id.0 c.args.def.now c.requires.there
+    c.define_resource.ensures.ok c.define_resource.ensures.leaves.maps_grow c.define_resource.ensures.counts c.define_resource.ensures.kinds c.requires.ready c.in-Some.label c.in-Some.is
+
+pub returns-in_default-clause-learns : goal.returns-in_default-clause-learns
+returns-in_default-clause-learns g c = learns-call-named c.define_named.result c.args.resolve.now (g.E.ValtypeEncoder.view c.args.enc.now).scope (g.E.ValtypeEncoder.view c.args.enc.now).maps (g.E.ValtypeEncoder.view c.define_named.new.enc).maps
+    (g.E.ValtypeEncoder.view c.args.enc.now).definitions (g.E.ValtypeEncoder.view c.define_named.new.enc).definitions c.args.id.0 c.args.def.now c.requires.there
+    c.define_named.ensures.ok c.define_named.ensures.leaves.maps_grow c.define_named.ensures.counts c.define_named.ensures.kinds c.requires.ready c.in-Some.label c.in-Some.is

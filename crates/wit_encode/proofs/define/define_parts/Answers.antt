@@ -3,23 +3,24 @@ use Rattle.wit_encode.specs.Scope.{Scope}
 use Rattle.wit_encode.specs.Fits.{Fits}
 use Rattle.wit_encode.specs.Plan.{IsOrderOf, foreign_owner}
 use Rattle.std.proofs.lemmas.List.Elements.{Contains-get_or}
+use Rattle.wit_encode.proofs.Learning.{learns-none, learns-then}
 use Rattle.wit_encode.proofs.Defining.{leaves-trans, leaves-kept, counts-trans, counts-none, none-in}
 use Rattle.wit_encode.proofs.Encoding.{ready-now, known-more, ready-at-last, reaches-in_range, meets-reaches, learns-more, learns-at-last, learns-nothing}
 use Rattle.wit_encode.proofs.define.define_parts.Given.{Over}
 use Rattle.wit_encode.proofs.define.define_parts.Goals as goal
 use Rattle.wit_encode.proofs.define.define_parts.Goals.{After-deref-n-items}
 
-ordered : (g : Over) (c : After-deref-n-items g) → IsOrderOf c.args.resolve.now (g.E.ValtypeEncoder.scope c.args.enc.now).own_interface (g.E.LendsMaps.maps_of c.args.enc.now) c.args.types.now c.deref-n-items.result.now
+ordered : (g : Over) (c : After-deref-n-items g) → IsOrderOf c.args.resolve.now (g.E.ValtypeEncoder.view c.args.enc.now).scope.own_interface (g.E.ValtypeEncoder.view c.args.enc.now).maps c.args.types.now c.deref-n-items.result.now
 ordered g c = rw c.deref-n-items.ensures.value c.in_ok-order.ensures.order
 
 pub define_number-requires : goal.define_number-requires
 define_number-requires g c = λ _. (
   (refl, tt),
   (let o = ordered g (goal.at.define_number-requires g c).After-deref-n-items in
-      let s : g.E.ValtypeEncoder.scope c.loop-n.enc ≡ g.E.ValtypeEncoder.scope c.args.enc.now = c.loop-n.invariant.leaves.scope_stays in
+      let s : (g.E.ValtypeEncoder.view c.loop-n.enc).scope ≡ (g.E.ValtypeEncoder.view c.args.enc.now).scope = c.loop-n.invariant.leaves.scope_stays in
       let n = get_or c.deref-n-items.result.now c.loop-n.n-index 0 in
       let met = o.added n (Contains-get_or _ _ 0 c.loop-n-test.true) in
-      let fits : Fits c.args.resolve.now (g.E.ValtypeEncoder.scope c.args.enc.now) (get_or c.deref-n-items.result.now c.loop-n.n-index 0) = c.requires.encodable.fits met.0 met.1 n (meets-reaches c.args.resolve.now _ _ met.0 n met.2) in (
+      let fits : Fits c.args.resolve.now (g.E.ValtypeEncoder.view c.args.enc.now).scope (get_or c.deref-n-items.result.now c.loop-n.n-index 0) = c.requires.encodable.fits met.0 met.1 n (meets-reaches c.args.resolve.now _ _ met.0 n met.2) in (
         ap (λ (x : Scope). x.packages) s ∙ c.requires.encodable.packages_,
         (
           c.requires.encodable.layered,
@@ -28,7 +29,7 @@ define_number-requires g c = λ _. (
             (
               subst (λ (x : Scope). Fits c.args.resolve.now x (get_or c.deref-n-items.result.now c.loop-n.n-index 0)) (sym s) fits,
               (
-                (λ def at f. ready-now c.args.resolve.now (g.E.ValtypeEncoder.scope c.args.enc.now).own_interface (g.E.LendsMaps.maps_of c.args.enc.now) (g.E.LendsMaps.maps_of c.loop-n.enc) _ c.loop-n.n-index o.ordered c.loop-n-test.true c.loop-n.invariant.leaves.maps_grow c.loop-n.invariant.known def at
+                (λ def at f. ready-now c.args.resolve.now (g.E.ValtypeEncoder.view c.args.enc.now).scope.own_interface (g.E.ValtypeEncoder.view c.args.enc.now).maps (g.E.ValtypeEncoder.view c.loop-n.enc).maps _ c.loop-n.n-index o.ordered c.loop-n-test.true c.loop-n.invariant.leaves.maps_grow c.loop-n.invariant.known def at
                     (sym (ap (λ (x : Scope). foreign_owner x.own_interface def.owner) s) ∙ f)),
                 c.loop-n.invariant.leaves.agree,
               ),
@@ -40,24 +41,29 @@ define_number-requires g c = λ _. (
 
 pub loop-n-preserved : goal.loop-n-preserved
 loop-n-preserved g c = record {
-  known = known-more (g.E.LendsMaps.maps_of c.loop-n.enc) (g.E.LendsMaps.maps_of c.define_number.new.enc) c.deref-n-items.result.now c.loop-n.n-index c.loop-n-test.true c.define_number.ensures.leaves.maps_grow c.loop-n.invariant.known c.in_ok-define_number.ensures.ok.known;
-  learns = learns-more (g.E.LendsMaps.maps_of c.args.enc.now) (g.E.LendsMaps.maps_of c.loop-n.enc) (g.E.LendsMaps.maps_of c.define_number.new.enc) c.deref-n-items.result.now c.loop-n.n-index c.loop-n-test.true c.loop-n.invariant.learns c.in_ok-define_number.ensures.ok;
+  known = known-more (g.E.ValtypeEncoder.view c.loop-n.enc).maps (g.E.ValtypeEncoder.view c.define_number.new.enc).maps c.deref-n-items.result.now c.loop-n.n-index c.loop-n-test.true c.define_number.ensures.leaves.maps_grow c.loop-n.invariant.known c.in_ok-define_number.ensures.ok.known;
+  learns = learns-more (g.E.ValtypeEncoder.view c.args.enc.now).maps (g.E.ValtypeEncoder.view c.loop-n.enc).maps (g.E.ValtypeEncoder.view c.define_number.new.enc).maps c.deref-n-items.result.now c.loop-n.n-index c.loop-n-test.true c.loop-n.invariant.learns c.in_ok-define_number.ensures.ok;
+  learnt = learns-then (ap (λ (x : Scope). x.own_interface) c.loop-n.invariant.leaves.scope_stays) c.loop-n.invariant.learnt c.in_ok-define_number.ensures.learns;
   leaves = leaves-trans c.loop-n.invariant.leaves c.define_number.ensures.leaves;
   counts = counts-trans c.loop-n.invariant.leaves.scope_stays c.loop-n.invariant.counts c.in_ok-define_number.ensures.counts;
 }
 
 pub returns-clause-ready : goal.returns-clause-ready
-returns-clause-ready g c = ready-at-last c.args.resolve.now (g.E.ValtypeEncoder.scope c.args.enc.now).own_interface (g.E.LendsMaps.maps_of c.args.enc.now) (g.E.LendsMaps.maps_of c.loop-n.enc) c.args.types.now c.deref-n-items.result.now c.loop-n.n-index
+returns-clause-ready g c = ready-at-last c.args.resolve.now (g.E.ValtypeEncoder.view c.args.enc.now).scope.own_interface (g.E.ValtypeEncoder.view c.args.enc.now).maps (g.E.ValtypeEncoder.view c.loop-n.enc).maps c.args.types.now c.deref-n-items.result.now c.loop-n.n-index
     (ordered g (goal.at.returns-clause-ready g c).After-deref-n-items) c.loop-n-test.false c.loop-n.invariant.leaves.maps_grow c.loop-n.invariant.known
 
 pub returns-clause-learns : goal.returns-clause-learns
-returns-clause-learns g c = learns-at-last c.args.resolve.now (g.E.ValtypeEncoder.scope c.args.enc.now).own_interface (g.E.LendsMaps.maps_of c.args.enc.now) (g.E.LendsMaps.maps_of c.loop-n.enc) c.args.types.now c.deref-n-items.result.now c.loop-n.n-index
-    (ordered g (goal.at.returns-clause-learns g c).After-deref-n-items) c.loop-n-test.false c.loop-n.invariant.learns
+returns-clause-learns g c = record {
+  learns = c.loop-n.invariant.learnt;
+  only = learns-at-last c.args.resolve.now (g.E.ValtypeEncoder.view c.args.enc.now).scope.own_interface (g.E.ValtypeEncoder.view c.args.enc.now).maps (g.E.ValtypeEncoder.view c.loop-n.enc).maps c.args.types.now c.deref-n-items.result.now c.loop-n.n-index
+      (ordered g (goal.at.returns-clause-learns g c).After-deref-n-items) c.loop-n-test.false c.loop-n.invariant.learns;
+}
 
 pub loop-n-init : goal.loop-n-init
 loop-n-init g c = rw c.order_of.ensures.same (record {
   known = λ j k. none-in j k;
-  learns = learns-nothing _ (g.E.LendsMaps.maps_of c.args.enc.now);
+  learns = learns-nothing _ (g.E.ValtypeEncoder.view c.args.enc.now).maps;
+  learnt = learns-none c.args.resolve.now (g.E.ValtypeEncoder.view c.args.enc.now).scope.own_interface (g.E.ValtypeEncoder.view c.args.enc.now).maps;
   leaves = leaves-kept c.requires.agree (record { kept = λ i s h. h; more = omega arith }) refl refl;
-  counts = counts-none c.args.resolve.now (g.E.ValtypeEncoder.scope c.args.enc.now) (g.E.LendsMaps.maps_of c.args.enc.now) (g.E.ValtypeEncoder.definitions c.args.enc.now);
+  counts = counts-none c.args.resolve.now (g.E.ValtypeEncoder.view c.args.enc.now).scope (g.E.ValtypeEncoder.view c.args.enc.now).maps (g.E.ValtypeEncoder.view c.args.enc.now).definitions;
 })

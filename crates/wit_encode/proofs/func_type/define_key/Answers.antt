@@ -1,11 +1,11 @@
-use Rattle.std.proofs.Common.{ap, refl, ◌∙◌, sym, subst}
+use Rattle.std.proofs.Common.{refl, ◌∙◌, sym, subst}
 use Rattle.wit_model.specs.Meaning.{Signature}
 use Rattle.wit_model.specs.Meant.{signature_of}
 use Rattle.wit_encode.specs.declared.maps.TypeEncodingMaps.{TypeEncodingMaps}
 use Rattle.wit_encode.specs.Maps.{LearnsKey}
 use Rattle.wit_encode.specs.Slots.{function}
 use Rattle.wit_encode.proofs.Defining.{leaves-kept, leaves-trans}
-use Rattle.wit_encode.proofs.Encoding.{learns-same}
+use Rattle.wit_encode.proofs.Learning.{met-key}
 use Rattle.wit_encode.proofs.Functions.{key-signature, counts-key, lacks-same}
 use Rattle.wit_encode.proofs.func_type.define_key.Given.{Over}
 use Rattle.wit_encode.proofs.func_type.define_key.Goals as goal
@@ -17,17 +17,17 @@ function_of-requires g c = λ _. ((refl, tt), (c.requires.encodable, (c.requires
 pub define_function_type-requires : goal.define_function_type-requires
 define_function_type-requires g c = λ _. ((refl, tt), (_, c.in_ok-def.ensures.ok, rw c.function_of.ensures.leaves.scope_stays c.requires.formed))
 
-stands : (g : Over) (c : In_ok-index g) → g.E.ValtypeEncoder.stands c.define_function_type.new.self c.in_ok-index.index (function (signature_of c.args.resolve.now c.args.func.now))
+stands : (g : Over) (c : In_ok-index g) → (g.E.ValtypeEncoder.view c.define_function_type.new.self).stands c.in_ok-index.index (function (signature_of c.args.resolve.now c.args.func.now))
 stands g c = c.in_ok-index.ensures.ok.adds.new (function (signature_of c.args.resolve.now c.args.func.now)) c.in_ok-def.ensures.ok
 
 pub remember_key-requires : goal.remember_key-requires
 remember_key-requires g c = λ _. (
   (refl, tt),
   (
-    subst (λ (s : Signature). g.E.ValtypeEncoder.stands c.define_function_type.new.self c.in_ok-index.index (function s)) (sym (key-signature c.args.resolve.now c.args.key c.args.func.now c.requires.is_key)) (stands g (goal.at.remember_key-requires g c).In_ok-index),
+    subst (λ (s : Signature). (g.E.ValtypeEncoder.view c.define_function_type.new.self).stands c.in_ok-index.index (function s)) (sym (key-signature c.args.resolve.now c.args.key c.args.func.now c.requires.is_key)) (stands g (goal.at.remember_key-requires g c).In_ok-index),
     (
-      rw c.define_function_type.ensures.maps_stay (lacks-same (g.E.LendsMaps.maps_of c.args.enc.now) (g.E.LendsMaps.maps_of c.function_of.new.enc) c.args.key c.in_ok-def.ensures.counts.keys c.requires.lacks),
-      (leaves-kept c.function_of.ensures.leaves.agree c.define_function_type.ensures.grows c.define_function_type.ensures.scope_stays c.define_function_type.ensures.maps_stay).agree,
+      rw c.define_function_type.ensures.maps_stay (lacks-same (g.E.ValtypeEncoder.view c.args.enc.now).maps (g.E.ValtypeEncoder.view c.function_of.new.enc).maps c.args.key c.in_ok-def.ensures.counts.keys c.requires.lacks),
+      (leaves-kept {v = g.E.ValtypeEncoder.view c.function_of.new.enc} {v' = g.E.ValtypeEncoder.view c.define_function_type.new.self} c.function_of.ensures.leaves.agree c.define_function_type.ensures.grows c.define_function_type.ensures.scope_stays c.define_function_type.ensures.maps_stay).agree,
     ),
   ),
 )
@@ -36,15 +36,15 @@ pub returns-clause-ok : goal.returns-clause-ok
 returns-clause-ok g c = c.remember_key.ensures.leaves.grows.kept c.in_ok-index.index _ (stands g (goal.at.returns-clause-ok g c).In_ok-index)
 
 pub returns-clause-leaves : goal.returns-clause-leaves
-returns-clause-leaves g c = leaves-trans c.function_of.ensures.leaves (leaves-trans (leaves-kept c.function_of.ensures.leaves.agree c.define_function_type.ensures.grows c.define_function_type.ensures.scope_stays c.define_function_type.ensures.maps_stay) c.remember_key.ensures.leaves)
+returns-clause-leaves g c = leaves-trans c.function_of.ensures.leaves (leaves-trans (leaves-kept {v = g.E.ValtypeEncoder.view c.function_of.new.enc} {v' = g.E.ValtypeEncoder.view c.define_function_type.new.self} c.function_of.ensures.leaves.agree c.define_function_type.ensures.grows c.define_function_type.ensures.scope_stays c.define_function_type.ensures.maps_stay) c.remember_key.ensures.leaves)
 
 pub returns-clause-counts : goal.returns-clause-counts
 returns-clause-counts g c =
-    counts-key c.args.resolve.now (g.E.ValtypeEncoder.scope c.args.enc.now) (g.E.LendsMaps.maps_of c.args.enc.now) (g.E.LendsMaps.maps_of c.function_of.new.enc) (g.E.LendsMaps.maps_of c.remember_key.new.enc) (g.E.ValtypeEncoder.definitions c.args.enc.now) (g.E.ValtypeEncoder.definitions c.function_of.new.enc) (g.E.ValtypeEncoder.definitions c.remember_key.new.enc) c.args.key c.in_ok-index.index
+    counts-key c.args.resolve.now (g.E.ValtypeEncoder.view c.args.enc.now).scope (g.E.ValtypeEncoder.view c.args.enc.now).maps (g.E.ValtypeEncoder.view c.function_of.new.enc).maps (g.E.ValtypeEncoder.view c.remember_key.new.enc).maps (g.E.ValtypeEncoder.view c.args.enc.now).definitions (g.E.ValtypeEncoder.view c.function_of.new.enc).definitions (g.E.ValtypeEncoder.view c.remember_key.new.enc).definitions c.args.key c.in_ok-index.index
     c.requires.lacks c.in_ok-def.ensures.counts
-    (subst (λ (z : TypeEncodingMaps). LearnsKey z (g.E.LendsMaps.maps_of c.remember_key.new.enc) c.args.key c.in_ok-index.index) c.define_function_type.ensures.maps_stay c.in_ok-remember_key.ensures.ok)
+    (subst (λ (z : TypeEncodingMaps). LearnsKey z (g.E.ValtypeEncoder.view c.remember_key.new.enc).maps c.args.key c.in_ok-index.index) c.define_function_type.ensures.maps_stay c.in_ok-remember_key.ensures.ok)
     (c.remember_key.ensures.counts ∙ c.in_ok-index.ensures.counts)
 
 pub returns-clause-learns : goal.returns-clause-learns
-returns-clause-learns g c = learns-same (g.E.LendsMaps.maps_of c.args.enc.now) (g.E.LendsMaps.maps_of c.function_of.new.enc) (g.E.LendsMaps.maps_of c.remember_key.new.enc) c.in_ok-def.ensures.learns
-    (c.in_ok-remember_key.ensures.ok.rest.numbers ∙ ap (λ (z : TypeEncodingMaps). z.id_to_index.items) c.define_function_type.ensures.maps_stay)
+returns-clause-learns g c = met-key c.args.resolve.now (g.E.ValtypeEncoder.view c.args.enc.now).scope.own_interface (g.E.ValtypeEncoder.view c.args.enc.now).maps (g.E.ValtypeEncoder.view c.function_of.new.enc).maps _ (g.E.ValtypeEncoder.view c.remember_key.new.enc).maps
+    c.args.key c.in_ok-index.index c.args.func.now c.requires.is_key c.in_ok-def.ensures.learns c.in_ok-def.ensures.knows c.define_function_type.ensures.maps_stay c.in_ok-remember_key.ensures.ok c.remember_key.ensures.leaves.maps_grow

@@ -1,19 +1,19 @@
 use Rattle.std.proofs.Common.{ap, refl, map, option_to_list}
 use Rattle.wit_encode.specs.Slots.{NamedStands}
 use Rattle.wit_encode.specs.Scope.{Scope}
-use Rattle.wit_encode.proofs.Encoding.{learns-both}
+use Rattle.wit_encode.proofs.Learning.{met-both, ready-both}
 use Rattle.wit_encode.proofs.Functions.{encode-left, encode-right}
 use Rattle.wit_encode.proofs.Defining.{leaves-trans, counts-trans, zip-kept, stands-more}
 use Rattle.wit_encode.proofs.func_type.function_of.Goals as goal
 
 pub encode_params-requires : goal.encode_params-requires
-encode_params-requires g c = λ _. ((refl, tt), (rw c.deref.ensures.value (encode-left c.args.resolve.now (g.E.ValtypeEncoder.scope c.args.enc.now) (map (λ p. p.ty) c.args.func.now.params.items) (option_to_list c.args.func.now.result) c.requires.encodable), c.requires.agree))
+encode_params-requires g c = λ _. ((refl, tt), (rw c.deref.ensures.value (encode-left c.args.resolve.now (g.E.ValtypeEncoder.view c.args.enc.now).scope (map (λ p. p.ty) c.args.func.now.params.items) (option_to_list c.args.func.now.result) c.requires.encodable), c.requires.agree))
 
 pub encode_optional_valtype-requires : goal.encode_optional_valtype-requires
 encode_optional_valtype-requires g c = λ _. (
   (refl, tt),
   (
-    rw c.as_ref.ensures.value (encode-right c.args.resolve.now (g.E.ValtypeEncoder.scope c.args.enc.now) (g.E.ValtypeEncoder.scope c.encode_params.new.enc) (map (λ p. p.ty) c.args.func.now.params.items) (option_to_list c.args.func.now.result) c.encode_params.ensures.leaves.scope_stays c.requires.encodable),
+    rw c.as_ref.ensures.value (encode-right c.args.resolve.now (g.E.ValtypeEncoder.view c.args.enc.now).scope (g.E.ValtypeEncoder.view c.encode_params.new.enc).scope (map (λ p. p.ty) c.args.func.now.params.items) (option_to_list c.args.func.now.result) c.encode_params.ensures.leaves.scope_stays c.requires.encodable),
     c.encode_params.ensures.leaves.agree,
   ),
 )
@@ -21,7 +21,7 @@ encode_optional_valtype-requires g c = λ _. (
 pub returns-clause-ok : goal.returns-clause-ok
 returns-clause-ok g c = record {
   async = c.requires.asynchronous;
-  params = zip-kept (NamedStands (g.E.ValtypeEncoder.stands c.encode_params.new.enc)) (NamedStands (g.E.ValtypeEncoder.stands c.encode_optional_valtype.new.enc)) (λ x f w. (w.0, stands-more _ _ c.encode_optional_valtype.ensures.leaves.grows.kept x.1 f.1 w.1)) _ _ (rw c.deref.ensures.value at c.in_ok-params.ensures.ok);
+  params = zip-kept (NamedStands (g.E.ValtypeEncoder.view c.encode_params.new.enc).stands) (NamedStands (g.E.ValtypeEncoder.view c.encode_optional_valtype.new.enc).stands) (λ x f w. (w.0, stands-more _ _ c.encode_optional_valtype.ensures.leaves.grows.kept x.1 f.1 w.1)) _ _ (rw c.deref.ensures.value at c.in_ok-params.ensures.ok);
   result_ = rw c.as_ref.ensures.value at c.in_ok-result.ensures.ok;
 }
 
@@ -33,6 +33,10 @@ returns-clause-counts g c = counts-trans c.encode_params.ensures.leaves.scope_st
 
 pub returns-clause-learns : goal.returns-clause-learns
 returns-clause-learns g c =
-    learns-both c.args.resolve.now (g.E.ValtypeEncoder.scope c.args.enc.now).own_interface (g.E.ValtypeEncoder.scope c.encode_params.new.enc).own_interface (g.E.LendsMaps.maps_of c.args.enc.now) (g.E.LendsMaps.maps_of c.encode_params.new.enc) (g.E.LendsMaps.maps_of c.encode_optional_valtype.new.enc)
+    met-both c.args.resolve.now (g.E.ValtypeEncoder.view c.args.enc.now).scope.own_interface (g.E.ValtypeEncoder.view c.encode_params.new.enc).scope.own_interface (g.E.ValtypeEncoder.view c.args.enc.now).maps (g.E.ValtypeEncoder.view c.encode_params.new.enc).maps (g.E.ValtypeEncoder.view c.encode_optional_valtype.new.enc).maps
     (map (λ p. p.ty) c.args.func.now.params.items) (option_to_list c.args.func.now.result)
-    (ap (λ (z : Scope). z.own_interface) c.encode_params.ensures.leaves.scope_stays) c.encode_params.ensures.leaves.maps_grow (rw c.deref.ensures.value at c.in_ok-params.ensures.learns) (rw c.as_ref.ensures.value at c.in_ok-result.ensures.learns)
+    (ap (λ (z : Scope). z.own_interface) c.encode_params.ensures.leaves.scope_stays) (rw c.deref.ensures.value at c.in_ok-params.ensures.learns) (rw c.as_ref.ensures.value at c.in_ok-result.ensures.learns)
+
+pub returns-clause-knows : goal.returns-clause-knows
+returns-clause-knows g c = ready-both (g.E.ValtypeEncoder.view c.encode_params.new.enc).maps (g.E.ValtypeEncoder.view c.encode_optional_valtype.new.enc).maps (map (λ p. p.ty) c.args.func.now.params.items) (option_to_list c.args.func.now.result)
+    c.encode_optional_valtype.ensures.leaves.maps_grow (rw c.deref.ensures.value at c.in_ok-params.ensures.knows) (rw c.as_ref.ensures.value at c.in_ok-result.ensures.knows)

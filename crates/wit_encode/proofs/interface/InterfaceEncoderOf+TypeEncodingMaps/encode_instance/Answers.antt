@@ -7,6 +7,7 @@ use Rattle.wit_encode.specs.Distinct.{DefinesTypes}
 use Rattle.wit_encode.specs.Instance.{placed_function, EncodesInterface, CanEncodeInterface}
 use Rattle.wit_encode.proofs.Encodable.{valid-encodable}
 use Rattle.wit_encode.proofs.Lists.{contains-map}
+use Rattle.wit_encode.proofs.Outside.{closed-keeps}
 use Rattle.wit_encode.proofs.Opening.{closes, close-each, permuted-contains}
 use Rattle.wit_encode.specs.Exports.{UsesListed}
 use Rattle.wit_encode.proofs.Exporting.{uses-listed}
@@ -50,3 +51,7 @@ returns-clause-ok c =
     close-each c.close.result (λ def. interface_at c.args.self.now.resolve.now c.args.interface.0 ≡ Some def) (λ def k. EncodesInterface c.args.self.now.resolve.now c.args.self.now.outer c.close.new.self.outer c.args.interface def k) c.index-def.result.now (there at)
     (λ def is. closes c.close.result c.args.self.now.resolve.now c.args.self.now.outer c.encode_inside.new.self.outer c.close.new.self.outer c.args.interface def c.index-def.result.now c.in_ok-declared.declared c.in_ok-functions.functions.items c.deref-2.result.now
     (sym (there at) ∙ is) c.encode_inside.ensures.outer c.deref-2.ensures.value c.in_ok-functions.ensures.all c.in_ok-functions.ensures.order c.in_ok-declared.ensures.function_types (subst (λ (ts : List TypeId). DefinesTypes c.args.self.now.resolve.now c.args.interface ts c.in_ok-declared.declared) (c.deref.ensures.value ∙ c.in_ok-types.ensures) c.in_ok-declared.ensures.value_types) c.in_ok-declared.ensures.ok c.close.ensures.ok c.requires.valid is)
+
+pub returns-clause-stands : goal.returns-clause-stands
+returns-clause-stands c = closed-keeps c.close.result c.args.self.now.resolve.now c.close.new.self.resolve.now c.args.self.now.outer c.encode_inside.new.self.outer c.close.new.self.outer c.args.self.now.inner c.close.new.self.inner c.in_ok-declared.declared c.requires.closed
+    ((λ i. (c.close.ensures.rest i).inner) ∙ c.encode_inside.ensures.closed) c.encode_inside.ensures.outer c.close.ensures.ok

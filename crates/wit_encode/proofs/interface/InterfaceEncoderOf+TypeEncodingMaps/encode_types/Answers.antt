@@ -35,7 +35,7 @@ loop-id-preserved c = record {
   leaves = leaves-trans c.loop-id.invariant.leaves c.encode_valtype.ensures.leaves;
   first = exports-next c.args.resolve.now c.requires.valid (encoder_scope c.args.self.now.resolve.now c.args.self.now.outer c.args.self.now.inner) c.args.types.now c.requires.listed (ap (λ (z : Resolve). declarations_in z (own_of c.args.self.now.inner)) c.requires.packages)
       c.loop-id.id-index (get_or c.args.types.now c.loop-id.id-index (record { 0 = 0 })) (slice_get-get_or c.args.types.now c.loop-id.id-index (record { 0 = 0 }) c.loop-id-test.true) _ c.loop-id.invariant.leaves.scope_stays _ _ _ _
-      c.loop-id.invariant.first c.encode_valtype.ensures.leaves.agree.once c.encode_valtype.ensures.leaves.maps_grow c.in_ok-encode_valtype.ensures.knows c.in_ok-encode_valtype.ensures.learns c.in_ok-encode_valtype.ensures.counts.shows;
+      c.loop-id.invariant.first c.encode_valtype.ensures.leaves.agree.once c.encode_valtype.ensures.leaves.maps_grow c.in_ok-encode_valtype.ensures.knows c.in_ok-encode_valtype.ensures.learns.only c.in_ok-encode_valtype.ensures.counts.shows;
   counts = counts-trans c.loop-id.invariant.leaves.scope_stays c.loop-id.invariant.counts c.in_ok-encode_valtype.ensures.counts;
 }
 

@@ -1,0 +1,428 @@
+-- What is met from the types and functions of an owner is of the owner, or of an interface that it uses: where an instance of each of
+-- these stands, all of it can be encoded in the scope of the owner.
+use Rattle.std.proofs.Common.{◌≡◌, refl, sym, subst, ap, ◌∙◌, ℕ, ◌+◌, ◌<◌, ◌⊎◌, inl, inr, Bool, true, false, not, cond, ◌&&◌, ◌==◌, eq-eqb, List, [], ◌∷◌, length, option_to_list, Option, Some, None, String, unwrap_or, is_some, arith}
+use Rattle.std.proofs.lemmas.Bool.{ltb-true}
+use Rattle.std.proofs.lemmas.List.Folds.{list_all-append}
+use Rattle.std.specs.declared.alloc.Global.{Global}
+use Rattle.std.specs.List.{Contains, list_all}
+use Rattle.std.specs.Option.{option_map_or}
+use Rattle.std.specs.Prelude.{map, option_and_then, filter_map}
+use Rattle.std.proofs.lemmas.Option.{slice_get_within}
+use Rattle.std.proofs.lemmas.List.Elements.{Contains-append_left}
+use Rattle.indexmap.specs.IndexMap.{values}
+use Rattle.wit_model.specs.Text.{text_of}
+use Rattle.wit_model.specs.Types.{number_of}
+use Rattle.wit_model.specs.Lookup.{type_at, interface_at, world_at, place_of, resource_of, is_async}
+use Rattle.wit_model.specs.Meant.{type_meaning}
+use Rattle.wit_model.specs.Uses.{alias_target, owner_interface, items_of}
+use Rattle.wit_model.specs.Parts.{met_by, met_of, same_owner, has_owner, function_types, function_numbers, is_resource_type}
+use Rattle.wit_model.specs.Rules.{in_list, is_use, passes, package_number, function_in_range, function_stays, item_in_range, key_in_range, entries_in_range}
+use Rattle.wit_model.specs.Valid.{Rule, Keeps, IsValid, numbers_in_range, owners, handles, is_place, functions_of_interface, functions_of_world, item_function}
+use Rattle.wit_model.specs.declared.model.Resolve.{Resolve}
+use Rattle.wit_model.specs.declared.model.Interface.{Interface}
+use Rattle.wit_model.specs.declared.model.World.{World}
+use Rattle.wit_model.specs.declared.model.WorldId.{WorldId}
+use Rattle.wit_model.specs.declared.model.WorldKey.{WorldKey}
+use Rattle.wit_model.specs.declared.model.WorldItem.{WorldItem}
+use Rattle.wit_model.specs.declared.model.WorldItem.TheVariants as item
+use Rattle.wit_model.specs.declared.model.InterfaceId.{InterfaceId}
+use Rattle.wit_model.specs.declared.model.Function.{Function}
+use Rattle.wit_model.specs.declared.model.TypeDef.{TypeDef}
+use Rattle.wit_model.specs.declared.model.TypeDefKind.{TypeDefKind}
+use Rattle.wit_model.specs.declared.model.TypeId.{TypeId}
+use Rattle.wit_model.specs.declared.model.TypeOwner.{TypeOwner}
+use Rattle.wit_model.specs.declared.model.TypeOwner.TheVariants as owner
+use Rattle.wit_model.specs.declared.model.«Type».{«Type» as ValueType}
+use Rattle.wit_model.specs.declared.model.«Type».TheVariants as ty
+use Rattle.wit_model.proofs.Lists.{first_true, second_true, list_all_filter_map}
+use Rattle.wit_model.proofs.Entries.{each_from_at, lists_pass}
+use Rattle.wit_model.proofs.Owners.{named_met}
+use Rattle.wit_model.proofs.Functions.{all_flat}
+use Rattle.wit_encode.specs.Kinds.{parts_of}
+use Rattle.wit_encode.specs.Plan.{foreign_owner, AllInRange, Reaches, itself, through}
+use Rattle.wit_encode.specs.Resources.{is_named_interface, is_met_owner}
+use Rattle.wit_encode.specs.Fits.{FitsScope, CanEncode}
+use Rattle.wit_encode.specs.Scope.{Scope, IsDeclared, IsImportable}
+use Rattle.wit_encode.specs.Table.{interface_of_owner, has_named_owner}
+use Rattle.wit_encode.specs.OwnerScope.{IsScopeOf, IsMet, IsOfInstance, NamesStand, InstancesStand, IsUsedBy, UsesStand, IsTypeOf, functions_of, NamesEncode, TypesEncode, FunctionsEncode, TypesUse, FunctionsUse, TableScope}
+use Rattle.wit_encode.proofs.Lists.{all-contained, one-contained, both, contains-one, contains-filter_map}
+use Rattle.wit_encode.proofs.Forming.{Agree}
+use Rattle.wit_encode.proofs.Owned.{same-owner, valid-references, stays, part-met, own-interface, alias-part}
+use Rattle.wit_encode.proofs.Paths.{equal-numbers, some-of, some-same}
+use Rattle.wit_encode.proofs.Naming.{or-first, or-second, one-home, named-owner, names-agree}
+use Rattle.wit_encode.proofs.Validity.{OwnersMet, valid-layered, valid-unnamed, valid-ownerless, valid-formed, signature-formed, interface_passes, has-name, named-agree, named-parts, named-alike, foreign-interface, declared-there}
+
+-- ---- owners
+
+owner-itself : (o : TypeOwner) → same_owner o o ≡ true
+owner-itself (owner.World w) = eq-eqb w.0 w.0 refl
+owner-itself (owner.Interface i) = eq-eqb i.0 i.0 refl
+owner-itself owner.None = refl
+
+is-owned : (a o : TypeOwner) → a ≡ o → same_owner a o ≡ true
+is-owned a o e = subst (λ (x : TypeOwner). same_owner x o ≡ true) (sym e) (owner-itself o)
+
+own-met : (r : Resolve) (o a : TypeOwner) → a ≡ o → is_met_owner r o a ≡ true
+own-met r o a e = or-first (same_owner o a) (is_named_interface r a) (is-owned o a (sym e))
+
+-- a type of the owner isn't foreign
+at-home : (o a : TypeOwner) → a ≡ o → foreign_owner (interface_of_owner o) a ≡ None
+at-home o a e = subst (λ (x : TypeOwner). foreign_owner (interface_of_owner o) x ≡ None) (sym e) (go o)
+  where
+    go : (o : TypeOwner) → foreign_owner (interface_of_owner o) o ≡ None
+    go (owner.World w) = refl
+    go (owner.Interface i) = ap (λ b. cond b None (Some i)) (eq-eqb i.0 i.0 refl)
+    go owner.None = refl
+
+-- nor is an unnamed one
+unnamed-home : (r : Resolve) → IsValid r → (own : Option InterfaceId) (n : ℕ) (def : TypeDef) → type_at r n ≡ Some def → def.name ≡ None → foreign_owner own def.owner ≡ None
+unnamed-home r v own n def is e = ap (foreign_owner own) (same-owner def.owner owner.None (valid-ownerless r v n def is e))
+
+no-some : {A P : Type 0} {x : A} (o : Option A) → o ≡ None → o ≡ Some x → P
+no-some o e f = absurd (let wrong = sym e ∙ f in let z : ⊥ = cc in z)
+
+-- a type of another interface has a name
+foreign-named : (r : Resolve) → IsValid r → (own : Option InterfaceId) (n : ℕ) (def : TypeDef) (i : InterfaceId) → type_at r n ≡ Some def → foreign_owner own def.owner ≡ Some i
+    → (name : String Global) × (def.name ≡ Some name)
+foreign-named r v own n def i is f = go def.name refl
+  where
+    go : (o : Option (String Global)) → def.name ≡ o → (name : String Global) × (def.name ≡ Some name)
+    go None e = no-some (foreign_owner own def.owner) (unnamed-home r v own n def is e) f
+    go (Some name) e = (name, e)
+
+-- ---- what is met
+
+-- a part of what is met is met, where it isn't a type of another interface
+part-reached : (r : Resolve) (own : Option InterfaceId) (t : ValueType) (n : ℕ) → Reaches r own t n → (def : TypeDef) → type_at r n ≡ Some def → foreign_owner own def.owner ≡ None
+    → (id : TypeId) → Contains (parts_of def.kind) (ty.Id id) → Reaches r own t id.0
+part-reached r own _ _ (itself x) def is f id c = through x def (ty.Id id) id.0 is f c (itself id)
+part-reached r own _ _ (through x d t n at g p re) def is f id c = through x d t id.0 at g p (part-reached r own t n re def is f id c)
+
+module _ (r : Resolve) (v : IsValid r) (o : TypeOwner) (scope : Scope) (s : IsScopeOf r o scope) where
+  -- the same owner, where a type of an interface isn't foreign
+  own-home : (def : TypeDef) → (def.owner ≡ o) ⊎ IsOfInstance r scope def → foreign_owner scope.own_interface def.owner ≡ None → def.owner ≡ o
+  own-home def (inl e) f = e
+  own-home def (inr h) f = same-owner def.owner o
+      (own-interface o def.owner h.interface.0 (ap owner_interface h.owned) (ap (λ x. foreign_owner x def.owner) (sym s.own) ∙ f))
+
+  met-owner : (def : TypeDef) → (def.owner ≡ o) ⊎ IsOfInstance r scope def → is_met_owner r o def.owner ≡ true
+  met-owner def (inl e) = own-met r o def.owner e
+  met-owner def (inr h) = or-second (same_owner o def.owner) (is_named_interface r def.owner) h.named_
+
+  module _ (ts : List ValueType) (stand : NamesStand r o scope ts) where
+    -- the parts of what is met belong to owners that are met
+    parts-met : (n : ℕ) (def : TypeDef) → IsMet r scope ts n → type_at r n ≡ Some def → foreign_owner scope.own_interface def.owner ≡ None
+        → OwnersMet r (is_met_owner r o) (parts_of def.kind)
+    parts-met n def m is f t c id e def' is' named =
+        let met : Reaches r scope.own_interface m.0 id.0 = part-reached r scope.own_interface m.0 n m.2 def is f id (subst (λ (x : ValueType). Contains (parts_of def.kind) x) e c) in
+        met-owner def' (stand id.0 def' (m.0, m.1, met) is' named)
+
+    imports : (n : ℕ) (def : TypeDef) → IsMet r scope ts n → type_at r n ≡ Some def → (i : InterfaceId) → foreign_owner scope.own_interface def.owner ≡ Some i → IsImportable scope i.0 n
+    imports n def m is i f = go (stand n def m is (has-name def.name name.0 name.1))
+      where
+        name : (name : String Global) × (def.name ≡ Some name)
+        name = foreign-named r v scope.own_interface n def i is f
+
+        owned : def.owner ≡ owner.Interface i
+        owned = foreign-interface scope.own_interface def.owner i f
+
+        go : (def.owner ≡ o) ⊎ IsOfInstance r scope def → IsImportable scope i.0 n
+        go (inl e) = no-some (foreign_owner scope.own_interface def.owner) (ap (λ x. foreign_owner x def.owner) s.own ∙ at-home o def.owner e) f
+        go (inr h) = record {
+          def = def;
+          name = name.0;
+          there = ap (λ p. type_at p n) s.packages_ ∙ is;
+          named_ = name.1;
+          owned = owned;
+          stands = subst (λ (k : ℕ). Contains scope.instances k) (some-same h.interface.0 i.0 (sym (ap owner_interface h.owned) ∙ ap owner_interface owned)) h.stands;
+        }
+
+    declared : (n : ℕ) (def : TypeDef) → IsMet r scope ts n → type_at r n ≡ Some def → foreign_owner scope.own_interface def.owner ≡ None → (name : String Global) → def.name ≡ Some name
+        → IsDeclared scope (text_of name, type_meaning r def)
+    declared n def m is f name e =
+        let here : def.owner ≡ o = own-home def (stand n def m is (has-name def.name name e)) f in
+        record {
+          there = s.declares n def name is e here;
+          alike = ap (λ p. scope.resources p (text_of name)) (s.place_ ∙ ap (place_of r) (sym here))
+              ∙ named-alike r v scope.resources (is_met_owner r o) s.names n def is name e (own-met r o def.owner here) (parts-met n def m is f);
+          sound = s.sound;
+        }
+
+    fits : (n : ℕ) (def : TypeDef) → IsMet r scope ts n → type_at r n ≡ Some def → FitsScope r scope n def
+    fits n def m is = record {
+      foreign = imports n def m is;
+      unnamed = λ f none. valid-unnamed r v n def is none;
+      placed = λ f name e. ap (place_of r) (own-home def (stand n def m is (has-name def.name name e)) f) ∙ sym s.place_;
+      declared = declared n def m is;
+      formed = λ f d. record {
+        sound = s.sound;
+        formed = valid-formed r scope.resources v n def is (named-parts r v scope.resources (is_met_owner r o) s.names n def is (parts-met n def m is f)) d;
+      };
+    }
+
+    encodes : AllInRange r ts → CanEncode r scope ts
+    encodes inside = record {
+      packages_ = s.packages_;
+      layered = valid-layered r v;
+      in_range = inside;
+      fits = λ t c n re def is. fits n def (t, c, re) is;
+    }
+
+    agree : AllInRange r ts → Agree r scope.resources ts
+    agree inside = named-agree r v scope.resources (is_met_owner r o) s.names ts inside
+        (λ t c id e def is named. met-owner def (stand id.0 def (t, c, subst (λ (x : ValueType). Reaches r scope.own_interface x id.0) (sym e) (itself id)) is named))
+
+-- ---- what the types of an owner meet
+
+-- the target of an alias
+target-is : (k : TypeDefKind) (m : ℕ) (id : TypeId) → alias_target k ≡ Some m → Contains (parts_of k) (ty.Id id) → alias_target k ≡ Some id.0
+target-is k m id e c =
+    let same : (id.0 == m) ≡ true = alias-part (λ (x : ℕ). x == m) k id (ap (λ (t : Option ℕ). option_map_or (λ (x : ℕ). x == m) t false) e ∙ eq-eqb m m refl) c in
+    e ∙ ap Some (sym (equal-numbers id.0 m same))
+
+given-some : {A : Type 0} (test : A → Bool) (x : Option A) → option_map_or test x false ≡ true → is_some x ≡ true
+given-some test None h = let wrong : ⊥ = cc in absurd wrong
+given-some test (Some a) h = refl
+
+not-true : (b : Bool) → not b ≡ true → b ≡ false
+not-true true h = sym h
+not-true false h = refl
+
+module _ (r : Resolve) (v : IsValid r) (o : TypeOwner) where
+  -- each named type that is met through unnamed ones has the owner
+  abbrev pub Stay : ℕ → Type 0
+  Stay n = stays r v o n ≡ true
+
+  -- a type of another interface, which the owner uses
+  record IsUse (def : TypeDef) : Type 0 where
+    pub interface : InterfaceId
+    pub owns : def.owner ≡ owner.Interface interface
+    pub other : same_owner def.owner o ≡ false
+    pub named_ : has_named_owner r def ≡ true
+    pub used : IsUsedBy r o interface.0
+
+  use-at : (n : ℕ) (def : TypeDef) → type_at r n ≡ Some def → (id : TypeId) → Contains (parts_of def.kind) (ty.Id id) → is_some def.name ≡ true → same_owner def.owner o ≡ true → is_use r def ≡ true
+      → (def' : TypeDef) → type_at r id.0 ≡ Some def' → IsUse def'
+  use-at n def is id c named here uses def' is' = go def'.owner refl passed
+    where
+      home : def.owner ≡ o
+      home = same-owner def.owner o here
+
+      tests : TypeDef → Bool
+      tests target = not (same_owner target.owner def.owner) && option_map_or (λ i. option_map_or (λ other. is_some other.name) (interface_at r i) false) (owner_interface target.owner) false
+
+      passed : tests def' ≡ true
+      passed = sym (ap (λ t. option_map_or tests t false) is') ∙ alias-part (λ t. option_map_or tests (type_at r t) false) def.kind id uses c
+
+      target : alias_target def.kind ≡ Some id.0
+      target =
+          let t = some-of (alias_target def.kind) (given-some (λ t. option_map_or tests (type_at r t) false) (alias_target def.kind) uses) in
+          target-is def.kind t.0 id t.1 c
+
+      go : (a : TypeOwner) → def'.owner ≡ a → tests def' ≡ true → IsUse def'
+      go (owner.Interface i) e h = record {
+        interface = i;
+        owns = e;
+        other = ap (same_owner def'.owner) (sym home) ∙ not-true (same_owner def'.owner def.owner) (first_true (not (same_owner def'.owner def.owner)) _ h);
+        named_ = second_true (not (same_owner def'.owner def.owner)) _ h;
+        used = record {
+          number = n;
+          def = def;
+          there = is;
+          named_ = named;
+          owned = home;
+          uses = uses;
+          interface = ap (option_and_then (λ t. option_and_then (λ target. owner_interface target.owner) (type_at r t))) target
+              ∙ (ap (option_and_then (λ target. owner_interface target.owner)) is' ∙ ap owner_interface e);
+        };
+      }
+      go (owner.World w) e h =
+          let wrong : false ≡ true = sym (ap (λ a. option_map_or (λ i. option_map_or (λ other. is_some other.name) (interface_at r i) false) (owner_interface a) false) e) ∙ second_true (not (same_owner def'.owner def.owner)) _ h in
+          let z : ⊥ = cc in absurd z
+      go owner.None e h =
+          let wrong : false ≡ true = sym (ap (λ a. option_map_or (λ i. option_map_or (λ other. is_some other.name) (interface_at r i) false) (owner_interface a) false) e) ∙ second_true (not (same_owner def'.owner def.owner)) _ h in
+          let z : ⊥ = cc in absurd z
+
+  abbrev Meets : ℕ → Type 0
+  Meets n = Stay n ⊎ ((def : TypeDef) → type_at r n ≡ Some def → IsUse def)
+
+  use-foreign : (def : TypeDef) → IsUse def → foreign_owner (interface_of_owner o) def.owner ≡ None → ⊥
+  use-foreign def u f =
+      let same : same_owner def.owner o ≡ true = own-interface o def.owner u.interface.0 (ap owner_interface u.owns) f in
+      let wrong : true ≡ false = sym same ∙ u.other in
+      let z : ⊥ = cc in z
+
+  reached-meets : (t : ValueType) (n : ℕ) → ((id : TypeId) → t ≡ ty.Id id → Meets id.0) → Reaches r (interface_of_owner o) t n → Meets n
+  reached-meets _ _ p (itself id) = p id refl
+  reached-meets _ _ p (through id def t n at f c re) =
+      reached-meets t n (λ id' e. further (p id refl) id' (subst (λ (x : ValueType). Contains (parts_of def.kind) x) e c)) re
+    where
+      further : Meets id.0 → (id' : TypeId) → Contains (parts_of def.kind) (ty.Id id') → Meets id'.0
+      further (inl h) id' c = part-met r v o id.0 def at id' c h inl (λ named here uses. inr (use-at id.0 def at id' c named here uses))
+      further (inr u) id' c = absurd (use-foreign def (u def at) f)
+
+  -- types from which each named type that is met has the owner
+  abbrev pub AllStay : List ValueType → Type 0
+  AllStay ts = (id : TypeId) → Contains ts (ty.Id id) → Stay id.0
+
+  named-stays : (n : ℕ) (def : TypeDef) → type_at r n ≡ Some def → Stay n → is_some def.name ≡ true → def.owner ≡ o
+  named-stays n def is h named = same-owner def.owner o (named_met r (valid-references r v) n def is o named ∙ h)
+
+  module _ (scope : Scope) (s : IsScopeOf r o scope) (ts : List ValueType) (all : AllStay ts) where
+    meets : (n : ℕ) → IsMet r scope ts n → Meets n
+    meets n m = reached-meets m.0 n (λ id e. inl (all id (subst (λ (x : ValueType). Contains ts x) e m.1))) (subst (λ x. Reaches r x m.0 n) s.own m.2)
+
+    -- a type of another interface that is met is of one that the owner uses
+    pub foreign-used : (n : ℕ) (def : TypeDef) (i : InterfaceId) → IsMet r scope ts n → type_at r n ≡ Some def → foreign_owner scope.own_interface def.owner ≡ Some i → IsUsedBy r o i.0
+    foreign-used n def i m is f = go (meets n m)
+      where
+        go : Meets n → IsUsedBy r o i.0
+        go (inl h) =
+            let name = foreign-named r v scope.own_interface n def i is f in
+            no-some (foreign_owner scope.own_interface def.owner)
+            (ap (λ x. foreign_owner x def.owner) s.own ∙ at-home o def.owner (named-stays n def is h (has-name def.name name.0 name.1))) f
+        go (inr u) =
+            let use_ = u def is in
+            subst (λ (k : ℕ). IsUsedBy r o k)
+            (some-same use_.interface.0 i.0 (sym (ap owner_interface use_.owns) ∙ ap owner_interface (foreign-interface scope.own_interface def.owner i f))) use_.used
+
+    pub stay-stand : InstancesStand r scope ts → NamesStand r o scope ts
+    stay-stand stand n def m is named = go (meets n m)
+      where
+        go : Meets n → (def.owner ≡ o) ⊎ IsOfInstance r scope def
+        go (inl h) = inl (named-stays n def is h named)
+        go (inr u) =
+            let use_ = u def is in
+            inr (record { interface = use_.interface; owned = use_.owns; named_ = named-owner r v def use_.named_; stands = there use_ (foreign_owner scope.own_interface def.owner) refl })
+          where
+            there : (use_ : IsUse def) → (x : Option InterfaceId) → foreign_owner scope.own_interface def.owner ≡ x → Contains scope.instances use_.interface.0
+            there use_ None f = absurd (use-foreign def use_ (sym (ap (λ x. foreign_owner x def.owner) s.own) ∙ f))
+            there use_ (Some i) f = subst (λ (k : ℕ). Contains scope.instances k)
+                (some-same i.0 use_.interface.0 (sym (ap owner_interface (foreign-interface scope.own_interface def.owner i f)) ∙ ap owner_interface use_.owns)) (stand n def i m is f)
+
+    pub uses-stand : UsesStand r o scope → InstancesStand r scope ts
+    uses-stand stand n def i m is f = stand i.0 (foreign-used n def i m is f)
+
+  type-stays : (id : TypeId) → IsTypeOf r o id → AllStay (ty.Id id ∷ [])
+  type-stays id t id' c = one-id (one-contained (ty.Id id) (ty.Id id') c) (sym (named_met r (valid-references r v) id.0 t.def t.there o t.named_) ∙ is-owned t.def.owner o t.owned)
+    where
+      one-id : ty.Id id ≡ ty.Id id' → Stay id.0 → Stay id'.0
+      one-id e h = subst (λ (n : ℕ). Stay n) (ap (λ x. unwrap_or (number_of x) id.0) e) h
+
+  type-inside : (id : TypeId) → IsTypeOf r o id → AllInRange r (ty.Id id ∷ [])
+  type-inside id t u c id' e = subst (λ (n : ℕ). n < length r.types.items) (ap (λ x. unwrap_or (number_of x) id.0) (one-contained (ty.Id id) u c ∙ e)) (slice_get_within r.types.items id.0 t.def t.there)
+
+-- ---- functions
+
+none-there : {X P : Type 0} (x : X) → Contains [] x → P
+none-there x c = absurd (let l : c.0 < 0 = c.1 in omega arith)
+
+world_passes : (rule : Rule) (r : Resolve) → Keeps rule r → (n : ℕ) (w : World) → world_at r n ≡ Some w → rule.world_ r n w ≡ true
+world_passes rule r k n w at = let here : 0 + n ≡ n = omega arith in subst (λ (m : ℕ). rule.world_ r m w ≡ true) here (each_from_at (rule.world_ r) 0 r.worlds.items n w (lists_pass rule r k).2 at)
+
+module _ (r : Resolve) (v : IsValid r) (p : TypeOwner → Function → Bool)
+    (of_interface : (i : InterfaceId) (home : Interface) → interface_at r i.0 ≡ Some home → list_all (p (owner.Interface i)) (functions_of_interface home) ≡ true)
+    (of_world : (w : WorldId) (home : World) → world_at r w.0 ≡ Some home → list_all (p (owner.World w)) (functions_of_world home) ≡ true) where
+  each-function : (o : TypeOwner) (f : Function) → Contains (functions_of r o) f → p o f ≡ true
+  each-function owner.None f c = none-there f c
+  each-function (owner.Interface i) f c = go (interface_at r i.0) refl c
+    where
+      go : (x : Option Interface) → interface_at r i.0 ≡ x → Contains (option_map_or functions_of_interface x []) f → p (owner.Interface i) f ≡ true
+      go None e c = none-there f c
+      go (Some home) e c = all-contained (p (owner.Interface i)) (functions_of_interface home) f (of_interface i home e) c
+  each-function (owner.World w) f c = go (world_at r w.0) refl c
+    where
+      go : (x : Option World) → world_at r w.0 ≡ x → Contains (option_map_or functions_of_world x []) f → p (owner.World w) f ≡ true
+      go None e c = none-there f c
+      go (Some home) e c = all-contained (p (owner.World w)) (functions_of_world home) f (of_world w home e) c
+
+-- the functions of a world are in range
+abbrev fits-item : Resolve → WorldItem → Bool
+fits-item r i = list_all (function_in_range r) (option_to_list (item_function i))
+
+item-fits : (r : Resolve) (i : WorldItem) → item_in_range r i ≡ true → fits-item r i ≡ true
+item-fits r (item.Interface id stability docs external_id) h = refl
+item-fits r (item.Function f) h = both (function_in_range r f) true h refl
+item-fits r (item.Type_ id) h = refl
+
+entries-fit : (r : Resolve) (es : List (WorldKey × WorldItem)) → entries_in_range r es ≡ true → list_all (fits-item r) (map (λ e. e.1) es) ≡ true
+entries-fit r [] h = refl
+entries-fit r (e ∷ es) h =
+    let first : (key_in_range r e.0 && item_in_range r e.1) ≡ true = first_true (key_in_range r e.0 && item_in_range r e.1) (entries_in_range r es) h in
+    both (fits-item r e.1) (list_all (fits-item r) (map (λ e. e.1) es)) (item-fits r e.1 (second_true (key_in_range r e.0) (item_in_range r e.1) first))
+    (entries-fit r es (second_true (key_in_range r e.0 && item_in_range r e.1) (entries_in_range r es) h))
+
+world-fits : (r : Resolve) (w : World) → entries_in_range r w.imports.entries ≡ true → entries_in_range r w.exports.entries ≡ true → list_all (function_in_range r) (functions_of_world w) ≡ true
+world-fits r w a b =
+    list_all_filter_map (function_in_range r) item_function (items_of w)
+    ∙ (list_all-append (fits-item r) (values w.imports) (values w.exports)
+    ∙ both (list_all (fits-item r) (values w.imports)) (list_all (fits-item r) (values w.exports)) (entries-fit r w.imports.entries a) (entries-fit r w.exports.entries b))
+
+module _ (r : Resolve) (v : IsValid r) where
+  function-stays : (o : TypeOwner) (f : Function) → Contains (functions_of r o) f → function_stays r o f ≡ true
+  unfolding owners
+  function-stays = each-function r v (function_stays r)
+      (λ i home e. first_true (list_all (function_stays r (owner.Interface i)) (functions_of_interface home)) _ (interface_passes owners r v.rules.owners i.0 home e))
+      (λ w home e. world_passes owners r v.rules.owners w.0 home e)
+
+  function-values : (o : TypeOwner) (f : Function) → Contains (functions_of r o) f → list_all (λ t. not (is_resource_type r t)) (function_types f) ≡ true
+  unfolding handles
+  function-values = each-function r v (λ o f. list_all (λ t. not (is_resource_type r t)) (function_types f))
+      (λ i home e. interface_passes handles r v.rules.handles i.0 home e)
+      (λ w home e. world_passes handles r v.rules.handles w.0 home e)
+
+  function-ranges : (o : TypeOwner) (f : Function) → Contains (functions_of r o) f → function_in_range r f ≡ true
+  unfolding numbers_in_range
+  function-ranges = each-function r v (λ o. function_in_range r)
+      (λ i home e. second_true (list_all (λ id. in_list r.types.items id.0) (values home.types)) _
+      (second_true (passes (in_list r.packages.items) (package_number home.package)) _ (second_true (is_place i.0) _ (interface_passes numbers_in_range r v.rules.numbers_in_range i.0 home e))))
+      (λ w home e.
+      let entries : (entries_in_range r home.imports.entries && entries_in_range r home.exports.entries) ≡ true =
+      second_true (passes (in_list r.packages.items) (package_number home.package)) _ (second_true (is_place w.0) _ (world_passes numbers_in_range r v.rules.numbers_in_range w.0 home e)) in
+      world-fits r home (first_true (entries_in_range r home.imports.entries) _ entries) (second_true (entries_in_range r home.imports.entries) _ entries))
+
+  function-refers : (f : Function) (id : TypeId) → Contains (function_types f) (ty.Id id) → Contains (function_numbers f) id.0
+  function-refers f id c = Contains-append_left (filter_map number_of (function_types f)) (option_to_list (resource_of f.kind)) id.0
+      (contains-filter_map number_of (function_types f) (ty.Id id) id.0 c (contains-one id.0))
+
+  function-inside : (o : TypeOwner) (f : Function) → Contains (functions_of r o) f → AllInRange r (function_types f)
+  function-inside o f c t d id e =
+      let refers = function-refers f id (subst (λ (x : ValueType). Contains (function_types f) x) e d) in
+      ltb-true id.0 (length r.types.items) (all-contained (in_list r.types.items) (function_numbers f) id.0 (function-ranges o f c) refers)
+
+  types-stay : (o : TypeOwner) (f : Function) → Contains (functions_of r o) f → AllStay r v o (function_types f)
+  types-stay o f c id d = all-contained (stays r v o) (function_numbers f) id.0
+      (sym (all_flat (has_owner r o) (met_by (met_of r)) (function_numbers f)) ∙ function-stays o f c) (function-refers f id d)
+
+-- ---- laws
+
+pub names_encode : NamesEncode
+names_encode r o scope ts v s inside stand = encodes r v o scope s ts stand inside
+
+pub types_encode : TypesEncode
+types_encode r o scope id v s t stand = encodes r v o scope s (ty.Id id ∷ []) (stay-stand r v o scope s (ty.Id id ∷ []) (type-stays r v o id t) stand) (type-inside r v o id t)
+
+pub types_use : TypesUse
+types_use r o scope id v s t stand = uses-stand r v o scope s (ty.Id id ∷ []) (type-stays r v o id t) stand
+
+pub functions_encode : FunctionsEncode
+functions_encode r o scope f v s c stand =
+    let names = stay-stand r v o scope s (function_types f) (types-stay r v o f c) stand in
+    let inside = function-inside r v o f c in
+    record {
+      types = encodes r v o scope s (function_types f) names inside;
+      formed = signature-formed r scope f.params.items f.result s.sound (is_async f.kind) (function-values r v o f c) (agree r v o scope s (function_types f) names inside);
+    }
+
+pub functions_use : FunctionsUse
+functions_use r o scope f v s c stand = uses-stand r v o scope s (function_types f) (types-stay r v o f c) stand
+
+pub table_is_scope : TableScope
+table_is_scope r o v = record {
+  packages_ = refl;
+  place_ = refl;
+  own = refl;
+  declares = λ n def name is e here. declared-there r v o n def is name e (is-owned def.owner o here);
+  names = names-agree r v (is_met_owner r o) (one-home r v o);
+  sound = refl;
+}

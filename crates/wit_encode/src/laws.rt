@@ -1,0 +1,38 @@
+//! Laws of the scopes in which types and functions are encoded, for whoever brings an encoder of their own.
+
+ghost use Rattle.wit_encode.specs.MetKinds.{MetKindsAreHeld};
+ghost use Rattle.wit_encode.specs.OwnerScope.{FunctionsEncode, FunctionsUse, InterfaceUses, NamesEncode, TableScope, TypesEncode, TypesUse};
+
+/// Types can be encoded in the scope of an owner, where each name that is met is of the place, or of a named interface whose instance stands.
+pub fn names_encode()
+    ensures { NamesEncode }
+{}
+
+/// The named types of an owner, an interface or a world, can be encoded in its scope, where of each other interface whose types are met
+/// an instance stands. So it is where one stands of each interface that the types of the owner use.
+pub fn types_encode()
+    ensures encode { TypesEncode }
+    ensures uses { TypesUse }
+{}
+
+/// The same of the functions of an owner.
+pub fn functions_encode()
+    ensures encode { FunctionsEncode }
+    ensures uses { FunctionsUse }
+{}
+
+/// The interfaces that the types of an interface use are its direct dependencies.
+pub fn interface_uses_dependencies()
+    ensures { InterfaceUses }
+{}
+
+/// The scope of a table is that of its owner.
+pub fn table_scope_is_of_owner()
+    ensures { TableScope }
+{}
+
+/// Maps that were empty, and have learnt what is met from some types and nothing else, hold the kinds of the unnamed types that are met,
+/// each once.
+pub fn met_kinds_are_held()
+    ensures { MetKindsAreHeld }
+{}
