@@ -14,6 +14,7 @@ pub mod NamesWritten
 pub mod NamesRead
 pub mod NestedLaws
 pub mod ComponentLaws
+pub mod FrameLaws
 pub mod PartsLaws
 pub mod BuiltLaws
 pub mod BuiltSizes

@@ -4,6 +4,7 @@ pub mod Raw
 pub mod Spelling
 pub mod Reading
 pub mod Answer
+pub mod Frames
 pub mod Laws
 pub mod Writing
 pub mod RawOf

@@ -183,6 +183,3 @@ pub(crate) fn declare_export(
         }
     }
 }
-
-#[cfg(test)]
-mod tests;

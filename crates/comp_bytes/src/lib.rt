@@ -6,6 +6,7 @@ mod builder;
 mod component;
 mod declare;
 mod forms;
+mod frames;
 mod instance;
 pub mod laws;
 mod name;
@@ -19,9 +20,7 @@ pub use forms::{
     Alias, ComponentDefinedType, ComponentExternName, ComponentFuncType, ComponentTypeRef,
     ComponentValType, PrimitiveValType,
 };
+pub use frames::{Section, Sections, custom_name};
 pub use instance::InstanceType;
 pub use name::{read_name, write_name};
 pub use number::{read_index, read_u32, write_index, write_u32};
-
-#[cfg(test)]
-mod tests;

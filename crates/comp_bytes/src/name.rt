@@ -17,7 +17,7 @@ use wit_model::{Cause, Error};
 
 /// So many bytes as the number at the front says, and the bytes behind them.
 #[tactic(auto, unfolding(crate::specs::Reading::counted_at))]
-fn counted_of(bytes: &[u8]) -> Result<(&[u8], &[u8]), Cause>
+pub(crate) fn counted_of(bytes: &[u8]) -> Result<(&[u8], &[u8]), Cause>
     ensures { Gives (λ contents. contents.now) result (counted_at bytes.now) }
 {
     let (length, rest) = u32_of(bytes)?;
@@ -31,7 +31,7 @@ fn counted_of(bytes: &[u8]) -> Result<(&[u8], &[u8]), Cause>
 
 /// A name, and the bytes behind it.
 #[tactic(auto, unfolding(crate::specs::Reading::name_at))]
-fn name_of(bytes: &[u8]) -> Result<(&str, &[u8]), Cause>
+pub(crate) fn name_of(bytes: &[u8]) -> Result<(&str, &[u8]), Cause>
     ensures { Gives (λ text. text.now) result (name_at bytes.now) }
 {
     let (contents, rest) = counted_of(bytes)?;
@@ -108,6 +108,3 @@ pub(crate) fn append_plain_name(out: &mut Vec<u8>, text: &str) -> Result<(), Err
     out.push(0x00)?;
     append_name(out, text)
 }
-
-#[cfg(test)]
-mod tests;

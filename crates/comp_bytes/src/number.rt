@@ -167,6 +167,3 @@ fn low_bits(n: u32) -> u8
 {
     (n % 0x80) as u8 + 0x80
 }
-
-#[cfg(test)]
-mod tests;

@@ -3,6 +3,7 @@
 
 mod check;
 mod error;
+mod function_kind;
 pub mod laws;
 mod model;
 mod names;

@@ -16,22 +16,11 @@ use crate::parts::{draft_params, draft_result};
 use std::alloc::AllocError;
 use wit_model::{Function, FunctionKind, Param, Resolve, Type};
 
-fn is_async(kind: FunctionKind) -> bool
-    ensures { result ≡ is_async_lem kind }
-{
-    matches!(
-        kind,
-        FunctionKind::AsyncFreestanding
-            | FunctionKind::AsyncMethod(_)
-            | FunctionKind::AsyncStatic(_)
-    )
-}
-
 fn draft_async<'a>(draft: &mut Draft<'a>, kind: FunctionKind) -> Result<(), AllocError>
     requires { draft.old.line_begun ≡ false }
     ensures { OnOk result (draft.new ≡ record { line_begun = false; kept = draft.old.kept ++ async_calls (is_async_lem kind) }) }
 {
-    if is_async(kind) {
+    if kind.is_async() {
         draft.keyword("async")?;
         draft.str(" ")?;
     }

@@ -5,6 +5,7 @@ pub mod Worlds
 pub mod Entries
 pub mod Packages
 pub mod Validity
+pub mod Empty
 pub mod Means
 pub mod Counts
 pub mod Extents

@@ -1,5 +1,5 @@
 -- What the bytes of a package say.
-use Rattle.std.specs.Prelude.{◌≡◌, ◌↔◌, ℕ, suc, false, true, List, [], ◌∷◌, map}
+use Rattle.std.specs.Prelude.{◌≡◌, ◌↔◌, ◌||◌, ℕ, suc, false, true, List, [], ◌∷◌, map}
 use Rattle.std.specs.List.{flat_map}
 use Rattle.std.specs.Option.{option_map_or}
 use Rattle.std.specs.Set.{distinct_count}
@@ -18,6 +18,10 @@ use Rattle.witc.specs.Written.{key_of, same_key}
 -- the package of this number holds a world
 abbrev pub HoldsWorld : Resolve → ℕ → Type 0
 HoldsWorld r n = option_map_or (λ p. has_items p.worlds.entries) (package_at r n) false ≡ true
+
+-- the package of this number holds neither an interface nor a world
+abbrev pub HoldsNothing : Resolve → ℕ → Type 0
+HoldsNothing r n = option_map_or (λ p. has_items p.interfaces.entries || has_items p.worlds.entries) (package_at r n) true ≡ false
 
 -- The bytes mean what the package of this number means, and nothing else.
 abbrev pub MeansPackage : Resolve → ℕ → List ℕ → Type 0

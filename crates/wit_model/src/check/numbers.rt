@@ -53,13 +53,9 @@ fn params_are_below(params: &[Param], limit: usize) -> bool
 fn resource_is_below(kind: FunctionKind, limit: usize) -> bool
     ensures { result ≡ list_all (λ m. nat_lt m limit) (option_to_list (resource_of kind)) }
 {
-    match kind {
-        FunctionKind::Freestanding | FunctionKind::AsyncFreestanding => true,
-        FunctionKind::Method(id)
-        | FunctionKind::AsyncMethod(id)
-        | FunctionKind::Static(id)
-        | FunctionKind::AsyncStatic(id)
-        | FunctionKind::Constructor(id) => (id.0 as usize) < limit,
+    match kind.resource() {
+        Some(id) => (id.0 as usize) < limit,
+        None => true,
     }
 }
 

@@ -48,17 +48,13 @@ pub(crate) fn handled(kind: &TypeDefKind) -> Option<usize>
     }
 }
 
-/// The resource that a method, a static function or a constructor belongs to.
+/// The number of the resource that a function belongs to.
 pub(crate) fn resource_of(kind: FunctionKind) -> Option<usize>
     ensures { result ≡ resource_of_lem kind }
 {
-    match kind {
-        FunctionKind::Freestanding | FunctionKind::AsyncFreestanding => None,
-        FunctionKind::Method(id)
-        | FunctionKind::AsyncMethod(id)
-        | FunctionKind::Static(id)
-        | FunctionKind::AsyncStatic(id)
-        | FunctionKind::Constructor(id) => Some(id.0 as usize),
+    match kind.resource() {
+        Some(id) => Some(id.0 as usize),
+        None => None,
     }
 }
 

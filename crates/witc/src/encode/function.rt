@@ -50,20 +50,6 @@ fn params_of<'a>(
     Ok(fields)
 }
 
-fn is_async(kind: FunctionKind) -> bool
-    ensures { result ≡ is_async_lem kind }
-{
-    match kind {
-        FunctionKind::AsyncFreestanding
-        | FunctionKind::AsyncMethod(_)
-        | FunctionKind::AsyncStatic(_) => true,
-        FunctionKind::Freestanding
-        | FunctionKind::Method(_)
-        | FunctionKind::Static(_)
-        | FunctionKind::Constructor(_) => false,
-    }
-}
-
 /// The function type that is defined for a function.
 pub(crate) fn function_type<'a>(
     alloc: Global,
@@ -73,7 +59,7 @@ pub(crate) fn function_type<'a>(
     ensures refuses { IfErr result (λ e. e ≡ Memory) }
 {
     Ok(ComponentFuncType {
-        async_: is_async(function.kind),
+        async_: function.kind.is_async(),
         params: params_of(alloc, &function.params)?,
         result: optional_value_type(function.result),
     })
@@ -93,7 +79,7 @@ pub(crate) fn key_of<'a>(function: &'a Function) -> FunctionKey<'a>
     ensures { key_view result ≡ key_of_lem function.now }
 {
     FunctionKey {
-        is_async: is_async(function.kind),
+        is_async: function.kind.is_async(),
         params: ParamSignatures {
             params: &function.params,
         },
