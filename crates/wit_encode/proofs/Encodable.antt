@@ -223,7 +223,8 @@ module _ (r : Resolve) (v : IsValid r) (i : InterfaceId) (home : Interface) (the
   function-stays f c id d =
       let passed = first_true (list_all (function_stays r own) (functions_of_interface home)) _ (interface_passes owners r v.rules.owners i.0 home there) in
       let one = all-contained (function_stays r own) (functions_of_interface home) f passed c in
-      all-contained (stays r v own) (function_numbers f) id.0 (sym (all_flat (has_owner r own) (met_by (met_of r)) (function_numbers f)) ∙ one) (function-refers f id d)
+      all-contained (stays r v own) (filter_map number_of (function_types f)) id.0 (sym (all_flat (has_owner r own) (met_by (met_of r)) (filter_map number_of (function_types f))) ∙ one)
+      (contains-filter_map number_of (function_types f) (ty.Id id) id.0 d (contains-one id.0))
 
   owned : (n : ℕ) (def : TypeDef) → type_at r n ≡ Some def → Stay n → is_some def.name ≡ true → same_owner def.owner own ≡ true
   owned n def is s named = named_met r (valid-references r v) n def is own named ∙ s

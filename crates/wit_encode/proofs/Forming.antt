@@ -98,7 +98,7 @@ module _ (r : Resolve) (resources : Names) where
       (by-children (map (type_tree r) q.types.items) _ (children-list _) (values-of _ v a))
   kind-formed (kind.Option t) d s v h a = values-of (t ∷ []) v a
   kind-formed (kind.List t) d s v h a = values-of (t ∷ []) v a
-  kind-formed (kind.FixedLengthList t n) d s v h a = both _ _ s (values-of (t ∷ []) v a)
+  kind-formed (kind.FixedLengthList t n) d s v h a = both _ _ (first_true (nat_le 1 n) _ s) (values-of (t ∷ []) v a)
   kind-formed (kind.Map k t) d s v h a = both _ _ (key-tree k s) (values-of (k ∷ t ∷ []) v a)
   kind-formed (kind.Result q) d s v h a = result-values q.ok q.err v a
     where
