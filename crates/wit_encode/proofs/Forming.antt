@@ -1,5 +1,5 @@
 -- The trees of valid kinds are well formed, where the names stand for resources as their types do.
-use Rattle.std.proofs.Common.{◌≡◌, refl, ap, ◌∙◌, suc, true, not, List, [], ◌∷◌, ◌++◌, map, filter_map, Option, Some, None, option_map, option_to_list, arith}
+use Rattle.std.proofs.Common.{◌≡◌, refl, ap, ◌∙◌, suc, true, not, nat_le, List, [], ◌∷◌, ◌++◌, map, filter_map, Option, Some, None, option_map, option_to_list, arith}
 use Rattle.std.specs.List.{Contains, list_all, cons_option}
 use Rattle.wit_model.specs.Text.{Text, text_of}
 use Rattle.wit_model.specs.Tree.{Tree, child_list, children, given, is_given}
