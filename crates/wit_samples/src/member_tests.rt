@@ -235,7 +235,7 @@ fn members_belong_to_a_resource_of_the_owner(rt: HostRuntime) {
         ),
         (
             &[Step::Type(0, "r", Kind::Resource), IMPORTED_STATIC],
-            Broken(6, EntryList::Worlds, 0),
+            Broken(11, EntryList::Worlds, 0),
         ),
     ];
     assert_answers(&rt, rt.alloc(), &[], &CASES);
