@@ -210,7 +210,7 @@ fn constructors_give_their_resource(rt: HostRuntime) {
     }
 }
 
-// ---- another owner's resource: the rule on owners is broken too, and named
+// ---- another owner's resource. A method takes it too, so the rule on owners is broken and named
 
 const OTHER_METHOD: Signature = Signature {
     name: "[method]q.f",
