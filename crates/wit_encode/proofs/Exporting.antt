@@ -1,5 +1,5 @@
 -- The types that are exported as those of an interface are encoded, one for each, in order.
-use Rattle.std.proofs.Common.{◌≡◌, refl, sym, subst, ap, ◌∙◌, ℕ, zero, suc, ◌+◌, ◌<◌, ◌≤◌, ◌⊎◌, inl, inr, Bool, true, false, cond, ◌==◌, nat_eq, List, [], ◌∷◌, ◌++◌, append-nil, take, length, get_or, map, filter_map, slice_get, Some, None, String, string_eq, string_bytes, nat_lt, option_map, option_and_then, option_to_list, arith}
+use Rattle.std.proofs.Common.{◌≡◌, refl, sym, subst, ap, ◌∙◌, ℕ, zero, suc, ◌+◌, ◌<◌, ◌≤◌, ◌⊎◌, inl, inr, Bool, true, false, ◌&&◌, cond, ◌==◌, nat_eq, List, [], ◌∷◌, ◌++◌, append-nil, take, length, get_or, map, filter_map, slice_get, Some, None, String, string_eq, string_bytes, nat_lt, option_map, option_and_then, option_to_list, arith}
 use Rattle.std.specs.declared.alloc.Global.{Global}
 use Rattle.std.specs.Prelude.{AllPairs, is_none}
 use Rattle.std.specs.List.{Contains, IsDistinct, AllByRecursion, list_all}
@@ -12,7 +12,7 @@ use Rattle.std.proofs.lemmas.List.{take_more, take_all, take-map, length-map}
 use Rattle.std.proofs.Math.ListN.{get_or-map}
 use Rattle.std.proofs.lemmas.List.Elements.{Contains-append_left, Contains-append_right, Contains-append_cases, Contains-push, Contains-push_cases}
 use Rattle.indexmap.specs.IndexMap.{values}
-use Rattle.wit_model.specs.Text.{Text, text_of}
+use Rattle.wit_model.specs.Text.{Text, text_of, text_eq}
 use Rattle.wit_model.specs.Lookup.{type_at, interface_at}
 use Rattle.wit_model.specs.Types.{number_of}
 use Rattle.wit_model.specs.Meaning.{TypeMeaning}
@@ -20,8 +20,8 @@ use Rattle.wit_model.specs.Meant.{interface_meaning, interface_meaning_at, no_in
 use Rattle.wit_model.specs.Parts.{function_types, function_numbers, met_by, met_of, used_by_function, has_owner}
 use Rattle.wit_model.specs.Uses.{direct_deps}
 use Rattle.wit_model.specs.Lookup.{resource_of}
-use Rattle.wit_model.specs.Rules.{interface_type_numbers, function_stays}
-use Rattle.wit_model.specs.Valid.{IsValid, as_interface, functions_of_interface, owners}
+use Rattle.wit_model.specs.Rules.{interface_type_numbers, function_stays, is_member}
+use Rattle.wit_model.specs.Valid.{IsValid, as_interface, functions_of_interface, function_names, owners}
 use Rattle.wit_model.specs.declared.model.Resolve.{Resolve}
 use Rattle.wit_model.specs.declared.model.Interface.{Interface}
 use Rattle.wit_model.specs.declared.model.InterfaceId.{InterfaceId}
@@ -30,7 +30,9 @@ use Rattle.wit_model.specs.declared.model.TypeDef.{TypeDef}
 use Rattle.wit_model.specs.declared.model.TypeId.{TypeId}
 use Rattle.wit_model.specs.declared.model.«Type».{«Type» as ValueType}
 use Rattle.wit_model.specs.declared.model.«Type».TheVariants as ty
-use Rattle.wit_model.proofs.Lists.{first_true}
+use Rattle.wit_model.specs.declared.model.TypeOwner.{TypeOwner}
+use Rattle.wit_model.proofs.Lists.{first_true, second_true}
+use Rattle.wit_model.proofs.Owners.{function_home}
 use Rattle.wit_encode.specs.declared.maps.TypeEncodingMaps.{TypeEncodingMaps}
 use Rattle.wit_encode.specs.Kinds.{parts_of}
 use Rattle.wit_encode.specs.Maps.{IsKnown, IsReady, IsOnce, MapsGrow, LearnsOnly, by_number}
@@ -89,11 +91,25 @@ unfolding owners
 functions-stay r v i interface there = first_true (list_all (function_stays r (as_interface i)) (functions_of_interface interface))
     (list_all (λ m. nat_lt m i) (direct_deps r i)) (interface_passes owners r v.rules.owners i interface there)
 
+members : (r : Resolve) (o : TypeOwner) (es : List (String Global × Function)) → list_all (λ e. text_eq (text_of e.0) (text_of e.1.name) && is_member r o e.1) es ≡ true → list_all (is_member r o) (map (λ e. e.1) es) ≡ true
+members r o [] h = refl
+members r o (e ∷ es) h =
+    let named = text_eq (text_of e.0) (text_of e.1.name) in
+    let here = second_true named _ (first_true (named && is_member r o e.1) _ h) in
+    let later = members r o es (second_true (named && is_member r o e.1) _ h) in
+    λ i. here i && later i
+
+are-members : (r : Resolve) → IsValid r → (i : ℕ) (interface : Interface) → interface_at r i ≡ Some interface → list_all (is_member r (as_interface i)) (functions_of_interface interface) ≡ true
+unfolding function_names
+are-members r v i interface there = members r (as_interface i) interface.functions.entries (interface_passes function_names r v.rules.function_names i interface there)
+
 -- the named types that a function of an interface uses stand in the interface's list
 pub uses-listed : (r : Resolve) → IsValid r → (i : ℕ) (interface : Interface) → interface_at r i ≡ Some interface → (f : Function)
     → Contains (functions_of_interface interface) f → UsesListed r (values interface.types) f
 uses-listed r v i interface there f c n d =
-    let stays = all-contained (function_stays r (as_interface i)) (functions_of_interface interface) f (functions-stay r v i interface there) c in
+    let kept = all-contained (function_stays r (as_interface i)) (functions_of_interface interface) f (functions-stay r v i interface there) c in
+    let member = all-contained (is_member r (as_interface i)) (functions_of_interface interface) f (are-members r v i interface there) c in
+    let stays = function_home r (valid-references r v) (as_interface i) f kept member in
     has-contains (interface_type_numbers interface) n (owned-listed r v i interface there n (all-contained (has_owner r (as_interface i)) (used_by_function r f) n stays d))
 
 -- ---- the types, one by one

@@ -1,5 +1,5 @@
 -- The trees of valid kinds are well formed, where the names stand for resources as their types do.
-use Rattle.std.proofs.Common.{◌≡◌, refl, ap, ◌∙◌, suc, true, not, List, [], ◌∷◌, ◌++◌, map, filter_map, Option, Some, None, option_map, option_to_list, arith}
+use Rattle.std.proofs.Common.{◌≡◌, refl, ap, ◌∙◌, suc, true, not, nat_le, List, [], ◌∷◌, ◌++◌, map, filter_map, Option, Some, None, option_map, option_to_list, arith}
 use Rattle.std.specs.List.{Contains, list_all, cons_option}
 use Rattle.wit_model.specs.Text.{Text, text_of}
 use Rattle.wit_model.specs.Tree.{Tree, child_list, children, given, is_given}
@@ -98,7 +98,7 @@ module _ (r : Resolve) (resources : Names) where
       (by-children (map (type_tree r) q.types.items) _ (children-list _) (values-of _ v a))
   kind-formed (kind.Option t) d s v h a = values-of (t ∷ []) v a
   kind-formed (kind.List t) d s v h a = values-of (t ∷ []) v a
-  kind-formed (kind.FixedLengthList t n) d s v h a = both _ _ s (values-of (t ∷ []) v a)
+  kind-formed (kind.FixedLengthList t n) d s v h a = both _ _ (first_true (nat_le 1 n) _ s) (values-of (t ∷ []) v a)
   kind-formed (kind.Map k t) d s v h a = both _ _ (key-tree k s) (values-of (k ∷ t ∷ []) v a)
   kind-formed (kind.Result q) d s v h a = result-values q.ok q.err v a
     where

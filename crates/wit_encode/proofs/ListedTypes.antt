@@ -30,7 +30,7 @@ use Rattle.wit_encode.specs.Kinds.{parts_of}
 use Rattle.wit_encode.specs.Plan.{foreign_owner}
 use Rattle.wit_encode.specs.Table.{interface_of_owner}
 use Rattle.wit_encode.proofs.Lists.{all-contained}
-use Rattle.wit_encode.proofs.Owned.{same-owner, alias-part, own-interface, not-false, or-cases}
+use Rattle.wit_encode.proofs.Owned.{same-owner, alias-part, own-interface, not-false, or-cases, owner-kept as kept-of-owner}
 use Rattle.wit_encode.proofs.Paths.{given-test, found-in}
 use Rattle.wit_encode.proofs.Validity.{type_passes, interface_passes}
 use Rattle.wit_encode.proofs.Numbers.{same-number, has-contains, get-contains, after-at}
@@ -66,8 +66,7 @@ module _ (r : Resolve) (v : IsValid r) (i : ℕ) (interface : Interface) (there 
   passed m def at = second_true (list_all (λ k. nat_lt k m) (kind_numbers def.kind)) _ (type_passes order_of_types r v.rules.order_of_types m def at)
 
   owner-kept : (m : ℕ) (def : TypeDef) → type_at r m ≡ Some def → (is_none def.name || (list_all (has_owner r def.owner) (used_by_type r def) || is_use r def)) ≡ true
-  unfolding owners
-  owner-kept m def at = type_passes owners r v.rules.owners m def at
+  owner-kept m def at = kept-of-owner r v m def at
 
   -- ---- the types of the owner
 

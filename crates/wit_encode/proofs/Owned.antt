@@ -1,5 +1,6 @@
 -- What is met from a type of an owner is of that owner, but for what its aliases of types of other interfaces name.
-use Rattle.std.proofs.Common.{◌≡◌, refl, sym, subst, ap, ◌∙◌, ℕ, ◌+◌, Bool, true, false, not, ◌||◌, ◌==◌, cond, T, eqb→eq, Option, Some, None, is_some, nat_eq, arith}
+use Rattle.std.proofs.Common.{◌≡◌, refl, sym, subst, ap, ◌∙◌, ℕ, ◌+◌, Bool, true, false, not, ◌&&◌, ◌||◌, ◌==◌, cond, T, eqb→eq, ◌⊎◌, inl, inr, Option, Some, None, is_some, nat_eq, nat_lt, String, arith}
+use Rattle.std.specs.declared.alloc.Global.{Global}
 use Rattle.std.proofs.Math.Dec.{eqb_refl}
 use Rattle.std.specs.Prelude.{is_none}
 use Rattle.std.specs.List.{Contains, list_all}
@@ -7,9 +8,10 @@ use Rattle.std.specs.Option.{option_map_or}
 use Rattle.wit_model.specs.Lookup.{type_at}
 use Rattle.wit_model.specs.Uses.{alias_target, owner_interface}
 use Rattle.wit_model.specs.Parts.{kind_numbers, met_by, met_of, used_by_type, same_owner, has_owner}
-use Rattle.wit_model.specs.Rules.{is_use}
+use Rattle.wit_model.specs.Text.{Text, text_of}
+use Rattle.wit_model.specs.Rules.{is_use, is_listed, type_stays}
 use Rattle.wit_model.specs.Checks.{references}
-use Rattle.wit_model.specs.Valid.{IsValid, Keeps, owners}
+use Rattle.wit_model.specs.Valid.{IsValid, Keeps, order_of_types, owners}
 use Rattle.wit_model.specs.declared.model.Resolve.{Resolve}
 use Rattle.wit_model.specs.declared.model.TypeDef.{TypeDef}
 use Rattle.wit_model.specs.declared.model.TypeDefKind.{TypeDefKind}
@@ -19,10 +21,11 @@ use Rattle.wit_model.specs.declared.model.TypeOwner.TheVariants as owner
 use Rattle.wit_model.specs.declared.model.TypeId.{TypeId}
 use Rattle.wit_model.specs.declared.model.«Type».{«Type» as ValueType}
 use Rattle.wit_model.specs.declared.model.«Type».TheVariants as ty
+use Rattle.wit_model.proofs.Lists.{second_true}
 use Rattle.wit_model.proofs.Entries.{each_from_at, lists_pass, types_keep, each_from_all}
 use Rattle.wit_model.proofs.TreeTable.{kept_numbers}
 use Rattle.wit_model.proofs.Functions.{all_flat}
-use Rattle.wit_model.proofs.Owners.{named_met, unnamed_met}
+use Rattle.wit_model.proofs.Owners.{named_met, unnamed_met, owned_stays}
 use Rattle.wit_encode.specs.Kinds.{parts_of}
 use Rattle.wit_encode.specs.Plan.{foreign_owner}
 use Rattle.wit_encode.specs.Table.{interface_of_owner}
@@ -101,10 +104,31 @@ valid-references r v = types_keep (λ r n def. references.type_ r n def) r (each
     let at : n ≡ 0 + n = omega arith in
     subst (λ m. references.type_ r m def ≡ true) at (kept_numbers r v.rules n def is)))
 
--- the rule on owners, of one type
-owner-kept : (r : Resolve) → IsValid r → (n : ℕ) (def : TypeDef) → type_at r n ≡ Some def → (is_none def.name || (list_all (has_owner r def.owner) (used_by_type r def) || is_use r def)) ≡ true
+-- a type that stands in its owner's list has an owner
+real-owner : (r : Resolve) (n : ℕ) (name : Text) (o : TypeOwner) → is_listed r n name o ≡ true → same_owner o owner.None ≡ false
+real-owner r n name (owner.Interface id) h = refl
+real-owner r n name (owner.World id) h = refl
+real-owner r n name owner.None h = let wrong : ⊥ = cc in absurd wrong
+
+named-listed : (r : Resolve) → IsValid r → (n : ℕ) (def : TypeDef) → type_at r n ≡ Some def → option_map_or (λ name. is_listed r n (text_of name) def.owner) def.name (same_owner def.owner owner.None) ≡ true
+unfolding order_of_types
+named-listed r v n def is =
+    let here : 0 + n ≡ n = omega arith in
+    second_true (list_all (λ k. nat_lt k n) (kind_numbers def.kind)) _
+    (subst (λ m. order_of_types.type_ r m def ≡ true) here (each_from_at (order_of_types.type_ r) 0 r.types.items n def (lists_pass order_of_types r v.rules.order_of_types).3 is))
+
+type-stays : (r : Resolve) → IsValid r → (n : ℕ) (def : TypeDef) → type_at r n ≡ Some def → type_stays r def ≡ true
 unfolding owners
-owner-kept r v n def is = each_from_at (owners.type_ r) 0 r.types.items n def (lists_pass owners r v.rules.owners).3 is
+type-stays r v n def is = each_from_at (owners.type_ r) 0 r.types.items n def (lists_pass owners r v.rules.owners).3 is
+
+-- the rule on owners, of one type: a named type has an owner
+pub owner-kept : (r : Resolve) → IsValid r → (n : ℕ) (def : TypeDef) → type_at r n ≡ Some def → (is_none def.name || (list_all (has_owner r def.owner) (used_by_type r def) || is_use r def)) ≡ true
+owner-kept r v n def is = go def.name (named-listed r v n def is)
+  where
+    go : (x : Option (String Global)) → option_map_or (λ name. is_listed r n (text_of name) def.owner) x (same_owner def.owner owner.None) ≡ true
+        → (is_none x || (list_all (has_owner r def.owner) (used_by_type r def) || is_use r def)) ≡ true
+    go None h = refl
+    go (Some name) h = owned_stays r def (type-stays r v n def is) (real-owner r n (text_of name) def.owner h)
 
 module _ (r : Resolve) (v : IsValid r) (o : TypeOwner) where
   -- every named type that is met at a number has the owner

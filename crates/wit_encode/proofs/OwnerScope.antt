@@ -391,8 +391,8 @@ module _ (r : Resolve) (v : IsValid r) where
       ltb-true id.0 (length r.types.items) (all-contained (in_list r.types.items) (function_numbers f) id.0 (function-ranges o f c) refers)
 
   types-stay : (o : TypeOwner) (f : Function) → Contains (functions_of r o) f → AllStay r v o (function_types f)
-  types-stay o f c id d = all-contained (stays r v o) (function_numbers f) id.0
-      (sym (all_flat (has_owner r o) (met_by (met_of r)) (function_numbers f)) ∙ function-stays o f c) (function-refers f id d)
+  types-stay o f c id d = all-contained (stays r v o) (filter_map number_of (function_types f)) id.0
+      (sym (all_flat (has_owner r o) (met_by (met_of r)) (filter_map number_of (function_types f))) ∙ function-stays o f c) (contains-filter_map number_of (function_types f) (ty.Id id) id.0 d (contains-one id.0))
 
 -- ---- laws
 

@@ -11,7 +11,7 @@ use Rattle.std.proofs.lemmas.Bool.{ltb-true, lt-ltb}
 use Rattle.wit_model.specs.Text.{Text, text_of}
 use Rattle.wit_model.specs.Names.{is_label, is_identity, is_version, is_optional_version, path_in}
 use Rattle.wit_model.specs.Lookup.{package_at, interface_at, interface_path, path_of_interface, path_in_package, identity_of, optional_version_text}
-use Rattle.wit_model.specs.Rules.{passes, package_number, same_package_name, each_from, is_id, interface_is_listed, in_list}
+use Rattle.wit_model.specs.Rules.{passes, package_number, same_package_name, each_from, is_id, interface_is_listed, is_world_name, in_list}
 use Rattle.wit_model.specs.Valid.{IsValid, Rule, Keeps, package_names, places, labels, numbers_in_range, is_place}
 use Rattle.wit_model.specs.declared.model.Resolve.{Resolve}
 use Rattle.wit_model.specs.declared.model.Package.{Package}
@@ -134,8 +134,9 @@ module _ (r : Resolve) (v : IsValid r) where
   path-listed n path h =
       let rule = second_true (is_some h.def.package) _ (interface-passes places r v.rules.places n h.def h.there) in
       let home : option_and_then (package_at r) (package_number h.def.package) ≡ Some h.package_ = ap (λ p. option_and_then (package_at r) (package_number p)) h.in_package ∙ h.stands in
-      given-test (interface_is_listed n (text_of h.name)) (option_and_then (package_at r) (package_number h.def.package)) true h.package_ home
-      (given-test (λ name. option_map_or (interface_is_listed n (text_of name)) (option_and_then (package_at r) (package_number h.def.package)) true) h.def.name _ h.name h.named_ rule)
+      first_true (interface_is_listed n (text_of h.name) h.package_) _
+      (given-test (λ p. interface_is_listed n (text_of h.name) p && not (is_world_name p (text_of h.name))) (option_and_then (package_at r) (package_number h.def.package)) true h.package_ home
+      (given-test (λ name. option_map_or (λ p. interface_is_listed n (text_of name) p && not (is_world_name p (text_of name))) (option_and_then (package_at r) (package_number h.def.package)) true) h.def.name _ h.name h.named_ rule))
 
   -- interfaces of the same path are one
   pub path-once : (m n : ℕ) (path : Text) → interface_path r m ≡ Some path → interface_path r n ≡ Some path → m ≡ n

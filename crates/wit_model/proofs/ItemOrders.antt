@@ -1,5 +1,5 @@
 -- The order of a world's items, by what is shown and by how far its functions reach.
-use Rattle.std.proofs.Common.{◌≡◌, refl, sym, ap, subst, ◌∙◌, ℕ, suc, ◌+◌, Bool, true, false, ◌&&◌, ◌||◌, not, ◌==◌, nat_le, List, [], ◌∷◌, ◌++◌, take, length, filter, filter_map, option_to_list, position, slice_get, Some, None, Option, append_assoc, append-nil, length-append, is_some, arith, String}
+use Rattle.std.proofs.Common.{◌≡◌, refl, sym, ap, subst, ◌∙◌, ℕ, suc, ◌+◌, Bool, true, false, ◌&&◌, ◌||◌, not, ◌==◌, nat_le, List, [], ◌∷◌, ◌++◌, take, length, map, filter, filter_map, option_to_list, position, slice_get, Some, None, Option, append_assoc, append-nil, length-append, is_some, arith, String}
 use Rattle.std.specs.declared.alloc.Global.{Global}
 use Rattle.std.specs.List.{list_all, cons_option}
 use Rattle.std.specs.Option.{option_map_or}
@@ -20,8 +20,8 @@ use Rattle.wit_model.specs.Text.{text_of}
 use Rattle.wit_model.specs.Lookup.{type_at, world_at}
 use Rattle.wit_model.specs.Uses.{has, item_interface, items_of}
 use Rattle.wit_model.specs.Parts.{function_numbers, met_by, met_of, used_by_function, same_owner, has_owner}
-use Rattle.wit_model.specs.Rules.{is_id, passes, each_from, each_after, is_name_key, item_type, world_type_numbers, is_listed, is_listed_in_world, are_in_order, used_by_number, used_interfaces, used_types, uses_stand_before, function_stays}
-use Rattle.wit_model.specs.Valid.{Keeps, as_world, item_function, functions_of_world, order_of_items, order_of_types, owners}
+use Rattle.wit_model.specs.Rules.{is_id, passes, each_from, each_after, is_name_key, item_type, world_type_numbers, is_listed, is_listed_in_world, are_in_order, used_by_number, used_interfaces, used_types, uses_stand_before, function_stays, is_member}
+use Rattle.wit_model.specs.Valid.{Keeps, as_world, item_function, functions_of_world, function_names, order_of_items, order_of_types, owners}
 use Rattle.wit_model.specs.Checks.{KeepsIn, references, listings, list_orders, rank_of, rank_in, reach_of}
 use Rattle.wit_model.specs.ItemOrders.{uses_are_shown, reaches_within}
 use Rattle.wit_model.proofs.Lists.{first_true, second_true, list_all_filter_map}
@@ -29,7 +29,7 @@ use Rattle.wit_model.proofs.Entries.{each_from_at, free_passes, lists_pass}
 use Rattle.wit_model.proofs.Checks.{keeps_lists, keeps_three, references_kept}
 use Rattle.wit_model.proofs.Listed.{misfit}
 use Rattle.wit_model.proofs.Listings.{all_imply}
-use Rattle.wit_model.proofs.Owners.{all_filter}
+use Rattle.wit_model.proofs.Owners.{all_filter, function_home}
 use Rattle.wit_model.proofs.Ordered.{highest_flat}
 use Rattle.wit_model.proofs.InOrder.{found, fitting, found_stands, highest_within}
 use Rattle.wit_model.proofs.OwnerOrder.{owned_named, owned_place, owner_same, all_same}
@@ -114,7 +114,7 @@ all_kept c p ns h = all_filter p c ns ∙ all_same c (λ m. not (c m) || p m) p 
 
 -- ---- the types of one world
 
-module _ (r : Resolve) (order : Keeps order_of_types r) (own : Keeps owners r) (n : ℕ) (w : World) (at : world_at r n ≡ Some w) where
+module _ (r : Resolve) (order : Keeps order_of_types r) (own : Keeps owners r) (names : Keeps function_names r) (n : ℕ) (w : World) (at : world_at r n ≡ Some w) where
   listed_at : (m : ℕ) (def : TypeDef) (name : String Global) → type_at r m ≡ Some def → def.name ≡ Some name → is_listed r m (text_of name) def.owner ≡ true
   unfolding listings
   listed_at m def name is named =
@@ -196,20 +196,51 @@ module _ (r : Resolve) (order : Keeps order_of_types r) (own : Keeps owners r) (
           go false f = refl
           go true f = ap (λ b. not b || has (filter_map item_type done) m) (sym (stands_in m f)) ∙ h
 
+  -- what holds of each function of the world holds of an import
+  of_import : (test : Function → Bool) → list_all test (functions_of_world w) ≡ true → (done : List WorldItem) (f : Function) (rest : List WorldItem) → values w.imports ≡ done ++ item.Function f ∷ rest → test f ≡ true
+  of_import test all done f rest e =
+      let each = sym (list_all_filter_map test item_function (items_of w)) ∙ all in
+      let there : items_of w ≡ done ++ item.Function f ∷ (rest ++ values w.exports) = ap (λ vs. vs ++ values w.exports) e ∙ append_assoc done (item.Function f ∷ rest) (values w.exports) in
+      first_true _ _ (all_there (λ x. list_all test (option_to_list (item_function x))) done (item.Function f) (rest ++ values w.exports) (ap (list_all (λ x. list_all test (option_to_list (item_function x)))) (sym there) ∙ each))
+
+  -- an entry that is a function is a member of the world
+  entry_belongs : (es : List (WorldKey × WorldItem)) → list_all (λ e. passes (λ f. is_name_key (text_of f.name) e.0 && is_member r (as_world n) f) (item_function e.1)) es ≡ true
+      → list_all (λ x. list_all (is_member r (as_world n)) (option_to_list (item_function x))) (values_of es) ≡ true
+  entry_belongs [] h = refl
+  entry_belongs (e ∷ es) h =
+      let here = first_true (passes (λ f. is_name_key (text_of f.name) e.0 && is_member r (as_world n) f) (item_function e.1)) _ h in
+      let later = entry_belongs es (second_true (passes (λ f. is_name_key (text_of f.name) e.0 && is_member r (as_world n) f) (item_function e.1)) _ h) in
+      λ i. go (item_function e.1) here i && later i
+    where
+      go : (x : Option Function) → passes (λ f. is_name_key (text_of f.name) e.0 && is_member r (as_world n) f) x ≡ true → list_all (is_member r (as_world n)) (option_to_list x) ≡ true
+      go None h = refl
+      go (Some f) h = ap (λ b. b && true) (second_true (is_name_key (text_of f.name) e.0) _ h)
+
+  members : list_all (is_member r (as_world n)) (functions_of_world w) ≡ true
+  unfolding function_names
+  members =
+      let here : 0 + n ≡ n = omega arith in
+      let all = subst (λ k. function_names.world_ r k w ≡ true) here (each_from_at (function_names.world_ r) 0 r.worlds.items n w (lists_pass function_names r names).2 at) in
+      list_all_filter_map (is_member r (as_world n)) item_function (items_of w)
+      ∙ (ap (list_all (λ x. list_all (is_member r (as_world n)) (option_to_list (item_function x)))) (sym (map_append (λ e. e.1) w.imports.entries w.exports.entries))
+      ∙ entry_belongs (w.imports.entries ++ w.exports.entries) all)
+    where
+      map_append : {X Y : Type 0} (f : X → Y) (xs ys : List X) → map f (xs ++ ys) ≡ map f xs ++ map f ys
+      map_append f [] ys = refl
+      map_append f (x ∷ xs) ys = ap (λ zs. f x ∷ zs) (map_append f xs ys)
+
   -- a function uses types of the world alone
-  function_home : (done : List WorldItem) (f : Function) (rest : List WorldItem) → values w.imports ≡ done ++ item.Function f ∷ rest → list_all (has_owner r (as_world n)) (used_by_function r f) ≡ true
+  home_of : (done : List WorldItem) (f : Function) (rest : List WorldItem) → values w.imports ≡ done ++ item.Function f ∷ rest → list_all (has_owner r (as_world n)) (used_by_function r f) ≡ true
   unfolding owners
-  function_home done f rest e =
+  home_of done f rest e =
       let here : 0 + n ≡ n = omega arith in
       let all : list_all (function_stays r (as_world n)) (functions_of_world w) ≡ true = subst (λ k. owners.world_ r k w ≡ true) here (each_from_at (owners.world_ r) 0 r.worlds.items n w (lists_pass owners r own).2 at) in
-      let each = sym (list_all_filter_map (function_stays r (as_world n)) item_function (items_of w)) ∙ all in
-      let there : items_of w ≡ done ++ item.Function f ∷ (rest ++ values w.exports) = ap (λ vs. vs ++ values w.exports) e ∙ append_assoc done (item.Function f ∷ rest) (values w.exports) in
-      first_true _ _ (all_there (λ x. list_all (function_stays r (as_world n)) (option_to_list (item_function x))) done (item.Function f) (rest ++ values w.exports) (ap (list_all (λ x. list_all (function_stays r (as_world n)) (option_to_list (item_function x)))) (sym there) ∙ each))
+      function_home r (order_refers r order) (as_world n) f (of_import (function_stays r (as_world n)) all done f rest e) (of_import (is_member r (as_world n)) members done f rest e)
 
   function_ready : (done : List WorldItem) (f : Function) (rest : List WorldItem) → values w.imports ≡ done ++ item.Function f ∷ rest →
       list_all (has (filter_map item_type done)) (filter (has_owner r (as_world n)) (used_by_function r f)) ≡ reaches_within (reach_of r) (length done) f
   function_ready done f rest e =
-      let home = function_home done f rest e in
+      let home = home_of done f rest e in
       all_kept (has_owner r (as_world n)) (has (filter_map item_type done)) (used_by_function r f) home
       ∙ (all_same (has_owner r (as_world n)) (has (filter_map item_type done)) (λ m. nat_le (rank_of r m) (length done)) (place_before done (item.Function f) rest e) (used_by_function r f) home
       ∙ (sym (highest_within (rank_of r) (length done) (used_by_function r f))

@@ -1,5 +1,5 @@
 -- The order of an owner's list, entry by entry: what each owner's list has to know of its types.
-use Rattle.std.proofs.Common.{◌≡◌, refl, sym, ap, subst, ◌∙◌, ℕ, ◌+◌, Bool, true, false, ◌&&◌, ◌||◌, not, nat_le, T, eqb→eq, List, [], ◌∷◌, ◌++◌, take, length, filter_map, flat_map, option_to_list, position, is_some, is_none, Some, None, Option, append_assoc, append-nil, length-append, arith, String}
+use Rattle.std.proofs.Common.{◌≡◌, refl, sym, ap, subst, ◌∙◌, ℕ, ◌+◌, Bool, true, false, ◌&&◌, ◌||◌, not, nat_le, T, eqb→eq, List, [], ◌∷◌, ◌++◌, take, length, filter_map, flat_map, option_to_list, position, is_some, Some, None, Option, append_assoc, append-nil, length-append, arith, String}
 use Rattle.std.specs.declared.alloc.Global.{Global}
 use Rattle.std.specs.List.{list_all, cons_option}
 use Rattle.std.specs.Option.{option_map_or}
@@ -15,12 +15,12 @@ use Rattle.wit_model.specs.declared.model.TypeDefKind.TheVariants as kind
 use Rattle.wit_model.specs.Lookup.{type_at, interface_at}
 use Rattle.wit_model.specs.Uses.{has, alias_target, owner_interface}
 use Rattle.wit_model.specs.Parts.{kind_numbers, used_by_type, same_owner, has_owner, met_by, met_of}
-use Rattle.wit_model.specs.Rules.{passes, each_from, each_after, is_use, is_listed, is_named_of, used_by_number}
+use Rattle.wit_model.specs.Rules.{passes, each_from, each_after, is_use, type_stays, is_listed, is_named_of, used_by_number}
 use Rattle.wit_model.specs.Valid.{Keeps, owners}
 use Rattle.wit_model.specs.Checks.{highest, references, listings, rank_of, reach_of, stands_in_order}
 use Rattle.wit_model.proofs.Lists.{first_true, second_true}
 use Rattle.wit_model.proofs.Entries.{each_from_at, lists_pass}
-use Rattle.wit_model.proofs.Owners.{met_step}
+use Rattle.wit_model.proofs.Owners.{met_step, owned_stays}
 use Rattle.wit_model.proofs.Ordered.{highest_flat}
 use Rattle.wit_model.proofs.InOrder.{found, fitting, used_place, highest_within}
 
@@ -195,19 +195,19 @@ module _ (r : Resolve) (kept : Keeps listings r) {K V : Type 0} (num : V → Opt
         here : 0 + n ≡ n
         here = omega arith
 
-        tested : (def : TypeDef) → type_at r n ≡ Some def → (is_none def.name || (list_all (has_owner r def.owner) (used_by_type r def) || is_use r def)) ≡ true
+        tested : (def : TypeDef) → type_at r n ≡ Some def → type_stays r def ≡ true
         tested def is = subst (λ k. owners.type_ r k def ≡ true) here (each_from_at (owners.type_ r) 0 r.types.items n def (lists_pass owners r own).3 is)
 
-        stays_home : (x : Option (String Global)) → is_some x ≡ true → (a b : Bool) → (is_none x || (a || b)) ≡ true → b ≡ false → a ≡ true
-        stays_home None s a b h e = let wrong : ⊥ = cc in absurd wrong
-        stays_home (Some name) s true b h e = refl
-        stays_home (Some name) s false b h e = sym e ∙ h
+        stays_home : (a b : Bool) → (a || b) ≡ true → b ≡ false → a ≡ true
+        stays_home true b h e = refl
+        stays_home false b h e = sym e ∙ h
 
         by_use : (def : TypeDef) → type_at r n ≡ Some def → (is_some def.name && same_owner def.owner o) ≡ true → (b : Bool) → is_use r def ≡ b → (b || nat_le (highest (reach_of r) (kind_numbers def.kind)) p) ≡ list_all passing (used_by_type r def)
         by_use def is h true e = sym (use_stands p def (owner_same def.owner o (second_true _ _ h)) e)
         by_use def is h false e =
             let mine = owner_same def.owner o (second_true _ _ h) in
-            let home = stays_home def.name (first_true _ _ h) (list_all (has_owner r def.owner) (used_by_type r def)) (is_use r def) (tested def is) e in
+            let owned : same_owner def.owner owner.None ≡ false = ap (λ x. same_owner x owner.None) mine ∙ real in
+            let home = stays_home (list_all (has_owner r def.owner) (used_by_type r def)) (is_use r def) (owned_stays r def (tested def is) owned) e in
             users_place p def (ap (λ x. list_all (has_owner r x) (used_by_type r def)) (sym mine) ∙ home)
 
         go : (d : Option TypeDef) → type_at r n ≡ d → passes (λ def. is_some def.name && same_owner def.owner o) d ≡ true →

@@ -1,5 +1,5 @@
 -- What is met at a number may be summed up along the list of types, where each refers to smaller numbers alone.
-use Rattle.std.proofs.Common.{◌≡◌, refl, sym, ap, subst, ◌∙◌, ℕ, zero, suc, ◌+◌, ◌<◌, ◌≤◌, Bool, true, false, ◌&&◌, ◌||◌, not, cond, ◌==◌, nat_lt, nat_le, T, ltb→lt, eqb→eq, List, [], ◌∷◌, ◌++◌, length, take, filter, flat_map, option_to_list, Some, None, Option, unwrap_or, slice_get, is_some, arith, String}
+use Rattle.std.proofs.Common.{◌≡◌, refl, sym, ap, subst, ◌∙◌, ℕ, zero, suc, ◌+◌, ◌<◌, ◌≤◌, Bool, true, false, ◌&&◌, ◌||◌, not, cond, ◌==◌, nat_lt, nat_le, T, ltb→lt, eqb→eq, List, [], ◌∷◌, ◌++◌, length, take, filter, flat_map, option_to_list, option_and_then, if◌then◌else◌, Some, None, Option, unwrap_or, slice_get, is_some, arith, String}
 use Rattle.std.specs.declared.alloc.Global.{Global}
 use Rattle.std.specs.List.{list_all}
 use Rattle.std.specs.Option.{option_map_or}
@@ -13,17 +13,19 @@ use Rattle.wit_model.specs.declared.model.Interface.{Interface}
 use Rattle.wit_model.specs.declared.model.TypeDef.{TypeDef}
 use Rattle.wit_model.specs.declared.model.TypeOwner.{TypeOwner}
 use Rattle.wit_model.specs.declared.model.Function.{Function}
-use Rattle.wit_model.specs.Lookup.{type_at, interface_at}
-use Rattle.wit_model.specs.Parts.{kind_numbers, function_numbers, met_by, met_at, met_of, numbered_from, used_by_type, same_owner, has_owner}
+use Rattle.wit_model.specs.Lookup.{type_at, interface_at, resource_of}
+use Rattle.wit_model.specs.Parts.{kind_numbers, met_by, met_at, met_of, numbered_from, used_by_type, used_by_values, used_by_function, same_owner, has_owner}
 use Rattle.wit_model.specs.Uses.{once, interface_used_by, interfaces_used_by, direct_deps}
-use Rattle.wit_model.specs.Rules.{function_stays}
+use Rattle.wit_model.specs.declared.model.TypeOwner.TheVariants as owner
+use Rattle.wit_model.specs.Text.{optional_text}
+use Rattle.wit_model.specs.Rules.{passes, function_stays, type_stays, is_use, is_member, is_member_of, is_resource_itself, resource_name}
 use Rattle.wit_model.specs.Valid.{Keeps}
-use Rattle.wit_model.specs.Checks.{references, values_of, resources_of, all_values, all_resources}
+use Rattle.wit_model.specs.Checks.{references, values_of, all_values}
 use Rattle.wit_model.specs.Owners.{stays, met_entry, IsMetTable}
 use Rattle.wit_model.proofs.Lists.{first_true, second_true, list_all_filter_map}
 use Rattle.wit_model.proofs.Tables.{grow_at, grow_keeps}
 use Rattle.wit_model.proofs.Checks.{below_at}
-use Rattle.wit_model.proofs.Functions.{all_flat}
+use Rattle.wit_model.proofs.Functions.{all_flat, flat_append}
 
 numbered_at : {A : Type 0} (k : ℕ) (xs : List A) (n : ℕ) (x : A) → slice_get xs n ≡ Some x → slice_get (numbered_from k xs) n ≡ Some (k + n, x)
 numbered_at k [] n x e = absurd (none_some e)
@@ -105,22 +107,61 @@ module _ (r : Resolve) (table : List Met) (right : IsMetTable r table) where
   pub numbers_stay : (o : TypeOwner) (ns : List ℕ) → list_all (λ n. stays (met_entry table n) o) ns ≡ list_all (has_owner r o) (flat_map (met_by (met_of r)) ns)
   numbers_stay o ns = ap (λ p. list_all p ns) (λ i n. right n o i) ∙ sym (all_flat (has_owner r o) (met_by (met_of r)) ns)
 
-  all_swap : (a b x y : Bool) → ((a && b) && (x && y)) ≡ ((a && x) && (b && y))
-  all_swap true b true y = refl
-  all_swap true true false y = refl
-  all_swap true false false y = refl
-  all_swap false b x y = refl
+  function_stay : (o : TypeOwner) (f : Function) → list_all (λ n. stays (met_entry table n) o) (values_of f) ≡ function_stays r o f
+  function_stay o f = numbers_stay o (values_of f)
 
-  function_stay : (o : TypeOwner) (f : Function) → (list_all (λ n. stays (met_entry table n) o) (values_of f) && list_all (λ n. stays (met_entry table n) o) (resources_of f)) ≡ function_stays r o f
-  function_stay o f = sym (list_all-append (λ n. stays (met_entry table n) o) (values_of f) (resources_of f)) ∙ numbers_stay o (function_numbers f)
-
-  pub functions_stay : (o : TypeOwner) (fs : List Function) → (list_all (λ n. stays (met_entry table n) o) (all_values fs) && list_all (λ n. stays (met_entry table n) o) (all_resources fs)) ≡ list_all (function_stays r o) fs
+  pub functions_stay : (o : TypeOwner) (fs : List Function) → list_all (λ n. stays (met_entry table n) o) (all_values fs) ≡ list_all (function_stays r o) fs
   functions_stay o [] = refl
   functions_stay o (f ∷ fs) =
       let p : ℕ → Bool = λ n. stays (met_entry table n) o in
-      (λ i. list_all-append p (values_of f) (all_values fs) i && list_all-append p (resources_of f) (all_resources fs) i)
-      ∙ (all_swap (list_all p (values_of f)) (list_all p (all_values fs)) (list_all p (resources_of f)) (list_all p (all_resources fs))
-      ∙ (λ i. function_stay o f i && functions_stay o fs i))
+      list_all-append p (values_of f) (all_values fs) ∙ (λ i. function_stay o f i && functions_stay o fs i)
+
+-- ---- a function's own resource
+
+-- a resource that a function belongs to has the function's owner, and a name
+member_met : (r : Resolve) → Keeps references r → (o : TypeOwner) (f : Function) → is_member r o f ≡ true → list_all (has_owner r o) (flat_map (met_by (met_of r)) (option_to_list (resource_of f.kind))) ≡ true
+member_met r below o f h = go (resource_of f.kind) h
+  where
+    named : (n : ℕ) (def : TypeDef) → type_at r n ≡ Some def → (x : Option (String Global)) → def.name ≡ x → (b c : Bool) → same_owner def.owner o ≡ c
+        → is_some (cond (b && c) (optional_text x) None) ≡ true → list_all (has_owner r o) (met_by (met_of r) n ++ []) ≡ true
+    named n def is None e true true s h = let wrong : ⊥ = cc in absurd wrong
+    named n def is x e false c s h = let wrong : ⊥ = cc in absurd wrong
+    named n def is x e true false s h = let wrong : ⊥ = cc in absurd wrong
+    named n def is (Some name) e true true s h =
+        let known : is_some def.name ≡ true = ap is_some e in
+        list_all-append (has_owner r o) (met_by (met_of r) n) []
+        ∙ ap (λ b. b && true) (sym (named_met r below n def is o known) ∙ s)
+
+    at : (n : ℕ) (d : Option TypeDef) → type_at r n ≡ d
+        → is_some (option_and_then (λ def. if is_resource_itself def.kind && same_owner def.owner o then optional_text def.name else None) d) ≡ true
+        → list_all (has_owner r o) (met_by (met_of r) n ++ []) ≡ true
+    at n None is h = let wrong : ⊥ = cc in absurd wrong
+    at n (Some def) is h = named n def is def.name refl (is_resource_itself def.kind) (same_owner def.owner o) refl h
+
+    given : {X : Type 0} (test : X → Bool) (x : Option X) → option_map_or test x false ≡ true → is_some x ≡ true
+    given test None h = let wrong : ⊥ = cc in absurd wrong
+    given test (Some x) h = refl
+
+    go : (x : Option ℕ) → passes (λ n. option_map_or (λ name. is_member_of r n name f f.kind) (resource_name r o n) false) x ≡ true → list_all (has_owner r o) (flat_map (met_by (met_of r)) (option_to_list x)) ≡ true
+    go None h = refl
+    go (Some n) h = at n (type_at r n) refl (given (λ name. is_member_of r n name f f.kind) (resource_name r o n) h)
+
+-- all that a function uses belongs to its owner
+pub function_home : (r : Resolve) → Keeps references r → (o : TypeOwner) (f : Function) → function_stays r o f ≡ true → is_member r o f ≡ true → list_all (has_owner r o) (used_by_function r f) ≡ true
+function_home r below o f stays belongs =
+    ap (list_all (has_owner r o)) (flat_append (met_by (met_of r)) (values_of f) (option_to_list (resource_of f.kind)))
+    ∙ (list_all-append (has_owner r o) (used_by_values r f) (flat_map (met_by (met_of r)) (option_to_list (resource_of f.kind)))
+    ∙ (λ i. stays i && member_met r below o f belongs i))
+
+-- what the rule says of a type that has an owner
+pub owned_stays : (r : Resolve) (def : TypeDef) → type_stays r def ≡ true → same_owner def.owner owner.None ≡ false → (list_all (has_owner r def.owner) (used_by_type r def) || is_use r def) ≡ true
+owned_stays r def h owned = go (list_all (has_owner r def.owner) (used_by_type r def)) (is_some def.name) (is_use r def) (sym (ap (λ b. b || (list_all (has_owner r def.owner) (used_by_type r def) || (is_some def.name && is_use r def))) owned) ∙ h)
+  where
+    go : (a b c : Bool) → (a || (b && c)) ≡ true → (a || c) ≡ true
+    go true b c e = refl
+    go false true c e = e
+    go false false true e = refl
+    go false false false e = e
 
 -- ---- an interface uses smaller ones alone
 

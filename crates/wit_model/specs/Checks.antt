@@ -1,5 +1,5 @@
 -- Words of the checks: what one list of a `Resolve` keeps, and tables by number.
-use Rattle.std.specs.Prelude.{◌≡◌, ℕ, ◌+◌, min, max, Bool, true, false, ◌||◌, nat_lt, nat_le, position, string_bytes, List, [], ◌∷◌, unwrap_or, slice_get, filter_map, flat_map, option_to_list, option_map, option_and_then}
+use Rattle.std.specs.Prelude.{◌≡◌, ℕ, ◌+◌, min, max, Bool, true, false, ◌||◌, nat_lt, nat_le, position, string_bytes, List, [], ◌∷◌, unwrap_or, slice_get, filter_map, flat_map, option_map, option_and_then}
 use Rattle.std.specs.List.{list_all}
 use Rattle.std.specs.Option.{option_map_or}
 use Rattle.std.specs.HashMap.{keys, get_by, get_by_text}
@@ -15,7 +15,7 @@ use Rattle.wit_model.specs.declared.model.TypeDef.{TypeDef}
 use Rattle.wit_model.specs.declared.model.TypeDefKind.{TypeDefKind}
 use Rattle.wit_model.specs.declared.model.TypeDefKind.TheVariants as kind
 use Rattle.wit_model.specs.Text.{Text, text_of, text_eq}
-use Rattle.wit_model.specs.Lookup.{resource_of, type_at, interface_at, world_at}
+use Rattle.wit_model.specs.Lookup.{type_at, interface_at, world_at}
 use Rattle.wit_model.specs.Types.{number_of}
 use Rattle.wit_model.specs.Parts.{kind_numbers, function_types, same_owner, met_by, met_of}
 use Rattle.wit_model.specs.Rules.{each_from, passes, is_id, is_name_key, item_type, is_named_of, interface_type_numbers, world_type_numbers, is_listed, are_in_order, is_use}
@@ -48,13 +48,6 @@ values_of f = filter_map number_of (function_types f)
 -- the same of several functions
 abbrev pub all_values : List Function → List ℕ
 all_values fs = flat_map values_of fs
-
--- the resources that a function belongs to
-abbrev pub resources_of : Function → List ℕ
-resources_of f = option_to_list (resource_of f.kind)
-
-abbrev pub all_resources : List Function → List ℕ
-all_resources fs = flat_map resources_of fs
 
 -- ---- levels
 

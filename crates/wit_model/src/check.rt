@@ -30,6 +30,9 @@ ghost use Rattle.wit_model.specs.Valid.{HasDistinctKeys, IsFaultOf, IsValid, Kee
 ghost use Rattle.wit_model.specs.declared.error.Fault.TheVariants.{Memory as MemoryFault};
 
 use crate::{Fault, Resolve};
+pub(crate) use lookup::interface_at;
+pub(crate) use members::{after_prefix, is_own_of};
+pub(crate) use owners::interface_used_by;
 use std::alloc::Global;
 
 // The rules one after the other: a later one may rely on what an earlier one has shown.

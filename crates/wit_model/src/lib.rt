@@ -2,12 +2,16 @@
 #![tactic(auto)]
 
 mod check;
+mod direct_deps;
 mod error;
 mod function_kind;
+mod item_names;
 pub mod laws;
 mod model;
 mod names;
+mod paths;
 mod plain;
+mod world_entries;
 
 pub use error::{Cause, ClashKind, EntryList, Error, Fault};
 pub use model::{

@@ -1,6 +1,8 @@
 //! Sample packages, and the tests of validity on them.
 #![tactic(auto)]
 
+#[cfg(test)]
+mod dependency_tests;
 pub mod drafts;
 #[cfg(test)]
 mod error_tests;
@@ -25,6 +27,8 @@ mod number_tests;
 mod owner_tests;
 #[cfg(test)]
 mod part_number_tests;
+#[cfg(test)]
+mod path_tests;
 #[cfg(test)]
 mod place_tests;
 #[cfg(test)]

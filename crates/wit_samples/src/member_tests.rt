@@ -210,7 +210,7 @@ fn constructors_give_their_resource(rt: HostRuntime) {
     }
 }
 
-// ---- another owner's resource: the rule on owners is broken too, and named
+// ---- another owner's resource. A method takes it too, so the rule on owners is broken and named
 
 const OTHER_METHOD: Signature = Signature {
     name: "[method]q.f",
@@ -235,7 +235,7 @@ fn members_belong_to_a_resource_of_the_owner(rt: HostRuntime) {
         ),
         (
             &[Step::Type(0, "r", Kind::Resource), IMPORTED_STATIC],
-            Broken(6, EntryList::Worlds, 0),
+            Broken(11, EntryList::Worlds, 0),
         ),
     ];
     assert_answers(&rt, rt.alloc(), &[], &CASES);

@@ -2,7 +2,7 @@
 
 use crate::steps::Expected::{Broken, Valid};
 use crate::steps::{Case, FUNCTION, Item, Key, Kind, Signature, Step, assert_answers};
-use wit_model::{EntryList, PackageId, Type, TypeId, TypeOwner};
+use wit_model::{EntryList, FunctionKind, PackageId, Type, TypeId, TypeOwner};
 
 const NUMBER: Kind = Kind::Alias(Type::U8);
 
@@ -77,6 +77,31 @@ fn types_and_functions_of_worlds(rt: HostRuntime) {
         Broken(6, EntryList::Worlds, 1),
     )];
     assert_answers(&rt, rt.alloc(), &[], &OF_ANOTHER_WORLD);
+}
+
+// ---- what other rules alone refuse
+
+// A type with a name and no owner, of another interface's type.
+const WITHOUT_OWNER: Step = Step::UnlistedType("u", Kind::Option(LIST_OF_T), TypeOwner::None);
+
+// Interface j with resource r, which is number 0.
+static ANOTHERS_RESOURCE: [Step; 2] = [Step::Interface("j"), Step::Type(1, "r", Kind::Resource)];
+
+const OF_RESOURCE: Signature = Signature {
+    name: "[static]r.f",
+    kind: FunctionKind::Static(TypeId(0)),
+    ..FUNCTION
+};
+
+#[test]
+fn types_without_owner_and_functions_of_resources(rt: HostRuntime) {
+    static TYPES: [Case; 1] = [(&[LIST, WITHOUT_OWNER], Broken(5, EntryList::Types, 2))];
+    assert_answers(&rt, rt.alloc(), &ANOTHER, &TYPES);
+    static FUNCTIONS: [Case; 1] = [(
+        &[Step::Function(0, "[static]r.f", OF_RESOURCE)],
+        Broken(11, EntryList::Interfaces, 0),
+    )];
+    assert_answers(&rt, rt.alloc(), &ANOTHERS_RESOURCE, &FUNCTIONS);
 }
 
 // ---- aliases

@@ -69,10 +69,11 @@ fn named_interfaces_stand_under_their_names(rt: HostRuntime) {
     assert_answers(&rt, rt.alloc(), &TWO_PACKAGES, &CASES);
 }
 
-// Interface 1 is named as a world.
+// Interface 1 is named as a world, and then only listed as one.
 #[test]
 fn interfaces_and_worlds_share_no_name(rt: HostRuntime) {
-    static CASES: [Case; 3] = [
+    const REFUSED: Expected = Broken(3, EntryList::Interfaces, 1);
+    static CASES: [Case; 4] = [
         (
             &[
                 Step::UnlistedInterface(Some("v"), FIRST),
@@ -85,14 +86,18 @@ fn interfaces_and_worlds_share_no_name(rt: HostRuntime) {
                 Step::UnlistedInterface(Some("w"), FIRST),
                 Step::ListInterface(0, "w", 1),
             ],
-            REFUSED_FIRST,
+            REFUSED,
         ),
         (
             &[
                 Step::UnlistedInterface(Some("v"), SECOND),
                 Step::ListInterface(1, "v", 1),
             ],
-            REFUSED_SECOND,
+            REFUSED,
+        ),
+        (
+            &[OF_FIRST, IN_FIRST, Step::ListInterface(0, "w", 1)],
+            REFUSED_FIRST,
         ),
     ];
     assert_answers(&rt, rt.alloc(), &TWO_PACKAGES, &CASES);

@@ -211,6 +211,13 @@ fn add_all(alloc: Global, resolve: &mut Resolve, steps: &[Step]) -> Result<(), A
     Ok(())
 }
 
+/// Package `a:b` after these steps.
+pub fn made(alloc: Global, steps: &[Step]) -> Result<Resolve, AllocError> {
+    let mut resolve = draft(alloc)?;
+    add_all(alloc, &mut resolve, steps)?;
+    Ok(resolve)
+}
+
 // What `check` answers of package `a:b` after these steps and then those.
 fn answer(alloc: Global, given: &[Step], steps: &[Step]) -> Result<(), Fault> {
     let mut resolve = draft(alloc)?;

@@ -8,7 +8,7 @@ ghost use Rattle.wit_model.specs.Checks.{KeepsIn, entry_of, reach_of};
 ghost use Rattle.wit_model.specs.ItemOrders.{IsUsesTable, entry_passes, holds, is_other_use, reaches_within, shown_after, shown_with, uses_are_shown as uses_are_shown_lem};
 ghost use Rattle.wit_model.specs.Rules.{each_from, passes, used_interfaces};
 ghost use Rattle.wit_model.specs.Uses.{direct_deps, has, interface_used_by as interface_used_by_lem, items_of};
-ghost use Rattle.wit_model.specs.Valid.{Keeps, entry_keeps, item_function, order_of_items, order_of_types, owners, IsFaultOf};
+ghost use Rattle.wit_model.specs.Valid.{Keeps, entry_keeps, function_names, item_function, order_of_items, order_of_types, owners, IsFaultOf};
 ghost use Rattle.wit_model.specs.declared.error.EntryList.TheVariants as lists;
 
 use super::list_orders::reach_table;
@@ -30,6 +30,7 @@ fn add_use(
     ensures { OnOk result ((q : ℕ) → holds uses.new q ≡ (is_other_use resolve.now own number q || holds uses.old q)) }
 {
     if let Some(used) = interface_used_by(resolve, number) {
+        let used = used.0 as usize;
         if used != own {
             uses.insert(used)?;
         }
@@ -99,7 +100,7 @@ fn type_is_ready(resolve: &Resolve, shown: &HashSet<usize>, number: usize) -> bo
     ensures { result ≡ list_all (holds shown.now) (option_to_list (interface_used_by_lem resolve.now number)) }
 {
     match interface_used_by(resolve, number) {
-        Some(used) => shown.contains(&used),
+        Some(used) => shown.contains(&(used.0 as usize)),
         None => true,
     }
 }
@@ -239,6 +240,7 @@ fn world_keeps(
     requires uses { IsUsesTable resolve.now uses.now }
     requires order { Keeps order_of_types resolve.now }
     requires owners { Keeps owners resolve.now }
+    requires names { Keeps function_names resolve.now }
     requires table { (n : ℕ) → entry_of table.now n ≡ reach_of resolve.now n }
     ensures { IfOk result (λ kept. entry_keeps order_of_items resolve.now lists.Worlds number ≡ Some kept) }
 {
@@ -255,6 +257,7 @@ fn check_worlds(
     requires uses { IsUsesTable resolve.now uses.now }
     requires order { Keeps order_of_types resolve.now }
     requires owners { Keeps owners resolve.now }
+    requires names { Keeps function_names resolve.now }
     requires table { (n : ℕ) → entry_of table.now n ≡ reach_of resolve.now n }
     ensures kept { OnOk result (KeepsIn order_of_items resolve.now lists.Worlds) }
     ensures broken { IfErr result (IsFaultOf resolve.now) }
@@ -277,6 +280,7 @@ fn check_worlds(
 pub(crate) fn check(alloc: Global, resolve: &Resolve) -> Result<(), Fault>
     requires order { Keeps order_of_types resolve.now }
     requires owners { Keeps owners resolve.now }
+    requires names { Keeps function_names resolve.now }
     ensures kept { OnOk result (Keeps order_of_items resolve.now) }
     ensures broken { IfErr result (IsFaultOf resolve.now) }
 {

@@ -96,7 +96,7 @@ fn interface_keeps(
     ensures { IfOk result (λ kept. entry_keeps depths resolve.now lists.Interfaces number ≡ Some kept) }
 {
     let numbers = interface_numbers(alloc, &resolve.interfaces[number])?;
-    Ok(are_shallow(table, &numbers.values))
+    Ok(are_shallow(table, &numbers))
 }
 
 fn check_interfaces(alloc: Global, resolve: &Resolve, table: &[usize]) -> Result<(), Fault>
@@ -127,7 +127,7 @@ fn world_keeps(
     ensures { IfOk result (λ kept. entry_keeps depths resolve.now lists.Worlds number ≡ Some kept) }
 {
     let numbers = world_numbers(alloc, &resolve.worlds[number])?;
-    Ok(are_shallow(table, &numbers.values))
+    Ok(are_shallow(table, &numbers))
 }
 
 fn check_worlds(alloc: Global, resolve: &Resolve, table: &[usize]) -> Result<(), Fault>

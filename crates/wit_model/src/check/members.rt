@@ -37,7 +37,7 @@ fn is_owner(owner: TypeOwner, home: Home) -> bool
 // ---- names
 
 /// The text after a prefix.
-fn after_prefix<'a>(prefix: &str, text: &'a str) -> Option<&'a str>
+pub(crate) fn after_prefix<'a>(prefix: &str, text: &'a str) -> Option<&'a str>
     ensures { option_copied result ≡ after_prefix_lem prefix.now text.now }
 {
     text.strip_prefix(prefix)
@@ -104,8 +104,8 @@ fn is_borrow_kind(kind: &TypeDefKind, number: usize) -> bool
     }
 }
 
-// Whether a type is an unnamed own of the resource.
-fn is_own_of(resolve: &Resolve, ty: Type, number: usize) -> bool
+/// Whether a type is an unnamed own of the resource.
+pub(crate) fn is_own_of(resolve: &Resolve, ty: Type, number: usize) -> bool
     ensures { result ≡ type_is resolve.now (is_own_of_lem number) ty }
 {
     match number_of(ty) {

@@ -1,6 +1,6 @@
 //! The rule on owners: types and functions meet types of their own owner alone, but for uses.
 
-ghost use Rattle.std.specs.Prelude.{◌≡◌, ◌&&◌, ◌||◌, ◌<◌, ℕ, false, is_none, is_some, length, nat_le, not, option_to_list, Some, IfOk, OnOk, IfErr};
+ghost use Rattle.std.specs.Prelude.{◌≡◌, ◌&&◌, ◌||◌, ◌<◌, ℕ, false, is_some, length, nat_le, not, option_map, option_to_list, Some, IfOk, OnOk, IfErr};
 ghost use Rattle.std.specs.List.{list_all};
 ghost use Rattle.std.specs.Option.{option_map_or};
 ghost use Rattle.indexmap.specs.IndexMap.{values};
@@ -13,10 +13,11 @@ ghost use Rattle.wit_model.specs.Uses.{interface_used_by as interface_used_by_le
 ghost use Rattle.wit_model.specs.Valid.{Keeps, as_interface, as_world, entry_keeps, owners, IsFaultOf};
 ghost use Rattle.wit_model.specs.declared.error.EntryList.TheVariants as lists;
 ghost use Rattle.wit_model.specs.declared.model.TypeOwner.{TypeOwner};
+ghost use Rattle.wit_model.specs.declared.model.TypeOwner.TheVariants as owner;
 
-use super::functions::{FunctionNumbers, interface_numbers, world_numbers};
+use super::functions::{interface_numbers, world_numbers};
 use super::parts::{alias_target, kind_numbers};
-use crate::{EntryList, Fault, Interface, Resolve, TypeDef, TypeOwner};
+use crate::{EntryList, Fault, Interface, InterfaceId, Resolve, TypeDef, TypeOwner};
 use std::alloc::{AllocError, Global};
 
 /// The owners of the named types that are met at a number, through unnamed ones.
@@ -151,11 +152,11 @@ fn stays_in_world(met: Met, number: usize) -> bool
     }
 }
 
-fn owner_interface(owner: TypeOwner) -> Option<usize>
-    ensures { result ≡ owner_interface_lem owner }
+fn owner_interface(owner: TypeOwner) -> Option<InterfaceId>
+    ensures { option_map (λ id. id.0) result ≡ owner_interface_lem owner }
 {
     match owner {
-        TypeOwner::Interface(id) => Some(id.0 as usize),
+        TypeOwner::Interface(id) => Some(id),
         _ => None,
     }
 }
@@ -177,7 +178,7 @@ fn is_foreign(resolve: &Resolve, target: &TypeDef, owner: TypeOwner) -> bool
         return false;
     }
     match owner_interface(target.owner) {
-        Some(number) => is_named_interface(resolve, number),
+        Some(id) => is_named_interface(resolve, id.0 as usize),
         None => false,
     }
 }
@@ -196,8 +197,8 @@ pub(crate) fn is_use(resolve: &Resolve, def: &TypeDef) -> bool
 }
 
 /// The interface that the target of an alias belongs to.
-pub(crate) fn interface_used_by(resolve: &Resolve, number: usize) -> Option<usize>
-    ensures { result ≡ interface_used_by_lem resolve.now number }
+pub(crate) fn interface_used_by(resolve: &Resolve, number: usize) -> Option<InterfaceId>
+    ensures { option_map (λ id. id.0) result ≡ interface_used_by_lem resolve.now number }
 {
     let def = resolve.types.get(number)?;
     let number = alias_target(&def.kind)?;
@@ -209,7 +210,7 @@ fn uses_within(resolve: &Resolve, number: usize, limit: usize) -> bool
     ensures { result ≡ list_all (λ m. nat_le m limit) (option_to_list (interface_used_by_lem resolve.now number)) }
 {
     match interface_used_by(resolve, number) {
-        Some(used) => used <= limit,
+        Some(used) => used.0 as usize <= limit,
         None => true,
     }
 }
@@ -224,25 +225,13 @@ fn uses_earlier(resolve: &Resolve, interface: &Interface, number: usize) -> bool
         .all(|id| uses_within(resolve, id.0 as usize, number))
 }
 
-fn functions_stay_in_interface(table: &[Met], numbers: &FunctionNumbers, number: usize) -> bool
-    ensures { result ≡ (list_all (λ n. stays_lem (met_entry table.now n) (as_interface number)) numbers.now.values.items && list_all (λ n. stays_lem (met_entry table.now n) (as_interface number)) numbers.now.resources.items) }
-{
-    stays_in_interface(met_by_all(table, &numbers.values), number)
-        && stays_in_interface(met_by_all(table, &numbers.resources), number)
-}
-
-fn functions_stay_in_world(table: &[Met], numbers: &FunctionNumbers, number: usize) -> bool
-    ensures { result ≡ (list_all (λ n. stays_lem (met_entry table.now n) (as_world number)) numbers.now.values.items && list_all (λ n. stays_lem (met_entry table.now n) (as_world number)) numbers.now.resources.items) }
-{
-    stays_in_world(met_by_all(table, &numbers.values), number)
-        && stays_in_world(met_by_all(table, &numbers.resources), number)
-}
-
-// Whether a type stays with its owner, is a use or has no name. What is met in its kind comes with it.
+// Whether a type stays with its owner, is a named use or has no owner. What is met in its kind comes with it.
 fn is_at_home(resolve: &Resolve, def: &TypeDef, met: Met) -> bool
-    ensures { result ≡ (is_none def.now.name || (stays_lem met def.now.owner || is_use_lem resolve.now def.now)) }
+    ensures { result ≡ (same_owner_lem def.now.owner owner.None || (stays_lem met def.now.owner || (is_some def.now.name && is_use_lem resolve.now def.now))) }
 {
-    def.name.is_none() || stays(met, def.owner) || is_use(resolve, def)
+    same_owner(def.owner, TypeOwner::None)
+        || stays(met, def.owner)
+        || (def.name.is_some() && is_use(resolve, def))
 }
 
 fn type_keeps(
@@ -281,13 +270,14 @@ fn interface_stays(
     resolve: &Resolve,
     table: &[Met],
     interface: &Interface,
-    numbers: &FunctionNumbers,
+    numbers: &[usize],
     number: usize,
 ) -> bool
-    ensures { result ≡ ((list_all (λ n. stays_lem (met_entry table.now n) (as_interface number)) numbers.now.values.items && list_all (λ n. stays_lem (met_entry table.now n) (as_interface number)) numbers.now.resources.items)
+    ensures { result ≡ (list_all (λ n. stays_lem (met_entry table.now n) (as_interface number)) numbers.now
         && list_all (λ id. list_all (λ m. nat_le m number) (option_to_list (interface_used_by_lem resolve.now id.0))) (values interface.now.types)) }
 {
-    functions_stay_in_interface(table, numbers, number) && uses_earlier(resolve, interface, number)
+    stays_in_interface(met_by_all(table, numbers), number)
+        && uses_earlier(resolve, interface, number)
 }
 
 fn interface_keeps(
@@ -333,7 +323,7 @@ fn world_keeps(
     ensures { IfOk result (λ kept. entry_keeps owners resolve.now lists.Worlds number ≡ Some kept) }
 {
     let numbers = world_numbers(alloc, &resolve.worlds[number])?;
-    Ok(functions_stay_in_world(table, &numbers, number))
+    Ok(stays_in_world(met_by_all(table, &numbers), number))
 }
 
 fn check_worlds(alloc: Global, resolve: &Resolve, table: &[Met]) -> Result<(), Fault>

@@ -1,14 +1,13 @@
 //! The rule on places: interfaces and worlds have a package, and stand in its maps.
 
-ghost use Rattle.std.specs.Prelude.{◌≡◌, ◌&&◌, ◌<◌, length, not, true, Some, is_some, OnOk, IfErr, option_map, option_and_then};
+ghost use Rattle.std.specs.Prelude.{◌≡◌, ◌&&◌, ◌||◌, ◌<◌, length, not, true, Some, is_some, OnOk, IfErr, option_map, option_and_then};
 ghost use Rattle.std.specs.Option.{option_map_or};
-ghost use Rattle.std.specs.List.{list_all, list_any};
-ghost use Rattle.indexmap.specs.IndexMap.{keys};
+ghost use Rattle.std.specs.List.{list_all};
 ghost use Rattle.wit_model.specs.Lookup.{package_at as package_at_lem, interface_at as interface_at_lem, world_at as world_at_lem};
 ghost use Rattle.wit_model.specs.Text.{text_eq, text_of};
 ghost use Rattle.wit_model.specs.Checks.{KeepsIn};
 ghost use Rattle.wit_model.specs.Places.{IsShownTable, is_once_in, shown_entry};
-ghost use Rattle.wit_model.specs.Rules.{interface_belongs, interface_is_listed, is_id, package_number, passes, world_belongs, world_is_listed};
+ghost use Rattle.wit_model.specs.Rules.{interface_belongs, interface_is_listed, is_id, is_world_name as is_world_name_lem, names_itself as names_itself_lem, package_number, passes, text_is, world_belongs, world_is_listed};
 ghost use Rattle.wit_model.specs.Valid.{places, entry_keeps, IsFaultOf, IsFound, Keeps};
 
 use crate::check::lookup::{interface_at, package_at, world_at};
@@ -69,16 +68,44 @@ fn worlds_stand(resolve: &Resolve, number: usize, ids: &Map<String, WorldId>) ->
         .all(|(key, id)| world_stands(resolve, number, key, *id))
 }
 
-fn is_key(name: &String, ids: &Map<String, WorldId>) -> bool
-    ensures { result ≡ list_any (λ other. text_eq (text_of name.now) (text_of other)) (keys ids.now) }
+fn is_world_name(name: &String, owner: &Package) -> bool
+    ensures { result ≡ is_world_name_lem owner.now (text_of name.now) }
 {
-    ids.contains_key(name)
+    owner.worlds.contains_key(name)
 }
 
-fn are_unshared(interfaces: &Map<String, InterfaceId>, worlds: &Map<String, WorldId>) -> bool
-    ensures { result ≡ list_all (λ name. not (list_any (λ other. text_eq (text_of name) (text_of other)) (keys worlds.now))) (keys interfaces.now) }
+fn is_named(interface: &Interface, key: &String) -> bool
+    ensures { result ≡ text_is interface.now.name (text_of key.now) }
 {
-    interfaces.keys().all(|name| !is_key(name, worlds))
+    match &interface.name {
+        Some(name) => name == key,
+        None => false,
+    }
+}
+
+fn names_itself(resolve: &Resolve, key: &String, id: InterfaceId) -> bool
+    ensures { result ≡ names_itself_lem resolve.now (key.now, id) }
+{
+    match interface_at(resolve, id) {
+        Some(interface) => is_named(interface, key),
+        None => false,
+    }
+}
+
+// Whether a key of the interfaces is none of the worlds. One that the interface bears is left to the interface.
+fn is_unshared(resolve: &Resolve, owner: &Package, key: &String, id: InterfaceId) -> bool
+    ensures { result ≡ (not (is_world_name_lem owner.now (text_of key.now)) || names_itself_lem resolve.now (key.now, id)) }
+{
+    !is_world_name(key, owner) || names_itself(resolve, key, id)
+}
+
+fn are_unshared(resolve: &Resolve, owner: &Package) -> bool
+    ensures { result ≡ list_all (λ e. not (is_world_name_lem owner.now (text_of e.0)) || names_itself_lem resolve.now e) owner.now.interfaces.entries }
+{
+    owner
+        .interfaces
+        .iter()
+        .all(|(key, id)| is_unshared(resolve, owner, key, *id))
 }
 
 fn is_listed(number: usize, name: &String, owner: &Package) -> bool
@@ -108,18 +135,19 @@ fn is_interface_listed(number: usize, name: &String, owner: &Package) -> bool
     }
 }
 
+// Whether an interface stands in its package's map under its name, and no world does.
 fn is_interface_listed_in(resolve: &Resolve, number: usize, name: &String, id: PackageId) -> bool
-    ensures { result ≡ option_map_or (interface_is_listed number (text_of name.now)) (package_at_lem resolve.now id.0) true }
+    ensures { result ≡ option_map_or (λ p. interface_is_listed number (text_of name.now) p && not (is_world_name_lem p (text_of name.now))) (package_at_lem resolve.now id.0) true }
 {
     match package_at(resolve, id) {
-        Some(owner) => is_interface_listed(number, name, owner),
+        Some(owner) => is_interface_listed(number, name, owner) && !is_world_name(name, owner),
         None => true,
     }
 }
 
 // Whether an interface has a package, and stands in its map or in one of its worlds.
 fn interface_is_placed(resolve: &Resolve, table: &[Shown], number: usize, entry: &Interface) -> bool
-    ensures { result ≡ (is_some entry.now.«package» && option_map_or (λ name. option_map_or (interface_is_listed number (text_of name)) (option_and_then (package_at_lem resolve.now) (package_number entry.now.«package»)) true) entry.now.name (is_once_in entry.now.«package» (shown_entry table.now number))) }
+    ensures { result ≡ (is_some entry.now.«package» && option_map_or (λ name. option_map_or (λ p. interface_is_listed number (text_of name) p && not (is_world_name_lem p (text_of name))) (option_and_then (package_at_lem resolve.now) (package_number entry.now.«package»)) true) entry.now.name (is_once_in entry.now.«package» (shown_entry table.now number))) }
 {
     match entry.package {
         Some(id) => match &entry.name {
@@ -144,7 +172,7 @@ fn package_passes(resolve: &Resolve, number: usize, entry: &Package) -> bool
 {
     interfaces_stand(resolve, number, &entry.interfaces)
         && worlds_stand(resolve, number, &entry.worlds)
-        && are_unshared(&entry.interfaces, &entry.worlds)
+        && are_unshared(resolve, entry)
 }
 
 #[tactic(auto, unfolding(crate::specs::Valid::places))]

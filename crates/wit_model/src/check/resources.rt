@@ -109,7 +109,7 @@ fn interface_keeps(
     ensures { IfOk result (λ kept. entry_keeps handles resolve.now lists.Interfaces number ≡ Some kept) }
 {
     let numbers = interface_numbers(alloc, &resolve.interfaces[number])?;
-    Ok(are_unmarked(table, &numbers.values))
+    Ok(are_unmarked(table, &numbers))
 }
 
 fn check_interfaces(alloc: Global, resolve: &Resolve, table: &[bool]) -> Result<(), Fault>
@@ -140,7 +140,7 @@ fn world_keeps(
     ensures { IfOk result (λ kept. entry_keeps handles resolve.now lists.Worlds number ≡ Some kept) }
 {
     let numbers = world_numbers(alloc, &resolve.worlds[number])?;
-    Ok(are_unmarked(table, &numbers.values))
+    Ok(are_unmarked(table, &numbers))
 }
 
 fn check_worlds(alloc: Global, resolve: &Resolve, table: &[bool]) -> Result<(), Fault>

@@ -18,7 +18,7 @@ fn is_map_key(key: Type) -> bool
     )
 }
 
-/// Whether a kind isn't empty, has no empty fixed length, and its map's key is a plain one.
+/// Whether a kind isn't empty, has no empty fixed length (none is too long in 32 bits), and its map's key is a plain one.
 fn has_shape(kind: &TypeDefKind) -> bool
     ensures { result ≡ has_shape_lem kind.now }
 {

@@ -1,7 +1,6 @@
 //! The types of functions over primitive types.
 
 ghost use Rattle.std.specs.Prelude.{◌≡◌, map, IfOk, IfErr};
-ghost use Rattle.wit_model.specs.Lookup.{is_async as is_async_lem};
 ghost use Rattle.wit_model.specs.declared.error.Error.TheVariants.{Memory};
 ghost use Rattle.comp_bytes.specs.RawOf.{labeled, raw_function};
 ghost use Rattle.witc.specs.Written.{value_form, option_form, param_form, function_form, key_of as key_of_lem, key_view};
@@ -9,7 +8,7 @@ ghost use Rattle.witc.specs.Written.{value_form, option_form, param_form, functi
 use crate::encode::key::{FunctionKey, ParamSignatures};
 use comp_bytes::{ComponentFuncType, ComponentValType, PrimitiveValType};
 use std::alloc::Global;
-use wit_model::{Error, Function, FunctionKind, Param, Type};
+use wit_model::{Error, Function, Param, Type};
 
 /// The type of a value. An index stands for itself.
 fn value_type(ty: Type) -> ComponentValType

@@ -17,4 +17,4 @@ returns c =
     ap (option_map (order_of_items.world_ r c.args.number)) at
     ∙ ap Some (sym (c.in_ok-stands.ensures
     ∙ (ap (λ f. uses_are_shown r (λ n. false) (items_of w) && each_from (λ p item. passes (reaches_within f p) (item_function item)) 0 (values w.imports)) (λ j m. c.requires.table m j)
-    ∙ sym (items_stand r c.requires.order c.requires.owners c.args.number w at))))
+    ∙ sym (items_stand r c.requires.order c.requires.owners c.requires.names c.args.number w at))))

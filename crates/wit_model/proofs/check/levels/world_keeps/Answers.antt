@@ -13,5 +13,5 @@ returns c =
     let table = c.args.table.now in
     let def = c.index.result.now in
     let at = slice_get_read r.worlds.items _ c.args.number def refl c.requires.in_range c.index.ensures in
-    let kept : c.are_shallow.result ≡ list_all (λ n. nat_le (entry_of table n) 100) (all_values (functions_of_world def)) = cc (c.in_ok-numbers.ensures.values) in
+    let kept : c.are_shallow.result ≡ list_all (λ n. nat_le (entry_of table n) 100) (all_values (functions_of_world def)) = cc (c.in_ok-numbers.ensures) in
     ap (option_map (depths.world_ r c.args.number)) at ∙ ap Some (sym (kept ∙ shallow_functions r (entry_of table) c.requires.table (functions_of_world def)))

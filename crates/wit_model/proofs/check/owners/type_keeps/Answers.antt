@@ -1,7 +1,8 @@
-use Rattle.std.proofs.Common.{◌≡◌, refl, sym, ap, ◌∙◌, ◌||◌, Some, option_map, is_none}
+use Rattle.std.proofs.Common.{◌≡◌, refl, sym, ap, ◌∙◌, ◌||◌, Some, ◌&&◌, option_map, is_some}
 use Rattle.std.specs.List.{list_all}
 use Rattle.std.proofs.lemmas.Option.{slice_get_read}
-use Rattle.wit_model.specs.Parts.{kind_numbers, has_owner, used_by_type}
+use Rattle.wit_model.specs.Parts.{kind_numbers, has_owner, same_owner, used_by_type}
+use Rattle.wit_model.specs.declared.model.TypeOwner.TheVariants as owner
 use Rattle.wit_model.specs.Rules.{is_use}
 use Rattle.wit_model.specs.Owners.{stays, met_entry}
 use Rattle.wit_model.specs.Valid.{owners}
@@ -19,4 +20,4 @@ returns c =
     let met : stays c.met_by_all.result def.owner ≡ list_all (has_owner r def.owner) (used_by_type r def) =
     c.met_by_all.ensures def.owner ∙ (ap (list_all (λ n. stays (met_entry table n) def.owner)) lent ∙ numbers_stay r table c.requires.table def.owner (kind_numbers def.kind))
     in
-    ap (option_map (owners.type_ r c.args.number)) at ∙ ap Some (sym (c.is_at_home.ensures ∙ ap (λ b. is_none def.name || (b || is_use r def)) met))
+    ap (option_map (owners.type_ r c.args.number)) at ∙ ap Some (sym (c.is_at_home.ensures ∙ ap (λ b. same_owner def.owner owner.None || (b || (is_some def.name && is_use r def))) met))

@@ -1,8 +1,8 @@
-use Rattle.std.proofs.Common.{◌≡◌, refl, sym, ap, ◌∙◌, ◌&&◌, Some, option_map}
+use Rattle.std.proofs.Common.{◌≡◌, refl, sym, ap, ◌∙◌, Some, option_map}
 use Rattle.std.specs.List.{list_all}
 use Rattle.std.proofs.lemmas.Option.{slice_get_read}
 use Rattle.wit_model.specs.Owners.{stays, met_entry}
-use Rattle.wit_model.specs.Checks.{all_values, all_resources}
+use Rattle.wit_model.specs.Checks.{all_values}
 use Rattle.wit_model.specs.Valid.{owners, as_world, functions_of_world}
 use Rattle.wit_model.proofs.Owners.{functions_stay}
 use Rattle.wit_model.proofs.check.owners.world_keeps.Goals as goal
@@ -15,5 +15,6 @@ returns c =
     let w = c.index.result.now in
     let o = as_world c.args.number in
     let at = slice_get_read r.worlds.items _ c.args.number w refl c.requires.in_range c.index.ensures in
-    let kept : c.functions_stay_in_world.result ≡ (list_all (λ n. stays (met_entry table n) o) (all_values (functions_of_world w)) && list_all (λ n. stays (met_entry table n) o) (all_resources (functions_of_world w))) = cc (c.in_ok-numbers.ensures.values, c.in_ok-numbers.ensures.resources) in
+    let lent : c.deref.result.now ≡ all_values (functions_of_world w) = cc (c.in_ok-numbers.ensures) in
+    let kept = c.stays_in_world.ensures ∙ (c.met_by_all.ensures o ∙ ap (list_all (λ n. stays (met_entry table n) o)) lent) in
     ap (option_map (owners.world_ r c.args.number)) at ∙ ap Some (sym (kept ∙ functions_stay r table c.requires.table o (functions_of_world w)))

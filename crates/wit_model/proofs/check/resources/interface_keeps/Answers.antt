@@ -13,5 +13,5 @@ returns c =
     let table = c.args.table.now in
     let def = c.index.result.now in
     let at = slice_get_read r.interfaces.items _ c.args.number def refl c.requires.in_range c.index.ensures in
-    let kept : c.are_unmarked.result ≡ list_all (λ n. not (flags table n)) (all_values (functions_of_interface def)) = cc (c.in_ok-numbers.ensures.values) in
+    let kept : c.are_unmarked.result ≡ list_all (λ n. not (flags table n)) (all_values (functions_of_interface def)) = cc (c.in_ok-numbers.ensures) in
     ap (option_map (handles.interface_ r c.args.number)) at ∙ ap Some (sym (kept ∙ marked_functions r (flags table) c.requires.table (functions_of_interface def)))
