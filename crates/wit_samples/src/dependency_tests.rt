@@ -1,7 +1,7 @@
 //! Which interfaces an interface uses.
 
 use crate::steps::{Kind, Step, made};
-use std::alloc::{AllocError, Global};
+use std::alloc::Global;
 use wit_model::{Error, InterfaceId, Type, TypeId};
 
 const NUMBER: Kind = Kind::Alias(Type::U8);
@@ -32,10 +32,16 @@ fn deps(alloc: Global, interface: u32) -> Result<Vec<InterfaceId>, Error> {
     resolve.interface_direct_deps(alloc, InterfaceId(interface))
 }
 
+fn uses(alloc: Global, interface: u32, expected: &[InterfaceId]) -> bool {
+    match deps(alloc, interface) {
+        Ok(used) => used.as_slice() == expected,
+        Err(_) => false,
+    }
+}
+
 #[test]
 fn each_once_in_order_of_first_use(rt: HostRuntime) {
-    let alloc = rt.alloc();
-    static USED: [InterfaceId; 2] = [InterfaceId(1), InterfaceId(0)];
-    assert!(rt; matches!(deps(alloc, 2), Ok(used) if used.as_slice() == &USED[..]));
-    assert!(rt; matches!(deps(alloc, 1), Ok(used) if used.len() == 0));
+    static OF_K: [InterfaceId; 2] = [InterfaceId(1), InterfaceId(0)];
+    assert!(rt; uses(rt.alloc(), 2, &OF_K));
+    assert!(rt; uses(rt.alloc(), 1, &[]));
 }
