@@ -12,7 +12,7 @@ use wit_encode::{InterfaceEncoder, InterfaceEncoderOf, stands_alone};
 use wit_model::{Error, Function, InterfaceId, Resolve};
 
 /// Adds a function to `i` under a name, perhaps with an external id.
-pub(super) fn add(
+pub(super) fn add_function(
     alloc: Global,
     resolve: &mut Resolve,
     name: &str,

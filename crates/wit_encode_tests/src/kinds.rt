@@ -1,283 +1,337 @@
 //! Every kind of type: its definition, what stands before it, and its name.
 
-use super::encoded::{Call, encoded};
-use super::packages::{Types, borrow, cases, flags, own, record, result, tuple, variant};
+use super::steps::{
+    Added, Asked, Case, Kind, TYPE_0, TYPE_1, TYPE_2, TYPE_3, TYPE_4, TYPE_5, assert_cases,
+};
 use std::test::Fail;
-use wit_model::{Type, TypeDefKind};
+use wit_model::Type;
+
+const PRIMITIVES: &'static [Asked] = &[
+    Asked::Valtype(Type::Bool),
+    Asked::Valtype(Type::U8),
+    Asked::Valtype(Type::U16),
+    Asked::Valtype(Type::U32),
+    Asked::Valtype(Type::U64),
+    Asked::Valtype(Type::S8),
+    Asked::Valtype(Type::S16),
+    Asked::Valtype(Type::S32),
+    Asked::Valtype(Type::S64),
+    Asked::Valtype(Type::F32),
+    Asked::Valtype(Type::F64),
+    Asked::Valtype(Type::Char),
+    Asked::Valtype(Type::String),
+    Asked::Valtype(Type::ErrorContext),
+];
 
 // Primitives are written in place.
 #[test]
 fn primitives(rt: HostRuntime) -> Result<(), Fail> {
-    let alloc = rt.alloc();
-    let resolve = Types::new(alloc).resolve()?;
-    let calls = [
-        Call::Valtype(Type::Bool),
-        Call::Valtype(Type::U8),
-        Call::Valtype(Type::U16),
-        Call::Valtype(Type::U32),
-        Call::Valtype(Type::U64),
-        Call::Valtype(Type::S8),
-        Call::Valtype(Type::S16),
-        Call::Valtype(Type::S32),
-        Call::Valtype(Type::S64),
-        Call::Valtype(Type::F32),
-        Call::Valtype(Type::F64),
-        Call::Valtype(Type::Char),
-        Call::Valtype(Type::String),
-        Call::Valtype(Type::ErrorContext),
+    static CASES: [Case; 2] = [
+        Case {
+            types: &[],
+            functions: &[],
+            calls: PRIMITIVES,
+            expected: " bool\n u8\n u16\n u32\n u64\n s8\n s16\n s32\n s64\n f32\n f64\n char\n string\n error-context\n",
+        },
+        Case {
+            types: &[],
+            functions: &[],
+            calls: &[Asked::Optional(None), Asked::Optional(Some(Type::U8))],
+            expected: "\n u8\n",
+        },
     ];
-    let expected =
-        " bool\n u8\n u16\n u32\n u64\n s8\n s16\n s32\n s64\n f32\n f64\n char\n string\n error-context\n";
-    assert_eq!(rt; encoded(alloc, &resolve, &calls)?.as_str(), expected);
-    Ok(())
+    assert_cases(&rt, rt.alloc(), &CASES)
 }
 
+const RECORD: &'static [Added] = &[
+    Added::Unnamed(Kind::List(Type::U8)),
+    Added::Unnamed(Kind::Option(Type::Bool)),
+    Added::Named(
+        "p",
+        Kind::Record(&[("z", TYPE_1), ("a", TYPE_0), ("m", Type::U32)]),
+    ),
+];
+
+const VARIANT: &'static [Added] = &[
+    Added::Unnamed(Kind::List(Type::S64)),
+    Added::Named(
+        "v",
+        Kind::Variant(&[("b", Some(TYPE_0)), ("a", None), ("c", Some(Type::Char))]),
+    ),
+];
+
+// A record or a variant is defined and then exported; its fields or cases come before it, in order.
 #[test]
-fn no_type(rt: HostRuntime) -> Result<(), Fail> {
-    let alloc = rt.alloc();
-    let resolve = Types::new(alloc).resolve()?;
-    let calls = [Call::Optional(None), Call::Optional(Some(Type::U8))];
-    assert_eq!(rt; encoded(alloc, &resolve, &calls)?.as_str(), "\n u8\n");
-    Ok(())
+fn records_and_variants(rt: HostRuntime) -> Result<(), Fail> {
+    static CASES: [Case; 4] = [
+        Case {
+            types: RECORD,
+            functions: &[],
+            calls: &[Asked::Valtype(TYPE_2)],
+            expected: "option bool\nlist u8\nrecord z 0 a 1 m u32\nexport p = 2\n 3\n",
+        },
+        Case {
+            types: RECORD,
+            functions: &[],
+            calls: &[Asked::Kind(TYPE_2)],
+            expected: "option bool\nlist u8\nrecord z 0 a 1 m u32\n 2\n",
+        },
+        Case {
+            types: VARIANT,
+            functions: &[],
+            calls: &[Asked::Valtype(TYPE_1)],
+            expected: "list s64\nvariant b 0 a _ c char\nexport v = 1\n 2\n",
+        },
+        Case {
+            types: VARIANT,
+            functions: &[],
+            calls: &[Asked::Kind(TYPE_1)],
+            expected: "list s64\nvariant b 0 a _ c char\n 1\n",
+        },
+    ];
+    assert_cases(&rt, rt.alloc(), &CASES)
 }
 
-// A record is defined and then exported; its fields come before it, in order.
-#[test]
-fn records(rt: HostRuntime) -> Result<(), Fail> {
-    let alloc = rt.alloc();
-    let mut types = Types::new(alloc);
-    let z = types.unnamed(TypeDefKind::List(Type::U8))?;
-    let a = types.unnamed(TypeDefKind::Option(Type::Bool))?;
-    let fields = record(alloc, &[("z", a), ("a", z), ("m", Type::U32)])?;
-    let p = types.named("p", fields)?;
-    let resolve = types.resolve()?;
-    let expected = "option bool\nlist u8\nrecord z 0 a 1 m u32\nexport p = 2\n 3\n";
-    assert_eq!(rt;
-        encoded(alloc, &resolve, &[Call::Valtype(p)])?.as_str(),
-        expected
-    );
-    let expected = "option bool\nlist u8\nrecord z 0 a 1 m u32\n 2\n";
-    assert_eq!(rt;
-        encoded(alloc, &resolve, &[Call::Kind(p)])?.as_str(),
-        expected
-    );
-    Ok(())
-}
+const FLAGS_AND_ENUM: &'static [Added] = &[
+    Added::Named("f", Kind::Flags(&["z", "a"])),
+    Added::Named("e", Kind::Enum(&["y", "b"])),
+];
 
-#[test]
-fn variants(rt: HostRuntime) -> Result<(), Fail> {
-    let alloc = rt.alloc();
-    let mut types = Types::new(alloc);
-    let list = types.unnamed(TypeDefKind::List(Type::S64))?;
-    let kind = variant(
-        alloc,
-        &[("b", Some(list)), ("a", None), ("c", Some(Type::Char))],
-    )?;
-    let v = types.named("v", kind)?;
-    let resolve = types.resolve()?;
-    let expected = "list s64\nvariant b 0 a _ c char\nexport v = 1\n 2\n";
-    assert_eq!(rt;
-        encoded(alloc, &resolve, &[Call::Valtype(v)])?.as_str(),
-        expected
-    );
-    let expected = "list s64\nvariant b 0 a _ c char\n 1\n";
-    assert_eq!(rt;
-        encoded(alloc, &resolve, &[Call::Kind(v)])?.as_str(),
-        expected
-    );
-    Ok(())
-}
-
-#[test]
-fn flags_and_enums(rt: HostRuntime) -> Result<(), Fail> {
-    let alloc = rt.alloc();
-    let mut types = Types::new(alloc);
-    let f = types.named("f", flags(alloc, &["z", "a"])?)?;
-    let e = types.named("e", cases(alloc, &["y", "b"])?)?;
-    let resolve = types.resolve()?;
-    let calls = [Call::Valtype(e), Call::Valtype(f), Call::Valtype(e)];
-    let expected = "enum y b\nexport e = 0\nflags z a\nexport f = 2\n 1\n 3\n 1\n";
-    assert_eq!(rt; encoded(alloc, &resolve, &calls)?.as_str(), expected);
-    let calls = [Call::Kind(f), Call::Kind(e)];
-    let expected = "flags z a\nenum y b\n 0\n 1\n";
-    assert_eq!(rt; encoded(alloc, &resolve, &calls)?.as_str(), expected);
-    Ok(())
-}
+const TUPLES: &'static [Added] = &[
+    Added::Unnamed(Kind::List(Type::F32)),
+    Added::Unnamed(Kind::Tuple(&[Type::U8, TYPE_0, TYPE_0])),
+    Added::Unnamed(Kind::Tuple(&[Type::U8, TYPE_0, TYPE_0])),
+];
 
 // An unnamed type has one slot, also for an equal one.
 #[test]
-fn tuples(rt: HostRuntime) -> Result<(), Fail> {
-    let alloc = rt.alloc();
-    let mut types = Types::new(alloc);
-    let list = types.unnamed(TypeDefKind::List(Type::F32))?;
-    let first = types.unnamed(tuple(alloc, &[Type::U8, list, list])?)?;
-    let second = types.unnamed(tuple(alloc, &[Type::U8, list, list])?)?;
-    let resolve = types.resolve()?;
-    let calls = [Call::Valtype(first), Call::Valtype(second)];
-    let expected = "list f32\ntuple u8 0 0\n 1\n 1\n";
-    assert_eq!(rt; encoded(alloc, &resolve, &calls)?.as_str(), expected);
-    let expected = "list f32\ntuple u8 0 0\n 1\n";
-    assert_eq!(rt;
-        encoded(alloc, &resolve, &[Call::Kind(second)])?.as_str(),
-        expected
-    );
-    Ok(())
+fn flags_enums_and_tuples(rt: HostRuntime) -> Result<(), Fail> {
+    static CASES: [Case; 4] = [
+        Case {
+            types: FLAGS_AND_ENUM,
+            functions: &[],
+            calls: &[
+                Asked::Valtype(TYPE_1),
+                Asked::Valtype(TYPE_0),
+                Asked::Valtype(TYPE_1),
+            ],
+            expected: "enum y b\nexport e = 0\nflags z a\nexport f = 2\n 1\n 3\n 1\n",
+        },
+        Case {
+            types: FLAGS_AND_ENUM,
+            functions: &[],
+            calls: &[Asked::Kind(TYPE_0), Asked::Kind(TYPE_1)],
+            expected: "flags z a\nenum y b\n 0\n 1\n",
+        },
+        Case {
+            types: TUPLES,
+            functions: &[],
+            calls: &[Asked::Valtype(TYPE_1), Asked::Valtype(TYPE_2)],
+            expected: "list f32\ntuple u8 0 0\n 1\n 1\n",
+        },
+        Case {
+            types: TUPLES,
+            functions: &[],
+            calls: &[Asked::Kind(TYPE_2)],
+            expected: "list f32\ntuple u8 0 0\n 1\n",
+        },
+    ];
+    assert_cases(&rt, rt.alloc(), &CASES)
 }
+
+const RESULTS: &'static [Added] = &[
+    Added::Unnamed(Kind::Option(Type::String)),
+    Added::Unnamed(Kind::Result(Some(Type::U8), Some(TYPE_0))),
+    Added::Unnamed(Kind::Result(Some(TYPE_0), None)),
+    Added::Unnamed(Kind::Result(None, Some(TYPE_0))),
+    Added::Unnamed(Kind::Result(None, None)),
+];
 
 #[test]
 fn options_and_results(rt: HostRuntime) -> Result<(), Fail> {
-    let alloc = rt.alloc();
-    let mut types = Types::new(alloc);
-    let option = types.unnamed(TypeDefKind::Option(Type::String))?;
-    let both = types.unnamed(result(Some(Type::U8), Some(option)))?;
-    let ok = types.unnamed(result(Some(option), None))?;
-    let err = types.unnamed(result(None, Some(option)))?;
-    let neither = types.unnamed(result(None, None))?;
-    let resolve = types.resolve()?;
-    let calls = [
-        Call::Valtype(both),
-        Call::Valtype(ok),
-        Call::Valtype(err),
-        Call::Valtype(neither),
+    static CASES: [Case; 2] = [
+        Case {
+            types: RESULTS,
+            functions: &[],
+            calls: &[
+                Asked::Valtype(TYPE_1),
+                Asked::Valtype(TYPE_2),
+                Asked::Valtype(TYPE_3),
+                Asked::Valtype(TYPE_4),
+            ],
+            expected: "option string\nresult u8 0\nresult 0 _\nresult _ 0\nresult _ _\n 1\n 2\n 3\n 4\n",
+        },
+        Case {
+            types: RESULTS,
+            functions: &[],
+            calls: &[Asked::Kind(TYPE_0), Asked::Kind(TYPE_4)],
+            expected: "option string\nresult _ _\n 0\n 1\n",
+        },
     ];
-    let expected =
-        "option string\nresult u8 0\nresult 0 _\nresult _ 0\nresult _ _\n 1\n 2\n 3\n 4\n";
-    assert_eq!(rt; encoded(alloc, &resolve, &calls)?.as_str(), expected);
-    let calls = [Call::Kind(option), Call::Kind(neither)];
-    let expected = "option string\nresult _ _\n 0\n 1\n";
-    assert_eq!(rt; encoded(alloc, &resolve, &calls)?.as_str(), expected);
-    Ok(())
+    assert_cases(&rt, rt.alloc(), &CASES)
 }
 
-#[test]
-fn lists_and_maps(rt: HostRuntime) -> Result<(), Fail> {
-    let alloc = rt.alloc();
-    let mut types = Types::new(alloc);
-    let list = types.unnamed(TypeDefKind::List(Type::U8))?;
-    let fixed = types.unnamed(TypeDefKind::FixedLengthList(list, 4))?;
-    let map = types.unnamed(TypeDefKind::Map(Type::String, fixed))?;
-    let resolve = types.resolve()?;
-    let expected = "list u8\nfixed-list 0 4\nmap string 1\n 2\n";
-    assert_eq!(rt;
-        encoded(alloc, &resolve, &[Call::Valtype(map)])?.as_str(),
-        expected
-    );
-    Ok(())
-}
+const LISTS: &'static [Added] = &[
+    Added::Unnamed(Kind::List(Type::U8)),
+    Added::Unnamed(Kind::FixedLengthList(TYPE_0, 4)),
+    Added::Unnamed(Kind::Map(Type::String, TYPE_1)),
+];
+
+const FUTURES: &'static [Added] = &[
+    Added::Unnamed(Kind::Future(Some(Type::U8))),
+    Added::Unnamed(Kind::Stream(Some(TYPE_0))),
+    Added::Unnamed(Kind::Stream(None)),
+];
 
 #[test]
-fn futures_and_streams(rt: HostRuntime) -> Result<(), Fail> {
-    let alloc = rt.alloc();
-    let mut types = Types::new(alloc);
-    let future = types.unnamed(TypeDefKind::Future(Some(Type::U8)))?;
-    let stream = types.unnamed(TypeDefKind::Stream(Some(future)))?;
-    let unit = types.unnamed(TypeDefKind::Stream(None))?;
-    let resolve = types.resolve()?;
-    let calls = [
-        Call::Valtype(stream),
-        Call::Valtype(unit),
-        Call::Valtype(future),
+fn lists_maps_futures_and_streams(rt: HostRuntime) -> Result<(), Fail> {
+    static CASES: [Case; 3] = [
+        Case {
+            types: LISTS,
+            functions: &[],
+            calls: &[Asked::Valtype(TYPE_2)],
+            expected: "list u8\nfixed-list 0 4\nmap string 1\n 2\n",
+        },
+        Case {
+            types: FUTURES,
+            functions: &[],
+            calls: &[
+                Asked::Valtype(TYPE_1),
+                Asked::Valtype(TYPE_2),
+                Asked::Valtype(TYPE_0),
+            ],
+            expected: "future u8\nstream 0\nstream _\n 1\n 2\n 0\n",
+        },
+        Case {
+            types: FUTURES,
+            functions: &[],
+            calls: &[Asked::Kind(TYPE_1), Asked::Kind(TYPE_0)],
+            expected: "future u8\nstream 0\nfuture u8\n 1\n 2\n",
+        },
     ];
-    let expected = "future u8\nstream 0\nstream _\n 1\n 2\n 0\n";
-    assert_eq!(rt; encoded(alloc, &resolve, &calls)?.as_str(), expected);
-    let calls = [Call::Kind(stream), Call::Kind(future)];
-    let expected = "future u8\nstream 0\nfuture u8\n 1\n 2\n";
-    assert_eq!(rt; encoded(alloc, &resolve, &calls)?.as_str(), expected);
-    Ok(())
+    assert_cases(&rt, rt.alloc(), &CASES)
 }
 
-// A resource is fresh under its name; its handles take its slot.
-#[test]
-fn resources(rt: HostRuntime) -> Result<(), Fail> {
-    let alloc = rt.alloc();
-    let mut types = Types::new(alloc);
-    let r = types.named("r", TypeDefKind::Resource)?;
-    let owned = types.unnamed(own(r))?;
-    let borrowed = types.unnamed(borrow(r))?;
-    let list = types.unnamed(TypeDefKind::List(borrowed))?;
-    let resolve = types.resolve()?;
-    let calls = [Call::Valtype(list), Call::Valtype(owned), Call::Valtype(r)];
-    let expected = "resource r\nborrow 0\nlist 1\nown 0\n 2\n 3\n 0\n";
-    assert_eq!(rt; encoded(alloc, &resolve, &calls)?.as_str(), expected);
-    Ok(())
-}
+const HANDLES: &'static [Added] = &[
+    Added::Named("r", Kind::Resource),
+    Added::Unnamed(Kind::Own(TYPE_0)),
+    Added::Unnamed(Kind::Borrow(TYPE_0)),
+    Added::Unnamed(Kind::List(TYPE_2)),
+];
 
-// An alias of a type takes its slot under a name of its own; an alias of a primitive has a definition.
-#[test]
-fn aliases(rt: HostRuntime) -> Result<(), Fail> {
-    let alloc = rt.alloc();
-    let mut types = Types::new(alloc);
-    let t = types.named("t", TypeDefKind::Type_(Type::U32))?;
-    let u = types.named("u", TypeDefKind::Type_(t))?;
-    let w = types.named("w", TypeDefKind::Type_(u))?;
-    let resolve = types.resolve()?;
-    let expected = "type u32\nexport t = 0\nexport u = 1\nexport w = 2\n 3\n";
-    assert_eq!(rt;
-        encoded(alloc, &resolve, &[Call::Valtype(w)])?.as_str(),
-        expected
-    );
-    Ok(())
-}
+const ALIASES: &'static [Added] = &[
+    Added::Named("t", Kind::Alias(Type::U32)),
+    Added::Named("u", Kind::Alias(TYPE_0)),
+    Added::Named("w", Kind::Alias(TYPE_1)),
+];
 
-// A list that has a name is defined under it; an equal list without a name is a definition of its own.
+// A resource is fresh under its name; its handles take its slot. An alias of a type takes its slot under a name of its own; an alias of a
+// primitive has a definition.
 #[test]
-fn named_lists(rt: HostRuntime) -> Result<(), Fail> {
-    let alloc = rt.alloc();
-    let mut types = Types::new(alloc);
-    let named = types.named("l", TypeDefKind::List(Type::U8))?;
-    let other = types.named("m", TypeDefKind::List(Type::U8))?;
-    let unnamed = types.unnamed(TypeDefKind::List(Type::U8))?;
-    let resolve = types.resolve()?;
-    let calls = [
-        Call::Valtype(named),
-        Call::Valtype(other),
-        Call::Valtype(unnamed),
+fn resources_and_aliases(rt: HostRuntime) -> Result<(), Fail> {
+    static CASES: [Case; 2] = [
+        Case {
+            types: HANDLES,
+            functions: &[],
+            calls: &[
+                Asked::Valtype(TYPE_3),
+                Asked::Valtype(TYPE_1),
+                Asked::Valtype(TYPE_0),
+            ],
+            expected: "resource r\nborrow 0\nlist 1\nown 0\n 2\n 3\n 0\n",
+        },
+        Case {
+            types: ALIASES,
+            functions: &[],
+            calls: &[Asked::Valtype(TYPE_2)],
+            expected: "type u32\nexport t = 0\nexport u = 1\nexport w = 2\n 3\n",
+        },
     ];
-    let expected = "list u8\nexport l = 0\nlist u8\nexport m = 2\nlist u8\n 1\n 3\n 4\n";
-    assert_eq!(rt; encoded(alloc, &resolve, &calls)?.as_str(), expected);
-    Ok(())
+    assert_cases(&rt, rt.alloc(), &CASES)
 }
 
-// A type of another interface is imported under its number, and what it is made of isn't met.
+const NAMED_LISTS: &'static [Added] = &[
+    Added::Named("l", Kind::List(Type::U8)),
+    Added::Named("m", Kind::List(Type::U8)),
+    Added::Unnamed(Kind::List(Type::U8)),
+];
+
+const FOREIGN: &'static [Added] = &[
+    Added::Unnamed(Kind::List(Type::U8)),
+    Added::Foreign("t", Kind::Alias(Type::U32)),
+    Added::Foreign("p", Kind::Record(&[("x", TYPE_0), ("y", TYPE_1)])),
+    Added::Named("q", Kind::Alias(TYPE_2)),
+];
+
+// A list that has a name is defined under it; an equal list without a name is a definition of its own. A type of another interface is
+// imported under its number, and what it is made of isn't met.
 #[test]
-fn imports(rt: HostRuntime) -> Result<(), Fail> {
-    let alloc = rt.alloc();
-    let mut types = Types::new(alloc);
-    let list = types.unnamed(TypeDefKind::List(Type::U8))?;
-    let t = types.foreign("t", TypeDefKind::Type_(Type::U32))?;
-    let fields = record(alloc, &[("x", list), ("y", t)])?;
-    let p = types.foreign("p", fields)?;
-    let used = types.named("q", TypeDefKind::Type_(p))?;
-    let resolve = types.resolve()?;
-    let calls = [Call::Valtype(used), Call::Valtype(used), Call::Valtype(p)];
-    let expected = "import #2\nexport q = 0\n 1\n 1\n 0\n";
-    assert_eq!(rt; encoded(alloc, &resolve, &calls)?.as_str(), expected);
-    let calls = [Call::Import(t), Call::Import(list), Call::Import(used)];
-    assert_eq!(rt;
-        encoded(alloc, &resolve, &calls)?.as_str(),
-        "import #1\n 0\n\n\n"
-    );
-    Ok(())
+fn named_lists_and_imports(rt: HostRuntime) -> Result<(), Fail> {
+    static CASES: [Case; 3] = [
+        Case {
+            types: NAMED_LISTS,
+            functions: &[],
+            calls: &[
+                Asked::Valtype(TYPE_0),
+                Asked::Valtype(TYPE_1),
+                Asked::Valtype(TYPE_2),
+            ],
+            expected: "list u8\nexport l = 0\nlist u8\nexport m = 2\nlist u8\n 1\n 3\n 4\n",
+        },
+        Case {
+            types: FOREIGN,
+            functions: &[],
+            calls: &[
+                Asked::Valtype(TYPE_3),
+                Asked::Valtype(TYPE_3),
+                Asked::Valtype(TYPE_2),
+            ],
+            expected: "import #2\nexport q = 0\n 1\n 1\n 0\n",
+        },
+        Case {
+            types: FOREIGN,
+            functions: &[],
+            calls: &[
+                Asked::Import(TYPE_1),
+                Asked::Import(TYPE_0),
+                Asked::Import(TYPE_3),
+            ],
+            expected: "import #1\n 0\n\n\n",
+        },
+    ];
+    assert_cases(&rt, rt.alloc(), &CASES)
 }
 
-// Parts stand before wholes, depth first and from left to right, each once.
+const ORDER: &'static [Added] = &[
+    Added::Named("r", Kind::Resource),
+    Added::Unnamed(Kind::Own(TYPE_0)),
+    Added::Unnamed(Kind::List(Type::U8)),
+    Added::Named("p", Kind::Record(&[("b", TYPE_2), ("a", TYPE_1)])),
+    Added::Unnamed(Kind::Option(TYPE_3)),
+    Added::Unnamed(Kind::Tuple(&[TYPE_1, TYPE_4, TYPE_2, TYPE_3])),
+];
+
+const EXTERNAL_IDS: &'static [Added] = &[
+    Added::NamedAs("t", Kind::Alias(Type::U32), "x"),
+    Added::NamedAs("r", Kind::Resource, "y z"),
+];
+
+// Parts stand before wholes, depth first and from left to right, each once. A type and a resource are exported under their external ids.
 #[test]
-fn order(rt: HostRuntime) -> Result<(), Fail> {
-    let alloc = rt.alloc();
-    let mut types = Types::new(alloc);
-    let r = types.named("r", TypeDefKind::Resource)?;
-    let owned = types.unnamed(own(r))?;
-    let bytes = types.unnamed(TypeDefKind::List(Type::U8))?;
-    let fields = record(alloc, &[("b", bytes), ("a", owned)])?;
-    let p = types.named("p", fields)?;
-    let option = types.unnamed(TypeDefKind::Option(p))?;
-    let whole = types.unnamed(tuple(alloc, &[owned, option, bytes, p])?)?;
-    let resolve = types.resolve()?;
-    let expected =
-        "resource r\nown 0\nlist u8\nrecord b 2 a 1\nexport p = 3\noption 4\ntuple 1 5 2 4\n 6\n";
-    assert_eq!(rt;
-        encoded(alloc, &resolve, &[Call::Valtype(whole)])?.as_str(),
-        expected
-    );
-    Ok(())
+fn order_and_external_ids(rt: HostRuntime) -> Result<(), Fail> {
+    static CASES: [Case; 2] = [
+        Case {
+            types: ORDER,
+            functions: &[],
+            calls: &[Asked::Valtype(TYPE_5)],
+            expected: "resource r\nown 0\nlist u8\nrecord b 2 a 1\nexport p = 3\noption 4\ntuple 1 5 2 4\n 6\n",
+        },
+        Case {
+            types: EXTERNAL_IDS,
+            functions: &[],
+            calls: &[Asked::Valtype(TYPE_0), Asked::Valtype(TYPE_1)],
+            expected: "type u32\nexport t (x) = 0\nresource r (y z)\n 1\n 2\n",
+        },
+    ];
+    assert_cases(&rt, rt.alloc(), &CASES)
 }

@@ -27,4 +27,6 @@ mod refusals;
 #[cfg(test)]
 mod shown;
 #[cfg(test)]
+mod steps;
+#[cfg(test)]
 mod units;

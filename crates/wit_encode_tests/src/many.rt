@@ -1,6 +1,6 @@
 //! An interface of five thousand types and five thousand functions, each of which takes a type of its own.
 
-use super::instances::{add, written};
+use super::instances::{add_function, written};
 use super::packages::{OWN, Types, function};
 use std::alloc::Global;
 use std::test::Fail;
@@ -19,7 +19,7 @@ fn add_functions(alloc: Global, resolve: &mut Resolve, count: u32) -> Result<(),
         let name = format!(in alloc; "f{number}")?;
         let params = [("x", Type::Id(TypeId(number)))];
         let f = function(alloc, FunctionKind::Freestanding, &params, None)?;
-        add(alloc, resolve, &name, None, f)?;
+        add_function(alloc, resolve, &name, None, f)?;
     }
     Ok(())
 }

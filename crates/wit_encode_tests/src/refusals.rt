@@ -1,62 +1,68 @@
 //! A growth that is refused once: the encoder can be used on, and the call answers when it is made again.
 //! The runner refuses an allocation where it is told to (`rt try --test --fail-alloc N`); without that the first calls succeed.
 
+ghost use Rattle.std.specs.Prelude.{IfOk, IfSome};
 ghost use Rattle.wit_encode.specs.Table.{IsTable};
 
 use super::encoded::{Call, answer, table_of};
-use super::packages::{Types, own, record, tuple};
+use super::steps::{Added, Kind, TYPE_0, TYPE_1, TYPE_2, TYPE_3, TYPE_4, resolve_of};
 use std::alloc::Global;
 use std::test::Fail;
 use wit_encode::Table;
-use wit_model::{Error, Resolve, Type, TypeDefKind};
+use wit_model::{Error, Resolve, Type};
 
 // A tuple of a record, whose fields are an `own` and a list, and of that list.
-fn sample(alloc: Global) -> Result<(Resolve, Type), Error> {
-    let mut types = Types::new(alloc);
-    let r = types.named("r", TypeDefKind::Resource)?;
-    let owned = types.unnamed(own(r))?;
-    let bytes = types.unnamed(TypeDefKind::List(Type::U8))?;
-    let fields = record(alloc, &[("b", bytes), ("a", owned)])?;
-    let p = types.named("p", fields)?;
-    let whole = types.unnamed(tuple(alloc, &[p, bytes])?)?;
-    Ok((types.resolve()?, whole))
+static TYPES: [Added; 5] = [
+    Added::Named("r", Kind::Resource),
+    Added::Unnamed(Kind::Own(TYPE_0)),
+    Added::Unnamed(Kind::List(Type::U8)),
+    Added::Named("p", Kind::Record(&[("b", TYPE_2), ("a", TYPE_1)])),
+    Added::Unnamed(Kind::Tuple(&[TYPE_3, TYPE_2])),
+];
+
+fn sample(alloc: Global) -> Result<Resolve, Error> {
+    match resolve_of(alloc, &TYPES) {
+        Ok(resolve) => Ok(resolve),
+        Err(_) => resolve_of(alloc, &TYPES),
+    }
 }
 
-fn answer_again<'a>(
-    alloc: Global,
-    table: &mut Table<'a>,
-    ty: Type,
-    out: &mut String,
-) -> Result<(), Error>
+fn table<'a>(alloc: Global, resolve: &'a Resolve) -> Result<Option<Table<'a>>, Error>
+    ensures { IfOk result (λ o. IfSome o IsTable) }
+{
+    match table_of(alloc, resolve) {
+        Ok(found) => Ok(found),
+        Err(_) => table_of(alloc, resolve),
+    }
+}
+
+fn answer_again<'a>(alloc: Global, table: &mut Table<'a>) -> Result<String, Error>
     requires { IsTable table.old }
     ensures { IsTable table.new }
 {
-    if answer(alloc, table, Call::Valtype(ty), out).is_ok() {
-        return Ok(());
+    let mut out = String::new(alloc);
+    if answer(alloc, table, Call::Valtype(TYPE_4), &mut out).is_ok() {
+        return Ok(out);
     }
     out.clear();
-    answer(alloc, table, Call::Valtype(ty), out)
+    answer(alloc, table, Call::Valtype(TYPE_4), &mut out)?;
+    Ok(out)
+}
+
+// What two calls answer, one after the other.
+fn answers(alloc: Global, resolve: &Resolve) -> Result<Option<(String, String)>, Error> {
+    let Some(mut table) = table(alloc, resolve)? else {
+        return Ok(None);
+    };
+    let first = answer_again(alloc, &mut table)?;
+    let second = answer_again(alloc, &mut table)?;
+    Ok(Some((first, second)))
 }
 
 #[test]
 fn after_a_refusal(rt: HostRuntime) -> Result<(), Fail> {
-    let alloc = rt.alloc();
-    let (resolve, whole) = match sample(alloc) {
-        Ok(made) => made,
-        Err(_) => sample(alloc)?,
-    };
-    let found = match table_of(alloc, &resolve) {
-        Ok(found) => found,
-        Err(_) => table_of(alloc, &resolve)?,
-    };
-    let Some(mut table) = found else {
-        assert!(rt; false, "not valid");
-        return Ok(());
-    };
-    let mut first = String::new(alloc);
-    answer_again(alloc, &mut table, whole, &mut first)?;
-    let mut second = String::new(alloc);
-    answer_again(alloc, &mut table, whole, &mut second)?;
+    let resolve = sample(rt.alloc())?;
+    let (first, second) = answers(rt.alloc(), &resolve)?.ok_or("not valid")?;
     assert!(rt; !first.is_empty());
     assert_eq!(rt; first.as_str(), second.as_str());
     Ok(())

@@ -1,46 +1,40 @@
 //! Futures and streams without an element, and a type of a hundred levels.
 
-use super::encoded::{Call, encoded};
 use super::packages::{Types, tuple};
+use super::steps::{Asked, Case, assert_cases, encoded_calls};
 use std::alloc::Global;
 use std::test::Fail;
 use wit_model::{Error, Resolve, Type};
 
-// They have a cache of their own, which the other functions don't look into.
+// They have a cache of their own, which the other functions don't look into. The two caches are two.
 #[test]
-fn unit_futures(rt: HostRuntime) -> Result<(), Fail> {
-    let alloc = rt.alloc();
-    let resolve = Types::new(alloc).resolve()?;
-    let calls = [Call::UnitFuture, Call::UnitFuture, Call::Future(None)];
-    let expected = "future _\nfuture _\n 0\n 0\n 1\n";
-    assert_eq!(rt; encoded(alloc, &resolve, &calls)?.as_str(), expected);
-    Ok(())
-}
-
-#[test]
-fn unit_streams(rt: HostRuntime) -> Result<(), Fail> {
-    let alloc = rt.alloc();
-    let resolve = Types::new(alloc).resolve()?;
-    let calls = [Call::UnitStream, Call::UnitStream, Call::Stream(None)];
-    let expected = "stream _\nstream _\n 0\n 0\n 1\n";
-    assert_eq!(rt; encoded(alloc, &resolve, &calls)?.as_str(), expected);
-    Ok(())
-}
-
-// The two caches are two.
-#[test]
-fn futures_are_no_streams(rt: HostRuntime) -> Result<(), Fail> {
-    let alloc = rt.alloc();
-    let resolve = Types::new(alloc).resolve()?;
-    let calls = [
-        Call::UnitStream,
-        Call::UnitFuture,
-        Call::UnitStream,
-        Call::UnitFuture,
+fn unit_futures_and_streams(rt: HostRuntime) -> Result<(), Fail> {
+    static CASES: [Case; 3] = [
+        Case {
+            types: &[],
+            functions: &[],
+            calls: &[Asked::UnitFuture, Asked::UnitFuture, Asked::Future(None)],
+            expected: "future _\nfuture _\n 0\n 0\n 1\n",
+        },
+        Case {
+            types: &[],
+            functions: &[],
+            calls: &[Asked::UnitStream, Asked::UnitStream, Asked::Stream(None)],
+            expected: "stream _\nstream _\n 0\n 0\n 1\n",
+        },
+        Case {
+            types: &[],
+            functions: &[],
+            calls: &[
+                Asked::UnitStream,
+                Asked::UnitFuture,
+                Asked::UnitStream,
+                Asked::UnitFuture,
+            ],
+            expected: "stream _\nfuture _\n 0\n 1\n 0\n 1\n",
+        },
     ];
-    let expected = "stream _\nfuture _\n 0\n 1\n 0\n 1\n";
-    assert_eq!(rt; encoded(alloc, &resolve, &calls)?.as_str(), expected);
-    Ok(())
+    assert_cases(&rt, rt.alloc(), &CASES)
 }
 
 // Pairs of pairs of bytes.
@@ -73,16 +67,16 @@ fn pairs(alloc: Global) -> Result<(Resolve, Type), Error> {
     Ok((types.resolve()?, deepest))
 }
 
+fn encoded_pairs(alloc: Global) -> Result<String, Error> {
+    let (resolve, deepest) = pairs(alloc)?;
+    encoded_calls(alloc, &resolve, &[], &[Asked::Valtype(deepest)])
+}
+
 // Each of a hundred levels is defined once, though the tree has 2^100 leaves.
 #[test]
 fn a_hundred_levels(rt: HostRuntime) -> Result<(), Fail> {
-    let alloc = rt.alloc();
-    let (resolve, deepest) = pairs(alloc)?;
-    let calls = [Call::Valtype(deepest)];
-    let expected = expected(alloc)?;
-    assert_eq!(rt;
-        encoded(alloc, &resolve, &calls)?.as_str(),
-        expected.as_str()
-    );
+    let found = encoded_pairs(rt.alloc())?;
+    let wanted = expected(rt.alloc())?;
+    assert_eq!(rt; found.as_str(), wanted.as_str());
     Ok(())
 }

@@ -13,8 +13,6 @@ mod package;
 mod parts;
 mod piece;
 mod printer;
-#[cfg(test)]
-mod tests;
 mod type_kind;
 mod world;
 

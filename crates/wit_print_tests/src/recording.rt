@@ -3,10 +3,9 @@
 ghost use Rattle.std.specs.Prelude.{◌≡◌, OnOk, OnErr, IsOkUnless};
 ghost use Rattle.wit_model.specs.declared.error.Error.TheVariants.{Memory};
 
-use crate::output::Output;
-use crate::type_kind::TypeKind;
 use std::alloc::Global;
 use wit_model::Error;
+use wit_print::{Output, TypeKind};
 
 /// One call of an output.
 #[derive(Debug, PartialEq, Eq, Drop)]

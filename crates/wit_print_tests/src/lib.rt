@@ -1,0 +1,11 @@
+//! Tests of the printer: the texts and calls of worked examples.
+#![tactic(auto)]
+
+#[cfg(test)]
+mod outputs;
+#[cfg(test)]
+mod packages;
+#[cfg(test)]
+mod printed;
+#[cfg(test)]
+mod recording;

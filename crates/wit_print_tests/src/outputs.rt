@@ -1,0 +1,93 @@
+//! A package's documentation and name, and the texts of single calls.
+
+ghost use Rattle.std.specs.Prelude.{◌≡◌, true, IsTrue};
+ghost use Rattle.wit_model.specs.Names.{is_version as is_version_lem};
+ghost use Rattle.wit_model.specs.Rules.{passes};
+
+use crate::packages::package_name;
+use semver::Version;
+use std::alloc::Global;
+use std::process::Abort;
+use std::test::Fail;
+use wit_model::{Docs, Error, Map, Package, is_label, is_version};
+use wit_print::{Output, OutputToString, TypeKind, WitPrinter};
+
+/// Whether there is a version, and it is one.
+fn has_version(version: &Option<Version>) -> bool
+    ensures { IsTrue result → (passes is_version_lem version.now ≡ true) }
+{
+    match version {
+        Some(version) => is_version(version),
+        None => false,
+    }
+}
+
+// Package `a:b@1.0.0-rc.1` with documentation.
+fn documented(alloc: Global) -> Result<Package, Fail> {
+    let mut name = package_name(alloc, "a", "b")?;
+    name.version = Some(Version::parse(alloc, "1.0.0-rc.1")?);
+    let contents = Some(String::from_str(alloc, "one\n\nthree")?);
+    Ok(Package {
+        name,
+        docs: Docs { contents },
+        interfaces: Map::new(alloc),
+        worlds: Map::new(alloc),
+    })
+}
+
+fn outer_text(rt: &impl Abort, alloc: Global, emits_docs: bool) -> Result<String, Fail> {
+    let package = documented(alloc)?;
+    assert!(rt; is_label(&package.name.namespace));
+    assert!(rt; is_label(&package.name.name));
+    assert!(rt; has_version(&package.name.version));
+    let mut printer = WitPrinter::new(OutputToString::new(alloc));
+    printer.emit_docs(emits_docs);
+    printer.print_package_outer(alloc, &package)?;
+    Ok(String::from(printer.output))
+}
+
+#[test]
+fn documentation_and_name(rt: HostRuntime) -> Result<(), Fail> {
+    let with_docs = outer_text(&rt, rt.alloc(), true)?;
+    assert_eq!(rt;
+        with_docs.as_str(),
+        "/// one\n///\n/// three\npackage a:b@1.0.0-rc.1"
+    );
+    let without_docs = outer_text(&rt, rt.alloc(), false)?;
+    assert_eq!(rt; without_docs.as_str(), "package a:b@1.0.0-rc.1");
+    Ok(())
+}
+
+// `indent_if_needed` answers that the line had just begun.
+fn make_calls(output: &mut OutputToString) -> Result<bool, Error> {
+    output.keyword("a")?;
+    output.indent_start()?;
+    output.push_str("b")?;
+    let begun = output.indent_if_needed()?;
+    output.ty("c", TypeKind::Other)?;
+    output.generic_args_start()?;
+    output.param("d")?;
+    output.generic_args_end()?;
+    output.semicolon()?;
+    output.doc("e")?;
+    output.doc("")?;
+    output.case("f")?;
+    output.newline()?;
+    output.indent_and_print("g")?;
+    output.str("h")?;
+    output.indent_end()?;
+    Ok(begun)
+}
+
+#[test]
+fn an_output_to_a_string(rt: HostRuntime) -> Result<(), Fail> {
+    let alloc = rt.alloc();
+    let mut output = OutputToString::new(alloc);
+    assert!(rt; make_calls(&mut output)?);
+    let expected = "a {\nb  c<d>;\n  /// e\n  ///\n  f\n  gh}\n";
+    let shown = format!(in alloc; "{output}")?;
+    assert_eq!(rt; shown.as_str(), expected);
+    let text = String::from(output);
+    assert_eq!(rt; text.as_str(), expected);
+    Ok(())
+}
