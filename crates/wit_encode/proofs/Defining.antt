@@ -21,7 +21,7 @@ use Rattle.comp_bytes.specs.declared.forms.ComponentValType.TheVariants as v
 use Rattle.comp_bytes.specs.declared.forms.ComponentDefinedType.{ComponentDefinedType}
 use Rattle.comp_bytes.specs.declared.forms.ComponentDefinedType.TheVariants as form
 use Rattle.wit_encode.specs.declared.maps.TypeEncodingMaps.{TypeEncodingMaps}
-use Rattle.wit_encode.specs.Slots.{Pairs, Standing, tree, Keeps, SlotsGrow, SlotAdded, StandsFor, StandsForOptional, NamedStands, CaseStands, Follows}
+use Rattle.wit_encode.specs.Slots.{Pairs, Standing, tree, Keeps, SlotAdded, StandsFor, StandsForOptional, NamedStands, CaseStands, Follows}
 use Rattle.wit_encode.specs.Kinds.{kind_tree, has_form}
 use Rattle.wit_encode.specs.Maps.{Says, Holds, MapsAgree, IsWritten, HasKind, by_kind, LearnsNumber, LearnsKind}
 use Rattle.wit_model.specs.Text.{Text, text_of}

@@ -1,5 +1,5 @@
 -- An encoder of interfaces as one value, and what its calls ask and leave.
-use Rattle.std.specs.Prelude.{ℕ, ◌≡◌, List, Some}
+use Rattle.std.specs.Prelude.{ℕ, ◌≡◌, Some}
 use Rattle.wit_model.specs.Text.{Text}
 use Rattle.wit_model.specs.Meaning.{Signature, FunctionMeaning}
 use Rattle.wit_model.specs.Lookup.{interface_at}
