@@ -1,7 +1,7 @@
 //! The component of a package.
 
-ghost use Rattle.std.specs.Prelude.{◌≡◌, ◌+◌, ◌<◌, ◌++◌, [], length, Err, option_map, string_bytes, OnOk, IfOk, IfErr};
-ghost use Rattle.wit_model.specs.declared.error.Error.TheVariants.{Memory, Size};
+ghost use Rattle.std.specs.Prelude.{◌≡◌, ◌+◌, ◌<◌, ◌++◌, [], length, Err, option_map, OnOk, IfOk, IfErr};
+ghost use Rattle.wit_model.specs.declared.error.Error.TheVariants.{Size};
 ghost use Rattle.wit_model.specs.Lookup.{identity_of, world_at};
 ghost use Rattle.wit_model.specs.Names.{path_in as path_in_lem};
 ghost use Rattle.wit_model.specs.Text.{text_of};
@@ -17,26 +17,13 @@ use comp_bytes::{ComponentBuilder, ComponentType, ComponentTypeRef};
 use std::alloc::Global;
 use wit_model::{Error, Package, PackageName, Resolve, World, WorldId};
 
-/// The path of a name in a package: `namespace:name/interface`, and `@version` where the package has one.
-fn path_in(alloc: Global, own: &PackageName, name: &str) -> Result<String, Error>
-    ensures ok { IfOk result (λ path. string_bytes path ≡ path_in_lem (identity_of own.now) name.now) }
-    ensures refuses { IfErr result (λ e. e ≡ Memory) }
-{
-    let namespace = &own.namespace;
-    let short = &own.name;
-    match &own.version {
-        Some(version) => Ok(format!(in alloc; "{namespace}:{short}/{name}@{version}")?),
-        None => Ok(format!(in alloc; "{namespace}:{short}/{name}")?),
-    }
-}
-
 /// The wrapper of a world: its component type, exported under its path.
 fn wrapper_of(alloc: Global, own: &PackageName, world: &World) -> Result<ComponentType, Error>
     ensures ok { IfOk result (λ wrapper. wrapper ≡ wrapper_of_lem (path_in_lem (identity_of own.now) (text_of world.now.name)) world.now) }
     ensures size { result ≡ Err Size → limit < 64 + (length (path_in_lem (identity_of own.now) (text_of world.now.name)) + items_weight (items_of world.now)) }
     ensures refuses { IfErr result IsMemoryOrSize }
 {
-    let path = path_in(alloc, own, &world.name)?;
+    let path = own.interface_id(alloc, &world.name)?;
     let component = world_type(alloc, world)?;
     let mut wrapper = ComponentType::new(alloc);
     wrapper.component(&component)?;
