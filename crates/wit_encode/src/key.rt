@@ -2,12 +2,11 @@
 
 ghost use Rattle.std.specs.Prelude.{◌≡◌, fold};
 ghost use Rattle.std.specs.Hash as fed;
-ghost use Rattle.wit_model.specs.Lookup.{is_async as is_async_kind};
 ghost use Rattle.wit_encode.specs.Key.{IsKeyOf, same_param, same_params, same_key, param_writes, params_writes, key_writes};
 ghost use Rattle.wit_encode.specs.KeyLaws.{params_equiv, params_partial_equiv, params_alike, key_equiv, key_partial_equiv, key_alike};
 
 use std::hash::{Hash, Hasher};
-use wit_model::{Function, FunctionKind, Param, Type};
+use wit_model::{Function, Param, Type};
 
 /// A view of parameters that compares and hashes their names and types.
 #[derive(Clone, Drop)]
@@ -21,26 +20,12 @@ pub struct FunctionKey<'a> {
     pub result: &'a Option<Type>,
 }
 
-fn is_async(kind: FunctionKind) -> bool
-    ensures { result ≡ is_async_kind kind }
-{
-    match kind {
-        FunctionKind::AsyncFreestanding => true,
-        FunctionKind::AsyncMethod(_) => true,
-        FunctionKind::AsyncStatic(_) => true,
-        FunctionKind::Freestanding => false,
-        FunctionKind::Method(_) => false,
-        FunctionKind::Static(_) => false,
-        FunctionKind::Constructor(_) => false,
-    }
-}
-
 /// The key of a function. Takes constant time and no memory.
 pub fn key_of<'a>(func: &'a Function) -> FunctionKey<'a>
     ensures { IsKeyOf result func.now }
 {
     FunctionKey {
-        async_: is_async(func.kind),
+        async_: func.kind.is_async(),
         params: ParamSignatures(&func.params),
         result: &func.result,
     }

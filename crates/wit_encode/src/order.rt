@@ -1,30 +1,13 @@
 //! The order in which the functions of an interface are encoded.
 
 ghost use Rattle.std.specs.Prelude.{◌≡◌, IfOk, map, IsPermutation, All};
-ghost use Rattle.std.specs.Option.{option_map};
 ghost use Rattle.indexmap.specs.IndexMap.{values};
-ghost use Rattle.wit_model.specs.Lookup.{resource_of as resource_number};
 ghost use Rattle.wit_encode.specs.Instance.{keyed, placed_function};
 ghost use Rattle.wit_encode.specs.Order.{functions_in_order as in_order, place_among, ArePlaces};
 
 use std::alloc::{AllocError, Global};
 use std::collections::BTreeMap;
-use wit_model::{Function, FunctionKind, Interface, TypeId};
-
-/// The resource of a function.
-fn resource_of(kind: FunctionKind) -> Option<TypeId>
-    ensures { option_map (λ id. id.0) result ≡ resource_number kind }
-{
-    match kind {
-        FunctionKind::Freestanding => None,
-        FunctionKind::AsyncFreestanding => None,
-        FunctionKind::Method(id) => Some(id),
-        FunctionKind::AsyncMethod(id) => Some(id),
-        FunctionKind::Static(id) => Some(id),
-        FunctionKind::AsyncStatic(id) => Some(id),
-        FunctionKind::Constructor(id) => Some(id),
-    }
-}
+use wit_model::{Function, Interface, TypeId};
 
 /// Where each type stands first among these.
 fn places_of(alloc: Global, types: &[TypeId]) -> Result<BTreeMap<u32, usize>, AllocError>
@@ -44,7 +27,7 @@ fn place_of(types: &[TypeId], places: &BTreeMap<u32, usize>, func: &Function) ->
     requires { ArePlaces types.now places.now }
     ensures { result ≡ place_among types.now func.now }
 {
-    match resource_of(func.kind) {
+    match func.kind.resource() {
         Some(id) => match places.get(&id.0) {
             Some(place) => *place,
             None => types.len(),
