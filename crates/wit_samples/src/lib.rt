@@ -9,6 +9,8 @@ mod error_tests;
 #[cfg(test)]
 mod feature_tests;
 #[cfg(test)]
+mod item_name_tests;
+#[cfg(test)]
 mod item_order_tests;
 #[cfg(test)]
 mod item_tests;
@@ -44,3 +46,5 @@ mod shape_tests;
 mod steps;
 #[cfg(test)]
 mod type_order_tests;
+#[cfg(test)]
+mod world_item_tests;

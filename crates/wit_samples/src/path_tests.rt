@@ -95,6 +95,35 @@ fn assert_split(rt: &impl Abort, alloc: Global, split: Split) -> Result<(), Fail
     Ok(())
 }
 
+fn assert_none(rt: &impl Abort, alloc: Global, split: Split) -> Result<(), Fail> {
+    let resolve = versioned(alloc, split.version)?;
+    let inline = InterfaceId(1);
+    assert!(rt; is(&resolve.id_of(alloc, inline)?, None));
+    assert!(rt; is(&resolve.canonicalized_id_of(alloc, inline)?, None));
+    assert!(rt; is(&resolve.version_suffix_of(alloc, inline)?, None));
+    Ok(())
+}
+
+#[test]
+fn inline_interfaces(rt: HostRuntime) -> Result<(), Fail> {
+    for split in SPLITS.iter() {
+        assert_none(&rt, rt.alloc(), *split)?;
+    }
+    Ok(())
+}
+
+#[test]
+fn names_in_packages_and_labels(rt: HostRuntime) -> Result<(), Fail> {
+    let alloc = rt.alloc();
+    let resolve = versioned(alloc, Some("1.2.3"))?;
+    assert!(rt; !resolve.packages.is_empty());
+    let path = resolve.id_of_name(alloc, PackageId(0), "w")?;
+    assert_eq!(rt; path.as_str(), "a:b/w@1.2.3");
+    let label = WorldKey::Name(String::from_str(alloc, "x")?);
+    assert_eq!(rt; resolve.name_world_key(alloc, &label)?.as_str(), "x");
+    Ok(())
+}
+
 #[test]
 fn canonical_splits(rt: HostRuntime) -> Result<(), Fail> {
     for split in SPLITS.iter() {
