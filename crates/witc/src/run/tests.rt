@@ -1,4 +1,4 @@
-use super::{BAD_WORDS, DONE, REFUSED, USAGE, run};
+use super::{BAD_WORDS, DONE, REFUSED, run};
 use std::alloc::{AllocError, Global};
 use std::io;
 use std::io::Write;
@@ -20,6 +20,9 @@ fn words(alloc: Global, texts: &[&[u8]]) -> Result<Vec<Vec<u8>>, AllocError> {
 
 const DEMO_TEXT: &str =
     "package a:b;\n\nworld foo {\n  import host: func();\n\n  export guest: func();\n}\n";
+
+const USAGE_LINE: &str =
+    "usage: witc demo text | demo hex | print | module | strip | compat PREV NEW\n";
 
 // Runs these words, and answers the status and what is written. The input is left alone.
 fn outcome(rt: &impl Abort, alloc: Global, texts: &[&[u8]]) -> Result<(u8, Vec<u8>), Fail> {
@@ -49,26 +52,18 @@ fn outcomes(rt: HostRuntime) -> Result<(), Fail> {
     static CASES: [(&[&[u8]], u8, &str); 9] = [
         (&[b"demo", b"text"], DONE, DEMO_TEXT),
         (&[b"demo", b"hex"], DONE, DEMO_HEX),
-        (&[], BAD_WORDS, USAGE),
-        (&[b"demo"], BAD_WORDS, USAGE),
-        (&[b"hex", b"demo"], BAD_WORDS, USAGE),
-        (&[b"demo", b"hex", b"hex"], BAD_WORDS, USAGE),
-        (&[b"compat", b"a", b"b", b"c"], BAD_WORDS, USAGE),
-        (&[b"demo", b"\xff"], BAD_WORDS, USAGE),
-        (&[b"demo", b"hexa"], BAD_WORDS, USAGE),
+        (&[], BAD_WORDS, USAGE_LINE),
+        (&[b"demo"], BAD_WORDS, USAGE_LINE),
+        (&[b"hex", b"demo"], BAD_WORDS, USAGE_LINE),
+        (&[b"demo", b"hex", b"hex"], BAD_WORDS, USAGE_LINE),
+        (&[b"compat", b"a", b"b", b"c"], BAD_WORDS, USAGE_LINE),
+        (&[b"demo", b"\xff"], BAD_WORDS, USAGE_LINE),
+        (&[b"demo", b"hexa"], BAD_WORDS, USAGE_LINE),
     ];
     for (texts, status, text) in &CASES {
         assert_outcome(&rt, rt.alloc(), *texts, *status, *text)?;
     }
     Ok(())
-}
-
-#[test]
-fn usage_line(rt: HostRuntime) {
-    assert_eq!(rt;
-        USAGE,
-        "usage: witc demo text | demo hex | print | module | strip | compat PREV NEW\n"
-    );
 }
 
 /// A writer whose every write fails.
