@@ -1,7 +1,8 @@
-use super::{BAD_WORDS, DONE, REFUSED, USAGE, run};
+use super::{BAD_WORDS, DONE, REFUSED, run};
 use std::alloc::{AllocError, Global};
 use std::io;
 use std::io::Write;
+use std::process::Abort;
 use std::test::Fail;
 
 const DEMO_HEX: &str = "00 61 73 6d 0d 00 01 00 07 2a 01 41 02 01 41 03\n\
@@ -20,59 +21,49 @@ fn words(alloc: Global, texts: &[&[u8]]) -> Result<Vec<Vec<u8>>, AllocError> {
 const DEMO_TEXT: &str =
     "package a:b;\n\nworld foo {\n  import host: func();\n\n  export guest: func();\n}\n";
 
-#[test]
-fn demo_text(rt: HostRuntime) -> Result<(), Fail> {
-    let alloc = rt.alloc();
-    let words = words(alloc, &[b"demo".as_slice(), b"text".as_slice()])?;
+const USAGE_LINE: &str =
+    "usage: witc demo text | demo hex | print | module | strip | compat PREV NEW\n";
+
+// Runs these words, and answers the status and what is written. The input is left alone.
+fn outcome(rt: &impl Abort, alloc: Global, texts: &[&[u8]]) -> Result<(u8, Vec<u8>), Fail> {
+    let words = words(alloc, texts)?;
     let mut output: Vec<u8> = Vec::new(alloc);
     let mut input: &[u8] = b"left alone";
-    assert_eq!(rt; run(alloc, &words, &mut input, &mut output), DONE);
-    assert_eq!(rt; output.as_slice(), DEMO_TEXT.as_bytes());
+    let status = run(alloc, &words, &mut input, &mut output);
     assert_eq!(rt; input, b"left alone".as_slice());
+    Ok((status, output))
+}
+
+fn assert_outcome(
+    rt: &impl Abort,
+    alloc: Global,
+    texts: &[&[u8]],
+    status: u8,
+    text: &str,
+) -> Result<(), Fail> {
+    let (ended, output) = outcome(rt, alloc, texts)?;
+    assert_eq!(rt; ended, status);
+    assert_eq!(rt; output.as_slice(), text.as_bytes());
     Ok(())
 }
 
 #[test]
-fn demo_hex(rt: HostRuntime) -> Result<(), Fail> {
-    let alloc = rt.alloc();
-    let words = words(alloc, &[b"demo".as_slice(), b"hex".as_slice()])?;
-    let mut output: Vec<u8> = Vec::new(alloc);
-    let mut input: &[u8] = b"left alone";
-    assert_eq!(rt; run(alloc, &words, &mut input, &mut output), DONE);
-    assert_eq!(rt; output.as_slice(), DEMO_HEX.as_bytes());
-    assert_eq!(rt; input, b"left alone".as_slice());
-    Ok(())
-}
-
-#[test]
-fn bad_words(rt: HostRuntime) -> Result<(), Fail> {
-    let alloc = rt.alloc();
-    let rows: [&[&[u8]]; 7] = [
-        &[],
-        &[b"demo"],
-        &[b"hex", b"demo"],
-        &[b"demo", b"hex", b"hex"],
-        &[b"compat", b"a", b"b", b"c"],
-        &[b"demo", b"\xff"],
-        &[b"demo", b"hexa"],
+fn outcomes(rt: HostRuntime) -> Result<(), Fail> {
+    static CASES: [(&[&[u8]], u8, &str); 9] = [
+        (&[b"demo", b"text"], DONE, DEMO_TEXT),
+        (&[b"demo", b"hex"], DONE, DEMO_HEX),
+        (&[], BAD_WORDS, USAGE_LINE),
+        (&[b"demo"], BAD_WORDS, USAGE_LINE),
+        (&[b"hex", b"demo"], BAD_WORDS, USAGE_LINE),
+        (&[b"demo", b"hex", b"hex"], BAD_WORDS, USAGE_LINE),
+        (&[b"compat", b"a", b"b", b"c"], BAD_WORDS, USAGE_LINE),
+        (&[b"demo", b"\xff"], BAD_WORDS, USAGE_LINE),
+        (&[b"demo", b"hexa"], BAD_WORDS, USAGE_LINE),
     ];
-    for row in rows {
-        let words = words(alloc, row)?;
-        let mut output: Vec<u8> = Vec::new(alloc);
-        let mut input: &[u8] = b"left alone";
-        assert_eq!(rt; run(alloc, &words, &mut input, &mut output), BAD_WORDS);
-        assert_eq!(rt; output.as_slice(), USAGE.as_bytes());
-        assert_eq!(rt; input, b"left alone".as_slice());
+    for (texts, status, text) in &CASES {
+        assert_outcome(&rt, rt.alloc(), *texts, *status, *text)?;
     }
     Ok(())
-}
-
-#[test]
-fn usage_line(rt: HostRuntime) {
-    assert_eq!(rt;
-        USAGE,
-        "usage: witc demo text | demo hex | print | module | strip | compat PREV NEW\n"
-    );
 }
 
 /// A writer whose every write fails.
@@ -89,16 +80,15 @@ impl Write for Full {
     }
 }
 
+fn refused(alloc: Global, texts: &[&[u8]]) -> Result<u8, Fail> {
+    let words = words(alloc, texts)?;
+    let mut input: &[u8] = b"";
+    Ok(run(alloc, &words, &mut input, &mut Full))
+}
+
 #[test]
 fn failing_writes(rt: HostRuntime) -> Result<(), Fail> {
-    let alloc = rt.alloc();
-    for row in [
-        [b"demo".as_slice(), b"hex".as_slice()].as_slice(),
-        [].as_slice(),
-    ] {
-        let words = words(alloc, row)?;
-        let mut input: &[u8] = b"";
-        assert_eq!(rt; run(alloc, &words, &mut input, &mut Full), REFUSED);
-    }
+    assert_eq!(rt; refused(rt.alloc(), &[b"demo", b"hex"])?, REFUSED);
+    assert_eq!(rt; refused(rt.alloc(), &[])?, REFUSED);
     Ok(())
 }
