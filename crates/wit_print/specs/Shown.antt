@@ -1,6 +1,6 @@
 -- What is shown of packages: their trees, with documentation.
 use Rattle.std.specs.Prelude.{Bool, true, false, List, [], ◌∷◌, ◌++◌, ◌==◌, ◌&&◌, ℕ, Option, None, Some, map, drop, option_map, option_and_then, unwrap_or, slice_get, is_some, is_none, if◌then◌else◌, filter, String}
-use Rattle.std.specs.List.{filter_map, after_first}
+use Rattle.std.specs.List.{filter_map}
 use Rattle.std.specs.Option.{option_map_or, option_eq}
 use Rattle.std.specs.Str.{chars}
 use Rattle.std.specs.Str.Lines.{lines}
@@ -40,7 +40,8 @@ use Rattle.wit_model.specs.declared.model.Stability.TheVariants as stability
 use Rattle.wit_model.specs.Text.{Text, text_of, text_eq}
 use Rattle.wit_model.specs.Lookup.{package_at, interface_at, world_at, type_at, optional_version_text, is_async, resource_of}
 use Rattle.wit_model.specs.Parts.{same_owner}
-use Rattle.wit_model.specs.Rules.{is_freestanding}
+use Rattle.wit_model.specs.Rules.{is_freestanding, is_own_of}
+use Rattle.wit_model.specs.Calls.{item_name}
 use Rattle.wit_print.specs.Keyword.{Primitive}
 use Rattle.wit_print.specs.Tree.{TypeTree, TypeTrees, Gates, Prefix, ParamTree, FieldTree, CaseTree, LabelTree, SignatureTree, ResourceMember, Declared, PathTree, UsedName, MemberTree, ExternTree, WorldMember, ItemTree, PackageHead, PackageTree, FileTree}
 use Rattle.wit_print.specs.Tree.TypeTree.{PrimitiveType, Name, Handle, Own, Borrow, TupleOf, OptionOf, ListOf, FixedListOf, MapOf, Result, ResultOk, ResultErr, ResultOf, Future, FutureOf, Stream, StreamOf}
@@ -173,10 +174,6 @@ is_method kind = false
 abbrev pub belongs_to : TypeId → Function → Bool
 belongs_to resource f = option_map_or (λ number. number == resource.0) (resource_of f.kind) false
 
--- a resource function's own name, after the dot
-abbrev pub own_function_name : Function → Text
-own_function_name f = after_first (λ c. c == 46) (text_of f.name)
-
 abbrev pub shown_param : Resolve → Param → ParamTree
 shown_param resolve param = record { name = text_of param.name; ty = shown_type resolve param.ty }
 
@@ -187,19 +184,11 @@ shown_params resolve f = map (shown_param resolve) (if is_method f.kind then dro
 abbrev pub shown_signature : Resolve → Function → SignatureTree
 shown_signature resolve f = record { is_async = is_async f.kind; params = shown_params resolve f; result = option_map (shown_type resolve) f.result }
 
--- whether a type is an owned handle of this resource, without a name
-abbrev pub is_own_of : TypeId → TypeDef → Bool
-is_own_of resource def = is_none def.name && owns def.kind
-  where
-    owns : TypeDefKind → Bool
-    owns (defined.Handle (handle.Own id)) = id.0 == resource.0
-    owns kind = false
-
 -- what a constructor's result is written as: nothing where it is its resource
 abbrev pub constructor_result : Resolve → TypeId → Option ValueType → Option TypeTree
 constructor_result resolve resource None = None
 constructor_result resolve resource (Some (value.Id id)) =
-    if option_map_or (is_own_of resource) (type_at resolve id.0) false then None else Some (shown_type resolve (value.Id id))
+    if option_map_or (is_own_of resource.0) (type_at resolve id.0) false then None else Some (shown_type resolve (value.Id id))
 constructor_result resolve resource (Some ty) = Some (shown_type resolve ty)
 
 abbrev pub function_prefix : Function → Prefix
@@ -210,9 +199,9 @@ shown_resource_member resolve f = by_kind f.kind
   where
     by_kind : FunctionKind → ResourceMember
     by_kind (function.Constructor id) = Constructor (function_prefix f) (shown_params resolve f) (constructor_result resolve id f.result)
-    by_kind (function.Static id) = Static (function_prefix f) (own_function_name f) (shown_signature resolve f)
-    by_kind (function.AsyncStatic id) = Static (function_prefix f) (own_function_name f) (shown_signature resolve f)
-    by_kind kind = Method (function_prefix f) (own_function_name f) (shown_signature resolve f)
+    by_kind (function.Static id) = Static (function_prefix f) (item_name f) (shown_signature resolve f)
+    by_kind (function.AsyncStatic id) = Static (function_prefix f) (item_name f) (shown_signature resolve f)
+    by_kind kind = Method (function_prefix f) (item_name f) (shown_signature resolve f)
 
 -- ---- declarations and uses
 
