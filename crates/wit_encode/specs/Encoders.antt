@@ -12,7 +12,7 @@ use Rattle.wit_encode.specs.declared.interface.InterfaceEncoderOf.{InterfaceEnco
 use Rattle.wit_encode.specs.Known.{UsedStand}
 use Rattle.wit_encode.specs.Scope.{Scope}
 use Rattle.wit_encode.specs.View.{View}
-use Rattle.wit_encode.specs.Instance.{Contents, contents_of, encoder_scope, slots_in, stands_in, defined_in, opened, standing_instances, Continues, EncodesInterface}
+use Rattle.wit_encode.specs.Instance.{Contents, contents_of, encoder_scope, slots_in, stands_in, defined_in, opened, standing_instances, Continues, EncodesInterface, lacks_room_in}
 
 abbrev pub InterfaceEncoder : Type 0
 InterfaceEncoder = InterfaceEncoderOf TypeEncodingMaps
@@ -25,6 +25,7 @@ view_of r e = record {
   stands = stands_in r e.outer e.inner;
   definitions = defined_in r e.outer e.inner;
   maps = e.maps;
+  lacks_room = lacks_room_in r e.outer e.inner;
 }
 
 -- in its own

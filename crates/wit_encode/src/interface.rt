@@ -1,12 +1,14 @@
 //! Encodes interfaces as instance types.
 
 ghost use Rattle.std.proofs.Common.{refl};
-ghost use Rattle.std.specs.Prelude.{◌≡◌, ◌++◌, ◌∷◌, [], Some, None, ◌<◌, true, length, map, IfOk, OnOk, OnErr, IsSome, IfErr};
+ghost use Rattle.std.specs.Prelude.{◌≡◌, ◌&&◌, false, Err, ◌++◌, ◌∷◌, [], Some, None, ◌<◌, true, length, map, IfOk, OnOk, OnErr, IsSome, IfErr};
 ghost use Rattle.std.specs.List.{Contains};
 ghost use Rattle.comp_bytes.specs.Raw.{Alias as RawAlias, Declaration, Declarations, append, from_list};
 ghost use Rattle.wit_encode.specs.Known.{known_slot};
 ghost use Rattle.comp_bytes.specs.RawOf.{raw_defined, raw_function, raw_name};
-ghost use Rattle.comp_bytes.specs.Held.{type_slots, type_slots_of};
+ghost use Rattle.comp_bytes.specs.Held.{type_slots, type_slots_of, fits_next, fits_added};
+ghost use Rattle.comp_bytes.specs.Fits.{fits_declaration};
+ghost use Rattle.wit_model.specs.declared.error.Error.TheVariants.{Size};
 ghost use Rattle.comp_bytes.specs.Refusal.{IsMemoryOrSize};
 
 use crate::encode::encode_valtype;
@@ -54,6 +56,7 @@ pub type InterfaceEncoder<'a> = InterfaceEncoderOf<'a, TypeEncodingMaps<'a>>;
 fn define_inside(inner: &mut InstanceType, def: &ComponentDefinedType) -> Result<u32, Error>
     ensures ok { IfOk result (λ i. (i ≡ type_slots inner.old) × (inner.new ≡ inner.old ++ Declaration.defined (raw_defined def.now) ∷ [])) }
     ensures err { OnErr result (inner.new ≡ inner.old) }
+    ensures size { result ≡ Err Size → fits_next inner.new (Declaration.defined (raw_defined def.now)) ≡ false }
     ensures refuses { IfErr result IsMemoryOrSize }
 {
     let index = inner.type_count();
@@ -64,6 +67,7 @@ fn define_inside(inner: &mut InstanceType, def: &ComponentDefinedType) -> Result
 fn define_outside(outer: &mut ComponentType, def: &ComponentDefinedType) -> Result<u32, Error>
     ensures ok { IfOk result (λ i. (i ≡ type_slots_of outer.old) × (outer.new ≡ append outer.old (Declarations.declares (Declaration.defined (raw_defined def.now)) Declarations.no_more))) }
     ensures err { OnErr result (outer.new ≡ outer.old) }
+    ensures size { result ≡ Err Size → (fits_declaration (Declaration.defined (raw_defined def.now)) && fits_added outer.new 1) ≡ false }
     ensures refuses { IfErr result IsMemoryOrSize }
 {
     let index = outer.type_count();
@@ -74,6 +78,7 @@ fn define_outside(outer: &mut ComponentType, def: &ComponentDefinedType) -> Resu
 fn define_function_inside(inner: &mut InstanceType, def: &ComponentFuncType) -> Result<u32, Error>
     ensures ok { IfOk result (λ i. (i ≡ type_slots inner.old) × (inner.new ≡ inner.old ++ Declaration.function (raw_function def.now) ∷ [])) }
     ensures err { OnErr result (inner.new ≡ inner.old) }
+    ensures size { result ≡ Err Size → fits_next inner.new (Declaration.function (raw_function def.now)) ≡ false }
     ensures refuses { IfErr result IsMemoryOrSize }
 {
     let index = inner.type_count();
@@ -84,6 +89,7 @@ fn define_function_inside(inner: &mut InstanceType, def: &ComponentFuncType) -> 
 fn define_function_outside(outer: &mut ComponentType, def: &ComponentFuncType) -> Result<u32, Error>
     ensures ok { IfOk result (λ i. (i ≡ type_slots_of outer.old) × (outer.new ≡ append outer.old (Declarations.declares (Declaration.function (raw_function def.now)) Declarations.no_more))) }
     ensures err { OnErr result (outer.new ≡ outer.old) }
+    ensures size { result ≡ Err Size → (fits_declaration (Declaration.function (raw_function def.now)) && fits_added outer.new 1) ≡ false }
     ensures refuses { IfErr result IsMemoryOrSize }
 {
     let index = outer.type_count();
@@ -98,6 +104,7 @@ fn export_inside(
 ) -> Result<u32, Error>
     ensures ok { IfOk result (λ i. (i ≡ type_slots inner.old) × (inner.new ≡ inner.old ++ Declaration.exported (raw_name name.now) ty ∷ [])) }
     ensures err { OnErr result (inner.new ≡ inner.old) }
+    ensures size { result ≡ Err Size → fits_next inner.new (Declaration.exported (raw_name name.now) ty) ≡ false }
     ensures refuses { IfErr result IsMemoryOrSize }
 {
     let index = inner.type_count();
@@ -108,6 +115,7 @@ fn export_inside(
 fn alias_inside(inner: &mut InstanceType, slot: u32) -> Result<u32, Error>
     ensures ok { IfOk result (λ i. (i ≡ type_slots inner.old) × (inner.new ≡ inner.old ++ Declaration.alias_of (RawAlias.of_outer 1 slot) ∷ [])) }
     ensures err { OnErr result (inner.new ≡ inner.old) }
+    ensures size { result ≡ Err Size → fits_next inner.new (Declaration.alias_of (RawAlias.of_outer 1 slot)) ≡ false }
     ensures refuses { IfErr result IsMemoryOrSize }
 {
     let index = inner.type_count();
