@@ -3,6 +3,9 @@
 //! Each function answers a slot, or a type by it, that stands for the tree asked for. Also after a refusal the old slots stand for
 //! what they did and the maps agree with the slots. An unnamed kind that `encode_valtype` meets, or another function on its way to the
 //! parts, is defined only where the maps lack it, and then it is in the maps. What a function is named after it defines at each call.
+//!
+//! `Error::Size` comes only from a call of the encoder, for what has no room in the encoder that is left: the definition, the name or the
+//! import of a type of the packages, or what the function is named after. Every other refusal is `Error::Memory`.
 
 ghost use Rattle.std.specs.Prelude.{◌≡◌, ◌∷◌, [], map, option_map, option_to_list, option_copied, length, ◌<◌, IfOk, OnOk, IfSome, Ok, Err, Some, None, is_some, is_none, true, IfErr};
 ghost use Rattle.std.specs.List.{AllZip};
