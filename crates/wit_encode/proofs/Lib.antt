@@ -22,6 +22,7 @@ pub mod Components
 pub mod Calls
 pub mod Outside
 pub mod Within
+pub mod Refusing
 pub mod ShowFunctions
 pub mod Continuing
 pub mod Counting

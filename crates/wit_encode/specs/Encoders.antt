@@ -1,5 +1,5 @@
 -- An encoder of interfaces as one value, and what its calls ask and leave.
-use Rattle.std.specs.Prelude.{ℕ, ◌≡◌, Some}
+use Rattle.std.specs.Prelude.{ℕ, ◌≡◌, ◌⊎◌, Some, false}
 use Rattle.wit_model.specs.Text.{Text}
 use Rattle.wit_model.specs.Meaning.{Signature, FunctionMeaning}
 use Rattle.wit_model.specs.Lookup.{interface_at}
@@ -7,12 +7,14 @@ use Rattle.wit_model.specs.declared.model.Resolve.{Resolve}
 use Rattle.wit_model.specs.declared.model.Interface.{Interface}
 use Rattle.wit_model.specs.declared.model.InterfaceId.{InterfaceId}
 use Rattle.comp_bytes.specs.Raw.{ExternName}
+use Rattle.comp_bytes.specs.Held.{fits_added}
+use Rattle.wit_encode.specs.Order.{functions_in_order}
 use Rattle.wit_encode.specs.declared.maps.TypeEncodingMaps.{TypeEncodingMaps}
 use Rattle.wit_encode.specs.declared.interface.InterfaceEncoderOf.{InterfaceEncoderOf}
 use Rattle.wit_encode.specs.Known.{UsedStand}
 use Rattle.wit_encode.specs.Scope.{Scope}
 use Rattle.wit_encode.specs.View.{View}
-use Rattle.wit_encode.specs.Instance.{Contents, contents_of, encoder_scope, slots_in, stands_in, defined_in, opened, standing_instances, Continues, EncodesInterface}
+use Rattle.wit_encode.specs.Instance.{Contents, contents_of, encoder_scope, slots_in, stands_in, defined_in, opened, standing_instances, Continues, EncodesInterface, lacks_room_in, LacksRoomWithin}
 
 abbrev pub InterfaceEncoder : Type 0
 InterfaceEncoder = InterfaceEncoderOf TypeEncodingMaps
@@ -25,6 +27,7 @@ view_of r e = record {
   stands = stands_in r e.outer e.inner;
   definitions = defined_in r e.outer e.inner;
   maps = e.maps;
+  lacks_room = lacks_room_in r e.outer e.inner;
 }
 
 -- in its own
@@ -53,3 +56,7 @@ UsedAround e i = UsedStand e.resolve.now (standing_instances e.resolve.now e.out
 -- slot k of the component type is new, and stands for the interface
 abbrev pub EncodesAs : InterfaceEncoder → InterfaceEncoder → InterfaceId → ℕ → Type 0
 EncodesAs e e' i k = (def : Interface) → interface_at e.resolve.now i.0 ≡ Some def → EncodesInterface e.resolve.now e.outer e'.outer i def k
+
+-- the interface has no room in an instance type, or the component type has none for one more instance type
+abbrev pub LacksInstance : InterfaceEncoder → InterfaceId → Type 0
+LacksInstance e i = (def : Interface) → interface_at e.resolve.now i.0 ≡ Some def → LacksRoomWithin e.resolve.now e.outer i (functions_in_order def) ⊎ (fits_added e.outer 1 ≡ false)

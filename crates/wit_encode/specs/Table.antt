@@ -1,5 +1,5 @@
 -- What the slots of a plain table stand for: each is read with the slots before it.
-use Rattle.std.specs.Prelude.{ℕ, ◌<◌, ◌≡◌, ◌⊎◌, Bool, true, false, ◌||◌, cond, List, [], ◌∷◌, length, reverse, count_by, flat_map, Option, Some, None, String, is_some, is_none, ◌&&◌, option_to_list}
+use Rattle.std.specs.Prelude.{ℕ, ◌^◌, nat_lt, ◌<◌, ◌≡◌, ◌⊎◌, Bool, true, false, ◌||◌, cond, List, [], ◌∷◌, length, reverse, count_by, flat_map, Option, Some, None, String, is_some, is_none, ◌&&◌, option_to_list}
 use Rattle.std.proofs.Common.{subst, inl, inr, arith}
 use Rattle.std.proofs.lemmas.List.{length-reverse}
 use Rattle.std.specs.declared.alloc.Global.{Global}
@@ -121,6 +121,7 @@ table_view t = record {
   stands = TableReads t.resolve.now (place_of t.resolve.now t.owner) t.slots.items;
   definitions = table_definitions (table_scope t.resolve.now t.owner).declarations t.slots.items;
   maps = t.maps;
+  lacks_room = λ request. nat_lt (length t.slots.items) (2 ^ 32) ≡ false;
 }
 
 -- the table of an interface in valid packages, whose maps agree with its slots

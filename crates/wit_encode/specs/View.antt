@@ -8,6 +8,7 @@ use Rattle.wit_encode.specs.Slots.{Pairs, Standing, Keeps, SlotsGrow, SlotAdded,
 use Rattle.wit_encode.specs.Scope.{Scope}
 use Rattle.wit_encode.specs.Maps.{MapsAgree}
 use Rattle.wit_encode.specs.Counts.{Definitions, ExportsOne}
+use Rattle.wit_encode.specs.Room.{Refusals}
 
 pub record View : Type 1 where
   -- what is around
@@ -19,6 +20,8 @@ pub record View : Type 1 where
   pub definitions : Definitions
   -- which index stands for what
   pub maps : TypeEncodingMaps
+  -- what more it has no room for, in 32 bits
+  pub lacks_room : Refusals
 
 -- there are at least as many slots, and the old ones stand for what they did
 abbrev pub Grows : View → View → Type 0

@@ -1,9 +1,10 @@
 //! Defines types whose parts are known, in a scope of any encoder.
 
-ghost use Rattle.std.specs.Prelude.{◌≡◌, ◌<◌, ◌&&◌, true, false, not, length, IfOk, OnOk, List, Some, None, is_some, IfErr};
+ghost use Rattle.std.specs.Prelude.{◌≡◌, ◌⊎◌, Err, ◌<◌, ◌&&◌, true, false, not, length, IfOk, OnOk, List, Some, None, is_some, IfErr};
 ghost use Rattle.std.specs.List.{Contains};
 ghost use Rattle.comp_bytes.specs.RawOf.{raw_name};
 ghost use Rattle.comp_bytes.specs.Refusal.{IsMemoryOrSize};
+ghost use Rattle.wit_model.specs.declared.error.Error.TheVariants.{Size};
 ghost use Rattle.wit_model.specs.Rules.{is_named_kind};
 ghost use Rattle.wit_model.specs.Text.{optional_text};
 ghost use Rattle.wit_model.specs.Tree.{named};
@@ -11,6 +12,7 @@ ghost use Rattle.wit_model.specs.Types.{number_tree, tree_of, trees_of, tree_of_
 ghost use Rattle.wit_model.specs.Lookup.{type_at};
 ghost use Rattle.wit_model.specs.Meant.{type_meaning};
 ghost use Rattle.wit_encode.specs.Slots.{tree};
+ghost use Rattle.wit_encode.specs.Room.{value_type, export_name, import_of, LacksType};
 ghost use Rattle.wit_encode.specs.View.{Agrees, Grows, ExportsName};
 ghost use Rattle.wit_encode.specs.Kinds.{parts_of, kind_of, kind_tree, has_form, has_definition};
 ghost use Rattle.wit_encode.specs.Maps.{IsKnown, IsReady, AllReady, LacksKind, LearnsOne};
@@ -49,6 +51,7 @@ pub(crate) fn define_shape<'a, E: ValtypeEncoder<'a>>(
     ensures scope_stays { (E.view enc.new).scope ≡ (E.view enc.old).scope }
     ensures maps_stay { (E.view enc.new).maps ≡ (E.view enc.old).maps }
     ensures counts { OnOk result ((E.view enc.new).definitions ≡ one_type_more (E.view enc.old).definitions) }
+    ensures size { result ≡ Err Size → (E.view enc.new).lacks_room (value_type (kind_tree resolve.now (kind_of shape.entry))) }
     ensures refuses { IfErr result IsMemoryOrSize }
 {
     let def = definition_of(alloc, enc, shape)?;
@@ -69,6 +72,7 @@ fn define_alias<'a, E: ValtypeEncoder<'a>>(
     ensures scope_stays { (E.view enc.new).scope ≡ (E.view enc.old).scope }
     ensures maps_stay { (E.view enc.new).maps ≡ (E.view enc.old).maps }
     ensures counts { OnOk result (DefinesIf (has_definition (TypeDefKind.Type_ ty.now)) (E.view enc.old) (E.view enc.new)) }
+    ensures size { result ≡ Err Size → (E.view enc.new).lacks_room (value_type (kind_tree resolve.now (TypeDefKind.Type_ ty.now))) }
     ensures refuses { IfErr result IsMemoryOrSize }
 {
     match value_of(enc, ty) {
@@ -95,6 +99,7 @@ fn define_kind<'a, E: ValtypeEncoder<'a>>(
     ensures scope_stays { (E.view enc.new).scope ≡ (E.view enc.old).scope }
     ensures maps_stay { (E.view enc.new).maps ≡ (E.view enc.old).maps }
     ensures counts { OnOk result (DefinesIf (has_definition kind.now) (E.view enc.old) (E.view enc.new)) }
+    ensures size { result ≡ Err Size → (E.view enc.new).lacks_room (value_type (kind_tree resolve.now kind.entry.now)) }
     ensures refuses { IfErr result IsMemoryOrSize }
 {
     if let TypeDefKind::Type_(ty) = kind {
@@ -121,6 +126,7 @@ fn define_new_kind<'a, E: ValtypeEncoder<'a>>(
     ensures leaves { Leaves resolve.now (E.view enc.old) (E.view enc.new) }
     ensures counts { OnOk result (CountsTypes resolve.now (E.view enc.old) (E.view enc.new)) }
     ensures kinds { OnOk result (LearnsKindOf (E.view enc.old).maps (E.view enc.new).maps kind.now) }
+    ensures size { result ≡ Err Size → (E.view enc.new).lacks_room (value_type (kind_tree resolve.now kind.entry.now)) }
     ensures refuses { IfErr result IsMemoryOrSize }
 {
     let index = define_shape(alloc, enc, resolve, shape_of(kind))?;
@@ -145,6 +151,7 @@ fn define_unnamed_kind<'a, E: ValtypeEncoder<'a>>(
     ensures leaves { Leaves resolve.now (E.view enc.old) (E.view enc.new) }
     ensures counts { OnOk result (CountsTypes resolve.now (E.view enc.old) (E.view enc.new)) }
     ensures kinds { OnOk result (LearnsKindOf (E.view enc.old).maps (E.view enc.new).maps kind.now) }
+    ensures size { result ≡ Err Size → (E.view enc.new).lacks_room (value_type (kind_tree resolve.now kind.entry.now)) }
     ensures refuses { IfErr result IsMemoryOrSize }
 {
     if let Some(index) = index_of_kind(enc, kind) {
@@ -174,6 +181,7 @@ fn define_unnamed<'a, E: ValtypeEncoder<'a>>(
     ensures leaves { Leaves resolve.now (E.view enc.old) (E.view enc.new) }
     ensures counts { OnOk result (CountsTypes resolve.now (E.view enc.old) (E.view enc.new)) }
     ensures kinds { OnOk result (LearnsKindOf (E.view enc.old).maps (E.view enc.new).maps kind.now) }
+    ensures size { result ≡ Err Size → (E.view enc.new).lacks_room (value_type (kind_tree resolve.now kind.entry.now)) }
     ensures refuses { IfErr result IsMemoryOrSize }
 {
     let index = define_unnamed_kind(alloc, enc, resolve, kind)?;
@@ -197,6 +205,7 @@ fn define_resource<'a, E: ValtypeEncoder<'a>>(
     ensures leaves { Leaves resolve.now (E.view enc.old) (E.view enc.new) }
     ensures counts { OnOk result (CountsTypes resolve.now (E.view enc.old) (E.view enc.new)) }
     ensures kinds { OnOk result ((E.view enc.new).maps.def_to_index.items ≡ (E.view enc.old).maps.def_to_index.items) }
+    ensures size { result ≡ Err Size → (E.view enc.new).lacks_room (export_name (raw_name name.entry)) }
     ensures refuses { IfErr result IsMemoryOrSize }
 {
     let index = enc.export_resource(name)?;
@@ -215,6 +224,7 @@ fn export<'a, E: ValtypeEncoder<'a>>(
     ensures scope_stays { (E.view enc.new).scope ≡ (E.view enc.old).scope }
     ensures maps_stay { (E.view enc.new).maps ≡ (E.view enc.old).maps }
     ensures counts { OnOk result (ExportsName (E.view enc.old) (E.view enc.new) (raw_name name.entry)) }
+    ensures size { result ≡ Err Size → (E.view enc.new).lacks_room (export_name (raw_name name.entry)) }
     ensures refuses { IfErr result IsMemoryOrSize }
 {
     match enc.export_type(index, name)? {
@@ -246,6 +256,7 @@ fn define_named<'a, E: ValtypeEncoder<'a>>(
     ensures leaves { Leaves resolve.now (E.view enc.old) (E.view enc.new) }
     ensures counts { OnOk result (CountsTypes resolve.now (E.view enc.old) (E.view enc.new)) }
     ensures kinds { OnOk result ((E.view enc.new).maps.def_to_index.items ≡ (E.view enc.old).maps.def_to_index.items) }
+    ensures size { result ≡ Err Size → (E.view enc.new).lacks_room (value_type (kind_tree resolve.now def.entry.now.kind)) ⊎ (E.view enc.new).lacks_room (export_name (raw_name name.entry)) }
     ensures refuses { IfErr result IsMemoryOrSize }
 {
     let index = define_kind(alloc, enc, resolve, &def.kind)?;
@@ -272,6 +283,7 @@ fn define_own<'a, E: ValtypeEncoder<'a>>(
     ensures leaves { Leaves resolve.now (E.view enc.old) (E.view enc.new) }
     ensures counts { OnOk result (CountsTypes resolve.now (E.view enc.old) (E.view enc.new)) }
     ensures learns { OnOk result (LearnsParts resolve.now (E.view enc.old) (E.view enc.new)) }
+    ensures size { result ≡ Err Size → LacksType resolve.now (E.view enc.new).lacks_room }
     ensures refuses { IfErr result IsMemoryOrSize }
 {
     match &def.name {
@@ -303,6 +315,7 @@ fn define_number<'a, E: ValtypeEncoder<'a>>(
     ensures leaves { Leaves resolve.now (E.view enc.old) (E.view enc.new) }
     ensures counts { OnOk result (CountsTypes resolve.now (E.view enc.old) (E.view enc.new)) }
     ensures learns { OnOk result (LearnsParts resolve.now (E.view enc.old) (E.view enc.new)) }
+    ensures size { result ≡ Err Size → LacksType resolve.now (E.view enc.new).lacks_room }
     ensures refuses { IfErr result IsMemoryOrSize }
 {
     if index_of(enc, id).is_some() {
@@ -333,6 +346,7 @@ fn import<'a, E: ValtypeEncoder<'a>>(
     ensures leaves { Leaves resolve.now (E.view enc.old) (E.view enc.new) }
     ensures counts { OnOk result (CountsTypes resolve.now (E.view enc.old) (E.view enc.new)) }
     ensures kinds { OnOk result ((E.view enc.new).maps.def_to_index.items ≡ (E.view enc.old).maps.def_to_index.items) }
+    ensures size { result ≡ Err Size → (E.view enc.new).lacks_room (import_of id.0) }
     ensures refuses { IfErr result IsMemoryOrSize }
 {
     let index = enc.import_type(interface, id)?;
@@ -352,6 +366,7 @@ pub(crate) fn define_parts<'a, E: ValtypeEncoder<'a>>(
     ensures learns { OnOk result (LearnsFrom resolve.now types.now (E.view enc.old) (E.view enc.new)) }
     ensures leaves { Leaves resolve.now (E.view enc.old) (E.view enc.new) }
     ensures counts { OnOk result (CountsTypes resolve.now (E.view enc.old) (E.view enc.new)) }
+    ensures size { result ≡ Err Size → LacksType resolve.now (E.view enc.new).lacks_room }
     ensures refuses { IfErr result IsMemoryOrSize }
 {
     let order = order_of(alloc, enc, resolve, types)?;

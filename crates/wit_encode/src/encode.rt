@@ -3,10 +3,14 @@
 //! Each function answers a slot, or a type by it, that stands for the tree asked for. Also after a refusal the old slots stand for
 //! what they did and the maps agree with the slots. An unnamed kind that `encode_valtype` meets, or another function on its way to the
 //! parts, is defined only where the maps lack it, and then it is in the maps. What a function is named after it defines at each call.
+//!
+//! `Error::Size` comes only from a call of the encoder, for what has no room in the encoder that is left: the definition, the name or the
+//! import of a type of the packages, or what the function is named after. Every other refusal is `Error::Memory`.
 
-ghost use Rattle.std.specs.Prelude.{◌≡◌, ◌∷◌, [], map, option_map, option_to_list, option_copied, length, ◌<◌, IfOk, OnOk, IfSome, Ok, Some, None, is_some, is_none, true, IfErr};
+ghost use Rattle.std.specs.Prelude.{◌≡◌, ◌∷◌, [], map, option_map, option_to_list, option_copied, length, ◌<◌, IfOk, OnOk, IfSome, Ok, Err, Some, None, is_some, is_none, true, IfErr};
 ghost use Rattle.std.specs.List.{AllZip};
 ghost use Rattle.comp_bytes.specs.Refusal.{IsMemoryOrSize};
+ghost use Rattle.wit_model.specs.declared.error.Error.TheVariants.{Size};
 ghost use Rattle.wit_model.specs.Text.{text_of};
 ghost use Rattle.wit_model.specs.Types.{type_tree, number_tree};
 ghost use Rattle.wit_model.specs.Tree.{Tree, flags_tree, enum_tree, future_tree, stream_tree};
@@ -19,6 +23,7 @@ ghost use Rattle.wit_encode.specs.Maps.{IsReady, AllReady};
 ghost use Rattle.wit_encode.specs.Fits.{CanEncode, CanImport, is_foreign};
 ghost use Rattle.wit_encode.specs.Formed.{IsFormed};
 ghost use Rattle.wit_encode.specs.Counts.{one_type_more};
+ghost use Rattle.wit_encode.specs.Room.{value_type, import_of, LacksType, LacksTypeOr};
 ghost use Rattle.wit_encode.specs.View.{Agrees, Grows};
 ghost use Rattle.wit_encode.specs.Leaves.{Leaves, LearnsFrom, CountsTypes, CountsOneMore, DefinesIf};
 
@@ -50,6 +55,7 @@ fn encode_shape<'a, E: ValtypeEncoder<'a>>(
     ensures learns { OnOk result (LearnsFrom resolve.now (parts_of (kind_of shape.entry)) (E.view enc.old) (E.view enc.new)) }
     ensures leaves { Leaves resolve.now (E.view enc.old) (E.view enc.new) }
     ensures counts { OnOk result (CountsOneMore resolve.now (E.view enc.old) (E.view enc.new)) }
+    ensures size { result ≡ Err Size → LacksTypeOr resolve.now (E.view enc.new).lacks_room (value_type (kind_tree resolve.now (kind_of shape.entry))) }
     ensures refuses { IfErr result IsMemoryOrSize }
 {
     let parts = shape_parts(alloc, shape)?;
@@ -75,6 +81,7 @@ pub fn encode_valtype<'a, E: ValtypeEncoder<'a>>(
     ensures leaves { Leaves resolve.now (E.view enc.old) (E.view enc.new) }
     ensures counts { OnOk result (CountsTypes resolve.now (E.view enc.old) (E.view enc.new)) }
     ensures knows { OnOk result (IsReady (E.view enc.new).maps ty.now) }
+    ensures size { result ≡ Err Size → LacksType resolve.now (E.view enc.new).lacks_room }
     ensures refuses { IfErr result IsMemoryOrSize }
 {
     define_parts(alloc, enc, resolve, &[*ty])?;
@@ -97,6 +104,7 @@ pub fn encode_optional_valtype<'a, E: ValtypeEncoder<'a>>(
     ensures leaves { Leaves resolve.now (E.view enc.old) (E.view enc.new) }
     ensures counts { OnOk result (CountsTypes resolve.now (E.view enc.old) (E.view enc.new)) }
     ensures knows { OnOk result (AllReady (E.view enc.new).maps (option_to_list (option_copied ty.entry))) }
+    ensures size { result ≡ Err Size → LacksType resolve.now (E.view enc.new).lacks_room }
     ensures refuses { IfErr result IsMemoryOrSize }
 {
     match ty {
@@ -124,6 +132,7 @@ pub fn encode_params<'a, E: ValtypeEncoder<'a>>(
     ensures leaves { Leaves resolve.now (E.view enc.old) (E.view enc.new) }
     ensures counts { OnOk result (CountsTypes resolve.now (E.view enc.old) (E.view enc.new)) }
     ensures knows { OnOk result (AllReady (E.view enc.new).maps (map (λ p. p.ty) params.now)) }
+    ensures size { result ≡ Err Size → LacksType resolve.now (E.view enc.new).lacks_room }
     ensures refuses { IfErr result IsMemoryOrSize }
 {
     let types = param_types(alloc, params)?;
@@ -148,6 +157,7 @@ pub fn encode_record<'a, E: ValtypeEncoder<'a>>(
     ensures learns { OnOk result (LearnsFrom resolve.now (parts_of (TypeDefKind.Record ty.now)) (E.view enc.old) (E.view enc.new)) }
     ensures leaves { Leaves resolve.now (E.view enc.old) (E.view enc.new) }
     ensures counts { OnOk result (CountsOneMore resolve.now (E.view enc.old) (E.view enc.new)) }
+    ensures size { result ≡ Err Size → LacksTypeOr resolve.now (E.view enc.new).lacks_room (value_type (kind_tree resolve.now (TypeDefKind.Record ty.now))) }
     ensures refuses { IfErr result IsMemoryOrSize }
 {
     encode_shape(alloc, enc, resolve, Shape::Record(ty))
@@ -169,6 +179,7 @@ pub fn encode_tuple<'a, E: ValtypeEncoder<'a>>(
     ensures learns { OnOk result (LearnsFrom resolve.now (parts_of (TypeDefKind.Tuple ty.now)) (E.view enc.old) (E.view enc.new)) }
     ensures leaves { Leaves resolve.now (E.view enc.old) (E.view enc.new) }
     ensures counts { OnOk result (CountsOneMore resolve.now (E.view enc.old) (E.view enc.new)) }
+    ensures size { result ≡ Err Size → LacksTypeOr resolve.now (E.view enc.new).lacks_room (value_type (kind_tree resolve.now (TypeDefKind.Tuple ty.now))) }
     ensures refuses { IfErr result IsMemoryOrSize }
 {
     encode_shape(alloc, enc, resolve, Shape::Tuple(ty))
@@ -190,6 +201,7 @@ pub fn encode_variant<'a, E: ValtypeEncoder<'a>>(
     ensures learns { OnOk result (LearnsFrom resolve.now (parts_of (TypeDefKind.Variant ty.now)) (E.view enc.old) (E.view enc.new)) }
     ensures leaves { Leaves resolve.now (E.view enc.old) (E.view enc.new) }
     ensures counts { OnOk result (CountsOneMore resolve.now (E.view enc.old) (E.view enc.new)) }
+    ensures size { result ≡ Err Size → LacksTypeOr resolve.now (E.view enc.new).lacks_room (value_type (kind_tree resolve.now (TypeDefKind.Variant ty.now))) }
     ensures refuses { IfErr result IsMemoryOrSize }
 {
     encode_shape(alloc, enc, resolve, Shape::Variant(ty))
@@ -211,6 +223,7 @@ pub fn encode_result<'a, E: ValtypeEncoder<'a>>(
     ensures learns { OnOk result (LearnsFrom resolve.now (parts_of (TypeDefKind.Result ty.now)) (E.view enc.old) (E.view enc.new)) }
     ensures leaves { Leaves resolve.now (E.view enc.old) (E.view enc.new) }
     ensures counts { OnOk result (CountsOneMore resolve.now (E.view enc.old) (E.view enc.new)) }
+    ensures size { result ≡ Err Size → LacksTypeOr resolve.now (E.view enc.new).lacks_room (value_type (kind_tree resolve.now (TypeDefKind.Result ty.now))) }
     ensures refuses { IfErr result IsMemoryOrSize }
 {
     encode_shape(alloc, enc, resolve, Shape::Result(ty))
@@ -232,6 +245,7 @@ pub fn encode_option<'a, E: ValtypeEncoder<'a>>(
     ensures learns { OnOk result (LearnsFrom resolve.now (parts_of (TypeDefKind.Option payload.now)) (E.view enc.old) (E.view enc.new)) }
     ensures leaves { Leaves resolve.now (E.view enc.old) (E.view enc.new) }
     ensures counts { OnOk result (CountsOneMore resolve.now (E.view enc.old) (E.view enc.new)) }
+    ensures size { result ≡ Err Size → LacksTypeOr resolve.now (E.view enc.new).lacks_room (value_type (kind_tree resolve.now (TypeDefKind.Option payload.now))) }
     ensures refuses { IfErr result IsMemoryOrSize }
 {
     encode_shape(alloc, enc, resolve, Shape::Option(*payload))
@@ -253,6 +267,7 @@ pub fn encode_future<'a, E: ValtypeEncoder<'a>>(
     ensures learns { OnOk result (LearnsFrom resolve.now (parts_of (TypeDefKind.Future payload.now)) (E.view enc.old) (E.view enc.new)) }
     ensures leaves { Leaves resolve.now (E.view enc.old) (E.view enc.new) }
     ensures counts { OnOk result (CountsOneMore resolve.now (E.view enc.old) (E.view enc.new)) }
+    ensures size { result ≡ Err Size → LacksTypeOr resolve.now (E.view enc.new).lacks_room (value_type (kind_tree resolve.now (TypeDefKind.Future payload.now))) }
     ensures refuses { IfErr result IsMemoryOrSize }
 {
     encode_shape(alloc, enc, resolve, Shape::Future(*payload))
@@ -274,6 +289,7 @@ pub fn encode_stream<'a, E: ValtypeEncoder<'a>>(
     ensures learns { OnOk result (LearnsFrom resolve.now (parts_of (TypeDefKind.Stream payload.now)) (E.view enc.old) (E.view enc.new)) }
     ensures leaves { Leaves resolve.now (E.view enc.old) (E.view enc.new) }
     ensures counts { OnOk result (CountsOneMore resolve.now (E.view enc.old) (E.view enc.new)) }
+    ensures size { result ≡ Err Size → LacksTypeOr resolve.now (E.view enc.new).lacks_room (value_type (kind_tree resolve.now (TypeDefKind.Stream payload.now))) }
     ensures refuses { IfErr result IsMemoryOrSize }
 {
     encode_shape(alloc, enc, resolve, Shape::Stream(*payload))
@@ -290,6 +306,7 @@ fn define<'a, E: ValtypeEncoder<'a>>(
     ensures scope_stays { (E.view enc.new).scope ≡ (E.view enc.old).scope }
     ensures maps_stay { (E.view enc.new).maps ≡ (E.view enc.old).maps }
     ensures counts { OnOk result ((E.view enc.new).definitions ≡ one_type_more (E.view enc.old).definitions) }
+    ensures size { result ≡ Err Size → (t : Tree) → Follows (E.view enc.old).stands def.entry t → (E.view enc.new).lacks_room (value_type t) }
     ensures refuses { IfErr result IsMemoryOrSize }
 {
     let index = enc.defined_type(def)?;
@@ -310,6 +327,7 @@ pub fn encode_flags<'a, E: ValtypeEncoder<'a>>(
     ensures scope_stays { (E.view enc.new).scope ≡ (E.view enc.old).scope }
     ensures maps_stay { (E.view enc.new).maps ≡ (E.view enc.old).maps }
     ensures counts { OnOk result ((E.view enc.new).definitions ≡ one_type_more (E.view enc.old).definitions) }
+    ensures size { result ≡ Err Size → (E.view enc.new).lacks_room (value_type (flags_tree (map (λ x. text_of x.name) ty.now.flags.items))) }
     ensures refuses { IfErr result IsMemoryOrSize }
 {
     let names = flag_names(alloc, &ty.flags)?;
@@ -330,6 +348,7 @@ pub fn encode_enum<'a, E: ValtypeEncoder<'a>>(
     ensures scope_stays { (E.view enc.new).scope ≡ (E.view enc.old).scope }
     ensures maps_stay { (E.view enc.new).maps ≡ (E.view enc.old).maps }
     ensures counts { OnOk result ((E.view enc.new).definitions ≡ one_type_more (E.view enc.old).definitions) }
+    ensures size { result ≡ Err Size → (E.view enc.new).lacks_room (value_type (enum_tree (map (λ x. text_of x.name) ty.now.cases.items))) }
     ensures refuses { IfErr result IsMemoryOrSize }
 {
     let names = case_names(alloc, &ty.cases)?;
@@ -351,6 +370,7 @@ pub fn encode_unit_future<'a, E: ValtypeEncoder<'a>>(
     ensures rest { (E.view enc.new).maps ≡ record (E.view enc.old).maps { unit_future = (E.view enc.new).maps.unit_future } }
     ensures leaves { Leaves (E.view enc.old).scope.packages (E.view enc.old) (E.view enc.new) }
     ensures counts { OnOk result (DefinesIf (is_none (E.view enc.old).maps.unit_future) (E.view enc.old) (E.view enc.new)) }
+    ensures size { result ≡ Err Size → (E.view enc.new).lacks_room (value_type (future_tree None)) }
     ensures refuses { IfErr result IsMemoryOrSize }
 {
     if let Some(index) = unit_future(enc) {
@@ -369,6 +389,7 @@ fn define_unit_future<'a, E: ValtypeEncoder<'a>>(enc: &mut E) -> Result<u32, Err
     ensures rest { (E.view enc.new).maps ≡ record (E.view enc.old).maps { unit_future = (E.view enc.new).maps.unit_future } }
     ensures leaves { Leaves (E.view enc.old).scope.packages (E.view enc.old) (E.view enc.new) }
     ensures counts { OnOk result ((E.view enc.new).definitions ≡ one_type_more (E.view enc.old).definitions) }
+    ensures size { result ≡ Err Size → (E.view enc.new).lacks_room (value_type (future_tree None)) }
     ensures refuses { IfErr result IsMemoryOrSize }
 {
     let index = enc.defined_type(ComponentDefinedType::Future(None))?;
@@ -391,6 +412,7 @@ pub fn encode_unit_stream<'a, E: ValtypeEncoder<'a>>(
     ensures rest { (E.view enc.new).maps ≡ record (E.view enc.old).maps { unit_stream = (E.view enc.new).maps.unit_stream } }
     ensures leaves { Leaves (E.view enc.old).scope.packages (E.view enc.old) (E.view enc.new) }
     ensures counts { OnOk result (DefinesIf (is_none (E.view enc.old).maps.unit_stream) (E.view enc.old) (E.view enc.new)) }
+    ensures size { result ≡ Err Size → (E.view enc.new).lacks_room (value_type (stream_tree None)) }
     ensures refuses { IfErr result IsMemoryOrSize }
 {
     if let Some(index) = unit_stream(enc) {
@@ -409,6 +431,7 @@ fn define_unit_stream<'a, E: ValtypeEncoder<'a>>(enc: &mut E) -> Result<u32, Err
     ensures rest { (E.view enc.new).maps ≡ record (E.view enc.old).maps { unit_stream = (E.view enc.new).maps.unit_stream } }
     ensures leaves { Leaves (E.view enc.old).scope.packages (E.view enc.old) (E.view enc.new) }
     ensures counts { OnOk result ((E.view enc.new).definitions ≡ one_type_more (E.view enc.old).definitions) }
+    ensures size { result ≡ Err Size → (E.view enc.new).lacks_room (value_type (stream_tree None)) }
     ensures refuses { IfErr result IsMemoryOrSize }
 {
     let index = enc.defined_type(ComponentDefinedType::Stream(None))?;
@@ -435,6 +458,7 @@ pub fn maybe_import_type<'a, E: ValtypeEncoder<'a>>(
     ensures scope_stays { (E.view enc.new).scope ≡ (E.view enc.old).scope }
     ensures maps_stay { (E.view enc.new).maps ≡ (E.view enc.old).maps }
     ensures counts { OnOk result ((E.view enc.new).definitions ≡ (E.view enc.old).definitions) }
+    ensures size { result ≡ Err Size → (E.view enc.new).lacks_room (import_of id.0) }
     ensures refuses { IfErr result IsMemoryOrSize }
 {
     let def = &resolve.types[id.0 as usize];

@@ -1,7 +1,8 @@
 //! What defines types in a scope, and the law that it keeps.
 
-ghost use Rattle.std.specs.Prelude.{◌≡◌, ◌<◌, ℕ, IfOk, OnOk, IfErr};
+ghost use Rattle.std.specs.Prelude.{◌≡◌, ◌<◌, ℕ, Err, IfOk, OnOk, IfErr};
 ghost use Rattle.std.specs.Borrow.{sem, Lends};
+ghost use Rattle.wit_model.specs.declared.error.Error.TheVariants.{Size};
 ghost use Rattle.wit_model.specs.Tree.{Tree, named};
 ghost use Rattle.wit_model.specs.Meaning.{Signature};
 ghost use Rattle.wit_model.specs.Types.{number_tree};
@@ -10,6 +11,7 @@ ghost use Rattle.comp_bytes.specs.Refusal.{IsMemoryOrSize};
 ghost use Rattle.wit_encode.specs.Slots.{Standing, tree, Follows, FollowsFunction, Defines, DefinesFunction};
 ghost use Rattle.wit_encode.specs.View.{View, Grows, AddsSlot, Exports, ExportsName, SameRest};
 ghost use Rattle.wit_encode.specs.Scope.{DeclaresSlot, DeclaresResource, IsImportable};
+ghost use Rattle.wit_encode.specs.Room.{value_type, function_type, export_name, import_of};
 ghost use Rattle.wit_encode.specs.Formed.{IsFormed, IsFormedSignature};
 ghost use Rattle.wit_encode.specs.Counts.{one_type_more, one_function_more};
 ghost use Rattle.wit_encode.specs.declared.maps.TypeEncodingMaps.{TypeEncodingMaps as MapsValue};
@@ -40,8 +42,10 @@ pub trait LendsMaps<M> {
 ///
 /// A slot stands for a tree, which is a type with every index followed, or for the signature of a function.
 /// Old slots stand for what they did after every call, also after one that is refused, and no call changes the maps.
+/// A call answers `Error::Size` only where what it is asked to add has no room in 32 bits: then the view says so of the encoder that
+/// the call leaves (`View::lacks_room`). An implementor says in its view when that is.
 pub trait ValtypeEncoder<'a>: LendsMaps<TypeEncodingMaps<'a>> {
-    // what it holds: what is around, its slots, how much has been defined, and its maps
+    // what it holds: what is around, its slots, how much has been defined, its maps, and what has no room
     ghost view: { Self → View };
 
     /// Adds a slot that stands for the definition, and answers it.
@@ -52,6 +56,7 @@ pub trait ValtypeEncoder<'a>: LendsMaps<TypeEncodingMaps<'a>> {
         ensures scope_stays { (view self.new).scope ≡ (view self.old).scope }
         ensures maps_stay { (view self.new).maps ≡ (view self.old).maps }
         ensures counts { OnOk result ((view self.new).definitions ≡ one_type_more (view self.old).definitions) }
+        ensures size { result ≡ Err Size → (t : Tree) → Follows (view self.old).stands def.entry t → (view self.new).lacks_room (value_type t) }
         ensures refuses { IfErr result IsMemoryOrSize };
 
     /// Adds a slot that stands for the type of a function, and answers it.
@@ -62,6 +67,7 @@ pub trait ValtypeEncoder<'a>: LendsMaps<TypeEncodingMaps<'a>> {
         ensures scope_stays { (view self.new).scope ≡ (view self.old).scope }
         ensures maps_stay { (view self.new).maps ≡ (view self.old).maps }
         ensures counts { OnOk result ((view self.new).definitions ≡ one_function_more (view self.old).definitions) }
+        ensures size { result ≡ Err Size → (s : Signature) → FollowsFunction (view self.old).stands def.entry s → (view self.new).lacks_room (function_type s) }
         ensures refuses { IfErr result IsMemoryOrSize };
 
     /// Exports the type of a slot under a name that declares it, and answers the slot of the name.
@@ -77,6 +83,7 @@ pub trait ValtypeEncoder<'a>: LendsMaps<TypeEncodingMaps<'a>> {
         ensures scope_stays { (view self.new).scope ≡ (view self.old).scope }
         ensures maps_stay { (view self.new).maps ≡ (view self.old).maps }
         ensures counts { OnOk result (ExportsName (view self.old) (view self.new) (raw_name name.entry)) }
+        ensures size { result ≡ Err Size → (view self.new).lacks_room (export_name (raw_name name.entry)) }
         ensures refuses { IfErr result IsMemoryOrSize };
 
     /// Exports a fresh resource under a name that declares one, and answers its slot.
@@ -87,6 +94,7 @@ pub trait ValtypeEncoder<'a>: LendsMaps<TypeEncodingMaps<'a>> {
         ensures scope_stays { (view self.new).scope ≡ (view self.old).scope }
         ensures maps_stay { (view self.new).maps ≡ (view self.old).maps }
         ensures counts { OnOk result (ExportsName (view self.old) (view self.new) (raw_name name.entry)) }
+        ensures size { result ≡ Err Size → (view self.new).lacks_room (export_name (raw_name name.entry)) }
         ensures refuses { IfErr result IsMemoryOrSize };
 
     /// Makes a type of another interface, whose instance stands, known in this scope, and answers its slot.
@@ -97,6 +105,7 @@ pub trait ValtypeEncoder<'a>: LendsMaps<TypeEncodingMaps<'a>> {
         ensures scope_stays { (view self.new).scope ≡ (view self.old).scope }
         ensures maps_stay { (view self.new).maps ≡ (view self.old).maps }
         ensures counts { OnOk result ((view self.new).definitions ≡ (view self.old).definitions) }
+        ensures size { result ≡ Err Size → (view self.new).lacks_room (import_of id.0) }
         ensures refuses { IfErr result IsMemoryOrSize };
 
     /// The interface whose types are encoded.

@@ -1,8 +1,9 @@
 //! The maps of an encoder: read, where it stays as it is, and written, where the rest of it does.
 
-ghost use Rattle.std.specs.Prelude.{◌≡◌, IfOk, OnOk, IfSome, IfNone, IsSome, map, IfErr};
+ghost use Rattle.std.specs.Prelude.{◌≡◌, Err, IfOk, OnOk, IfSome, IfNone, IsSome, map, IfErr};
 ghost use Rattle.std.specs.List.{Contains, AllZip};
 ghost use Rattle.comp_bytes.specs.Refusal.{IsMemoryOrSize};
+ghost use Rattle.wit_model.specs.declared.error.Error.TheVariants.{Size};
 ghost use Rattle.wit_model.specs.Types.{number_tree};
 ghost use Rattle.wit_model.specs.Tree.{future_tree, stream_tree};
 ghost use Rattle.wit_encode.specs.Slots.{tree, function};
@@ -127,6 +128,7 @@ pub(crate) fn remember_id<'a, E: ValtypeEncoder<'a>>(
     ensures ok { OnOk result (LearnsNumber (E.view enc.old).maps (E.view enc.new).maps id index) }
     ensures leaves { Leaves resolve.now (E.view enc.old) (E.view enc.new) }
     ensures counts { (E.view enc.new).definitions ≡ (E.view enc.old).definitions }
+    ensures size { result ≡ Err Size → ⊥ }
     ensures refuses { IfErr result IsMemoryOrSize }
 {
     enc.type_encoding_maps().remember_id(id, index)
@@ -144,6 +146,7 @@ pub(crate) fn remember_kind<'a, E: ValtypeEncoder<'a>>(
     ensures ok { OnOk result (LearnsKind (E.view enc.old).maps (E.view enc.new).maps kind.entry index) }
     ensures leaves { Leaves resolve.now (E.view enc.old) (E.view enc.new) }
     ensures counts { (E.view enc.new).definitions ≡ (E.view enc.old).definitions }
+    ensures size { result ≡ Err Size → ⊥ }
     ensures refuses { IfErr result IsMemoryOrSize }
 {
     enc.type_encoding_maps().remember_kind(kind, index)
@@ -161,6 +164,7 @@ pub(crate) fn remember_key<'a, E: ValtypeEncoder<'a>>(
     ensures ok { OnOk result (LearnsKey (E.view enc.old).maps (E.view enc.new).maps key.entry index) }
     ensures leaves { Leaves resolve.now (E.view enc.old) (E.view enc.new) }
     ensures counts { (E.view enc.new).definitions ≡ (E.view enc.old).definitions }
+    ensures size { result ≡ Err Size → ⊥ }
     ensures refuses { IfErr result IsMemoryOrSize }
 {
     enc.type_encoding_maps().remember_key(key, index)

@@ -1,7 +1,8 @@
 //! Which index stands for what in a scope.
 
-ghost use Rattle.std.specs.Prelude.{◌≡◌, [], IfSome, IsSome, IfNone, OnOk, OnErr, ⊤, IfErr};
+ghost use Rattle.std.specs.Prelude.{◌≡◌, Err, [], IfSome, IsSome, IfNone, OnOk, OnErr, ⊤, IfErr};
 ghost use Rattle.comp_bytes.specs.Refusal.{IsMemoryOrSize};
+ghost use Rattle.wit_model.specs.declared.error.Error.TheVariants.{Size};
 ghost use Rattle.wit_encode.specs.Maps.{IsReady, IsWritten};
 
 use crate::key::FunctionKey;
@@ -87,6 +88,7 @@ impl<'a> TypeEncodingMaps<'a> {
     pub(crate) fn remember_id(&mut self, id: TypeId, index: u32) -> Result<(), Error>
         ensures ok { OnOk result (LearnsNumber self.old self.new id index) }
         ensures err { OnErr result (SameMaps self.old self.new) }
+        ensures size { result ≡ Err Size → ⊥ }
         ensures refuses { IfErr result IsMemoryOrSize }
     {
         self.id_to_index.push((id, index))?;
@@ -96,6 +98,7 @@ impl<'a> TypeEncodingMaps<'a> {
     pub(crate) fn remember_kind(&mut self, kind: &'a TypeDefKind, index: u32) -> Result<(), Error>
         ensures ok { OnOk result (LearnsKind self.old self.new kind.entry index) }
         ensures err { OnErr result (SameMaps self.old self.new) }
+        ensures size { result ≡ Err Size → ⊥ }
         ensures refuses { IfErr result IsMemoryOrSize }
     {
         self.def_to_index.push((kind, index))?;
@@ -105,6 +108,7 @@ impl<'a> TypeEncodingMaps<'a> {
     pub(crate) fn remember_key(&mut self, key: FunctionKey<'a>, index: u32) -> Result<(), Error>
         ensures ok { OnOk result (LearnsKey self.old self.new key.entry index) }
         ensures err { OnErr result (SameMaps self.old self.new) }
+        ensures size { result ≡ Err Size → ⊥ }
         ensures refuses { IfErr result IsMemoryOrSize }
     {
         self.func_type_map.push((key, index))?;

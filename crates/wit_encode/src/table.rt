@@ -1,7 +1,8 @@
 //! A plain table of slots that keeps the law.
 
 ghost use Rattle.std.proofs.Common.{rules, refl};
-ghost use Rattle.std.specs.Prelude.{◌≡◌, ◌++◌, ◌∷◌, [], length, IfOk, OnErr, IfErr};
+ghost use Rattle.std.specs.Prelude.{◌≡◌, ◌^◌, nat_lt, false, Err, ◌++◌, ◌∷◌, [], length, IfOk, OnErr, IfErr};
+ghost use Rattle.wit_model.specs.declared.error.Error.TheVariants.{Size};
 ghost use Rattle.comp_bytes.specs.Refusal.{IsMemoryOrSize};
 
 use crate::encoder::{LendsMaps, ValtypeEncoder};
@@ -37,6 +38,7 @@ pub type Table<'a> = TableOf<'a, TypeEncodingMaps<'a>>;
 fn push<'a>(slots: &mut Vec<Slot<'a>>, slot: Slot<'a>) -> Result<u32, Error>
     ensures ok { IfOk result (λ i. (i ≡ length slots.old.items) × (slots.new.items ≡ slots.old.items ++ slot.entry ∷ [])) }
     ensures err { OnErr result (slots.new.items ≡ slots.old.items) }
+    ensures size { result ≡ Err Size → nat_lt (length slots.new.items) (2 ^ 32) ≡ false }
     ensures refuses { IfErr result IsMemoryOrSize }
 {
     let Ok(index) = u32::try_from(slots.len()) else {

@@ -1,10 +1,12 @@
-use Rattle.std.proofs.Common.{refl, ◌≡◌, ◌∙◌, ap, sym, Some}
+use Rattle.std.proofs.Common.{refl, ◌≡◌, ◌∙◌, ap, sym, subst, inl, inr, Some}
 use Rattle.comp_bytes.specs.RawOf.{raw_name}
+use Rattle.wit_model.specs.Text.{Text, text_of}
 use Rattle.wit_model.specs.Tree.{named}
 use Rattle.wit_model.specs.Types.{number_tree}
 use Rattle.wit_model.specs.Meant.{type_meaning}
 use Rattle.wit_encode.specs.Kinds.{has_definition}
 use Rattle.wit_encode.specs.Scope.{IsDeclared, exported_name}
+use Rattle.wit_encode.specs.Room.{export_name, its_definition, its_name}
 use Rattle.wit_encode.specs.Counts.{is_defined_by_name, own_name}
 use Rattle.wit_encode.proofs.Learning.{learns-call-unnamed, learns-call-named}
 use Rattle.wit_encode.proofs.Encoding.{named-defined, named-shown}
@@ -60,3 +62,26 @@ pub returns-in_default-clause-learns : goal.returns-in_default-clause-learns
 returns-in_default-clause-learns g c = learns-call-named c.define_named.result c.args.resolve.now (g.E.ValtypeEncoder.view c.args.enc.now).scope (g.E.ValtypeEncoder.view c.args.enc.now).maps (g.E.ValtypeEncoder.view c.define_named.new.enc).maps
     (g.E.ValtypeEncoder.view c.args.enc.now).definitions (g.E.ValtypeEncoder.view c.define_named.new.enc).definitions c.args.id.0 c.args.def.now c.requires.there
     c.define_named.ensures.ok c.define_named.ensures.leaves.maps_grow c.define_named.ensures.counts c.define_named.ensures.kinds c.requires.ready c.in-Some.label c.in-Some.is
+
+its_own_name : (g : Over) (c : After-name_of-name g) → raw_name c.name_of-name.result ≡ exported_name (text_of c.in-Some.label, type_meaning c.args.resolve.now c.args.def.now)
+its_own_name g c = exported g c ∙ ap (λ (t : Text). exported_name (t, type_meaning c.args.resolve.now c.args.def.now)) c.name_of-name.ensures.text
+
+pub returns-in-Resource-clause-size : goal.returns-in-Resource-clause-size
+returns-in-Resource-clause-size g c = λ h. record {
+  number = c.args.id.0;
+  def = c.args.def.now;
+  there = c.requires.there;
+  part = its_name c.in-Some.label c.in-Some.is (subst (g.E.ValtypeEncoder.view c.define_resource.new.enc).lacks_room (ap export_name (its_own_name g (goal.at.returns-in-Resource-clause-size g c).After-name_of-name)) (c.define_resource.ensures.size h));
+}
+
+pub returns-in_default-clause-size : goal.returns-in_default-clause-size
+returns-in_default-clause-size g c = λ h. record {
+  number = c.args.id.0;
+  def = c.args.def.now;
+  there = c.requires.there;
+  part =
+      elim (c.define_named.ensures.size h) [
+        | inl d ↦ its_definition d
+        | inr n ↦ its_name c.in-Some.label c.in-Some.is (subst (g.E.ValtypeEncoder.view c.define_named.new.enc).lacks_room (ap export_name (its_own_name g (goal.at.returns-in_default-clause-size g c).After-name_of-name)) n)
+      ];
+}

@@ -17,3 +17,6 @@ returns-clause-ok g c =
     adds-ok c.defined_type.result (g.E.ValtypeEncoder.view c.definition_of.new.enc).stands (g.E.ValtypeEncoder.view c.defined_type.new.self).stands (g.E.ValtypeEncoder.view c.definition_of.new.enc).slot_count (g.E.ValtypeEncoder.view c.defined_type.new.self).slot_count
     (Defines (g.E.ValtypeEncoder.view c.definition_of.new.enc).stands c.in_ok-def.def) (tree (kind_tree c.args.resolve.now (kind_of c.args.shape)))
     c.defined_type.ensures.ok (followed g (goal.at.returns-clause-ok g c).In_ok-def)
+
+pub returns-clause-size : goal.returns-clause-size
+returns-clause-size g c = λ h. c.defined_type.ensures.size h _ (followed g (goal.at.returns-clause-size g c).In_ok-def)

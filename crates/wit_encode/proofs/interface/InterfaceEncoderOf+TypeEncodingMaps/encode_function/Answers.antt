@@ -14,6 +14,10 @@ use Rattle.wit_encode.specs.Instance.{own_of}
 use Rattle.wit_encode.proofs.Continuing.{Showed, function-showed, after-types}
 use Rattle.wit_encode.proofs.Counting.{function-counted, function-names}
 use Rattle.wit_encode.proofs.FunctionExports.{function-stays}
+use Rattle.std.proofs.Common.{inl, inr, rules}
+use Rattle.wit_encode.specs.Room.{export_name, a_type, a_function_type, a_function_name}
+use Rattle.wit_encode.specs.Instance.{lacks_room_in}
+use Rattle.wit_encode.proofs.Refusing.{function-named, here-alone}
 use Rattle.wit_encode.proofs.interface.InterfaceEncoderOf+TypeEncodingMaps.encode_function.Goals as goal
 use Rattle.wit_encode.proofs.interface.InterfaceEncoderOf+TypeEncodingMaps.encode_function.Goals.{After-export_function}
 
@@ -85,3 +89,15 @@ returns-in_err-index-clause-continues c = after-types c.args.resolve.now c.args.
 pub returns-clause-learns : goal.returns-clause-learns
 returns-clause-learns c = on-any c.export_function.result (subst (λ (m : TypeEncodingMaps). LearnsFrom c.args.resolve.now (own_of c.args.self.now.inner) (function_types c.args.func.now) c.args.self.now.maps m) (sym c.export_function.ensures.maps)
     (from-met c.args.resolve.now (own_of c.args.self.now.inner) (function_types c.args.func.now) c.args.self.now.maps c.encode_func_type.new.enc.maps c.in_ok-index.ensures.learns))
+
+pub returns-in_err-index-clause-size : goal.returns-in_err-index-clause-size
+returns-in_err-index-clause-size c = λ h.
+    elim (c.encode_func_type.ensures.size (search rules)) [
+      | inl t ↦ a_type t
+      | inr n ↦ a_function_type (text_of c.args.name.now, c.args.func.now) (here-alone (text_of c.args.name.now, c.args.func.now)) n
+    ]
+
+pub returns-clause-size : goal.returns-clause-size
+returns-clause-size c = λ h. a_function_name (text_of c.args.name.now, c.args.func.now) (here-alone (text_of c.args.name.now, c.args.func.now))
+    (subst (lacks_room_in c.export_function.new.self.resolve.now c.export_function.new.self.outer c.export_function.new.self.inner)
+    (ap export_name (function-named (raw_name c.name_of.result) (text_of c.args.name.now, c.args.func.now) c.name_of.ensures.text c.name_of.ensures.implements c.name_of.ensures.version_suffix c.name_of.ensures.external_id)) (c.export_function.ensures.size h))

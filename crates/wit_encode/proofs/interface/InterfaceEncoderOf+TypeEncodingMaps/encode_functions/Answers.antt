@@ -10,6 +10,8 @@ use Rattle.wit_encode.proofs.Continuing.{function-continues, continues-trans}
 use Rattle.std.proofs.lemmas.List.{take_all}
 use Rattle.wit_encode.specs.Instance.{placed_function, meaning_of, contents_of, encoder_scope}
 use Rattle.wit_encode.proofs.FunctionExports.{used-kept}
+use Rattle.wit_encode.proofs.Lists.{contains-map}
+use Rattle.wit_encode.proofs.Refusing.{part-of-one}
 use Rattle.wit_encode.proofs.interface.InterfaceEncoderOf+TypeEncodingMaps.encode_functions.Goals as goal
 
 pub encode_function-requires-clause-encodable : goal.encode_function-requires-clause-encodable
@@ -49,3 +51,7 @@ returns-in_err-encode_function-clause-continues c = continues-trans c.loop-entry
 pub returns-clause-learns : goal.returns-clause-learns
 returns-clause-learns c = from-functions (λ (f : ℕ × Bor (String Global) × Bor Function). f.2.now) c.args.resolve.now (own_of c.args.self.now.inner) c.args.functions.now c.loop-entry.entry-index c.args.self.now.maps c.loop-entry.self.maps
     c.loop-entry-test.false c.loop-entry.invariant.learns
+
+pub returns-in_err-encode_function-clause-size : goal.returns-in_err-encode_function-clause-size
+returns-in_err-encode_function-clause-size c = λ h. part-of-one (map placed_function c.args.functions.now) (placed_function c.entry-item.result)
+    (contains-map placed_function c.args.functions.now c.entry-item.result (contains-at c.args.functions.now c.loop-entry.entry-index c.entry-item.result c.loop-entry-test.true c.entry-item.is)) (c.encode_function.ensures.size (search rules))

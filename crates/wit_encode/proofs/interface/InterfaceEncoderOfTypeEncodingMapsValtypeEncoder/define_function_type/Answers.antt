@@ -1,4 +1,5 @@
 use Rattle.wit_encode.proofs.Within.{function-within, function-without}
+use Rattle.wit_encode.proofs.Refusing.{function-inside, function-outside}
 use Rattle.wit_encode.proofs.interface.InterfaceEncoderOfTypeEncodingMapsValtypeEncoder.define_function_type.Goals as goal
 
 pub returns-in-Some-clause-ok : goal.returns-in-Some-clause-ok
@@ -24,3 +25,9 @@ returns-clause-scope_stays c = (function-without c.define_function_outside.resul
 
 pub returns-clause-counts : goal.returns-clause-counts
 returns-clause-counts c = (function-without c.define_function_outside.result c.args.self.now.resolve.now c.args.self.now.outer c.args.self.now.inner c.define_function_outside.new.outer c.in-None.is c.args.def c.requires c.define_function_outside.ensures.ok c.define_function_outside.ensures.err).counted
+
+pub returns-in-Some-clause-size : goal.returns-in-Some-clause-size
+returns-in-Some-clause-size c = λ h. function-inside c.define_function_inside.result c.args.self.now.resolve.now c.args.self.now.outer c.args.self.now.inner c.in-Some.current c.define_function_inside.new.inner c.in-Some.is c.define_function_inside.ensures.err h c.args.def c.define_function_inside.ensures.size
+
+pub returns-clause-size : goal.returns-clause-size
+returns-clause-size c = λ h. function-outside c.define_function_outside.result c.args.self.now.resolve.now c.args.self.now.outer c.args.self.now.inner c.define_function_outside.new.outer c.in-None.is c.define_function_outside.ensures.err h c.args.def c.define_function_outside.ensures.size

@@ -1,4 +1,5 @@
 use Rattle.wit_encode.proofs.Within.{defined-within, defined-without}
+use Rattle.wit_encode.proofs.Refusing.{value-inside, value-outside}
 use Rattle.wit_encode.proofs.interface.InterfaceEncoderOfTypeEncodingMapsValtypeEncoder.defined_type.Goals as goal
 
 pub returns-in-Some-clause-ok : goal.returns-in-Some-clause-ok
@@ -24,3 +25,9 @@ returns-clause-scope_stays c = (defined-without c.define_outside.result c.args.s
 
 pub returns-clause-counts : goal.returns-clause-counts
 returns-clause-counts c = (defined-without c.define_outside.result c.args.self.now.resolve.now c.args.self.now.outer c.args.self.now.inner c.define_outside.new.outer c.in-None.is c.args.def c.requires c.define_outside.ensures.ok c.define_outside.ensures.err).counted
+
+pub returns-in-Some-clause-size : goal.returns-in-Some-clause-size
+returns-in-Some-clause-size c = λ h. value-inside c.define_inside.result c.args.self.now.resolve.now c.args.self.now.outer c.args.self.now.inner c.in-Some.current c.define_inside.new.inner c.in-Some.is c.define_inside.ensures.err h c.args.def c.define_inside.ensures.size
+
+pub returns-clause-size : goal.returns-clause-size
+returns-clause-size c = λ h. value-outside c.define_outside.result c.args.self.now.resolve.now c.args.self.now.outer c.args.self.now.inner c.define_outside.new.outer c.in-None.is c.define_outside.ensures.err h c.args.def c.define_outside.ensures.size

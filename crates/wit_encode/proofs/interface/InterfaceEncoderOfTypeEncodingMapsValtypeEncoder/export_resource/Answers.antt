@@ -1,4 +1,7 @@
 use Rattle.wit_encode.proofs.Within.{resource-within}
+use Rattle.comp_bytes.specs.declared.forms.ComponentTypeRef.TheVariants as refs
+use Rattle.wit_encode.specs.Instance.{for_name}
+use Rattle.comp_bytes.specs.RawOf.{raw_name}
 use Rattle.wit_encode.proofs.interface.InterfaceEncoderOfTypeEncodingMapsValtypeEncoder.export_resource.Goals as goal
 
 pub returns-clause-ok : goal.returns-clause-ok
@@ -12,3 +15,6 @@ returns-clause-scope_stays c = (resource-within c.export_inside.result c.args.se
 
 pub returns-clause-counts : goal.returns-clause-counts
 returns-clause-counts c = (resource-within c.export_inside.result c.args.self.now.resolve.now c.args.self.now.outer c.args.self.now.inner c.in-Some.current c.export_inside.new.inner c.in-Some.is _ c.requires c.export_inside.ensures.ok c.export_inside.ensures.err).counted
+
+pub returns-clause-size : goal.returns-clause-size
+returns-clause-size c = λ h. for_name (raw_name c.args.name) refs.SubResource (c.export_inside.ensures.size h)

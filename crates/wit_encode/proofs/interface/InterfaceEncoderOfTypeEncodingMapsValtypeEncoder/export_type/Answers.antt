@@ -1,8 +1,11 @@
-use Rattle.std.proofs.Common.{sym, ap, ◌∙◌, ℕ, Result, Ok, Some}
+use Rattle.std.proofs.Common.{◌≡◌, sym, ap, ◌∙◌, ℕ, Result, Ok, Err, Some, rules}
 use Rattle.wit_model.specs.declared.error.Error.{Error}
 use Rattle.comp_bytes.specs.RawOf.{raw_name}
 use Rattle.wit_encode.specs.Instance.{encoder_scope}
 use Rattle.wit_encode.proofs.Within.{type-within}
+use Rattle.comp_bytes.specs.declared.forms.ComponentTypeRef.TheVariants as refs
+use Rattle.wit_encode.specs.Instance.{for_name}
+use Rattle.wit_model.specs.declared.error.Error.TheVariants as errors
 use Rattle.wit_encode.proofs.interface.InterfaceEncoderOfTypeEncodingMapsValtypeEncoder.export_type.Goals as goal
 
 pub returns-clause-ok : goal.returns-clause-ok
@@ -27,3 +30,8 @@ returns-clause-counts c =
 
 pub returns-in_err-slot-in-Some-clause-scope_stays : goal.returns-in_err-slot-in-Some-clause-scope_stays
 returns-in_err-slot-in-Some-clause-scope_stays c = ap (encoder_scope c.args.self.now.resolve.now c.args.self.now.outer) ((λ i. Some (record c.in-Some.current { declared = c.in_err-slot-in-Some.ensures.err i })) ∙ sym c.in-Some.is)
+
+pub returns-in_err-slot-in-Some-clause-size : goal.returns-in_err-slot-in-Some-clause-size
+returns-in_err-slot-in-Some-clause-size c = λ h.
+    let refused : ◌≡◌ {A = Result ℕ Error} c.export_inside.result (Err errors.Size) = search rules in
+    for_name (raw_name c.args.name) (refs.TypeEq c.args.index) (c.export_inside.ensures.size refused)

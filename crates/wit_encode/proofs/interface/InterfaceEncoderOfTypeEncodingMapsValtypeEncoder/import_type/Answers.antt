@@ -4,6 +4,7 @@ use Rattle.wit_encode.specs.Known.{known_slot}
 use Rattle.wit_encode.specs.Scope.{IsImportable}
 use Rattle.wit_encode.specs.Instance.{encoder_scope}
 use Rattle.wit_encode.proofs.Importing.{ImportsTo, imported, imported-stands, open-known, none-outside}
+use Rattle.wit_encode.specs.Instance.{for_import}
 use Rattle.wit_encode.proofs.interface.InterfaceEncoderOfTypeEncodingMapsValtypeEncoder.import_type.Goals as goal
 use Rattle.wit_encode.proofs.interface.InterfaceEncoderOfTypeEncodingMapsValtypeEncoder.import_type.Goals.{After-alias_inside}
 
@@ -30,3 +31,6 @@ returns-clause-scope_stays c = (imports c).scope_stays
 
 pub returns-clause-counts : goal.returns-clause-counts
 returns-clause-counts c = (imports c).counted
+
+pub returns-clause-size : goal.returns-clause-size
+returns-clause-size c = λ h. for_import c.args.id.0 c.in-Some-slot_around.slot (c.alias_inside.ensures.size h)
