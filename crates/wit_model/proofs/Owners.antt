@@ -7,7 +7,6 @@ use Rattle.std.proofs.lemmas.Option.{slice_get_past}
 use Rattle.std.proofs.lemmas.List.Folds.{list_all-append}
 use Rattle.std.proofs.lemmas.Bool.Decides.{nat_tests}
 use Rattle.indexmap.specs.IndexMap.{values}
-use Rattle.wit_model.specs.declared.check.owners.Met.{Met}
 use Rattle.wit_model.specs.declared.model.Resolve.{Resolve}
 use Rattle.wit_model.specs.declared.model.Interface.{Interface}
 use Rattle.wit_model.specs.declared.model.TypeDef.{TypeDef}
@@ -21,7 +20,6 @@ use Rattle.wit_model.specs.Text.{optional_text}
 use Rattle.wit_model.specs.Rules.{passes, function_stays, type_stays, is_use, is_member, is_member_of, is_resource_itself, resource_name}
 use Rattle.wit_model.specs.Valid.{Keeps}
 use Rattle.wit_model.specs.Checks.{references, values_of, all_values}
-use Rattle.wit_model.specs.Owners.{stays, met_entry, IsMetTable}
 use Rattle.wit_model.proofs.Lists.{first_true, second_true, list_all_filter_map}
 use Rattle.wit_model.proofs.Tables.{grow_at, grow_keeps}
 use Rattle.wit_model.proofs.Checks.{below_at}
@@ -99,22 +97,6 @@ module _ (r : Resolve) (below : Keeps references r) (n : ℕ) (def : TypeDef) (i
 pub all_same_below : (p q : ℕ → Bool) (n : ℕ) (ns : List ℕ) → ((m : ℕ) → m < n → p m ≡ q m) → list_all (λ m. nat_lt m n) ns ≡ true → list_all p ns ≡ list_all q ns
 all_same_below p q n [] same h = refl
 all_same_below p q n (m ∷ ns) same h = λ i. same m (ltb→lt m n (subst T (sym (first_true _ _ h)) tt)) i && all_same_below p q n ns same (second_true _ _ h) i
-
--- ---- the tests, by a table
-
-module _ (r : Resolve) (table : List Met) (right : IsMetTable r table) where
-  -- what numbers meet
-  pub numbers_stay : (o : TypeOwner) (ns : List ℕ) → list_all (λ n. stays (met_entry table n) o) ns ≡ list_all (has_owner r o) (flat_map (met_by (met_of r)) ns)
-  numbers_stay o ns = ap (λ p. list_all p ns) (λ i n. right n o i) ∙ sym (all_flat (has_owner r o) (met_by (met_of r)) ns)
-
-  function_stay : (o : TypeOwner) (f : Function) → list_all (λ n. stays (met_entry table n) o) (values_of f) ≡ function_stays r o f
-  function_stay o f = numbers_stay o (values_of f)
-
-  pub functions_stay : (o : TypeOwner) (fs : List Function) → list_all (λ n. stays (met_entry table n) o) (all_values fs) ≡ list_all (function_stays r o) fs
-  functions_stay o [] = refl
-  functions_stay o (f ∷ fs) =
-      let p : ℕ → Bool = λ n. stays (met_entry table n) o in
-      list_all-append p (values_of f) (all_values fs) ∙ (λ i. function_stay o f i && functions_stay o fs i)
 
 -- ---- a function's own resource
 

@@ -7,7 +7,7 @@ ghost use Rattle.wit_model.specs.DirectDeps.{number_of_interface, yet_unlisted};
 ghost use Rattle.wit_model.specs.ItemOrders.{holds};
 ghost use Rattle.wit_model.specs.Uses.{direct_deps as direct_deps_lem, interfaces_used_by};
 
-use crate::check::{interface_at, interface_used_by};
+use crate::lookup::{interface_at, interface_used_by};
 use crate::{Error, Interface, InterfaceId, Resolve};
 use std::alloc::{AllocError, Global};
 use std::collections::HashSet;

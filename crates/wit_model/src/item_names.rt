@@ -3,7 +3,7 @@
 ghost use Rattle.std.specs.Prelude.{◌≡◌};
 ghost use Rattle.wit_model.specs.Calls.{after_dot as after_dot_lem, gives_own as gives_own_lem, is_constructor_shorthand as is_constructor_shorthand_lem, item_name as item_name_lem};
 
-use crate::check::is_own_of;
+use crate::lookup::is_own_of;
 use crate::{Function, FunctionKind, Resolve};
 
 // What follows the first dot of a name.

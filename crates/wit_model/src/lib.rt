@@ -1,12 +1,12 @@
 //! The data of WIT packages: packages, interfaces, worlds and types that are named by number, their names, and validity.
 #![tactic(auto)]
 
-mod check;
 mod direct_deps;
 mod error;
 mod function_kind;
 mod item_names;
 pub mod laws;
+pub mod lookup;
 mod model;
 mod names;
 mod paths;
@@ -20,5 +20,5 @@ pub use model::{
     StringEncoding, Tuple, Type, TypeDef, TypeDefKind, TypeId, TypeOwner, Variant, World, WorldId,
     WorldItem, WorldKey,
 };
-pub use names::{is_label, is_version};
+pub use names::{after_prefix, is_label, is_version};
 pub use plain::is_plain;

@@ -9,7 +9,7 @@ ghost use Rattle.wit_model.specs.Names.{canonical_version as canonical_version_l
 ghost use Rattle.wit_model.specs.Paths.{full_name as full_name_lem, suffix_after};
 ghost use Rattle.wit_model.specs.Text.{optional_text, text_of};
 
-use crate::check::after_prefix;
+use crate::names::after_prefix;
 use crate::{Error, InterfaceId, PackageId, PackageName, Resolve, WorldKey};
 use semver::Version;
 use std::alloc::Global;

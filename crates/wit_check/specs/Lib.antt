@@ -1,0 +1,4 @@
+pub mod Owners
+pub mod Members
+pub mod PackageNames
+pub mod Places

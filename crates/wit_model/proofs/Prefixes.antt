@@ -1,0 +1,45 @@
+-- What stands after a prefix.
+use Rattle.std.proofs.Common.{◌≡◌, refl, sym, ap, ◌∙◌, ℕ, Bool, true, false, ◌&&◌, ◌==◌, List, [], ◌∷◌, ◌++◌, drop, cond, Option, Some, None, option_map, option_and_then, MatchOption, slice_get, arith}
+use Rattle.std.specs.Option.{option_copied, option_map_or}
+use Rattle.std.specs.Str.Pattern.{FindsTextPrefix, StripsPrefix}
+use Rattle.std.specs.Borrow.{Bor}
+use Rattle.std.proofs.lemmas.Option.{same_Some}
+use Rattle.wit_model.specs.declared.error.EntryList.TheVariants as lists
+use Rattle.wit_model.specs.declared.model.Resolve.{Resolve}
+use Rattle.wit_model.specs.declared.model.Interface.{Interface}
+use Rattle.wit_model.specs.Text.{Text, text_eq}
+use Rattle.wit_model.specs.Rules.{after_prefix, each_from}
+use Rattle.wit_model.specs.Valid.{Rule, IsFound}
+
+same_byte : (p b : ℕ) → (p == b) ≡ true → p ≡ b
+same_byte p b e = grind (arith, e)
+
+byte_same : (p : ℕ) → (p == p) ≡ true
+byte_same p = grind arith
+
+-- the prefix stands before what follows it
+after_sound : (ps bs rest : Text) → after_prefix ps bs ≡ Some rest → bs ≡ ps ++ rest
+after_sound [] bs rest h = same_Some bs rest h
+after_sound (p ∷ ps) [] rest h = let wrong : ⊥ = cc in absurd wrong
+after_sound (p ∷ ps) (b ∷ bs) rest h = go (after_sound ps bs rest) (p == b) refl h
+  where
+    go : (after_prefix ps bs ≡ Some rest → bs ≡ ps ++ rest) → (v : Bool) → (p == b) ≡ v → cond v (after_prefix ps bs) None ≡ Some rest → b ∷ bs ≡ (p ∷ ps) ++ rest
+    go again true e k = let head : p ≡ b = same_byte p b e in let tail : bs ≡ ps ++ rest = again k in cc
+    go again false e k = let wrong : ⊥ = cc in absurd wrong
+
+after_complete : (ps rest : Text) → after_prefix ps (ps ++ rest) ≡ Some rest
+after_complete [] rest = refl
+after_complete (p ∷ ps) rest = ap (λ v. cond v (after_prefix ps (ps ++ rest)) None) (byte_same p) ∙ after_complete ps rest
+
+-- what `strip_prefix` gives
+pub stripped : (ps bs : Text) (r : Option (Bor Text)) → MatchOption r (FindsTextPrefix ps bs None) (λ x. StripsPrefix (FindsTextPrefix ps) bs x.now) → option_copied r ≡ after_prefix ps bs
+stripped ps bs None h = none_after (after_prefix ps bs) refl
+  where
+    none_after : (o : Option Text) → after_prefix ps bs ≡ o → None ≡ o
+    none_after None e = refl
+    none_after (Some rest) e = absurd (h rest (after_sound ps bs rest e))
+stripped ps bs (Some x) h =
+    let rest : x.now ≡ drop h.0 bs = h.2 in
+    let whole : bs ≡ ps ++ drop h.0 bs = h.1.1 in
+    let again : bs ≡ ps ++ x.now = whole ∙ ap (λ t. ps ++ t) (sym rest) in
+    sym (ap (after_prefix ps) again ∙ after_complete ps x.now)
