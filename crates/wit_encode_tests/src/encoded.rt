@@ -21,6 +21,7 @@ use wit_encode::{
     encode_tuple, encode_unit_future, encode_unit_stream, encode_valtype, encode_variant,
     maybe_import_type,
 };
+use wit_check::Check;
 use wit_model::{
     Error, Fault, Function, InterfaceId, Param, Resolve, Type, TypeDef, TypeDefKind, TypeId,
     TypeOwner,

@@ -5,6 +5,7 @@ use crate::recording::{Call, Counting, Recording};
 use std::alloc::Global;
 use std::process::Abort;
 use std::test::Fail;
+use wit_check::Check;
 use wit_model::{PackageId, Resolve, is_plain};
 use wit_print::{Output, OutputToString, WitPrinter};
 

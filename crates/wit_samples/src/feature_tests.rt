@@ -6,6 +6,7 @@ use crate::drafts::{
 };
 use std::alloc::{AllocError, Global};
 use std::process::Abort;
+use wit_check::Check;
 use wit_model::{
     EntryList, Fault, FunctionKind, InterfaceId, Resolve, Stability, Type, TypeDef, TypeDefKind,
     TypeOwner, WorldId, WorldItem,

@@ -6,6 +6,7 @@ use crate::steps::Expected::{Broken, Valid};
 use crate::steps::{Case, Expected, Step, assert_answers};
 use semver::Version;
 use std::alloc::Global;
+use wit_check::Check;
 use wit_model::{EntryList, Fault};
 
 #[test]

@@ -6,6 +6,7 @@ use crate::steps::{
     Case, Expected, FUNCTION, Item, Key, Kind, Signature, Step, assert_answer, assert_answers,
 };
 use std::alloc::Global;
+use wit_check::Check;
 use wit_model::{EntryList, Fault, FunctionKind, PackageId, Type, TypeId, TypeOwner};
 
 fn nothing(alloc: Global) -> Result<(), Fault> {

@@ -5,6 +5,7 @@ use crate::drafts::{
 };
 use std::alloc::{AllocError, Global};
 use std::test::Fail;
+use wit_check::Check;
 use wit_model::{EntryList, Fault, FunctionKind, PackageId, Resolve, WorldId, WorldItem, is_plain};
 
 // A package of one world, which imports one function and exports another.

@@ -5,6 +5,7 @@ use crate::samples::{
     each_kind, functions_in_plenty, host_and_guest, records_in_plenty, with_options,
 };
 use std::alloc::{AllocError, Global};
+use wit_check::Check;
 use wit_model::{EntryList, Fault, Resolve};
 
 // A sample, with what it has so many of.

@@ -11,6 +11,7 @@ use crate::kinds::{
 use crate::samples::{add_lists, add_options};
 use std::alloc::{AllocError, Global};
 use std::process::Abort;
+use wit_check::Check;
 use wit_model::{
     EntryList, Fault, Function, FunctionKind, InterfaceId, PackageId, Resolve, Type, TypeDefKind,
     TypeId, TypeOwner, WorldId, WorldItem, WorldKey,

@@ -3,6 +3,7 @@
 use crate::encode::encode;
 use std::alloc::Global;
 use std::test::Fail;
+use wit_check::Check;
 use wit_model::*;
 use wit_print::{OutputToString, WitPrinter};
 

@@ -9,6 +9,7 @@ use crate::encode::encode;
 use crate::hex::hex_lines;
 use std::alloc::{AllocError, Global};
 use std::io::{Read, Write};
+use wit_check::Check;
 use wit_model::{Error, Fault, is_plain};
 use wit_print::{OutputToString, WitPrinter};
 
