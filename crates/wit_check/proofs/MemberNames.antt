@@ -1,9 +1,6 @@
 -- What stands after a prefix, and the names of functions of resources.
-use Rattle.std.proofs.Common.{◌≡◌, refl, sym, ap, ◌∙◌, ℕ, Bool, true, false, ◌&&◌, ◌==◌, List, [], ◌∷◌, ◌++◌, drop, cond, Option, Some, None, option_map, option_and_then, MatchOption, slice_get, arith}
-use Rattle.std.specs.Option.{option_copied, option_map_or}
-use Rattle.std.specs.Str.Pattern.{FindsTextPrefix, StripsPrefix}
-use Rattle.std.specs.Borrow.{Bor}
-use Rattle.std.proofs.lemmas.Option.{same_Some}
+use Rattle.std.proofs.Common.{◌≡◌, refl, sym, ap, ◌∙◌, ℕ, Bool, true, false, ◌&&◌, ◌==◌, List, [], ◌∷◌, ◌++◌, cond, Option, Some, None, option_map, option_and_then, MatchOption, slice_get, arith}
+use Rattle.std.specs.Option.{option_map_or}
 use Rattle.wit_model.specs.declared.error.EntryList.TheVariants as lists
 use Rattle.wit_model.specs.declared.model.Resolve.{Resolve}
 use Rattle.wit_model.specs.declared.model.Interface.{Interface}

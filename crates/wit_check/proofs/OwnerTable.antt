@@ -1,31 +1,16 @@
 -- The tests of the rule on owners, by a table of what is met.
-use Rattle.std.proofs.Common.{◌≡◌, refl, sym, ap, subst, ◌∙◌, ℕ, zero, suc, ◌+◌, ◌<◌, ◌≤◌, Bool, true, false, ◌&&◌, ◌||◌, not, cond, ◌==◌, nat_lt, nat_le, T, ltb→lt, eqb→eq, List, [], ◌∷◌, ◌++◌, length, take, filter, flat_map, option_to_list, option_and_then, if◌then◌else◌, Some, None, Option, unwrap_or, slice_get, is_some, arith, String}
-use Rattle.std.specs.declared.alloc.Global.{Global}
+use Rattle.std.proofs.Common.{◌≡◌, refl, sym, ap, ◌∙◌, ℕ, Bool, ◌&&◌, List, [], ◌∷◌, flat_map}
 use Rattle.std.specs.List.{list_all}
-use Rattle.std.specs.Option.{option_map_or}
-use Rattle.std.proofs.lemmas.Option.{slice_get_past}
 use Rattle.std.proofs.lemmas.List.Folds.{list_all-append}
-use Rattle.std.proofs.lemmas.Bool.Decides.{nat_tests}
-use Rattle.indexmap.specs.IndexMap.{values}
 use Rattle.wit_check.specs.declared.owners.Met.{Met}
 use Rattle.wit_model.specs.declared.model.Resolve.{Resolve}
-use Rattle.wit_model.specs.declared.model.Interface.{Interface}
-use Rattle.wit_model.specs.declared.model.TypeDef.{TypeDef}
 use Rattle.wit_model.specs.declared.model.TypeOwner.{TypeOwner}
 use Rattle.wit_model.specs.declared.model.Function.{Function}
-use Rattle.wit_model.specs.Lookup.{type_at, interface_at, resource_of}
-use Rattle.wit_model.specs.Parts.{kind_numbers, met_by, met_at, met_of, numbered_from, used_by_type, used_by_values, used_by_function, same_owner, has_owner}
-use Rattle.wit_model.specs.Uses.{once, interface_used_by, interfaces_used_by, direct_deps}
-use Rattle.wit_model.specs.declared.model.TypeOwner.TheVariants as owner
-use Rattle.wit_model.specs.Text.{optional_text}
-use Rattle.wit_model.specs.Rules.{passes, function_stays, type_stays, is_use, is_member, is_member_of, is_resource_itself, resource_name}
-use Rattle.wit_model.specs.Valid.{Keeps}
-use Rattle.wit_model.specs.Checks.{references, values_of, all_values}
+use Rattle.wit_model.specs.Parts.{met_by, met_of, has_owner}
+use Rattle.wit_model.specs.Rules.{function_stays}
+use Rattle.wit_model.specs.Checks.{values_of, all_values}
 use Rattle.wit_check.specs.Owners.{stays, met_entry, IsMetTable}
-use Rattle.wit_model.proofs.Lists.{first_true, second_true, list_all_filter_map}
-use Rattle.wit_model.proofs.Tables.{grow_at, grow_keeps}
-use Rattle.wit_model.proofs.Checks.{below_at}
-use Rattle.wit_model.proofs.Functions.{all_flat, flat_append}
+use Rattle.wit_model.proofs.Functions.{all_flat}
 
 module _ (r : Resolve) (table : List Met) (right : IsMetTable r table) where
   -- what numbers meet

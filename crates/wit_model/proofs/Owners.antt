@@ -19,7 +19,7 @@ use Rattle.wit_model.specs.declared.model.TypeOwner.TheVariants as owner
 use Rattle.wit_model.specs.Text.{optional_text}
 use Rattle.wit_model.specs.Rules.{passes, function_stays, type_stays, is_use, is_member, is_member_of, is_resource_itself, resource_name}
 use Rattle.wit_model.specs.Valid.{Keeps}
-use Rattle.wit_model.specs.Checks.{references, values_of, all_values}
+use Rattle.wit_model.specs.Checks.{references, values_of}
 use Rattle.wit_model.proofs.Lists.{first_true, second_true, list_all_filter_map}
 use Rattle.wit_model.proofs.Tables.{grow_at, grow_keeps}
 use Rattle.wit_model.proofs.Checks.{below_at}

@@ -1,15 +1,11 @@
 -- What stands after a prefix.
-use Rattle.std.proofs.Common.{◌≡◌, refl, sym, ap, ◌∙◌, ℕ, Bool, true, false, ◌&&◌, ◌==◌, List, [], ◌∷◌, ◌++◌, drop, cond, Option, Some, None, option_map, option_and_then, MatchOption, slice_get, arith}
-use Rattle.std.specs.Option.{option_copied, option_map_or}
+use Rattle.std.proofs.Common.{◌≡◌, refl, sym, ap, ◌∙◌, ℕ, Bool, true, false, ◌==◌, [], ◌∷◌, ◌++◌, drop, cond, Option, Some, None, MatchOption, arith}
+use Rattle.std.specs.Option.{option_copied}
 use Rattle.std.specs.Str.Pattern.{FindsTextPrefix, StripsPrefix}
 use Rattle.std.specs.Borrow.{Bor}
 use Rattle.std.proofs.lemmas.Option.{same_Some}
-use Rattle.wit_model.specs.declared.error.EntryList.TheVariants as lists
-use Rattle.wit_model.specs.declared.model.Resolve.{Resolve}
-use Rattle.wit_model.specs.declared.model.Interface.{Interface}
-use Rattle.wit_model.specs.Text.{Text, text_eq}
-use Rattle.wit_model.specs.Rules.{after_prefix, each_from}
-use Rattle.wit_model.specs.Valid.{Rule, IsFound}
+use Rattle.wit_model.specs.Text.{Text}
+use Rattle.wit_model.specs.Rules.{after_prefix}
 
 same_byte : (p b : ℕ) → (p == b) ≡ true → p ≡ b
 same_byte p b e = grind (arith, e)
