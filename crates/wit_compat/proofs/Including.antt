@@ -43,19 +43,19 @@ shown_all : (r : Resolve) (es : List Entry) → all_shown r (map named_thing es)
 shown_all r [] = refl
 shown_all r (e ∷ es) = ap (λ xs. shown_entry r e ∷ xs) (shown_all r es)
 
-contains_map : {X Y : Type 0} (f : X → Y) (xs : List X) (y : Y) → Contains (map f xs) y → (x : X) × Contains xs x × (f x ≡ y)
+pub contains_one : {X : Type 0} (x y : X) → Contains (x ∷ []) y → x ≡ y
+contains_one x y c = by (Contains-push_cases [] x y c)
+  where
+    by : Contains [] y ⊎ (x ≡ y) → x ≡ y
+    by (inl e) = absurd (let z = e.1 in omega (arith, z))
+    by (inr e) = e
+
+pub contains_map : {X Y : Type 0} (f : X → Y) (xs : List X) (y : Y) → Contains (map f xs) y → (x : X) × Contains xs x × (f x ≡ y)
 contains_map f [] y c = absurd (let z = c.1 in omega (arith, z))
 contains_map {X = X} f (x ∷ xs) y c = by (Contains-append_cases (f x ∷ []) (map f xs) y c) (contains_map f xs y)
   where
     by : Contains (f x ∷ []) y ⊎ Contains (map f xs) y → (Contains (map f xs) y → (z : X) × Contains xs z × (f z ≡ y)) → (z : X) × Contains (x ∷ xs) z × (f z ≡ y)
-    by (inl h) later = (x, Contains-append_left (x ∷ []) xs x (Contains-push [] x), one h)
-      where
-        one : Contains (f x ∷ []) y → f x ≡ y
-        one h = last (Contains-push_cases [] (f x) y h)
-          where
-            last : Contains [] y ⊎ (f x ≡ y) → f x ≡ y
-            last (inl e) = absurd (let z = e.1 in omega (arith, z))
-            last (inr e) = e
+    by (inl h) later = (x, Contains-append_left (x ∷ []) xs x (Contains-push [] x), contains_one (f x) y h)
     by (inr h) later = let w = later h in (w.0, Contains-append_right (x ∷ []) xs w.0 w.1, w.2)
 
 -- each entry stands in the large list, and the pairs of the two stand in the table
@@ -91,11 +91,7 @@ module _ (r : Resolve) (back : Bool) (large : List (Name × Thing)) where
   entry_among (x ∷ xs) e c = by (Contains-append_cases (x ∷ []) xs e c) (entry_among xs e)
     where
       by : Contains (x ∷ []) e ⊎ Contains xs e → (Contains xs e → AreAmong (pairs_of_entry r back large (named_thing e)) (pairs_shared r back (map named_thing xs) large)) → AreAmong (pairs_of_entry r back large (named_thing e)) (pairs_of_entry r back large (named_thing x) ++ pairs_shared r back (map named_thing xs) large)
-      by (inl d) later p q = Contains-append_left _ _ p (subst (λ y. Contains (pairs_of_entry r back large (named_thing y)) p) (sym (last (Contains-push_cases [] x e d))) q)
-        where
-          last : Contains [] e ⊎ (x ≡ e) → x ≡ e
-          last (inl f) = absurd (let z = f.1 in omega (arith, z))
-          last (inr f) = f
+      by (inl d) later p q = Contains-append_left _ _ p (subst (λ y. Contains (pairs_of_entry r back large (named_thing y)) p) (sym (contains_one x e d)) q)
       by (inr d) later p q = Contains-append_right (pairs_of_entry r back large (named_thing x)) _ p (later d p q)
 
   -- what is reached from what has been reached, and one entry's pairs

@@ -11,4 +11,6 @@ pub mod Indexing
 pub mod Naming
 pub mod Repeating
 pub mod Including
+pub mod Validity
+pub mod Matching
 mod Examples

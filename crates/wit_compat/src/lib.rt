@@ -13,6 +13,7 @@ mod names;
 mod pairs;
 mod part;
 mod repeats;
+mod sides;
 mod steps;
 mod things;
 mod types;
