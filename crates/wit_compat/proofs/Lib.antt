@@ -13,4 +13,6 @@ pub mod Repeating
 pub mod Including
 pub mod Validity
 pub mod Matching
+pub mod Counting
+pub mod Refusing
 mod Examples

@@ -1,5 +1,5 @@
 -- Lists in which the same is found have the same included, the same faults and the same pairs.
-use Rattle.std.proofs.Common.{arith, ◌≡◌, refl, sym, ap, subst, ◌∙◌, ℕ, zero, suc, ◌≤◌, Bool, true, false, ◌&&◌, ◌⊎◌, inl, inr, List, [], ◌∷◌, ◌++◌, map, flat_map, take, length, Option, Some, None, option_map, nat_eq, Result, Ok, Err, OnOk, IfErr}
+use Rattle.std.proofs.Common.{arith, ◌≡◌, refl, sym, ap, subst, ◌∙◌, ℕ, zero, suc, ◌≤◌, Bool, true, false, ◌&&◌, ◌⊎◌, inl, inr, List, [], ◌∷◌, ◌++◌, map, flat_map, take, length, Option, Some, None, option_map, nat_eq, Result, Ok, Err, OnOk, IfErr, MatchResult}
 use Rattle.std.specs.List.{Contains, IsDistinct, AllByRecursion}
 use Rattle.std.specs.Option.{option_map_or}
 use Rattle.std.proofs.lemmas.List.Elements.{Contains-append_cases}
@@ -55,3 +55,8 @@ module _ (r : Resolve) (xs ys : List (Name × Thing)) (h : AreAlike xs ys) where
 -- the things of entries are in range
 pub entries_in_range_by : (r : Resolve) (es : List Entry) (xs : List (Name × Thing)) → map named_thing es ≡ xs → ((x : Name × Thing) → Contains xs x → ThingInRange r x.1) → EntriesInRange r es
 entries_in_range_by r es xs is k e c = k (named_thing e) (subst (λ ys. Contains ys (named_thing e)) is (contains_mapped named_thing es e c))
+
+-- a result by its two cases
+pub by_result : {X E : Type 0} (P : Type 0) (Q : E → Type 0) (x : Result X E) → OnOk x P → IfErr x Q → MatchResult x (λ u. P) Q
+by_result P Q (Ok v) p q = p
+by_result P Q (Err e) p q = q

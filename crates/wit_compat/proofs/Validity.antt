@@ -1,5 +1,5 @@
 -- What a valid `Resolve` gives for comparing.
-use Rattle.std.proofs.Common.{arith, ◌≡◌, refl, sym, ap, subst, ◌∙◌, ℕ, ◌+◌, ◌<◌, Bool, true, false, ◌&&◌, nat_lt, ltb→lt, T, ◌⊎◌, inl, inr, List, [], ◌∷◌, ◌++◌, map, flat_map, filter_map, length, Option, Some, None, option_to_list, unwrap_or, String}
+use Rattle.std.proofs.Common.{arith, slice_get, get_or, ◌≤◌, ◌≡◌, refl, sym, ap, subst, ◌∙◌, ℕ, ◌+◌, ◌<◌, Bool, true, false, ◌&&◌, nat_lt, ltb→lt, T, ◌⊎◌, inl, inr, List, [], ◌∷◌, ◌++◌, map, flat_map, filter_map, length, Option, Some, None, option_to_list, unwrap_or, String}
 use Rattle.std.specs.declared.alloc.Global.{Global}
 use Rattle.std.specs.List.{Contains, list_all}
 use Rattle.std.specs.Option.{option_map_or}
@@ -28,6 +28,8 @@ use Rattle.wit_model.proofs.Entries.{each_from_at, lists_pass}
 use Rattle.wit_model.proofs.Lists.{first_true, second_true, list_all_filter_map}
 use Rattle.wit_model.proofs.TreeTable.{kept_numbers}
 use Rattle.std.proofs.lemmas.List.Folds.{list_all-append}
+use Rattle.std.proofs.lemmas.Option.{slice_get_cases}
+use Rattle.wit_compat.specs.Compatible.{HasItemsInRange}
 use Rattle.wit_compat.specs.Flat.{Name, Thing, interface, entry_things, function_member, item_things, members, things_of, type_member}
 use Rattle.wit_compat.specs.Opened.{bare_key}
 use Rattle.wit_compat.specs.Parts.{ThingInRange}
@@ -56,6 +58,16 @@ is_below : (m n : ℕ) → nat_lt m n ≡ true → m < n
 is_below m n h = ltb→lt m n (subst T (sym h) tt)
 
 -- ---- ranges
+
+false_true : false ≡ true → ⊥
+false_true e = cc
+
+not_past : {X : Type 0} (xs : List X) (n : ℕ) → ((x : X) → slice_get xs n ≡ Some x → ⊥) → length xs ≤ n
+not_past {X = X} xs n h = by (slice_get_cases xs n).1
+  where
+    by : ((x : X) × (n < length xs) × (slice_get xs n ≡ Some x) × (get_or xs n x ≡ x)) ⊎ ((length xs ≤ n) × (slice_get xs n ≡ None)) → length xs ≤ n
+    by (inr (le, none)) = le
+    by (inl (x, lt, at, is)) = absurd (h x at)
 
 module _ (r : Resolve) where
   types_in_range : (ts : List ValueType) → list_all (in_list r.types.items) (filter_map number_of ts) ≡ true → AllInRange r ts
@@ -139,3 +151,16 @@ module _ (r : Resolve) where
         by : Contains (entry_things r e) x ⊎ Contains (things_of r es) x → item_in_range r e.1 ≡ true → (Contains (things_of r es) x → ThingInRange r x.1) → ThingInRange r x.1
         by (inl d) own later = item_things_in_range (bare_key r e.0) e.1 own x d
         by (inr d) own later = later d
+
+    pub world_items : (n : ℕ) (w : World) → world_at r n ≡ Some w → HasItemsInRange r w
+    world_items n w at = record { imports = (world_numbers n w at).0; exports = (world_numbers n w at).1 }
+
+    -- the numbers of types fit in 32 bits
+    pub types_fit : length r.types.items < 4294967296
+    unfolding numbers_in_range
+    types_fit =
+        let le = not_past r.types.items 4294967295 (λ x at.
+            let passed = each_from_at (numbers_in_range.type_ r) 0 r.types.items 4294967295 x (lists_pass numbers_in_range r v.rules.numbers_in_range).3 at in
+            let e : is_place 4294967295 ≡ true = first_true (is_place 4294967295) (list_all (in_list r.types.items) (kind_numbers x.kind) && owner_in_range r x.owner) passed in
+            false_true e)
+        in omega (arith, le)

@@ -1,5 +1,5 @@
 -- When a world may take the place of another, and why not (documentation of `semver_check`).
-use Rattle.std.specs.Prelude.{◌≡◌, ◌⊎◌, if◌then◌else◌, List, [], ◌∷◌, ◌++◌, map, Option, Some, None, option_map}
+use Rattle.std.specs.Prelude.{◌≡◌, ◌⊎◌, true, if◌then◌else◌, List, [], ◌∷◌, ◌++◌, map, Option, Some, None, option_map}
 use Rattle.std.specs.List.{list_any, Contains}
 use Rattle.std.specs.Option.{option_or}
 use Rattle.wit_model.specs.declared.model.Resolve.{Resolve}
@@ -10,6 +10,7 @@ use Rattle.wit_model.specs.declared.error.Error.{Error}
 use Rattle.wit_model.specs.declared.error.Error.TheVariants as error
 use Rattle.wit_model.specs.Text.{Text, text_of, text_eq}
 use Rattle.wit_model.specs.Names.{PackageIdentity}
+use Rattle.wit_model.specs.Rules.{entries_in_range}
 use Rattle.wit_model.specs.Meant.{package_of_world}
 use Rattle.wit_compat.specs.Opened.{bare_identity, bare_key}
 use Rattle.wit_compat.specs.Flat.{Name, Shown, find_named, flat_imports, flat_exports}
@@ -111,6 +112,21 @@ IsEntryFault large x e = (e ≡ error.Memory) ⊎ ((f : Refusal) × (refusal_of 
 -- want of memory, or the first fault of an inclusion
 abbrev pub IsFaultOf : List (Name × Shown) → List (Name × Shown) → Error → Type 0
 IsFaultOf small large e = (e ≡ error.Memory) ⊎ ((f : Refusal) × (refusal_of e ≡ Some f) × IsFirstFault small large f)
+
+-- want of memory, or the first key that is twice without version
+abbrev pub IsRepeated : Resolve → World → World → Error → Type 0
+IsRepeated r prev new e = (e ≡ error.Memory) ⊎ ((name : Text) × (refusal_of e ≡ Some (twice_without_version name)) × (twice r prev new ≡ Some name))
+
+-- the numbers in a world's items are in range
+pub record HasItemsInRange (r : Resolve) (w : World) : Type 0 where
+  pub imports : entries_in_range r w.imports.entries ≡ true
+  pub exports : entries_in_range r w.exports.entries ≡ true
+
+-- want of memory, or the first fault: of the imports, or of the exports where the imports have none
+abbrev pub IsMismatch : Resolve → World → World → Error → Type 0
+IsMismatch r prev new e =
+    IsFaultOf (flat_imports r prev) (flat_imports r new) e
+    ⊎ (IsIncluded (flat_imports r prev) (flat_imports r new) × IsFaultOf (flat_exports r new) (flat_exports r prev) e)
 
 -- what an error says: want of memory, or the first fault
 pub data IsRefused (r : Resolve) (prev new : World) : Error → Type 0 where

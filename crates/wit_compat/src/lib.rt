@@ -1,4 +1,4 @@
-//! Compares worlds and interfaces.
+//! Whether a world may take the place of another.
 #![tactic(auto)]
 
 mod compare;
@@ -17,5 +17,7 @@ mod sides;
 mod steps;
 mod things;
 mod types;
+mod worlds;
 
 pub use steps::Steps;
+pub use worlds::semver_check;
