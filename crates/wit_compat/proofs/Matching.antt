@@ -1,15 +1,14 @@
 -- Lists in which the same is found have the same included, the same faults and the same pairs.
-use Rattle.std.proofs.Common.{arith, ◌≡◌, refl, sym, ap, subst, ◌∙◌, ℕ, zero, suc, ◌≤◌, Bool, true, false, ◌&&◌, ◌⊎◌, inl, inr, List, [], ◌∷◌, ◌++◌, map, flat_map, take, length, Option, Some, None, option_map, nat_eq, Result, Ok, Err, OnOk, IfErr, MatchResult}
-use Rattle.std.specs.List.{Contains, IsDistinct, AllByRecursion}
+use Rattle.std.proofs.Common.{◌≡◌, refl, sym, ap, subst, ◌∙◌, Bool, inl, inr, List, [], ◌∷◌, ◌++◌, map, option_map, Result, Ok, Err, OnOk, IfErr, MatchResult}
+use Rattle.std.specs.List.{Contains}
 use Rattle.std.specs.Option.{option_map_or}
-use Rattle.std.proofs.lemmas.List.Elements.{Contains-append_cases}
 use Rattle.wit_model.specs.declared.model.Resolve.{Resolve}
 use Rattle.wit_model.specs.declared.error.Error.{Error}
 use Rattle.wit_compat.specs.declared.part.Entry.{Entry}
-use Rattle.wit_compat.specs.Compatible.{Refusal, IsFault, IsFaultOf, IsFirstFault, IsIncluded}
+use Rattle.wit_compat.specs.Compatible.{IsFault, IsFaultOf, IsIncluded}
 use Rattle.wit_compat.specs.Flat.{Name, Thing, Shown, all_shown, find_named, shown}
-use Rattle.wit_compat.specs.Parts.{named_thing, thing_of, EntriesInRange, FoundInRange, ThingInRange}
-use Rattle.wit_compat.specs.Walk.{Pair, pairs_between, pairs_of_entry, pairs_shared}
+use Rattle.wit_compat.specs.Parts.{named_thing, EntriesInRange, FoundInRange, ThingInRange}
+use Rattle.wit_compat.specs.Walk.{pairs_between, pairs_shared}
 use Rattle.wit_compat.proofs.Including.{found_shown}
 use Rattle.wit_compat.proofs.Transitive.{found_stands}
 use Rattle.wit_compat.proofs.Validity.{contains_mapped}
@@ -36,14 +35,18 @@ module _ (r : Resolve) (xs ys : List (Name × Thing)) (h : AreAlike xs ys) where
 
   pub fault_alike : (small : List (Name × Shown)) (e : Error) → IsFaultOf small (all_shown r xs) e → IsFaultOf small (all_shown r ys) e
   fault_alike small e (inl m) = inl m
-  fault_alike small e (inr (f, q, w)) = inr (f, q, record {
-    front = w.front;
-    entry = w.entry;
-    rest = w.rest;
-    split = w.split;
-    before = included_alike w.front w.before;
-    wrong = subst (λ o. IsFault w.entry.0 w.entry.1 o f) (shown_alike w.entry.0) w.wrong;
-  })
+  fault_alike small e (inr (f, q, w)) = inr (
+    f,
+    q,
+    record {
+      front = w.front;
+      entry = w.entry;
+      rest = w.rest;
+      split = w.split;
+      before = included_alike w.front w.before;
+      wrong = subst (λ o. IsFault w.entry.0 w.entry.1 o f) (shown_alike w.entry.0) w.wrong;
+    },
+  )
 
   pub pairs_alike : (back : Bool) (small : List (Name × Thing)) → pairs_shared r back small xs ≡ pairs_shared r back small ys
   pairs_alike back [] = refl

@@ -1,5 +1,5 @@
 -- What interfaces are called.
-use Rattle.std.proofs.Common.{◌≡◌, refl, sym, ap, ◌∙◌, ℕ, zero, suc, ◌+◌, ◌<◌, Bool, true, false, cond, List, [], ◌∷◌, ◌++◌, take, length, arith, Option, Some, None}
+use Rattle.std.proofs.Common.{◌≡◌, refl, ap, ◌∙◌, ℕ, zero, suc, ◌+◌, ◌<◌, Bool, true, false, cond, List, [], ◌∷◌, ◌++◌, take, length, arith, Option, Some}
 use Rattle.std.specs.Option.{option_or}
 use Rattle.wit_model.specs.declared.model.Resolve.{Resolve}
 use Rattle.wit_model.specs.declared.model.Interface.{Interface}

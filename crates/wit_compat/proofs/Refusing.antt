@@ -1,11 +1,11 @@
 -- What is refused isn't accepted.
-use Rattle.std.proofs.Common.{◌≡◌, refl, sym, ap, subst, ◌∙◌, ◌⊎◌, inl, inr, List, [], ◌∷◌, ◌++◌, Option, Some, None, unwrap_or}
+use Rattle.std.proofs.Common.{◌≡◌, sym, ap, subst, ◌∙◌, inl, inr, List, [], ◌∷◌, Option, Some, None, unwrap_or}
 use Rattle.std.specs.List.{Contains}
 use Rattle.std.proofs.lemmas.List.Elements.{Contains-append_left, Contains-append_right, Contains-push}
 use Rattle.wit_model.specs.declared.model.Resolve.{Resolve}
 use Rattle.wit_model.specs.declared.model.World.{World}
 use Rattle.wit_model.specs.declared.error.Error.{Error}
-use Rattle.wit_compat.specs.Compatible.{Accepts, Compatible, IsFault, is_missing, is_other, IsFaultOf, IsFirstFault, IsIncluded, IsMismatch, IsRefused, memory, refused, IsRepeated, Refusal, Refuses, package_name, packages, keys, imports, exports, twice}
+use Rattle.wit_compat.specs.Compatible.{Accepts, IsFault, is_missing, is_other, IsFirstFault, IsIncluded, IsMismatch, IsRefused, memory, refused, IsRepeated, Refusal, Refuses, package_name, packages, keys, imports, exports, twice}
 use Rattle.wit_compat.specs.Flat.{Name, Shown, find_named}
 
 no_fault : (name : Name) (s : Shown) (o : Option Shown) (f : Refusal) → IsFault name s o f → o ≡ Some s → ⊥

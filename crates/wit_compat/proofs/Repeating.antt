@@ -1,5 +1,5 @@
 -- The first text that repeats an earlier one.
-use Rattle.std.proofs.Common.{◌≡◌, refl, sym, ap, ◌∙◌, Bool, true, false, cond, not, List, [], ◌∷◌, ◌++◌, map, Bor, ℕ, Option, Some}
+use Rattle.std.proofs.Common.{◌≡◌, ap, ◌∙◌, true, false, cond, List, [], ◌∷◌, ◌++◌, map, Bor, ℕ, Some}
 use Rattle.std.specs.List.{list_any}
 use Rattle.std.proofs.lemmas.List.{map-append}
 use Rattle.wit_model.specs.Text.{Text, text_eq}

@@ -1,13 +1,11 @@
 -- What a valid `Resolve` gives for comparing.
-use Rattle.std.proofs.Common.{arith, slice_get, get_or, ◌≤◌, ◌≡◌, refl, sym, ap, subst, ◌∙◌, ℕ, ◌+◌, ◌<◌, Bool, true, false, ◌&&◌, nat_lt, ltb→lt, T, ◌⊎◌, inl, inr, List, [], ◌∷◌, ◌++◌, map, flat_map, filter_map, length, Option, Some, None, option_to_list, unwrap_or, String}
-use Rattle.std.specs.declared.alloc.Global.{Global}
+use Rattle.std.proofs.Common.{arith, slice_get, get_or, ◌≤◌, ◌≡◌, refl, sym, ap, subst, ◌∙◌, ℕ, ◌+◌, ◌<◌, Bool, true, false, ◌&&◌, nat_lt, ltb→lt, T, ◌⊎◌, inl, inr, List, [], ◌∷◌, map, filter_map, length, Option, Some, None, option_to_list, unwrap_or}
 use Rattle.std.specs.List.{Contains, list_all}
 use Rattle.std.specs.Option.{option_map_or}
-use Rattle.std.proofs.lemmas.List.Elements.{Contains-append_left, Contains-append_right, Contains-append_cases, Contains-push, Contains-push_cases}
+use Rattle.std.proofs.lemmas.List.Elements.{Contains-append_left, Contains-append_right, Contains-append_cases, Contains-push}
 use Rattle.indexmap.specs.IndexMap.{values}
 use Rattle.wit_model.specs.declared.model.Resolve.{Resolve}
 use Rattle.wit_model.specs.declared.model.Interface.{Interface}
-use Rattle.wit_model.specs.declared.model.InterfaceId.{InterfaceId}
 use Rattle.wit_model.specs.declared.model.World.{World}
 use Rattle.wit_model.specs.declared.model.WorldKey.{WorldKey}
 use Rattle.wit_model.specs.declared.model.WorldItem.{WorldItem}
@@ -15,10 +13,9 @@ use Rattle.wit_model.specs.declared.model.WorldItem.TheVariants as item
 use Rattle.wit_model.specs.declared.model.Function.{Function}
 use Rattle.wit_model.specs.declared.model.TypeDef.{TypeDef}
 use Rattle.wit_model.specs.declared.model.TypeId.{TypeId}
-use Rattle.wit_model.specs.declared.model.TypeOwner.TheVariants as owner
 use Rattle.wit_model.specs.declared.model.«Type».{«Type» as ValueType}
 use Rattle.wit_model.specs.declared.model.«Type».TheVariants as ty
-use Rattle.wit_model.specs.Text.{Text, text_of}
+use Rattle.wit_model.specs.Text.{Text}
 use Rattle.wit_model.specs.Lookup.{interface_at, type_at, world_at, resource_of}
 use Rattle.wit_model.specs.Types.{number_of}
 use Rattle.wit_model.specs.Parts.{function_types, kind_numbers}
@@ -160,7 +157,7 @@ module _ (r : Resolve) where
     unfolding numbers_in_range
     types_fit =
         let le = not_past r.types.items 4294967295 (λ x at.
-            let passed = each_from_at (numbers_in_range.type_ r) 0 r.types.items 4294967295 x (lists_pass numbers_in_range r v.rules.numbers_in_range).3 at in
-            let e : is_place 4294967295 ≡ true = first_true (is_place 4294967295) (list_all (in_list r.types.items) (kind_numbers x.kind) && owner_in_range r x.owner) passed in
-            false_true e)
+        let passed = each_from_at (numbers_in_range.type_ r) 0 r.types.items 4294967295 x (lists_pass numbers_in_range r v.rules.numbers_in_range).3 at in
+        let e : is_place 4294967295 ≡ true = first_true (is_place 4294967295) (list_all (in_list r.types.items) (kind_numbers x.kind) && owner_in_range r x.owner) passed in
+        false_true e)
         in omega (arith, le)

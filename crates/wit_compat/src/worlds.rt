@@ -98,9 +98,7 @@ fn compare_anew(
     ensures counted { IsCounted resolve.now prev.now new.now steps.new.count (is_ok result) }
 {
     let mut pairs = IndexSet::new(alloc);
-    let compared = compare_contents(
-        alloc, names, resolve, heads, prev, new, &mut pairs, steps,
-    );
+    let compared = compare_contents(alloc, names, resolve, heads, prev, new, &mut pairs, steps);
     let _len = pairs.len();
     compared
 }

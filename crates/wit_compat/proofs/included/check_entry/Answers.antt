@@ -1,4 +1,4 @@
-use Rattle.std.proofs.Common.{rules, ◌≡◌, sym, ap, ◌∙◌, Some, None, option_map}
+use Rattle.std.proofs.Common.{sym, ap, ◌∙◌, Some, option_map}
 use Rattle.wit_compat.specs.Flat.{all_shown, shown}
 use Rattle.wit_compat.specs.Index.{indexed}
 use Rattle.wit_compat.specs.Parts.{named_thing, thing_of}

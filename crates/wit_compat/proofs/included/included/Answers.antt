@@ -1,8 +1,7 @@
-use Rattle.std.proofs.Common.{rules, arith, ◌≡◌, refl, sym, ap, subst, ◌∙◌, ◌+◌, ◌<◌, ◌≤◌, ◌++◌, ◌∷◌, [], List, map, take, drop, get_or, length}
+use Rattle.std.proofs.Common.{rules, arith, ◌≡◌, sym, ap, subst, ◌∙◌, ◌+◌, ◌<◌, ◌≤◌, ◌++◌, ◌∷◌, [], map, take, drop, length}
 use Rattle.std.specs.List.{Contains}
 use Rattle.std.proofs.lemmas.List.{take_more, take_all}
 use Rattle.std.proofs.lemmas.List.Elements.{Contains-get_or}
-use Rattle.wit_compat.specs.declared.part.Entry.{Entry}
 use Rattle.wit_compat.specs.Compatible.{IsFaultOf}
 use Rattle.wit_compat.specs.Flat.{all_shown}
 use Rattle.wit_compat.specs.Index.{indexed}

@@ -1,4 +1,4 @@
-use Rattle.std.proofs.Common.{◌≡◌, ◌++◌, map, take}
+use Rattle.std.proofs.Common.{◌++◌, map, take}
 use Rattle.wit_compat.specs.Index.{indexed}
 use Rattle.wit_compat.specs.Parts.{named_thing}
 use Rattle.wit_compat.specs.Walk.{pairs_shared}

@@ -1,4 +1,4 @@
-use Rattle.std.proofs.Common.{rules, ◌≡◌, sym, ap, ◌∙◌, ◌<◌, ◌+◌, ◌++◌, ◌∷◌, Some, None, option_map, flat_map, drop, length, unwrap_or, get_or, []}
+use Rattle.std.proofs.Common.{rules, ◌≡◌, sym, ap, ◌∙◌, ◌<◌, ◌+◌, ◌∷◌, None, flat_map, drop, length, unwrap_or, get_or, []}
 use Rattle.std.specs.Option.{option_or}
 use Rattle.std.proofs.lemmas.List.{drop_more}
 use Rattle.wit_compat.specs.Opened.{entries_of_world, label_among}

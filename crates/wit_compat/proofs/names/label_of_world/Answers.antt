@@ -1,4 +1,4 @@
-use Rattle.std.proofs.Common.{◌≡◌, sym, ap, ◌∙◌, Some, option_map}
+use Rattle.std.proofs.Common.{sym, ap, ◌∙◌}
 use Rattle.std.specs.Option.{option_or}
 use Rattle.wit_compat.specs.Opened.{label_among}
 use Rattle.wit_compat.proofs.Naming.{label_in_two}

@@ -1,6 +1,6 @@
-use Rattle.std.proofs.Common.{◌≡◌, sym, ap, subst, ◌∙◌, ◌++◌, List, map}
+use Rattle.std.proofs.Common.{◌≡◌, ap, subst, ◌∙◌, ◌++◌, List, map}
 use Rattle.wit_compat.specs.Compatible.{IsFaultOf, IsIncluded}
-use Rattle.wit_compat.specs.Flat.{all_shown, flat, things_of}
+use Rattle.wit_compat.specs.Flat.{all_shown, things_of}
 use Rattle.wit_compat.specs.Index.{indexed}
 use Rattle.wit_compat.specs.Parts.{named_thing}
 use Rattle.wit_compat.specs.Walk.{Pair, pairs_shared}

@@ -1,4 +1,4 @@
-use Rattle.std.proofs.Common.{rules, ◌≡◌, sym, ap, ◌∙◌, ◌++◌, [], map, None, append-nil}
+use Rattle.std.proofs.Common.{◌≡◌, sym, ap, ◌∙◌, ◌++◌, [], map, None, append-nil}
 use Rattle.std.specs.Option.{option_map_or}
 use Rattle.wit_model.specs.Lookup.{interface_at}
 use Rattle.wit_compat.specs.Flat.{members}

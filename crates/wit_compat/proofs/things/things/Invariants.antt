@@ -1,6 +1,6 @@
-use Rattle.std.proofs.Common.{◌≡◌, ◌++◌, true, map, flat_map}
+use Rattle.std.proofs.Common.{◌≡◌, ◌++◌, true, map}
 use Rattle.wit_model.specs.Rules.{entries_in_range}
-use Rattle.wit_compat.specs.Flat.{entry_things, things_of}
+use Rattle.wit_compat.specs.Flat.{things_of}
 use Rattle.wit_compat.specs.Parts.{named_thing}
 use Rattle.wit_compat.proofs.things.things.Given as goal
 

@@ -1,7 +1,5 @@
-use Rattle.std.proofs.Common.{rules, ◌≡◌, refl, sym, ap, subst, ◌∙◌, Some, is_ok, MatchResult, unwrap_or}
+use Rattle.std.proofs.Common.{◌≡◌, refl, sym, ap, subst, ◌∙◌, is_ok, MatchResult, unwrap_or}
 use Rattle.std.proofs.lemmas.Option.{slice_get_read}
-use Rattle.wit_model.specs.declared.model.World.{World}
-use Rattle.wit_model.specs.Lookup.{world_at}
 use Rattle.wit_compat.specs.Compatible.{Accepts, IsRefused}
 use Rattle.wit_compat.specs.Walk.{IsCounted}
 use Rattle.wit_compat.proofs.Validity.{world_items}

@@ -1,7 +1,6 @@
-use Rattle.std.proofs.Common.{rules, ◌≡◌, sym, ap, subst, true, false, Ok, Err, Result, OnOk, is_ok, ◌++◌, [], List}
-use Rattle.wit_model.specs.declared.error.Error.{Error}
+use Rattle.std.proofs.Common.{rules, ◌≡◌, subst, is_ok, ◌++◌, [], List}
 use Rattle.wit_compat.specs.Walk.{Pair, pairs_of_worlds}
-use Rattle.wit_compat.specs.Table.{AreAmong, AreReached, IsSettled}
+use Rattle.wit_compat.specs.Table.{AreReached}
 use Rattle.wit_compat.proofs.Counting.{counted, ok_holds}
 use Rattle.wit_compat.proofs.Validity.{layered}
 use Rattle.wit_compat.proofs.worlds.compare_anew.Goals as goal

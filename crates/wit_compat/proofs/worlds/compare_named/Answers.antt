@@ -1,4 +1,3 @@
-use Rattle.std.proofs.Common.{◌≡◌, subst}
 use Rattle.wit_compat.specs.Compatible.{Accepts, IsRefused, memory}
 use Rattle.wit_compat.proofs.Matching.{by_result, err_then, ok_then}
 use Rattle.wit_compat.proofs.Refusing.{mismatch_refused, repeated_refused}
