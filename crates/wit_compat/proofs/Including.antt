@@ -1,0 +1,125 @@
+-- Entries that are found one by one, and the first that isn't.
+use Rattle.std.proofs.Common.{arith, ℕ, ◌≡◌, refl, sym, ap, subst, ◌∙◌, ◌+◌, ◌<◌, Bool, true, false, cond, ◌⊎◌, inl, inr, List, [], ◌∷◌, ◌++◌, map, take, drop, get_or, length, Option, Some, None, option_map}
+use Rattle.std.specs.List.{Contains}
+use Rattle.std.proofs.lemmas.List.{drop_more, map-append, take-append-drop}
+use Rattle.std.proofs.lemmas.List.Elements.{Contains-append_left, Contains-append_right, Contains-append_cases, Contains-push, Contains-push_cases}
+use Rattle.wit_model.specs.declared.model.Resolve.{Resolve}
+use Rattle.wit_model.specs.declared.error.Error.{Error}
+use Rattle.wit_compat.specs.declared.part.Entry.{Entry}
+use Rattle.wit_compat.specs.Compatible.{IsFault, is_missing, is_other, missing, differs, spelled_name, IsMemoryOr, IsEntryFault, IsFaultOf, IsIncluded}
+use Rattle.wit_compat.specs.Flat.{Name, Thing, Shown, all_shown, find_named, same_name, shown}
+use Rattle.wit_compat.specs.Parts.{named_thing, thing_of}
+use Rattle.wit_compat.specs.Walk.{Pair, pairs_of_entry, pairs_shared, Reached, root}
+use Rattle.wit_compat.specs.Table.{AreAmong, AreReached}
+use Rattle.wit_compat.proofs.Settling.{reached_through}
+
+-- ---- look-ups
+
+chosen : {X Y : Type 0} (f : X → Y) (b : Bool) (x : X) (o : Option X) → option_map f (cond b (Some x) o) ≡ cond b (Some (f x)) (option_map f o)
+chosen f true x o = refl
+chosen f false x o = refl
+
+pub found_shown : (r : Resolve) (name : Name) (xs : List (Name × Thing)) → find_named name (all_shown r xs) ≡ option_map (shown r) (find_named name xs)
+found_shown r name [] = refl
+found_shown r name (x ∷ xs) =
+    ap (cond (same_name name x.0) (Some (shown r x.1))) (found_shown r name xs) ∙ sym (chosen (shown r) (same_name name x.0) x.1 (find_named name xs))
+
+-- ---- what is wrong with an entry
+
+pub entry_missing : (large : List (Name × Shown)) (x : Name × Shown) (e : Error) → find_named x.0 large ≡ None → IsMemoryOr (missing (spelled_name x.0)) e → IsEntryFault large x e
+entry_missing large x e none (inl m) = inl m
+entry_missing large x e none (inr q) = inr (missing (spelled_name x.0), q, subst (λ o. IsFault x.0 x.1 o (missing (spelled_name x.0))) (sym none) is_missing)
+
+pub entry_differs : (large : List (Name × Shown)) (x : Name × Shown) (o : Shown) (e : Error) → find_named x.0 large ≡ Some o → (o ≡ x.1 → ⊥) → IsMemoryOr (differs (spelled_name x.0)) e → IsEntryFault large x e
+entry_differs large x o e found other (inl m) = inl m
+entry_differs large x o e found other (inr q) = inr (differs (spelled_name x.0), q, subst (λ p. IsFault x.0 x.1 p (differs (spelled_name x.0))) (sym found) (is_other o other))
+
+-- ---- a list of entries
+
+abbrev pub shown_entry : Resolve → Entry → Name × Shown
+shown_entry r e = ((named_thing e).0, shown r (thing_of e.part))
+
+shown_all : (r : Resolve) (es : List Entry) → all_shown r (map named_thing es) ≡ map (shown_entry r) es
+shown_all r [] = refl
+shown_all r (e ∷ es) = ap (λ xs. shown_entry r e ∷ xs) (shown_all r es)
+
+pub contains_one : {X : Type 0} (x y : X) → Contains (x ∷ []) y → x ≡ y
+contains_one x y c = by (Contains-push_cases [] x y c)
+  where
+    by : Contains [] y ⊎ (x ≡ y) → x ≡ y
+    by (inl e) = absurd (let z = e.1 in omega (arith, z))
+    by (inr e) = e
+
+pub contains_map : {X Y : Type 0} (f : X → Y) (xs : List X) (y : Y) → Contains (map f xs) y → (x : X) × Contains xs x × (f x ≡ y)
+contains_map f [] y c = absurd (let z = c.1 in omega (arith, z))
+contains_map {X = X} f (x ∷ xs) y c = by (Contains-append_cases (f x ∷ []) (map f xs) y c) (contains_map f xs y)
+  where
+    by : Contains (f x ∷ []) y ⊎ Contains (map f xs) y → (Contains (map f xs) y → (z : X) × Contains xs z × (f z ≡ y)) → (z : X) × Contains (x ∷ xs) z × (f z ≡ y)
+    by (inl h) later = (x, Contains-append_left (x ∷ []) xs x (Contains-push [] x), contains_one (f x) y h)
+    by (inr h) later = let w = later h in (w.0, Contains-append_right (x ∷ []) xs w.0 w.1, w.2)
+
+-- each entry stands in the large list, and the pairs of the two stand in the table
+abbrev pub Stands : Resolve → Bool → List (Name × Thing) → List Pair → Entry → Type 0
+Stands r back large keys e = (find_named (named_thing e).0 (all_shown r large) ≡ Some (shown r (thing_of e.part))) × AreAmong (pairs_of_entry r back large (named_thing e)) keys
+
+abbrev pub AllStand : Resolve → Bool → List (Name × Thing) → List Pair → List Entry → Type 0
+AllStand r back large keys es = (e : Entry) → Contains es e → Stands r back large keys e
+
+module _ (r : Resolve) (back : Bool) (large : List (Name × Thing)) where
+  pub all_included : (keys : List Pair) (es : List Entry) → AllStand r back large keys es → IsIncluded (all_shown r (map named_thing es)) (all_shown r large)
+  all_included keys es h x c =
+      let w = contains_map (shown_entry r) es x (subst (λ xs. Contains xs x) (shown_all r es) c) in
+      subst (λ (y : Name × Shown). find_named y.0 (all_shown r large) ≡ Some y.1) w.2 (h w.0 w.1).0
+
+  pub all_hold : (keys : List Pair) (es : List Entry) → AllStand r back large keys es → AreAmong (pairs_shared r back (map named_thing es) large) keys
+  all_hold keys [] h p c = absurd (let z = c.1 in omega (arith, z))
+  all_hold keys (e ∷ es) h p c = by (Contains-append_cases (pairs_of_entry r back large (named_thing e)) (pairs_shared r back (map named_thing es) large) p c) (all_hold keys es (λ x d. h x (Contains-append_right (e ∷ []) es x d)) p)
+    where
+      by : Contains (pairs_of_entry r back large (named_thing e)) p ⊎ Contains (pairs_shared r back (map named_thing es) large) p → (Contains (pairs_shared r back (map named_thing es) large) p → Contains keys p) → Contains keys p
+      by (inl d) later = (h e (Contains-append_left (e ∷ []) es e (Contains-push [] e))).1 p d
+      by (inr d) later = later d
+
+  pub stand_more : (old new : List Pair) (es : List Entry) (e : Entry) → AllStand r back large old es → AreAmong old new → Stands r back large new e → AllStand r back large new (es ++ e ∷ [])
+  stand_more old new es e h kept s x c = by (Contains-push_cases es e x c)
+    where
+      by : Contains es x ⊎ (e ≡ x) → Stands r back large new x
+      by (inl d) = let w = h x d in (w.0, λ p q. kept p (w.1 p q))
+      by (inr q) = subst (Stands r back large new) q s
+
+  pub entry_among : (es : List Entry) (e : Entry) → Contains es e → AreAmong (pairs_of_entry r back large (named_thing e)) (pairs_shared r back (map named_thing es) large)
+  entry_among [] e c = absurd (let z = c.1 in omega (arith, z))
+  entry_among (x ∷ xs) e c = by (Contains-append_cases (x ∷ []) xs e c) (entry_among xs e)
+    where
+      by : Contains (x ∷ []) e ⊎ Contains xs e → (Contains xs e → AreAmong (pairs_of_entry r back large (named_thing e)) (pairs_shared r back (map named_thing xs) large)) → AreAmong (pairs_of_entry r back large (named_thing e)) (pairs_of_entry r back large (named_thing x) ++ pairs_shared r back (map named_thing xs) large)
+      by (inl d) later p q = Contains-append_left _ _ p (subst (λ y. Contains (pairs_of_entry r back large (named_thing y)) p) (sym (contains_one x e d)) q)
+      by (inr d) later p q = Contains-append_right (pairs_of_entry r back large (named_thing x)) _ p (later d p q)
+
+  -- what is reached from what has been reached, and one entry's pairs
+  pub reached_more : (roots mid new : List Pair) (es : List Entry) (e : Entry) → Contains es e → AreReached r (roots ++ pairs_shared r back (map named_thing es) large) mid → AreReached r (mid ++ pairs_of_entry r back large (named_thing e)) new → AreReached r (roots ++ pairs_shared r back (map named_thing es) large) new
+  reached_more roots mid new es e c h j p d = reached_through r (roots ++ pairs_shared r back (map named_thing es) large) (mid ++ pairs_of_entry r back large (named_thing e)) from p (j p d)
+    where
+      from : AreReached r (roots ++ pairs_shared r back (map named_thing es) large) (mid ++ pairs_of_entry r back large (named_thing e))
+      from q x = by (Contains-append_cases mid (pairs_of_entry r back large (named_thing e)) q x)
+        where
+          by : Contains mid q ⊎ Contains (pairs_of_entry r back large (named_thing e)) q → Reached r (roots ++ pairs_shared r back (map named_thing es) large) q
+          by (inl y) = h q y
+          by (inr y) = root q (Contains-append_right roots _ q (entry_among es e c q y))
+
+  -- an entry that doesn't stand, after those that do
+  pub first_fault : (keys : List Pair) (front rest : List Entry) (e : Entry) (x : Error) → AllStand r back large keys front → IsEntryFault (all_shown r large) (shown_entry r e) x → IsFaultOf (all_shown r (map named_thing (front ++ e ∷ rest))) (all_shown r large) x
+  first_fault keys front rest e x h (inl m) = inl m
+  first_fault keys front rest e x h (inr (f, q, w)) = inr (
+    f,
+    q,
+    record {
+      front = all_shown r (map named_thing front);
+      entry = shown_entry r e;
+      rest = all_shown r (map named_thing rest);
+      split = shown_all r (front ++ e ∷ rest) ∙ map-append (shown_entry r) front (e ∷ rest) ∙ (λ i. sym (shown_all r front) i ++ shown_entry r e ∷ sym (shown_all r rest) i);
+      before = all_included keys front h;
+      wrong = w;
+    },
+  )
+
+pub split_at : {X : Type 0} (xs : List X) (i : ℕ) (x : X) → i < length xs → x ≡ get_or xs i x → xs ≡ take i xs ++ x ∷ drop (i + 1) xs
+split_at xs i x lt is = sym (take-append-drop i xs) ∙ ap (λ ys. take i xs ++ ys) (drop_more xs i x lt ∙ ap (λ y. y ∷ drop (i + 1) xs) (sym is))

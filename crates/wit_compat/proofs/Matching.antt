@@ -1,0 +1,65 @@
+-- Lists in which the same is found have the same included, the same faults and the same pairs.
+use Rattle.std.proofs.Common.{◌≡◌, refl, sym, ap, subst, ◌∙◌, Bool, inl, inr, List, [], ◌∷◌, ◌++◌, map, option_map, Result, Ok, Err, OnOk, IfErr, MatchResult}
+use Rattle.std.specs.List.{Contains}
+use Rattle.std.specs.Option.{option_map_or}
+use Rattle.wit_model.specs.declared.model.Resolve.{Resolve}
+use Rattle.wit_model.specs.declared.error.Error.{Error}
+use Rattle.wit_compat.specs.declared.part.Entry.{Entry}
+use Rattle.wit_compat.specs.Compatible.{IsFault, IsFaultOf, IsIncluded}
+use Rattle.wit_compat.specs.Flat.{Name, Thing, Shown, all_shown, find_named, shown}
+use Rattle.wit_compat.specs.Parts.{named_thing, EntriesInRange, FoundInRange, ThingInRange}
+use Rattle.wit_compat.specs.Walk.{pairs_between, pairs_shared}
+use Rattle.wit_compat.proofs.Including.{found_shown}
+use Rattle.wit_compat.proofs.Transitive.{found_stands}
+use Rattle.wit_compat.proofs.Validity.{contains_mapped}
+
+-- what follows from a result
+pub ok_then : {X E P Q : Type 0} (x : Result X E) → (P → Q) → OnOk x P → OnOk x Q
+ok_then (Ok v) f p = f p
+ok_then (Err e) f p = tt
+
+pub err_then : {X E : Type 0} {P Q : E → Type 0} (x : Result X E) → ((e : E) → P e → Q e) → IfErr x P → IfErr x Q
+err_then (Ok v) f p = tt
+err_then (Err e) f p = f e p
+
+-- the same is found in both
+abbrev pub AreAlike : List (Name × Thing) → List (Name × Thing) → Type 0
+AreAlike xs ys = (name : Name) → find_named name xs ≡ find_named name ys
+
+module _ (r : Resolve) (xs ys : List (Name × Thing)) (h : AreAlike xs ys) where
+  shown_alike : (name : Name) → find_named name (all_shown r xs) ≡ find_named name (all_shown r ys)
+  shown_alike name = found_shown r name xs ∙ ap (option_map (shown r)) (h name) ∙ sym (found_shown r name ys)
+
+  pub included_alike : (small : List (Name × Shown)) → IsIncluded small (all_shown r xs) → IsIncluded small (all_shown r ys)
+  included_alike small i e c = sym (shown_alike e.0) ∙ i e c
+
+  pub fault_alike : (small : List (Name × Shown)) (e : Error) → IsFaultOf small (all_shown r xs) e → IsFaultOf small (all_shown r ys) e
+  fault_alike small e (inl m) = inl m
+  fault_alike small e (inr (f, q, w)) = inr (
+    f,
+    q,
+    record {
+      front = w.front;
+      entry = w.entry;
+      rest = w.rest;
+      split = w.split;
+      before = included_alike w.front w.before;
+      wrong = subst (λ o. IsFault w.entry.0 w.entry.1 o f) (shown_alike w.entry.0) w.wrong;
+    },
+  )
+
+  pub pairs_alike : (back : Bool) (small : List (Name × Thing)) → pairs_shared r back small xs ≡ pairs_shared r back small ys
+  pairs_alike back [] = refl
+  pairs_alike back (e ∷ es) = λ i. option_map_or (pairs_between r back e.1) (h e.0 i) [] ++ pairs_alike back es i
+
+  pub found_in_range : ((x : Name × Thing) → Contains ys x → ThingInRange r x.1) → FoundInRange r xs
+  found_in_range k name t e = k (name, t) (found_stands name t ys (sym (h name) ∙ e))
+
+-- the things of entries are in range
+pub entries_in_range_by : (r : Resolve) (es : List Entry) (xs : List (Name × Thing)) → map named_thing es ≡ xs → ((x : Name × Thing) → Contains xs x → ThingInRange r x.1) → EntriesInRange r es
+entries_in_range_by r es xs is k e c = k (named_thing e) (subst (λ ys. Contains ys (named_thing e)) is (contains_mapped named_thing es e c))
+
+-- a result by its two cases
+pub by_result : {X E : Type 0} (P : Type 0) (Q : E → Type 0) (x : Result X E) → OnOk x P → IfErr x Q → MatchResult x (λ u. P) Q
+by_result P Q (Ok v) p q = p
+by_result P Q (Err e) p q = q

@@ -1,0 +1,142 @@
+-- The four parts of a form tell which form it is.
+use Rattle.std.proofs.Common.{◌≡◌, refl, sym, ap, ◌∙◌, ℕ, ◌+◌, ◌<◌, Bool, true, false, ◌&&◌, List, [], ◌∷◌, map, Option, Some, None, Bor, String, zero, suc, get_or, length, arith}
+use Rattle.std.proofs.Math.Bool.{beq}
+use Rattle.std.specs.Cmp.Lexicographic.{pointwise}
+use Rattle.std.specs.declared.alloc.Global.{Global}
+use Rattle.std.proofs.lemmas.Slice.Eq.{bytes_eq-Decides}
+use Rattle.std.proofs.Math.ListN.{length-map, get_or-map}
+use Rattle.wit_model.proofs.Lists.{first_true, second_true}
+use Rattle.wit_model.specs.declared.model.Variant.{Variant}
+use Rattle.wit_model.specs.declared.model.Resolve.{Resolve}
+use Rattle.wit_model.specs.declared.model.Interface.{Interface}
+use Rattle.wit_model.specs.declared.model.TypeDefKind.TheVariants as kind
+use Rattle.wit_model.specs.Text.{Text, text_eq, text_of}
+use Rattle.wit_model.specs.Tree.{Form, record_of, variant_of, list_of, fixed_list_of, option_of, own_of, borrow_of, map_of, tuple_of, flags_of, enum_of, result_of, future_of, stream_of}
+use Rattle.wit_compat.specs.Opened.{form_of, interface_name, is_there}
+use Rattle.wit_compat.specs.declared.kinds.Sort.{Sort}
+use Rattle.wit_compat.specs.declared.kinds.Sort.TheVariants as sort
+use Rattle.wit_compat.specs.Outline.{sort_of, labels_of, given_of, count_of, names_from, interface_names}
+use Rattle.wit_compat.proofs.OpenedTable.{map_twice}
+
+pub variant_given : (v : Variant) → given_of (form_of (kind.Variant v)) ≡ map (λ c. is_there c.ty) v.cases.items
+variant_given v = let snd : Text × Bool → Bool = λ p. p.1 in map_twice snd (λ c. (text_of c.name, is_there c.ty)) v.cases.items
+
+pub variant_labels : (v : Variant) → labels_of (form_of (kind.Variant v)) ≡ map (λ c. text_of c.name) v.cases.items
+variant_labels v = let fst : Text × Bool → Text = λ p. p.0 in map_twice fst (λ c. (text_of c.name, is_there c.ty)) v.cases.items
+
+abbrev zipped : List Text → List Bool → List (Text × Bool)
+zipped [] bs = []
+zipped (t ∷ ts) [] = []
+zipped (t ∷ ts) (b ∷ bs) = (t, b) ∷ zipped ts bs
+
+abbrev first_given : List Bool → Bool
+first_given [] = false
+first_given (b ∷ bs) = b
+
+abbrev second_given : List Bool → Bool
+second_given [] = false
+second_given (b ∷ bs) = first_given bs
+
+-- the form that four parts are of
+abbrev form_from : Sort → List Text → List Bool → ℕ → Option Form
+form_from sort.Record ls bs n = Some (record_of ls)
+form_from sort.Variant ls bs n = Some (variant_of (zipped ls bs))
+form_from sort.Flags ls bs n = Some (flags_of ls)
+form_from sort.Enum ls bs n = Some (enum_of ls)
+form_from sort.Tuple ls bs n = Some tuple_of
+form_from sort.Option ls bs n = Some option_of
+form_from sort.Result ls bs n = Some (result_of (first_given bs) (second_given bs))
+form_from sort.List ls bs n = Some list_of
+form_from sort.Map ls bs n = Some map_of
+form_from sort.FixedLengthList ls bs n = Some (fixed_list_of n)
+form_from sort.Future ls bs n = Some (future_of (first_given bs))
+form_from sort.Stream ls bs n = Some (stream_of (first_given bs))
+form_from sort.Own ls bs n = Some own_of
+form_from sort.Borrow ls bs n = Some borrow_of
+form_from sort.Named ls bs n = None
+
+zipped_back : (cs : List (Text × Bool)) → zipped (map (λ c. c.0) cs) (map (λ c. c.1) cs) ≡ cs
+zipped_back [] = refl
+zipped_back (c ∷ cs) = λ i. (c.0, c.1) ∷ zipped_back cs i
+
+form_back : (f : Option Form) → form_from (sort_of f) (labels_of f) (given_of f) (count_of f) ≡ f
+form_back None = refl
+form_back (Some (record_of ls)) = refl
+form_back (Some (variant_of cs)) = λ i. Some (variant_of (zipped_back cs i))
+form_back (Some list_of) = refl
+form_back (Some (fixed_list_of n)) = refl
+form_back (Some option_of) = refl
+form_back (Some own_of) = refl
+form_back (Some borrow_of) = refl
+form_back (Some map_of) = refl
+form_back (Some tuple_of) = refl
+form_back (Some (flags_of ls)) = refl
+form_back (Some (enum_of ls)) = refl
+form_back (Some (result_of a b)) = refl
+form_back (Some (future_of a)) = refl
+form_back (Some (stream_of a)) = refl
+
+-- Forms of the same parts are the same.
+pub same_forms : (f g : Option Form) → sort_of f ≡ sort_of g → labels_of f ≡ labels_of g → given_of f ≡ given_of g → count_of f ≡ count_of g → f ≡ g
+same_forms f g s l b n = sym (form_back f) ∙ (λ i. form_from (s i) (l i) (b i) (n i)) ∙ form_back g
+
+pub named_form : (f : Option Form) → sort_of f ≡ sort.Named → f ≡ None
+named_form f e = sym (form_back f) ∙ ap (λ s. form_from s (labels_of f) (given_of f) (count_of f)) e
+
+-- lists of borrowed texts
+pub pointwise_now : (xs ys : List (Bor (List ℕ))) → pointwise (λ a b. text_eq a.now b.now) xs ys ≡ pointwise text_eq (map (λ s. s.now) xs) (map (λ s. s.now) ys)
+pointwise_now [] [] = refl
+pointwise_now [] (y ∷ ys) = refl
+pointwise_now (x ∷ xs) [] = refl
+pointwise_now (x ∷ xs) (y ∷ ys) = ap (λ b. text_eq x.now y.now && b) (pointwise_now xs ys)
+
+pub texts_same : (xs ys : List Text) → pointwise text_eq xs ys ≡ true → xs ≡ ys
+texts_same [] [] e = refl
+texts_same [] (y ∷ ys) e = absurd (let z : ⊥ = cc in z)
+texts_same (x ∷ xs) [] e = absurd (let z : ⊥ = cc in z)
+texts_same (x ∷ xs) (y ∷ ys) e =
+    let h = (bytes_eq-Decides x y).0 (first_true (text_eq x y) (pointwise text_eq xs ys) e) in
+    let t = texts_same xs ys (second_true (text_eq x y) (pointwise text_eq xs ys) e) in
+    λ i. h i ∷ t i
+
+texts_refl : (xs : List Text) → pointwise text_eq xs xs ≡ true
+texts_refl [] = refl
+texts_refl (x ∷ xs) = ap (λ b. b && pointwise text_eq xs xs) ((bytes_eq-Decides x x).1 refl) ∙ texts_refl xs
+
+pub texts_differ : (xs ys : List Text) → pointwise text_eq xs ys ≡ false → xs ≡ ys → ⊥
+texts_differ xs ys e q = let s : true ≡ false = sym (texts_refl xs) ∙ ap (pointwise text_eq xs) q ∙ e in let z : ⊥ = cc in z
+
+-- ---- the names of interfaces
+
+names_at : (r : Resolve) (k : ℕ) (is : List Interface) (n : ℕ) (d : Text) → n < length is → get_or (names_from r k is) n d ≡ interface_name r (k + n)
+names_at r k [] n d h = absurd (omega (arith, h))
+names_at r k (i ∷ is) zero d h = ap (interface_name r) (omega arith)
+names_at r k (i ∷ is) (suc n) d h = names_at r (k + 1) is n d (omega (arith, h)) ∙ ap (interface_name r) (omega arith)
+
+length-names : (r : Resolve) (k : ℕ) (is : List Interface) → length (names_from r k is) ≡ length is
+length-names r k [] = refl
+length-names r k (i ∷ is) = ap suc (length-names r (k + 1) is)
+
+pub names_length : (r : Resolve) (names : List (String Global)) → map text_of names ≡ interface_names r → length names ≡ length r.interfaces.items
+names_length r names e = sym (length-map names text_of) ∙ ap length e ∙ length-names r 0 r.interfaces.items
+
+pub name_at : (r : Resolve) (names : List (String Global)) (n : ℕ) (d : String Global) → map text_of names ≡ interface_names r → n < length r.interfaces.items → text_of (get_or names n d) ≡ interface_name r n
+name_at r names n d e h =
+    sym (get_or-map text_of names n d) ∙ ap (λ xs. get_or xs n (text_of d)) e ∙ names_at r 0 r.interfaces.items n (text_of d) h ∙ ap (interface_name r) (omega arith)
+
+pub marks_same : (xs ys : List Bool) → pointwise beq xs ys ≡ true → xs ≡ ys
+marks_same [] [] e = refl
+marks_same [] (y ∷ ys) e = absurd (let z : ⊥ = cc in z)
+marks_same (x ∷ xs) [] e = absurd (let z : ⊥ = cc in z)
+marks_same (true ∷ xs) (true ∷ ys) e = ap (λ zs. true ∷ zs) (marks_same xs ys e)
+marks_same (false ∷ xs) (false ∷ ys) e = ap (λ zs. false ∷ zs) (marks_same xs ys e)
+marks_same (true ∷ xs) (false ∷ ys) e = absurd (let z : ⊥ = cc in z)
+marks_same (false ∷ xs) (true ∷ ys) e = absurd (let z : ⊥ = cc in z)
+
+marks_refl : (xs : List Bool) → pointwise beq xs xs ≡ true
+marks_refl [] = refl
+marks_refl (true ∷ xs) = marks_refl xs
+marks_refl (false ∷ xs) = marks_refl xs
+
+pub marks_differ : (xs ys : List Bool) → pointwise beq xs ys ≡ false → xs ≡ ys → ⊥
+marks_differ xs ys e q = let s : true ≡ false = sym (marks_refl xs) ∙ ap (pointwise beq xs) q ∙ e in let z : ⊥ = cc in z

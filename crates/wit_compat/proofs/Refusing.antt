@@ -1,0 +1,35 @@
+-- What is refused isn't accepted.
+use Rattle.std.proofs.Common.{◌≡◌, sym, ap, subst, ◌∙◌, inl, inr, List, [], ◌∷◌, Option, Some, None, unwrap_or}
+use Rattle.std.specs.List.{Contains}
+use Rattle.std.proofs.lemmas.List.Elements.{Contains-append_left, Contains-append_right, Contains-push}
+use Rattle.wit_model.specs.declared.model.Resolve.{Resolve}
+use Rattle.wit_model.specs.declared.model.World.{World}
+use Rattle.wit_model.specs.declared.error.Error.{Error}
+use Rattle.wit_compat.specs.Compatible.{Accepts, IsFault, is_missing, is_other, IsFirstFault, IsIncluded, IsMismatch, IsRefused, memory, refused, IsRepeated, Refusal, Refuses, package_name, packages, keys, imports, exports, twice}
+use Rattle.wit_compat.specs.Flat.{Name, Shown, find_named}
+
+no_fault : (name : Name) (s : Shown) (o : Option Shown) (f : Refusal) → IsFault name s o f → o ≡ Some s → ⊥
+no_fault name s _ _ is_missing e = let z : ⊥ = cc in z
+no_fault name s _ _ (is_other o other) e = other (ap (λ p. unwrap_or p s) e)
+
+fault_excludes : (small large : List (Name × Shown)) (f : Refusal) → IsFirstFault small large f → IsIncluded small large → ⊥
+fault_excludes small large f w i =
+    no_fault w.entry.0 w.entry.1 (find_named w.entry.0 large) f w.wrong
+    (i w.entry (subst (λ (xs : List (Name × Shown)). Contains xs w.entry) (sym w.split) (Contains-append_right w.front (w.entry ∷ w.rest) w.entry (Contains-append_left (w.entry ∷ []) w.rest w.entry (Contains-push [] w.entry)))))
+
+pub refused_not_accepted : (r : Resolve) (a b : World) (f : Refusal) → Refuses r a b f → Accepts r a b → ⊥
+refused_not_accepted r a b _ (packages other) h = other h.packages
+refused_not_accepted r a b _ (keys name same t) h = let e : None ≡ Some name = sym h.keys ∙ t in let z : ⊥ = cc in z
+refused_not_accepted r a b f (imports _ same t w) h = fault_excludes _ _ f w h.compatible.imports
+refused_not_accepted r a b f (exports _ same t i w) h = fault_excludes _ _ f w h.compatible.exports
+
+module _ (r : Resolve) (a b : World) (same : package_name r a ≡ package_name r b) where
+  pub repeated_refused : (e : Error) → IsRepeated r a b e → IsRefused r a b e
+  repeated_refused e (inl m) = subst (IsRefused r a b) (sym m) memory
+  repeated_refused e (inr (name, q, t)) = refused e _ q (keys name same t)
+
+  pub mismatch_refused : twice r a b ≡ None → (e : Error) → IsMismatch r a b e → IsRefused r a b e
+  mismatch_refused t e (inl (inl m)) = subst (IsRefused r a b) (sym m) memory
+  mismatch_refused t e (inl (inr (f, q, w))) = refused e f q (imports f same t w)
+  mismatch_refused t e (inr (i, inl m)) = subst (IsRefused r a b) (sym m) memory
+  mismatch_refused t e (inr (i, inr (f, q, w))) = refused e f q (exports f same t i w)

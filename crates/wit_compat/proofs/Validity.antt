@@ -1,0 +1,163 @@
+-- What a valid `Resolve` gives for comparing.
+use Rattle.std.proofs.Common.{arith, slice_get, get_or, ◌≤◌, ◌≡◌, refl, sym, ap, subst, ◌∙◌, ℕ, ◌+◌, ◌<◌, Bool, true, false, ◌&&◌, nat_lt, ltb→lt, T, ◌⊎◌, inl, inr, List, [], ◌∷◌, map, filter_map, length, Option, Some, None, option_to_list, unwrap_or}
+use Rattle.std.specs.List.{Contains, list_all}
+use Rattle.std.specs.Option.{option_map_or}
+use Rattle.std.proofs.lemmas.List.Elements.{Contains-append_left, Contains-append_right, Contains-append_cases, Contains-push}
+use Rattle.indexmap.specs.IndexMap.{values}
+use Rattle.wit_model.specs.declared.model.Resolve.{Resolve}
+use Rattle.wit_model.specs.declared.model.Interface.{Interface}
+use Rattle.wit_model.specs.declared.model.World.{World}
+use Rattle.wit_model.specs.declared.model.WorldKey.{WorldKey}
+use Rattle.wit_model.specs.declared.model.WorldItem.{WorldItem}
+use Rattle.wit_model.specs.declared.model.WorldItem.TheVariants as item
+use Rattle.wit_model.specs.declared.model.Function.{Function}
+use Rattle.wit_model.specs.declared.model.TypeDef.{TypeDef}
+use Rattle.wit_model.specs.declared.model.TypeId.{TypeId}
+use Rattle.wit_model.specs.declared.model.«Type».{«Type» as ValueType}
+use Rattle.wit_model.specs.declared.model.«Type».TheVariants as ty
+use Rattle.wit_model.specs.Text.{Text}
+use Rattle.wit_model.specs.Lookup.{interface_at, type_at, world_at, resource_of}
+use Rattle.wit_model.specs.Types.{number_of}
+use Rattle.wit_model.specs.Parts.{function_types, kind_numbers}
+use Rattle.wit_model.specs.Rules.{entries_in_range, function_in_range, in_list, item_in_range, key_in_range, owner_in_range, package_number, passes}
+use Rattle.wit_model.specs.Valid.{IsValid, is_place, numbers_in_range}
+use Rattle.wit_model.proofs.Entries.{each_from_at, lists_pass}
+use Rattle.wit_model.proofs.Lists.{first_true, second_true, list_all_filter_map}
+use Rattle.wit_model.proofs.TreeTable.{kept_numbers}
+use Rattle.std.proofs.lemmas.List.Folds.{list_all-append}
+use Rattle.std.proofs.lemmas.Option.{slice_get_cases}
+use Rattle.wit_compat.specs.Compatible.{HasItemsInRange}
+use Rattle.wit_compat.specs.Flat.{Name, Thing, interface, entry_things, function_member, item_things, members, things_of, type_member}
+use Rattle.wit_compat.specs.Opened.{bare_key}
+use Rattle.wit_compat.specs.Parts.{ThingInRange}
+use Rattle.wit_compat.specs.Table.{AllInRange, IsLayered}
+use Rattle.wit_compat.proofs.Including.{contains_map, contains_one}
+
+-- ---- lists
+
+pub all_contained : {X : Type 0} (p : X → Bool) (xs : List X) (x : X) → list_all p xs ≡ true → Contains xs x → p x ≡ true
+all_contained p [] x h c = absurd (let z = c.1 in omega (arith, z))
+all_contained p (y ∷ ys) x h c = by (Contains-append_cases (y ∷ []) ys x c) (all_contained p ys x (second_true (p y) (list_all p ys) h))
+  where
+    by : Contains (y ∷ []) x ⊎ Contains ys x → (Contains ys x → p x ≡ true) → p x ≡ true
+    by (inl d) later = ap p (sym (contains_one y x d)) ∙ first_true (p y) (list_all p ys) h
+    by (inr d) later = later d
+
+pub contains_mapped : {X Y : Type 0} (f : X → Y) (xs : List X) (x : X) → Contains xs x → Contains (map f xs) (f x)
+contains_mapped f [] x c = absurd (let z = c.1 in omega (arith, z))
+contains_mapped f (y ∷ ys) x c = by (Contains-append_cases (y ∷ []) ys x c) (contains_mapped f ys x)
+  where
+    by : Contains (y ∷ []) x ⊎ Contains ys x → (Contains ys x → Contains (map f ys) (f x)) → Contains (map f (y ∷ ys)) (f x)
+    by (inl d) later = subst (λ z. Contains (map f (y ∷ ys)) (f z)) (contains_one y x d) (Contains-append_left (f y ∷ []) (map f ys) (f y) (Contains-push [] (f y)))
+    by (inr d) later = Contains-append_right (f y ∷ []) (map f ys) (f x) (later d)
+
+is_below : (m n : ℕ) → nat_lt m n ≡ true → m < n
+is_below m n h = ltb→lt m n (subst T (sym h) tt)
+
+-- ---- ranges
+
+false_true : false ≡ true → ⊥
+false_true e = cc
+
+not_past : {X : Type 0} (xs : List X) (n : ℕ) → ((x : X) → slice_get xs n ≡ Some x → ⊥) → length xs ≤ n
+not_past {X = X} xs n h = by (slice_get_cases xs n).1
+  where
+    by : ((x : X) × (n < length xs) × (slice_get xs n ≡ Some x) × (get_or xs n x ≡ x)) ⊎ ((length xs ≤ n) × (slice_get xs n ≡ None)) → length xs ≤ n
+    by (inr (le, none)) = le
+    by (inl (x, lt, at, is)) = absurd (h x at)
+
+module _ (r : Resolve) where
+  types_in_range : (ts : List ValueType) → list_all (in_list r.types.items) (filter_map number_of ts) ≡ true → AllInRange r ts
+  types_in_range ts h t c id is =
+      let all = sym (list_all_filter_map (in_list r.types.items) number_of ts) ∙ h in
+      let one : list_all (in_list r.types.items) (option_to_list (number_of t)) ≡ true = all_contained (λ x. list_all (in_list r.types.items) (option_to_list (number_of x))) ts t all c in
+      is_below id.0 (length r.types.items) (first_true (in_list r.types.items id.0) true (ap (λ x. list_all (in_list r.types.items) (option_to_list (number_of x))) (sym is) ∙ one))
+
+  function_types_in_range : (f : Function) → function_in_range r f ≡ true → AllInRange r (function_types f)
+  function_types_in_range f h = types_in_range (function_types f) (first_true (list_all (in_list r.types.items) (filter_map number_of (function_types f))) (list_all (in_list r.types.items) (option_to_list (resource_of f.kind)))
+      (sym (list_all-append (in_list r.types.items) (filter_map number_of (function_types f)) (option_to_list (resource_of f.kind))) ∙ h))
+
+  number_in_range : (id : TypeId) → in_list r.types.items id.0 ≡ true → AllInRange r (ty.Id id ∷ [])
+  number_in_range id h t c other is =
+      let same : ty.Id id ≡ ty.Id other = contains_one (ty.Id id) t c ∙ is in
+      let number : id.0 ≡ other.0 = ap (λ x. unwrap_or (number_of x) 0) same in
+      subst (λ n. n < length r.types.items) number (is_below id.0 (length r.types.items) h)
+
+  module _ (v : IsValid r) where
+    pub interface_numbers : (n : ℕ) (i : Interface) → interface_at r n ≡ Some i → (list_all (λ id. in_list r.types.items id.0) (values i.types) ≡ true) × (list_all (function_in_range r) (values i.functions) ≡ true)
+    unfolding numbers_in_range
+    interface_numbers n i at =
+        let passed = each_from_at (numbers_in_range.interface_ r) 0 r.interfaces.items n i (lists_pass numbers_in_range r v.rules.numbers_in_range).1 at in
+        let rest = second_true (is_place (0 + n)) _ passed in
+        let both = second_true (passes (in_list r.packages.items) (package_number i.«package»)) _ rest in
+        (first_true (list_all (λ id. in_list r.types.items id.0) (values i.types)) _ both, second_true (list_all (λ id. in_list r.types.items id.0) (values i.types)) _ both)
+
+    pub world_numbers : (n : ℕ) (w : World) → world_at r n ≡ Some w → (entries_in_range r w.imports.entries ≡ true) × (entries_in_range r w.exports.entries ≡ true)
+    unfolding numbers_in_range
+    world_numbers n w at =
+        let passed = each_from_at (numbers_in_range.world_ r) 0 r.worlds.items n w (lists_pass numbers_in_range r v.rules.numbers_in_range).2 at in
+        let rest = second_true (is_place (0 + n)) _ passed in
+        let both = second_true (passes (in_list r.packages.items) (package_number w.«package»)) _ rest in
+        (first_true (entries_in_range r w.imports.entries) _ both, second_true (entries_in_range r w.imports.entries) _ both)
+
+    type_numbers : (n : ℕ) (def : TypeDef) → type_at r n ≡ Some def → owner_in_range r def.owner ≡ true
+    unfolding numbers_in_range
+    type_numbers n def at =
+        let passed = each_from_at (numbers_in_range.type_ r) 0 r.types.items n def (lists_pass numbers_in_range r v.rules.numbers_in_range).3 at in
+        let rest = second_true (is_place (0 + n)) _ passed in
+        second_true (list_all (in_list r.types.items) (kind_numbers def.kind)) _ rest
+
+    pub layered : IsLayered r
+    layered = record {
+      smaller = kept_numbers r v.rules;
+      owners = λ n def at id is. is_below id.0 (length r.interfaces.items) (ap (owner_in_range r) (sym is) ∙ type_numbers n def at);
+    }
+
+    members_in_range : (k : Text) (i : Interface) (n : ℕ) → interface_at r n ≡ Some i → (x : Name × Thing) → Contains (members k i) x → ThingInRange r x.1
+    members_in_range k i n at x c = by (Contains-append_cases (map (type_member k) i.types.entries) (map (function_member k) i.functions.entries) x c)
+      where
+        by : Contains (map (type_member k) i.types.entries) x ⊎ Contains (map (function_member k) i.functions.entries) x → ThingInRange r x.1
+        by (inl d) =
+            let w = contains_map (type_member k) i.types.entries x d in
+            let low = all_contained (λ id. in_list r.types.items id.0) (values i.types) w.0.1 (interface_numbers n i at).0 (contains_mapped (λ e. e.1) i.types.entries w.0 w.1) in
+            subst (λ (y : Name × Thing). ThingInRange r y.1) w.2 (number_in_range w.0.1 low)
+        by (inr d) =
+            let w = contains_map (function_member k) i.functions.entries x d in
+            let low = all_contained (function_in_range r) (values i.functions) w.0.1 (interface_numbers n i at).1 (contains_mapped (λ e. e.1) i.functions.entries w.0 w.1) in
+            subst (λ (y : Name × Thing). ThingInRange r y.1) w.2 (function_types_in_range w.0.1 low)
+
+    optional_in_range : (k : Text) (n : ℕ) (o : Option Interface) → interface_at r n ≡ o → (x : Name × Thing) → Contains (option_map_or (members k) o []) x → ThingInRange r x.1
+    optional_in_range k n None at x c = absurd (let z = c.1 in omega (arith, z))
+    optional_in_range k n (Some i) at x c = members_in_range k i n at x c
+
+    item_things_in_range : (k : Text) (i : WorldItem) → item_in_range r i ≡ true → (x : Name × Thing) → Contains (item_things r k i) x → ThingInRange r x.1
+    item_things_in_range k (item.Function f) h x c = subst (λ (y : Name × Thing). ThingInRange r y.1) (contains_one _ x c) (function_types_in_range f h)
+    item_things_in_range k (item.Type_ id) h x c = subst (λ (y : Name × Thing). ThingInRange r y.1) (contains_one _ x c) (number_in_range id h)
+    item_things_in_range k (item.Interface id stability docs external_id) h x c = by (Contains-append_cases (((k, []), interface) ∷ []) (option_map_or (members k) (interface_at r id.0) []) x c)
+      where
+        by : Contains (((k, []), interface) ∷ []) x ⊎ Contains (option_map_or (members k) (interface_at r id.0) []) x → ThingInRange r x.1
+        by (inl d) = subst (λ (y : Name × Thing). ThingInRange r y.1) (contains_one _ x d) tt
+        by (inr d) = optional_in_range k id.0 (interface_at r id.0) refl x d
+
+    pub things_in_range : (es : List (WorldKey × WorldItem)) → entries_in_range r es ≡ true → (x : Name × Thing) → Contains (things_of r es) x → ThingInRange r x.1
+    things_in_range [] h x c = absurd (let z = c.1 in omega (arith, z))
+    things_in_range (e ∷ es) h x c =
+        let one = first_true (key_in_range r e.0 && item_in_range r e.1) (entries_in_range r es) h in
+        by (Contains-append_cases (entry_things r e) (things_of r es) x c) (second_true (key_in_range r e.0) (item_in_range r e.1) one) (things_in_range es (second_true (key_in_range r e.0 && item_in_range r e.1) (entries_in_range r es) h) x)
+      where
+        by : Contains (entry_things r e) x ⊎ Contains (things_of r es) x → item_in_range r e.1 ≡ true → (Contains (things_of r es) x → ThingInRange r x.1) → ThingInRange r x.1
+        by (inl d) own later = item_things_in_range (bare_key r e.0) e.1 own x d
+        by (inr d) own later = later d
+
+    pub world_items : (n : ℕ) (w : World) → world_at r n ≡ Some w → HasItemsInRange r w
+    world_items n w at = record { imports = (world_numbers n w at).0; exports = (world_numbers n w at).1 }
+
+    -- the numbers of types fit in 32 bits
+    pub types_fit : length r.types.items < 4294967296
+    unfolding numbers_in_range
+    types_fit =
+        let le = not_past r.types.items 4294967295 (λ x at.
+        let passed = each_from_at (numbers_in_range.type_ r) 0 r.types.items 4294967295 x (lists_pass numbers_in_range r v.rules.numbers_in_range).3 at in
+        let e : is_place 4294967295 ≡ true = first_true (is_place 4294967295) (list_all (in_list r.types.items) (kind_numbers x.kind) && owner_in_range r x.owner) passed in
+        false_true e)
+        in omega (arith, le)

@@ -1,0 +1,8 @@
+use Rattle.std.proofs.Common.{◌≡◌, ◌++◌, map}
+use Rattle.wit_compat.specs.Flat.{type_member}
+use Rattle.wit_compat.specs.Parts.{named_thing}
+use Rattle.wit_compat.proofs.things.push_types.Given as goal
+
+-- what is there, and what is left
+abbrev pub invariant-loop-name : goal.invariant-loop-name
+invariant-loop-name l = map named_thing l.entries.items ++ map (type_member l.key) l.name-iterator ≡ map named_thing l.fn.entries.items ++ map (type_member l.key) l.types.entries

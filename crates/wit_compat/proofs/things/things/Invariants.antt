@@ -1,0 +1,12 @@
+use Rattle.std.proofs.Common.{◌≡◌, ◌++◌, true, map}
+use Rattle.wit_model.specs.Rules.{entries_in_range}
+use Rattle.wit_compat.specs.Flat.{things_of}
+use Rattle.wit_compat.specs.Parts.{named_thing}
+use Rattle.wit_compat.proofs.things.things.Given as goal
+
+-- what is there, and what is left
+abbrev pub invariant-loop-key : goal.invariant-loop-key
+invariant-loop-key l = record {
+  made : map named_thing l.entries.items ++ things_of l.resolve l.key-iterator ≡ things_of l.resolve l.items.entries;
+  in_range : entries_in_range l.resolve l.key-iterator ≡ true;
+}

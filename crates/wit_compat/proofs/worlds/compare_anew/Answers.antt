@@ -1,0 +1,18 @@
+use Rattle.std.proofs.Common.{rules, ◌≡◌, subst, is_ok, ◌++◌, [], List}
+use Rattle.wit_compat.specs.Walk.{Pair, pairs_of_worlds}
+use Rattle.wit_compat.specs.Table.{AreReached}
+use Rattle.wit_compat.proofs.Counting.{counted, ok_holds}
+use Rattle.wit_compat.proofs.Validity.{layered}
+use Rattle.wit_compat.proofs.worlds.compare_anew.Goals as goal
+
+pub returns-clause-counted : goal.returns-clause-counted
+returns-clause-counted c =
+    let r = c.args.resolve.now in
+    let prev = c.args.prev.now in
+    let new = c.args.new.now in
+    let e = c.compare_contents-compared in
+    let empty : c.new-pairs.result.keys ≡ [] = search rules in
+    counted r (layered r c.requires.valid) prev new e.new.pairs.keys e.new.steps.count (is_ok e.result) c.len-len.ensures.unique
+    (subst (λ (x : List Pair). AreReached r (x ++ pairs_of_worlds r prev new) e.new.pairs.keys) empty e.ensures.reached)
+    e.ensures.counted
+    (λ b. (ok_holds e.result b e.ensures.settled, ok_holds e.result b e.ensures.holds))

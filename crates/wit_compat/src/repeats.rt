@@ -1,0 +1,72 @@
+//! Keys that are equal without their versions.
+
+ghost use Rattle.std.specs.Prelude.{◌≡◌, true, map, option_map, IfOk};
+ghost use Rattle.std.specs.Option.{option_or};
+ghost use Rattle.wit_model.specs.Rules.{entries_in_range};
+ghost use Rattle.wit_model.specs.Text.{text_of};
+ghost use Rattle.wit_compat.specs.Compatible.{repeated_key as repeated_key_lem, twice as twice_lem};
+ghost use Rattle.wit_compat.specs.Outline.{interface_names};
+
+use crate::names::key_text;
+use indexmap::IndexSet;
+use std::alloc::{AllocError, Global};
+use wit_model::{Map, Resolve, World, WorldItem, WorldKey};
+
+/// The first key of a list that repeats an earlier one, without version.
+fn repeated_key<'a>(
+    alloc: Global,
+    names: &'a [String],
+    resolve: &Resolve,
+    items: &'a Map<WorldKey, WorldItem>,
+) -> Result<Option<&'a str>, AllocError>
+    requires names { map text_of names.now ≡ interface_names resolve.now }
+    requires in_range { entries_in_range resolve.now items.now.entries ≡ true }
+    ensures { IfOk result (λ o. option_map (λ s. s.now) o ≡ repeated_key_lem resolve.now items.entry.now.entries) }
+{
+    let mut seen = IndexSet::new(alloc);
+    for (key, _item) in items {
+        let text = key_text(names, resolve, key);
+        if !seen.insert(text)? {
+            return Ok(Some(text));
+        }
+    }
+    Ok(None)
+}
+
+fn repeated_in_world<'a>(
+    alloc: Global,
+    names: &'a [String],
+    resolve: &Resolve,
+    world: &'a World,
+) -> Result<Option<&'a str>, AllocError>
+    requires names { map text_of names.now ≡ interface_names resolve.now }
+    requires imports { entries_in_range resolve.now world.now.imports.entries ≡ true }
+    requires exports { entries_in_range resolve.now world.now.exports.entries ≡ true }
+    ensures { IfOk result (λ o. option_map (λ s. s.now) o ≡ option_or (repeated_key_lem resolve.now world.entry.now.imports.entries) (repeated_key_lem resolve.now world.entry.now.exports.entries)) }
+{
+    match repeated_key(alloc, names, resolve, &world.imports)? {
+        Some(key) => Ok(Some(key)),
+        None => repeated_key(alloc, names, resolve, &world.exports),
+    }
+}
+
+/// The first key that is twice without version: of the previous world's imports and exports, and then of the new one's.
+pub(crate) fn twice<'a>(
+    alloc: Global,
+    names: &'a [String],
+    resolve: &Resolve,
+    prev: &'a World,
+    new: &'a World,
+) -> Result<Option<&'a str>, AllocError>
+    requires names { map text_of names.now ≡ interface_names resolve.now }
+    requires prev_imports { entries_in_range resolve.now prev.now.imports.entries ≡ true }
+    requires prev_exports { entries_in_range resolve.now prev.now.exports.entries ≡ true }
+    requires new_imports { entries_in_range resolve.now new.now.imports.entries ≡ true }
+    requires new_exports { entries_in_range resolve.now new.now.exports.entries ≡ true }
+    ensures { IfOk result (λ o. option_map (λ s. s.now) o ≡ twice_lem resolve.now prev.entry.now new.entry.now) }
+{
+    match repeated_in_world(alloc, names, resolve, prev)? {
+        Some(key) => Ok(Some(key)),
+        None => repeated_in_world(alloc, names, resolve, new),
+    }
+}

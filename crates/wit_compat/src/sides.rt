@@ -1,0 +1,90 @@
+//! Compares a list of imports or exports of one world with that of the other.
+
+ghost use Rattle.std.specs.Prelude.{◌≡◌, ◌++◌, ◌≤◌, true, length, map, IfOk, OnOk, IfErr};
+ghost use Rattle.wit_model.specs.Rules.{entries_in_range};
+ghost use Rattle.wit_model.specs.Text.{text_of};
+ghost use Rattle.wit_model.specs.Valid.{IsValid};
+ghost use Rattle.wit_compat.specs.Compatible.{IsFaultOf, IsIncluded};
+ghost use Rattle.wit_compat.specs.Flat.{flat, things_of};
+ghost use Rattle.wit_compat.specs.Index.{Indexes};
+ghost use Rattle.wit_compat.specs.Outline.{interface_names};
+ghost use Rattle.wit_compat.specs.Parts.{named_thing};
+ghost use Rattle.wit_compat.specs.Walk.{heads_of, pairs_shared};
+ghost use Rattle.wit_compat.specs.Table.{AreAmong, AreReached, IsSettled};
+
+use crate::included::included;
+use crate::index::{Index, index};
+use crate::pairs::Pairs;
+use crate::part::Entry;
+use crate::steps::Steps;
+use crate::things::things;
+use std::alloc::{AllocError, Global};
+use wit_model::{Error, Map, Resolve, Type, WorldItem, WorldKey};
+
+/// All things of a list of imports or exports, by their names.
+fn indexed<'a>(
+    alloc: Global,
+    names: &'a [String],
+    resolve: &'a Resolve,
+    items: &'a Map<WorldKey, WorldItem>,
+) -> Result<Index<'a>, AllocError>
+    requires names { map text_of names.now ≡ interface_names resolve.now }
+    requires in_range { entries_in_range resolve.now items.now.entries ≡ true }
+    ensures { IfOk result (λ m. Indexes m.entries (things_of resolve.entry.now items.entry.now.entries)) }
+{
+    let entries = things(alloc, names, resolve, items)?;
+    let found = index(alloc, &entries)?;
+    Ok(found)
+}
+
+fn gathered<'a>(
+    alloc: Global,
+    names: &'a [String],
+    resolve: &'a Resolve,
+    small: &'a Map<WorldKey, WorldItem>,
+    large: &'a Map<WorldKey, WorldItem>,
+) -> Result<(Vec<Entry<'a>>, Index<'a>), AllocError>
+    requires names { map text_of names.now ≡ interface_names resolve.now }
+    requires small { entries_in_range resolve.now small.now.entries ≡ true }
+    requires large { entries_in_range resolve.now large.now.entries ≡ true }
+    ensures small { IfOk result (λ p. map named_thing p.0.items ≡ things_of resolve.entry.now small.entry.now.entries) }
+    ensures large { IfOk result (λ p. Indexes p.1.entries (things_of resolve.entry.now large.entry.now.entries)) }
+{
+    let entries = things(alloc, names, resolve, small)?;
+    let found = indexed(alloc, names, resolve, large)?;
+    Ok((entries, found))
+}
+
+/// Whether each thing of the small list stands in the large one with the same types: the first that doesn't is refused.
+pub(crate) fn compare_sides(
+    alloc: Global,
+    names: &[String],
+    resolve: &Resolve,
+    heads: &[Type],
+    back: bool,
+    small: &Map<WorldKey, WorldItem>,
+    large: &Map<WorldKey, WorldItem>,
+    pairs: &mut Pairs,
+    steps: &mut Steps,
+) -> Result<(), Error>
+    requires valid { IsValid resolve.now }
+    requires names { map text_of names.now ≡ interface_names resolve.now }
+    requires heads { heads.now ≡ heads_of resolve.now }
+    requires small { entries_in_range resolve.now small.now.entries ≡ true }
+    requires large { entries_in_range resolve.now large.now.entries ≡ true }
+    requires settled { IsSettled resolve.now pairs.old.keys steps.old.count }
+    ensures includes { OnOk result (IsIncluded (flat resolve.now small.now.entries) (flat resolve.now large.now.entries)) }
+    ensures refuses { IfErr result (λ e. IsFaultOf (flat resolve.now small.now.entries) (flat resolve.now large.now.entries) e) }
+    ensures settled { OnOk result (IsSettled resolve.now pairs.new.keys steps.new.count) }
+    ensures holds { OnOk result (AreAmong (pairs_shared resolve.now back (things_of resolve.now small.now.entries) (things_of resolve.now large.now.entries)) pairs.new.keys) }
+    ensures kept { AreAmong pairs.old.keys pairs.new.keys }
+    ensures reached { AreReached resolve.now (pairs.old.keys ++ pairs_shared resolve.now back (things_of resolve.now small.now.entries) (things_of resolve.now large.now.entries)) pairs.new.keys }
+    ensures counted { steps.new.count ≤ length pairs.new.keys }
+{
+    match gathered(alloc, names, resolve, small, large) {
+        Ok((entries, found)) => included(
+            alloc, names, resolve, heads, back, &entries, &found, pairs, steps,
+        ),
+        Err(_) => Err(Error::Memory),
+    }
+}

@@ -1,0 +1,141 @@
+//! What a world imports or exports: its items, and the types and functions of its interfaces.
+
+ghost use Rattle.std.specs.Prelude.{◌≡◌, [], ◌∷◌, ◌++◌, true, length, map, IfOk, OnOk};
+ghost use Rattle.std.specs.Option.{option_copied, option_map_or};
+ghost use Rattle.wit_model.specs.Lookup.{interface_at as interface_at_lem};
+ghost use Rattle.wit_model.specs.Rules.{entries_in_range};
+ghost use Rattle.wit_model.specs.Text.{text_of};
+ghost use Rattle.wit_compat.specs.Flat.{function_member, item_things, members, things_of, type_member};
+ghost use Rattle.wit_compat.specs.Outline.{interface_names};
+ghost use Rattle.wit_compat.specs.Parts.{named_thing, thing_of};
+
+use crate::names::key_text;
+use crate::part::{Entry, Part};
+use std::alloc::{AllocError, Global};
+use wit_model::{
+    Function, Interface, InterfaceId, Map, Resolve, Type, TypeId, WorldItem, WorldKey,
+};
+
+fn push_types<'a>(
+    entries: &mut Vec<Entry<'a>>,
+    key: &'a str,
+    types: &'a Map<String, TypeId>,
+) -> Result<(), AllocError>
+    ensures { OnOk result (map named_thing entries.new.items ≡ map named_thing entries.old.items ++ map (type_member key.entry.now) types.entry.now.entries) }
+{
+    for (name, id) in types {
+        let entry = Entry {
+            key,
+            name: name.as_str(),
+            part: Part::Type_(Type::Id(*id)),
+        };
+        entries.push(entry)?;
+    }
+    Ok(())
+}
+
+fn push_functions<'a>(
+    entries: &mut Vec<Entry<'a>>,
+    key: &'a str,
+    functions: &'a Map<String, Function>,
+) -> Result<(), AllocError>
+    ensures { OnOk result (map named_thing entries.new.items ≡ map named_thing entries.old.items ++ map (function_member key.entry.now) functions.entry.now.entries) }
+{
+    for (name, function) in functions {
+        let entry = Entry {
+            key,
+            name: name.as_str(),
+            part: Part::Function(function),
+        };
+        entries.push(entry)?;
+    }
+    Ok(())
+}
+
+fn push_members<'a>(
+    entries: &mut Vec<Entry<'a>>,
+    key: &'a str,
+    interface: &'a Interface,
+) -> Result<(), AllocError>
+    ensures { OnOk result (map named_thing entries.new.items ≡ map named_thing entries.old.items ++ members key.entry.now interface.entry.now) }
+{
+    push_types(entries, key, &interface.types)?;
+    push_functions(entries, key, &interface.functions)?;
+    Ok(())
+}
+
+fn interface_at(resolve: &Resolve, id: InterfaceId) -> Option<&Interface>
+    ensures { option_copied result ≡ interface_at_lem resolve.now id.0 }
+{
+    resolve.interfaces.get(id.0 as usize)
+}
+
+fn push_interface<'a>(
+    entries: &mut Vec<Entry<'a>>,
+    resolve: &'a Resolve,
+    key: &'a str,
+    id: InterfaceId,
+) -> Result<(), AllocError>
+    ensures { OnOk result (map named_thing entries.new.items ≡ map named_thing entries.old.items ++ option_map_or (members key.entry.now) (interface_at_lem resolve.entry.now id.0) []) }
+{
+    match interface_at(resolve, id) {
+        Some(interface) => {
+            push_members(entries, key, interface)?;
+            Ok(())
+        }
+        None => Ok(()),
+    }
+}
+
+fn push_itself<'a>(
+    entries: &mut Vec<Entry<'a>>,
+    key: &'a str,
+    part: Part<'a>,
+) -> Result<(), AllocError>
+    ensures { OnOk result (map named_thing entries.new.items ≡ map named_thing entries.old.items ++ ((key.entry.now, []), thing_of part.entry) ∷ []) }
+{
+    entries.push(Entry {
+        key,
+        name: "",
+        part,
+    })?;
+    Ok(())
+}
+
+fn push_item<'a>(
+    entries: &mut Vec<Entry<'a>>,
+    resolve: &'a Resolve,
+    key: &'a str,
+    item: &'a WorldItem,
+) -> Result<(), AllocError>
+    ensures { OnOk result (map named_thing entries.new.items ≡ map named_thing entries.old.items ++ item_things resolve.entry.now key.entry.now item.entry.now) }
+{
+    match item {
+        WorldItem::Interface { id, .. } => {
+            push_itself(entries, key, Part::Interface)?;
+            push_interface(entries, resolve, key, *id)?;
+            Ok(())
+        }
+        WorldItem::Function(function) => push_itself(entries, key, Part::Function(function)),
+        WorldItem::Type_ { id } => push_itself(entries, key, Part::Type_(Type::Id(*id))),
+    }
+}
+
+/// All things of a list of imports or exports, in order.
+pub(crate) fn things<'a>(
+    alloc: Global,
+    names: &'a [String],
+    resolve: &'a Resolve,
+    items: &'a Map<WorldKey, WorldItem>,
+) -> Result<Vec<Entry<'a>>, AllocError>
+    requires names { map text_of names.now ≡ interface_names resolve.now }
+    requires in_range { entries_in_range resolve.now items.now.entries ≡ true }
+    ensures { IfOk result (λ v. map named_thing v.items ≡ things_of resolve.entry.now items.entry.now.entries) }
+{
+    let mut entries = Vec::new(alloc);
+    for (key, item) in items {
+        let text = key_text(names, resolve, key);
+        push_item(&mut entries, resolve, text, item)?;
+    }
+    Ok(entries)
+}
