@@ -33,6 +33,7 @@ use Rattle.comp_bytes.specs.Raw.{Declaration, Declarations}
 use Rattle.wit_encode.specs.declared.key.FunctionKey.{FunctionKey}
 use Rattle.wit_encode.specs.declared.maps.TypeEncodingMaps.{TypeEncodingMaps}
 use Rattle.wit_encode.specs.declared.interface.OpenInterface.{OpenInterface}
+use Rattle.wit_encode.specs.declared.interface.Foreign.{Foreign}
 use Rattle.wit_encode.specs.Key.{IsKeyOf}
 use Rattle.wit_encode.specs.KeyLaws.{type_equiv, param_equiv}
 use Rattle.wit_encode.specs.Kinds.{has_definition}
@@ -209,7 +210,7 @@ pub record Counted (r : Resolve) (i : InterfaceId) (fs : List Function) (ts : Li
   pub keys : DefinesKeys fs ds
   pub types : DefinesTypes r i ts fs ds
 
-pub closed-counts : (r : Resolve) (outer outer' : Declarations) (i : InterfaceId) (known : Vec (TypeId × ℕ) Global) (inner' : Option OpenInterface) (current : OpenInterface) (m m' : TypeEncodingMaps)
+pub closed-counts : (r : Resolve) (outer outer' : Declarations) (i : InterfaceId) (known : Foreign) (inner' : Option OpenInterface) (current : OpenInterface) (m m' : TypeEncodingMaps)
     (S : Pairs) (fs : List Function) (ts : List TypeId) → inner' ≡ Some current → Began m → AreMetKinds r (Some i) (referred ts fs) (held_kinds m')
     → AddsFunctions r (encoder_scope r outer (opened i known)) m m' (definitions_with (contents_of r outer (opened i known))) (definitions_with (contents_of r outer' inner')) fs
     → MapsAgree r m' S

@@ -31,6 +31,8 @@ use Rattle.wit_encode.proofs.Lists.{zip-along, one-contained}
 use Rattle.wit_encode.specs.Scope.{Scope}
 use Rattle.wit_encode.specs.Unnamed.{IsUnnamedKind, LearnsKinds}
 use Rattle.wit_encode.specs.Counts.{Definitions, one_type_more, type_more_if, is_defined_by_name, own_name, names_defined, ExportsOne, Shows, AddsTypes}
+use Rattle.wit_encode.specs.Known.{GrowsAround}
+use Rattle.wit_encode.proofs.Around.{around-trans}
 use Rattle.wit_encode.specs.View.{View, Agrees, Grows}
 use Rattle.wit_encode.specs.Leaves.{Leaves}
 use Rattle.wit_encode.proofs.Written.{written-stands}
@@ -232,9 +234,13 @@ leaves-kept {r} {v} {v'} a g s e = record {
 }
 
 pub leaves-trans : {r : Resolve} {v v' v'' : View} → Leaves r v v' → Leaves r v' v'' → Leaves r v v''
-leaves-trans p q = record {
+leaves-trans {r} {v} {v'} {v''} p q = record {
   agree = q.agree;
   maps_grow = record { keeps = λ k i h. q.maps_grow.keeps k i (p.maps_grow.keeps k i h) };
-  grows = record { kept = λ i x h. q.grows.kept i x (p.grows.kept i x h); more = (let x = p.grows.more in let y = q.grows.more in omega arith) };
+  grows = record {
+    kept = λ i x h. q.grows.kept i x (p.grows.kept i x h);
+    more = (let x = p.grows.more in let y = q.grows.more in omega arith);
+    around_ = around-trans p.grows.around_ (subst (λ (z : Scope). GrowsAround z.packages v'.around v''.around) p.scope_stays q.grows.around_);
+  };
   scope_stays = q.scope_stays ∙ p.scope_stays;
 }

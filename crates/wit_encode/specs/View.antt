@@ -1,11 +1,12 @@
 -- What an encoder holds.
-use Rattle.std.specs.Prelude.{ℕ, ◌≡◌, Option}
+use Rattle.std.specs.Prelude.{ℕ, ◌≡◌, ◌≤◌, Option}
 use Rattle.wit_model.specs.Tree.{Tree}
 use Rattle.wit_model.specs.declared.model.Resolve.{Resolve}
 use Rattle.comp_bytes.specs.Raw.{ExternName}
 use Rattle.wit_encode.specs.declared.maps.TypeEncodingMaps.{TypeEncodingMaps}
-use Rattle.wit_encode.specs.Slots.{Pairs, Standing, Keeps, SlotsGrow, SlotAdded, NameAdded}
+use Rattle.wit_encode.specs.Slots.{Pairs, Standing, Keeps, SlotAdded, NameAdded}
 use Rattle.wit_encode.specs.Scope.{Scope}
+use Rattle.wit_encode.specs.Known.{Around, GrowsAround}
 use Rattle.wit_encode.specs.Maps.{MapsAgree}
 use Rattle.wit_encode.specs.Counts.{Definitions, ExportsOne}
 use Rattle.wit_encode.specs.Room.{Refusals}
@@ -13,6 +14,8 @@ use Rattle.wit_encode.specs.Room.{Refusals}
 pub record View : Type 1 where
   -- what is around
   pub scope : Scope
+  -- what stands in the scope around it, if there is one: aliases of types of other interfaces are made there
+  pub around : Around
   -- the number of slots, and what each stands for: after an export without a slot, one slot stands for two trees
   pub slot_count : ℕ
   pub stands : Pairs
@@ -23,9 +26,12 @@ pub record View : Type 1 where
   -- what more it has no room for, in 32 bits
   pub lacks_room : Refusals
 
--- there are at least as many slots, and the old ones stand for what they did
-abbrev pub Grows : View → View → Type 0
-Grows v v' = SlotsGrow v.stands v'.stands v.slot_count v'.slot_count
+-- There are at least as many slots, and the old ones stand for what they did. Around, nothing has been declared but aliases of types that
+-- had none.
+pub record Grows (v v' : View) : Type 0 where
+  pub kept : Keeps v.stands v'.stands
+  pub more : v.slot_count ≤ v'.slot_count
+  pub around_ : GrowsAround v.scope.packages v.around v'.around
 
 -- slot i is new, and stands for what P holds of
 abbrev pub AddsSlot : View → View → ℕ → (Standing → Type 0) → Type 0
@@ -46,6 +52,7 @@ Agrees r v = MapsAgree r v.maps v.stands
 -- all but the maps is the same
 pub record SameRest (v v' : View) : Type 0 where
   pub scope_ : v'.scope ≡ v.scope
+  pub around_ : v'.around ≡ v.around
   pub slot_count_ : v'.slot_count ≡ v.slot_count
   pub definitions_ : v'.definitions ≡ v.definitions
   pub kept : Keeps v.stands v'.stands
