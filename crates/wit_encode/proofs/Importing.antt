@@ -141,7 +141,7 @@ for-more : (r : Resolve) (slots : List Slot) (y : Slot) (n k : ℕ) (o : Option 
 for-more r slots y n k None e h = absurd (let z : ⊥ = cc in z)
 for-more r slots y n k (Some x) e h = ap (is_slot_for r n) (get-left slots y k x e) ∙ h
 
-right-more : (r : Resolve) (known : List (TypeId × ℕ)) (slots : List Slot) (y : Slot) → are_right r known slots ≡ true → are_right r known (slots ++ y ∷ []) ≡ true
+pub right-more : (r : Resolve) (known : List (TypeId × ℕ)) (slots : List Slot) (y : Slot) → are_right r known slots ≡ true → are_right r known (slots ++ y ∷ []) ≡ true
 right-more r [] slots y h = refl
 right-more r (x ∷ xs) slots y h =
     both (is_slot_for r x.0.0 (slice_get (slots ++ y ∷ []) x.1)) (are_right r xs (slots ++ y ∷ [])) (for-more r slots y x.0.0 x.1 (slice_get slots x.1) refl (first_true (is_slot_for r x.0.0 (slice_get slots x.1)) _ h))

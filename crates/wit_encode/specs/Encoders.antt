@@ -1,5 +1,6 @@
 -- An encoder of interfaces as one value, and what its calls ask and leave.
 use Rattle.std.specs.Prelude.{ℕ, ◌≡◌, ◌⊎◌, Some}
+use Rattle.std.specs.List.{Contains}
 use Rattle.wit_model.specs.Text.{Text}
 use Rattle.wit_model.specs.Meaning.{Signature, FunctionMeaning}
 use Rattle.wit_model.specs.Lookup.{interface_at}
@@ -56,6 +57,10 @@ outside e = around_at e.outer e.foreign
 -- each interface that an interface uses has an instance in the component type
 abbrev pub UsedAround : InterfaceEncoder → InterfaceId → Type 0
 UsedAround e i = UsedStand e.resolve.now (standing_instances e.resolve.now (outside e)) i.0
+
+-- the same instances stand there
+abbrev pub InstancesStay : InterfaceEncoder → InterfaceEncoder → Type 0
+InstancesStay e e' = (j : ℕ) → Contains (standing_instances e.resolve.now (outside e)) j → Contains (standing_instances e.resolve.now (outside e')) j
 
 -- in the component type nothing has been declared but aliases of types that had none
 abbrev pub Reaches : InterfaceEncoder → InterfaceEncoder → Type 0

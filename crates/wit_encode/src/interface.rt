@@ -331,7 +331,7 @@ impl<'a> InterfaceEncoderOf<'a, TypeEncodingMaps<'a>> {
     ghost use Rattle.wit_encode.specs.Exports.{AreTypesOf, AllKnown, KnowsUsed, UsesListed};
     ghost use Rattle.wit_model.specs.declared.model.«Type».TheVariants as ValueType;
     ghost use Rattle.wit_encode.specs.Instance.{ShowsFunction, CanEncodeFunction, LacksRoomWithin, IsInstance, placed_function, meaning_of, own_of, declarations_in};
-    ghost use Rattle.wit_encode.specs.Encoders.{encoder_view, view_of, contents_in, shown_as, scope_within, outside, GoesOn, Reaches, UsedAround, EncodesAs, LacksInstance};
+    ghost use Rattle.wit_encode.specs.Encoders.{encoder_view, view_of, contents_in, shown_as, scope_within, outside, GoesOn, Reaches, InstancesStay, UsedAround, EncodesAs, LacksInstance};
     ghost use Rattle.wit_encode.specs.Room.{export_name, LacksType, LacksPartOf};
     ghost use Rattle.wit_encode.specs.Maps.{MapsGrow};
 
@@ -581,6 +581,7 @@ impl<'a> InterfaceEncoderOf<'a, TypeEncodingMaps<'a>> {
         ensures err { OnErr result (Reaches self.old self.new) }
         ensures ok { IfOk result (EncodesAs self.old self.new interface) }
         ensures stands { OnOk result (Keeps (encoder_view self.old).stands (encoder_view self.new).stands) }
+        ensures instances { InstancesStay self.old self.new }
         ensures size { result ≡ Err Size → LacksInstance self.old interface }
         ensures refuses { IfErr result IsMemoryOrSize }
     {

@@ -25,7 +25,7 @@ pub returns-clause-counts : goal.returns-clause-counts
 returns-clause-counts g c =
     counts-kind c.args.resolve.now (g.E.ValtypeEncoder.view c.args.enc.now).scope (g.E.ValtypeEncoder.view c.args.enc.now).maps _ (g.E.ValtypeEncoder.view c.args.enc.now).definitions _ c.args.kind c.in_ok-index.index
     (subst (λ (z : TypeEncodingMaps). LearnsKind z (g.E.ValtypeEncoder.view c.remember_kind.new.enc).maps c.args.kind c.in_ok-index.index) c.define_shape.ensures.maps_stay c.in_ok-remember_kind.ensures.ok)
-    c.requires.there (c.remember_kind.ensures.counts ∙ c.in_ok-index.ensures.counts)
+    (c.remember_kind.ensures.counts ∙ c.in_ok-index.ensures.counts)
 
 pub returns-clause-kinds : goal.returns-clause-kinds
 returns-clause-kinds g c = kind-learnt (g.E.ValtypeEncoder.view c.args.enc.now).maps _ (g.E.ValtypeEncoder.view c.remember_kind.new.enc).maps c.args.kind c.in_ok-index.index c.define_shape.ensures.maps_stay c.in_ok-remember_kind.ensures.ok (kind_laws.refl c.args.kind.now)

@@ -13,7 +13,7 @@ use Rattle.wit_encode.specs.Instance.{placed_function}
 use Rattle.wit_encode.proofs.Encodable.{valid-encodable}
 use Rattle.wit_encode.proofs.Lists.{contains-map}
 use Rattle.wit_encode.specs.Encoders.{outside}
-use Rattle.wit_encode.proofs.Opening.{closes, close-each, closed-keeps, permuted-contains}
+use Rattle.wit_encode.proofs.Opening.{closes, close-each, closed-keeps, closed-stay, grown-stay, permuted-contains}
 use Rattle.wit_encode.specs.Exports.{UsesListed}
 use Rattle.wit_encode.proofs.Exporting.{uses-listed}
 use Rattle.wit_encode.proofs.FunctionExports.{keyed-value}
@@ -86,3 +86,10 @@ returns-in_err-declared-clause-size c = λ h def is.
 
 pub returns-clause-size : goal.returns-clause-size
 returns-clause-size c = λ h def is. inr (record { after = outside c.encode_inside.new.self; grown = c.encode_inside.ensures.reaches; full = c.close.ensures.size h })
+
+pub returns-clause-instances : goal.returns-clause-instances
+returns-clause-instances c = closed-stay c.close.result c.args.self.now.resolve.now (outside c.args.self.now) c.encode_inside.new.self.outer c.close.new.self.outer c.encode_inside.new.self.foreign c.close.new.self.foreign c.in_ok-declared.declared
+    c.encode_inside.ensures.reaches (λ i. (c.close.ensures.rest i).foreign) c.close.ensures.ok c.close.ensures.err
+
+pub returns-in_err-declared-clause-instances : goal.returns-in_err-declared-clause-instances
+returns-in_err-declared-clause-instances c = grown-stay c.args.self.now.resolve.now (outside c.args.self.now) (outside c.encode_inside.new.self) c.encode_inside.ensures.reaches

@@ -34,3 +34,9 @@ returns-in-Some-clause-size c = λ h. function-inside c.define_function_inside.r
 
 pub returns-clause-size : goal.returns-clause-size
 returns-clause-size c = λ h. function-outside c.define_function_outside.result c.args.self.now.resolve.now c.args.self.now.outer c.args.self.now.inner c.define_function_outside.new.outer c.in-None.is c.define_function_outside.ensures.err h c.args.def c.define_function_outside.ensures.size
+
+pub returns-in-Some-clause-around_stays : goal.returns-in-Some-clause-around_stays
+returns-in-Some-clause-around_stays c = ap (around_of c.args.self.now.outer) (sym c.in-Some.is)
+
+pub returns-clause-around_stays : goal.returns-clause-around_stays
+returns-clause-around_stays c = ap (around_of c.define_function_outside.new.outer) c.in-None.is ∙ sym (ap (around_of c.args.self.now.outer) c.in-None.is)

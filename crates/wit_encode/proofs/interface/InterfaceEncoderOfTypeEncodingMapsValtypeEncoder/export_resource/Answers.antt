@@ -21,3 +21,6 @@ returns-clause-counts c = (resource-within c.export_inside.result c.args.self.no
 
 pub returns-clause-size : goal.returns-clause-size
 returns-clause-size c = λ h. for_name (raw_name c.args.name) refs.SubResource (c.export_inside.ensures.size h)
+
+pub returns-clause-around_stays : goal.returns-clause-around_stays
+returns-clause-around_stays c = ap (around_of c.args.self.now.outer) (sym c.in-Some.is)

@@ -37,3 +37,9 @@ pub returns-in_err-slot-in-Some-clause-size : goal.returns-in_err-slot-in-Some-c
 returns-in_err-slot-in-Some-clause-size c = λ h.
     let refused : ◌≡◌ {A = Result ℕ Error} c.export_inside.result (Err errors.Size) = search rules in
     for_name (raw_name c.args.name) (refs.TypeEq c.args.index) (c.export_inside.ensures.size refused)
+
+pub returns-clause-around_stays : goal.returns-clause-around_stays
+returns-clause-around_stays c = ap (around_of c.args.self.now.outer) (sym c.in-Some.is)
+
+pub returns-in_err-slot-in-Some-clause-around_stays : goal.returns-in_err-slot-in-Some-clause-around_stays
+returns-in_err-slot-in-Some-clause-around_stays c = ap (around_of c.args.self.now.outer) (sym c.in-Some.is)
