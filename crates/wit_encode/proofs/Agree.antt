@@ -14,6 +14,7 @@ use Rattle.wit_encode.specs.declared.key.FunctionKey.{FunctionKey}
 use Rattle.wit_encode.specs.Key.{same_key}
 use Rattle.wit_encode.specs.Slots.{Pairs, Keeps}
 use Rattle.wit_encode.specs.View.{View, SameRest}
+use Rattle.wit_encode.proofs.Around.{around-same}
 use Rattle.wit_encode.specs.Leaves.{Leaves}
 use Rattle.wit_encode.specs.Maps.{Known, by_number, by_kind, by_key, by_unit_future, by_unit_stream, Holds, standing_of, same_kind, IsOnce, MapsAgree, MapsGrow, IsKnown, LacksKind, LacksKey, SameMaps, LearnsNumber, LearnsKind, LearnsKey, LearnsOne}
 
@@ -226,7 +227,7 @@ pub changes-unit : (r : Resolve) (m m' : TypeEncodingMaps) (S S' : Pairs) (k : K
 changes-unit r m m' S S' k i keeps l a s = changes-learns r m m' S' k i l (record { says = λ k j h. keeps j (standing_of r k) (a.says k j h); once = a.once }) (keeps i (standing_of r k) s)
 
 pub leaves-changed : (r : Resolve) (v v' : View) → SameRest v v' → Changes r v.maps v'.maps v'.stands → Leaves r v v'
-leaves-changed r v v' s c = record { agree = c.agree; maps_grow = c.grow; grows = record { kept = s.kept; more = (let e = s.slot_count_ in omega arith) }; scope_stays = s.scope_ }
+leaves-changed r v v' s c = record { agree = c.agree; maps_grow = c.grow; grows = record { kept = s.kept; more = (let e = s.slot_count_ in omega arith); around_ = around-same s.around_ }; scope_stays = s.scope_ }
 
 pub known-learnt : (m m' : TypeEncodingMaps) (id : TypeId) (i : ℕ) → LearnsNumber m m' id i → IsKnown m' id.0
 known-learnt m m' id i l = (i, subst (λ (xs : List (TypeId × ℕ)). Contains xs (id, i)) (sym l.more) (Contains-push m.id_to_index.items (id, i)))

@@ -26,7 +26,7 @@ use Rattle.wit_encode.specs.Scope.{Scope, IsDeclared, DeclaresSlot, DeclaresReso
 use Rattle.wit_encode.specs.Formed.{IsFormed, IsFormedSignature, is_formed}
 use Rattle.wit_encode.specs.Counts.{one_type_more, one_function_more, ExportsOne}
 use Rattle.wit_encode.specs.Instance.{standing_at, SlotsStand, is_slot_of, Contents, no_view, outer_slots, inner_scope, inner_contents, is_value_type, is_function_type, place_in, resources_in, scope_with, definitions_with}
-use Rattle.wit_encode.specs.Known.{Known}
+use Rattle.wit_encode.specs.Known.{Around}
 use Rattle.wit_encode.proofs.Defining.{count-push}
 use Rattle.wit_encode.proofs.Strict.{bind, slot-at, definition-strict, function-strict, follows-once, signature-once}
 use Rattle.wit_encode.proofs.Contents.{IsOf, Grew, grew-adds, grew-grows, same-grows, grew-scope}
@@ -39,19 +39,19 @@ pub record Calls {E : Type 0} (res : Result ℕ E) (s s' : Scope) (c c' : Conten
   pub scope_stays : s' ≡ s
   pub counted : OnOk res counts
 
-pub calls-from : {E : Type 0} (res : Result ℕ E) (r : Resolve) (interface : Option InterfaceId) (around : Declarations) (known : Known) (c c' : Contents) (P : Standing → Type 0) (counts : Type 0) (x : Slot)
-    → (scope_with r interface around known c).is_sound ≡ true → is_slot_of (resources_in r interface) x ≡ true → IsOf x P → IfOk res (λ k. (k ≡ length c.slots) × Grew c c' x × counts) → OnErr res (c' ≡ c)
-    → Calls res (scope_with r interface around known c) (scope_with r interface around known c') c c' P counts
-calls-from (Ok k) r interface around known c c' P counts x sound o is h e = record {
+pub calls-from : {E : Type 0} (res : Result ℕ E) (r : Resolve) (interface : Option InterfaceId) (around : Around) (c c' : Contents) (P : Standing → Type 0) (counts : Type 0) (x : Slot)
+    → (scope_with r interface around c).is_sound ≡ true → is_slot_of (resources_in r interface) x ≡ true → IsOf x P → IfOk res (λ k. (k ≡ length c.slots) × Grew c c' x × counts) → OnErr res (c' ≡ c)
+    → Calls res (scope_with r interface around c) (scope_with r interface around c') c c' P counts
+calls-from (Ok k) r interface around c c' P counts x sound o is h e = record {
   ok = grew-adds c c' x k P h.1 h.0 is;
   grows = grew-grows c c' x h.1;
-  scope_stays = grew-scope r interface around known c c' x h.1 o sound;
+  scope_stays = grew-scope r interface around c c' x h.1 o sound;
   counted = h.2;
 }
-calls-from (Err q) r interface around known c c' P counts x sound o is h e = record {
+calls-from (Err q) r interface around c c' P counts x sound o is h e = record {
   ok = h;
   grows = same-grows c c' e;
-  scope_stays = ap (scope_with r interface around known) e;
+  scope_stays = ap (scope_with r interface around) e;
   counted = h;
 }
 
@@ -160,7 +160,10 @@ some-standing u m e = cc
 
 -- ---- an instance type
 
-module _ {E : Type 0} (res : Result ℕ E) (r : Resolve) (i : InterfaceId) (outer : Declarations) (known : Known) (ds ds' : List Declaration) where
+module _ {E : Type 0} (res : Result ℕ E) (r : Resolve) (i : InterfaceId) (around : Around) (ds ds' : List Declaration) where
+  abbrev outer : Declarations
+  outer = around.declared
+
   abbrev here : Option InterfaceId
   here = Some i
 
@@ -170,7 +173,7 @@ module _ {E : Type 0} (res : Result ℕ E) (r : Resolve) (i : InterfaceId) (oute
   abbrev after : Contents
   after = inner_contents (place_in r here) outer ds'
 
-  module _ (sound : (scope_with r here outer known before).is_sound ≡ true) where
+  module _ (sound : (scope_with r here around before).is_sound ≡ true) where
     inner-there : InnerAt (place_in r here) outer ds
     inner-there = inner-at (place_in r here) outer ds (first_true before.is_followed (list_all (is_slot_of (resources_in r here)) before.slots) sound)
 
@@ -196,9 +199,9 @@ module _ {E : Type 0} (res : Result ℕ E) (r : Resolve) (i : InterfaceId) (oute
         err-each (Ok k) f h = h
         err-each (Err e) f h = f h
 
-    pub defined-inside : (d : ComponentDefinedType) (t : Tree) → Follows (SlotsStand before.slots) d t → IsFormed (scope_with r here outer known before) t
+    pub defined-inside : (d : ComponentDefinedType) (t : Tree) → Follows (SlotsStand before.slots) d t → IsFormed (scope_with r here around before) t
         → IfOk res (λ k. (k ≡ type_slots ds) × (ds' ≡ ds ++ Declaration.defined (raw_defined d) ∷ [])) → OnErr res (ds' ≡ ds)
-        → Calls res (scope_with r here outer known before) (scope_with r here outer known after) before after (Defines (SlotsStand before.slots) d) (definitions_with after ≡ one_type_more (definitions_with before))
+        → Calls res (scope_with r here around before) (scope_with r here around after) before after (Defines (SlotsStand before.slots) d) (definitions_with after ≡ one_type_more (definitions_with before))
     defined-inside d t h f ok err =
         let a = inner-there in
         let strict : definition a.scope.slots (raw_defined d) ≡ Some t = ap (λ zs. definition zs (raw_defined d)) (sym a.slots) ∙ definition-strict (resources_in r here) before.slots inner-slots d t h f.formed in
@@ -210,15 +213,15 @@ module _ {E : Type 0} (res : Result ℕ E) (r : Resolve) (i : InterfaceId) (oute
           types = nothing-more a.scope.shown.types;
           functions = refl;
         } in
-        calls-from res r here outer known before after _ _ (Slot.value t) sound (formed-value (resources_in r here) t f.formed) (defines-of before.slots d t h)
+        calls-from res r here around before after _ _ (Slot.value t) sound (formed-value (resources_in r here) t f.formed) (defines-of before.slots d t h)
         (more-ok (Declaration.defined (raw_defined d)) (Slot.value t) [] _ m (λ e. ap (λ zs. definitions_with (inner_contents (place_in r here) outer zs)) e
         ∙ inner-definitions (place_in r here) outer ds (Declaration.defined (raw_defined d)) (Slot.value t) [] m (before.types + 1) before.functions refl (omega arith)
         ∙ (λ j. record { types = before.types + 1; functions = before.functions; exports = sym (nothing-more (definitions_with before).exports) j })) ok)
         (err-same err)
 
-    pub function-inside : (d : ComponentFuncType) (s : Signature) → FollowsFunction (SlotsStand before.slots) d s → IsFormedSignature (scope_with r here outer known before) s
+    pub function-inside : (d : ComponentFuncType) (s : Signature) → FollowsFunction (SlotsStand before.slots) d s → IsFormedSignature (scope_with r here around before) s
         → IfOk res (λ k. (k ≡ type_slots ds) × (ds' ≡ ds ++ Declaration.function (raw_function d) ∷ [])) → OnErr res (ds' ≡ ds)
-        → Calls res (scope_with r here outer known before) (scope_with r here outer known after) before after (DefinesFunction (SlotsStand before.slots) d) (definitions_with after ≡ one_function_more (definitions_with before))
+        → Calls res (scope_with r here around before) (scope_with r here around after) before after (DefinesFunction (SlotsStand before.slots) d) (definitions_with after ≡ one_function_more (definitions_with before))
     function-inside d s h f ok err =
         let a = inner-there in
         let strict : function_signature a.scope.slots (raw_function d) ≡ Some s = ap (λ zs. function_signature zs (raw_function d)) (sym a.slots) ∙ function-strict (resources_in r here) before.slots inner-slots d s h f.params f.result_ in
@@ -230,7 +233,7 @@ module _ {E : Type 0} (res : Result ℕ E) (r : Resolve) (i : InterfaceId) (oute
           types = nothing-more a.scope.shown.types;
           functions = refl;
         } in
-        calls-from res r here outer known before after _ _ (Slot.function s) sound refl (function-of before.slots d s h)
+        calls-from res r here around before after _ _ (Slot.function s) sound refl (function-of before.slots d s h)
         (more-ok (Declaration.function (raw_function d)) (Slot.function s) [] _ m (λ e. ap (λ zs. definitions_with (inner_contents (place_in r here) outer zs)) e
         ∙ inner-definitions (place_in r here) outer ds (Declaration.function (raw_function d)) (Slot.function s) [] m before.types (before.functions + 1) (omega arith) refl
         ∙ (λ j. record { types = before.types; functions = before.functions + 1; exports = sym (nothing-more (definitions_with before).exports) j })) ok)
@@ -239,7 +242,7 @@ module _ {E : Type 0} (res : Result ℕ E) (r : Resolve) (i : InterfaceId) (oute
     -- a type around that is the name of a named interface
     pub alias-inside : (k : ℕ) (x : Slot) (t : Tree) → slice_get (outer_slots outer) k ≡ Some x → is_foreign_name x ≡ true → is_slot_of (resources_in r here) x ≡ true → standing_at (Some x) ≡ Some (tree t)
         → IfOk res (λ k'. (k' ≡ type_slots ds) × (ds' ≡ ds ++ Declaration.alias_of (Alias.of_outer 1 k) ∷ [])) → OnErr res (ds' ≡ ds)
-        → Calls res (scope_with r here outer known before) (scope_with r here outer known after) before after (λ m. m ≡ tree t) (definitions_with after ≡ definitions_with before)
+        → Calls res (scope_with r here around before) (scope_with r here around after) before after (λ m. m ≡ tree t) (definitions_with after ≡ definitions_with before)
     alias-inside k x t at foreign kept stands ok err =
         let a = inner-there in
         let d : Declaration = Declaration.alias_of (Alias.of_outer 1 k) in
@@ -252,7 +255,7 @@ module _ {E : Type 0} (res : Result ℕ E) (r : Resolve) (i : InterfaceId) (oute
           types = nothing-more a.scope.shown.types;
           functions = refl;
         } in
-        calls-from res r here outer known before after _ _ x sound kept
+        calls-from res r here around before after _ _ x sound kept
         (record { gives = λ m e. stands ∙ ap Some (sym e); only = λ m e. some-standing _ m (sym stands ∙ e) })
         (more-ok d x [] _ m (λ e. ap (λ zs. definitions_with (inner_contents (place_in r here) outer zs)) e
         ∙ inner-definitions (place_in r here) outer ds (Declaration.alias_of (Alias.of_outer 1 k)) x [] m before.types before.functions (omega arith) (omega arith)
@@ -262,14 +265,14 @@ module _ {E : Type 0} (res : Result ℕ E) (r : Resolve) (i : InterfaceId) (oute
     -- ---- exports of types
 
     abbrev ShownAs : ExternName → Type 0
-    ShownAs name = ExportsOne (scope_with r here outer known before) (definitions_with before) (definitions_with after) name
+    ShownAs name = ExportsOne (scope_with r here around before) (definitions_with before) (definitions_with after) name
 
     -- a declaration that is followed as it says
-    exported-inside : (described : ComponentTypeRef) (name : ExternName) (d : Text × TypeMeaning) (x : Slot) → IsDeclared (scope_with r here outer known before) d → name ≡ exported_name d → is_slot_of (resources_in r here) x ≡ true
+    exported-inside : (described : ComponentTypeRef) (name : ExternName) (d : Text × TypeMeaning) (x : Slot) → IsDeclared (scope_with r here around before) d → name ≡ exported_name d → is_slot_of (resources_in r here) x ≡ true
         → standing_at (Some x) ≡ Some (tree (named (place_in r here) name.text)) → ((m : InstanceScope) → instance_step (place_in r here) (outer_slots outer) m (Declaration.exported name described) ≡ show_type (place_in r here) name described m)
         → named_type before.slots (place_in r here) name.text described ≡ Some (d.1.declaration, x)
         → IfOk res (λ k. (k ≡ type_slots ds) × (ds' ≡ ds ++ Declaration.exported name described ∷ [])) → OnErr res (ds' ≡ ds)
-        → Calls res (scope_with r here outer known before) (scope_with r here outer known after) before after (λ m. m ≡ tree (named (place_in r here) name.text)) (ShownAs name)
+        → Calls res (scope_with r here around before) (scope_with r here around after) before after (λ m. m ≡ tree (named (place_in r here) name.text)) (ShownAs name)
     exported-inside described name d x declared is kept stands step found ok err =
         let a = inner-there in
         let t : ShownType = record { name = name.text; meaning = record { declaration = d.1.declaration; external_id = name.external_id }; slot = x } in
@@ -284,7 +287,7 @@ module _ {E : Type 0} (res : Result ℕ E) (r : Resolve) (i : InterfaceId) (oute
           functions = refl;
         } in
         let meant : (name.text, t.meaning) ≡ d = λ j. (ap (λ (n : ExternName). n.text) is j, record { declaration = d.1.declaration; external_id = ap (λ (n : ExternName). n.external_id) is j }) in
-        calls-from res r here outer known before after _ _ x sound kept
+        calls-from res r here around before after _ _ x sound kept
         (record { gives = λ m e. stands ∙ ap Some (sym e); only = λ m e. some-standing _ m (sym stands ∙ e) })
         (more-ok (Declaration.exported name described) x (t ∷ []) _ m (λ e. record {
           declaration = d;
@@ -299,9 +302,9 @@ module _ {E : Type 0} (res : Result ℕ E) (r : Resolve) (i : InterfaceId) (oute
     simple-name : (name : ExternName) (d : Text × TypeMeaning) → name ≡ exported_name d → is_simple name ≡ true
     simple-name name d e = ap is_simple e
 
-    pub type-inside : (k : ℕ) (name : ExternName) → DeclaresSlot (scope_with r here outer known before) (SlotsStand before.slots) name k
+    pub type-inside : (k : ℕ) (name : ExternName) → DeclaresSlot (scope_with r here around before) (SlotsStand before.slots) name k
         → IfOk res (λ k'. (k' ≡ type_slots ds) × (ds' ≡ ds ++ Declaration.exported name (refs.TypeEq k) ∷ [])) → OnErr res (ds' ≡ ds)
-        → Calls res (scope_with r here outer known before) (scope_with r here outer known after) before after (λ m. m ≡ tree (named (place_in r here) name.text)) (ShownAs name)
+        → Calls res (scope_with r here around before) (scope_with r here around after) before after (λ m. m ≡ tree (named (place_in r here) name.text)) (ShownAs name)
     type-inside k name s ok err = go (slice_get before.slots k) refl s.stands
       where
         simple : is_simple name ≡ true
@@ -323,7 +326,7 @@ module _ {E : Type 0} (res : Result ℕ E) (r : Resolve) (i : InterfaceId) (oute
             ∙ (λ j. Some (sym s.is_type j, like j))
 
         go : (o : Option Slot) → slice_get before.slots k ≡ o → standing_at o ≡ Some (tree s.type_tree)
-            → Calls res (scope_with r here outer known before) (scope_with r here outer known after) before after (λ m. m ≡ tree (named (place_in r here) name.text)) (ShownAs name)
+            → Calls res (scope_with r here around before) (scope_with r here around after) before after (λ m. m ≡ tree (named (place_in r here) name.text)) (ShownAs name)
         go (Some (Slot.value u)) at q =
             let same : u ≡ s.type_tree = cc in
             let kept : not (resources_in r here (place_in r here) name.text) ≡ true = ap not (alike ∙ ap (is_resource_tree (resources_in r here)) (sym same)) ∙ slot-at (is_slot_of (resources_in r here)) before.slots k (Slot.value u) inner-slots at in
@@ -338,9 +341,9 @@ module _ {E : Type 0} (res : Result ℕ E) (r : Resolve) (i : InterfaceId) (oute
         go (Some (Slot.instance xs n)) at q = absurd (let z : ⊥ = cc in z)
         go None at q = absurd (let z : ⊥ = cc in z)
 
-    pub resource-inside : (name : ExternName) → DeclaresResource (scope_with r here outer known before) name
+    pub resource-inside : (name : ExternName) → DeclaresResource (scope_with r here around before) name
         → IfOk res (λ k'. (k' ≡ type_slots ds) × (ds' ≡ ds ++ Declaration.exported name refs.SubResource ∷ [])) → OnErr res (ds' ≡ ds)
-        → Calls res (scope_with r here outer known before) (scope_with r here outer known after) before after (λ m. m ≡ tree (named (place_in r here) name.text)) (ShownAs name)
+        → Calls res (scope_with r here around before) (scope_with r here around after) before after (λ m. m ≡ tree (named (place_in r here) name.text)) (ShownAs name)
     resource-inside name s ok err =
         let kept : resources_in r here (place_in r here) name.text ≡ true = ap (λ (n : ExternName). resources_in r here (place_in r here) n.text) s.named_ ∙ s.declared.alike ∙ ap (is_resource_declaration (resources_in r here)) s.is_resource in
         exported-inside refs.SubResource name s.declaration (Slot.resource (place_in r here) name.text) s.declared s.named_ kept refl

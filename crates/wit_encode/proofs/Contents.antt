@@ -5,11 +5,10 @@ use Rattle.std.proofs.lemmas.List.Folds.{list_all-append}
 use Rattle.wit_model.specs.declared.model.Resolve.{Resolve}
 use Rattle.wit_model.specs.declared.model.InterfaceId.{InterfaceId}
 use Rattle.wit_model.proofs.Lists.{second_true}
-use Rattle.comp_bytes.specs.Raw.{Declarations}
 use Rattle.comp_meaning.specs.Follow.{Slot}
 use Rattle.wit_encode.specs.Slots.{Standing, Adds, SlotAdded, SlotsGrow}
-use Rattle.wit_encode.specs.Instance.{standing_at, SlotsStand, is_slot_of, Contents, resources_in, scope_from, scope_with}
-use Rattle.wit_encode.specs.Known.{Known}
+use Rattle.wit_encode.specs.Instance.{standing_at, SlotsStand, is_slot_of, Contents, resources_in, standing_instances, scope_from, scope_with}
+use Rattle.wit_encode.specs.Known.{Around}
 use Rattle.wit_encode.proofs.Lists.{both}
 
 -- ---- one slot more
@@ -63,10 +62,10 @@ pub same-grows : (c c' : Contents) → c' ≡ c → SlotsGrow (SlotsStand c.slot
 same-grows c c' e = subst (λ (z : Contents). SlotsGrow (SlotsStand c.slots) (SlotsStand z.slots) (length c.slots) (length z.slots)) (sym e) (record { kept = λ i m h. h; more = omega arith })
 
 -- the surroundings stay
-pub grew-scope : (r : Resolve) (interface : Option InterfaceId) (around : Declarations) (known : Known) (c c' : Contents) (x : Slot) → Grew c c' x → is_slot_of (resources_in r interface) x ≡ true → (scope_with r interface around known c).is_sound ≡ true → scope_with r interface around known c' ≡ scope_with r interface around known c
-grew-scope r interface around known c c' x g o sound =
+pub grew-scope : (r : Resolve) (interface : Option InterfaceId) (around : Around) (c c' : Contents) (x : Slot) → Grew c c' x → is_slot_of (resources_in r interface) x ≡ true → (scope_with r interface around c).is_sound ≡ true → scope_with r interface around c' ≡ scope_with r interface around c
+grew-scope r interface around c c' x g o sound =
     let test = is_slot_of (resources_in r interface) in
     let all : list_all test c.slots ≡ true = second_true c.is_followed (list_all test c.slots) sound in
     let all' : list_all test c'.slots ≡ true = ap (list_all test) g.slots ∙ list_all-append test c.slots (x ∷ []) ∙ both (list_all test c.slots) (test x && true) all (both (test x) true o refl) in
     let s : (c'.is_followed && list_all test c'.slots) ≡ (c.is_followed && list_all test c.slots) = (λ i. g.followed i && (all' ∙ sym all) i) in
-    λ i. scope_from r interface around known (g.functions_shown i) (s i)
+    λ i. scope_from r interface (standing_instances r around) (g.functions_shown i) (s i)

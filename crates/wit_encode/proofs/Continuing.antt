@@ -13,7 +13,9 @@ use Rattle.wit_encode.specs.declared.interface.OpenInterface.{OpenInterface}
 use Rattle.wit_encode.specs.Maps.{MapsAgree}
 use Rattle.wit_encode.specs.Scope.{Scope, IsImportable, IsDeclared}
 use Rattle.wit_encode.specs.Fits.{CanEncode}
-use Rattle.wit_encode.specs.Instance.{SlotsStand, is_slot_of, resources_in, own_of, around_of, known_of, scope_from, contents_of, encoder_scope, ShowsFunction, with_functions, Continues, CanEncodeFunction}
+use Rattle.wit_encode.specs.Instance.{SlotsStand, is_slot_of, resources_in, own_of, around_of, standing_instances, scope_from, contents_of, encoder_scope, ShowsFunction, with_functions, Continues, CanEncodeFunction}
+use Rattle.wit_encode.specs.Known.{Around, GrowsAround}
+use Rattle.wit_encode.proofs.Around.{around-same, around-trans}
 
 -- ---- what is asked of a scope doesn't hang on the functions
 
@@ -44,21 +46,22 @@ function-apart r s fs f c = record { types = encode-apart r s fs _ c.types; form
 
 module _ {r r' : Resolve} {outer outer' : Declarations} {inner inner' : Option OpenInterface} {m m' : TypeEncodingMaps} where
   -- a call that keeps the law
-  pub continues-kept : encoder_scope r' outer' inner' ≡ encoder_scope r outer inner → MapsAgree r m' (SlotsStand (contents_of r' outer' inner').slots) → Continues r r' outer outer' inner inner' m m'
-  continues-kept s a = record { scope_stays = λ i. with_functions (s i) (contents_of r' outer' inner').shown.functions; agree = a }
+  pub continues-kept : encoder_scope r' outer' inner' ≡ encoder_scope r outer inner → MapsAgree r m' (SlotsStand (contents_of r' outer' inner').slots) → GrowsAround r (around_of outer inner) (around_of outer' inner') → Continues r r' outer outer' inner inner' m m'
+  continues-kept s a g = record { scope_stays = λ i. with_functions (s i) (contents_of r' outer' inner').shown.functions; agree = a; around_ = g }
 
   pub function-continues : (f : Function) → Continues r r' outer outer' inner inner' m m' → CanEncodeFunction r (encoder_scope r outer inner) f → CanEncodeFunction r (encoder_scope r' outer' inner') f
   function-continues f c h = subst (λ (s : Scope). CanEncodeFunction r s f) (sym c.scope_stays) (function-apart r (encoder_scope r outer inner) (contents_of r' outer' inner').shown.functions f h)
 
   -- a function that is exported
   pub continues-shown : {f : Text × FunctionMeaning} → r' ≡ r → outer' ≡ outer → own_of inner' ≡ own_of inner → ShowsFunction (contents_of r outer inner) (contents_of r' outer' inner') f → MapsAgree r m (SlotsStand (contents_of r outer inner).slots) → m' ≡ m
-      → around_of outer' inner' ≡ around_of outer inner → known_of inner' ≡ known_of inner → Continues r r' outer outer' inner inner' m m'
-  continues-shown e o w s a q around known =
+      → around_of outer' inner' ≡ around_of outer inner → Continues r r' outer outer' inner inner' m m'
+  continues-shown e o w s a q around =
       let sound : ((contents_of r' outer' inner').is_followed && list_all (is_slot_of (resources_in r' (own_of inner'))) (contents_of r' outer' inner').slots) ≡ ((contents_of r outer inner).is_followed && list_all (is_slot_of (resources_in r (own_of inner))) (contents_of r outer inner).slots) =
       (λ i. s.followed i && list_all (is_slot_of (resources_in (e i) (w i))) (s.slots i)) in
       record {
-        scope_stays = λ i. scope_from (e i) (w i) (around i) (known i) (contents_of r' outer' inner').shown.functions (sound i);
+        scope_stays = λ i. scope_from (e i) (w i) (standing_instances (e i) (around i)) (contents_of r' outer' inner').shown.functions (sound i);
         agree = subst (λ (z : TypeEncodingMaps). MapsAgree r z (SlotsStand (contents_of r' outer' inner').slots)) (sym q) (subst (λ (xs : List Slot). MapsAgree r m (SlotsStand xs)) (sym s.slots) a);
+        around_ = around-same around;
       }
 
 pub continues-trans : {r r' r'' : Resolve} {outer outer' outer'' : Declarations} {inner inner' inner'' : Option OpenInterface} {m m' m'' : TypeEncodingMaps}
@@ -66,13 +69,8 @@ pub continues-trans : {r r' r'' : Resolve} {outer outer' outer'' : Declarations}
 continues-trans {r} {r'} {r''} {outer} {outer'} {outer''} {inner} {inner'} {inner''} {m} {m'} {m''} p q e = record {
   scope_stays = q.scope_stays ∙ (λ i. with_functions (p.scope_stays i) (contents_of r'' outer'' inner'').shown.functions);
   agree = subst (λ (z : Resolve). MapsAgree z m'' (SlotsStand (contents_of r'' outer'' inner'').slots)) e q.agree;
+  around_ = around-trans p.around_ (subst (λ (z : Resolve). GrowsAround z (around_of outer' inner') (around_of outer'' inner'')) e q.around_);
 }
-
-around-by-own : (outer : Declarations) (a b : Option OpenInterface) → own_of a ≡ own_of b → around_of outer a ≡ around_of outer b
-around-by-own outer None None e = refl
-around-by-own outer None (Some b) e = absurd (let z : ⊥ = cc in z)
-around-by-own outer (Some a) None e = absurd (let z : ⊥ = cc in z)
-around-by-own outer (Some a) (Some b) e = refl
 
 -- a function: its type, and then its export
 pub record Showed {A E : Type 0} (res : Result A E) (r : Resolve) (o₀ o₂ : Declarations) (i₀ i₂ : Option OpenInterface) (m₀ m₂ : TypeEncodingMaps) (f : Text × FunctionMeaning) : Type 0 where
@@ -80,12 +78,12 @@ pub record Showed {A E : Type 0} (res : Result A E) (r : Resolve) (o₀ o₂ : D
   pub shows : OnOk res ((contents_of r o₂ i₂).shown.functions ≡ (contents_of r o₀ i₀).shown.functions ++ f ∷ [])
 
 pub function-showed : {A E : Type 0} (res : Result A E) (r r₀ r₁ r₂ : Resolve) (o₀ o₁ o₂ : Declarations) (i₀ i₁ i₂ : Option OpenInterface) (m₀ m₁ m₂ : TypeEncodingMaps) (f g : Text × FunctionMeaning) → r₀ ≡ r
-    → encoder_scope r₁ o₁ i₁ ≡ encoder_scope r₀ o₀ i₀ → MapsAgree r m₁ (SlotsStand (contents_of r₁ o₁ i₁).slots) → r₂ ≡ r₁ → o₂ ≡ o₁ → own_of i₂ ≡ own_of i₁ → known_of i₂ ≡ known_of i₁ → m₂ ≡ m₁ → g ≡ f
+    → encoder_scope r₁ o₁ i₁ ≡ encoder_scope r₀ o₀ i₀ → MapsAgree r m₁ (SlotsStand (contents_of r₁ o₁ i₁).slots) → GrowsAround r₀ (around_of o₀ i₀) (around_of o₁ i₁) → r₂ ≡ r₁ → o₂ ≡ o₁ → own_of i₂ ≡ own_of i₁ → around_of o₂ i₂ ≡ around_of o₁ i₁ → m₂ ≡ m₁ → g ≡ f
     → OnOk res (ShowsFunction (contents_of r₁ o₁ i₁) (contents_of r₂ o₂ i₂) g) → OnErr res (i₂ ≡ i₁) → Showed res r o₀ o₂ i₀ i₂ m₀ m₂ f
-function-showed res r r₀ r₁ r₂ o₀ o₁ o₂ i₀ i₁ i₂ m₀ m₁ m₂ f g e s agree e₂ eo ei ek em eg ok err =
+function-showed res r r₀ r₁ r₂ o₀ o₁ o₂ i₀ i₁ i₂ m₀ m₁ m₂ f g e s agree grown e₂ eo ei around em eg ok err =
     let e₁ : r₁ ≡ r₀ = ap (λ (z : Scope). z.packages) s in
     let agree₁ : MapsAgree r₁ m₁ (SlotsStand (contents_of r₁ o₁ i₁).slots) = subst (λ (z : Resolve). MapsAgree z m₁ (SlotsStand (contents_of r₁ o₁ i₁).slots)) (sym (e₁ ∙ e)) agree in
-    let first : Continues r₀ r₁ o₀ o₁ i₀ i₁ m₀ m₁ = continues-kept s (subst (λ (z : Resolve). MapsAgree z m₁ (SlotsStand (contents_of r₁ o₁ i₁).slots)) e₁ agree₁) in
+    let first : Continues r₀ r₁ o₀ o₁ i₀ i₁ m₀ m₁ = continues-kept s (subst (λ (z : Resolve). MapsAgree z m₁ (SlotsStand (contents_of r₁ o₁ i₁).slots)) e₁ agree₁) grown in
     let all : Continues r₀ r₂ o₀ o₂ i₀ i₂ m₀ m₂ = continues-trans first (second res agree₁ ok err) e₁ in
     let here : r₂ ≡ r = e₂ ∙ (e₁ ∙ e) in
     record {
@@ -93,14 +91,12 @@ function-showed res r r₀ r₁ r₂ o₀ o₁ o₂ i₀ i₁ i₂ m₀ m₁ m�
       shows = more res here ok;
     }
   where
-    around : around_of o₂ i₂ ≡ around_of o₁ i₁
-    around = ap (λ (z : Declarations). around_of z i₂) eo ∙ around-by-own o₁ i₂ i₁ ei
-
     second : {A E : Type 0} (res : Result A E) → MapsAgree r₁ m₁ (SlotsStand (contents_of r₁ o₁ i₁).slots) → OnOk res (ShowsFunction (contents_of r₁ o₁ i₁) (contents_of r₂ o₂ i₂) g) → OnErr res (i₂ ≡ i₁) → Continues r₁ r₂ o₁ o₂ i₁ i₂ m₁ m₂
-    second (Ok a) agree ok err = continues-shown e₂ eo ei ok agree em around ek
+    second (Ok a) agree ok err = continues-shown e₂ eo ei ok agree em around
     second (Err x) agree ok err = record {
       scope_stays = λ j. with_functions (encoder_scope (e₂ j) (eo j) (err j)) (contents_of r₂ o₂ i₂).shown.functions;
       agree = subst (λ (z : TypeEncodingMaps). MapsAgree r₁ z (SlotsStand (contents_of r₂ o₂ i₂).slots)) (sym em) (subst (λ (xs : List Slot). MapsAgree r₁ m₁ (SlotsStand xs)) (λ j. (contents_of (sym e₂ j) (sym eo j) (sym err j)).slots) agree);
+      around_ = around-same around;
     }
 
     more : {A E : Type 0} (res : Result A E) → r₂ ≡ r → OnOk res (ShowsFunction (contents_of r₁ o₁ i₁) (contents_of r₂ o₂ i₂) g) → OnOk res ((contents_of r o₂ i₂).shown.functions ≡ (contents_of r o₀ i₀).shown.functions ++ f ∷ [])
@@ -110,10 +106,10 @@ function-showed res r r₀ r₁ r₂ o₀ o₁ o₂ i₀ i₁ i₂ m₀ m₁ m�
     more (Err x) here ok = ok
 
 -- what types leave goes on to their functions
-pub after-types : (r r₀ r₁ : Resolve) (o₀ o₁ : Declarations) (i₀ i₁ : Option OpenInterface) (m₀ m₁ : TypeEncodingMaps) → r₀ ≡ r → encoder_scope r₁ o₁ i₁ ≡ encoder_scope r₀ o₀ i₀ → MapsAgree r m₁ (SlotsStand (contents_of r₁ o₁ i₁).slots) → Continues r r o₀ o₁ i₀ i₁ m₀ m₁
-after-types r r₀ r₁ o₀ o₁ i₀ i₁ m₀ m₁ e s agree =
+pub after-types : (r r₀ r₁ : Resolve) (o₀ o₁ : Declarations) (i₀ i₁ : Option OpenInterface) (m₀ m₁ : TypeEncodingMaps) → r₀ ≡ r → encoder_scope r₁ o₁ i₁ ≡ encoder_scope r₀ o₀ i₀ → MapsAgree r m₁ (SlotsStand (contents_of r₁ o₁ i₁).slots) → GrowsAround r₀ (around_of o₀ i₀) (around_of o₁ i₁) → Continues r r o₀ o₁ i₀ i₁ m₀ m₁
+after-types r r₀ r₁ o₀ o₁ i₀ i₁ m₀ m₁ e s agree grown =
     let e₁ : r₁ ≡ r₀ = ap (λ (z : Scope). z.packages) s in
-    let first : Continues r₀ r₁ o₀ o₁ i₀ i₁ m₀ m₁ = continues-kept s (subst (λ (z : Resolve). MapsAgree z m₁ (SlotsStand (contents_of r₁ o₁ i₁).slots)) (sym e) agree) in
+    let first : Continues r₀ r₁ o₀ o₁ i₀ i₁ m₀ m₁ = continues-kept s (subst (λ (z : Resolve). MapsAgree z m₁ (SlotsStand (contents_of r₁ o₁ i₁).slots)) (sym e) agree) grown in
     subst (λ (z : Resolve). Continues z r o₀ o₁ i₀ i₁ m₀ m₁) e (subst (λ (z : Resolve). Continues r₀ z o₀ o₁ i₀ i₁ m₀ m₁) (e₁ ∙ e) first)
 
 pub shows-after : {A E : Type 0} (res : Result A E) (a b c more : List (Text × FunctionMeaning)) → OnOk res (c ≡ b ++ more) → b ≡ a → OnOk res (c ≡ a ++ more)

@@ -33,6 +33,7 @@ use Rattle.comp_bytes.specs.Raw.{Declaration, Declarations}
 use Rattle.wit_encode.specs.declared.key.FunctionKey.{FunctionKey}
 use Rattle.wit_encode.specs.declared.maps.TypeEncodingMaps.{TypeEncodingMaps}
 use Rattle.wit_encode.specs.declared.interface.OpenInterface.{OpenInterface}
+use Rattle.wit_encode.specs.declared.interface.Foreign.{Foreign}
 use Rattle.wit_encode.specs.Key.{IsKeyOf}
 use Rattle.wit_encode.specs.KeyLaws.{type_equiv, param_equiv}
 use Rattle.wit_encode.specs.Kinds.{has_definition}
@@ -45,7 +46,6 @@ use Rattle.wit_encode.specs.Counts.{Definitions, names_defined, is_defined_by_na
 use Rattle.wit_encode.specs.Distinct.{Key, key_of, key_view, are_same, keys_of, defined_under_names, AddsFunctions, DefinesKeys, DefinesTypes, is_value_type, is_function_type}
 use Rattle.wit_encode.specs.Instance.{own_of, contents_of, inner_contents, encoder_scope, definitions_with, opened, ShowsFunction}
 use Rattle.wit_encode.proofs.Lists.{contains-map}
-use Rattle.wit_encode.proofs.Defining.{kinds-trans, kinds-same}
 
 -- ---- keys
 
@@ -105,7 +105,6 @@ adds-types {r} {scope} {m} {m'} {d} {d'} a = record {
   types = a.types;
   functions_ = (let f = a.functions in let n : length m'.func_type_map.items ≡ length m.func_type_map.items = ap length a.keys in omega arith);
   keys = λ q. ap (λ (xs : List (FunctionKey × ℕ)). is_member are_same (map (λ x. key_view x.0) xs) q) a.keys ∙ sym (or-none (is_member are_same (keys_of m) q));
-  kinds = a.kinds;
 }
 
 pub adds-function : {r : Resolve} {scope : Scope} {m m' : TypeEncodingMaps} {d d' : Definitions} (key : FunctionKey) (i : ℕ) (f : Function) → IsKeyOf key f
@@ -115,7 +114,6 @@ adds-function {r} {scope} {m} {m'} {d} {d'} key i f is a = record {
   functions_ = a.functions;
   keys = λ q. elim a.keys [ inl h ↦ known q h.0 h.1 | inr h ↦ key-member m m' key i q h.1 ]
       ∙ ap (λ k. is_member are_same (keys_of m) q || (are_same q k || false)) (key-is key f is);
-  kinds = a.kinds;
 }
   where
     known : (q : Key) → HasKey m key i → m'.func_type_map.items ≡ m.func_type_map.items
@@ -123,7 +121,7 @@ adds-function {r} {scope} {m} {m'} {d} {d'} key i f is a = record {
     known q h e = ap (λ (xs : List (FunctionKey × ℕ)). is_member are_same (map (λ x. key_view x.0) xs) q) e ∙ known-member m key i q h
 
 pub adds-nothing : (r : Resolve) (scope : Scope) (m : TypeEncodingMaps) (d : Definitions) → AddsFunctions r scope m m d d []
-adds-nothing r scope m d = record { types = refl; functions_ = refl; keys = λ q. sym (or-none (is_member are_same (keys_of m) q)); kinds = kinds-same r m m refl }
+adds-nothing r scope m d = record { types = refl; functions_ = refl; keys = λ q. sym (or-none (is_member are_same (keys_of m) q)) }
 
 pub adds-trans : {r : Resolve} {s s' : Scope} {a b c : TypeEncodingMaps} {d e f : Definitions} (fs gs : List Function) → s'.own_interface ≡ s.own_interface
     → AddsFunctions r s a b d e fs → AddsFunctions r s' b c e f gs → AddsFunctions r s a c d f (fs ++ gs)
@@ -138,7 +136,6 @@ adds-trans {r} {s} {s'} {a} {b} {c} {d} {e} {f} fs gs o p q =
           ∙ or-assoc (is_member are_same (keys_of a) k) (is_member are_same (map key_of fs) k) (is_member are_same (map key_of gs) k)
           ∙ ap (λ z. is_member are_same (keys_of a) k || z) (sym (ap (λ xs. is_member are_same xs k) (map-append key_of fs gs)
           ∙ list_any-append (are_same k) (map key_of fs) (map key_of gs)));
-      kinds = kinds-trans p.kinds q.kinds;
     }
 
 -- the same of what counts alike
@@ -149,7 +146,6 @@ adds-alike {r} {s} {s'} {m} {m'} {m''} {d} {d'} {e} {e'} {fs} o h a b a' b' p = 
   types = (let n : names_defined r s' m ≡ names_defined r s m = names-alike r s s' m o in let n' : names_defined r s' m' ≡ names_defined r s m' = names-alike r s s' m' o in let x = p.types in omega arith);
   functions_ = (let x = p.functions_ in omega arith);
   keys = p.keys;
-  kinds = p.kinds;
 })
 
 -- ---- an instance type as a whole
@@ -209,7 +205,7 @@ pub record Counted (r : Resolve) (i : InterfaceId) (fs : List Function) (ts : Li
   pub keys : DefinesKeys fs ds
   pub types : DefinesTypes r i ts fs ds
 
-pub closed-counts : (r : Resolve) (outer outer' : Declarations) (i : InterfaceId) (known : Vec (TypeId × ℕ) Global) (inner' : Option OpenInterface) (current : OpenInterface) (m m' : TypeEncodingMaps)
+pub closed-counts : (r : Resolve) (outer outer' : Declarations) (i : InterfaceId) (known : Foreign) (inner' : Option OpenInterface) (current : OpenInterface) (m m' : TypeEncodingMaps)
     (S : Pairs) (fs : List Function) (ts : List TypeId) → inner' ≡ Some current → Began m → AreMetKinds r (Some i) (referred ts fs) (held_kinds m')
     → AddsFunctions r (encoder_scope r outer (opened i known)) m m' (definitions_with (contents_of r outer (opened i known))) (definitions_with (contents_of r outer' inner')) fs
     → MapsAgree r m' S

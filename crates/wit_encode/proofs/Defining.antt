@@ -29,8 +29,9 @@ use Rattle.wit_model.specs.declared.model.Param.{Param}
 use Rattle.wit_encode.specs.Definition.{FollowsKind, IsWrittenParam}
 use Rattle.wit_encode.proofs.Lists.{zip-along, one-contained}
 use Rattle.wit_encode.specs.Scope.{Scope}
-use Rattle.wit_encode.specs.Unnamed.{IsUnnamedKind, LearnsKinds}
 use Rattle.wit_encode.specs.Counts.{Definitions, one_type_more, type_more_if, is_defined_by_name, own_name, names_defined, ExportsOne, Shows, AddsTypes}
+use Rattle.wit_encode.specs.Known.{GrowsAround}
+use Rattle.wit_encode.proofs.Around.{around-trans}
 use Rattle.wit_encode.specs.View.{View, Agrees, Grows}
 use Rattle.wit_encode.specs.Leaves.{Leaves}
 use Rattle.wit_encode.proofs.Written.{written-stands}
@@ -149,34 +150,20 @@ shows-shown r scope m m' d d₁ d' id i name l n e x = record {
   names = ap (λ (z : ExternName). z.text ∷ []) (sym x.named_) ∙ sym (one-name (own_name r scope id.0) name.text n);
 }
 
-pub kinds-same : (r : Resolve) (m m' : TypeEncodingMaps) → m'.def_to_index.items ≡ m.def_to_index.items → LearnsKinds r m m'
-kinds-same r m m' e = record { each = λ k i c. inl (subst (λ (xs : List (Bor TypeDefKind × ℕ)). Contains xs (k, i)) e c) }
-
-kinds-learnt : (r : Resolve) (m m' : TypeEncodingMaps) (k : Bor TypeDefKind) (i : ℕ) → LearnsKind m m' k i → IsUnnamedKind r k.now → LearnsKinds r m m'
-kinds-learnt r m m' k i l u = record {
-  each = λ x j c. elim (Contains-push_cases m.def_to_index.items (k, i) (x, j) (subst (λ (xs : List (Bor TypeDefKind × ℕ)). Contains xs (x, j)) l.more c)) [
-    | inl h ↦ inl h
-    | inr h ↦ inr (subst (λ (z : Bor TypeDefKind × ℕ). IsUnnamedKind r z.0.now) h u)
-  ];
-}
-
-pub kinds-trans : {r : Resolve} {a b c : TypeEncodingMaps} → LearnsKinds r a b → LearnsKinds r b c → LearnsKinds r a c
-kinds-trans p q = record { each = λ k i h. elim (q.each k i h) [ inl x ↦ p.each k i x | inr u ↦ inr u ] }
-
 pub counts-none : (r : Resolve) (scope : Scope) (m : TypeEncodingMaps) (d : Definitions) → AddsTypes r scope m m d d
-counts-none r scope m d = record { types = refl; functions = refl; keys = refl; shows = shows-none r scope m m d d refl refl; kinds = kinds-same r m m refl }
+counts-none r scope m d = record { types = refl; functions = refl; keys = refl; shows = shows-none r scope m m d d refl refl }
 
 pub counts-trans : {r : Resolve} {scope scope' : Scope} {a b c : TypeEncodingMaps} {d e f : Definitions} → scope' ≡ scope → AddsTypes r scope a b d e → AddsTypes r scope' b c e f → AddsTypes r scope a c d f
 counts-trans {r} {scope} {scope'} {a} {b} {c} {d} {e} {f} s p q =
     let q' : AddsTypes r scope b c e f = subst (λ (z : Scope). AddsTypes r z b c e f) s q in
-    record { types = (let x = p.types in let y = q'.types in omega arith); functions = q'.functions ∙ p.functions; keys = q'.keys ∙ p.keys; shows = shows-trans p.shows q'.shows; kinds = kinds-trans p.kinds q'.kinds }
+    record { types = (let x = p.types in let y = q'.types in omega arith); functions = q'.functions ∙ p.functions; keys = q'.keys ∙ p.keys; shows = shows-trans p.shows q'.shows }
 
-pub counts-kind : (r : Resolve) (scope : Scope) (m m' : TypeEncodingMaps) (d d' : Definitions) (k : Bor TypeDefKind) (i : ℕ) → LearnsKind m m' k i → IsUnnamedKind r k.now → d' ≡ one_type_more d → AddsTypes r scope m m' d d'
-counts-kind r scope m m' d d' k i l u e =
+pub counts-kind : (r : Resolve) (scope : Scope) (m m' : TypeEncodingMaps) (d d' : Definitions) (k : Bor TypeDefKind) (i : ℕ) → LearnsKind m m' k i → d' ≡ one_type_more d → AddsTypes r scope m m' d d'
+counts-kind r scope m m' d d' k i l e =
     let a : d'.types ≡ d.types + 1 = ap (λ (z : Definitions). z.types) e in
     let b : length m'.def_to_index.items ≡ length m.def_to_index.items + 1 = ap length l.more ∙ length-append m.def_to_index.items ((k, i) ∷ []) in
     let c : names_defined r scope m' ≡ names_defined r scope m = ap (count_by (λ q. is_defined_by_name r scope q.0.0)) l.rest.numbers in
-    record { types = omega arith; functions = ap (λ (z : Definitions). z.functions) e; keys = l.rest.keys; shows = shows-none r scope m m' d d' l.rest.numbers (ap (λ (z : Definitions). z.exports) e); kinds = kinds-learnt r m m' k i l u }
+    record { types = omega arith; functions = ap (λ (z : Definitions). z.functions) e; keys = l.rest.keys; shows = shows-none r scope m m' d d' l.rest.numbers (ap (λ (z : Definitions). z.exports) e) }
 
 pub count-push : {X : Type 0} (p : X → Bool) (xs : List X) (x : X) → count_by p (xs ++ x ∷ []) ≡ count_by p xs + cond (p x) 1 0
 count-push p xs x = sum_by-append (λ y. cond (p y) 1 0) xs (x ∷ []) ∙ ap (λ n. count_by p xs + n) (zero-add (cond (p x) 1 0))
@@ -207,7 +194,6 @@ counts-learnt r scope m m' d d₁ d' id i l e t f s =
       functions = f ∙ ap (λ (z : Definitions). z.functions) e ∙ more-functions b d;
       keys = l.rest.keys;
       shows = s;
-      kinds = kinds-same r m m' l.rest.kinds;
     }
 
 -- a number that is exported under no name
@@ -232,9 +218,13 @@ leaves-kept {r} {v} {v'} a g s e = record {
 }
 
 pub leaves-trans : {r : Resolve} {v v' v'' : View} → Leaves r v v' → Leaves r v' v'' → Leaves r v v''
-leaves-trans p q = record {
+leaves-trans {r} {v} {v'} {v''} p q = record {
   agree = q.agree;
   maps_grow = record { keeps = λ k i h. q.maps_grow.keeps k i (p.maps_grow.keeps k i h) };
-  grows = record { kept = λ i x h. q.grows.kept i x (p.grows.kept i x h); more = (let x = p.grows.more in let y = q.grows.more in omega arith) };
+  grows = record {
+    kept = λ i x h. q.grows.kept i x (p.grows.kept i x h);
+    more = (let x = p.grows.more in let y = q.grows.more in omega arith);
+    around_ = around-trans p.grows.around_ (subst (λ (z : Scope). GrowsAround z.packages v'.around v''.around) p.scope_stays q.grows.around_);
+  };
   scope_stays = q.scope_stays ∙ p.scope_stays;
 }

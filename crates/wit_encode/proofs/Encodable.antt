@@ -23,7 +23,7 @@ use Rattle.wit_model.specs.declared.model.InterfaceId.{InterfaceId}
 use Rattle.wit_model.specs.declared.model.Function.{Function}
 use Rattle.wit_model.specs.declared.model.TypeDef.{TypeDef}
 use Rattle.wit_model.specs.declared.model.TypeId.{TypeId}
-use Rattle.std.specs.declared.vec.Vec.{Vec}
+use Rattle.wit_encode.specs.declared.interface.Foreign.{Foreign}
 use Rattle.wit_model.specs.declared.model.TypeOwner.{TypeOwner}
 use Rattle.wit_model.specs.declared.model.TypeOwner.TheVariants as owner
 use Rattle.wit_model.specs.declared.model.«Type».TheVariants as ty
@@ -35,7 +35,7 @@ use Rattle.wit_encode.specs.Resources.{is_met_owner}
 use Rattle.wit_encode.specs.Fits.{CanEncode}
 use Rattle.wit_encode.specs.Scope.{Scope}
 use Rattle.wit_encode.specs.Known.{UsedStand}
-use Rattle.wit_encode.specs.Instance.{CanEncodeFunction, CanEncodeInterface, encoder_scope, opened, keyed, standing_instances}
+use Rattle.wit_encode.specs.Instance.{CanEncodeFunction, CanEncodeInterface, encoder_scope, opened, keyed, standing_instances, around_at}
 use Rattle.wit_model.specs.declared.model.«Type».{«Type» as ValueType}
 use Rattle.wit_encode.specs.Plan.{Reaches, itself, through}
 use Rattle.wit_encode.proofs.Lists.{all-contained, both, contains-map, one-contained}
@@ -218,7 +218,7 @@ module _ (r : Resolve) (v : IsValid r) (i : InterfaceId) (home : Interface) (the
   function-of : (f : Function) → Contains (functions_of_interface home) f → Contains (functions_of r own) f
   function-of f c = subst (λ (o : Option Interface). Contains (option_map_or functions_of_interface o []) f) (sym there) c
 
-  module _ (outer : Declarations) (known : Vec (TypeId × ℕ) Global) where
+  module _ (outer : Declarations) (known : Foreign) where
     abbrev scope : Scope
     scope = encoder_scope r outer (opened i known)
 
@@ -233,7 +233,7 @@ module _ (r : Resolve) (v : IsValid r) (i : InterfaceId) (home : Interface) (the
       sound = opened-sound r outer i known;
     }
 
-    module _ (around : UsedStand r (standing_instances r outer i known.items) i.0) where
+    module _ (around : UsedStand r (standing_instances r (around_at outer known)) i.0) where
       uses : UsesStand r own scope
       uses j u = opened-around r outer i known j (around j (used-there j u))
 
@@ -249,8 +249,8 @@ interface_uses r i j v inside u =
     used-there r v i found.0 found.1 j u
 
 -- In valid packages an interface can be encoded where those that it uses stand around.
-pub valid-encodable : (r : Resolve) → IsValid r → (outer : Declarations) (i : InterfaceId) (known : Vec (TypeId × ℕ) Global) (def : Interface) → interface_at r i.0 ≡ Some def
-    → UsedStand r (standing_instances r outer i known.items) i.0 → CanEncodeInterface r outer i known def
+pub valid-encodable : (r : Resolve) → IsValid r → (outer : Declarations) (i : InterfaceId) (known : Foreign) (def : Interface) → interface_at r i.0 ≡ Some def
+    → UsedStand r (standing_instances r (around_at outer known)) i.0 → CanEncodeInterface r outer i known def
 valid-encodable r v outer i known def there around = record {
   types = type-encodes r v i def there outer known around;
   functions = λ f c. function-encodes r v i def there outer known around f.1 (listed f c);

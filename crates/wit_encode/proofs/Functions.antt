@@ -24,7 +24,7 @@ use Rattle.wit_encode.specs.Slots.{Pairs, function}
 use Rattle.wit_encode.specs.Scope.{Scope}
 use Rattle.wit_encode.specs.Fits.{CanEncode}
 use Rattle.wit_encode.specs.Counts.{Definitions, one_function_more, AddsTypes, AddsFunction, names_defined, is_defined_by_name}
-use Rattle.wit_encode.proofs.Defining.{shows-none, shows-trans, kinds-same, kinds-trans}
+use Rattle.wit_encode.proofs.Defining.{shows-none, shows-trans}
 use Rattle.wit_encode.proofs.KindLaws.{same_types, optional_same}
 
 pub ok-map : {A E : Type 0} (x : Result A E) (P Q : A → Type 0) → ((a : A) → P a → Q a) → IfOk x P → IfOk x Q
@@ -89,10 +89,10 @@ counts-key r scope m m₁ m' d d₁ d' key i lacks a l e =
     let names : names_defined r scope m' ≡ names_defined r scope m₁ = ap (count_by (λ e. is_defined_by_name r scope e.0.0)) l.rest.numbers in
     let keys : m'.func_type_map.items ≡ m.func_type_map.items ++ (key, i) ∷ [] = l.more ∙ ap (λ xs. xs ++ (key, i) ∷ []) a.keys in
     let many : length m'.func_type_map.items ≡ length m.func_type_map.items + 1 = ap length keys ∙ length-append m.func_type_map.items ((key, i) ∷ []) in
-    record { types = omega arith; functions = omega arith; keys = inr (lacks, keys); shows = shows-trans a.shows (shows-none r scope m₁ m' d₁ d' l.rest.numbers (ap (λ (z : Definitions). z.exports) e)); kinds = kinds-trans a.kinds (kinds-same r m₁ m' l.rest.kinds) }
+    record { types = omega arith; functions = omega arith; keys = inr (lacks, keys); shows = shows-trans a.shows (shows-none r scope m₁ m' d₁ d' l.rest.numbers (ap (λ (z : Definitions). z.exports) e)) }
 
 pub counts-known : (r : Resolve) (scope : Scope) (m : TypeEncodingMaps) (d : Definitions) (key : FunctionKey) (i : ℕ) → HasKey m key i → AddsFunction r scope m m d d key i
-counts-known r scope m d key i h = record { types = refl; functions = refl; keys = inl (h, refl); shows = shows-none r scope m m d d refl refl; kinds = kinds-same r m m refl }
+counts-known r scope m d key i h = record { types = refl; functions = refl; keys = inl (h, refl); shows = shows-none r scope m m d d refl refl }
 
 pub lacks-same : (m m' : TypeEncodingMaps) (key : FunctionKey) → m'.func_type_map.items ≡ m.func_type_map.items → LacksKey m key → LacksKey m' key
 lacks-same m m' key e l k i c = l k i (subst (λ (xs : List (FunctionKey × ℕ)). Contains xs (k, i)) e c)

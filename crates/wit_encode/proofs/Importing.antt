@@ -1,31 +1,40 @@
--- A type of another interface that is known around is the one that was asked for.
-use Rattle.std.proofs.Common.{◌≡◌, refl, sym, subst, ap, ◌∙◌, ℕ, zero, suc, ◌+◌, ◌==◌, eq-eqb, Bool, true, false, true≢false, not, ◌&&◌, ◌||◌, if◌then◌else◌, List, [], ◌∷◌, length, Option, Some, None, String, slice_get, is_some, ◌++◌, Result, Ok, Err, IfOk, OnErr, arith}
-use Rattle.std.specs.List.{Contains, list_all, list_any, filter}
+-- A type of another interface whose instance stands around is reached by an alias there.
+use Rattle.std.proofs.Common.{◌≡◌, refl, sym, subst, ap, ◌∙◌, ℕ, zero, suc, ◌+◌, ◌==◌, eq-eqb, eqb-true, Bool, true, false, not, cond, ◌&&◌, ◌||◌, if◌then◌else◌, List, [], ◌∷◌, length, Option, Some, None, String, slice_get, is_some, ◌++◌, Result, Ok, Err, IfOk, OnErr, option_map, OnOk, arith}
+use Rattle.std.specs.List.{Contains, find, list_all, list_any, filter}
 use Rattle.std.specs.Option.{option_map_or}
 use Rattle.std.specs.declared.alloc.Global.{Global}
+use Rattle.std.specs.declared.vec.Vec.{Vec}
 use Rattle.std.proofs.lemmas.List.Elements.{All-contains, filter_passes}
-use Rattle.wit_model.specs.Text.{Text, text_eq}
+use Rattle.std.proofs.lemmas.List.Folds.{list_all-append}
+use Rattle.wit_model.specs.Text.{Text, text_eq, text_of}
 use Rattle.wit_model.specs.Tree.{Tree, Place, here, of_interface, named, primitive, node}
 use Rattle.wit_model.specs.Types.{number_tree}
-use Rattle.wit_model.specs.Lookup.{interface_path}
-use Rattle.wit_model.specs.Parts.{same_owner, numbered_from}
+use Rattle.wit_model.specs.Lookup.{interface_path, place_of, place_of_path, type_at}
+use Rattle.wit_model.specs.Rules.{text_is}
+use Rattle.wit_model.specs.Parts.{is_resource, same_owner, numbered_from}
 use Rattle.wit_model.specs.declared.model.Resolve.{Resolve}
 use Rattle.wit_model.specs.declared.model.InterfaceId.{InterfaceId}
+use Rattle.wit_model.specs.declared.model.TypeId.{TypeId}
 use Rattle.wit_model.specs.declared.model.TypeDef.{TypeDef}
 use Rattle.wit_model.specs.declared.model.TypeOwner.{TypeOwner}
 use Rattle.wit_model.specs.declared.model.TypeOwner.TheVariants as owner
 use Rattle.wit_model.proofs.Lists.{first_true, second_true}
-use Rattle.comp_bytes.specs.Held.{type_slots}
-use Rattle.comp_bytes.specs.Raw.{Alias, Declaration, Declarations}
+use Rattle.comp_bytes.specs.Held.{type_slots, type_slots_of}
+use Rattle.comp_bytes.specs.Raw.{Alias, Declaration, Declarations, append}
 use Rattle.comp_meaning.specs.Same.{same_place}
-use Rattle.comp_meaning.specs.Follow.{Slot, is_foreign_name}
+use Rattle.comp_meaning.specs.Follow.{Slot, Instance, find_type, is_foreign_name}
 use Rattle.wit_encode.specs.KeyLaws.{text_same}
 use Rattle.wit_encode.specs.declared.interface.OpenInterface.{OpenInterface}
-use Rattle.wit_encode.specs.Slots.{tree, SlotAdded}
-use Rattle.wit_encode.specs.Known.{Known, known_slot, is_name_slot, is_known_as, is_known, is_named_of, is_instance_of, stands_around, below}
-use Rattle.wit_encode.specs.Scope.{IsImportable}
-use Rattle.wit_encode.specs.Instance.{standing_at, SlotsStand, is_slot_of, outer_slots, outer_instances, resources_in, is_sound_in, Contents, scope_with, contents_of, encoder_scope, definitions_with}
-use Rattle.wit_encode.proofs.Calls.{alias-inside}
+use Rattle.wit_encode.specs.declared.interface.Foreign.{Foreign}
+use Rattle.wit_encode.specs.Slots.{tree, Keeps, SlotAdded}
+use Rattle.wit_encode.specs.Resources.{Names, is_named_interface, is_resource_entry, named_resources}
+use Rattle.wit_encode.specs.Known.{Around, Aliased, alias_declared, with_alias, with_aliases, IsAlias, AreAliases, IsSource, ReachesAround, as_before, aliased, known_slot, known_instance, is_name_slot, is_known_as, is_slot_for, is_named_of, is_instance_of, shows_type, is_standing, stands_around, are_right, below}
+use Rattle.wit_encode.specs.Scope.{Scope, IsImportable}
+use Rattle.wit_encode.specs.Instance.{standing_at, SlotsStand, is_slot_of, outer_slots, outer_instances, is_owner_in, resources_in, is_sound_in, place_in, Contents, standing_instances, scope_from, scope_with, inner_contents, contents_of, around_at, encoder_scope, definitions_with}
+use Rattle.wit_encode.proofs.Lists.{both}
+use Rattle.wit_encode.proofs.Contents.{slots-kept}
+use Rattle.wit_encode.proofs.Calls.{Calls, alias-inside}
+use Rattle.wit_encode.proofs.Wider.{get-left, Widened, widened, contents-wider}
 use Rattle.wit_encode.proofs.Within.{CallsTo}
 
 -- ---- lists
@@ -65,110 +74,360 @@ named-slot (named p x) (Slot.instance ds n) h = let wrong : ⊥ = cc in absurd w
 named-slot (primitive z) slot h = let wrong : ⊥ = cc in absurd wrong
 named-slot (node f ts) slot h = let wrong : ⊥ = cc in absurd wrong
 
+-- ---- the names of resources of named interfaces are the same in each scope
+
+cut-short : (a b : Bool) → (a && (false && b)) ≡ false
+cut-short true b = refl
+cut-short false b = refl
+
+path-alike : (p : Text) (own : Bool) (path : Option Text) (a b : Bool) → (((own || is_some path) && a) && (same_place (of_interface p) (place_of_path path) && b)) ≡ ((is_some path && a) && (same_place (of_interface p) (place_of_path path) && b))
+path-alike p true (Some q) a b = refl
+path-alike p false path a b = refl
+path-alike p true None a b = cut-short a b
+
+owner-alike : (r : Resolve) (i : InterfaceId) (p : Text) (o : TypeOwner) (a b : Bool) → ((is_owner_in r (Some i) o && a) && (same_place (of_interface p) (place_of r o) && b)) ≡ ((is_named_interface r o && a) && (same_place (of_interface p) (place_of r o) && b))
+owner-alike r i p (owner.Interface j) a b = path-alike p (same_owner (owner.Interface i) (owner.Interface j)) (interface_path r j.0) a b
+owner-alike r i p (owner.World w) a b = refl
+owner-alike r i p owner.None a b = refl
+
+resources-alike : (r : Resolve) (i : InterfaceId) (p x : Text) → resources_in r (Some i) (of_interface p) x ≡ named_resources r (of_interface p) x
+resources-alike r i p x = ap (λ test. list_any test (numbered_from 0 r.types.items)) (λ j e. owner-alike r i p e.1.owner (is_resource r e.0) (text_is e.1.name x) j)
+
+kept-alike : (r : Resolve) (i : InterfaceId) (slot : Slot) → is_foreign_name slot ≡ true → is_slot_of (named_resources r) slot ≡ true → is_slot_of (resources_in r (Some i)) slot ≡ true
+kept-alike r i (Slot.value (named (of_interface p) x)) f h = ap not (resources-alike r i p x) ∙ h
+kept-alike r i (Slot.resource (of_interface p) x) f h = resources-alike r i p x ∙ h
+kept-alike r i (Slot.value (named here x)) f h = absurd (let z : ⊥ = cc in z)
+kept-alike r i (Slot.value (primitive q)) f h = absurd (let z : ⊥ = cc in z)
+kept-alike r i (Slot.value (node q ts)) f h = absurd (let z : ⊥ = cc in z)
+kept-alike r i (Slot.resource here x) f h = absurd (let z : ⊥ = cc in z)
+kept-alike r i (Slot.function s) f h = absurd (let z : ⊥ = cc in z)
+kept-alike r i (Slot.instance ds n) f h = absurd (let z : ⊥ = cc in z)
+
 -- ---- the slot around
 
 -- a slot around that stands for a type of another interface
-pub record KnownSlot (r : Resolve) (i : InterfaceId) (outer : Declarations) (known : Known) (n : ℕ) : Type 0 where
-  pub number : ℕ
-  pub is : known_slot known n ≡ Some number
+record KnownSlot (r : Resolve) (i : InterfaceId) (a : Around) (n k : ℕ) : Type 0 where
   pub slot : Slot
-  pub at : slice_get (outer_slots outer) number ≡ Some slot
+  pub at : slice_get (outer_slots a.declared) k ≡ Some slot
   pub foreign : is_foreign_name slot ≡ true
   pub kept : is_slot_of (resources_in r (Some i)) slot ≡ true
   pub stands : standing_at (Some slot) ≡ Some (tree (number_tree r n))
 
+known-slot : (r : Resolve) (i : InterfaceId) (a : Around) (n k : ℕ) (o : Option Slot) → slice_get (outer_slots a.declared) k ≡ o → is_slot_for r n o ≡ true → KnownSlot r i a n k
+known-slot r i a n k None at h = absurd (let z : ⊥ = cc in z)
+known-slot r i a n k (Some x) at h =
+    let foreign = first_true (is_foreign_name x) _ h in
+    let rest = second_true (is_foreign_name x) _ h in
+    record {
+      slot = x;
+      at = at;
+      foreign = foreign;
+      kept = kept-alike r i x foreign (first_true (is_slot_of (named_resources r) x) _ rest);
+      stands = named-slot (number_tree r n) x (second_true (is_slot_of (named_resources r) x) _ rest);
+    }
+
+-- what is listed is right
+known-right : (r : Resolve) (known : List (TypeId × ℕ)) (slots : List Slot) (n k : ℕ) → are_right r known slots ≡ true → known_slot known n ≡ Some k → is_slot_for r n (slice_get slots k) ≡ true
+known-right r [] slots n k h e = absurd (let z : ⊥ = cc in z)
+known-right r (x ∷ xs) slots n k h e = go (λ q. known-right r xs slots n k (second_true (is_slot_for r x.0.0 (slice_get slots x.1)) _ h) q) (x.0.0 == n) refl e
+  where
+    go : (known_slot xs n ≡ Some k → is_slot_for r n (slice_get slots k) ≡ true) → (b : Bool) → (x.0.0 == n) ≡ b → option_map (λ y. y.1) (cond b (Some x) (find (λ y. y.0.0 == n) xs)) ≡ Some k → is_slot_for r n (slice_get slots k) ≡ true
+    go later true q e =
+        let slot : x.1 ≡ k = cc in
+        sym (λ j. is_slot_for r (eqb-true x.0.0 n q j) (slice_get slots (slot j))) ∙ first_true (is_slot_for r x.0.0 (slice_get slots x.1)) _ h
+    go later false q e = later e
+
+for-more : (r : Resolve) (slots : List Slot) (y : Slot) (n k : ℕ) (o : Option Slot) → slice_get slots k ≡ o → is_slot_for r n o ≡ true → is_slot_for r n (slice_get (slots ++ y ∷ []) k) ≡ true
+for-more r slots y n k None e h = absurd (let z : ⊥ = cc in z)
+for-more r slots y n k (Some x) e h = ap (is_slot_for r n) (get-left slots y k x e) ∙ h
+
+pub right-more : (r : Resolve) (known : List (TypeId × ℕ)) (slots : List Slot) (y : Slot) → are_right r known slots ≡ true → are_right r known (slots ++ y ∷ []) ≡ true
+right-more r [] slots y h = refl
+right-more r (x ∷ xs) slots y h =
+    both (is_slot_for r x.0.0 (slice_get (slots ++ y ∷ []) x.1)) (are_right r xs (slots ++ y ∷ [])) (for-more r slots y x.0.0 x.1 (slice_get slots x.1) refl (first_true (is_slot_for r x.0.0 (slice_get slots x.1)) _ h))
+    (right-more r xs slots y (second_true (is_slot_for r x.0.0 (slice_get slots x.1)) _ h))
+
+-- ---- what can be imported
+
+-- an instance that shows a type of its interface
+pub record Stands (r : Resolve) (a : Around) (j n : ℕ) (name : String Global) : Type 0 where
+  pub number : ℕ
+  pub listed : known_instance a.instances j ≡ Some number
+  pub instance : Instance
+  pub at : slice_get (outer_instances a.declared) number ≡ Some instance
+  pub path : is_some instance.interface ≡ true
+  pub slot : Slot
+  pub found : find_type (text_of name) instance.view.types ≡ Some slot
+  pub fits : is_slot_for r n (Some slot) ≡ true
+  pub right : are_right r a.known (outer_slots a.declared) ≡ true
+
+some-path : (path : Option Text) (instance : Instance) → is_instance_of path instance ≡ true → is_some instance.interface ≡ true
+some-path None instance h = absurd (let z : ⊥ = cc in z)
+some-path (Some p) instance h = go instance.interface h
+  where
+    go : (o : Option Text) → option_map_or (text_eq p) o false ≡ true → is_some o ≡ true
+    go None h = h
+    go (Some q) h = refl
+
+some-slot : (r : Resolve) (n : ℕ) (o : Option Slot) → is_slot_for r n o ≡ true → (x : Slot) × (o ≡ Some x) × (is_slot_for r n (Some x) ≡ true)
+some-slot r n None h = absurd (let z : ⊥ = cc in z)
+some-slot r n (Some x) h = (x, refl, h)
+
 same-number : (n : ℕ) → (n == n) ≡ true
 same-number n = eq-eqb n n refl
 
-module _ (r : Resolve) (i : InterfaceId) (outer : Declarations) (known : Known) (n : ℕ) where
-  slot-there : (k : ℕ) → known_slot known n ≡ Some k → (o : Option Slot) → slice_get (outer_slots outer) k ≡ o → option_map_or (is_known_as (resources_in r (Some i)) (number_tree r n)) o false ≡ true → KnownSlot r i outer known n
-  slot-there k is None at h = let wrong : ⊥ = cc in absurd wrong
-  slot-there k is (Some x) at h =
-      let rest = second_true (is_foreign_name x) _ h in
+module _ (r : Resolve) (a : Around) (j n : ℕ) (m : IsSource r a j n) where
+  is-named : is_named_of j m.def ≡ true
+  is-named = ap (λ (o : TypeOwner). same_owner (owner.Interface (record { 0 = j })) o && is_some m.def.name) m.owned
+      ∙ ap (λ b. b && is_some m.def.name) (same-number j) ∙ ap (λ (o : Option (String Global)). is_some o) m.named_
+
+  shows : (instance : Instance) → is_standing r j instance ≡ true → is_slot_for r n (find_type (text_of m.name) instance.view.types) ≡ true
+  shows instance h =
+      let all = second_true (is_instance_of (interface_path r j) instance) _ h in
+      let one = numbered-one (λ (e : ℕ × TypeDef). not (is_named_of j e.1) || shows_type r instance e) r.types.items n m.def all m.there in
+      sym (ap (λ (o : Option (String Global)). option_map_or (λ name. is_slot_for r n (find_type (text_of name) instance.view.types)) o false) m.named_)
+      ∙ sym (ap (λ b. not b || shows_type r instance (n, m.def)) is-named) ∙ one
+
+  there-at : (k : ℕ) → known_instance a.instances j ≡ Some k → are_right r a.known (outer_slots a.declared) ≡ true → (o : Option Instance) → slice_get (outer_instances a.declared) k ≡ o
+      → option_map_or (is_standing r j) o false ≡ true → Stands r a j n m.name
+  there-at k listed right None at h = absurd (let z : ⊥ = cc in z)
+  there-at k listed right (Some x) at h =
+      let s = some-slot r n (find_type (text_of m.name) x.view.types) (shows x h) in
       record {
         number = k;
-        is = is;
-        slot = x;
+        listed = listed;
+        instance = x;
         at = at;
-        foreign = first_true (is_foreign_name x) _ h;
-        kept = first_true (is_slot_of (resources_in r (Some i)) x) _ rest;
-        stands = named-slot (number_tree r n) x (second_true (is_slot_of (resources_in r (Some i)) x) _ rest);
+        path = some-path (interface_path r j) x (first_true (is_instance_of (interface_path r j) x) _ h);
+        slot = s.0;
+        found = s.1;
+        fits = s.2;
+        right = right;
       }
 
-  known-there : (o : Option ℕ) → known_slot known n ≡ o
-      → option_map_or (λ k. option_map_or (is_known_as (resources_in r (Some i)) (number_tree r n)) (slice_get (outer_slots outer) k) false) o false ≡ true → KnownSlot r i outer known n
-  known-there None is h = let wrong : ⊥ = cc in absurd wrong
-  known-there (Some k) is h = slot-there k is (slice_get (outer_slots outer) k) refl h
+  there-listed : are_right r a.known (outer_slots a.declared) ≡ true → (o : Option ℕ) → known_instance a.instances j ≡ o
+      → option_map_or (λ k. option_map_or (is_standing r j) (slice_get (outer_instances a.declared) k) false) o false ≡ true → Stands r a j n m.name
+  there-listed right None listed h = absurd (let z : ⊥ = cc in z)
+  there-listed right (Some k) listed h = there-at k listed right (slice_get (outer_instances a.declared) k) refl h
 
-  -- a type that can be imported is known
-  pub importable-known : (contents : Contents) (j : ℕ) → IsImportable (scope_with r (Some i) outer known contents) j n → KnownSlot r i outer known n
-  importable-known contents j m = go (is_sound_in r (Some i) contents) refl m.stands
+  pub standing : Stands r a j n m.name
+  standing = go (are_right r a.known (outer_slots a.declared)) refl m.stands
     where
       test : ℕ → Bool
-      test = stands_around r (resources_in r (Some i)) known (outer_instances outer) (outer_slots outer)
+      test = stands_around r a.instances (outer_instances a.declared)
 
-      is-named : is_named_of j m.def ≡ true
-      is-named = ap (λ (o : TypeOwner). same_owner (owner.Interface (record { 0 = j })) o && is_some m.def.name) m.owned
-          ∙ ap (λ b. b && is_some m.def.name) (same-number j) ∙ ap (λ (o : Option (String Global)). is_some o) m.named_
-
-      go : (b : Bool) → is_sound_in r (Some i) contents ≡ b → Contains (if b then filter test (below (length r.interfaces.items)) else []) j → KnownSlot r i outer known n
+      go : (b : Bool) → are_right r a.known (outer_slots a.declared) ≡ b → Contains (if b then filter test (below (length r.interfaces.items)) else []) j → Stands r a j n m.name
       go false q (k, l, e) = absurd (omega (arith, l))
       go true q h =
           let passes : test j ≡ true = All-contains (λ x. test x ≡ true) (filter test (below (length r.interfaces.items))) j (filter_passes test (below (length r.interfaces.items))) h in
-          let all = second_true (list_any (is_instance_of (interface_path r j)) (outer_instances outer)) _ passes in
-          let one = numbered-one (λ (e : ℕ × TypeDef). not (is_named_of j e.1) || is_known r (resources_in r (Some i)) known (outer_slots outer) e.0) r.types.items n m.def all m.there in
-          known-there (known_slot known n) refl (sym (ap (λ b. not b || is_known r (resources_in r (Some i)) known (outer_slots outer) n) is-named) ∙ one)
+          there-listed q (known_instance a.instances j) refl passes
+
+pub source-listed : (r : Resolve) (a : Around) (j n : ℕ) → IsSource r a j n → known_instance a.instances j ≡ None → ⊥
+source-listed r a j n m none = let q : Some _ ≡ None = sym (standing r a j n m).listed ∙ none in absurd (let z : ⊥ = cc in z)
 
 -- where something can be imported, what has been declared can be followed
 importable-sound : (b : Bool) (xs : List ℕ) (j : ℕ) → Contains (if b then xs else []) j → b ≡ true
 importable-sound true xs j h = refl
 importable-sound false xs j (k, l, e) = absurd (omega (arith, l))
 
+importable-stands : (b : Bool) (xs : List ℕ) (j : ℕ) → Contains (if b then xs else []) j → Contains xs j
+importable-stands true xs j h = h
+importable-stands false xs j (k, l, e) = absurd (omega (arith, l))
+
+pub has-source : (r : Resolve) (i : InterfaceId) (a : Around) (contents : Contents) (j n : ℕ) → IsImportable (scope_with r (Some i) a contents) j n → IsSource r a j n
+has-source r i a contents j n m = record {
+  def = m.def;
+  name = m.name;
+  there = m.there;
+  named_ = m.named_;
+  owned = m.owned;
+  stands = importable-stands (is_sound_in r (Some i) contents) (standing_instances r a) j m.stands;
+}
+
+none-listed : (r : Resolve) (instances : List Instance) (ns : List ℕ) (j : ℕ) → Contains (filter (stands_around r [] instances) ns) j → ⊥
+none-listed r instances [] j (k, l, e) = omega (arith, l)
+none-listed r instances (n ∷ ns) j h = none-listed r instances ns j h
+
 -- nothing can be imported where no instance type is encoded
 pub none-outside : (r : Resolve) (outer : Declarations) (j n : ℕ) → IsImportable (encoder_scope r outer None) j n → ⊥
 none-outside r outer j n m = go (is_sound_in r None (contents_of r outer None)) m.stands
   where
-    test : ℕ → Bool
-    test = stands_around r (resources_in r None) [] [] []
-
-    go : (b : Bool) → Contains (if b then filter test (below (length r.interfaces.items)) else []) j → ⊥
+    go : (b : Bool) → Contains (if b then filter (stands_around r [] []) (below (length r.interfaces.items)) else []) j → ⊥
     go false (k, l, e) = omega (arith, l)
-    go true h =
-        let passes : test j ≡ true = All-contains (λ x. test x ≡ true) (filter test (below (length r.interfaces.items))) j (filter_passes test (below (length r.interfaces.items))) h in
-        true≢false (sym (first_true (list_any (is_instance_of (interface_path r j)) []) (list_all (λ e. not (is_named_of j e.1) || is_known r (resources_in r None) [] [] e.0) (numbered_from 0 r.types.items)) passes))
+    go true h = none-listed r [] (below (length r.interfaces.items)) j h
 
--- what can be imported where an instance type is encoded is known
-pub open-known : (r : Resolve) (outer : Declarations) (inner : Option OpenInterface) (current : OpenInterface) → inner ≡ Some current → (j n : ℕ) → IsImportable (encoder_scope r outer inner) j n → known_slot current.known.items n ≡ None → ⊥
-open-known r outer inner current is j n m none =
-    let known = importable-known r current.interface outer current.known.items n (contents_of r outer (Some current)) j (subst (λ (o : Option OpenInterface). IsImportable (encoder_scope r outer o) j n) is m) in
-    no-number (sym known.is ∙ none)
+-- ---- an alias is made
+
+module _ (r : Resolve) (a : Around) (al : Aliased) (is : IsAlias r a al) where
+  abbrev source : IsSource r a is.interface.0 al.number.0
+  source = record { def = is.def; name = is.name; there = is.there; named_ = is.named_; owned = is.owned; stands = is.stands }
+
+  abbrev stands : Stands r a is.interface.0 al.number.0 is.name
+  stands = standing r a is.interface.0 al.number.0 source
+
+  same-instance : al.instance ≡ stands.number
+  same-instance = one-some al.instance stands.number (sym is.instance ∙ stands.listed)
+    where
+      one-some : (x y : ℕ) → Some x ≡ Some y → x ≡ y
+      one-some x y e = cc
+
+  pub wide : Widened a al stands.slot
+  wide = widened a al stands.slot stands.instance (ap (slice_get (outer_instances a.declared)) same-instance ∙ stands.at) stands.path
+      (ap (λ t. find_type t stands.instance.view.types) is.text ∙ stands.found)
+
+  abbrev next : Around
+  next = with_alias a al
+
+  new-fits : is_slot_for r al.number.0 (slice_get (outer_slots next.declared) (type_slots_of a.declared)) ≡ true
+  new-fits = ap (is_slot_for r al.number.0) wide.new ∙ stands.fits
+
+  pub still-right : are_right r next.known (outer_slots next.declared) ≡ true
+  still-right =
+      list_all-append (λ (e : TypeId × ℕ). is_slot_for r e.0.0 (slice_get (outer_slots next.declared) e.1)) a.known ((al.number, type_slots_of a.declared) ∷ [])
+      ∙ both (are_right r a.known (outer_slots next.declared)) (is_slot_for r al.number.0 (slice_get (outer_slots next.declared) (type_slots_of a.declared)) && true)
+      (ap (are_right r a.known) wide.slots ∙ right-more r a.known (outer_slots a.declared) stands.slot stands.right)
+      (both (is_slot_for r al.number.0 (slice_get (outer_slots next.declared) (type_slots_of a.declared))) true new-fits refl)
+
+  pub still-standing : standing_instances r next ≡ standing_instances r a
+  still-standing =
+      ap (λ b. if b then filter (stands_around r a.instances (outer_instances next.declared)) (below (length r.interfaces.items)) else []) still-right
+      ∙ ap (λ xs. filter (stands_around r a.instances xs) (below (length r.interfaces.items))) wide.instances
+      ∙ sym (ap (λ b. if b then filter (stands_around r a.instances (outer_instances a.declared)) (below (length r.interfaces.items)) else []) stands.right)
+
+-- the slot of a new alias
+pub new-slot : (known : List (TypeId × ℕ)) (id : TypeId) (t : ℕ) → known_slot known id.0 ≡ None → known_slot (known ++ (id, t) ∷ []) id.0 ≡ Some t
+new-slot [] id t h = ap (λ b. option_map (λ (e : TypeId × ℕ). e.1) (cond b (Some (id, t)) None)) (same-number id.0)
+new-slot (x ∷ xs) id t h = go (new-slot xs id t) (x.0.0 == id.0) h
   where
-    no-number : {k : ℕ} → Some k ≡ None → ⊥
-    no-number e = cc
+    go : (known_slot xs id.0 ≡ None → known_slot (xs ++ (id, t) ∷ []) id.0 ≡ Some t) → (b : Bool) → option_map (λ y. y.1) (cond b (Some x) (find (λ y. y.0.0 == id.0) xs)) ≡ None
+        → option_map (λ y. y.1) (cond b (Some x) (find (λ y. y.0.0 == id.0) (xs ++ (id, t) ∷ []))) ≡ Some t
+    go later true e = absurd (let z : ⊥ = cc in z)
+    go later false e = later e
 
-module _ {E : Type 0} (res : Result ℕ E) (r : Resolve) (outer : Declarations) (inner : Option OpenInterface) (current : OpenInterface) (ds' : List Declaration) (is : inner ≡ Some current) where
-  abbrev next : Option OpenInterface
-  next = Some (record current { declared = ds' })
+module _ {E : Type 0} (res : Result ℕ E) (r : Resolve) (outer outer' : Declarations) (foreign : Foreign) (known' : Vec (TypeId × ℕ) Global) (id : TypeId) (k : ℕ) (name : Text) where
+  abbrev new : Aliased
+  new = record { number = id; instance = k; name = name }
+
+  pub made-slot : known_slot foreign.known.items id.0 ≡ None → IfOk res (λ q. q ≡ type_slots_of outer) → OnOk res (known'.items ≡ foreign.known.items ++ (id, type_slots_of outer) ∷ [])
+      → IfOk res (λ q. known_slot known'.items id.0 ≡ Some q)
+  made-slot first ok listed = go res ok listed
+    where
+      go : {E : Type 0} (res : Result ℕ E) → IfOk res (λ q. q ≡ type_slots_of outer) → OnOk res (known'.items ≡ foreign.known.items ++ (id, type_slots_of outer) ∷ []) → IfOk res (λ q. known_slot known'.items id.0 ≡ Some q)
+      go (Ok q) ok listed = ap (λ xs. known_slot xs id.0) listed ∙ new-slot foreign.known.items id (type_slots_of outer) first ∙ ap Some (sym ok)
+      go (Err e) ok listed = ok
+
+  pub made-reaches : IsAlias r (around_at outer foreign) new → OnOk res (outer' ≡ append outer (Declarations.declares (alias_declared new) Declarations.no_more)) → OnOk res (known'.items ≡ foreign.known.items ++ (id, type_slots_of outer) ∷ [])
+      → OnErr res (outer' ≡ outer) → OnErr res (known'.items ≡ foreign.known.items) → ReachesAround r id (around_at outer foreign) (around_at outer' (record foreign { known = known' }))
+  made-reaches is made listed err same = go res made listed err same
+    where
+      go : {E : Type 0} (res : Result ℕ E) → OnOk res (outer' ≡ append outer (Declarations.declares (alias_declared new) Declarations.no_more)) → OnOk res (known'.items ≡ foreign.known.items ++ (id, type_slots_of outer) ∷ [])
+          → OnErr res (outer' ≡ outer) → OnErr res (known'.items ≡ foreign.known.items) → ReachesAround r id (around_at outer foreign) (around_at outer' (record foreign { known = known' }))
+      go (Ok q) made listed err same = aliased new is refl (λ j. record { declared = made j; instances = foreign.instances.items; known = listed j })
+      go (Err e) made listed err same = as_before (λ j. record { declared = err j; instances = foreign.instances.items; known = same j })
+
+-- the alias is one of the type that was asked for
+pub source-alias : (r : Resolve) (a : Around) (j k : ℕ) (id : TypeId) (def : TypeDef) (name : String Global) (shown : Text) → IsSource r a j id.0 → type_at r id.0 ≡ Some def → def.name ≡ Some name → shown ≡ text_of name → known_instance a.instances j ≡ Some k → known_slot a.known id.0 ≡ None
+    → IsAlias r a (record { number = id; instance = k; name = shown })
+source-alias r a j k id def name shown m at is text listed first = record {
+  def = m.def;
+  name = m.name;
+  interface = record { 0 = j };
+  there = m.there;
+  named_ = m.named_;
+  owned = m.owned;
+  text = text ∙ ap text_of (let same : def ≡ m.def = one-def def m.def (sym at ∙ m.there) in one-name name m.name (sym is ∙ ap (λ (d : TypeDef). d.name) same ∙ m.named_));
+  stands = m.stands;
+  instance = listed;
+  first = first;
+}
+  where
+    one-def : (x y : TypeDef) → Some x ≡ Some y → x ≡ y
+    one-def x y e = cc
+
+    one-name : (x y : String Global) → Some x ≡ Some y → x ≡ y
+    one-name x y e = cc
+
+-- what old slots stand for stays, and the same instances stand
+pub grown-keeps : (r : Resolve) (a : Around) (made : List Aliased) → AreAliases r a made → Keeps (SlotsStand (outer_slots a.declared)) (SlotsStand (outer_slots (with_aliases a made).declared))
+grown-keeps r a [] are i m h = h
+grown-keeps r a (x ∷ made) are i m h =
+    grown-keeps r (with_alias a x) made are.1 i m (subst (λ xs. SlotsStand xs i m) (sym (wide r a x are.0).slots) (slots-kept (stands r a x are.0).slot (outer_slots a.declared) i m h))
+
+pub grown-stands : (r : Resolve) (a : Around) (made : List Aliased) → AreAliases r a made → standing_instances r (with_aliases a made) ≡ standing_instances r a
+grown-stands r a [] are = refl
+grown-stands r a (x ∷ made) are = grown-stands r (with_alias a x) made are.1 ∙ still-standing r a x are.0
+
+module _ (r : Resolve) (i : InterfaceId) (a : Around) (ds : List Declaration) (j : ℕ) (id : TypeId) (m : IsImportable (scope_with r (Some i) a (inner_contents (place_in r (Some i)) a.declared ds)) j id.0) where
+  abbrev before : Contents
+  before = inner_contents (place_in r (Some i)) a.declared ds
+
+  is-sound : is_sound_in r (Some i) before ≡ true
+  is-sound = importable-sound (is_sound_in r (Some i) before) (standing_instances r a) j m.stands
+
+  -- what stands around, where a slot of the type is known
+  record Reached (a' : Around) (k : ℕ) : Type 0 where
+    pub known : KnownSlot r i a' id.0 k
+    pub contents : inner_contents (place_in r (Some i)) a'.declared ds ≡ before
+    pub standing : standing_instances r a' ≡ standing_instances r a
+
+  was-known : (k : ℕ) → known_slot a.known id.0 ≡ Some k → Reached a k
+  was-known k e = record {
+    known = known-slot r i a id.0 k (slice_get (outer_slots a.declared) k) refl (known-right r a.known (outer_slots a.declared) id.0 k (standing r a j id.0 (has-source r i a before j id.0 m)).right e);
+    contents = refl;
+    standing = refl;
+  }
+
+  was-made : (al : Aliased) (is : IsAlias r a al) (k : ℕ) → known_slot (with_alias a al).known id.0 ≡ Some k → Reached (with_alias a al) k
+  was-made al is k e =
+      let next = with_alias a al in
+      record {
+        known = known-slot r i next id.0 k (slice_get (outer_slots next.declared) k) refl (known-right r next.known (outer_slots next.declared) id.0 k (still-right r a al is) e);
+        contents = contents-wider (place_in r (Some i)) a al (stands r a al is).slot ds (wide r a al is) (first_true before.is_followed _ is-sound);
+        standing = still-standing r a al is;
+      }
+
+  reached : (a' : Around) (k : ℕ) → ReachesAround r id a a' → known_slot a'.known id.0 ≡ Some k → Reached a' k
+  reached a' k (as_before e) h = subst (λ (z : Around). Reached z k) (sym e) (was-known k (ap (λ (z : Around). known_slot z.known id.0) (sym e) ∙ h))
+  reached a' k (aliased al is of_id e) h = subst (λ (z : Around). Reached z k) (sym e) (was-made al is k (ap (λ (z : Around). known_slot z.known id.0) (sym e) ∙ h))
+
+  -- the scope is the same
+  same-scope : (a' : Around) (k : ℕ) → Reached a' k → scope_with r (Some i) a' (inner_contents (place_in r (Some i)) a'.declared ds) ≡ scope_with r (Some i) a before
+  same-scope a' k h = λ q. scope_from r (Some i) (h.standing q) (h.contents q).shown.functions (is_sound_in r (Some i) (h.contents q))
+
+  pub alias-reached : {E : Type 0} (res : Result ℕ E) (a' : Around) (k : ℕ) (ds' : List Declaration) → ReachesAround r id a a' → known_slot a'.known id.0 ≡ Some k
+      → IfOk res (λ k'. (k' ≡ type_slots ds) × (ds' ≡ ds ++ Declaration.alias_of (Alias.of_outer 1 k) ∷ [])) → OnErr res (ds' ≡ ds)
+      → Calls res (scope_with r (Some i) a before) (scope_with r (Some i) a' (inner_contents (place_in r (Some i)) a'.declared ds')) before (inner_contents (place_in r (Some i)) a'.declared ds')
+      (λ s. s ≡ tree (number_tree r id.0)) (definitions_with (inner_contents (place_in r (Some i)) a'.declared ds') ≡ definitions_with before)
+  alias-reached res a' k ds' reaches e ok err =
+      let h = reached a' k reaches e in
+      let after = inner_contents (place_in r (Some i)) a'.declared ds' in
+      let sound : (scope_with r (Some i) a' (inner_contents (place_in r (Some i)) a'.declared ds)).is_sound ≡ true = ap (λ (s : Scope). s.is_sound) (same-scope a' k h) ∙ is-sound in
+      subst (λ (s : Scope). Calls res s (scope_with r (Some i) a' after) before after (λ s. s ≡ tree (number_tree r id.0)) (definitions_with after ≡ definitions_with before)) (same-scope a' k h)
+      (subst (λ (c : Contents). Calls res (scope_with r (Some i) a' (inner_contents (place_in r (Some i)) a'.declared ds)) (scope_with r (Some i) a' after) c after (λ s. s ≡ tree (number_tree r id.0)) (definitions_with after ≡ definitions_with c)) h.contents
+      (alias-inside res r i a' ds ds' sound k h.known.slot (number_tree r id.0) h.known.at h.known.foreign h.known.kept h.known.stands ok err))
+
+-- ---- the call
+
+module _ {E : Type 0} (res : Result ℕ E) (r : Resolve) (outer outer' : Declarations) (inner : Option OpenInterface) (current : OpenInterface) (foreign : Foreign) (ds' : List Declaration) (is : inner ≡ Some current) where
+  abbrev afterwards : Option OpenInterface
+  afterwards = Some (record current { foreign = foreign; declared = ds' })
 
   abbrev pub ImportsTo : Option OpenInterface → ℕ → Type 0
-  ImportsTo o n = CallsTo res r outer o outer next (λ m. m ≡ tree (number_tree r n)) (definitions_with (contents_of r outer next) ≡ definitions_with (contents_of r outer o))
+  ImportsTo o n = CallsTo res r outer o outer' afterwards (λ m. m ≡ tree (number_tree r n)) (definitions_with (contents_of r outer' afterwards) ≡ definitions_with (contents_of r outer o))
 
-  pub imported : (j n k : ℕ) → IsImportable (encoder_scope r outer inner) j n → known_slot current.known.items n ≡ Some k
-      → IfOk res (λ k'. (k' ≡ type_slots current.declared) × (ds' ≡ current.declared ++ Declaration.alias_of (Alias.of_outer 1 k) ∷ [])) → OnErr res (ds' ≡ current.declared) → ImportsTo inner n
-  imported j n k m at ok err = subst (λ (o : Option OpenInterface). IsImportable (encoder_scope r outer o) j n → ImportsTo o n) (sym is)
-      (λ m.
-      let known = importable-known r current.interface outer current.known.items n (contents_of r outer (Some current)) j m in
-      let same : known.number ≡ k = one-number known.number k (sym known.is ∙ at) in
-      let there : slice_get (outer_slots outer) k ≡ Some known.slot = ap (slice_get (outer_slots outer)) (sym same) ∙ known.at in
-      alias-inside res r current.interface outer current.known.items current.declared ds' (importable-sound _ _ j m.stands) k known.slot (number_tree r n) there known.foreign known.kept known.stands ok err) m
-    where
-      one-number : (a b : ℕ) → Some a ≡ Some b → a ≡ b
-      one-number a b e = cc
+  pub imported : (j : ℕ) (id : TypeId) (k : ℕ) → IsImportable (encoder_scope r outer inner) j id.0 → ReachesAround r id (around_at outer current.foreign) (around_at outer' foreign) → known_slot foreign.known.items id.0 ≡ Some k
+      → IfOk res (λ k'. (k' ≡ type_slots current.declared) × (ds' ≡ current.declared ++ Declaration.alias_of (Alias.of_outer 1 k) ∷ [])) → OnErr res (ds' ≡ current.declared) → ImportsTo inner id.0
+  imported j id k m reaches known ok err = subst (λ (o : Option OpenInterface). IsImportable (encoder_scope r outer o) j id.0 → ImportsTo o id.0) (sym is)
+      (λ m. alias-reached r current.interface (around_at outer current.foreign) current.declared j id m res (around_at outer' foreign) k ds' reaches known ok err) m
 
-  pub imported-stands : (n : ℕ) → ImportsTo inner n → IfOk res (λ k. SlotsStand (contents_of r outer next).slots k (tree (number_tree r n)))
+  pub imported-stands : (n : ℕ) → ImportsTo inner n → IfOk res (λ k. SlotsStand (contents_of r outer' afterwards).slots k (tree (number_tree r n)))
   imported-stands n q = go res q.ok
     where
-      go : {E : Type 0} (res : Result ℕ E) → IfOk res (λ k. SlotAdded (SlotsStand (contents_of r outer inner).slots) (SlotsStand (contents_of r outer next).slots) (length (contents_of r outer inner).slots) (length (contents_of r outer next).slots) k (λ m. m ≡ tree (number_tree r n)))
-          → IfOk res (λ k. SlotsStand (contents_of r outer next).slots k (tree (number_tree r n)))
+      go : {E : Type 0} (res : Result ℕ E) → IfOk res (λ k. SlotAdded (SlotsStand (contents_of r outer inner).slots) (SlotsStand (contents_of r outer' afterwards).slots) (length (contents_of r outer inner).slots) (length (contents_of r outer' afterwards).slots) k (λ m. m ≡ tree (number_tree r n)))
+          → IfOk res (λ k. SlotsStand (contents_of r outer' afterwards).slots k (tree (number_tree r n)))
       go (Ok k) h = h.adds.new (tree (number_tree r n)) refl
       go (Err e) h = h
+
+pub import-source : (r : Resolve) (outer : Declarations) (inner : Option OpenInterface) (current : OpenInterface) → inner ≡ Some current → (j n : ℕ) → IsImportable (encoder_scope r outer inner) j n → IsSource r (around_at outer current.foreign) j n
+import-source r outer inner current is j n m =
+    has-source r current.interface (around_at outer current.foreign) (contents_of r outer (Some current)) j n (subst (λ (o : Option OpenInterface). IsImportable (encoder_scope r outer o) j n) is m)

@@ -4,6 +4,7 @@ pub mod KindLaws
 pub mod Planning
 pub mod Written
 pub mod Agree
+pub mod Around
 pub mod Defining
 pub mod Encoding
 pub mod Owning
@@ -20,6 +21,7 @@ pub mod Contents
 pub mod Steps
 pub mod Components
 pub mod Calls
+pub mod Wider
 pub mod Outside
 pub mod Within
 pub mod Refusing

@@ -3,11 +3,9 @@ use Rattle.std.proofs.Common.{◌≡◌, refl, sym, ap, ◌∙◌, true, List, [
 use Rattle.std.proofs.lemmas.Map.Views.{All-map-IsPermutation}
 use Rattle.std.proofs.lemmas.List.Elements.{All-contains_itself, All-contains}
 use Rattle.wit_encode.proofs.Lists.{contains-map}
-use Rattle.std.specs.Prelude.{IsPermutation, IfOk, map, String}
+use Rattle.std.specs.Prelude.{IsPermutation, IfOk, OnOk, map, String}
 use Rattle.std.specs.Borrow.{Bor}
 use Rattle.std.specs.declared.alloc.Global.{Global}
-use Rattle.std.specs.declared.vec.Vec.{Vec}
-use Rattle.wit_model.specs.declared.model.TypeId.{TypeId}
 use Rattle.std.proofs.lemmas.List.Sorted.{IsPermutation-map}
 use Rattle.wit_model.specs.declared.model.Interface.{Interface}
 use Rattle.wit_model.specs.declared.model.Function.{Function}
@@ -30,28 +28,38 @@ use Rattle.comp_bytes.specs.Reading.{◌>>=◌}
 use Rattle.comp_meaning.specs.Follow.{instance_view}
 use Rattle.wit_encode.specs.declared.maps.TypeEncodingMaps.{TypeEncodingMaps}
 use Rattle.wit_encode.specs.declared.interface.OpenInterface.{OpenInterface}
+use Rattle.wit_encode.specs.declared.interface.Foreign.{Foreign}
+use Rattle.std.proofs.Common.{Bool, false, OnErr, if◌then◌else◌, filter, length, slice_get, arith}
+use Rattle.std.proofs.lemmas.List.Elements.{filter_passes}
+use Rattle.comp_meaning.specs.Follow as follow
+use Rattle.comp_meaning.specs.Follow.{Slot, new_scope, in_scope}
+use Rattle.wit_encode.specs.Known.{Around, GrowsAround, known_instance, is_standing, stands_around, are_right, below, outer_scope, outer_instances}
+use Rattle.wit_encode.proofs.Components.{steps-instance}
 use Rattle.wit_encode.specs.Scope.{Scope}
 use Rattle.wit_encode.specs.Order.{functions_in_order}
 use Rattle.wit_encode.specs.Distinct.{DefinesKeys, DefinesTypes}
 use Rattle.indexmap.specs.IndexMap.{values}
 use Rattle.wit_encode.proofs.Counting.{count-keys}
-use Rattle.wit_encode.specs.Instance.{is_slot_of, no_view, outer_slots, inner_contents, own_of, known_of, standing_instances, resources_in, contents_of, encoder_scope, opened, keyed, placed_function, meaning_of, EncodesInterface, IsInstance, Continues, definitions_with}
+use Rattle.wit_encode.specs.Instance.{is_slot_of, no_view, outer_slots, inner_contents, outer_contents, stands_in, SlotsStand, own_of, around_at, around_of, standing_instances, resources_in, contents_of, encoder_scope, opened, keyed, placed_function, meaning_of, EncodesInterface, IsInstance, Continues, definitions_with}
+use Rattle.wit_encode.specs.Slots.{Keeps}
 use Rattle.wit_encode.proofs.Calls.{inner-at}
+use Rattle.wit_encode.proofs.Outside.{instance-keeps}
+use Rattle.wit_encode.proofs.Importing.{grown-keeps, grown-stands, right-more}
 use Rattle.wit_encode.proofs.Reordering.{functions-mean}
 
-pub opened-sound : (r : Resolve) (outer : Declarations) (i : InterfaceId) (known : Vec (TypeId × ℕ) Global) → (encoder_scope r outer (opened i known)).is_sound ≡ true
+pub opened-sound : (r : Resolve) (outer : Declarations) (i : InterfaceId) (known : Foreign) → (encoder_scope r outer (opened i known)).is_sound ≡ true
 unfolding inner_contents
 opened-sound r outer i known = refl
 
-pub opened-around : (r : Resolve) (outer : Declarations) (i : InterfaceId) (known : Vec (TypeId × ℕ) Global) (j : ℕ) → Contains (standing_instances r outer i known.items) j → Contains (encoder_scope r outer (opened i known)).instances j
+pub opened-around : (r : Resolve) (outer : Declarations) (i : InterfaceId) (known : Foreign) (j : ℕ) → Contains (standing_instances r (around_at outer known)) j → Contains (encoder_scope r outer (opened i known)).instances j
 unfolding inner_contents
 opened-around r outer i known j c = c
 
-pub opened-shows : (r : Resolve) (outer : Declarations) (i : InterfaceId) (known : Vec (TypeId × ℕ) Global) → (contents_of r outer (opened i known)).shown.functions ≡ []
+pub opened-shows : (r : Resolve) (outer : Declarations) (i : InterfaceId) (known : Foreign) → (contents_of r outer (opened i known)).shown.functions ≡ []
 unfolding inner_contents
 opened-shows r outer i known = refl
 
-pub opened-exports : (r : Resolve) (outer : Declarations) (i : InterfaceId) (known : Vec (TypeId × ℕ) Global) → (definitions_with (contents_of r outer (opened i known))).exports ≡ []
+pub opened-exports : (r : Resolve) (outer : Declarations) (i : InterfaceId) (known : Foreign) → (definitions_with (contents_of r outer (opened i known))).exports ≡ []
 unfolding inner_contents
 opened-exports r outer i known = refl
 
@@ -62,33 +70,29 @@ view-at place outer ds e =
     ap (λ o. o >>= λ scope. Some scope.shown) a.is ∙ ap Some (sym (ap (λ o. option_map_or (λ s. s.shown) o no_view) a.is))
 
 -- what is closed is an instance type that can be followed
-pub closed-instance : (r : Resolve) (outer outer' : Declarations) (i : InterfaceId) (known : Vec (TypeId × ℕ) Global) (inner' : Option OpenInterface) (current : OpenInterface) (m m' : TypeEncodingMaps) (fs : List (Text × FunctionMeaning)) → inner' ≡ Some current → own_of inner' ≡ Some i
-    → Continues r r outer outer' (opened i known) inner' m m' → (contents_of r outer' inner').shown.functions ≡ (contents_of r outer (opened i known)).shown.functions ++ fs → outer' ≡ outer
-    → (definitions_with (contents_of r outer' inner')).exports ≡ (interface_meaning_at r i.0).types → IsInstance r outer i current.declared fs
-closed-instance r outer outer' i known inner' current m m' fs is own c h same exported =
-    let at : contents_of r outer' inner' ≡ inner_contents (place_of r (owner.Interface i)) outer current.declared =
-    (λ j. contents_of r (same j) (is j)) ∙ ap (λ (k : InterfaceId). inner_contents (place_of r (owner.Interface k)) outer current.declared) (let e : Some current.interface ≡ Some i = sym (ap own_of is) ∙ own in let z : current.interface ≡ i = cc in z) in
+pub closed-instance : (r : Resolve) (outer outer' : Declarations) (i : InterfaceId) (known : Foreign) (inner' : Option OpenInterface) (current : OpenInterface) (m m' : TypeEncodingMaps) (fs : List (Text × FunctionMeaning)) → inner' ≡ Some current → own_of inner' ≡ Some i
+    → Continues r r outer outer' (opened i known) inner' m m' → (contents_of r outer' inner').shown.functions ≡ (contents_of r outer (opened i known)).shown.functions ++ fs
+    → (definitions_with (contents_of r outer' inner')).exports ≡ (interface_meaning_at r i.0).types → IsInstance r outer' i current.declared fs
+closed-instance r outer outer' i known inner' current m m' fs is own c h exported =
+    let at : contents_of r outer' inner' ≡ inner_contents (place_of r (owner.Interface i)) outer' current.declared =
+    (λ j. contents_of r outer' (is j)) ∙ ap (λ (k : InterfaceId). inner_contents (place_of r (owner.Interface k)) outer' current.declared) (let e : Some current.interface ≡ Some i = sym (ap own_of is) ∙ own in let z : current.interface ≡ i = cc in z) in
     let sound : (encoder_scope r outer' inner').is_sound ≡ true = ap (λ (s : Scope). s.is_sound) c.scope_stays ∙ opened-sound r outer i known in
     let followed : (contents_of r outer' inner').is_followed ≡ true = first_true (contents_of r outer' inner').is_followed (list_all (is_slot_of (resources_in r (own_of inner'))) (contents_of r outer' inner').slots) sound in
     record {
-      view = (inner_contents (place_of r (owner.Interface i)) outer current.declared).shown;
-      followed = view-at (place_of r (owner.Interface i)) outer current.declared (sym (ap (λ z. z.is_followed) at) ∙ followed);
+      view = (inner_contents (place_of r (owner.Interface i)) outer' current.declared).shown;
+      followed = view-at (place_of r (owner.Interface i)) outer' current.declared (sym (ap (λ z. z.is_followed) at) ∙ followed);
       shows = sym (ap (λ z. z.shown.functions) at) ∙ h ∙ ap (λ zs. zs ++ fs) (opened-shows r outer i known);
       types = sym (ap (λ z. (definitions_with z).exports) at) ∙ exported;
     }
 
--- the component type around is the same
-pub closed-outer : (r : Resolve) (outer outer' : Declarations) (i : InterfaceId) (known : Vec (TypeId × ℕ) Global) (inner' : Option OpenInterface) (m m' : TypeEncodingMaps) → own_of inner' ≡ Some i → Continues r r outer outer' (opened i known) inner' m m' → outer' ≡ outer
-closed-outer r outer outer' i known None m m' own c = absurd (let z : ⊥ = cc in z)
-closed-outer r outer outer' i known (Some current) m m' own c = ap (λ (s : Scope). s.around) c.scope_stays
-
--- what was known is still
-pub closed-known : (r : Resolve) (outer outer' : Declarations) (i : InterfaceId) (known : Vec (TypeId × ℕ) Global) (inner' : Option OpenInterface) (current : OpenInterface) (m m' : TypeEncodingMaps) → inner' ≡ Some current → Continues r r outer outer' (opened i known) inner' m m' → current.known.items ≡ known.items
-closed-known r outer outer' i known inner' current m m' is c = sym (ap known_of is) ∙ ap (λ (s : Scope). s.known) c.scope_stays
+-- around it, nothing has been declared but aliases
+pub closed-around : (r : Resolve) (outer outer' : Declarations) (i : InterfaceId) (known : Foreign) (inner' : Option OpenInterface) (current : OpenInterface) (m m' : TypeEncodingMaps) → inner' ≡ Some current → Continues r r outer outer' (opened i known) inner' m m'
+    → GrowsAround r (around_at outer known) (around_at outer' current.foreign)
+closed-around r outer outer' i known inner' current m m' is c = subst (λ (o : Option OpenInterface). GrowsAround r (around_at outer known) (around_of outer' o)) is c.around_
 
 -- an interface is opened with what is known
-pub opened-with : (i : InterfaceId) (ds : List Declaration) (known known' : Vec (TypeId × ℕ) Global) → ds ≡ [] → known ≡ known' → ◌≡◌ {A = Option OpenInterface} (Some (record { interface = i; declared = ds; known = known })) (opened i known')
-opened-with i ds known known' e f = λ j. Some (record { interface = i; declared = e j; known = f j })
+pub opened-with : (i : InterfaceId) (ds : List Declaration) (known known' : Foreign) → ds ≡ [] → known ≡ known' → ◌≡◌ {A = Option OpenInterface} (Some (record { interface = i; declared = ds; foreign = known })) (opened i known')
+opened-with i ds known known' e f = λ j. Some (record { interface = i; declared = e j; foreign = f j })
 
 map-twice : {A B C : Type 0} (f : B → C) (g : A → B) (xs : List A) → map f (map g xs) ≡ map (λ x. f (g x)) xs
 map-twice f g [] = refl
@@ -105,20 +109,22 @@ values-permuted def fs p =
     (map-twice (λ (x : Text × Function). x.1) placed_function fs) (IsPermutation-map (λ (x : Text × Function). x.1) _ _ p))
 
 -- the instance type takes its slot
-pub closes : {E : Type 0} (res : Result ℕ E) (r : Resolve) (outer outer₁ outer' : Declarations) (i : InterfaceId) (def def' : Interface) (declared : List Declaration) (fs items : List (ℕ × Bor (String Global) × Bor Function)) → Some def' ≡ Some def → outer₁ ≡ outer → items ≡ fs
+pub closes : {E : Type 0} (res : Result ℕ E) (r : Resolve) (a : Around) (outer outer' : Declarations) (foreign foreign' : Foreign) (i : InterfaceId) (def def' : Interface) (declared : List Declaration) (fs items : List (ℕ × Bor (String Global) × Bor Function)) → Some def' ≡ Some def → GrowsAround r a (around_at outer foreign) → foreign' ≡ foreign → items ≡ fs
     → IsPermutation (map keyed def'.functions.entries) (map placed_function fs) → map placed_function fs ≡ functions_in_order def' → DefinesKeys (map (λ f. f.2.now) items) declared → DefinesTypes r i (values def'.types) (values def'.functions) declared → IsInstance r outer i declared (map (λ f. meaning_of r (placed_function f)) items)
-    → IfOk res (λ k. (k ≡ type_slots_of outer₁) × (outer' ≡ append outer₁ (Declarations.instance (from_list declared) Declarations.no_more))) → IsValid r → interface_at r i.0 ≡ Some def → IfOk res (λ k. EncodesInterface r outer outer' i def k)
-closes (Err e) r outer outer₁ outer' i def def' declared fs items d o n p ordered keys types is h v there = h
-closes (Ok k) r outer outer₁ outer' i def def' declared fs items d o n p ordered keys types is h v there =
+    → IfOk res (λ k. (k ≡ type_slots_of outer) × (outer' ≡ append outer (Declarations.instance (from_list declared) Declarations.no_more))) → IsValid r → interface_at r i.0 ≡ Some def → IfOk res (λ k. EncodesInterface r a (around_at outer' foreign') i def k)
+closes (Err e) r a outer outer' foreign foreign' i def def' declared fs items d grown o n p ordered keys types is h v there = h
+closes (Ok k) r a outer outer' foreign foreign' i def def' declared fs items d grown o n p ordered keys types is h v there =
     let same : def' ≡ def = cc in
     let all : IsPermutation (map (meaning_of r) (map keyed def.functions.entries)) (map (λ f. meaning_of r (placed_function f)) items) =
     subst (λ (xs : List (Text × FunctionMeaning)). IsPermutation (map (meaning_of r) (map keyed def.functions.entries)) xs) (map-twice (meaning_of r) placed_function fs ∙ ap (map (λ f. meaning_of r (placed_function f))) (sym n))
     (subst (λ (z : Interface). IsPermutation (map (meaning_of r) (map keyed z.functions.entries)) (map (meaning_of r) (map placed_function fs))) same (IsPermutation-map (meaning_of r) _ _ p)) in
     record {
+      before = around_at outer foreign;
+      aliases = grown;
       declared = declared;
       functions = map (λ f. meaning_of r (placed_function f)) items;
-      index = h.0 ∙ ap type_slots_of o;
-      one_more = h.1 ∙ ap (λ (z : Declarations). append z (Declarations.instance (from_list declared) Declarations.no_more)) o;
+      index = h.0;
+      one_more = λ j. around_at (h.1 j) (o j);
       is_instance = is;
       means = λ j. record { types = is.types j; functions = (ap from_entries is.shows ∙ functions-mean r v i def there (map (λ f. meaning_of r (placed_function f)) items) all) j };
       in_order = ap (map (λ f. meaning_of r (placed_function f))) n ∙ sym (map-twice (meaning_of r) placed_function fs)
@@ -142,3 +148,63 @@ permuted-contains xs ys y p c =
 pub close-each : {E D : Type 0} (res : Result ℕ E) (is : D → Type 0) (P : D → ℕ → Type 0) (d : D) → is d → ((d : D) → is d → IfOk res (P d)) → IfOk res (λ k. (d : D) → is d → P d k)
 close-each (Ok k) is P d h all = λ d h. all d h
 close-each (Err e) is P d h all = all d h
+
+outer-slots : (outer : Declarations) → (outer_contents outer).slots ≡ outer_slots outer
+unfolding outer_contents
+outer-slots outer = refl
+
+-- what old slots stand for stays behind aliases and one instance type more
+pub closed-keeps : {E : Type 0} (res : Result ℕ E) (r r' : Resolve) (a : Around) (outer outer' : Declarations) (foreign : Foreign) (inner inner' : Option OpenInterface) (es : List Declaration) → inner ≡ None → inner' ≡ None → GrowsAround r a (around_at outer foreign)
+    → IfOk res (λ k. (k ≡ type_slots_of outer) × (outer' ≡ append outer (Declarations.instance (from_list es) Declarations.no_more))) → OnOk res (Keeps (stands_in r a.declared inner) (stands_in r' outer' inner'))
+closed-keeps (Err e) r r' a outer outer' foreign inner inner' es x y grown h = h
+closed-keeps (Ok k) r r' a outer outer' foreign inner inner' es x y grown h =
+    let aliases : Keeps (SlotsStand (outer_slots a.declared)) (SlotsStand (outer_slots outer)) =
+    subst (λ (z : Around). Keeps (SlotsStand (outer_slots a.declared)) (SlotsStand (outer_slots z.declared))) (sym grown.is) (grown-keeps r a grown.made grown.are) in
+    let before : Keeps (SlotsStand (outer_contents a.declared).slots) (SlotsStand (outer_contents outer).slots) =
+    λ i m s. subst (λ xs. SlotsStand xs i m) (sym (outer-slots outer)) (aliases i m (subst (λ xs. SlotsStand xs i m) (outer-slots a.declared) s)) in
+    subst (λ (o : Option OpenInterface). Keeps (stands_in r a.declared o) (stands_in r' outer' inner')) (sym x)
+    (subst (λ (o : Option OpenInterface). Keeps (stands_in r a.declared None) (stands_in r' outer' o)) (sym y)
+    (subst (λ (z : Declarations). Keeps (SlotsStand (outer_contents a.declared).slots) (SlotsStand (outer_contents z).slots)) (sym h.1) (λ i m s. instance-keeps outer es i m (before i m s))))
+
+-- ---- instances that stand around
+
+none-stands : (r : Resolve) (listed : List (InterfaceId × ℕ)) (j : ℕ) → stands_around r listed [] j ≡ true → ⊥
+none-stands r listed j h = go (known_instance listed j) h
+  where
+    go : (o : Option ℕ) → option_map_or (λ k. option_map_or (is_standing r j) (slice_get [] k) false) o false ≡ true → ⊥
+    go None h = let z : ⊥ = cc in z
+    go (Some k) h = let z : ⊥ = cc in z
+
+module _ (r : Resolve) (foreign : Foreign) (outer : Declarations) (es : List Declaration) where
+  abbrev one-more : Declarations
+  one-more = append outer (Declarations.instance (from_list es) Declarations.no_more)
+
+  instances-then : (j : ℕ) → (o : Option follow.Scope) → outer_scope outer ≡ o → (b : Bool) → are_right r foreign.known.items (outer_slots outer) ≡ b
+      → Contains (if b then filter (stands_around r foreign.instances.items (outer_instances outer)) (below (length r.interfaces.items)) else []) j → Contains (standing_instances r (around_at one-more foreign)) j
+  instances-then j o q false right (k, l, e) = absurd (omega (arith, l))
+  instances-then j None q true right h =
+      let test = stands_around r foreign.instances.items (outer_instances outer) in
+      let passes : test j ≡ true = All-contains (λ x. test x ≡ true) (filter test (below (length r.interfaces.items))) j (filter_passes test (below (length r.interfaces.items))) h in
+      absurd (none-stands r foreign.instances.items j (ap (λ z. stands_around r foreign.instances.items (option_map_or (λ s. s.instances) z []) j) (sym q) ∙ passes))
+  instances-then j (Some s) q true right h =
+      let x = Slot.instance es (length s.slots) in
+      let next : outer_scope one-more ≡ Some (in_scope x s) = steps-instance new_scope s outer es q in
+      let slots : outer_slots one-more ≡ outer_slots outer ++ x ∷ [] = ap (λ z. option_map_or (λ s. s.slots) z []) next ∙ ap (λ xs. xs ++ x ∷ []) (sym (ap (λ z. option_map_or (λ s. s.slots) z []) q)) in
+      let instances : outer_instances one-more ≡ outer_instances outer = ap (λ z. option_map_or (λ s. s.instances) z []) next ∙ sym (ap (λ z. option_map_or (λ s. s.instances) z []) q) in
+      let still : are_right r foreign.known.items (outer_slots one-more) ≡ true = ap (are_right r foreign.known.items) slots ∙ right-more r foreign.known.items (outer_slots outer) x right in
+      let same : standing_instances r (around_at one-more foreign) ≡ filter (stands_around r foreign.instances.items (outer_instances outer)) (below (length r.interfaces.items)) =
+      ap (λ b. if b then filter (stands_around r foreign.instances.items (outer_instances one-more)) (below (length r.interfaces.items)) else []) still
+      ∙ ap (λ xs. filter (stands_around r foreign.instances.items xs) (below (length r.interfaces.items))) instances in
+      subst (λ xs. Contains xs j) (sym same) h
+
+pub grown-stay : (r : Resolve) (a a' : Around) → GrowsAround r a a' → (j : ℕ) → Contains (standing_instances r a) j → Contains (standing_instances r a') j
+grown-stay r a a' g j h = subst (λ xs. Contains xs j) (sym (ap (standing_instances r) g.is ∙ grown-stands r a g.made g.are)) h
+
+pub closed-stay : {E : Type 0} (res : Result ℕ E) (r : Resolve) (a : Around) (outer outer' : Declarations) (foreign foreign' : Foreign) (es : List Declaration) → GrowsAround r a (around_at outer foreign) → foreign' ≡ foreign
+    → IfOk res (λ k. (k ≡ type_slots_of outer) × (outer' ≡ append outer (Declarations.instance (from_list es) Declarations.no_more))) → OnErr res (outer' ≡ outer)
+    → (j : ℕ) → Contains (standing_instances r a) j → Contains (standing_instances r (around_at outer' foreign')) j
+closed-stay (Ok k) r a outer outer' foreign foreign' es g e ok err j h =
+    subst (λ (z : Around). Contains (standing_instances r z) j) (λ i. around_at (sym ok.1 i) (sym e i))
+    (instances-then r foreign outer es j (outer_scope outer) refl (are_right r foreign.known.items (outer_slots outer)) refl (grown-stay r a (around_at outer foreign) g j h))
+closed-stay (Err x) r a outer outer' foreign foreign' es g e ok err j h =
+    subst (λ (z : Around). Contains (standing_instances r z) j) (λ i. around_at (sym err i) (sym e i)) (grown-stay r a (around_at outer foreign) g j h)

@@ -16,6 +16,7 @@ use Rattle.comp_meaning.specs.Follow.{Slot, new_scope, definition, function_sign
 use Rattle.wit_encode.specs.Slots.{Standing, Keeps, Follows, FollowsFunction, Defines, DefinesFunction}
 use Rattle.wit_encode.specs.declared.interface.OpenInterface.{OpenInterface}
 use Rattle.wit_encode.specs.Formed.{IsFormed, IsFormedSignature}
+use Rattle.wit_encode.specs.Known.{no_around}
 use Rattle.wit_encode.specs.Counts.{one_type_more, one_function_more}
 use Rattle.wit_encode.specs.Instance.{SlotsStand, stands_in, is_slot_of, Contents, outer_scope, outer_contents, is_value_type, is_function_type, resources_in, scope_with, definitions_with}
 use Rattle.wit_encode.proofs.Strict.{bind, definition-strict, function-strict}
@@ -68,7 +69,7 @@ module _ {E : Type 0} (res : Result ℕ E) (r : Resolve) (outer outer' : Declara
   abbrev after : Contents
   after = outer_contents outer'
 
-  module _ (sound : (scope_with r None Declarations.no_more [] before).is_sound ≡ true) where
+  module _ (sound : (scope_with r None no_around before).is_sound ≡ true) where
     outer-there : OuterAt outer
     outer-there = outer-at outer (first_true before.is_followed (list_all (is_slot_of (resources_in r None)) before.slots) sound)
 
@@ -94,35 +95,35 @@ module _ {E : Type 0} (res : Result ℕ E) (r : Resolve) (outer outer' : Declara
         err-each (Ok k) f h = h
         err-each (Err e) f h = f h
 
-    pub defined-outside : (d : ComponentDefinedType) (t : Tree) → Follows (SlotsStand before.slots) d t → IsFormed (scope_with r None Declarations.no_more [] before) t
+    pub defined-outside : (d : ComponentDefinedType) (t : Tree) → Follows (SlotsStand before.slots) d t → IsFormed (scope_with r None no_around before) t
         → IfOk res (λ k. (k ≡ type_slots_of outer) × (outer' ≡ append outer (Declarations.declares (Declaration.defined (raw_defined d)) Declarations.no_more))) → OnErr res (outer' ≡ outer)
-        → Calls res (scope_with r None Declarations.no_more [] before) (scope_with r None Declarations.no_more [] after) before after (Defines (SlotsStand before.slots) d) (definitions_with after ≡ one_type_more (definitions_with before))
+        → Calls res (scope_with r None no_around before) (scope_with r None no_around after) before after (Defines (SlotsStand before.slots) d) (definitions_with after ≡ one_type_more (definitions_with before))
     defined-outside d t h f ok err =
         let a = outer-there in
         let strict : definition a.scope.slots (raw_defined d) ≡ Some t = ap (λ zs. definition zs (raw_defined d)) (sym a.slots) ∙ definition-strict (resources_in r None) before.slots outer-slots d t h f.formed in
-        calls-from res r None Declarations.no_more [] before after _ _ (Slot.value t) sound (formed-value (resources_in r None) t f.formed) (defines-of before.slots d t h)
+        calls-from res r None no_around before after _ _ (Slot.value t) sound (formed-value (resources_in r None) t f.formed) (defines-of before.slots d t h)
         (more-ok (Declaration.defined (raw_defined d)) (Slot.value t) _ (bind (definition a.scope.slots (raw_defined d)) t (λ u. Some (in_scope (Slot.value u) a.scope)) strict) (λ e. ap (λ zs. definitions_with (outer_contents zs)) e
         ∙ outer-definitions outer (Declaration.defined (raw_defined d)) (before.types + 1) before.functions refl (omega arith)) ok)
         (err-same err)
 
-    pub function-outside : (d : ComponentFuncType) (s : Signature) → FollowsFunction (SlotsStand before.slots) d s → IsFormedSignature (scope_with r None Declarations.no_more [] before) s
+    pub function-outside : (d : ComponentFuncType) (s : Signature) → FollowsFunction (SlotsStand before.slots) d s → IsFormedSignature (scope_with r None no_around before) s
         → IfOk res (λ k. (k ≡ type_slots_of outer) × (outer' ≡ append outer (Declarations.declares (Declaration.function (raw_function d)) Declarations.no_more))) → OnErr res (outer' ≡ outer)
-        → Calls res (scope_with r None Declarations.no_more [] before) (scope_with r None Declarations.no_more [] after) before after (DefinesFunction (SlotsStand before.slots) d) (definitions_with after ≡ one_function_more (definitions_with before))
+        → Calls res (scope_with r None no_around before) (scope_with r None no_around after) before after (DefinesFunction (SlotsStand before.slots) d) (definitions_with after ≡ one_function_more (definitions_with before))
     function-outside d s h f ok err =
         let a = outer-there in
         let strict : function_signature a.scope.slots (raw_function d) ≡ Some s = ap (λ zs. function_signature zs (raw_function d)) (sym a.slots) ∙ function-strict (resources_in r None) before.slots outer-slots d s h f.params f.result_ in
-        calls-from res r None Declarations.no_more [] before after _ _ (Slot.function s) sound refl (function-of before.slots d s h)
+        calls-from res r None no_around before after _ _ (Slot.function s) sound refl (function-of before.slots d s h)
         (more-ok (Declaration.function (raw_function d)) (Slot.function s) _ (bind (function_signature a.scope.slots (raw_function d)) s (λ u. Some (in_scope (Slot.function u) a.scope)) strict) (λ e. ap (λ zs. definitions_with (outer_contents zs)) e
         ∙ outer-definitions outer (Declaration.function (raw_function d)) before.types (before.functions + 1) (omega arith) refl) ok)
         (err-same err)
 
 -- a component type in which nothing has been declared yet
-pub fresh-sound : (r : Resolve) (outer : Declarations) → outer ≡ Declarations.no_more → (scope_with r None Declarations.no_more [] (outer_contents outer)).is_sound ≡ true
+pub fresh-sound : (r : Resolve) (outer : Declarations) → outer ≡ Declarations.no_more → (scope_with r None no_around (outer_contents outer)).is_sound ≡ true
 unfolding outer_contents
-fresh-sound r outer e = ap (λ (z : Declarations). (scope_with r None Declarations.no_more [] (outer_contents z)).is_sound) e
+fresh-sound r outer e = ap (λ (z : Declarations). (scope_with r None no_around (outer_contents z)).is_sound) e
 
 -- what old slots stand for stays behind one instance type more
-instance-keeps : (outer : Declarations) (es : List Declaration) → Keeps (SlotsStand (outer_contents outer).slots) (SlotsStand (outer_contents (append outer (Declarations.instance (from_list es) Declarations.no_more))).slots)
+pub instance-keeps : (outer : Declarations) (es : List Declaration) → Keeps (SlotsStand (outer_contents outer).slots) (SlotsStand (outer_contents (append outer (Declarations.instance (from_list es) Declarations.no_more))).slots)
 unfolding outer_contents
 instance-keeps outer es i m h = go (outer_scope outer) refl
   where
@@ -134,11 +135,3 @@ instance-keeps outer es i m h = go (outer_scope outer) refl
         let next : outer_slots_of (append outer (Declarations.instance (from_list es) Declarations.no_more)) ≡ s.slots ++ Slot.instance es (length s.slots) ∷ [] = ap (λ o. option_map_or (λ s. s.slots) o []) (steps-instance new_scope s outer es q) in
         let old : SlotsStand s.slots i m = subst (λ (z : Option follow.Scope). SlotsStand (option_map_or (λ s. s.slots) z []) i m) q h in
         subst (λ (xs : List Slot). SlotsStand xs i m) (sym next) (slots-kept (Slot.instance es (length s.slots)) s.slots i m old)
-
-pub closed-keeps : {E : Type 0} (res : Result ℕ E) (r r' : Resolve) (outer o₁ outer' : Declarations) (inner inner' : Option OpenInterface) (es : List Declaration) → inner ≡ None → inner' ≡ None → o₁ ≡ outer
-    → IfOk res (λ k. (k ≡ type_slots_of o₁) × (outer' ≡ append o₁ (Declarations.instance (from_list es) Declarations.no_more))) → OnOk res (Keeps (stands_in r outer inner) (stands_in r' outer' inner'))
-closed-keeps (Err e) r r' outer o₁ outer' inner inner' es a b c h = h
-closed-keeps (Ok k) r r' outer o₁ outer' inner inner' es a b c h =
-    subst (λ (o : Option OpenInterface). Keeps (stands_in r outer o) (stands_in r' outer' inner')) (sym a)
-    (subst (λ (o : Option OpenInterface). Keeps (stands_in r outer None) (stands_in r' outer' o)) (sym b)
-    (subst (λ (z : Declarations). Keeps (SlotsStand (outer_contents outer).slots) (SlotsStand (outer_contents z).slots)) (sym (h.1 ∙ ap (λ (z : Declarations). append z (Declarations.instance (from_list es) Declarations.no_more)) c)) (instance-keeps outer es)))

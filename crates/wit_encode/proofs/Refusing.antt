@@ -2,12 +2,11 @@
 use Rattle.std.proofs.Common.{◌≡◌, sym, subst, ap, ◌∙◌, ◌&&◌, ℕ, zero, suc, true, false, refl, arith, List, [], ◌∷◌, Contains, Result, Ok, Err, OnErr, Option, Some, None}
 use Rattle.std.specs.List.{list_all}
 use Rattle.std.specs.declared.alloc.Global.{Global}
-use Rattle.std.specs.declared.vec.Vec.{Vec}
+use Rattle.wit_encode.specs.declared.interface.Foreign.{Foreign}
 use Rattle.wit_model.specs.Text.{Text, optional_text}
 use Rattle.wit_model.specs.Lookup.{place_of}
 use Rattle.wit_model.specs.declared.model.Function.{Function}
 use Rattle.wit_model.specs.declared.model.InterfaceId.{InterfaceId}
-use Rattle.wit_model.specs.declared.model.TypeId.{TypeId}
 use Rattle.wit_model.specs.declared.model.TypeOwner.TheVariants as owner
 use Rattle.wit_model.proofs.Lists.{first_true}
 use Rattle.wit_model.specs.Tree.{Tree}
@@ -26,8 +25,8 @@ use Rattle.wit_encode.specs.Slots.{Follows, FollowsFunction}
 use Rattle.wit_encode.specs.declared.maps.TypeEncodingMaps.{TypeEncodingMaps}
 use Rattle.wit_encode.specs.Scope.{Scope}
 use Rattle.wit_encode.specs.Room.{Refusals, value_type, function_type, function_name, LacksPartOf, a_type, a_function_type, a_function_name}
-use Rattle.wit_encode.specs.Instance.{Contents, Continues, LacksRoomWithin, contents_of, encoder_scope, inner_contents, is_slot_of, opened, own_of, resources_in, stands_in, fits_behind, lacks_room_in, lacks_room_behind, for_value_type, for_function_type}
-use Rattle.wit_encode.proofs.Opening.{closed-outer, opened-sound}
+use Rattle.wit_encode.specs.Instance.{Contents, Continues, around_at, LacksRoomWithin, contents_of, encoder_scope, inner_contents, is_slot_of, opened, own_of, resources_in, stands_in, fits_behind, lacks_room_in, lacks_room_behind, for_value_type, for_function_type}
+use Rattle.wit_encode.proofs.Opening.{closed-around, opened-sound}
 
 pub on-size : {A : Type 0} (res : Result A Error) (P : Type 0) → OnErr res P → res ≡ Err errors.Size → P
 on-size (Ok x) P p h = absurd (let z : ⊥ = cc in z)
@@ -85,18 +84,19 @@ pub part-of-one : {r : Resolve} {N : Refusals} (gs : List (Text × Function)) (f
 part-of-one gs f at part = part-of-more (λ g h. only-one (Contains gs) f g h at) part
 
 -- what is refused while an interface is open
-pub refused-within : (r r' : Resolve) (outer outer' : Declarations) (i : InterfaceId) (known : Vec (TypeId × ℕ) Global) (inner' : Option OpenInterface) (current : OpenInterface) (m m' : TypeEncodingMaps) (fs : List (Text × Function)) → inner' ≡ Some current → own_of inner' ≡ Some i
-    → Continues r r outer outer' (opened i known) inner' m m' → r' ≡ r → LacksPartOf r (lacks_room_in r' outer' inner') fs → LacksRoomWithin r outer i fs
+pub refused-within : (r r' : Resolve) (outer outer' : Declarations) (i : InterfaceId) (known : Foreign) (inner' : Option OpenInterface) (current : OpenInterface) (m m' : TypeEncodingMaps) (fs : List (Text × Function)) → inner' ≡ Some current → own_of inner' ≡ Some i
+    → Continues r r outer outer' (opened i known) inner' m m' → r' ≡ r → LacksPartOf r (lacks_room_in r' outer' inner') fs → LacksRoomWithin r (around_at outer known) i fs
 refused-within r r' outer outer' i known inner' current m m' fs is own c packages part =
-    let same : outer' ≡ outer = closed-outer r outer outer' i known inner' m m' own c in
     let own_is : current.interface ≡ i = (let e : Some current.interface ≡ Some i = sym (ap own_of is) ∙ own in let z : current.interface ≡ i = cc in z) in
-    let at : contents_of r outer' inner' ≡ inner_contents (place_of r (owner.Interface i)) outer current.declared =
-    (λ j. contents_of r (same j) (is j)) ∙ ap (λ (k : InterfaceId). inner_contents (place_of r (owner.Interface k)) outer current.declared) own_is in
+    let at : contents_of r outer' inner' ≡ inner_contents (place_of r (owner.Interface i)) outer' current.declared =
+    (λ j. contents_of r outer' (is j)) ∙ ap (λ (k : InterfaceId). inner_contents (place_of r (owner.Interface k)) outer' current.declared) own_is in
     let sound : (encoder_scope r outer' inner').is_sound ≡ true = ap (λ (s : Scope). s.is_sound) c.scope_stays ∙ opened-sound r outer i known in
     let followed : (contents_of r outer' inner').is_followed ≡ true = first_true (contents_of r outer' inner').is_followed (list_all (is_slot_of (resources_in r (own_of inner'))) (contents_of r outer' inner').slots) sound in
-    let lacks : ◌≡◌ {A = Refusals} (lacks_room_in r' outer' inner') (lacks_room_behind r outer i current.declared) =
-    (λ j. lacks_room_in (packages j) (same j) (is j)) ∙ ap (λ (k : InterfaceId). lacks_room_behind r outer k current.declared) own_is in
+    let lacks : ◌≡◌ {A = Refusals} (lacks_room_in r' outer' inner') (lacks_room_behind r outer' i current.declared) =
+    (λ j. lacks_room_in (packages j) outer' (is j)) ∙ ap (λ (k : InterfaceId). lacks_room_behind r outer' k current.declared) own_is in
     record {
+      after = around_at outer' current.foreign;
+      grown = closed-around r outer outer' i known inner' current m m' is c;
       declared = current.declared;
       followed = sym (ap (λ (z : Contents). z.is_followed) at) ∙ followed;
       part = subst (λ (N : Refusals). LacksPartOf r N fs) lacks part;

@@ -14,7 +14,7 @@ use Rattle.wit_encode.specs.Slots.{Standing, tree, Follows, FollowsFunction, Def
 use Rattle.wit_encode.specs.Scope.{DeclaresSlot, DeclaresResource}
 use Rattle.wit_encode.specs.Formed.{IsFormed, IsFormedSignature}
 use Rattle.wit_encode.specs.Counts.{one_type_more, one_function_more, ExportsOne}
-use Rattle.wit_encode.specs.Instance.{SlotsStand, contents_of, encoder_scope, definitions_with}
+use Rattle.wit_encode.specs.Instance.{SlotsStand, around_at, contents_of, encoder_scope, definitions_with}
 use Rattle.wit_encode.proofs.Calls.{Calls, defined-inside, function-inside, type-inside, resource-inside}
 use Rattle.wit_encode.proofs.Outside.{defined-outside, function-outside}
 
@@ -45,22 +45,22 @@ module _ {E : Type 0} (res : Result ℕ E) (r : Resolve) (outer : Declarations) 
     pub defined-within : (d : ComponentDefinedType) → CanDefine r outer inner d
         → IfOk res (λ k. (k ≡ type_slots current.declared) × (ds' ≡ current.declared ++ Declaration.defined (raw_defined d) ∷ [])) → OnErr res (ds' ≡ current.declared) → DefinesTo res r outer inner outer next d
     defined-within d q ok err = subst (λ (o : Option OpenInterface). CanDefine r outer o d → DefinesTo res r outer o outer next d) (sym is)
-        (λ q. defined-inside res r current.interface outer current.known.items current.declared ds' q.2.sound d q.0 q.1 q.2 ok err) q
+        (λ q. defined-inside res r current.interface (around_at outer current.foreign) current.declared ds' q.2.sound d q.0 q.1 q.2 ok err) q
 
     pub function-within : (d : ComponentFuncType) → CanDefineFunction r outer inner d
         → IfOk res (λ k. (k ≡ type_slots current.declared) × (ds' ≡ current.declared ++ Declaration.function (raw_function d) ∷ [])) → OnErr res (ds' ≡ current.declared) → DefinesFunctionTo res r outer inner outer next d
     function-within d q ok err = subst (λ (o : Option OpenInterface). CanDefineFunction r outer o d → DefinesFunctionTo res r outer o outer next d) (sym is)
-        (λ q. function-inside res r current.interface outer current.known.items current.declared ds' q.2.sound d q.0 q.1 q.2 ok err) q
+        (λ q. function-inside res r current.interface (around_at outer current.foreign) current.declared ds' q.2.sound d q.0 q.1 q.2 ok err) q
 
     pub type-within : (k : ℕ) (name : ExternName) → DeclaresSlot (encoder_scope r outer inner) (SlotsStand (contents_of r outer inner).slots) name k
         → IfOk res (λ k'. (k' ≡ type_slots current.declared) × (ds' ≡ current.declared ++ Declaration.exported name (refs.TypeEq k) ∷ [])) → OnErr res (ds' ≡ current.declared) → ShowsTo res r outer inner next name
     type-within k name q ok err = subst (λ (o : Option OpenInterface). DeclaresSlot (encoder_scope r outer o) (SlotsStand (contents_of r outer o).slots) name k → ShowsTo res r outer o next name) (sym is)
-        (λ q. type-inside res r current.interface outer current.known.items current.declared ds' q.declared.sound k name q ok err) q
+        (λ q. type-inside res r current.interface (around_at outer current.foreign) current.declared ds' q.declared.sound k name q ok err) q
 
     pub resource-within : (name : ExternName) → DeclaresResource (encoder_scope r outer inner) name
         → IfOk res (λ k'. (k' ≡ type_slots current.declared) × (ds' ≡ current.declared ++ Declaration.exported name refs.SubResource ∷ [])) → OnErr res (ds' ≡ current.declared) → ShowsTo res r outer inner next name
     resource-within name q ok err = subst (λ (o : Option OpenInterface). DeclaresResource (encoder_scope r outer o) name → ShowsTo res r outer o next name) (sym is)
-        (λ q. resource-inside res r current.interface outer current.known.items current.declared ds' q.declared.sound name q ok err) q
+        (λ q. resource-inside res r current.interface (around_at outer current.foreign) current.declared ds' q.declared.sound name q ok err) q
 
   module _ (outer' : Declarations) (is : inner ≡ None) where
     pub defined-without : (d : ComponentDefinedType) → CanDefine r outer inner d

@@ -15,7 +15,6 @@ use Rattle.wit_encode.specs.Kinds.{has_definition}
 use Rattle.wit_encode.specs.Maps.{HasKey, LacksKey}
 use Rattle.wit_encode.specs.Plan.{foreign_owner}
 use Rattle.wit_encode.specs.Scope.{Scope, exported_name}
-use Rattle.wit_encode.specs.Unnamed.{LearnsKinds}
 
 -- how many value types and how many types of functions have been defined in a scope, and which declarations have been exported, in order
 pub record Definitions : Type 0 where
@@ -74,7 +73,6 @@ pub record AddsTypes (r : Resolve) (scope : Scope) (m m' : TypeEncodingMaps) (d 
   pub functions : d'.functions ≡ d.functions
   pub keys : m'.func_type_map.items ≡ m.func_type_map.items
   pub shows : Shows r scope m m' d d'
-  pub kinds : LearnsKinds r m m'
 
 -- The key of a function was in the maps already, or is there now at a new index. What has been defined is what the maps have learnt.
 pub record AddsFunction (r : Resolve) (scope : Scope) (m m' : TypeEncodingMaps) (d d' : Definitions) (key : FunctionKey) (i : ℕ) : Type 0 where
@@ -82,4 +80,3 @@ pub record AddsFunction (r : Resolve) (scope : Scope) (m m' : TypeEncodingMaps) 
   pub functions : d'.functions + length m.func_type_map.items ≡ d.functions + length m'.func_type_map.items
   pub keys : (HasKey m key i × (m'.func_type_map.items ≡ m.func_type_map.items)) ⊎ (LacksKey m key × (m'.func_type_map.items ≡ m.func_type_map.items ++ (key, i) ∷ []))
   pub shows : Shows r scope m m' d d'
-  pub kinds : LearnsKinds r m m'

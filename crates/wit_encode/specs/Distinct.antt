@@ -20,7 +20,6 @@ use Rattle.wit_encode.specs.Key.{same_type, same_param}
 use Rattle.wit_encode.specs.Kinds.{has_definition}
 use Rattle.wit_encode.specs.Plan.{foreign_owner}
 use Rattle.wit_encode.specs.Scope.{Scope}
-use Rattle.wit_encode.specs.Unnamed.{LearnsKinds}
 use Rattle.wit_encode.specs.MetKinds.{AreMetKinds, referred}
 use Rattle.wit_encode.specs.Counts.{Definitions, names_defined}
 
@@ -63,7 +62,6 @@ pub record AddsFunctions (r : Resolve) (scope : Scope) (m m' : TypeEncodingMaps)
   pub types : d'.types + (length m.def_to_index.items + names_defined r scope m) ≡ d.types + (length m'.def_to_index.items + names_defined r scope m')
   pub functions_ : d'.functions + length m.func_type_map.items ≡ d.functions + length m'.func_type_map.items
   pub keys : (key : Key) → is_member are_same (keys_of m') key ≡ (is_member are_same (keys_of m) key || is_member are_same (map key_of functions) key)
-  pub kinds : LearnsKinds r m m'
 
 -- ---- what is declared
 

@@ -1,5 +1,6 @@
 -- An encoder of interfaces as one value, and what its calls ask and leave.
-use Rattle.std.specs.Prelude.{ℕ, ◌≡◌, ◌⊎◌, Some, false}
+use Rattle.std.specs.Prelude.{ℕ, ◌≡◌, ◌⊎◌, Some}
+use Rattle.std.specs.List.{Contains}
 use Rattle.wit_model.specs.Text.{Text}
 use Rattle.wit_model.specs.Meaning.{Signature, FunctionMeaning}
 use Rattle.wit_model.specs.Lookup.{interface_at}
@@ -7,14 +8,13 @@ use Rattle.wit_model.specs.declared.model.Resolve.{Resolve}
 use Rattle.wit_model.specs.declared.model.Interface.{Interface}
 use Rattle.wit_model.specs.declared.model.InterfaceId.{InterfaceId}
 use Rattle.comp_bytes.specs.Raw.{ExternName}
-use Rattle.comp_bytes.specs.Held.{fits_added}
 use Rattle.wit_encode.specs.Order.{functions_in_order}
 use Rattle.wit_encode.specs.declared.maps.TypeEncodingMaps.{TypeEncodingMaps}
 use Rattle.wit_encode.specs.declared.interface.InterfaceEncoderOf.{InterfaceEncoderOf}
-use Rattle.wit_encode.specs.Known.{UsedStand}
+use Rattle.wit_encode.specs.Known.{Around, GrowsAround, UsedStand}
 use Rattle.wit_encode.specs.Scope.{Scope}
 use Rattle.wit_encode.specs.View.{View}
-use Rattle.wit_encode.specs.Instance.{Contents, contents_of, encoder_scope, slots_in, stands_in, defined_in, opened, standing_instances, Continues, EncodesInterface, lacks_room_in, LacksRoomWithin}
+use Rattle.wit_encode.specs.Instance.{Contents, contents_of, encoder_scope, around_of, around_at, slots_in, stands_in, defined_in, opened, standing_instances, Continues, EncodesInterface, lacks_room_in, LacksRoomWithin, LacksInstanceRoom}
 
 abbrev pub InterfaceEncoder : Type 0
 InterfaceEncoder = InterfaceEncoderOf TypeEncodingMaps
@@ -23,6 +23,7 @@ InterfaceEncoder = InterfaceEncoderOf TypeEncodingMaps
 abbrev pub view_of : Resolve → InterfaceEncoder → View
 view_of r e = record {
   scope = encoder_scope r e.outer e.inner;
+  around = around_of e.outer e.inner;
   slot_count = slots_in r e.outer e.inner;
   stands = stands_in r e.outer e.inner;
   definitions = defined_in r e.outer e.inner;
@@ -47,16 +48,28 @@ GoesOn r e e' = Continues r r e.outer e'.outer e.inner e'.inner e.maps e'.maps
 
 -- the surroundings inside an interface, of which nothing has been declared yet
 abbrev pub scope_within : InterfaceEncoder → InterfaceId → Scope
-scope_within e i = encoder_scope e.resolve.now e.outer (opened i e.outer_type_map)
+scope_within e i = encoder_scope e.resolve.now e.outer (opened i e.foreign)
 
--- each interface that an interface uses has an instance in the component type, and its types are known there
+-- the component type, in which instances and aliases stand
+abbrev pub outside : InterfaceEncoder → Around
+outside e = around_at e.outer e.foreign
+
+-- each interface that an interface uses has an instance in the component type
 abbrev pub UsedAround : InterfaceEncoder → InterfaceId → Type 0
-UsedAround e i = UsedStand e.resolve.now (standing_instances e.resolve.now e.outer i e.outer_type_map.items) i.0
+UsedAround e i = UsedStand e.resolve.now (standing_instances e.resolve.now (outside e)) i.0
+
+-- the same instances stand there
+abbrev pub InstancesStay : InterfaceEncoder → InterfaceEncoder → Type 0
+InstancesStay e e' = (j : ℕ) → Contains (standing_instances e.resolve.now (outside e)) j → Contains (standing_instances e.resolve.now (outside e')) j
+
+-- in the component type nothing has been declared but aliases of types that had none
+abbrev pub Reaches : InterfaceEncoder → InterfaceEncoder → Type 0
+Reaches e e' = GrowsAround e.resolve.now (outside e) (outside e')
 
 -- slot k of the component type is new, and stands for the interface
 abbrev pub EncodesAs : InterfaceEncoder → InterfaceEncoder → InterfaceId → ℕ → Type 0
-EncodesAs e e' i k = (def : Interface) → interface_at e.resolve.now i.0 ≡ Some def → EncodesInterface e.resolve.now e.outer e'.outer i def k
+EncodesAs e e' i k = (def : Interface) → interface_at e.resolve.now i.0 ≡ Some def → EncodesInterface e.resolve.now (outside e) (outside e') i def k
 
 -- the interface has no room in an instance type, or the component type has none for one more instance type
 abbrev pub LacksInstance : InterfaceEncoder → InterfaceId → Type 0
-LacksInstance e i = (def : Interface) → interface_at e.resolve.now i.0 ≡ Some def → LacksRoomWithin e.resolve.now e.outer i (functions_in_order def) ⊎ (fits_added e.outer 1 ≡ false)
+LacksInstance e i = (def : Interface) → interface_at e.resolve.now i.0 ≡ Some def → LacksRoomWithin e.resolve.now (outside e) i (functions_in_order def) ⊎ LacksInstanceRoom e.resolve.now (outside e)

@@ -20,8 +20,9 @@ use Rattle.wit_model.specs.declared.model.TypeOwner.TheVariants as owner
 use Rattle.comp_bytes.specs.Raw.{Alias, Declaration, Declarations, ExternName, append, from_list}
 use Rattle.comp_meaning.specs.Follow as follow
 use Rattle.comp_meaning.specs.Reads.{interface_meaning}
-use Rattle.comp_meaning.specs.Follow.{Slot, View, InstanceScope, instance_view, instance_steps, new_instance, component_steps, new_scope}
+use Rattle.comp_meaning.specs.Follow.{Slot, View, InstanceScope, instance_view, instance_steps, new_instance}
 use Rattle.wit_encode.specs.declared.interface.OpenInterface.{OpenInterface}
+use Rattle.wit_encode.specs.declared.interface.Foreign.{Foreign}
 use Rattle.std.specs.List.{Contains}
 use Rattle.indexmap.specs.IndexMap.{values}
 use Rattle.wit_model.specs.declared.model.Interface.{Interface}
@@ -35,9 +36,10 @@ use Rattle.comp_bytes.specs.declared.forms.ComponentFuncType.{ComponentFuncType}
 use Rattle.comp_bytes.specs.declared.forms.ComponentTypeRef.{ComponentTypeRef}
 use Rattle.wit_encode.specs.Slots.{Pairs, Follows, FollowsFunction}
 use Rattle.wit_encode.specs.Room.{Request, Refusals, value_type, function_type, export_name, import_of, LacksPartOf}
-use Rattle.wit_encode.specs.Resources.{Names, is_met_owner, resource_names}
+use Rattle.wit_encode.specs.Resources.{Names, is_met_owner, is_named_interface, resource_names}
 pub use Rattle.wit_encode.specs.Standing.{standing_at, SlotsStand, is_slot_of}
-use Rattle.wit_encode.specs.Known.{Known, instances_around}
+use Rattle.wit_encode.specs.Known.{Around, GrowsAround, no_around}
+pub use Rattle.wit_encode.specs.Known.{outer_scope, outer_slots, outer_instances, standing_instances}
 use Rattle.wit_model.specs.declared.model.Function.{Function}
 use Rattle.wit_model.specs.Meant.{signature_of, function_meaning}
 use Rattle.wit_model.specs.Parts.{function_types}
@@ -70,15 +72,6 @@ count_declared test Declarations.no_more = 0
 count_declared test (Declarations.declares d rest) = count_by test (d ∷ []) + count_declared test rest
 count_declared test (Declarations.component inner rest) = count_declared test rest
 count_declared test (Declarations.instance inner rest) = count_declared test rest
-
-abbrev pub outer_scope : Declarations → Option follow.Scope
-outer_scope outer = component_steps new_scope outer
-
-abbrev pub outer_slots : Declarations → List Slot
-outer_slots outer = option_map_or (λ s. s.slots) (outer_scope outer) []
-
-abbrev pub outer_instances : Declarations → List follow.Instance
-outer_instances outer = option_map_or (λ s. s.instances) (outer_scope outer) []
 
 -- of the component type
 unfoldable pub outer_contents : Declarations → Contents
@@ -119,7 +112,7 @@ declarations_in r None = []
 declarations_in r (Some i) = (interface_meaning_at r i.0).types
 
 abbrev pub is_owner_in : Resolve → Option InterfaceId → TypeOwner → Bool
-is_owner_in r None o = false
+is_owner_in r None o = is_named_interface r o
 is_owner_in r (Some i) o = is_met_owner r (owner.Interface i) o
 
 abbrev pub resources_in : Resolve → Option InterfaceId → Names
@@ -129,39 +122,38 @@ abbrev pub contents_of : Resolve → Declarations → Option OpenInterface → C
 contents_of r outer None = outer_contents outer
 contents_of r outer (Some current) = inner_contents (place_of r (owner.Interface current.interface)) outer current.declared
 
-abbrev pub around_of : Declarations → Option OpenInterface → Declarations
-around_of outer None = Declarations.no_more
-around_of outer (Some current) = outer
+-- a component type, and what is listed of it
+abbrev pub around_at : Declarations → Foreign → Around
+around_at outer foreign = record { declared = outer; instances = foreign.instances.items; known = foreign.known.items }
 
-abbrev pub known_of : Option OpenInterface → Known
-known_of None = []
-known_of (Some current) = current.known.items
+-- what stands around an instance type, if one is open
+abbrev pub around_of : Declarations → Option OpenInterface → Around
+around_of outer None = no_around
+around_of outer (Some current) = around_at outer current.foreign
 
 -- whether what has been declared can be followed, with each resource in a slot of its own kind
 abbrev pub is_sound_in : Resolve → Option InterfaceId → Contents → Bool
 is_sound_in r interface contents = contents.is_followed && list_all (is_slot_of (resources_in r interface)) contents.slots
 
--- The surroundings. Types of other interfaces are known where what has been declared can be followed.
-abbrev pub scope_from : Resolve → Option InterfaceId → Declarations → Known → List (Text × FunctionMeaning) → Bool → Scope
-scope_from r interface around known functions sound = record {
+-- The surroundings. Instances stand where what has been declared can be followed.
+abbrev pub scope_from : Resolve → Option InterfaceId → List ℕ → List (Text × FunctionMeaning) → Bool → Scope
+scope_from r interface standing functions sound = record {
   packages = r;
   place = place_in r interface;
   declarations = declarations_in r interface;
   own_interface = interface;
-  instances = if sound then instances_around r (resources_in r interface) known (outer_instances around) (outer_slots around) else [];
+  instances = if sound then standing else [];
   resources = resources_in r interface;
   functions = functions;
-  around = around;
-  known = known;
   is_sound = sound;
 }
 
 -- the surroundings, with these contents
-abbrev pub scope_with : Resolve → Option InterfaceId → Declarations → Known → Contents → Scope
-scope_with r interface around known contents = scope_from r interface around known contents.shown.functions (is_sound_in r interface contents)
+abbrev pub scope_with : Resolve → Option InterfaceId → Around → Contents → Scope
+scope_with r interface around contents = scope_from r interface (standing_instances r around) contents.shown.functions (is_sound_in r interface contents)
 
 abbrev pub encoder_scope : Resolve → Declarations → Option OpenInterface → Scope
-encoder_scope r outer inner = scope_with r (own_of inner) (around_of outer inner) (known_of inner) (contents_of r outer inner)
+encoder_scope r outer inner = scope_with r (own_of inner) (around_of outer inner) (contents_of r outer inner)
 
 abbrev pub definitions_with : Contents → Definitions
 definitions_with contents = record { types = contents.types; functions = contents.functions; exports = map (λ t. (t.name, t.meaning)) contents.shown.types }
@@ -182,15 +174,16 @@ abbrev pub fits_behind : Declarations → Option OpenInterface → Declaration �
 fits_behind outer None = λ d. fits_declaration d && fits_added outer (declaration_slots d)
 fits_behind outer (Some current) = fits_next current.declared
 
--- a declaration that answers the request doesn't fit
-pub data LacksRoomIn (fits : Declaration → Bool) (S : Pairs) : Request → Type 0 where
-  for_value_type : (t : Tree) (def : ComponentDefinedType) → Follows S def t → fits (Declaration.defined (raw_defined def)) ≡ false → LacksRoomIn fits S (value_type t)
-  for_function_type : (s : Signature) (def : ComponentFuncType) → FollowsFunction S def s → fits (Declaration.function (raw_function def)) ≡ false → LacksRoomIn fits S (function_type s)
-  for_name : (name : ExternName) (described : ComponentTypeRef) → fits (Declaration.exported name described) ≡ false → LacksRoomIn fits S (export_name name)
-  for_import : (n slot : ℕ) → fits (Declaration.alias_of (Alias.of_outer 1 slot)) ≡ false → LacksRoomIn fits S (import_of n)
+-- a declaration that answers the request doesn't fit: in the scope, or for an import in the one around it
+pub data LacksRoomIn (fits fits_around : Declaration → Bool) (S : Pairs) : Request → Type 0 where
+  for_value_type : (t : Tree) (def : ComponentDefinedType) → Follows S def t → fits (Declaration.defined (raw_defined def)) ≡ false → LacksRoomIn fits fits_around S (value_type t)
+  for_function_type : (s : Signature) (def : ComponentFuncType) → FollowsFunction S def s → fits (Declaration.function (raw_function def)) ≡ false → LacksRoomIn fits fits_around S (function_type s)
+  for_name : (name : ExternName) (described : ComponentTypeRef) → fits (Declaration.exported name described) ≡ false → LacksRoomIn fits fits_around S (export_name name)
+  for_import : (n slot : ℕ) → fits (Declaration.alias_of (Alias.of_outer 1 slot)) ≡ false → LacksRoomIn fits fits_around S (import_of n)
+  for_alias : (n instance : ℕ) (name : Text) → fits_around (Declaration.alias_of (Alias.of_export instance name)) ≡ false → LacksRoomIn fits fits_around S (import_of n)
 
 abbrev pub lacks_room_in : Resolve → Declarations → Option OpenInterface → Refusals
-lacks_room_in r outer inner = LacksRoomIn (fits_behind outer inner) (stands_in r outer inner)
+lacks_room_in r outer inner = LacksRoomIn (fits_behind outer inner) (fits_behind outer None) (stands_in r outer inner)
 
 -- the types that have been exported, in order, and the functions
 abbrev pub exports_in : Resolve → Declarations → Option OpenInterface → List (Text × TypeMeaning)
@@ -213,9 +206,11 @@ abbrev pub with_functions : Scope → List (Text × FunctionMeaning) → Scope
 with_functions scope functions = record scope { functions = functions }
 
 -- What a call leaves, also where it is refused: the surroundings but for the functions that have been exported, and maps that agree.
+-- Around, nothing has been declared but aliases of types that had none.
 pub record Continues (r r' : Resolve) (outer outer' : Declarations) (inner inner' : Option OpenInterface) (m m' : TypeEncodingMaps) : Type 0 where
   pub scope_stays : encoder_scope r' outer' inner' ≡ with_functions (encoder_scope r outer inner) (contents_of r' outer' inner').shown.functions
   pub agree : MapsAgree r m' (SlotsStand (contents_of r' outer' inner').slots)
+  pub around_ : GrowsAround r (around_of outer inner) (around_of outer' inner')
 
 -- Functions of an interface can be encoded: their types can, and they take and give no resource by themselves.
 pub record CanEncodeFunction (r : Resolve) (scope : Scope) (f : Function) : Type 0 where
@@ -234,9 +229,9 @@ placed_function f = (text_of f.1.now, f.2.now)
 abbrev pub meaning_of : Resolve → Text × Function → Text × FunctionMeaning
 meaning_of r f = (f.0, function_meaning r f.1)
 
--- an interface of which nothing has been declared yet, where these types of others are known
-abbrev pub opened : InterfaceId → Vec (TypeId × ℕ) Global → Option OpenInterface
-opened i known = Some (record { interface = i; declared = []; known = known })
+-- an interface of which nothing has been declared yet, where this of others stands around
+abbrev pub opened : InterfaceId → Foreign → Option OpenInterface
+opened i foreign = Some (record { interface = i; declared = []; foreign = foreign })
 
 -- Declarations of an instance type that can be followed, with each resource in a slot of its own kind, and that show exactly the types of
 -- the interface, in order, and these functions.
@@ -248,32 +243,38 @@ pub record IsInstance (r : Resolve) (outer : Declarations) (i : InterfaceId) (ds
 
 -- what an instance type of an interface has no room for, behind these declarations
 abbrev pub lacks_room_behind : Resolve → Declarations → InterfaceId → List Declaration → Refusals
-lacks_room_behind r outer i ds = LacksRoomIn (fits_next ds) (SlotsStand (inner_contents (place_of r (owner.Interface i)) outer ds).slots)
+lacks_room_behind r outer i ds = LacksRoomIn (fits_next ds) (fits_behind outer None) (SlotsStand (inner_contents (place_of r (owner.Interface i)) outer ds).slots)
 
--- Behind declarations of an instance type of the interface that can be followed, a type, or the type or the name of one of these functions,
--- has no room.
-pub record LacksRoomWithin (r : Resolve) (outer : Declarations) (i : InterfaceId) (functions : List (Text × Function)) : Type 0 where
+-- After aliases have been made around, and behind declarations of an instance type of the interface that can be followed, a type, or the type
+-- or the name of one of these functions, has no room.
+pub record LacksRoomWithin (r : Resolve) (around : Around) (i : InterfaceId) (functions : List (Text × Function)) : Type 0 where
+  pub after : Around
+  pub grown : GrowsAround r around after
   pub declared : List Declaration
-  pub followed : (inner_contents (place_of r (owner.Interface i)) outer declared).is_followed ≡ true
-  pub part : LacksPartOf r (lacks_room_behind r outer i declared) functions
+  pub followed : (inner_contents (place_of r (owner.Interface i)) after.declared declared).is_followed ≡ true
+  pub part : LacksPartOf r (lacks_room_behind r after.declared i declared) functions
 
--- the interfaces whose instances stand in a component type, and whose types are known there, for an interface that is encoded
-abbrev pub standing_instances : Resolve → Declarations → InterfaceId → Known → List ℕ
-standing_instances r outer i known = instances_around r (resources_in r (Some i)) known (outer_instances outer) (outer_slots outer)
+-- after aliases have been made, the component type has no room for one more instance type
+pub record LacksInstanceRoom (r : Resolve) (around : Around) : Type 0 where
+  pub after : Around
+  pub grown : GrowsAround r around after
+  pub full : fits_added after.declared 1 ≡ false
 
 -- what an interface asks for, when it is encoded in this component type
-pub record CanEncodeInterface (r : Resolve) (outer : Declarations) (i : InterfaceId) (known : Vec (TypeId × ℕ) Global) (def : Interface) : Type 0 where
-  pub types : (t : TypeId) → Contains (values def.types) t → CanEncode r (encoder_scope r outer (opened i known)) (ty.Id t ∷ [])
-  pub functions : (f : Text × Function) → Contains (map keyed def.functions.entries) f → CanEncodeFunction r (encoder_scope r outer (opened i known)) f.1
+pub record CanEncodeInterface (r : Resolve) (outer : Declarations) (i : InterfaceId) (foreign : Foreign) (def : Interface) : Type 0 where
+  pub types : (t : TypeId) → Contains (values def.types) t → CanEncode r (encoder_scope r outer (opened i foreign)) (ty.Id t ∷ [])
+  pub functions : (f : Text × Function) → Contains (map keyed def.functions.entries) f → CanEncodeFunction r (encoder_scope r outer (opened i foreign)) f.1
 
 -- Slot k of the component type is new: an instance type that can be followed, and that shows the types of the interface, in order, and its
--- functions, with what they mean.
-pub record EncodesInterface (r : Resolve) (outer outer' : Declarations) (i : InterfaceId) (def : Interface) (k : ℕ) : Type 0 where
+-- functions, with what they mean. Before it, nothing has been declared but aliases of types that had none.
+pub record EncodesInterface (r : Resolve) (around around' : Around) (i : InterfaceId) (def : Interface) (k : ℕ) : Type 0 where
+  pub before : Around
+  pub aliases : GrowsAround r around before
   pub declared : List Declaration
   pub functions : List (Text × FunctionMeaning)
-  pub index : k ≡ type_slots_of outer
-  pub one_more : outer' ≡ append outer (Declarations.instance (from_list declared) Declarations.no_more)
-  pub is_instance : IsInstance r outer i declared functions
+  pub index : k ≡ type_slots_of before.declared
+  pub one_more : around' ≡ record before { declared = append before.declared (Declarations.instance (from_list declared) Declarations.no_more) }
+  pub is_instance : IsInstance r before.declared i declared functions
   pub means : interface_meaning is_instance.view is_instance.view.functions ≡ interface_meaning_at r i.0
   pub in_order : functions ≡ map (meaning_of r) (functions_in_order def)
   -- how many types of functions and how many value types are defined

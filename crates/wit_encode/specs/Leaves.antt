@@ -8,6 +8,9 @@ use Rattle.wit_encode.specs.MetKinds.{Learns, LearnsMet}
 use Rattle.wit_encode.specs.Maps.{MapsGrow}
 use Rattle.wit_encode.specs.Counts.{one_type_more, type_more_if, AddsTypes, AddsFunction}
 use Rattle.wit_encode.specs.Distinct.{AddsFunctions}
+use Rattle.wit_model.specs.declared.model.TypeDefKind.{TypeDefKind}
+use Rattle.wit_encode.specs.Kinds.{kind_tree}
+use Rattle.wit_encode.specs.Room.{value_type, LacksTypeOr}
 use Rattle.wit_encode.specs.View.{View, Agrees, Grows}
 
 -- The maps agree with the slots and have lost no entry, old slots stand for what they did, and the surroundings are the same.
@@ -44,3 +47,7 @@ CountsFunctions r v v' functions = AddsFunctions r v.scope v.maps v'.maps v.defi
 -- one value type has been defined where this holds, and nothing else
 abbrev pub DefinesIf : Bool → View → View → Type 0
 DefinesIf b v v' = v'.definitions ≡ type_more_if b v.definitions
+
+-- a type of the packages has no room, or a definition of this kind has none
+abbrev pub LacksRoomFor : Resolve → View → TypeDefKind → Type 0
+LacksRoomFor r v kind = LacksTypeOr r v.lacks_room (value_type (kind_tree r kind))

@@ -10,7 +10,6 @@ pub mod Known
 pub mod Formed
 pub mod Plan
 pub mod Definition
-pub mod Unnamed
 pub mod Counts
 pub mod Room
 pub mod View

@@ -43,3 +43,7 @@ is_resource_entry r met place name e = (met e.1.owner && is_resource r e.0) && (
 -- the names of the resources, and of the aliases of resources, that have such an owner
 abbrev pub resource_names : Resolve → (TypeOwner → Bool) → Names
 resource_names r met place name = list_any (is_resource_entry r met place name) (numbered_from 0 r.types.items)
+
+-- those of named interfaces
+abbrev pub named_resources : Resolve → Names
+named_resources r = resource_names r (is_named_interface r)

@@ -10,9 +10,8 @@ use Rattle.wit_model.specs.declared.model.Resolve.{Resolve}
 use Rattle.wit_model.specs.declared.model.TypeDef.{TypeDef}
 use Rattle.wit_model.specs.declared.model.TypeOwner.TheVariants as owner
 use Rattle.wit_model.specs.declared.model.InterfaceId.{InterfaceId}
-use Rattle.comp_bytes.specs.Raw.{ExternName, Declarations}
+use Rattle.comp_bytes.specs.Raw.{ExternName}
 use Rattle.wit_encode.specs.Resources.{Names, is_resource_declaration}
-use Rattle.wit_encode.specs.Known.{Known}
 use Rattle.wit_encode.specs.Slots.{Pairs, tree}
 
 -- Whose types are encoded, and where. None of it is changed by defining, exporting or importing types.
@@ -29,10 +28,6 @@ pub record Scope : Type 0 where
   pub resources : Names
   -- the functions that have been exported
   pub functions : List (Text × FunctionMeaning)
-  -- what has been declared in the scope around it, if there is one
-  pub around : Declarations
-  -- types of other interfaces that stand there, each with its slot
-  pub known : Known
   -- whether what has been declared can be followed, and the slots of resources are those of the names above
   pub is_sound : Bool
 

@@ -23,7 +23,7 @@ use Rattle.wit_model.specs.declared.model.«Type».TheVariants as ty
 use Rattle.wit_encode.specs.Kinds.{has_definition}
 use Rattle.wit_model.specs.declared.model.TypeOwner.{TypeOwner}
 use Rattle.wit_model.specs.declared.model.TypeOwner.TheVariants as owner
-use Rattle.comp_bytes.specs.Raw.{Declarations, ExternName}
+use Rattle.comp_bytes.specs.Raw.{ExternName}
 use Rattle.comp_bytes.specs.RawOf.{raw_name}
 use Rattle.wit_encode.specs.declared.table.Slot.{Slot}
 use Rattle.wit_encode.specs.declared.table.TableOf.{TableOf}
@@ -34,6 +34,7 @@ use Rattle.wit_encode.specs.Plan.{foreign_owner}
 use Rattle.wit_encode.specs.Resources.{resource_names}
 pub use Rattle.wit_encode.specs.Resources.{is_met_owner}
 pub use Rattle.wit_encode.specs.Known.{below}
+use Rattle.wit_encode.specs.Known.{no_around}
 use Rattle.wit_encode.specs.Scope.{Scope}
 use Rattle.wit_encode.specs.Counts.{Definitions}
 use Rattle.wit_encode.specs.View.{View, Agrees}
@@ -78,8 +79,6 @@ table_scope r o = record {
   instances = below (length r.interfaces.items);
   resources = resource_names r (is_met_owner r o);
   functions = [];
-  around = Declarations.no_more;
-  known = [];
   is_sound = true;
 }
 
@@ -117,6 +116,7 @@ table_definitions declarations slots = record { types = count_by is_definition s
 abbrev pub table_view : TableOf TypeEncodingMaps → View
 table_view t = record {
   scope = table_scope t.resolve.now t.owner;
+  around = no_around;
   slot_count = length t.slots.items;
   stands = TableReads t.resolve.now (place_of t.resolve.now t.owner) t.slots.items;
   definitions = table_definitions (table_scope t.resolve.now t.owner).declarations t.slots.items;

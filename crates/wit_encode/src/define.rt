@@ -21,7 +21,6 @@ ghost use Rattle.wit_encode.specs.Formed.{IsFormed};
 ghost use Rattle.wit_encode.specs.Plan.{foreign_owner, IsLayered};
 ghost use Rattle.wit_encode.specs.Fits.{Fits, FitsScope, CanEncode};
 ghost use Rattle.wit_encode.specs.Counts.{one_type_more, is_defined_by_name, own_name};
-ghost use Rattle.wit_encode.specs.Unnamed.{IsUnnamedKind};
 ghost use Rattle.wit_encode.specs.MetKinds.{LearnsKindOf};
 ghost use Rattle.wit_encode.specs.Leaves.{Leaves, LearnsFrom, LearnsParts, CountsTypes, DefinesIf};
 
@@ -116,7 +115,6 @@ fn define_new_kind<'a, E: ValtypeEncoder<'a>>(
     kind: &'a TypeDefKind,
 ) -> Result<u32, Error>
     requires unnamed { is_named_kind kind.now ≡ false }
-    requires there { IsUnnamedKind resolve.now kind.now }
     requires lacks { LacksKind (E.view enc.old).maps kind.now }
     requires ready { AllReady (E.view enc.old).maps (parts_of kind.now) }
     requires formed { IsFormed (E.view enc.old).scope (kind_tree resolve.now kind.now) }
@@ -142,7 +140,6 @@ fn define_unnamed_kind<'a, E: ValtypeEncoder<'a>>(
     kind: &'a TypeDefKind,
 ) -> Result<u32, Error>
     requires unnamed { is_named_kind kind.now ≡ false }
-    requires there { IsUnnamedKind resolve.now kind.now }
     requires ready { AllReady (E.view enc.old).maps (parts_of kind.now) }
     requires formed { IsFormed (E.view enc.old).scope (kind_tree resolve.now kind.now) }
     requires agree { Agrees resolve.now (E.view enc.old) }
@@ -169,7 +166,6 @@ fn define_unnamed<'a, E: ValtypeEncoder<'a>>(
     kind: &'a TypeDefKind,
 ) -> Result<(), Error>
     requires unnamed { is_named_kind kind.now ≡ false }
-    requires there { IsUnnamedKind resolve.now kind.now }
     requires no_name { is_defined_by_name resolve.now (E.view enc.old).scope id.0 ≡ false }
     requires not_shown { own_name resolve.now (E.view enc.old).scope id.0 ≡ None }
     requires same_tree { number_tree resolve.now id.0 ≡ kind_tree resolve.now kind.now }

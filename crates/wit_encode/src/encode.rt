@@ -23,9 +23,9 @@ ghost use Rattle.wit_encode.specs.Maps.{IsReady, AllReady};
 ghost use Rattle.wit_encode.specs.Fits.{CanEncode, CanImport, is_foreign};
 ghost use Rattle.wit_encode.specs.Formed.{IsFormed};
 ghost use Rattle.wit_encode.specs.Counts.{one_type_more};
-ghost use Rattle.wit_encode.specs.Room.{value_type, import_of, LacksType, LacksTypeOr};
+ghost use Rattle.wit_encode.specs.Room.{value_type, import_of, LacksType};
 ghost use Rattle.wit_encode.specs.View.{Agrees, Grows};
-ghost use Rattle.wit_encode.specs.Leaves.{Leaves, LearnsFrom, CountsTypes, CountsOneMore, DefinesIf};
+ghost use Rattle.wit_encode.specs.Leaves.{Leaves, LearnsFrom, CountsTypes, CountsOneMore, DefinesIf, LacksRoomFor};
 
 use crate::define::{define_parts, define_shape};
 use crate::definition::{case_names, flag_names};
@@ -55,7 +55,7 @@ fn encode_shape<'a, E: ValtypeEncoder<'a>>(
     ensures learns { OnOk result (LearnsFrom resolve.now (parts_of (kind_of shape.entry)) (E.view enc.old) (E.view enc.new)) }
     ensures leaves { Leaves resolve.now (E.view enc.old) (E.view enc.new) }
     ensures counts { OnOk result (CountsOneMore resolve.now (E.view enc.old) (E.view enc.new)) }
-    ensures size { result ≡ Err Size → LacksTypeOr resolve.now (E.view enc.new).lacks_room (value_type (kind_tree resolve.now (kind_of shape.entry))) }
+    ensures size { result ≡ Err Size → LacksRoomFor resolve.now (E.view enc.new) (kind_of shape.entry) }
     ensures refuses { IfErr result IsMemoryOrSize }
 {
     let parts = shape_parts(alloc, shape)?;
@@ -157,7 +157,7 @@ pub fn encode_record<'a, E: ValtypeEncoder<'a>>(
     ensures learns { OnOk result (LearnsFrom resolve.now (parts_of (TypeDefKind.Record ty.now)) (E.view enc.old) (E.view enc.new)) }
     ensures leaves { Leaves resolve.now (E.view enc.old) (E.view enc.new) }
     ensures counts { OnOk result (CountsOneMore resolve.now (E.view enc.old) (E.view enc.new)) }
-    ensures size { result ≡ Err Size → LacksTypeOr resolve.now (E.view enc.new).lacks_room (value_type (kind_tree resolve.now (TypeDefKind.Record ty.now))) }
+    ensures size { result ≡ Err Size → LacksRoomFor resolve.now (E.view enc.new) (TypeDefKind.Record ty.now) }
     ensures refuses { IfErr result IsMemoryOrSize }
 {
     encode_shape(alloc, enc, resolve, Shape::Record(ty))
@@ -179,7 +179,7 @@ pub fn encode_tuple<'a, E: ValtypeEncoder<'a>>(
     ensures learns { OnOk result (LearnsFrom resolve.now (parts_of (TypeDefKind.Tuple ty.now)) (E.view enc.old) (E.view enc.new)) }
     ensures leaves { Leaves resolve.now (E.view enc.old) (E.view enc.new) }
     ensures counts { OnOk result (CountsOneMore resolve.now (E.view enc.old) (E.view enc.new)) }
-    ensures size { result ≡ Err Size → LacksTypeOr resolve.now (E.view enc.new).lacks_room (value_type (kind_tree resolve.now (TypeDefKind.Tuple ty.now))) }
+    ensures size { result ≡ Err Size → LacksRoomFor resolve.now (E.view enc.new) (TypeDefKind.Tuple ty.now) }
     ensures refuses { IfErr result IsMemoryOrSize }
 {
     encode_shape(alloc, enc, resolve, Shape::Tuple(ty))
@@ -201,7 +201,7 @@ pub fn encode_variant<'a, E: ValtypeEncoder<'a>>(
     ensures learns { OnOk result (LearnsFrom resolve.now (parts_of (TypeDefKind.Variant ty.now)) (E.view enc.old) (E.view enc.new)) }
     ensures leaves { Leaves resolve.now (E.view enc.old) (E.view enc.new) }
     ensures counts { OnOk result (CountsOneMore resolve.now (E.view enc.old) (E.view enc.new)) }
-    ensures size { result ≡ Err Size → LacksTypeOr resolve.now (E.view enc.new).lacks_room (value_type (kind_tree resolve.now (TypeDefKind.Variant ty.now))) }
+    ensures size { result ≡ Err Size → LacksRoomFor resolve.now (E.view enc.new) (TypeDefKind.Variant ty.now) }
     ensures refuses { IfErr result IsMemoryOrSize }
 {
     encode_shape(alloc, enc, resolve, Shape::Variant(ty))
@@ -223,7 +223,7 @@ pub fn encode_result<'a, E: ValtypeEncoder<'a>>(
     ensures learns { OnOk result (LearnsFrom resolve.now (parts_of (TypeDefKind.Result ty.now)) (E.view enc.old) (E.view enc.new)) }
     ensures leaves { Leaves resolve.now (E.view enc.old) (E.view enc.new) }
     ensures counts { OnOk result (CountsOneMore resolve.now (E.view enc.old) (E.view enc.new)) }
-    ensures size { result ≡ Err Size → LacksTypeOr resolve.now (E.view enc.new).lacks_room (value_type (kind_tree resolve.now (TypeDefKind.Result ty.now))) }
+    ensures size { result ≡ Err Size → LacksRoomFor resolve.now (E.view enc.new) (TypeDefKind.Result ty.now) }
     ensures refuses { IfErr result IsMemoryOrSize }
 {
     encode_shape(alloc, enc, resolve, Shape::Result(ty))
@@ -245,7 +245,7 @@ pub fn encode_option<'a, E: ValtypeEncoder<'a>>(
     ensures learns { OnOk result (LearnsFrom resolve.now (parts_of (TypeDefKind.Option payload.now)) (E.view enc.old) (E.view enc.new)) }
     ensures leaves { Leaves resolve.now (E.view enc.old) (E.view enc.new) }
     ensures counts { OnOk result (CountsOneMore resolve.now (E.view enc.old) (E.view enc.new)) }
-    ensures size { result ≡ Err Size → LacksTypeOr resolve.now (E.view enc.new).lacks_room (value_type (kind_tree resolve.now (TypeDefKind.Option payload.now))) }
+    ensures size { result ≡ Err Size → LacksRoomFor resolve.now (E.view enc.new) (TypeDefKind.Option payload.now) }
     ensures refuses { IfErr result IsMemoryOrSize }
 {
     encode_shape(alloc, enc, resolve, Shape::Option(*payload))
@@ -267,7 +267,7 @@ pub fn encode_future<'a, E: ValtypeEncoder<'a>>(
     ensures learns { OnOk result (LearnsFrom resolve.now (parts_of (TypeDefKind.Future payload.now)) (E.view enc.old) (E.view enc.new)) }
     ensures leaves { Leaves resolve.now (E.view enc.old) (E.view enc.new) }
     ensures counts { OnOk result (CountsOneMore resolve.now (E.view enc.old) (E.view enc.new)) }
-    ensures size { result ≡ Err Size → LacksTypeOr resolve.now (E.view enc.new).lacks_room (value_type (kind_tree resolve.now (TypeDefKind.Future payload.now))) }
+    ensures size { result ≡ Err Size → LacksRoomFor resolve.now (E.view enc.new) (TypeDefKind.Future payload.now) }
     ensures refuses { IfErr result IsMemoryOrSize }
 {
     encode_shape(alloc, enc, resolve, Shape::Future(*payload))
@@ -289,7 +289,7 @@ pub fn encode_stream<'a, E: ValtypeEncoder<'a>>(
     ensures learns { OnOk result (LearnsFrom resolve.now (parts_of (TypeDefKind.Stream payload.now)) (E.view enc.old) (E.view enc.new)) }
     ensures leaves { Leaves resolve.now (E.view enc.old) (E.view enc.new) }
     ensures counts { OnOk result (CountsOneMore resolve.now (E.view enc.old) (E.view enc.new)) }
-    ensures size { result ≡ Err Size → LacksTypeOr resolve.now (E.view enc.new).lacks_room (value_type (kind_tree resolve.now (TypeDefKind.Stream payload.now))) }
+    ensures size { result ≡ Err Size → LacksRoomFor resolve.now (E.view enc.new) (TypeDefKind.Stream payload.now) }
     ensures refuses { IfErr result IsMemoryOrSize }
 {
     encode_shape(alloc, enc, resolve, Shape::Stream(*payload))

@@ -9,9 +9,9 @@ ghost use Rattle.wit_model.specs.Types.{number_tree};
 ghost use Rattle.comp_bytes.specs.RawOf.{raw_name};
 ghost use Rattle.comp_bytes.specs.Refusal.{IsMemoryOrSize};
 ghost use Rattle.wit_encode.specs.Slots.{Standing, tree, Follows, FollowsFunction, Defines, DefinesFunction};
-ghost use Rattle.wit_encode.specs.View.{View, Grows, AddsSlot, Exports, ExportsName, SameRest};
+ghost use Rattle.wit_encode.specs.View.{View, Grows, AddsSlot, AddsName, Exports, ExportsName, SameRest, LacksDefinition, LacksFunctionType};
 ghost use Rattle.wit_encode.specs.Scope.{DeclaresSlot, DeclaresResource, IsImportable};
-ghost use Rattle.wit_encode.specs.Room.{value_type, function_type, export_name, import_of};
+ghost use Rattle.wit_encode.specs.Room.{export_name, import_of};
 ghost use Rattle.wit_encode.specs.Formed.{IsFormed, IsFormedSignature};
 ghost use Rattle.wit_encode.specs.Counts.{one_type_more, one_function_more};
 ghost use Rattle.wit_encode.specs.declared.maps.TypeEncodingMaps.{TypeEncodingMaps as MapsValue};
@@ -41,7 +41,8 @@ pub trait LendsMaps<M> {
 /// Defines types in a scope.
 ///
 /// A slot stands for a tree, which is a type with every index followed, or for the signature of a function.
-/// Old slots stand for what they did after every call, also after one that is refused, and no call changes the maps.
+/// Old slots stand for what they did after every call, also after one that is refused, and no call changes the maps. Around its scope, a call
+/// of `import_type` may make aliases of types that had none, and no other call changes anything.
 /// A call answers `Error::Size` only where what it is asked to add has no room in 32 bits: then the view says so of the encoder that
 /// the call leaves (`View::lacks_room`). An implementor says in its view when that is.
 pub trait ValtypeEncoder<'a>: LendsMaps<TypeEncodingMaps<'a>> {
@@ -54,9 +55,10 @@ pub trait ValtypeEncoder<'a>: LendsMaps<TypeEncodingMaps<'a>> {
         ensures ok { IfOk result (λ i. AddsSlot (view self.old) (view self.new) i (Defines (view self.old).stands def.entry)) }
         ensures grows { Grows (view self.old) (view self.new) }
         ensures scope_stays { (view self.new).scope ≡ (view self.old).scope }
+        ensures around_stays { (view self.new).around ≡ (view self.old).around }
         ensures maps_stay { (view self.new).maps ≡ (view self.old).maps }
         ensures counts { OnOk result ((view self.new).definitions ≡ one_type_more (view self.old).definitions) }
-        ensures size { result ≡ Err Size → (t : Tree) → Follows (view self.old).stands def.entry t → (view self.new).lacks_room (value_type t) }
+        ensures size { result ≡ Err Size → LacksDefinition (view self.old) (view self.new) def.entry }
         ensures refuses { IfErr result IsMemoryOrSize };
 
     /// Adds a slot that stands for the type of a function, and answers it.
@@ -65,9 +67,10 @@ pub trait ValtypeEncoder<'a>: LendsMaps<TypeEncodingMaps<'a>> {
         ensures ok { IfOk result (λ i. AddsSlot (view self.old) (view self.new) i (DefinesFunction (view self.old).stands def.entry)) }
         ensures grows { Grows (view self.old) (view self.new) }
         ensures scope_stays { (view self.new).scope ≡ (view self.old).scope }
+        ensures around_stays { (view self.new).around ≡ (view self.old).around }
         ensures maps_stay { (view self.new).maps ≡ (view self.old).maps }
         ensures counts { OnOk result ((view self.new).definitions ≡ one_function_more (view self.old).definitions) }
-        ensures size { result ≡ Err Size → (s : Signature) → FollowsFunction (view self.old).stands def.entry s → (view self.new).lacks_room (function_type s) }
+        ensures size { result ≡ Err Size → LacksFunctionType (view self.old) (view self.new) def.entry }
         ensures refuses { IfErr result IsMemoryOrSize };
 
     /// Exports the type of a slot under a name that declares it, and answers the slot of the name.
@@ -81,6 +84,7 @@ pub trait ValtypeEncoder<'a>: LendsMaps<TypeEncodingMaps<'a>> {
         ensures ok { IfOk result (Exports (view self.old) (view self.new) index (named (view self.old).scope.place (raw_name name.entry).text)) }
         ensures grows { Grows (view self.old) (view self.new) }
         ensures scope_stays { (view self.new).scope ≡ (view self.old).scope }
+        ensures around_stays { (view self.new).around ≡ (view self.old).around }
         ensures maps_stay { (view self.new).maps ≡ (view self.old).maps }
         ensures counts { OnOk result (ExportsName (view self.old) (view self.new) (raw_name name.entry)) }
         ensures size { result ≡ Err Size → (view self.new).lacks_room (export_name (raw_name name.entry)) }
@@ -89,9 +93,10 @@ pub trait ValtypeEncoder<'a>: LendsMaps<TypeEncodingMaps<'a>> {
     /// Exports a fresh resource under a name that declares one, and answers its slot.
     fn export_resource(&mut self, name: ComponentExternName<'a>) -> Result<u32, Error>
         requires { DeclaresResource (view self.old).scope (raw_name name) }
-        ensures ok { IfOk result (λ i. AddsSlot (view self.old) (view self.new) i (λ m. m ≡ tree (named (view self.old).scope.place (raw_name name.entry).text))) }
+        ensures ok { IfOk result (AddsName (view self.old) (view self.new) (raw_name name.entry)) }
         ensures grows { Grows (view self.old) (view self.new) }
         ensures scope_stays { (view self.new).scope ≡ (view self.old).scope }
+        ensures around_stays { (view self.new).around ≡ (view self.old).around }
         ensures maps_stay { (view self.new).maps ≡ (view self.old).maps }
         ensures counts { OnOk result (ExportsName (view self.old) (view self.new) (raw_name name.entry)) }
         ensures size { result ≡ Err Size → (view self.new).lacks_room (export_name (raw_name name.entry)) }

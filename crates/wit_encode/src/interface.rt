@@ -4,7 +4,9 @@ ghost use Rattle.std.proofs.Common.{refl};
 ghost use Rattle.std.specs.Prelude.{◌≡◌, ◌&&◌, false, Err, ◌++◌, ◌∷◌, [], Some, None, ◌<◌, true, length, map, IfOk, OnOk, OnErr, IsSome, IfErr};
 ghost use Rattle.std.specs.List.{Contains};
 ghost use Rattle.comp_bytes.specs.Raw.{Alias as RawAlias, Declaration, Declarations, append, from_list};
-ghost use Rattle.wit_encode.specs.Known.{known_slot};
+ghost use Rattle.wit_encode.specs.Known.{known_slot, known_instance, IsSource, ReachesAround, Aliased, alias_declared};
+ghost use Rattle.wit_encode.specs.Instance.{around_at, around_of};
+ghost use Rattle.wit_model.specs.Text.{text_of};
 ghost use Rattle.comp_bytes.specs.RawOf.{raw_defined, raw_function, raw_name};
 ghost use Rattle.comp_bytes.specs.Held.{type_slots, type_slots_of, fits_next, fits_added};
 ghost use Rattle.comp_bytes.specs.Fits.{fits_declaration};
@@ -25,14 +27,23 @@ use std::alloc::Global;
 use std::mem;
 use wit_model::{Error, Function, InterfaceId, Resolve, Type, TypeId};
 
+/// What stands of other interfaces in a component type.
+#[derive(Drop)]
+pub struct Foreign {
+    /// Interfaces, each with the number of an instance. Of two instances of an interface the first counts.
+    pub instances: Vec<(InterfaceId, u32)>,
+    /// Types of these interfaces that have an alias, each with its slot.
+    pub known: Vec<(TypeId, u32)>,
+}
+
 /// An interface that is being encoded.
 #[derive(Drop)]
 pub struct OpenInterface {
     pub interface: InterfaceId,
     /// The instance type, so far.
     pub declared: InstanceType,
-    /// Types of other interfaces that stand in the component type around, each with its slot there. Of two slots of a type the first counts.
-    pub known: Vec<(TypeId, u32)>,
+    /// What stands of other interfaces in the component type around.
+    pub foreign: Foreign,
 }
 
 /// An encoder of interfaces. `M` is the type of its maps.
@@ -45,13 +56,22 @@ pub struct InterfaceEncoderOf<'a, M> {
     pub inner: Option<OpenInterface>,
     /// The maps of the scope that types are defined in.
     pub maps: M,
-    /// Types of other interfaces that stand in the component type, each with its slot there. Of two slots of a type the first counts.
-    /// While an interface is encoded they are lent to it, as `OpenInterface::known`.
-    pub outer_type_map: Vec<(TypeId, u32)>,
+    /// What stands of other interfaces in the component type. While an interface is encoded it is lent to it, as `OpenInterface::foreign`.
+    pub foreign: Foreign,
 }
 
 /// An encoder of interfaces, each as an instance type in one component type.
 pub type InterfaceEncoder<'a> = InterfaceEncoderOf<'a, TypeEncodingMaps<'a>>;
+
+fn no_foreign(alloc: Global) -> Foreign
+    ensures instances { result.instances.items ≡ [] }
+    ensures known { result.known.items ≡ [] }
+{
+    Foreign {
+        instances: Vec::new(alloc),
+        known: Vec::new(alloc),
+    }
+}
 
 fn define_inside(inner: &mut InstanceType, def: &ComponentDefinedType) -> Result<u32, Error>
     ensures ok { IfOk result (λ i. (i ≡ type_slots inner.old) × (inner.new ≡ inner.old ++ Declaration.defined (raw_defined def.now) ∷ [])) }
@@ -134,6 +154,71 @@ fn slot_around(known: &[(TypeId, u32)], id: TypeId) -> Option<u32>
     Some(entry.1)
 }
 
+// The instance around of an interface.
+fn instance_around(instances: &[(InterfaceId, u32)], interface: InterfaceId) -> Option<u32>
+    ensures { result ≡ known_instance instances.now interface.0 }
+{
+    let entry = instances.iter().find(|entry| entry.0.0 == interface.0)?;
+    Some(entry.1)
+}
+
+// Makes an alias of the type that an instance around shows under a name, and answers its slot.
+fn make_alias(
+    outer: &mut ComponentType,
+    known: &mut Vec<(TypeId, u32)>,
+    id: TypeId,
+    instance: u32,
+    name: &str,
+) -> Result<u32, Error>
+    ensures ok { IfOk result (λ k. k ≡ type_slots_of outer.old) }
+    ensures made { OnOk result (outer.new ≡ append outer.old (Declarations.declares (Declaration.alias_of (RawAlias.of_export instance name.now)) Declarations.no_more)) }
+    ensures listed { OnOk result (known.new.items ≡ known.old.items ++ (id, type_slots_of outer.old) ∷ []) }
+    ensures err { OnErr result (outer.new ≡ outer.old) }
+    ensures same { OnErr result (known.new.items ≡ known.old.items) }
+    ensures size { result ≡ Err Size → (fits_declaration (Declaration.alias_of (RawAlias.of_export instance name.now)) && fits_added outer.new 1) ≡ false }
+    ensures refuses { IfErr result IsMemoryOrSize }
+{
+    let slot = outer.type_count();
+    known.push((id, slot))?;
+    match outer.alias(&Alias::InstanceExport { instance, name }) {
+        Ok(()) => Ok(slot),
+        Err(error) => {
+            known.pop();
+            Err(error)
+        }
+    }
+}
+
+// The slot around of a type of another interface whose instance stands there: its alias is made where there is none.
+fn reach(
+    outer: &mut ComponentType,
+    foreign: &mut Foreign,
+    resolve: &Resolve,
+    interface: InterfaceId,
+    id: TypeId,
+) -> Result<u32, Error>
+    requires source { IsSource resolve.now (around_at outer.old foreign.old) interface.0 id.0 }
+    requires in_range { id.0 < length resolve.now.types.items }
+    ensures slot { IfOk result (λ k. known_slot foreign.new.known.items id.0 ≡ Some k) }
+    ensures reaches { ReachesAround resolve.now id (around_at outer.old foreign.old) (around_at outer.new foreign.new) }
+    ensures err { OnErr result (around_at outer.new foreign.new ≡ around_at outer.old foreign.old) }
+    ensures size { result ≡ Err Size → (a : Aliased) × ((fits_declaration (alias_declared a) && fits_added outer.new 1) ≡ false) }
+    ensures refuses { IfErr result IsMemoryOrSize }
+{
+    match slot_around(&foreign.known, id) {
+        Some(slot) => Ok(slot),
+        None => {
+            let Some(instance) = instance_around(&foreign.instances, interface) else {
+                unreachable!()
+            };
+            let Some(name) = &resolve.types[id.0 as usize].name else {
+                unreachable!()
+            };
+            make_alias(outer, &mut foreign.known, id, instance, name)
+        }
+    }
+}
+
 impl<'a, M> LendsMaps<M> for InterfaceEncoderOf<'a, M> {
     ghost maps_of = { λ e. e.maps };
 
@@ -196,12 +281,18 @@ impl<'a> ValtypeEncoder<'a> for InterfaceEncoderOf<'a, TypeEncodingMaps<'a>> {
         }
     }
 
-    fn import_type(&mut self, _interface: InterfaceId, id: TypeId) -> Result<u32, Error> {
+    fn import_type(&mut self, interface: InterfaceId, id: TypeId) -> Result<u32, Error> {
         match &mut self.inner {
-            Some(current) => match slot_around(&current.known, id) {
-                Some(slot) => alias_inside(&mut current.declared, slot),
-                None => unreachable!(),
-            },
+            Some(current) => {
+                let slot = reach(
+                    &mut self.outer,
+                    &mut current.foreign,
+                    self.resolve,
+                    interface,
+                    id,
+                )?;
+                alias_inside(&mut current.declared, slot)
+            }
             None => unreachable!(),
         }
     }
@@ -217,14 +308,13 @@ impl<'a> ValtypeEncoder<'a> for InterfaceEncoderOf<'a, TypeEncodingMaps<'a>> {
 
     ghost maps_in_view = { λ e. refl };
 
-    ghost view_with_maps = { λ e m. record { scope_ = refl; slot_count_ = refl; definitions_ = refl; kept = λ i s h. h; back = λ i s h. h } };
+    ghost view_with_maps = { λ e m. record { scope_ = refl; around_ = refl; slot_count_ = refl; definitions_ = refl; kept = λ i s h. h; back = λ i s h. h } };
 }
 
 impl<'a> InterfaceEncoderOf<'a, TypeEncodingMaps<'a>> {
     ghost use Rattle.wit_model.specs.Meaning.{Signature};
     ghost use Rattle.comp_meaning.specs.Follow.{is_simple};
     ghost use Rattle.wit_encode.specs.Slots.{Keeps, function};
-    ghost use Rattle.wit_model.specs.Text.{text_of};
     ghost use Rattle.wit_model.specs.Meant.{function_meaning};
     ghost use Rattle.wit_model.specs.Valid.{IsValid};
     ghost use Rattle.wit_encode.specs.View.{Agrees};
@@ -240,8 +330,8 @@ impl<'a> InterfaceEncoderOf<'a, TypeEncodingMaps<'a>> {
     ghost use Rattle.std.specs.List.{flat_map};
     ghost use Rattle.wit_encode.specs.Exports.{AreTypesOf, AllKnown, KnowsUsed, UsesListed};
     ghost use Rattle.wit_model.specs.declared.model.«Type».TheVariants as ValueType;
-    ghost use Rattle.wit_encode.specs.Instance.{ShowsFunction, CanEncodeFunction, LacksRoomWithin, IsInstance, placed_function, meaning_of, own_of, known_of, declarations_in};
-    ghost use Rattle.wit_encode.specs.Encoders.{encoder_view, view_of, contents_in, shown_as, scope_within, GoesOn, UsedAround, EncodesAs, LacksInstance};
+    ghost use Rattle.wit_encode.specs.Instance.{ShowsFunction, CanEncodeFunction, LacksRoomWithin, IsInstance, placed_function, meaning_of, own_of, declarations_in};
+    ghost use Rattle.wit_encode.specs.Encoders.{encoder_view, view_of, contents_in, shown_as, scope_within, outside, GoesOn, Reaches, InstancesStay, UsedAround, EncodesAs, LacksInstance};
     ghost use Rattle.wit_encode.specs.Room.{export_name, LacksType, LacksPartOf};
     ghost use Rattle.wit_encode.specs.Maps.{MapsGrow};
 
@@ -249,7 +339,8 @@ impl<'a> InterfaceEncoderOf<'a, TypeEncodingMaps<'a>> {
     pub fn new(alloc: Global, resolve: &'a Resolve) -> InterfaceEncoder<'a>
         ensures outer { result.outer ≡ Declarations.no_more }
         ensures closed { result.inner ≡ None }
-        ensures known { result.outer_type_map.items ≡ [] }
+        ensures instances { result.foreign.instances.items ≡ [] }
+        ensures known { result.foreign.known.items ≡ [] }
         ensures resolve { result.resolve.now ≡ resolve.now }
         ensures agree { Agrees resolve.now (encoder_view result) }
         ensures sound { (encoder_view result).scope.is_sound ≡ true }
@@ -260,7 +351,7 @@ impl<'a> InterfaceEncoderOf<'a, TypeEncodingMaps<'a>> {
             outer: ComponentType::new(alloc),
             inner: None,
             maps,
-            outer_type_map: Vec::new(alloc),
+            foreign: no_foreign(alloc),
         }
     }
 
@@ -273,7 +364,7 @@ impl<'a> InterfaceEncoderOf<'a, TypeEncodingMaps<'a>> {
         ensures ok { (s : Signature) → (encoder_view self.old).stands index (function s) → OnOk result (ShowsFunction (contents_in self.old) (contents_in self.new) (shown_as (raw_name name.entry) s)) }
         ensures err { OnErr result (self.new.inner ≡ self.old.inner) }
         ensures own { own_of self.new.inner ≡ own_of self.old.inner }
-        ensures known { known_of self.new.inner ≡ known_of self.old.inner }
+        ensures around { around_of self.new.outer self.new.inner ≡ around_of self.old.outer self.old.inner }
         ensures resolve { self.new.resolve ≡ self.old.resolve }
         ensures outer { self.new.outer ≡ self.old.outer }
         ensures maps { self.new.maps ≡ self.old.maps }
@@ -412,7 +503,7 @@ impl<'a> InterfaceEncoderOf<'a, TypeEncodingMaps<'a>> {
         self.encode_functions(alloc, resolve, functions)
     }
 
-    /// Encodes types and functions of an interface as an instance type, in a scope of its own. What is known around is lent to it.
+    /// Encodes types and functions of an interface as an instance type, in a scope of its own. What stands around is lent to it.
     fn encode_inside(
         &mut self,
         alloc: Global,
@@ -427,29 +518,28 @@ impl<'a> InterfaceEncoderOf<'a, TypeEncodingMaps<'a>> {
         requires uses { (f : _) → Contains functions.now f → UsesListed self.old.resolve.now types.now f.2.now }
         ensures closed { self.new.inner ≡ None }
         ensures resolve { self.new.resolve.now ≡ self.old.resolve.now }
-        ensures outer { self.new.outer ≡ self.old.outer }
+        ensures reaches { Reaches self.old self.new }
         ensures maps { self.new.maps ≡ self.old.maps }
-        ensures known { self.new.outer_type_map.items ≡ self.old.outer_type_map.items }
-        ensures ok { IfOk result (λ ds. IsInstance self.old.resolve.now self.old.outer interface ds (map (λ f. meaning_of self.old.resolve.now (placed_function f)) functions.now)) }
+        ensures ok { IfOk result (λ ds. IsInstance self.old.resolve.now self.new.outer interface ds (map (λ f. meaning_of self.old.resolve.now (placed_function f)) functions.now)) }
         ensures function_types { IfOk result (DefinesKeys (map (λ f. f.2.now) functions.now)) }
         ensures value_types { IfOk result (DefinesTypes self.old.resolve.now interface types.now (map (λ f. f.2.now) functions.now)) }
-        ensures size { result ≡ Err Size → LacksRoomWithin self.old.resolve.now self.old.outer interface (map placed_function functions.now) }
+        ensures size { result ≡ Err Size → LacksRoomWithin self.old.resolve.now (outside self.old) interface (map placed_function functions.now) }
         ensures refuses { IfErr result IsMemoryOrSize }
     {
         let resolve = self.resolve;
         let saved = mem::replace(&mut self.maps, TypeEncodingMaps::new(alloc));
-        let known = mem::replace(&mut self.outer_type_map, Vec::new(alloc));
+        let foreign = mem::replace(&mut self.foreign, no_foreign(alloc));
         self.inner = Some(OpenInterface {
             interface,
             declared: InstanceType::new(alloc),
-            known,
+            foreign,
         });
         let outcome = self.encode_parts(alloc, resolve, types, functions);
         self.maps = saved;
         let inner = mem::replace(&mut self.inner, None);
         match inner {
             Some(current) => {
-                self.outer_type_map = current.known;
+                self.foreign = current.foreign;
                 outcome?;
                 Ok(current.declared)
             }
@@ -473,9 +563,10 @@ impl<'a> InterfaceEncoderOf<'a, TypeEncodingMaps<'a>> {
     /// Encodes an interface as an instance type, and answers its slot: its types in order, then functions of resources by the order of
     /// their resource, then the others. The type of a function is defined just before its export, where its key is new.
     ///
-    /// Of each interface that it uses, an instance stands in the component type, and each of its types is in `outer_type_map`, with the slot
-    /// of its name there. An interface that uses no other, as `stands_alone` tests, asks for nothing. No instance stands by this call alone.
-    /// After a refusal the encoder is as it was. `Size` comes only where a type of the packages, or a function of the interface, has no room
+    /// Of each interface that it uses, an instance stands in the component type, and `foreign` lists its number. An interface that uses no
+    /// other, as `stands_alone` tests, asks for nothing. A type of another interface gets an alias in the component type when it is first met,
+    /// which later calls use, too. No instance stands by this call alone. After a refusal the encoder is as it was, but for aliases that have
+    /// been made. `Size` comes only where a type of the packages, or a function of the interface, has no room
     /// behind declarations of an instance type that can be followed, or where the component type has none for one more instance type.
     ///
     /// Takes as long as encoding the types and functions and sorting the functions.
@@ -487,10 +578,10 @@ impl<'a> InterfaceEncoderOf<'a, TypeEncodingMaps<'a>> {
         ensures closed { self.new.inner ≡ None }
         ensures resolve { self.new.resolve.now ≡ self.old.resolve.now }
         ensures maps { self.new.maps ≡ self.old.maps }
-        ensures known { self.new.outer_type_map.items ≡ self.old.outer_type_map.items }
-        ensures err { OnErr result (self.new.outer ≡ self.old.outer) }
+        ensures err { OnErr result (Reaches self.old self.new) }
         ensures ok { IfOk result (EncodesAs self.old self.new interface) }
         ensures stands { OnOk result (Keeps (encoder_view self.old).stands (encoder_view self.new).stands) }
+        ensures instances { InstancesStay self.old self.new }
         ensures size { result ≡ Err Size → LacksInstance self.old interface }
         ensures refuses { IfErr result IsMemoryOrSize }
     {

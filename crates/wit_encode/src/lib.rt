@@ -25,7 +25,7 @@ pub use encode::{
 };
 pub use encoder::{LendsMaps, ValtypeEncoder};
 pub use func_type::encode_func_type;
-pub use interface::{InterfaceEncoder, InterfaceEncoderOf, OpenInterface};
+pub use interface::{Foreign, InterfaceEncoder, InterfaceEncoderOf, OpenInterface};
 pub use key::{FunctionKey, ParamSignatures, key_of};
 pub use maps::TypeEncodingMaps;
 pub use name::extern_name;

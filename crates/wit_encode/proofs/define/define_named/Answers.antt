@@ -5,7 +5,7 @@ use Rattle.wit_encode.specs.Maps.{LearnsNumber}
 use Rattle.wit_encode.specs.Scope.{Scope}
 use Rattle.wit_encode.specs.Counts.{Definitions, ExportsOne, type_more_if}
 use Rattle.wit_encode.proofs.Agree.{on_ok, learnt-one}
-use Rattle.wit_encode.proofs.Defining.{counts-named}
+use Rattle.wit_encode.proofs.Defining.{counts-named, leaves-kept, leaves-trans}
 use Rattle.wit_encode.proofs.define.define_named.Goals as goal
 
 pub returns-clause-ok : goal.returns-clause-ok
@@ -23,3 +23,9 @@ returns-clause-counts g c = on_ok c.remember_id.result _ _
 
 pub returns-clause-kinds : goal.returns-clause-kinds
 returns-clause-kinds g c = on_ok c.remember_id.result _ _ (λ l. l.rest.kinds ∙ ap (λ (z : TypeEncodingMaps). z.def_to_index.items) (c.export.ensures.maps_stay ∙ c.define_kind.ensures.maps_stay)) c.remember_id.ensures.ok
+
+pub returns-clause-leaves : goal.returns-clause-leaves
+returns-clause-leaves g c = leaves-trans (leaves-kept {v = g.E.ValtypeEncoder.view c.args.enc.now} {v' = g.E.ValtypeEncoder.view c.define_kind.new.enc} c.requires.agree c.define_kind.ensures.grows c.define_kind.ensures.scope_stays c.define_kind.ensures.maps_stay) (leaves-trans (leaves-kept {v = g.E.ValtypeEncoder.view c.define_kind.new.enc} {v' = g.E.ValtypeEncoder.view c.export.new.enc} (leaves-kept {v = g.E.ValtypeEncoder.view c.args.enc.now} {v' = g.E.ValtypeEncoder.view c.define_kind.new.enc} c.requires.agree c.define_kind.ensures.grows c.define_kind.ensures.scope_stays c.define_kind.ensures.maps_stay).agree c.export.ensures.grows c.export.ensures.scope_stays c.export.ensures.maps_stay) c.remember_id.ensures.leaves)
+
+pub returns-in_err-slot-clause-leaves : goal.returns-in_err-slot-clause-leaves
+returns-in_err-slot-clause-leaves g c = leaves-trans (leaves-kept {v = g.E.ValtypeEncoder.view c.args.enc.now} {v' = g.E.ValtypeEncoder.view c.define_kind.new.enc} c.requires.agree c.define_kind.ensures.grows c.define_kind.ensures.scope_stays c.define_kind.ensures.maps_stay) (leaves-kept {v = g.E.ValtypeEncoder.view c.define_kind.new.enc} {v' = g.E.ValtypeEncoder.view c.export.new.enc} (leaves-kept {v = g.E.ValtypeEncoder.view c.args.enc.now} {v' = g.E.ValtypeEncoder.view c.define_kind.new.enc} c.requires.agree c.define_kind.ensures.grows c.define_kind.ensures.scope_stays c.define_kind.ensures.maps_stay).agree c.export.ensures.grows c.export.ensures.scope_stays c.export.ensures.maps_stay)

@@ -4,6 +4,7 @@ use Rattle.wit_encode.specs.Fits.{Fits}
 use Rattle.wit_encode.specs.Plan.{IsOrderOf, foreign_owner}
 use Rattle.std.proofs.lemmas.List.Elements.{Contains-get_or}
 use Rattle.wit_encode.proofs.Learning.{learns-none, learns-then}
+use Rattle.wit_encode.proofs.Around.{around-same}
 use Rattle.wit_encode.proofs.Defining.{leaves-trans, leaves-kept, counts-trans, counts-none, none-in}
 use Rattle.wit_encode.proofs.Encoding.{ready-now, known-more, ready-at-last, reaches-in_range, meets-reaches, learns-more, learns-at-last, learns-nothing}
 use Rattle.wit_encode.proofs.define.define_parts.Given.{Over}
@@ -64,6 +65,9 @@ loop-n-init g c = rw c.order_of.ensures.same (record {
   known = λ j k. none-in j k;
   learns = learns-nothing _ (g.E.ValtypeEncoder.view c.args.enc.now).maps;
   learnt = learns-none c.args.resolve.now (g.E.ValtypeEncoder.view c.args.enc.now).scope.own_interface (g.E.ValtypeEncoder.view c.args.enc.now).maps;
-  leaves = leaves-kept c.requires.agree (record { kept = λ i s h. h; more = omega arith }) refl refl;
+  leaves = leaves-kept c.requires.agree (record { kept = λ i s h. h; more = omega arith; around_ = around-same refl }) refl refl;
   counts = counts-none c.args.resolve.now (g.E.ValtypeEncoder.view c.args.enc.now).scope (g.E.ValtypeEncoder.view c.args.enc.now).maps (g.E.ValtypeEncoder.view c.args.enc.now).definitions;
 })
+
+pub returns-in_err-define_number-clause-leaves : goal.returns-in_err-define_number-clause-leaves
+returns-in_err-define_number-clause-leaves g c = leaves-trans c.loop-n.invariant.leaves c.define_number.ensures.leaves

@@ -4,7 +4,7 @@ use Rattle.wit_encode.specs.declared.maps.TypeEncodingMaps.{TypeEncodingMaps}
 use Rattle.wit_encode.specs.Maps.{LearnsNumber}
 use Rattle.wit_encode.specs.Counts.{Definitions, ExportsOne, type_more_if}
 use Rattle.wit_encode.proofs.Agree.{on_ok, learnt-one}
-use Rattle.wit_encode.proofs.Defining.{counts-named}
+use Rattle.wit_encode.proofs.Defining.{counts-named, leaves-kept, leaves-trans}
 use Rattle.wit_encode.proofs.define.define_resource.Goals as goal
 
 pub returns-clause-ok : goal.returns-clause-ok
@@ -21,3 +21,6 @@ returns-clause-counts g c = on_ok c.remember_id.result _ _
 
 pub returns-clause-kinds : goal.returns-clause-kinds
 returns-clause-kinds g c = on_ok c.remember_id.result _ _ (λ l. l.rest.kinds ∙ ap (λ (z : TypeEncodingMaps). z.def_to_index.items) c.export_resource.ensures.maps_stay) c.remember_id.ensures.ok
+
+pub returns-clause-leaves : goal.returns-clause-leaves
+returns-clause-leaves g c = leaves-trans (leaves-kept {v = g.E.ValtypeEncoder.view c.args.enc.now} {v' = g.E.ValtypeEncoder.view c.export_resource.new.self} c.requires.agree c.export_resource.ensures.grows c.export_resource.ensures.scope_stays c.export_resource.ensures.maps_stay) c.remember_id.ensures.leaves

@@ -3,7 +3,7 @@ use Rattle.wit_encode.specs.Scope.{Scope}
 use Rattle.wit_encode.specs.Counts.{type_more_if, own_name, is_defined_by_name}
 use Rattle.wit_encode.proofs.Learning.{kind-same}
 use Rattle.wit_encode.proofs.Agree.{on_ok, learnt-one}
-use Rattle.wit_encode.proofs.Defining.{counts-number, counts-trans}
+use Rattle.wit_encode.proofs.Defining.{counts-number, counts-trans, leaves-trans}
 use Rattle.wit_encode.proofs.define.define_unnamed.Goals as goal
 
 pub returns-clause-ok : goal.returns-clause-ok
@@ -21,3 +21,6 @@ returns-clause-counts g c =
 
 pub returns-clause-kinds : goal.returns-clause-kinds
 returns-clause-kinds g c = on_ok c.remember_id.result _ _ (λ l. kind-same (g.E.ValtypeEncoder.view c.args.enc.now).maps _ (g.E.ValtypeEncoder.view c.remember_id.new.enc).maps c.args.kind.now l.rest.kinds c.in_ok-index.ensures.kinds) c.remember_id.ensures.ok
+
+pub returns-clause-leaves : goal.returns-clause-leaves
+returns-clause-leaves g c = leaves-trans c.define_unnamed_kind.ensures.leaves c.remember_id.ensures.leaves

@@ -7,7 +7,7 @@ pub returns-in-Some-clause-ok : goal.returns-in-Some-clause-ok
 returns-in-Some-clause-ok g c = rw c.index_of_kind.ensures.same (kind-stands c.args.resolve.now (g.E.ValtypeEncoder.view c.args.enc.now).maps (g.E.ValtypeEncoder.view c.args.enc.now).stands c.args.kind.now c.in-Some.index c.requires.agree c.requires.unnamed c.in-Some.ensures.some)
 
 pub define_new_kind-requires : goal.define_new_kind-requires
-define_new_kind-requires g c = λ _. ((refl, tt), rw c.index_of_kind.ensures.same (c.requires.unnamed, (c.requires.there, ((rw c.in_default.is at c.index_of_kind.ensures.none), (c.requires.ready, (c.requires.formed, c.requires.agree))))))
+define_new_kind-requires g c = λ _. ((refl, tt), rw c.index_of_kind.ensures.same (c.requires.unnamed, ((rw c.in_default.is at c.index_of_kind.ensures.none), (c.requires.ready, (c.requires.formed, c.requires.agree)))))
 
 pub returns-in-Some-clause-counts : goal.returns-in-Some-clause-counts
 returns-in-Some-clause-counts g c = rw c.index_of_kind.ensures.same (counts-none c.args.resolve.now (g.E.ValtypeEncoder.view c.args.enc.now).scope (g.E.ValtypeEncoder.view c.args.enc.now).maps (g.E.ValtypeEncoder.view c.args.enc.now).definitions)

@@ -3,7 +3,7 @@ use Rattle.wit_encode.specs.declared.maps.TypeEncodingMaps.{TypeEncodingMaps}
 use Rattle.wit_encode.specs.Maps.{LearnsNumber}
 use Rattle.wit_encode.specs.Counts.{type_more_if}
 use Rattle.wit_encode.proofs.Agree.{on_ok, learnt-one}
-use Rattle.wit_encode.proofs.Defining.{counts-number}
+use Rattle.wit_encode.proofs.Defining.{counts-number, leaves-kept, leaves-trans}
 use Rattle.wit_encode.proofs.define.import.Goals as goal
 
 pub returns-clause-ok : goal.returns-clause-ok
@@ -19,3 +19,6 @@ returns-clause-counts g c = on_ok c.remember_id.result _ _
 
 pub returns-clause-kinds : goal.returns-clause-kinds
 returns-clause-kinds g c = on_ok c.remember_id.result _ _ (λ l. l.rest.kinds ∙ ap (λ (z : TypeEncodingMaps). z.def_to_index.items) c.import_type.ensures.maps_stay) c.remember_id.ensures.ok
+
+pub returns-clause-leaves : goal.returns-clause-leaves
+returns-clause-leaves g c = leaves-trans (leaves-kept {v = g.E.ValtypeEncoder.view c.args.enc.now} {v' = g.E.ValtypeEncoder.view c.import_type.new.self} c.requires.agree c.import_type.ensures.grows c.import_type.ensures.scope_stays c.import_type.ensures.maps_stay) c.remember_id.ensures.leaves

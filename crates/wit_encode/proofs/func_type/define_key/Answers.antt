@@ -48,3 +48,9 @@ returns-clause-counts g c =
 pub returns-clause-learns : goal.returns-clause-learns
 returns-clause-learns g c = met-key c.args.resolve.now (g.E.ValtypeEncoder.view c.args.enc.now).scope.own_interface (g.E.ValtypeEncoder.view c.args.enc.now).maps (g.E.ValtypeEncoder.view c.function_of.new.enc).maps _ (g.E.ValtypeEncoder.view c.remember_key.new.enc).maps
     c.args.key c.in_ok-index.index c.args.func.now c.requires.is_key c.in_ok-def.ensures.learns c.in_ok-def.ensures.knows c.define_function_type.ensures.maps_stay c.in_ok-remember_key.ensures.ok c.remember_key.ensures.leaves.maps_grow
+
+pub returns-in_err-index-clause-leaves : goal.returns-in_err-index-clause-leaves
+returns-in_err-index-clause-leaves g c = leaves-trans c.function_of.ensures.leaves (leaves-kept {v = g.E.ValtypeEncoder.view c.function_of.new.enc} {v' = g.E.ValtypeEncoder.view c.define_function_type.new.self} c.function_of.ensures.leaves.agree c.define_function_type.ensures.grows c.define_function_type.ensures.scope_stays c.define_function_type.ensures.maps_stay)
+
+pub returns-in_err-remember_key-clause-leaves : goal.returns-in_err-remember_key-clause-leaves
+returns-in_err-remember_key-clause-leaves g c = leaves-trans c.function_of.ensures.leaves (leaves-trans (leaves-kept {v = g.E.ValtypeEncoder.view c.function_of.new.enc} {v' = g.E.ValtypeEncoder.view c.define_function_type.new.self} c.function_of.ensures.leaves.agree c.define_function_type.ensures.grows c.define_function_type.ensures.scope_stays c.define_function_type.ensures.maps_stay) c.remember_key.ensures.leaves)

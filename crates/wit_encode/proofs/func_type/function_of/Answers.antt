@@ -40,3 +40,6 @@ returns-clause-learns g c =
 pub returns-clause-knows : goal.returns-clause-knows
 returns-clause-knows g c = ready-both (g.E.ValtypeEncoder.view c.encode_params.new.enc).maps (g.E.ValtypeEncoder.view c.encode_optional_valtype.new.enc).maps (map (λ p. p.ty) c.args.func.now.params.items) (option_to_list c.args.func.now.result)
     c.encode_optional_valtype.ensures.leaves.maps_grow (rw c.deref.ensures.value at c.in_ok-params.ensures.knows) (rw c.as_ref.ensures.value at c.in_ok-result.ensures.knows)
+
+pub returns-in_err-result-clause-leaves : goal.returns-in_err-result-clause-leaves
+returns-in_err-result-clause-leaves g c = leaves-trans c.encode_params.ensures.leaves c.encode_optional_valtype.ensures.leaves

@@ -32,7 +32,7 @@ export_function-requires-clause-sound c =
 showed : (c : After-export_function) → Showed c.export_function.result c.args.resolve.now c.args.self.now.outer c.export_function.new.self.outer c.args.self.now.inner c.export_function.new.self.inner c.args.self.now.maps c.export_function.new.self.maps (text_of c.args.name.now, function_meaning c.args.resolve.now c.args.func.now)
 showed c = function-showed c.export_function.result c.args.resolve.now c.args.self.now.resolve.now c.encode_func_type.new.enc.resolve.now c.export_function.new.self.resolve.now c.args.self.now.outer c.encode_func_type.new.enc.outer c.export_function.new.self.outer c.args.self.now.inner c.encode_func_type.new.enc.inner c.export_function.new.self.inner c.args.self.now.maps c.encode_func_type.new.enc.maps c.export_function.new.self.maps
     (text_of c.args.name.now, function_meaning c.args.resolve.now c.args.func.now) ((raw_name c.name_of.result).text, record { signature = signature_of c.args.resolve.now c.args.func.now; external_id = (raw_name c.name_of.result).external_id })
-    c.requires.packages c.encode_func_type.ensures.leaves.scope_stays c.encode_func_type.ensures.leaves.agree (λ i. (c.export_function.ensures.resolve i).now) c.export_function.ensures.outer c.export_function.ensures.own c.export_function.ensures.known c.export_function.ensures.maps
+    c.requires.packages c.encode_func_type.ensures.leaves.scope_stays c.encode_func_type.ensures.leaves.agree c.encode_func_type.ensures.leaves.grows.around_ (λ i. (c.export_function.ensures.resolve i).now) c.export_function.ensures.outer c.export_function.ensures.own c.export_function.ensures.around c.export_function.ensures.maps
     (λ i. (c.name_of.ensures.text i, record { signature = signature_of c.args.resolve.now c.args.func.now; external_id = c.name_of.ensures.external_id i }))
     (c.export_function.ensures.ok (signature_of c.args.resolve.now c.args.func.now) c.in_ok-index.ensures.ok) c.export_function.ensures.err
 
@@ -84,7 +84,7 @@ returns-clause-names_stay c =
 
 pub returns-in_err-index-clause-continues : goal.returns-in_err-index-clause-continues
 returns-in_err-index-clause-continues c = after-types c.args.resolve.now c.args.self.now.resolve.now c.encode_func_type.new.enc.resolve.now c.args.self.now.outer c.encode_func_type.new.enc.outer c.args.self.now.inner c.encode_func_type.new.enc.inner
-    c.args.self.now.maps c.encode_func_type.new.enc.maps c.requires.packages c.encode_func_type.ensures.leaves.scope_stays c.encode_func_type.ensures.leaves.agree
+    c.args.self.now.maps c.encode_func_type.new.enc.maps c.requires.packages c.encode_func_type.ensures.leaves.scope_stays c.encode_func_type.ensures.leaves.agree c.encode_func_type.ensures.leaves.grows.around_
 
 pub returns-clause-learns : goal.returns-clause-learns
 returns-clause-learns c = on-any c.export_function.result (subst (λ (m : TypeEncodingMaps). LearnsFrom c.args.resolve.now (own_of c.args.self.now.inner) (function_types c.args.func.now) c.args.self.now.maps m) (sym c.export_function.ensures.maps)

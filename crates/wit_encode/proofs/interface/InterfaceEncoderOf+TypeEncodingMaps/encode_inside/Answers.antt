@@ -5,51 +5,51 @@ use Rattle.wit_encode.specs.declared.maps.TypeEncodingMaps.{TypeEncodingMaps}
 use Rattle.wit_encode.specs.declared.interface.OpenInterface.{OpenInterface}
 use Rattle.wit_encode.specs.Fits.{CanEncode}
 use Rattle.wit_encode.specs.Distinct.{AddsFunctions}
-use Rattle.wit_encode.specs.Instance.{encoder_scope, contents_of, definitions_with, CanEncodeFunction, Continues, placed_function, meaning_of, exports_in, opened}
+use Rattle.wit_encode.specs.Instance.{encoder_scope, contents_of, definitions_with, CanEncodeFunction, Continues, placed_function, meaning_of, exports_in, opened, around_at}
 use Rattle.wit_encode.proofs.Referring.{interface-kinds}
-use Rattle.wit_encode.proofs.Opening.{closed-instance, closed-outer, closed-known, opened-exports, opened-with}
+use Rattle.wit_encode.proofs.Opening.{closed-instance, closed-around, opened-exports, opened-with}
+use Rattle.wit_encode.specs.Known.{GrowsAround}
 use Rattle.wit_encode.proofs.Counting.{Began, Counted, closed-counts}
 use Rattle.wit_encode.proofs.Refusing.{refused-within}
 use Rattle.wit_encode.proofs.interface.InterfaceEncoderOf+TypeEncodingMaps.encode_inside.Goals as goal
-use Rattle.wit_encode.proofs.interface.InterfaceEncoderOf+TypeEncodingMaps.encode_inside.Goals.{After-new-3, In-Some, In_ok-outcome-in-Some}
+use Rattle.wit_encode.proofs.interface.InterfaceEncoderOf+TypeEncodingMaps.encode_inside.Goals.{After-new-2, In-Some, In_ok-outcome-in-Some}
 
-begun : (c : After-new-3) → ◌≡◌ {A = Option OpenInterface} (Some (record { interface = c.args.interface; declared = c.new-3.result; known = c.replace-known.result })) (opened c.args.interface c.args.self.now.outer_type_map)
-begun c = opened-with c.args.interface c.new-3.result c.replace-known.result c.args.self.now.outer_type_map c.new-3.ensures c.replace-known.ensures.value
+begun : (c : After-new-2) → ◌≡◌ {A = Option OpenInterface} (Some (record { interface = c.args.interface; declared = c.new-2.result; foreign = c.replace-foreign.result })) (opened c.args.interface c.args.self.now.foreign)
+begun c = opened-with c.args.interface c.new-2.result c.replace-foreign.result c.args.self.now.foreign c.new-2.ensures c.replace-foreign.ensures.value
 
 pub encode_parts-outcome-requires-clause-types : goal.encode_parts-outcome-requires-clause-types
 encode_parts-outcome-requires-clause-types c = λ t h. subst (λ (o : Option OpenInterface). CanEncode c.args.self.now.resolve.now (encoder_scope c.args.self.now.resolve.now c.args.self.now.outer o) (ty.Id t ∷ []))
-    (sym (begun (goal.at.encode_parts-outcome-requires-clause-types c).After-new-3)) (c.requires.types t h)
+    (sym (begun (goal.at.encode_parts-outcome-requires-clause-types c).After-new-2)) (c.requires.types t h)
 
 pub encode_parts-outcome-requires-clause-functions : goal.encode_parts-outcome-requires-clause-functions
 encode_parts-outcome-requires-clause-functions c = λ f h. subst (λ (o : Option OpenInterface). CanEncodeFunction c.args.self.now.resolve.now (encoder_scope c.args.self.now.resolve.now c.args.self.now.outer o) f.2.now)
-    (sym (begun (goal.at.encode_parts-outcome-requires-clause-functions c).After-new-3)) (c.requires.functions f h)
+    (sym (begun (goal.at.encode_parts-outcome-requires-clause-functions c).After-new-2)) (c.requires.functions f h)
 
-continued : (c : In-Some) → Continues c.args.self.now.resolve.now c.args.self.now.resolve.now c.args.self.now.outer c.encode_parts-outcome.new.self.outer (opened c.args.interface c.args.self.now.outer_type_map) c.encode_parts-outcome.new.self.inner c.replace-saved.new.dest c.encode_parts-outcome.new.self.maps
+continued : (c : In-Some) → Continues c.args.self.now.resolve.now c.args.self.now.resolve.now c.args.self.now.outer c.encode_parts-outcome.new.self.outer (opened c.args.interface c.args.self.now.foreign) c.encode_parts-outcome.new.self.inner c.replace-saved.new.dest c.encode_parts-outcome.new.self.maps
 continued c =
     let after = c.encode_parts-outcome.new.self in
     subst (λ (o : Option OpenInterface). Continues c.args.self.now.resolve.now c.args.self.now.resolve.now c.args.self.now.outer after.outer o after.inner c.replace-saved.new.dest after.maps)
-    (opened-with c.args.interface c.new-3.result c.replace-known.result c.args.self.now.outer_type_map c.new-3.ensures c.replace-known.ensures.value) c.encode_parts-outcome.ensures.continues
+    (opened-with c.args.interface c.new-2.result c.replace-foreign.result c.args.self.now.foreign c.new-2.ensures c.replace-foreign.ensures.value) c.encode_parts-outcome.ensures.continues
 
-known-stays : (c : In-Some) → c.in-Some.current.known.items ≡ c.args.self.now.outer_type_map.items
-known-stays c = closed-known c.args.self.now.resolve.now c.args.self.now.outer c.encode_parts-outcome.new.self.outer c.args.interface c.args.self.now.outer_type_map c.encode_parts-outcome.new.self.inner c.in-Some.current _ _
+around-grown : (c : In-Some) → GrowsAround c.args.self.now.resolve.now (around_at c.args.self.now.outer c.args.self.now.foreign) (around_at c.encode_parts-outcome.new.self.outer c.in-Some.current.foreign)
+around-grown c = closed-around c.args.self.now.resolve.now c.args.self.now.outer c.encode_parts-outcome.new.self.outer c.args.interface c.args.self.now.foreign c.encode_parts-outcome.new.self.inner c.in-Some.current _ _
     (sym c.replace-inner.ensures.value ∙ c.in-Some.is) (continued c)
 
-pub returns-clause-known : goal.returns-clause-known
-returns-clause-known c = known-stays (goal.at.returns-clause-known c).In-Some
+pub returns-clause-reaches : goal.returns-clause-reaches
+returns-clause-reaches c = around-grown (goal.at.returns-clause-reaches c).In-Some
 
-pub returns-in_err-outcome-in-Some-clause-known : goal.returns-in_err-outcome-in-Some-clause-known
-returns-in_err-outcome-in-Some-clause-known c = known-stays (goal.at.returns-in_err-outcome-in-Some-clause-known c).In-Some
+pub returns-in_err-outcome-in-Some-clause-reaches : goal.returns-in_err-outcome-in-Some-clause-reaches
+returns-in_err-outcome-in-Some-clause-reaches c = around-grown (goal.at.returns-in_err-outcome-in-Some-clause-reaches c).In-Some
 
 pub returns-clause-ok : goal.returns-clause-ok
 returns-clause-ok c =
     let r = c.args.self.now.resolve.now in
     let after = c.encode_parts-outcome.new.self in
-    let known = c.args.self.now.outer_type_map in
+    let known = c.args.self.now.foreign in
     let continues = continued (goal.at.returns-clause-ok c).In-Some in
     let shows = subst (λ (o : Option OpenInterface). (contents_of c.args.self.now.resolve.now after.outer after.inner).shown.functions ≡ (contents_of c.args.self.now.resolve.now c.args.self.now.outer o).shown.functions ++ map (λ f. meaning_of c.args.self.now.resolve.now (placed_function f)) c.args.functions.now)
-    (begun (goal.at.returns-clause-ok c).After-new-3) c.in_ok-outcome-in-Some.ensures.shows in
-    closed-instance r c.args.self.now.outer after.outer c.args.interface known after.inner c.in-Some.current _ _ _ (sym c.replace-inner.ensures.value ∙ c.in-Some.is) c.encode_parts-outcome.ensures.inside continues shows
-    (closed-outer r c.args.self.now.outer after.outer c.args.interface known after.inner _ _ c.encode_parts-outcome.ensures.inside continues) c.in_ok-outcome-in-Some.ensures.exported
+    (begun (goal.at.returns-clause-ok c).After-new-2) c.in_ok-outcome-in-Some.ensures.shows in
+    closed-instance r c.args.self.now.outer after.outer c.args.interface known after.inner c.in-Some.current _ _ _ (sym c.replace-inner.ensures.value ∙ c.in-Some.is) c.encode_parts-outcome.ensures.inside continues shows c.in_ok-outcome-in-Some.ensures.exported
 
 began : (c : In-Some) → Began c.replace-saved.new.dest
 began c =
@@ -65,7 +65,7 @@ counted c new =
     let r = c.args.self.now.resolve.now in
     let after = c.encode_parts-outcome.new.self in
     let fs : List Function = map (λ f. f.2.now) c.args.functions.now in
-    closed-counts r c.args.self.now.outer after.outer c.args.interface c.args.self.now.outer_type_map after.inner c.in-Some.current _ _ _ fs c.args.types.now
+    closed-counts r c.args.self.now.outer after.outer c.args.interface c.args.self.now.foreign after.inner c.in-Some.current _ _ _ fs c.args.types.now
     (sym c.replace-inner.ensures.value ∙ c.in-Some.is) new
     (interface-kinds r _ (Some c.args.interface) c.replace-saved.new.dest after.maps _ _ c.args.types.now fs new c.in_ok-outcome-in-Some.ensures.counts c.in_ok-outcome-in-Some.ensures.learns
     c.in_ok-outcome-in-Some.ensures.known c.requires.valid c.encode_parts-outcome.ensures.continues.agree.once)
@@ -73,7 +73,7 @@ counted c new =
     (encoder_scope c.args.self.now.resolve.now c.args.self.now.outer o)
     c.replace-saved.new.dest after.maps
     (definitions_with (contents_of c.args.self.now.resolve.now c.args.self.now.outer o))
-    (definitions_with (contents_of c.args.self.now.resolve.now after.outer after.inner)) fs) (opened-with c.args.interface c.new-3.result c.replace-known.result c.args.self.now.outer_type_map c.new-3.ensures c.replace-known.ensures.value) c.in_ok-outcome-in-Some.ensures.counts)
+    (definitions_with (contents_of c.args.self.now.resolve.now after.outer after.inner)) fs) (opened-with c.args.interface c.new-2.result c.replace-foreign.result c.args.self.now.foreign c.new-2.ensures c.replace-foreign.ensures.value) c.in_ok-outcome-in-Some.ensures.counts)
     c.encode_parts-outcome.ensures.continues.agree c.in_ok-outcome-in-Some.ensures.defined
 
 pub returns-clause-function_types : goal.returns-clause-function_types
@@ -84,11 +84,11 @@ returns-clause-value_types c = (counted c (began (goal.at.returns-clause-value_t
 
 pub encode_parts-outcome-requires-clause-unshown : goal.encode_parts-outcome-requires-clause-unshown
 encode_parts-outcome-requires-clause-unshown c =
-    subst (λ (o : Option OpenInterface). exports_in c.args.self.now.resolve.now c.args.self.now.outer o ≡ []) (sym (begun (goal.at.encode_parts-outcome-requires-clause-unshown c).After-new-3))
-    (opened-exports c.args.self.now.resolve.now c.args.self.now.outer c.args.interface c.args.self.now.outer_type_map)
+    subst (λ (o : Option OpenInterface). exports_in c.args.self.now.resolve.now c.args.self.now.outer o ≡ []) (sym (begun (goal.at.encode_parts-outcome-requires-clause-unshown c).After-new-2))
+    (opened-exports c.args.self.now.resolve.now c.args.self.now.outer c.args.interface c.args.self.now.foreign)
 
 pub returns-in_err-outcome-in-Some-clause-size : goal.returns-in_err-outcome-in-Some-clause-size
 returns-in_err-outcome-in-Some-clause-size c = λ h.
     let after = c.encode_parts-outcome.new.self in
-    refused-within c.args.self.now.resolve.now after.resolve.now c.args.self.now.outer after.outer c.args.interface c.args.self.now.outer_type_map after.inner c.in-Some.current _ _ _ (sym c.replace-inner.ensures.value ∙ c.in-Some.is)
+    refused-within c.args.self.now.resolve.now after.resolve.now c.args.self.now.outer after.outer c.args.interface c.args.self.now.foreign after.inner c.in-Some.current _ _ _ (sym c.replace-inner.ensures.value ∙ c.in-Some.is)
     c.encode_parts-outcome.ensures.inside (continued (goal.at.returns-in_err-outcome-in-Some-clause-size c).In-Some) c.encode_parts-outcome.ensures.packages (c.encode_parts-outcome.ensures.size (search rules))

@@ -12,8 +12,8 @@ use Rattle.indexmap.specs.IndexMap.{values}
 use Rattle.wit_encode.specs.Instance.{placed_function}
 use Rattle.wit_encode.proofs.Encodable.{valid-encodable}
 use Rattle.wit_encode.proofs.Lists.{contains-map}
-use Rattle.wit_encode.proofs.Outside.{closed-keeps}
-use Rattle.wit_encode.proofs.Opening.{closes, close-each, permuted-contains}
+use Rattle.wit_encode.specs.Encoders.{outside}
+use Rattle.wit_encode.proofs.Opening.{closes, close-each, closed-keeps, closed-stay, grown-stay, permuted-contains}
 use Rattle.wit_encode.specs.Exports.{UsesListed}
 use Rattle.wit_encode.proofs.Exporting.{uses-listed}
 use Rattle.wit_encode.proofs.FunctionExports.{keyed-value}
@@ -31,8 +31,8 @@ use Rattle.wit_encode.proofs.interface.InterfaceEncoderOf+TypeEncodingMaps.encod
 there : (c : After-index-def) → interface_at c.args.self.now.resolve.now c.args.interface.0 ≡ Some c.index-def.result.now
 there c = slice_get_read _ _ _ _ refl c.requires.in_range c.index-def.ensures
 
-encodable : (c : After-index-def) → CanEncodeInterface c.args.self.now.resolve.now c.args.self.now.outer c.args.interface c.args.self.now.outer_type_map c.index-def.result.now
-encodable c = valid-encodable c.args.self.now.resolve.now c.requires.valid c.args.self.now.outer c.args.interface c.args.self.now.outer_type_map c.index-def.result.now (there c) c.requires.around
+encodable : (c : After-index-def) → CanEncodeInterface c.args.self.now.resolve.now c.args.self.now.outer c.args.interface c.args.self.now.foreign c.index-def.result.now
+encodable c = valid-encodable c.args.self.now.resolve.now c.requires.valid c.args.self.now.outer c.args.interface c.args.self.now.foreign c.index-def.result.now (there c) c.requires.around
 
 pub encode_inside-requires-clause-types : goal.encode_inside-requires-clause-types
 encode_inside-requires-clause-types c = λ t h.
@@ -66,13 +66,13 @@ types_as_listed c = permuted-types c.args.self.now.resolve.now c.args.interface 
 pub returns-clause-ok : goal.returns-clause-ok
 returns-clause-ok c =
     let at = (goal.at.returns-clause-ok c).After-index-def in
-    close-each c.close.result (λ def. interface_at c.args.self.now.resolve.now c.args.interface.0 ≡ Some def) (λ def k. EncodesInterface c.args.self.now.resolve.now c.args.self.now.outer c.close.new.self.outer c.args.interface def k) c.index-def.result.now (there at)
-    (λ def is. closes c.close.result c.args.self.now.resolve.now c.args.self.now.outer c.encode_inside.new.self.outer c.close.new.self.outer c.args.interface def c.index-def.result.now c.in_ok-declared.declared c.in_ok-functions.functions.items c.deref-2.result.now
-    (sym (there at) ∙ is) c.encode_inside.ensures.outer c.deref-2.ensures.value c.in_ok-functions.ensures.all c.in_ok-functions.ensures.order c.in_ok-declared.ensures.function_types (types_as_listed (goal.at.returns-clause-ok c).In_ok-declared) c.in_ok-declared.ensures.ok c.close.ensures.ok c.requires.valid is)
+    close-each c.close.result (λ def. interface_at c.args.self.now.resolve.now c.args.interface.0 ≡ Some def) (λ def k. EncodesInterface c.args.self.now.resolve.now (outside c.args.self.now) (outside c.close.new.self) c.args.interface def k) c.index-def.result.now (there at)
+    (λ def is. closes c.close.result c.args.self.now.resolve.now (outside c.args.self.now) c.encode_inside.new.self.outer c.close.new.self.outer c.encode_inside.new.self.foreign c.close.new.self.foreign c.args.interface def c.index-def.result.now c.in_ok-declared.declared c.in_ok-functions.functions.items c.deref-2.result.now
+    (sym (there at) ∙ is) c.encode_inside.ensures.reaches (λ i. (c.close.ensures.rest i).foreign) c.deref-2.ensures.value c.in_ok-functions.ensures.all c.in_ok-functions.ensures.order c.in_ok-declared.ensures.function_types (types_as_listed (goal.at.returns-clause-ok c).In_ok-declared) c.in_ok-declared.ensures.ok c.close.ensures.ok c.requires.valid is)
 
 pub returns-clause-stands : goal.returns-clause-stands
-returns-clause-stands c = closed-keeps c.close.result c.args.self.now.resolve.now c.close.new.self.resolve.now c.args.self.now.outer c.encode_inside.new.self.outer c.close.new.self.outer c.args.self.now.inner c.close.new.self.inner c.in_ok-declared.declared c.requires.closed
-    ((λ i. (c.close.ensures.rest i).inner) ∙ c.encode_inside.ensures.closed) c.encode_inside.ensures.outer c.close.ensures.ok
+returns-clause-stands c = closed-keeps c.close.result c.args.self.now.resolve.now c.close.new.self.resolve.now (outside c.args.self.now) c.encode_inside.new.self.outer c.close.new.self.outer c.encode_inside.new.self.foreign c.args.self.now.inner c.close.new.self.inner c.in_ok-declared.declared c.requires.closed
+    ((λ i. (c.close.ensures.rest i).inner) ∙ c.encode_inside.ensures.closed) c.encode_inside.ensures.reaches c.close.ensures.ok
 
 some-same : (a b : Interface) → Some a ≡ Some b → a ≡ b
 some-same a b e = cc
@@ -82,7 +82,14 @@ returns-in_err-declared-clause-size c = λ h def is.
     let at = (goal.at.returns-in_err-declared-clause-size c).After-index-def in
     let same : map placed_function c.deref-2.result.now ≡ functions_in_order def =
     ap (map placed_function) c.deref-2.ensures.value ∙ c.in_ok-functions.ensures.order ∙ ap functions_in_order (some-same c.index-def.result.now def (sym (there at) ∙ is)) in
-    inl (subst (λ (fs : List (Text × Function)). LacksRoomWithin c.args.self.now.resolve.now c.args.self.now.outer c.args.interface fs) same (c.encode_inside.ensures.size (search rules)))
+    inl (subst (λ (fs : List (Text × Function)). LacksRoomWithin c.args.self.now.resolve.now (outside c.args.self.now) c.args.interface fs) same (c.encode_inside.ensures.size (search rules)))
 
 pub returns-clause-size : goal.returns-clause-size
-returns-clause-size c = λ h def is. inr (subst (λ (o : Declarations). fits_added o 1 ≡ false) c.encode_inside.ensures.outer (c.close.ensures.size h))
+returns-clause-size c = λ h def is. inr (record { after = outside c.encode_inside.new.self; grown = c.encode_inside.ensures.reaches; full = c.close.ensures.size h })
+
+pub returns-clause-instances : goal.returns-clause-instances
+returns-clause-instances c = closed-stay c.close.result c.args.self.now.resolve.now (outside c.args.self.now) c.encode_inside.new.self.outer c.close.new.self.outer c.encode_inside.new.self.foreign c.close.new.self.foreign c.in_ok-declared.declared
+    c.encode_inside.ensures.reaches (λ i. (c.close.ensures.rest i).foreign) c.close.ensures.ok c.close.ensures.err
+
+pub returns-in_err-declared-clause-instances : goal.returns-in_err-declared-clause-instances
+returns-in_err-declared-clause-instances c = grown-stay c.args.self.now.resolve.now (outside c.args.self.now) (outside c.encode_inside.new.self) c.encode_inside.ensures.reaches

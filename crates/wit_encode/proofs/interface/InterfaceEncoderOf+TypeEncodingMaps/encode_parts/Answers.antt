@@ -38,7 +38,7 @@ returns-clause-defined c =
 
 types-continue : (c : After-encode_types) → Continues c.args.resolve.now c.args.resolve.now c.args.self.now.outer c.encode_types.new.self.outer c.args.self.now.inner c.encode_types.new.self.inner c.args.self.now.maps c.encode_types.new.self.maps
 types-continue c = after-types c.args.resolve.now c.args.self.now.resolve.now c.encode_types.new.self.resolve.now c.args.self.now.outer c.encode_types.new.self.outer c.args.self.now.inner c.encode_types.new.self.inner
-    c.args.self.now.maps c.encode_types.new.self.maps c.requires.packages c.encode_types.ensures.leaves.scope_stays c.encode_types.ensures.leaves.agree
+    c.args.self.now.maps c.encode_types.new.self.maps c.requires.packages c.encode_types.ensures.leaves.scope_stays c.encode_types.ensures.leaves.agree c.encode_types.ensures.leaves.grows.around_
 
 pub returns-in_err-encode_types-clause-continues : goal.returns-in_err-encode_types-clause-continues
 returns-in_err-encode_types-clause-continues c = types-continue (goal.at.returns-in_err-encode_types-clause-continues c).After-encode_types

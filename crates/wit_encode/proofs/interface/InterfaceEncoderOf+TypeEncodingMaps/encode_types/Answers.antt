@@ -11,13 +11,14 @@ use Rattle.wit_encode.proofs.Referring.{from-none, from-type, from-types}
 use Rattle.wit_encode.proofs.Defining.{leaves-kept, leaves-trans, counts-none, counts-trans}
 use Rattle.std.specs.List.{Contains}
 use Rattle.std.proofs.lemmas.List.{take_all}
+use Rattle.wit_encode.proofs.Around.{around-same}
 use Rattle.wit_encode.proofs.Counting.{exact-names}
 use Rattle.wit_encode.proofs.Exporting.{exports-start, exports-next, exports-end}
 use Rattle.wit_encode.proofs.interface.InterfaceEncoderOf+TypeEncodingMaps.encode_types.Goals as goal
 
 pub loop-id-init : goal.loop-id-init
 loop-id-init c = record {
-  leaves = leaves-kept c.requires.agree (record { kept = λ i m h. h; more = omega arith }) refl refl;
+  leaves = leaves-kept c.requires.agree (record { kept = λ i m h. h; more = omega arith; around_ = around-same refl }) refl refl;
   learns = from-none c.args.resolve.now (own_of c.args.self.now.inner) _ c.args.self.now.maps;
   first = exports-start c.args.resolve.now c.requires.valid (encoder_scope c.args.self.now.resolve.now c.args.self.now.outer c.args.self.now.inner) c.args.types.now c.requires.listed (ap (λ (z : Resolve). declarations_in z (own_of c.args.self.now.inner)) c.requires.packages) c.args.self.now.maps (definitions_with (contents_of c.args.self.now.resolve.now c.args.self.now.outer c.args.self.now.inner)) c.requires.fresh c.requires.unshown;
   counts = counts-none c.args.resolve.now _ c.args.self.now.maps (definitions_with (contents_of c.args.self.now.resolve.now c.args.self.now.outer c.args.self.now.inner));

@@ -1,3 +1,6 @@
+use Rattle.std.proofs.Common.{sym, ap, ◌∙◌}
+use Rattle.wit_encode.specs.Instance.{around_of}
+use Rattle.wit_encode.proofs.Around.{slots-grow}
 use Rattle.wit_encode.proofs.Within.{function-within, function-without}
 use Rattle.wit_encode.proofs.Refusing.{function-inside, function-outside}
 use Rattle.wit_encode.proofs.interface.InterfaceEncoderOfTypeEncodingMapsValtypeEncoder.define_function_type.Goals as goal
@@ -6,7 +9,7 @@ pub returns-in-Some-clause-ok : goal.returns-in-Some-clause-ok
 returns-in-Some-clause-ok c = (function-within c.define_function_inside.result c.args.self.now.resolve.now c.args.self.now.outer c.args.self.now.inner c.in-Some.current c.define_function_inside.new.inner c.in-Some.is c.args.def c.requires c.define_function_inside.ensures.ok c.define_function_inside.ensures.err).ok
 
 pub returns-in-Some-clause-grows : goal.returns-in-Some-clause-grows
-returns-in-Some-clause-grows c = (function-within c.define_function_inside.result c.args.self.now.resolve.now c.args.self.now.outer c.args.self.now.inner c.in-Some.current c.define_function_inside.new.inner c.in-Some.is c.args.def c.requires c.define_function_inside.ensures.ok c.define_function_inside.ensures.err).grows
+returns-in-Some-clause-grows c = slots-grow (function-within c.define_function_inside.result c.args.self.now.resolve.now c.args.self.now.outer c.args.self.now.inner c.in-Some.current c.define_function_inside.new.inner c.in-Some.is c.args.def c.requires c.define_function_inside.ensures.ok c.define_function_inside.ensures.err).grows (ap (around_of c.args.self.now.outer) (sym c.in-Some.is))
 
 pub returns-in-Some-clause-scope_stays : goal.returns-in-Some-clause-scope_stays
 returns-in-Some-clause-scope_stays c = (function-within c.define_function_inside.result c.args.self.now.resolve.now c.args.self.now.outer c.args.self.now.inner c.in-Some.current c.define_function_inside.new.inner c.in-Some.is c.args.def c.requires c.define_function_inside.ensures.ok c.define_function_inside.ensures.err).scope_stays
@@ -18,7 +21,7 @@ pub returns-clause-ok : goal.returns-clause-ok
 returns-clause-ok c = (function-without c.define_function_outside.result c.args.self.now.resolve.now c.args.self.now.outer c.args.self.now.inner c.define_function_outside.new.outer c.in-None.is c.args.def c.requires c.define_function_outside.ensures.ok c.define_function_outside.ensures.err).ok
 
 pub returns-clause-grows : goal.returns-clause-grows
-returns-clause-grows c = (function-without c.define_function_outside.result c.args.self.now.resolve.now c.args.self.now.outer c.args.self.now.inner c.define_function_outside.new.outer c.in-None.is c.args.def c.requires c.define_function_outside.ensures.ok c.define_function_outside.ensures.err).grows
+returns-clause-grows c = slots-grow (function-without c.define_function_outside.result c.args.self.now.resolve.now c.args.self.now.outer c.args.self.now.inner c.define_function_outside.new.outer c.in-None.is c.args.def c.requires c.define_function_outside.ensures.ok c.define_function_outside.ensures.err).grows (ap (around_of c.define_function_outside.new.outer) c.in-None.is ∙ sym (ap (around_of c.args.self.now.outer) c.in-None.is))
 
 pub returns-clause-scope_stays : goal.returns-clause-scope_stays
 returns-clause-scope_stays c = (function-without c.define_function_outside.result c.args.self.now.resolve.now c.args.self.now.outer c.args.self.now.inner c.define_function_outside.new.outer c.in-None.is c.args.def c.requires c.define_function_outside.ensures.ok c.define_function_outside.ensures.err).scope_stays
@@ -31,3 +34,9 @@ returns-in-Some-clause-size c = λ h. function-inside c.define_function_inside.r
 
 pub returns-clause-size : goal.returns-clause-size
 returns-clause-size c = λ h. function-outside c.define_function_outside.result c.args.self.now.resolve.now c.args.self.now.outer c.args.self.now.inner c.define_function_outside.new.outer c.in-None.is c.define_function_outside.ensures.err h c.args.def c.define_function_outside.ensures.size
+
+pub returns-in-Some-clause-around_stays : goal.returns-in-Some-clause-around_stays
+returns-in-Some-clause-around_stays c = ap (around_of c.args.self.now.outer) (sym c.in-Some.is)
+
+pub returns-clause-around_stays : goal.returns-clause-around_stays
+returns-clause-around_stays c = ap (around_of c.define_function_outside.new.outer) c.in-None.is ∙ sym (ap (around_of c.args.self.now.outer) c.in-None.is)

@@ -1,3 +1,6 @@
+use Rattle.std.proofs.Common.{sym, ap, ◌∙◌}
+use Rattle.wit_encode.specs.Instance.{around_of}
+use Rattle.wit_encode.proofs.Around.{slots-grow}
 use Rattle.wit_encode.proofs.Within.{defined-within, defined-without}
 use Rattle.wit_encode.proofs.Refusing.{value-inside, value-outside}
 use Rattle.wit_encode.proofs.interface.InterfaceEncoderOfTypeEncodingMapsValtypeEncoder.defined_type.Goals as goal
@@ -6,7 +9,7 @@ pub returns-in-Some-clause-ok : goal.returns-in-Some-clause-ok
 returns-in-Some-clause-ok c = (defined-within c.define_inside.result c.args.self.now.resolve.now c.args.self.now.outer c.args.self.now.inner c.in-Some.current c.define_inside.new.inner c.in-Some.is c.args.def c.requires c.define_inside.ensures.ok c.define_inside.ensures.err).ok
 
 pub returns-in-Some-clause-grows : goal.returns-in-Some-clause-grows
-returns-in-Some-clause-grows c = (defined-within c.define_inside.result c.args.self.now.resolve.now c.args.self.now.outer c.args.self.now.inner c.in-Some.current c.define_inside.new.inner c.in-Some.is c.args.def c.requires c.define_inside.ensures.ok c.define_inside.ensures.err).grows
+returns-in-Some-clause-grows c = slots-grow (defined-within c.define_inside.result c.args.self.now.resolve.now c.args.self.now.outer c.args.self.now.inner c.in-Some.current c.define_inside.new.inner c.in-Some.is c.args.def c.requires c.define_inside.ensures.ok c.define_inside.ensures.err).grows (ap (around_of c.args.self.now.outer) (sym c.in-Some.is))
 
 pub returns-in-Some-clause-scope_stays : goal.returns-in-Some-clause-scope_stays
 returns-in-Some-clause-scope_stays c = (defined-within c.define_inside.result c.args.self.now.resolve.now c.args.self.now.outer c.args.self.now.inner c.in-Some.current c.define_inside.new.inner c.in-Some.is c.args.def c.requires c.define_inside.ensures.ok c.define_inside.ensures.err).scope_stays
@@ -18,7 +21,7 @@ pub returns-clause-ok : goal.returns-clause-ok
 returns-clause-ok c = (defined-without c.define_outside.result c.args.self.now.resolve.now c.args.self.now.outer c.args.self.now.inner c.define_outside.new.outer c.in-None.is c.args.def c.requires c.define_outside.ensures.ok c.define_outside.ensures.err).ok
 
 pub returns-clause-grows : goal.returns-clause-grows
-returns-clause-grows c = (defined-without c.define_outside.result c.args.self.now.resolve.now c.args.self.now.outer c.args.self.now.inner c.define_outside.new.outer c.in-None.is c.args.def c.requires c.define_outside.ensures.ok c.define_outside.ensures.err).grows
+returns-clause-grows c = slots-grow (defined-without c.define_outside.result c.args.self.now.resolve.now c.args.self.now.outer c.args.self.now.inner c.define_outside.new.outer c.in-None.is c.args.def c.requires c.define_outside.ensures.ok c.define_outside.ensures.err).grows (ap (around_of c.define_outside.new.outer) c.in-None.is ∙ sym (ap (around_of c.args.self.now.outer) c.in-None.is))
 
 pub returns-clause-scope_stays : goal.returns-clause-scope_stays
 returns-clause-scope_stays c = (defined-without c.define_outside.result c.args.self.now.resolve.now c.args.self.now.outer c.args.self.now.inner c.define_outside.new.outer c.in-None.is c.args.def c.requires c.define_outside.ensures.ok c.define_outside.ensures.err).scope_stays
@@ -31,3 +34,9 @@ returns-in-Some-clause-size c = λ h. value-inside c.define_inside.result c.args
 
 pub returns-clause-size : goal.returns-clause-size
 returns-clause-size c = λ h. value-outside c.define_outside.result c.args.self.now.resolve.now c.args.self.now.outer c.args.self.now.inner c.define_outside.new.outer c.in-None.is c.define_outside.ensures.err h c.args.def c.define_outside.ensures.size
+
+pub returns-in-Some-clause-around_stays : goal.returns-in-Some-clause-around_stays
+returns-in-Some-clause-around_stays c = ap (around_of c.args.self.now.outer) (sym c.in-Some.is)
+
+pub returns-clause-around_stays : goal.returns-clause-around_stays
+returns-clause-around_stays c = ap (around_of c.define_outside.new.outer) c.in-None.is ∙ sym (ap (around_of c.args.self.now.outer) c.in-None.is)

@@ -1,3 +1,6 @@
+use Rattle.std.proofs.Common.{sym, ap}
+use Rattle.wit_encode.specs.Instance.{around_of}
+use Rattle.wit_encode.proofs.Around.{slots-grow}
 use Rattle.wit_encode.proofs.Within.{resource-within}
 use Rattle.comp_bytes.specs.declared.forms.ComponentTypeRef.TheVariants as refs
 use Rattle.wit_encode.specs.Instance.{for_name}
@@ -8,7 +11,7 @@ pub returns-clause-ok : goal.returns-clause-ok
 returns-clause-ok c = (resource-within c.export_inside.result c.args.self.now.resolve.now c.args.self.now.outer c.args.self.now.inner c.in-Some.current c.export_inside.new.inner c.in-Some.is _ c.requires c.export_inside.ensures.ok c.export_inside.ensures.err).ok
 
 pub returns-clause-grows : goal.returns-clause-grows
-returns-clause-grows c = (resource-within c.export_inside.result c.args.self.now.resolve.now c.args.self.now.outer c.args.self.now.inner c.in-Some.current c.export_inside.new.inner c.in-Some.is _ c.requires c.export_inside.ensures.ok c.export_inside.ensures.err).grows
+returns-clause-grows c = slots-grow (resource-within c.export_inside.result c.args.self.now.resolve.now c.args.self.now.outer c.args.self.now.inner c.in-Some.current c.export_inside.new.inner c.in-Some.is _ c.requires c.export_inside.ensures.ok c.export_inside.ensures.err).grows (ap (around_of c.args.self.now.outer) (sym c.in-Some.is))
 
 pub returns-clause-scope_stays : goal.returns-clause-scope_stays
 returns-clause-scope_stays c = (resource-within c.export_inside.result c.args.self.now.resolve.now c.args.self.now.outer c.args.self.now.inner c.in-Some.current c.export_inside.new.inner c.in-Some.is _ c.requires c.export_inside.ensures.ok c.export_inside.ensures.err).scope_stays
@@ -18,3 +21,6 @@ returns-clause-counts c = (resource-within c.export_inside.result c.args.self.no
 
 pub returns-clause-size : goal.returns-clause-size
 returns-clause-size c = λ h. for_name (raw_name c.args.name) refs.SubResource (c.export_inside.ensures.size h)
+
+pub returns-clause-around_stays : goal.returns-clause-around_stays
+returns-clause-around_stays c = ap (around_of c.args.self.now.outer) (sym c.in-Some.is)

@@ -2,6 +2,8 @@ use Rattle.std.proofs.Common.{◌≡◌, sym, ap, ◌∙◌, ℕ, Result, Ok, Er
 use Rattle.wit_model.specs.declared.error.Error.{Error}
 use Rattle.comp_bytes.specs.RawOf.{raw_name}
 use Rattle.wit_encode.specs.Instance.{encoder_scope}
+use Rattle.wit_encode.specs.Instance.{around_of}
+use Rattle.wit_encode.proofs.Around.{slots-grow}
 use Rattle.wit_encode.proofs.Within.{type-within}
 use Rattle.comp_bytes.specs.declared.forms.ComponentTypeRef.TheVariants as refs
 use Rattle.wit_encode.specs.Instance.{for_name}
@@ -16,7 +18,7 @@ returns-clause-ok c =
 pub returns-clause-grows : goal.returns-clause-grows
 returns-clause-grows c =
     let res : Result ℕ Error = Ok c.in_ok-slot-in-Some.slot in
-    (type-within res c.args.self.now.resolve.now c.args.self.now.outer c.args.self.now.inner c.in-Some.current c.export_inside.new.inner c.in-Some.is c.args.index (raw_name c.args.name) c.requires c.in_ok-slot-in-Some.ensures.ok tt).grows
+    slots-grow (type-within res c.args.self.now.resolve.now c.args.self.now.outer c.args.self.now.inner c.in-Some.current c.export_inside.new.inner c.in-Some.is c.args.index (raw_name c.args.name) c.requires c.in_ok-slot-in-Some.ensures.ok tt).grows (ap (around_of c.args.self.now.outer) (sym c.in-Some.is))
 
 pub returns-clause-scope_stays : goal.returns-clause-scope_stays
 returns-clause-scope_stays c =
@@ -35,3 +37,9 @@ pub returns-in_err-slot-in-Some-clause-size : goal.returns-in_err-slot-in-Some-c
 returns-in_err-slot-in-Some-clause-size c = λ h.
     let refused : ◌≡◌ {A = Result ℕ Error} c.export_inside.result (Err errors.Size) = search rules in
     for_name (raw_name c.args.name) (refs.TypeEq c.args.index) (c.export_inside.ensures.size refused)
+
+pub returns-clause-around_stays : goal.returns-clause-around_stays
+returns-clause-around_stays c = ap (around_of c.args.self.now.outer) (sym c.in-Some.is)
+
+pub returns-in_err-slot-in-Some-clause-around_stays : goal.returns-in_err-slot-in-Some-clause-around_stays
+returns-in_err-slot-in-Some-clause-around_stays c = ap (around_of c.args.self.now.outer) (sym c.in-Some.is)
