@@ -1,5 +1,5 @@
 -- What stays over the functions of an interface.
-use Rattle.std.proofs.Common.{◌≡◌, refl, sym, subst, ap, ◌∙◌, ℕ, ◌&&◌, List, [], ◌∷◌, ◌++◌, Result, Ok, Err, OnOk, OnErr, Option, Some, None}
+use Rattle.std.proofs.Common.{◌≡◌, sym, subst, ap, ◌∙◌, ℕ, ◌&&◌, List, [], ◌∷◌, ◌++◌, Result, Ok, Err, OnOk, OnErr, Option}
 use Rattle.std.specs.List.{list_all}
 use Rattle.wit_model.specs.Text.{Text}
 use Rattle.wit_model.specs.Meaning.{FunctionMeaning}
@@ -14,7 +14,7 @@ use Rattle.wit_encode.specs.Maps.{MapsAgree}
 use Rattle.wit_encode.specs.Scope.{Scope, IsImportable, IsDeclared}
 use Rattle.wit_encode.specs.Fits.{CanEncode}
 use Rattle.wit_encode.specs.Instance.{SlotsStand, is_slot_of, resources_in, own_of, around_of, standing_instances, scope_from, contents_of, encoder_scope, ShowsFunction, with_functions, Continues, CanEncodeFunction}
-use Rattle.wit_encode.specs.Known.{Around, GrowsAround}
+use Rattle.wit_encode.specs.Known.{GrowsAround}
 use Rattle.wit_encode.proofs.Around.{around-same, around-trans}
 
 -- ---- what is asked of a scope doesn't hang on the functions

@@ -8,7 +8,6 @@ use Rattle.std.specs.Option.{option_map, option_map_or, option_and_then, is_some
 use Rattle.std.specs.Set.{is_member, distinct_count}
 use Rattle.std.specs.Cmp.{IsEquivalence, bool_eq_equiv}
 use Rattle.std.specs.Cmp.Lexicographic.{options_equiv}
-use Rattle.std.specs.declared.vec.Vec.{Vec}
 use Rattle.std.proofs.lemmas.Bool.{cases_Bool, cond-true, cond-false, eqb-true, eq-eqb}
 use Rattle.std.proofs.lemmas.Cmp.{on_equiv, and_equiv, lists_equiv, nat_eq_equiv}
 use Rattle.std.proofs.lemmas.List.{take_more, map-append, length-map, get_or-map}

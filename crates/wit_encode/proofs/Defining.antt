@@ -13,7 +13,7 @@ use Rattle.wit_model.specs.declared.model.«Type».{«Type» as ValueType}
 use Rattle.std.specs.Borrow.{Bor}
 use Rattle.std.specs.List.{AllZip, Contains, cons_option}
 use Rattle.std.proofs.lemmas.List.{map-append}
-use Rattle.std.proofs.lemmas.List.Elements.{Contains-append_cases, Contains-push_cases, filter_map-append}
+use Rattle.std.proofs.lemmas.List.Elements.{Contains-append_cases, filter_map-append}
 use Rattle.wit_model.specs.Meaning.{TypeMeaning}
 use Rattle.comp_bytes.specs.Raw.{ExternName}
 use Rattle.comp_bytes.specs.declared.forms.ComponentValType.{ComponentValType}

@@ -1,5 +1,5 @@
 -- What the calls of an encoder of interfaces do between interfaces: then what is defined stands in the component type.
-use Rattle.std.proofs.Common.{◌≡◌, refl, sym, subst, ap, ◌∙◌, ℕ, ◌+◌, true, cond, [], ◌∷◌, ◌++◌, List, Result, Ok, Err, IfOk, OnOk, OnErr, Option, Some, None, length, arith}
+use Rattle.std.proofs.Common.{◌≡◌, refl, sym, subst, ap, ◌∙◌, ℕ, ◌+◌, true, cond, [], ◌∷◌, ◌++◌, List, Result, Ok, Err, IfOk, OnErr, Option, Some, None, length, arith}
 use Rattle.std.specs.List.{list_all}
 use Rattle.std.specs.Option.{option_map_or, is_some}
 use Rattle.wit_model.specs.Tree.{Tree}
@@ -14,11 +14,10 @@ use Rattle.comp_bytes.specs.Held.{type_slots_of}
 use Rattle.comp_meaning.specs.Follow as follow
 use Rattle.comp_meaning.specs.Follow.{Slot, new_scope, definition, function_signature, component_step, in_scope}
 use Rattle.wit_encode.specs.Slots.{Standing, Keeps, Follows, FollowsFunction, Defines, DefinesFunction}
-use Rattle.wit_encode.specs.declared.interface.OpenInterface.{OpenInterface}
 use Rattle.wit_encode.specs.Formed.{IsFormed, IsFormedSignature}
 use Rattle.wit_encode.specs.Known.{no_around}
 use Rattle.wit_encode.specs.Counts.{one_type_more, one_function_more}
-use Rattle.wit_encode.specs.Instance.{SlotsStand, stands_in, is_slot_of, Contents, outer_scope, outer_contents, is_value_type, is_function_type, resources_in, scope_with, definitions_with}
+use Rattle.wit_encode.specs.Instance.{SlotsStand, is_slot_of, Contents, outer_scope, outer_contents, is_value_type, is_function_type, resources_in, scope_with, definitions_with}
 use Rattle.wit_encode.proofs.Strict.{bind, definition-strict, function-strict}
 use Rattle.wit_encode.proofs.Contents.{Grew, slots-kept}
 use Rattle.wit_encode.proofs.Components.{steps-count, steps-more, steps-instance, count-more}

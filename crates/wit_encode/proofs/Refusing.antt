@@ -1,7 +1,6 @@
 -- What has no room in an encoder of interfaces, where a call has refused it.
 use Rattle.std.proofs.Common.{◌≡◌, sym, subst, ap, ◌∙◌, ◌&&◌, ℕ, zero, suc, true, false, refl, arith, List, [], ◌∷◌, Contains, Result, Ok, Err, OnErr, Option, Some, None}
 use Rattle.std.specs.List.{list_all}
-use Rattle.std.specs.declared.alloc.Global.{Global}
 use Rattle.wit_encode.specs.declared.interface.Foreign.{Foreign}
 use Rattle.wit_model.specs.Text.{Text, optional_text}
 use Rattle.wit_model.specs.Lookup.{place_of}

@@ -1,19 +1,17 @@
 -- One alias more in a component type: what it shows, and what an instance type in it reads.
-use Rattle.std.proofs.Common.{◌≡◌, refl, sym, subst, ap, ◌∙◌, ℕ, zero, suc, ◌+◌, List, [], ◌∷◌, ◌++◌, Option, Some, None, slice_get, length, true, arith}
+use Rattle.std.proofs.Common.{◌≡◌, refl, sym, ap, ◌∙◌, ℕ, zero, suc, ◌+◌, List, [], ◌∷◌, ◌++◌, Option, Some, None, slice_get, length, true, arith}
 use Rattle.std.specs.Option.{option_map_or, is_some}
-use Rattle.wit_model.specs.Text.{Text}
 use Rattle.wit_model.specs.Tree.{Place}
-use Rattle.comp_bytes.specs.Raw.{Alias, Declaration, Declarations, append}
+use Rattle.comp_bytes.specs.Raw.{Alias, Declaration}
 use Rattle.comp_bytes.specs.Held.{type_slots_of}
-use Rattle.comp_bytes.specs.Reading.{◌>>=◌}
 use Rattle.comp_meaning.specs.Follow as follow
 use Rattle.comp_meaning.specs.Follow.{Slot, Instance, InstanceScope, new_instance, new_scope, is_foreign_name, provided, in_instance, in_scope, find_type, exported_slot, component_step, instance_step, instance_steps}
 use Rattle.wit_encode.specs.Known.{Around, Aliased, alias_declared, with_alias}
-use Rattle.wit_encode.specs.Instance.{Contents, no_view, outer_scope, outer_slots, outer_instances, inner_scope, inner_contents}
+use Rattle.wit_encode.specs.Instance.{no_view, outer_scope, outer_slots, outer_instances, inner_scope, inner_contents}
 use Rattle.wit_encode.proofs.Strict.{bind}
 use Rattle.wit_encode.proofs.Steps.{unbind}
 use Rattle.wit_encode.proofs.Components.{steps-count, steps-more}
-use Rattle.wit_encode.proofs.Calls.{InnerAt, inner-at}
+use Rattle.wit_encode.proofs.Calls.{inner-at}
 
 pub get-left : {X : Type 0} (xs : List X) (y : X) (k : ℕ) (x : X) → slice_get xs k ≡ Some x → slice_get (xs ++ y ∷ []) k ≡ Some x
 get-left [] y k x e = absurd (let z : ⊥ = cc in z)

@@ -1,20 +1,32 @@
 -- An encoder of interfaces as one value, and what its calls ask and leave.
-use Rattle.std.specs.Prelude.{ℕ, ◌≡◌, ◌⊎◌, Some}
+use Rattle.std.specs.Prelude.{ℕ, ◌≡◌, ◌⊎◌, ◌++◌, ◌∷◌, [], List, String, map, nat_eq, IsSome, Some}
 use Rattle.std.specs.List.{Contains}
+use Rattle.std.specs.Set.{distinct_count}
+use Rattle.std.specs.Borrow.{Bor}
+use Rattle.std.specs.declared.alloc.Global.{Global}
 use Rattle.wit_model.specs.Text.{Text}
 use Rattle.wit_model.specs.Meaning.{Signature, FunctionMeaning}
 use Rattle.wit_model.specs.Lookup.{interface_at}
 use Rattle.wit_model.specs.declared.model.Resolve.{Resolve}
 use Rattle.wit_model.specs.declared.model.Interface.{Interface}
 use Rattle.wit_model.specs.declared.model.InterfaceId.{InterfaceId}
-use Rattle.comp_bytes.specs.Raw.{ExternName}
+use Rattle.comp_bytes.specs.Raw.{ExternName, Declaration, Declarations, append, from_list}
+use Rattle.comp_bytes.specs.Held.{type_slots, type_slots_of}
+use Rattle.wit_model.specs.Valid.{IsValid}
+use Rattle.wit_model.specs.declared.model.TypeId.{TypeId}
+use Rattle.wit_model.specs.declared.model.Function.{Function}
+use Rattle.wit_model.specs.declared.model.«Type».{«Type» as ValueType}
+use Rattle.wit_encode.specs.Counts.{names_defined}
+use Rattle.wit_encode.specs.Distinct.{defined_under_names}
+use Rattle.wit_encode.specs.Exports.{AreTypesOf}
+use Rattle.wit_encode.specs.MetKinds.{LearnsFrom}
 use Rattle.wit_encode.specs.Order.{functions_in_order}
 use Rattle.wit_encode.specs.declared.maps.TypeEncodingMaps.{TypeEncodingMaps}
 use Rattle.wit_encode.specs.declared.interface.InterfaceEncoderOf.{InterfaceEncoderOf}
 use Rattle.wit_encode.specs.Known.{Around, GrowsAround, UsedStand}
 use Rattle.wit_encode.specs.Scope.{Scope}
-use Rattle.wit_encode.specs.View.{View}
-use Rattle.wit_encode.specs.Instance.{Contents, contents_of, encoder_scope, around_of, around_at, slots_in, stands_in, defined_in, opened, standing_instances, Continues, EncodesInterface, lacks_room_in, LacksRoomWithin, LacksInstanceRoom}
+use Rattle.wit_encode.specs.View.{View, Agrees}
+use Rattle.wit_encode.specs.Instance.{own_of, ShowsFunction, placed_function, meaning_of, Contents, contents_of, encoder_scope, around_of, around_at, slots_in, stands_in, defined_in, opened, standing_instances, Continues, EncodesInterface, lacks_room_in, LacksRoomWithin, LacksInstanceRoom}
 
 abbrev pub InterfaceEncoder : Type 0
 InterfaceEncoder = InterfaceEncoderOf TypeEncodingMaps
@@ -42,9 +54,77 @@ contents_in e = contents_of e.resolve.now e.outer e.inner
 abbrev pub shown_as : ExternName → Signature → Text × FunctionMeaning
 shown_as name s = (name.text, record { signature = s; external_id = name.external_id })
 
--- What a call leaves, also where it is refused: the surroundings but for the functions that have been exported, and maps that agree.
-abbrev pub GoesOn : Resolve → InterfaceEncoder → InterfaceEncoder → Type 0
-GoesOn r e e' = Continues r r e.outer e'.outer e.inner e'.inner e.maps e'.maps
+-- What a call leaves, also where it is refused: the packages, the interface that is being encoded, the surroundings but for the functions that
+-- have been exported, and maps that agree.
+pub record GoesOn (r : Resolve) (e e' : InterfaceEncoder) : Type 0 where
+  pub packages_ : e'.resolve.now ≡ r
+  pub inside : own_of e'.inner ≡ own_of e.inner
+  pub continues : Continues r r e.outer e'.outer e.inner e'.inner e.maps e'.maps
+
+-- what is asked of an encoder that is encoding an interface of these packages
+pub record IsEncoding (r : Resolve) (e : InterfaceEncoder) : Type 0 where
+  pub inside : IsSome e.inner
+  pub packages_ : e.resolve.now ≡ r
+  pub agree : Agrees r (view_of r e)
+  pub valid : IsValid r
+
+-- these are the types of the interface that is being encoded, of which nothing is known yet and nothing has been exported
+pub record Begins (r : Resolve) (e : InterfaceEncoder) (types : List TypeId) : Type 0 where
+  pub packages_ : e.resolve.now ≡ r
+  pub agree : Agrees r (encoder_view e)
+  pub valid : IsValid r
+  pub listed : AreTypesOf r (own_of e.inner) types
+  pub fresh : e.maps.id_to_index.items ≡ []
+  pub unshown : (encoder_view e).definitions.exports ≡ []
+
+-- ---- what a call has added
+
+-- one declaration more, which takes slot i
+abbrev pub DeclaresInside : List Declaration → List Declaration → Declaration → ℕ → Type 0
+DeclaresInside ds ds' d i = (i ≡ type_slots ds) × (ds' ≡ ds ++ d ∷ [])
+
+abbrev pub declared_after : Declarations → Declaration → Declarations
+declared_after outer d = append outer (Declarations.declares d Declarations.no_more)
+
+abbrev pub DeclaresOutside : Declarations → Declarations → Declaration → ℕ → Type 0
+DeclaresOutside outer outer' d i = (i ≡ type_slots_of outer) × (outer' ≡ declared_after outer d)
+
+-- one instance type more, which takes slot k
+abbrev pub AddsInstance : Declarations → Declarations → List Declaration → ℕ → Type 0
+AddsInstance outer outer' ds k = (k ≡ type_slots_of outer) × (outer' ≡ append outer (Declarations.instance (from_list ds) Declarations.no_more))
+
+-- functions that have a place in an order, without it, and what they mean
+abbrev Placed : Type 0
+Placed = ℕ × Bor (String Global) × Bor Function
+
+abbrev pub plain : List Placed → List Function
+plain fs = map (λ f. f.2.now) fs
+
+abbrev pub meanings_of : Resolve → List Placed → List (Text × FunctionMeaning)
+meanings_of r fs = map (λ f. meaning_of r (placed_function f)) fs
+
+-- a function of this signature is shown under a name, or these functions are
+abbrev pub ShowsAs : InterfaceEncoder → InterfaceEncoder → ExternName → Signature → Type 0
+ShowsAs e e' name s = ShowsFunction (contents_in e) (contents_in e') (shown_as name s)
+
+abbrev pub ShowsMore : Resolve → InterfaceEncoder → InterfaceEncoder → List (Text × FunctionMeaning) → Type 0
+ShowsMore r e e' fs = (view_of r e').scope.functions ≡ (view_of r e).scope.functions ++ fs
+
+-- no type has been exported
+abbrev pub TypesStay : Resolve → InterfaceEncoder → InterfaceEncoder → Type 0
+TypesStay r e e' = (view_of r e').definitions.exports ≡ (view_of r e).definitions.exports
+
+-- no named type of the place has become known
+abbrev pub NamesStay : Resolve → InterfaceEncoder → InterfaceEncoder → Type 0
+NamesStay r e e' = names_defined r (view_of r e).scope e'.maps ≡ names_defined r (view_of r e).scope e.maps
+
+-- what is met from these types has been learnt, and nothing else
+abbrev pub LearnsInside : Resolve → InterfaceEncoder → InterfaceEncoder → List ValueType → Type 0
+LearnsInside r e e' ts = LearnsFrom r (own_of e.inner) ts e.maps e'.maps
+
+-- of the named types of the place that have a definition of their own, these are known, each once
+abbrev pub DefinesNames : Resolve → View → InterfaceEncoder → InterfaceEncoder → List TypeId → Type 0
+DefinesNames r v e e' types = names_defined r v.scope e'.maps ≡ distinct_count nat_eq (defined_under_names r (own_of e.inner) types)
 
 -- the surroundings inside an interface, of which nothing has been declared yet
 abbrev pub scope_within : InterfaceEncoder → InterfaceId → Scope

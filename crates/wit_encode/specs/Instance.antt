@@ -5,7 +5,6 @@ use Rattle.std.specs.Option.{option_map_or}
 use Rattle.std.specs.List.{list_all}
 use Rattle.std.specs.Set.{distinct_count}
 use Rattle.std.specs.Prelude.{String, if◌then◌else◌}
-use Rattle.std.specs.declared.vec.Vec.{Vec}
 use Rattle.std.specs.Borrow.{Bor}
 use Rattle.std.specs.declared.alloc.Global.{Global}
 use Rattle.wit_model.specs.Text.{Text, text_of}
@@ -18,7 +17,6 @@ use Rattle.wit_model.specs.declared.model.InterfaceId.{InterfaceId}
 use Rattle.wit_model.specs.declared.model.TypeOwner.{TypeOwner}
 use Rattle.wit_model.specs.declared.model.TypeOwner.TheVariants as owner
 use Rattle.comp_bytes.specs.Raw.{Alias, Declaration, Declarations, ExternName, append, from_list}
-use Rattle.comp_meaning.specs.Follow as follow
 use Rattle.comp_meaning.specs.Reads.{interface_meaning}
 use Rattle.comp_meaning.specs.Follow.{Slot, View, InstanceScope, instance_view, instance_steps, new_instance}
 use Rattle.wit_encode.specs.declared.interface.OpenInterface.{OpenInterface}

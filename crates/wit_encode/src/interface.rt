@@ -6,6 +6,7 @@ ghost use Rattle.std.specs.List.{Contains};
 ghost use Rattle.comp_bytes.specs.Raw.{Alias as RawAlias, Declaration, Declarations, append, from_list};
 ghost use Rattle.wit_encode.specs.Known.{known_slot, known_instance, IsSource, ReachesAround, Aliased, alias_declared};
 ghost use Rattle.wit_encode.specs.Instance.{around_at, around_of};
+ghost use Rattle.wit_encode.specs.Encoders.{declared_after, DeclaresInside, DeclaresOutside, AddsInstance};
 ghost use Rattle.wit_model.specs.Text.{text_of};
 ghost use Rattle.comp_bytes.specs.RawOf.{raw_defined, raw_function, raw_name};
 ghost use Rattle.comp_bytes.specs.Held.{type_slots, type_slots_of, fits_next, fits_added};
@@ -74,7 +75,7 @@ fn no_foreign(alloc: Global) -> Foreign
 }
 
 fn define_inside(inner: &mut InstanceType, def: &ComponentDefinedType) -> Result<u32, Error>
-    ensures ok { IfOk result (λ i. (i ≡ type_slots inner.old) × (inner.new ≡ inner.old ++ Declaration.defined (raw_defined def.now) ∷ [])) }
+    ensures ok { IfOk result (DeclaresInside inner.old inner.new (Declaration.defined (raw_defined def.now))) }
     ensures err { OnErr result (inner.new ≡ inner.old) }
     ensures size { result ≡ Err Size → fits_next inner.new (Declaration.defined (raw_defined def.now)) ≡ false }
     ensures refuses { IfErr result IsMemoryOrSize }
@@ -85,7 +86,7 @@ fn define_inside(inner: &mut InstanceType, def: &ComponentDefinedType) -> Result
 }
 
 fn define_outside(outer: &mut ComponentType, def: &ComponentDefinedType) -> Result<u32, Error>
-    ensures ok { IfOk result (λ i. (i ≡ type_slots_of outer.old) × (outer.new ≡ append outer.old (Declarations.declares (Declaration.defined (raw_defined def.now)) Declarations.no_more))) }
+    ensures ok { IfOk result (DeclaresOutside outer.old outer.new (Declaration.defined (raw_defined def.now))) }
     ensures err { OnErr result (outer.new ≡ outer.old) }
     ensures size { result ≡ Err Size → (fits_declaration (Declaration.defined (raw_defined def.now)) && fits_added outer.new 1) ≡ false }
     ensures refuses { IfErr result IsMemoryOrSize }
@@ -96,7 +97,7 @@ fn define_outside(outer: &mut ComponentType, def: &ComponentDefinedType) -> Resu
 }
 
 fn define_function_inside(inner: &mut InstanceType, def: &ComponentFuncType) -> Result<u32, Error>
-    ensures ok { IfOk result (λ i. (i ≡ type_slots inner.old) × (inner.new ≡ inner.old ++ Declaration.function (raw_function def.now) ∷ [])) }
+    ensures ok { IfOk result (DeclaresInside inner.old inner.new (Declaration.function (raw_function def.now))) }
     ensures err { OnErr result (inner.new ≡ inner.old) }
     ensures size { result ≡ Err Size → fits_next inner.new (Declaration.function (raw_function def.now)) ≡ false }
     ensures refuses { IfErr result IsMemoryOrSize }
@@ -107,7 +108,7 @@ fn define_function_inside(inner: &mut InstanceType, def: &ComponentFuncType) -> 
 }
 
 fn define_function_outside(outer: &mut ComponentType, def: &ComponentFuncType) -> Result<u32, Error>
-    ensures ok { IfOk result (λ i. (i ≡ type_slots_of outer.old) × (outer.new ≡ append outer.old (Declarations.declares (Declaration.function (raw_function def.now)) Declarations.no_more))) }
+    ensures ok { IfOk result (DeclaresOutside outer.old outer.new (Declaration.function (raw_function def.now))) }
     ensures err { OnErr result (outer.new ≡ outer.old) }
     ensures size { result ≡ Err Size → (fits_declaration (Declaration.function (raw_function def.now)) && fits_added outer.new 1) ≡ false }
     ensures refuses { IfErr result IsMemoryOrSize }
@@ -122,7 +123,7 @@ fn export_inside(
     name: &ComponentExternName,
     ty: ComponentTypeRef,
 ) -> Result<u32, Error>
-    ensures ok { IfOk result (λ i. (i ≡ type_slots inner.old) × (inner.new ≡ inner.old ++ Declaration.exported (raw_name name.now) ty ∷ [])) }
+    ensures ok { IfOk result (DeclaresInside inner.old inner.new (Declaration.exported (raw_name name.now) ty)) }
     ensures err { OnErr result (inner.new ≡ inner.old) }
     ensures size { result ≡ Err Size → fits_next inner.new (Declaration.exported (raw_name name.now) ty) ≡ false }
     ensures refuses { IfErr result IsMemoryOrSize }
@@ -133,7 +134,7 @@ fn export_inside(
 }
 
 fn alias_inside(inner: &mut InstanceType, slot: u32) -> Result<u32, Error>
-    ensures ok { IfOk result (λ i. (i ≡ type_slots inner.old) × (inner.new ≡ inner.old ++ Declaration.alias_of (RawAlias.of_outer 1 slot) ∷ [])) }
+    ensures ok { IfOk result (DeclaresInside inner.old inner.new (Declaration.alias_of (RawAlias.of_outer 1 slot))) }
     ensures err { OnErr result (inner.new ≡ inner.old) }
     ensures size { result ≡ Err Size → fits_next inner.new (Declaration.alias_of (RawAlias.of_outer 1 slot)) ≡ false }
     ensures refuses { IfErr result IsMemoryOrSize }
@@ -171,7 +172,7 @@ fn make_alias(
     name: &str,
 ) -> Result<u32, Error>
     ensures ok { IfOk result (λ k. k ≡ type_slots_of outer.old) }
-    ensures made { OnOk result (outer.new ≡ append outer.old (Declarations.declares (Declaration.alias_of (RawAlias.of_export instance name.now)) Declarations.no_more)) }
+    ensures made { OnOk result (outer.new ≡ declared_after outer.old (Declaration.alias_of (RawAlias.of_export instance name.now))) }
     ensures listed { OnOk result (known.new.items ≡ known.old.items ++ (id, type_slots_of outer.old) ∷ []) }
     ensures err { OnErr result (outer.new ≡ outer.old) }
     ensures same { OnErr result (known.new.items ≡ known.old.items) }
@@ -331,7 +332,7 @@ impl<'a> InterfaceEncoderOf<'a, TypeEncodingMaps<'a>> {
     ghost use Rattle.wit_encode.specs.Exports.{AreTypesOf, AllKnown, KnowsUsed, UsesListed};
     ghost use Rattle.wit_model.specs.declared.model.«Type».TheVariants as ValueType;
     ghost use Rattle.wit_encode.specs.Instance.{ShowsFunction, CanEncodeFunction, LacksRoomWithin, IsInstance, placed_function, meaning_of, own_of, declarations_in};
-    ghost use Rattle.wit_encode.specs.Encoders.{encoder_view, view_of, contents_in, shown_as, scope_within, outside, GoesOn, Reaches, InstancesStay, UsedAround, EncodesAs, LacksInstance};
+    ghost use Rattle.wit_encode.specs.Encoders.{encoder_view, view_of, contents_in, shown_as, scope_within, outside, GoesOn, Reaches, InstancesStay, UsedAround, EncodesAs, LacksInstance, plain, meanings_of, ShowsAs, ShowsMore, TypesStay, NamesStay, LearnsInside, DefinesNames, IsEncoding, Begins};
     ghost use Rattle.wit_encode.specs.Room.{export_name, LacksType, LacksPartOf};
     ghost use Rattle.wit_encode.specs.Maps.{MapsGrow};
 
@@ -361,7 +362,7 @@ impl<'a> InterfaceEncoderOf<'a, TypeEncodingMaps<'a>> {
         requires simple { is_simple (raw_name name) ≡ true }
         requires sound { (encoder_view self.old).scope.is_sound ≡ true }
         requires stands { (s : Signature) × (encoder_view self.old).stands index (function s) }
-        ensures ok { (s : Signature) → (encoder_view self.old).stands index (function s) → OnOk result (ShowsFunction (contents_in self.old) (contents_in self.new) (shown_as (raw_name name.entry) s)) }
+        ensures ok { (s : Signature) → (encoder_view self.old).stands index (function s) → OnOk result (ShowsAs self.old self.new (raw_name name.entry) s) }
         ensures err { OnErr result (self.new.inner ≡ self.old.inner) }
         ensures own { own_of self.new.inner ≡ own_of self.old.inner }
         ensures around { around_of self.new.outer self.new.inner ≡ around_of self.old.outer self.old.inner }
@@ -387,21 +388,16 @@ impl<'a> InterfaceEncoderOf<'a, TypeEncodingMaps<'a>> {
         name: &'a String,
         func: &'a Function,
     ) -> Result<(), Error>
-        requires inside { IsSome self.old.inner }
-        requires packages { self.old.resolve.now ≡ resolve.now }
+        requires open { IsEncoding resolve.now self.old }
         requires encodable { CanEncodeFunction resolve.now (view_of resolve.now self.old).scope func.now }
-        requires agree { Agrees resolve.now (view_of resolve.now self.old) }
-        requires valid { IsValid resolve.now }
         requires used { KnowsUsed resolve.now self.old.maps func.now }
-        ensures packages { self.new.resolve.now ≡ resolve.now }
-        ensures inside { own_of self.new.inner ≡ own_of self.old.inner }
         ensures continues { GoesOn resolve.now self.old self.new }
-        ensures shows { OnOk result ((view_of resolve.now self.new).scope.functions ≡ (view_of resolve.now self.old).scope.functions ++ (text_of name.now, function_meaning resolve.now func.now) ∷ []) }
+        ensures shows { OnOk result (ShowsMore resolve.now self.old self.new ((text_of name.now, function_meaning resolve.now func.now) ∷ [])) }
         ensures counts { OnOk result (CountsFunctions resolve.now (view_of resolve.now self.old) (view_of resolve.now self.new) (func.now ∷ [])) }
-        ensures learns { OnOk result (LearnsFrom resolve.now (own_of self.old.inner) (function_types func.now) self.old.maps self.new.maps) }
+        ensures learns { OnOk result (LearnsInside resolve.now self.old self.new (function_types func.now)) }
         ensures maps_grow { MapsGrow self.old.maps self.new.maps }
-        ensures types_stay { OnOk result ((view_of resolve.now self.new).definitions.exports ≡ (view_of resolve.now self.old).definitions.exports) }
-        ensures names_stay { OnOk result (names_defined resolve.now (view_of resolve.now self.old).scope self.new.maps ≡ names_defined resolve.now (view_of resolve.now self.old).scope self.old.maps) }
+        ensures types_stay { OnOk result (TypesStay resolve.now self.old self.new) }
+        ensures names_stay { OnOk result (NamesStay resolve.now self.old self.new) }
         ensures size { result ≡ Err Size → LacksPartOf resolve.now (encoder_view self.new).lacks_room ((text_of name.now, func.now) ∷ []) }
         ensures refuses { IfErr result IsMemoryOrSize }
     {
@@ -416,20 +412,15 @@ impl<'a> InterfaceEncoderOf<'a, TypeEncodingMaps<'a>> {
         resolve: &'a Resolve,
         functions: &[(usize, &'a String, &'a Function)],
     ) -> Result<(), Error>
-        requires inside { IsSome self.old.inner }
-        requires packages { self.old.resolve.now ≡ resolve.now }
+        requires open { IsEncoding resolve.now self.old }
         requires encodable { (f : _) → Contains functions.now f → CanEncodeFunction resolve.now (view_of resolve.now self.old).scope f.2.now }
-        requires agree { Agrees resolve.now (view_of resolve.now self.old) }
-        requires valid { IsValid resolve.now }
         requires used { (f : _) → Contains functions.now f → KnowsUsed resolve.now self.old.maps f.2.now }
-        ensures packages { self.new.resolve.now ≡ resolve.now }
-        ensures inside { own_of self.new.inner ≡ own_of self.old.inner }
         ensures continues { GoesOn resolve.now self.old self.new }
-        ensures shows { OnOk result ((view_of resolve.now self.new).scope.functions ≡ (view_of resolve.now self.old).scope.functions ++ map (λ f. meaning_of resolve.now (placed_function f)) functions.now) }
-        ensures counts { OnOk result (CountsFunctions resolve.now (view_of resolve.now self.old) (view_of resolve.now self.new) (map (λ f. f.2.now) functions.now)) }
-        ensures learns { OnOk result (LearnsFrom resolve.now (own_of self.old.inner) (flat_map function_types (map (λ f. f.2.now) functions.now)) self.old.maps self.new.maps) }
-        ensures types_stay { OnOk result ((view_of resolve.now self.new).definitions.exports ≡ (view_of resolve.now self.old).definitions.exports) }
-        ensures names_stay { OnOk result (names_defined resolve.now (view_of resolve.now self.old).scope self.new.maps ≡ names_defined resolve.now (view_of resolve.now self.old).scope self.old.maps) }
+        ensures shows { OnOk result (ShowsMore resolve.now self.old self.new (meanings_of resolve.now functions.now)) }
+        ensures counts { OnOk result (CountsFunctions resolve.now (view_of resolve.now self.old) (view_of resolve.now self.new) (plain functions.now)) }
+        ensures learns { OnOk result (LearnsInside resolve.now self.old self.new (flat_map function_types (plain functions.now))) }
+        ensures types_stay { OnOk result (TypesStay resolve.now self.old self.new) }
+        ensures names_stay { OnOk result (NamesStay resolve.now self.old self.new) }
         ensures size { result ≡ Err Size → LacksPartOf resolve.now (encoder_view self.new).lacks_room (map placed_function functions.now) }
         ensures refuses { IfErr result IsMemoryOrSize }
     {
@@ -447,19 +438,14 @@ impl<'a> InterfaceEncoderOf<'a, TypeEncodingMaps<'a>> {
         resolve: &'a Resolve,
         types: &[TypeId],
     ) -> Result<(), Error>
-        requires packages { self.old.resolve.now ≡ resolve.now }
+        requires begins { Begins resolve.now self.old types.now }
         requires encodable { (t : _) → Contains types.now t → CanEncode resolve.now (encoder_view self.old).scope (ValueType.Id t ∷ []) }
-        requires agree { Agrees resolve.now (encoder_view self.old) }
-        requires valid { IsValid resolve.now }
-        requires listed { AreTypesOf resolve.now (own_of self.old.inner) types.now }
-        requires fresh { self.old.maps.id_to_index.items ≡ [] }
-        requires unshown { (encoder_view self.old).definitions.exports ≡ [] }
         ensures leaves { Leaves resolve.now (encoder_view self.old) (encoder_view self.new) }
         ensures counts { OnOk result (CountsTypes resolve.now (encoder_view self.old) (encoder_view self.new)) }
-        ensures learns { OnOk result (LearnsFrom resolve.now (own_of self.old.inner) (map (λ t. ValueType.Id t) types.now) self.old.maps self.new.maps) }
+        ensures learns { OnOk result (LearnsInside resolve.now self.old self.new (map (λ t. ValueType.Id t) types.now)) }
         ensures known { OnOk result (AllKnown self.new.maps types.now) }
         ensures exported { OnOk result ((encoder_view self.new).definitions.exports ≡ declarations_in resolve.now (own_of self.old.inner)) }
-        ensures defined { OnOk result (names_defined resolve.now (encoder_view self.old).scope self.new.maps ≡ distinct_count nat_eq (defined_under_names resolve.now (own_of self.old.inner) types.now)) }
+        ensures defined { OnOk result (DefinesNames resolve.now (encoder_view self.old) self.old self.new types.now) }
         ensures size { result ≡ Err Size → LacksType resolve.now (encoder_view self.new).lacks_room }
         ensures refuses { IfErr result IsMemoryOrSize }
     {
@@ -478,24 +464,17 @@ impl<'a> InterfaceEncoderOf<'a, TypeEncodingMaps<'a>> {
         functions: &[(usize, &'a String, &'a Function)],
     ) -> Result<(), Error>
         requires inside { IsSome self.old.inner }
-        requires packages { self.old.resolve.now ≡ resolve.now }
+        requires begins { Begins resolve.now self.old types.now }
         requires types { (t : _) → Contains types.now t → CanEncode resolve.now (encoder_view self.old).scope (ValueType.Id t ∷ []) }
         requires functions { (f : _) → Contains functions.now f → CanEncodeFunction resolve.now (encoder_view self.old).scope f.2.now }
-        requires agree { Agrees resolve.now (encoder_view self.old) }
-        requires valid { IsValid resolve.now }
-        requires listed { AreTypesOf resolve.now (own_of self.old.inner) types.now }
-        requires fresh { self.old.maps.id_to_index.items ≡ [] }
-        requires unshown { (encoder_view self.old).definitions.exports ≡ [] }
         requires uses { (f : _) → Contains functions.now f → UsesListed resolve.now types.now f.2.now }
-        ensures packages { self.new.resolve.now ≡ resolve.now }
-        ensures inside { own_of self.new.inner ≡ own_of self.old.inner }
         ensures continues { GoesOn resolve.now self.old self.new }
-        ensures shows { OnOk result ((view_of resolve.now self.new).scope.functions ≡ (view_of resolve.now self.old).scope.functions ++ map (λ f. meaning_of resolve.now (placed_function f)) functions.now) }
-        ensures counts { OnOk result (CountsFunctions resolve.now (view_of resolve.now self.old) (view_of resolve.now self.new) (map (λ f. f.2.now) functions.now)) }
+        ensures shows { OnOk result (ShowsMore resolve.now self.old self.new (meanings_of resolve.now functions.now)) }
+        ensures counts { OnOk result (CountsFunctions resolve.now (view_of resolve.now self.old) (view_of resolve.now self.new) (plain functions.now)) }
         ensures known { OnOk result (AllKnown self.new.maps types.now) }
-        ensures learns { OnOk result (LearnsFrom resolve.now (own_of self.old.inner) (referred types.now (map (λ f. f.2.now) functions.now)) self.old.maps self.new.maps) }
+        ensures learns { OnOk result (LearnsInside resolve.now self.old self.new (referred types.now (plain functions.now))) }
         ensures exported { OnOk result ((view_of resolve.now self.new).definitions.exports ≡ declarations_in resolve.now (own_of self.old.inner)) }
-        ensures defined { OnOk result (names_defined resolve.now (view_of resolve.now self.old).scope self.new.maps ≡ distinct_count nat_eq (defined_under_names resolve.now (own_of self.old.inner) types.now)) }
+        ensures defined { OnOk result (DefinesNames resolve.now (view_of resolve.now self.old) self.old self.new types.now) }
         ensures size { result ≡ Err Size → LacksPartOf resolve.now (encoder_view self.new).lacks_room (map placed_function functions.now) }
         ensures refuses { IfErr result IsMemoryOrSize }
     {
@@ -520,9 +499,9 @@ impl<'a> InterfaceEncoderOf<'a, TypeEncodingMaps<'a>> {
         ensures resolve { self.new.resolve.now ≡ self.old.resolve.now }
         ensures reaches { Reaches self.old self.new }
         ensures maps { self.new.maps ≡ self.old.maps }
-        ensures ok { IfOk result (λ ds. IsInstance self.old.resolve.now self.new.outer interface ds (map (λ f. meaning_of self.old.resolve.now (placed_function f)) functions.now)) }
-        ensures function_types { IfOk result (DefinesKeys (map (λ f. f.2.now) functions.now)) }
-        ensures value_types { IfOk result (DefinesTypes self.old.resolve.now interface types.now (map (λ f. f.2.now) functions.now)) }
+        ensures ok { IfOk result (λ ds. IsInstance self.old.resolve.now self.new.outer interface ds (meanings_of self.old.resolve.now functions.now)) }
+        ensures function_types { IfOk result (DefinesKeys (plain functions.now)) }
+        ensures value_types { IfOk result (DefinesTypes self.old.resolve.now interface types.now (plain functions.now)) }
         ensures size { result ≡ Err Size → LacksRoomWithin self.old.resolve.now (outside self.old) interface (map placed_function functions.now) }
         ensures refuses { IfErr result IsMemoryOrSize }
     {
@@ -549,7 +528,7 @@ impl<'a> InterfaceEncoderOf<'a, TypeEncodingMaps<'a>> {
 
     /// Adds an instance type to the component type, and answers its slot.
     fn close(&mut self, declared: &InstanceType) -> Result<u32, Error>
-        ensures ok { IfOk result (λ k. (k ≡ type_slots_of self.old.outer) × (self.new.outer ≡ append self.old.outer (Declarations.instance (from_list declared.now) Declarations.no_more))) }
+        ensures ok { IfOk result (AddsInstance self.old.outer self.new.outer declared.now) }
         ensures err { OnErr result (self.new.outer ≡ self.old.outer) }
         ensures rest { self.new ≡ record self.old { outer = self.new.outer } }
         ensures size { result ≡ Err Size → fits_added self.old.outer 1 ≡ false }

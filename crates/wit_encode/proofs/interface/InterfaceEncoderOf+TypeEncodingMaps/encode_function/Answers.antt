@@ -22,22 +22,22 @@ use Rattle.wit_encode.proofs.interface.InterfaceEncoderOf+TypeEncodingMaps.encod
 use Rattle.wit_encode.proofs.interface.InterfaceEncoderOf+TypeEncodingMaps.encode_function.Goals.{After-export_function}
 
 pub encode_func_type-requires : goal.encode_func_type-requires
-encode_func_type-requires c = λ _. ((refl, tt), rw c.requires.packages (c.requires.encodable.types, (c.requires.encodable.formed, c.requires.agree)))
+encode_func_type-requires c = λ _. ((refl, tt), rw c.requires.open.packages_ (c.requires.encodable.types, (c.requires.encodable.formed, c.requires.open.agree)))
 
 pub export_function-requires-clause-sound : goal.export_function-requires-clause-sound
 export_function-requires-clause-sound c =
     ap (λ (s : Scope). s.is_sound) c.encode_func_type.ensures.leaves.scope_stays
-    ∙ ap (λ (r : Resolve). (encoder_scope r c.args.self.now.outer c.args.self.now.inner).is_sound) c.requires.packages ∙ c.requires.encodable.formed.sound
+    ∙ ap (λ (r : Resolve). (encoder_scope r c.args.self.now.outer c.args.self.now.inner).is_sound) c.requires.open.packages_ ∙ c.requires.encodable.formed.sound
 
 showed : (c : After-export_function) → Showed c.export_function.result c.args.resolve.now c.args.self.now.outer c.export_function.new.self.outer c.args.self.now.inner c.export_function.new.self.inner c.args.self.now.maps c.export_function.new.self.maps (text_of c.args.name.now, function_meaning c.args.resolve.now c.args.func.now)
 showed c = function-showed c.export_function.result c.args.resolve.now c.args.self.now.resolve.now c.encode_func_type.new.enc.resolve.now c.export_function.new.self.resolve.now c.args.self.now.outer c.encode_func_type.new.enc.outer c.export_function.new.self.outer c.args.self.now.inner c.encode_func_type.new.enc.inner c.export_function.new.self.inner c.args.self.now.maps c.encode_func_type.new.enc.maps c.export_function.new.self.maps
     (text_of c.args.name.now, function_meaning c.args.resolve.now c.args.func.now) ((raw_name c.name_of.result).text, record { signature = signature_of c.args.resolve.now c.args.func.now; external_id = (raw_name c.name_of.result).external_id })
-    c.requires.packages c.encode_func_type.ensures.leaves.scope_stays c.encode_func_type.ensures.leaves.agree c.encode_func_type.ensures.leaves.grows.around_ (λ i. (c.export_function.ensures.resolve i).now) c.export_function.ensures.outer c.export_function.ensures.own c.export_function.ensures.around c.export_function.ensures.maps
+    c.requires.open.packages_ c.encode_func_type.ensures.leaves.scope_stays c.encode_func_type.ensures.leaves.agree c.encode_func_type.ensures.leaves.grows.around_ (λ i. (c.export_function.ensures.resolve i).now) c.export_function.ensures.outer c.export_function.ensures.own c.export_function.ensures.around c.export_function.ensures.maps
     (λ i. (c.name_of.ensures.text i, record { signature = signature_of c.args.resolve.now c.args.func.now; external_id = c.name_of.ensures.external_id i }))
     (c.export_function.ensures.ok (signature_of c.args.resolve.now c.args.func.now) c.in_ok-index.ensures.ok) c.export_function.ensures.err
 
 pub returns-clause-continues : goal.returns-clause-continues
-returns-clause-continues c = (showed (goal.at.returns-clause-continues c).After-export_function).continues
+returns-clause-continues c = record { packages_ = search rules; inside = search rules; continues = (showed (goal.at.returns-clause-continues c).After-export_function).continues }
 
 pub returns-clause-shows : goal.returns-clause-shows
 returns-clause-shows c = (showed (goal.at.returns-clause-shows c).After-export_function).shows
@@ -54,14 +54,14 @@ returns-clause-counts c =
         external_id = (raw_name c.name_of.result).external_id;
       },
     ) c.in_ok-index.index
-    c.requires.packages c.encode_func_type.ensures.leaves.scope_stays (λ i. (c.export_function.ensures.resolve i).now) c.export_function.ensures.maps
+    c.requires.open.packages_ c.encode_func_type.ensures.leaves.scope_stays (λ i. (c.export_function.ensures.resolve i).now) c.export_function.ensures.maps
     c.in_ok-index.ensures.counts (c.export_function.ensures.ok (signature_of c.args.resolve.now c.args.func.now) c.in_ok-index.ensures.ok)
 
 stays : (c : After-export_function) → OnOk c.export_function.result (exports_in c.args.resolve.now c.export_function.new.self.outer c.export_function.new.self.inner ≡ exports_in c.args.resolve.now c.args.self.now.outer c.args.self.now.inner)
 stays c = function-stays c.export_function.result c.args.resolve.now c.args.self.now.resolve.now c.encode_func_type.new.enc.resolve.now c.export_function.new.self.resolve.now c.args.self.now.outer c.encode_func_type.new.enc.outer c.export_function.new.self.outer
     c.args.self.now.inner c.encode_func_type.new.enc.inner c.export_function.new.self.inner c.args.self.now.maps c.encode_func_type.new.enc.maps c.args.func.now
     ((raw_name c.name_of.result).text, record { signature = signature_of c.args.resolve.now c.args.func.now; external_id = (raw_name c.name_of.result).external_id })
-    c.requires.valid c.requires.used c.requires.packages c.encode_func_type.ensures.leaves.scope_stays (λ i. (c.export_function.ensures.resolve i).now) c.encode_func_type.ensures.leaves.agree.once c.in_ok-index.ensures.learns.only c.in_ok-index.ensures.counts.2.shows
+    c.requires.open.valid c.requires.used c.requires.open.packages_ c.encode_func_type.ensures.leaves.scope_stays (λ i. (c.export_function.ensures.resolve i).now) c.encode_func_type.ensures.leaves.agree.once c.in_ok-index.ensures.learns.only c.in_ok-index.ensures.counts.2.shows
     (c.export_function.ensures.ok (signature_of c.args.resolve.now c.args.func.now) c.in_ok-index.ensures.ok)
 
 pub returns-clause-types_stay : goal.returns-clause-types_stay
@@ -77,14 +77,18 @@ returns-clause-names_stay c =
     c.args.self.now.inner c.encode_func_type.new.enc.inner c.export_function.new.self.inner c.args.self.now.maps c.encode_func_type.new.enc.maps
     c.export_function.new.self.maps
     ((raw_name c.name_of.result).text, record { signature = signature_of c.args.resolve.now c.args.func.now; external_id = (raw_name c.name_of.result).external_id })
-    c.requires.packages c.encode_func_type.ensures.leaves.scope_stays (λ i. (c.export_function.ensures.resolve i).now)
+    c.requires.open.packages_ c.encode_func_type.ensures.leaves.scope_stays (λ i. (c.export_function.ensures.resolve i).now)
     c.export_function.ensures.maps c.in_ok-index.ensures.counts.2.shows
     (c.export_function.ensures.ok (signature_of c.args.resolve.now c.args.func.now) c.in_ok-index.ensures.ok)
     (stays (goal.at.returns-clause-names_stay c).After-export_function)
 
 pub returns-in_err-index-clause-continues : goal.returns-in_err-index-clause-continues
-returns-in_err-index-clause-continues c = after-types c.args.resolve.now c.args.self.now.resolve.now c.encode_func_type.new.enc.resolve.now c.args.self.now.outer c.encode_func_type.new.enc.outer c.args.self.now.inner c.encode_func_type.new.enc.inner
-    c.args.self.now.maps c.encode_func_type.new.enc.maps c.requires.packages c.encode_func_type.ensures.leaves.scope_stays c.encode_func_type.ensures.leaves.agree c.encode_func_type.ensures.leaves.grows.around_
+returns-in_err-index-clause-continues c = record {
+  packages_ = search rules;
+  inside = search rules;
+  continues = after-types c.args.resolve.now c.args.self.now.resolve.now c.encode_func_type.new.enc.resolve.now c.args.self.now.outer c.encode_func_type.new.enc.outer c.args.self.now.inner c.encode_func_type.new.enc.inner
+      c.args.self.now.maps c.encode_func_type.new.enc.maps c.requires.open.packages_ c.encode_func_type.ensures.leaves.scope_stays c.encode_func_type.ensures.leaves.agree c.encode_func_type.ensures.leaves.grows.around_;
+}
 
 pub returns-clause-learns : goal.returns-clause-learns
 returns-clause-learns c = on-any c.export_function.result (subst (λ (m : TypeEncodingMaps). LearnsFrom c.args.resolve.now (own_of c.args.self.now.inner) (function_types c.args.func.now) c.args.self.now.maps m) (sym c.export_function.ensures.maps)

@@ -21,7 +21,7 @@ pub loop-entry-preserved : goal.loop-entry-preserved
 loop-entry-preserved c = record {
   packages_ = search rules;
   own = search rules;
-  continues = continues-trans c.loop-entry.invariant.continues c.encode_function.ensures.continues refl;
+  continues = continues-trans c.loop-entry.invariant.continues c.encode_function.ensures.continues.continues refl;
   shows = grind (arith, common_steps);
   counts =
       functions-counted (λ (f : ℕ × Bor (String Global) × Bor Function). f.2.now)
@@ -46,7 +46,7 @@ returns-clause-shows c = c.loop-entry.invariant.shows
     ∙ ap (λ fs. (contents_of c.args.resolve.now c.args.self.now.outer c.args.self.now.inner).shown.functions ++ map (λ f. meaning_of c.args.resolve.now (placed_function f)) fs) (take_all c.loop-entry.entry-index c.args.functions.now c.loop-entry-test.false)
 
 pub returns-in_err-encode_function-clause-continues : goal.returns-in_err-encode_function-clause-continues
-returns-in_err-encode_function-clause-continues c = continues-trans c.loop-entry.invariant.continues c.encode_function.ensures.continues refl
+returns-in_err-encode_function-clause-continues c = record { packages_ = search rules; inside = search rules; continues = continues-trans c.loop-entry.invariant.continues c.encode_function.ensures.continues.continues refl }
 
 pub returns-clause-learns : goal.returns-clause-learns
 returns-clause-learns c = from-functions (λ (f : ℕ × Bor (String Global) × Bor Function). f.2.now) c.args.resolve.now (own_of c.args.self.now.inner) c.args.functions.now c.loop-entry.entry-index c.args.self.now.maps c.loop-entry.self.maps

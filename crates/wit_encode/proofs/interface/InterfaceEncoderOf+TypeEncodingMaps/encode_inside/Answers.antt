@@ -29,7 +29,7 @@ continued : (c : In-Some) → Continues c.args.self.now.resolve.now c.args.self.
 continued c =
     let after = c.encode_parts-outcome.new.self in
     subst (λ (o : Option OpenInterface). Continues c.args.self.now.resolve.now c.args.self.now.resolve.now c.args.self.now.outer after.outer o after.inner c.replace-saved.new.dest after.maps)
-    (opened-with c.args.interface c.new-2.result c.replace-foreign.result c.args.self.now.foreign c.new-2.ensures c.replace-foreign.ensures.value) c.encode_parts-outcome.ensures.continues
+    (opened-with c.args.interface c.new-2.result c.replace-foreign.result c.args.self.now.foreign c.new-2.ensures c.replace-foreign.ensures.value) c.encode_parts-outcome.ensures.continues.continues
 
 around-grown : (c : In-Some) → GrowsAround c.args.self.now.resolve.now (around_at c.args.self.now.outer c.args.self.now.foreign) (around_at c.encode_parts-outcome.new.self.outer c.in-Some.current.foreign)
 around-grown c = closed-around c.args.self.now.resolve.now c.args.self.now.outer c.encode_parts-outcome.new.self.outer c.args.interface c.args.self.now.foreign c.encode_parts-outcome.new.self.inner c.in-Some.current _ _
@@ -49,7 +49,7 @@ returns-clause-ok c =
     let continues = continued (goal.at.returns-clause-ok c).In-Some in
     let shows = subst (λ (o : Option OpenInterface). (contents_of c.args.self.now.resolve.now after.outer after.inner).shown.functions ≡ (contents_of c.args.self.now.resolve.now c.args.self.now.outer o).shown.functions ++ map (λ f. meaning_of c.args.self.now.resolve.now (placed_function f)) c.args.functions.now)
     (begun (goal.at.returns-clause-ok c).After-new-2) c.in_ok-outcome-in-Some.ensures.shows in
-    closed-instance r c.args.self.now.outer after.outer c.args.interface known after.inner c.in-Some.current _ _ _ (sym c.replace-inner.ensures.value ∙ c.in-Some.is) c.encode_parts-outcome.ensures.inside continues shows c.in_ok-outcome-in-Some.ensures.exported
+    closed-instance r c.args.self.now.outer after.outer c.args.interface known after.inner c.in-Some.current _ _ _ (sym c.replace-inner.ensures.value ∙ c.in-Some.is) c.encode_parts-outcome.ensures.continues.inside continues shows c.in_ok-outcome-in-Some.ensures.exported
 
 began : (c : In-Some) → Began c.replace-saved.new.dest
 began c =
@@ -68,13 +68,13 @@ counted c new =
     closed-counts r c.args.self.now.outer after.outer c.args.interface c.args.self.now.foreign after.inner c.in-Some.current _ _ _ fs c.args.types.now
     (sym c.replace-inner.ensures.value ∙ c.in-Some.is) new
     (interface-kinds r _ (Some c.args.interface) c.replace-saved.new.dest after.maps _ _ c.args.types.now fs new c.in_ok-outcome-in-Some.ensures.counts c.in_ok-outcome-in-Some.ensures.learns
-    c.in_ok-outcome-in-Some.ensures.known c.requires.valid c.encode_parts-outcome.ensures.continues.agree.once)
+    c.in_ok-outcome-in-Some.ensures.known c.requires.valid c.encode_parts-outcome.ensures.continues.continues.agree.once)
     (subst (λ (o : Option OpenInterface). AddsFunctions c.args.self.now.resolve.now
     (encoder_scope c.args.self.now.resolve.now c.args.self.now.outer o)
     c.replace-saved.new.dest after.maps
     (definitions_with (contents_of c.args.self.now.resolve.now c.args.self.now.outer o))
     (definitions_with (contents_of c.args.self.now.resolve.now after.outer after.inner)) fs) (opened-with c.args.interface c.new-2.result c.replace-foreign.result c.args.self.now.foreign c.new-2.ensures c.replace-foreign.ensures.value) c.in_ok-outcome-in-Some.ensures.counts)
-    c.encode_parts-outcome.ensures.continues.agree c.in_ok-outcome-in-Some.ensures.defined
+    c.encode_parts-outcome.ensures.continues.continues.agree c.in_ok-outcome-in-Some.ensures.defined
 
 pub returns-clause-function_types : goal.returns-clause-function_types
 returns-clause-function_types c = (counted c (began (goal.at.returns-clause-function_types c).In-Some)).keys
@@ -82,13 +82,19 @@ returns-clause-function_types c = (counted c (began (goal.at.returns-clause-func
 pub returns-clause-value_types : goal.returns-clause-value_types
 returns-clause-value_types c = (counted c (began (goal.at.returns-clause-value_types c).In-Some)).types
 
-pub encode_parts-outcome-requires-clause-unshown : goal.encode_parts-outcome-requires-clause-unshown
-encode_parts-outcome-requires-clause-unshown c =
-    subst (λ (o : Option OpenInterface). exports_in c.args.self.now.resolve.now c.args.self.now.outer o ≡ []) (sym (begun (goal.at.encode_parts-outcome-requires-clause-unshown c).After-new-2))
-    (opened-exports c.args.self.now.resolve.now c.args.self.now.outer c.args.interface c.args.self.now.foreign)
+pub encode_parts-outcome-requires-clause-begins : goal.encode_parts-outcome-requires-clause-begins
+encode_parts-outcome-requires-clause-begins c = record {
+  packages_ = search rules;
+  agree = search rules;
+  valid = c.requires.valid;
+  listed = search rules;
+  fresh = search rules;
+  unshown = subst (λ (o : Option OpenInterface). exports_in c.args.self.now.resolve.now c.args.self.now.outer o ≡ []) (sym (begun (goal.at.encode_parts-outcome-requires-clause-begins c).After-new-2))
+      (opened-exports c.args.self.now.resolve.now c.args.self.now.outer c.args.interface c.args.self.now.foreign);
+}
 
 pub returns-in_err-outcome-in-Some-clause-size : goal.returns-in_err-outcome-in-Some-clause-size
 returns-in_err-outcome-in-Some-clause-size c = λ h.
     let after = c.encode_parts-outcome.new.self in
     refused-within c.args.self.now.resolve.now after.resolve.now c.args.self.now.outer after.outer c.args.interface c.args.self.now.foreign after.inner c.in-Some.current _ _ _ (sym c.replace-inner.ensures.value ∙ c.in-Some.is)
-    c.encode_parts-outcome.ensures.inside (continued (goal.at.returns-in_err-outcome-in-Some-clause-size c).In-Some) c.encode_parts-outcome.ensures.packages (c.encode_parts-outcome.ensures.size (search rules))
+    c.encode_parts-outcome.ensures.continues.inside (continued (goal.at.returns-in_err-outcome-in-Some-clause-size c).In-Some) c.encode_parts-outcome.ensures.continues.packages_ (c.encode_parts-outcome.ensures.size (search rules))

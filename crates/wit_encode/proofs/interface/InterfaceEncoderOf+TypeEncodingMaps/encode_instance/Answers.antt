@@ -17,9 +17,7 @@ use Rattle.wit_encode.proofs.Opening.{closes, close-each, closed-keeps, closed-s
 use Rattle.wit_encode.specs.Exports.{UsesListed}
 use Rattle.wit_encode.proofs.Exporting.{uses-listed}
 use Rattle.wit_encode.proofs.FunctionExports.{keyed-value}
-use Rattle.std.proofs.Common.{inl, inr, rules, ap, false}
-use Rattle.comp_bytes.specs.Raw.{Declarations}
-use Rattle.comp_bytes.specs.Held.{fits_added}
+use Rattle.std.proofs.Common.{inl, inr, rules, ap}
 use Rattle.wit_model.specs.Text.{Text}
 use Rattle.wit_model.specs.declared.model.Interface.{Interface}
 use Rattle.wit_model.specs.declared.model.Function.{Function}

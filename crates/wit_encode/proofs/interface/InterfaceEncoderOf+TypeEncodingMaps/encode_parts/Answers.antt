@@ -1,3 +1,4 @@
+use Rattle.std.proofs.Common.{rules}
 use Rattle.std.proofs.Common.{refl, subst, map}
 use Rattle.wit_encode.specs.Scope.{Scope}
 use Rattle.wit_encode.specs.Instance.{CanEncodeFunction, Continues, own_of, declarations_in}
@@ -12,7 +13,7 @@ use Rattle.wit_encode.proofs.interface.InterfaceEncoderOf+TypeEncodingMaps.encod
 
 pub encode_functions-requires-clause-encodable : goal.encode_functions-requires-clause-encodable
 encode_functions-requires-clause-encodable c = λ f h. subst (λ (s : Scope). CanEncodeFunction c.args.resolve.now s f.2.now)
-    (same-scope c.args.resolve.now c.args.self.now.resolve.now c.encode_types.new.self.resolve.now c.args.self.now.outer c.encode_types.new.self.outer c.args.self.now.inner c.encode_types.new.self.inner c.requires.packages c.encode_types.ensures.leaves.scope_stays)
+    (same-scope c.args.resolve.now c.args.self.now.resolve.now c.encode_types.new.self.resolve.now c.args.self.now.outer c.encode_types.new.self.outer c.args.self.now.inner c.encode_types.new.self.inner c.requires.begins.packages_ c.encode_types.ensures.leaves.scope_stays)
     (c.requires.functions f h)
 
 pub returns-clause-counts : goal.returns-clause-counts
@@ -20,7 +21,7 @@ returns-clause-counts c =
     parts-counted c.encode_functions.result c.args.resolve.now c.args.self.now.resolve.now c.encode_types.new.self.resolve.now c.args.self.now.outer
     c.encode_types.new.self.outer c.encode_functions.new.self.outer c.args.self.now.inner c.encode_types.new.self.inner c.encode_functions.new.self.inner
     c.args.self.now.maps c.encode_types.new.self.maps c.encode_functions.new.self.maps
-    (map (λ f. f.2.now) c.args.functions.now) c.requires.packages c.encode_types.ensures.leaves.scope_stays c.in_ok-encode_types.ensures.counts
+    (map (λ f. f.2.now) c.args.functions.now) c.requires.begins.packages_ c.encode_types.ensures.leaves.scope_stays c.in_ok-encode_types.ensures.counts
     c.encode_functions.ensures.counts
 
 pub encode_functions-requires-clause-used : goal.encode_functions-requires-clause-used
@@ -28,7 +29,7 @@ encode_functions-requires-clause-used c = λ f h. listed-used c.args.resolve.now
 
 pub returns-clause-exported : goal.returns-clause-exported
 returns-clause-exported c = exported-after c.encode_functions.result c.args.resolve.now c.args.self.now.resolve.now c.encode_types.new.self.resolve.now c.args.self.now.outer c.encode_types.new.self.outer c.encode_functions.new.self.outer
-    c.args.self.now.inner c.encode_types.new.self.inner c.encode_functions.new.self.inner (declarations_in c.args.resolve.now (own_of c.args.self.now.inner)) c.requires.packages c.encode_types.ensures.leaves.scope_stays c.in_ok-encode_types.ensures.exported c.encode_functions.ensures.types_stay
+    c.args.self.now.inner c.encode_types.new.self.inner c.encode_functions.new.self.inner (declarations_in c.args.resolve.now (own_of c.args.self.now.inner)) c.requires.begins.packages_ c.encode_types.ensures.leaves.scope_stays c.in_ok-encode_types.ensures.exported c.encode_functions.ensures.types_stay
 
 pub returns-clause-defined : goal.returns-clause-defined
 returns-clause-defined c =
@@ -38,13 +39,13 @@ returns-clause-defined c =
 
 types-continue : (c : After-encode_types) → Continues c.args.resolve.now c.args.resolve.now c.args.self.now.outer c.encode_types.new.self.outer c.args.self.now.inner c.encode_types.new.self.inner c.args.self.now.maps c.encode_types.new.self.maps
 types-continue c = after-types c.args.resolve.now c.args.self.now.resolve.now c.encode_types.new.self.resolve.now c.args.self.now.outer c.encode_types.new.self.outer c.args.self.now.inner c.encode_types.new.self.inner
-    c.args.self.now.maps c.encode_types.new.self.maps c.requires.packages c.encode_types.ensures.leaves.scope_stays c.encode_types.ensures.leaves.agree c.encode_types.ensures.leaves.grows.around_
+    c.args.self.now.maps c.encode_types.new.self.maps c.requires.begins.packages_ c.encode_types.ensures.leaves.scope_stays c.encode_types.ensures.leaves.agree c.encode_types.ensures.leaves.grows.around_
 
 pub returns-in_err-encode_types-clause-continues : goal.returns-in_err-encode_types-clause-continues
-returns-in_err-encode_types-clause-continues c = types-continue (goal.at.returns-in_err-encode_types-clause-continues c).After-encode_types
+returns-in_err-encode_types-clause-continues c = record { packages_ = search rules; inside = search rules; continues = types-continue (goal.at.returns-in_err-encode_types-clause-continues c).After-encode_types }
 
 pub returns-clause-continues : goal.returns-clause-continues
-returns-clause-continues c = continues-trans (types-continue (goal.at.returns-clause-continues c).After-encode_types) c.encode_functions.ensures.continues refl
+returns-clause-continues c = record { packages_ = search rules; inside = search rules; continues = continues-trans (types-continue (goal.at.returns-clause-continues c).After-encode_types) c.encode_functions.ensures.continues.continues refl }
 
 pub returns-clause-learns : goal.returns-clause-learns
 returns-clause-learns c = on_ok c.encode_functions.result _ _ (λ l. from-then (ap (λ (s : Scope). s.own_interface) c.encode_types.ensures.leaves.scope_stays) c.in_ok-encode_types.ensures.learns l) c.encode_functions.ensures.learns

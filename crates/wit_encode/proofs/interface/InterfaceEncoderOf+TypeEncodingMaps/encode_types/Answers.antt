@@ -18,9 +18,9 @@ use Rattle.wit_encode.proofs.interface.InterfaceEncoderOf+TypeEncodingMaps.encod
 
 pub loop-id-init : goal.loop-id-init
 loop-id-init c = record {
-  leaves = leaves-kept c.requires.agree (record { kept = λ i m h. h; more = omega arith; around_ = around-same refl }) refl refl;
+  leaves = leaves-kept c.requires.begins.agree (record { kept = λ i m h. h; more = omega arith; around_ = around-same refl }) refl refl;
   learns = from-none c.args.resolve.now (own_of c.args.self.now.inner) _ c.args.self.now.maps;
-  first = exports-start c.args.resolve.now c.requires.valid (encoder_scope c.args.self.now.resolve.now c.args.self.now.outer c.args.self.now.inner) c.args.types.now c.requires.listed (ap (λ (z : Resolve). declarations_in z (own_of c.args.self.now.inner)) c.requires.packages) c.args.self.now.maps (definitions_with (contents_of c.args.self.now.resolve.now c.args.self.now.outer c.args.self.now.inner)) c.requires.fresh c.requires.unshown;
+  first = exports-start c.args.resolve.now c.requires.begins.valid (encoder_scope c.args.self.now.resolve.now c.args.self.now.outer c.args.self.now.inner) c.args.types.now c.requires.begins.listed (ap (λ (z : Resolve). declarations_in z (own_of c.args.self.now.inner)) c.requires.begins.packages_) c.args.self.now.maps (definitions_with (contents_of c.args.self.now.resolve.now c.args.self.now.outer c.args.self.now.inner)) c.requires.begins.fresh c.requires.begins.unshown;
   counts = counts-none c.args.resolve.now _ c.args.self.now.maps (definitions_with (contents_of c.args.self.now.resolve.now c.args.self.now.outer c.args.self.now.inner));
 }
 
@@ -38,7 +38,7 @@ loop-id-preserved c = record {
   leaves = leaves-trans c.loop-id.invariant.leaves c.encode_valtype.ensures.leaves;
   learns = from-type c.args.resolve.now (own_of c.args.self.now.inner) (own_of c.loop-id.self.inner) c.args.types.now c.loop-id.id-index (record { 0 = 0 }) c.args.self.now.maps c.loop-id.self.maps c.encode_valtype.new.enc.maps
       c.loop-id-test.true (ap (λ (z : Scope). z.own_interface) c.loop-id.invariant.leaves.scope_stays) c.loop-id.invariant.learns c.in_ok-encode_valtype.ensures.learns;
-  first = exports-next c.args.resolve.now c.requires.valid (encoder_scope c.args.self.now.resolve.now c.args.self.now.outer c.args.self.now.inner) c.args.types.now c.requires.listed (ap (λ (z : Resolve). declarations_in z (own_of c.args.self.now.inner)) c.requires.packages)
+  first = exports-next c.args.resolve.now c.requires.begins.valid (encoder_scope c.args.self.now.resolve.now c.args.self.now.outer c.args.self.now.inner) c.args.types.now c.requires.begins.listed (ap (λ (z : Resolve). declarations_in z (own_of c.args.self.now.inner)) c.requires.begins.packages_)
       c.loop-id.id-index (get_or c.args.types.now c.loop-id.id-index (record { 0 = 0 })) (slice_get-get_or c.args.types.now c.loop-id.id-index (record { 0 = 0 }) c.loop-id-test.true) _ c.loop-id.invariant.leaves.scope_stays _ _ _ _
       c.loop-id.invariant.first c.encode_valtype.ensures.leaves.agree.once c.encode_valtype.ensures.leaves.maps_grow c.in_ok-encode_valtype.ensures.knows c.in_ok-encode_valtype.ensures.learns.only c.in_ok-encode_valtype.ensures.counts.shows;
   counts = counts-trans c.loop-id.invariant.leaves.scope_stays c.loop-id.invariant.counts c.in_ok-encode_valtype.ensures.counts;
@@ -48,11 +48,11 @@ pub returns-in_err-encode_valtype-clause-leaves : goal.returns-in_err-encode_val
 returns-in_err-encode_valtype-clause-leaves c = leaves-trans c.loop-id.invariant.leaves c.encode_valtype.ensures.leaves
 
 pub returns-clause-known : goal.returns-clause-known
-returns-clause-known c = (exports-end c.args.resolve.now c.requires.valid (encoder_scope c.args.self.now.resolve.now c.args.self.now.outer c.args.self.now.inner) c.args.types.now c.requires.listed (ap (λ (z : Resolve). declarations_in z (own_of c.args.self.now.inner)) c.requires.packages) c.loop-id.id-index c.loop-id.self.maps (definitions_with (contents_of c.loop-id.self.resolve.now c.loop-id.self.outer c.loop-id.self.inner))
+returns-clause-known c = (exports-end c.args.resolve.now c.requires.begins.valid (encoder_scope c.args.self.now.resolve.now c.args.self.now.outer c.args.self.now.inner) c.args.types.now c.requires.begins.listed (ap (λ (z : Resolve). declarations_in z (own_of c.args.self.now.inner)) c.requires.begins.packages_) c.loop-id.id-index c.loop-id.self.maps (definitions_with (contents_of c.loop-id.self.resolve.now c.loop-id.self.outer c.loop-id.self.inner))
     c.loop-id-test.false c.loop-id.invariant.first).0
 
 pub returns-clause-exported : goal.returns-clause-exported
-returns-clause-exported c = (exports-end c.args.resolve.now c.requires.valid (encoder_scope c.args.self.now.resolve.now c.args.self.now.outer c.args.self.now.inner) c.args.types.now c.requires.listed (ap (λ (z : Resolve). declarations_in z (own_of c.args.self.now.inner)) c.requires.packages) c.loop-id.id-index c.loop-id.self.maps (definitions_with (contents_of c.loop-id.self.resolve.now c.loop-id.self.outer c.loop-id.self.inner))
+returns-clause-exported c = (exports-end c.args.resolve.now c.requires.begins.valid (encoder_scope c.args.self.now.resolve.now c.args.self.now.outer c.args.self.now.inner) c.args.types.now c.requires.begins.listed (ap (λ (z : Resolve). declarations_in z (own_of c.args.self.now.inner)) c.requires.begins.packages_) c.loop-id.id-index c.loop-id.self.maps (definitions_with (contents_of c.loop-id.self.resolve.now c.loop-id.self.outer c.loop-id.self.inner))
     c.loop-id-test.false c.loop-id.invariant.first).1
 
 pub returns-clause-defined : goal.returns-clause-defined
