@@ -23,6 +23,7 @@ pub mod Calls
 pub mod Outside
 pub mod Within
 pub mod Refusing
+pub mod Rooms
 pub mod ShowFunctions
 pub mod Continuing
 pub mod Counting

@@ -13,7 +13,7 @@ use Rattle.wit_model.specs.Lookup.{type_at, interface_at}
 use Rattle.wit_model.specs.Uses.{has, owner_interface}
 use Rattle.wit_model.specs.Parts.{kind_numbers, used_by_type, same_owner, has_owner}
 use Rattle.wit_model.specs.Rules.{passes, in_list, is_listed, is_listed_in_interface, is_named_of, is_use, interface_type_numbers, used_by_number, are_in_order}
-use Rattle.wit_model.specs.Valid.{IsValid, as_interface, numbers_in_range, order_of_types, owners}
+use Rattle.wit_model.specs.Valid.{IsValid, as_interface, numbers_in_range, order_of_types}
 use Rattle.wit_model.specs.declared.model.Resolve.{Resolve}
 use Rattle.wit_model.specs.declared.model.Interface.{Interface}
 use Rattle.wit_model.specs.declared.model.TypeDef.{TypeDef}

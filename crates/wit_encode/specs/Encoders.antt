@@ -1,5 +1,5 @@
 -- An encoder of interfaces as one value, and what its calls ask and leave.
-use Rattle.std.specs.Prelude.{ℕ, ◌≡◌, ◌⊎◌, Some, false}
+use Rattle.std.specs.Prelude.{ℕ, ◌≡◌, ◌⊎◌, Some, false, map, flat_map}
 use Rattle.wit_model.specs.Text.{Text}
 use Rattle.wit_model.specs.Meaning.{Signature, FunctionMeaning}
 use Rattle.wit_model.specs.Lookup.{interface_at}
@@ -13,8 +13,11 @@ use Rattle.wit_encode.specs.declared.maps.TypeEncodingMaps.{TypeEncodingMaps}
 use Rattle.wit_encode.specs.declared.interface.InterfaceEncoderOf.{InterfaceEncoderOf}
 use Rattle.wit_encode.specs.Known.{UsedStand}
 use Rattle.wit_encode.specs.Scope.{Scope}
+use Rattle.wit_encode.specs.Room.{LacksRoomBehind, HasNoRoom, function_requests}
+use Rattle.wit_encode.specs.MetKinds.{referred}
+use Rattle.indexmap.specs.IndexMap.{values}
 use Rattle.wit_encode.specs.View.{View}
-use Rattle.wit_encode.specs.Instance.{Contents, contents_of, encoder_scope, slots_in, stands_in, defined_in, opened, standing_instances, Continues, EncodesInterface, lacks_room_in, LacksRoomWithin}
+use Rattle.wit_encode.specs.Instance.{Contents, contents_of, encoder_scope, slots_in, stands_in, defined_in, opened, standing_instances, Continues, EncodesInterface, held_in}
 
 abbrev pub InterfaceEncoder : Type 0
 InterfaceEncoder = InterfaceEncoderOf TypeEncodingMaps
@@ -27,7 +30,8 @@ view_of r e = record {
   stands = stands_in r e.outer e.inner;
   definitions = defined_in r e.outer e.inner;
   maps = e.maps;
-  lacks_room = lacks_room_in r e.outer e.inner;
+  held = held_in e.outer e.inner;
+  lacks_room = LacksRoomBehind (held_in e.outer e.inner);
 }
 
 -- in its own
@@ -57,6 +61,10 @@ UsedAround e i = UsedStand e.resolve.now (standing_instances e.resolve.now e.out
 abbrev pub EncodesAs : InterfaceEncoder → InterfaceEncoder → InterfaceId → ℕ → Type 0
 EncodesAs e e' i k = (def : Interface) → interface_at e.resolve.now i.0 ≡ Some def → EncodesInterface e.resolve.now e.outer e'.outer i def k
 
--- the interface has no room in an instance type, or the component type has none for one more instance type
+-- an instance type has no room for the types and functions of an interface
+abbrev pub InterfaceLacksRoom : Resolve → InterfaceId → Interface → Type 0
+InterfaceLacksRoom r i def = HasNoRoom r (Some i) (referred (values def.types) (map (λ f. f.1) (functions_in_order def))) (flat_map (function_requests r) (functions_in_order def))
+
+-- an instance type has no room for the types and functions of the interface, or the component type has none for one more instance type
 abbrev pub LacksInstance : InterfaceEncoder → InterfaceId → Type 0
-LacksInstance e i = (def : Interface) → interface_at e.resolve.now i.0 ≡ Some def → LacksRoomWithin e.resolve.now e.outer i (functions_in_order def) ⊎ (fits_added e.outer 1 ≡ false)
+LacksInstance e i = (def : Interface) → interface_at e.resolve.now i.0 ≡ Some def → InterfaceLacksRoom e.resolve.now i def ⊎ (fits_added e.outer 1 ≡ false)

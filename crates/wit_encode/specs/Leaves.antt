@@ -8,6 +8,7 @@ use Rattle.wit_encode.specs.MetKinds.{Learns, LearnsMet}
 use Rattle.wit_encode.specs.Maps.{MapsGrow}
 use Rattle.wit_encode.specs.Counts.{one_type_more, type_more_if, AddsTypes, AddsFunction}
 use Rattle.wit_encode.specs.Distinct.{AddsFunctions}
+use Rattle.wit_encode.specs.Room.{Request, FindsNoRoom}
 use Rattle.wit_encode.specs.View.{View, Agrees, Grows}
 
 -- The maps agree with the slots and have lost no entry, old slots stand for what they did, and the surroundings are the same.
@@ -24,6 +25,10 @@ LearnsFrom r ts v v' = LearnsMet r v.scope.own_interface ts v.maps v'.maps
 -- of what has been learnt, the parts are known, and the kind where it has no name
 abbrev pub LearnsParts : Resolve → View → View → Type 0
 LearnsParts r v v' = Learns r v.scope.own_interface v.maps v'.maps
+
+-- a part of a type that is met from these, or one of these requests, has no room, and not much more is held than was
+abbrev pub LacksRoom : Resolve → List ValueType → List Request → View → View → Type 0
+LacksRoom r ts requests v v' = FindsNoRoom r v.scope.own_interface ts requests v.maps v.held v'.held v'.lacks_room
 
 -- what has been defined is what the maps have learnt, and no type of a function is among it
 abbrev pub CountsTypes : Resolve → View → View → Type 0

@@ -9,7 +9,7 @@ ghost use Rattle.wit_model.specs.Types.{number_tree};
 ghost use Rattle.comp_bytes.specs.RawOf.{raw_name};
 ghost use Rattle.comp_bytes.specs.Refusal.{IsMemoryOrSize};
 ghost use Rattle.wit_encode.specs.Slots.{Standing, tree, Follows, FollowsFunction, Defines, DefinesFunction};
-ghost use Rattle.wit_encode.specs.View.{View, Grows, AddsSlot, Exports, ExportsName, SameRest};
+ghost use Rattle.wit_encode.specs.View.{View, Grows, AddsSlot, Exports, ExportsName, SameRest, HoldsMore};
 ghost use Rattle.wit_encode.specs.Scope.{DeclaresSlot, DeclaresResource, IsImportable};
 ghost use Rattle.wit_encode.specs.Room.{value_type, function_type, export_name, import_of};
 ghost use Rattle.wit_encode.specs.Formed.{IsFormed, IsFormedSignature};
@@ -43,7 +43,8 @@ pub trait LendsMaps<M> {
 /// A slot stands for a tree, which is a type with every index followed, or for the signature of a function.
 /// Old slots stand for what they did after every call, also after one that is refused, and no call changes the maps.
 /// A call answers `Error::Size` only where what it is asked to add has no room in 32 bits: then the view says so of the encoder that
-/// the call leaves (`View::lacks_room`). An implementor says in its view when that is.
+/// the call leaves (`View::lacks_room`). An implementor says in its view when that is, and how much it holds (`View::held`): a number
+/// of its own, which each call raises by one at most.
 pub trait ValtypeEncoder<'a>: LendsMaps<TypeEncodingMaps<'a>> {
     // what it holds: what is around, its slots, how much has been defined, its maps, and what has no room
     ghost view: { Self → View };
@@ -56,6 +57,7 @@ pub trait ValtypeEncoder<'a>: LendsMaps<TypeEncodingMaps<'a>> {
         ensures scope_stays { (view self.new).scope ≡ (view self.old).scope }
         ensures maps_stay { (view self.new).maps ≡ (view self.old).maps }
         ensures counts { OnOk result ((view self.new).definitions ≡ one_type_more (view self.old).definitions) }
+        ensures held { HoldsMore 1 (view self.old) (view self.new) }
         ensures size { result ≡ Err Size → (t : Tree) → Follows (view self.old).stands def.entry t → (view self.new).lacks_room (value_type t) }
         ensures refuses { IfErr result IsMemoryOrSize };
 
@@ -67,6 +69,7 @@ pub trait ValtypeEncoder<'a>: LendsMaps<TypeEncodingMaps<'a>> {
         ensures scope_stays { (view self.new).scope ≡ (view self.old).scope }
         ensures maps_stay { (view self.new).maps ≡ (view self.old).maps }
         ensures counts { OnOk result ((view self.new).definitions ≡ one_function_more (view self.old).definitions) }
+        ensures held { HoldsMore 1 (view self.old) (view self.new) }
         ensures size { result ≡ Err Size → (s : Signature) → FollowsFunction (view self.old).stands def.entry s → (view self.new).lacks_room (function_type s) }
         ensures refuses { IfErr result IsMemoryOrSize };
 
@@ -83,6 +86,7 @@ pub trait ValtypeEncoder<'a>: LendsMaps<TypeEncodingMaps<'a>> {
         ensures scope_stays { (view self.new).scope ≡ (view self.old).scope }
         ensures maps_stay { (view self.new).maps ≡ (view self.old).maps }
         ensures counts { OnOk result (ExportsName (view self.old) (view self.new) (raw_name name.entry)) }
+        ensures held { HoldsMore 1 (view self.old) (view self.new) }
         ensures size { result ≡ Err Size → (view self.new).lacks_room (export_name (raw_name name.entry)) }
         ensures refuses { IfErr result IsMemoryOrSize };
 
@@ -94,6 +98,7 @@ pub trait ValtypeEncoder<'a>: LendsMaps<TypeEncodingMaps<'a>> {
         ensures scope_stays { (view self.new).scope ≡ (view self.old).scope }
         ensures maps_stay { (view self.new).maps ≡ (view self.old).maps }
         ensures counts { OnOk result (ExportsName (view self.old) (view self.new) (raw_name name.entry)) }
+        ensures held { HoldsMore 1 (view self.old) (view self.new) }
         ensures size { result ≡ Err Size → (view self.new).lacks_room (export_name (raw_name name.entry)) }
         ensures refuses { IfErr result IsMemoryOrSize };
 
@@ -105,6 +110,7 @@ pub trait ValtypeEncoder<'a>: LendsMaps<TypeEncodingMaps<'a>> {
         ensures scope_stays { (view self.new).scope ≡ (view self.old).scope }
         ensures maps_stay { (view self.new).maps ≡ (view self.old).maps }
         ensures counts { OnOk result ((view self.new).definitions ≡ (view self.old).definitions) }
+        ensures held { HoldsMore 1 (view self.old) (view self.new) }
         ensures size { result ≡ Err Size → (view self.new).lacks_room (import_of id.0) }
         ensures refuses { IfErr result IsMemoryOrSize };
 

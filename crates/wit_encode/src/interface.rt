@@ -1,9 +1,9 @@
 //! Encodes interfaces as instance types.
 
 ghost use Rattle.std.proofs.Common.{refl};
-ghost use Rattle.std.specs.Prelude.{◌≡◌, ◌&&◌, false, Err, ◌++◌, ◌∷◌, [], Some, None, ◌<◌, true, length, map, IfOk, OnOk, OnErr, IsSome, IfErr};
+ghost use Rattle.std.specs.Prelude.{◌≡◌, ◌≤◌, ◌+◌, ◌*◌, ◌&&◌, false, Err, ◌++◌, ◌∷◌, [], Some, None, ◌<◌, true, length, map, IfOk, OnOk, OnErr, IsSome, IfErr};
 ghost use Rattle.std.specs.List.{Contains};
-ghost use Rattle.comp_bytes.specs.Raw.{Alias as RawAlias, Declaration, Declarations, append, from_list};
+ghost use Rattle.comp_bytes.specs.Raw.{Alias as RawAlias, Declaration, Declarations, append, declaration_count, from_list};
 ghost use Rattle.wit_encode.specs.Known.{known_slot};
 ghost use Rattle.comp_bytes.specs.RawOf.{raw_defined, raw_function, raw_name};
 ghost use Rattle.comp_bytes.specs.Held.{type_slots, type_slots_of, fits_next, fits_added};
@@ -56,6 +56,7 @@ pub type InterfaceEncoder<'a> = InterfaceEncoderOf<'a, TypeEncodingMaps<'a>>;
 fn define_inside(inner: &mut InstanceType, def: &ComponentDefinedType) -> Result<u32, Error>
     ensures ok { IfOk result (λ i. (i ≡ type_slots inner.old) × (inner.new ≡ inner.old ++ Declaration.defined (raw_defined def.now) ∷ [])) }
     ensures err { OnErr result (inner.new ≡ inner.old) }
+    ensures held { length inner.new ≤ length inner.old + 1 }
     ensures size { result ≡ Err Size → fits_next inner.new (Declaration.defined (raw_defined def.now)) ≡ false }
     ensures refuses { IfErr result IsMemoryOrSize }
 {
@@ -67,6 +68,7 @@ fn define_inside(inner: &mut InstanceType, def: &ComponentDefinedType) -> Result
 fn define_outside(outer: &mut ComponentType, def: &ComponentDefinedType) -> Result<u32, Error>
     ensures ok { IfOk result (λ i. (i ≡ type_slots_of outer.old) × (outer.new ≡ append outer.old (Declarations.declares (Declaration.defined (raw_defined def.now)) Declarations.no_more))) }
     ensures err { OnErr result (outer.new ≡ outer.old) }
+    ensures held { declaration_count outer.new ≤ declaration_count outer.old + 1 }
     ensures size { result ≡ Err Size → (fits_declaration (Declaration.defined (raw_defined def.now)) && fits_added outer.new 1) ≡ false }
     ensures refuses { IfErr result IsMemoryOrSize }
 {
@@ -78,6 +80,7 @@ fn define_outside(outer: &mut ComponentType, def: &ComponentDefinedType) -> Resu
 fn define_function_inside(inner: &mut InstanceType, def: &ComponentFuncType) -> Result<u32, Error>
     ensures ok { IfOk result (λ i. (i ≡ type_slots inner.old) × (inner.new ≡ inner.old ++ Declaration.function (raw_function def.now) ∷ [])) }
     ensures err { OnErr result (inner.new ≡ inner.old) }
+    ensures held { length inner.new ≤ length inner.old + 1 }
     ensures size { result ≡ Err Size → fits_next inner.new (Declaration.function (raw_function def.now)) ≡ false }
     ensures refuses { IfErr result IsMemoryOrSize }
 {
@@ -89,6 +92,7 @@ fn define_function_inside(inner: &mut InstanceType, def: &ComponentFuncType) -> 
 fn define_function_outside(outer: &mut ComponentType, def: &ComponentFuncType) -> Result<u32, Error>
     ensures ok { IfOk result (λ i. (i ≡ type_slots_of outer.old) × (outer.new ≡ append outer.old (Declarations.declares (Declaration.function (raw_function def.now)) Declarations.no_more))) }
     ensures err { OnErr result (outer.new ≡ outer.old) }
+    ensures held { declaration_count outer.new ≤ declaration_count outer.old + 1 }
     ensures size { result ≡ Err Size → (fits_declaration (Declaration.function (raw_function def.now)) && fits_added outer.new 1) ≡ false }
     ensures refuses { IfErr result IsMemoryOrSize }
 {
@@ -104,6 +108,7 @@ fn export_inside(
 ) -> Result<u32, Error>
     ensures ok { IfOk result (λ i. (i ≡ type_slots inner.old) × (inner.new ≡ inner.old ++ Declaration.exported (raw_name name.now) ty ∷ [])) }
     ensures err { OnErr result (inner.new ≡ inner.old) }
+    ensures held { length inner.new ≤ length inner.old + 1 }
     ensures size { result ≡ Err Size → fits_next inner.new (Declaration.exported (raw_name name.now) ty) ≡ false }
     ensures refuses { IfErr result IsMemoryOrSize }
 {
@@ -115,6 +120,7 @@ fn export_inside(
 fn alias_inside(inner: &mut InstanceType, slot: u32) -> Result<u32, Error>
     ensures ok { IfOk result (λ i. (i ≡ type_slots inner.old) × (inner.new ≡ inner.old ++ Declaration.alias_of (RawAlias.of_outer 1 slot) ∷ [])) }
     ensures err { OnErr result (inner.new ≡ inner.old) }
+    ensures held { length inner.new ≤ length inner.old + 1 }
     ensures size { result ≡ Err Size → fits_next inner.new (Declaration.alias_of (RawAlias.of_outer 1 slot)) ≡ false }
     ensures refuses { IfErr result IsMemoryOrSize }
 {
@@ -217,7 +223,7 @@ impl<'a> ValtypeEncoder<'a> for InterfaceEncoderOf<'a, TypeEncodingMaps<'a>> {
 
     ghost maps_in_view = { λ e. refl };
 
-    ghost view_with_maps = { λ e m. record { scope_ = refl; slot_count_ = refl; definitions_ = refl; kept = λ i s h. h; back = λ i s h. h } };
+    ghost view_with_maps = { λ e m. record { scope_ = refl; slot_count_ = refl; definitions_ = refl; held_ = refl; kept = λ i s h. h; back = λ i s h. h } };
 }
 
 impl<'a> InterfaceEncoderOf<'a, TypeEncodingMaps<'a>> {
@@ -227,8 +233,8 @@ impl<'a> InterfaceEncoderOf<'a, TypeEncodingMaps<'a>> {
     ghost use Rattle.wit_model.specs.Text.{text_of};
     ghost use Rattle.wit_model.specs.Meant.{function_meaning};
     ghost use Rattle.wit_model.specs.Valid.{IsValid};
-    ghost use Rattle.wit_encode.specs.View.{Agrees};
-    ghost use Rattle.wit_encode.specs.Leaves.{Leaves, CountsTypes, CountsFunctions};
+    ghost use Rattle.wit_encode.specs.View.{Agrees, HoldsMore, HoldsLearnt};
+    ghost use Rattle.wit_encode.specs.Leaves.{Leaves, CountsTypes, CountsFunctions, LacksRoom};
     ghost use Rattle.wit_encode.specs.Fits.{CanEncode};
     ghost use Rattle.wit_encode.specs.Counts.{names_defined};
     ghost use Rattle.std.specs.Set.{distinct_count};
@@ -240,9 +246,9 @@ impl<'a> InterfaceEncoderOf<'a, TypeEncodingMaps<'a>> {
     ghost use Rattle.std.specs.List.{flat_map};
     ghost use Rattle.wit_encode.specs.Exports.{AreTypesOf, AllKnown, KnowsUsed, UsesListed};
     ghost use Rattle.wit_model.specs.declared.model.«Type».TheVariants as ValueType;
-    ghost use Rattle.wit_encode.specs.Instance.{ShowsFunction, CanEncodeFunction, LacksRoomWithin, IsInstance, placed_function, meaning_of, own_of, known_of, declarations_in};
+    ghost use Rattle.wit_encode.specs.Instance.{ShowsFunction, CanEncodeFunction, IsInstance, placed_function, meaning_of, own_of, known_of, declarations_in};
     ghost use Rattle.wit_encode.specs.Encoders.{encoder_view, view_of, contents_in, shown_as, scope_within, GoesOn, UsedAround, EncodesAs, LacksInstance};
-    ghost use Rattle.wit_encode.specs.Room.{export_name, LacksType, LacksPartOf};
+    ghost use Rattle.wit_encode.specs.Room.{export_name, function_requests, HasNoRoom};
     ghost use Rattle.wit_encode.specs.Maps.{MapsGrow};
 
     /// An encoder with an empty component type. Takes constant time and no memory.
@@ -277,6 +283,7 @@ impl<'a> InterfaceEncoderOf<'a, TypeEncodingMaps<'a>> {
         ensures resolve { self.new.resolve ≡ self.old.resolve }
         ensures outer { self.new.outer ≡ self.old.outer }
         ensures maps { self.new.maps ≡ self.old.maps }
+        ensures held { HoldsMore 1 (encoder_view self.old) (encoder_view self.new) }
         ensures size { result ≡ Err Size → (encoder_view self.new).lacks_room (export_name (raw_name name.entry)) }
         ensures refuses { IfErr result IsMemoryOrSize }
     {
@@ -311,7 +318,8 @@ impl<'a> InterfaceEncoderOf<'a, TypeEncodingMaps<'a>> {
         ensures maps_grow { MapsGrow self.old.maps self.new.maps }
         ensures types_stay { OnOk result ((view_of resolve.now self.new).definitions.exports ≡ (view_of resolve.now self.old).definitions.exports) }
         ensures names_stay { OnOk result (names_defined resolve.now (view_of resolve.now self.old).scope self.new.maps ≡ names_defined resolve.now (view_of resolve.now self.old).scope self.old.maps) }
-        ensures size { result ≡ Err Size → LacksPartOf resolve.now (encoder_view self.new).lacks_room ((text_of name.now, func.now) ∷ []) }
+        ensures held { OnOk result (HoldsLearnt 2 (encoder_view self.old) (encoder_view self.new)) }
+        ensures size { result ≡ Err Size → LacksRoom resolve.now (function_types func.now) (function_requests resolve.now (text_of name.now, func.now)) (encoder_view self.old) (encoder_view self.new) }
         ensures refuses { IfErr result IsMemoryOrSize }
     {
         let index = encode_func_type(alloc, self, resolve, func)?;
@@ -339,7 +347,8 @@ impl<'a> InterfaceEncoderOf<'a, TypeEncodingMaps<'a>> {
         ensures learns { OnOk result (LearnsFrom resolve.now (own_of self.old.inner) (flat_map function_types (map (λ f. f.2.now) functions.now)) self.old.maps self.new.maps) }
         ensures types_stay { OnOk result ((view_of resolve.now self.new).definitions.exports ≡ (view_of resolve.now self.old).definitions.exports) }
         ensures names_stay { OnOk result (names_defined resolve.now (view_of resolve.now self.old).scope self.new.maps ≡ names_defined resolve.now (view_of resolve.now self.old).scope self.old.maps) }
-        ensures size { result ≡ Err Size → LacksPartOf resolve.now (encoder_view self.new).lacks_room (map placed_function functions.now) }
+        ensures held { OnOk result (HoldsLearnt (2 * length functions.now) (encoder_view self.old) (encoder_view self.new)) }
+        ensures size { result ≡ Err Size → LacksRoom resolve.now (flat_map function_types (map (λ f. f.2.now) functions.now)) (flat_map (function_requests resolve.now) (map placed_function functions.now)) (encoder_view self.old) (encoder_view self.new) }
         ensures refuses { IfErr result IsMemoryOrSize }
     {
         for entry in functions {
@@ -369,7 +378,8 @@ impl<'a> InterfaceEncoderOf<'a, TypeEncodingMaps<'a>> {
         ensures known { OnOk result (AllKnown self.new.maps types.now) }
         ensures exported { OnOk result ((encoder_view self.new).definitions.exports ≡ declarations_in resolve.now (own_of self.old.inner)) }
         ensures defined { OnOk result (names_defined resolve.now (encoder_view self.old).scope self.new.maps ≡ distinct_count nat_eq (defined_under_names resolve.now (own_of self.old.inner) types.now)) }
-        ensures size { result ≡ Err Size → LacksType resolve.now (encoder_view self.new).lacks_room }
+        ensures held { OnOk result (HoldsLearnt 0 (encoder_view self.old) (encoder_view self.new)) }
+        ensures size { result ≡ Err Size → LacksRoom resolve.now (map (λ t. ValueType.Id t) types.now) [] (encoder_view self.old) (encoder_view self.new) }
         ensures refuses { IfErr result IsMemoryOrSize }
     {
         for id in types {
@@ -405,7 +415,7 @@ impl<'a> InterfaceEncoderOf<'a, TypeEncodingMaps<'a>> {
         ensures learns { OnOk result (LearnsFrom resolve.now (own_of self.old.inner) (referred types.now (map (λ f. f.2.now) functions.now)) self.old.maps self.new.maps) }
         ensures exported { OnOk result ((view_of resolve.now self.new).definitions.exports ≡ declarations_in resolve.now (own_of self.old.inner)) }
         ensures defined { OnOk result (names_defined resolve.now (view_of resolve.now self.old).scope self.new.maps ≡ distinct_count nat_eq (defined_under_names resolve.now (own_of self.old.inner) types.now)) }
-        ensures size { result ≡ Err Size → LacksPartOf resolve.now (encoder_view self.new).lacks_room (map placed_function functions.now) }
+        ensures size { result ≡ Err Size → LacksRoom resolve.now (referred types.now (map (λ f. f.2.now) functions.now)) (flat_map (function_requests resolve.now) (map placed_function functions.now)) (encoder_view self.old) (encoder_view self.new) }
         ensures refuses { IfErr result IsMemoryOrSize }
     {
         self.encode_types(alloc, resolve, types)?;
@@ -433,7 +443,7 @@ impl<'a> InterfaceEncoderOf<'a, TypeEncodingMaps<'a>> {
         ensures ok { IfOk result (λ ds. IsInstance self.old.resolve.now self.old.outer interface ds (map (λ f. meaning_of self.old.resolve.now (placed_function f)) functions.now)) }
         ensures function_types { IfOk result (DefinesKeys (map (λ f. f.2.now) functions.now)) }
         ensures value_types { IfOk result (DefinesTypes self.old.resolve.now interface types.now (map (λ f. f.2.now) functions.now)) }
-        ensures size { result ≡ Err Size → LacksRoomWithin self.old.resolve.now self.old.outer interface (map placed_function functions.now) }
+        ensures size { result ≡ Err Size → HasNoRoom self.old.resolve.now (Some interface) (referred types.now (map (λ f. f.2.now) functions.now)) (flat_map (function_requests self.old.resolve.now) (map placed_function functions.now)) }
         ensures refuses { IfErr result IsMemoryOrSize }
     {
         let resolve = self.resolve;
@@ -475,8 +485,9 @@ impl<'a> InterfaceEncoderOf<'a, TypeEncodingMaps<'a>> {
     ///
     /// Of each interface that it uses, an instance stands in the component type, and each of its types is in `outer_type_map`, with the slot
     /// of its name there. An interface that uses no other, as `stands_alone` tests, asks for nothing. No instance stands by this call alone.
-    /// After a refusal the encoder is as it was. `Size` comes only where a type of the packages, or a function of the interface, has no room
-    /// behind declarations of an instance type that can be followed, or where the component type has none for one more instance type.
+    /// After a refusal the encoder is as it was. `Size` comes only where a type that is met from the interface, or a function of it, doesn't
+    /// fit in 32 bits by itself, where there are too many of them (two declarations for each type number that is met, each once, and two for
+    /// each function), or where the component type has no room for one more instance type.
     ///
     /// Takes as long as encoding the types and functions and sorting the functions.
     pub fn encode_instance(&mut self, alloc: Global, interface: InterfaceId) -> Result<u32, Error>

@@ -1,4 +1,4 @@
-use Rattle.std.proofs.Common.{◌≡◌, sym, subst, ap, ◌∙◌, ◌++◌, ◌∷◌, [], List, map, Option, Some, rules}
+use Rattle.std.proofs.Common.{◌≡◌, sym, subst, ap, ◌∙◌, ◌++◌, ◌∷◌, [], List, map, Option, Some, rules, refl, arith, length}
 use Rattle.wit_model.specs.declared.model.«Type».TheVariants as ty
 use Rattle.wit_model.specs.declared.model.Function.{Function}
 use Rattle.wit_encode.specs.declared.maps.TypeEncodingMaps.{TypeEncodingMaps}
@@ -9,7 +9,7 @@ use Rattle.wit_encode.specs.Instance.{encoder_scope, contents_of, definitions_wi
 use Rattle.wit_encode.proofs.Referring.{interface-kinds}
 use Rattle.wit_encode.proofs.Opening.{closed-instance, closed-outer, closed-known, opened-exports, opened-with}
 use Rattle.wit_encode.proofs.Counting.{Began, Counted, closed-counts}
-use Rattle.wit_encode.proofs.Refusing.{refused-within}
+use Rattle.wit_encode.proofs.Refusing.{no-room}
 use Rattle.wit_encode.proofs.interface.InterfaceEncoderOf+TypeEncodingMaps.encode_inside.Goals as goal
 use Rattle.wit_encode.proofs.interface.InterfaceEncoderOf+TypeEncodingMaps.encode_inside.Goals.{After-new-3, In-Some, In_ok-outcome-in-Some}
 
@@ -88,7 +88,4 @@ encode_parts-outcome-requires-clause-unshown c =
     (opened-exports c.args.self.now.resolve.now c.args.self.now.outer c.args.interface c.args.self.now.outer_type_map)
 
 pub returns-in_err-outcome-in-Some-clause-size : goal.returns-in_err-outcome-in-Some-clause-size
-returns-in_err-outcome-in-Some-clause-size c = λ h.
-    let after = c.encode_parts-outcome.new.self in
-    refused-within c.args.self.now.resolve.now after.resolve.now c.args.self.now.outer after.outer c.args.interface c.args.self.now.outer_type_map after.inner c.in-Some.current _ _ _ (sym c.replace-inner.ensures.value ∙ c.in-Some.is)
-    c.encode_parts-outcome.ensures.inside (continued (goal.at.returns-in_err-outcome-in-Some-clause-size c).In-Some) c.encode_parts-outcome.ensures.packages (c.encode_parts-outcome.ensures.size (search rules))
+returns-in_err-outcome-in-Some-clause-size c = λ h. no-room refl (ap length c.new-3.ensures) (omega arith) (c.encode_parts-outcome.ensures.size (search rules))

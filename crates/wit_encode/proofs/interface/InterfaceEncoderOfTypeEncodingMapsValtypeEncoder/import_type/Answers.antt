@@ -4,7 +4,7 @@ use Rattle.wit_encode.specs.Known.{known_slot}
 use Rattle.wit_encode.specs.Scope.{IsImportable}
 use Rattle.wit_encode.specs.Instance.{encoder_scope}
 use Rattle.wit_encode.proofs.Importing.{ImportsTo, imported, imported-stands, open-known, none-outside}
-use Rattle.wit_encode.specs.Instance.{for_import}
+use Rattle.wit_encode.proofs.Refusing.{alias-inside, held-inside}
 use Rattle.wit_encode.proofs.interface.InterfaceEncoderOfTypeEncodingMapsValtypeEncoder.import_type.Goals as goal
 use Rattle.wit_encode.proofs.interface.InterfaceEncoderOfTypeEncodingMapsValtypeEncoder.import_type.Goals.{After-alias_inside}
 
@@ -33,4 +33,7 @@ pub returns-clause-counts : goal.returns-clause-counts
 returns-clause-counts c = (imports c).counted
 
 pub returns-clause-size : goal.returns-clause-size
-returns-clause-size c = λ h. for_import c.args.id.0 c.in-Some-slot_around.slot (c.alias_inside.ensures.size h)
+returns-clause-size c = λ h. alias-inside c.alias_inside.new.inner c.args.id.0 c.in-Some-slot_around.slot (c.alias_inside.ensures.size h)
+
+pub returns-clause-held : goal.returns-clause-held
+returns-clause-held c = held-inside c.args.self.now.outer c.args.self.now.inner c.in-Some.current c.alias_inside.new.inner c.in-Some.is c.alias_inside.ensures.held
