@@ -24,6 +24,8 @@ pub mod Outside
 pub mod Within
 pub mod Refusing
 pub mod Rooms
+pub mod Reached
+pub mod Weighing
 pub mod ShowFunctions
 pub mod Continuing
 pub mod Counting

@@ -123,11 +123,11 @@ labels-fit {T} {B} R label same xs ys z =
     fits-by : (ls : List (Labeled T)) → fits_labels ls ≡ fits_names (map (λ (x : Labeled T). x.label) ls)
     fits-by ls = λ i. nat_lt (count-by ls i) (2 ^ 32) && each-by ls i
 
-map-twice : {A B C : Type 0} (f : B → C) (g : A → B) (xs : List A) → map f (map g xs) ≡ map (λ x. f (g x)) xs
+pub map-twice : {A B C : Type 0} (f : B → C) (g : A → B) (xs : List A) → map f (map g xs) ≡ map (λ x. f (g x)) xs
 map-twice f g [] = refl
 map-twice f g (x ∷ xs) = ap (λ ys. f (g x) ∷ ys) (map-twice f g xs)
 
-listed : (ts : List Tree) → child_list (children ts) ≡ ts
+pub listed : (ts : List Tree) → child_list (children ts) ≡ ts
 listed [] = refl
 listed (t ∷ ts) = ap (λ xs. t ∷ xs) (listed ts)
 

@@ -1,5 +1,8 @@
 -- What a call leaves, also where it is refused, and what it has learnt and defined.
-use Rattle.std.specs.Prelude.{ℕ, ◌≡◌, Bool, List}
+use Rattle.std.specs.Prelude.{ℕ, ◌≡◌, Bool, List, [], ◌∷◌}
+use Rattle.wit_model.specs.Meant.{signature_of}
+use Rattle.wit_model.specs.Parts.{function_types}
+use Rattle.wit_model.specs.declared.model.TypeDefKind.{TypeDefKind}
 use Rattle.wit_model.specs.declared.model.Resolve.{Resolve}
 use Rattle.wit_model.specs.declared.model.«Type».{«Type» as ValueType}
 use Rattle.wit_model.specs.declared.model.Function.{Function}
@@ -8,7 +11,8 @@ use Rattle.wit_encode.specs.MetKinds.{Learns, LearnsMet}
 use Rattle.wit_encode.specs.Maps.{MapsGrow}
 use Rattle.wit_encode.specs.Counts.{one_type_more, type_more_if, AddsTypes, AddsFunction}
 use Rattle.wit_encode.specs.Distinct.{AddsFunctions}
-use Rattle.wit_encode.specs.Room.{Request, FindsNoRoom}
+use Rattle.wit_encode.specs.Kinds.{parts_of, kind_tree}
+use Rattle.wit_encode.specs.Room.{Request, value_type, function_type, FindsNoRoom}
 use Rattle.wit_encode.specs.View.{View, Agrees, Grows}
 
 -- The maps agree with the slots and have lost no entry, old slots stand for what they did, and the surroundings are the same.
@@ -29,6 +33,13 @@ LearnsParts r v v' = Learns r v.scope.own_interface v.maps v'.maps
 -- a part of a type that is met from these, or one of these requests, has no room, and not much more is held than was
 abbrev pub LacksRoom : Resolve → List ValueType → List Request → View → View → Type 0
 LacksRoom r ts requests v v' = FindsNoRoom r v.scope.own_interface ts requests v.maps v.held v'.held v'.lacks_room
+
+-- the same of the parts of a kind and its definition, and of the types of a function and its own
+abbrev pub KindLacksRoom : Resolve → TypeDefKind → View → View → Type 0
+KindLacksRoom r kind v v' = LacksRoom r (parts_of kind) (value_type (kind_tree r kind) ∷ []) v v'
+
+abbrev pub FunctionLacksRoom : Resolve → Function → View → View → Type 0
+FunctionLacksRoom r f v v' = LacksRoom r (function_types f) (function_type (signature_of r f) ∷ []) v v'
 
 -- what has been defined is what the maps have learnt, and no type of a function is among it
 abbrev pub CountsTypes : Resolve → View → View → Type 0

@@ -26,7 +26,7 @@ ghost use Rattle.wit_encode.specs.Formed.{IsFormed};
 ghost use Rattle.wit_encode.specs.Counts.{one_type_more};
 ghost use Rattle.wit_encode.specs.Room.{value_type, import_of};
 ghost use Rattle.wit_encode.specs.View.{Agrees, Grows, HoldsMore, HoldsLearnt};
-ghost use Rattle.wit_encode.specs.Leaves.{Leaves, LearnsFrom, CountsTypes, CountsOneMore, DefinesIf, LacksRoom};
+ghost use Rattle.wit_encode.specs.Leaves.{Leaves, LearnsFrom, CountsTypes, CountsOneMore, DefinesIf, LacksRoom, KindLacksRoom};
 
 use crate::define::{define_parts, define_shape};
 use crate::definition::{case_names, flag_names};
@@ -57,7 +57,7 @@ fn encode_shape<'a, E: ValtypeEncoder<'a>>(
     ensures leaves { Leaves resolve.now (E.view enc.old) (E.view enc.new) }
     ensures counts { OnOk result (CountsOneMore resolve.now (E.view enc.old) (E.view enc.new)) }
     ensures held { OnOk result (HoldsLearnt 1 (E.view enc.old) (E.view enc.new)) }
-    ensures size { result ≡ Err Size → LacksRoom resolve.now (parts_of (kind_of shape.entry)) (value_type (kind_tree resolve.now (kind_of shape.entry)) ∷ []) (E.view enc.old) (E.view enc.new) }
+    ensures size { result ≡ Err Size → KindLacksRoom resolve.now (kind_of shape.entry) (E.view enc.old) (E.view enc.new) }
     ensures refuses { IfErr result IsMemoryOrSize }
 {
     let parts = shape_parts(alloc, shape)?;
@@ -163,7 +163,7 @@ pub fn encode_record<'a, E: ValtypeEncoder<'a>>(
     ensures leaves { Leaves resolve.now (E.view enc.old) (E.view enc.new) }
     ensures counts { OnOk result (CountsOneMore resolve.now (E.view enc.old) (E.view enc.new)) }
     ensures held { OnOk result (HoldsLearnt 1 (E.view enc.old) (E.view enc.new)) }
-    ensures size { result ≡ Err Size → LacksRoom resolve.now (parts_of (TypeDefKind.Record ty.now)) (value_type (kind_tree resolve.now (TypeDefKind.Record ty.now)) ∷ []) (E.view enc.old) (E.view enc.new) }
+    ensures size { result ≡ Err Size → KindLacksRoom resolve.now (TypeDefKind.Record ty.now) (E.view enc.old) (E.view enc.new) }
     ensures refuses { IfErr result IsMemoryOrSize }
 {
     encode_shape(alloc, enc, resolve, Shape::Record(ty))
@@ -186,7 +186,7 @@ pub fn encode_tuple<'a, E: ValtypeEncoder<'a>>(
     ensures leaves { Leaves resolve.now (E.view enc.old) (E.view enc.new) }
     ensures counts { OnOk result (CountsOneMore resolve.now (E.view enc.old) (E.view enc.new)) }
     ensures held { OnOk result (HoldsLearnt 1 (E.view enc.old) (E.view enc.new)) }
-    ensures size { result ≡ Err Size → LacksRoom resolve.now (parts_of (TypeDefKind.Tuple ty.now)) (value_type (kind_tree resolve.now (TypeDefKind.Tuple ty.now)) ∷ []) (E.view enc.old) (E.view enc.new) }
+    ensures size { result ≡ Err Size → KindLacksRoom resolve.now (TypeDefKind.Tuple ty.now) (E.view enc.old) (E.view enc.new) }
     ensures refuses { IfErr result IsMemoryOrSize }
 {
     encode_shape(alloc, enc, resolve, Shape::Tuple(ty))
@@ -209,7 +209,7 @@ pub fn encode_variant<'a, E: ValtypeEncoder<'a>>(
     ensures leaves { Leaves resolve.now (E.view enc.old) (E.view enc.new) }
     ensures counts { OnOk result (CountsOneMore resolve.now (E.view enc.old) (E.view enc.new)) }
     ensures held { OnOk result (HoldsLearnt 1 (E.view enc.old) (E.view enc.new)) }
-    ensures size { result ≡ Err Size → LacksRoom resolve.now (parts_of (TypeDefKind.Variant ty.now)) (value_type (kind_tree resolve.now (TypeDefKind.Variant ty.now)) ∷ []) (E.view enc.old) (E.view enc.new) }
+    ensures size { result ≡ Err Size → KindLacksRoom resolve.now (TypeDefKind.Variant ty.now) (E.view enc.old) (E.view enc.new) }
     ensures refuses { IfErr result IsMemoryOrSize }
 {
     encode_shape(alloc, enc, resolve, Shape::Variant(ty))
@@ -232,7 +232,7 @@ pub fn encode_result<'a, E: ValtypeEncoder<'a>>(
     ensures leaves { Leaves resolve.now (E.view enc.old) (E.view enc.new) }
     ensures counts { OnOk result (CountsOneMore resolve.now (E.view enc.old) (E.view enc.new)) }
     ensures held { OnOk result (HoldsLearnt 1 (E.view enc.old) (E.view enc.new)) }
-    ensures size { result ≡ Err Size → LacksRoom resolve.now (parts_of (TypeDefKind.Result ty.now)) (value_type (kind_tree resolve.now (TypeDefKind.Result ty.now)) ∷ []) (E.view enc.old) (E.view enc.new) }
+    ensures size { result ≡ Err Size → KindLacksRoom resolve.now (TypeDefKind.Result ty.now) (E.view enc.old) (E.view enc.new) }
     ensures refuses { IfErr result IsMemoryOrSize }
 {
     encode_shape(alloc, enc, resolve, Shape::Result(ty))
@@ -255,7 +255,7 @@ pub fn encode_option<'a, E: ValtypeEncoder<'a>>(
     ensures leaves { Leaves resolve.now (E.view enc.old) (E.view enc.new) }
     ensures counts { OnOk result (CountsOneMore resolve.now (E.view enc.old) (E.view enc.new)) }
     ensures held { OnOk result (HoldsLearnt 1 (E.view enc.old) (E.view enc.new)) }
-    ensures size { result ≡ Err Size → LacksRoom resolve.now (parts_of (TypeDefKind.Option payload.now)) (value_type (kind_tree resolve.now (TypeDefKind.Option payload.now)) ∷ []) (E.view enc.old) (E.view enc.new) }
+    ensures size { result ≡ Err Size → KindLacksRoom resolve.now (TypeDefKind.Option payload.now) (E.view enc.old) (E.view enc.new) }
     ensures refuses { IfErr result IsMemoryOrSize }
 {
     encode_shape(alloc, enc, resolve, Shape::Option(*payload))
@@ -278,7 +278,7 @@ pub fn encode_future<'a, E: ValtypeEncoder<'a>>(
     ensures leaves { Leaves resolve.now (E.view enc.old) (E.view enc.new) }
     ensures counts { OnOk result (CountsOneMore resolve.now (E.view enc.old) (E.view enc.new)) }
     ensures held { OnOk result (HoldsLearnt 1 (E.view enc.old) (E.view enc.new)) }
-    ensures size { result ≡ Err Size → LacksRoom resolve.now (parts_of (TypeDefKind.Future payload.now)) (value_type (kind_tree resolve.now (TypeDefKind.Future payload.now)) ∷ []) (E.view enc.old) (E.view enc.new) }
+    ensures size { result ≡ Err Size → KindLacksRoom resolve.now (TypeDefKind.Future payload.now) (E.view enc.old) (E.view enc.new) }
     ensures refuses { IfErr result IsMemoryOrSize }
 {
     encode_shape(alloc, enc, resolve, Shape::Future(*payload))
@@ -301,7 +301,7 @@ pub fn encode_stream<'a, E: ValtypeEncoder<'a>>(
     ensures leaves { Leaves resolve.now (E.view enc.old) (E.view enc.new) }
     ensures counts { OnOk result (CountsOneMore resolve.now (E.view enc.old) (E.view enc.new)) }
     ensures held { OnOk result (HoldsLearnt 1 (E.view enc.old) (E.view enc.new)) }
-    ensures size { result ≡ Err Size → LacksRoom resolve.now (parts_of (TypeDefKind.Stream payload.now)) (value_type (kind_tree resolve.now (TypeDefKind.Stream payload.now)) ∷ []) (E.view enc.old) (E.view enc.new) }
+    ensures size { result ≡ Err Size → KindLacksRoom resolve.now (TypeDefKind.Stream payload.now) (E.view enc.old) (E.view enc.new) }
     ensures refuses { IfErr result IsMemoryOrSize }
 {
     encode_shape(alloc, enc, resolve, Shape::Stream(*payload))

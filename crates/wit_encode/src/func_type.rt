@@ -1,6 +1,6 @@
 //! Encodes the types of functions by any encoder that keeps the law.
 
-ghost use Rattle.std.specs.Prelude.{◌≡◌, ◌∷◌, [], Err, IfOk, OnOk, IfErr};
+ghost use Rattle.std.specs.Prelude.{◌≡◌, [], Err, IfOk, OnOk, IfErr};
 ghost use Rattle.comp_bytes.specs.Refusal.{IsMemoryOrSize};
 ghost use Rattle.wit_model.specs.declared.error.Error.TheVariants.{Size};
 ghost use Rattle.wit_model.specs.Meant.{signature_of};
@@ -10,9 +10,8 @@ ghost use Rattle.wit_encode.specs.Key.{IsKeyOf};
 ghost use Rattle.wit_encode.specs.Maps.{AllReady, LacksKey};
 ghost use Rattle.wit_encode.specs.Fits.{CanEncode};
 ghost use Rattle.wit_encode.specs.Formed.{IsFormedSignature};
-ghost use Rattle.wit_encode.specs.Room.{function_type};
 ghost use Rattle.wit_encode.specs.View.{Agrees, HoldsLearnt};
-ghost use Rattle.wit_encode.specs.Leaves.{Leaves, LearnsFrom, CountsTypes, CountsFunction, LacksRoom};
+ghost use Rattle.wit_encode.specs.Leaves.{Leaves, LearnsFrom, CountsTypes, CountsFunction, LacksRoom, FunctionLacksRoom};
 ghost use Rattle.wit_encode.specs.declared.key.FunctionKey.{FunctionKey as KeyValue};
 
 use crate::encode::{encode_optional_valtype, encode_params};
@@ -70,7 +69,7 @@ fn define_key<'a, E: ValtypeEncoder<'a>>(
     ensures leaves { Leaves resolve.now (E.view enc.old) (E.view enc.new) }
     ensures counts { IfOk result (CountsFunction resolve.now (E.view enc.old) (E.view enc.new) key.entry) }
     ensures held { OnOk result (HoldsLearnt 1 (E.view enc.old) (E.view enc.new)) }
-    ensures size { result ≡ Err Size → LacksRoom resolve.now (function_types func.now) (function_type (signature_of resolve.now func.now) ∷ []) (E.view enc.old) (E.view enc.new) }
+    ensures size { result ≡ Err Size → FunctionLacksRoom resolve.now func.now (E.view enc.old) (E.view enc.new) }
     ensures refuses { IfErr result IsMemoryOrSize }
 {
     let def = function_of(alloc, enc, resolve, func, key.async_)?;
@@ -96,7 +95,7 @@ pub fn encode_func_type<'a, E: ValtypeEncoder<'a>>(
     ensures leaves { Leaves resolve.now (E.view enc.old) (E.view enc.new) }
     ensures counts { IfOk result (λ i. (key : KeyValue) × IsKeyOf key func.now × CountsFunction resolve.now (E.view enc.old) (E.view enc.new) key i) }
     ensures held { OnOk result (HoldsLearnt 1 (E.view enc.old) (E.view enc.new)) }
-    ensures size { result ≡ Err Size → LacksRoom resolve.now (function_types func.now) (function_type (signature_of resolve.now func.now) ∷ []) (E.view enc.old) (E.view enc.new) }
+    ensures size { result ≡ Err Size → FunctionLacksRoom resolve.now func.now (E.view enc.old) (E.view enc.new) }
     ensures refuses { IfErr result IsMemoryOrSize }
 {
     let key = key_of(func);
