@@ -266,7 +266,7 @@ functions-counted {r} {s} {s'} {a} {b} {c} {d} {e} {f} view xs i x l is own p q 
 
 -- ---- which named types have been defined
 
-contains-filter : {X : Type 0} (p : X → Bool) (xs : List X) (x : X) → p x ≡ true → Contains xs x → Contains (filter p xs) x
+pub contains-filter : {X : Type 0} (p : X → Bool) (xs : List X) (x : X) → p x ≡ true → Contains xs x → Contains (filter p xs) x
 contains-filter p [] x h (i, l, e) = absurd (omega (arith, l))
 contains-filter p (y ∷ xs) x h (zero, l, e) = subst (λ zs. Contains zs x) (sym (cond-true _ _ _ (ap p e ∙ h))) (0, omega arith, e)
 contains-filter p (y ∷ xs) x h (suc i, l, e) =
@@ -283,7 +283,7 @@ first-or-later : {X : Type 0} (y : X) (xs zs : List X) (x : X) → (Contains zs 
 first-or-later y xs zs x f (zero, l, e) = (0, omega arith, e)
 first-or-later y xs zs x f (suc i, l, e) = later y xs x (f (i, omega (arith, l), e))
 
-from-filter : {X : Type 0} (p : X → Bool) (xs : List X) (x : X) → Contains (filter p xs) x → Contains xs x
+pub from-filter : {X : Type 0} (p : X → Bool) (xs : List X) (x : X) → Contains (filter p xs) x → Contains xs x
 from-filter p [] x c = c
 from-filter p (y ∷ xs) x c =
     elim (cases_Bool (p y)) [

@@ -25,6 +25,9 @@ pub mod Wider
 pub mod Outside
 pub mod Within
 pub mod Refusing
+pub mod Rooms
+pub mod Reached
+pub mod Weighing
 pub mod ShowFunctions
 pub mod Continuing
 pub mod Counting

@@ -1,102 +1,264 @@
 -- What has no room in an encoder of interfaces, where a call has refused it.
-use Rattle.std.proofs.Common.{◌≡◌, sym, subst, ap, ◌∙◌, ◌&&◌, ℕ, zero, suc, true, false, refl, arith, List, [], ◌∷◌, Contains, Result, Ok, Err, OnErr, Option, Some, None}
-use Rattle.std.specs.List.{list_all}
-use Rattle.wit_encode.specs.declared.interface.Foreign.{Foreign}
-use Rattle.wit_model.specs.Text.{Text, optional_text}
-use Rattle.wit_model.specs.Lookup.{place_of}
-use Rattle.wit_model.specs.declared.model.Function.{Function}
-use Rattle.wit_model.specs.declared.model.InterfaceId.{InterfaceId}
-use Rattle.wit_model.specs.declared.model.TypeOwner.TheVariants as owner
-use Rattle.wit_model.proofs.Lists.{first_true}
-use Rattle.wit_model.specs.Tree.{Tree}
+use Rattle.std.proofs.Common.{◌≡◌, refl, sym, subst, ap, ◌∙◌, ◌&&◌, ℕ, ◌+◌, ◌*◌, ◌<◌, ◌≤◌, ◌^◌, ◌⊎◌, inl, inr, suc, Bool, true, false, nat_lt, arith, List, [], ◌∷◌, ◌++◌, map, length, length-append, Result, Ok, Err, OnOk, OnErr, Option, Some, None, String}
+use Rattle.std.specs.List.{list_all, AllZip, flat_map}
+use Rattle.std.specs.Borrow.{Bor}
+use Rattle.std.specs.declared.alloc.Global.{Global}
+use Rattle.std.proofs.lemmas.Bool.{lt-ltb, ltb-true, ltb-false}
+use Rattle.wit_model.specs.Text.{Text, optional_text, text_of as text_at}
+use Rattle.wit_model.specs.Tree.{Tree, children, child_list}
 use Rattle.wit_model.specs.Meaning.{Signature}
 use Rattle.wit_model.specs.declared.error.Error.{Error}
 use Rattle.wit_model.specs.declared.error.Error.TheVariants as errors
 use Rattle.wit_model.specs.declared.model.Resolve.{Resolve}
+use Rattle.wit_model.specs.declared.model.Function.{Function}
+use Rattle.wit_model.specs.declared.model.InterfaceId.{InterfaceId}
+use Rattle.wit_model.specs.declared.model.«Type».{«Type» as ValueType}
 use Rattle.comp_bytes.specs.declared.forms.ComponentDefinedType.{ComponentDefinedType}
+use Rattle.comp_bytes.specs.declared.forms.ComponentDefinedType.TheVariants as form
 use Rattle.comp_bytes.specs.declared.forms.ComponentFuncType.{ComponentFuncType}
-use Rattle.comp_bytes.specs.Raw.{Declaration, Declarations, ExternName}
-use Rattle.comp_bytes.specs.RawOf.{raw_defined, raw_function}
-use Rattle.comp_bytes.specs.Held.{fits_next, fits_added}
-use Rattle.comp_bytes.specs.Fits.{fits_declaration}
+use Rattle.comp_bytes.specs.declared.forms.ComponentTypeRef.{ComponentTypeRef}
+use Rattle.comp_bytes.specs.declared.forms.ComponentTypeRef.TheVariants as refs
+use Rattle.comp_bytes.specs.Raw.{Alias, Declaration, Declarations, ExternName, Labeled, append, declaration_count}
+use Rattle.comp_bytes.specs.RawOf.{raw_defined, raw_function, labeled, text_of}
+use Rattle.comp_bytes.specs.Held.{described_slots, declaration_slots, type_slots, type_slots_of, fits_counts, fits_next, fits_added}
+use Rattle.comp_bytes.specs.Fits.{fits_length, fits_label, fits_labels, fits_names, fits_defined, fits_declaration}
 use Rattle.wit_encode.specs.declared.interface.OpenInterface.{OpenInterface}
-use Rattle.wit_encode.specs.Slots.{Follows, FollowsFunction}
 use Rattle.wit_encode.specs.declared.maps.TypeEncodingMaps.{TypeEncodingMaps}
-use Rattle.wit_encode.specs.Scope.{Scope}
-use Rattle.wit_encode.specs.Room.{Refusals, value_type, function_type, function_name, LacksPartOf, a_type, a_function_type, a_function_name}
-use Rattle.wit_encode.specs.Instance.{Contents, Continues, around_at, LacksRoomWithin, contents_of, encoder_scope, inner_contents, is_slot_of, opened, own_of, resources_in, stands_in, fits_behind, lacks_room_in, lacks_room_behind, for_value_type, for_function_type}
-use Rattle.wit_encode.proofs.Opening.{closed-around, opened-sound}
+use Rattle.wit_encode.specs.Slots.{Pairs, StandsFor, NamedStands, CaseStands, Follows, FollowsFunction, texts}
+use Rattle.wit_encode.specs.Room.{Request, IsUnfit, LacksRoomBehind, its_definition, its_name, its_import, LacksOne, a_type, a_request, FindsNoRoom, HasNoRoom, fits_tree, fits_type_name, limit, value_type, function_type, export_name, import_of, function_name, function_requests}
+use Rattle.wit_model.specs.declared.model.TypeId.{TypeId}
+use Rattle.wit_model.specs.Meant.{type_meaning}
+use Rattle.wit_encode.specs.Scope.{exported_name}
+use Rattle.wit_encode.specs.Kinds.{kind_tree}
+use Rattle.wit_encode.specs.MetKinds.{ReachedFrom, referred}
+use Rattle.wit_encode.specs.Instance.{held_in, lacks_room_in, placed_function}
 
 pub on-size : {A : Type 0} (res : Result A Error) (P : Type 0) → OnErr res P → res ≡ Err errors.Size → P
 on-size (Ok x) P p h = absurd (let z : ⊥ = cc in z)
 on-size (Err e) P p h = p
 
-module _ (res : Result ℕ Error) (r : Resolve) (outer : Declarations) (inner : Option OpenInterface) where
-  module _ (current : OpenInterface) (ds' : List Declaration) (is : inner ≡ Some current) (err : OnErr res (ds' ≡ current.declared)) (refused : res ≡ Err errors.Size) where
-    abbrev next : Option OpenInterface
-    next = Some (record current { declared = ds' })
+-- ---- what doesn't fit, or isn't the last
 
-    same-inner : inner ≡ next
-    same-inner = is ∙ (λ i. Some (record current { declared = sym (on-size res (ds' ≡ current.declared) err refused) i }))
+described-one : (d : ComponentTypeRef) → described_slots d ≤ 1
+described-one (refs.TypeEq n) = omega arith
+described-one refs.SubResource = omega arith
+described-one (refs.Func n) = omega arith
+described-one (refs.Component n) = omega arith
+described-one (refs.Instance n) = omega arith
 
-    pub value-inside : (d : ComponentDefinedType) → (res ≡ Err errors.Size → fits_next ds' (Declaration.defined (raw_defined d)) ≡ false)
-        → (t : Tree) → Follows (stands_in r outer inner) d t → lacks_room_in r outer next (value_type t)
-    value-inside d size t f = for_value_type t d (subst (λ (o : Option OpenInterface). Follows (stands_in r outer o) d t) same-inner f) (size refused)
+slots-one : (d : Declaration) → declaration_slots d ≤ 1
+slots-one (Declaration.defined d) = omega arith
+slots-one (Declaration.function f) = omega arith
+slots-one (Declaration.alias_of a) = omega arith
+slots-one (Declaration.imported name described) = described-one described
+slots-one (Declaration.exported name described) = described-one described
 
-    pub function-inside : (d : ComponentFuncType) → (res ≡ Err errors.Size → fits_next ds' (Declaration.function (raw_function d)) ≡ false)
-        → (s : Signature) → FollowsFunction (stands_in r outer inner) d s → lacks_room_in r outer next (function_type s)
-    function-inside d size s f = for_function_type s d (subst (λ (o : Option OpenInterface). FollowsFunction (stands_in r outer o) d s) same-inner f) (size refused)
+slots-few : (ds : List Declaration) → type_slots ds ≤ length ds
+slots-few [] = omega arith
+slots-few (d ∷ ds) = let a = slots-one d in let b = slots-few ds in omega arith
 
-  module _ (outer' : Declarations) (is : inner ≡ None) (err : OnErr res (outer' ≡ outer)) (refused : res ≡ Err errors.Size) where
-    same-outer : outer ≡ outer'
-    same-outer = sym (on-size res (outer' ≡ outer) err refused)
+outer-slots-few : (ds : Declarations) → type_slots_of ds ≤ declaration_count ds
+outer-slots-few Declarations.no_more = omega arith
+outer-slots-few (Declarations.declares d rest) = let a = slots-one d in let b = outer-slots-few rest in omega arith
+outer-slots-few (Declarations.component inner rest) = let b = outer-slots-few rest in omega arith
+outer-slots-few (Declarations.instance inner rest) = let b = outer-slots-few rest in omega arith
 
-    unfit : (d : Declaration) → fits_behind outer' None d ≡ false → fits_behind outer' inner d ≡ false
-    unfit d h = subst (λ (o : Option OpenInterface). fits_behind outer' o d ≡ false) (sym is) h
+counts-refused : (held slots : ℕ) → slots ≤ held + 1 → fits_counts (held + 1) slots ≡ false → limit ≤ held
+counts-refused held slots few e = by_order (nat_lt held 4294967295) refl
+  where
+    by_order : (b : Bool) → nat_lt held 4294967295 ≡ b → limit ≤ held
+    by_order false f = ltb-false held 4294967295 f
+    by_order true f =
+        let low : held < 4294967295 = ltb-true held 4294967295 f in
+        let first : nat_lt (held + 1) (2 ^ 32) ≡ true = lt-ltb (held + 1) (2 ^ 32) (omega arith) in
+        let second : nat_lt slots (2 ^ 32) ≡ true = lt-ltb slots (2 ^ 32) (omega arith) in
+        absurd (let z : ⊥ = cc in z)
 
-    pub value-outside : (d : ComponentDefinedType) → (res ≡ Err errors.Size → (fits_declaration (Declaration.defined (raw_defined d)) && fits_added outer' 1) ≡ false)
-        → (t : Tree) → Follows (stands_in r outer inner) d t → lacks_room_in r outer' inner (value_type t)
-    value-outside d size t f = for_value_type t d (subst (λ (o : Declarations). Follows (stands_in r o inner) d t) same-outer f) (unfit (Declaration.defined (raw_defined d)) (size refused))
+refused-by : (r : Resolve) (fits : Bool) (held slots : ℕ) (request : Request) → slots ≤ held + 1 → (fits ≡ false → IsUnfit r request) → (fits && fits_counts (held + 1) slots) ≡ false → LacksRoomBehind r held request
+refused-by r false held slots request few unfit e = inl (unfit refl)
+refused-by r true held slots request few unfit e = inr (counts-refused held slots few e)
 
-    pub function-outside : (d : ComponentFuncType) → (res ≡ Err errors.Size → (fits_declaration (Declaration.function (raw_function d)) && fits_added outer' 1) ≡ false)
-        → (s : Signature) → FollowsFunction (stands_in r outer inner) d s → lacks_room_in r outer' inner (function_type s)
-    function-outside d size s f = for_function_type s d (subst (λ (o : Declarations). FollowsFunction (stands_in r o inner) d s) same-outer f) (unfit (Declaration.function (raw_function d)) (size refused))
+-- behind the declarations of an instance type
+pub behind : (r : Resolve) (ds : List Declaration) (d : Declaration) (request : Request) → (fits_declaration d ≡ false → IsUnfit r request) → fits_next ds d ≡ false → LacksRoomBehind r (length ds) request
+behind r ds d request unfit e = refused-by r (fits_declaration d) (length ds) (type_slots ds + declaration_slots d) request (let a = slots-few ds in let b = slots-one d in omega arith) unfit e
+
+-- behind those of a component type
+pub behind-outer : (r : Resolve) (outer : Declarations) (d : Declaration) (request : Request) → (fits_declaration d ≡ false → IsUnfit r request) → (fits_declaration d && fits_added outer 1) ≡ false → LacksRoomBehind r (declaration_count outer) request
+behind-outer r outer d request unfit e = refused-by r (fits_declaration d) (declaration_count outer) (type_slots_of outer + 1) request (let a = outer-slots-few outer in omega arith) unfit e
+
+-- ---- forms and trees have the same labels
+
+text-names : (xs : List (Bor Text)) → fits_names (map text_of xs) ≡ fits_names (texts xs)
+text-names xs = refl
+
+all-fit : {A B : Type 0} (f : A → Bool) (g : B → Bool) (xs : List A) (ys : List B) → AllZip (λ x y. f x ≡ g y) xs ys → list_all f xs ≡ list_all g ys
+all-fit f g [] [] h = refl
+all-fit f g [] (y ∷ ys) h = absurd h
+all-fit f g (x ∷ xs) [] h = absurd h
+all-fit f g (x ∷ xs) (y ∷ ys) h = λ i. h.0 i && all-fit f g xs ys h.1 i
+
+zip-length : {A B : Type 0} (R : A → B → Type 0) (xs : List A) (ys : List B) → AllZip R xs ys → length xs ≡ length ys
+zip-length R [] [] h = refl
+zip-length R [] (y ∷ ys) h = absurd h
+zip-length R (x ∷ xs) [] h = absurd h
+zip-length R (x ∷ xs) (y ∷ ys) h = let e = zip-length R xs ys h.1 in omega arith
+
+-- labels that are the same texts
+labels-fit : {T B : Type 0} (R : Bor Text × T → B → Type 0) (label : B → Text) → ((x : Bor Text × T) (y : B) → R x y → x.0.now ≡ label y) → (xs : List (Bor Text × T)) (ys : List B) → AllZip R xs ys → fits_labels (map labeled xs) ≡ fits_names (map label ys)
+labels-fit {T} {B} R label same xs ys z =
+    let labels : map (λ (x : Labeled T). x.label) (map labeled xs) ≡ map label ys = labels-same xs ys z in
+    fits-by (map labeled xs) ∙ ap fits_names labels
+  where
+    labels-same : (xs : List (Bor Text × T)) (ys : List B) → AllZip R xs ys → map (λ (x : Labeled T). x.label) (map labeled xs) ≡ map label ys
+    labels-same [] [] h = refl
+    labels-same [] (y ∷ ys) h = absurd h
+    labels-same (x ∷ xs) [] h = absurd h
+    labels-same (x ∷ xs) (y ∷ ys) h = λ i. same x y h.0 i ∷ labels-same xs ys h.1 i
+
+    count-by : (ls : List (Labeled T)) → length ls ≡ length (map (λ (x : Labeled T). x.label) ls)
+    count-by [] = refl
+    count-by (l ∷ ls) = ap suc (count-by ls)
+
+    each-by : (ls : List (Labeled T)) → list_all fits_label ls ≡ list_all fits_length (map (λ (x : Labeled T). x.label) ls)
+    each-by [] = refl
+    each-by (l ∷ ls) = ap (λ b. fits_length l.label && b) (each-by ls)
+
+    fits-by : (ls : List (Labeled T)) → fits_labels ls ≡ fits_names (map (λ (x : Labeled T). x.label) ls)
+    fits-by ls = λ i. nat_lt (count-by ls i) (2 ^ 32) && each-by ls i
+
+pub map-twice : {A B C : Type 0} (f : B → C) (g : A → B) (xs : List A) → map f (map g xs) ≡ map (λ x. f (g x)) xs
+map-twice f g [] = refl
+map-twice f g (x ∷ xs) = ap (λ ys. f (g x) ∷ ys) (map-twice f g xs)
+
+pub listed : (ts : List Tree) → child_list (children ts) ≡ ts
+listed [] = refl
+listed (t ∷ ts) = ap (λ xs. t ∷ xs) (listed ts)
+
+-- a definition fits exactly where the tree does
+pub tree-fits : (S : Pairs) (d : ComponentDefinedType) (t : Tree) → Follows S d t → fits_defined (raw_defined d) ≡ fits_tree t
+tree-fits S (form.Primitive x) t h = ap fits_tree (sym h)
+tree-fits S (form.Record fields) t h = labels-fit (NamedStands S) (λ f. f.0) (λ x f w. w.0) fields.items h.0 h.1 ∙ ap fits_tree (sym h.2)
+tree-fits S (form.Variant cases) t h = labels-fit (CaseStands S) (λ c. c.0) (λ x c w. w.0) cases.items h.0 h.1 ∙ ap fits_names (sym (map-twice (λ (c : Text × Bool). c.0) _ h.0)) ∙ ap fits_tree (sym h.2)
+tree-fits S (form.List x) t h = ap fits_tree (sym h.2)
+tree-fits S (form.FixedLengthList x n) t h = ap fits_tree (sym h.2)
+tree-fits S (form.Map x y) t h = ap fits_tree (sym h.4)
+tree-fits S (form.Tuple xs) t h = ap (λ n. nat_lt n (2 ^ 32)) (zip-length (StandsFor S) xs.items h.0 h.1) ∙ ap fits_length (sym (listed h.0)) ∙ ap fits_tree (sym h.2)
+tree-fits S (form.Flags names) t h = ap fits_tree (sym h)
+tree-fits S (form.Enum names) t h = ap fits_tree (sym h)
+tree-fits S (form.Option x) t h = ap fits_tree (sym h.2)
+tree-fits S (form.Result x y) t h = ap fits_tree (sym h.4)
+tree-fits S (form.Own i) t h = ap fits_tree (sym h.2)
+tree-fits S (form.Borrow i) t h = ap fits_tree (sym h.2)
+tree-fits S (form.Stream x) t h = ap fits_tree (sym h.2)
+tree-fits S (form.Future x) t h = ap fits_tree (sym h.2)
+
+pub signature-fits : (S : Pairs) (f : ComponentFuncType) (s : Signature) → FollowsFunction S f s → fits_labels (raw_function f).parameters ≡ fits_names (map (λ p. p.0) s.params)
+signature-fits S f s h = labels-fit (NamedStands S) (λ p. p.0) (λ x p w. w.0) f.params.items s.params h.params
+
+-- ---- calls, by whether an interface is open
+
+module _ (r : Resolve) (res : Result ℕ Error) (refused : res ≡ Err errors.Size) where
+  pub value-inside : (S : Pairs) (ds : List Declaration) (d : ComponentDefinedType) → (res ≡ Err errors.Size → fits_next ds (Declaration.defined (raw_defined d)) ≡ false) → (t : Tree) → Follows S d t → LacksRoomBehind r (length ds) (value_type t)
+  value-inside S ds d size t f = behind r ds (Declaration.defined (raw_defined d)) (value_type t) (λ e. sym (tree-fits S d t f) ∙ e) (size refused)
+
+  pub function-inside : (S : Pairs) (ds : List Declaration) (d : ComponentFuncType) → (res ≡ Err errors.Size → fits_next ds (Declaration.function (raw_function d)) ≡ false) → (s : Signature) → FollowsFunction S d s → LacksRoomBehind r (length ds) (function_type s)
+  function-inside S ds d size s f = behind r ds (Declaration.function (raw_function d)) (function_type s) (λ e. sym (signature-fits S d s f) ∙ e) (size refused)
+
+  module _ (outer : Declarations) (inner : Option OpenInterface) (is : inner ≡ None) where
+    pub value-outside : (S : Pairs) (d : ComponentDefinedType) → (res ≡ Err errors.Size → (fits_declaration (Declaration.defined (raw_defined d)) && fits_added outer 1) ≡ false) → (t : Tree) → Follows S d t → LacksRoomBehind r (held_in outer inner) (value_type t)
+    value-outside S d size t f = subst (λ (o : Option OpenInterface). LacksRoomBehind r (held_in outer o) (value_type t)) (sym is)
+        (behind-outer r outer (Declaration.defined (raw_defined d)) (value_type t) (λ e. sym (tree-fits S d t f) ∙ e) (size refused))
+
+    pub function-outside : (S : Pairs) (d : ComponentFuncType) → (res ≡ Err errors.Size → (fits_declaration (Declaration.function (raw_function d)) && fits_added outer 1) ≡ false) → (s : Signature) → FollowsFunction S d s → LacksRoomBehind r (held_in outer inner) (function_type s)
+    function-outside S d size s f = subst (λ (o : Option OpenInterface). LacksRoomBehind r (held_in outer o) (function_type s)) (sym is)
+        (behind-outer r outer (Declaration.function (raw_function d)) (function_type s) (λ e. sym (signature-fits S d s f) ∙ e) (size refused))
+
+-- an outer alias fits, and so does an alias around but for its name
+pub alias-inside : (r : Resolve) (ds : List Declaration) (n slot : ℕ) → fits_next ds (Declaration.alias_of (Alias.of_outer 1 slot)) ≡ false → LacksRoomBehind r (length ds) (import_of n)
+alias-inside r ds n slot e = behind r ds (Declaration.alias_of (Alias.of_outer 1 slot)) (import_of n) (λ h. absurd (let z : ⊥ = cc in z)) e
+
+pub alias-outside : (r : Resolve) (outer : Declarations) (inner : Option OpenInterface) (n : ℕ) → (fits_type_name r n && fits_added outer 1) ≡ false → lacks_room_in r outer inner (import_of n)
+alias-outside r outer inner n e = by (fits_type_name r n) refl
+  where
+    by : (b : Bool) → fits_type_name r n ≡ b → lacks_room_in r outer inner (import_of n)
+    by false f = inl (inl f)
+    by true f = inr (ap (λ b. b && fits_added outer 1) (sym f) ∙ e)
+
+pub name-inside : (r : Resolve) (ds : List Declaration) (name : ExternName) (described : ComponentTypeRef) → fits_next ds (Declaration.exported name described) ≡ false → LacksRoomBehind r (length ds) (export_name name)
+name-inside r ds name described e = behind r ds (Declaration.exported name described) (export_name name) (λ h. h) e
+
+-- how much is held after a call in an open interface
+pub held-inside : (outer : Declarations) (inner : Option OpenInterface) (current : OpenInterface) (ds : List Declaration) → inner ≡ Some current → length ds ≤ length current.declared + 1 → length ds ≤ held_in outer inner + 1
+held-inside outer inner current ds is l = subst (λ (o : Option OpenInterface). length ds ≤ held_in outer o + 1) (sym is) l
+
+pub held-outside : (outer outer' : Declarations) (inner : Option OpenInterface) → inner ≡ None → declaration_count outer' ≤ declaration_count outer + 1 → held_in outer' inner ≤ held_in outer inner + 1
+held-outside outer outer' inner is l = subst (λ (o : Option OpenInterface). held_in outer' o ≤ held_in outer o + 1) (sym is) l
 
 -- the name of a function
 pub function-named : (name : ExternName) (f : Text × Function) → name.text ≡ f.0 → name.implements ≡ None → name.version_suffix ≡ None → name.external_id ≡ optional_text f.1.external_id → name ≡ function_name f
 function-named name f text implements suffix external_id = λ i. record { text = text i; implements = implements i; version_suffix = suffix i; external_id = external_id i }
 
--- what is met among fewer functions is met among more
-part-of-more : {r : Resolve} {N : Refusals} {fs gs : List (Text × Function)} → ((f : Text × Function) → Contains fs f → Contains gs f) → LacksPartOf r N fs → LacksPartOf r N gs
-part-of-more more (a_type t) = a_type t
-part-of-more more (a_function_type f h n) = a_function_type f (more f h) n
-part-of-more more (a_function_name f h n) = a_function_name f (more f h) n
+-- ---- an interface as a whole
 
-only-one : {X : Type 0} (P : X → Type 0) (x y : X) → Contains (x ∷ []) y → P x → P y
-only-one P x y (zero, l, e) p = subst P e p
-only-one P x y (suc i, l, e) p = absurd (omega (arith, l))
+-- what doesn't fit by itself, or all where there is no room for one more, or no room around
+module _ (r : Resolve) (own : Option InterfaceId) (ns : List ℕ) (qs : List Request) (outer : Declarations) (inner : Option OpenInterface) where
+  abbrev Parted : Type 0
+  Parted = (LacksOne r own (IsUnfit r) ns qs ⊎ (limit ≤ held_in outer inner)) ⊎ (fits_added outer 1 ≡ false)
 
-pub here-alone : {X : Type 0} (x : X) → Contains (x ∷ []) x
-here-alone x = (0, omega arith, refl)
+  by-part : (q : Request) → (IsUnfit r q → LacksOne r own (IsUnfit r) ns qs) → lacks_room_in r outer inner q → Parted
+  by-part q f (inl (inl u)) = inl (inl (f u))
+  by-part q f (inl (inr l)) = inl (inr l)
+  by-part (value_type t) f (inr z) = absurd z
+  by-part (function_type s) f (inr z) = absurd z
+  by-part (export_name name) f (inr z) = absurd z
+  by-part (import_of n) f (inr full) = inr full
 
-pub part-of-one : {r : Resolve} {N : Refusals} (gs : List (Text × Function)) (f : Text × Function) → Contains gs f → LacksPartOf r N (f ∷ []) → LacksPartOf r N gs
-part-of-one gs f at part = part-of-more (λ g h. only-one (Contains gs) f g h at) part
+  parted : LacksOne r own (lacks_room_in r outer inner) ns qs → Parted
+  parted (a_type n def c at (its_definition f h)) = by-part (value_type (kind_tree r def.kind)) (λ u. a_type n def c at (its_definition f u)) h
+  parted (a_type n def c at (its_name f name is h)) = by-part (export_name (exported_name (text_at name, type_meaning r def))) (λ u. a_type n def c at (its_name f name is u)) h
+  parted (a_type n def c at (its_import i f h)) = by-part (import_of n) (λ u. a_type n def c at (its_import i f u)) h
+  parted (a_request q c h) = by-part q (λ u. a_request q c u) h
 
--- what is refused while an interface is open
-pub refused-within : (r r' : Resolve) (outer outer' : Declarations) (i : InterfaceId) (known : Foreign) (inner' : Option OpenInterface) (current : OpenInterface) (m m' : TypeEncodingMaps) (fs : List (Text × Function)) → inner' ≡ Some current → own_of inner' ≡ Some i
-    → Continues r r outer outer' (opened i known) inner' m m' → r' ≡ r → LacksPartOf r (lacks_room_in r' outer' inner') fs → LacksRoomWithin r (around_at outer known) i fs
-refused-within r r' outer outer' i known inner' current m m' fs is own c packages part =
-    let own_is : current.interface ≡ i = (let e : Some current.interface ≡ Some i = sym (ap own_of is) ∙ own in let z : current.interface ≡ i = cc in z) in
-    let at : contents_of r outer' inner' ≡ inner_contents (place_of r (owner.Interface i)) outer' current.declared =
-    (λ j. contents_of r outer' (is j)) ∙ ap (λ (k : InterfaceId). inner_contents (place_of r (owner.Interface k)) outer' current.declared) own_is in
-    let sound : (encoder_scope r outer' inner').is_sound ≡ true = ap (λ (s : Scope). s.is_sound) c.scope_stays ∙ opened-sound r outer i known in
-    let followed : (contents_of r outer' inner').is_followed ≡ true = first_true (contents_of r outer' inner').is_followed (list_all (is_slot_of (resources_in r (own_of inner'))) (contents_of r outer' inner').slots) sound in
-    let lacks : ◌≡◌ {A = Refusals} (lacks_room_in r' outer' inner') (lacks_room_behind r outer' i current.declared) =
-    (λ j. lacks_room_in (packages j) outer' (is j)) ∙ ap (λ (k : InterfaceId). lacks_room_behind r outer' k current.declared) own_is in
-    record {
-      after = around_at outer' current.foreign;
-      grown = closed-around r outer outer' i known inner' current m m' is c;
-      declared = current.declared;
-      followed = sym (ap (λ (z : Contents). z.is_followed) at) ∙ followed;
-      part = subst (λ (N : Refusals). LacksPartOf r N fs) lacks part;
-    }
+pub no-room : {r r' : Resolve} {own own' : Option InterfaceId} {ts : List ValueType} {qs : List Request} {m : TypeEncodingMaps} {before : ℕ} {Q : Type 0} (outer : Declarations) (inner : Option OpenInterface) → own' ≡ own → before ≡ 0 → r' ≡ r → (fits_added outer 1 ≡ false → Q)
+    → FindsNoRoom r own' ts qs m before (held_in outer inner) (lacks_room_in r' outer inner) → HasNoRoom r own ts qs ⊎ Q
+no-room {r} {r'} {own} {own'} {ts} {qs} {m} {before} {Q} outer inner e none packages around p =
+    let one : LacksOne r own (lacks_room_in r outer inner) p.numbers qs = subst (λ (o : Option InterfaceId). LacksOne r o (lacks_room_in r outer inner) p.numbers qs) e (subst (λ (x : Resolve). LacksOne r own' (lacks_room_in x outer inner) p.numbers qs) packages p.lacks) in
+    elim (parted r own p.numbers qs outer inner one) [
+      | inl h ↦ inl (record {
+        numbers = p.numbers;
+        different = p.different;
+        met = λ n c. subst (λ (o : Option InterfaceId). ReachedFrom r o ts n) e (p.met n c);
+        lacks = elim h [ inl u ↦ inl u | inr l ↦ inr (let x = p.held in omega (arith, l, none)) ];
+      })
+      | inr full ↦ inr (around full)
+    ]
+
+pub two-each : (r : Resolve) (fs : List (Text × Function)) → length (flat_map (function_requests r) fs) ≡ 2 * length fs
+two-each r [] = refl
+two-each r (f ∷ fs) = let a = length-append (function_requests r f) (flat_map (function_requests r) fs) in let b = two-each r fs in omega arith
+
+-- one declaration more, or none
+pub one-pushed : {A E : Type 0} (res : Result A E) (ds ds' : List Declaration) (d : Declaration) → OnOk res (ds' ≡ ds ++ d ∷ []) → OnErr res (ds' ≡ ds) → length ds' ≤ length ds + 1
+one-pushed (Ok x) ds ds' d ok err = let e : length ds' ≡ length (ds ++ d ∷ []) = ap length ok in let l = length-append ds (d ∷ []) in omega arith
+one-pushed (Err x) ds ds' d ok err = let e : length ds' ≡ length ds = ap length err in omega arith
+
+one-appended : (ds : Declarations) (d : Declaration) → declaration_count (append ds (Declarations.declares d Declarations.no_more)) ≡ declaration_count ds + 1
+one-appended Declarations.no_more d = omega arith
+one-appended (Declarations.declares e rest) d = let h = one-appended rest d in omega arith
+one-appended (Declarations.component inner rest) d = let h = one-appended rest d in omega arith
+one-appended (Declarations.instance inner rest) d = let h = one-appended rest d in omega arith
+
+pub outer-pushed : (outer outer' : Declarations) (d : Declaration) → outer' ≡ append outer (Declarations.declares d Declarations.no_more) → declaration_count outer' ≤ declaration_count outer + 1
+outer-pushed outer outer' d e = let same : declaration_count outer' ≡ declaration_count (append outer (Declarations.declares d Declarations.no_more)) = ap declaration_count e in let one = one-appended outer d in omega arith
+
+abbrev Placed : Type 0
+Placed = ℕ × Bor (String Global) × Bor Function
+
+-- the same of the interface's own lists
+pub room-listed : (r : Resolve) (i : InterfaceId) (ts ts' : List TypeId) (fs : List Placed) (gs : List (Text × Function)) → ts ≡ ts' → map placed_function fs ≡ gs
+    → HasNoRoom r (Some i) (referred ts (map (λ f. f.2.now) fs)) (flat_map (function_requests r) (map placed_function fs)) → HasNoRoom r (Some i) (referred ts' (map (λ g. g.1) gs)) (flat_map (function_requests r) gs)
+room-listed r i ts ts' fs gs e same h =
+    let own : map (λ (g : Text × Function). g.1) (map placed_function fs) ≡ map (λ f. f.2.now) fs = map-twice (λ (g : Text × Function). g.1) placed_function fs in
+    subst (λ (us : List TypeId). HasNoRoom r (Some i) (referred us (map (λ g. g.1) gs)) (flat_map (function_requests r) gs)) e
+    (subst (λ (xs : List (Text × Function)). HasNoRoom r (Some i) (referred ts (map (λ g. g.1) xs)) (flat_map (function_requests r) xs)) same
+    (subst (λ (xs : List Function). HasNoRoom r (Some i) (referred ts xs) (flat_map (function_requests r) (map placed_function fs))) (sym own) h))

@@ -1,5 +1,5 @@
 -- An encoder of interfaces as one value, and what its calls ask and leave.
-use Rattle.std.specs.Prelude.{ℕ, ◌≡◌, ◌⊎◌, ◌++◌, ◌∷◌, [], List, String, map, nat_eq, IsSome, Some}
+use Rattle.std.specs.Prelude.{ℕ, ◌≡◌, ◌⊎◌, ◌++◌, ◌∷◌, [], List, String, map, flat_map, nat_eq, IsSome, Some}
 use Rattle.std.specs.List.{Contains}
 use Rattle.std.specs.Set.{distinct_count}
 use Rattle.std.specs.Borrow.{Bor}
@@ -25,8 +25,12 @@ use Rattle.wit_encode.specs.declared.maps.TypeEncodingMaps.{TypeEncodingMaps}
 use Rattle.wit_encode.specs.declared.interface.InterfaceEncoderOf.{InterfaceEncoderOf}
 use Rattle.wit_encode.specs.Known.{Around, GrowsAround, UsedStand}
 use Rattle.wit_encode.specs.Scope.{Scope}
-use Rattle.wit_encode.specs.View.{View, Agrees}
-use Rattle.wit_encode.specs.Instance.{own_of, ShowsFunction, placed_function, meaning_of, Contents, contents_of, encoder_scope, around_of, around_at, slots_in, stands_in, defined_in, opened, standing_instances, Continues, EncodesInterface, lacks_room_in, LacksRoomWithin, LacksInstanceRoom}
+use Rattle.wit_encode.specs.Room.{Request, HasNoRoom, function_requests}
+use Rattle.wit_encode.specs.MetKinds.{referred}
+use Rattle.wit_encode.specs.Leaves.{LacksRoom}
+use Rattle.indexmap.specs.IndexMap.{values}
+use Rattle.wit_encode.specs.View.{View, Agrees, HoldsLearnt}
+use Rattle.wit_encode.specs.Instance.{own_of, ShowsFunction, placed_function, meaning_of, Contents, contents_of, encoder_scope, around_of, around_at, slots_in, stands_in, defined_in, opened, standing_instances, Continues, EncodesInterface, held_in, lacks_room_in, LacksInstanceRoom}
 
 abbrev pub InterfaceEncoder : Type 0
 InterfaceEncoder = InterfaceEncoderOf TypeEncodingMaps
@@ -40,6 +44,7 @@ view_of r e = record {
   stands = stands_in r e.outer e.inner;
   definitions = defined_in r e.outer e.inner;
   maps = e.maps;
+  held = held_in e.outer e.inner;
   lacks_room = lacks_room_in r e.outer e.inner;
 }
 
@@ -100,6 +105,10 @@ Placed = ℕ × Bor (String Global) × Bor Function
 abbrev pub plain : List Placed → List Function
 plain fs = map (λ f. f.2.now) fs
 
+-- their types and their names
+abbrev pub requests_of : Resolve → List Placed → List Request
+requests_of r fs = flat_map (function_requests r) (map placed_function fs)
+
 abbrev pub meanings_of : Resolve → List Placed → List (Text × FunctionMeaning)
 meanings_of r fs = map (λ f. meaning_of r (placed_function f)) fs
 
@@ -109,6 +118,14 @@ ShowsAs e e' name s = ShowsFunction (contents_in e) (contents_in e') (shown_as n
 
 abbrev pub ShowsMore : Resolve → InterfaceEncoder → InterfaceEncoder → List (Text × FunctionMeaning) → Type 0
 ShowsMore r e e' fs = (view_of r e').scope.functions ≡ (view_of r e).scope.functions ++ fs
+
+-- at most so much more is held, and two for each type number that has been learnt
+abbrev pub HoldsInside : ℕ → InterfaceEncoder → InterfaceEncoder → Type 0
+HoldsInside n e e' = HoldsLearnt n (encoder_view e) (encoder_view e')
+
+-- a part of a type that is met from these, or one of these requests, has no room, and not much more is held than was
+abbrev pub LacksInside : Resolve → InterfaceEncoder → InterfaceEncoder → List ValueType → List Request → Type 0
+LacksInside r e e' ts requests = LacksRoom r ts requests (encoder_view e) (encoder_view e')
 
 -- no type has been exported
 abbrev pub TypesStay : Resolve → InterfaceEncoder → InterfaceEncoder → Type 0
@@ -150,6 +167,15 @@ Reaches e e' = GrowsAround e.resolve.now (outside e) (outside e')
 abbrev pub EncodesAs : InterfaceEncoder → InterfaceEncoder → InterfaceId → ℕ → Type 0
 EncodesAs e e' i k = (def : Interface) → interface_at e.resolve.now i.0 ≡ Some def → EncodesInterface e.resolve.now (outside e) (outside e') i def k
 
--- the interface has no room in an instance type, or the component type has none for one more instance type
+-- an instance type has no room for the types and functions of an interface
+abbrev pub InterfaceLacksRoom : Resolve → InterfaceId → Interface → Type 0
+InterfaceLacksRoom r i def = HasNoRoom r (Some i) (referred (values def.types) (map (λ f. f.1) (functions_in_order def))) (flat_map (function_requests r) (functions_in_order def))
+
+-- An instance type has no room for the types and functions of the interface. Or the component type, after aliases have been made, has none
+-- for one more alias or instance type.
 abbrev pub LacksInstance : InterfaceEncoder → InterfaceId → Type 0
-LacksInstance e i = (def : Interface) → interface_at e.resolve.now i.0 ≡ Some def → LacksRoomWithin e.resolve.now (outside e) i (functions_in_order def) ⊎ LacksInstanceRoom e.resolve.now (outside e)
+LacksInstance e i = (def : Interface) → interface_at e.resolve.now i.0 ≡ Some def → InterfaceLacksRoom e.resolve.now i def ⊎ LacksInstanceRoom e.resolve.now (outside e)
+
+-- the same of these types and functions of the interface
+abbrev pub LacksWithin : InterfaceEncoder → InterfaceId → List TypeId → List Placed → Type 0
+LacksWithin e i types fs = HasNoRoom e.resolve.now (Some i) (referred types (plain fs)) (requests_of e.resolve.now fs) ⊎ LacksInstanceRoom e.resolve.now (outside e)

@@ -1,6 +1,6 @@
 -- What an encoder of interfaces holds: the component type around, and in it the instance type of the interface that it is encoding.
 -- What has been declared is followed, so each slot stands for what the bytes say.
-use Rattle.std.specs.Prelude.{length, ℕ, ◌≡◌, ◌+◌, ◌++◌, Bool, true, false, ◌&&◌, List, [], ◌∷◌, map, count_by, Option, Some, None, is_some}
+use Rattle.std.specs.Prelude.{length, ℕ, ◌≡◌, ◌⊎◌, ◌+◌, ◌++◌, Bool, false, ◌&&◌, List, [], ◌∷◌, map, count_by, Option, Some, None, is_some}
 use Rattle.std.specs.Option.{option_map_or}
 use Rattle.std.specs.List.{list_all}
 use Rattle.std.specs.Set.{distinct_count}
@@ -8,15 +8,15 @@ use Rattle.std.specs.Prelude.{String, if◌then◌else◌}
 use Rattle.std.specs.Borrow.{Bor}
 use Rattle.std.specs.declared.alloc.Global.{Global}
 use Rattle.wit_model.specs.Text.{Text, text_of}
-use Rattle.wit_model.specs.Tree.{Tree, Place, here}
-use Rattle.wit_model.specs.Meaning.{TypeMeaning, FunctionMeaning, Signature}
+use Rattle.wit_model.specs.Tree.{Place, here}
+use Rattle.wit_model.specs.Meaning.{TypeMeaning, FunctionMeaning}
 use Rattle.wit_model.specs.Meant.{interface_meaning_at}
 use Rattle.wit_model.specs.Lookup.{place_of}
 use Rattle.wit_model.specs.declared.model.Resolve.{Resolve}
 use Rattle.wit_model.specs.declared.model.InterfaceId.{InterfaceId}
 use Rattle.wit_model.specs.declared.model.TypeOwner.{TypeOwner}
 use Rattle.wit_model.specs.declared.model.TypeOwner.TheVariants as owner
-use Rattle.comp_bytes.specs.Raw.{Alias, Declaration, Declarations, ExternName, append, from_list}
+use Rattle.comp_bytes.specs.Raw.{Declaration, Declarations, append, declaration_count, from_list}
 use Rattle.comp_meaning.specs.Reads.{interface_meaning}
 use Rattle.comp_meaning.specs.Follow.{Slot, View, InstanceScope, instance_view, instance_steps, new_instance}
 use Rattle.wit_encode.specs.declared.interface.OpenInterface.{OpenInterface}
@@ -26,14 +26,9 @@ use Rattle.indexmap.specs.IndexMap.{values}
 use Rattle.wit_model.specs.declared.model.Interface.{Interface}
 use Rattle.wit_model.specs.declared.model.TypeId.{TypeId}
 use Rattle.wit_model.specs.declared.model.«Type».TheVariants as ty
-use Rattle.comp_bytes.specs.Held.{type_slots_of, declaration_slots, fits_next, fits_added}
-use Rattle.comp_bytes.specs.Fits.{fits_declaration}
-use Rattle.comp_bytes.specs.RawOf.{raw_defined, raw_function}
-use Rattle.comp_bytes.specs.declared.forms.ComponentDefinedType.{ComponentDefinedType}
-use Rattle.comp_bytes.specs.declared.forms.ComponentFuncType.{ComponentFuncType}
-use Rattle.comp_bytes.specs.declared.forms.ComponentTypeRef.{ComponentTypeRef}
-use Rattle.wit_encode.specs.Slots.{Pairs, Follows, FollowsFunction}
-use Rattle.wit_encode.specs.Room.{Request, Refusals, value_type, function_type, export_name, import_of, LacksPartOf}
+use Rattle.comp_bytes.specs.Held.{type_slots_of, fits_added}
+use Rattle.wit_encode.specs.Slots.{Pairs}
+use Rattle.wit_encode.specs.Room.{Refusals, value_type, function_type, export_name, import_of, LacksRoomBehind}
 use Rattle.wit_encode.specs.Resources.{Names, is_met_owner, is_named_interface, resource_names}
 pub use Rattle.wit_encode.specs.Standing.{standing_at, SlotsStand, is_slot_of}
 use Rattle.wit_encode.specs.Known.{Around, GrowsAround, no_around}
@@ -167,21 +162,21 @@ slots_in r outer inner = length (contents_of r outer inner).slots
 abbrev pub defined_in : Resolve → Declarations → Option OpenInterface → Definitions
 defined_in r outer inner = definitions_with (contents_of r outer inner)
 
--- a declaration fits, and so do the counts with it, behind those of the instance type, or in the component type where none is open
-abbrev pub fits_behind : Declarations → Option OpenInterface → Declaration → Bool
-fits_behind outer None = λ d. fits_declaration d && fits_added outer (declaration_slots d)
-fits_behind outer (Some current) = fits_next current.declared
+-- how many declarations there are in the instance type, or in the component type where none is open
+abbrev pub held_in : Declarations → Option OpenInterface → ℕ
+held_in outer None = declaration_count outer
+held_in outer (Some current) = length current.declared
 
--- a declaration that answers the request doesn't fit: in the scope, or for an import in the one around it
-pub data LacksRoomIn (fits fits_around : Declaration → Bool) (S : Pairs) : Request → Type 0 where
-  for_value_type : (t : Tree) (def : ComponentDefinedType) → Follows S def t → fits (Declaration.defined (raw_defined def)) ≡ false → LacksRoomIn fits fits_around S (value_type t)
-  for_function_type : (s : Signature) (def : ComponentFuncType) → FollowsFunction S def s → fits (Declaration.function (raw_function def)) ≡ false → LacksRoomIn fits fits_around S (function_type s)
-  for_name : (name : ExternName) (described : ComponentTypeRef) → fits (Declaration.exported name described) ≡ false → LacksRoomIn fits fits_around S (export_name name)
-  for_import : (n slot : ℕ) → fits (Declaration.alias_of (Alias.of_outer 1 slot)) ≡ false → LacksRoomIn fits fits_around S (import_of n)
-  for_alias : (n instance : ℕ) (name : Text) → fits_around (Declaration.alias_of (Alias.of_export instance name)) ≡ false → LacksRoomIn fits fits_around S (import_of n)
+-- an import has no room where the component type has none for one more alias
+abbrev pub LacksAlias : Declarations → Refusals
+LacksAlias outer (value_type t) = ⊥
+LacksAlias outer (function_type s) = ⊥
+LacksAlias outer (export_name name) = ⊥
+LacksAlias outer (import_of n) = fits_added outer 1 ≡ false
 
+-- what has no room: behind what is held, or, of imports, in the component type around
 abbrev pub lacks_room_in : Resolve → Declarations → Option OpenInterface → Refusals
-lacks_room_in r outer inner = LacksRoomIn (fits_behind outer inner) (fits_behind outer None) (stands_in r outer inner)
+lacks_room_in r outer inner request = LacksRoomBehind r (held_in outer inner) request ⊎ LacksAlias outer request
 
 -- the types that have been exported, in order, and the functions
 abbrev pub exports_in : Resolve → Declarations → Option OpenInterface → List (Text × TypeMeaning)
@@ -239,20 +234,7 @@ pub record IsInstance (r : Resolve) (outer : Declarations) (i : InterfaceId) (ds
   pub shows : view.functions ≡ functions
   pub types : map (λ t. (t.name, t.meaning)) view.types ≡ (interface_meaning_at r i.0).types
 
--- what an instance type of an interface has no room for, behind these declarations
-abbrev pub lacks_room_behind : Resolve → Declarations → InterfaceId → List Declaration → Refusals
-lacks_room_behind r outer i ds = LacksRoomIn (fits_next ds) (fits_behind outer None) (SlotsStand (inner_contents (place_of r (owner.Interface i)) outer ds).slots)
-
--- After aliases have been made around, and behind declarations of an instance type of the interface that can be followed, a type, or the type
--- or the name of one of these functions, has no room.
-pub record LacksRoomWithin (r : Resolve) (around : Around) (i : InterfaceId) (functions : List (Text × Function)) : Type 0 where
-  pub after : Around
-  pub grown : GrowsAround r around after
-  pub declared : List Declaration
-  pub followed : (inner_contents (place_of r (owner.Interface i)) after.declared declared).is_followed ≡ true
-  pub part : LacksPartOf r (lacks_room_behind r after.declared i declared) functions
-
--- after aliases have been made, the component type has no room for one more instance type
+-- after aliases have been made, the component type has no room for one more alias or instance type
 pub record LacksInstanceRoom (r : Resolve) (around : Around) : Type 0 where
   pub after : Around
   pub grown : GrowsAround r around after

@@ -1,5 +1,8 @@
 -- What a call leaves, also where it is refused, and what it has learnt and defined.
-use Rattle.std.specs.Prelude.{ℕ, ◌≡◌, Bool, List}
+use Rattle.std.specs.Prelude.{ℕ, ◌≡◌, Bool, List, [], ◌∷◌}
+use Rattle.wit_model.specs.Meant.{signature_of}
+use Rattle.wit_model.specs.Parts.{function_types}
+use Rattle.wit_model.specs.declared.model.TypeDefKind.{TypeDefKind}
 use Rattle.wit_model.specs.declared.model.Resolve.{Resolve}
 use Rattle.wit_model.specs.declared.model.«Type».{«Type» as ValueType}
 use Rattle.wit_model.specs.declared.model.Function.{Function}
@@ -8,9 +11,8 @@ use Rattle.wit_encode.specs.MetKinds.{Learns, LearnsMet}
 use Rattle.wit_encode.specs.Maps.{MapsGrow}
 use Rattle.wit_encode.specs.Counts.{one_type_more, type_more_if, AddsTypes, AddsFunction}
 use Rattle.wit_encode.specs.Distinct.{AddsFunctions}
-use Rattle.wit_model.specs.declared.model.TypeDefKind.{TypeDefKind}
-use Rattle.wit_encode.specs.Kinds.{kind_tree}
-use Rattle.wit_encode.specs.Room.{value_type, LacksTypeOr}
+use Rattle.wit_encode.specs.Kinds.{parts_of, kind_tree}
+use Rattle.wit_encode.specs.Room.{Request, value_type, function_type, FindsNoRoom}
 use Rattle.wit_encode.specs.View.{View, Agrees, Grows}
 
 -- The maps agree with the slots and have lost no entry, old slots stand for what they did, and the surroundings are the same.
@@ -27,6 +29,17 @@ LearnsFrom r ts v v' = LearnsMet r v.scope.own_interface ts v.maps v'.maps
 -- of what has been learnt, the parts are known, and the kind where it has no name
 abbrev pub LearnsParts : Resolve → View → View → Type 0
 LearnsParts r v v' = Learns r v.scope.own_interface v.maps v'.maps
+
+-- a part of a type that is met from these, or one of these requests, has no room, and not much more is held than was
+abbrev pub LacksRoom : Resolve → List ValueType → List Request → View → View → Type 0
+LacksRoom r ts requests v v' = FindsNoRoom r v.scope.own_interface ts requests v.maps v.held v'.held v'.lacks_room
+
+-- the same of the parts of a kind and its definition, and of the types of a function and its own
+abbrev pub KindLacksRoom : Resolve → TypeDefKind → View → View → Type 0
+KindLacksRoom r kind v v' = LacksRoom r (parts_of kind) (value_type (kind_tree r kind) ∷ []) v v'
+
+abbrev pub FunctionLacksRoom : Resolve → Function → View → View → Type 0
+FunctionLacksRoom r f v v' = LacksRoom r (function_types f) (function_type (signature_of r f) ∷ []) v v'
 
 -- what has been defined is what the maps have learnt, and no type of a function is among it
 abbrev pub CountsTypes : Resolve → View → View → Type 0
@@ -47,7 +60,3 @@ CountsFunctions r v v' functions = AddsFunctions r v.scope v.maps v'.maps v.defi
 -- one value type has been defined where this holds, and nothing else
 abbrev pub DefinesIf : Bool → View → View → Type 0
 DefinesIf b v v' = v'.definitions ≡ type_more_if b v.definitions
-
--- a type of the packages has no room, or a definition of this kind has none
-abbrev pub LacksRoomFor : Resolve → View → TypeDefKind → Type 0
-LacksRoomFor r v kind = LacksTypeOr r v.lacks_room (value_type (kind_tree r kind))

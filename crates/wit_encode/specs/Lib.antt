@@ -21,6 +21,7 @@ pub mod Leaves
 pub mod Instance
 pub mod Encoders
 pub mod InstanceLaws
+pub mod RoomLaws
 pub mod Exports
 pub mod UsesAlone
 pub mod OwnerScope

@@ -121,6 +121,7 @@ table_view t = record {
   stands = TableReads t.resolve.now (place_of t.resolve.now t.owner) t.slots.items;
   definitions = table_definitions (table_scope t.resolve.now t.owner).declarations t.slots.items;
   maps = t.maps;
+  held = length t.slots.items;
   lacks_room = λ request. nat_lt (length t.slots.items) (2 ^ 32) ≡ false;
 }
 

@@ -1,5 +1,5 @@
 -- What an encoder holds.
-use Rattle.std.specs.Prelude.{ℕ, ◌≡◌, ◌≤◌, Option}
+use Rattle.std.specs.Prelude.{ℕ, ◌≡◌, ◌≤◌, ◌+◌, Option}
 use Rattle.wit_model.specs.Tree.{Tree, named}
 use Rattle.wit_model.specs.Meaning.{Signature}
 use Rattle.comp_bytes.specs.declared.forms.ComponentDefinedType.{ComponentDefinedType}
@@ -12,7 +12,7 @@ use Rattle.wit_encode.specs.Scope.{Scope}
 use Rattle.wit_encode.specs.Known.{Around, GrowsAround}
 use Rattle.wit_encode.specs.Maps.{MapsAgree}
 use Rattle.wit_encode.specs.Counts.{Definitions, ExportsOne}
-use Rattle.wit_encode.specs.Room.{Refusals, value_type, function_type}
+use Rattle.wit_encode.specs.Room.{Refusals, HoldsFor, value_type, function_type}
 
 pub record View : Type 1 where
   -- what is around
@@ -26,6 +26,8 @@ pub record View : Type 1 where
   pub definitions : Definitions
   -- which index stands for what
   pub maps : TypeEncodingMaps
+  -- how much it holds: a call that defines, exports or imports adds one at most
+  pub held : ℕ
   -- what more it has no room for, in 32 bits
   pub lacks_room : Refusals
 
@@ -63,11 +65,20 @@ LacksFunctionType v v' def = (s : Signature) → FollowsFunction v.stands def s 
 abbrev pub Agrees : Resolve → View → Type 0
 Agrees r v = MapsAgree r v.maps v.stands
 
+-- at most so much more is held
+abbrev pub HoldsMore : ℕ → View → View → Type 0
+HoldsMore n v v' = v'.held ≤ v.held + n
+
+-- at most so much more is held, and two for each type number that has been learnt
+abbrev pub HoldsLearnt : ℕ → View → View → Type 0
+HoldsLearnt n v v' = HoldsFor v.maps v'.maps v.held v'.held n
+
 -- all but the maps is the same
 pub record SameRest (v v' : View) : Type 0 where
   pub scope_ : v'.scope ≡ v.scope
   pub around_ : v'.around ≡ v.around
   pub slot_count_ : v'.slot_count ≡ v.slot_count
   pub definitions_ : v'.definitions ≡ v.definitions
+  pub held_ : v'.held ≡ v.held
   pub kept : Keeps v.stands v'.stands
   pub back : Keeps v'.stands v.stands

@@ -1,6 +1,6 @@
 //! Defines types whose parts are known, in a scope of any encoder.
 
-ghost use Rattle.std.specs.Prelude.{◌≡◌, ◌⊎◌, Err, ◌<◌, ◌&&◌, true, false, not, length, IfOk, OnOk, List, Some, None, is_some, IfErr};
+ghost use Rattle.std.specs.Prelude.{◌≡◌, ◌⊎◌, Err, ◌<◌, ◌&&◌, true, false, not, length, IfOk, OnOk, List, Some, None, is_some, IfErr, ◌∷◌, []};
 ghost use Rattle.std.specs.List.{Contains};
 ghost use Rattle.comp_bytes.specs.RawOf.{raw_name};
 ghost use Rattle.comp_bytes.specs.Refusal.{IsMemoryOrSize};
@@ -8,12 +8,13 @@ ghost use Rattle.wit_model.specs.declared.error.Error.TheVariants.{Size};
 ghost use Rattle.wit_model.specs.Rules.{is_named_kind};
 ghost use Rattle.wit_model.specs.Text.{optional_text};
 ghost use Rattle.wit_model.specs.Tree.{named};
+ghost use Rattle.wit_model.specs.declared.model.«Type».TheVariants as ValueType;
 ghost use Rattle.wit_model.specs.Types.{number_tree, tree_of, trees_of, tree_of_definition, declared_by};
 ghost use Rattle.wit_model.specs.Lookup.{type_at};
 ghost use Rattle.wit_model.specs.Meant.{type_meaning};
 ghost use Rattle.wit_encode.specs.Slots.{tree};
-ghost use Rattle.wit_encode.specs.Room.{value_type, export_name, import_of, LacksType};
-ghost use Rattle.wit_encode.specs.View.{Agrees, Grows, ExportsName};
+ghost use Rattle.wit_encode.specs.Room.{value_type, export_name, import_of};
+ghost use Rattle.wit_encode.specs.View.{Agrees, Grows, ExportsName, HoldsMore, HoldsLearnt};
 ghost use Rattle.wit_encode.specs.Kinds.{parts_of, kind_of, kind_tree, has_form, has_definition};
 ghost use Rattle.wit_encode.specs.Maps.{IsKnown, IsReady, AllReady, LacksKind, LearnsOne};
 ghost use Rattle.wit_encode.specs.Scope.{DeclaresSlot, DeclaresResource, IsImportable, IsDeclared, exported_name};
@@ -22,7 +23,7 @@ ghost use Rattle.wit_encode.specs.Plan.{foreign_owner, IsLayered};
 ghost use Rattle.wit_encode.specs.Fits.{Fits, FitsScope, CanEncode};
 ghost use Rattle.wit_encode.specs.Counts.{one_type_more, is_defined_by_name, own_name};
 ghost use Rattle.wit_encode.specs.MetKinds.{LearnsKindOf};
-ghost use Rattle.wit_encode.specs.Leaves.{Leaves, LearnsFrom, LearnsParts, CountsTypes, DefinesIf};
+ghost use Rattle.wit_encode.specs.Leaves.{Leaves, LearnsFrom, LearnsParts, CountsTypes, DefinesIf, LacksRoom};
 
 use crate::encoder::ValtypeEncoder;
 use crate::lend::{
@@ -50,6 +51,7 @@ pub(crate) fn define_shape<'a, E: ValtypeEncoder<'a>>(
     ensures scope_stays { (E.view enc.new).scope ≡ (E.view enc.old).scope }
     ensures maps_stay { (E.view enc.new).maps ≡ (E.view enc.old).maps }
     ensures counts { OnOk result ((E.view enc.new).definitions ≡ one_type_more (E.view enc.old).definitions) }
+    ensures held { HoldsMore 1 (E.view enc.old) (E.view enc.new) }
     ensures size { result ≡ Err Size → (E.view enc.new).lacks_room (value_type (kind_tree resolve.now (kind_of shape.entry))) }
     ensures refuses { IfErr result IsMemoryOrSize }
 {
@@ -71,6 +73,7 @@ fn define_alias<'a, E: ValtypeEncoder<'a>>(
     ensures scope_stays { (E.view enc.new).scope ≡ (E.view enc.old).scope }
     ensures maps_stay { (E.view enc.new).maps ≡ (E.view enc.old).maps }
     ensures counts { OnOk result (DefinesIf (has_definition (TypeDefKind.Type_ ty.now)) (E.view enc.old) (E.view enc.new)) }
+    ensures held { HoldsMore 1 (E.view enc.old) (E.view enc.new) }
     ensures size { result ≡ Err Size → (E.view enc.new).lacks_room (value_type (kind_tree resolve.now (TypeDefKind.Type_ ty.now))) }
     ensures refuses { IfErr result IsMemoryOrSize }
 {
@@ -98,6 +101,7 @@ fn define_kind<'a, E: ValtypeEncoder<'a>>(
     ensures scope_stays { (E.view enc.new).scope ≡ (E.view enc.old).scope }
     ensures maps_stay { (E.view enc.new).maps ≡ (E.view enc.old).maps }
     ensures counts { OnOk result (DefinesIf (has_definition kind.now) (E.view enc.old) (E.view enc.new)) }
+    ensures held { HoldsMore 1 (E.view enc.old) (E.view enc.new) }
     ensures size { result ≡ Err Size → (E.view enc.new).lacks_room (value_type (kind_tree resolve.now kind.entry.now)) }
     ensures refuses { IfErr result IsMemoryOrSize }
 {
@@ -124,6 +128,7 @@ fn define_new_kind<'a, E: ValtypeEncoder<'a>>(
     ensures leaves { Leaves resolve.now (E.view enc.old) (E.view enc.new) }
     ensures counts { OnOk result (CountsTypes resolve.now (E.view enc.old) (E.view enc.new)) }
     ensures kinds { OnOk result (LearnsKindOf (E.view enc.old).maps (E.view enc.new).maps kind.now) }
+    ensures held { HoldsMore 1 (E.view enc.old) (E.view enc.new) }
     ensures size { result ≡ Err Size → (E.view enc.new).lacks_room (value_type (kind_tree resolve.now kind.entry.now)) }
     ensures refuses { IfErr result IsMemoryOrSize }
 {
@@ -148,6 +153,7 @@ fn define_unnamed_kind<'a, E: ValtypeEncoder<'a>>(
     ensures leaves { Leaves resolve.now (E.view enc.old) (E.view enc.new) }
     ensures counts { OnOk result (CountsTypes resolve.now (E.view enc.old) (E.view enc.new)) }
     ensures kinds { OnOk result (LearnsKindOf (E.view enc.old).maps (E.view enc.new).maps kind.now) }
+    ensures held { HoldsMore 1 (E.view enc.old) (E.view enc.new) }
     ensures size { result ≡ Err Size → (E.view enc.new).lacks_room (value_type (kind_tree resolve.now kind.entry.now)) }
     ensures refuses { IfErr result IsMemoryOrSize }
 {
@@ -177,6 +183,7 @@ fn define_unnamed<'a, E: ValtypeEncoder<'a>>(
     ensures leaves { Leaves resolve.now (E.view enc.old) (E.view enc.new) }
     ensures counts { OnOk result (CountsTypes resolve.now (E.view enc.old) (E.view enc.new)) }
     ensures kinds { OnOk result (LearnsKindOf (E.view enc.old).maps (E.view enc.new).maps kind.now) }
+    ensures held { HoldsMore 1 (E.view enc.old) (E.view enc.new) }
     ensures size { result ≡ Err Size → (E.view enc.new).lacks_room (value_type (kind_tree resolve.now kind.entry.now)) }
     ensures refuses { IfErr result IsMemoryOrSize }
 {
@@ -201,6 +208,7 @@ fn define_resource<'a, E: ValtypeEncoder<'a>>(
     ensures leaves { Leaves resolve.now (E.view enc.old) (E.view enc.new) }
     ensures counts { OnOk result (CountsTypes resolve.now (E.view enc.old) (E.view enc.new)) }
     ensures kinds { OnOk result ((E.view enc.new).maps.def_to_index.items ≡ (E.view enc.old).maps.def_to_index.items) }
+    ensures held { HoldsMore 1 (E.view enc.old) (E.view enc.new) }
     ensures size { result ≡ Err Size → (E.view enc.new).lacks_room (export_name (raw_name name.entry)) }
     ensures refuses { IfErr result IsMemoryOrSize }
 {
@@ -220,6 +228,7 @@ fn export<'a, E: ValtypeEncoder<'a>>(
     ensures scope_stays { (E.view enc.new).scope ≡ (E.view enc.old).scope }
     ensures maps_stay { (E.view enc.new).maps ≡ (E.view enc.old).maps }
     ensures counts { OnOk result (ExportsName (E.view enc.old) (E.view enc.new) (raw_name name.entry)) }
+    ensures held { HoldsMore 1 (E.view enc.old) (E.view enc.new) }
     ensures size { result ≡ Err Size → (E.view enc.new).lacks_room (export_name (raw_name name.entry)) }
     ensures refuses { IfErr result IsMemoryOrSize }
 {
@@ -252,6 +261,7 @@ fn define_named<'a, E: ValtypeEncoder<'a>>(
     ensures leaves { Leaves resolve.now (E.view enc.old) (E.view enc.new) }
     ensures counts { OnOk result (CountsTypes resolve.now (E.view enc.old) (E.view enc.new)) }
     ensures kinds { OnOk result ((E.view enc.new).maps.def_to_index.items ≡ (E.view enc.old).maps.def_to_index.items) }
+    ensures held { HoldsMore 2 (E.view enc.old) (E.view enc.new) }
     ensures size { result ≡ Err Size → (E.view enc.new).lacks_room (value_type (kind_tree resolve.now def.entry.now.kind)) ⊎ (E.view enc.new).lacks_room (export_name (raw_name name.entry)) }
     ensures refuses { IfErr result IsMemoryOrSize }
 {
@@ -279,7 +289,8 @@ fn define_own<'a, E: ValtypeEncoder<'a>>(
     ensures leaves { Leaves resolve.now (E.view enc.old) (E.view enc.new) }
     ensures counts { OnOk result (CountsTypes resolve.now (E.view enc.old) (E.view enc.new)) }
     ensures learns { OnOk result (LearnsParts resolve.now (E.view enc.old) (E.view enc.new)) }
-    ensures size { result ≡ Err Size → LacksType resolve.now (E.view enc.new).lacks_room }
+    ensures held { HoldsMore 2 (E.view enc.old) (E.view enc.new) }
+    ensures size { result ≡ Err Size → LacksRoom resolve.now (ValueType.Id id ∷ []) [] (E.view enc.old) (E.view enc.new) }
     ensures refuses { IfErr result IsMemoryOrSize }
 {
     match &def.name {
@@ -311,7 +322,8 @@ fn define_number<'a, E: ValtypeEncoder<'a>>(
     ensures leaves { Leaves resolve.now (E.view enc.old) (E.view enc.new) }
     ensures counts { OnOk result (CountsTypes resolve.now (E.view enc.old) (E.view enc.new)) }
     ensures learns { OnOk result (LearnsParts resolve.now (E.view enc.old) (E.view enc.new)) }
-    ensures size { result ≡ Err Size → LacksType resolve.now (E.view enc.new).lacks_room }
+    ensures held { OnOk result (HoldsLearnt 0 (E.view enc.old) (E.view enc.new)) }
+    ensures size { result ≡ Err Size → LacksRoom resolve.now (ValueType.Id id ∷ []) [] (E.view enc.old) (E.view enc.new) }
     ensures refuses { IfErr result IsMemoryOrSize }
 {
     if index_of(enc, id).is_some() {
@@ -342,6 +354,7 @@ fn import<'a, E: ValtypeEncoder<'a>>(
     ensures leaves { Leaves resolve.now (E.view enc.old) (E.view enc.new) }
     ensures counts { OnOk result (CountsTypes resolve.now (E.view enc.old) (E.view enc.new)) }
     ensures kinds { OnOk result ((E.view enc.new).maps.def_to_index.items ≡ (E.view enc.old).maps.def_to_index.items) }
+    ensures held { HoldsMore 1 (E.view enc.old) (E.view enc.new) }
     ensures size { result ≡ Err Size → (E.view enc.new).lacks_room (import_of id.0) }
     ensures refuses { IfErr result IsMemoryOrSize }
 {
@@ -362,7 +375,8 @@ pub(crate) fn define_parts<'a, E: ValtypeEncoder<'a>>(
     ensures learns { OnOk result (LearnsFrom resolve.now types.now (E.view enc.old) (E.view enc.new)) }
     ensures leaves { Leaves resolve.now (E.view enc.old) (E.view enc.new) }
     ensures counts { OnOk result (CountsTypes resolve.now (E.view enc.old) (E.view enc.new)) }
-    ensures size { result ≡ Err Size → LacksType resolve.now (E.view enc.new).lacks_room }
+    ensures held { OnOk result (HoldsLearnt 0 (E.view enc.old) (E.view enc.new)) }
+    ensures size { result ≡ Err Size → LacksRoom resolve.now types.now [] (E.view enc.old) (E.view enc.new) }
     ensures refuses { IfErr result IsMemoryOrSize }
 {
     let order = order_of(alloc, enc, resolve, types)?;

@@ -5,7 +5,8 @@
 //! parts, is defined only where the maps lack it, and then it is in the maps. What a function is named after it defines at each call.
 //!
 //! `Error::Size` comes only from a call of the encoder, for what has no room in the encoder that is left: the definition, the name or the
-//! import of a type of the packages, or what the function is named after. Every other refusal is `Error::Memory`.
+//! import of a type that is met from those asked for, or what the function is named after. By then the encoder holds at most two more for each
+//! type number that was met, each once, and one for what the function is named after. Every other refusal is `Error::Memory`.
 
 ghost use Rattle.std.specs.Prelude.{◌≡◌, ◌∷◌, [], map, option_map, option_to_list, option_copied, length, ◌<◌, IfOk, OnOk, IfSome, Ok, Err, Some, None, is_some, is_none, true, IfErr};
 ghost use Rattle.std.specs.List.{AllZip};
@@ -23,9 +24,9 @@ ghost use Rattle.wit_encode.specs.Maps.{IsReady, AllReady};
 ghost use Rattle.wit_encode.specs.Fits.{CanEncode, CanImport, is_foreign};
 ghost use Rattle.wit_encode.specs.Formed.{IsFormed};
 ghost use Rattle.wit_encode.specs.Counts.{one_type_more};
-ghost use Rattle.wit_encode.specs.Room.{value_type, import_of, LacksType};
-ghost use Rattle.wit_encode.specs.View.{Agrees, Grows};
-ghost use Rattle.wit_encode.specs.Leaves.{Leaves, LearnsFrom, CountsTypes, CountsOneMore, DefinesIf, LacksRoomFor};
+ghost use Rattle.wit_encode.specs.Room.{value_type, import_of};
+ghost use Rattle.wit_encode.specs.View.{Agrees, Grows, HoldsMore, HoldsLearnt};
+ghost use Rattle.wit_encode.specs.Leaves.{Leaves, LearnsFrom, CountsTypes, CountsOneMore, DefinesIf, LacksRoom, KindLacksRoom};
 
 use crate::define::{define_parts, define_shape};
 use crate::definition::{case_names, flag_names};
@@ -55,7 +56,8 @@ fn encode_shape<'a, E: ValtypeEncoder<'a>>(
     ensures learns { OnOk result (LearnsFrom resolve.now (parts_of (kind_of shape.entry)) (E.view enc.old) (E.view enc.new)) }
     ensures leaves { Leaves resolve.now (E.view enc.old) (E.view enc.new) }
     ensures counts { OnOk result (CountsOneMore resolve.now (E.view enc.old) (E.view enc.new)) }
-    ensures size { result ≡ Err Size → LacksRoomFor resolve.now (E.view enc.new) (kind_of shape.entry) }
+    ensures held { OnOk result (HoldsLearnt 1 (E.view enc.old) (E.view enc.new)) }
+    ensures size { result ≡ Err Size → KindLacksRoom resolve.now (kind_of shape.entry) (E.view enc.old) (E.view enc.new) }
     ensures refuses { IfErr result IsMemoryOrSize }
 {
     let parts = shape_parts(alloc, shape)?;
@@ -81,7 +83,8 @@ pub fn encode_valtype<'a, E: ValtypeEncoder<'a>>(
     ensures leaves { Leaves resolve.now (E.view enc.old) (E.view enc.new) }
     ensures counts { OnOk result (CountsTypes resolve.now (E.view enc.old) (E.view enc.new)) }
     ensures knows { OnOk result (IsReady (E.view enc.new).maps ty.now) }
-    ensures size { result ≡ Err Size → LacksType resolve.now (E.view enc.new).lacks_room }
+    ensures held { OnOk result (HoldsLearnt 0 (E.view enc.old) (E.view enc.new)) }
+    ensures size { result ≡ Err Size → LacksRoom resolve.now (ty.now ∷ []) [] (E.view enc.old) (E.view enc.new) }
     ensures refuses { IfErr result IsMemoryOrSize }
 {
     define_parts(alloc, enc, resolve, &[*ty])?;
@@ -104,7 +107,8 @@ pub fn encode_optional_valtype<'a, E: ValtypeEncoder<'a>>(
     ensures leaves { Leaves resolve.now (E.view enc.old) (E.view enc.new) }
     ensures counts { OnOk result (CountsTypes resolve.now (E.view enc.old) (E.view enc.new)) }
     ensures knows { OnOk result (AllReady (E.view enc.new).maps (option_to_list (option_copied ty.entry))) }
-    ensures size { result ≡ Err Size → LacksType resolve.now (E.view enc.new).lacks_room }
+    ensures held { OnOk result (HoldsLearnt 0 (E.view enc.old) (E.view enc.new)) }
+    ensures size { result ≡ Err Size → LacksRoom resolve.now (option_to_list (option_copied ty.entry)) [] (E.view enc.old) (E.view enc.new) }
     ensures refuses { IfErr result IsMemoryOrSize }
 {
     match ty {
@@ -132,7 +136,8 @@ pub fn encode_params<'a, E: ValtypeEncoder<'a>>(
     ensures leaves { Leaves resolve.now (E.view enc.old) (E.view enc.new) }
     ensures counts { OnOk result (CountsTypes resolve.now (E.view enc.old) (E.view enc.new)) }
     ensures knows { OnOk result (AllReady (E.view enc.new).maps (map (λ p. p.ty) params.now)) }
-    ensures size { result ≡ Err Size → LacksType resolve.now (E.view enc.new).lacks_room }
+    ensures held { OnOk result (HoldsLearnt 0 (E.view enc.old) (E.view enc.new)) }
+    ensures size { result ≡ Err Size → LacksRoom resolve.now (map (λ p. p.ty) params.now) [] (E.view enc.old) (E.view enc.new) }
     ensures refuses { IfErr result IsMemoryOrSize }
 {
     let types = param_types(alloc, params)?;
@@ -157,7 +162,8 @@ pub fn encode_record<'a, E: ValtypeEncoder<'a>>(
     ensures learns { OnOk result (LearnsFrom resolve.now (parts_of (TypeDefKind.Record ty.now)) (E.view enc.old) (E.view enc.new)) }
     ensures leaves { Leaves resolve.now (E.view enc.old) (E.view enc.new) }
     ensures counts { OnOk result (CountsOneMore resolve.now (E.view enc.old) (E.view enc.new)) }
-    ensures size { result ≡ Err Size → LacksRoomFor resolve.now (E.view enc.new) (TypeDefKind.Record ty.now) }
+    ensures held { OnOk result (HoldsLearnt 1 (E.view enc.old) (E.view enc.new)) }
+    ensures size { result ≡ Err Size → KindLacksRoom resolve.now (TypeDefKind.Record ty.now) (E.view enc.old) (E.view enc.new) }
     ensures refuses { IfErr result IsMemoryOrSize }
 {
     encode_shape(alloc, enc, resolve, Shape::Record(ty))
@@ -179,7 +185,8 @@ pub fn encode_tuple<'a, E: ValtypeEncoder<'a>>(
     ensures learns { OnOk result (LearnsFrom resolve.now (parts_of (TypeDefKind.Tuple ty.now)) (E.view enc.old) (E.view enc.new)) }
     ensures leaves { Leaves resolve.now (E.view enc.old) (E.view enc.new) }
     ensures counts { OnOk result (CountsOneMore resolve.now (E.view enc.old) (E.view enc.new)) }
-    ensures size { result ≡ Err Size → LacksRoomFor resolve.now (E.view enc.new) (TypeDefKind.Tuple ty.now) }
+    ensures held { OnOk result (HoldsLearnt 1 (E.view enc.old) (E.view enc.new)) }
+    ensures size { result ≡ Err Size → KindLacksRoom resolve.now (TypeDefKind.Tuple ty.now) (E.view enc.old) (E.view enc.new) }
     ensures refuses { IfErr result IsMemoryOrSize }
 {
     encode_shape(alloc, enc, resolve, Shape::Tuple(ty))
@@ -201,7 +208,8 @@ pub fn encode_variant<'a, E: ValtypeEncoder<'a>>(
     ensures learns { OnOk result (LearnsFrom resolve.now (parts_of (TypeDefKind.Variant ty.now)) (E.view enc.old) (E.view enc.new)) }
     ensures leaves { Leaves resolve.now (E.view enc.old) (E.view enc.new) }
     ensures counts { OnOk result (CountsOneMore resolve.now (E.view enc.old) (E.view enc.new)) }
-    ensures size { result ≡ Err Size → LacksRoomFor resolve.now (E.view enc.new) (TypeDefKind.Variant ty.now) }
+    ensures held { OnOk result (HoldsLearnt 1 (E.view enc.old) (E.view enc.new)) }
+    ensures size { result ≡ Err Size → KindLacksRoom resolve.now (TypeDefKind.Variant ty.now) (E.view enc.old) (E.view enc.new) }
     ensures refuses { IfErr result IsMemoryOrSize }
 {
     encode_shape(alloc, enc, resolve, Shape::Variant(ty))
@@ -223,7 +231,8 @@ pub fn encode_result<'a, E: ValtypeEncoder<'a>>(
     ensures learns { OnOk result (LearnsFrom resolve.now (parts_of (TypeDefKind.Result ty.now)) (E.view enc.old) (E.view enc.new)) }
     ensures leaves { Leaves resolve.now (E.view enc.old) (E.view enc.new) }
     ensures counts { OnOk result (CountsOneMore resolve.now (E.view enc.old) (E.view enc.new)) }
-    ensures size { result ≡ Err Size → LacksRoomFor resolve.now (E.view enc.new) (TypeDefKind.Result ty.now) }
+    ensures held { OnOk result (HoldsLearnt 1 (E.view enc.old) (E.view enc.new)) }
+    ensures size { result ≡ Err Size → KindLacksRoom resolve.now (TypeDefKind.Result ty.now) (E.view enc.old) (E.view enc.new) }
     ensures refuses { IfErr result IsMemoryOrSize }
 {
     encode_shape(alloc, enc, resolve, Shape::Result(ty))
@@ -245,7 +254,8 @@ pub fn encode_option<'a, E: ValtypeEncoder<'a>>(
     ensures learns { OnOk result (LearnsFrom resolve.now (parts_of (TypeDefKind.Option payload.now)) (E.view enc.old) (E.view enc.new)) }
     ensures leaves { Leaves resolve.now (E.view enc.old) (E.view enc.new) }
     ensures counts { OnOk result (CountsOneMore resolve.now (E.view enc.old) (E.view enc.new)) }
-    ensures size { result ≡ Err Size → LacksRoomFor resolve.now (E.view enc.new) (TypeDefKind.Option payload.now) }
+    ensures held { OnOk result (HoldsLearnt 1 (E.view enc.old) (E.view enc.new)) }
+    ensures size { result ≡ Err Size → KindLacksRoom resolve.now (TypeDefKind.Option payload.now) (E.view enc.old) (E.view enc.new) }
     ensures refuses { IfErr result IsMemoryOrSize }
 {
     encode_shape(alloc, enc, resolve, Shape::Option(*payload))
@@ -267,7 +277,8 @@ pub fn encode_future<'a, E: ValtypeEncoder<'a>>(
     ensures learns { OnOk result (LearnsFrom resolve.now (parts_of (TypeDefKind.Future payload.now)) (E.view enc.old) (E.view enc.new)) }
     ensures leaves { Leaves resolve.now (E.view enc.old) (E.view enc.new) }
     ensures counts { OnOk result (CountsOneMore resolve.now (E.view enc.old) (E.view enc.new)) }
-    ensures size { result ≡ Err Size → LacksRoomFor resolve.now (E.view enc.new) (TypeDefKind.Future payload.now) }
+    ensures held { OnOk result (HoldsLearnt 1 (E.view enc.old) (E.view enc.new)) }
+    ensures size { result ≡ Err Size → KindLacksRoom resolve.now (TypeDefKind.Future payload.now) (E.view enc.old) (E.view enc.new) }
     ensures refuses { IfErr result IsMemoryOrSize }
 {
     encode_shape(alloc, enc, resolve, Shape::Future(*payload))
@@ -289,7 +300,8 @@ pub fn encode_stream<'a, E: ValtypeEncoder<'a>>(
     ensures learns { OnOk result (LearnsFrom resolve.now (parts_of (TypeDefKind.Stream payload.now)) (E.view enc.old) (E.view enc.new)) }
     ensures leaves { Leaves resolve.now (E.view enc.old) (E.view enc.new) }
     ensures counts { OnOk result (CountsOneMore resolve.now (E.view enc.old) (E.view enc.new)) }
-    ensures size { result ≡ Err Size → LacksRoomFor resolve.now (E.view enc.new) (TypeDefKind.Stream payload.now) }
+    ensures held { OnOk result (HoldsLearnt 1 (E.view enc.old) (E.view enc.new)) }
+    ensures size { result ≡ Err Size → KindLacksRoom resolve.now (TypeDefKind.Stream payload.now) (E.view enc.old) (E.view enc.new) }
     ensures refuses { IfErr result IsMemoryOrSize }
 {
     encode_shape(alloc, enc, resolve, Shape::Stream(*payload))
@@ -306,6 +318,7 @@ fn define<'a, E: ValtypeEncoder<'a>>(
     ensures scope_stays { (E.view enc.new).scope ≡ (E.view enc.old).scope }
     ensures maps_stay { (E.view enc.new).maps ≡ (E.view enc.old).maps }
     ensures counts { OnOk result ((E.view enc.new).definitions ≡ one_type_more (E.view enc.old).definitions) }
+    ensures held { HoldsMore 1 (E.view enc.old) (E.view enc.new) }
     ensures size { result ≡ Err Size → (t : Tree) → Follows (E.view enc.old).stands def.entry t → (E.view enc.new).lacks_room (value_type t) }
     ensures refuses { IfErr result IsMemoryOrSize }
 {
@@ -327,6 +340,7 @@ pub fn encode_flags<'a, E: ValtypeEncoder<'a>>(
     ensures scope_stays { (E.view enc.new).scope ≡ (E.view enc.old).scope }
     ensures maps_stay { (E.view enc.new).maps ≡ (E.view enc.old).maps }
     ensures counts { OnOk result ((E.view enc.new).definitions ≡ one_type_more (E.view enc.old).definitions) }
+    ensures held { HoldsMore 1 (E.view enc.old) (E.view enc.new) }
     ensures size { result ≡ Err Size → (E.view enc.new).lacks_room (value_type (flags_tree (map (λ x. text_of x.name) ty.now.flags.items))) }
     ensures refuses { IfErr result IsMemoryOrSize }
 {
@@ -348,6 +362,7 @@ pub fn encode_enum<'a, E: ValtypeEncoder<'a>>(
     ensures scope_stays { (E.view enc.new).scope ≡ (E.view enc.old).scope }
     ensures maps_stay { (E.view enc.new).maps ≡ (E.view enc.old).maps }
     ensures counts { OnOk result ((E.view enc.new).definitions ≡ one_type_more (E.view enc.old).definitions) }
+    ensures held { HoldsMore 1 (E.view enc.old) (E.view enc.new) }
     ensures size { result ≡ Err Size → (E.view enc.new).lacks_room (value_type (enum_tree (map (λ x. text_of x.name) ty.now.cases.items))) }
     ensures refuses { IfErr result IsMemoryOrSize }
 {
@@ -370,6 +385,7 @@ pub fn encode_unit_future<'a, E: ValtypeEncoder<'a>>(
     ensures rest { (E.view enc.new).maps ≡ record (E.view enc.old).maps { unit_future = (E.view enc.new).maps.unit_future } }
     ensures leaves { Leaves (E.view enc.old).scope.packages (E.view enc.old) (E.view enc.new) }
     ensures counts { OnOk result (DefinesIf (is_none (E.view enc.old).maps.unit_future) (E.view enc.old) (E.view enc.new)) }
+    ensures held { HoldsMore 1 (E.view enc.old) (E.view enc.new) }
     ensures size { result ≡ Err Size → (E.view enc.new).lacks_room (value_type (future_tree None)) }
     ensures refuses { IfErr result IsMemoryOrSize }
 {
@@ -389,6 +405,7 @@ fn define_unit_future<'a, E: ValtypeEncoder<'a>>(enc: &mut E) -> Result<u32, Err
     ensures rest { (E.view enc.new).maps ≡ record (E.view enc.old).maps { unit_future = (E.view enc.new).maps.unit_future } }
     ensures leaves { Leaves (E.view enc.old).scope.packages (E.view enc.old) (E.view enc.new) }
     ensures counts { OnOk result ((E.view enc.new).definitions ≡ one_type_more (E.view enc.old).definitions) }
+    ensures held { HoldsMore 1 (E.view enc.old) (E.view enc.new) }
     ensures size { result ≡ Err Size → (E.view enc.new).lacks_room (value_type (future_tree None)) }
     ensures refuses { IfErr result IsMemoryOrSize }
 {
@@ -412,6 +429,7 @@ pub fn encode_unit_stream<'a, E: ValtypeEncoder<'a>>(
     ensures rest { (E.view enc.new).maps ≡ record (E.view enc.old).maps { unit_stream = (E.view enc.new).maps.unit_stream } }
     ensures leaves { Leaves (E.view enc.old).scope.packages (E.view enc.old) (E.view enc.new) }
     ensures counts { OnOk result (DefinesIf (is_none (E.view enc.old).maps.unit_stream) (E.view enc.old) (E.view enc.new)) }
+    ensures held { HoldsMore 1 (E.view enc.old) (E.view enc.new) }
     ensures size { result ≡ Err Size → (E.view enc.new).lacks_room (value_type (stream_tree None)) }
     ensures refuses { IfErr result IsMemoryOrSize }
 {
@@ -431,6 +449,7 @@ fn define_unit_stream<'a, E: ValtypeEncoder<'a>>(enc: &mut E) -> Result<u32, Err
     ensures rest { (E.view enc.new).maps ≡ record (E.view enc.old).maps { unit_stream = (E.view enc.new).maps.unit_stream } }
     ensures leaves { Leaves (E.view enc.old).scope.packages (E.view enc.old) (E.view enc.new) }
     ensures counts { OnOk result ((E.view enc.new).definitions ≡ one_type_more (E.view enc.old).definitions) }
+    ensures held { HoldsMore 1 (E.view enc.old) (E.view enc.new) }
     ensures size { result ≡ Err Size → (E.view enc.new).lacks_room (value_type (stream_tree None)) }
     ensures refuses { IfErr result IsMemoryOrSize }
 {
@@ -458,6 +477,7 @@ pub fn maybe_import_type<'a, E: ValtypeEncoder<'a>>(
     ensures scope_stays { (E.view enc.new).scope ≡ (E.view enc.old).scope }
     ensures maps_stay { (E.view enc.new).maps ≡ (E.view enc.old).maps }
     ensures counts { OnOk result ((E.view enc.new).definitions ≡ (E.view enc.old).definitions) }
+    ensures held { HoldsMore 1 (E.view enc.old) (E.view enc.new) }
     ensures size { result ≡ Err Size → (E.view enc.new).lacks_room (import_of id.0) }
     ensures refuses { IfErr result IsMemoryOrSize }
 {

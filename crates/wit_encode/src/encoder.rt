@@ -9,7 +9,7 @@ ghost use Rattle.wit_model.specs.Types.{number_tree};
 ghost use Rattle.comp_bytes.specs.RawOf.{raw_name};
 ghost use Rattle.comp_bytes.specs.Refusal.{IsMemoryOrSize};
 ghost use Rattle.wit_encode.specs.Slots.{Standing, tree, Follows, FollowsFunction, Defines, DefinesFunction};
-ghost use Rattle.wit_encode.specs.View.{View, Grows, AddsSlot, AddsName, Exports, ExportsName, SameRest, LacksDefinition, LacksFunctionType};
+ghost use Rattle.wit_encode.specs.View.{View, Grows, AddsSlot, AddsName, Exports, ExportsName, SameRest, HoldsMore, LacksDefinition, LacksFunctionType};
 ghost use Rattle.wit_encode.specs.Scope.{DeclaresSlot, DeclaresResource, IsImportable};
 ghost use Rattle.wit_encode.specs.Room.{export_name, import_of};
 ghost use Rattle.wit_encode.specs.Formed.{IsFormed, IsFormedSignature};
@@ -44,7 +44,8 @@ pub trait LendsMaps<M> {
 /// Old slots stand for what they did after every call, also after one that is refused, and no call changes the maps. Around its scope, a call
 /// of `import_type` may make aliases of types that had none, and no other call changes anything.
 /// A call answers `Error::Size` only where what it is asked to add has no room in 32 bits: then the view says so of the encoder that
-/// the call leaves (`View::lacks_room`). An implementor says in its view when that is.
+/// the call leaves (`View::lacks_room`). An implementor says in its view when that is, and how much it holds (`View::held`): a number
+/// of its own, which each call raises by one at most.
 pub trait ValtypeEncoder<'a>: LendsMaps<TypeEncodingMaps<'a>> {
     // what it holds: what is around, its slots, how much has been defined, its maps, and what has no room
     ghost view: { Self → View };
@@ -58,6 +59,7 @@ pub trait ValtypeEncoder<'a>: LendsMaps<TypeEncodingMaps<'a>> {
         ensures around_stays { (view self.new).around ≡ (view self.old).around }
         ensures maps_stay { (view self.new).maps ≡ (view self.old).maps }
         ensures counts { OnOk result ((view self.new).definitions ≡ one_type_more (view self.old).definitions) }
+        ensures held { HoldsMore 1 (view self.old) (view self.new) }
         ensures size { result ≡ Err Size → LacksDefinition (view self.old) (view self.new) def.entry }
         ensures refuses { IfErr result IsMemoryOrSize };
 
@@ -70,6 +72,7 @@ pub trait ValtypeEncoder<'a>: LendsMaps<TypeEncodingMaps<'a>> {
         ensures around_stays { (view self.new).around ≡ (view self.old).around }
         ensures maps_stay { (view self.new).maps ≡ (view self.old).maps }
         ensures counts { OnOk result ((view self.new).definitions ≡ one_function_more (view self.old).definitions) }
+        ensures held { HoldsMore 1 (view self.old) (view self.new) }
         ensures size { result ≡ Err Size → LacksFunctionType (view self.old) (view self.new) def.entry }
         ensures refuses { IfErr result IsMemoryOrSize };
 
@@ -87,6 +90,7 @@ pub trait ValtypeEncoder<'a>: LendsMaps<TypeEncodingMaps<'a>> {
         ensures around_stays { (view self.new).around ≡ (view self.old).around }
         ensures maps_stay { (view self.new).maps ≡ (view self.old).maps }
         ensures counts { OnOk result (ExportsName (view self.old) (view self.new) (raw_name name.entry)) }
+        ensures held { HoldsMore 1 (view self.old) (view self.new) }
         ensures size { result ≡ Err Size → (view self.new).lacks_room (export_name (raw_name name.entry)) }
         ensures refuses { IfErr result IsMemoryOrSize };
 
@@ -99,6 +103,7 @@ pub trait ValtypeEncoder<'a>: LendsMaps<TypeEncodingMaps<'a>> {
         ensures around_stays { (view self.new).around ≡ (view self.old).around }
         ensures maps_stay { (view self.new).maps ≡ (view self.old).maps }
         ensures counts { OnOk result (ExportsName (view self.old) (view self.new) (raw_name name.entry)) }
+        ensures held { HoldsMore 1 (view self.old) (view self.new) }
         ensures size { result ≡ Err Size → (view self.new).lacks_room (export_name (raw_name name.entry)) }
         ensures refuses { IfErr result IsMemoryOrSize };
 
@@ -110,6 +115,7 @@ pub trait ValtypeEncoder<'a>: LendsMaps<TypeEncodingMaps<'a>> {
         ensures scope_stays { (view self.new).scope ≡ (view self.old).scope }
         ensures maps_stay { (view self.new).maps ≡ (view self.old).maps }
         ensures counts { OnOk result ((view self.new).definitions ≡ (view self.old).definitions) }
+        ensures held { HoldsMore 1 (view self.old) (view self.new) }
         ensures size { result ≡ Err Size → (view self.new).lacks_room (import_of id.0) }
         ensures refuses { IfErr result IsMemoryOrSize };
 

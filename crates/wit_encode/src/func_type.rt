@@ -1,6 +1,6 @@
 //! Encodes the types of functions by any encoder that keeps the law.
 
-ghost use Rattle.std.specs.Prelude.{◌≡◌, Err, IfOk, OnOk, IfErr};
+ghost use Rattle.std.specs.Prelude.{◌≡◌, [], Err, IfOk, OnOk, IfErr};
 ghost use Rattle.comp_bytes.specs.Refusal.{IsMemoryOrSize};
 ghost use Rattle.wit_model.specs.declared.error.Error.TheVariants.{Size};
 ghost use Rattle.wit_model.specs.Meant.{signature_of};
@@ -10,9 +10,8 @@ ghost use Rattle.wit_encode.specs.Key.{IsKeyOf};
 ghost use Rattle.wit_encode.specs.Maps.{AllReady, LacksKey};
 ghost use Rattle.wit_encode.specs.Fits.{CanEncode};
 ghost use Rattle.wit_encode.specs.Formed.{IsFormedSignature};
-ghost use Rattle.wit_encode.specs.Room.{function_type, LacksType, LacksTypeOr};
-ghost use Rattle.wit_encode.specs.View.{Agrees};
-ghost use Rattle.wit_encode.specs.Leaves.{Leaves, LearnsFrom, CountsTypes, CountsFunction};
+ghost use Rattle.wit_encode.specs.View.{Agrees, HoldsLearnt};
+ghost use Rattle.wit_encode.specs.Leaves.{Leaves, LearnsFrom, CountsTypes, CountsFunction, LacksRoom, FunctionLacksRoom};
 ghost use Rattle.wit_encode.specs.declared.key.FunctionKey.{FunctionKey as KeyValue};
 
 use crate::encode::{encode_optional_valtype, encode_params};
@@ -39,7 +38,8 @@ fn function_of<'a, E: ValtypeEncoder<'a>>(
     ensures leaves { Leaves resolve.now (E.view enc.old) (E.view enc.new) }
     ensures counts { OnOk result (CountsTypes resolve.now (E.view enc.old) (E.view enc.new)) }
     ensures knows { OnOk result (AllReady (E.view enc.new).maps (function_types func.now)) }
-    ensures size { result ≡ Err Size → LacksType resolve.now (E.view enc.new).lacks_room }
+    ensures held { OnOk result (HoldsLearnt 0 (E.view enc.old) (E.view enc.new)) }
+    ensures size { result ≡ Err Size → LacksRoom resolve.now (function_types func.now) [] (E.view enc.old) (E.view enc.new) }
     ensures refuses { IfErr result IsMemoryOrSize }
 {
     let params = encode_params(alloc, enc, resolve, &func.params)?;
@@ -68,7 +68,8 @@ fn define_key<'a, E: ValtypeEncoder<'a>>(
     ensures learns { OnOk result (LearnsFrom resolve.now (function_types func.now) (E.view enc.old) (E.view enc.new)) }
     ensures leaves { Leaves resolve.now (E.view enc.old) (E.view enc.new) }
     ensures counts { IfOk result (CountsFunction resolve.now (E.view enc.old) (E.view enc.new) key.entry) }
-    ensures size { result ≡ Err Size → LacksTypeOr resolve.now (E.view enc.new).lacks_room (function_type (signature_of resolve.now func.now)) }
+    ensures held { OnOk result (HoldsLearnt 1 (E.view enc.old) (E.view enc.new)) }
+    ensures size { result ≡ Err Size → FunctionLacksRoom resolve.now func.now (E.view enc.old) (E.view enc.new) }
     ensures refuses { IfErr result IsMemoryOrSize }
 {
     let def = function_of(alloc, enc, resolve, func, key.async_)?;
@@ -93,7 +94,8 @@ pub fn encode_func_type<'a, E: ValtypeEncoder<'a>>(
     ensures learns { OnOk result (LearnsFrom resolve.now (function_types func.now) (E.view enc.old) (E.view enc.new)) }
     ensures leaves { Leaves resolve.now (E.view enc.old) (E.view enc.new) }
     ensures counts { IfOk result (λ i. (key : KeyValue) × IsKeyOf key func.now × CountsFunction resolve.now (E.view enc.old) (E.view enc.new) key i) }
-    ensures size { result ≡ Err Size → LacksTypeOr resolve.now (E.view enc.new).lacks_room (function_type (signature_of resolve.now func.now)) }
+    ensures held { OnOk result (HoldsLearnt 1 (E.view enc.old) (E.view enc.new)) }
+    ensures size { result ≡ Err Size → FunctionLacksRoom resolve.now func.now (E.view enc.old) (E.view enc.new) }
     ensures refuses { IfErr result IsMemoryOrSize }
 {
     let key = key_of(func);

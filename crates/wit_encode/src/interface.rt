@@ -1,12 +1,13 @@
 //! Encodes interfaces as instance types.
 
 ghost use Rattle.std.proofs.Common.{refl};
-ghost use Rattle.std.specs.Prelude.{◌≡◌, ◌&&◌, false, Err, ◌++◌, ◌∷◌, [], Some, None, ◌<◌, true, length, map, IfOk, OnOk, OnErr, IsSome, IfErr};
+ghost use Rattle.std.specs.Prelude.{◌≡◌, ◌≤◌, ◌+◌, ◌*◌, ◌&&◌, false, Err, ◌++◌, ◌∷◌, [], Some, None, ◌<◌, true, length, map, IfOk, OnOk, OnErr, IsSome, IfErr};
 ghost use Rattle.std.specs.List.{Contains};
-ghost use Rattle.comp_bytes.specs.Raw.{Alias as RawAlias, Declaration, Declarations, append, from_list};
-ghost use Rattle.wit_encode.specs.Known.{known_slot, known_instance, IsSource, ReachesAround, Aliased, alias_declared};
+ghost use Rattle.comp_bytes.specs.Raw.{Alias as RawAlias, Declaration, Declarations, append, declaration_count, from_list};
+ghost use Rattle.wit_encode.specs.Known.{known_slot, known_instance, IsSource, ReachesAround};
 ghost use Rattle.wit_encode.specs.Instance.{around_at, around_of};
 ghost use Rattle.wit_encode.specs.Encoders.{declared_after, DeclaresInside, DeclaresOutside, AddsInstance};
+ghost use Rattle.wit_encode.specs.Room.{fits_type_name};
 ghost use Rattle.wit_model.specs.Text.{text_of};
 ghost use Rattle.comp_bytes.specs.RawOf.{raw_defined, raw_function, raw_name};
 ghost use Rattle.comp_bytes.specs.Held.{type_slots, type_slots_of, fits_next, fits_added};
@@ -77,6 +78,7 @@ fn no_foreign(alloc: Global) -> Foreign
 fn define_inside(inner: &mut InstanceType, def: &ComponentDefinedType) -> Result<u32, Error>
     ensures ok { IfOk result (DeclaresInside inner.old inner.new (Declaration.defined (raw_defined def.now))) }
     ensures err { OnErr result (inner.new ≡ inner.old) }
+    ensures held { length inner.new ≤ length inner.old + 1 }
     ensures size { result ≡ Err Size → fits_next inner.new (Declaration.defined (raw_defined def.now)) ≡ false }
     ensures refuses { IfErr result IsMemoryOrSize }
 {
@@ -88,6 +90,7 @@ fn define_inside(inner: &mut InstanceType, def: &ComponentDefinedType) -> Result
 fn define_outside(outer: &mut ComponentType, def: &ComponentDefinedType) -> Result<u32, Error>
     ensures ok { IfOk result (DeclaresOutside outer.old outer.new (Declaration.defined (raw_defined def.now))) }
     ensures err { OnErr result (outer.new ≡ outer.old) }
+    ensures held { declaration_count outer.new ≤ declaration_count outer.old + 1 }
     ensures size { result ≡ Err Size → (fits_declaration (Declaration.defined (raw_defined def.now)) && fits_added outer.new 1) ≡ false }
     ensures refuses { IfErr result IsMemoryOrSize }
 {
@@ -99,6 +102,7 @@ fn define_outside(outer: &mut ComponentType, def: &ComponentDefinedType) -> Resu
 fn define_function_inside(inner: &mut InstanceType, def: &ComponentFuncType) -> Result<u32, Error>
     ensures ok { IfOk result (DeclaresInside inner.old inner.new (Declaration.function (raw_function def.now))) }
     ensures err { OnErr result (inner.new ≡ inner.old) }
+    ensures held { length inner.new ≤ length inner.old + 1 }
     ensures size { result ≡ Err Size → fits_next inner.new (Declaration.function (raw_function def.now)) ≡ false }
     ensures refuses { IfErr result IsMemoryOrSize }
 {
@@ -110,6 +114,7 @@ fn define_function_inside(inner: &mut InstanceType, def: &ComponentFuncType) -> 
 fn define_function_outside(outer: &mut ComponentType, def: &ComponentFuncType) -> Result<u32, Error>
     ensures ok { IfOk result (DeclaresOutside outer.old outer.new (Declaration.function (raw_function def.now))) }
     ensures err { OnErr result (outer.new ≡ outer.old) }
+    ensures held { declaration_count outer.new ≤ declaration_count outer.old + 1 }
     ensures size { result ≡ Err Size → (fits_declaration (Declaration.function (raw_function def.now)) && fits_added outer.new 1) ≡ false }
     ensures refuses { IfErr result IsMemoryOrSize }
 {
@@ -125,6 +130,7 @@ fn export_inside(
 ) -> Result<u32, Error>
     ensures ok { IfOk result (DeclaresInside inner.old inner.new (Declaration.exported (raw_name name.now) ty)) }
     ensures err { OnErr result (inner.new ≡ inner.old) }
+    ensures held { length inner.new ≤ length inner.old + 1 }
     ensures size { result ≡ Err Size → fits_next inner.new (Declaration.exported (raw_name name.now) ty) ≡ false }
     ensures refuses { IfErr result IsMemoryOrSize }
 {
@@ -136,6 +142,7 @@ fn export_inside(
 fn alias_inside(inner: &mut InstanceType, slot: u32) -> Result<u32, Error>
     ensures ok { IfOk result (DeclaresInside inner.old inner.new (Declaration.alias_of (RawAlias.of_outer 1 slot))) }
     ensures err { OnErr result (inner.new ≡ inner.old) }
+    ensures held { length inner.new ≤ length inner.old + 1 }
     ensures size { result ≡ Err Size → fits_next inner.new (Declaration.alias_of (RawAlias.of_outer 1 slot)) ≡ false }
     ensures refuses { IfErr result IsMemoryOrSize }
 {
@@ -203,7 +210,7 @@ fn reach(
     ensures slot { IfOk result (λ k. known_slot foreign.new.known.items id.0 ≡ Some k) }
     ensures reaches { ReachesAround resolve.now id (around_at outer.old foreign.old) (around_at outer.new foreign.new) }
     ensures err { OnErr result (around_at outer.new foreign.new ≡ around_at outer.old foreign.old) }
-    ensures size { result ≡ Err Size → (a : Aliased) × ((fits_declaration (alias_declared a) && fits_added outer.new 1) ≡ false) }
+    ensures size { result ≡ Err Size → (fits_type_name resolve.now id.0 && fits_added outer.new 1) ≡ false }
     ensures refuses { IfErr result IsMemoryOrSize }
 {
     match slot_around(&foreign.known, id) {
@@ -309,7 +316,7 @@ impl<'a> ValtypeEncoder<'a> for InterfaceEncoderOf<'a, TypeEncodingMaps<'a>> {
 
     ghost maps_in_view = { λ e. refl };
 
-    ghost view_with_maps = { λ e m. record { scope_ = refl; around_ = refl; slot_count_ = refl; definitions_ = refl; kept = λ i s h. h; back = λ i s h. h } };
+    ghost view_with_maps = { λ e m. record { scope_ = refl; around_ = refl; slot_count_ = refl; definitions_ = refl; held_ = refl; kept = λ i s h. h; back = λ i s h. h } };
 }
 
 impl<'a> InterfaceEncoderOf<'a, TypeEncodingMaps<'a>> {
@@ -318,8 +325,8 @@ impl<'a> InterfaceEncoderOf<'a, TypeEncodingMaps<'a>> {
     ghost use Rattle.wit_encode.specs.Slots.{Keeps, function};
     ghost use Rattle.wit_model.specs.Meant.{function_meaning};
     ghost use Rattle.wit_model.specs.Valid.{IsValid};
-    ghost use Rattle.wit_encode.specs.View.{Agrees};
-    ghost use Rattle.wit_encode.specs.Leaves.{Leaves, CountsTypes, CountsFunctions};
+    ghost use Rattle.wit_encode.specs.View.{Agrees, HoldsMore, HoldsLearnt};
+    ghost use Rattle.wit_encode.specs.Leaves.{Leaves, CountsTypes, CountsFunctions, LacksRoom};
     ghost use Rattle.wit_encode.specs.Fits.{CanEncode};
     ghost use Rattle.wit_encode.specs.Counts.{names_defined};
     ghost use Rattle.std.specs.Set.{distinct_count};
@@ -331,9 +338,9 @@ impl<'a> InterfaceEncoderOf<'a, TypeEncodingMaps<'a>> {
     ghost use Rattle.std.specs.List.{flat_map};
     ghost use Rattle.wit_encode.specs.Exports.{AreTypesOf, AllKnown, KnowsUsed, UsesListed};
     ghost use Rattle.wit_model.specs.declared.model.«Type».TheVariants as ValueType;
-    ghost use Rattle.wit_encode.specs.Instance.{ShowsFunction, CanEncodeFunction, LacksRoomWithin, IsInstance, placed_function, meaning_of, own_of, declarations_in};
-    ghost use Rattle.wit_encode.specs.Encoders.{encoder_view, view_of, contents_in, shown_as, scope_within, outside, GoesOn, Reaches, InstancesStay, UsedAround, EncodesAs, LacksInstance, plain, meanings_of, ShowsAs, ShowsMore, TypesStay, NamesStay, LearnsInside, DefinesNames, IsEncoding, Begins};
-    ghost use Rattle.wit_encode.specs.Room.{export_name, LacksType, LacksPartOf};
+    ghost use Rattle.wit_encode.specs.Instance.{ShowsFunction, CanEncodeFunction, IsInstance, placed_function, meaning_of, own_of, declarations_in};
+    ghost use Rattle.wit_encode.specs.Encoders.{encoder_view, view_of, contents_in, shown_as, scope_within, outside, GoesOn, Reaches, InstancesStay, UsedAround, EncodesAs, LacksInstance, LacksWithin, plain, requests_of, meanings_of, ShowsAs, ShowsMore, HoldsInside, LacksInside, TypesStay, NamesStay, LearnsInside, DefinesNames, IsEncoding, Begins};
+    ghost use Rattle.wit_encode.specs.Room.{export_name, function_requests};
     ghost use Rattle.wit_encode.specs.Maps.{MapsGrow};
 
     /// An encoder with an empty component type. Takes constant time and no memory.
@@ -369,6 +376,7 @@ impl<'a> InterfaceEncoderOf<'a, TypeEncodingMaps<'a>> {
         ensures resolve { self.new.resolve ≡ self.old.resolve }
         ensures outer { self.new.outer ≡ self.old.outer }
         ensures maps { self.new.maps ≡ self.old.maps }
+        ensures held { HoldsMore 1 (encoder_view self.old) (encoder_view self.new) }
         ensures size { result ≡ Err Size → (encoder_view self.new).lacks_room (export_name (raw_name name.entry)) }
         ensures refuses { IfErr result IsMemoryOrSize }
     {
@@ -398,7 +406,8 @@ impl<'a> InterfaceEncoderOf<'a, TypeEncodingMaps<'a>> {
         ensures maps_grow { MapsGrow self.old.maps self.new.maps }
         ensures types_stay { OnOk result (TypesStay resolve.now self.old self.new) }
         ensures names_stay { OnOk result (NamesStay resolve.now self.old self.new) }
-        ensures size { result ≡ Err Size → LacksPartOf resolve.now (encoder_view self.new).lacks_room ((text_of name.now, func.now) ∷ []) }
+        ensures held { OnOk result (HoldsInside 2 self.old self.new) }
+        ensures size { result ≡ Err Size → LacksInside resolve.now self.old self.new (function_types func.now) (function_requests resolve.now (text_of name.now, func.now)) }
         ensures refuses { IfErr result IsMemoryOrSize }
     {
         let index = encode_func_type(alloc, self, resolve, func)?;
@@ -421,7 +430,8 @@ impl<'a> InterfaceEncoderOf<'a, TypeEncodingMaps<'a>> {
         ensures learns { OnOk result (LearnsInside resolve.now self.old self.new (flat_map function_types (plain functions.now))) }
         ensures types_stay { OnOk result (TypesStay resolve.now self.old self.new) }
         ensures names_stay { OnOk result (NamesStay resolve.now self.old self.new) }
-        ensures size { result ≡ Err Size → LacksPartOf resolve.now (encoder_view self.new).lacks_room (map placed_function functions.now) }
+        ensures held { OnOk result (HoldsInside (2 * length functions.now) self.old self.new) }
+        ensures size { result ≡ Err Size → LacksInside resolve.now self.old self.new (flat_map function_types (plain functions.now)) (requests_of resolve.now functions.now) }
         ensures refuses { IfErr result IsMemoryOrSize }
     {
         for entry in functions {
@@ -446,7 +456,8 @@ impl<'a> InterfaceEncoderOf<'a, TypeEncodingMaps<'a>> {
         ensures known { OnOk result (AllKnown self.new.maps types.now) }
         ensures exported { OnOk result ((encoder_view self.new).definitions.exports ≡ declarations_in resolve.now (own_of self.old.inner)) }
         ensures defined { OnOk result (DefinesNames resolve.now (encoder_view self.old) self.old self.new types.now) }
-        ensures size { result ≡ Err Size → LacksType resolve.now (encoder_view self.new).lacks_room }
+        ensures held { OnOk result (HoldsInside 0 self.old self.new) }
+        ensures size { result ≡ Err Size → LacksInside resolve.now self.old self.new (map (λ t. ValueType.Id t) types.now) [] }
         ensures refuses { IfErr result IsMemoryOrSize }
     {
         for id in types {
@@ -475,7 +486,7 @@ impl<'a> InterfaceEncoderOf<'a, TypeEncodingMaps<'a>> {
         ensures learns { OnOk result (LearnsInside resolve.now self.old self.new (referred types.now (plain functions.now))) }
         ensures exported { OnOk result ((view_of resolve.now self.new).definitions.exports ≡ declarations_in resolve.now (own_of self.old.inner)) }
         ensures defined { OnOk result (DefinesNames resolve.now (view_of resolve.now self.old) self.old self.new types.now) }
-        ensures size { result ≡ Err Size → LacksPartOf resolve.now (encoder_view self.new).lacks_room (map placed_function functions.now) }
+        ensures size { result ≡ Err Size → LacksInside resolve.now self.old self.new (referred types.now (plain functions.now)) (requests_of resolve.now functions.now) }
         ensures refuses { IfErr result IsMemoryOrSize }
     {
         self.encode_types(alloc, resolve, types)?;
@@ -502,7 +513,7 @@ impl<'a> InterfaceEncoderOf<'a, TypeEncodingMaps<'a>> {
         ensures ok { IfOk result (λ ds. IsInstance self.old.resolve.now self.new.outer interface ds (meanings_of self.old.resolve.now functions.now)) }
         ensures function_types { IfOk result (DefinesKeys (plain functions.now)) }
         ensures value_types { IfOk result (DefinesTypes self.old.resolve.now interface types.now (plain functions.now)) }
-        ensures size { result ≡ Err Size → LacksRoomWithin self.old.resolve.now (outside self.old) interface (map placed_function functions.now) }
+        ensures size { result ≡ Err Size → LacksWithin self.old interface types.now functions.now }
         ensures refuses { IfErr result IsMemoryOrSize }
     {
         let resolve = self.resolve;
@@ -545,8 +556,9 @@ impl<'a> InterfaceEncoderOf<'a, TypeEncodingMaps<'a>> {
     /// Of each interface that it uses, an instance stands in the component type, and `foreign` lists its number. An interface that uses no
     /// other, as `stands_alone` tests, asks for nothing. A type of another interface gets an alias in the component type when it is first met,
     /// which later calls use, too. No instance stands by this call alone. After a refusal the encoder is as it was, but for aliases that have
-    /// been made. `Size` comes only where a type of the packages, or a function of the interface, has no room
-    /// behind declarations of an instance type that can be followed, or where the component type has none for one more instance type.
+    /// been made. `Size` comes only where a type that is met from the interface, or a function of it, doesn't fit in 32 bits by itself, where
+    /// there are too many of them (two declarations for each type number that is met, each once, and two for each function), or where the
+    /// component type, after aliases have been made, has no room for one more alias or instance type.
     ///
     /// Takes as long as encoding the types and functions and sorting the functions.
     pub fn encode_instance(&mut self, alloc: Global, interface: InterfaceId) -> Result<u32, Error>

@@ -1,6 +1,7 @@
 //! Laws of the scopes in which types and functions are encoded, for whoever brings an encoder of their own.
 
 ghost use Rattle.wit_encode.specs.MetKinds.{MetKindsAreHeld};
+ghost use Rattle.wit_encode.specs.RoomLaws.{LackingInterfacesAreHeavy};
 ghost use Rattle.wit_encode.specs.OwnerScope.{FunctionsEncode, FunctionsUse, InterfaceUses, NamesEncode, TableScope, TypesEncode, TypesUse};
 
 /// Types can be encoded in the scope of an owner, where each name that is met is of the place, or of a named interface whose instance stands.
@@ -35,4 +36,10 @@ pub fn table_scope_is_of_owner()
 /// each once.
 pub fn met_kinds_are_held()
     ensures { MetKindsAreHeld }
+{}
+
+/// An interface that has no room in an instance type weighs more than 4,294,967,295: so `encode_instance` answers `Size` only for such a
+/// one, or where the component type, after aliases have been made, has no room for one more alias or instance type.
+pub fn lacking_interfaces_are_heavy()
+    ensures { LackingInterfacesAreHeavy }
 {}

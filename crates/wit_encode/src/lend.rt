@@ -128,6 +128,7 @@ pub(crate) fn remember_id<'a, E: ValtypeEncoder<'a>>(
     ensures ok { OnOk result (LearnsNumber (E.view enc.old).maps (E.view enc.new).maps id index) }
     ensures leaves { Leaves resolve.now (E.view enc.old) (E.view enc.new) }
     ensures counts { (E.view enc.new).definitions ≡ (E.view enc.old).definitions }
+    ensures held { (E.view enc.new).held ≡ (E.view enc.old).held }
     ensures size { result ≡ Err Size → ⊥ }
     ensures refuses { IfErr result IsMemoryOrSize }
 {
@@ -146,6 +147,7 @@ pub(crate) fn remember_kind<'a, E: ValtypeEncoder<'a>>(
     ensures ok { OnOk result (LearnsKind (E.view enc.old).maps (E.view enc.new).maps kind.entry index) }
     ensures leaves { Leaves resolve.now (E.view enc.old) (E.view enc.new) }
     ensures counts { (E.view enc.new).definitions ≡ (E.view enc.old).definitions }
+    ensures held { (E.view enc.new).held ≡ (E.view enc.old).held }
     ensures size { result ≡ Err Size → ⊥ }
     ensures refuses { IfErr result IsMemoryOrSize }
 {
@@ -164,6 +166,7 @@ pub(crate) fn remember_key<'a, E: ValtypeEncoder<'a>>(
     ensures ok { OnOk result (LearnsKey (E.view enc.old).maps (E.view enc.new).maps key.entry index) }
     ensures leaves { Leaves resolve.now (E.view enc.old) (E.view enc.new) }
     ensures counts { (E.view enc.new).definitions ≡ (E.view enc.old).definitions }
+    ensures held { (E.view enc.new).held ≡ (E.view enc.old).held }
     ensures size { result ≡ Err Size → ⊥ }
     ensures refuses { IfErr result IsMemoryOrSize }
 {
@@ -177,6 +180,7 @@ pub(crate) fn remember_unit_future<'a, E: ValtypeEncoder<'a>>(enc: &mut E, index
     ensures value { (E.view enc.new).maps ≡ record (E.view enc.old).maps { unit_future = Some index } }
     ensures leaves { Leaves (E.view enc.old).scope.packages (E.view enc.old) (E.view enc.new) }
     ensures counts { (E.view enc.new).definitions ≡ (E.view enc.old).definitions }
+    ensures held { (E.view enc.new).held ≡ (E.view enc.old).held }
 {
     enc.type_encoding_maps().remember_unit_future(index);
 }
@@ -188,6 +192,7 @@ pub(crate) fn remember_unit_stream<'a, E: ValtypeEncoder<'a>>(enc: &mut E, index
     ensures value { (E.view enc.new).maps ≡ record (E.view enc.old).maps { unit_stream = Some index } }
     ensures leaves { Leaves (E.view enc.old).scope.packages (E.view enc.old) (E.view enc.new) }
     ensures counts { (E.view enc.new).definitions ≡ (E.view enc.old).definitions }
+    ensures held { (E.view enc.new).held ≡ (E.view enc.old).held }
 {
     enc.type_encoding_maps().remember_unit_stream(index);
 }

@@ -1,4 +1,4 @@
-use Rattle.std.proofs.Common.{refl, ◌≡◌, ◌∙◌, sym, Some, None, rules, false}
+use Rattle.std.proofs.Common.{refl, ◌≡◌, ◌∙◌, sym, Some, None, rules, false, arith, ◌≤◌, ◌+◌}
 use Rattle.std.specs.Prelude.{is_some}
 use Rattle.std.proofs.lemmas.Option.{slice_get_read}
 use Rattle.wit_model.specs.Lookup.{type_at}
@@ -6,6 +6,8 @@ use Rattle.wit_encode.specs.Plan.{foreign_owner}
 use Rattle.wit_encode.specs.Maps.{IsKnown}
 use Rattle.wit_encode.proofs.Learning.{learns-none, learns-call-foreign}
 use Rattle.wit_encode.proofs.Defining.{counts-none}
+use Rattle.wit_encode.specs.Room.{its_import}
+use Rattle.wit_encode.proofs.Rooms.{holds-none, holds-number, on-both, lacks-number}
 use Rattle.wit_encode.proofs.Lists.{some-from}
 use Rattle.wit_encode.proofs.Encoding.{learns-nothing, tabled, foreign-undefined, foreign-unshown}
 use Rattle.wit_encode.proofs.Agree.{not-known}
@@ -68,3 +70,28 @@ returns-in-Some-clause-learns g c =
     learns-call-foreign c.import.result c.args.resolve.now (g.E.ValtypeEncoder.view c.args.enc.now).scope (g.E.ValtypeEncoder.view c.args.enc.now).maps (g.E.ValtypeEncoder.view c.import.new.enc).maps
     (g.E.ValtypeEncoder.view c.args.enc.now).definitions (g.E.ValtypeEncoder.view c.import.new.enc).definitions c.args.id.0 c.index-def.result.now (there g a)
     (rw c.index_of.ensures.same at c.import.ensures.ok) (rw c.index_of.ensures.same at c.import.ensures.leaves.maps_grow) (rw c.index_of.ensures.same at c.import.ensures.counts) (rw c.index_of.ensures.same at c.import.ensures.kinds) c.in-Some.interface f
+
+pub returns-then-is_some-clause-held : goal.returns-then-is_some-clause-held
+returns-then-is_some-clause-held g c = rw c.index_of.ensures.same (holds-none (g.E.ValtypeEncoder.view c.args.enc.now).maps (g.E.ValtypeEncoder.view c.args.enc.now).held)
+
+pub returns-in-Some-clause-held : goal.returns-in-Some-clause-held
+returns-in-Some-clause-held g c =
+    let a = (goal.at.returns-in-Some-clause-held g c).After-foreign in
+    on-both c.import.result _ _ _
+    (λ one counts. holds-number counts.shows.learnt c.args.id.0 counts.shows.numbers one.known (unknown g a) (let l : (g.E.ValtypeEncoder.view c.import.new.enc).held ≤ (g.E.ValtypeEncoder.view c.args.enc.now).held + 1 = (rw c.index_of.ensures.same at c.import.ensures.held) in omega arith))
+    c.import.ensures.ok (rw c.index_of.ensures.same at c.import.ensures.counts)
+
+pub returns-clause-held : goal.returns-clause-held
+returns-clause-held g c =
+    let a = (goal.at.returns-clause-held g c).After-foreign in
+    on-both c.define_own.result _ _ _
+    (λ one counts. holds-number counts.shows.learnt c.args.id.0 counts.shows.numbers one.known (unknown g a) (rw c.index_of.ensures.same at c.define_own.ensures.held))
+    c.define_own.ensures.ok (rw c.index_of.ensures.same at c.define_own.ensures.counts)
+
+pub returns-in-Some-clause-size : goal.returns-in-Some-clause-size
+returns-in-Some-clause-size g c = λ h.
+    let a = (goal.at.returns-in-Some-clause-size g c).After-foreign in
+    let after = g.E.ValtypeEncoder.view c.import.new.enc in
+    let f : foreign_owner (g.E.ValtypeEncoder.view c.args.enc.now).scope.own_interface c.index-def.result.now.owner ≡ Some c.in-Some.interface = sym (owner_is g a) ∙ c.in-Some.is in
+    lacks-number c.args.resolve.now (g.E.ValtypeEncoder.view c.args.enc.now).scope.own_interface c.args.id c.index-def.result.now (g.E.ValtypeEncoder.view c.args.enc.now).maps (g.E.ValtypeEncoder.view c.args.enc.now).held after.held after.lacks_room
+    (there g a) (unknown g a) (let l : after.held ≤ (g.E.ValtypeEncoder.view c.args.enc.now).held + 1 = (rw c.index_of.ensures.same at c.import.ensures.held) in omega arith) (its_import c.in-Some.interface f (c.import.ensures.size h))

@@ -1,4 +1,4 @@
-use Rattle.std.proofs.Common.{refl, ◌≡◌, ◌∙◌, ap, sym, subst, inl, inr, Some}
+use Rattle.std.proofs.Common.{refl, ◌≡◌, ◌∙◌, ap, sym, subst, inl, inr, Some, arith}
 use Rattle.comp_bytes.specs.RawOf.{raw_name}
 use Rattle.wit_model.specs.Text.{Text, text_of}
 use Rattle.wit_model.specs.Tree.{named}
@@ -6,7 +6,8 @@ use Rattle.wit_model.specs.Types.{number_tree}
 use Rattle.wit_model.specs.Meant.{type_meaning}
 use Rattle.wit_encode.specs.Kinds.{has_definition}
 use Rattle.wit_encode.specs.Scope.{IsDeclared, exported_name}
-use Rattle.wit_encode.specs.Room.{export_name, its_definition, its_name}
+use Rattle.wit_encode.specs.Room.{export_name, LacksPart, its_definition, its_name}
+use Rattle.wit_encode.proofs.Rooms.{lacks-number}
 use Rattle.wit_encode.specs.Counts.{is_defined_by_name, own_name}
 use Rattle.wit_encode.proofs.Learning.{learns-call-unnamed, learns-call-named}
 use Rattle.wit_encode.proofs.Encoding.{named-defined, named-shown}
@@ -66,22 +67,25 @@ returns-in_default-clause-learns g c = learns-call-named c.define_named.result c
 its_own_name : (g : Over) (c : After-name_of-name g) → raw_name c.name_of-name.result ≡ exported_name (text_of c.in-Some.label, type_meaning c.args.resolve.now c.args.def.now)
 its_own_name g c = exported g c ∙ ap (λ (t : Text). exported_name (t, type_meaning c.args.resolve.now c.args.def.now)) c.name_of-name.ensures.text
 
+pub returns-in-None-clause-size : goal.returns-in-None-clause-size
+returns-in-None-clause-size g c = λ h.
+    let after = g.E.ValtypeEncoder.view c.define_unnamed.new.enc in
+    lacks-number c.args.resolve.now (g.E.ValtypeEncoder.view c.args.enc.now).scope.own_interface c.args.id c.args.def.now (g.E.ValtypeEncoder.view c.args.enc.now).maps (g.E.ValtypeEncoder.view c.args.enc.now).held after.held after.lacks_room
+    c.requires.there c.requires.fresh (let l = c.define_unnamed.ensures.held in omega arith) (its_definition c.requires.own (c.define_unnamed.ensures.size h))
+
 pub returns-in-Resource-clause-size : goal.returns-in-Resource-clause-size
-returns-in-Resource-clause-size g c = λ h. record {
-  number = c.args.id.0;
-  def = c.args.def.now;
-  there = c.requires.there;
-  part = its_name c.in-Some.label c.in-Some.is (subst (g.E.ValtypeEncoder.view c.define_resource.new.enc).lacks_room (ap export_name (its_own_name g (goal.at.returns-in-Resource-clause-size g c).After-name_of-name)) (c.define_resource.ensures.size h));
-}
+returns-in-Resource-clause-size g c = λ h.
+    let after = g.E.ValtypeEncoder.view c.define_resource.new.enc in
+    lacks-number c.args.resolve.now (g.E.ValtypeEncoder.view c.args.enc.now).scope.own_interface c.args.id c.args.def.now (g.E.ValtypeEncoder.view c.args.enc.now).maps (g.E.ValtypeEncoder.view c.args.enc.now).held after.held after.lacks_room
+    c.requires.there c.requires.fresh (let l = c.define_resource.ensures.held in omega arith)
+    (its_name c.requires.own c.in-Some.label c.in-Some.is (subst after.lacks_room (ap export_name (its_own_name g (goal.at.returns-in-Resource-clause-size g c).After-name_of-name)) (c.define_resource.ensures.size h)))
 
 pub returns-in_default-clause-size : goal.returns-in_default-clause-size
-returns-in_default-clause-size g c = λ h. record {
-  number = c.args.id.0;
-  def = c.args.def.now;
-  there = c.requires.there;
-  part =
-      elim (c.define_named.ensures.size h) [
-        | inl d ↦ its_definition d
-        | inr n ↦ its_name c.in-Some.label c.in-Some.is (subst (g.E.ValtypeEncoder.view c.define_named.new.enc).lacks_room (ap export_name (its_own_name g (goal.at.returns-in_default-clause-size g c).After-name_of-name)) n)
-      ];
-}
+returns-in_default-clause-size g c = λ h.
+    let after = g.E.ValtypeEncoder.view c.define_named.new.enc in
+    let part : LacksPart c.args.resolve.now (g.E.ValtypeEncoder.view c.args.enc.now).scope.own_interface after.lacks_room c.args.id.0 c.args.def.now = elim (c.define_named.ensures.size h) [
+      | inl d ↦ its_definition c.requires.own d
+      | inr n ↦ its_name c.requires.own c.in-Some.label c.in-Some.is (subst after.lacks_room (ap export_name (its_own_name g (goal.at.returns-in_default-clause-size g c).After-name_of-name)) n)
+    ] in
+    lacks-number c.args.resolve.now (g.E.ValtypeEncoder.view c.args.enc.now).scope.own_interface c.args.id c.args.def.now (g.E.ValtypeEncoder.view c.args.enc.now).maps (g.E.ValtypeEncoder.view c.args.enc.now).held after.held after.lacks_room
+    c.requires.there c.requires.fresh (let l = c.define_named.ensures.held in omega arith) part

@@ -1,12 +1,16 @@
-use Rattle.std.proofs.Common.{refl, ◌≡◌, ◌∙◌, sym, ap, subst, arith, get_or}
+use Rattle.std.proofs.Common.{refl, ◌≡◌, ◌∙◌, sym, ap, subst, arith, get_or, rules}
 use Rattle.wit_encode.specs.Scope.{Scope}
 use Rattle.wit_encode.specs.Fits.{Fits}
-use Rattle.wit_encode.specs.Plan.{IsOrderOf, foreign_owner}
+use Rattle.wit_encode.specs.Plan.{IsOrderOf, foreign_owner, Reaches}
+use Rattle.wit_model.specs.declared.model.«Type».{«Type» as ValueType}
+use Rattle.wit_model.specs.declared.model.«Type».TheVariants as ty
 use Rattle.std.proofs.lemmas.List.Elements.{Contains-get_or}
 use Rattle.wit_encode.proofs.Learning.{learns-none, learns-then}
 use Rattle.wit_encode.proofs.Around.{around-same}
 use Rattle.wit_encode.proofs.Defining.{leaves-trans, leaves-kept, counts-trans, counts-none, none-in}
 use Rattle.wit_encode.proofs.Encoding.{ready-now, known-more, ready-at-last, reaches-in_range, meets-reaches, learns-more, learns-at-last, learns-nothing}
+use Rattle.wit_encode.proofs.Rooms.{holds-none, holds-then, room-after, reaches-then, learns-reached}
+use Rattle.wit_encode.proofs.Lists.{one-contained}
 use Rattle.wit_encode.proofs.define.define_parts.Given.{Over}
 use Rattle.wit_encode.proofs.define.define_parts.Goals as goal
 use Rattle.wit_encode.proofs.define.define_parts.Goals.{After-deref-n-items}
@@ -46,6 +50,7 @@ loop-n-preserved g c = record {
   learns = learns-more (g.E.ValtypeEncoder.view c.args.enc.now).maps (g.E.ValtypeEncoder.view c.loop-n.enc).maps (g.E.ValtypeEncoder.view c.define_number.new.enc).maps c.deref-n-items.result.now c.loop-n.n-index c.loop-n-test.true c.loop-n.invariant.learns c.in_ok-define_number.ensures.ok;
   learnt = learns-then (ap (λ (x : Scope). x.own_interface) c.loop-n.invariant.leaves.scope_stays) c.loop-n.invariant.learnt c.in_ok-define_number.ensures.learns;
   leaves = leaves-trans c.loop-n.invariant.leaves c.define_number.ensures.leaves;
+  held = holds-then c.loop-n.invariant.held c.in_ok-define_number.ensures.held;
   counts = counts-trans c.loop-n.invariant.leaves.scope_stays c.loop-n.invariant.counts c.in_ok-define_number.ensures.counts;
 }
 
@@ -66,8 +71,25 @@ loop-n-init g c = rw c.order_of.ensures.same (record {
   learns = learns-nothing _ (g.E.ValtypeEncoder.view c.args.enc.now).maps;
   learnt = learns-none c.args.resolve.now (g.E.ValtypeEncoder.view c.args.enc.now).scope.own_interface (g.E.ValtypeEncoder.view c.args.enc.now).maps;
   leaves = leaves-kept c.requires.agree (record { kept = λ i s h. h; more = omega arith; around_ = around-same refl }) refl refl;
+  held = holds-none (g.E.ValtypeEncoder.view c.args.enc.now).maps (g.E.ValtypeEncoder.view c.args.enc.now).held;
   counts = counts-none c.args.resolve.now (g.E.ValtypeEncoder.view c.args.enc.now).scope (g.E.ValtypeEncoder.view c.args.enc.now).maps (g.E.ValtypeEncoder.view c.args.enc.now).definitions;
 })
 
 pub returns-in_err-define_number-clause-leaves : goal.returns-in_err-define_number-clause-leaves
 returns-in_err-define_number-clause-leaves g c = leaves-trans c.loop-n.invariant.leaves c.define_number.ensures.leaves
+
+pub returns-in_err-define_number-clause-size : goal.returns-in_err-define_number-clause-size
+returns-in_err-define_number-clause-size g c = λ h.
+    let o = ordered g (goal.at.returns-in_err-define_number-clause-size g c).After-deref-n-items in
+    let before = g.E.ValtypeEncoder.view c.args.enc.now in
+    let n = get_or c.deref-n-items.result.now c.loop-n.n-index 0 in
+    let met = o.added n (Contains-get_or _ _ 0 c.loop-n-test.true) in
+    room-after c.loop-n.invariant.held c.loop-n.invariant.leaves.agree.once (ap (λ (x : Scope). x.own_interface) c.loop-n.invariant.leaves.scope_stays)
+    (learns-reached c.args.resolve.now before.scope.own_interface before.maps (g.E.ValtypeEncoder.view c.loop-n.enc).maps c.args.types.now c.deref-n-items.result.now c.loop-n.n-index o c.loop-n.invariant.learns)
+    (λ k reached. (
+      met.0,
+      met.1,
+      reaches-then c.args.resolve.now before.scope.own_interface met.0 n (meets-reaches c.args.resolve.now before.scope.own_interface before.maps met.0 n met.2) k
+          (subst (λ (t : ValueType). Reaches c.args.resolve.now before.scope.own_interface t k) (sym (one-contained (ty.Id (record { 0 = n })) reached.0 reached.1)) reached.2),
+    ))
+    (λ q c. none-in q c) (omega arith) (c.define_number.ensures.size (search rules))

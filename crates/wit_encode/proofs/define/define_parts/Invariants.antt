@@ -1,6 +1,7 @@
 use Rattle.std.proofs.Common.{ℕ, take}
 use Rattle.std.specs.List.{Contains}
 use Rattle.wit_encode.specs.Maps.{IsKnown, LearnsOnly}
+use Rattle.wit_encode.specs.View.{HoldsLearnt}
 use Rattle.wit_encode.specs.Leaves.{Leaves, LearnsParts, CountsTypes}
 use Rattle.wit_encode.proofs.define.define_parts.Given as goal
 
@@ -10,5 +11,6 @@ invariant-loop-n g l = record {
   learns : LearnsOnly (λ n. Contains (take l.n-index l.n-items) n) (g.E.ValtypeEncoder.view l.fn.enc).maps (g.E.ValtypeEncoder.view l.enc).maps;
   learnt : LearnsParts l.resolve (g.E.ValtypeEncoder.view l.fn.enc) (g.E.ValtypeEncoder.view l.enc);
   leaves : Leaves l.resolve (g.E.ValtypeEncoder.view l.fn.enc) (g.E.ValtypeEncoder.view l.enc);
+  held : HoldsLearnt 0 (g.E.ValtypeEncoder.view l.fn.enc) (g.E.ValtypeEncoder.view l.enc);
   counts : CountsTypes l.resolve (g.E.ValtypeEncoder.view l.fn.enc) (g.E.ValtypeEncoder.view l.enc);
 }

@@ -1,4 +1,9 @@
-use Rattle.std.proofs.Common.{refl, ◌∙◌, sym, subst}
+use Rattle.std.proofs.Common.{refl, ◌∙◌, sym, subst, ap, rules, arith}
+use Rattle.wit_model.specs.Parts.{function_types}
+use Rattle.wit_encode.specs.Scope.{Scope}
+use Rattle.wit_encode.specs.Room.{function_type}
+use Rattle.wit_encode.proofs.Rooms.{room-more, room-after, only-reached, lacks-request}
+use Rattle.wit_encode.proofs.Defining.{none-in}
 use Rattle.wit_model.specs.Meaning.{Signature}
 use Rattle.wit_model.specs.Meant.{signature_of}
 use Rattle.wit_encode.specs.declared.maps.TypeEncodingMaps.{TypeEncodingMaps}
@@ -54,3 +59,14 @@ returns-in_err-index-clause-leaves g c = leaves-trans c.function_of.ensures.leav
 
 pub returns-in_err-remember_key-clause-leaves : goal.returns-in_err-remember_key-clause-leaves
 returns-in_err-remember_key-clause-leaves g c = leaves-trans c.function_of.ensures.leaves (leaves-trans (leaves-kept {v = g.E.ValtypeEncoder.view c.function_of.new.enc} {v' = g.E.ValtypeEncoder.view c.define_function_type.new.self} c.function_of.ensures.leaves.agree c.define_function_type.ensures.grows c.define_function_type.ensures.scope_stays c.define_function_type.ensures.maps_stay) c.remember_key.ensures.leaves)
+
+pub returns-in_err-def-clause-size : goal.returns-in_err-def-clause-size
+returns-in_err-def-clause-size g c = λ h. room-more refl (λ n x. x) (λ q k. none-in q k) (omega arith) (c.function_of.ensures.size (search rules))
+
+pub returns-in_err-index-clause-size : goal.returns-in_err-index-clause-size
+returns-in_err-index-clause-size g c = λ h.
+    let between = g.E.ValtypeEncoder.view c.function_of.new.enc in
+    let after = g.E.ValtypeEncoder.view c.define_function_type.new.self in
+    room-after c.in_ok-def.ensures.held c.function_of.ensures.leaves.agree.once (ap (λ (s : Scope). s.own_interface) c.function_of.ensures.leaves.scope_stays) (only-reached c.args.resolve.now (g.E.ValtypeEncoder.view c.args.enc.now).scope.own_interface (function_types c.args.func.now) c.in_ok-def.ensures.learns.only) (λ n x. x) (λ q k. k) (omega arith)
+    (lacks-request c.args.resolve.now between.scope.own_interface (function_types c.args.func.now) (function_type (signature_of c.args.resolve.now c.args.func.now)) between.maps between.held after.held after.lacks_room c.define_function_type.ensures.held
+    (c.define_function_type.ensures.size (search rules) (signature_of c.args.resolve.now c.args.func.now) c.in_ok-def.ensures.ok))

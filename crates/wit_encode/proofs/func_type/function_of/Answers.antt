@@ -1,4 +1,6 @@
-use Rattle.std.proofs.Common.{ap, refl, map, option_to_list}
+use Rattle.std.proofs.Common.{ap, refl, map, option_to_list, rules, arith, []}
+use Rattle.wit_encode.specs.Leaves.{LacksRoom, LearnsFrom}
+use Rattle.wit_encode.proofs.Rooms.{room-more, room-after, holds-then, only-more, only-reached, reached-left, reached-right}
 use Rattle.wit_encode.specs.Slots.{NamedStands}
 use Rattle.wit_encode.specs.Scope.{Scope}
 use Rattle.wit_encode.proofs.Learning.{met-both, ready-both}
@@ -43,3 +45,21 @@ returns-clause-knows g c = ready-both (g.E.ValtypeEncoder.view c.encode_params.n
 
 pub returns-in_err-result-clause-leaves : goal.returns-in_err-result-clause-leaves
 returns-in_err-result-clause-leaves g c = leaves-trans c.encode_params.ensures.leaves c.encode_optional_valtype.ensures.leaves
+
+pub returns-in_err-params-clause-size : goal.returns-in_err-params-clause-size
+returns-in_err-params-clause-size g c = λ h.
+    let lacks : LacksRoom c.args.resolve.now (map (λ p. p.ty) c.args.func.now.params.items) [] (g.E.ValtypeEncoder.view c.args.enc.now) (g.E.ValtypeEncoder.view c.encode_params.new.enc) = (rw c.deref.ensures.value at (c.encode_params.ensures.size (search rules))) in
+    room-more refl (reached-left (map (λ p. p.ty) c.args.func.now.params.items) (option_to_list c.args.func.now.result)) (λ q k. k) (omega arith) lacks
+
+pub returns-in_err-result-clause-size : goal.returns-in_err-result-clause-size
+returns-in_err-result-clause-size g c = λ h.
+    let between = g.E.ValtypeEncoder.view c.encode_params.new.enc in
+    let params = map (λ p. p.ty) c.args.func.now.params.items in
+    let answer = option_to_list c.args.func.now.result in
+    let learns : LearnsFrom c.args.resolve.now (map (λ p. p.ty) c.args.func.now.params.items) (g.E.ValtypeEncoder.view c.args.enc.now) (g.E.ValtypeEncoder.view c.encode_params.new.enc) = (rw c.deref.ensures.value at c.in_ok-params.ensures.learns) in
+    let lacks : LacksRoom c.args.resolve.now (option_to_list c.args.func.now.result) [] (g.E.ValtypeEncoder.view c.encode_params.new.enc) (g.E.ValtypeEncoder.view c.encode_optional_valtype.new.enc) = (rw c.as_ref.ensures.value at (c.encode_optional_valtype.ensures.size (search rules))) in
+    room-after c.in_ok-params.ensures.held c.encode_params.ensures.leaves.agree.once (ap (λ (z : Scope). z.own_interface) c.encode_params.ensures.leaves.scope_stays) (only-more (reached-left params answer) (only-reached c.args.resolve.now (g.E.ValtypeEncoder.view c.args.enc.now).scope.own_interface params learns.only))
+    (reached-right params answer) (λ q k. k) (omega arith) lacks
+
+pub returns-clause-held : goal.returns-clause-held
+returns-clause-held g c = holds-then c.in_ok-params.ensures.held c.in_ok-result.ensures.held

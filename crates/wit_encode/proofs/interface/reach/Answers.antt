@@ -1,8 +1,13 @@
-use Rattle.std.proofs.Common.{◌≡◌, refl, sym, ap, ◌∙◌, Some, None}
+use Rattle.std.proofs.Common.{◌≡◌, refl, sym, ap, ◌∙◌, ◌&&◌, true, Option, Some, None}
 use Rattle.std.proofs.lemmas.Option.{slice_get_read}
 use Rattle.wit_model.specs.Lookup.{type_at}
 use Rattle.wit_model.specs.declared.model.TypeDef.{TypeDef}
 use Rattle.wit_encode.specs.Known.{IsAlias, known_slot, known_instance}
+use Rattle.std.specs.Option.{option_map_or}
+use Rattle.wit_model.specs.Text.{optional_text}
+use Rattle.comp_bytes.specs.Held.{fits_added}
+use Rattle.comp_bytes.specs.Fits.{fits_length, fits_given}
+use Rattle.wit_encode.specs.Room.{fits_type_name}
 use Rattle.wit_encode.specs.Instance.{around_at}
 use Rattle.wit_encode.proofs.Importing.{source-listed, source-alias, made-slot, made-reaches}
 use Rattle.wit_encode.proofs.interface.reach.Goals as goal
@@ -40,4 +45,8 @@ returns-in-Some-name-clause-reaches c = made-reaches c.make_alias.result c.args.
     (is-alias (goal.at.returns-in-Some-name-clause-reaches c).After-make_alias) c.make_alias.ensures.made c.make_alias.ensures.listed c.make_alias.ensures.err c.make_alias.ensures.same
 
 pub returns-in-Some-name-clause-size : goal.returns-in-Some-name-clause-size
-returns-in-Some-name-clause-size c = λ h. (record { number = c.args.id; instance = c.in-Some-instance_around.instance; name = c.deref-in-None-2.result.now }, c.make_alias.ensures.size h)
+returns-in-Some-name-clause-size c = λ h.
+    let def = there (goal.at.returns-in-Some-name-clause-size c).After-index in
+    let named : fits_type_name c.args.resolve.now c.args.id.0 ≡ fits_length c.deref-in-None-2.result.now =
+    ap (λ (o : Option TypeDef). option_map_or (λ d. fits_given (optional_text d.name)) o true) def ∙ ap (λ n. fits_given (optional_text n)) c.in-Some-name.is ∙ ap fits_length (sym c.deref-in-None-2.ensures) in
+    ap (λ b. b && fits_added c.make_alias.new.outer 1) named ∙ c.make_alias.ensures.size h

@@ -14,10 +14,12 @@ use Rattle.wit_encode.specs.Instance.{own_of}
 use Rattle.wit_encode.proofs.Continuing.{Showed, function-showed, after-types}
 use Rattle.wit_encode.proofs.Counting.{function-counted, function-names}
 use Rattle.wit_encode.proofs.FunctionExports.{function-stays}
-use Rattle.std.proofs.Common.{inl, inr, rules}
-use Rattle.wit_encode.specs.Room.{export_name, a_type, a_function_type, a_function_name}
-use Rattle.wit_encode.specs.Instance.{lacks_room_in}
-use Rattle.wit_encode.proofs.Refusing.{function-named, here-alone}
+use Rattle.std.proofs.Common.{rules, arith, ◌∷◌, []}
+use Rattle.std.proofs.lemmas.List.Elements.{Contains-append_left, Contains-append_right}
+use Rattle.wit_encode.specs.Encoders.{encoder_view}
+use Rattle.wit_encode.proofs.Rooms.{holds-same, room-more, room-after, only-reached, lacks-request}
+use Rattle.wit_encode.specs.Room.{Request, export_name, function_type, function_name}
+use Rattle.wit_encode.proofs.Refusing.{function-named}
 use Rattle.wit_encode.proofs.interface.InterfaceEncoderOf+TypeEncodingMaps.encode_function.Goals as goal
 use Rattle.wit_encode.proofs.interface.InterfaceEncoderOf+TypeEncodingMaps.encode_function.Goals.{After-export_function}
 
@@ -94,14 +96,19 @@ pub returns-clause-learns : goal.returns-clause-learns
 returns-clause-learns c = on-any c.export_function.result (subst (λ (m : TypeEncodingMaps). LearnsFrom c.args.resolve.now (own_of c.args.self.now.inner) (function_types c.args.func.now) c.args.self.now.maps m) (sym c.export_function.ensures.maps)
     (from-met c.args.resolve.now (own_of c.args.self.now.inner) (function_types c.args.func.now) c.args.self.now.maps c.encode_func_type.new.enc.maps c.in_ok-index.ensures.learns))
 
+pub returns-clause-held : goal.returns-clause-held
+returns-clause-held c = on-any c.export_function.result (holds-same 1 1 (ap (λ (m : TypeEncodingMaps). m.id_to_index.items) c.export_function.ensures.maps) c.export_function.ensures.held c.in_ok-index.ensures.held)
+
 pub returns-in_err-index-clause-size : goal.returns-in_err-index-clause-size
 returns-in_err-index-clause-size c = λ h.
-    elim (c.encode_func_type.ensures.size (search rules)) [
-      | inl t ↦ a_type t
-      | inr n ↦ a_function_type (text_of c.args.name.now, c.args.func.now) (here-alone (text_of c.args.name.now, c.args.func.now)) n
-    ]
+    room-more refl (λ n x. x) (λ q k. Contains-append_left (function_type (signature_of c.args.resolve.now c.args.func.now) ∷ []) (export_name (function_name (text_of c.args.name.now, c.args.func.now)) ∷ []) q k) (omega arith) (c.encode_func_type.ensures.size (search rules))
 
 pub returns-clause-size : goal.returns-clause-size
-returns-clause-size c = λ h. a_function_name (text_of c.args.name.now, c.args.func.now) (here-alone (text_of c.args.name.now, c.args.func.now))
-    (subst (lacks_room_in c.export_function.new.self.resolve.now c.export_function.new.self.outer c.export_function.new.self.inner)
-    (ap export_name (function-named (raw_name c.name_of.result) (text_of c.args.name.now, c.args.func.now) c.name_of.ensures.text c.name_of.ensures.implements c.name_of.ensures.version_suffix c.name_of.ensures.external_id)) (c.export_function.ensures.size h))
+returns-clause-size c = λ h.
+    let name : Request = export_name (function_name (text_of c.args.name.now, c.args.func.now)) in
+    let between = encoder_view c.encode_func_type.new.enc in
+    let after = encoder_view c.export_function.new.self in
+    room-after c.in_ok-index.ensures.held c.encode_func_type.ensures.leaves.agree.once (ap (λ (s : Scope). s.own_interface) c.encode_func_type.ensures.leaves.scope_stays)
+    (only-reached c.args.resolve.now (own_of c.args.self.now.inner) (function_types c.args.func.now) c.in_ok-index.ensures.learns.only) (λ n x. x) (λ q k. Contains-append_right (function_type (signature_of c.args.resolve.now c.args.func.now) ∷ []) (name ∷ []) q k) (omega arith)
+    (lacks-request c.args.resolve.now between.scope.own_interface (function_types c.args.func.now) name between.maps between.held after.held after.lacks_room c.export_function.ensures.held
+    (subst after.lacks_room (ap export_name (function-named (raw_name c.name_of.result) (text_of c.args.name.now, c.args.func.now) c.name_of.ensures.text c.name_of.ensures.implements c.name_of.ensures.version_suffix c.name_of.ensures.external_id)) (c.export_function.ensures.size h)))

@@ -11,7 +11,12 @@ use Rattle.std.proofs.lemmas.List.{take_all}
 use Rattle.wit_encode.specs.Instance.{placed_function, meaning_of, contents_of, encoder_scope}
 use Rattle.wit_encode.proofs.FunctionExports.{used-kept}
 use Rattle.wit_encode.proofs.Lists.{contains-map}
-use Rattle.wit_encode.proofs.Refusing.{part-of-one}
+use Rattle.std.proofs.Math.ListN.{length-map}
+use Rattle.wit_model.specs.Parts.{function_types}
+use Rattle.wit_encode.specs.Room.{function_requests}
+use Rattle.wit_encode.proofs.Numbers.{contains-flat}
+use Rattle.wit_encode.proofs.Refusing.{two-each}
+use Rattle.wit_encode.proofs.Rooms.{holds-most, holds-then, room-after, only-more, flat-taken}
 use Rattle.wit_encode.proofs.interface.InterfaceEncoderOf+TypeEncodingMaps.encode_functions.Goals as goal
 
 pub encode_function-requires-clause-encodable : goal.encode_function-requires-clause-encodable
@@ -33,6 +38,8 @@ loop-entry-preserved c = record {
       names-after c.args.resolve.now (encoder_scope c.args.resolve.now c.args.self.now.outer c.args.self.now.inner)
       (encoder_scope c.args.resolve.now c.loop-entry.self.outer c.loop-entry.self.inner) c.args.self.now.maps c.loop-entry.self.maps c.encode_function.new.self.maps
       c.loop-entry.invariant.own c.loop-entry.invariant.names c.in_ok-encode_function.ensures.names_stay;
+  within = omega arith;
+  held = holds-most (omega arith) (holds-then c.loop-entry.invariant.held c.in_ok-encode_function.ensures.held);
   grow = search rules;
   types_stay = search rules;
 }
@@ -52,6 +59,17 @@ pub returns-clause-learns : goal.returns-clause-learns
 returns-clause-learns c = from-functions (λ (f : ℕ × Bor (String Global) × Bor Function). f.2.now) c.args.resolve.now (own_of c.args.self.now.inner) c.args.functions.now c.loop-entry.entry-index c.args.self.now.maps c.loop-entry.self.maps
     c.loop-entry-test.false c.loop-entry.invariant.learns
 
+pub returns-clause-held : goal.returns-clause-held
+returns-clause-held c = holds-most (let w = c.loop-entry.invariant.within in omega arith) c.loop-entry.invariant.held
+
 pub returns-in_err-encode_function-clause-size : goal.returns-in_err-encode_function-clause-size
-returns-in_err-encode_function-clause-size c = λ h. part-of-one (map placed_function c.args.functions.now) (placed_function c.entry-item.result)
-    (contains-map placed_function c.args.functions.now c.entry-item.result (contains-at c.args.functions.now c.loop-entry.entry-index c.entry-item.result c.loop-entry-test.true c.entry-item.is)) (c.encode_function.ensures.size (search rules))
+returns-in_err-encode_function-clause-size c = λ h.
+    let at = contains-at c.args.functions.now c.loop-entry.entry-index c.entry-item.result c.loop-entry-test.true c.entry-item.is in
+    let count = two-each c.args.resolve.now (map placed_function c.args.functions.now) in
+    let length-is = length-map c.args.functions.now placed_function in
+    let before = c.loop-entry-test.true in
+    room-after c.loop-entry.invariant.held c.loop-entry.invariant.continues.agree.once c.loop-entry.invariant.own
+    (only-more (λ n x. (x.0, flat-taken function_types (λ (f : ℕ × Bor (String Global) × Bor Function). f.2.now) c.args.functions.now c.loop-entry.entry-index x.0 x.1, x.2)) c.loop-entry.invariant.learns.only)
+    (λ n x. (x.0, contains-flat function_types _ c.entry-item.result.2.now x.0 (contains-map (λ (f : ℕ × Bor (String Global) × Bor Function). f.2.now) c.args.functions.now c.entry-item.result at) x.1, x.2))
+    (λ q k. contains-flat (function_requests c.args.resolve.now) _ (placed_function c.entry-item.result) q (contains-map placed_function c.args.functions.now c.entry-item.result at) k)
+    (omega arith) (c.encode_function.ensures.size (search rules))

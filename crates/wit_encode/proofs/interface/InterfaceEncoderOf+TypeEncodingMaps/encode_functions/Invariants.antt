@@ -1,4 +1,6 @@
-use Rattle.std.proofs.Common.{◌≡◌, ◌++◌, map, take}
+use Rattle.std.proofs.Common.{◌≡◌, ◌≤◌, ◌*◌, ◌++◌, map, take, length}
+use Rattle.wit_encode.specs.View.{HoldsLearnt}
+use Rattle.wit_encode.specs.Encoders.{encoder_view}
 use Rattle.std.specs.List.{flat_map}
 use Rattle.wit_model.specs.Parts.{function_types}
 use Rattle.wit_encode.specs.MetKinds.{LearnsFrom}
@@ -20,6 +22,8 @@ invariant-loop-entry l = record {
   learns : LearnsFrom l.resolve (own_of l.fn.self.inner) (flat_map function_types (map (λ f. f.2.now) (take l.entry-index l.functions))) l.fn.self.maps l.self.maps;
   names : names_defined l.resolve (encoder_scope l.resolve l.fn.self.outer l.fn.self.inner) l.self.maps ≡ names_defined l.resolve
       (encoder_scope l.resolve l.fn.self.outer l.fn.self.inner) l.fn.self.maps;
+  within : l.entry-index ≤ length l.functions;
+  held : HoldsLearnt (2 * l.entry-index) (encoder_view l.fn.self) (encoder_view l.self);
   grow : MapsGrow l.fn.self.maps l.self.maps;
   types_stay : exports_in l.resolve l.self.outer l.self.inner ≡ exports_in l.resolve l.fn.self.outer l.fn.self.inner;
 }

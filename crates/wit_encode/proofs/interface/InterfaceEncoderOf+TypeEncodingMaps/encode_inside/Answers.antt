@@ -1,4 +1,4 @@
-use Rattle.std.proofs.Common.{◌≡◌, sym, subst, ap, ◌∙◌, ◌++◌, ◌∷◌, [], List, map, Option, Some, rules}
+use Rattle.std.proofs.Common.{◌≡◌, sym, subst, ap, ◌∙◌, ◌++◌, ◌∷◌, [], List, map, Option, Some, rules, refl, length}
 use Rattle.wit_model.specs.declared.model.«Type».TheVariants as ty
 use Rattle.wit_model.specs.declared.model.Function.{Function}
 use Rattle.wit_encode.specs.declared.maps.TypeEncodingMaps.{TypeEncodingMaps}
@@ -10,7 +10,7 @@ use Rattle.wit_encode.proofs.Referring.{interface-kinds}
 use Rattle.wit_encode.proofs.Opening.{closed-instance, closed-around, opened-exports, opened-with}
 use Rattle.wit_encode.specs.Known.{GrowsAround}
 use Rattle.wit_encode.proofs.Counting.{Began, Counted, closed-counts}
-use Rattle.wit_encode.proofs.Refusing.{refused-within}
+use Rattle.wit_encode.proofs.Refusing.{no-room}
 use Rattle.wit_encode.proofs.interface.InterfaceEncoderOf+TypeEncodingMaps.encode_inside.Goals as goal
 use Rattle.wit_encode.proofs.interface.InterfaceEncoderOf+TypeEncodingMaps.encode_inside.Goals.{After-new-2, In-Some, In_ok-outcome-in-Some}
 
@@ -96,5 +96,6 @@ encode_parts-outcome-requires-clause-begins c = record {
 pub returns-in_err-outcome-in-Some-clause-size : goal.returns-in_err-outcome-in-Some-clause-size
 returns-in_err-outcome-in-Some-clause-size c = λ h.
     let after = c.encode_parts-outcome.new.self in
-    refused-within c.args.self.now.resolve.now after.resolve.now c.args.self.now.outer after.outer c.args.interface c.args.self.now.foreign after.inner c.in-Some.current _ _ _ (sym c.replace-inner.ensures.value ∙ c.in-Some.is)
-    c.encode_parts-outcome.ensures.continues.inside (continued (goal.at.returns-in_err-outcome-in-Some-clause-size c).In-Some) c.encode_parts-outcome.ensures.continues.packages_ (c.encode_parts-outcome.ensures.size (search rules))
+    no-room after.outer after.inner refl (ap length c.new-2.ensures) c.encode_parts-outcome.ensures.continues.packages_
+    (λ full. record { after = around_at c.encode_parts-outcome.new.self.outer c.in-Some.current.foreign; grown = around-grown (goal.at.returns-in_err-outcome-in-Some-clause-size c).In-Some; full = full })
+    (c.encode_parts-outcome.ensures.size (search rules))

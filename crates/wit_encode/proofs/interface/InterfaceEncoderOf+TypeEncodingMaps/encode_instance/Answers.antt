@@ -18,11 +18,9 @@ use Rattle.wit_encode.specs.Exports.{UsesListed}
 use Rattle.wit_encode.proofs.Exporting.{uses-listed}
 use Rattle.wit_encode.proofs.FunctionExports.{keyed-value}
 use Rattle.std.proofs.Common.{inl, inr, rules, ap}
-use Rattle.wit_model.specs.Text.{Text}
 use Rattle.wit_model.specs.declared.model.Interface.{Interface}
-use Rattle.wit_model.specs.declared.model.Function.{Function}
 use Rattle.wit_encode.specs.Order.{functions_in_order}
-use Rattle.wit_encode.specs.Instance.{LacksRoomWithin}
+use Rattle.wit_encode.proofs.Refusing.{room-listed}
 use Rattle.wit_encode.proofs.interface.InterfaceEncoderOf+TypeEncodingMaps.encode_instance.Goals as goal
 use Rattle.wit_encode.proofs.interface.InterfaceEncoderOf+TypeEncodingMaps.encode_instance.Goals.{After-index-def, In_ok-declared}
 
@@ -78,9 +76,13 @@ some-same a b e = cc
 pub returns-in_err-declared-clause-size : goal.returns-in_err-declared-clause-size
 returns-in_err-declared-clause-size c = λ h def is.
     let at = (goal.at.returns-in_err-declared-clause-size c).After-index-def in
+    let is_def = some-same c.index-def.result.now def (sym (there at) ∙ is) in
     let same : map placed_function c.deref-2.result.now ≡ functions_in_order def =
-    ap (map placed_function) c.deref-2.ensures.value ∙ c.in_ok-functions.ensures.order ∙ ap functions_in_order (some-same c.index-def.result.now def (sym (there at) ∙ is)) in
-    inl (subst (λ (fs : List (Text × Function)). LacksRoomWithin c.args.self.now.resolve.now (outside c.args.self.now) c.args.interface fs) same (c.encode_inside.ensures.size (search rules)))
+    ap (map placed_function) c.deref-2.ensures.value ∙ c.in_ok-functions.ensures.order ∙ ap functions_in_order is_def in
+    elim (c.encode_inside.ensures.size (search rules)) [
+      | inl room ↦ inl (room-listed c.args.self.now.resolve.now c.args.interface _ _ c.deref-2.result.now _ (c.deref.ensures.value ∙ c.in_ok-types.ensures ∙ ap (λ (z : Interface). values z.types) is_def) same room)
+      | inr around ↦ inr around
+    ]
 
 pub returns-clause-size : goal.returns-clause-size
 returns-clause-size c = λ h def is. inr (record { after = outside c.encode_inside.new.self; grown = c.encode_inside.ensures.reaches; full = c.close.ensures.size h })

@@ -1,5 +1,9 @@
-use Rattle.std.proofs.Common.{rules}
-use Rattle.std.proofs.Common.{refl, subst, map}
+use Rattle.std.proofs.Common.{refl, subst, map, arith, rules}
+use Rattle.std.specs.List.{flat_map}
+use Rattle.wit_model.specs.Parts.{function_types}
+use Rattle.wit_model.specs.declared.model.«Type».TheVariants as ty
+use Rattle.wit_encode.proofs.Defining.{none-in}
+use Rattle.wit_encode.proofs.Rooms.{room-more, room-after, only-more, reached-left, reached-right}
 use Rattle.wit_encode.specs.Scope.{Scope}
 use Rattle.wit_encode.specs.Instance.{CanEncodeFunction, Continues, own_of, declarations_in}
 use Rattle.std.proofs.Common.{ap}
@@ -52,3 +56,13 @@ returns-clause-learns c = on_ok c.encode_functions.result _ _ (λ l. from-then (
 
 pub returns-clause-known : goal.returns-clause-known
 returns-clause-known c = on_ok c.encode_functions.result _ _ (λ l. λ t h. known-grow c.encode_types.new.self.maps c.encode_functions.new.self.maps t.0 l.learns.grow (c.in_ok-encode_types.ensures.known t h)) c.encode_functions.ensures.learns
+
+pub returns-in_err-encode_types-clause-size : goal.returns-in_err-encode_types-clause-size
+returns-in_err-encode_types-clause-size c = λ h. room-more refl (reached-left (map (λ t. ty.Id t) c.args.types.now) (flat_map function_types (map (λ f. f.2.now) c.args.functions.now))) (λ q k. none-in q k) (omega arith) (c.encode_types.ensures.size (search rules))
+
+pub returns-clause-size : goal.returns-clause-size
+returns-clause-size c = λ h.
+    let types = map (λ t. ty.Id t) c.args.types.now in
+    let others = flat_map function_types (map (λ f. f.2.now) c.args.functions.now) in
+    room-after c.in_ok-encode_types.ensures.held c.encode_types.ensures.leaves.agree.once (ap (λ (s : Scope). s.own_interface) c.encode_types.ensures.leaves.scope_stays)
+    (only-more (reached-left types others) c.in_ok-encode_types.ensures.learns.only) (reached-right types others) (λ q k. k) (omega arith) (c.encode_functions.ensures.size h)

@@ -1,8 +1,9 @@
-use Rattle.std.proofs.Common.{sym, ap, ◌∙◌}
+use Rattle.std.proofs.Common.{inl, sym, ap, ◌∙◌}
 use Rattle.wit_encode.specs.Instance.{around_of}
 use Rattle.wit_encode.proofs.Around.{slots-grow}
 use Rattle.wit_encode.proofs.Within.{function-within, function-without}
-use Rattle.wit_encode.proofs.Refusing.{function-inside, function-outside}
+use Rattle.wit_encode.specs.Instance.{stands_in}
+use Rattle.wit_encode.proofs.Refusing.{function-inside, function-outside, held-inside, held-outside}
 use Rattle.wit_encode.proofs.interface.InterfaceEncoderOfTypeEncodingMapsValtypeEncoder.define_function_type.Goals as goal
 
 pub returns-in-Some-clause-ok : goal.returns-in-Some-clause-ok
@@ -29,11 +30,17 @@ returns-clause-scope_stays c = (function-without c.define_function_outside.resul
 pub returns-clause-counts : goal.returns-clause-counts
 returns-clause-counts c = (function-without c.define_function_outside.result c.args.self.now.resolve.now c.args.self.now.outer c.args.self.now.inner c.define_function_outside.new.outer c.in-None.is c.args.def c.requires c.define_function_outside.ensures.ok c.define_function_outside.ensures.err).counted
 
+pub returns-in-Some-clause-held : goal.returns-in-Some-clause-held
+returns-in-Some-clause-held c = held-inside c.args.self.now.outer c.args.self.now.inner c.in-Some.current c.define_function_inside.new.inner c.in-Some.is c.define_function_inside.ensures.held
+
+pub returns-clause-held : goal.returns-clause-held
+returns-clause-held c = held-outside c.args.self.now.outer c.define_function_outside.new.outer c.args.self.now.inner c.in-None.is c.define_function_outside.ensures.held
+
 pub returns-in-Some-clause-size : goal.returns-in-Some-clause-size
-returns-in-Some-clause-size c = λ h. function-inside c.define_function_inside.result c.args.self.now.resolve.now c.args.self.now.outer c.args.self.now.inner c.in-Some.current c.define_function_inside.new.inner c.in-Some.is c.define_function_inside.ensures.err h c.args.def c.define_function_inside.ensures.size
+returns-in-Some-clause-size c = λ h s f. inl (function-inside c.args.self.now.resolve.now c.define_function_inside.result h (stands_in c.args.self.now.resolve.now c.args.self.now.outer c.args.self.now.inner) c.define_function_inside.new.inner c.args.def c.define_function_inside.ensures.size s f)
 
 pub returns-clause-size : goal.returns-clause-size
-returns-clause-size c = λ h. function-outside c.define_function_outside.result c.args.self.now.resolve.now c.args.self.now.outer c.args.self.now.inner c.define_function_outside.new.outer c.in-None.is c.define_function_outside.ensures.err h c.args.def c.define_function_outside.ensures.size
+returns-clause-size c = λ h s f. inl (function-outside c.args.self.now.resolve.now c.define_function_outside.result h c.define_function_outside.new.outer c.args.self.now.inner c.in-None.is (stands_in c.args.self.now.resolve.now c.args.self.now.outer c.args.self.now.inner) c.args.def c.define_function_outside.ensures.size s f)
 
 pub returns-in-Some-clause-around_stays : goal.returns-in-Some-clause-around_stays
 returns-in-Some-clause-around_stays c = ap (around_of c.args.self.now.outer) (sym c.in-Some.is)

@@ -1,8 +1,9 @@
-use Rattle.std.proofs.Common.{sym, ap, ◌∙◌}
+use Rattle.std.proofs.Common.{inl, sym, ap, ◌∙◌}
 use Rattle.wit_encode.specs.Instance.{around_of}
 use Rattle.wit_encode.proofs.Around.{slots-grow}
 use Rattle.wit_encode.proofs.Within.{defined-within, defined-without}
-use Rattle.wit_encode.proofs.Refusing.{value-inside, value-outside}
+use Rattle.wit_encode.specs.Instance.{stands_in}
+use Rattle.wit_encode.proofs.Refusing.{value-inside, value-outside, held-inside, held-outside}
 use Rattle.wit_encode.proofs.interface.InterfaceEncoderOfTypeEncodingMapsValtypeEncoder.defined_type.Goals as goal
 
 pub returns-in-Some-clause-ok : goal.returns-in-Some-clause-ok
@@ -29,11 +30,17 @@ returns-clause-scope_stays c = (defined-without c.define_outside.result c.args.s
 pub returns-clause-counts : goal.returns-clause-counts
 returns-clause-counts c = (defined-without c.define_outside.result c.args.self.now.resolve.now c.args.self.now.outer c.args.self.now.inner c.define_outside.new.outer c.in-None.is c.args.def c.requires c.define_outside.ensures.ok c.define_outside.ensures.err).counted
 
+pub returns-in-Some-clause-held : goal.returns-in-Some-clause-held
+returns-in-Some-clause-held c = held-inside c.args.self.now.outer c.args.self.now.inner c.in-Some.current c.define_inside.new.inner c.in-Some.is c.define_inside.ensures.held
+
+pub returns-clause-held : goal.returns-clause-held
+returns-clause-held c = held-outside c.args.self.now.outer c.define_outside.new.outer c.args.self.now.inner c.in-None.is c.define_outside.ensures.held
+
 pub returns-in-Some-clause-size : goal.returns-in-Some-clause-size
-returns-in-Some-clause-size c = λ h. value-inside c.define_inside.result c.args.self.now.resolve.now c.args.self.now.outer c.args.self.now.inner c.in-Some.current c.define_inside.new.inner c.in-Some.is c.define_inside.ensures.err h c.args.def c.define_inside.ensures.size
+returns-in-Some-clause-size c = λ h t f. inl (value-inside c.args.self.now.resolve.now c.define_inside.result h (stands_in c.args.self.now.resolve.now c.args.self.now.outer c.args.self.now.inner) c.define_inside.new.inner c.args.def c.define_inside.ensures.size t f)
 
 pub returns-clause-size : goal.returns-clause-size
-returns-clause-size c = λ h. value-outside c.define_outside.result c.args.self.now.resolve.now c.args.self.now.outer c.args.self.now.inner c.define_outside.new.outer c.in-None.is c.define_outside.ensures.err h c.args.def c.define_outside.ensures.size
+returns-clause-size c = λ h t f. inl (value-outside c.args.self.now.resolve.now c.define_outside.result h c.define_outside.new.outer c.args.self.now.inner c.in-None.is (stands_in c.args.self.now.resolve.now c.args.self.now.outer c.args.self.now.inner) c.args.def c.define_outside.ensures.size t f)
 
 pub returns-in-Some-clause-around_stays : goal.returns-in-Some-clause-around_stays
 returns-in-Some-clause-around_stays c = ap (around_of c.args.self.now.outer) (sym c.in-Some.is)

@@ -1,9 +1,9 @@
-use Rattle.std.proofs.Common.{sym, ap}
+use Rattle.std.proofs.Common.{inl, sym, ap}
 use Rattle.wit_encode.specs.Instance.{around_of}
 use Rattle.wit_encode.proofs.Around.{slots-grow}
 use Rattle.wit_encode.proofs.Within.{resource-within}
 use Rattle.comp_bytes.specs.declared.forms.ComponentTypeRef.TheVariants as refs
-use Rattle.wit_encode.specs.Instance.{for_name}
+use Rattle.wit_encode.proofs.Refusing.{name-inside, held-inside}
 use Rattle.comp_bytes.specs.RawOf.{raw_name}
 use Rattle.wit_encode.proofs.interface.InterfaceEncoderOfTypeEncodingMapsValtypeEncoder.export_resource.Goals as goal
 
@@ -20,7 +20,10 @@ pub returns-clause-counts : goal.returns-clause-counts
 returns-clause-counts c = (resource-within c.export_inside.result c.args.self.now.resolve.now c.args.self.now.outer c.args.self.now.inner c.in-Some.current c.export_inside.new.inner c.in-Some.is _ c.requires c.export_inside.ensures.ok c.export_inside.ensures.err).counted
 
 pub returns-clause-size : goal.returns-clause-size
-returns-clause-size c = λ h. for_name (raw_name c.args.name) refs.SubResource (c.export_inside.ensures.size h)
+returns-clause-size c = λ h. inl (name-inside c.args.self.now.resolve.now c.export_inside.new.inner (raw_name c.args.name) refs.SubResource (c.export_inside.ensures.size h))
+
+pub returns-clause-held : goal.returns-clause-held
+returns-clause-held c = held-inside c.args.self.now.outer c.args.self.now.inner c.in-Some.current c.export_inside.new.inner c.in-Some.is c.export_inside.ensures.held
 
 pub returns-clause-around_stays : goal.returns-clause-around_stays
 returns-clause-around_stays c = ap (around_of c.args.self.now.outer) (sym c.in-Some.is)

@@ -1,11 +1,12 @@
-use Rattle.std.proofs.Common.{sym, ap, ◌∙◌, subst, Option, Some, rules}
+use Rattle.std.proofs.Common.{inl, sym, ap, ◌∙◌, subst, arith, Option, Some, rules}
 use Rattle.std.proofs.lemmas.Option.{slice_get_within}
 use Rattle.wit_encode.specs.declared.interface.OpenInterface.{OpenInterface}
 use Rattle.wit_encode.specs.Scope.{IsImportable}
 use Rattle.wit_encode.specs.Known.{Around, GrowsAround}
-use Rattle.wit_encode.specs.Instance.{encoder_scope, scope_with, inner_contents, place_in, around_at, around_of, for_import, for_alias}
+use Rattle.wit_encode.specs.Instance.{encoder_scope, scope_with, inner_contents, place_in, around_at, around_of}
 use Rattle.wit_encode.proofs.Around.{reaches-grows}
 use Rattle.wit_encode.proofs.Importing.{ImportsTo, imported, imported-stands, import-source, none-outside}
+use Rattle.wit_encode.proofs.Refusing.{alias-inside, alias-outside, held-inside}
 use Rattle.wit_encode.proofs.interface.InterfaceEncoderOfTypeEncodingMapsValtypeEncoder.import_type.Goals as goal
 use Rattle.wit_encode.proofs.interface.InterfaceEncoderOfTypeEncodingMapsValtypeEncoder.import_type.Goals.{After-alias_inside}
 
@@ -38,7 +39,13 @@ pub returns-clause-counts : goal.returns-clause-counts
 returns-clause-counts c = (imports (goal.at.returns-clause-counts c).After-alias_inside).counted
 
 pub returns-clause-size : goal.returns-clause-size
-returns-clause-size c = λ h. for_import c.args.id.0 c.in_ok-slot-in-Some.slot (c.alias_inside.ensures.size h)
+returns-clause-size c = λ h. inl (alias-inside c.args.self.now.resolve.now c.alias_inside.new.inner c.args.id.0 c.in_ok-slot-in-Some.slot (c.alias_inside.ensures.size h))
+
+pub returns-clause-held : goal.returns-clause-held
+returns-clause-held c = held-inside c.args.self.now.outer c.args.self.now.inner c.in-Some.current c.alias_inside.new.inner c.in-Some.is c.alias_inside.ensures.held
+
+pub returns-in_err-slot-in-Some-clause-held : goal.returns-in_err-slot-in-Some-clause-held
+returns-in_err-slot-in-Some-clause-held c = held-inside c.args.self.now.outer c.args.self.now.inner c.in-Some.current c.in-Some.current.declared c.in-Some.is (omega arith)
 
 pub returns-in_err-slot-in-Some-clause-scope_stays : goal.returns-in_err-slot-in-Some-clause-scope_stays
 returns-in_err-slot-in-Some-clause-scope_stays c =
@@ -46,6 +53,4 @@ returns-in_err-slot-in-Some-clause-scope_stays c =
     ∙ ap (encoder_scope c.args.self.now.resolve.now c.args.self.now.outer) (sym c.in-Some.is)
 
 pub returns-in_err-slot-in-Some-clause-size : goal.returns-in_err-slot-in-Some-clause-size
-returns-in_err-slot-in-Some-clause-size c = λ h.
-    let full = c.reach.ensures.size (search rules) in
-    for_alias c.args.id.0 full.0.instance full.0.name full.1
+returns-in_err-slot-in-Some-clause-size c = λ h. alias-outside c.args.self.now.resolve.now c.reach.new.outer (Some (record c.in-Some.current { foreign = c.reach.new.foreign })) c.args.id.0 (c.reach.ensures.size (search rules))

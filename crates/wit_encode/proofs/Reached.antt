@@ -1,0 +1,277 @@
+-- What is met from the types and functions of an interface is counted in its weight.
+use Rattle.std.proofs.Common.{inl, inr, ◌≡◌, refl, sym, subst, ap, ◌∙◌, ℕ, zero, suc, ◌+◌, ◌<◌, Bool, true, false, not, ◌&&◌, nat_lt, if◌then◌else◌, List, [], ◌∷◌, ◌++◌, map, filter_map, flat_map, take, length, slice_get, unwrap_or, Option, Some, None, option_to_list, is_some, String, arith}
+use Rattle.std.specs.declared.alloc.Global.{Global}
+use Rattle.std.specs.List.{Contains, list_all}
+use Rattle.std.specs.Option.{option_map_or}
+use Rattle.std.proofs.lemmas.Bool.{ltb-true}
+use Rattle.std.proofs.lemmas.List.Elements.{Contains-append_left, Contains-append_right, Contains-append_cases}
+use Rattle.indexmap.specs.IndexMap.{values}
+use Rattle.wit_model.specs.Lookup.{type_at, interface_at, resource_of}
+use Rattle.wit_model.specs.Types.{number_of}
+use Rattle.wit_model.specs.Uses.{owner_interface}
+use Rattle.wit_model.specs.Parts.{kind_numbers, function_types, function_numbers, numbered_from, met_by, met_of, same_owner, has_owner}
+use Rattle.wit_model.specs.Rules.{passes, in_list, is_use, package_number, function_in_range, function_stays, interface_type_numbers}
+use Rattle.wit_model.specs.Valid.{IsValid, as_interface, functions_of_interface, numbers_in_range, owners}
+use Rattle.wit_model.specs.Weight.{inside_at, inside_of, inside_number, inside_kind}
+use Rattle.wit_model.specs.declared.model.Resolve.{Resolve}
+use Rattle.wit_model.specs.declared.model.Interface.{Interface}
+use Rattle.wit_model.specs.declared.model.Function.{Function}
+use Rattle.wit_model.specs.declared.model.TypeDef.{TypeDef}
+use Rattle.wit_model.specs.declared.model.TypeId.{TypeId}
+use Rattle.wit_model.specs.declared.model.InterfaceId.{InterfaceId}
+use Rattle.wit_model.specs.declared.model.TypeOwner.{TypeOwner}
+use Rattle.wit_model.specs.declared.model.«Type».{«Type» as ValueType}
+use Rattle.wit_model.specs.declared.model.«Type».TheVariants as ty
+use Rattle.wit_model.proofs.Lists.{first_true, second_true}
+use Rattle.wit_model.proofs.Tables.{grow_at}
+use Rattle.wit_model.proofs.Checks.{below_at}
+use Rattle.wit_model.proofs.Functions.{all_flat}
+use Rattle.wit_model.proofs.Owners.{named_met}
+use Rattle.wit_encode.specs.Kinds.{parts_of}
+use Rattle.wit_encode.specs.Plan.{foreign_owner, Reaches, itself, through}
+use Rattle.wit_encode.specs.MetKinds.{ReachedFrom, referred}
+use Rattle.wit_encode.proofs.Lists.{all-contained, contains-map, contains-filter_map, contains-one, one-contained}
+use Rattle.wit_encode.proofs.Counting.{from-map}
+use Rattle.wit_encode.proofs.Numbers.{contains-flat, contains-get, has-contains, none-in, same-some}
+use Rattle.wit_encode.proofs.Planning.{part-number}
+use Rattle.wit_encode.proofs.Paths.{found-in}
+use Rattle.wit_encode.proofs.Validity.{interface_passes}
+use Rattle.wit_encode.proofs.Owned.{same-owner, valid-references, stays, part-met, own-interface, alias-part, not-false}
+use Rattle.wit_encode.proofs.ListedTypes.{owned-listed, listed-type, IsListedType}
+
+-- ---- lists
+
+pub from-flat : {X Y : Type 0} (f : X → List Y) (xs : List X) (y : Y) → Contains (flat_map f xs) y → (x : X) × Contains xs x × Contains (f x) y
+from-flat f [] y c = none-in y c
+from-flat f (x ∷ xs) y c = elim (Contains-append_cases (f x) (flat_map f xs) y c) [
+  | inl a ↦ (x, (0, omega arith, refl), a)
+  | inr b ↦ (let z = from-flat f xs y b in (z.0, (suc z.1.0, (let l = z.1.1 in omega (arith, l)), z.1.2), z.2))
+]
+
+get-take : {X : Type 0} (xs : List X) (n m : ℕ) → m < n → slice_get (take n xs) m ≡ slice_get xs m
+get-take [] zero m h = refl
+get-take [] (suc n) m h = refl
+get-take (x ∷ xs) zero m h = absurd (omega (arith, h))
+get-take (x ∷ xs) (suc n) zero h = refl
+get-take (x ∷ xs) (suc n) (suc m) h = get-take xs n m (omega (arith, h))
+
+flat-same : {X : Type 0} (f g : ℕ → List X) (n : ℕ) (ns : List ℕ) → ((m : ℕ) → m < n → f m ≡ g m) → list_all (λ m. nat_lt m n) ns ≡ true → flat_map f ns ≡ flat_map g ns
+flat-same f g n [] same h = refl
+flat-same f g n (m ∷ ns) same h = λ i. same m (ltb-true m n (first_true _ _ h)) i ++ flat-same f g n ns same (second_true _ _ h) i
+
+numbered-at : {A : Type 0} (k : ℕ) (xs : List A) (n : ℕ) (x : A) → slice_get xs n ≡ Some x → slice_get (numbered_from k xs) n ≡ Some (k + n, x)
+numbered-at k [] n x e = let wrong : ⊥ = cc in absurd wrong
+numbered-at k (y ∷ ys) zero x e = let here : k + 0 ≡ k = omega arith in λ i. Some (sym here i, same-some y x e i)
+numbered-at k (y ∷ ys) (suc n) x e = let next : (k + 1) + n ≡ k + suc n = omega arith in subst (λ (m : ℕ). slice_get (numbered_from (k + 1) ys) n ≡ Some (m, x)) next (numbered-at (k + 1) ys n x e)
+
+within : {A : Type 0} (xs : List A) (n : ℕ) (x : A) → slice_get xs n ≡ Some x → n < length xs
+within [] n x e = let wrong : ⊥ = cc in absurd wrong
+within (y ∷ ys) zero x e = omega arith
+within (y ∷ ys) (suc n) x e = let l = within ys n x e in omega (arith, l)
+
+there-at : {A : Type 0} (xs : List A) (n : ℕ) → n < length xs → (x : A) × (slice_get xs n ≡ Some x)
+there-at [] n l = absurd (omega (arith, l))
+there-at (x ∷ xs) zero l = (x, refl)
+there-at (x ∷ xs) (suc n) l = there-at xs n (omega (arith, l))
+
+-- ---- what stands inside a number
+
+module _ (r : Resolve) (v : IsValid r) where
+  inside-step : (n : ℕ) (def : TypeDef) → type_at r n ≡ Some def → inside_number r n ≡ n ∷ (if is_some def.name then [] else flat_map (inside_number r) (kind_numbers def.kind))
+  unfolding inside_of
+  inside-step n def is =
+      ap (λ o. unwrap_or o []) (grow_at inside_at (numbered_from 0 r.types.items) n (n, def) here)
+      ∙ ap (λ xs. n ∷ (if is_some def.name then [] else xs)) (flat-same (met_by (take n (inside_of r))) (met_by (inside_of r)) n (kind_numbers def.kind) (λ m low. ap (λ o. unwrap_or o []) (get-take (inside_of r) n m low)) (below_at r (valid-references r v) n def is))
+    where
+      here : slice_get (numbered_from 0 r.types.items) n ≡ Some (n, def)
+      here = let zero_n : 0 + n ≡ n = omega arith in subst (λ (m : ℕ). slice_get (numbered_from 0 r.types.items) n ≡ Some (m, def)) zero_n (numbered-at 0 r.types.items n def is)
+
+  named-inside : (n : ℕ) (def : TypeDef) → type_at r n ≡ Some def → is_some def.name ≡ true → inside_number r n ≡ n ∷ []
+  named-inside n def is named = inside-step n def is ∙ ap (λ b. n ∷ (if b then [] else flat_map (inside_number r) (kind_numbers def.kind))) named
+
+  unnamed-inside : (n : ℕ) (def : TypeDef) → type_at r n ≡ Some def → is_some def.name ≡ false → inside_number r n ≡ n ∷ flat_map (inside_number r) (kind_numbers def.kind)
+  unnamed-inside n def is none = inside-step n def is ∙ ap (λ b. n ∷ (if b then [] else flat_map (inside_number r) (kind_numbers def.kind))) none
+
+  inside-itself : (n : ℕ) (def : TypeDef) → type_at r n ≡ Some def → Contains (inside_number r n) n
+  inside-itself n def is = subst (λ (xs : List ℕ). Contains xs n) (sym (inside-step n def is)) (0, omega arith, refl)
+
+  smaller : (n : ℕ) (def : TypeDef) → type_at r n ≡ Some def → (m : ℕ) → Contains (kind_numbers def.kind) m → m < n
+  smaller n def is m c = ltb-true m n (all-contained (λ m. nat_lt m n) (kind_numbers def.kind) m (below_at r (valid-references r v) n def is) c)
+
+  pub part-at : (n : ℕ) (def : TypeDef) → type_at r n ≡ Some def → (m : ℕ) → Contains (kind_numbers def.kind) m → (d : TypeDef) × (type_at r m ≡ Some d)
+  part-at n def is m c = there-at r.types.items m (let a = smaller n def is m c in let b = within r.types.items n def is in omega (arith, a, b))
+
+  -- what a type refers to that stands unnamed inside a number stands inside it too
+  inside-down : (fuel a : ℕ) → a < fuel → (da : TypeDef) → type_at r a ≡ Some da → (k : ℕ) (dk : TypeDef) → type_at r k ≡ Some dk → is_some dk.name ≡ false → (j : ℕ) → Contains (kind_numbers dk.kind) j → Contains (inside_number r a) k → Contains (inside_number r a) j
+  inside-down zero a l da is k dk at none j c h = absurd (omega (arith, l))
+  inside-down (suc fuel) a l da is k dk at none j c h = go (λ b low d isd inside. inside-down fuel b low d isd k dk at none j c inside) (is_some da.name) refl
+    where
+      at-head : a ≡ k → da ≡ dk
+      at-head e = same-some da dk (sym is ∙ (ap (type_at r) e ∙ at))
+
+      go : ((b : ℕ) → b < fuel → (d : TypeDef) → type_at r b ≡ Some d → Contains (inside_number r b) k → Contains (inside_number r b) j) → (b : Bool) → is_some da.name ≡ b → Contains (inside_number r a) j
+      go down true named = head (subst (λ (xs : List ℕ). Contains xs k) (named-inside a da is named) h)
+        where
+          head : Contains (a ∷ []) k → Contains (inside_number r a) j
+          head (zero, m, e) = let wrong : true ≡ false = sym named ∙ (ap (λ (d : TypeDef). is_some d.name) (at-head e) ∙ none) in let z : ⊥ = cc in absurd z
+          head (suc i, m, e) = absurd (omega (arith, m))
+      go down false bare = subst (λ (xs : List ℕ). Contains xs j) (sym (unnamed-inside a da is bare)) (later (parts (subst (λ (xs : List ℕ). Contains xs k) (unnamed-inside a da is bare) h)))
+        where
+          later : Contains (flat_map (inside_number r) (kind_numbers da.kind)) j → Contains (a ∷ flat_map (inside_number r) (kind_numbers da.kind)) j
+          later (i, m, e) = (suc i, omega (arith, m), e)
+
+          parts : Contains (a ∷ flat_map (inside_number r) (kind_numbers da.kind)) k → Contains (flat_map (inside_number r) (kind_numbers da.kind)) j
+          parts (zero, m, e) =
+              let c' : Contains (kind_numbers da.kind) j = subst (λ (d : TypeDef). Contains (kind_numbers d.kind) j) (sym (at-head e)) c in
+              let p = part-at a da is j c' in
+              contains-flat (inside_number r) (kind_numbers da.kind) j j c' (inside-itself j p.0 p.1)
+          parts (suc i, m, e) =
+              let f = from-flat (inside_number r) (kind_numbers da.kind) k (i, omega (arith, m), e) in
+              let p = part-at a da is f.0 f.1 in
+              let low = smaller a da is f.0 f.1 in
+              contains-flat (inside_number r) (kind_numbers da.kind) f.0 j f.1 (down f.0 (omega (arith, low, l)) p.0 p.1 f.2)
+
+  -- ---- the way down
+
+  module _ (i : InterfaceId) (interface : Interface) (home : interface_at r i.0 ≡ Some interface) where
+    abbrev o : TypeOwner
+    o = as_interface i.0
+
+    abbrev ns : List ℕ
+    ns = interface_type_numbers interface
+
+    -- the numbers of the interface, some of them more than once
+    abbrev pub all-numbers : List ℕ
+    all-numbers = ns ++ (flat_map (inside_kind r) ns ++ flat_map (λ f. flat_map (inside_number r) (function_numbers f)) (functions_of_interface interface))
+
+    -- a number inside one whose inside is counted
+    pub record IsCounted (k : ℕ) : Type 0 where
+      pub root : ℕ
+      pub def : TypeDef
+      pub there : type_at r root ≡ Some def
+      pub all : (j : ℕ) → Contains (inside_number r root) j → Contains all-numbers j
+      pub inside : Contains (inside_number r root) k
+      pub own_def : TypeDef
+      pub own_there : type_at r k ≡ Some own_def
+
+    abbrev pub Stays : ℕ → Type 0
+    Stays k = (def : TypeDef) → type_at r k ≡ Some def → foreign_owner (Some i) def.owner ≡ None → stays r v o k ≡ true
+
+    of-kind : (m : ℕ) → Contains ns m → (def : TypeDef) → type_at r m ≡ Some def → (n : ℕ) → Contains (kind_numbers def.kind) n → (j : ℕ) → Contains (inside_number r n) j → Contains all-numbers j
+    of-kind m listed def at n c j h = Contains-append_right ns _ j (Contains-append_left (flat_map (inside_kind r) ns) _ j
+        (contains-flat (inside_kind r) ns m j listed (subst (λ (xs : List ℕ). Contains xs j)
+        (sym (ap (λ t. option_map_or (λ d. flat_map (inside_number r) (kind_numbers d.kind)) t []) at)) (contains-flat (inside_number r) (kind_numbers def.kind) n j c h))))
+
+    use-foreign : (def : TypeDef) → same_owner def.owner o ≡ true → is_use r def ≡ true → (id : TypeId) → Contains (parts_of def.kind) (ty.Id id) → (d : TypeDef) → type_at r id.0 ≡ Some d → foreign_owner (Some i) d.owner ≡ None → ⊥
+    use-foreign def owned u id c d is f =
+        let at = alias-part _ def.kind id u c in
+        let target = sym (ap (λ t. option_map_or (λ target. not (same_owner target.owner def.owner) && option_map_or
+        (λ j. option_map_or (λ other. is_some other.name) (interface_at r j) false) (owner_interface target.owner) false) t false) is) ∙ at in
+        not-false (same_owner d.owner def.owner) (first_true _ _ target)
+        (subst (λ (a : TypeOwner). same_owner d.owner a ≡ true) (sym (same-owner def.owner o owned)) (belongs (owner_interface d.owner) refl (second_true _ _ target)))
+      where
+        belongs : (j : Option ℕ) → owner_interface d.owner ≡ j → option_map_or (λ j. option_map_or (λ other. is_some other.name) (interface_at r j) false) j false ≡ true → same_owner d.owner o ≡ true
+        belongs None q g = let wrong : ⊥ = cc in absurd wrong
+        belongs (Some j) q g = own-interface o d.owner j q f
+
+    walk : (t : ValueType) (n : ℕ) → Reaches r (Some i) t n → ((id : TypeId) → t ≡ ty.Id id → IsCounted id.0 × Stays id.0) → IsCounted n × Stays n
+    walk _ _ (itself id) p = p id refl
+    walk _ _ (through id def t n at f c re) p = walk t n re (λ id' e. further id' (subst (λ (x : ValueType). Contains (parts_of def.kind) x) e c))
+      where
+        counted : IsCounted id.0
+        counted = (p id refl).0
+
+        stay : stays r v o id.0 ≡ true
+        stay = (p id refl).1 def at f
+
+        further : (id' : TypeId) → Contains (parts_of def.kind) (ty.Id id') → IsCounted id'.0 × Stays id'.0
+        further id' c = (go (is_some def.name) refl, part-met r v o id.0 def at id' c stay (λ s d is q. s) (λ named owned uses. λ d is q. absurd (use-foreign def owned uses id' c d is q)))
+          where
+            number : Contains (kind_numbers def.kind) id'.0
+            number = part-number def.kind id' c
+
+            go : (b : Bool) → is_some def.name ≡ b → IsCounted id'.0
+            go false none = record {
+              root = counted.root;
+              def = counted.def;
+              there = counted.there;
+              all = counted.all;
+              inside = inside-down (suc counted.root) counted.root (omega arith) counted.def counted.there id.0 def at none id'.0 number counted.inside;
+              own_def = (part-at id.0 def at id'.0 number).0;
+              own_there = (part-at id.0 def at id'.0 number).1;
+            }
+            go true named =
+                let owned : same_owner def.owner o ≡ true = named_met r (valid-references r v) id.0 def at o named ∙ stay in
+                let listed = has-contains ns id.0 (owned-listed r v i.0 interface home id.0 (ap (λ t. option_map_or (λ d. same_owner d.owner o) t false) at ∙ owned)) in
+                let part = part-at id.0 def at id'.0 number in
+                record { root = id'.0; def = part.0; there = part.1; all = of-kind id.0 listed def at id'.0 number; inside = inside-itself id'.0 part.0 part.1; own_def = part.0; own_there = part.1 }
+
+    -- ---- where it begins
+
+    from-entry : (e : String Global × TypeId) → Contains interface.types.entries e → IsCounted e.1.0 × Stays e.1.0
+    from-entry e c = (record { root = e.1.0; def = listed.def; there = listed.there; all = alone; inside = inside-itself e.1.0 listed.def listed.there; own_def = listed.def; own_there = listed.there }, λ d is f. stay)
+      where
+        place : (k : ℕ) × (slice_get interface.types.entries k ≡ Some e)
+        place = contains-get interface.types.entries e c
+
+        listed : IsListedType r i.0 e
+        listed = listed-type r v i.0 interface home place.0 e place.1
+
+        named : is_some listed.def.name ≡ true
+        named = ap is_some listed.named_
+
+        stay : stays r v o e.1.0 ≡ true
+        stay = sym (named_met r (valid-references r v) e.1.0 listed.def listed.there o named) ∙ listed.owned
+
+        alone : (j : ℕ) → Contains (inside_number r e.1.0) j → Contains all-numbers j
+        alone j h = Contains-append_left ns _ j (subst (λ (m : ℕ). Contains ns m) (one-contained e.1.0 j (subst (λ (xs : List ℕ). Contains xs j) (named-inside e.1.0 listed.def listed.there named) h))
+            (contains-map (λ (id : TypeId). id.0) (values interface.types) e.1 (contains-map (λ (x : String Global × TypeId). x.1) interface.types.entries e c)))
+
+    from-type : (t : TypeId) → Contains (values interface.types) t → IsCounted t.0 × Stays t.0
+    from-type t c = let x = from-map (λ (e : String Global × TypeId). e.1) interface.types.entries t c in subst (λ (u : TypeId). IsCounted u.0 × Stays u.0) x.2 (from-entry x.0 x.1)
+
+    module _ (f : Function) (in_map : Contains (functions_of_interface interface) f) where
+      stays-all : function_stays r o f ≡ true
+      unfolding owners
+      stays-all = all-contained (function_stays r o) (functions_of_interface interface) f (first_true (list_all (function_stays r o) (functions_of_interface interface)) _ (interface_passes owners r v.rules.owners i.0 interface home)) in_map
+
+      in-range : function_in_range r f ≡ true
+      unfolding numbers_in_range
+      in-range = all-contained (function_in_range r) (functions_of_interface interface) f
+          (second_true (list_all (λ (id : TypeId). in_list r.types.items id.0) (values interface.types)) _
+          (second_true (passes (in_list r.packages.items) (package_number interface.package)) _ (second_true _ _ (interface_passes numbers_in_range r v.rules.numbers_in_range i.0 interface home)))) in_map
+
+      from-function : (id : TypeId) → Contains (function_types f) (ty.Id id) → IsCounted id.0 × Stays id.0
+      from-function id c =
+          let value = contains-filter_map number_of (function_types f) (ty.Id id) id.0 c (contains-one id.0) in
+          let number = Contains-append_left (filter_map number_of (function_types f)) (option_to_list (resource_of f.kind)) id.0 value in
+          let found = found-in r.types.items id.0 (all-contained (in_list r.types.items) (function_numbers f) id.0 in-range number) in (
+            record {
+              root = id.0;
+              def = found.0;
+              there = found.1;
+              all = λ j h. Contains-append_right ns _ j (Contains-append_right (flat_map (inside_kind r) ns) _ j
+                  (contains-flat (λ g. flat_map (inside_number r) (function_numbers g)) (functions_of_interface interface) f j in_map (contains-flat (inside_number r) (function_numbers f) id.0 j number h)));
+              inside = inside-itself id.0 found.0 found.1;
+              own_def = found.0;
+              own_there = found.1;
+            },
+            λ d is q. all-contained (stays r v o) (filter_map number_of (function_types f)) id.0 (sym (all_flat (has_owner r o) (met_by (met_of r)) (filter_map number_of (function_types f))) ∙ stays-all) value,
+          )
+
+    -- what is met is one of the numbers of the interface
+    pub met-counted : (fs : List Function) → ((f : Function) → Contains fs f → Contains (functions_of_interface interface) f) → (n : ℕ) → ReachedFrom r (Some i) (referred (values interface.types) fs) n → IsCounted n × Stays n
+    met-counted fs among n x = walk x.0 n x.2 (λ id e. elim (Contains-append_cases (map (λ t. ty.Id t) (values interface.types)) (flat_map function_types fs) (ty.Id id) (subst (λ (t : ValueType). Contains (referred (values interface.types) fs) t) e x.1)) [
+      | inl a ↦ (let y = from-map (λ (t : TypeId). ty.Id t) (values interface.types) (ty.Id id) a in from-type id (subst (λ (t : TypeId). Contains (values interface.types) t) (same-id y.0 id y.2) y.1))
+      | inr b ↦ (let y = from-flat function_types fs (ty.Id id) b in from-function y.0 (among y.0 y.1) id y.2)
+    ])
+      where
+        same-id : (a b : TypeId) → ty.Id a ≡ ty.Id b → a ≡ b
+        same-id a b e = cc
+
+    pub counted-in : (n : ℕ) → IsCounted n → Contains all-numbers n
+    counted-in n c = c.all n c.inside
+
+    -- a named type that is met and isn't foreign is of the interface
+    pub named-own : (n : ℕ) (def : TypeDef) → type_at r n ≡ Some def → Stays n → foreign_owner (Some i) def.owner ≡ None → is_some def.name ≡ true → same_owner def.owner (as_interface i.0) ≡ true
+    named-own n def at stay f named = named_met r (valid-references r v) n def at o named ∙ stay def at f

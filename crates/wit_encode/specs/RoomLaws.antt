@@ -1,0 +1,14 @@
+-- Which interfaces have no room in an instance type.
+use Rattle.std.specs.Prelude.{◌≡◌, ◌<◌, Some}
+use Rattle.wit_model.specs.Lookup.{interface_at}
+use Rattle.wit_model.specs.Valid.{IsValid}
+use Rattle.wit_model.specs.Weight.{whole_instance_weight}
+use Rattle.wit_model.specs.declared.model.Resolve.{Resolve}
+use Rattle.wit_model.specs.declared.model.Interface.{Interface}
+use Rattle.wit_model.specs.declared.model.InterfaceId.{InterfaceId}
+use Rattle.wit_encode.specs.Room.{limit}
+use Rattle.wit_encode.specs.Encoders.{InterfaceLacksRoom}
+
+-- An interface that has no room in an instance type weighs more than the largest number of 32 bits.
+abbrev pub LackingInterfacesAreHeavy : Type 0
+LackingInterfacesAreHeavy = (r : Resolve) (i : InterfaceId) (def : Interface) → IsValid r → interface_at r i.0 ≡ Some def → InterfaceLacksRoom r i def → limit < whole_instance_weight r i.0
