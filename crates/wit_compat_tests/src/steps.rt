@@ -3,9 +3,9 @@
 use semver::Version;
 use std::alloc::{AllocError, Global};
 use std::process::Abort;
+use wit_check::Check;
 use wit_compat::laws::semver_check_counted;
 use wit_compat::{Steps, semver_check};
-use wit_check::Check;
 use wit_model::{
     Error, Fault, Function, FunctionKind, InterfaceId, PackageId, Resolve, Type, TypeDefKind,
     TypeId, TypeOwner, WorldId, WorldItem, WorldKey,

@@ -15,13 +15,13 @@ use super::packages::{OWN, text};
 use super::shown::{put, shown};
 use comp_bytes::ComponentValType;
 use std::alloc::{AllocError, Global};
+use wit_check::Check;
 use wit_encode::{
     Table, encode_enum, encode_flags, encode_func_type, encode_future, encode_option,
     encode_optional_valtype, encode_params, encode_record, encode_result, encode_stream,
     encode_tuple, encode_unit_future, encode_unit_stream, encode_valtype, encode_variant,
     maybe_import_type,
 };
-use wit_check::Check;
 use wit_model::{
     Error, Fault, Function, InterfaceId, Param, Resolve, Type, TypeDef, TypeDefKind, TypeId,
     TypeOwner,
