@@ -29,22 +29,22 @@ use Rattle.wit_model.specs.declared.model.TypeDef.{TypeDef}
 use Rattle.wit_model.specs.declared.model.TypeDefKind.{TypeDefKind}
 use Rattle.wit_model.specs.declared.model.Function.{Function}
 use Rattle.comp_bytes.specs.Raw.{Declaration, Declarations}
-use Rattle.wit_encode.specs.declared.key.FunctionKey.{FunctionKey}
-use Rattle.wit_encode.specs.declared.maps.TypeEncodingMaps.{TypeEncodingMaps}
+use Rattle.wit_encode_types.specs.declared.key.FunctionKey.{FunctionKey}
+use Rattle.wit_encode_types.specs.declared.maps.TypeEncodingMaps.{TypeEncodingMaps}
 use Rattle.wit_encode.specs.declared.interface.OpenInterface.{OpenInterface}
 use Rattle.wit_encode.specs.declared.interface.Foreign.{Foreign}
-use Rattle.wit_encode.specs.Key.{IsKeyOf}
-use Rattle.wit_encode.specs.KeyLaws.{type_equiv, param_equiv}
-use Rattle.wit_encode.specs.Kinds.{has_definition}
-use Rattle.wit_encode.specs.Slots.{Pairs}
-use Rattle.wit_encode.specs.Plan.{foreign_owner}
-use Rattle.wit_encode.specs.Maps.{MapsAgree, IsOnce, IsKnown, HasKey}
-use Rattle.wit_encode.specs.Scope.{Scope}
-use Rattle.wit_encode.specs.MetKinds.{AreMetKinds, referred}
-use Rattle.wit_encode.specs.Counts.{Definitions, names_defined, is_defined_by_name, is_defined_under_name, own_name, name_of_own, Shows, AddsTypes, AddsFunction}
-use Rattle.wit_encode.specs.Distinct.{Key, key_of, key_view, are_same, keys_of, defined_under_names, AddsFunctions, DefinesKeys, DefinesTypes, is_value_type, is_function_type}
+use Rattle.wit_encode_types.specs.Key.{IsKeyOf}
+use Rattle.wit_encode_types.specs.KeyLaws.{type_equiv, param_equiv}
+use Rattle.wit_encode_types.specs.Kinds.{has_definition}
+use Rattle.wit_encode_types.specs.Slots.{Pairs}
+use Rattle.wit_encode_types.specs.Plan.{foreign_owner}
+use Rattle.wit_encode_types.specs.Maps.{MapsAgree, IsOnce, IsKnown, HasKey}
+use Rattle.wit_encode_types.specs.Scope.{Scope}
+use Rattle.wit_encode_types.specs.MetKinds.{AreMetKinds, referred}
+use Rattle.wit_encode_types.specs.Counts.{Definitions, names_defined, is_defined_by_name, is_defined_under_name, own_name, name_of_own, Shows, AddsTypes, AddsFunction}
+use Rattle.wit_encode_types.specs.Distinct.{Key, key_of, key_view, are_same, keys_of, defined_under_names, AddsFunctions, DefinesKeys, DefinesTypes, is_value_type, is_function_type}
 use Rattle.wit_encode.specs.Instance.{own_of, contents_of, inner_contents, encoder_scope, definitions_with, opened, ShowsFunction}
-use Rattle.wit_encode.proofs.Lists.{contains-map}
+use Rattle.wit_encode_types.proofs.Lists.{contains-map}
 
 -- ---- keys
 

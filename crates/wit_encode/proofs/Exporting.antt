@@ -33,15 +33,15 @@ use Rattle.wit_model.specs.declared.model.«Type».TheVariants as ty
 use Rattle.wit_model.specs.declared.model.TypeOwner.{TypeOwner}
 use Rattle.wit_model.proofs.Lists.{first_true, second_true}
 use Rattle.wit_model.proofs.Owners.{function_home}
-use Rattle.wit_encode.specs.declared.maps.TypeEncodingMaps.{TypeEncodingMaps}
-use Rattle.wit_encode.specs.Kinds.{parts_of}
-use Rattle.wit_encode.specs.Maps.{IsKnown, IsReady, IsOnce, MapsGrow, LearnsOnly, by_number}
-use Rattle.wit_encode.specs.Plan.{foreign_owner, Meets, at_once, further, MetFrom}
-use Rattle.wit_encode.specs.Scope.{Scope}
-use Rattle.wit_encode.specs.Counts.{Definitions, Shows, own_name, name_of_own}
+use Rattle.wit_encode_types.specs.declared.maps.TypeEncodingMaps.{TypeEncodingMaps}
+use Rattle.wit_encode_types.specs.Kinds.{parts_of}
+use Rattle.wit_encode_types.specs.Maps.{IsKnown, IsReady, IsOnce, MapsGrow, LearnsOnly, by_number}
+use Rattle.wit_encode_types.specs.Plan.{foreign_owner, Meets, at_once, further, MetFrom}
+use Rattle.wit_encode_types.specs.Scope.{Scope}
+use Rattle.wit_encode_types.specs.Counts.{Definitions, Shows, own_name, name_of_own}
 use Rattle.wit_encode.specs.Instance.{declarations_in}
 use Rattle.wit_encode.specs.Exports.{AreTypesOf, ShowsFirst, AllKnown, KnowsUsed, UsesListed}
-use Rattle.wit_encode.proofs.Lists.{all-contained, contains-filter_map, contains-map, contains-one, one-contained}
+use Rattle.wit_encode_types.proofs.Lists.{all-contained, contains-filter_map, contains-map, contains-one, one-contained}
 use Rattle.wit_encode.proofs.Owned.{same-owner, valid-references}
 use Rattle.wit_encode.proofs.Validity.{interface_passes}
 use Rattle.wit_encode.proofs.Numbers.{same-some, same-number, equal, contains-get, none-in, contains-later, contains-flat, has-contains, once-before, pairs-right, pairs-across, gives-none, gives-one, nothing-mapped, one-mapped}

@@ -12,14 +12,14 @@ use Rattle.wit_model.specs.declared.model.TypeId.{TypeId}
 use Rattle.wit_model.specs.declared.model.InterfaceId.{InterfaceId}
 use Rattle.wit_model.specs.declared.model.«Type».{«Type» as ValueType}
 use Rattle.wit_model.proofs.Lists.{first_true, second_true}
-use Rattle.wit_encode.specs.declared.maps.TypeEncodingMaps.{TypeEncodingMaps}
-use Rattle.wit_encode.specs.Key.{same_type, same_param}
-use Rattle.wit_encode.specs.Maps.{same_kind, IsKnown, IsReady, AllReady, IsOnce, LearnsOnly}
-use Rattle.wit_encode.specs.Plan.{Reaches, itself, through}
-use Rattle.wit_encode.specs.MetKinds.{ReachedFrom, IsMetKind, HasSame, AreMetKinds, IsKnownKind, IsHeld, Learns, MetKindsAreHeld}
-use Rattle.wit_encode.proofs.Lists.{contains-map}
-use Rattle.wit_encode.proofs.KindLaws.{same_types}
-use Rattle.wit_encode.proofs.Defining.{none-in}
+use Rattle.wit_encode_types.specs.declared.maps.TypeEncodingMaps.{TypeEncodingMaps}
+use Rattle.wit_encode_types.specs.Key.{same_type, same_param}
+use Rattle.wit_encode_types.specs.Maps.{same_kind, IsKnown, IsReady, AllReady, IsOnce, LearnsOnly}
+use Rattle.wit_encode_types.specs.Plan.{Reaches, itself, through}
+use Rattle.wit_encode_types.specs.MetKinds.{ReachedFrom, IsMetKind, HasSame, AreMetKinds, IsKnownKind, IsHeld, Learns, MetKindsAreHeld}
+use Rattle.wit_encode_types.proofs.Lists.{contains-map}
+use Rattle.wit_encode_types.proofs.KindLaws.{same_types}
+use Rattle.wit_encode_types.proofs.Defining.{none-in}
 use Rattle.wit_encode.proofs.OwnerScope.{unnamed-home}
 use Rattle.wit_encode.proofs.Counting.{pairs-map, from-map}
 

@@ -21,9 +21,9 @@ use Rattle.wit_model.specs.Valid.{IsValid}
 use Rattle.wit_model.specs.declared.model.Resolve.{Resolve}
 use Rattle.wit_model.specs.declared.model.Interface.{Interface}
 use Rattle.wit_model.specs.declared.model.InterfaceId.{InterfaceId}
-use Rattle.wit_encode.specs.KeyLaws.{text_same}
+use Rattle.wit_encode_types.specs.KeyLaws.{text_same}
 use Rattle.wit_encode.specs.Instance.{keyed, meaning_of}
-use Rattle.wit_encode.proofs.Lists.{contains-map}
+use Rattle.wit_encode_types.proofs.Lists.{contains-map}
 
 same-text : (a b : Text) → eq_by_cmp text_cmp a b ≡ text_eq a b
 same-text a b = is_eq-slice_cmp a b

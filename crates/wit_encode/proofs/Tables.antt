@@ -21,21 +21,21 @@ use Rattle.wit_model.specs.declared.model.TypeOwner.{TypeOwner}
 use Rattle.wit_model.specs.declared.model.TypeOwner.TheVariants as owner
 use Rattle.wit_model.specs.declared.model.InterfaceId.{InterfaceId}
 use Rattle.wit_model.specs.declared.model.«Type».{«Type» as ValueType}
-use Rattle.wit_encode.specs.declared.maps.TypeEncodingMaps.{TypeEncodingMaps}
-use Rattle.wit_encode.specs.declared.table.TableOf.{TableOf}
-use Rattle.wit_encode.specs.Fits.{CanEncode}
-use Rattle.wit_encode.specs.Kinds.{parts_of, has_definition, kind_tree}
-use Rattle.wit_encode.specs.Formed.{IsFormed, IsFormedSignature, are_values}
-use Rattle.wit_encode.specs.Plan.{InRange, AllInRange, foreign_owner}
-use Rattle.wit_encode.specs.Maps.{MapsAgree}
-use Rattle.wit_encode.specs.Slots.{SlotsGrow}
-use Rattle.wit_encode.specs.Scope.{Scope, IsImportable}
-use Rattle.wit_encode.specs.Leaves.{Leaves}
-use Rattle.wit_encode.specs.Table.{table_scope, table_view, interface_of_owner, is_met_by, has_named_owner, IsTable, TableReads, IsDefined, AllDefined}
-use Rattle.wit_encode.proofs.Lists.{both, one-contained}
+use Rattle.wit_encode_types.specs.declared.maps.TypeEncodingMaps.{TypeEncodingMaps}
+use Rattle.wit_encode_types.specs.declared.table.TableOf.{TableOf}
+use Rattle.wit_encode_types.specs.Fits.{CanEncode}
+use Rattle.wit_encode_types.specs.Kinds.{parts_of, has_definition, kind_tree}
+use Rattle.wit_encode_types.specs.Formed.{IsFormed, IsFormedSignature, are_values}
+use Rattle.wit_encode_types.specs.Plan.{InRange, AllInRange, foreign_owner}
+use Rattle.wit_encode_types.specs.Maps.{MapsAgree}
+use Rattle.wit_encode_types.specs.Slots.{SlotsGrow}
+use Rattle.wit_encode_types.specs.Scope.{Scope, IsImportable}
+use Rattle.wit_encode_types.specs.Leaves.{Leaves}
+use Rattle.wit_encode_types.specs.Table.{table_scope, table_view, interface_of_owner, is_met_by, has_named_owner, IsTable, TableReads, IsDefined, AllDefined}
+use Rattle.wit_encode_types.proofs.Lists.{both, one-contained}
 use Rattle.wit_encode.proofs.Forming.{optional-values}
-use Rattle.wit_encode.proofs.Paths.{found-in, some-of}
-use Rattle.wit_encode.proofs.Planning.{part-smaller}
+use Rattle.wit_encode_types.proofs.Paths.{found-in, some-of}
+use Rattle.wit_encode_types.proofs.Planning.{part-smaller}
 use Rattle.wit_encode.proofs.Validity.{valid-layered, valid-resource, valid-formed, signature-formed, table-agree, all-met, named-met, foreign-interface, importable}
 use Rattle.wit_encode.specs.OwnerScope.{NamesStand, IsOfInstance}
 use Rattle.wit_encode.proofs.OwnerScope.{names_encode, table_is_scope}

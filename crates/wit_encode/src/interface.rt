@@ -4,10 +4,10 @@ ghost use Rattle.std.proofs.Common.{refl};
 ghost use Rattle.std.specs.Prelude.{◌≡◌, ◌≤◌, ◌+◌, ◌*◌, ◌&&◌, false, Err, ◌++◌, ◌∷◌, [], Some, None, ◌<◌, true, length, map, IfOk, OnOk, OnErr, IsSome, IfErr};
 ghost use Rattle.std.specs.List.{Contains};
 ghost use Rattle.comp_bytes.specs.Raw.{Alias as RawAlias, Declaration, Declarations, append, declaration_count, from_list};
-ghost use Rattle.wit_encode.specs.Known.{known_slot, known_instance, IsSource, ReachesAround};
+ghost use Rattle.wit_encode_types.specs.Known.{known_slot, known_instance, IsSource, ReachesAround};
 ghost use Rattle.wit_encode.specs.Instance.{around_at, around_of};
 ghost use Rattle.wit_encode.specs.Encoders.{declared_after, DeclaresInside, DeclaresOutside, AddsInstance};
-ghost use Rattle.wit_encode.specs.Room.{fits_type_name};
+ghost use Rattle.wit_encode_types.specs.Room.{fits_type_name};
 ghost use Rattle.wit_model.specs.Text.{text_of};
 ghost use Rattle.comp_bytes.specs.RawOf.{raw_defined, raw_function, raw_name};
 ghost use Rattle.comp_bytes.specs.Held.{type_slots, type_slots_of, fits_next, fits_added};
@@ -15,11 +15,6 @@ ghost use Rattle.comp_bytes.specs.Fits.{fits_declaration};
 ghost use Rattle.wit_model.specs.declared.error.Error.TheVariants.{Size};
 ghost use Rattle.comp_bytes.specs.Refusal.{IsMemoryOrSize};
 
-use crate::encode::encode_valtype;
-use crate::encoder::{LendsMaps, ValtypeEncoder};
-use crate::func_type::encode_func_type;
-use crate::maps::TypeEncodingMaps;
-use crate::name::name_of;
 use crate::order::{functions_in_order, types_in_order};
 use comp_bytes::{
     Alias, ComponentDefinedType, ComponentExternName, ComponentFuncType, ComponentType,
@@ -27,6 +22,9 @@ use comp_bytes::{
 };
 use std::alloc::Global;
 use std::mem;
+use wit_encode_types::{
+    LendsMaps, TypeEncodingMaps, ValtypeEncoder, encode_func_type, encode_valtype, name_of,
+};
 use wit_model::{Error, Function, InterfaceId, Resolve, Type, TypeId};
 
 /// What stands of other interfaces in a component type.
@@ -322,26 +320,26 @@ impl<'a> ValtypeEncoder<'a> for InterfaceEncoderOf<'a, TypeEncodingMaps<'a>> {
 impl<'a> InterfaceEncoderOf<'a, TypeEncodingMaps<'a>> {
     ghost use Rattle.wit_model.specs.Meaning.{Signature};
     ghost use Rattle.comp_meaning.specs.Follow.{is_simple};
-    ghost use Rattle.wit_encode.specs.Slots.{Keeps, function};
+    ghost use Rattle.wit_encode_types.specs.Slots.{Keeps, function};
     ghost use Rattle.wit_model.specs.Meant.{function_meaning};
     ghost use Rattle.wit_model.specs.Valid.{IsValid};
-    ghost use Rattle.wit_encode.specs.View.{Agrees, HoldsMore, HoldsLearnt};
-    ghost use Rattle.wit_encode.specs.Leaves.{Leaves, CountsTypes, CountsFunctions, LacksRoom};
-    ghost use Rattle.wit_encode.specs.Fits.{CanEncode};
-    ghost use Rattle.wit_encode.specs.Counts.{names_defined};
+    ghost use Rattle.wit_encode_types.specs.View.{Agrees, HoldsMore, HoldsLearnt};
+    ghost use Rattle.wit_encode_types.specs.Leaves.{Leaves, CountsTypes, CountsFunctions, LacksRoom};
+    ghost use Rattle.wit_encode_types.specs.Fits.{CanEncode};
+    ghost use Rattle.wit_encode_types.specs.Counts.{names_defined};
     ghost use Rattle.std.specs.Set.{distinct_count};
     ghost use Rattle.std.specs.Prelude.{nat_eq};
-    ghost use Rattle.wit_encode.specs.Distinct.{DefinesKeys, DefinesTypes, defined_under_names};
+    ghost use Rattle.wit_encode_types.specs.Distinct.{DefinesKeys, DefinesTypes, defined_under_names};
     ghost use Rattle.wit_model.specs.Valid.{IsValid};
-    ghost use Rattle.wit_encode.specs.MetKinds.{LearnsFrom, referred};
+    ghost use Rattle.wit_encode_types.specs.MetKinds.{LearnsFrom, referred};
     ghost use Rattle.wit_model.specs.Parts.{function_types};
     ghost use Rattle.std.specs.List.{flat_map};
     ghost use Rattle.wit_encode.specs.Exports.{AreTypesOf, AllKnown, KnowsUsed, UsesListed};
     ghost use Rattle.wit_model.specs.declared.model.«Type».TheVariants as ValueType;
     ghost use Rattle.wit_encode.specs.Instance.{ShowsFunction, CanEncodeFunction, IsInstance, placed_function, meaning_of, own_of, declarations_in};
     ghost use Rattle.wit_encode.specs.Encoders.{encoder_view, view_of, contents_in, shown_as, scope_within, outside, GoesOn, Reaches, InstancesStay, UsedAround, EncodesAs, LacksInstance, LacksWithin, plain, requests_of, meanings_of, ShowsAs, ShowsMore, HoldsInside, LacksInside, TypesStay, NamesStay, LearnsInside, DefinesNames, IsEncoding, Begins};
-    ghost use Rattle.wit_encode.specs.Room.{export_name, function_requests};
-    ghost use Rattle.wit_encode.specs.Maps.{MapsGrow};
+    ghost use Rattle.wit_encode_types.specs.Room.{export_name, function_requests};
+    ghost use Rattle.wit_encode_types.specs.Maps.{MapsGrow};
 
     /// An encoder with an empty component type. Takes constant time and no memory.
     pub fn new(alloc: Global, resolve: &'a Resolve) -> InterfaceEncoder<'a>

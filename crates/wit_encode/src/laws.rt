@@ -1,6 +1,6 @@
 //! Laws of the scopes in which types and functions are encoded, for whoever brings an encoder of their own.
 
-ghost use Rattle.wit_encode.specs.MetKinds.{MetKindsAreHeld};
+ghost use Rattle.wit_encode_types.specs.MetKinds.{MetKindsAreHeld};
 ghost use Rattle.wit_encode.specs.RoomLaws.{LackingInterfacesAreHeavy};
 ghost use Rattle.wit_encode.specs.OwnerScope.{FunctionsEncode, FunctionsUse, InterfaceUses, NamesEncode, TableScope, TypesEncode, TypesUse};
 

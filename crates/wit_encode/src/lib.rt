@@ -1,33 +1,17 @@
-//! Encodes the types of packages as component types.
+//! Encodes interfaces as instance types, and their types and functions in any encoder.
 #![tactic(auto)]
 
-mod define;
-mod definition;
-mod encode;
-mod encoder;
-mod func_type;
 mod interface;
-mod key;
 pub mod laws;
-mod lend;
-mod maps;
-mod name;
 mod order;
-mod plan;
-mod shape;
-mod table;
 mod uses;
 
-pub use encode::{
-    encode_enum, encode_flags, encode_future, encode_option, encode_optional_valtype,
-    encode_params, encode_record, encode_result, encode_stream, encode_tuple, encode_unit_future,
-    encode_unit_stream, encode_valtype, encode_variant, maybe_import_type,
-};
-pub use encoder::{LendsMaps, ValtypeEncoder};
-pub use func_type::encode_func_type;
 pub use interface::{Foreign, InterfaceEncoder, InterfaceEncoderOf, OpenInterface};
-pub use key::{FunctionKey, ParamSignatures, key_of};
-pub use maps::TypeEncodingMaps;
-pub use name::extern_name;
-pub use table::{Slot, Table, TableOf};
 pub use uses::stands_alone;
+pub use wit_encode_types::{
+    FunctionKey, LendsMaps, ParamSignatures, Slot, Table, TableOf, TypeEncodingMaps,
+    ValtypeEncoder, encode_enum, encode_flags, encode_func_type, encode_future, encode_option,
+    encode_optional_valtype, encode_params, encode_record, encode_result, encode_stream,
+    encode_tuple, encode_unit_future, encode_unit_stream, encode_valtype, encode_variant,
+    extern_name, key_of, maybe_import_type,
+};

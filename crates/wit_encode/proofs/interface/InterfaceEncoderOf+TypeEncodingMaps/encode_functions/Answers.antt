@@ -4,19 +4,19 @@ use Rattle.std.proofs.lemmas.Grind.{common_steps}
 use Rattle.wit_model.specs.declared.model.Function.{Function}
 use Rattle.wit_encode.specs.Instance.{own_of}
 use Rattle.wit_encode.proofs.Referring.{from-function, from-functions}
-use Rattle.wit_encode.proofs.Lists.{contains-at}
+use Rattle.wit_encode_types.proofs.Lists.{contains-at}
 use Rattle.wit_encode.proofs.Counting.{functions-counted, names-after}
 use Rattle.wit_encode.proofs.Continuing.{function-continues, continues-trans}
 use Rattle.std.proofs.lemmas.List.{take_all}
 use Rattle.wit_encode.specs.Instance.{placed_function, meaning_of, contents_of, encoder_scope}
 use Rattle.wit_encode.proofs.FunctionExports.{used-kept}
-use Rattle.wit_encode.proofs.Lists.{contains-map}
+use Rattle.wit_encode_types.proofs.Lists.{contains-map}
 use Rattle.std.proofs.Math.ListN.{length-map}
 use Rattle.wit_model.specs.Parts.{function_types}
-use Rattle.wit_encode.specs.Room.{function_requests}
+use Rattle.wit_encode_types.specs.Room.{function_requests}
 use Rattle.wit_encode.proofs.Numbers.{contains-flat}
 use Rattle.wit_encode.proofs.Refusing.{two-each}
-use Rattle.wit_encode.proofs.Rooms.{holds-most, holds-then, room-after, only-more, flat-taken}
+use Rattle.wit_encode_types.proofs.Rooms.{holds-most, holds-then, room-after, only-more, flat-taken}
 use Rattle.wit_encode.proofs.interface.InterfaceEncoderOf+TypeEncodingMaps.encode_functions.Goals as goal
 
 pub encode_function-requires-clause-encodable : goal.encode_function-requires-clause-encodable

@@ -3,7 +3,7 @@ use Rattle.std.specs.List.{Contains}
 use Rattle.std.proofs.lemmas.Option.{slice_get_read}
 use Rattle.wit_model.specs.Lookup.{interface_at}
 use Rattle.wit_model.specs.declared.model.TypeId.{TypeId}
-use Rattle.wit_encode.specs.Distinct.{DefinesTypes}
+use Rattle.wit_encode_types.specs.Distinct.{DefinesTypes}
 use Rattle.wit_encode.specs.Instance.{placed_function, EncodesInterface, CanEncodeInterface}
 use Rattle.wit_encode.proofs.Referring.{permuted-types}
 use Rattle.wit_encode.proofs.Opening.{values-permuted}
@@ -11,7 +11,7 @@ use Rattle.std.specs.Prelude.{map, IsPermutation}
 use Rattle.indexmap.specs.IndexMap.{values}
 use Rattle.wit_encode.specs.Instance.{placed_function}
 use Rattle.wit_encode.proofs.Encodable.{valid-encodable}
-use Rattle.wit_encode.proofs.Lists.{contains-map}
+use Rattle.wit_encode_types.proofs.Lists.{contains-map}
 use Rattle.wit_encode.specs.Encoders.{outside}
 use Rattle.wit_encode.proofs.Opening.{closes, close-each, closed-keeps, closed-stay, grown-stay, permuted-contains}
 use Rattle.wit_encode.specs.Exports.{UsesListed}

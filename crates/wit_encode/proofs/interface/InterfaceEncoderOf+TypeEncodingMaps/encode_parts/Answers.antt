@@ -2,12 +2,12 @@ use Rattle.std.proofs.Common.{refl, subst, map, arith, rules}
 use Rattle.std.specs.List.{flat_map}
 use Rattle.wit_model.specs.Parts.{function_types}
 use Rattle.wit_model.specs.declared.model.«Type».TheVariants as ty
-use Rattle.wit_encode.proofs.Defining.{none-in}
-use Rattle.wit_encode.proofs.Rooms.{room-more, room-after, only-more, reached-left, reached-right}
-use Rattle.wit_encode.specs.Scope.{Scope}
+use Rattle.wit_encode_types.proofs.Defining.{none-in}
+use Rattle.wit_encode_types.proofs.Rooms.{room-more, room-after, only-more, reached-left, reached-right}
+use Rattle.wit_encode_types.specs.Scope.{Scope}
 use Rattle.wit_encode.specs.Instance.{CanEncodeFunction, Continues, own_of, declarations_in}
 use Rattle.std.proofs.Common.{ap}
-use Rattle.wit_encode.proofs.Agree.{on_ok, known-grow}
+use Rattle.wit_encode_types.proofs.Agree.{on_ok, known-grow}
 use Rattle.wit_encode.proofs.Referring.{from-then}
 use Rattle.wit_encode.proofs.Continuing.{same-scope, after-types, continues-trans}
 use Rattle.wit_encode.proofs.Counting.{parts-counted, parts-named}

@@ -1,0 +1,15 @@
+pub mod KeySteps
+pub mod Lists
+pub mod KindLaws
+pub mod Planning
+pub mod Written
+pub mod Agree
+pub mod Around
+pub mod Defining
+pub mod Encoding
+pub mod Owning
+pub mod Functions
+pub mod Paths
+pub mod TableSteps
+pub mod Rooms
+pub mod Learning
