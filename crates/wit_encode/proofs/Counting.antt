@@ -45,6 +45,7 @@ use Rattle.wit_encode_types.specs.Counts.{Definitions, names_defined, is_defined
 use Rattle.wit_encode_types.specs.Distinct.{Key, key_of, key_view, are_same, keys_of, defined_under_names, AddsFunctions, DefinesKeys, DefinesTypes, is_value_type, is_function_type}
 use Rattle.wit_encode.specs.Instance.{own_of, contents_of, inner_contents, encoder_scope, definitions_with, opened, ShowsFunction}
 use Rattle.wit_encode_types.proofs.Lists.{contains-map}
+use Rattle.wit_encode_types.proofs.Pairs.{pairs-map}
 
 -- ---- keys
 
@@ -148,14 +149,6 @@ adds-alike {r} {s} {s'} {m} {m'} {m''} {d} {d'} {e} {e'} {fs} o h a b a' b' p = 
 })
 
 -- ---- an instance type as a whole
-
-pub pairs-map : {X Y : Type 0} (f : X → Y) (R : Y → Y → Type 0) (xs : List X) → AllPairs (λ x y. R (f x) (f y)) xs → AllPairs R (map f xs)
-pairs-map f R [] h i j d l n = absurd (omega (arith, n))
-pairs-map f R (x ∷ xs) h i j d l n =
-    let m : j < length (x ∷ xs) = subst (λ (k : ℕ). j < k) (length-map (x ∷ xs) f) n in
-    let k : i < length (x ∷ xs) = omega arith in
-    subst (λ y. R y (get_or (map f (x ∷ xs)) j d)) (sym (get_or-map f (x ∷ xs) i x d k))
-    (subst (λ y. R (f (get_or (x ∷ xs) i x)) y) (sym (get_or-map f (x ∷ xs) j x d m)) (h i j x l m))
 
 pub from-map : {X Y : Type 0} (f : X → Y) (xs : List X) (y : Y) → Contains (map f xs) y → (x : X) × Contains xs x × (f x ≡ y)
 from-map f [] y (i, l, e) = absurd (omega (arith, l))

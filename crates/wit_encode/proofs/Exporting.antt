@@ -41,12 +41,13 @@ use Rattle.wit_encode_types.specs.Scope.{Scope}
 use Rattle.wit_encode_types.specs.Counts.{Definitions, Shows, own_name, name_of_own}
 use Rattle.wit_encode.specs.Instance.{declarations_in}
 use Rattle.wit_encode.specs.Exports.{AreTypesOf, ShowsFirst, AllKnown, KnowsUsed, UsesListed}
-use Rattle.wit_encode_types.proofs.Lists.{all-contained, contains-filter_map, contains-map, contains-one, one-contained}
+use Rattle.wit_encode_types.proofs.Lists.{all-contained, contains-filter_map, contains-map, contains-one, one-contained, none-in}
 use Rattle.wit_encode.proofs.Owned.{same-owner, valid-references}
 use Rattle.wit_encode.proofs.Validity.{interface_passes}
-use Rattle.wit_encode.proofs.Numbers.{same-some, same-number, equal, contains-get, none-in, contains-later, contains-flat, has-contains, once-before, pairs-right, pairs-across, gives-none, gives-one, nothing-mapped, one-mapped}
+use Rattle.wit_encode.proofs.Numbers.{same-some, same-number, equal, contains-get, contains-later, contains-flat, has-contains, once-before, gives-none, gives-one, nothing-mapped, one-mapped}
 use Rattle.wit_encode.proofs.ListedTypes.{IsListedType, numbers, owned-listed, listed-type, type-there, number-there, listed-once, listed-key, uses-before}
 use Rattle.wit_encode.proofs.Meeting.{AllMeetKnown, part-uses, meets-unnamed}
+use Rattle.wit_encode_types.proofs.Pairs.{pairs-across, pairs-right}
 
 -- ---- what is learnt
 

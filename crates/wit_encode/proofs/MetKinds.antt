@@ -17,11 +17,11 @@ use Rattle.wit_encode_types.specs.Key.{same_type, same_param}
 use Rattle.wit_encode_types.specs.Maps.{same_kind, IsKnown, IsReady, AllReady, IsOnce, LearnsOnly}
 use Rattle.wit_encode_types.specs.Plan.{Reaches, itself, through}
 use Rattle.wit_encode_types.specs.MetKinds.{ReachedFrom, IsMetKind, HasSame, AreMetKinds, IsKnownKind, IsHeld, Learns, MetKindsAreHeld}
-use Rattle.wit_encode_types.proofs.Lists.{contains-map}
+use Rattle.wit_encode_types.proofs.Lists.{contains-map, none-in}
 use Rattle.wit_encode_types.proofs.KindLaws.{same_types}
-use Rattle.wit_encode_types.proofs.Defining.{none-in}
 use Rattle.wit_encode.proofs.OwnerScope.{unnamed-home}
-use Rattle.wit_encode.proofs.Counting.{pairs-map, from-map}
+use Rattle.wit_encode.proofs.Counting.{from-map}
+use Rattle.wit_encode_types.proofs.Pairs.{pairs-map}
 
 -- ---- empty maps
 

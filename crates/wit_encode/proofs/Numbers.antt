@@ -9,6 +9,8 @@ use Rattle.std.proofs.lemmas.List.Sums.{sum_by-cons}
 use Rattle.wit_model.specs.Uses.{has}
 use Rattle.wit_model.specs.Rules.{each_after}
 use Rattle.wit_model.proofs.Lists.{first_true, second_true}
+use Rattle.wit_encode_types.proofs.Pairs.{pairs-head, pairs-tail}
+use Rattle.wit_encode_types.proofs.Lists.{none-in}
 
 pub same-some : {A : Type 0} (x y : A) → Some x ≡ Some y → x ≡ y
 same-some x y e = ap (λ o. unwrap_or o x) e
@@ -32,9 +34,6 @@ pub get-contains : {X : Type 0} (xs : List X) (k : ℕ) (x : X) → slice_get xs
 get-contains [] k x e = let wrong : ⊥ = cc in absurd wrong
 get-contains (y ∷ ys) zero x e = (0, omega arith, same-some y x e)
 get-contains (y ∷ ys) (suc k) x e = let c = get-contains ys k x e in (suc c.0, (let l = c.1 in omega (arith, l)), c.2)
-
-pub none-in : {X : Type 0} (x : X) {P : Type 0} → Contains [] x → P
-none-in x (k, l, e) = absurd (omega (arith, l))
 
 pub contains-later : {X : Type 0} (y : X) (xs : List X) (x : X) → Contains xs x → Contains (y ∷ xs) x
 contains-later y xs x (k, l, e) = (suc k, omega (arith, l), e)
@@ -109,23 +108,6 @@ after-at q before (x ∷ xs) zero v h e = ap (λ b. q b v) (append-nil before)
 after-at q before (x ∷ xs) (suc k) v h e =
     ap (λ b. q b v) (sym (append_assoc before (x ∷ []) (take k xs)))
     ∙ after-at q (before ++ x ∷ []) xs k v (second_true (q before x) (each_after q (before ++ x ∷ []) xs) h) e
-
--- ---- pairs
-
-pub pairs-tail : {X : Type 0} (R : X → X → Type 0) (x : X) (xs : List X) → AllPairs R (x ∷ xs) → AllPairs R xs
-pairs-tail R x xs h = λ i j d lt within. h (suc i) (suc j) d (omega arith) (omega arith)
-
-pub pairs-head : {X : Type 0} (R : X → X → Type 0) (x : X) (xs : List X) (y : X) → AllPairs R (x ∷ xs) → Contains xs y → R x y
-pairs-head R x xs y h (k, l, e) = subst (λ z. R x z) e (h 0 (suc k) y (omega arith) (omega (arith, l)))
-
-pub pairs-right : {X : Type 0} (R : X → X → Type 0) (xs ys : List X) → AllPairs R (xs ++ ys) → AllPairs R ys
-pairs-right R [] ys h = h
-pairs-right R (x ∷ xs) ys h = pairs-right R xs ys (pairs-tail R x (xs ++ ys) h)
-
-pub pairs-across : {X : Type 0} (R : X → X → Type 0) (xs ys : List X) (x y : X) → AllPairs R (xs ++ ys) → Contains xs x → Contains ys y → R x y
-pairs-across R [] ys x y h c d = none-in x c
-pairs-across R (z ∷ xs) ys x y h (zero, l, e) d = subst (λ w. R w y) e (pairs-head R z (xs ++ ys) y h (Contains-append_right xs ys y d))
-pairs-across R (z ∷ xs) ys x y h (suc k, l, e) d = pairs-across R xs ys x y (pairs-tail R z (xs ++ ys) h) (k, omega (arith, l), e) d
 
 -- ---- what one element alone gives
 

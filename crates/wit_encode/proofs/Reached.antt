@@ -30,9 +30,9 @@ use Rattle.wit_model.proofs.Owners.{named_met}
 use Rattle.wit_encode_types.specs.Kinds.{parts_of}
 use Rattle.wit_encode_types.specs.Plan.{foreign_owner, Reaches, itself, through}
 use Rattle.wit_encode_types.specs.MetKinds.{ReachedFrom, referred}
-use Rattle.wit_encode_types.proofs.Lists.{all-contained, contains-map, contains-filter_map, contains-one, one-contained}
+use Rattle.wit_encode_types.proofs.Lists.{all-contained, contains-map, contains-filter_map, contains-one, one-contained, none-in}
 use Rattle.wit_encode.proofs.Counting.{from-map}
-use Rattle.wit_encode.proofs.Numbers.{contains-flat, contains-get, has-contains, none-in, same-some}
+use Rattle.wit_encode.proofs.Numbers.{contains-flat, contains-get, has-contains, same-some}
 use Rattle.wit_encode_types.proofs.Planning.{part-number}
 use Rattle.wit_encode_types.proofs.Paths.{found-in}
 use Rattle.wit_encode.proofs.Validity.{interface_passes}

@@ -32,9 +32,8 @@ use Rattle.wit_encode_types.specs.Maps.{IsKnown, AllReady, IsOnce}
 use Rattle.wit_encode.specs.Exports.{AllKnown}
 use Rattle.wit_encode_types.specs.Distinct.{key_of, key_view, are_same, keys_of, AddsFunctions, DefinesTypes}
 use Rattle.wit_encode_types.specs.MetKinds.{referred, IsMetKind, AreMetKinds, LearnsMet, LearnsFrom, key_types}
-use Rattle.wit_encode_types.proofs.Lists.{contains-map}
+use Rattle.wit_encode_types.proofs.Lists.{contains-map, none-in}
 use Rattle.wit_encode_types.proofs.KindLaws.{optional_same}
-use Rattle.wit_encode_types.proofs.Defining.{none-in}
 use Rattle.wit_encode_types.proofs.Encoding.{meets-reaches, learns-nothing}
 use Rattle.wit_encode.proofs.Counting.{Began, held_kinds, any-at, from-map, same_equiv}
 use Rattle.wit_encode.proofs.Naming.{or-second}

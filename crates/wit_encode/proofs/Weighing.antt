@@ -50,10 +50,11 @@ use Rattle.wit_encode.specs.RoomLaws.{LackingInterfacesAreHeavy}
 use Rattle.wit_encode.proofs.Validity.{type_passes, interface_passes, valid-layered}
 use Rattle.wit_encode_types.proofs.Encoding.{tabled}
 use Rattle.wit_encode.proofs.Counting.{contains-filter, from-filter, from-map}
-use Rattle.wit_encode_types.proofs.Lists.{all-contained, contains-map, contains-one}
-use Rattle.wit_encode.proofs.Numbers.{pairs-tail, pairs-head, none-in, contains-later, same-number, equal}
+use Rattle.wit_encode_types.proofs.Lists.{all-contained, contains-map, contains-one, none-in}
+use Rattle.wit_encode.proofs.Numbers.{contains-later, same-number, equal}
 use Rattle.wit_encode.proofs.Refusing.{two-each, listed, map-twice}
 use Rattle.wit_encode.proofs.Reached.{from-flat, part-at, met-counted, counted-in, named-own, all-numbers}
+use Rattle.wit_encode_types.proofs.Pairs.{pairs-head, pairs-tail}
 
 -- ---- texts that don't fit are long
 

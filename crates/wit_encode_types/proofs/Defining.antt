@@ -27,7 +27,7 @@ use Rattle.wit_encode_types.specs.Maps.{Says, Holds, MapsAgree, IsWritten, HasKi
 use Rattle.wit_model.specs.Text.{Text, text_of}
 use Rattle.wit_model.specs.declared.model.Param.{Param}
 use Rattle.wit_encode_types.specs.Definition.{FollowsKind, IsWrittenParam}
-use Rattle.wit_encode_types.proofs.Lists.{zip-along, one-contained}
+use Rattle.wit_encode_types.proofs.Lists.{zip-along, one-contained, none-in}
 use Rattle.wit_encode_types.specs.Scope.{Scope}
 use Rattle.wit_encode_types.specs.Counts.{Definitions, one_type_more, type_more_if, is_defined_by_name, own_name, names_defined, ExportsOne, Shows, AddsTypes}
 use Rattle.wit_encode_types.specs.Known.{GrowsAround}
@@ -108,9 +108,6 @@ own-form (kind.Type_ t) n m = absurd (m t refl)
 own-form _ n m = refl
 
 -- ---- counts
-
-pub none-in : {X : Type 0} {P : Type 0} (x : X) → Contains [] x → P
-none-in x c = absurd (let l : c.0 < 0 = c.1 in omega arith)
 
 pub shows-none : (r : Resolve) (scope : Scope) (m m' : TypeEncodingMaps) (d d' : Definitions) → m'.id_to_index.items ≡ m.id_to_index.items → d'.exports ≡ d.exports → Shows r scope m m' d d'
 shows-none r scope m m' d d' e f = record { learnt = []; shown = []; numbers = e ∙ sym (append-nil m.id_to_index.items); exports = f ∙ sym (append-nil d.exports); declared = λ x c. none-in x c; names = refl }

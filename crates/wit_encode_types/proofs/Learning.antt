@@ -24,8 +24,7 @@ use Rattle.wit_encode_types.specs.Counts.{Definitions, AddsTypes}
 use Rattle.wit_encode_types.specs.MetKinds.{IsKnownKind, IsHeld, key_types, Learns, LearnsMet, LearnsKindOf}
 use Rattle.wit_encode_types.proofs.Agree.{known-grow}
 use Rattle.wit_encode_types.proofs.Paths.{some-same}
-use Rattle.wit_encode_types.proofs.Defining.{none-in}
-use Rattle.wit_encode_types.proofs.Lists.{one-contained}
+use Rattle.wit_encode_types.proofs.Lists.{one-contained, none-in}
 use Rattle.wit_encode_types.proofs.Encoding.{learns-nothing, learns-both, learns-same}
 
 pub ready-grow : (m m' : TypeEncodingMaps) (ts : List ValueType) → MapsGrow m m' → AllReady m ts → AllReady m' ts

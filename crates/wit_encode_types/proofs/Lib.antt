@@ -1,5 +1,6 @@
 pub mod KeySteps
 pub mod Lists
+pub mod Pairs
 pub mod KindLaws
 pub mod Planning
 pub mod Written

@@ -88,3 +88,6 @@ pub both : (a b : Bool) → a ≡ true → b ≡ true → (a && b) ≡ true
 both true true p q = refl
 both true false p q = q
 both false b p q = p
+
+pub none-in : {X : Type 0} (x : X) {P : Type 0} → Contains [] x → P
+none-in x (k, l, e) = absurd (omega (arith, l))

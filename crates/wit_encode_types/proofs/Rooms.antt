@@ -18,11 +18,9 @@ use Rattle.wit_encode_types.specs.Plan.{Reaches, itself, through, IsOrderOf, Met
 use Rattle.wit_encode_types.specs.Maps.{IsKnown, IsOnce, LearnsOnly}
 use Rattle.wit_encode_types.specs.MetKinds.{ReachedFrom}
 use Rattle.wit_encode_types.specs.Room.{Request, Refusals, HoldsFor, LacksPart, LacksOne, a_type, a_request, FindsNoRoom}
-use Rattle.wit_encode_types.proofs.Lists.{one-contained, contains-one}
-use Rattle.wit_encode.proofs.Numbers.{pairs-tail, pairs-head, pairs-right, pairs-across}
-use Rattle.wit_encode.proofs.Counting.{pairs-map}
-use Rattle.wit_encode_types.proofs.Defining.{none-in}
+use Rattle.wit_encode_types.proofs.Lists.{one-contained, contains-one, none-in}
 use Rattle.wit_encode_types.proofs.Encoding.{meets-reaches}
+use Rattle.wit_encode_types.proofs.Pairs.{pairs-across, pairs-head, pairs-map, pairs-right, pairs-tail}
 
 -- ---- lists without repeats
 

@@ -30,10 +30,7 @@ pub fn extern_name<'a>(name: &'a str, external_id: Option<&'a str>) -> Component
 /// The name of an export of a type or a function, by what the `Resolve` holds of it: its name with its external id, and no other attribute.
 ///
 /// Takes constant time and no memory: both texts stay borrowed.
-pub fn name_of<'a>(
-    name: &'a String,
-    external_id: &'a Option<String>,
-) -> ComponentExternName<'a>
+pub fn name_of<'a>(name: &'a String, external_id: &'a Option<String>) -> ComponentExternName<'a>
     ensures text { (raw_name result).text ≡ text_of name.entry.now }
     ensures external_id { (raw_name result).external_id ≡ optional_text external_id.entry.now }
     ensures implements { (raw_name result).implements ≡ None }

@@ -7,10 +7,10 @@ use Rattle.wit_model.specs.declared.model.«Type».TheVariants as ty
 use Rattle.std.proofs.lemmas.List.Elements.{Contains-get_or}
 use Rattle.wit_encode_types.proofs.Learning.{learns-none, learns-then}
 use Rattle.wit_encode_types.proofs.Around.{around-same}
-use Rattle.wit_encode_types.proofs.Defining.{leaves-trans, leaves-kept, counts-trans, counts-none, none-in}
+use Rattle.wit_encode_types.proofs.Defining.{leaves-trans, leaves-kept, counts-trans, counts-none}
 use Rattle.wit_encode_types.proofs.Encoding.{ready-now, known-more, ready-at-last, reaches-in_range, meets-reaches, learns-more, learns-at-last, learns-nothing}
 use Rattle.wit_encode_types.proofs.Rooms.{holds-none, holds-then, room-after, reaches-then, learns-reached}
-use Rattle.wit_encode_types.proofs.Lists.{one-contained}
+use Rattle.wit_encode_types.proofs.Lists.{one-contained, none-in}
 use Rattle.wit_encode_types.proofs.define.define_parts.Given.{Over}
 use Rattle.wit_encode_types.proofs.define.define_parts.Goals as goal
 use Rattle.wit_encode_types.proofs.define.define_parts.Goals.{After-deref-n-items}

@@ -3,9 +3,10 @@ use Rattle.wit_encode_types.specs.Kinds.{parts_of, kind_of, kind_tree}
 use Rattle.wit_encode_types.specs.Scope.{Scope}
 use Rattle.wit_encode_types.specs.Room.{value_type}
 use Rattle.wit_encode_types.specs.Leaves.{LacksRoom, LearnsFrom}
-use Rattle.wit_encode_types.proofs.Defining.{leaves-kept, leaves-trans, none-in}
+use Rattle.wit_encode_types.proofs.Defining.{leaves-kept, leaves-trans}
 use Rattle.wit_encode_types.proofs.Rooms.{room-more, room-after, only-reached, lacks-request}
 use Rattle.wit_encode_types.proofs.encode.encode_shape.Goals as goal
+use Rattle.wit_encode_types.proofs.Lists.{none-in}
 
 pub define_shape-requires : goal.define_shape-requires
 define_shape-requires g c = λ _. ((refl, tt), ((rw (c.deref.ensures.value, c.in_ok-parts.ensures) at c.in_ok-define_parts.ensures.ready), (rw c.define_parts.ensures.leaves.scope_stays c.requires.formed, c.define_parts.ensures.leaves.agree)))

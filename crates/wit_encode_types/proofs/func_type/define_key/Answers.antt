@@ -3,7 +3,6 @@ use Rattle.wit_model.specs.Parts.{function_types}
 use Rattle.wit_encode_types.specs.Scope.{Scope}
 use Rattle.wit_encode_types.specs.Room.{function_type}
 use Rattle.wit_encode_types.proofs.Rooms.{room-more, room-after, only-reached, lacks-request}
-use Rattle.wit_encode_types.proofs.Defining.{none-in}
 use Rattle.wit_model.specs.Meaning.{Signature}
 use Rattle.wit_model.specs.Meant.{signature_of}
 use Rattle.wit_encode_types.specs.declared.maps.TypeEncodingMaps.{TypeEncodingMaps}
@@ -15,6 +14,7 @@ use Rattle.wit_encode_types.proofs.Functions.{key-signature, counts-key, lacks-s
 use Rattle.wit_encode_types.proofs.func_type.define_key.Given.{Over}
 use Rattle.wit_encode_types.proofs.func_type.define_key.Goals as goal
 use Rattle.wit_encode_types.proofs.func_type.define_key.Goals.{In_ok-index}
+use Rattle.wit_encode_types.proofs.Lists.{none-in}
 
 pub function_of-requires : goal.function_of-requires
 function_of-requires g c = λ _. ((refl, tt), (c.requires.encodable, (c.requires.is_key.async, c.requires.agree)))
