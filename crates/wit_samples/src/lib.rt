@@ -1,50 +1,6 @@
-//! Sample packages, and the tests of validity on them.
+//! Sample packages, and what tests build packages from.
 #![tactic(auto)]
 
-#[cfg(test)]
-mod dependency_tests;
 pub mod drafts;
-#[cfg(test)]
-mod error_tests;
-#[cfg(test)]
-mod feature_tests;
-#[cfg(test)]
-mod item_name_tests;
-#[cfg(test)]
-mod item_order_tests;
-#[cfg(test)]
-mod item_tests;
 pub mod kinds;
-#[cfg(test)]
-mod label_tests;
-#[cfg(test)]
-mod level_tests;
-#[cfg(test)]
-mod member_tests;
-#[cfg(test)]
-mod name_tests;
-#[cfg(test)]
-mod number_tests;
-#[cfg(test)]
-mod owner_tests;
-#[cfg(test)]
-mod part_number_tests;
-#[cfg(test)]
-mod path_tests;
-#[cfg(test)]
-mod place_tests;
-#[cfg(test)]
-mod plain_tests;
-#[cfg(test)]
-mod resource_tests;
-#[cfg(test)]
-mod sample_tests;
 pub mod samples;
-#[cfg(test)]
-mod shape_tests;
-#[cfg(test)]
-mod steps;
-#[cfg(test)]
-mod type_order_tests;
-#[cfg(test)]
-mod world_item_tests;

@@ -1,6 +1,6 @@
 //! The example that the README begins with.
 
-use crate::encode::encode;
+use plain_encode::encode;
 use std::alloc::Global;
 use std::test::Fail;
 use wit_check::Check;

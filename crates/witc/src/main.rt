@@ -2,10 +2,11 @@
 #![tactic(auto)]
 
 mod demo;
-mod encode;
 #[cfg(test)]
 mod example;
 mod hex;
+#[cfg(test)]
+mod plain_packages;
 mod run;
 mod words;
 

@@ -5,8 +5,8 @@ ghost use Rattle.std.specs.Io.KnownBytes.{Appends};
 ghost use Rattle.witc.specs.Words.{is_command, is_word};
 
 use crate::demo;
-use crate::encode::encode;
 use crate::hex::hex_lines;
+use plain_encode::encode;
 use std::alloc::{AllocError, Global};
 use std::io::{Read, Write};
 use wit_check::Check;

@@ -1,0 +1,4 @@
+pub mod Key
+pub mod Written
+pub mod Encoded
+pub mod Extent

@@ -1,0 +1,10 @@
+//! The bytes of plain packages, whose worlds have functions over primitive types alone.
+#![tactic(auto)]
+
+mod encode;
+mod function;
+mod key;
+mod package;
+mod world;
+
+pub use encode::encode;

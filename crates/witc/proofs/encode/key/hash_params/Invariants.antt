@@ -1,8 +1,0 @@
-use Rattle.std.proofs.Common.{◌≡◌, ◌++◌, fold, take}
-use Rattle.std.specs.Hash as fed
-use Rattle.std.specs.List.{flat_map}
-use Rattle.witc.specs.Key.{param_writes}
-use Rattle.witc.proofs.encode.key.hash_params.Given as goal
-
-abbrev pub invariant-loop-i : goal.invariant-loop-i
-invariant-loop-i g l = l.state ≡ fold g.H.Hasher.write l.initial.state (flat_map param_writes (take l.i l.params))
