@@ -1,10 +1,10 @@
 //! The bytes of plain packages, whose worlds have functions over primitive types alone.
 #![tactic(auto)]
 
-mod encode;
+mod encoding;
 mod function;
 mod key;
 mod package;
 mod world;
 
-pub use encode::encode;
+pub use encoding::encode;

@@ -10,7 +10,7 @@ use Rattle.plain_encode.proofs.Empty.{nothing_held}
 use Rattle.plain_encode.proofs.Means.{bytes_mean}
 use Rattle.plain_encode.proofs.PackageExtents.{package_over}
 use Rattle.plain_encode.proofs.Counts.{types_shared}
-use Rattle.plain_encode.proofs.encode.encode.Goals as goal
+use Rattle.plain_encode.proofs.encoding.encode.Goals as goal
 
 pub returns-clause-means : goal.returns-clause-means
 returns-clause-means c =
