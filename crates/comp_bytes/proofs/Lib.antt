@@ -18,3 +18,6 @@ pub mod FrameLaws
 pub mod PartsLaws
 pub mod BuiltLaws
 pub mod BuiltSizes
+pub mod LevelLaws
+pub mod PieceLaws
+pub mod FirstByteLaws

@@ -1,6 +1,9 @@
 //! Laws of the format.
 
+ghost use Rattle.comp_bytes.specs.FirstByte.{DeclaredTypesAreChosen, DefinitionsAreChosen, ValueTypesAreChosen};
 ghost use Rattle.comp_bytes.specs.FormatLaws.{OneForm, ShortestIndex, ShortestName, ShortestNumber};
+ghost use Rattle.comp_bytes.specs.Laws.{IsReadBy};
+ghost use Rattle.comp_bytes.specs.Levels.{EntriesAreDeclarations, IsEntry, IsPartType, LevelsAreSections, entry_at, part_type_at};
 
 /// A byte string spells the sections of one component at most.
 pub fn one_form()
@@ -20,4 +23,20 @@ pub fn shortest_index()
 /// What is written of a name are its shortest bytes.
 pub fn shortest_name()
     ensures { ShortestName }
+{}
+
+/// The declarations of a world or an interface, and the types at the top, are read level by level as they are spelled, and the
+/// sections that are read so are those of the component.
+pub fn levels()
+    ensures entries_read { IsReadBy IsEntry entry_at }
+    ensures entries_are { EntriesAreDeclarations }
+    ensures types_read { IsReadBy IsPartType part_type_at }
+    ensures sections { LevelsAreSections }
+{}
+
+/// What the first byte of a type chooses is what tests of that byte, one after the other, read.
+pub fn first_bytes()
+    ensures definitions { DefinitionsAreChosen }
+    ensures declared { DeclaredTypesAreChosen }
+    ensures values { ValueTypesAreChosen }
 {}
