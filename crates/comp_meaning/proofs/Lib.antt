@@ -1,5 +1,9 @@
 pub mod MeaningLaws
 pub mod Computing
+pub mod Marks
+pub mod EntryLaws
+pub mod TopLaws
+pub mod Levelled
 mod PlainExamples
 mod ReadingExamples
 mod CornerExamples

@@ -3,3 +3,4 @@ pub mod Same
 pub mod Rules
 pub mod Reads
 pub mod Meanings
+pub mod ByLevels

@@ -1,0 +1,5 @@
+use Rattle.comp_meaning.proofs.Levelled as laws
+use Rattle.comp_meaning.proofs.laws.by_levels.Goals as goal
+
+pub returns : goal.returns
+returns c = record { one_package = laws.package_by_levels; one_world = laws.world_by_levels }
