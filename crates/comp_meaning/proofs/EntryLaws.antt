@@ -1,5 +1,5 @@
 -- The declarations of a world or an interface, followed as entries, stand for the scope that they stand for as raw forms.
-use Rattle.std.proofs.Common.{◌≡◌, refl, sym, ap, subst, ◌∙◌, ℕ, suc, Bool, true, false, not, ◌&&◌, eqb, cond, List, [], ◌∷◌, ◌++◌, length, map, Option, Some, None, option_map, take}
+use Rattle.std.proofs.Common.{◌≡◌, refl, sym, ap, subst, ◌∙◌, ℕ, suc, Bool, true, false, not, ◌&&◌, eqb, List, [], ◌∷◌, ◌++◌, length, map, Option, Some, None, option_map}
 use Rattle.std.specs.Prelude.{slice_get}
 use Rattle.std.specs.List.{list_any}
 use Rattle.std.proofs.lemmas.List.{map-append}
@@ -12,7 +12,7 @@ use Rattle.comp_bytes.specs.Reading.{◌>>=◌}
 use Rattle.comp_bytes.specs.Levels.{Entry, plain, holds, declarations_of}
 use Rattle.comp_bytes.proofs.Readers.{bind_some, when_some}
 use Rattle.comp_bytes.proofs.PartLaws.{some_is}
-use Rattle.comp_meaning.specs.Follow.{Slot, Scope, View, Key, Seen, Shown, Instance, Direction, import_, export_, provided, when, new_scope, in_scope, see, key_of, key_text, place_of, interface_of, used_view, see_instance, see_function, see_type, see_described, named_type, is_simple, function_in, definition, function_signature, exported_slot, component_step, component_steps, component_scope, flat, instance_types}
+use Rattle.comp_meaning.specs.Follow.{Slot, Scope, View, Seen, Shown, Direction, import_, export_, provided, when, new_scope, in_scope, see, key_of, key_text, place_of, interface_of, used_view, see_instance, see_function, see_type, see_described, named_type, is_simple, function_in, definition, function_signature, exported_slot, component_step, component_steps, component_scope, flat, instance_types}
 use Rattle.comp_meaning.specs.Reads.{steps}
 use Rattle.comp_meaning.specs.ByLevels.{entry_step, entry_scope, all_used}
 use Rattle.comp_meaning.proofs.Marks.{marks, all_taken, Counted, one_mark_more, one_number_more, exact}

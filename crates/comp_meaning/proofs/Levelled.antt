@@ -7,9 +7,7 @@ use Rattle.std.proofs.lemmas.List.{map-append}
 use Rattle.std.proofs.lemmas.Option.{slice_get_within}
 use Rattle.wit_model.specs.Text.{Text}
 use Rattle.wit_model.specs.Names.{PackageIdentity, is_label}
-use Rattle.wit_model.specs.Meaning.{PackageMeaning, WorldPackage}
 use Rattle.wit_model.proofs.Checks.{get_before, get_last}
-use Rattle.comp_bytes.specs.declared.forms.ComponentTypeRef.{ComponentTypeRef}
 use Rattle.comp_bytes.specs.declared.forms.ComponentTypeRef.TheVariants as refs
 use Rattle.comp_bytes.specs.Raw.{ExternName, Declaration, Declarations, TopType, TopExport, Section}
 use Rattle.comp_bytes.specs.Reading.{◌>>=◌, component_of}
@@ -23,7 +21,7 @@ use Rattle.comp_meaning.specs.Rules.{distinct, is_world}
 use Rattle.comp_meaning.specs.Reads.{steps, is_bare, top_type, top_section, exported_types, wrapped, labelled_path, exported_view, imported_view, world_part, interface_part, part_of, Part, Member, member, package_of_members, world_of_members, package_meaning, world_package}
 use Rattle.comp_meaning.specs.Reads as reads
 use Rattle.comp_meaning.specs.ByLevels.{member_by_levels, exported_parts, package_of_pieces, world_of_pieces, PackageByLevels, WorldByLevels}
-use Rattle.comp_meaning.proofs.Marks.{marks, all_taken, Counted, one_mark_more, one_number_more, exact, taken_at}
+use Rattle.comp_meaning.proofs.Marks.{all_taken, Counted, one_mark_more, one_number_more, exact, taken_at, true_mark, all_marked}
 use Rattle.comp_meaning.proofs.EntryLaws.{steps_keep, not_true, scope_is, followed_only}
 use Rattle.comp_meaning.proofs.TopLaws.{labelled, raw_found, parts_along}
 
@@ -87,15 +85,6 @@ member_levels x m e =
     ]
 
 -- ---- every type at the top is exported, and so followed
-
-true_mark : {A : Type 0} (xs : List A) (n : ℕ) → n < length xs → slice_get (map (λ _. true) xs) n ≡ Some true
-true_mark [] n h = absurd (omega (arith, h))
-true_mark (x ∷ xs) zero h = refl
-true_mark (x ∷ xs) (suc n) h = true_mark xs n (omega (arith, h))
-
-all_marked : {A : Type 0} (xs : List A) → marks (map (λ _. true) xs) ≡ length xs
-all_marked [] = refl
-all_marked (x ∷ xs) = ap suc (all_marked xs)
 
 -- an entry behind others, or one of them
 appended_at : {A : Type 0} (xs : List A) (x y : A) (i : ℕ) → slice_get (xs ++ x ∷ []) i ≡ Some y → (slice_get xs i ≡ Some y) ⊎ (x ≡ y)

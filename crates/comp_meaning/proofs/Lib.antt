@@ -4,6 +4,8 @@ pub mod Marks
 pub mod EntryLaws
 pub mod TopLaws
 pub mod Levelled
+pub mod SameLaws
+pub mod FunctionLists
 mod PlainExamples
 mod ReadingExamples
 mod CornerExamples

@@ -1,5 +1,5 @@
 -- Numbers that stand for marks of a list, each once: they are as many as the marks exactly where each mark's number is among them.
-use Rattle.std.proofs.Common.{◌≡◌, refl, sym, ap, subst, ◌∙◌, ℕ, zero, suc, ◌+◌, ◌<◌, ◌≤◌, arith, Bool, true, false, ◌&&◌, ◌||◌, cond, eqb, List, [], ◌∷◌, ◌++◌, length, Some, None, length-append}
+use Rattle.std.proofs.Common.{◌≡◌, refl, sym, ap, subst, ◌∙◌, ℕ, zero, suc, ◌+◌, ◌<◌, ◌≤◌, arith, Bool, true, false, ◌&&◌, ◌||◌, cond, eqb, List, [], ◌∷◌, ◌++◌, length, map, Some, length-append}
 use Rattle.std.specs.Prelude.{slice_get}
 use Rattle.std.specs.List.{list_any}
 use Rattle.std.proofs.lemmas.Bool.{eqb-true, eq-eqb, ne_eqb}
@@ -13,9 +13,25 @@ marks [] = 0
 marks (true ∷ fs) = suc (marks fs)
 marks (false ∷ fs) = marks fs
 
+-- the marks of a list each of whose places is one
+pub true_mark : {A : Type 0} (xs : List A) (n : ℕ) → n < length xs → slice_get (map (λ _. true) xs) n ≡ Some true
+true_mark [] n h = absurd (omega (arith, h))
+true_mark (x ∷ xs) zero h = refl
+true_mark (x ∷ xs) (suc n) h = true_mark xs n (omega (arith, h))
+
+pub all_marked : {A : Type 0} (xs : List A) → marks (map (λ _. true) xs) ≡ length xs
+all_marked [] = refl
+all_marked (x ∷ xs) = ap suc (all_marked xs)
+
 or_none : (b : Bool) → (b || false) ≡ b
 or_none true = refl
 or_none false = refl
+
+or_flip : (a b : Bool) → (a || b) ≡ (b || a)
+or_flip true true = refl
+or_flip true false = refl
+or_flip false true = refl
+or_flip false false = refl
 
 absent : (b : Bool) → (b ≡ true → ⊥) → b ≡ false
 absent true h = absurd (h refl)
@@ -49,8 +65,12 @@ module _ {A : Type 0} (key : A → ℕ) where
   among_more : (xs : List A) (x : A) (n : ℕ) → list_any (λ y. eqb (key y) n) (xs ++ x ∷ []) ≡ (list_any (λ y. eqb (key y) n) xs || eqb (key x) n)
   among_more xs x n = list_any-append (λ y. eqb (key y) n) xs (x ∷ []) ∙ ap (λ b. list_any (λ y. eqb (key y) n) xs || b) (or_none (eqb (key x) n))
 
-  among_other : (xs : List A) (x : A) (n : ℕ) → (key x ≡ n → ⊥) → list_any (λ y. eqb (key y) n) (xs ++ x ∷ []) ≡ list_any (λ y. eqb (key y) n) xs
-  among_other xs x n differ = among_more xs x n ∙ ap (λ b. list_any (λ y. eqb (key y) n) xs || b) (ne_eqb (key x) n differ) ∙ or_none (list_any (λ y. eqb (key y) n) xs)
+  -- those with one more
+  abbrev HasOneMore : List A → A → List A → Type 0
+  HasOneMore xs x zs = (n : ℕ) → list_any (λ y. eqb (key y) n) zs ≡ (list_any (λ y. eqb (key y) n) xs || eqb (key x) n)
+
+  among_other : (xs : List A) (x : A) (zs : List A) → HasOneMore xs x zs → (n : ℕ) → (key x ≡ n → ⊥) → list_any (λ y. eqb (key y) n) zs ≡ list_any (λ y. eqb (key y) n) xs
+  among_other xs x zs more n differ = more n ∙ ap (λ b. list_any (λ y. eqb (key y) n) xs || b) (ne_eqb (key x) n differ) ∙ or_none (list_any (λ y. eqb (key y) n) xs)
 
   -- ---- one more mark, whose number is none of these
 
@@ -62,33 +82,33 @@ module _ {A : Type 0} (key : A → ℕ) where
 
   -- ---- one more number
 
-  taken_past : (xs : List A) (x : A) (n : ℕ) (fs : List Bool) → key x < n → taken (xs ++ x ∷ []) n fs ≡ taken xs n fs
-  taken_past xs x n [] h = refl
-  taken_past xs x n (true ∷ fs) h =
+  taken_past : (xs : List A) (x : A) (zs : List A) → HasOneMore xs x zs → (n : ℕ) (fs : List Bool) → key x < n → taken zs n fs ≡ taken xs n fs
+  taken_past xs x zs more n [] h = refl
+  taken_past xs x zs more n (true ∷ fs) h =
       let other : key x ≡ n → ⊥ = λ e. omega (arith, e, h) in
-      ap (λ k. cond (list_any (λ y. eqb (key y) n) (xs ++ x ∷ [])) (suc k) k) (taken_past xs x (suc n) fs (omega (arith, h)))
-      ∙ ap (λ b. cond b (suc (taken xs (suc n) fs)) (taken xs (suc n) fs)) (among_other xs x n other)
-  taken_past xs x n (false ∷ fs) h = taken_past xs x (suc n) fs (omega (arith, h))
+      ap (λ k. cond (list_any (λ y. eqb (key y) n) zs) (suc k) k) (taken_past xs x zs more (suc n) fs (omega (arith, h)))
+      ∙ ap (λ b. cond b (suc (taken xs (suc n) fs)) (taken xs (suc n) fs)) (among_other xs x zs more n other)
+  taken_past xs x zs more n (false ∷ fs) h = taken_past xs x zs more (suc n) fs (omega (arith, h))
 
   one_more : (b : Bool) (k : ℕ) → cond b (suc (suc k)) (suc k) ≡ suc (cond b (suc k) k)
   one_more true k = refl
   one_more false k = refl
 
-  taken_more : (xs : List A) (x : A) (n k : ℕ) (fs : List Bool) → key x ≡ n + k → list_any (λ y. eqb (key y) (key x)) xs ≡ false → slice_get fs k ≡ Some true → taken (xs ++ x ∷ []) n fs ≡ suc (taken xs n fs)
-  taken_more xs x n k [] e new h = absurd cc
-  taken_more xs x n zero (false ∷ fs) e new h = absurd cc
-  taken_more xs x n zero (true ∷ fs) e new h =
+  taken_more : (xs : List A) (x : A) (zs : List A) → HasOneMore xs x zs → (n k : ℕ) (fs : List Bool) → key x ≡ n + k → list_any (λ y. eqb (key y) (key x)) xs ≡ false → slice_get fs k ≡ Some true → taken zs n fs ≡ suc (taken xs n fs)
+  taken_more xs x zs more n k [] e new h = absurd cc
+  taken_more xs x zs more n zero (false ∷ fs) e new h = absurd cc
+  taken_more xs x zs more n zero (true ∷ fs) e new h =
       let here : key x ≡ n = omega (arith, e) in
       let absent_before : list_any (λ y. eqb (key y) n) xs ≡ false = sym (ap (λ m. list_any (λ y. eqb (key y) m) xs) here) ∙ new in
-      let found : list_any (λ y. eqb (key y) n) (xs ++ x ∷ []) ≡ true = among_more xs x n ∙ ap (λ b. b || eqb (key x) n) absent_before ∙ eq-eqb (key x) n here in
-      ap (λ b. cond b (suc (taken (xs ++ x ∷ []) (suc n) fs)) (taken (xs ++ x ∷ []) (suc n) fs)) found
-      ∙ ap suc (taken_past xs x (suc n) fs (omega (arith, here)) ∙ sym (ap (λ b. cond b (suc (taken xs (suc n) fs)) (taken xs (suc n) fs)) absent_before))
-  taken_more xs x n (suc k) (true ∷ fs) e new h =
+      let found : list_any (λ y. eqb (key y) n) zs ≡ true = more n ∙ ap (λ b. b || eqb (key x) n) absent_before ∙ eq-eqb (key x) n here in
+      ap (λ b. cond b (suc (taken zs (suc n) fs)) (taken zs (suc n) fs)) found
+      ∙ ap suc (taken_past xs x zs more (suc n) fs (omega (arith, here)) ∙ sym (ap (λ b. cond b (suc (taken xs (suc n) fs)) (taken xs (suc n) fs)) absent_before))
+  taken_more xs x zs more n (suc k) (true ∷ fs) e new h =
       let other : key x ≡ n → ⊥ = λ same. omega (arith, same, e) in
-      ap (λ b. cond b (suc (taken (xs ++ x ∷ []) (suc n) fs)) (taken (xs ++ x ∷ []) (suc n) fs)) (among_other xs x n other)
-      ∙ ap (λ j. cond (list_any (λ y. eqb (key y) n) xs) (suc j) j) (taken_more xs x (suc n) k fs (omega (arith, e)) new h)
+      ap (λ b. cond b (suc (taken zs (suc n) fs)) (taken zs (suc n) fs)) (among_other xs x zs more n other)
+      ∙ ap (λ j. cond (list_any (λ y. eqb (key y) n) xs) (suc j) j) (taken_more xs x zs more (suc n) k fs (omega (arith, e)) new h)
       ∙ one_more (list_any (λ y. eqb (key y) n) xs) (taken xs (suc n) fs)
-  taken_more xs x n (suc k) (false ∷ fs) e new h = taken_more xs x (suc n) k fs (omega (arith, e)) new h
+  taken_more xs x zs more n (suc k) (false ∷ fs) e new h = taken_more xs x zs more (suc n) k fs (omega (arith, e)) new h
 
   -- ---- what is kept
 
@@ -98,17 +118,33 @@ module _ {A : Type 0} (key : A → ℕ) where
     count = c.count ∙ sym (taken_mark xs 0 (length fs) fs f (omega arith) (absent (list_any (λ x. eqb (key x) (length fs)) xs) (λ h. let low = c.below (length fs) h in omega (arith, low))));
   }
 
-  pub one_number_more : (xs : List A) (x : A) (fs : List Bool) → Counted xs fs → list_any (λ y. eqb (key y) (key x)) xs ≡ false → slice_get fs (key x) ≡ Some true → Counted (xs ++ x ∷ []) fs
-  one_number_more xs x fs c new h = record {
+  grown : (xs : List A) (x : A) (zs : List A) → HasOneMore xs x zs → length zs ≡ suc (length xs) → (fs : List Bool) → Counted xs fs → list_any (λ y. eqb (key y) (key x)) xs ≡ false → slice_get fs (key x) ≡ Some true → Counted zs fs
+  grown xs x zs more long fs c new h = record {
     below = λ n. below_by n (list_any (λ y. eqb (key y) n) xs) refl;
-    count = let one = taken_more xs x 0 (key x) fs (omega arith) new h in let many = c.count in omega (arith, one, many, length-append xs (x ∷ []));
+    count = let one = taken_more xs x zs more 0 (key x) fs (omega arith) new h in let many = c.count in omega (arith, one, many, long);
   }
     where
-      below_by : (n : ℕ) (b : Bool) → list_any (λ y. eqb (key y) n) xs ≡ b → list_any (λ y. eqb (key y) n) (xs ++ x ∷ []) ≡ true → n < length fs
+      below_by : (n : ℕ) (b : Bool) → list_any (λ y. eqb (key y) n) xs ≡ b → list_any (λ y. eqb (key y) n) zs ≡ true → n < length fs
       below_by n true e found = c.below n e
       below_by n false e found =
-          let here : key x ≡ n = eqb-true (key x) n (sym (ap (λ b. b || eqb (key x) n) e) ∙ (sym (among_more xs x n) ∙ found)) in
+          let here : key x ≡ n = eqb-true (key x) n (sym (ap (λ b. b || eqb (key x) n) e) ∙ (sym (more n) ∙ found)) in
           subst (λ m. m < length fs) here (slice_get_within fs (key x) true h)
+
+  -- one more number, behind the others or in front of them
+  pub one_number_more : (xs : List A) (x : A) (fs : List Bool) → Counted xs fs → list_any (λ y. eqb (key y) (key x)) xs ≡ false → slice_get fs (key x) ≡ Some true → Counted (xs ++ x ∷ []) fs
+  one_number_more xs x fs c new h = let long = length-append xs (x ∷ []) in grown xs x (xs ++ x ∷ []) (among_more xs x) (omega (arith, long)) fs c new h
+
+  pub one_number_first : (xs : List A) (x : A) (fs : List Bool) → Counted xs fs → list_any (λ y. eqb (key y) (key x)) xs ≡ false → slice_get fs (key x) ≡ Some true → Counted (x ∷ xs) fs
+  one_number_first xs x fs c new h = grown xs x (x ∷ xs) (λ n. or_flip (eqb (key x) n) (list_any (λ y. eqb (key y) n) xs)) refl fs c new h
+
+  -- none at all
+  taken_none : (n : ℕ) (fs : List Bool) → taken [] n fs ≡ 0
+  taken_none n [] = refl
+  taken_none n (true ∷ fs) = taken_none (suc n) fs
+  taken_none n (false ∷ fs) = taken_none (suc n) fs
+
+  pub no_number : (fs : List Bool) → Counted [] fs
+  no_number fs = record { below = λ n h. absurd cc; count = sym (taken_none 0 fs) }
 
   -- ---- as many as there are marks
 
@@ -129,6 +165,10 @@ module _ {A : Type 0} (key : A → ℕ) where
       by true h = same_number (taken xs (suc n) fs) (marks fs) ∙ h
       by false h = let fewer = at_most xs (suc n) fs in ne_eqb (taken xs (suc n) fs) (suc (marks fs)) (λ e. omega (arith, e, fewer))
   as_many xs n (false ∷ fs) = as_many xs (suc n) fs
+
+  -- no more than there are marks, and as many where each mark is taken
+  pub no_more : (xs : List A) (fs : List Bool) → Counted xs fs → length xs ≤ marks fs
+  no_more xs fs c = let most = at_most xs 0 fs in let many = c.count in omega (arith, most, many)
 
   pub exact : (xs : List A) (fs : List Bool) → Counted xs fs → eqb (length xs) (marks fs) ≡ all_taken xs 0 fs
   exact xs fs c = ap (λ k. eqb k (marks fs)) c.count ∙ as_many xs 0 fs

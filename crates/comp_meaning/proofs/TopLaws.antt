@@ -1,26 +1,20 @@
 -- The top of a component, followed by levels, is the top as its raw form is followed.
-use Rattle.std.proofs.Common.{◌≡◌, refl, sym, ap, subst, ◌∙◌, ℕ, zero, suc, ◌<◌, arith, Bool, true, false, not, ◌&&◌, ◌||◌, eqb, cond, List, [], ◌∷◌, ◌++◌, length, map, Option, Some, None, option_map, length-append}
+use Rattle.std.proofs.Common.{◌≡◌, refl, sym, ap, ◌∙◌, ℕ, Bool, true, false, not, ◌&&◌, eqb, List, [], ◌∷◌, ◌++◌, length, map, Option, Some, None, option_map}
 use Rattle.std.specs.Prelude.{slice_get}
 use Rattle.std.specs.List.{list_any}
-use Rattle.std.proofs.lemmas.Bool.{eqb-true, eq-eqb, and_parts}
 use Rattle.std.proofs.lemmas.List.{map-append, length-map, map-id}
-use Rattle.std.proofs.lemmas.List.Folds.{list_any-append}
-use Rattle.std.proofs.lemmas.Option.{slice_get-map, slice_get_within}
+use Rattle.std.proofs.lemmas.Option.{slice_get-map}
 use Rattle.wit_model.specs.Text.{Text}
 use Rattle.wit_model.specs.Names.{is_label}
-use Rattle.wit_model.proofs.Checks.{get_before, get_last}
-use Rattle.comp_bytes.specs.Raw.{Declarations, TopType, TopExport, Section}
+use Rattle.comp_bytes.specs.Raw.{Declarations, TopType, TopExport}
 use Rattle.comp_bytes.specs.Reading.{◌>>=◌}
 use Rattle.comp_bytes.specs.Levels.{PartType, Piece, raw_part, raw_piece}
 use Rattle.comp_bytes.specs.Levels as levels
-use Rattle.comp_bytes.proofs.Readers.{bind_some, when_some}
-use Rattle.comp_bytes.proofs.PartLaws.{some_is}
 use Rattle.comp_meaning.specs.Follow.{each, when, provided}
 use Rattle.comp_meaning.specs.Rules.{distinct}
 use Rattle.comp_meaning.specs.Reads.{steps, is_bare, exported_types}
 use Rattle.comp_meaning.specs.Reads as reads
 use Rattle.comp_meaning.specs.ByLevels.{Top, top_part, top_export, top_piece, exported_parts}
-use Rattle.comp_meaning.proofs.Marks.{marks, all_taken, Counted, one_mark_more, one_number_more, exact, taken_at}
 
 -- ---- steps under other names
 

@@ -1,6 +1,6 @@
 -- What the bytes of a package or of a world mean, said over the forms that are read level by level (the file Levels of comp_bytes): the
 -- same rules as in Follow and Reads, where nothing nests without bound.
-use Rattle.std.specs.Prelude.{◌≡◌, ℕ, suc, Bool, true, false, ◌&&◌, ◌==◌, not, List, [], ◌∷◌, ◌++◌, length, map, Option, Some, None, slice_get, is_none}
+use Rattle.std.specs.Prelude.{◌≡◌, ℕ, suc, Bool, true, ◌&&◌, ◌==◌, not, List, [], ◌∷◌, ◌++◌, length, map, Option, Some, slice_get, is_none}
 use Rattle.std.specs.List.{list_any}
 use Rattle.wit_model.specs.Text.{Text}
 use Rattle.wit_model.specs.Names.{PackageIdentity, is_label}
@@ -12,7 +12,6 @@ use Rattle.comp_bytes.specs.Reading.{◌>>=◌, component_of}
 use Rattle.comp_meaning.specs.Follow.{each, when, provided, complete_path, Slot, Scope, new_scope, in_scope, component_step}
 use Rattle.comp_meaning.specs.Rules.{distinct, is_world}
 use Rattle.comp_meaning.specs.Reads.{steps, is_bare, exported_view, imported_view, are_reached, labelled_path, Part, Member, package_of_members, world_of_members, package_meaning, world_package}
-use Rattle.comp_meaning.specs.Reads as reads
 
 -- ---- the type of a world or an interface
 

@@ -4,3 +4,4 @@ pub mod Rules
 pub mod Reads
 pub mod Meanings
 pub mod ByLevels
+pub mod SameLaws

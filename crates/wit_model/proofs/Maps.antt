@@ -14,7 +14,7 @@ same_order a b = is_eq-slice_cmp a b
 
 module _ {X : Type 0} where
   -- what is found is an entry, and under the name of an entry something is found
-  found_there : (es : List (Text × X)) (q : Text) (x : X) → find text_cmp q es ≡ Some x → Contains es (q, x)
+  pub found_there : (es : List (Text × X)) (q : Text) (x : X) → find text_cmp q es ≡ Some x → Contains es (q, x)
   found_there [] q x h = absurd cc
   found_there (e ∷ es) q x h = go (found_there es q x) (eq_by_cmp text_cmp q e.0) refl h
     where
@@ -25,7 +25,7 @@ module _ {X : Type 0} where
           (0, omega arith, λ i. (key i, value i))
       go more false t h = let rest = more h in (suc rest.0, (let l = rest.1 in omega arith), rest.2)
 
-  there_some : (es : List (Text × X)) (q : Text) (x : X) → Contains es (q, x) → (y : X) × (find text_cmp q es ≡ Some y)
+  pub there_some : (es : List (Text × X)) (q : Text) (x : X) → Contains es (q, x) → (y : X) × (find text_cmp q es ≡ Some y)
   there_some [] q x (j, l, h) = absurd (omega (arith, l))
   there_some (e ∷ es) q x (zero, l, h) =
       let same : eq_by_cmp text_cmp q e.0 ≡ true = ap (λ z. eq_by_cmp text_cmp q z.0) h ∙ (same_order q q ∙ nat_list_eq_equiv.refl q) in
