@@ -21,3 +21,4 @@ pub mod BuiltSizes
 pub mod LevelLaws
 pub mod PieceLaws
 pub mod FirstByteLaws
+pub mod FrontLaws

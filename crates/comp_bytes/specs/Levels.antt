@@ -2,13 +2,14 @@
 -- at the top, the declarations of a world or an interface, and those of an instance type. A wrapper of a world is told from the type of
 -- an interface by its form (Component Model WIT.md, "Package Format"; Binary.md, "Type Definitions").
 use Rattle.std.specs.Prelude.{◌≡◌, ◌↔◌, ℕ, zero, suc, ◌^◌, Bool, true, false, IsTrue, ◌&&◌, ◌==◌, nat_eq, nat_lt, if◌then◌else◌, List, [], ◌∷◌, length, take, drop, map, Option, Some, None}
+use Rattle.std.specs.List.{starts_with}
 use Rattle.std.specs.Cmp.Lexicographic.{pointwise}
 use Rattle.comp_bytes.specs.declared.forms.ComponentTypeRef.TheVariants as refs
 use Rattle.comp_bytes.specs.Raw.{Declaration, Declarations, ExternName, TopType, TopExport, Section, from_list}
 use Rattle.comp_bytes.specs.Number.{IsU32}
 use Rattle.comp_bytes.specs.Form.{Spellings, Tagged, Joined, Sequence, Vector}
 use Rattle.comp_bytes.specs.Spelling.{IsDeclaration, AreDeclarations, preamble}
-use Rattle.comp_bytes.specs.Reading.{Reader, ◌>>=◌, as_at, tag_at, or_else, pair_at, u32_at, name_at, vector_at, declaration_at, top_export_at, whole, frame_at, component_of}
+use Rattle.comp_bytes.specs.Reading.{Reader, ◌>>=◌, as_at, tag_at, or_else, pair_at, u32_at, name_at, sequence_at, vector_at, declaration_at, top_export_at, whole, frame_at, component_of}
 
 -- ---- forms
 
@@ -138,3 +139,12 @@ EntriesAreDeclarations = (es : List Entry) (text : List ℕ) → Sequence IsEntr
 -- What is read by levels is read as the raw form that it is, and nothing else that nests as deep is read.
 abbrev pub LevelsAreSections : Type 0
 LevelsAreSections = (bytes : List ℕ) (ps : List Piece) → (levels_of bytes ≡ Some ps) ↔ (component_of bytes ≡ Some (map raw_piece ps))
+
+-- Which entry stands in front is told by two bytes, and which type at the top by the count and two bytes behind it.
+abbrev pub EntriesByFront : Type 0
+EntriesByFront = (bytes : List ℕ) → entry_at bytes ≡ (if starts_with nat_eq bytes (1 ∷ 0x42 ∷ []) then as_at holds held_at (drop 2 bytes) else as_at plain declaration_at bytes)
+
+abbrev pub PartTypesByFront : Type 0
+PartTypesByFront = (bytes : List ℕ) → part_behind_at bytes ≡ (u32_at bytes >>= λ n.
+    if n.0 == 2 && starts_with nat_eq n.1 (1 ∷ 0x41 ∷ []) then as_at (λ w. wraps w.0 w.1) (pair_at (vector_at entry_at) world_export_at) (drop 2 n.1)
+    else as_at shows (sequence_at entry_at n.0) n.1)

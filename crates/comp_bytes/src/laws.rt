@@ -3,7 +3,7 @@
 ghost use Rattle.comp_bytes.specs.FirstByte.{DeclaredTypesAreChosen, DefinitionsAreChosen, ValueTypesAreChosen};
 ghost use Rattle.comp_bytes.specs.FormatLaws.{OneForm, ShortestIndex, ShortestName, ShortestNumber};
 ghost use Rattle.comp_bytes.specs.Laws.{IsReadBy};
-ghost use Rattle.comp_bytes.specs.Levels.{EntriesAreDeclarations, IsEntry, IsPartType, LevelsAreSections, entry_at, part_type_at};
+ghost use Rattle.comp_bytes.specs.Levels.{EntriesAreDeclarations, EntriesByFront, IsEntry, IsPartType, LevelsAreSections, PartTypesByFront, entry_at, part_type_at};
 
 /// A byte string spells the sections of one component at most.
 pub fn one_form()
@@ -34,9 +34,11 @@ pub fn levels()
     ensures sections { LevelsAreSections }
 {}
 
-/// What the first byte of a type chooses is what tests of that byte, one after the other, read.
+/// What the bytes in front choose is what tests of these bytes, one after the other, read: of a type, an entry and a type at the top.
 pub fn first_bytes()
     ensures definitions { DefinitionsAreChosen }
     ensures declared { DeclaredTypesAreChosen }
     ensures values { ValueTypesAreChosen }
+    ensures entries { EntriesByFront }
+    ensures part_types { PartTypesByFront }
 {}
