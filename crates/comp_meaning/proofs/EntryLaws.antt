@@ -2,6 +2,7 @@
 use Rattle.std.proofs.Common.{◌≡◌, refl, sym, ap, subst, ◌∙◌, ℕ, suc, Bool, true, false, not, ◌&&◌, eqb, List, [], ◌∷◌, ◌++◌, length, map, Option, Some, None, option_map}
 use Rattle.std.specs.Prelude.{slice_get}
 use Rattle.std.specs.List.{list_any}
+use Rattle.std.proofs.lemmas.Bool.{not-true}
 use Rattle.std.proofs.lemmas.List.{map-append}
 use Rattle.std.proofs.lemmas.Option.{slice_get-map}
 use Rattle.wit_model.specs.Tree.{Place}
@@ -28,10 +29,6 @@ steps_keep P step h [] s end e k = subst P (some_is s end e) k
 steps_keep P step h (x ∷ xs) s end e k =
     let b = bind_some (step s x) (λ next. steps step next xs) end e in
     steps_keep P step h xs b.0 end b.2 (h s b.0 x b.1 k)
-
-pub not_true : (b : Bool) → not b ≡ true → b ≡ false
-not_true true e = absurd cc
-not_true false e = refl
 
 -- ---- as many uses as instance types
 
@@ -89,7 +86,7 @@ kept_instance direction name n scope next e k =
     (record scope { instances = scope.instances ++ record { interface = interface_of b.0; view = view } ∷ []; used = scope.used ++ n ∷ [] }))) next b.2 in
     let w = when_some (not (list_any (λ m. eqb m n) scope.used)) (used_view scope.slots (place_of (interface_of b.0)) (slice_get scope.slots n)) v.0 v.1 in
     let mark : slice_get (map is_instance scope.slots) n ≡ Some true = slice_get-map is_instance scope.slots n ∙ used_is scope.slots (place_of (interface_of b.0)) n v.0 w.1 in
-    let more = one_number_more self scope.used n (map is_instance scope.slots) k (not_true (list_any (λ m. eqb m n) scope.used) w.0) mark in
+    let more = one_number_more self scope.used n (map is_instance scope.slots) k (not-true (list_any (λ m. eqb m n) scope.used) w.0) mark in
     let used : Scope = record scope { instances = scope.instances ++ record { interface = interface_of b.0; view = v.0 } ∷ []; used = scope.used ++ n ∷ [] } in
     let seen : Seen = record { key = key_text b.0; shown = Shown.instance b.0 v.0; external_id = name.external_id } in
     subst IsKept (some_is (see direction seen used) next v.2) (kept_seen direction seen used more)

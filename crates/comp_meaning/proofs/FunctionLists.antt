@@ -5,12 +5,12 @@ use Rattle.std.specs.Prelude.{slice_get}
 use Rattle.std.specs.List.{Contains, list_any}
 use Rattle.std.specs.Bool.{Decides}
 use Rattle.std.specs.FinMap.{find, from_entries, get, get-from_entries}
-use Rattle.std.proofs.lemmas.Bool.{eqb-true, eq-eqb}
+use Rattle.std.proofs.lemmas.Bool.{eqb-true, eq-eqb, and_from, or_left, or_right, not-true}
 use Rattle.std.proofs.lemmas.Bool.Decides.{Decides-at}
 use Rattle.std.proofs.lemmas.Cmp.{nat_list_cmp_total}
-use Rattle.std.proofs.lemmas.Slice.Eq.{bytes_eq-Decides}
 use Rattle.wit_model.specs.Text.{Text, TextMap, text_eq, text_cmp}
 use Rattle.wit_model.proofs.Lists.{first_true, second_true}
+use Rattle.wit_model.proofs.VersionLaws.{same_text, text_same}
 use Rattle.wit_model.proofs.Distinct.{either_way}
 use Rattle.wit_model.proofs.Maps.{one_map, found_there, there_some}
 use Rattle.comp_meaning.specs.Rules.{distinct}
@@ -18,25 +18,7 @@ use Rattle.comp_meaning.specs.Same.{same_function, stand_in}
 use Rattle.comp_meaning.specs.Reads.{same_functions}
 use Rattle.comp_meaning.specs.SameLaws.{DecidesEquality, SameFunctionsStandInEachOther, SameFunctionsAreOneMap}
 use Rattle.comp_meaning.proofs.SameLaws.{functions_decide}
-use Rattle.comp_meaning.proofs.EntryLaws.{not_true}
 use Rattle.comp_meaning.proofs.Marks.{marks, all_taken, Counted, no_number, one_number_first, no_more, exact, taken_at, true_mark, all_marked}
-
-or_first : (a b : Bool) → a ≡ true → (a || b) ≡ true
-or_first true b e = refl
-or_first false b e = absurd cc
-
-or_second : (a b : Bool) → b ≡ true → (a || b) ≡ true
-or_second true b e = refl
-or_second false b e = e
-
-both_true : (a b : Bool) → a ≡ true → b ≡ true → (a && b) ≡ true
-both_true a b p q = rw p q
-
-same_text : (a b : Text) → a ≡ b → text_eq a b ≡ true
-same_text a b e = (bytes_eq-Decides a b).1 e
-
-text_is : (a b : Text) → text_eq a b ≡ true → a ≡ b
-text_is a b e = (bytes_eq-Decides a b).0 e
 
 module _ {X : Type 0} where
   abbrev names : List (Text × X) → List Text
@@ -52,12 +34,12 @@ module _ {X : Type 0} where
 
   contained_name : (fs : List (Text × X)) (k : Text) (v : X) → Contains fs (k, v) → is_named fs k ≡ true
   contained_name [] k v (i, low, h) = absurd (omega (arith, low))
-  contained_name (f ∷ fs) k v (zero, low, h) = or_first (text_eq k f.0) (is_named fs k) (ap (λ z. text_eq k z.0) h ∙ same_text k k refl)
-  contained_name (f ∷ fs) k v (suc i, low, h) = or_second (text_eq k f.0) (is_named fs k) (contained_name fs k v (i, omega (arith, low), h))
+  contained_name (f ∷ fs) k v (zero, low, h) = or_left (text_eq k f.0) (is_named fs k) (ap (λ z. text_eq k z.0) h ∙ same_text k k refl)
+  contained_name (f ∷ fs) k v (suc i, low, h) = or_right (text_eq k f.0) (is_named fs k) (contained_name fs k v (i, omega (arith, low), h))
 
   -- a name that stands in front stands nowhere else
   not_again : (f : Text × X) (fs : List (Text × X)) → distinct (names (f ∷ fs)) ≡ true → is_named fs f.0 ≡ false
-  not_again f fs e = not_true (is_named fs f.0) (first_true (not (is_named fs f.0)) (distinct (names fs)) e)
+  not_again f fs e = not-true (is_named fs f.0) (first_true (not (is_named fs f.0)) (distinct (names fs)) e)
 
   none_again : (f : Text × X) (fs : List (Text × X)) (v : X) → distinct (names (f ∷ fs)) ≡ true → Contains fs (f.0, v) → ⊥
   none_again f fs v e c = let wrong : true ≡ false = sym (contained_name fs f.0 v c) ∙ not_again f fs e in cc
@@ -104,7 +86,7 @@ module _ {X : Type 0} where
   position_at (g ∷ gs) k h = by (text_eq k g.0) refl (position_at gs k)
     where
       by : (b : Bool) → text_eq k g.0 ≡ b → (is_named gs k ≡ true → (y : Text × X) × (slice_get gs (position k gs) ≡ Some y) × (k ≡ y.0)) → (y : Text × X) × (slice_get (g ∷ gs) (cond b 0 (suc (position k gs))) ≡ Some y) × (k ≡ y.0)
-      by true e more = (g, refl, text_is k g.0 e)
+      by true e more = (g, refl, text_same k g.0 e)
       by false e more = more (sym (ap (λ b. b || is_named gs k) e) ∙ h)
 
   position_one : (gs : List (Text × X)) (k l : Text) → is_named gs k ≡ true → is_named gs l ≡ true → position k gs ≡ position l gs → k ≡ l
@@ -174,7 +156,7 @@ module _ {X : Type 0} where
       where
         by : (b : Bool) → (text_eq k g.0 && same v g.1) ≡ b → (list_any (λ y. text_eq k y.0 && same v y.1) gs ≡ true → Contains gs (k, v)) → Contains (g ∷ gs) (k, v)
         by true e more =
-            let name : g.0 ≡ k = sym (text_is k g.0 (first_true (text_eq k g.0) (same v g.1) e)) in
+            let name : g.0 ≡ k = sym (text_same k g.0 (first_true (text_eq k g.0) (same v g.1) e)) in
             let value : g.1 ≡ v = sym ((d v g.1).0 (second_true (text_eq k g.0) (same v g.1) e)) in
             (0, omega arith, λ i. (name i, value i))
         by false e more = behind g gs (k, v) (more (sym (ap (λ b. b || list_any (λ y. text_eq k y.0 && same v y.1) gs) e) ∙ h))
@@ -182,8 +164,8 @@ module _ {X : Type 0} where
     finds : (gs : List (Text × X)) (k : Text) (v : X) → Contains gs (k, v) → list_any (λ y. text_eq k y.0 && same v y.1) gs ≡ true
     finds [] k v (i, low, h) = absurd (omega (arith, low))
     finds (g ∷ gs) k v (zero, low, h) =
-        or_first (text_eq k g.0 && same v g.1) _ (both_true (text_eq k g.0) (same v g.1) (same_text k g.0 (sym (ap (λ z. z.0) h))) ((d v g.1).1 (sym (ap (λ z. z.1) h))))
-    finds (g ∷ gs) k v (suc i, low, h) = or_second (text_eq k g.0 && same v g.1) _ (finds gs k v (i, omega (arith, low), h))
+        or_left (text_eq k g.0 && same v g.1) _ (and_from (text_eq k g.0) (same v g.1) (same_text k g.0 (sym (ap (λ z. z.0) h))) ((d v g.1).1 (sym (ap (λ z. z.1) h))))
+    finds (g ∷ gs) k v (suc i, low, h) = or_right (text_eq k g.0 && same v g.1) _ (finds gs k v (i, omega (arith, low), h))
 
     stand_there : (fs gs : List (Text × X)) → stand_in same fs gs ≡ true → (k : Text) (v : X) → Contains fs (k, v) → Contains gs (k, v)
     stand_there [] gs h k v (i, low, e) = absurd (omega (arith, low))
@@ -195,7 +177,7 @@ module _ {X : Type 0} where
     all_stand : (fs gs : List (Text × X)) → ((k : Text) (v : X) → Contains fs (k, v) → Contains gs (k, v)) → stand_in same fs gs ≡ true
     all_stand [] gs h = refl
     all_stand (f ∷ fs) gs h =
-        both_true (list_any (λ y. text_eq f.0 y.0 && same f.1 y.1) gs) (stand_in same fs gs) (finds gs f.0 f.1 (h f.0 f.1 (0, omega arith, refl))) (all_stand fs gs (λ k v c. h k v (behind f fs (k, v) c)))
+        and_from (list_any (λ y. text_eq f.0 y.0 && same f.1 y.1) gs) (stand_in same fs gs) (finds gs f.0 f.1 (h f.0 f.1 (0, omega arith, refl))) (all_stand fs gs (λ k v c. h k v (behind f fs (k, v) c)))
 
     -- as many, and all in the other, is each in the other
     pub both_ways : (fs gs : List (Text × X)) → distinct (names fs) ≡ true → distinct (names gs) ≡ true → (eqb (length fs) (length gs) && stand_in same fs gs) ≡ (stand_in same fs gs && stand_in same gs fs)
@@ -205,7 +187,7 @@ module _ {X : Type 0} where
         into h =
             let stand = second_true (eqb (length fs) (length gs)) (stand_in same fs gs) h in
             let long = eqb-true (length fs) (length gs) (first_true (eqb (length fs) (length gs)) (stand_in same fs gs) h) in
-            both_true (stand_in same fs gs) (stand_in same gs fs) stand (all_stand gs fs (the_others fs gs (stand_there fs gs stand) e g long))
+            and_from (stand_in same fs gs) (stand_in same gs fs) stand (all_stand gs fs (the_others fs gs (stand_there fs gs stand) e g long))
 
         back : (stand_in same fs gs && stand_in same gs fs) ≡ true → (eqb (length fs) (length gs) && stand_in same fs gs) ≡ true
         back h =
@@ -213,7 +195,7 @@ module _ {X : Type 0} where
             let others = second_true (stand_in same fs gs) (stand_in same gs fs) h in
             let le = no_longer fs gs (stand_there fs gs stand) e in
             let ge = no_longer gs fs (stand_there gs fs others) g in
-            both_true (eqb (length fs) (length gs)) (stand_in same fs gs) (eq-eqb (length fs) (length gs) (omega (arith, le, ge))) stand
+            and_from (eqb (length fs) (length gs)) (stand_in same fs gs) (eq-eqb (length fs) (length gs) (omega (arith, le, ge))) stand
 
     -- which is where they make one map
     pub make_one_map : (fs gs : List (Text × X)) → distinct (names fs) ≡ true → distinct (names gs) ≡ true → Decides (stand_in same fs gs && stand_in same gs fs) (◌≡◌ {A = TextMap X} (from_entries fs) (from_entries gs))
@@ -223,7 +205,7 @@ module _ {X : Type 0} where
         there = stand_there fs gs (first_true (stand_in same fs gs) (stand_in same gs fs) h);
         here = stand_there gs fs (second_true (stand_in same fs gs) (stand_in same gs fs) h);
       }),
-      λ m. both_true (stand_in same fs gs) (stand_in same gs fs) (all_stand fs gs (from_map fs gs e m)) (all_stand gs fs (from_map gs fs g (sym m))),
+      λ m. and_from (stand_in same fs gs) (stand_in same gs fs) (all_stand fs gs (from_map fs gs e m)) (all_stand gs fs (from_map gs fs g (sym m))),
     )
       where
         -- what is an entry of one list is found in the map, and so in the other

@@ -2,7 +2,7 @@
 use Rattle.std.proofs.Common.{◌≡◌, ◌⊎◌, refl, sym, ap, subst, ◌∙◌, ℕ, zero, suc, ◌<◌, ◌+◌, arith, Bool, true, false, not, ◌&&◌, ◌||◌, eqb, List, [], ◌∷◌, ◌++◌, length, map, Option, Some, None, option_map, inl, inr, length-append}
 use Rattle.std.specs.Prelude.{slice_get, is_none}
 use Rattle.std.specs.List.{list_any}
-use Rattle.std.proofs.lemmas.Bool.{eqb-true, and_parts}
+use Rattle.std.proofs.lemmas.Bool.{eqb-true, and_parts, not-true}
 use Rattle.std.proofs.lemmas.List.{map-append}
 use Rattle.std.proofs.lemmas.Option.{slice_get_within}
 use Rattle.wit_model.specs.Text.{Text}
@@ -22,7 +22,7 @@ use Rattle.comp_meaning.specs.Reads.{steps, is_bare, top_type, top_section, expo
 use Rattle.comp_meaning.specs.Reads as reads
 use Rattle.comp_meaning.specs.ByLevels.{member_by_levels, exported_parts, package_of_pieces, world_of_pieces, PackageByLevels, WorldByLevels}
 use Rattle.comp_meaning.proofs.Marks.{all_taken, Counted, one_mark_more, one_number_more, exact, taken_at, true_mark, all_marked}
-use Rattle.comp_meaning.proofs.EntryLaws.{steps_keep, not_true, scope_is, followed_only}
+use Rattle.comp_meaning.proofs.EntryLaws.{steps_keep, scope_is, followed_only}
 use Rattle.comp_meaning.proofs.TopLaws.{labelled, raw_found, parts_along}
 
 -- the declarations are those of a type at the top that is followed
@@ -124,7 +124,7 @@ kept_export top next x e k =
     let new = and_parts (is_label x.exported_as.text) (not (list_any (λ y. eqb y.1 b.0) top.exported)) named.1 in
     let low = k.within x.type_index b.0 b.1 in
     subst IsKept (some_is after next w.1) (record {
-      counted = one_number_more (λ y. y.1) top.exported (x.exported_as.text, b.0) (map (λ _. true) top.types) k.counted (not_true (list_any (λ y. eqb y.1 b.0) top.exported) new.1) (true_mark top.types b.0 low);
+      counted = one_number_more (λ y. y.1) top.exported (x.exported_as.text, b.0) (map (λ _. true) top.types) k.counted (not-true (list_any (λ y. eqb y.1 b.0) top.exported) new.1) (true_mark top.types b.0 low);
       within = λ i n found. elim (appended_at top.slots b.0 n i found) [
         | inl before ↦ k.within i n before
         | inr last ↦ omega (arith, last, low)

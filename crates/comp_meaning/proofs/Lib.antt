@@ -6,6 +6,7 @@ pub mod TopLaws
 pub mod Levelled
 pub mod SameLaws
 pub mod FunctionLists
+pub mod AgreementLaws
 mod PlainExamples
 mod ReadingExamples
 mod CornerExamples

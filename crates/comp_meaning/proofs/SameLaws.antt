@@ -4,6 +4,7 @@ use Rattle.std.specs.Prelude.{slice_get, unwrap_or}
 use Rattle.std.specs.Bool.{Decides}
 use Rattle.std.specs.Cmp.Lexicographic.{pointwise}
 use Rattle.std.specs.Cmp.Derive.Mapped.{pointwise-map}
+use Rattle.std.proofs.lemmas.Bool.{and_from}
 use Rattle.std.proofs.lemmas.Bool.Decides.{Decides-and, Decides-eqb}
 use Rattle.std.proofs.lemmas.Slice.Eq.{bytes_eq-Decides, slice_eq-Decides}
 use Rattle.wit_model.specs.Text.{Text, text_eq}
@@ -126,18 +127,15 @@ mutual
       ap (λ x. Trees.child x ts) (tree_is t u head) ∙ ap (Trees.child u) (trees_are ts us rest)
   trees_are _ _ e = absurd cc
 
-both_true : (a b : Bool) → a ≡ true → b ≡ true → (a && b) ≡ true
-both_true a b p q = rw p q
-
 mutual
   tree_itself : (t : Tree) → same_tree t t ≡ true
   tree_itself (Tree.primitive p) = (primitives_decide p p).1 refl
   tree_itself (Tree.named p x) = (Decides-and (same_place p p) (text_eq x x) (places_decide p p) (texts_decide x x)).1 (refl, refl)
-  tree_itself (Tree.node f ts) = both_true (same_form f f) (same_trees ts ts) (form_itself f) (trees_themselves ts)
+  tree_itself (Tree.node f ts) = and_from (same_form f f) (same_trees ts ts) (form_itself f) (trees_themselves ts)
 
   trees_themselves : (ts : Trees) → same_trees ts ts ≡ true
   trees_themselves Trees.no_children = refl
-  trees_themselves (Trees.child t ts) = both_true (same_tree t t) (same_trees ts ts) (tree_itself t) (trees_themselves ts)
+  trees_themselves (Trees.child t ts) = and_from (same_tree t t) (same_trees ts ts) (tree_itself t) (trees_themselves ts)
 
 pub trees_decide : DecidesEquality same_tree
 trees_decide t u = (tree_is t u, λ e. subst (λ (x : Tree). same_tree t x ≡ true) e (tree_itself t))

@@ -6,10 +6,10 @@ use Rattle.wit_model.specs.Text.{Text}
 use Rattle.wit_model.specs.Names.{PackageIdentity, is_label}
 use Rattle.wit_model.specs.Meaning.{PackageMeaning, WorldPackage}
 use Rattle.comp_bytes.specs.Raw.{ExternName, TopExport}
-use Rattle.comp_bytes.specs.Levels.{Entry, plain, holds, PartType, wraps, shows, Piece, levels_of}
+use Rattle.comp_bytes.specs.Levels.{Entry, plain, holds, PartType, wraps, shows, Piece, declarations_of, levels_of}
 use Rattle.comp_bytes.specs.Levels as levels
 use Rattle.comp_bytes.specs.Reading.{◌>>=◌, component_of}
-use Rattle.comp_meaning.specs.Follow.{each, when, provided, complete_path, Slot, Scope, new_scope, in_scope, component_step}
+use Rattle.comp_meaning.specs.Follow.{each, when, provided, complete_path, Slot, Scope, new_scope, in_scope, component_step, component_scope}
 use Rattle.comp_meaning.specs.Rules.{distinct, is_world}
 use Rattle.comp_meaning.specs.Reads.{steps, is_bare, exported_view, imported_view, are_reached, labelled_path, Part, Member, package_of_members, world_of_members, package_meaning, world_package}
 
@@ -91,6 +91,10 @@ unfoldable pub world_of_pieces : List Piece → Option WorldPackage
 world_of_pieces pieces = exported_parts pieces >>= λ parts. each member_by_levels parts >>= λ members. world_of_members members
 
 -- ---- laws
+
+-- Entries, of whose instance types none is left unused, show what they show as raw forms, of whose instance types as many are used as there are.
+abbrev pub ScopesByLevels : Type 0
+ScopesByLevels = (es : List Entry) → entry_scope es ≡ component_scope (declarations_of es)
 
 -- What is read by levels means what the component means, and bytes mean nothing exactly where they mean nothing so.
 abbrev pub PackageByLevels : Type 0

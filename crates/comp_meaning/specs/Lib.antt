@@ -5,3 +5,4 @@ pub mod Reads
 pub mod Meanings
 pub mod ByLevels
 pub mod SameLaws
+pub mod Agreement

@@ -1,6 +1,7 @@
 //! Laws of the meaning of bytes.
 
-ghost use Rattle.comp_meaning.specs.ByLevels.{PackageByLevels, WorldByLevels};
+ghost use Rattle.comp_meaning.specs.Agreement.{FirstAgrees};
+ghost use Rattle.comp_meaning.specs.ByLevels.{PackageByLevels, ScopesByLevels, WorldByLevels};
 ghost use Rattle.comp_meaning.specs.Meanings.{MeaningIsRead, OneMeaning, OneWorld, WorldIsRead};
 ghost use Rattle.comp_meaning.specs.Same.{same_declaration, same_function, same_identity, same_signature, same_tree, same_type};
 ghost use Rattle.comp_meaning.specs.SameLaws.{DecidesEquality, SameFunctionsAreOneMap, SameFunctionsStandInEachOther, SameTypesAreEqual};
@@ -17,6 +18,7 @@ pub fn one_meaning()
 pub fn by_levels()
     ensures one_package { PackageByLevels }
     ensures one_world { WorldByLevels }
+    ensures scopes { ScopesByLevels }
 {}
 
 /// The tests that say whether two trees, declarations, types, signatures, functions or names of packages are the same decide equality.
@@ -35,4 +37,9 @@ pub fn same_is_equal()
 pub fn functions_agree()
     ensures both_ways { SameFunctionsStandInEachOther }
     ensures as_maps { SameFunctionsAreOneMap }
+{}
+
+/// Views of interfaces agree, each with each, exactly where each agrees with the first of its path.
+pub fn first_agrees()
+    ensures { FirstAgrees }
 {}

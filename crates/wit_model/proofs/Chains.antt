@@ -3,7 +3,7 @@ use Rattle.std.proofs.Common.{◌≡◌, refl, sym, ap, subst, ◌∙◌, ℕ, z
 use Rattle.std.specs.Prelude.{flat_map, nat_lt}
 use Rattle.std.specs.List.{list_all, list_any}
 use Rattle.std.specs.Option.{option_map_or}
-use Rattle.std.proofs.lemmas.Bool.{eqb-true, ltb-true}
+use Rattle.std.proofs.lemmas.Bool.{eqb-true, ltb-true, or_left, or_right}
 use Rattle.std.proofs.lemmas.List.Folds.{list_any-append}
 use Rattle.std.proofs.lemmas.Option.{slice_get_within}
 use Rattle.wit_model.specs.declared.model.Resolve.{Resolve}
@@ -30,21 +30,13 @@ any_by_all p (x ∷ xs) = by (p x) (any_by_all p xs)
 pub has_once : (n : ℕ) (ns : List ℕ) → has (once ns) n ≡ has ns n
 has_once n ns = any_by_all (λ m. m == n) (once ns) ∙ ap not (all_once (λ m. not (m == n)) ns) ∙ sym (any_by_all (λ m. m == n) ns)
 
-or_first : (a b : Bool) → a ≡ true → (a || b) ≡ true
-or_first true b e = refl
-or_first false b e = absurd cc
-
-or_second : (a b : Bool) → b ≡ true → (a || b) ≡ true
-or_second true b e = refl
-or_second false b e = e
-
 has_flat : (f : ℕ → List ℕ) (n m : ℕ) (ns : List ℕ) → has ns n ≡ true → has (f n) m ≡ true → has (flat_map f ns) m ≡ true
 has_flat f n m [] h g = absurd cc
 has_flat f n m (x ∷ ns) h g = list_any-append (λ k. k == m) (f x) (flat_map f ns) ∙ by (λ k. has_flat f n m ns k g) (x == n) refl
   where
     by : (has ns n ≡ true → has (flat_map f ns) m ≡ true) → (b : Bool) → (x == n) ≡ b → (has (f x) m || has (flat_map f ns) m) ≡ true
-    by rest true e = or_first (has (f x) m) _ (ap (λ k. has (f k) m) (eqb-true x n e) ∙ g)
-    by rest false e = or_second (has (f x) m) _ (rest (sym (ap (λ b. b || has ns n) e) ∙ h))
+    by rest true e = or_left (has (f x) m) _ (ap (λ k. has (f k) m) (eqb-true x n e) ∙ g)
+    by rest false e = or_right (has (f x) m) _ (rest (sym (ap (λ b. b || has ns n) e) ∙ h))
 
 all_has : (p : ℕ → Bool) (ns : List ℕ) (n : ℕ) → list_all p ns ≡ true → has ns n ≡ true → p n ≡ true
 all_has p [] n all h = absurd cc
@@ -82,10 +74,10 @@ uses_fall r v n m h =
 
 module _ (r : Resolve) where
   stays_in : (ns : List ℕ) (n : ℕ) → has ns n ≡ true → has (once (ns ++ flat_map (direct_deps r) ns)) n ≡ true
-  stays_in ns n h = has_once n (ns ++ flat_map (direct_deps r) ns) ∙ (list_any-append (λ k. k == n) ns (flat_map (direct_deps r) ns) ∙ or_first (has ns n) _ h)
+  stays_in ns n h = has_once n (ns ++ flat_map (direct_deps r) ns) ∙ (list_any-append (λ k. k == n) ns (flat_map (direct_deps r) ns) ∙ or_left (has ns n) _ h)
 
   comes_in : (ns : List ℕ) (n m : ℕ) → has ns n ≡ true → has (direct_deps r n) m ≡ true → has (once (ns ++ flat_map (direct_deps r) ns)) m ≡ true
-  comes_in ns n m h g = has_once m (ns ++ flat_map (direct_deps r) ns) ∙ (list_any-append (λ k. k == m) ns (flat_map (direct_deps r) ns) ∙ or_second (has ns m) _ (has_flat (direct_deps r) n m ns h g))
+  comes_in ns n m h g = has_once m (ns ++ flat_map (direct_deps r) ns) ∙ (list_any-append (λ k. k == m) ns (flat_map (direct_deps r) ns) ∙ or_right (has ns m) _ (has_flat (direct_deps r) n m ns h g))
 
   -- a chain of no more uses than there are steps
   reach : (steps : ℕ) (ns : List ℕ) (n k m : ℕ) → has ns n ≡ true → k ≤ steps → Chain r k n m → has (reached_in r steps ns) m ≡ true
