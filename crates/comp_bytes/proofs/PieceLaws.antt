@@ -1,18 +1,22 @@
 -- What is read by levels is read as the raw form that it is, and the other way round.
-use Rattle.std.proofs.Common.{◌≡◌, refl, sym, ap, subst, ◌∙◌, ℕ, zero, suc, ◌^◌, Bool, true, false, ◌&&◌, cond, eqb, ltb, List, [], ◌∷◌, length, map, take, drop, Some, None}
+use Rattle.std.proofs.Common.{◌≡◌, refl, sym, ap, subst, ◌∙◌, ℕ, zero, suc, ◌+◌, ◌<◌, ◌≤◌, ◌^◌, arith, Bool, true, false, ◌&&◌, cond, eqb, ltb, List, [], ◌∷◌, length, map, take, drop, Option, Some, None}
 use Rattle.std.specs.Prelude.{nat_eq}
 use Rattle.std.specs.Cmp.Lexicographic.{pointwise}
-use Rattle.std.proofs.lemmas.List.{length-map}
+use Rattle.std.proofs.lemmas.Bool.{ne_eqb}
+use Rattle.std.proofs.lemmas.List.{length-map, length-append, length-drop}
 use Rattle.comp_bytes.specs.Raw.{TopType, TopExport, Section}
-use Rattle.comp_bytes.specs.Form.{Sequence}
+use Rattle.comp_bytes.specs.Form.{Spellings, Sequence}
 use Rattle.comp_bytes.specs.Number.{IsU32}
 use Rattle.comp_bytes.specs.Spelling.{IsTopType, preamble}
-use Rattle.comp_bytes.specs.Reading.{◌>>=◌, name_at, vector_at, type_at, top_export_at, whole, frame_at, section_of, sections_of, component_of}
-use Rattle.comp_bytes.specs.Levels.{PartType, IsPartType, Piece, custom, types, exports, raw_part, raw_piece, part_type_at, piece_of, pieces_of, levels_of, LevelsAreSections}
+use Rattle.comp_bytes.specs.Reading.{Reader, ◌>>=◌, name_at, vector_at, declaration_at, type_at, top_export_at, whole, frame_at, section_of, sections_of, component_of}
+use Rattle.comp_bytes.specs.Laws.{IsReadBy}
+use Rattle.comp_bytes.specs.Levels.{Entry, plain, holds, PartType, wraps, shows, IsEntry, IsPartType, Piece, custom, types, exports, raw_part, raw_piece, entry_at, part_type_at, piece_of, pieces_of, pieces_in, levels_of, LevelsAreSections, PiecesByFrames, TakesBytes}
 use Rattle.comp_bytes.proofs.Readers.{bind_some, when_some}
 use Rattle.comp_bytes.proofs.PartLaws.{some_is, vector_law}
-use Rattle.comp_bytes.proofs.ComponentLaws.{type_law, whole_takes, whole_again}
-use Rattle.comp_bytes.proofs.LevelLaws.{part_into, part_out, part_type_law}
+use Rattle.comp_bytes.proofs.ComponentLaws.{type_law, frame_law, whole_takes, whole_again}
+use Rattle.comp_bytes.proofs.DeclarationLaws.{declaration_law}
+use Rattle.comp_bytes.proofs.NestedLaws.{declaration_filled}
+use Rattle.comp_bytes.proofs.LevelLaws.{part_into, part_out, entry_law, part_type_law}
 
 -- ---- types at the top
 
@@ -148,17 +152,88 @@ pieces_out (suc fuel) (b ∷ bytes) (p ∷ ps) e =
       pieces_out fuel f.0.1 ps (others.1 ∙ ap (λ (ss : List Section). Some ss) more),
     ) refl
 
+-- ---- any bound that is large enough
+
+frame_shorter : (bytes : List ℕ) (f : ℕ × List ℕ) (rest : List ℕ) → frame_at bytes ≡ Some (f, rest) → length rest < length bytes
+frame_shorter bytes f rest e =
+    let t = frame_law.takes bytes f rest e in
+    let whole : length bytes ≡ length t.front + length rest = ap length t.parts ∙ length-append t.front rest in
+    let first : length t.front ≡ suc (length t.spelled.0) = ap length t.spelled.1 in
+    omega (arith, whole, first)
+
+-- the section in front, and those that are read behind it
+abbrev behind : (List ℕ → Option (List Piece)) → Option ((ℕ × List ℕ) × List ℕ) → Option (List Piece)
+behind next found = found >>= λ frame. piece_of frame.0.0 frame.0.1 >>= λ first. next frame.1 >>= λ others. Some (first ∷ others)
+
+enough : (k j : ℕ) (bytes : List ℕ) → length bytes ≤ k → length bytes ≤ j → pieces_of k bytes ≡ pieces_of j bytes
+unfolding pieces_of
+enough zero zero bytes le small = refl
+enough zero (suc j) [] le small = refl
+enough (suc k) zero [] le small = refl
+enough (suc k) (suc j) [] le small = refl
+enough zero (suc j) (b ∷ bytes) le small = absurd (omega (arith, le))
+enough (suc k) zero (b ∷ bytes) le small = absurd (omega (arith, small))
+enough (suc k) (suc j) (b ∷ bytes) le small = by (frame_at (b ∷ bytes)) refl (enough k j)
+  where
+    by : (o : Option ((ℕ × List ℕ) × List ℕ)) → frame_at (b ∷ bytes) ≡ o → ((text : List ℕ) → length text ≤ k → length text ≤ j → pieces_of k text ≡ pieces_of j text)
+        → behind (pieces_of k) o ≡ behind (pieces_of j) o
+    by None e again = refl
+    by (Some f) e again =
+        let less = frame_shorter (b ∷ bytes) f.0 f.1 e in
+        ap (λ o. piece_of f.0.0 f.0.1 >>= λ first. o >>= λ others. Some (first ∷ others)) (again f.1 (omega (arith, less, le)) (omega (arith, less, small)))
+
+pub pieces_by_frames : PiecesByFrames
+unfolding pieces_in pieces_of
+pieces_by_frames [] = refl
+pieces_by_frames (b ∷ bytes) = by (frame_at (b ∷ bytes)) refl ∙ sym (ap (λ c. cond c (Some []) (behind pieces_in (frame_at (b ∷ bytes)))) (ne_eqb (length (b ∷ bytes)) 0 (λ e. omega (arith, e))))
+  where
+    by : (o : Option ((ℕ × List ℕ) × List ℕ)) → frame_at (b ∷ bytes) ≡ o → behind (pieces_of (length bytes)) o ≡ behind pieces_in o
+    by None e = refl
+    by (Some f) e =
+        let less = frame_shorter (b ∷ bytes) f.0 f.1 e in
+        ap (λ o. piece_of f.0.0 f.0.1 >>= λ first. o >>= λ others. Some (first ∷ others)) (enough (length bytes) (length f.1) f.1 (omega (arith, less)) (omega arith))
+
 levels_into : (bytes : List ℕ) (ps : List Piece) → levels_of bytes ≡ Some ps → component_of bytes ≡ Some (map raw_piece ps)
-unfolding levels_of component_of
+unfolding levels_of component_of pieces_in
 levels_into bytes ps e =
-    let w = when_some (pointwise nat_eq (take 8 bytes) preamble && ltb (length bytes) (2 ^ 32)) (pieces_of (length bytes) (drop 8 bytes)) ps e in
-    rw (w.0, pieces_into (length bytes) (drop 8 bytes) ps w.1) refl
+    let w = when_some (pointwise nat_eq (take 8 bytes) preamble && ltb (length bytes) (2 ^ 32)) (pieces_of (length (drop 8 bytes)) (drop 8 bytes)) ps e in
+    let fewer : length (drop 8 bytes) ≤ length bytes = omega (arith, length-drop 8 bytes) in
+    let read : pieces_of (length bytes) (drop 8 bytes) ≡ Some ps = enough (length bytes) (length (drop 8 bytes)) (drop 8 bytes) fewer (omega arith) ∙ w.1 in
+    rw (w.0, pieces_into (length bytes) (drop 8 bytes) ps read) refl
 
 levels_out : (bytes : List ℕ) (ps : List Piece) → component_of bytes ≡ Some (map raw_piece ps) → levels_of bytes ≡ Some ps
-unfolding levels_of component_of
+unfolding levels_of component_of pieces_in
 levels_out bytes ps e =
     let w = when_some (pointwise nat_eq (take 8 bytes) preamble && ltb (length bytes) (2 ^ 32)) (sections_of (length bytes) (drop 8 bytes)) (map raw_piece ps) e in
-    rw (w.0, pieces_out (length bytes) (drop 8 bytes) ps w.1) refl
+    let fewer : length (drop 8 bytes) ≤ length bytes = omega (arith, length-drop 8 bytes) in
+    let read : pieces_of (length (drop 8 bytes)) (drop 8 bytes) ≡ Some ps = enough (length (drop 8 bytes)) (length bytes) (drop 8 bytes) (omega arith) fewer ∙ pieces_out (length bytes) (drop 8 bytes) ps w.1 in
+    rw (w.0, read) refl
 
 pub levels_are_sections : LevelsAreSections
 levels_are_sections bytes ps = (levels_into bytes ps, levels_out bytes ps)
+
+-- ---- what is read takes bytes
+
+takes_bytes : {A : Type 0} {form : A → Spellings} {reader : Reader A} (law : IsReadBy form reader) → ((x : A) (front : List ℕ) → form x front → 0 < length front) → TakesBytes reader
+takes_bytes law filled bytes x rest e =
+    let t = law.takes bytes x rest e in
+    let whole : length bytes ≡ length t.front + length rest = ap length t.parts ∙ length-append t.front rest in
+    let some = filled x t.front t.spelled in
+    omega (arith, whole, some)
+
+pub declarations_take : TakesBytes declaration_at
+declarations_take = takes_bytes declaration_law declaration_filled
+
+pub entries_take : TakesBytes entry_at
+entries_take = takes_bytes entry_law filled
+  where
+    filled : (x : Entry) (front : List ℕ) → IsEntry x front → 0 < length front
+    filled (plain d) front s = declaration_filled d front s
+    filled (holds ds) front s = rw s.1 (omega arith)
+
+pub part_types_take : TakesBytes part_type_at
+part_types_take = takes_bytes part_type_law filled
+  where
+    filled : (p : PartType) (front : List ℕ) → IsPartType p front → 0 < length front
+    filled (wraps es name) front s = rw s.1 (omega arith)
+    filled (shows es) front s = rw s.1 (omega arith)

@@ -1,7 +1,7 @@
 -- The raw forms of a component as far as they are followed, by four levels, none of which holds another of its kind: sections, the types
 -- at the top, the declarations of a world or an interface, and those of an instance type. A wrapper of a world is told from the type of
 -- an interface by its form (Component Model WIT.md, "Package Format"; Binary.md, "Type Definitions").
-use Rattle.std.specs.Prelude.{◌≡◌, ◌↔◌, ℕ, zero, suc, ◌^◌, Bool, true, false, IsTrue, ◌&&◌, ◌==◌, nat_eq, nat_lt, if◌then◌else◌, List, [], ◌∷◌, length, take, drop, map, Option, Some, None}
+use Rattle.std.specs.Prelude.{◌≡◌, ◌↔◌, ◌<◌, ℕ, zero, suc, ◌^◌, Bool, true, false, IsTrue, ◌&&◌, ◌==◌, nat_eq, nat_lt, if◌then◌else◌, List, [], ◌∷◌, length, take, drop, map, Option, Some, None}
 use Rattle.std.specs.List.{starts_with}
 use Rattle.std.specs.Cmp.Lexicographic.{pointwise}
 use Rattle.comp_bytes.specs.declared.forms.ComponentTypeRef.TheVariants as refs
@@ -124,10 +124,13 @@ pieces_of (suc fuel) (b ∷ bytes) = do
   others ← pieces_of fuel frame.1
   Some (first ∷ others)
 
+unfoldable pub pieces_in : List ℕ → Option (List Piece)
+pieces_in bytes = pieces_of (length bytes) bytes
+
 -- the sections of a component
 unfoldable pub levels_of : List ℕ → Option (List Piece)
 levels_of bytes =
-    let pieces = pieces_of (length bytes) (drop 8 bytes) in
+    let pieces = pieces_in (drop 8 bytes) in
     if pointwise nat_eq (take 8 bytes) preamble && nat_lt (length bytes) (2 ^ 32) then pieces else None
 
 -- ---- laws
@@ -148,3 +151,13 @@ abbrev pub PartTypesByFront : Type 0
 PartTypesByFront = (bytes : List ℕ) → part_behind_at bytes ≡ (u32_at bytes >>= λ n.
     if n.0 == 2 && starts_with nat_eq n.1 (1 ∷ 0x41 ∷ []) then as_at (λ w. wraps w.0 w.1) (pair_at (vector_at entry_at) world_export_at) (drop 2 n.1)
     else as_at shows (sequence_at entry_at n.0) n.1)
+
+-- The sections in the bytes are none where there are no bytes, and else the one in front and those behind it.
+abbrev pub PiecesByFrames : Type 0
+PiecesByFrames = (bytes : List ℕ) → pieces_in bytes ≡ (
+    if length bytes == 0 then Some [] else
+    (frame_at bytes >>= λ frame. piece_of frame.0.0 frame.0.1 >>= λ first. pieces_in frame.1 >>= λ others. Some (first ∷ others)))
+
+-- What is read takes bytes, so that fewer are left.
+abbrev pub TakesBytes : {A : Type 0} → Reader A → Type 0
+TakesBytes {A} reader = (bytes : List ℕ) (x : A) (rest : List ℕ) → reader bytes ≡ Some (x, rest) → length rest < length bytes
