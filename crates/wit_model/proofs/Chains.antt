@@ -3,7 +3,7 @@ use Rattle.std.proofs.Common.{◌≡◌, refl, sym, ap, subst, ◌∙◌, ℕ, z
 use Rattle.std.specs.Prelude.{flat_map, nat_lt}
 use Rattle.std.specs.List.{list_all, list_any}
 use Rattle.std.specs.Option.{option_map_or}
-use Rattle.std.proofs.lemmas.Bool.{eqb-true, ltb-true, or_left, or_right}
+use Rattle.std.proofs.lemmas.Bool.{eqb-true, eq-eqb, ltb-true, or_left, or_right}
 use Rattle.std.proofs.lemmas.List.Folds.{list_any-append}
 use Rattle.std.proofs.lemmas.Option.{slice_get_within}
 use Rattle.wit_model.specs.declared.model.Resolve.{Resolve}
@@ -12,7 +12,7 @@ use Rattle.wit_model.specs.Lookup.{interface_at}
 use Rattle.wit_model.specs.Uses.{has, once, interfaces_used_by, direct_deps, reached_in}
 use Rattle.wit_model.specs.Rules.{each_from, function_stays}
 use Rattle.wit_model.specs.Valid.{IsValid, owners, as_interface, functions_of_interface}
-use Rattle.wit_model.specs.Chains.{Chain, UsesFall, ChainsReach}
+use Rattle.wit_model.specs.Chains.{Chain, UsesFall, ChainsReach, ReachedByChains}
 use Rattle.wit_model.proofs.Lists.{first_true, second_true}
 use Rattle.wit_model.proofs.Entries.{each_from_at}
 use Rattle.wit_model.proofs.Owners.{all_once}
@@ -37,6 +37,16 @@ has_flat f n m (x ∷ ns) h g = list_any-append (λ k. k == m) (f x) (flat_map f
     by : (has ns n ≡ true → has (flat_map f ns) m ≡ true) → (b : Bool) → (x == n) ≡ b → (has (f x) m || has (flat_map f ns) m) ≡ true
     by rest true e = or_left (has (f x) m) _ (ap (λ k. has (f k) m) (eqb-true x n e) ∙ g)
     by rest false e = or_right (has (f x) m) _ (rest (sym (ap (λ b. b || has ns n) e) ∙ h))
+
+flat_has : (f : ℕ → List ℕ) (m : ℕ) (ns : List ℕ) → has (flat_map f ns) m ≡ true → (n : ℕ) × (has ns n ≡ true) × (has (f n) m ≡ true)
+flat_has f m [] h = absurd cc
+flat_has f m (x ∷ ns) h = by (has (f x) m) refl (flat_has f m ns)
+  where
+    by : (b : Bool) → has (f x) m ≡ b → (has (flat_map f ns) m ≡ true → (n : ℕ) × (has ns n ≡ true) × (has (f n) m ≡ true)) → (n : ℕ) × (has (x ∷ ns) n ≡ true) × (has (f n) m ≡ true)
+    by true e more = (x, or_left (x == x) (has ns x) (eq-eqb x x refl), e)
+    by false e more =
+        let rest = more (sym (ap (λ b. b || has (flat_map f ns) m) e) ∙ (sym (list_any-append (λ k. k == m) (f x) (flat_map f ns)) ∙ h)) in
+        (rest.0, or_right (x == rest.0) (has ns rest.0) rest.1, rest.2)
 
 all_has : (p : ℕ → Bool) (ns : List ℕ) (n : ℕ) → list_all p ns ≡ true → has ns n ≡ true → p n ≡ true
 all_has p [] n all h = absurd cc
@@ -87,6 +97,21 @@ module _ (r : Resolve) where
   reach (suc steps) ns n zero m h le c = reach steps (once (ns ++ flat_map (direct_deps r) ns)) n zero m (stays_in ns n h) (omega arith) c
   reach (suc steps) ns n (suc k) m h le c = reach steps (once (ns ++ flat_map (direct_deps r) ns)) c.0 k m (comes_in ns n c.0 h c.1) (omega (arith, le)) c.2
 
+  -- what is reached in so many steps, a chain leads to
+  led_to : (steps : ℕ) (ns : List ℕ) (m : ℕ) → has (reached_in r steps ns) m ≡ true → (n : ℕ) × (k : ℕ) × (has ns n ≡ true) × Chain r k n m
+  unfolding reached_in
+  led_to zero ns m h = (m, 0, h, refl)
+  led_to (suc steps) ns m h =
+      let later = led_to steps (once (ns ++ flat_map (direct_deps r) ns)) m h in
+      let there = sym (list_any-append (λ k. k == later.0) ns (flat_map (direct_deps r) ns)) ∙ (sym (has_once later.0 (ns ++ flat_map (direct_deps r) ns)) ∙ later.2) in
+      by later.0 later.1 later.3 (has ns later.0) refl there
+    where
+      by : (n k : ℕ) → Chain r k n m → (b : Bool) → has ns n ≡ b → (has ns n || has (flat_map (direct_deps r) ns) n) ≡ true → (o : ℕ) × (j : ℕ) × (has ns o ≡ true) × Chain r j o m
+      by n k c true e there = (n, k, e, c)
+      by n k c false e there =
+          let user = flat_has (direct_deps r) n ns (sym (ap (λ b. b || has (flat_map (direct_deps r) ns) n) e) ∙ there) in
+          (user.0, suc k, user.1, (n, user.2, c))
+
   -- a chain has no more uses than its first number, where numbers fall, and begins at an interface
   short : IsValid r → (k n m : ℕ) → Chain r k n m → k ≤ n
   short v zero n m c = omega arith
@@ -99,6 +124,11 @@ module _ (r : Resolve) where
       let low = slice_get_within r.interfaces.items n user.0 user.1 in
       let le = short v (suc k) n m c in
       omega (arith, low, le)
+
+pub reached_by_chains : ReachedByChains
+reached_by_chains r ns m h =
+    let led = led_to r (length r.interfaces.items) (once ns) m h in
+    (led.0, led.1, sym (has_once led.0 ns) ∙ led.2, led.3)
 
 pub chains_reach : ChainsReach
 chains_reach r v ns n k m h c = reach r (length r.interfaces.items) (once ns) n k m (has_once n ns ∙ h) (no_longer r v k n m c) c

@@ -16,3 +16,7 @@ UsesFall = (r : Resolve) → IsValid r → (n m : ℕ) → has (direct_deps r n)
 -- In a valid `Resolve`, what uses lead to from some interfaces is reached from these.
 abbrev pub ChainsReach : Type 0
 ChainsReach = (r : Resolve) → IsValid r → (ns : List ℕ) (n k m : ℕ) → has ns n ≡ true → Chain r k n m → has (reached r ns) m ≡ true
+
+-- What is reached is led to from one of these, in any `Resolve`.
+abbrev pub ReachedByChains : Type 0
+ReachedByChains = (r : Resolve) (ns : List ℕ) (m : ℕ) → has (reached r ns) m ≡ true → (n : ℕ) × (k : ℕ) × (has ns n ≡ true) × Chain r k n m
