@@ -22,3 +22,4 @@ pub mod LevelLaws
 pub mod PieceLaws
 pub mod FirstByteLaws
 pub mod FrontLaws
+pub mod SequenceSteps

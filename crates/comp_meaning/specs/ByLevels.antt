@@ -92,7 +92,7 @@ world_of_pieces pieces = exported_parts pieces >>= λ parts. each member_by_leve
 
 -- ---- laws
 
--- Entries, of whose instance types none is left unused, show what they show as raw forms, of whose instance types as many are used as there are.
+-- Entries stand for the scope that they stand for as raw forms: no instance type is left unused exactly where as many are used as there are.
 abbrev pub ScopesByLevels : Type 0
 ScopesByLevels = (es : List Entry) → entry_scope es ≡ component_scope (declarations_of es)
 
