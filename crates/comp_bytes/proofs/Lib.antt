@@ -18,3 +18,8 @@ pub mod FrameLaws
 pub mod PartsLaws
 pub mod BuiltLaws
 pub mod BuiltSizes
+pub mod LevelLaws
+pub mod PieceLaws
+pub mod FirstByteLaws
+pub mod FrontLaws
+pub mod SequenceSteps

@@ -16,3 +16,5 @@ pub mod Built
 pub mod Codes
 pub mod Appending
 pub mod FormatLaws
+pub mod Levels
+pub mod FirstByte

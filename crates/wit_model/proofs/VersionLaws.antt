@@ -43,10 +43,10 @@ one_version v w h k same = parts_by_text (parts_of v) (parts_of w) (valid_parts 
 same_number : (a b : ℕ) → a ≡ b → (a == b) ≡ true
 same_number a b e = eq-eqb a b e
 
-same_text : (a b : Text) → a ≡ b → text_eq a b ≡ true
+pub same_text : (a b : Text) → a ≡ b → text_eq a b ≡ true
 same_text a b e = (bytes_eq-Decides a b).1 e
 
-text_same : (a b : Text) → text_eq a b ≡ true → a ≡ b
+pub text_same : (a b : Text) → text_eq a b ≡ true → a ≡ b
 text_same a b e = (bytes_eq-Decides a b).0 e
 
 versions_same : (a b : Version) → parts_of a ≡ parts_of b → same_version a b ≡ true

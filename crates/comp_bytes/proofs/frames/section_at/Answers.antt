@@ -1,4 +1,4 @@
-use Rattle.std.proofs.Common.{◌≡◌, ◌∙◌, ap, sym, arith, length}
+use Rattle.std.proofs.Common.{◌∙◌, ap, sym, arith}
 use Rattle.comp_bytes.specs.Reading.{frame_at}
 use Rattle.comp_bytes.proofs.ComponentLaws.{frame_law}
 use Rattle.comp_bytes.proofs.Readers.{read_err}

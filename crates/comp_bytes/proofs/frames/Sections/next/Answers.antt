@@ -1,4 +1,4 @@
-use Rattle.std.proofs.Common.{rules, ◌≡◌, Some, refl}
+use Rattle.std.proofs.Common.{refl}
 use Rattle.comp_bytes.proofs.frames.Sections.next.Goals as goal
 
 pub returns-in-Err-clause-next : goal.returns-in-Err-clause-next

@@ -1,0 +1,214 @@
+-- Entries and types at the top are read as they are spelled, and are the raw forms that they stand for.
+use Rattle.std.proofs.Common.{◌≡◌, refl, sym, ap, subst, ◌∙◌, ℕ, zero, suc, arith, Bool, cond, eqb, List, [], ◌∷◌, ◌++◌, length, Some, None, inl, inr, append_assoc}
+use Rattle.std.specs.Prelude.{IsTrue}
+use Rattle.std.proofs.lemmas.Bool.{ne_eqb, eqb-true}
+use Rattle.std.proofs.lemmas.List.{append-nil}
+use Rattle.comp_bytes.specs.declared.forms.ComponentTypeRef.TheVariants as refs
+use Rattle.comp_bytes.specs.Raw.{ExternName, Declaration, from_list, declaration_count, imports_nothing}
+use Rattle.comp_bytes.specs.Form.{Tagged, Joined, Sequence, Vector}
+use Rattle.comp_bytes.specs.Number.{IsU32}
+use Rattle.comp_bytes.specs.Spelling.{IsDeclaration, ComponentTypeOf, InstanceTypeOf, AreDeclarations}
+use Rattle.comp_bytes.specs.Reading.{Reader, ◌>>=◌, u32_at, as_at, pair_at, tag_at, tagged_at, choose, vector_at, declaration_at}
+use Rattle.comp_bytes.specs.Laws.{IsReadBy, Taken}
+use Rattle.comp_bytes.specs.Levels.{Entry, plain, holds, PartType, wraps, shows, import_free, Held, IsEntry, IsWrapper, IsPartType, declarations_of, raw_part, held_at, entry_at, world_export, world_export_at, wrapper_at, part_behind_at, part_type_at}
+use Rattle.comp_bytes.proofs.Readers.{bind_some, when_some}
+use Rattle.comp_bytes.proofs.NumberLaws.{u32_law}
+use Rattle.comp_bytes.proofs.PartLaws.{taken_at, tagged_takes, tag_law, pair_law, vector_law}
+use Rattle.comp_bytes.proofs.FormLaws.{or_some}
+use Rattle.comp_bytes.proofs.DeclarationLaws.{declaration_law}
+use Rattle.comp_bytes.proofs.NestedLaws.{not_nested}
+
+-- ---- entries are declarations
+
+count_is : (ds : List Declaration) → declaration_count (from_list ds) ≡ length ds
+count_is [] = refl
+count_is (d ∷ ds) = ap suc (count_is ds)
+
+free_is : (ds : List Declaration) → imports_nothing (from_list ds) ≡ import_free ds
+free_is [] = refl
+free_is (Declaration.defined d ∷ ds) = free_is ds
+free_is (Declaration.function f ∷ ds) = free_is ds
+free_is (Declaration.alias_of a ∷ ds) = free_is ds
+free_is (Declaration.imported name described ∷ ds) = refl
+free_is (Declaration.exported name described ∷ ds) = free_is ds
+
+flat_into : (ds : List Declaration) (text : List ℕ) → Sequence IsDeclaration ds text → AreDeclarations (from_list ds) text
+flat_into [] text s = s
+flat_into (d ∷ ds) text s = (s.0, s.1, s.2, s.3, flat_into ds s.1 s.4)
+
+flat_out : (ds : List Declaration) (text : List ℕ) → AreDeclarations (from_list ds) text → Sequence IsDeclaration ds text
+flat_out [] text s = s
+flat_out (d ∷ ds) text s = (s.0, s.1, s.2, s.3, flat_out ds s.1 s.4)
+
+held_into : (ds : List Declaration) (text : List ℕ) → Tagged 0x42 (Held ds) text → InstanceTypeOf (from_list ds) (AreDeclarations (from_list ds)) text
+held_into ds text s =
+    let v = s.2.0 in
+    ((s.0, s.1, (v.0, v.1, v.2, subst (λ (n : ℕ). IsU32 n v.0) (sym (count_is ds)) v.3, flat_into ds v.1 v.4)), subst (λ (b : Bool). IsTrue b) (sym (free_is ds)) s.2.1)
+
+held_out : (ds : List Declaration) (text : List ℕ) → InstanceTypeOf (from_list ds) (AreDeclarations (from_list ds)) text → Tagged 0x42 (Held ds) text
+held_out ds text s =
+    let v = s.0.2 in
+    (s.0.0, s.0.1, ((v.0, v.1, v.2, subst (λ (n : ℕ). IsU32 n v.0) (count_is ds) v.3, flat_out ds v.1 v.4), subst (λ (b : Bool). IsTrue b) (free_is ds) s.1))
+
+pub entries_into : (es : List Entry) (text : List ℕ) → Sequence IsEntry es text → AreDeclarations (declarations_of es) text
+entries_into [] text s = s
+entries_into (plain d ∷ es) text s = (s.0, s.1, s.2, s.3, entries_into es s.1 s.4)
+entries_into (holds ds ∷ es) text s = (s.0, s.1, s.2, (s.3.0, s.3.1, held_into ds s.3.0 s.3.2), entries_into es s.1 s.4)
+
+pub entries_out : (es : List Entry) (text : List ℕ) → AreDeclarations (declarations_of es) text → Sequence IsEntry es text
+entries_out [] text s = s
+entries_out (plain d ∷ es) text s = (s.0, s.1, s.2, s.3, entries_out es s.1 s.4)
+entries_out (holds ds ∷ es) text s = (s.0, s.1, s.2, (s.3.0, s.3.1, held_out ds s.3.0 s.3.2), entries_out es s.1 s.4)
+
+-- ---- entries are read
+
+held_law : IsReadBy Held held_at
+unfolding held_at
+held_law = record {
+  takes = λ bytes ds rest e.
+      let b = bind_some (vector_at declaration_at bytes) (λ x. cond (import_free x.0) (Some x) None) (ds, rest) e in
+      let w = when_some (import_free b.0.0) (Some b.0) (ds, rest) b.2 in
+      let t = (vector_law declaration_law).takes bytes b.0.0 b.0.1 b.1 in
+      taken_at b.0.0 ds b.0.1 rest w.1 (record { front = t.front; parts = t.parts; spelled = (t.spelled, w.0) });
+  again = λ ds front rest s. ap (λ o. o >>= λ x. cond (import_free x.0) (Some x) None) ((vector_law declaration_law).again ds front rest s.0) ∙ ap (λ b. cond b (Some (ds, rest)) None) s.1;
+}
+
+-- a declaration in which no other stands is no instance type, and no entry is a component type
+no_instance : (d : Declaration) (front rest : List ℕ) → IsDeclaration d front → tag_at 1 (tag_at 0x42 held_at) (front ++ rest) ≡ None
+no_instance d front rest = not_nested 0x42 held_at d front rest (omega arith) (λ e. omega arith) (λ e. omega arith)
+
+no_component : {A : Type 0} (reader : Reader A) (x : Entry) (front rest : List ℕ) → IsEntry x front → tag_at 1 (tag_at 0x41 reader) (front ++ rest) ≡ None
+unfolding tag_at tagged_at choose
+no_component reader (plain d) front rest s = not_nested 0x41 reader d front rest (omega arith) (λ e. omega arith) (λ e. omega arith) s
+no_component reader (holds ds) front rest s = rw (s.1, s.2.1) refl
+
+entry_again : (x : Entry) (front rest : List ℕ) → IsEntry x front → entry_at (front ++ rest) ≡ Some (x, rest)
+unfolding entry_at as_at
+entry_again (plain d) front rest s = rw (no_instance d front rest s, declaration_law.again d front rest s) refl
+entry_again (holds ds) front rest s = rw ((tag_law (tag_law held_law 0x42) 1).again ds front rest s) refl
+
+pub entry_law : IsReadBy IsEntry entry_at
+unfolding entry_at as_at
+entry_law = record {
+  takes = λ bytes x rest e.
+      elim (or_some (as_at holds (tag_at 1 (tag_at 0x42 held_at)) bytes) (as_at plain declaration_at bytes) (x, rest) e) [
+        | inl held ↦
+            let b = bind_some (tag_at 1 (tag_at 0x42 held_at) bytes) (λ y. Some (holds y.0, y.1)) (x, rest) held in
+            let t = (tag_law (tag_law held_law 0x42) 1).takes bytes b.0.0 b.0.1 b.1 in
+            taken_at (holds b.0.0) x b.0.1 rest b.2 (record { front = t.front; parts = t.parts; spelled = t.spelled })
+        | inr other ↦
+            let b = bind_some (declaration_at bytes) (λ y. Some (plain y.0, y.1)) (x, rest) other in
+            let t = declaration_law.takes bytes b.0.0 b.0.1 b.1 in
+            taken_at (plain b.0.0) x b.0.1 rest b.2 (record { front = t.front; parts = t.parts; spelled = t.spelled })
+      ];
+  again = entry_again;
+}
+
+-- ---- types at the top are component types
+
+-- how many entries there are is how many declarations they are
+entry_count : (es : List Entry) → declaration_count (declarations_of es) ≡ length es
+entry_count [] = refl
+entry_count (plain d ∷ es) = ap suc (entry_count es)
+entry_count (holds ds ∷ es) = ap suc (entry_count es)
+
+entries_behind_into : (es : List Entry) (text : List ℕ) → Tagged 0x41 (Vector IsEntry es) text → ComponentTypeOf (declarations_of es) (AreDeclarations (declarations_of es)) text
+entries_behind_into es text s =
+    let v = s.2 in (s.0, s.1, (v.0, v.1, v.2, subst (λ (n : ℕ). IsU32 n v.0) (sym (entry_count es)) v.3, entries_into es v.1 v.4))
+
+entries_behind_out : (es : List Entry) (text : List ℕ) → ComponentTypeOf (declarations_of es) (AreDeclarations (declarations_of es)) text → Tagged 0x41 (Vector IsEntry es) text
+entries_behind_out es text s =
+    let v = s.2 in (s.0, s.1, (v.0, v.1, v.2, subst (λ (n : ℕ). IsU32 n v.0) (entry_count es) v.3, entries_out es v.1 v.4))
+
+pub part_into : (p : PartType) (text : List ℕ) → IsPartType p text → ComponentTypeOf (raw_part p) (AreDeclarations (raw_part p)) text
+part_into (shows es) text s = entries_behind_into es text s
+part_into (wraps es name) text s =
+    let w = s.2 in
+    let j = w.4 in
+    (s.0, s.1, (w.0, w.1, w.2, w.3, (j.0, j.1, j.2, (j.3.0, j.3.1, entries_behind_into es j.3.0 j.3.2), (j.1, [], sym (append-nil j.1), j.4, refl))))
+
+pub part_out : (p : PartType) (text : List ℕ) → ComponentTypeOf (raw_part p) (AreDeclarations (raw_part p)) text → IsPartType p text
+part_out (shows es) text s = entries_behind_out es text s
+part_out (wraps es name) text s =
+    let w = s.2 in
+    let j = w.4 in
+    let last : j.1 ≡ j.4.0 = j.4.2 ∙ ap (λ (t : List ℕ). j.4.0 ++ t) j.4.4 ∙ append-nil j.4.0 in
+    (s.0, s.1, (w.0, w.1, w.2, w.3, (j.0, j.1, j.2, (j.3.0, j.3.1, entries_behind_out es j.3.0 j.3.2), subst (λ (t : List ℕ). IsDeclaration (Declaration.exported name (refs.Component 0)) t) (sym last) j.4.3)))
+
+-- ---- types at the top are read
+
+exported_world : (d : Declaration) (name : ExternName) → world_export d ≡ Some name → d ≡ Declaration.exported name (refs.Component 0)
+exported_world (Declaration.exported name (refs.Component zero)) other e = let same : name ≡ other = cc in ap (λ (n : ExternName). Declaration.exported n (refs.Component 0)) same
+exported_world (Declaration.exported name (refs.Component (suc n))) other e = absurd cc
+exported_world (Declaration.exported name (refs.Func n)) other e = absurd cc
+exported_world (Declaration.exported name (refs.TypeEq n)) other e = absurd cc
+exported_world (Declaration.exported name refs.SubResource) other e = absurd cc
+exported_world (Declaration.exported name (refs.Instance n)) other e = absurd cc
+exported_world (Declaration.defined d) other e = absurd cc
+exported_world (Declaration.function f) other e = absurd cc
+exported_world (Declaration.alias_of a) other e = absurd cc
+exported_world (Declaration.imported name described) other e = absurd cc
+
+world_export_law : IsReadBy (λ name. IsDeclaration (Declaration.exported name (refs.Component 0))) world_export_at
+unfolding world_export_at
+world_export_law = record {
+  takes = λ bytes name rest e.
+      let b = bind_some (declaration_at bytes) (λ d. world_export d.0 >>= λ n. Some (n, d.1)) (name, rest) e in
+      let n = bind_some (world_export b.0.0) (λ n. Some (n, b.0.1)) (name, rest) b.2 in
+      let t = declaration_law.takes bytes b.0.0 b.0.1 b.1 in
+      taken_at n.0 name b.0.1 rest n.2 (record { front = t.front; parts = t.parts; spelled = subst (λ (d : Declaration). IsDeclaration d t.front) (exported_world b.0.0 n.0 n.1) t.spelled });
+  again = λ name front rest s. rw (declaration_law.again (Declaration.exported name (refs.Component 0)) front rest s) refl;
+}
+
+world_law : IsReadBy (λ w. Joined (Tagged 1 (Tagged 0x41 (Vector IsEntry w.0))) (IsDeclaration (Declaration.exported w.1 (refs.Component 0)))) (pair_at (tag_at 1 (tag_at 0x41 (vector_at entry_at))) world_export_at)
+world_law = pair_law (tag_law (tag_law (vector_law entry_law) 0x41) 1) world_export_law
+
+wrapper_law : IsReadBy IsWrapper wrapper_at
+unfolding wrapper_at
+wrapper_law = record {
+  takes = λ bytes w rest e.
+      let b = bind_some (u32_at bytes) (λ n. cond (eqb n.0 2) (pair_at (tag_at 1 (tag_at 0x41 (vector_at entry_at))) world_export_at n.1) None) (w, rest) e in
+      let c = when_some (eqb b.0.0 2) (pair_at (tag_at 1 (tag_at 0x41 (vector_at entry_at))) world_export_at b.0.1) (w, rest) b.2 in
+      let t = u32_law.takes bytes b.0.0 b.0.1 b.1 in
+      let u = world_law.takes b.0.1 w rest c.1 in
+      record {
+        front = t.front ++ u.front;
+        parts = t.parts ∙ ap (λ (text : List ℕ). t.front ++ text) u.parts ∙ sym (append_assoc t.front u.front rest);
+        spelled = (t.front, u.front, refl, subst (λ (n : ℕ). IsU32 n t.front) (eqb-true _ _ c.0) t.spelled, u.spelled);
+      };
+  again = λ w front rest s. rw (s.2, append_assoc s.0 s.1 rest, u32_law.again 2 s.0 (s.1 ++ rest) s.3) (world_law.again w s.1 rest s.4);
+}
+
+-- what spells entries is no wrapper, whose first declaration is a component type
+no_wrapper : (es : List Entry) (front rest : List ℕ) → Vector IsEntry es front → wrapper_at (front ++ rest) ≡ None
+unfolding wrapper_at pair_at
+no_wrapper [] front rest s = rw (s.2, append_assoc s.0 s.1 rest, u32_law.again 0 s.0 (s.1 ++ rest) s.3) refl
+no_wrapper (x ∷ []) front rest s = rw (s.2, append_assoc s.0 s.1 rest, u32_law.again 1 s.0 (s.1 ++ rest) s.3) refl
+no_wrapper (x ∷ y ∷ z ∷ es) front rest s =
+    rw (s.2, append_assoc s.0 s.1 rest, u32_law.again (suc (suc (suc (length es)))) s.0 (s.1 ++ rest) s.3, ne_eqb (suc (suc (suc (length es)))) 2 (λ e. omega (arith, e))) refl
+no_wrapper (x ∷ y ∷ []) front rest s = rw (s.2, append_assoc s.0 s.1 rest, u32_law.again 2 s.0 (s.1 ++ rest) s.3) (no_pair s.4)
+  where
+    no_pair : (t : Sequence IsEntry (x ∷ y ∷ []) s.1) → pair_at (tag_at 1 (tag_at 0x41 (vector_at entry_at))) world_export_at (s.1 ++ rest) ≡ None
+    no_pair t = rw (t.2, append_assoc t.0 t.1 rest, no_component (vector_at entry_at) x t.0 (t.1 ++ rest) t.3) refl
+
+part_again : (p : PartType) (front rest : List ℕ) → IsPartType p front → part_type_at (front ++ rest) ≡ Some (p, rest)
+unfolding part_type_at part_behind_at tag_at tagged_at choose as_at
+part_again (wraps es name) front rest s = rw (s.1, wrapper_law.again (es, name) s.0 rest s.2) refl
+part_again (shows es) front rest s = rw (s.1, no_wrapper es s.0 rest s.2, (vector_law entry_law).again es s.0 rest s.2) refl
+
+pub part_type_law : IsReadBy IsPartType part_type_at
+unfolding part_type_at tag_at part_behind_at as_at
+part_type_law = record { takes = tagged_takes IsPartType ((0x41, part_behind_at) ∷ []) (behind, tt); again = part_again }
+  where
+    behind : (bytes : List ℕ) (p : PartType) (rest : List ℕ) → part_behind_at bytes ≡ Some (p, rest) → Taken (λ q text. IsPartType q (0x41 ∷ text)) bytes p rest
+    behind bytes p rest e =
+        elim (or_some (as_at (λ w. wraps w.0 w.1) wrapper_at bytes) (as_at shows (vector_at entry_at) bytes) (p, rest) e) [
+          | inl wrapper ↦
+              let b = bind_some (wrapper_at bytes) (λ w. Some (wraps w.0.0 w.0.1, w.1)) (p, rest) wrapper in
+              let t = wrapper_law.takes bytes b.0.0 b.0.1 b.1 in
+              taken_at (wraps b.0.0.0 b.0.0.1) p b.0.1 rest b.2 (record { front = t.front; parts = t.parts; spelled = (t.front, refl, t.spelled) })
+          | inr entries ↦
+              let b = bind_some (vector_at entry_at bytes) (λ es. Some (shows es.0, es.1)) (p, rest) entries in
+              let t = (vector_law entry_law).takes bytes b.0.0 b.0.1 b.1 in
+              taken_at (shows b.0.0) p b.0.1 rest b.2 (record { front = t.front; parts = t.parts; spelled = (t.front, refl, t.spelled) })
+        ]

@@ -1,0 +1,208 @@
+-- Views that agree with the first of their path agree with each other, since to show the same is to show what is equal.
+use Rattle.std.proofs.Common.{◌≡◌, refl, sym, ap, subst, ◌∙◌, zero, suc, arith, Bool, true, false, not, ◌&&◌, ◌||◌, cond, List, [], ◌∷◌, ◌++◌, map, Option, Some, None, inl, inr}
+use Rattle.std.specs.List.{Contains, find, list_all, list_any}
+use Rattle.std.specs.Option.{option_map_or, option_or}
+use Rattle.std.proofs.lemmas.List.Folds.{find-append}
+use Rattle.std.proofs.lemmas.List.Elements.{Contains-append_left, Contains-append_right, Contains-append_cases}
+use Rattle.std.proofs.lemmas.Bool.{and_from}
+use Rattle.wit_model.specs.Text.{Text, text_eq}
+use Rattle.wit_model.specs.Tree.{Place}
+use Rattle.wit_model.proofs.Lists.{first_true, second_true}
+use Rattle.wit_model.proofs.VersionLaws.{same_text, text_same}
+use Rattle.wit_model.proofs.Distinct.{either_way}
+use Rattle.comp_meaning.specs.Rules.{distinct, is_interface}
+use Rattle.comp_meaning.specs.Reads.{Sight, same_functions, agree, all_agree, are_interfaces}
+use Rattle.comp_meaning.specs.Agreement.{first_of, first_whole, same_types, agrees_with_first, agree_with_first, FirstAgrees}
+use Rattle.comp_meaning.proofs.SameLaws.{shown_types_decide}
+use Rattle.comp_meaning.proofs.FunctionLists.{functions_make_one_map}
+
+-- ---- one view and another
+
+-- no function stands twice
+abbrev IsOnce : Sight → Type 0
+IsOnce s = distinct (map (λ f. f.0) s.view.functions) ≡ true
+
+type_join : (f a b : Sight) → same_types f a ≡ true → same_types f b ≡ true → same_types a b ≡ true
+type_join f a b p q = (shown_types_decide a.view.types b.view.types).1 (sym ((shown_types_decide f.view.types a.view.types).0 p) ∙ (shown_types_decide f.view.types b.view.types).0 q)
+
+type_itself : (a : Sight) → same_types a a ≡ true
+type_itself a = (shown_types_decide a.view.types a.view.types).1 refl
+
+abbrev same_in_functions : Sight → Sight → Bool
+same_in_functions a b = same_functions a.view.functions b.view.functions
+
+function_join : (f a b : Sight) → IsOnce f → IsOnce a → IsOnce b → same_in_functions f a ≡ true → same_in_functions f b ≡ true → same_in_functions a b ≡ true
+function_join f a b one two three p q =
+    (functions_make_one_map a.view.functions b.view.functions two three).1
+    (sym ((functions_make_one_map f.view.functions a.view.functions one two).0 p) ∙ (functions_make_one_map f.view.functions b.view.functions one three).0 q)
+
+function_itself : (a : Sight) → IsOnce a → same_in_functions a a ≡ true
+function_itself a one = (functions_make_one_map a.view.functions a.view.functions one one).1 refl
+
+-- what agreement says, and what says it
+agree_types : (a b : Sight) → agree a b ≡ true → a.path ≡ b.path → same_types a b ≡ true
+agree_types a b h e =
+    first_true (same_types a b) (not (a.whole && b.whole) || same_in_functions a b)
+    (sym (ap (λ c. not c || (same_types a b && (not (a.whole && b.whole) || same_in_functions a b))) (same_text a.path b.path e)) ∙ h)
+
+agree_functions : (a b : Sight) → agree a b ≡ true → a.path ≡ b.path → a.whole ≡ true → b.whole ≡ true → same_in_functions a b ≡ true
+agree_functions a b h e p q =
+    let rest = second_true (same_types a b) (not (a.whole && b.whole) || same_in_functions a b)
+    (sym (ap (λ c. not c || (same_types a b && (not (a.whole && b.whole) || same_in_functions a b))) (same_text a.path b.path e)) ∙ h) in
+    sym (ap (λ c. not c || same_in_functions a b) (and_from a.whole b.whole p q)) ∙ rest
+
+agree_from : (a b : Sight) → (a.path ≡ b.path → same_types a b ≡ true) → (a.path ≡ b.path → a.whole ≡ true → b.whole ≡ true → same_in_functions a b ≡ true) → agree a b ≡ true
+agree_from a b types functions = by (text_eq a.path b.path) refl
+  where
+    whole : a.path ≡ b.path → (c d : Bool) → a.whole ≡ c → b.whole ≡ d → (not (c && d) || same_in_functions a b) ≡ true
+    whole e false d p q = refl
+    whole e true false p q = refl
+    whole e true true p q = functions e p q
+
+    by : (c : Bool) → text_eq a.path b.path ≡ c → (not c || (same_types a b && (not (a.whole && b.whole) || same_in_functions a b))) ≡ true
+    by false e = refl
+    by true e = let path = text_same a.path b.path e in and_from (same_types a b) (not (a.whole && b.whole) || same_in_functions a b) (types path) (whole path a.whole b.whole refl refl)
+
+-- ---- look-ups
+
+found_contains : {X : Type 0} (p : X → Bool) (xs : List X) (x : X) → find p xs ≡ Some x → (p x ≡ true) × Contains xs x
+found_contains p [] x e = absurd cc
+found_contains p (y ∷ ys) x e = by (p y) refl (found_contains p ys x) e
+  where
+    by : (b : Bool) → p y ≡ b → (find p ys ≡ Some x → (p x ≡ true) × Contains ys x) → cond b (Some y) (find p ys) ≡ Some x → (p x ≡ true) × Contains (y ∷ ys) x
+    by true t more h = let same : y ≡ x = cc in (sym (ap p same) ∙ t, (0, omega arith, same))
+    by false t more h = let rest = more h in (rest.0, (suc rest.1.0, (let low = rest.1.1 in omega (arith, low)), rest.1.2))
+
+last_of : {X : Type 0} (x y : X) → Contains (x ∷ []) y → x ≡ y
+last_of x y (zero, low, h) = h
+last_of x y (suc i, low, h) = absurd (omega (arith, low))
+
+-- ---- agreement with each is agreement with the first
+
+into : (rest earlier : List Sight) → ((x : Sight) → Contains earlier x → list_all (agree x) rest ≡ true) → all_agree rest ≡ true → agree_with_first earlier rest ≡ true
+into [] earlier before all = refl
+into (s ∷ rest) earlier before all =
+    and_from (agrees_with_first earlier s) (agree_with_first (earlier ++ s ∷ []) rest)
+    (and_from (option_map_or (λ f. same_types f s) (first_of s.path earlier) true) (not s.whole || option_map_or (λ f. same_in_functions f s) (first_whole s.path earlier) true)
+    (types (first_of s.path earlier) refl) (whole s.whole refl))
+    (into rest (earlier ++ s ∷ []) (λ x c. elim (Contains-append_cases earlier (s ∷ []) x c) [
+      | inl there ↦ second_true (agree x s) (list_all (agree x) rest) (before x there)
+      | inr last ↦ subst (λ (y : Sight). list_all (agree y) rest ≡ true) (last_of s x last) (first_true (list_all (agree s) rest) (all_agree rest) all)
+    ]) (second_true (list_all (agree s) rest) (all_agree rest) all))
+  where
+    agrees : (f : Sight) → Contains earlier f → agree f s ≡ true
+    agrees f c = first_true (agree f s) (list_all (agree f) rest) (before f c)
+
+    types : (o : Option Sight) → first_of s.path earlier ≡ o → option_map_or (λ f. same_types f s) o true ≡ true
+    types None e = refl
+    types (Some f) e = let found = found_contains (λ x. text_eq s.path x.path) earlier f e in agree_types f s (agrees f found.1) (sym (text_same s.path f.path found.0))
+
+    functions : s.whole ≡ true → (o : Option Sight) → first_whole s.path earlier ≡ o → option_map_or (λ f. same_in_functions f s) o true ≡ true
+    functions w None e = refl
+    functions w (Some f) e =
+        let found = found_contains (λ x. text_eq s.path x.path && x.whole) earlier f e in
+        let path = text_same s.path f.path (first_true (text_eq s.path f.path) f.whole found.0) in
+        agree_functions f s (agrees f found.1) (sym path) (second_true (text_eq s.path f.path) f.whole found.0) w
+
+    whole : (b : Bool) → s.whole ≡ b → (not b || option_map_or (λ f. same_in_functions f s) (first_whole s.path earlier) true) ≡ true
+    whole false e = refl
+    whole true e = functions e (first_whole s.path earlier) refl
+
+-- what is known of the views so far: each is like the first of its path, and no function stands twice
+record Known (earlier : List Sight) : Type 0 where
+  types : (x : Sight) → Contains earlier x → (f : Sight) × (first_of x.path earlier ≡ Some f) × (same_types f x ≡ true)
+  functions : (x : Sight) → Contains earlier x → x.whole ≡ true → (f : Sight) × (first_whole x.path earlier ≡ Some f) × (same_in_functions f x ≡ true)
+  once : (x : Sight) → Contains earlier x → IsOnce x
+
+module _ (earlier : List Sight) (s : Sight) (known : Known earlier) (one : IsOnce s) (agrees : agrees_with_first earlier s ≡ true) where
+  with_types : (f : Sight) → first_of s.path earlier ≡ Some f → same_types f s ≡ true
+  with_types f e =
+      sym (ap (λ o. option_map_or (λ f. same_types f s) o true) e)
+      ∙ first_true (option_map_or (λ f. same_types f s) (first_of s.path earlier) true) (not s.whole || option_map_or (λ f. same_in_functions f s) (first_whole s.path earlier) true) agrees
+
+  with_functions : s.whole ≡ true → (f : Sight) → first_whole s.path earlier ≡ Some f → same_in_functions f s ≡ true
+  with_functions w f e =
+      sym (ap (λ b. not b || option_map_or (λ f. same_in_functions f s) (first_whole s.path earlier) true) w ∙ ap (λ o. option_map_or (λ f. same_in_functions f s) o true) e)
+      ∙ second_true (option_map_or (λ f. same_types f s) (first_of s.path earlier) true) (not s.whole || option_map_or (λ f. same_in_functions f s) (first_whole s.path earlier) true) agrees
+
+  -- it agrees with each of them
+  with_each : (x : Sight) → Contains earlier x → agree x s ≡ true
+  with_each x c = agree_from x s
+      (λ path.
+      let first = known.types x c in
+      type_join first.0 x s first.2 (with_types first.0 (ap (λ p. first_of p earlier) (sym path) ∙ first.1)))
+      (λ path mine yours.
+      let first = known.functions x c mine in
+      let there = found_contains (λ y. text_eq x.path y.path && y.whole) earlier first.0 first.1 in
+      function_join first.0 x s (known.once first.0 there.1) (known.once x c) one first.2 (with_functions yours first.0 (ap (λ p. first_whole p earlier) (sym path) ∙ first.1)))
+
+  -- and then the same is known of one more
+  known_more : Known (earlier ++ s ∷ [])
+  known_more = record {
+    types = λ x c. elim (Contains-append_cases earlier (s ∷ []) x c) [
+      | inl there ↦ (let first = known.types x there in (first.0, find-append (λ y. text_eq x.path y.path) earlier (s ∷ []) ∙ ap (λ o. option_or o (find (λ y. text_eq x.path y.path) (s ∷ []))) first.1, first.2))
+      | inr last ↦ subst (λ (y : Sight). (f : Sight) × (first_of y.path (earlier ++ s ∷ []) ≡ Some f) × (same_types f y ≡ true)) (last_of s x last) (own_types (first_of s.path earlier) refl)
+    ];
+    functions = λ x c w. elim (Contains-append_cases earlier (s ∷ []) x c) [
+      | inl there ↦ (let first = known.functions x there w in (first.0, find-append (λ y. text_eq x.path y.path && y.whole) earlier (s ∷ []) ∙ ap (λ o. option_or o (find (λ y. text_eq x.path y.path && y.whole) (s ∷ []))) first.1, first.2))
+      | inr last ↦ subst (λ (y : Sight). (f : Sight) × (first_whole y.path (earlier ++ s ∷ []) ≡ Some f) × (same_in_functions f y ≡ true)) (last_of s x last)
+          (own_functions (ap (λ y. y.whole) (last_of s x last) ∙ w) (first_whole s.path earlier) refl)
+    ];
+    once = λ x c. elim (Contains-append_cases earlier (s ∷ []) x c) [
+      | inl there ↦ known.once x there
+      | inr last ↦ subst IsOnce (last_of s x last) one
+    ];
+  }
+    where
+      own_types : (o : Option Sight) → first_of s.path earlier ≡ o → (f : Sight) × (first_of s.path (earlier ++ s ∷ []) ≡ Some f) × (same_types f s ≡ true)
+      own_types (Some f) e = (f, find-append (λ y. text_eq s.path y.path) earlier (s ∷ []) ∙ ap (λ o. option_or o (find (λ y. text_eq s.path y.path) (s ∷ []))) e, with_types f e)
+      own_types None e = (
+        s,
+        find-append (λ y. text_eq s.path y.path) earlier (s ∷ []) ∙ (ap (λ o. option_or o (find (λ y. text_eq s.path y.path) (s ∷ []))) e ∙ ap (λ b. cond b (Some s) None) (same_text s.path s.path refl)),
+        type_itself s,
+      )
+
+      own_functions : s.whole ≡ true → (o : Option Sight) → first_whole s.path earlier ≡ o → (f : Sight) × (first_whole s.path (earlier ++ s ∷ []) ≡ Some f) × (same_in_functions f s ≡ true)
+      own_functions w (Some f) e = (f, find-append (λ y. text_eq s.path y.path && y.whole) earlier (s ∷ []) ∙ ap (λ o. option_or o (find (λ y. text_eq s.path y.path && y.whole) (s ∷ []))) e, with_functions w f e)
+      own_functions w None e = (
+        s,
+        find-append (λ y. text_eq s.path y.path && y.whole) earlier (s ∷ [])
+            ∙ (ap (λ o. option_or o (find (λ y. text_eq s.path y.path && y.whole) (s ∷ []))) e ∙ ap (λ b. cond b (Some s) None) (and_from (text_eq s.path s.path) s.whole (same_text s.path s.path refl) w)),
+        function_itself s one,
+      )
+
+back : (rest earlier : List Sight) → Known earlier → ((x : Sight) → Contains rest x → IsOnce x) → agree_with_first earlier rest ≡ true → ((x : Sight) → Contains earlier x → list_all (agree x) rest ≡ true) × (all_agree rest ≡ true)
+back [] earlier known once all = (λ x c. refl, refl)
+back (s ∷ rest) earlier known once all =
+    let agrees = first_true (agrees_with_first earlier s) (agree_with_first (earlier ++ s ∷ []) rest) all in
+    let others = second_true (agrees_with_first earlier s) (agree_with_first (earlier ++ s ∷ []) rest) all in
+    let one = once s (0, omega arith, refl) in
+    let more = back rest (earlier ++ s ∷ []) (known_more earlier s known one agrees) (λ x c. once x (suc c.0, (let low = c.1 in omega (arith, low)), c.2)) others in (
+      λ x c. and_from (agree x s) (list_all (agree x) rest) (with_each earlier s known one agrees x c) (more.0 x (Contains-append_left earlier (s ∷ []) x c)),
+      and_from (list_all (agree s) rest) (all_agree rest) (more.0 s (Contains-append_right earlier (s ∷ []) s (0, omega arith, refl))) more.1,
+    )
+
+-- ---- views of interfaces
+
+distinct_behind : (xs ys : List Text) → distinct (xs ++ ys) ≡ true → distinct ys ≡ true
+distinct_behind [] ys e = e
+distinct_behind (x ∷ xs) ys e = distinct_behind xs ys (second_true (not (list_any (text_eq x) (xs ++ ys))) (distinct (xs ++ ys)) e)
+
+none_contained : (x : Sight) → Contains [] x → ⊥
+none_contained x (i, low, h) = omega (arith, low)
+
+interfaces_once : (seen : List Sight) → are_interfaces seen ≡ true → (x : Sight) → Contains seen x → IsOnce x
+interfaces_once [] e x c = absurd (none_contained x c)
+interfaces_once (s ∷ rest) e x (suc i, low, h) = interfaces_once rest (second_true (is_interface (Place.of_interface s.path) s.view) (are_interfaces rest) e) x (i, omega (arith, low), h)
+interfaces_once (s ∷ rest) e x (zero, low, h) = subst IsOnce h (of_interface (first_true (is_interface (Place.of_interface s.path) s.view) (are_interfaces rest) e))
+  where
+    of_interface : is_interface (Place.of_interface s.path) s.view ≡ true → IsOnce s
+    of_interface i = distinct_behind (map (λ t. t.name) s.view.types) (map (λ f. f.0) s.view.functions) (second_true _ (distinct (map (λ t. t.name) s.view.types ++ map (λ f. f.0) s.view.functions)) i)
+
+pub first_agrees : FirstAgrees
+first_agrees seen interfaces = either_way (all_agree seen) (agree_with_first [] seen)
+    (λ all. into seen [] (λ x c. absurd (none_contained x c)) all)
+    (λ all. (back seen [] nothing_known (interfaces_once seen interfaces) all).1)
+  where
+    nothing_known : Known []
+    nothing_known = record { types = λ x c. absurd (none_contained x c); functions = λ x c w. absurd (none_contained x c); once = λ x c. absurd (none_contained x c) }

@@ -1,0 +1,288 @@
+-- What has a meaning nests no deeper than the levels do, and means the same by levels.
+use Rattle.std.proofs.Common.{◌≡◌, ◌⊎◌, refl, sym, ap, subst, ◌∙◌, ℕ, zero, suc, ◌<◌, ◌+◌, arith, Bool, true, false, not, ◌&&◌, ◌||◌, eqb, List, [], ◌∷◌, ◌++◌, length, map, Option, Some, None, option_map, inl, inr, length-append}
+use Rattle.std.specs.Prelude.{slice_get, is_none}
+use Rattle.std.specs.List.{list_any}
+use Rattle.std.proofs.lemmas.Bool.{eqb-true, and_parts, not-true}
+use Rattle.std.proofs.lemmas.List.{map-append}
+use Rattle.std.proofs.lemmas.Option.{slice_get_within}
+use Rattle.wit_model.specs.Text.{Text}
+use Rattle.wit_model.specs.Names.{PackageIdentity, is_label}
+use Rattle.wit_model.proofs.Checks.{get_before, get_last}
+use Rattle.comp_bytes.specs.declared.forms.ComponentTypeRef.TheVariants as refs
+use Rattle.comp_bytes.specs.Raw.{ExternName, Declaration, Declarations, TopType, TopExport, Section}
+use Rattle.comp_bytes.specs.Reading.{◌>>=◌, component_of}
+use Rattle.comp_bytes.specs.Levels.{Entry, plain, holds, PartType, wraps, shows, Piece, declarations_of, wrapper_of, raw_part, raw_piece, levels_of}
+use Rattle.comp_bytes.specs.Levels as levels
+use Rattle.comp_bytes.proofs.Readers.{bind_some, when_some}
+use Rattle.comp_bytes.proofs.PartLaws.{some_is}
+use Rattle.comp_bytes.proofs.PieceLaws.{levels_are_sections}
+use Rattle.comp_meaning.specs.Follow.{each, when, provided, complete_path, Scope, component_scope}
+use Rattle.comp_meaning.specs.Rules.{distinct, is_world}
+use Rattle.comp_meaning.specs.Reads.{steps, is_bare, top_type, top_section, exported_types, wrapped, labelled_path, exported_view, imported_view, world_part, interface_part, part_of, Part, Member, member, package_of_members, world_of_members, package_meaning, world_package}
+use Rattle.comp_meaning.specs.Reads as reads
+use Rattle.comp_meaning.specs.ByLevels.{member_by_levels, exported_parts, package_of_pieces, world_of_pieces, PackageByLevels, WorldByLevels}
+use Rattle.comp_meaning.proofs.Marks.{all_taken, Counted, one_mark_more, one_number_more, exact, taken_at, true_mark, all_marked}
+use Rattle.comp_meaning.proofs.EntryLaws.{steps_keep, scope_is, followed_only}
+use Rattle.comp_meaning.proofs.TopLaws.{labelled, raw_found, parts_along}
+
+-- the declarations are those of a type at the top that is followed
+abbrev IsLevelled : Declarations → Type 0
+IsLevelled ds = (p : PartType) × (ds ≡ raw_part p)
+
+-- ---- members
+
+-- a wrapper, or nothing that wraps
+wrapped_or : (ds : Declarations) → ((inner : Declarations) × (name : ExternName) × (ds ≡ Declarations.component inner (Declarations.declares (Declaration.exported name (refs.Component 0)) Declarations.no_more))) ⊎ (wrapped ds ≡ None)
+wrapped_or Declarations.no_more = inr refl
+wrapped_or (Declarations.declares d rest) = inr refl
+wrapped_or (Declarations.instance inner rest) = inr refl
+wrapped_or (Declarations.component inner Declarations.no_more) = inr refl
+wrapped_or (Declarations.component inner (Declarations.component other rest)) = inr refl
+wrapped_or (Declarations.component inner (Declarations.instance other rest)) = inr refl
+wrapped_or (Declarations.component inner (Declarations.declares (Declaration.defined d) rest)) = inr refl
+wrapped_or (Declarations.component inner (Declarations.declares (Declaration.function f) rest)) = inr refl
+wrapped_or (Declarations.component inner (Declarations.declares (Declaration.alias_of a) rest)) = inr refl
+wrapped_or (Declarations.component inner (Declarations.declares (Declaration.imported name described) rest)) = inr refl
+wrapped_or (Declarations.component inner (Declarations.declares (Declaration.exported name (refs.Func n)) rest)) = inr refl
+wrapped_or (Declarations.component inner (Declarations.declares (Declaration.exported name (refs.TypeEq n)) rest)) = inr refl
+wrapped_or (Declarations.component inner (Declarations.declares (Declaration.exported name refs.SubResource) rest)) = inr refl
+wrapped_or (Declarations.component inner (Declarations.declares (Declaration.exported name (refs.Instance n)) rest)) = inr refl
+wrapped_or (Declarations.component inner (Declarations.declares (Declaration.exported name (refs.Component (suc n))) rest)) = inr refl
+wrapped_or (Declarations.component inner (Declarations.declares (Declaration.exported name (refs.Component zero)) (Declarations.declares d rest))) = inr refl
+wrapped_or (Declarations.component inner (Declarations.declares (Declaration.exported name (refs.Component zero)) (Declarations.component other rest))) = inr refl
+wrapped_or (Declarations.component inner (Declarations.declares (Declaration.exported name (refs.Component zero)) (Declarations.instance other rest))) = inr refl
+wrapped_or (Declarations.component inner (Declarations.declares (Declaration.exported name (refs.Component zero)) Declarations.no_more)) = inl (inner, name, refl)
+
+-- the world of a wrapper that is read has been followed
+world_scope : (label : Text) (inner : Declarations) (name : ExternName) (p : PackageIdentity × Part) → world_part label (inner, name) ≡ Some p → (scope : Scope) × (component_scope inner ≡ Some scope)
+world_scope label inner name p e =
+    let path = bind_some (when (is_none name.implements && is_none name.external_id) (complete_path name.text name.version_suffix)) (λ path. labelled_path label path >>= λ package_. component_scope inner >>= λ scope. provided (is_world scope) (package_, Part.world scope)) p e in
+    let package_ = bind_some (labelled_path label path.0) (λ package_. component_scope inner >>= λ scope. provided (is_world scope) (package_, Part.world scope)) p path.2 in
+    let scope = bind_some (component_scope inner) (λ scope. provided (is_world scope) (package_.0, Part.world scope)) p package_.2 in
+    (scope.0, scope.1)
+
+interface_scope : (label : Text) (ds : Declarations) (p : PackageIdentity × Part) → interface_part label ds ≡ Some p → (scope : Scope) × (component_scope ds ≡ Some scope)
+interface_scope label ds p e = by (component_scope ds) refl
+  where
+    by : (o : Option Scope) → component_scope ds ≡ o → (scope : Scope) × (component_scope ds ≡ Some scope)
+    by (Some scope) found = (scope, found)
+    by None none = absurd (let wrong : interface_part label ds ≡ None = rw none refl in cc)
+
+member_levels : (x : Text × Declarations) (m : Member) → member x ≡ Some m → IsLevelled x.1
+member_levels x m e =
+    let part = bind_some (part_of x.0 x.1) (λ p. Some (record { label = x.0; package_ = p.0; part = p.1 })) m e in
+    elim (wrapped_or x.1) [
+      | inl w ↦
+          let world : world_part x.0 (w.0, w.1) ≡ Some part.0 = sym (ap (part_of x.0) w.2) ∙ part.1 in
+          let scope = world_scope x.0 w.0 w.1 part.0 world in
+          let es = followed_only w.0 scope.0 scope.1 in
+          (wraps es.0 w.1, w.2 ∙ ap (λ inner. Declarations.component inner (Declarations.declares (Declaration.exported w.1 (refs.Component 0)) Declarations.no_more)) es.1)
+      | inr other ↦
+          let plain_part : part_of x.0 x.1 ≡ interface_part x.0 x.1 = rw other refl in
+          let scope = interface_scope x.0 x.1 part.0 (sym plain_part ∙ part.1) in
+          let es = followed_only x.1 scope.0 scope.1 in
+          (shows es.0, es.1)
+    ]
+
+-- ---- every type at the top is exported, and so followed
+
+-- an entry behind others, or one of them
+appended_at : {A : Type 0} (xs : List A) (x y : A) (i : ℕ) → slice_get (xs ++ x ∷ []) i ≡ Some y → (slice_get xs i ≡ Some y) ⊎ (x ≡ y)
+appended_at [] x y zero e = inr (some_is x y e)
+appended_at [] x y (suc i) e = absurd cc
+appended_at (z ∷ zs) x y zero e = inl e
+appended_at (z ∷ zs) x y (suc i) e = appended_at zs x y i e
+
+-- what has been exported are types at the top, none twice, and each index stands for one of these
+record IsKept (top : reads.Top) : Type 0 where
+  counted : Counted (λ x. x.1) top.exported (map (λ _. true) top.types)
+  within : (i n : ℕ) → slice_get top.slots i ≡ Some n → n < length top.types
+
+kept_type : (top next : reads.Top) (t : TopType) → top_type top t ≡ Some next → IsKept top → IsKept next
+kept_type top next (TopType.defined d) e k = absurd cc
+kept_type top next (TopType.function f) e k = absurd cc
+kept_type top next (TopType.instance ds) e k = absurd cc
+kept_type top next (TopType.component ds) e k =
+    subst IsKept (some_is (record { types = top.types ++ ds ∷ []; slots = top.slots ++ length top.types ∷ []; exported = top.exported }) next e) (record {
+      counted = subst (λ fs. Counted (λ x. x.1) top.exported fs) (sym (map-append (λ _. true) top.types (ds ∷ []))) (one_mark_more (λ x. x.1) top.exported (map (λ _. true) top.types) true k.counted);
+      within = λ i n found.
+          let more = length-append top.types (ds ∷ []) in
+          elim (appended_at top.slots (length top.types) n i found) [
+            | inl before ↦ let low = k.within i n before in omega (arith, low, more)
+            | inr last ↦ omega (arith, last, more)
+          ];
+    })
+
+kept_export : (top next : reads.Top) (x : TopExport) → reads.top_export top x ≡ Some next → IsKept top → IsKept next
+kept_export top next x e k =
+    let b = bind_some (slice_get top.slots x.type_index) (λ n.
+    provided (is_bare x.exported_as && (is_label x.exported_as.text && not (list_any (λ y. eqb y.1 n) top.exported)))
+    (record { types = top.types; slots = top.slots ++ n ∷ []; exported = top.exported ++ (x.exported_as.text, n) ∷ [] })) next e in
+    let after : reads.Top = record { types = top.types; slots = top.slots ++ b.0 ∷ []; exported = top.exported ++ (x.exported_as.text, b.0) ∷ [] } in
+    let w = when_some (is_bare x.exported_as && (is_label x.exported_as.text && not (list_any (λ y. eqb y.1 b.0) top.exported))) (Some after) next b.2 in
+    let named = and_parts (is_bare x.exported_as) (is_label x.exported_as.text && not (list_any (λ y. eqb y.1 b.0) top.exported)) w.0 in
+    let new = and_parts (is_label x.exported_as.text) (not (list_any (λ y. eqb y.1 b.0) top.exported)) named.1 in
+    let low = k.within x.type_index b.0 b.1 in
+    subst IsKept (some_is after next w.1) (record {
+      counted = one_number_more (λ y. y.1) top.exported (x.exported_as.text, b.0) (map (λ _. true) top.types) k.counted (not-true (list_any (λ y. eqb y.1 b.0) top.exported) new.1) (true_mark top.types b.0 low);
+      within = λ i n found. elim (appended_at top.slots b.0 n i found) [
+        | inl before ↦ k.within i n before
+        | inr last ↦ omega (arith, last, low)
+      ];
+    })
+
+kept_section : (top next : reads.Top) (s : Section) → top_section top s ≡ Some next → IsKept top → IsKept next
+kept_section top next (Section.custom name contents) e k = subst IsKept (some_is top next e) k
+kept_section top next (Section.types ts) e k = steps_keep IsKept top_type kept_type ts top next e k
+kept_section top next (Section.exports es) e k = steps_keep IsKept reads.top_export kept_export es top next e k
+
+abbrev empty_top : reads.Top
+empty_top = record { types = []; slots = []; exported = [] }
+
+empty_kept : IsKept empty_top
+empty_kept = record { counted = record { below = λ n h. absurd cc; count = refl }; within = λ i n h. absurd cc }
+
+-- a type that is exported has been followed
+exported_levels : (types : List Declarations) (xs : List (Text × ℕ)) (found : List (Text × Declarations)) (members : List Member) → each (λ x. raw_found x (slice_get types x.1)) xs ≡ Some found → each member found ≡ Some members
+    → (n : ℕ) → list_any (λ x. eqb x.1 n) xs ≡ true → (ds : Declarations) → slice_get types n ≡ Some ds → IsLevelled ds
+exported_levels types [] found members e f n h ds at = absurd cc
+exported_levels types (x ∷ xs) found members e f n h ds at =
+    let one = bind_some (raw_found x (slice_get types x.1)) (λ y. each (λ x. raw_found x (slice_get types x.1)) xs >>= λ ys. Some (y ∷ ys)) found e in
+    let more = bind_some (each (λ x. raw_found x (slice_get types x.1)) xs) (λ ys. Some (one.0 ∷ ys)) found one.2 in
+    let type_at = bind_some (slice_get types x.1) (λ d. Some (x.0, d)) one.0 one.1 in
+    let all : each member (one.0 ∷ more.0) ≡ Some members = ap (each member) (some_is (one.0 ∷ more.0) found more.2) ∙ f in
+    let first = bind_some (member one.0) (λ m. each member more.0 >>= λ ms. Some (m ∷ ms)) members all in
+    let others = bind_some (each member more.0) (λ ms. Some (first.0 ∷ ms)) members first.2 in
+    by one.0 first.0 first.1 type_at.0 type_at.1 (some_is (x.0, type_at.0) one.0 type_at.2) (λ k. exported_levels types xs more.0 others.0 more.1 others.1 n k ds at) (eqb x.1 n) refl
+  where
+    by : (y : Text × Declarations) (m : Member) → member y ≡ Some m → (d : Declarations) → slice_get types x.1 ≡ Some d → (x.0, d) ≡ y → (list_any (λ z. eqb z.1 n) xs ≡ true → IsLevelled ds) → (b : Bool) → eqb x.1 n ≡ b → IsLevelled ds
+    by y m followed d there is rest true same =
+        let here : d ≡ ds = some_is d ds (sym there ∙ ap (slice_get types) (eqb-true x.1 n same) ∙ at) in
+        subst IsLevelled (ap (λ z. z.1) (sym is) ∙ here) (member_levels y m followed)
+    by y m followed d there is rest false same = rest (sym (ap (λ b. b || list_any (λ z. eqb z.1 n) xs) same) ∙ h)
+
+-- ---- what has a meaning is read by levels
+
+-- each type at the top is one that is followed
+abbrev AllLevelled : reads.Top → Type 0
+AllLevelled top = (n : ℕ) (ds : Declarations) → slice_get top.types n ≡ Some ds → IsLevelled ds
+
+-- a type at the top stays where it is
+abbrev Stands : ℕ → Declarations → reads.Top → Type 0
+Stands n ds top = slice_get top.types n ≡ Some ds
+
+type_stays : (n : ℕ) (ds : Declarations) (top next : reads.Top) (t : TopType) → top_type top t ≡ Some next → Stands n ds top → Stands n ds next
+type_stays n ds top next (TopType.defined d) e h = absurd cc
+type_stays n ds top next (TopType.function f) e h = absurd cc
+type_stays n ds top next (TopType.instance inner) e h = absurd cc
+type_stays n ds top next (TopType.component inner) e h =
+    subst (Stands n ds) (some_is (record { types = top.types ++ inner ∷ []; slots = top.slots ++ length top.types ∷ []; exported = top.exported }) next e)
+    (get_before top.types inner n (slice_get_within top.types n ds h) ∙ h)
+
+export_stays : (n : ℕ) (ds : Declarations) (top next : reads.Top) (x : TopExport) → reads.top_export top x ≡ Some next → Stands n ds top → Stands n ds next
+export_stays n ds top next x e h =
+    let b = bind_some (slice_get top.slots x.type_index) (λ n.
+    provided (is_bare x.exported_as && (is_label x.exported_as.text && not (list_any (λ y. eqb y.1 n) top.exported)))
+    (record { types = top.types; slots = top.slots ++ n ∷ []; exported = top.exported ++ (x.exported_as.text, n) ∷ [] })) next e in
+    let after : reads.Top = record { types = top.types; slots = top.slots ++ b.0 ∷ []; exported = top.exported ++ (x.exported_as.text, b.0) ∷ [] } in
+    let w = when_some (is_bare x.exported_as && (is_label x.exported_as.text && not (list_any (λ y. eqb y.1 b.0) top.exported))) (Some after) next b.2 in
+    subst (Stands n ds) (some_is after next w.1) h
+
+section_stays : (n : ℕ) (ds : Declarations) (top next : reads.Top) (s : Section) → top_section top s ≡ Some next → Stands n ds top → Stands n ds next
+section_stays n ds top next (Section.custom name contents) e h = subst (Stands n ds) (some_is top next e) h
+section_stays n ds top next (Section.types ts) e h = steps_keep (Stands n ds) top_type (type_stays n ds) ts top next e h
+section_stays n ds top next (Section.exports es) e h = steps_keep (Stands n ds) reads.top_export (export_stays n ds) es top next e h
+
+types_levels : (ts : List TopType) (top next : reads.Top) → steps top_type top ts ≡ Some next → AllLevelled next → (ps : List PartType) × (ts ≡ map (λ p. TopType.component (raw_part p)) ps)
+types_levels [] top next e all = ([], refl)
+types_levels (TopType.defined d ∷ ts) top next e all = absurd cc
+types_levels (TopType.function f ∷ ts) top next e all = absurd cc
+types_levels (TopType.instance ds ∷ ts) top next e all = absurd cc
+types_levels (TopType.component ds ∷ ts) top next e all =
+    let after : reads.Top = record { types = top.types ++ ds ∷ []; slots = top.slots ++ length top.types ∷ []; exported = top.exported } in
+    let level = all (length top.types) ds (steps_keep (Stands (length top.types) ds) top_type (type_stays (length top.types) ds) ts after next e (get_last top.types ds)) in
+    let more = types_levels ts after next e all in
+    (level.0 ∷ more.0, ap (λ d. TopType.component d ∷ ts) level.1 ∙ ap (λ (rest : List TopType). TopType.component (raw_part level.0) ∷ rest) more.1)
+
+sections_levels : (ss : List Section) (top next : reads.Top) → steps top_section top ss ≡ Some next → AllLevelled next → (ps : List Piece) × (ss ≡ map raw_piece ps)
+sections_levels [] top next e all = ([], refl)
+sections_levels (Section.custom name contents ∷ ss) top next e all =
+    let more = sections_levels ss top next e all in
+    (levels.custom name contents ∷ more.0, ap (λ (rest : List Section). Section.custom name contents ∷ rest) more.1)
+sections_levels (Section.types ts ∷ ss) top next e all =
+    let b = bind_some (steps top_type top ts) (λ s. steps top_section s ss) next e in
+    let here = types_levels ts top b.0 b.1 (λ n ds h. all n ds (steps_keep (Stands n ds) top_section (section_stays n ds) ss b.0 next b.2 h)) in
+    let more = sections_levels ss b.0 next b.2 all in
+    (levels.types here.0 ∷ more.0, ap (λ (xs : List TopType). Section.types xs ∷ ss) here.1 ∙ ap (λ (rest : List Section). raw_piece (levels.types here.0) ∷ rest) more.1)
+sections_levels (Section.exports es ∷ ss) top next e all =
+    let b = bind_some (steps reads.top_export top es) (λ s. steps top_section s ss) next e in
+    let more = sections_levels ss b.0 next b.2 all in
+    (levels.exports es ∷ more.0, ap (λ (rest : List Section). Section.exports es ∷ rest) more.1)
+
+-- Sections whose exported types are followed are forms of the levels.
+only_levels : (ss : List Section) (found : List (Text × Declarations)) (members : List Member) → exported_types ss ≡ Some found → each member found ≡ Some members → (ps : List Piece) × (ss ≡ map raw_piece ps)
+only_levels ss found members e f =
+    let b = bind_some (steps top_section empty_top ss) (λ top.
+    when (eqb (length top.exported) (length top.types) && distinct (map (λ x. x.0) top.exported)) (each (λ x. raw_found x (slice_get top.types x.1)) top.exported)) found e in
+    let w = when_some (eqb (length b.0.exported) (length b.0.types) && distinct (map (λ x. x.0) b.0.exported)) (each (λ x. raw_found x (slice_get b.0.types x.1)) b.0.exported) found b.2 in
+    let many = and_parts (eqb (length b.0.exported) (length b.0.types)) (distinct (map (λ x. x.0) b.0.exported)) w.0 in
+    let kept = steps_keep IsKept top_section kept_section ss empty_top b.0 b.1 empty_kept in
+    let exported_each : all_taken (λ x. x.1) b.0.exported 0 (map (λ _. true) b.0.types) ≡ true =
+    sym (exact (λ x. x.1) b.0.exported (map (λ _. true) b.0.types) kept.counted) ∙ (ap (eqb (length b.0.exported)) (all_marked b.0.types) ∙ many.0) in
+    sections_levels ss empty_top b.0 b.1 (λ n ds h.
+    let one = taken_at (λ x. x.1) b.0.exported 0 n (map (λ _. true) b.0.types) exported_each (true_mark b.0.types n (slice_get_within b.0.types n ds h)) in
+    let zero_more : 0 + n ≡ n = omega arith in
+    exported_levels b.0.types b.0.exported found members w.1 f n (sym (ap (λ k. list_any (λ x. eqb x.1 k) b.0.exported) zero_more) ∙ one) ds h)
+
+-- ---- it means the same
+
+member_is : (x : Text × PartType) → member (labelled x) ≡ member_by_levels x
+member_is x = by x.1
+  where
+    by : (p : PartType) → member (x.0, raw_part p) ≡ member_by_levels (x.0, p)
+    by (wraps es name) = rw (scope_is es) refl
+    by (shows []) = refl
+    by (shows (plain d ∷ es)) = rw (scope_is (plain d ∷ es)) refl
+    by (shows (holds ds ∷ es)) = rw (scope_is (holds ds ∷ es)) refl
+
+each_same : {A B C : Type 0} (g : A → B) (f : A → Option C) (other : B → Option C) → ((x : A) → other (g x) ≡ f x) → (xs : List A) → each other (map g xs) ≡ each f xs
+each_same g f other same [] = refl
+each_same g f other same (x ∷ xs) = ap (λ o. o >>= λ y. each other (map g xs) >>= λ ys. Some (y ∷ ys)) (same x) ∙ ap (λ o. f x >>= λ y. o >>= λ ys. Some (y ∷ ys)) (each_same g f other same xs)
+
+-- whatever is made of the members at the end
+module _ {M : Type 0} (last : List Member → Option M) where
+  same_meaning : (ps : List Piece) → (exported_types (map raw_piece ps) >>= λ types. each member types >>= λ members. last members) ≡ (exported_parts ps >>= λ parts. each member_by_levels parts >>= λ members. last members)
+  same_meaning ps = ap (λ o. o >>= λ types. each member types >>= λ members. last members) (parts_along ps) ∙ by (exported_parts ps)
+    where
+      by : (o : Option (List (Text × PartType))) → (option_map (map labelled) o >>= λ types. each member types >>= λ members. last members) ≡ (o >>= λ parts. each member_by_levels parts >>= λ members. last members)
+      by None = refl
+      by (Some parts) = ap (λ o. o >>= last) (each_same labelled member_by_levels member member_is parts)
+
+  pub levelled : (bytes : List ℕ) → (levels_of bytes >>= λ ps. exported_parts ps >>= λ parts. each member_by_levels parts >>= λ members. last members)
+      ≡ (component_of bytes >>= λ ss. exported_types ss >>= λ types. each member types >>= λ members. last members)
+  levelled bytes = by_levels (levels_of bytes) refl
+    where
+      no_meaning : levels_of bytes ≡ None → (o : Option (List Section)) → component_of bytes ≡ o → (r : Option M) → (o >>= λ ss. exported_types ss >>= λ types. each member types >>= λ members. last members) ≡ r → None ≡ r
+      no_meaning none None found r e = e
+      no_meaning none (Some ss) found None e = refl
+      no_meaning none (Some ss) found (Some m) e =
+          let types = bind_some (exported_types ss) (λ types. each member types >>= λ members. last members) m e in
+          let members = bind_some (each member types.0) last m types.2 in
+          let only = only_levels ss types.0 members.0 types.1 members.1 in
+          let read : levels_of bytes ≡ Some only.0 = (levels_are_sections bytes only.0).1 (found ∙ ap (λ (xs : List Section). Some xs) only.1) in
+          let wrong : None ≡ Some only.0 = sym none ∙ read in absurd cc
+
+      by_levels : (o : Option (List Piece)) → levels_of bytes ≡ o → (o >>= λ ps. exported_parts ps >>= λ parts. each member_by_levels parts >>= λ members. last members)
+          ≡ (component_of bytes >>= λ ss. exported_types ss >>= λ types. each member types >>= λ members. last members)
+      by_levels (Some ps) e =
+          let read : component_of bytes ≡ Some (map raw_piece ps) = (levels_are_sections bytes ps).0 e in
+          sym (ap (λ (o : Option (List Section)). o >>= λ ss. exported_types ss >>= λ types. each member types >>= λ members. last members) read ∙ same_meaning ps)
+      by_levels None e = no_meaning e (component_of bytes) refl (component_of bytes >>= λ ss. exported_types ss >>= λ types. each member types >>= λ members. last members) refl
+
+pub package_by_levels : PackageByLevels
+unfolding package_of_pieces
+package_by_levels bytes = levelled package_of_members bytes
+
+pub world_by_levels : WorldByLevels
+unfolding world_of_pieces
+world_by_levels bytes = levelled world_of_members bytes
