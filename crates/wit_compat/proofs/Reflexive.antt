@@ -319,8 +319,6 @@ module _ (r : Resolve) (v : IsValid r) where
 
   pub accepts_itself : (w : World) → HasKeysOnce r w → Accepts r w w
   accepts_itself w h = record {
-    packages = refl;
-    prev_keys = h;
-    new_keys = h;
+    comparable = record { packages = refl; prev_keys = h; new_keys = h };
     compatible = record { imports = included_in_itself w.imports.entries h.imports; exports = included_in_itself w.exports.entries h.exports };
   }

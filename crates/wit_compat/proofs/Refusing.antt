@@ -19,10 +19,10 @@ fault_excludes small large f w i =
     (i w.entry (subst (λ (xs : List (Name × Shown)). Contains xs w.entry) (sym w.split) (Contains-append_right w.front (w.entry ∷ w.rest) w.entry (Contains-append_left (w.entry ∷ []) w.rest w.entry (Contains-push [] w.entry)))))
 
 pub refused_not_accepted : (r : Resolve) (a b : World) (f : Refusal) → Refuses r a b f → Accepts r a b → ⊥
-refused_not_accepted r a b _ (packages other) h = other h.packages
-refused_not_accepted r a b _ (keys name same t) h = repeated_excludes (keys_of_world r a ++ keys_of_world r b) name t (both_once r a b h.prev_keys h.new_keys)
-refused_not_accepted r a b f (imports _ same p q w) h = fault_excludes _ _ f w h.compatible.imports
-refused_not_accepted r a b f (exports _ same p q i w) h = fault_excludes _ _ f w h.compatible.exports
+refused_not_accepted r a b _ (packages other) h = other h.comparable.packages
+refused_not_accepted r a b _ (keys name same t) h = repeated_excludes (keys_of_world r a ++ keys_of_world r b) name t (both_once r a b h.comparable.prev_keys h.comparable.new_keys)
+refused_not_accepted r a b f (imports _ c w) h = fault_excludes _ _ f w h.compatible.imports
+refused_not_accepted r a b f (exports _ c i w) h = fault_excludes _ _ f w h.compatible.exports
 
 module _ (r : Resolve) (a b : World) (same : package_name r a ≡ package_name r b) where
   pub repeated_refused : (e : Error) → IsRepeated r a b e → IsRefused r a b e
@@ -31,6 +31,6 @@ module _ (r : Resolve) (a b : World) (same : package_name r a ≡ package_name r
 
   pub mismatch_refused : HasKeysOnce r a → HasKeysOnce r b → (e : Error) → IsMismatch r a b e → IsRefused r a b e
   mismatch_refused p n e (inl (inl m)) = subst (IsRefused r a b) (sym m) memory
-  mismatch_refused p n e (inl (inr (f, q, w))) = refused e f q (imports f same p n w)
+  mismatch_refused p n e (inl (inr (f, q, w))) = refused e f q (imports f (record { packages = same; prev_keys = p; new_keys = n }) w)
   mismatch_refused p n e (inr (i, inl m)) = subst (IsRefused r a b) (sym m) memory
-  mismatch_refused p n e (inr (i, inr (f, q, w))) = refused e f q (exports f same p n i w)
+  mismatch_refused p n e (inr (i, inr (f, q, w))) = refused e f q (exports f (record { packages = same; prev_keys = p; new_keys = n }) i w)

@@ -26,9 +26,7 @@ module _ (r : Resolve) where
 
   pub accepts_through : (a b c : World) → Accepts r a b → Accepts r b c → Accepts r a c
   accepts_through a b c p q = record {
-    packages = p.packages ∙ q.packages;
-    prev_keys = p.prev_keys;
-    new_keys = q.new_keys;
+    comparable = record { packages = p.comparable.packages ∙ q.comparable.packages; prev_keys = p.comparable.prev_keys; new_keys = q.comparable.new_keys };
     compatible = record {
       imports = found_included _ _ _ p.compatible.imports q.compatible.imports;
       exports = found_included _ _ _ q.compatible.exports p.compatible.exports;

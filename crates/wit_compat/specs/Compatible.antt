@@ -1,5 +1,6 @@
 -- When a world may take the place of another, and why not (documentation of `semver_check`).
-use Rattle.std.specs.Prelude.{◌≡◌, ◌⊎◌, true, List, [], ◌∷◌, ◌++◌, map, Option, Some, None, option_map}
+use Rattle.std.specs.Prelude.{◌≡◌, ◌⊎◌, true, List, [], ◌∷◌, ◌++◌, map, Option, Some, None, option_map, MatchOption}
+use Rattle.std.specs.Borrow.{Bor}
 use Rattle.std.specs.List.{Contains, IsDistinct}
 use Rattle.wit_model.specs.declared.model.Resolve.{Resolve}
 use Rattle.wit_model.specs.declared.model.World.{World}
@@ -42,6 +43,10 @@ pub record IsFirstRepeat (ts : List Text) (t : Text) : Type 0 where
   pub before : IsDistinct text_eq front
   pub again : Contains front t
 
+-- nothing stands twice, or this text is the first that repeats
+abbrev pub RepeatsIn : List Text → Option (Bor Text) → Type 0
+RepeatsIn ts o = MatchOption o (IsDistinct text_eq ts) (λ s. IsFirstRepeat ts s.now)
+
 -- the first such text of lists that are looked through in turn: nothing stands twice in a list before its own
 pub record IsRepeatedIn (lists : List (List Text)) (t : Text) : Type 0 where
   pub front : List (List Text)
@@ -63,6 +68,16 @@ pub record HasKeysOnce (r : Resolve) (w : World) : Type 0 where
 -- The first key that is twice without version: prev's imports, prev's exports, new's imports, new's exports.
 abbrev pub IsTwice : Resolve → World → World → Text → Type 0
 IsTwice r prev new name = IsRepeatedIn (keys_of_world r prev ++ keys_of_world r new) name
+
+-- no key of either world is twice, or this is the first that is
+abbrev pub TwiceIn : Resolve → World → World → Option (Bor Text) → Type 0
+TwiceIn r prev new o = MatchOption o (HasKeysOnce r prev × HasKeysOnce r new) (λ s. IsTwice r prev new s.now)
+
+-- the packages agree in namespace and name, and no key is twice without version
+pub record AreComparable (r : Resolve) (prev new : World) : Type 0 where
+  pub packages : package_name r prev ≡ package_name r new
+  pub prev_keys : HasKeysOnce r prev
+  pub new_keys : HasKeysOnce r new
 
 -- ---- the first fault
 
@@ -96,14 +111,12 @@ pub record IsFirstFault (small large : List (Name × Shown)) (f : Refusal) : Typ
 pub data Refuses (r : Resolve) (prev new : World) : Refusal → Type 0 where
   packages : (package_name r prev ≡ package_name r new → ⊥) → Refuses r prev new other_package
   keys : (name : Text) → package_name r prev ≡ package_name r new → IsTwice r prev new name → Refuses r prev new (twice_without_version name)
-  imports : (f : Refusal) → package_name r prev ≡ package_name r new → HasKeysOnce r prev → HasKeysOnce r new → IsFirstFault (flat_imports r prev) (flat_imports r new) f → Refuses r prev new f
-  exports : (f : Refusal) → package_name r prev ≡ package_name r new → HasKeysOnce r prev → HasKeysOnce r new → IsIncluded (flat_imports r prev) (flat_imports r new) → IsFirstFault (flat_exports r new) (flat_exports r prev) f → Refuses r prev new f
+  imports : (f : Refusal) → AreComparable r prev new → IsFirstFault (flat_imports r prev) (flat_imports r new) f → Refuses r prev new f
+  exports : (f : Refusal) → AreComparable r prev new → IsIncluded (flat_imports r prev) (flat_imports r new) → IsFirstFault (flat_exports r new) (flat_exports r prev) f → Refuses r prev new f
 
 -- What `Ok` says: the packages agree in namespace and name, no key is twice without version, and the worlds are compatible.
 pub record Accepts (r : Resolve) (prev new : World) : Type 0 where
-  pub packages : package_name r prev ≡ package_name r new
-  pub prev_keys : HasKeysOnce r prev
-  pub new_keys : HasKeysOnce r new
+  pub comparable : AreComparable r prev new
   pub compatible : Compatible r prev new
 
 -- the refusal that an error carries

@@ -1,9 +1,8 @@
 //! The names of interfaces, and the texts of keys, without versions.
 
 ghost use Rattle.std.specs.Prelude.{◌≡◌, ◌<◌, ◌==◌, ℕ, if◌then◌else◌, [], true, flat_map, length, map, option_map, unwrap_or, None, Some, IfOk, OnOk};
-ghost use Rattle.std.specs.Option.{option_or};
 ghost use Rattle.wit_compat.specs.Opened.{bare_key, bare_path as bare_path_lem, entries_of_world, interface_name as interface_name_lem, is_item_of, label_among, label_of_key};
-ghost use Rattle.wit_compat.specs.Outline.{interface_names as interface_names_lem, label_noted};
+ghost use Rattle.wit_compat.specs.Outline.{interface_names as interface_names_lem, label_noted, NotesMore};
 ghost use Rattle.wit_model.specs.Paths.{full_name as full_name_lem};
 ghost use Rattle.wit_model.specs.Rules.{key_in_range};
 ghost use Rattle.wit_model.specs.Text.{optional_text, text_of};
@@ -48,7 +47,7 @@ fn key_label<'a>(key: &'a WorldKey) -> &'a str
 type Labels<'a> = IndexMap<usize, &'a str>;
 
 fn note_label<'a>(labels: &mut Labels<'a>, number: usize, label: &'a str) -> Result<(), AllocError>
-    ensures { OnOk result ((n : ℕ) → label_noted n labels.new.entries ≡ option_or (label_noted n labels.old.entries) (if number == n then Some label.entry.now else None)) }
+    ensures { OnOk result (NotesMore labels.old.entries labels.new.entries (λ n. if number == n then Some label.entry.now else None)) }
 {
     if labels.get(&number).is_none() {
         labels.insert(number, label)?;
@@ -61,7 +60,7 @@ fn note_item<'a>(
     key: &'a WorldKey,
     item: &WorldItem,
 ) -> Result<(), AllocError>
-    ensures { OnOk result ((n : ℕ) → label_noted n labels.new.entries ≡ option_or (label_noted n labels.old.entries) (if is_item_of n item.now then Some (label_of_key key.entry.now) else None)) }
+    ensures { OnOk result (NotesMore labels.old.entries labels.new.entries (λ n. if is_item_of n item.now then Some (label_of_key key.entry.now) else None)) }
 {
     match item {
         WorldItem::Interface { id, .. } => note_label(labels, id.0 as usize, key_label(key)),
@@ -74,7 +73,7 @@ fn note_labels<'a>(
     labels: &mut Labels<'a>,
     items: &'a Map<WorldKey, WorldItem>,
 ) -> Result<(), AllocError>
-    ensures { OnOk result ((n : ℕ) → label_noted n labels.new.entries ≡ option_or (label_noted n labels.old.entries) (label_among n items.entry.now.entries)) }
+    ensures { OnOk result (NotesMore labels.old.entries labels.new.entries (λ n. label_among n items.entry.now.entries)) }
 {
     for (key, item) in items {
         note_item(labels, key, item)?;
@@ -83,7 +82,7 @@ fn note_labels<'a>(
 }
 
 fn note_world<'a>(labels: &mut Labels<'a>, world: &'a World) -> Result<(), AllocError>
-    ensures { OnOk result ((n : ℕ) → label_noted n labels.new.entries ≡ option_or (label_noted n labels.old.entries) (label_among n (entries_of_world world.entry.now))) }
+    ensures { OnOk result (NotesMore labels.old.entries labels.new.entries (λ n. label_among n (entries_of_world world.entry.now))) }
 {
     note_labels(labels, &world.imports)?;
     note_labels(labels, &world.exports)?;

@@ -1,10 +1,9 @@
 //! Keys that are equal without their versions.
 
 ghost use Rattle.std.specs.Prelude.{◌≡◌, true, map, IfOk, MatchOption};
-ghost use Rattle.std.specs.List.{IsDistinct};
 ghost use Rattle.wit_model.specs.Rules.{entries_in_range};
-ghost use Rattle.wit_model.specs.Text.{text_eq, text_of};
-ghost use Rattle.wit_compat.specs.Compatible.{bare_keys, keys_of_world, HasItemsInRange, HasKeysOnce, IsFirstRepeat, IsRepeatedIn, IsTwice};
+ghost use Rattle.wit_model.specs.Text.{text_of};
+ghost use Rattle.wit_compat.specs.Compatible.{bare_keys, keys_of_world, HasItemsInRange, HasKeysOnce, IsRepeatedIn, RepeatsIn, TwiceIn};
 ghost use Rattle.wit_compat.specs.Outline.{interface_names};
 
 use crate::names::key_text;
@@ -21,7 +20,7 @@ fn repeated_key<'a>(
 ) -> Result<Option<&'a str>, AllocError>
     requires names { map text_of names.now ≡ interface_names resolve.now }
     requires in_range { entries_in_range resolve.now items.now.entries ≡ true }
-    ensures { IfOk result (λ o. MatchOption o (IsDistinct text_eq (bare_keys resolve.now items.entry.now.entries)) (λ s. IsFirstRepeat (bare_keys resolve.now items.entry.now.entries) s.now)) }
+    ensures { IfOk result (RepeatsIn (bare_keys resolve.now items.entry.now.entries)) }
 {
     let mut seen = IndexSet::new(alloc);
     for (key, _item) in items {
@@ -60,7 +59,7 @@ pub(crate) fn twice<'a>(
     requires names { map text_of names.now ≡ interface_names resolve.now }
     requires prev { HasItemsInRange resolve.now prev.now }
     requires new { HasItemsInRange resolve.now new.now }
-    ensures { IfOk result (λ o. MatchOption o (HasKeysOnce resolve.now prev.entry.now × HasKeysOnce resolve.now new.entry.now) (λ s. IsTwice resolve.now prev.entry.now new.entry.now s.now)) }
+    ensures { IfOk result (TwiceIn resolve.now prev.entry.now new.entry.now) }
 {
     match repeated_in_world(alloc, names, resolve, prev)? {
         Some(key) => Ok(Some(key)),
