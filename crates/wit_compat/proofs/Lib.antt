@@ -15,4 +15,5 @@ pub mod Validity
 pub mod Matching
 pub mod Counting
 pub mod Refusing
+pub mod Reflexive
 mod Examples

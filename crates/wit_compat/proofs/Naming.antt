@@ -1,11 +1,15 @@
 -- What interfaces are called.
-use Rattle.std.proofs.Common.{◌≡◌, refl, ap, ◌∙◌, ℕ, zero, suc, ◌+◌, ◌<◌, Bool, true, false, cond, List, [], ◌∷◌, ◌++◌, take, length, arith, Option, Some}
+use Rattle.std.proofs.Common.{◌≡◌, refl, sym, ap, flat_map, get_or, append-nil, ◌∙◌, ℕ, zero, suc, ◌+◌, ◌<◌, Bool, true, false, cond, List, [], ◌∷◌, ◌++◌, take, length, arith, Option, Some, None}
+use Rattle.wit_model.specs.Text.{Text}
 use Rattle.std.specs.Option.{option_or}
 use Rattle.wit_model.specs.declared.model.Resolve.{Resolve}
 use Rattle.wit_model.specs.declared.model.Interface.{Interface}
 use Rattle.wit_model.specs.declared.model.WorldKey.{WorldKey}
 use Rattle.wit_model.specs.declared.model.WorldItem.{WorldItem}
-use Rattle.wit_compat.specs.Opened.{interface_name, is_item_of, label_among, label_of_key}
+use Rattle.std.proofs.lemmas.List.{take_more}
+use Rattle.std.proofs.lemmas.List.Concat.{flat_map-append}
+use Rattle.wit_model.specs.declared.model.World.{World}
+use Rattle.wit_compat.specs.Opened.{entries_of_world, interface_name, is_item_of, label_among, label_of_key}
 use Rattle.wit_compat.specs.Outline.{names_from}
 
 chosen : {X : Type 0} (b : Bool) (x : X) (o p : Option X) → cond b (Some x) (option_or o p) ≡ option_or (cond b (Some x) o) p
@@ -24,3 +28,22 @@ names_more r k (i ∷ is) zero h = ap (λ m. interface_name r m ∷ []) (omega a
 names_more r k (i ∷ is) (suc n) h =
     ap (λ xs. interface_name r k ∷ xs) (names_more r (k + 1) is n (omega (arith, h)))
     ∙ ap (λ m. interface_name r k ∷ (names_from r (k + 1) (take n is) ++ interface_name r m ∷ [])) (omega arith)
+
+-- the label of one item more
+pub label_more : (n : ℕ) (e : WorldKey × WorldItem) (es : List (WorldKey × WorldItem)) (o : Option Text) → option_or (option_or o (cond (is_item_of n e.1) (Some (label_of_key e.0)) None)) (label_among n es) ≡ option_or o (label_among n (e ∷ es))
+label_more n e es (Some t) = refl
+label_more n e es None = by (is_item_of n e.1)
+  where
+    by : (b : Bool) → option_or (cond b (Some (label_of_key e.0)) None) (label_among n es) ≡ cond b (Some (label_of_key e.0)) (label_among n es)
+    by true = refl
+    by false = refl
+
+pub or_assoc : {X : Type 0} (a b c : Option X) → option_or (option_or a b) c ≡ option_or a (option_or b c)
+or_assoc (Some x) b c = refl
+or_assoc None b c = refl
+
+-- the entries of one world more
+pub worlds_more : (ws : List World) (i : ℕ) (w : World) → i < length ws → w ≡ get_or ws i w → flat_map entries_of_world (take (i + 1) ws) ≡ flat_map entries_of_world (take i ws) ++ entries_of_world w
+worlds_more ws i w lt is =
+    ap (flat_map entries_of_world) (take_more ws i w lt ∙ ap (λ x. take i ws ++ x ∷ []) (sym is)) ∙ flat_map-append entries_of_world (take i ws) (w ∷ [])
+    ∙ ap (λ es. flat_map entries_of_world (take i ws) ++ es) (append-nil (entries_of_world w))

@@ -1,12 +1,13 @@
 -- What is refused isn't accepted.
-use Rattle.std.proofs.Common.{◌≡◌, sym, ap, subst, ◌∙◌, inl, inr, List, [], ◌∷◌, Option, Some, None, unwrap_or}
+use Rattle.std.proofs.Common.{◌≡◌, sym, ap, subst, inl, inr, List, [], ◌∷◌, ◌++◌, Option, Some, unwrap_or}
 use Rattle.std.specs.List.{Contains}
 use Rattle.std.proofs.lemmas.List.Elements.{Contains-append_left, Contains-append_right, Contains-push}
 use Rattle.wit_model.specs.declared.model.Resolve.{Resolve}
 use Rattle.wit_model.specs.declared.model.World.{World}
 use Rattle.wit_model.specs.declared.error.Error.{Error}
-use Rattle.wit_compat.specs.Compatible.{Accepts, IsFault, is_missing, is_other, IsFirstFault, IsIncluded, IsMismatch, IsRefused, memory, refused, IsRepeated, Refusal, Refuses, package_name, packages, keys, imports, exports, twice}
+use Rattle.wit_compat.specs.Compatible.{Accepts, IsFault, is_missing, is_other, IsFirstFault, IsIncluded, IsMismatch, IsRefused, memory, refused, IsRepeated, Refusal, Refuses, package_name, packages, keys, imports, exports, HasKeysOnce, keys_of_world}
 use Rattle.wit_compat.specs.Flat.{Name, Shown, find_named}
+use Rattle.wit_compat.proofs.Repeating.{both_once, repeated_excludes}
 
 no_fault : (name : Name) (s : Shown) (o : Option Shown) (f : Refusal) → IsFault name s o f → o ≡ Some s → ⊥
 no_fault name s _ _ is_missing e = let z : ⊥ = cc in z
@@ -18,18 +19,18 @@ fault_excludes small large f w i =
     (i w.entry (subst (λ (xs : List (Name × Shown)). Contains xs w.entry) (sym w.split) (Contains-append_right w.front (w.entry ∷ w.rest) w.entry (Contains-append_left (w.entry ∷ []) w.rest w.entry (Contains-push [] w.entry)))))
 
 pub refused_not_accepted : (r : Resolve) (a b : World) (f : Refusal) → Refuses r a b f → Accepts r a b → ⊥
-refused_not_accepted r a b _ (packages other) h = other h.packages
-refused_not_accepted r a b _ (keys name same t) h = let e : None ≡ Some name = sym h.keys ∙ t in let z : ⊥ = cc in z
-refused_not_accepted r a b f (imports _ same t w) h = fault_excludes _ _ f w h.compatible.imports
-refused_not_accepted r a b f (exports _ same t i w) h = fault_excludes _ _ f w h.compatible.exports
+refused_not_accepted r a b _ (packages other) h = other h.comparable.packages
+refused_not_accepted r a b _ (keys name same t) h = repeated_excludes (keys_of_world r a ++ keys_of_world r b) name t (both_once r a b h.comparable.prev_keys h.comparable.new_keys)
+refused_not_accepted r a b f (imports _ c w) h = fault_excludes _ _ f w h.compatible.imports
+refused_not_accepted r a b f (exports _ c i w) h = fault_excludes _ _ f w h.compatible.exports
 
 module _ (r : Resolve) (a b : World) (same : package_name r a ≡ package_name r b) where
   pub repeated_refused : (e : Error) → IsRepeated r a b e → IsRefused r a b e
   repeated_refused e (inl m) = subst (IsRefused r a b) (sym m) memory
   repeated_refused e (inr (name, q, t)) = refused e _ q (keys name same t)
 
-  pub mismatch_refused : twice r a b ≡ None → (e : Error) → IsMismatch r a b e → IsRefused r a b e
-  mismatch_refused t e (inl (inl m)) = subst (IsRefused r a b) (sym m) memory
-  mismatch_refused t e (inl (inr (f, q, w))) = refused e f q (imports f same t w)
-  mismatch_refused t e (inr (i, inl m)) = subst (IsRefused r a b) (sym m) memory
-  mismatch_refused t e (inr (i, inr (f, q, w))) = refused e f q (exports f same t i w)
+  pub mismatch_refused : HasKeysOnce r a → HasKeysOnce r b → (e : Error) → IsMismatch r a b e → IsRefused r a b e
+  mismatch_refused p n e (inl (inl m)) = subst (IsRefused r a b) (sym m) memory
+  mismatch_refused p n e (inl (inr (f, q, w))) = refused e f q (imports f (record { packages = same; prev_keys = p; new_keys = n }) w)
+  mismatch_refused p n e (inr (i, inl m)) = subst (IsRefused r a b) (sym m) memory
+  mismatch_refused p n e (inr (i, inr (f, q, w))) = refused e f q (exports f (record { packages = same; prev_keys = p; new_keys = n }) i w)

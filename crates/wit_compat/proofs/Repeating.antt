@@ -1,25 +1,154 @@
--- The first text that repeats an earlier one.
-use Rattle.std.proofs.Common.{◌≡◌, ap, ◌∙◌, true, false, cond, List, [], ◌∷◌, ◌++◌, map, Bor, ℕ, Some}
-use Rattle.std.specs.List.{list_any}
+-- Texts that stand once, and the first that repeats an earlier one.
+use Rattle.std.proofs.Common.{arith, ◌≡◌, refl, sym, ap, subst, ◌∙◌, ◌⊎◌, inl, inr, true, false, cond, Bool, List, [], ◌∷◌, ◌++◌, append_assoc, map, Bor, ℕ, ◌||◌, Option, None, Some, MatchOption, Result, Ok, Err, IfOk}
+use Rattle.std.specs.List.{list_any, AllByRecursion, Contains, IsDistinct}
 use Rattle.std.proofs.lemmas.List.{map-append}
+use Rattle.std.proofs.lemmas.List.Elements.{Contains-append_left, Contains-append_right, Contains-append_cases, Contains-push}
+use Rattle.std.proofs.lemmas.Slice.Eq.{bytes_eq-Decides}
+use Rattle.wit_model.specs.declared.model.Resolve.{Resolve}
+use Rattle.wit_model.specs.declared.model.World.{World}
 use Rattle.wit_model.specs.Text.{Text, text_eq}
+use Rattle.wit_model.proofs.Distinct.{text_eq_flip}
 use Rattle.wit_model.proofs.Lists.{list_any_mapped}
-use Rattle.wit_compat.specs.Compatible.{first_repeat}
+use Rattle.wit_compat.specs.Compatible.{bare_keys, keys_of_world, HasKeysOnce, IsFirstRepeat, IsRepeatedIn}
+use Rattle.wit_compat.proofs.Including.{contains_one}
 
 abbrev pub now : List (Bor (List ℕ)) → List Text
 now = map (λ s. s.now)
 
--- a text that is there repeats
-pub repeat_found : (keys : List (Bor (List ℕ))) (t : Bor (List ℕ)) (ts : List Text) → list_any (λ k. text_eq t.now k.now) keys ≡ true → first_repeat (now keys) (t.now ∷ ts) ≡ Some t.now
-repeat_found keys t ts e = ap (λ b. cond b (Some t.now) (first_repeat (now keys ++ t.now ∷ []) ts)) (list_any_mapped (text_eq t.now) (λ s. s.now) keys ∙ e)
+pub now_push : (keys : List (Bor (List ℕ))) (t : Bor (List ℕ)) → now (keys ++ t ∷ []) ≡ now keys ++ t.now ∷ []
+now_push keys t = map-append (λ s. s.now) keys (t ∷ [])
 
--- any other is one text more
-pub repeat_later : (keys : List (Bor (List ℕ))) (t : Bor (List ℕ)) (ts : List Text) → list_any (λ k. text_eq t.now k.now) keys ≡ false → first_repeat (now keys) (t.now ∷ ts) ≡ first_repeat (now keys ++ t.now ∷ []) ts
-repeat_later keys t ts e = ap (λ b. cond b (Some t.now) (first_repeat (now keys ++ t.now ∷ []) ts)) (list_any_mapped (text_eq t.now) (λ s. s.now) keys ∙ e)
+-- ---- a text more
 
--- which is put last
-pub repeat_pushed : (keys : List (Bor (List ℕ))) (t : Bor (List ℕ)) → list_any (λ k. text_eq t.now k.now) keys ≡ false → cond (list_any (λ k. text_eq t.now k.now) keys) keys (keys ++ t ∷ []) ≡ keys ++ t ∷ []
-repeat_pushed keys t e = ap (λ b. cond b keys (keys ++ t ∷ [])) e
+pub any_there : (t : Text) (ts : List Text) → list_any (text_eq t) ts ≡ true → Contains ts t
+any_there t [] e = absurd (let z : ⊥ = cc in z)
+any_there t (x ∷ xs) e = by (any_there t xs) (text_eq t x) refl e
+  where
+    by : (list_any (text_eq t) xs ≡ true → Contains xs t) → (b : Bool) → text_eq t x ≡ b → (b || list_any (text_eq t) xs) ≡ true → Contains (x ∷ xs) t
+    by later true same f = subst (Contains (x ∷ xs)) (sym ((bytes_eq-Decides t x).0 same)) (Contains-append_left (x ∷ []) xs x (Contains-push [] x))
+    by later false other f = Contains-append_right (x ∷ []) xs t (later f)
 
-pub map-append-now : (keys : List (Bor (List ℕ))) (t : Bor (List ℕ)) → now (keys ++ t ∷ []) ≡ now keys ++ t.now ∷ []
-map-append-now keys t = map-append (λ s. s.now) keys (t ∷ [])
+neither : (a b : Bool) → (a || b) ≡ false → (a ≡ false) × (b ≡ false)
+neither true b e = absurd (let z : ⊥ = cc in z)
+neither false b e = (refl, e)
+
+apart_push : (x : Text) (xs : List Text) (t : Text) → AllByRecursion (λ y. text_eq x y ≡ false) xs → text_eq t x ≡ false → AllByRecursion (λ y. text_eq x y ≡ false) (xs ++ t ∷ [])
+apart_push x [] t h e = (text_eq_flip x t ∙ e, tt)
+apart_push x (y ∷ ys) t h e = (h.0, apart_push x ys t h.1 e)
+
+pub distinct_push : (xs : List Text) (t : Text) → IsDistinct text_eq xs → list_any (text_eq t) xs ≡ false → IsDistinct text_eq (xs ++ t ∷ [])
+unfolding IsDistinct
+distinct_push [] t d e = (tt, tt)
+distinct_push (x ∷ xs) t d e =
+    let n = neither (text_eq t x) (list_any (text_eq t) xs) e in
+    (apart_push x xs t d.0 n.0, distinct_push xs t d.1 n.1)
+
+-- the same of borrowed texts
+module _ (keys : List (Bor (List ℕ))) (t : Bor (List ℕ)) where
+  pub key_there : list_any (λ k. text_eq t.now k.now) keys ≡ true → Contains (now keys) t.now
+  key_there e = any_there t.now (now keys) (list_any_mapped (text_eq t.now) (λ s. s.now) keys ∙ e)
+
+  pub key_pushed : list_any (λ k. text_eq t.now k.now) keys ≡ false → cond (list_any (λ k. text_eq t.now k.now) keys) keys (keys ++ t ∷ []) ≡ keys ++ t ∷ []
+  key_pushed e = ap (λ b. cond b keys (keys ++ t ∷ [])) e
+
+  pub key_distinct : IsDistinct text_eq (now keys) → list_any (λ k. text_eq t.now k.now) keys ≡ false → IsDistinct text_eq (now (keys ++ t ∷ []))
+  key_distinct d e = subst (IsDistinct text_eq) (sym (now_push keys t)) (distinct_push (now keys) t.now d (list_any_mapped (text_eq t.now) (λ s. s.now) keys ∙ e))
+
+-- ---- lists in turn
+
+all_differ : (x : Text) (xs : List Text) (y : Text) → AllByRecursion (λ z. text_eq x z ≡ false) xs → Contains xs y → x ≡ y → ⊥
+all_differ x [] y h c e = let z = c.1 in omega (arith, z)
+all_differ x (v ∷ vs) y h c e = by (λ d. all_differ x vs y h.1 d e) (Contains-append_cases (v ∷ []) vs y c)
+  where
+    by : (Contains vs y → ⊥) → Contains (v ∷ []) y ⊎ Contains vs y → ⊥
+    by later (inl d) =
+        let same : text_eq x v ≡ true = (bytes_eq-Decides x v).1 (e ∙ sym (contains_one v y d)) in
+        let wrong : true ≡ false = sym same ∙ h.0 in cc
+    by later (inr d) = later d
+
+pub distinct_apart : (xs ys : List Text) (t : Text) → IsDistinct text_eq (xs ++ t ∷ ys) → Contains xs t → ⊥
+unfolding IsDistinct
+distinct_apart [] ys t d c = let z = c.1 in omega (arith, z)
+distinct_apart (x ∷ xs) ys t d c = by (distinct_apart xs ys t d.1) (Contains-append_cases (x ∷ []) xs t c)
+  where
+    by : (Contains xs t → ⊥) → Contains (x ∷ []) t ⊎ Contains xs t → ⊥
+    by later (inl e) = all_differ x (xs ++ t ∷ ys) t d.0 (Contains-append_right xs (t ∷ ys) t (Contains-append_left (t ∷ []) ys t (Contains-push [] t))) (contains_one x t e)
+    by later (inr e) = later e
+
+-- a list with a repeat has a text twice
+pub repeat_excludes : (ts : List Text) (t : Text) → IsFirstRepeat ts t → IsDistinct text_eq ts → ⊥
+repeat_excludes ts t f d = distinct_apart f.front f.rest t (subst (IsDistinct text_eq) f.split d) f.again
+
+pub repeated_excludes : (lists : List (List Text)) (t : Text) → IsRepeatedIn lists t → ((ts : List Text) → Contains lists ts → IsDistinct text_eq ts) → ⊥
+repeated_excludes lists t f all =
+    repeat_excludes f.list t f.repeats
+    (all f.list (subst (λ (xs : List (List Text)). Contains xs f.list) (sym f.split) (Contains-append_right f.front (f.list ∷ f.rest) f.list (Contains-append_left (f.list ∷ []) f.rest f.list (Contains-push [] f.list)))))
+
+pub repeated_first : (ts : List Text) (rest : List (List Text)) (t : Text) → IsFirstRepeat ts t → IsRepeatedIn (ts ∷ rest) t
+repeated_first ts rest t f = record {
+  front = [];
+  list = ts;
+  rest = rest;
+  split = refl;
+  before = λ xs c. absurd (let z = c.1 in omega (arith, z));
+  repeats = f;
+}
+
+pub repeated_in_front : (xs ys : List (List Text)) (t : Text) → IsRepeatedIn xs t → IsRepeatedIn (xs ++ ys) t
+repeated_in_front xs ys t f = record {
+  front = f.front;
+  list = f.list;
+  rest = f.rest ++ ys;
+  split = ap (λ zs. zs ++ ys) f.split ∙ append_assoc f.front (f.list ∷ f.rest) ys;
+  before = f.before;
+  repeats = f.repeats;
+}
+
+pub repeated_behind : (xs ys : List (List Text)) (t : Text) → ((ts : List Text) → Contains xs ts → IsDistinct text_eq ts) → IsRepeatedIn ys t → IsRepeatedIn (xs ++ ys) t
+repeated_behind xs ys t all f = record {
+  front = xs ++ f.front;
+  list = f.list;
+  rest = f.rest;
+  split = ap (λ zs. xs ++ zs) f.split ∙ sym (append_assoc xs f.front (f.list ∷ f.rest));
+  before = λ ts c. by ts (Contains-append_cases xs f.front ts c);
+  repeats = f.repeats;
+}
+  where
+    by : (ts : List Text) → Contains xs ts ⊎ Contains f.front ts → IsDistinct text_eq ts
+    by ts (inl d) = all ts d
+    by ts (inr d) = f.before ts d
+
+-- ---- the keys of a world
+
+pub one_once : (ts : List Text) → IsDistinct text_eq ts → (us : List Text) → Contains (ts ∷ []) us → IsDistinct text_eq us
+one_once ts d us c = subst (IsDistinct text_eq) (contains_one ts us c) d
+
+pub keys_once : (r : Resolve) (w : World) → HasKeysOnce r w → (ts : List Text) → Contains (keys_of_world r w) ts → IsDistinct text_eq ts
+keys_once r w h ts c = by (Contains-append_cases (bare_keys r w.imports.entries ∷ []) (bare_keys r w.exports.entries ∷ []) ts c)
+  where
+    by : Contains (bare_keys r w.imports.entries ∷ []) ts ⊎ Contains (bare_keys r w.exports.entries ∷ []) ts → IsDistinct text_eq ts
+    by (inl d) = one_once (bare_keys r w.imports.entries) h.imports ts d
+    by (inr d) = one_once (bare_keys r w.exports.entries) h.exports ts d
+
+pub both_once : (r : Resolve) (a b : World) → HasKeysOnce r a → HasKeysOnce r b → (ts : List Text) → Contains (keys_of_world r a ++ keys_of_world r b) ts → IsDistinct text_eq ts
+both_once r a b h k ts c = by (Contains-append_cases (keys_of_world r a) (keys_of_world r b) ts c)
+  where
+    by : Contains (keys_of_world r a) ts ⊎ Contains (keys_of_world r b) ts → IsDistinct text_eq ts
+    by (inl d) = keys_once r a h ts d
+    by (inr d) = keys_once r b k ts d
+
+-- ---- answers
+
+pub given : {X : Type 0} (P : Type 0) (Q : X → Type 0) (o : Option X) (x : X) → MatchOption o P Q → o ≡ Some x → Q x
+given P Q o x m e = subst (λ p. MatchOption p P Q) e m
+
+pub none_given : {X : Type 0} (P : Type 0) (Q : X → Type 0) (o : Option X) → MatchOption o P Q → o ≡ None → P
+none_given P Q o m e = subst (λ p. MatchOption p P Q) e m
+
+either_way : {X : Type 0} (P P' : Type 0) (Q Q' : X → Type 0) (o : Option X) → (P → P') → ((x : X) → Q x → Q' x) → MatchOption o P Q → MatchOption o P' Q'
+either_way P P' Q Q' None f g m = f m
+either_way P P' Q Q' (Some x) f g m = g x m
+
+pub ok_either_way : {X E : Type 0} (P P' : Type 0) (Q Q' : X → Type 0) (r : Result (Option X) E) → (P → P') → ((x : X) → Q x → Q' x) → IfOk r (λ o. MatchOption o P Q) → IfOk r (λ o. MatchOption o P' Q')
+ok_either_way P P' Q Q' (Ok o) f g m = either_way P P' Q Q' o f g m
+ok_either_way P P' Q Q' (Err e) f g m = tt

@@ -51,7 +51,7 @@ contains_mapped f (y ∷ ys) x c = by (Contains-append_cases (y ∷ []) ys x c) 
     by (inl d) later = subst (λ z. Contains (map f (y ∷ ys)) (f z)) (contains_one y x d) (Contains-append_left (f y ∷ []) (map f ys) (f y) (Contains-push [] (f y)))
     by (inr d) later = Contains-append_right (f y ∷ []) (map f ys) (f x) (later d)
 
-is_below : (m n : ℕ) → nat_lt m n ≡ true → m < n
+pub is_below : (m n : ℕ) → nat_lt m n ≡ true → m < n
 is_below m n h = ltb→lt m n (subst T (sym h) tt)
 
 -- ---- ranges

@@ -1,7 +1,7 @@
 -- When a world may take the place of another, and why not (documentation of `semver_check`).
-use Rattle.std.specs.Prelude.{◌≡◌, ◌⊎◌, true, if◌then◌else◌, List, [], ◌∷◌, ◌++◌, map, Option, Some, None, option_map}
-use Rattle.std.specs.List.{list_any, Contains}
-use Rattle.std.specs.Option.{option_or}
+use Rattle.std.specs.Prelude.{◌≡◌, ◌⊎◌, true, List, [], ◌∷◌, ◌++◌, map, Option, Some, None, option_map, MatchOption}
+use Rattle.std.specs.Borrow.{Bor}
+use Rattle.std.specs.List.{Contains, IsDistinct}
 use Rattle.wit_model.specs.declared.model.Resolve.{Resolve}
 use Rattle.wit_model.specs.declared.model.World.{World}
 use Rattle.wit_model.specs.declared.model.WorldKey.{WorldKey}
@@ -35,17 +35,49 @@ package_name r w = option_map (λ p. bare_identity p.name) (package_of_world r w
 abbrev pub bare_keys : Resolve → List (WorldKey × WorldItem) → List Text
 bare_keys r es = map (λ e. bare_key r e.0) es
 
--- the first of the texts that repeats an earlier one, after those seen
-abbrev pub first_repeat : List Text → List Text → Option Text
-first_repeat seen [] = None
-first_repeat seen (t ∷ ts) = if list_any (text_eq t) seen then Some t else first_repeat (seen ++ t ∷ []) ts
+-- the first text of a list that repeats an earlier one: those before it are all different, and it is one of them
+pub record IsFirstRepeat (ts : List Text) (t : Text) : Type 0 where
+  pub front : List Text
+  pub rest : List Text
+  pub split : ts ≡ front ++ (t ∷ rest)
+  pub before : IsDistinct text_eq front
+  pub again : Contains front t
 
-abbrev pub repeated_key : Resolve → List (WorldKey × WorldItem) → Option Text
-repeated_key r es = first_repeat [] (bare_keys r es)
+-- nothing stands twice, or this text is the first that repeats
+abbrev pub RepeatsIn : List Text → Option (Bor Text) → Type 0
+RepeatsIn ts o = MatchOption o (IsDistinct text_eq ts) (λ s. IsFirstRepeat ts s.now)
 
--- the first key that is twice without version: prev's imports, prev's exports, new's imports, new's exports
-abbrev pub twice : Resolve → World → World → Option Text
-twice r prev new = option_or (repeated_key r prev.imports.entries) (option_or (repeated_key r prev.exports.entries) (option_or (repeated_key r new.imports.entries) (repeated_key r new.exports.entries)))
+-- the first such text of lists that are looked through in turn: nothing stands twice in a list before its own
+pub record IsRepeatedIn (lists : List (List Text)) (t : Text) : Type 0 where
+  pub front : List (List Text)
+  pub list : List Text
+  pub rest : List (List Text)
+  pub split : lists ≡ front ++ (list ∷ rest)
+  pub before : (ts : List Text) → Contains front ts → IsDistinct text_eq ts
+  pub repeats : IsFirstRepeat list t
+
+-- the keys of a world's imports and of its exports, without version
+abbrev pub keys_of_world : Resolve → World → List (List Text)
+keys_of_world r w = bare_keys r w.imports.entries ∷ (bare_keys r w.exports.entries ∷ [])
+
+-- no key of a world is twice without version
+pub record HasKeysOnce (r : Resolve) (w : World) : Type 0 where
+  pub imports : IsDistinct text_eq (bare_keys r w.imports.entries)
+  pub exports : IsDistinct text_eq (bare_keys r w.exports.entries)
+
+-- The first key that is twice without version: prev's imports, prev's exports, new's imports, new's exports.
+abbrev pub IsTwice : Resolve → World → World → Text → Type 0
+IsTwice r prev new name = IsRepeatedIn (keys_of_world r prev ++ keys_of_world r new) name
+
+-- no key of either world is twice, or this is the first that is
+abbrev pub TwiceIn : Resolve → World → World → Option (Bor Text) → Type 0
+TwiceIn r prev new o = MatchOption o (HasKeysOnce r prev × HasKeysOnce r new) (λ s. IsTwice r prev new s.now)
+
+-- the packages agree in namespace and name, and no key is twice without version
+pub record AreComparable (r : Resolve) (prev new : World) : Type 0 where
+  pub packages : package_name r prev ≡ package_name r new
+  pub prev_keys : HasKeysOnce r prev
+  pub new_keys : HasKeysOnce r new
 
 -- ---- the first fault
 
@@ -78,20 +110,14 @@ pub record IsFirstFault (small large : List (Name × Shown)) (f : Refusal) : Typ
 -- Each refusal, where no earlier one stands.
 pub data Refuses (r : Resolve) (prev new : World) : Refusal → Type 0 where
   packages : (package_name r prev ≡ package_name r new → ⊥) → Refuses r prev new other_package
-  keys : (name : Text) → package_name r prev ≡ package_name r new → twice r prev new ≡ Some name → Refuses r prev new (twice_without_version name)
-  imports : (f : Refusal) → package_name r prev ≡ package_name r new → twice r prev new ≡ None → IsFirstFault (flat_imports r prev) (flat_imports r new) f → Refuses r prev new f
-  exports : (f : Refusal) → package_name r prev ≡ package_name r new → twice r prev new ≡ None → IsIncluded (flat_imports r prev) (flat_imports r new) → IsFirstFault (flat_exports r new) (flat_exports r prev) f → Refuses r prev new f
+  keys : (name : Text) → package_name r prev ≡ package_name r new → IsTwice r prev new name → Refuses r prev new (twice_without_version name)
+  imports : (f : Refusal) → AreComparable r prev new → IsFirstFault (flat_imports r prev) (flat_imports r new) f → Refuses r prev new f
+  exports : (f : Refusal) → AreComparable r prev new → IsIncluded (flat_imports r prev) (flat_imports r new) → IsFirstFault (flat_exports r new) (flat_exports r prev) f → Refuses r prev new f
 
 -- What `Ok` says: the packages agree in namespace and name, no key is twice without version, and the worlds are compatible.
 pub record Accepts (r : Resolve) (prev new : World) : Type 0 where
-  pub packages : package_name r prev ≡ package_name r new
-  pub keys : twice r prev new ≡ None
+  pub comparable : AreComparable r prev new
   pub compatible : Compatible r prev new
-
--- no key of a world is twice without version
-pub record HasKeysOnce (r : Resolve) (w : World) : Type 0 where
-  pub imports : repeated_key r w.imports.entries ≡ None
-  pub exports : repeated_key r w.exports.entries ≡ None
 
 -- the refusal that an error carries
 abbrev pub refusal_of : Error → Option Refusal
@@ -115,7 +141,7 @@ IsFaultOf small large e = (e ≡ error.Memory) ⊎ ((f : Refusal) × (refusal_of
 
 -- want of memory, or the first key that is twice without version
 abbrev pub IsRepeated : Resolve → World → World → Error → Type 0
-IsRepeated r prev new e = (e ≡ error.Memory) ⊎ ((name : Text) × (refusal_of e ≡ Some (twice_without_version name)) × (twice r prev new ≡ Some name))
+IsRepeated r prev new e = (e ≡ error.Memory) ⊎ ((name : Text) × (refusal_of e ≡ Some (twice_without_version name)) × IsTwice r prev new name)
 
 -- the numbers in a world's items are in range
 pub record HasItemsInRange (r : Resolve) (w : World) : Type 0 where

@@ -1,5 +1,8 @@
 -- What a kind is beside the types in it, in four parts that the code compares one by one.
-use Rattle.std.specs.Prelude.{◌≡◌, ℕ, ◌+◌, ◌<◌, Bool, List, [], ◌∷◌, map, Option, Some, None, length}
+use Rattle.std.specs.Prelude.{◌≡◌, ℕ, ◌+◌, ◌<◌, ◌==◌, Bool, List, [], ◌∷◌, map, Option, Some, None, option_map, length}
+use Rattle.std.specs.Borrow.{Bor}
+use Rattle.std.specs.Map.{lookup}
+use Rattle.std.specs.Option.{option_or}
 use Rattle.wit_model.specs.declared.model.Resolve.{Resolve}
 use Rattle.wit_model.specs.declared.model.Interface.{Interface}
 use Rattle.wit_model.specs.declared.model.TypeDef.{TypeDef}
@@ -50,6 +53,14 @@ count_of (Some (fixed_list_of n)) = n
 count_of _ = 0
 
 -- ---- the names of interfaces
+
+-- the label that a table has for an interface's number
+abbrev pub label_noted : ℕ → List (ℕ × Bor Text) → Option Text
+label_noted n es = option_map (λ s. s.now) (lookup (λ k. n == k) es)
+
+-- the new table has the labels of the old one, and for other numbers these
+abbrev pub NotesMore : List (ℕ × Bor Text) → List (ℕ × Bor Text) → (ℕ → Option Text) → Type 0
+NotesMore old new more = (n : ℕ) → label_noted n new ≡ option_or (label_noted n old) (more n)
 
 abbrev pub names_from : Resolve → ℕ → List Interface → List Text
 names_from r n [] = []

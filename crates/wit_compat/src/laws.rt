@@ -1,7 +1,7 @@
 //! Laws about the definitions, and the comparison of two worlds with its steps counted.
 
 ghost use Rattle.std.specs.Prelude.{◌≡◌, ◌<◌, length, is_ok, MatchResult, Some};
-ghost use Rattle.wit_compat.specs.Compatible.{Accepts, IsRefused, Refusal, Refuses};
+ghost use Rattle.wit_compat.specs.Compatible.{Accepts, HasKeysOnce, IsRefused, Refusal, Refuses};
 ghost use Rattle.wit_compat.specs.Walk.{IsCounted};
 ghost use Rattle.wit_model.specs.declared.model.Resolve.{Resolve};
 ghost use Rattle.wit_model.specs.declared.model.World.{World};
@@ -36,6 +36,11 @@ pub fn semver_check_counted(
 /// Where a second world may take the place of a first, and a third that of the second, the third may take that of the first.
 pub fn transitive()
     ensures { (r : Resolve) (a b c : World) → Accepts r a b → Accepts r b c → Accepts r a c }
+{}
+
+/// A world may take its own place, where no key of it is twice without version. The `Resolve` is valid.
+pub fn reflexive()
+    ensures { (r : Resolve) (w : World) → IsValid r → HasKeysOnce r w → Accepts r w w }
 {}
 
 /// A world that is refused isn't accepted.

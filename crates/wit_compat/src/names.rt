@@ -1,13 +1,13 @@
 //! The names of interfaces, and the texts of keys, without versions.
 
-ghost use Rattle.std.specs.Prelude.{◌≡◌, ◌++◌, ◌<◌, ◌==◌, [], true, length, map, option_map, Some, IfOk};
-ghost use Rattle.std.specs.Option.{option_map_or};
-ghost use Rattle.wit_compat.specs.Opened.{bare_key, bare_path as bare_path_lem, entries_of_world, inline_label as inline_label_lem, interface_name as interface_name_lem, is_item_of, label_among, label_of_key};
-ghost use Rattle.wit_compat.specs.Outline.{interface_names as interface_names_lem};
+ghost use Rattle.std.specs.Prelude.{◌≡◌, ◌<◌, ◌==◌, ℕ, if◌then◌else◌, [], true, flat_map, length, map, option_map, unwrap_or, None, Some, IfOk, OnOk};
+ghost use Rattle.wit_compat.specs.Opened.{bare_key, bare_path as bare_path_lem, entries_of_world, interface_name as interface_name_lem, is_item_of, label_among, label_of_key};
+ghost use Rattle.wit_compat.specs.Outline.{interface_names as interface_names_lem, label_noted, NotesMore};
 ghost use Rattle.wit_model.specs.Paths.{full_name as full_name_lem};
 ghost use Rattle.wit_model.specs.Rules.{key_in_range};
 ghost use Rattle.wit_model.specs.Text.{optional_text, text_of};
 
+use indexmap::IndexMap;
 use std::alloc::{AllocError, Global};
 use wit_model::{InterfaceId, Map, PackageName, Resolve, World, WorldItem, WorldKey};
 
@@ -34,16 +34,6 @@ fn bare_path(alloc: Global, resolve: &Resolve, number: usize) -> Result<Option<S
     }
 }
 
-fn is_item(item: &WorldItem, number: usize) -> bool
-    ensures { result ≡ is_item_of number item.now }
-{
-    match item {
-        WorldItem::Interface { id, .. } => id.0 as usize == number,
-        WorldItem::Function(_) => false,
-        WorldItem::Type_ { .. } => false,
-    }
-}
-
 fn key_label<'a>(key: &'a WorldKey) -> &'a str
     ensures { result.now ≡ label_of_key key.entry.now }
 {
@@ -53,44 +43,82 @@ fn key_label<'a>(key: &'a WorldKey) -> &'a str
     }
 }
 
-fn label_in<'a>(items: &'a Map<WorldKey, WorldItem>, number: usize) -> Option<&'a str>
-    ensures { option_map (λ s. s.now) result ≡ label_among number items.entry.now.entries }
+/// The labels under which interfaces are items of worlds, by the interfaces' numbers: of several the first.
+type Labels<'a> = IndexMap<usize, &'a str>;
+
+fn note_label<'a>(labels: &mut Labels<'a>, number: usize, label: &'a str) -> Result<(), AllocError>
+    ensures { OnOk result (NotesMore labels.old.entries labels.new.entries (λ n. if number == n then Some label.entry.now else None)) }
+{
+    if labels.get(&number).is_none() {
+        labels.insert(number, label)?;
+    }
+    Ok(())
+}
+
+fn note_item<'a>(
+    labels: &mut Labels<'a>,
+    key: &'a WorldKey,
+    item: &WorldItem,
+) -> Result<(), AllocError>
+    ensures { OnOk result (NotesMore labels.old.entries labels.new.entries (λ n. if is_item_of n item.now then Some (label_of_key key.entry.now) else None)) }
+{
+    match item {
+        WorldItem::Interface { id, .. } => note_label(labels, id.0 as usize, key_label(key)),
+        WorldItem::Function(_) => Ok(()),
+        WorldItem::Type_ { .. } => Ok(()),
+    }
+}
+
+fn note_labels<'a>(
+    labels: &mut Labels<'a>,
+    items: &'a Map<WorldKey, WorldItem>,
+) -> Result<(), AllocError>
+    ensures { OnOk result (NotesMore labels.old.entries labels.new.entries (λ n. label_among n items.entry.now.entries)) }
 {
     for (key, item) in items {
-        if is_item(item, number) {
-            return Some(key_label(key));
-        }
+        note_item(labels, key, item)?;
     }
-    None
+    Ok(())
 }
 
-fn label_of_world<'a>(world: &'a World, number: usize) -> Option<&'a str>
-    ensures { option_map (λ s. s.now) result ≡ label_among number (entries_of_world world.entry.now) }
+fn note_world<'a>(labels: &mut Labels<'a>, world: &'a World) -> Result<(), AllocError>
+    ensures { OnOk result (NotesMore labels.old.entries labels.new.entries (λ n. label_among n (entries_of_world world.entry.now))) }
 {
-    match label_in(&world.imports, number) {
-        Some(label) => Some(label),
-        None => label_in(&world.exports, number),
-    }
+    note_labels(labels, &world.imports)?;
+    note_labels(labels, &world.exports)?;
+    Ok(())
 }
 
-/// The label of an inline interface. Looks through all items of all worlds.
-fn inline_label<'a>(resolve: &'a Resolve, number: usize) -> &'a str
-    ensures { result.now ≡ inline_label_lem resolve.entry.now number }
+/// The labels of interfaces, in one pass over the items of all worlds.
+fn labels<'a>(alloc: Global, resolve: &'a Resolve) -> Result<Labels<'a>, AllocError>
+    ensures { IfOk result (λ m. (n : ℕ) → label_noted n m.entries ≡ label_among n (flat_map entries_of_world resolve.entry.now.worlds.items)) }
 {
+    let mut labels = IndexMap::new(alloc);
     for world in &resolve.worlds {
-        if let Some(label) = label_of_world(world, number) {
-            return label;
-        }
+        note_world(&mut labels, world)?;
     }
-    ""
+    Ok(labels)
 }
 
-fn interface_name(alloc: Global, resolve: &Resolve, number: usize) -> Result<String, AllocError>
+/// The label of an inline interface.
+fn inline_label<'a>(labels: &Labels<'a>, number: usize) -> &'a str
+    ensures { result.now ≡ unwrap_or (label_noted number labels.now.entries) [] }
+{
+    labels.get(&number).copied().unwrap_or("")
+}
+
+fn interface_name(
+    alloc: Global,
+    resolve: &Resolve,
+    labels: &Labels,
+    number: usize,
+) -> Result<String, AllocError>
+    requires labels { (n : ℕ) → label_noted n labels.now.entries ≡ label_among n (flat_map entries_of_world resolve.now.worlds.items) }
     ensures { IfOk result (λ name. text_of name ≡ interface_name_lem resolve.now number) }
 {
     match bare_path(alloc, resolve, number)? {
         Some(path) => Ok(path),
-        None => String::from_str(alloc, inline_label(resolve, number)),
+        None => String::from_str(alloc, inline_label(labels, number)),
     }
 }
 
@@ -98,9 +126,10 @@ fn interface_name(alloc: Global, resolve: &Resolve, number: usize) -> Result<Str
 pub(crate) fn interface_names(alloc: Global, resolve: &Resolve) -> Result<Vec<String>, AllocError>
     ensures { IfOk result (λ v. map text_of v.items ≡ interface_names_lem resolve.now) }
 {
+    let labels = labels(alloc, resolve)?;
     let mut names = Vec::new(alloc);
     for number in 0..resolve.interfaces.len() {
-        let name = interface_name(alloc, resolve, number)?;
+        let name = interface_name(alloc, resolve, &labels, number)?;
         names.push(name)?;
     }
     Ok(names)

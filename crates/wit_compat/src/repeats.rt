@@ -1,10 +1,9 @@
 //! Keys that are equal without their versions.
 
-ghost use Rattle.std.specs.Prelude.{◌≡◌, true, map, option_map, IfOk};
-ghost use Rattle.std.specs.Option.{option_or};
+ghost use Rattle.std.specs.Prelude.{◌≡◌, true, map, IfOk, MatchOption};
 ghost use Rattle.wit_model.specs.Rules.{entries_in_range};
 ghost use Rattle.wit_model.specs.Text.{text_of};
-ghost use Rattle.wit_compat.specs.Compatible.{repeated_key as repeated_key_lem, twice as twice_lem};
+ghost use Rattle.wit_compat.specs.Compatible.{bare_keys, keys_of_world, HasItemsInRange, HasKeysOnce, IsRepeatedIn, RepeatsIn, TwiceIn};
 ghost use Rattle.wit_compat.specs.Outline.{interface_names};
 
 use crate::names::key_text;
@@ -21,7 +20,7 @@ fn repeated_key<'a>(
 ) -> Result<Option<&'a str>, AllocError>
     requires names { map text_of names.now ≡ interface_names resolve.now }
     requires in_range { entries_in_range resolve.now items.now.entries ≡ true }
-    ensures { IfOk result (λ o. option_map (λ s. s.now) o ≡ repeated_key_lem resolve.now items.entry.now.entries) }
+    ensures { IfOk result (RepeatsIn (bare_keys resolve.now items.entry.now.entries)) }
 {
     let mut seen = IndexSet::new(alloc);
     for (key, _item) in items {
@@ -40,9 +39,8 @@ fn repeated_in_world<'a>(
     world: &'a World,
 ) -> Result<Option<&'a str>, AllocError>
     requires names { map text_of names.now ≡ interface_names resolve.now }
-    requires imports { entries_in_range resolve.now world.now.imports.entries ≡ true }
-    requires exports { entries_in_range resolve.now world.now.exports.entries ≡ true }
-    ensures { IfOk result (λ o. option_map (λ s. s.now) o ≡ option_or (repeated_key_lem resolve.now world.entry.now.imports.entries) (repeated_key_lem resolve.now world.entry.now.exports.entries)) }
+    requires world { HasItemsInRange resolve.now world.now }
+    ensures { IfOk result (λ o. MatchOption o (HasKeysOnce resolve.now world.entry.now) (λ s. IsRepeatedIn (keys_of_world resolve.now world.entry.now) s.now)) }
 {
     match repeated_key(alloc, names, resolve, &world.imports)? {
         Some(key) => Ok(Some(key)),
@@ -59,11 +57,9 @@ pub(crate) fn twice<'a>(
     new: &'a World,
 ) -> Result<Option<&'a str>, AllocError>
     requires names { map text_of names.now ≡ interface_names resolve.now }
-    requires prev_imports { entries_in_range resolve.now prev.now.imports.entries ≡ true }
-    requires prev_exports { entries_in_range resolve.now prev.now.exports.entries ≡ true }
-    requires new_imports { entries_in_range resolve.now new.now.imports.entries ≡ true }
-    requires new_exports { entries_in_range resolve.now new.now.exports.entries ≡ true }
-    ensures { IfOk result (λ o. option_map (λ s. s.now) o ≡ twice_lem resolve.now prev.entry.now new.entry.now) }
+    requires prev { HasItemsInRange resolve.now prev.now }
+    requires new { HasItemsInRange resolve.now new.now }
+    ensures { IfOk result (TwiceIn resolve.now prev.entry.now new.entry.now) }
 {
     match repeated_in_world(alloc, names, resolve, prev)? {
         Some(key) => Ok(Some(key)),

@@ -9,7 +9,7 @@ ghost use Rattle.wit_model.specs.Meant.{package_of_world};
 ghost use Rattle.wit_model.specs.Rules.{entries_in_range};
 ghost use Rattle.wit_model.specs.Text.{text_of};
 ghost use Rattle.wit_model.specs.Valid.{IsValid};
-ghost use Rattle.wit_compat.specs.Compatible.{package_name, refusal_of, twice as twice_lem, twice_without_version, Accepts, Compatible, HasItemsInRange, IsMismatch, IsRefused, IsRepeated};
+ghost use Rattle.wit_compat.specs.Compatible.{package_name, refusal_of, twice_without_version, Accepts, Compatible, HasItemsInRange, HasKeysOnce, IsMismatch, IsRefused, IsRepeated};
 ghost use Rattle.wit_compat.specs.Opened.{bare_identity};
 ghost use Rattle.wit_compat.specs.Outline.{interface_names as interface_names_lem};
 ghost use Rattle.wit_compat.specs.Walk.{heads_of, pairs_of_worlds, IsCounted};
@@ -114,7 +114,8 @@ fn refuse_repeats(
     requires names { map text_of names.now ≡ interface_names_lem resolve.now }
     requires prev { HasItemsInRange resolve.now prev.now }
     requires new { HasItemsInRange resolve.now new.now }
-    ensures once { OnOk result (twice_lem resolve.now prev.now new.now ≡ None) }
+    ensures prev { OnOk result (HasKeysOnce resolve.now prev.now) }
+    ensures new { OnOk result (HasKeysOnce resolve.now new.now) }
     ensures refuses { IfErr result (IsRepeated resolve.now prev.now new.now) }
 {
     match twice(alloc, names, resolve, prev, new) {
@@ -240,8 +241,7 @@ pub(crate) fn compare(
 /// where two keys of one list are equal without version, prev's imports and exports first; `Missing` and `Differs`, of the first
 /// import of prev, and then the first export of new, that the other lacks or has otherwise, by `key` or `key/item`. And `Memory`.
 ///
-/// Each pair of type numbers is compared once. The look-ups are hashed; the label of each inline interface is looked for in all
-/// worlds.
+/// Each pair of type numbers is compared once, and the look-ups are hashed.
 pub fn semver_check(
     alloc: Global,
     resolve: Resolve,

@@ -16,8 +16,8 @@ returns-in-Ok-clause-accepts c =
     let prev = c.args.prev.now in
     let new = c.args.new.now in
     by_result (Accepts r prev new) (IsRefused r prev new) c.compare_anew.result
-    (ok_then c.compare_anew.result (λ k. record { packages = c.requires.packages; keys = c.in_default.ensures.once; compatible = k }) c.compare_anew.ensures.compatible)
-    (err_then c.compare_anew.result (mismatch_refused r prev new c.requires.packages c.in_default.ensures.once) c.compare_anew.ensures.refuses)
+    (ok_then c.compare_anew.result (λ k. record { comparable = record { packages = c.requires.packages; prev_keys = c.in_default.ensures.prev; new_keys = c.in_default.ensures.new }; compatible = k }) c.compare_anew.ensures.compatible)
+    (err_then c.compare_anew.result (mismatch_refused r prev new c.requires.packages c.in_default.ensures.prev c.in_default.ensures.new) c.compare_anew.ensures.refuses)
 
 pub returns-in-Err-heads-clause-accepts : goal.returns-in-Err-heads-clause-accepts
 returns-in-Err-heads-clause-accepts c = memory

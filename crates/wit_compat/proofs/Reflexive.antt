@@ -1,0 +1,324 @@
+-- A world whose keys stand once shows nothing twice, so it may take its own place.
+use Rattle.std.proofs.Common.{arith, ◌≡◌, refl, sym, ap, subst, ◌∙◌, ◌⊎◌, inl, inr, ℕ, ◌+◌, ◌<◌, ◌≤◌, length, get_or, slice_get, Bool, true, false, ◌&&◌, ◌||◌, not, cond, List, [], ◌∷◌, ◌++◌, map, Option, Some, None, String, option_map}
+use Rattle.std.specs.declared.alloc.Global.{Global}
+use Rattle.std.specs.List.{AllByRecursion, Contains, IsDistinct, find, list_all, list_any}
+use Rattle.std.specs.Option.{option_map_or}
+use Rattle.std.specs.Prelude.{string_eq}
+use Rattle.std.proofs.lemmas.List.Elements.{Contains-append_left, Contains-append_right, Contains-append_cases, Contains-push}
+use Rattle.std.proofs.lemmas.Cmp.{nat_list_eq_equiv}
+use Rattle.std.proofs.lemmas.Slice.Eq.{bytes_eq-Decides}
+use Rattle.std.proofs.lemmas.Option.{slice_get_cases}
+use Rattle.indexmap.specs.IndexMap.{keys, values}
+use Rattle.wit_model.specs.declared.error.EntryList.TheVariants as lists
+use Rattle.wit_model.specs.declared.model.Resolve.{Resolve}
+use Rattle.wit_model.specs.declared.model.Interface.{Interface}
+use Rattle.wit_model.specs.declared.model.World.{World}
+use Rattle.wit_model.specs.declared.model.WorldKey.{WorldKey}
+use Rattle.wit_model.specs.declared.model.WorldItem.{WorldItem}
+use Rattle.wit_model.specs.declared.model.WorldItem.TheVariants as item
+use Rattle.wit_model.specs.declared.model.Function.{Function}
+use Rattle.wit_model.specs.declared.model.FunctionKind.{FunctionKind}
+use Rattle.wit_model.specs.declared.model.FunctionKind.TheVariants as kind
+use Rattle.wit_model.specs.declared.model.TypeDef.{TypeDef}
+use Rattle.wit_model.specs.declared.model.TypeId.{TypeId}
+use Rattle.wit_model.specs.declared.model.TypeOwner.{TypeOwner}
+use Rattle.wit_model.specs.declared.model.«Type».TheVariants as ty
+use Rattle.wit_model.specs.Text.{Text, text_of, text_eq}
+use Rattle.wit_model.specs.Names.{is_label, constructor_name, method_name, static_name}
+use Rattle.wit_model.specs.Lookup.{interface_at, type_at, resource_of}
+use Rattle.wit_model.specs.Rules.{after_prefix, are_in_order, are_member_labels, constructs, function_labels, in_list, interface_type_numbers, is_freestanding, is_member, is_member_name, is_member_of, is_named_of, is_stability, kind_labels, passes, resource_name, takes_self}
+use Rattle.wit_model.specs.Checks.{KeepsIn, has_name, listings}
+use Rattle.wit_model.specs.Valid.{IsValid, as_interface, functions_of_interface, function_names, labels, order_of_types}
+use Rattle.wit_model.proofs.Entries.{each_from_all, each_from_at, lists_pass, none_breaks}
+use Rattle.wit_model.proofs.Listings.{interface_fits, misnamed_in_interface_breaks}
+use Rattle.wit_model.proofs.Lists.{first_true, second_true}
+use Rattle.wit_compat.specs.Compatible.{Accepts, HasKeysOnce, IsIncluded, bare_keys}
+use Rattle.wit_compat.specs.Flat.{Name, Shown, Thing, interface, of_type, of_function, entry_things, find_named, flat, function_member, item_things, members, same_name, shown, things_of, type_member}
+use Rattle.wit_compat.specs.Opened.{bare_key}
+use Rattle.wit_compat.proofs.Including.{contains_map, contains_one, found_shown}
+use Rattle.wit_compat.proofs.Indexing.{same_name_is}
+use Rattle.wit_compat.proofs.Validity.{all_contained, contains_mapped, interface_numbers, is_below}
+
+-- ---- names that are all different
+
+abbrev AreApart : {X : Type 0} → List (Name × X) → Type 0
+AreApart [] = Unit {0}
+AreApart {X} (x ∷ xs) = ((y : Name × X) → Contains xs y → x.0 ≡ y.0 → ⊥) × AreApart xs
+
+same_itself : (n : Name) → same_name n n ≡ true
+same_itself n = λ i. nat_list_eq_equiv.refl n.0 i && nat_list_eq_equiv.refl n.1 i
+
+-- under its name each stands
+stands_once : {X : Type 0} (xs : List (Name × X)) → AreApart xs → (e : Name × X) → Contains xs e → find_named e.0 xs ≡ Some e.1
+stands_once [] h e c = absurd (let z = c.1 in omega (arith, z))
+stands_once {X} (x ∷ xs) h e c = by (stands_once xs h.1 e) (Contains-append_cases (x ∷ []) xs e c) (same_name e.0 x.0) refl
+  where
+    by : (Contains xs e → find_named e.0 xs ≡ Some e.1) → Contains (x ∷ []) e ⊎ Contains xs e → (b : Bool) → same_name e.0 x.0 ≡ b → cond b (Some x.1) (find_named e.0 xs) ≡ Some e.1
+    by later (inl d) true s = ap (λ (z : Name × X). Some z.1) (contains_one x e d)
+    by later (inl d) false s =
+        let wrong : true ≡ false = sym (same_itself e.0) ∙ ap (λ (z : Name × X). same_name e.0 z.0) (sym (contains_one x e d)) ∙ s in
+        absurd (let z : ⊥ = cc in z)
+    by later (inr d) true s = absurd (h.0 e d (sym (same_name_is e.0 x.0 s)))
+    by later (inr d) false s = later d
+
+apart_two : {X : Type 0} (xs ys : List (Name × X)) → AreApart xs → AreApart ys → ((x y : Name × X) → Contains xs x → Contains ys y → x.0 ≡ y.0 → ⊥) → AreApart (xs ++ ys)
+apart_two [] ys h k other = k
+apart_two {X} (x ∷ xs) ys h k other = (first, apart_two xs ys h.1 k (λ a b c d. other a b (Contains-append_right (x ∷ []) xs a c) d))
+  where
+    first : (y : Name × X) → Contains (xs ++ ys) y → x.0 ≡ y.0 → ⊥
+    first y c e = by (Contains-append_cases xs ys y c)
+      where
+        by : Contains xs y ⊎ Contains ys y → ⊥
+        by (inl d) = h.0 y d e
+        by (inr d) = other x y (Contains-append_left (x ∷ []) xs x (Contains-push [] x)) d e
+
+none_contained : {X : Type 0} (x : X) → Contains [] x → ⊥
+none_contained x c = let z = c.1 in omega (arith, z)
+
+-- ---- entries under their keys
+
+each_one : {X Y : Type 0} (p : Y → Type 0) (f : X → Y) (xs : List X) → AllByRecursion p (map f xs) → (x : X) → Contains xs x → p (f x)
+each_one p f [] h x c = absurd (none_contained x c)
+each_one p f (y ∷ ys) h x c = by (each_one p f ys h.1 x) (Contains-append_cases (y ∷ []) ys x c)
+  where
+    by : (Contains ys x → p (f x)) → Contains (y ∷ []) x ⊎ Contains ys x → p (f x)
+    by later (inl d) = subst (λ z. p (f z)) (contains_one y x d) h.0
+    by later (inr d) = later d
+
+module _ {V : Type 0} (k : Text) (of : V → Thing) where
+  abbrev member : String Global × V → Name × Thing
+  member e = ((k, text_of e.0), of e.1)
+
+  -- the name in the interface
+  abbrev inner : Name × Thing → Text
+  inner x = x.0.1
+
+  members_apart : (es : List (String Global × V)) → IsDistinct string_eq (map (λ e. e.0) es) → AreApart (map member es)
+  unfolding IsDistinct
+  members_apart [] d = tt
+  members_apart (e ∷ es) d = (first, members_apart es d.1)
+    where
+      first : (y : Name × Thing) → Contains (map member es) y → (k, text_of e.0) ≡ y.0 → ⊥
+      first y c q =
+          let w = contains_map member es y c in
+          let texts : text_of e.0 ≡ text_of w.0.0 = ap (λ (n : Name). n.1) q ∙ sym (ap inner w.2) in
+          let differ : text_eq (text_of e.0) (text_of w.0.0) ≡ false = each_one (λ s. string_eq e.0 s ≡ false) (λ (x : String Global × V). x.0) es d.0 w.0 w.1 in
+          let same : text_eq (text_of e.0) (text_of w.0.0) ≡ true = (bytes_eq-Decides (text_of e.0) (text_of w.0.0)).1 texts in
+          let wrong : true ≡ false = sym same ∙ differ in
+          cc
+
+-- ---- names that aren't empty
+
+no_label : (t : Text) → is_label t ≡ true → t ≡ [] → ⊥
+no_label t h e = let wrong : false ≡ true = ap is_label (sym e) ∙ h in cc
+
+-- a function of a resource has a name that begins with its kind
+member_not_empty : (r : Resolve) (n : ℕ) (name : Text) (f : Function) (k : FunctionKind) → is_freestanding k ≡ false → is_member_of r n name f k ≡ true → text_of f.name ≡ [] → ⊥
+member_not_empty r n name f kind.Freestanding o h e = let z : ⊥ = cc in z
+member_not_empty r n name f kind.AsyncFreestanding o h e = let z : ⊥ = cc in z
+member_not_empty r n name f (kind.Constructor id) o h e =
+    let same : text_eq (text_of f.name) (constructor_name name) ≡ true = first_true (text_eq (text_of f.name) (constructor_name name)) (constructs r n f) h in
+    let wrong : false ≡ true = ap (λ (x : Text). text_eq x (constructor_name name)) (sym e) ∙ same in cc
+member_not_empty r n name f (kind.Method id) o h e =
+    let same : is_member_name (method_name name []) f ≡ true = first_true (is_member_name (method_name name []) f) (takes_self r n f) h in
+    let wrong : false ≡ true = ap (λ (x : Text). option_map_or is_label (after_prefix (method_name name []) x) false) (sym e) ∙ same in cc
+member_not_empty r n name f (kind.AsyncMethod id) o h e =
+    let same : is_member_name (method_name name []) f ≡ true = first_true (is_member_name (method_name name []) f) (takes_self r n f) h in
+    let wrong : false ≡ true = ap (λ (x : Text). option_map_or is_label (after_prefix (method_name name []) x) false) (sym e) ∙ same in cc
+member_not_empty r n name f (kind.Static id) o h e =
+    let wrong : false ≡ true = ap (λ (x : Text). option_map_or is_label (after_prefix (static_name name []) x) false) (sym e) ∙ h in cc
+member_not_empty r n name f (kind.AsyncStatic id) o h e =
+    let wrong : false ≡ true = ap (λ (x : Text). option_map_or is_label (after_prefix (static_name name []) x) false) (sym e) ∙ h in cc
+
+found_member : (r : Resolve) (n : ℕ) (f : Function) (k : FunctionKind) (name : Option Text) → is_freestanding k ≡ false → option_map_or (λ t. is_member_of r n t f k) name false ≡ true → text_of f.name ≡ [] → ⊥
+found_member r n f k None o h e = let z : ⊥ = cc in z
+found_member r n f k (Some name) o h e = member_not_empty r n name f k o h e
+
+function_not_empty : (r : Resolve) (o : TypeOwner) (f : Function) (k : FunctionKind) → passes (λ n. option_map_or (λ t. is_member_of r n t f k) (resource_name r o n) false) (resource_of k) ≡ true
+    → (not (is_freestanding k) || is_label (text_of f.name)) ≡ true → text_of f.name ≡ [] → ⊥
+function_not_empty r o f kind.Freestanding m l e = no_label (text_of f.name) l e
+function_not_empty r o f kind.AsyncFreestanding m l e = no_label (text_of f.name) l e
+function_not_empty r o f (kind.Constructor id) m l e = found_member r id.0 f (kind.Constructor id) (resource_name r o id.0) refl m e
+function_not_empty r o f (kind.Method id) m l e = found_member r id.0 f (kind.Method id) (resource_name r o id.0) refl m e
+function_not_empty r o f (kind.AsyncMethod id) m l e = found_member r id.0 f (kind.AsyncMethod id) (resource_name r o id.0) refl m e
+function_not_empty r o f (kind.Static id) m l e = found_member r id.0 f (kind.Static id) (resource_name r o id.0) refl m e
+function_not_empty r o f (kind.AsyncStatic id) m l e = found_member r id.0 f (kind.AsyncStatic id) (resource_name r o id.0) refl m e
+
+-- ---- lists
+
+or_true : (b : Bool) → (b || true) ≡ true
+or_true true = refl
+or_true false = refl
+
+any_contained : {X : Type 0} (p : X → Bool) (xs : List X) (x : X) → Contains xs x → p x ≡ true → list_any p xs ≡ true
+any_contained p [] x c h = absurd (none_contained x c)
+any_contained p (y ∷ ys) x c h = by (λ d. any_contained p ys x d h) (Contains-append_cases (y ∷ []) ys x c)
+  where
+    by : (Contains ys x → list_any p ys ≡ true) → Contains (y ∷ []) x ⊎ Contains ys x → (p y || list_any p ys) ≡ true
+    by later (inl d) = ap (λ b. b || list_any p ys) (ap p (contains_one y x d) ∙ h)
+    by later (inr d) = ap (λ b. p y || b) (later d) ∙ or_true (p y)
+
+found_at : {X : Type 0} (xs : List X) (n : ℕ) → n < length xs → (x : X) × (slice_get xs n ≡ Some x)
+found_at {X} xs n lt = by (slice_get_cases xs n).1
+  where
+    by : ((x : X) × (n < length xs) × (slice_get xs n ≡ Some x) × (get_or xs n x ≡ x)) ⊎ ((length xs ≤ n) × (slice_get xs n ≡ None)) → (x : X) × (slice_get xs n ≡ Some x)
+    by (inl (x, within, at, is)) = (x, at)
+    by (inr (le, none)) = absurd (omega (arith, lt, le))
+
+module _ (r : Resolve) (v : IsValid r) where
+  -- ---- what an interface shows
+
+  kept_listings : KeepsIn listings r lists.Interfaces
+  unfolding listings order_of_types
+  kept_listings = each_from_all (listings.interface_ r) 0 r.interfaces.items (λ n x at.
+      first_true (list_all (is_named_of r (as_interface (0 + n))) (interface_type_numbers x)) (are_in_order r (interface_type_numbers x))
+      (each_from_at (order_of_types.interface_ r) 0 r.interfaces.items n x (lists_pass order_of_types r v.rules.order_of_types).1 at))
+
+  module _ (n : ℕ) (i : Interface) (at : interface_at r n ≡ Some i) where
+    abbrev misnamed : String Global × TypeId → Bool
+    misnamed e = not (has_name r (λ name. text_eq name (text_of e.0)) e.1.0)
+
+    -- types stand under their own names
+    own_names : list_all (λ e. has_name r (λ name. text_eq name (text_of e.0)) e.1.0) i.types.entries ≡ true
+    own_names = by (option_map (λ e. e.1.0) (find misnamed i.types.entries)) refl
+      where
+        by : (o : Option ℕ) → option_map (λ e. e.1.0) (find misnamed i.types.entries) ≡ o → list_all (λ e. has_name r (λ name. text_eq name (text_of e.0)) e.1.0) i.types.entries ≡ true
+        by None q = interface_fits r i q
+        by (Some m) q = absurd (none_breaks r v.rules 5 lists.Types m (misnamed_in_interface_breaks r n i at kept_listings m (sym q)))
+
+    labelled : (list_all function_labels (functions_of_interface i) ≡ true) × (list_all (λ name. not (list_any (λ other. text_eq (text_of name) (text_of other)) (keys i.functions))) (keys i.types) ≡ true)
+    unfolding labels
+    labelled =
+        let passed = each_from_at (labels.interface_ r) 0 r.interfaces.items n i (lists_pass labels r v.rules.labels).1 at in
+        let rest = second_true (passes (λ name. is_label (text_of name)) i.name) _ passed in
+        let both = second_true (is_stability i.stability) _ rest in
+        (first_true (list_all function_labels (functions_of_interface i)) _ both, second_true (list_all function_labels (functions_of_interface i)) _ both)
+
+    type_label : (m : ℕ) (def : TypeDef) → type_at r m ≡ Some def → passes (λ name. is_label (text_of name)) def.name ≡ true
+    unfolding labels
+    type_label m def there = first_true (passes (λ name. is_label (text_of name)) def.name) (is_stability def.stability && are_member_labels (kind_labels def.kind))
+        (each_from_at (labels.type_ r) 0 r.types.items m def (lists_pass labels r v.rules.labels).3 there)
+
+    type_not_empty : (e : String Global × TypeId) → Contains i.types.entries e → text_of e.0 ≡ [] → ⊥
+    type_not_empty e c q =
+        let low = all_contained (λ id. in_list r.types.items id.0) (values i.types) e.1 (interface_numbers r v n i at).0 (contains_mapped (λ (x : String Global × TypeId). x.1) i.types.entries e c) in
+        let there = found_at r.types.items e.1.0 (is_below e.1.0 (length r.types.items) low) in
+        let fits = all_contained (λ x. has_name r (λ name. text_eq name (text_of x.0)) x.1.0) i.types.entries e own_names c in
+        by there.0.name (ap (passes (λ def. option_map_or (λ name. text_eq (text_of name) (text_of e.0)) def.name false)) (sym there.1) ∙ fits) (type_label e.1.0 there.0 there.1)
+      where
+        by : (name : Option (String Global)) → option_map_or (λ x. text_eq (text_of x) (text_of e.0)) name false ≡ true → passes (λ x. is_label (text_of x)) name ≡ true → ⊥
+        by None h l = let z : ⊥ = cc in z
+        by (Some x) h l = no_label (text_of x) l ((bytes_eq-Decides (text_of x) (text_of e.0)).0 h ∙ q)
+
+    function_key_not_empty : (e : String Global × Function) → Contains i.functions.entries e → text_of e.0 ≡ [] → ⊥
+    unfolding function_names
+    function_key_not_empty e c q =
+        let all = each_from_at (function_names.interface_ r) 0 r.interfaces.items n i (lists_pass function_names r v.rules.function_names).1 at in
+        let one = all_contained (λ (x : String Global × Function). text_eq (text_of x.0) (text_of x.1.name) && is_member r (as_interface (0 + n)) x.1) i.functions.entries e all c in
+        let same = first_true (text_eq (text_of e.0) (text_of e.1.name)) (is_member r (as_interface (0 + n)) e.1) one in
+        let member = second_true (text_eq (text_of e.0) (text_of e.1.name)) (is_member r (as_interface (0 + n)) e.1) one in
+        let label = all_contained function_labels (functions_of_interface i) e.1 labelled.0 (contains_mapped (λ (x : String Global × Function). x.1) i.functions.entries e c) in
+        function_not_empty r (as_interface (0 + n)) e.1 e.1.kind member
+        (first_true (not (is_freestanding e.1.kind) || is_label (text_of e.1.name)) (are_member_labels (map (λ p. text_of p.name) e.1.params.items) && is_stability e.1.stability) label)
+        (sym ((bytes_eq-Decides (text_of e.0) (text_of e.1.name)).0 same) ∙ q)
+
+    module _ (k : Text) where
+      types_and_functions : (x y : Name × Thing) → Contains (map (type_member k) i.types.entries) x → Contains (map (function_member k) i.functions.entries) y → x.0 ≡ y.0 → ⊥
+      types_and_functions x y c d q =
+          let a = contains_map (type_member k) i.types.entries x c in
+          let b = contains_map (function_member k) i.functions.entries y d in
+          let texts : text_of a.0.0 ≡ text_of b.0.0 = ap (λ (z : Name × Thing). z.0.1) a.2 ∙ ap (λ (m : Name). m.1) q ∙ sym (ap (λ (z : Name × Thing). z.0.1) b.2) in
+          let none = all_contained (λ name. not (list_any (λ other. text_eq (text_of name) (text_of other)) (keys i.functions))) (keys i.types) a.0.0 labelled.1
+          (contains_mapped (λ (z : String Global × TypeId). z.0) i.types.entries a.0 a.1) in
+          let some = any_contained (λ other. text_eq (text_of a.0.0) (text_of other)) (keys i.functions) b.0.0
+          (contains_mapped (λ (z : String Global × Function). z.0) i.functions.entries b.0 b.1) ((bytes_eq-Decides (text_of a.0.0) (text_of b.0.0)).1 texts) in
+          let wrong : false ≡ true = ap not (sym some) ∙ none in
+          cc
+
+      interface_members_apart : AreApart (members k i)
+      interface_members_apart = apart_two (map (type_member k) i.types.entries) (map (function_member k) i.functions.entries)
+          (members_apart k (λ (id : TypeId). of_type (ty.Id id)) i.types.entries (v.distinct_keys.interfaces n i at).0)
+          (members_apart k of_function i.functions.entries (v.distinct_keys.interfaces n i at).1)
+          types_and_functions
+
+      members_not_empty : (y : Name × Thing) → Contains (members k i) y → (k, []) ≡ y.0 → ⊥
+      members_not_empty y c q = by (Contains-append_cases (map (type_member k) i.types.entries) (map (function_member k) i.functions.entries) y c)
+        where
+          by : Contains (map (type_member k) i.types.entries) y ⊎ Contains (map (function_member k) i.functions.entries) y → ⊥
+          by (inl d) =
+              let a = contains_map (type_member k) i.types.entries y d in
+              type_not_empty a.0 a.1 (ap (λ (z : Name × Thing). z.0.1) a.2 ∙ sym (ap (λ (m : Name). m.1) q))
+          by (inr d) =
+              let b = contains_map (function_member k) i.functions.entries y d in
+              function_key_not_empty b.0 b.1 (ap (λ (z : Name × Thing). z.0.1) b.2 ∙ sym (ap (λ (m : Name). m.1) q))
+
+  -- ---- what an item shows
+
+  one_apart : (x : Name × Thing) → AreApart (x ∷ [])
+  one_apart x = ((λ y c e. none_contained y c), tt)
+
+  optional_apart : (k : Text) (n : ℕ) (o : Option Interface) → interface_at r n ≡ o → AreApart (((k, []), interface) ∷ option_map_or (members k) o [])
+  optional_apart k n None at = one_apart ((k, []), interface)
+  optional_apart k n (Some i) at = (members_not_empty n i at k, interface_members_apart n i at k)
+
+  item_apart : (k : Text) (i : WorldItem) → AreApart (item_things r k i)
+  item_apart k (item.Function f) = one_apart ((k, []), of_function f)
+  item_apart k (item.Type_ id) = one_apart ((k, []), of_type (ty.Id id))
+  item_apart k (item.Interface id stability docs external_id) = optional_apart k id.0 (interface_at r id.0) refl
+
+  -- all under its key
+  member_key : (k : Text) (i : Interface) (x : Name × Thing) → Contains (members k i) x → x.0.0 ≡ k
+  member_key k i x c = by (Contains-append_cases (map (type_member k) i.types.entries) (map (function_member k) i.functions.entries) x c)
+    where
+      by : Contains (map (type_member k) i.types.entries) x ⊎ Contains (map (function_member k) i.functions.entries) x → x.0.0 ≡ k
+      by (inl d) = sym (ap (λ (z : Name × Thing). z.0.0) (contains_map (type_member k) i.types.entries x d).2)
+      by (inr d) = sym (ap (λ (z : Name × Thing). z.0.0) (contains_map (function_member k) i.functions.entries x d).2)
+
+  optional_key : (k : Text) (o : Option Interface) (x : Name × Thing) → Contains (option_map_or (members k) o []) x → x.0.0 ≡ k
+  optional_key k None x c = absurd (none_contained x c)
+  optional_key k (Some i) x c = member_key k i x c
+
+  item_key : (k : Text) (i : WorldItem) (x : Name × Thing) → Contains (item_things r k i) x → x.0.0 ≡ k
+  item_key k (item.Function f) x c = sym (ap (λ (z : Name × Thing). z.0.0) (contains_one ((k, []), of_function f) x c))
+  item_key k (item.Type_ id) x c = sym (ap (λ (z : Name × Thing). z.0.0) (contains_one ((k, []), of_type (ty.Id id)) x c))
+  item_key k (item.Interface id stability docs external_id) x c = by (Contains-append_cases (((k, []), interface) ∷ []) (option_map_or (members k) (interface_at r id.0) []) x c)
+    where
+      by : Contains (((k, []), interface) ∷ []) x ⊎ Contains (option_map_or (members k) (interface_at r id.0) []) x → x.0.0 ≡ k
+      by (inl d) = sym (ap (λ (z : Name × Thing). z.0.0) (contains_one ((k, []), interface) x d))
+      by (inr d) = optional_key k (interface_at r id.0) x d
+
+  entry_key : (es : List (WorldKey × WorldItem)) (x : Name × Thing) → Contains (things_of r es) x → (e : WorldKey × WorldItem) × Contains es e × (x.0.0 ≡ bare_key r e.0)
+  entry_key [] x c = absurd (none_contained x c)
+  entry_key (e ∷ es) x c = by (entry_key es x) (Contains-append_cases (entry_things r e) (things_of r es) x c)
+    where
+      by : (Contains (things_of r es) x → (f : WorldKey × WorldItem) × Contains es f × (x.0.0 ≡ bare_key r f.0)) → Contains (entry_things r e) x ⊎ Contains (things_of r es) x → (f : WorldKey × WorldItem) × Contains (e ∷ es) f × (x.0.0 ≡ bare_key r f.0)
+      by later (inl d) = (e, Contains-append_left (e ∷ []) es e (Contains-push [] e), item_key (bare_key r e.0) e.1 x d)
+      by later (inr d) = let w = later d in (w.0, Contains-append_right (e ∷ []) es w.0 w.1, w.2)
+
+  -- ---- what a world shows
+
+  things_apart : (es : List (WorldKey × WorldItem)) → IsDistinct text_eq (bare_keys r es) → AreApart (things_of r es)
+  unfolding IsDistinct
+  things_apart [] d = tt
+  things_apart (e ∷ es) d = apart_two (entry_things r e) (things_of r es) (item_apart (bare_key r e.0) e.1) (things_apart es d.1) across
+    where
+      across : (x y : Name × Thing) → Contains (entry_things r e) x → Contains (things_of r es) y → x.0 ≡ y.0 → ⊥
+      across x y a b q =
+          let w = entry_key es y b in
+          let texts : bare_key r e.0 ≡ bare_key r w.0.0 = sym (item_key (bare_key r e.0) e.1 x a) ∙ ap (λ (m : Name). m.0) q ∙ w.2 in
+          let differ : text_eq (bare_key r e.0) (bare_key r w.0.0) ≡ false = each_one (λ t. text_eq (bare_key r e.0) t ≡ false) (λ (z : WorldKey × WorldItem). bare_key r z.0) es d.0 w.0 w.1 in
+          let same = (bytes_eq-Decides (bare_key r e.0) (bare_key r w.0.0)).1 texts in
+          let wrong : true ≡ false = sym same ∙ differ in
+          cc
+
+  included_in_itself : (es : List (WorldKey × WorldItem)) → IsDistinct text_eq (bare_keys r es) → IsIncluded (flat r es) (flat r es)
+  included_in_itself es d e c =
+      let w = contains_map (λ (x : Name × Thing). (x.0, shown r x.1)) (things_of r es) e c in
+      subst (λ (x : Name × Shown). find_named x.0 (flat r es) ≡ Some x.1) w.2
+      (found_shown r w.0.0 (things_of r es) ∙ ap (option_map (shown r)) (stands_once (things_of r es) (things_apart es d) w.0 w.1))
+
+  pub accepts_itself : (w : World) → HasKeysOnce r w → Accepts r w w
+  accepts_itself w h = record {
+    comparable = record { packages = refl; prev_keys = h; new_keys = h };
+    compatible = record { imports = included_in_itself w.imports.entries h.imports; exports = included_in_itself w.exports.entries h.exports };
+  }
