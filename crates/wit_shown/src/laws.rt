@@ -1,0 +1,16 @@
+//! Laws of what is shown of a valid `Resolve`.
+
+ghost use Rattle.wit_shown.specs.ShownLaws.{InterfacesMean, InterfacesObey, TypesMean, TypesObey};
+
+/// What shows an interface of a valid `Resolve` obeys the rules of interfaces in its place, and means the interface, in whatever order
+/// its functions are shown.
+pub fn interfaces_are_meant()
+    ensures obey { InterfacesObey }
+    ensures mean { InterfacesMean }
+{}
+
+/// So it is with a view of the types alone, as a dependency shows them.
+pub fn types_are_meant()
+    ensures obey { TypesObey }
+    ensures mean { TypesMean }
+{}
