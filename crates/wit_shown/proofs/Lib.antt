@@ -5,3 +5,12 @@ pub mod Functions
 pub mod Members
 pub mod Apart
 pub mod Interfaces
+pub mod Used
+pub mod Entries
+pub mod Keys
+pub mod Zips
+pub mod Items
+pub mod Worlds
+pub mod Alike
+pub mod Sights
+pub mod WorldMeans

@@ -1,12 +1,17 @@
 -- Laws of what is shown of a valid `Resolve`.
-use Rattle.std.specs.Prelude.{◌≡◌, ℕ, true}
-use Rattle.wit_model.specs.Meant.{interface_meaning_at, types_alone}
+use Rattle.std.specs.Prelude.{◌≡◌, ℕ, true, Some}
+use Rattle.wit_model.specs.Text.{text_of}
+use Rattle.wit_model.specs.Lookup.{world_at, identity_of}
+use Rattle.wit_model.specs.Meant as meant
+use Rattle.wit_model.specs.Meant.{interface_meaning_at, types_alone, package_of_world}
 use Rattle.wit_model.specs.Valid.{IsValid}
 use Rattle.wit_model.specs.declared.model.Resolve.{Resolve}
-use Rattle.comp_meaning.specs.Follow.{View}
-use Rattle.comp_meaning.specs.Rules.{is_interface}
-use Rattle.comp_meaning.specs.Reads.{interface_meaning}
-use Rattle.wit_shown.specs.Views.{home_of, ShowsTypes, ShowsInterface}
+use Rattle.wit_model.specs.declared.model.Package.{Package}
+use Rattle.wit_model.specs.declared.model.World.{World}
+use Rattle.comp_meaning.specs.Follow.{View, Scope}
+use Rattle.comp_meaning.specs.Rules.{is_interface, is_world}
+use Rattle.comp_meaning.specs.Reads.{interface_meaning, world_meaning, world_with}
+use Rattle.wit_shown.specs.Views.{home_of, ShowsTypes, ShowsInterface, ShowsWorld}
 
 -- What shows an interface obeys the rules of interfaces in its place, and means the interface.
 abbrev pub InterfacesObey : Type 0
@@ -21,3 +26,15 @@ TypesObey = (r : Resolve) (n : ℕ) (view : View) → IsValid r → ShowsTypes r
 
 abbrev pub TypesMean : Type 0
 TypesMean = (r : Resolve) (n : ℕ) (view : View) → ShowsTypes r n view → interface_meaning view view.functions ≡ types_alone (interface_meaning_at r n)
+
+-- What shows a world obeys the rules of worlds, and means the world.
+abbrev pub WorldsObey : Type 0
+WorldsObey = (r : Resolve) (n : ℕ) (w : World) (scope : Scope) → IsValid r → world_at r n ≡ Some w → ShowsWorld r w scope → is_world scope ≡ true
+
+abbrev pub WorldsMean : Type 0
+WorldsMean = (r : Resolve) (n : ℕ) (w : World) (scope : Scope) → IsValid r → world_at r n ≡ Some w → ShowsWorld r w scope → world_meaning scope ≡ meant.world_meaning r w
+
+-- By itself it means the world of its package, with each interface that it shows.
+abbrev pub WorldsAloneMean : Type 0
+WorldsAloneMean = (r : Resolve) (n : ℕ) (w : World) (p : Package) (scope : Scope) → IsValid r → world_at r n ≡ Some w → package_of_world r w ≡ Some p → ShowsWorld r w scope
+    → world_with (identity_of p.name) (text_of w.name) scope ≡ Some (meant.world_package r p w)

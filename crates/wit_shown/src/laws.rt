@@ -1,6 +1,14 @@
 //! Laws of what is shown of a valid `Resolve`.
 
-ghost use Rattle.wit_shown.specs.ShownLaws.{InterfacesMean, InterfacesObey, TypesMean, TypesObey};
+ghost use Rattle.wit_shown.specs.ShownLaws.{
+  InterfacesMean,
+  InterfacesObey,
+  TypesMean,
+  TypesObey,
+  WorldsAloneMean,
+  WorldsMean,
+  WorldsObey,
+};
 
 /// What shows an interface of a valid `Resolve` obeys the rules of interfaces in its place, and means the interface, in whatever order
 /// its functions are shown.
@@ -13,4 +21,12 @@ pub fn interfaces_are_meant()
 pub fn types_are_meant()
     ensures obey { TypesObey }
     ensures mean { TypesMean }
+{}
+
+/// What shows a world of a valid `Resolve` obeys the rules of worlds, and means the world; by itself, the world of its package with each
+/// interface that it shows.
+pub fn worlds_are_meant()
+    ensures obey { WorldsObey }
+    ensures mean { WorldsMean }
+    ensures alone { WorldsAloneMean }
 {}
