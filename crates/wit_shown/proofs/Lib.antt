@@ -14,3 +14,6 @@ pub mod Worlds
 pub mod Alike
 pub mod Sights
 pub mod WorldMeans
+pub mod Reach
+pub mod Owning
+pub mod Dependencies

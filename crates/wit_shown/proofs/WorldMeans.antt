@@ -164,7 +164,7 @@ module _ (r : Resolve) (v : IsValid r) (n : ℕ) where
 
     -- ---- its name
 
-    world-label : is_label (text_of w.name) ≡ true
+    pub world-label : is_label (text_of w.name) ≡ true
     unfolding labels
     world-label = first_true (is_label (text_of w.name)) _ (world-passes labels r v.rules.labels n w there)
 

@@ -1,17 +1,23 @@
 -- Laws of what is shown of a valid `Resolve`.
-use Rattle.std.specs.Prelude.{◌≡◌, ℕ, true, Some}
-use Rattle.wit_model.specs.Text.{text_of}
-use Rattle.wit_model.specs.Lookup.{world_at, identity_of}
+use Rattle.std.specs.Prelude.{◌≡◌, ℕ, List, true, Some, None, String}
+use Rattle.std.specs.List.{Contains}
+use Rattle.std.specs.declared.alloc.Global.{Global}
+use Rattle.wit_model.specs.Text.{Text, text_of}
+use Rattle.wit_model.specs.Names.{path_in}
+use Rattle.wit_model.specs.Lookup.{package_at, world_at, identity_of}
 use Rattle.wit_model.specs.Meant as meant
 use Rattle.wit_model.specs.Meant.{interface_meaning_at, types_alone, package_of_world}
 use Rattle.wit_model.specs.Valid.{IsValid}
 use Rattle.wit_model.specs.declared.model.Resolve.{Resolve}
 use Rattle.wit_model.specs.declared.model.Package.{Package}
+use Rattle.wit_model.specs.declared.model.InterfaceId.{InterfaceId}
+use Rattle.wit_model.specs.declared.model.WorldId.{WorldId}
 use Rattle.wit_model.specs.declared.model.World.{World}
-use Rattle.comp_meaning.specs.Follow.{View, Scope}
+use Rattle.comp_bytes.specs.Raw.{Declarations, ExternName}
+use Rattle.comp_meaning.specs.Follow.{View, Scope, component_scope}
 use Rattle.comp_meaning.specs.Rules.{is_interface, is_world}
-use Rattle.comp_meaning.specs.Reads.{interface_meaning, world_meaning, world_with}
-use Rattle.wit_shown.specs.Views.{home_of, ShowsTypes, ShowsInterface, ShowsWorld}
+use Rattle.comp_meaning.specs.Reads.{interface_meaning, world_meaning, world_with, Part, interface_part, world_part}
+use Rattle.wit_shown.specs.Views.{home_of, ShowsTypes, ShowsInterface, ShowsWorld, ShowsDependencies}
 
 -- What shows an interface obeys the rules of interfaces in its place, and means the interface.
 abbrev pub InterfacesObey : Type 0
@@ -38,3 +44,21 @@ WorldsMean = (r : Resolve) (n : ℕ) (w : World) (scope : Scope) → IsValid r �
 abbrev pub WorldsAloneMean : Type 0
 WorldsAloneMean = (r : Resolve) (n : ℕ) (w : World) (p : Package) (scope : Scope) → IsValid r → world_at r n ≡ Some w → package_of_world r w ≡ Some p → ShowsWorld r w scope
     → world_with (identity_of p.name) (text_of w.name) scope ≡ Some (meant.world_package r p w)
+
+-- ---- packages
+
+-- What imports the interfaces that an interface of a package reaches, and exports it, is read as a part of the package.
+abbrev pub InterfacePartsAreRead : Type 0
+InterfacePartsAreRead = (r : Resolve) (n : ℕ) (p : Package) (e : String Global × InterfaceId) (ds : Declarations) (scope : Scope) (imports : List (Text × View)) (exported : View)
+    → IsValid r → package_at r n ≡ Some p → Contains p.interfaces.entries e → component_scope ds ≡ Some scope
+    → ShowsDependencies r e.1.0 (path_in (identity_of p.name) (text_of e.0)) scope imports exported
+    → interface_part (text_of e.0) ds ≡ Some (identity_of p.name, Part.interface exported imports)
+
+abbrev pub plain_name : Text → ExternName
+plain_name text = record { text = text; implements = None; version_suffix = None; external_id = None }
+
+-- So is what shows a world of the package, exported under its path.
+abbrev pub WorldPartsAreRead : Type 0
+WorldPartsAreRead = (r : Resolve) (n : ℕ) (p : Package) (e : String Global × WorldId) (w : World) (ds : Declarations) (scope : Scope)
+    → IsValid r → package_at r n ≡ Some p → Contains p.worlds.entries e → world_at r e.1.0 ≡ Some w → component_scope ds ≡ Some scope → ShowsWorld r w scope
+    → world_part (text_of e.0) (ds, plain_name (path_in (identity_of p.name) (text_of w.name))) ≡ Some (identity_of p.name, Part.world scope)

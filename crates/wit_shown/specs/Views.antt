@@ -7,20 +7,25 @@ use Rattle.std.specs.List.Sorted.{IsPermutation}
 use Rattle.std.specs.declared.alloc.Global.{Global}
 use Rattle.wit_model.specs.Text.{Text, text_of}
 use Rattle.wit_model.specs.Tree.{Tree, Place}
-use Rattle.wit_model.specs.Lookup.{interface_at, interface_path, key_text, place_of_path}
+use Rattle.wit_model.specs.Names.{PackageIdentity}
+use Rattle.wit_model.specs.Lookup.{interface_at, world_at, interface_path, key_text, place_of_path, identity_of}
 use Rattle.wit_model.specs.Parts.{is_resource}
 use Rattle.wit_model.specs.Uses.{direct_deps}
 use Rattle.wit_model.specs.Meaning.{FunctionMeaning}
 use Rattle.wit_model.specs.Meant.{type_meaning_at, function_meaning, signature_of, item_external_id}
 use Rattle.wit_model.specs.declared.model.Resolve.{Resolve}
 use Rattle.wit_model.specs.declared.model.Interface.{Interface}
+use Rattle.wit_model.specs.declared.model.InterfaceId.{InterfaceId}
+use Rattle.wit_model.specs.declared.model.Package.{Package}
 use Rattle.wit_model.specs.declared.model.TypeId.{TypeId}
+use Rattle.wit_model.specs.declared.model.WorldId.{WorldId}
 use Rattle.wit_model.specs.declared.model.World.{World}
 use Rattle.wit_model.specs.declared.model.WorldKey.{WorldKey}
 use Rattle.wit_model.specs.declared.model.WorldKey.TheVariants as key
 use Rattle.wit_model.specs.declared.model.WorldItem.{WorldItem}
 use Rattle.wit_model.specs.declared.model.WorldItem.TheVariants as item
 use Rattle.comp_meaning.specs.Follow.{Slot, View, ShownType, Seen, Shown, Key, Instance, Scope, interface_of}
+use Rattle.comp_meaning.specs.Reads.{Member, Part}
 
 -- ---- interfaces
 
@@ -119,3 +124,34 @@ pub record ShowsReached (r : Resolve) (n : ℕ) (imports : List (Text × View)) 
   pub reached : AreReached r n numbers
   pub shown_imports : AllZip (ShowsImport r) numbers imports
   pub shows : ShowsInterface r n exported
+
+-- ---- a package
+
+-- the component type of interface n of this path: what it imports and exports
+pub record ShowsDependencies (r : Resolve) (n : ℕ) (path : Text) (scope : Scope) (imports : List (Text × View)) (exported : View) : Type 0 where
+  pub reached : ShowsReached r n imports exported
+  pub imports_are : scope.imports ≡ map (λ i. record { key = i.0; shown = Shown.instance (Key.path i.0) i.1; external_id = None }) imports
+  pub exports_are : scope.exports ≡ record { key = path; shown = Shown.instance (Key.path path) exported; external_id = None } ∷ []
+
+-- an interface of the package, under its name
+pub record ShowsInterfaceMember (r : Resolve) (p : PackageIdentity) (e : String Global × InterfaceId) (m : Member) : Type 0 where
+  pub imports : List (Text × View)
+  pub exported : View
+  pub reached : ShowsReached r e.1.0 imports exported
+  pub is : m ≡ record { label = text_of e.0; package_ = p; part = Part.interface exported imports }
+
+-- a world of the package, under its name
+pub record ShowsWorldMember (r : Resolve) (p : PackageIdentity) (e : String Global × WorldId) (m : Member) : Type 0 where
+  pub world : World
+  pub there : world_at r e.1.0 ≡ Some world
+  pub scope : Scope
+  pub shows : ShowsWorld r world scope
+  pub is : m ≡ record { label = text_of e.0; package_ = p; part = Part.world scope }
+
+-- The members show the package: its interfaces in order, and then its worlds.
+pub record ShowsPackage (r : Resolve) (p : Package) (members : List Member) : Type 0 where
+  pub interface_members : List Member
+  pub world_members : List Member
+  pub interfaces : AllZip (ShowsInterfaceMember r (identity_of p.name)) p.interfaces.entries interface_members
+  pub worlds : AllZip (ShowsWorldMember r (identity_of p.name)) p.worlds.entries world_members
+  pub are : members ≡ interface_members ++ world_members

@@ -1,10 +1,12 @@
 //! Laws of what is shown of a valid `Resolve`.
 
 ghost use Rattle.wit_shown.specs.ShownLaws.{
+  InterfacePartsAreRead,
   InterfacesMean,
   InterfacesObey,
   TypesMean,
   TypesObey,
+  WorldPartsAreRead,
   WorldsAloneMean,
   WorldsMean,
   WorldsObey,
@@ -29,4 +31,11 @@ pub fn worlds_are_meant()
     ensures obey { WorldsObey }
     ensures mean { WorldsMean }
     ensures alone { WorldsAloneMean }
+{}
+
+/// The component type of an interface of a package, which imports what the interface reaches, and the wrapper of a world are read as
+/// parts of their package.
+pub fn parts_are_read()
+    ensures interfaces { InterfacePartsAreRead }
+    ensures worlds { WorldPartsAreRead }
 {}
