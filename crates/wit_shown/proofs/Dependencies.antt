@@ -199,7 +199,7 @@ module _ (r : Resolve) (v : IsValid r) where
       ∙ ap (λ b. provided b p) (ap (λ t. text_eq t label) e ∙ text-alike label)
 
   module _ (n : ℕ) (p : Package) (at : package_at r n ≡ Some p) where
-    own-label : (e : String Global × InterfaceId) → Contains p.interfaces.entries e → is_label (text_of e.0) ≡ true
+    pub own-label : (e : String Global × InterfaceId) → Contains p.interfaces.entries e → is_label (text_of e.0) ≡ true
     unfolding Rattle.wit_model.specs.Valid.labels
     own-label e c =
         let is = own-interface r v n p at e c in

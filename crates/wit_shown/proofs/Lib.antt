@@ -17,3 +17,6 @@ pub mod WorldMeans
 pub mod Reach
 pub mod Owning
 pub mod Dependencies
+pub mod SameEntries
+pub mod PackageSights
+pub mod Packages

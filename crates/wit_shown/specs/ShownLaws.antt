@@ -14,10 +14,10 @@ use Rattle.wit_model.specs.declared.model.InterfaceId.{InterfaceId}
 use Rattle.wit_model.specs.declared.model.WorldId.{WorldId}
 use Rattle.wit_model.specs.declared.model.World.{World}
 use Rattle.comp_bytes.specs.Raw.{Declarations, ExternName}
-use Rattle.comp_meaning.specs.Follow.{View, Scope, component_scope}
+use Rattle.comp_meaning.specs.Follow.{View, Scope, component_scope, is_filled}
 use Rattle.comp_meaning.specs.Rules.{is_interface, is_world}
-use Rattle.comp_meaning.specs.Reads.{interface_meaning, world_meaning, world_with, Part, interface_part, world_part}
-use Rattle.wit_shown.specs.Views.{home_of, ShowsTypes, ShowsInterface, ShowsWorld, ShowsDependencies}
+use Rattle.comp_meaning.specs.Reads.{interface_meaning, world_meaning, world_with, Part, Member, interface_part, world_part, package_of_members}
+use Rattle.wit_shown.specs.Views.{home_of, ShowsTypes, ShowsInterface, ShowsWorld, ShowsDependencies, ShowsPackage}
 
 -- What shows an interface obeys the rules of interfaces in its place, and means the interface.
 abbrev pub InterfacesObey : Type 0
@@ -62,3 +62,8 @@ abbrev pub WorldPartsAreRead : Type 0
 WorldPartsAreRead = (r : Resolve) (n : ℕ) (p : Package) (e : String Global × WorldId) (w : World) (ds : Declarations) (scope : Scope)
     → IsValid r → package_at r n ≡ Some p → Contains p.worlds.entries e → world_at r e.1.0 ≡ Some w → component_scope ds ≡ Some scope → ShowsWorld r w scope
     → world_part (text_of e.0) (ds, plain_name (path_in (identity_of p.name) (text_of w.name))) ≡ Some (identity_of p.name, Part.world scope)
+
+-- The parts together mean the package, each interface of another package that it reaches included.
+abbrev pub PackagesMean : Type 0
+PackagesMean = (r : Resolve) (n : ℕ) (p : Package) (members : List Member) → IsValid r → package_at r n ≡ Some p → ShowsPackage r p members → is_filled members ≡ true
+    → package_of_members members ≡ Some (meant.package_meaning r n p)

@@ -4,6 +4,7 @@ ghost use Rattle.wit_shown.specs.ShownLaws.{
   InterfacePartsAreRead,
   InterfacesMean,
   InterfacesObey,
+  PackagesMean,
   TypesMean,
   TypesObey,
   WorldPartsAreRead,
@@ -38,4 +39,10 @@ pub fn worlds_are_meant()
 pub fn parts_are_read()
     ensures interfaces { InterfacePartsAreRead }
     ensures worlds { WorldPartsAreRead }
+{}
+
+/// The parts of a package of a valid `Resolve`, its interfaces in order and then its worlds, mean the package, with each interface of
+/// another package that it reaches.
+pub fn packages_are_meant()
+    ensures { PackagesMean }
 {}
