@@ -1,15 +1,14 @@
 -- Meanings are the same as themselves.
-use Rattle.std.proofs.Common.{◌≡◌, refl, ap, ◌∙◌, ℕ, Bool, true, false, ◌&&◌, ◌==◌, List, [], ◌∷◌, Option, Some, None}
+use Rattle.std.proofs.Common.{◌≡◌, refl, Bool, true, false, ◌&&◌, List, [], ◌∷◌, Option, Some, None}
 use Rattle.std.specs.Cmp.Lexicographic.{pointwise}
-use Rattle.std.specs.List.{list_all}
 use Rattle.std.proofs.lemmas.Cmp.{nat_list_eq_equiv}
 use Rattle.wit_model.specs.Text.{Text, text_eq}
 use Rattle.wit_model.specs.Names.{PackageIdentity}
-use Rattle.wit_model.specs.Tree.{Primitive, Place, Form, Tree, Trees, Declaration}
-use Rattle.wit_model.specs.Meaning.{Signature, FunctionMeaning, TypeMeaning}
+use Rattle.wit_model.specs.Tree.{Form, Tree, Trees, Declaration}
+use Rattle.wit_model.specs.Meaning.{Signature, FunctionMeaning}
 use Rattle.wit_model.proofs.Elements.{both, same-number}
 use Rattle.comp_meaning.specs.Follow.{ShownType}
-use Rattle.comp_meaning.specs.Same.{same_option, same_bool, primitive_number, same_form, same_tree, same_trees, same_declaration, same_type, same_signature, same_function, same_identity}
+use Rattle.comp_meaning.specs.Same.{same_option, same_bool, primitive_number, same_form, same_tree, same_trees, same_declaration, same_signature, same_function, same_identity}
 use Rattle.comp_meaning.specs.Reads.{same_shown}
 use Rattle.wit_shown.proofs.Parts.{place-alike}
 

@@ -1,7 +1,7 @@
 -- What a rule that is kept says of an entry, and owners.
-use Rattle.std.proofs.Common.{◌≡◌, refl, sym, subst, ap, ◌∙◌, ℕ, ◌+◌, Bool, true, false, not, ◌&&◌, ◌||◌, ◌==◌, T, eqb→eq, Option, Some, None, List, [], ◌∷◌, arith}
+use Rattle.std.proofs.Common.{◌≡◌, refl, sym, subst, ap, ℕ, ◌+◌, Bool, true, false, not, ◌||◌, T, eqb→eq, Some, List, [], ◌∷◌, arith}
 use Rattle.std.specs.List.{Contains, list_all}
-use Rattle.wit_model.specs.Lookup.{type_at, interface_at, world_at}
+use Rattle.wit_model.specs.Lookup.{type_at, world_at}
 use Rattle.wit_model.specs.Parts.{same_owner}
 use Rattle.wit_model.specs.Checks.{references}
 use Rattle.wit_model.specs.Valid.{IsValid, Rule, Keeps}

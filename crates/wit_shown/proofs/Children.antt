@@ -1,10 +1,10 @@
 -- What stands in a declared form: its labels, and the trees of the parts of the kind.
-use Rattle.std.proofs.Common.{◌≡◌, refl, sym, subst, ap, ◌∙◌, ℕ, Bool, true, false, not, ◌&&◌, nat_le, max, List, [], ◌∷◌, ◌++◌, append-nil, map, Option, Some, None, option_map, option_to_list}
+use Rattle.std.proofs.Common.{◌≡◌, refl, sym, ap, ◌∙◌, ℕ, Bool, true, false, nat_le, max, List, [], ◌∷◌, ◌++◌, append-nil, map, Option, Some, None, option_map, option_to_list}
 use Rattle.std.specs.Prelude.{filter_map}
 use Rattle.std.specs.List.{list_all}
 use Rattle.std.proofs.lemmas.Simd.{map-map}
 use Rattle.wit_model.specs.Text.{Text, text_of}
-use Rattle.wit_model.specs.Tree.{Tree, Trees, Form, Place, Declaration, type_, resource, primitive, named, node, no_children, child, children, child_list, given, is_given, levels, deepest}
+use Rattle.wit_model.specs.Tree.{Tree, Trees, Place, Declaration, type_, resource, primitive, named, node, no_children, child, children, child_list, given, is_given, levels, deepest}
 use Rattle.wit_model.specs.Types.{declared_by, tree_of, tree_at}
 use Rattle.wit_model.specs.Parts.{member_types, handled}
 use Rattle.wit_model.specs.Rules.{kind_labels, is_named_kind}

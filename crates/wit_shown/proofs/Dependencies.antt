@@ -1,22 +1,19 @@
 -- The component type of an interface of a valid `Resolve`, and the wrapper of a world, are read as parts of their package.
-use Rattle.std.proofs.Common.{◌≡◌, ◌⊎◌, inl, inr, refl, sym, subst, ap, ◌∙◌, ℕ, zero, suc, Bool, true, false, not, ◌&&◌, ◌||◌, ◌==◌, List, [], ◌∷◌, ◌++◌, map, filter, Option, Some, None, String, arith}
+use Rattle.std.proofs.Common.{◌≡◌, ◌⊎◌, inl, inr, refl, sym, subst, ap, ◌∙◌, ℕ, zero, suc, Bool, true, false, not, ◌&&◌, ◌||◌, ◌==◌, List, [], ◌∷◌, ◌++◌, map, Option, Some, None, String, arith}
 use Rattle.std.specs.declared.alloc.Global.{Global}
-use Rattle.std.specs.Prelude.{is_some, is_none, option_and_then, filter_map, flat_map}
+use Rattle.std.specs.Prelude.{is_some, option_and_then, flat_map}
 use Rattle.std.specs.Option.{option_map_or}
 use Rattle.std.specs.List.{AllZip, AllByRecursion, Contains, IsDistinct, list_any}
-use Rattle.std.proofs.lemmas.Bool.{lt-ltb}
-use Rattle.std.proofs.lemmas.Option.{slice_get_within}
 use Rattle.std.proofs.lemmas.List.Elements.{Contains-append_left, Contains-append_right, Contains-append_cases}
 use Rattle.std.proofs.lemmas.Cmp.{nat_list_eq_equiv}
 use Rattle.std.proofs.lemmas.Map.Views.{list_any-from_Contains}
 use Rattle.indexmap.specs.IndexMap.{values}
 use Rattle.wit_model.specs.Text.{Text, text_of, text_eq}
-use Rattle.wit_model.specs.Tree.{Declaration, type_, named}
+use Rattle.wit_model.specs.Tree.{type_, named}
 use Rattle.wit_model.specs.Names.{PackageIdentity, is_label, path_in, read_path}
-use Rattle.wit_model.specs.Types.{declared_by, trees_of, number_of}
+use Rattle.wit_model.specs.Types.{declared_by, trees_of}
 use Rattle.wit_model.specs.Lookup.{package_at, world_at, type_at, interface_at, interface_path, place_of, place_of_path, identity_of}
 use Rattle.wit_model.specs.Meant.{type_meaning_at}
-use Rattle.wit_model.specs.Parts.{kind_numbers}
 use Rattle.wit_model.specs.Uses.{once, alias_target, owner_interface, used_interface, interface_used_by, interfaces_used_by, direct_deps}
 use Rattle.wit_model.specs.Rules.{passes, is_named_kind, is_named_number}
 use Rattle.wit_model.specs.Valid.{IsValid, named_kinds}
@@ -32,29 +29,29 @@ use Rattle.wit_model.specs.declared.model.TypeDefKind.TheVariants as kind
 use Rattle.wit_model.specs.declared.model.TypeId.{TypeId}
 use Rattle.wit_model.specs.declared.model.TypeOwner.{TypeOwner}
 use Rattle.wit_model.specs.declared.model.TypeOwner.TheVariants as owner
-use Rattle.wit_model.specs.declared.model.«Type».{«Type» as ValueType}
 use Rattle.wit_model.specs.declared.model.«Type».TheVariants as ty
 use Rattle.wit_model.proofs.Lists.{first_true, second_true}
 use Rattle.wit_model.proofs.AnyOrder.{text-same}
 use Rattle.wit_model.proofs.NameLaws.{spelled_path_reads}
 use Rattle.wit_model.proofs.Elements.{both, contains-one, contains-map, contains-flat, contains-later, one-contained, none-in, same-some, same-number}
 use Rattle.wit_model.proofs.OnePath.{path-once, some-of}
-use Rattle.comp_bytes.specs.Raw.{Declarations, ExternName}
+use Rattle.comp_bytes.specs.Raw.{Declarations}
 use Rattle.comp_bytes.specs.Reading.{◌>>=◌}
 use Rattle.comp_meaning.specs.Follow.{View, ShownType, Seen, Shown, Key, Scope, each, provided, is_filled, component_scope}
 use Rattle.comp_meaning.specs.Rules.{distinct, used_by, used_by_view, is_world}
 use Rattle.comp_meaning.specs.Reads.{Part, imported_view, exported_view, are_reached, labelled_path, interface_part, world_part}
-use Rattle.wit_shown.specs.Views.{shown_type, home_of, types_of, ShowsTypes, ShowsInterface, ShowsImport, ShowsWorld, ShowsReached, ShowsDependencies, AreUsed, AreReached}
-use Rattle.wit_shown.proofs.Basics.{type-passes, no-longer}
+use Rattle.wit_shown.specs.PackageTypes.{plain_name}
+use Rattle.wit_shown.specs.Views.{shown_type, home_of, types_of, ShowsInterface, ShowsImport, ShowsWorld, ShowsDependencies, AreUsed}
+use Rattle.wit_shown.proofs.Basics.{type-passes}
 use Rattle.wit_shown.proofs.Alike.{text-alike}
 use Rattle.wit_shown.proofs.Parts.{named-tree}
-use Rattle.wit_shown.proofs.Members.{meaning-there, name-label}
+use Rattle.wit_shown.proofs.Members.{meaning-there}
 use Rattle.wit_shown.proofs.Interfaces.{contains-mapped}
 use Rattle.wit_shown.proofs.Reach.{once_from}
 use Rattle.wit_shown.proofs.Owning.{identity, own-interface, own-path, own-world}
 use Rattle.wit_shown.proofs.Worlds.{world-obeys}
 use Rattle.wit_shown.proofs.WorldMeans.{world-label}
-use Rattle.wit_shown.proofs.Zips.{zip-left, zip-right, filter-contains, given-contains}
+use Rattle.wit_shown.proofs.Zips.{zip-right, filter-contains, given-contains}
 
 -- ---- numbers that differ
 
@@ -226,14 +223,19 @@ module _ (r : Resolve) (v : IsValid r) where
         (labelled (identity_of p.name) (text_of e.0) (text_of e.0) (identity r v n p at) (own-label e c) refl)
         ∙ ap (λ b. provided b (identity_of p.name, Part.interface exported imports)) (both _ _ differ all)
 
-    pub world-part-read : (e : String Global × WorldId) → Contains p.worlds.entries e → (w : World) → world_at r e.1.0 ≡ Some w → (ds : Declarations) (scope : Scope) → component_scope ds ≡ Some scope → ShowsWorld r w scope
-        → world_part (text_of e.0) (ds, record { text = path_in (identity_of p.name) (text_of w.name); implements = None; version_suffix = None; external_id = None }) ≡ Some (identity_of p.name, Part.world scope)
-    world-part-read e c w there ds scope follows shows =
+    -- a world of the package under a label that is its name
+    pub world-read : (m : ℕ) (w : World) → world_at r m ≡ Some w → (label : Text) → text_of w.name ≡ label → (ds : Declarations) (scope : Scope) → component_scope ds ≡ Some scope → ShowsWorld r w scope
+        → world_part label (ds, plain_name (path_in (identity_of p.name) (text_of w.name))) ≡ Some (identity_of p.name, Part.world scope)
+    world-read m w there label is ds scope follows shows =
         let path = path_in (identity_of p.name) (text_of w.name) in
-        let label = world-label r v e.1.0 w there scope shows in
-        ap (λ (o : Option (PackageIdentity × Text)). provided (is_some o) path >>= λ whole. labelled_path (text_of e.0) whole >>= λ q. component_scope ds >>= λ s. provided (is_world s) (q, Part.world s))
-        (spelled_path_reads (identity_of p.name) (text_of w.name) (identity r v n p at) label)
+        let name = world-label r v m w there scope shows in
+        ap (λ (o : Option (PackageIdentity × Text)). provided (is_some o) path >>= λ whole. labelled_path label whole >>= λ q. component_scope ds >>= λ s. provided (is_world s) (q, Part.world s))
+        (spelled_path_reads (identity_of p.name) (text_of w.name) (identity r v n p at) name)
         ∙ ap (λ (o : Option PackageIdentity). o >>= λ q. component_scope ds >>= λ s. provided (is_world s) (q, Part.world s))
-        (labelled (identity_of p.name) (text_of w.name) (text_of e.0) (identity r v n p at) label (own-world r v n p at e c w there).0)
+        (labelled (identity_of p.name) (text_of w.name) label (identity r v n p at) name is)
         ∙ ap (λ (o : Option Scope). o >>= λ s. provided (is_world s) (identity_of p.name, Part.world s)) follows
-        ∙ ap (λ b. provided b (identity_of p.name, Part.world scope)) (world-obeys r v e.1.0 w there scope shows)
+        ∙ ap (λ b. provided b (identity_of p.name, Part.world scope)) (world-obeys r v m w there scope shows)
+
+    pub world-part-read : (e : String Global × WorldId) → Contains p.worlds.entries e → (w : World) → world_at r e.1.0 ≡ Some w → (ds : Declarations) (scope : Scope) → component_scope ds ≡ Some scope → ShowsWorld r w scope
+        → world_part (text_of e.0) (ds, plain_name (path_in (identity_of p.name) (text_of w.name))) ≡ Some (identity_of p.name, Part.world scope)
+    world-part-read e c w there ds scope follows shows = world-read e.1.0 w there (text_of e.0) (own-world r v n p at e c w there).0 ds scope follows shows

@@ -1,14 +1,13 @@
 -- What validity says of an import and of an export of a world.
-use Rattle.std.proofs.Common.{◌≡◌, refl, sym, subst, ap, ◌∙◌, ℕ, Bool, true, false, not, ◌&&◌, ◌||◌, ◌==◌, List, [], ◌∷◌, ◌++◌, map, Option, Some, None, String}
-use Rattle.std.specs.declared.alloc.Global.{Global}
-use Rattle.std.specs.Prelude.{is_some, is_none, option_to_list, filter_map}
+use Rattle.std.proofs.Common.{◌≡◌, refl, sym, ap, ◌∙◌, ℕ, Bool, true, false, ◌&&◌, ◌++◌, Option, Some, None}
+use Rattle.std.specs.Prelude.{is_some, option_to_list}
 use Rattle.std.specs.List.{Contains, list_all}
 use Rattle.std.specs.Option.{option_map_or}
 use Rattle.std.proofs.lemmas.List.Elements.{Contains-append_left, Contains-append_right}
 use Rattle.indexmap.specs.IndexMap.{values}
-use Rattle.wit_model.specs.Text.{Text, text_of}
+use Rattle.wit_model.specs.Text.{text_of}
 use Rattle.wit_model.specs.Names.{is_label}
-use Rattle.wit_model.specs.Lookup.{world_at, interface_at, interface_path}
+use Rattle.wit_model.specs.Lookup.{world_at, interface_path}
 use Rattle.wit_model.specs.Parts.{function_types}
 use Rattle.wit_model.specs.Uses.{items_of, item_interface}
 use Rattle.wit_model.specs.Rules.{passes, in_list, is_id, key_in_range, item_in_range, entries_in_range, key_label, item_labels, entries_labels, is_name_key, is_member, is_stability, function_stays, is_shallow, is_interface_key, is_own_type, item_type, import_stands, export_stands, is_export_item, is_freestanding, package_number}

@@ -1,22 +1,19 @@
 -- A function of an owner obeys the rules in the owner's place.
-use Rattle.std.proofs.Common.{◌≡◌, refl, sym, subst, ap, ◌∙◌, ℕ, zero, suc, Bool, true, false, not, ◌&&◌, ◌||◌, ◌==◌, cond, T, eqb→eq, nat_eq, nat_le, List, [], ◌∷◌, ◌++◌, map, length, drop, take, slice_get, Option, Some, None, String, option_map, option_to_list}
+use Rattle.std.proofs.Common.{◌≡◌, refl, sym, ap, ◌∙◌, ℕ, Bool, true, false, not, ◌&&◌, ◌||◌, ◌==◌, cond, nat_eq, List, [], ◌∷◌, map, length, drop, slice_get, Option, Some, None, String, option_map, option_to_list}
 use Rattle.std.specs.declared.alloc.Global.{Global}
 use Rattle.std.specs.Prelude.{is_some, is_none, filter_map, flat_map, codes}
 use Rattle.std.specs.List.{Contains, list_all, list_any, starts_with}
 use Rattle.std.specs.Option.{option_map_or}
-use Rattle.std.proofs.Math.Dec.{eqb_refl}
 use Rattle.std.proofs.lemmas.List.Folds.{list_all-append, list_all-map}
 use Rattle.std.proofs.lemmas.Cmp.{nat_list_eq_equiv}
 use Rattle.wit_model.specs.Text.{Text, text_of, text_eq, optional_text}
 use Rattle.wit_model.specs.Names.{is_label, constructor_name, method_name, static_name}
 use Rattle.wit_model.specs.Tree.{Tree, Place, named, node, child, no_children, levels, own_tree, borrow_tree, result_tree}
-use Rattle.wit_model.specs.Types.{type_tree, number_tree, number_of, declared_by, trees_of, tree_of, tree_of_declaration}
+use Rattle.wit_model.specs.Types.{type_tree, number_tree, number_of, declared_by, trees_of, tree_of_declaration}
 use Rattle.wit_model.specs.Lookup.{type_at, place_of, resource_of, is_async}
-use Rattle.wit_model.specs.Parts.{has_owner, same_owner, met_by, met_of, used_by_values, function_types, function_numbers}
-use Rattle.wit_model.specs.Meaning.{Signature}
+use Rattle.wit_model.specs.Parts.{same_owner, function_types}
 use Rattle.wit_model.specs.Meant.{signature_of}
-use Rattle.wit_model.specs.Rules as rules
-use Rattle.wit_model.specs.Rules.{passes, in_list, after_prefix, function_in_range, function_labels, function_stays, is_freestanding, is_stability, are_member_labels, is_shallow, is_member, is_member_of, is_member_name, resource_name, is_resource_itself, constructs, takes_self, type_is, is_own_of, is_borrow_of, is_own_kind, is_borrow_kind, has_own_ok, is_result_of_own}
+use Rattle.wit_model.specs.Rules.{passes, in_list, after_prefix, function_in_range, function_labels, function_stays, is_freestanding, are_member_labels, is_shallow, is_member, is_member_of, is_member_name, resource_name, is_resource_itself, takes_self, type_is, is_own_of, is_borrow_of, is_own_kind, is_borrow_kind, has_own_ok, is_result_of_own}
 use Rattle.wit_model.specs.Valid.{IsValid}
 use Rattle.wit_model.specs.declared.model.Resolve.{Resolve}
 use Rattle.wit_model.specs.declared.model.Function.{Function}
@@ -32,8 +29,8 @@ use Rattle.wit_model.specs.declared.model.TypeId.{TypeId}
 use Rattle.wit_model.specs.declared.model.«Type».{«Type» as ValueType}
 use Rattle.wit_model.specs.declared.model.«Type».TheVariants as ty
 use Rattle.wit_model.proofs.Lists.{first_true, second_true}
-use Rattle.wit_model.proofs.Elements.{both, same-some, equal, same-number}
-use Rattle.comp_meaning.specs.Same.{same_tree, same_place}
+use Rattle.wit_model.proofs.Elements.{both, same-some, equal}
+use Rattle.comp_meaning.specs.Same.{same_tree}
 use Rattle.comp_meaning.specs.Rules.{is_part, are_labels, is_parameter_type, is_result_type, is_signature, own_name, borrow_name, is_label_behind, begins_with_self, is_function_of, is_function}
 use Rattle.comp_meaning.specs.Rules as shown
 use Rattle.wit_shown.proofs.Basics.{same-owner, or-cases, or-first, or-second, given-not}

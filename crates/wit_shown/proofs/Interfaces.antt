@@ -1,24 +1,20 @@
 -- What shows an interface of a valid `Resolve` obeys the rules of interfaces, and means the interface.
-use Rattle.std.proofs.Common.{◌≡◌, refl, sym, subst, ap, ◌∙◌, ℕ, Bool, true, false, not, ◌&&◌, ◌||◌, nat_lt, List, [], ◌∷◌, ◌++◌, append-nil, map, Option, Some, None, String, cond, arith}
+use Rattle.std.proofs.Common.{◌≡◌, refl, sym, subst, ap, ◌∙◌, ℕ, Bool, true, false, not, ◌&&◌, List, [], ◌∷◌, ◌++◌, append-nil, map, Option, Some, None, String, cond, arith}
 use Rattle.std.specs.declared.alloc.Global.{Global}
 use Rattle.std.specs.Prelude.{IsPermutation}
 use Rattle.std.specs.List.{Contains, IsDistinct, list_all, list_any}
 use Rattle.std.specs.Option.{option_map_or}
-use Rattle.std.specs.Map.{keys_of}
 use Rattle.std.specs.FinMap.{from_entries}
-use Rattle.std.specs.String.{string_eq}
 use Rattle.std.proofs.lemmas.Simd.{map-map}
 use Rattle.std.proofs.lemmas.Cmp.{nat_list_eq_equiv}
-use Rattle.std.proofs.lemmas.List.Folds.{list_all-map, list_any-append}
+use Rattle.std.proofs.lemmas.List.Folds.{list_all-map}
 use Rattle.std.proofs.lemmas.List.Sorted.{IsPermutation-map, IsPermutation-sym, Contains-permutation, list_any-IsPermutation}
-use Rattle.indexmap.specs.IndexMap.{values, keys}
+use Rattle.indexmap.specs.IndexMap.{keys}
 use Rattle.wit_model.specs.Text.{Text, text_of, text_eq}
-use Rattle.wit_model.specs.Tree.{Place, Declaration, type_, resource}
 use Rattle.wit_model.specs.Names.{is_label}
 use Rattle.wit_model.specs.Types.{declaration_of, declared_by, trees_of}
-use Rattle.wit_model.specs.Lookup.{interface_at, interface_path, place_of, type_at, resource_of}
+use Rattle.wit_model.specs.Lookup.{interface_at, place_of, type_at}
 use Rattle.wit_model.specs.Parts.{same_owner, function_types}
-use Rattle.wit_model.specs.Uses.{direct_deps}
 use Rattle.wit_model.specs.Meaning.{FunctionMeaning, InterfaceMeaning}
 use Rattle.wit_model.specs.Meant as meant
 use Rattle.wit_model.specs.Meant.{type_meaning, type_meaning_at, function_meaning, signature_of, interface_meaning_at, no_interface}
@@ -34,7 +30,7 @@ use Rattle.wit_model.specs.declared.model.TypeId.{TypeId}
 use Rattle.wit_model.specs.declared.model.TypeOwner.TheVariants as owner
 use Rattle.wit_model.proofs.Lists.{first_true, second_true}
 use Rattle.wit_model.proofs.AnyOrder.{text-same, distinct-texts, same-map}
-use Rattle.wit_model.proofs.Elements.{both, all-contained, contains-get, contains-map, contains-later}
+use Rattle.wit_model.proofs.Elements.{both, all-contained, contains-map, contains-later}
 use Rattle.wit_model.proofs.OnePath.{interface-passes}
 use Rattle.comp_meaning.specs.Follow.{View, ShownType}
 use Rattle.comp_meaning.specs.Rules.{distinct, is_interface, is_declared, is_function, resources_of, is_resource}
@@ -44,7 +40,7 @@ use Rattle.wit_shown.proofs.Basics.{all-from, no-longer}
 use Rattle.wit_shown.proofs.Apart.{distinct-from, distinct-both}
 use Rattle.wit_shown.proofs.Parts.{number-declared}
 use Rattle.wit_shown.proofs.Functions.{IsResourceOf, function-shown}
-use Rattle.wit_shown.proofs.Members.{IsNamedType, entry-type, entry-of, meaning-there, name-label}
+use Rattle.wit_shown.proofs.Members.{entry-type, entry-of, meaning-there, name-label}
 
 -- an element of a list that is mapped is that of one that it is from
 pub contains-mapped : {A B : Type 0} (f : A → B) (xs : List A) (y : B) → Contains (map f xs) y → (x : A) × Contains xs x × (f x ≡ y)

@@ -1,21 +1,20 @@
 -- What shows an import or an export of a valid world obeys the rules of items.
-use Rattle.std.proofs.Common.{◌≡◌, refl, sym, subst, ap, ◌∙◌, ℕ, zero, suc, Bool, true, false, not, ◌&&◌, ◌||◌, ◌==◌, cond, List, [], ◌∷◌, ◌++◌, map, filter, Option, Some, None, String, unwrap_or, arith}
+use Rattle.std.proofs.Common.{◌≡◌, refl, sym, subst, ap, ◌∙◌, ℕ, zero, suc, Bool, true, false, ◌&&◌, cond, List, [], ◌∷◌, map, Option, Some, None, String, arith}
 use Rattle.std.specs.declared.alloc.Global.{Global}
-use Rattle.std.specs.Prelude.{is_some, is_none, option_to_list, filter_map, flat_map}
+use Rattle.std.specs.Prelude.{is_some, option_to_list, filter_map}
 use Rattle.std.specs.List.{AllZip, Contains, list_all}
 use Rattle.std.specs.Option.{option_map_or}
-use Rattle.std.proofs.Math.Dec.{eqb_refl}
-use Rattle.std.proofs.lemmas.List.Elements.{Contains-append_left, Contains-append_right, Contains-append_cases}
-use Rattle.wit_model.specs.Text.{Text, text_of, text_eq}
+use Rattle.std.proofs.lemmas.List.Elements.{Contains-append_right}
+use Rattle.wit_model.specs.Text.{Text, text_of}
 use Rattle.wit_model.specs.Tree as tree
 use Rattle.wit_model.specs.Tree.{Place}
 use Rattle.wit_model.specs.Names.{is_label}
-use Rattle.wit_model.specs.Lookup.{world_at, type_at, interface_path, key_text, place_of, place_of_path, resource_of}
+use Rattle.wit_model.specs.Lookup.{type_at, interface_path, key_text, place_of, place_of_path, resource_of}
 use Rattle.wit_model.specs.Parts.{same_owner, has_owner, met_by, met_of, used_by_function, used_by_type, function_types, function_numbers}
 use Rattle.wit_model.specs.Types.{number_of, declaration_of}
 use Rattle.wit_model.specs.Uses.{has, item_interface}
 use Rattle.wit_model.specs.Meant.{type_meaning_at, signature_of}
-use Rattle.wit_model.specs.Rules.{passes, in_list, text_is, is_id, each_after, is_name_key, is_member, is_own_type, item_type, is_interface_key, is_resource_itself, used_types, used_interfaces, uses_stand_before}
+use Rattle.wit_model.specs.Rules.{passes, text_is, is_id, is_name_key, item_type, used_types, used_interfaces, uses_stand_before}
 use Rattle.wit_model.specs.Valid.{IsValid, as_world}
 use Rattle.wit_model.specs.declared.model.Resolve.{Resolve}
 use Rattle.wit_model.specs.declared.model.TypeDef.{TypeDef}
@@ -30,11 +29,11 @@ use Rattle.wit_model.proofs.Lists.{first_true, second_true}
 use Rattle.wit_model.proofs.Owners.{met_step}
 use Rattle.wit_model.proofs.AnyOrder.{text-same}
 use Rattle.wit_model.proofs.Elements.{both, all-contained, contains-one, contains-flat, contains-later, none-in, equal, has-contains, same-some}
-use Rattle.wit_model.proofs.OnePath.{found-in, some-of}
+use Rattle.wit_model.proofs.OnePath.{found-in}
 use Rattle.comp_meaning.specs.Follow.{View, Seen, Shown, interface_of}
 use Rattle.comp_meaning.specs.Follow as follow
 use Rattle.comp_meaning.specs.Rules.{is_interface, is_declared, is_function, is_item, is_resource, resources_seen}
-use Rattle.wit_shown.specs.Views.{home_of, instance_key, shown_item, IsViewOf, ShowsItem, ShowsInterface}
+use Rattle.wit_shown.specs.Views.{instance_key, shown_item, IsViewOf, ShowsItem}
 use Rattle.wit_shown.proofs.Basics.{same-owner, valid-references}
 use Rattle.wit_shown.proofs.Parts.{number-declared}
 use Rattle.wit_shown.proofs.Functions.{IsResourceOf, function-shown}

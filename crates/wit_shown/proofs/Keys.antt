@@ -1,7 +1,7 @@
 -- The keys of the imports, and of the exports, of a world are texts of which none stands twice.
-use Rattle.std.proofs.Common.{◌≡◌, ◌⊎◌, inl, inr, refl, sym, subst, ap, ◌∙◌, ℕ, Bool, true, false, not, ◌&&◌, ◌||◌, ◌==◌, cond, List, [], ◌∷◌, ◌++◌, map, drop, Option, Some, None, String, unwrap_or, arith}
+use Rattle.std.proofs.Common.{◌≡◌, ◌⊎◌, inl, inr, refl, sym, ap, ◌∙◌, ℕ, Bool, true, false, not, ◌&&◌, ◌||◌, ◌==◌, cond, List, [], ◌∷◌, ◌++◌, map, drop, Option, Some, None, String, unwrap_or, arith}
 use Rattle.std.specs.declared.alloc.Global.{Global}
-use Rattle.std.specs.Prelude.{is_some, is_none, codes}
+use Rattle.std.specs.Prelude.{is_some, is_none}
 use Rattle.std.specs.Char.{is_ascii_alphabetic}
 use Rattle.std.specs.List.{Contains, AllByRecursion, IsDistinct, list_all}
 use Rattle.std.specs.Option.{option_map_or}
@@ -9,7 +9,7 @@ use Rattle.std.proofs.lemmas.Cmp.{nat_list_eq_equiv}
 use Rattle.wit_model.specs.Text.{Text, text_of, text_eq}
 use Rattle.wit_model.specs.Names.{is_label, begins_with_letter, constructor_name, method_name, static_name}
 use Rattle.wit_model.specs.Lookup.{interface_path, key_text, resource_of}
-use Rattle.wit_model.specs.Rules.{passes, in_list, after_prefix, is_name_key, is_freestanding, is_member, is_member_of, is_member_name, resource_name, takes_self, constructs}
+use Rattle.wit_model.specs.Rules.{passes, after_prefix, is_name_key, is_freestanding, is_member, is_member_of, is_member_name, resource_name}
 use Rattle.wit_model.specs.Valid.{IsValid, key_eq, as_world}
 use Rattle.wit_model.specs.declared.model.Resolve.{Resolve}
 use Rattle.wit_model.specs.declared.model.WorldKey.{WorldKey}
@@ -24,7 +24,6 @@ use Rattle.wit_model.proofs.NameLaws.{label_lacks, identity_namespace}
 use Rattle.wit_model.proofs.AnyOrder.{text-same}
 use Rattle.wit_model.proofs.Elements.{contains-later, same-number, equal}
 use Rattle.wit_model.proofs.OnePath.{has-path, package-name, path-once, some-of}
-use Rattle.wit_shown.proofs.Basics.{or-cases}
 use Rattle.wit_shown.proofs.Entries.{IsEntry, interface-key-path}
 
 -- a key is a path, or a label, or the name of a function of a resource

@@ -20,3 +20,4 @@ pub mod Dependencies
 pub mod SameEntries
 pub mod PackageSights
 pub mod Packages
+pub mod PackageTypes

@@ -1,5 +1,5 @@
 -- The types of an interface's list: each is a named type of the interface, under its name, and they are all of those.
-use Rattle.std.proofs.Common.{◌≡◌, refl, sym, subst, ap, ◌∙◌, ℕ, suc, Bool, true, false, not, ◌&&◌, ◌==◌, cond, nat_lt, List, [], ◌∷◌, map, count_by, slice_get, Option, Some, None, String, string_bytes, option_map, arith}
+use Rattle.std.proofs.Common.{◌≡◌, refl, sym, ap, ◌∙◌, ℕ, suc, Bool, true, false, ◌&&◌, ◌==◌, cond, nat_lt, List, [], ◌∷◌, count_by, slice_get, Some, String, string_bytes, option_map, arith}
 use Rattle.std.specs.declared.alloc.Global.{Global}
 use Rattle.std.specs.Prelude.{is_some}
 use Rattle.std.specs.List.{Contains, list_all}
@@ -9,10 +9,9 @@ use Rattle.std.specs.Str.{bytes_eq}
 use Rattle.std.specs.HashMap.{get_by_text}
 use Rattle.indexmap.specs.IndexMap.{values}
 use Rattle.wit_model.specs.Text.{Text, text_of}
-use Rattle.wit_model.specs.Lookup.{type_at, interface_at, place_of}
+use Rattle.wit_model.specs.Lookup.{type_at, interface_at}
 use Rattle.wit_model.specs.Parts.{kind_numbers, same_owner}
 use Rattle.wit_model.specs.Meant.{type_meaning, type_meaning_at, no_type}
-use Rattle.wit_model.specs.Types.{declaration_of}
 use Rattle.wit_model.specs.Rules.{passes, in_list, is_id, is_listed, is_listed_in_interface, is_named_of, interface_type_numbers, are_in_order, package_number}
 use Rattle.wit_model.specs.Valid.{IsValid, as_interface, is_place, labels, numbers_in_range, order_of_types}
 use Rattle.wit_model.specs.Names.{is_label}

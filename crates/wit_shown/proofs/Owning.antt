@@ -1,18 +1,17 @@
 -- Which interfaces are a package's own, by their paths.
-use Rattle.std.proofs.Common.{◌≡◌, refl, sym, subst, ap, ◌∙◌, ℕ, suc, Bool, true, false, not, ◌&&◌, ◌||◌, ◌==◌, cond, List, [], ◌∷◌, map, option_map, Option, Some, None, String, arith}
+use Rattle.std.proofs.Common.{◌≡◌, refl, sym, subst, ap, ◌∙◌, ℕ, Bool, true, false, not, ◌&&◌, ◌==◌, cond, List, [], ◌∷◌, option_map, Option, Some, None, String, arith}
 use Rattle.std.specs.declared.alloc.Global.{Global}
 use Rattle.std.specs.Prelude.{is_some, option_and_then}
 use Rattle.std.specs.Option.{option_map_or}
-use Rattle.std.specs.HashMap.{get_by_text}
 use Rattle.std.specs.List.{Contains, list_all}
 use Rattle.std.specs.Map.{lookup}
 use Rattle.std.specs.Str.{bytes_eq}
 use Rattle.indexmap.specs.IndexMap.{values}
 use Rattle.wit_model.specs.Text.{Text, text_of, text_eq}
-use Rattle.wit_model.specs.Names.{PackageIdentity, is_identity, is_label, path_in, read_path}
+use Rattle.wit_model.specs.Names.{PackageIdentity, is_identity, path_in, read_path}
 use Rattle.wit_model.specs.Lookup.{package_at, interface_at, world_at, interface_path, path_of_interface, path_in_package, identity_of}
 use Rattle.wit_model.specs.Meant.{is_foreign}
-use Rattle.wit_model.specs.Rules.{passes, in_list, is_id, text_is, package_number, interface_belongs, world_belongs, is_world_name, names_itself}
+use Rattle.wit_model.specs.Rules.{passes, in_list, is_id, text_is, package_number, interface_belongs, world_belongs}
 use Rattle.wit_model.specs.Valid.{IsValid, is_place, numbers_in_range, places, names_in_packages}
 use Rattle.wit_model.specs.declared.model.Resolve.{Resolve}
 use Rattle.wit_model.specs.declared.model.Package.{Package}
@@ -30,7 +29,6 @@ use Rattle.wit_model.proofs.Elements.{all-contained, contains-map, contains-late
 use Rattle.wit_model.proofs.OnePath.{HasPath, has-path, path-label, path-listed, package-name, package-once, package-passes, found-in, some-same}
 use Rattle.comp_meaning.specs.Same.{same_identity, same_option}
 use Rattle.comp_meaning.specs.Reads.{is_of}
-use Rattle.wit_shown.proofs.Basics.{world-passes}
 use Rattle.wit_shown.proofs.Alike.{identity-alike}
 
 -- what a look-up by text finds

@@ -2,8 +2,7 @@
 use Rattle.std.proofs.Common.{◌≡◌, ◌⊎◌, inl, inr, refl, sym, subst, ap, ◌∙◌, ℕ, zero, suc, ◌<◌, Bool, true, false, not, ◌&&◌, ◌||◌, ◌==◌, List, [], ◌∷◌, ◌++◌, map, filter, length, Option, Some, None, String, unwrap_or, arith}
 use Rattle.std.specs.declared.alloc.Global.{Global}
 use Rattle.std.specs.Prelude.{is_some, option_to_list, filter_map, flat_map, option_and_then}
-use Rattle.std.specs.Option.{option_map_or}
-use Rattle.std.specs.List.{AllZip, Contains, list_all, list_any}
+use Rattle.std.specs.List.{Contains, list_all}
 use Rattle.std.proofs.lemmas.Bool.{ltb-true}
 use Rattle.std.proofs.lemmas.Option.{slice_get_within}
 use Rattle.std.proofs.lemmas.List.Folds.{list_any_at}
@@ -12,8 +11,8 @@ use Rattle.indexmap.specs.IndexMap.{values}
 use Rattle.wit_model.specs.Text.{Text, text_of, text_eq}
 use Rattle.wit_model.specs.Names.{PackageIdentity, path_in}
 use Rattle.wit_model.specs.Lookup.{package_at, world_at, interface_at, interface_path, path_of_interface, identity_of}
-use Rattle.wit_model.specs.Uses.{has, items_of, item_interface, interfaces_of_item, interfaces_of_world, shown_by, worlds_of, reached_by_package, is_shown_in, direct_deps, interface_used_by}
-use Rattle.wit_model.specs.Rules.{each_after, used_interfaces, used_types, uses_stand_before, item_type}
+use Rattle.wit_model.specs.Uses.{has, items_of, item_interface, interfaces_of_item, interfaces_of_world, shown_by, worlds_of, reached_by_package, is_shown_in, direct_deps}
+use Rattle.wit_model.specs.Rules.{each_after, used_interfaces, uses_stand_before}
 use Rattle.wit_model.specs.Valid.{IsValid, order_of_items}
 use Rattle.wit_model.specs.declared.model.Resolve.{Resolve}
 use Rattle.wit_model.specs.declared.model.Package.{Package}
@@ -26,10 +25,10 @@ use Rattle.wit_model.specs.declared.model.WorldItem.TheVariants as item
 use Rattle.wit_model.proofs.Lists.{first_true, second_true}
 use Rattle.wit_model.proofs.AnyOrder.{text-same}
 use Rattle.wit_model.proofs.NameLaws.{spelled_path_reads}
-use Rattle.wit_model.proofs.Elements.{both, all-contained, contains-map, contains-one, contains-later, contains-flat, contains-filter_map, one-contained, none-in, has-contains, contains-has, same-some}
+use Rattle.wit_model.proofs.Elements.{both, all-contained, contains-map, contains-one, contains-flat, contains-filter_map, one-contained, none-in, has-contains, contains-has, same-some}
 use Rattle.wit_model.proofs.OnePath.{path-once}
 use Rattle.comp_meaning.specs.Follow.{View}
-use Rattle.comp_meaning.specs.Reads.{Sight, Member, Part, sights, is_of}
+use Rattle.comp_meaning.specs.Reads.{Sight, Member, sights, is_of}
 use Rattle.wit_shown.specs.Views.{ShowsInterface, ShowsImport, ShowsReached, ShowsPackage, ShowsInterfaceMember, ShowsWorldMember}
 use Rattle.wit_shown.proofs.Basics.{world-passes}
 use Rattle.wit_shown.proofs.Alike.{text-alike, identity-alike}

@@ -1,5 +1,5 @@
 -- The members that show a package of a valid `Resolve` mean the package.
-use Rattle.std.proofs.Common.{◌≡◌, ◌⊎◌, inl, inr, refl, sym, subst, ap, ◌∙◌, ℕ, Bool, true, false, not, ◌&&◌, ◌||◌, ◌==◌, List, [], ◌∷◌, ◌++◌, append-nil, map, filter, Option, Some, None, String, unwrap_or, arith}
+use Rattle.std.proofs.Common.{◌≡◌, ◌⊎◌, inl, inr, refl, sym, subst, ap, ◌∙◌, ℕ, Bool, true, false, not, ◌&&◌, ◌||◌, List, [], ◌∷◌, ◌++◌, append-nil, map, filter, Option, Some, None, String, unwrap_or, arith}
 use Rattle.std.specs.declared.alloc.Global.{Global}
 use Rattle.std.specs.Prelude.{is_some, flat_map}
 use Rattle.std.specs.Option.{option_map_or}
@@ -10,9 +10,9 @@ use Rattle.std.proofs.lemmas.List.Folds.{list_any_at}
 use Rattle.std.proofs.lemmas.List.Elements.{Contains-append_cases}
 use Rattle.wit_model.specs.Text.{Text, TextMap, text_of, text_eq}
 use Rattle.wit_model.specs.Names.{PackageIdentity, path_in}
-use Rattle.wit_model.specs.Lookup.{package_at, world_at, interface_path, identity_of}
+use Rattle.wit_model.specs.Lookup.{package_at, interface_path, identity_of}
 use Rattle.wit_model.specs.Uses.{reached_by_package, is_shown_in}
-use Rattle.wit_model.specs.Meaning.{InterfaceMeaning, WorldMeaning, PackageMeaning}
+use Rattle.wit_model.specs.Meaning.{InterfaceMeaning, WorldMeaning}
 use Rattle.wit_model.specs.Meant as meant
 use Rattle.wit_model.specs.Meant.{interface_meaning_at, world_meaning_at, foreign_of, foreign_meaning, is_foreign}
 use Rattle.wit_model.specs.Valid.{IsValid}
@@ -20,20 +20,20 @@ use Rattle.wit_model.specs.declared.model.Resolve.{Resolve}
 use Rattle.wit_model.specs.declared.model.Package.{Package}
 use Rattle.wit_model.specs.declared.model.InterfaceId.{InterfaceId}
 use Rattle.wit_model.specs.declared.model.WorldId.{WorldId}
-use Rattle.wit_model.proofs.Elements.{both, contains-map, contains-later, same-some}
+use Rattle.wit_model.proofs.Elements.{both, contains-map}
 use Rattle.wit_model.proofs.OnePath.{path-once}
 use Rattle.comp_meaning.specs.Follow.{provided, is_filled}
 use Rattle.comp_meaning.specs.Same.{same_identity}
-use Rattle.comp_meaning.specs.Reads.{Sight, Member, Part, sights, is_of, stands_at_top, is_interface_part, all_agree, are_interfaces, seen_meaning, interfaces_of, worlds_of, package_with, package_of_members}
+use Rattle.comp_meaning.specs.Reads.{Sight, Member, sights, is_of, stands_at_top, is_interface_part, seen_meaning, interfaces_of, worlds_of, package_with, package_of_members}
 use Rattle.wit_shown.specs.Views.{ShowsPackage, ShowsInterfaceMember, ShowsWorldMember}
-use Rattle.wit_shown.proofs.Basics.{all-from, or-first, or-second}
+use Rattle.wit_shown.proofs.Basics.{all-from}
 use Rattle.wit_shown.proofs.Alike.{text-alike, identity-alike}
 use Rattle.wit_shown.proofs.Interfaces.{interface-means, contains-mapped}
 use Rattle.wit_shown.proofs.WorldMeans.{world-means}
 use Rattle.wit_shown.proofs.Owning.{foreign-path, own-listed}
 use Rattle.wit_shown.proofs.Sights.{IsSight, all-sights-agree, all-sights-obey, sight-means}
 use Rattle.wit_shown.proofs.SameEntries.{zip-all, same-entries}
-use Rattle.wit_shown.proofs.PackageSights.{IsSeen, seen-reached, HasSight, reached-seen, whole-shown, interface-member}
+use Rattle.wit_shown.proofs.PackageSights.{seen-reached, reached-seen, whole-shown, interface-member}
 use Rattle.wit_shown.proofs.Zips.{zip-left, contains-filter, filter-contains}
 
 -- lists, element by element

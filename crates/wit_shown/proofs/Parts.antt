@@ -1,5 +1,5 @@
 -- The types of an owner, as parts of others: the names in them are of the owner's place.
-use Rattle.std.proofs.Common.{◌≡◌, refl, sym, subst, ap, ◌∙◌, ℕ, zero, suc, ◌+◌, ◌<◌, Bool, true, false, not, ◌&&◌, ◌||◌, nat_lt, nat_le, List, [], ◌∷◌, ◌++◌, map, length, slice_get, unwrap_or, Option, Some, None, String, option_map, option_to_list, arith}
+use Rattle.std.proofs.Common.{◌≡◌, refl, sym, subst, ap, ◌∙◌, ℕ, zero, suc, ◌<◌, Bool, true, false, not, ◌&&◌, ◌||◌, nat_lt, nat_le, List, [], ◌∷◌, map, length, unwrap_or, Option, Some, None, String, option_to_list, arith}
 use Rattle.std.specs.declared.alloc.Global.{Global}
 use Rattle.std.specs.Prelude.{is_some, filter_map, flat_map}
 use Rattle.std.specs.List.{Contains, list_all}
@@ -11,13 +11,13 @@ use Rattle.std.proofs.lemmas.List.Elements.{Contains-append_left, Contains-appen
 use Rattle.std.proofs.lemmas.Cmp.{nat_list_eq_equiv}
 use Rattle.wit_model.specs.Text.{Text, text_of, text_eq}
 use Rattle.wit_model.specs.Tree.{Tree, Place, Primitive, Declaration, type_, resource, primitive, named, node, of_interface, here, levels}
-use Rattle.wit_model.specs.Types.{declared_by, tree_of, tree_at, tree_of_definition, tree_of_declaration, type_tree, number_tree, trees_of, no_tree, number_of, declaration_of}
+use Rattle.wit_model.specs.Types.{declared_by, tree_of, tree_at, tree_of_declaration, type_tree, number_tree, trees_of, no_tree, number_of, declaration_of}
 use Rattle.wit_model.specs.Lookup.{type_at, place_of}
-use Rattle.wit_model.specs.Parts.{member_types, handled, kind_numbers, met_by, met_of, used_by_type, same_owner, has_owner, is_resource, is_resource_kind, is_resource_type, function_types}
+use Rattle.wit_model.specs.Parts.{member_types, handled, kind_numbers, met_by, met_of, used_by_type, same_owner, has_owner, is_resource, is_resource_kind, is_resource_type}
 use Rattle.wit_model.specs.Uses.{alias_target}
 use Rattle.wit_model.specs.Rules.{is_named_kind, is_named_number, passes, is_shallow, in_list, is_use, type_stays, kind_labels, are_member_labels}
 use Rattle.wit_model.specs.Rules as rules
-use Rattle.wit_model.specs.Valid.{IsValid, Keeps, labels, named_kinds, order_of_types, owners, handles, depths}
+use Rattle.wit_model.specs.Valid.{IsValid, labels, named_kinds, owners, handles, depths}
 use Rattle.wit_model.specs.declared.model.Resolve.{Resolve}
 use Rattle.wit_model.specs.declared.model.TypeDef.{TypeDef}
 use Rattle.wit_model.specs.declared.model.TypeDefKind.{TypeDefKind}
@@ -32,13 +32,13 @@ use Rattle.wit_model.proofs.Lists.{first_true, second_true}
 use Rattle.wit_model.proofs.TreeTable.{kept_numbers, kept_trees_at}
 use Rattle.wit_model.proofs.Resources.{resource_step}
 use Rattle.wit_model.proofs.Functions.{all_flat}
-use Rattle.wit_model.proofs.Owners.{met_step, named_met, unnamed_met}
+use Rattle.wit_model.proofs.Owners.{named_met, unnamed_met}
 use Rattle.wit_model.proofs.Elements.{both, all-contained, contains-filter_map, contains-one}
 use Rattle.wit_model.proofs.OnePath.{found-in, some-of}
 use Rattle.comp_meaning.specs.Same.{same_place}
-use Rattle.comp_meaning.specs.Rules.{is_part, are_parts, is_declared, is_named_form, are_labels, distinct}
-use Rattle.wit_shown.proofs.Basics.{type-passes, valid-references, same-owner, all-from, given-not, or-cases, or-first, or-second}
-use Rattle.wit_shown.proofs.Children.{child_trees, declared_labels, has_named_form, is_alias, children-are, labels-are, form-unnamed, parts-from, declared-from}
+use Rattle.comp_meaning.specs.Rules.{is_part, is_declared, are_labels, distinct}
+use Rattle.wit_shown.proofs.Basics.{type-passes, valid-references, same-owner, all-from, given-not, or-cases}
+use Rattle.wit_shown.proofs.Children.{child_trees, has_named_form, is_alias, children-are, labels-are, form-unnamed, parts-from, declared-from}
 
 pub place-alike : (a : Place) → same_place a a ≡ true
 place-alike (of_interface p) = nat_list_eq_equiv.refl p

@@ -4,7 +4,7 @@ use Rattle.std.specs.List.{AllZip, Contains, list_any}
 use Rattle.std.specs.Ordering.{eq_by_cmp}
 use Rattle.std.specs.FinMap.{find, from_entries, get-from_entries, same_map, slice_cmp-IsAntisymmetric, nat_cmp-IsAntisymmetric}
 use Rattle.std.proofs.lemmas.Cmp.{nat_list_cmp_total, nat_list_eq_equiv}
-use Rattle.wit_model.specs.Text.{Text, TextMap, text_eq, text_cmp}
+use Rattle.wit_model.specs.Text.{Text, TextMap, text_cmp}
 use Rattle.wit_model.proofs.AnyOrder.{same-text, found-there}
 use Rattle.wit_model.proofs.Elements.{none-in, contains-later}
 

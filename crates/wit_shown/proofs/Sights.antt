@@ -1,33 +1,30 @@
 -- Sights of interfaces of a valid `Resolve` agree, obey the rules, and together mean the interfaces.
-use Rattle.std.proofs.Common.{◌≡◌, ◌⊎◌, inl, inr, refl, sym, subst, ap, ◌∙◌, ℕ, zero, suc, Bool, true, false, not, ◌&&◌, ◌||◌, ◌==◌, cond, List, [], ◌∷◌, ◌++◌, map, length, Option, Some, None, arith}
+use Rattle.std.proofs.Common.{◌≡◌, refl, sym, subst, ap, ◌∙◌, ℕ, Bool, true, false, not, ◌&&◌, ◌||◌, cond, List, [], ◌∷◌, length, Some}
 use Rattle.std.specs.Prelude.{IsPermutation, if◌then◌else◌}
 use Rattle.std.specs.Option.{option_map_or}
 use Rattle.std.specs.Cmp.Lexicographic.{pointwise}
-use Rattle.std.specs.List.{AllZip, Contains, list_all, list_any}
+use Rattle.std.specs.List.{AllZip, Contains, list_any}
 use Rattle.std.proofs.lemmas.Bool.{eq-eqb}
 use Rattle.std.proofs.lemmas.List.Folds.{list_any_at}
-use Rattle.std.proofs.lemmas.List.Sorted.{IsPermutation-sym, IsPermutation-refl, Contains-permutation, length_permutation}
-use Rattle.std.proofs.lemmas.Cmp.{nat_list_eq_equiv}
+use Rattle.std.proofs.lemmas.List.Sorted.{IsPermutation-sym, Contains-permutation, length_permutation}
 use Rattle.wit_model.specs.Text.{Text, text_eq}
 use Rattle.wit_model.specs.Tree.{Place}
 use Rattle.wit_model.specs.Lookup.{interface_at, interface_path, place_of_path}
 use Rattle.wit_model.specs.Meaning.{FunctionMeaning, InterfaceMeaning}
-use Rattle.wit_model.specs.Meant as meant
 use Rattle.wit_model.specs.Meant.{interface_meaning_at, types_alone}
 use Rattle.wit_model.specs.Valid.{IsValid}
 use Rattle.wit_model.specs.declared.model.Resolve.{Resolve}
-use Rattle.wit_model.specs.declared.model.Interface.{Interface}
 use Rattle.wit_model.proofs.AnyOrder.{text-same}
 use Rattle.wit_model.proofs.Lists.{first_true, second_true}
-use Rattle.wit_model.proofs.Elements.{both, contains-later}
+use Rattle.wit_model.proofs.Elements.{both}
 use Rattle.wit_model.proofs.OnePath.{path-once}
-use Rattle.comp_meaning.specs.Follow.{View, ShownType}
+use Rattle.comp_meaning.specs.Follow.{View}
 use Rattle.comp_meaning.specs.Rules.{is_interface}
 use Rattle.comp_meaning.specs.Same.{same_function, stand_in}
 use Rattle.comp_meaning.specs.Reads.{Sight, same_shown, same_functions, agree, all_agree, are_interfaces, functions_of, interface_meaning, seen_meaning}
 use Rattle.wit_shown.specs.Views.{home_of, ShowsTypes, ShowsInterface}
 use Rattle.wit_shown.specs.Views as views
-use Rattle.wit_shown.proofs.Basics.{all-from, or-first, or-second}
+use Rattle.wit_shown.proofs.Basics.{all-from}
 use Rattle.wit_shown.proofs.Alike.{list-alike, shown-alike, function-alike, text-alike}
 use Rattle.wit_shown.proofs.Interfaces.{interface-obeys, interface-means, types-obey, types-mean}
 use Rattle.wit_shown.proofs.Zips.{zip-left}

@@ -9,13 +9,13 @@ use Rattle.std.proofs.lemmas.Option.{slice_get_within}
 use Rattle.std.proofs.lemmas.Cmp.{nat_list_eq_equiv}
 use Rattle.indexmap.specs.IndexMap.{values}
 use Rattle.wit_model.specs.Text.{Text, text_of, text_eq}
-use Rattle.wit_model.specs.Tree.{Tree, Place, Declaration, type_, resource, primitive, named, node, of_interface, here}
-use Rattle.wit_model.specs.Types.{declared_by, trees_of, type_tree, number_of, declaration_of}
+use Rattle.wit_model.specs.Tree.{Tree, Declaration, type_, named}
+use Rattle.wit_model.specs.Types.{declared_by, trees_of, type_tree, declaration_of}
 use Rattle.wit_model.specs.Lookup.{type_at, interface_at, interface_path, place_of, place_of_path}
 use Rattle.wit_model.specs.Parts.{kind_numbers}
 use Rattle.wit_model.specs.Meant.{type_meaning_at, no_type, type_meaning}
 use Rattle.wit_model.specs.Uses.{has, alias_target, owner_interface, used_interface, interface_used_by, direct_deps}
-use Rattle.wit_model.specs.Rules.{is_named_kind, is_named_number, passes, in_list}
+use Rattle.wit_model.specs.Rules.{is_named_kind, is_named_number, passes}
 use Rattle.wit_model.specs.Valid.{IsValid, named_kinds}
 use Rattle.wit_model.specs.declared.model.Resolve.{Resolve}
 use Rattle.wit_model.specs.declared.model.Interface.{Interface}
@@ -31,7 +31,7 @@ use Rattle.wit_model.specs.declared.model.«Type».TheVariants as ty
 use Rattle.wit_model.proofs.Lists.{first_true, second_true}
 use Rattle.wit_model.proofs.Shown.{deps_pass}
 use Rattle.wit_model.proofs.TreeTable.{kept_numbers}
-use Rattle.wit_model.proofs.Elements.{all-contained, contains-one, contains-map, contains-later, one-contained, none-in, equal, same-number, has-contains, contains-has}
+use Rattle.wit_model.proofs.Elements.{all-contained, contains-one, contains-map, contains-later, one-contained, none-in, equal, has-contains, contains-has}
 use Rattle.wit_model.proofs.OnePath.{found-in, some-of}
 use Rattle.comp_meaning.specs.Follow.{View, ShownType}
 use Rattle.comp_meaning.specs.Rules.{used_by, used_by_view, others_than}

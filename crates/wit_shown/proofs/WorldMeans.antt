@@ -5,20 +5,19 @@ use Rattle.std.specs.Prelude.{is_some, filter_map, flat_map, option_and_then}
 use Rattle.std.specs.Option.{option_map_or}
 use Rattle.std.specs.HashMap.{get_by_text}
 use Rattle.std.specs.FinMap.{from_entries}
-use Rattle.std.specs.List.{AllZip, Contains, list_all, list_any}
-use Rattle.std.specs.Map.{lookup}
+use Rattle.std.specs.List.{AllZip, Contains, list_any}
 use Rattle.std.specs.Str.{bytes_eq}
 use Rattle.std.proofs.lemmas.List.{map-append}
 use Rattle.std.proofs.lemmas.Grind.{flat_map-append}
 use Rattle.std.proofs.lemmas.List.Folds.{list_any_at}
 use Rattle.wit_model.specs.Text.{Text, text_of, text_eq}
-use Rattle.wit_model.specs.Names.{PackageIdentity, is_label, path_in}
-use Rattle.wit_model.specs.Lookup.{package_at, world_at, interface_at, interface_path, key_text, identity_of}
-use Rattle.wit_model.specs.Uses.{items_of, item_interface, shown_by}
-use Rattle.wit_model.specs.Meaning.{InterfaceMeaning, Item, Entry, WorldMeaning}
+use Rattle.wit_model.specs.Names.{is_label, path_in}
+use Rattle.wit_model.specs.Lookup.{package_at, world_at, interface_path, key_text, identity_of}
+use Rattle.wit_model.specs.Uses.{item_interface, shown_by}
+use Rattle.wit_model.specs.Meaning.{InterfaceMeaning, Item}
 use Rattle.wit_model.specs.Meant as meant
 use Rattle.wit_model.specs.Meant.{interface_meaning_at, item_meaning, item_external_id, entry_meaning, entries_meaning, by_path, package_of_world}
-use Rattle.wit_model.specs.Rules.{is_id, package_number, interface_is_listed, world_is_listed, is_world_name, is_stability}
+use Rattle.wit_model.specs.Rules.{is_id, package_number, interface_is_listed, world_is_listed, is_world_name}
 use Rattle.wit_model.specs.Valid.{IsValid, labels, places}
 use Rattle.wit_model.specs.declared.model.Resolve.{Resolve}
 use Rattle.wit_model.specs.declared.model.Package.{Package}
@@ -33,10 +32,10 @@ use Rattle.wit_model.proofs.Lists.{first_true, second_true, lookup_any}
 use Rattle.wit_model.proofs.AnyOrder.{text-same}
 use Rattle.wit_model.proofs.NameLaws.{one_path}
 use Rattle.wit_model.proofs.VersionLaws.{same_name}
-use Rattle.wit_model.proofs.Elements.{both, contains-later, same-some}
+use Rattle.wit_model.proofs.Elements.{both, contains-later}
 use Rattle.wit_model.proofs.OnePath.{HasPath, has-path, path-label, package-name, package-once, given-test, interface-passes, some-same}
 use Rattle.comp_meaning.specs.Follow.{View, Seen, Shown, Instance, Scope, interface_of}
-use Rattle.comp_meaning.specs.Reads.{Sight, of_instance, item_of, entry, world_meaning, all_agree, are_interfaces, seen_meaning, world_with, interface_meaning}
+use Rattle.comp_meaning.specs.Reads.{Sight, of_instance, item_of, entry, world_meaning, seen_meaning, world_with, interface_meaning}
 use Rattle.comp_meaning.specs.Follow.{provided}
 use Rattle.wit_shown.specs.Views.{instance_key, shown_item, instances_of, IsViewOf, ShowsItem, ShowsInterface, ShowsWorld}
 use Rattle.wit_shown.proofs.Basics.{world-passes, no-longer}
@@ -46,7 +45,6 @@ use Rattle.wit_shown.proofs.Entries.{IsEntry}
 use Rattle.wit_shown.proofs.Items.{has_home, instance-home, entry-home}
 use Rattle.wit_shown.proofs.Worlds.{imports-are, exports-are, all-shown, all-entries}
 use Rattle.wit_shown.proofs.Sights.{IsSight, all-sights-agree, all-sights-obey, is_seen_whole, sight-means}
-use Rattle.wit_shown.proofs.Zips.{zip-left}
 
 module _ (r : Resolve) (v : IsValid r) (n : ℕ) where
   -- ---- entries

@@ -1,18 +1,18 @@
 -- What shows a world of a valid `Resolve` obeys the rules of worlds.
-use Rattle.std.proofs.Common.{◌≡◌, ◌⊎◌, inl, inr, refl, sym, subst, ap, ◌∙◌, ℕ, Bool, true, false, not, ◌&&◌, ◌||◌, ◌==◌, List, [], ◌∷◌, ◌++◌, map, Option, Some, None, arith}
-use Rattle.std.specs.Prelude.{is_none, option_to_list, filter_map, flat_map}
+use Rattle.std.proofs.Common.{◌≡◌, ◌⊎◌, inl, inr, refl, sym, subst, ap, ◌∙◌, ℕ, true, false, List, [], ◌∷◌, ◌++◌, map, Option, Some, arith}
+use Rattle.std.specs.Prelude.{is_none, option_to_list, filter_map}
 use Rattle.std.specs.List.{AllZip, Contains, IsDistinct, list_all, list_any}
 use Rattle.std.proofs.lemmas.List.{map-append}
 use Rattle.std.proofs.lemmas.List.Elements.{Contains-append_left, Contains-append_right, Contains-append_cases, filter_map-append}
 use Rattle.std.proofs.lemmas.Simd.{map-map}
 use Rattle.std.proofs.lemmas.Cmp.{nat_list_eq_equiv}
 use Rattle.std.proofs.lemmas.Map.Views.{list_any-from_Contains}
-use Rattle.indexmap.specs.IndexMap.{values, keys}
+use Rattle.indexmap.specs.IndexMap.{values}
 use Rattle.wit_model.specs.Text.{Text, text_eq}
 use Rattle.wit_model.specs.Lookup.{world_at, interface_path, key_text, resource_of}
-use Rattle.wit_model.specs.Uses.{has, items_of, item_interface, direct_deps, interface_used_by}
+use Rattle.wit_model.specs.Uses.{has, item_interface, direct_deps}
 use Rattle.wit_model.specs.Meant.{type_meaning_at}
-use Rattle.wit_model.specs.Rules.{passes, each_after, is_freestanding, item_type, used_types, used_interfaces, uses_stand_before}
+use Rattle.wit_model.specs.Rules.{passes, each_after, is_freestanding, used_interfaces, uses_stand_before}
 use Rattle.wit_model.specs.Valid.{IsValid, as_world, item_function, order_of_items}
 use Rattle.wit_model.specs.declared.model.Resolve.{Resolve}
 use Rattle.wit_model.specs.declared.model.World.{World}
@@ -24,17 +24,15 @@ use Rattle.wit_model.proofs.Lists.{first_true, second_true}
 use Rattle.wit_model.proofs.Shown.{after_append}
 use Rattle.wit_model.proofs.Elements.{both, all-contained, contains-one, contains-later, one-contained, none-in, has-contains, same-some}
 use Rattle.comp_meaning.specs.Follow.{View, Seen, Shown, Scope, interface_of}
-use Rattle.comp_meaning.specs.Follow as follow
 use Rattle.comp_meaning.specs.Rules.{distinct, is_item, are_imports, stand_earlier, path_seen, resources_seen, used_by, used_by_view, uses, others_than, is_world}
-use Rattle.wit_shown.specs.Views.{instance_key, shown_item, IsViewOf, ShowsItem, ShowsInterface, ShowsWorld}
+use Rattle.wit_shown.specs.Views.{instance_key, shown_item, IsViewOf, ShowsItem, ShowsWorld}
 use Rattle.wit_shown.proofs.Basics.{all-from}
 use Rattle.wit_shown.proofs.Apart.{distinct-from}
-use Rattle.wit_shown.proofs.Functions.{IsResourceOf}
 use Rattle.wit_shown.proofs.Interfaces.{contains-mapped}
-use Rattle.wit_shown.proofs.Used.{UsesPath, number-used, view-used, others-used}
+use Rattle.wit_shown.proofs.Used.{number-used, view-used, others-used}
 use Rattle.wit_shown.proofs.Entries.{IsEntry, import-entry, export-entry, export-freestanding}
 use Rattle.wit_shown.proofs.Keys.{IsKey, entry-key, keys-distinct}
-use Rattle.wit_shown.proofs.Items.{HasHome, has_home, instance-home, entry-home, seen-obeys, import-home}
+use Rattle.wit_shown.proofs.Items.{HasHome, instance-home, entry-home, seen-obeys, import-home}
 use Rattle.wit_shown.proofs.Zips.{zip-left, zip-append, zip-same, given-contains}
 
 -- the key of what shows an item

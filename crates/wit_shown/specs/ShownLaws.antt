@@ -1,5 +1,5 @@
 -- Laws of what is shown of a valid `Resolve`.
-use Rattle.std.specs.Prelude.{◌≡◌, ℕ, List, true, Some, None, String}
+use Rattle.std.specs.Prelude.{◌≡◌, ℕ, List, [], ◌∷◌, true, Some, String}
 use Rattle.std.specs.List.{Contains}
 use Rattle.std.specs.declared.alloc.Global.{Global}
 use Rattle.wit_model.specs.Text.{Text, text_of}
@@ -13,10 +13,12 @@ use Rattle.wit_model.specs.declared.model.Package.{Package}
 use Rattle.wit_model.specs.declared.model.InterfaceId.{InterfaceId}
 use Rattle.wit_model.specs.declared.model.WorldId.{WorldId}
 use Rattle.wit_model.specs.declared.model.World.{World}
-use Rattle.comp_bytes.specs.Raw.{Declarations, ExternName}
+use Rattle.comp_bytes.specs.Raw.{Declarations, Section}
 use Rattle.comp_meaning.specs.Follow.{View, Scope, component_scope, is_filled}
 use Rattle.comp_meaning.specs.Rules.{is_interface, is_world}
-use Rattle.comp_meaning.specs.Reads.{interface_meaning, world_meaning, world_with, Part, Member, interface_part, world_part, package_of_members}
+use Rattle.comp_meaning.specs.Reads.{interface_meaning, world_meaning, world_with, Part, Member, interface_part, world_part, package_of_members, exported_types}
+use Rattle.comp_meaning.specs.Reads as reads
+use Rattle.wit_shown.specs.PackageTypes.{plain_name, IsWorldType, ArePackageTypes}
 use Rattle.wit_shown.specs.Views.{home_of, ShowsTypes, ShowsInterface, ShowsWorld, ShowsDependencies, ShowsPackage}
 
 -- What shows an interface obeys the rules of interfaces in its place, and means the interface.
@@ -54,9 +56,6 @@ InterfacePartsAreRead = (r : Resolve) (n : ℕ) (p : Package) (e : String Global
     → ShowsDependencies r e.1.0 (path_in (identity_of p.name) (text_of e.0)) scope imports exported
     → interface_part (text_of e.0) ds ≡ Some (identity_of p.name, Part.interface exported imports)
 
-abbrev pub plain_name : Text → ExternName
-plain_name text = record { text = text; implements = None; version_suffix = None; external_id = None }
-
 -- So is what shows a world of the package, exported under its path.
 abbrev pub WorldPartsAreRead : Type 0
 WorldPartsAreRead = (r : Resolve) (n : ℕ) (p : Package) (e : String Global × WorldId) (w : World) (ds : Declarations) (scope : Scope)
@@ -67,3 +66,13 @@ WorldPartsAreRead = (r : Resolve) (n : ℕ) (p : Package) (e : String Global × 
 abbrev pub PackagesMean : Type 0
 PackagesMean = (r : Resolve) (n : ℕ) (p : Package) (members : List Member) → IsValid r → package_at r n ≡ Some p → ShowsPackage r p members → is_filled members ≡ true
     → package_of_members members ≡ Some (meant.package_meaning r n p)
+
+-- So do the sections of a component that exports the component types of the package, each under its label.
+abbrev pub SectionsMean : Type 0
+SectionsMean = (r : Resolve) (n : ℕ) (p : Package) (xs : List (Text × Declarations)) (sections : List Section) → IsValid r → package_at r n ≡ Some p → ArePackageTypes r p xs
+    → is_filled xs ≡ true → exported_types sections ≡ Some xs → reads.package_meaning sections ≡ Some (meant.package_meaning r n p)
+
+-- A component that exports the wrapper of one world alone, under its name, means the world.
+abbrev pub WorldSectionsMean : Type 0
+WorldSectionsMean = (r : Resolve) (n : ℕ) (w : World) (p : Package) (x : Text × Declarations) (sections : List Section) → IsValid r → world_at r n ≡ Some w
+    → package_of_world r w ≡ Some p → IsWorldType r p n (text_of w.name) x → exported_types sections ≡ Some (x ∷ []) → reads.world_package sections ≡ Some (meant.world_package r p w)

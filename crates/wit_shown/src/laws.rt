@@ -5,9 +5,11 @@ ghost use Rattle.wit_shown.specs.ShownLaws.{
   InterfacesMean,
   InterfacesObey,
   PackagesMean,
+  SectionsMean,
   TypesMean,
   TypesObey,
   WorldPartsAreRead,
+  WorldSectionsMean,
   WorldsAloneMean,
   WorldsMean,
   WorldsObey,
@@ -45,4 +47,11 @@ pub fn parts_are_read()
 /// another package that it reaches.
 pub fn packages_are_meant()
     ensures { PackagesMean }
+{}
+
+/// So do the sections of a component that exports the component types of its interfaces and worlds; and one that exports a world alone
+/// means the world.
+pub fn sections_are_meant()
+    ensures package_ { SectionsMean }
+    ensures world { WorldSectionsMean }
 {}
