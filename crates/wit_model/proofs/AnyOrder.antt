@@ -1,5 +1,5 @@
 -- Entries whose names differ make the same finite map in any order.
-use Rattle.std.proofs.Common.{◌≡◌, refl, sym, subst, ap, ◌∙◌, zero, suc, Bool, true, false, cond, List, [], ◌∷◌, map, Option, Some, None, String, unwrap_or, arith}
+use Rattle.std.proofs.Common.{◌≡◌, refl, sym, ap, ◌∙◌, zero, suc, Bool, true, false, cond, List, [], ◌∷◌, map, Option, Some, None, String, unwrap_or, arith}
 use Rattle.std.specs.Prelude.{IsPermutation}
 use Rattle.std.specs.List.{Contains, AllByRecursion, IsDistinct}
 use Rattle.std.specs.Ordering.{eq_by_cmp}

@@ -1,5 +1,5 @@
 -- Lists, element by element.
-use Rattle.std.proofs.Common.{◌≡◌, refl, sym, ap, ◌∙◌, subst, ℕ, zero, suc, ◌+◌, ◌<◌, List, [], ◌∷◌, ◌++◌, map, filter_map, option_to_list, length, get_or, take, arith, Option, Some, None, Bool, true, false, ◌&&◌, ◌||◌, ◌==◌, T, eqb→eq, nat_eq, flat_map, slice_get, unwrap_or}
+use Rattle.std.proofs.Common.{◌≡◌, refl, sym, ap, ◌∙◌, subst, ℕ, zero, suc, ◌+◌, ◌<◌, List, [], ◌∷◌, ◌++◌, map, filter_map, option_to_list, length, get_or, take, arith, Option, Some, None, Bool, true, false, ◌&&◌, ◌||◌, ◌==◌, T, eqb→eq, flat_map, slice_get, unwrap_or}
 use Rattle.std.proofs.Math.Dec.{eqb_refl}
 use Rattle.std.proofs.lemmas.Option.{slice_get-get_or}
 use Rattle.std.specs.List.{Contains, AllZip, cons_option, list_all}

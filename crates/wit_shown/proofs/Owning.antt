@@ -11,7 +11,7 @@ use Rattle.wit_model.specs.Text.{Text, text_of, text_eq}
 use Rattle.wit_model.specs.Names.{PackageIdentity, is_identity, path_in, read_path}
 use Rattle.wit_model.specs.Lookup.{package_at, interface_at, world_at, interface_path, path_of_interface, path_in_package, identity_of}
 use Rattle.wit_model.specs.Meant.{is_foreign}
-use Rattle.wit_model.specs.Rules.{passes, in_list, is_id, text_is, package_number, interface_belongs, world_belongs}
+use Rattle.wit_model.specs.Rules.{passes, in_list, is_id, text_is, package_number, is_world_name, interface_is_listed, interface_belongs, world_belongs}
 use Rattle.wit_model.specs.Valid.{IsValid, is_place, numbers_in_range, places, names_in_packages}
 use Rattle.wit_model.specs.declared.model.Resolve.{Resolve}
 use Rattle.wit_model.specs.declared.model.Package.{Package}
@@ -26,7 +26,8 @@ use Rattle.wit_model.proofs.NameLaws.{spelled_path_reads}
 use Rattle.wit_model.proofs.VersionLaws.{same_name}
 use Rattle.wit_model.proofs.AnyOrder.{text-same}
 use Rattle.wit_model.proofs.Elements.{all-contained, contains-map, contains-later, equal, same-number}
-use Rattle.wit_model.proofs.OnePath.{HasPath, has-path, path-label, path-listed, package-name, package-once, package-passes, found-in, some-same}
+use Rattle.wit_model.proofs.OnePath.{given-test, interface-passes, HasPath, has-path, path-label, path-listed, package-name, package-once, package-passes, found-in, some-same}
+use Rattle.wit_shown.proofs.Basics.{no-longer}
 use Rattle.comp_meaning.specs.Same.{same_identity, same_option}
 use Rattle.comp_meaning.specs.Reads.{is_of}
 use Rattle.wit_shown.proofs.Alike.{identity-alike}
@@ -110,6 +111,17 @@ module _ (r : Resolve) (v : IsValid r) (n : ℕ) (p : Package) (at : package_at 
       ∙ ap (λ k. path_in_package r k (text_of is.string)) is.number
       ∙ ap (option_map (λ q. path_in (identity_of q.name) (text_of is.string))) at
       ∙ ap (λ t. Some (path_in (identity_of p.name) t)) is.text
+
+  -- no world of the package has its name
+  pub no-world-name : (e : String Global × InterfaceId) → Contains p.interfaces.entries e → is_world_name p (text_of e.0) ≡ false
+  unfolding places
+  no-world-name e c =
+      let is = own-interface e c in
+      let rule = second_true (is_some is.def.package) _ (interface-passes places r v.rules.places e.1.0 is.def is.there) in
+      let home : option_and_then (package_at r) (package_number is.def.package) ≡ Some p = ap (λ o. option_and_then (package_at r) (package_number o)) is.in_package ∙ ap (package_at r) is.number ∙ at in
+      ap (is_world_name p) (sym is.text) ∙ no-longer (is_world_name p (text_of is.string)) (second_true (interface_is_listed e.1.0 (text_of is.string) p) _
+      (given-test (λ p. interface_is_listed e.1.0 (text_of is.string) p && not (is_world_name p (text_of is.string))) (option_and_then (package_at r) (package_number is.def.package)) true p home
+      (given-test (λ name. option_map_or (λ p. interface_is_listed e.1.0 (text_of name) p && not (is_world_name p (text_of name))) (option_and_then (package_at r) (package_number is.def.package)) true) is.def.name _ is.string is.named_ rule)))
 
   -- a world of the package's map
   pub own-world : (e : String Global × WorldId) → Contains p.worlds.entries e → (w : World) → world_at r e.1.0 ≡ Some w → (text_of w.name ≡ text_of e.0) × ((home : PackageId) × (w.package ≡ Some home) × (home.0 ≡ n))

@@ -1,12 +1,13 @@
 -- Laws of what is shown of a valid `Resolve`.
-use Rattle.std.specs.Prelude.{◌≡◌, ℕ, List, [], ◌∷◌, true, Some, String}
-use Rattle.std.specs.List.{Contains}
+use Rattle.std.specs.Prelude.{◌≡◌, ◌↔◌, ℕ, map, List, [], ◌∷◌, true, Some, String}
+use Rattle.std.specs.List.{Contains, list_all}
 use Rattle.std.specs.declared.alloc.Global.{Global}
 use Rattle.wit_model.specs.Text.{Text, text_of}
-use Rattle.wit_model.specs.Names.{path_in}
+use Rattle.wit_model.specs.Names.{is_label, path_in}
 use Rattle.wit_model.specs.Lookup.{package_at, world_at, identity_of}
 use Rattle.wit_model.specs.Meant as meant
-use Rattle.wit_model.specs.Meant.{interface_meaning_at, types_alone, package_of_world}
+use Rattle.wit_model.specs.Meant.{interface_meaning_at, types_alone, package_of_world, Meant, MeantWorld}
+use Rattle.wit_model.specs.Meaning.{PackageMeaning, WorldPackage}
 use Rattle.wit_model.specs.Valid.{IsValid}
 use Rattle.wit_model.specs.declared.model.Resolve.{Resolve}
 use Rattle.wit_model.specs.declared.model.Package.{Package}
@@ -14,9 +15,10 @@ use Rattle.wit_model.specs.declared.model.InterfaceId.{InterfaceId}
 use Rattle.wit_model.specs.declared.model.WorldId.{WorldId}
 use Rattle.wit_model.specs.declared.model.World.{World}
 use Rattle.comp_bytes.specs.Raw.{Declarations, Section}
+use Rattle.comp_bytes.specs.Spelling.{IsComponent}
 use Rattle.comp_meaning.specs.Follow.{View, Scope, component_scope, is_filled}
-use Rattle.comp_meaning.specs.Rules.{is_interface, is_world}
-use Rattle.comp_meaning.specs.Reads.{interface_meaning, world_meaning, world_with, Part, Member, interface_part, world_part, package_of_members, exported_types}
+use Rattle.comp_meaning.specs.Rules.{distinct, is_interface, is_world}
+use Rattle.comp_meaning.specs.Reads.{interface_meaning, world_meaning, world_with, Part, Member, interface_part, world_part, package_of_members, exported_types, Reads, ReadsWorld}
 use Rattle.comp_meaning.specs.Reads as reads
 use Rattle.wit_shown.specs.PackageTypes.{plain_name, IsWorldType, ArePackageTypes}
 use Rattle.wit_shown.specs.Views.{home_of, ShowsTypes, ShowsInterface, ShowsWorld, ShowsDependencies, ShowsPackage}
@@ -76,3 +78,18 @@ SectionsMean = (r : Resolve) (n : ℕ) (p : Package) (xs : List (Text × Declara
 abbrev pub WorldSectionsMean : Type 0
 WorldSectionsMean = (r : Resolve) (n : ℕ) (w : World) (p : Package) (x : Text × Declarations) (sections : List Section) → IsValid r → world_at r n ≡ Some w
     → package_of_world r w ≡ Some p → IsWorldType r p n (text_of w.name) x → exported_types sections ≡ Some (x ∷ []) → reads.world_package sections ≡ Some (meant.world_package r p w)
+
+-- So bytes that spell such a component mean exactly what the package means, or what the world means.
+abbrev pub BytesMean : Type 0
+BytesMean = (r : Resolve) (n : ℕ) (p : Package) (xs : List (Text × Declarations)) (sections : List Section) (bytes : List ℕ) → IsValid r → package_at r n ≡ Some p → ArePackageTypes r p xs
+    → is_filled xs ≡ true → exported_types sections ≡ Some xs → IsComponent sections bytes → (m : PackageMeaning) → Meant r n m ↔ Reads bytes m
+
+abbrev pub WorldBytesMean : Type 0
+WorldBytesMean = (r : Resolve) (n : ℕ) (w : World) (p : Package) (x : Text × Declarations) (sections : List Section) (bytes : List ℕ) → IsValid r → world_at r n ≡ Some w
+    → package_of_world r w ≡ Some p → IsWorldType r p n (text_of w.name) x → exported_types sections ≡ Some (x ∷ []) → IsComponent sections bytes
+    → (m : WorldPackage) → MeantWorld r n m ↔ ReadsWorld bytes m
+
+-- The names under which the component types are exported are labels, and none stands twice.
+abbrev pub LabelsDiffer : Type 0
+LabelsDiffer = (r : Resolve) (n : ℕ) (p : Package) (xs : List (Text × Declarations)) → IsValid r → package_at r n ≡ Some p → ArePackageTypes r p xs
+    → (list_all (λ x. is_label x.0) xs ≡ true) × (distinct (map (λ x. x.0) xs) ≡ true)

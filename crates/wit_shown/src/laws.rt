@@ -1,13 +1,16 @@
 //! Laws of what is shown of a valid `Resolve`.
 
 ghost use Rattle.wit_shown.specs.ShownLaws.{
+  BytesMean,
   InterfacePartsAreRead,
   InterfacesMean,
   InterfacesObey,
+  LabelsDiffer,
   PackagesMean,
   SectionsMean,
   TypesMean,
   TypesObey,
+  WorldBytesMean,
   WorldPartsAreRead,
   WorldSectionsMean,
   WorldsAloneMean,
@@ -54,4 +57,15 @@ pub fn packages_are_meant()
 pub fn sections_are_meant()
     ensures package_ { SectionsMean }
     ensures world { WorldSectionsMean }
+{}
+
+/// Bytes that spell such a component mean exactly what the package means, or the world.
+pub fn bytes_are_meant()
+    ensures package_ { BytesMean }
+    ensures world { WorldBytesMean }
+{}
+
+/// The names under which the component types of a package are exported are labels, and none stands twice.
+pub fn labels_differ()
+    ensures { LabelsDiffer }
 {}
