@@ -12,7 +12,7 @@ use Rattle.wit_model.proofs.Lists.{first_true, second_true}
 zero_within : (p : ℕ) → nat_le 0 p ≡ true
 zero_within p = grind (arith, nat_tests)
 
-max_within : (a b p : ℕ) → nat_le (max a b) p ≡ (nat_le a p && nat_le b p)
+pub max_within : (a b p : ℕ) → nat_le (max a b) p ≡ (nat_le a p && nat_le b p)
 max_within a b p = go (nat_le a p) (nat_le b p) refl refl
   where
     go : (x y : Bool) → nat_le a p ≡ x → nat_le b p ≡ y → nat_le (max a b) p ≡ (x && y)

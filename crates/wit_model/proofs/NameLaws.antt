@@ -53,7 +53,7 @@ other_byte c no_label b h = go (b == c) refl
         let wrong : true ≡ false = sym h ∙ (ap is_label_byte same ∙ no_label) in cc
 
 -- a label holds no byte that is none of its own
-label_lacks : (c : ℕ) → is_label_byte c ≡ false → (text : Text) → is_label text ≡ true → list_all (is_other c) text ≡ true
+pub label_lacks : (c : ℕ) → is_label_byte c ≡ false → (text : Text) → is_label text ≡ true → list_all (is_other c) text ≡ true
 label_lacks c no_label text h = all_weaker is_label_byte (is_other c) (other_byte c no_label) text (label_bytes text h)
 
 -- ---- cutting at a byte
@@ -108,7 +108,7 @@ versioned_joins text = go (cut 64 text) refl
 
 -- ---- paths
 
-identity_namespace : (p : PackageIdentity) → is_identity p ≡ true → is_label p.namespace ≡ true
+pub identity_namespace : (p : PackageIdentity) → is_identity p ≡ true → is_label p.namespace ≡ true
 identity_namespace p h = first_true (is_label p.namespace) _ h
 
 identity_name : (p : PackageIdentity) → is_identity p ≡ true → is_label p.name ≡ true

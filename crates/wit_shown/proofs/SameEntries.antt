@@ -1,0 +1,63 @@
+-- Lists of the same entries make the same finite map, where a name has one meaning.
+use Rattle.std.proofs.Common.{◌≡◌, refl, sym, ap, ◌∙◌, zero, suc, Bool, true, false, ◌||◌, cond, List, [], ◌∷◌, Option, Some, None, arith}
+use Rattle.std.specs.List.{AllZip, Contains, list_any}
+use Rattle.std.specs.Ordering.{eq_by_cmp}
+use Rattle.std.specs.FinMap.{find, from_entries, get-from_entries, same_map, slice_cmp-IsAntisymmetric, nat_cmp-IsAntisymmetric}
+use Rattle.std.proofs.lemmas.Cmp.{nat_list_cmp_total, nat_list_eq_equiv}
+use Rattle.wit_model.specs.Text.{Text, TextMap, text_cmp}
+use Rattle.wit_model.proofs.AnyOrder.{same-text, found-there}
+use Rattle.wit_model.proofs.Elements.{none-in, contains-later}
+
+-- a list of what belongs to each element of another
+pub zip-all : {A B : Type 0} (R : A → B → Type 0) (ys : List B) → ((y : B) → Contains ys y → (x : A) × R x y) → (xs : List A) × AllZip R xs ys
+zip-all R [] h = ([], tt)
+zip-all R (y ∷ ys) h =
+    let first = h y (0, omega arith, refl) in
+    let rest = zip-all R ys (λ z c. h z (contains-later y ys z c)) in
+    (first.0 ∷ rest.0, (first.1, rest.1))
+
+-- an element that passes
+pub any-contains : {A : Type 0} (p : A → Bool) (xs : List A) → list_any p xs ≡ true → (x : A) × Contains xs x × (p x ≡ true)
+any-contains p [] h = let wrong : ⊥ = cc in absurd wrong
+any-contains p (x ∷ xs) h = go (any-contains p xs) (p x) refl h
+  where
+    go : (list_any p xs ≡ true → (y : _) × Contains xs y × (p y ≡ true)) → (b : Bool) → p x ≡ b → (b || list_any p xs) ≡ true → (y : _) × Contains (x ∷ xs) y × (p y ≡ true)
+    go more true e h = (x, (0, omega arith, refl), e)
+    go more false e h = let rest = more h in (rest.0, contains-later x xs rest.0 rest.1, rest.2)
+
+module _ {X : Type 0} where
+  -- something is found under a name that stands there
+  found-some : (es : List (Text × X)) (q : Text) (x : X) → Contains es (q, x) → (y : X) × (find text_cmp q es ≡ Some y)
+  found-some [] q x c = none-in (q, x) c
+  found-some (e ∷ es) q x (zero, l, h) =
+      let same : eq_by_cmp text_cmp q e.0 ≡ true = ap (λ (z : Text × X). eq_by_cmp text_cmp q z.0) h ∙ (same-text q q ∙ nat_list_eq_equiv.refl q) in
+      (e.1, ap (λ b. cond b (Some e.1) (find text_cmp q es)) same)
+  found-some (e ∷ es) q x (suc k, l, h) = go (eq_by_cmp text_cmp q e.0) (found-some es q x (k, omega (arith, l), h))
+    where
+      go : (b : Bool) → (y : X) × (find text_cmp q es ≡ Some y) → (y : X) × (cond b (Some e.1) (find text_cmp q es) ≡ Some y)
+      go true rest = (e.1, refl)
+      go false rest = rest
+
+  abbrev as_map : List (Text × X) → TextMap X
+  as_map xs = from_entries xs
+
+  module _ (es fs : List (Text × X)) (forth : (q : Text) (x : X) → Contains es (q, x) → Contains fs (q, x)) (back : (q : Text) (x : X) → Contains fs (q, x) → Contains es (q, x))
+      (one : (q : Text) (x y : X) → Contains fs (q, x) → Contains fs (q, y) → x ≡ y) where
+    same-found : (q : Text) → find text_cmp q es ≡ find text_cmp q fs
+    same-found q = go (find text_cmp q es) refl (find text_cmp q fs) refl
+      where
+        go : (a : Option X) → find text_cmp q es ≡ a → (b : Option X) → find text_cmp q fs ≡ b → find text_cmp q es ≡ find text_cmp q fs
+        go None e None f = e ∙ sym f
+        go None e (Some y) f =
+            let some = found-some es q y (back q y (found-there fs q y f)) in
+            let wrong : None ≡ Some some.0 = sym e ∙ some.1 in
+            let z : ⊥ = cc in absurd z
+        go (Some x) e None f =
+            let some = found-some fs q x (forth q x (found-there es q x e)) in
+            let wrong : None ≡ Some some.0 = sym f ∙ some.1 in
+            let z : ⊥ = cc in absurd z
+        go (Some x) e (Some y) f = e ∙ ap Some (one q x y (forth q x (found-there es q x e)) (found-there fs q y f)) ∙ sym f
+
+    pub same-entries : as_map es ≡ as_map fs
+    same-entries = same_map nat_list_cmp_total (slice_cmp-IsAntisymmetric nat_cmp-IsAntisymmetric) (as_map es) (as_map fs)
+        (λ q. get-from_entries nat_list_cmp_total es q ∙ (same-found q ∙ sym (get-from_entries nat_list_cmp_total fs q)))
