@@ -1,5 +1,5 @@
 -- The types of an interface's list: each is a named type of the interface, under its name, and they are all of those.
-use Rattle.std.proofs.Common.{◌≡◌, refl, sym, ap, ◌∙◌, ℕ, suc, Bool, true, false, ◌&&◌, ◌==◌, cond, nat_lt, List, [], ◌∷◌, count_by, slice_get, Some, String, string_bytes, option_map, arith}
+use Rattle.std.proofs.Common.{◌≡◌, refl, sym, ap, ◌∙◌, ℕ, Bool, true, false, ◌&&◌, ◌==◌, cond, nat_lt, List, [], ◌∷◌, count_by, slice_get, Some, String, string_bytes, option_map, arith}
 use Rattle.std.specs.declared.alloc.Global.{Global}
 use Rattle.std.specs.Prelude.{is_some}
 use Rattle.std.specs.List.{Contains, list_all}
@@ -25,30 +25,27 @@ use Rattle.wit_model.proofs.Lists.{first_true, second_true}
 use Rattle.wit_model.proofs.Listed.{misfit}
 use Rattle.wit_model.proofs.Listings.{given_all, given_found}
 use Rattle.wit_model.proofs.AnyOrder.{text-same}
-use Rattle.wit_model.proofs.Elements.{all-contained, contains-get, contains-map, equal, same-number}
+use Rattle.wit_model.proofs.Elements.{contains-later, all-contained, contains-get, contains-map, equal, same-number}
 use Rattle.wit_model.proofs.OnePath.{found-in, some-of, given-test, interface-passes}
 use Rattle.wit_shown.proofs.Basics.{type-passes, same-owner}
 
--- an entry that a look-up by text finds
+-- what a look-up by text finds
+pub found-entry : {V : Type 0} (number : V → ℕ) (es : List (String Global × V)) (n : ℕ) (t : Text) → is_id n (option_map number (lookup (λ k. bytes_eq t (text_of k)) es)) ≡ true
+    → (e : String Global × V) × Contains es e × (number e.1 ≡ n) × (text_of e.0 ≡ t)
+found-entry number [] n t h = let wrong : ⊥ = cc in absurd wrong
+found-entry number (e ∷ es) n t h = go (found-entry number es n t) (bytes_eq t (text_of e.0)) refl h
+  where
+    go : (is_id n (option_map number (lookup (λ k. bytes_eq t (text_of k)) es)) ≡ true → (e : String Global × _) × Contains es e × (number e.1 ≡ n) × (text_of e.0 ≡ t)) → (b : Bool) → bytes_eq t (text_of e.0) ≡ b
+        → is_id n (option_map number (cond b (Some e.1) (lookup (λ k. bytes_eq t (text_of k)) es))) ≡ true → (x : String Global × _) × Contains (e ∷ es) x × (number x.1 ≡ n) × (text_of x.0 ≡ t)
+    go more true q h = (e, (0, omega arith, refl), equal (number e.1) n h, sym (text-same t (text_of e.0) q))
+    go more false q h = let rest = more h in (rest.0, contains-later e es rest.0 rest.1, rest.2, rest.3)
+
+-- the entry of a number in the list of an interface's types
 pub record HasEntry (es : List (String Global × TypeId)) (n : ℕ) (t : Text) : Type 0 where
   pub entry : String Global × TypeId
   pub there : Contains es entry
   pub number : entry.1.0 ≡ n
   pub text : text_of entry.0 ≡ t
-
-abbrev is_found : List (String Global × TypeId) → ℕ → Text → Bool
-is_found es n t = is_id n (option_map (λ id. id.0) (lookup (λ k. bytes_eq t (text_of k)) es))
-
-listed-entry : (es : List (String Global × TypeId)) (n : ℕ) (t : Text) → is_found es n t ≡ true → HasEntry es n t
-listed-entry [] n t h = let wrong : ⊥ = cc in absurd wrong
-listed-entry (e ∷ es) n t h = go (listed-entry es n t) (bytes_eq t (text_of e.0)) refl h
-  where
-    go : (is_found es n t ≡ true → HasEntry es n t) → (b : Bool) → bytes_eq t (text_of e.0) ≡ b
-        → is_id n (option_map (λ id. id.0) (cond b (Some e.1) (lookup (λ k. bytes_eq t (text_of k)) es))) ≡ true → HasEntry (e ∷ es) n t
-    go more true q h = record { entry = e; there = (0, omega arith, refl); number = equal e.1.0 n h; text = sym (text-same t (text_of e.0) q) }
-    go more false q h =
-        let rest = more h in
-        record { entry = rest.entry; there = (suc rest.there.0, (let l = rest.there.1 in omega arith), rest.there.2); number = rest.number; text = rest.text }
 
 -- a named type of an owner, under its name
 pub record IsNamedType (r : Resolve) (o : TypeOwner) (n : ℕ) (text : Text) : Type 0 where
@@ -82,7 +79,8 @@ module _ (r : Resolve) (v : IsValid r) where
     entry-of n def name at named here =
         let listed : is_listed r n (text_of name) (as_interface i) ≡ true = ap (is_listed r n (text_of name)) (sym here) ∙ valid-listed n def name at named in
         let at_home : is_listed_in_interface n (text_of name) interface ≡ true = ap (passes (is_listed_in_interface n (text_of name))) (sym there) ∙ listed in
-        listed-entry interface.types.entries n (text_of name) (first_true (is_id n (option_map (λ id. id.0) (get_by_text interface.types (text_of name)))) _ at_home)
+        let found = found-entry (λ (id : TypeId). id.0) interface.types.entries n (text_of name) (first_true (is_id n (option_map (λ id. id.0) (get_by_text interface.types (text_of name)))) _ at_home) in
+        record { entry = found.0; there = found.1; number = found.2; text = found.3 }
 
     all-named : list_all (is_named_of r (as_interface i)) (interface_type_numbers interface) ≡ true
     unfolding order_of_types

@@ -1,11 +1,9 @@
 -- Which interfaces are a package's own, by their paths.
-use Rattle.std.proofs.Common.{◌≡◌, refl, sym, subst, ap, ◌∙◌, ℕ, Bool, true, false, not, ◌&&◌, ◌==◌, cond, List, [], ◌∷◌, option_map, Option, Some, None, String, arith}
+use Rattle.std.proofs.Common.{◌≡◌, refl, sym, subst, ap, ◌∙◌, ℕ, Bool, true, false, not, ◌&&◌, ◌==◌, option_map, Option, Some, None, String}
 use Rattle.std.specs.declared.alloc.Global.{Global}
 use Rattle.std.specs.Prelude.{is_some, option_and_then}
 use Rattle.std.specs.Option.{option_map_or}
 use Rattle.std.specs.List.{Contains, list_all}
-use Rattle.std.specs.Map.{lookup}
-use Rattle.std.specs.Str.{bytes_eq}
 use Rattle.indexmap.specs.IndexMap.{values}
 use Rattle.wit_model.specs.Text.{Text, text_of, text_eq}
 use Rattle.wit_model.specs.Names.{PackageIdentity, is_identity, path_in, read_path}
@@ -25,23 +23,13 @@ use Rattle.wit_model.proofs.Distinct.{either_way}
 use Rattle.wit_model.proofs.NameLaws.{spelled_path_reads}
 use Rattle.wit_model.proofs.VersionLaws.{same_name}
 use Rattle.wit_model.proofs.AnyOrder.{text-same}
-use Rattle.wit_model.proofs.Elements.{all-contained, contains-map, contains-later, equal, same-number}
+use Rattle.wit_model.proofs.Elements.{all-contained, contains-map, equal, same-number}
 use Rattle.wit_model.proofs.OnePath.{given-test, interface-passes, HasPath, has-path, path-label, path-listed, package-name, package-once, package-passes, found-in, some-same}
 use Rattle.wit_shown.proofs.Basics.{no-longer}
+use Rattle.wit_shown.proofs.Members.{found-entry}
 use Rattle.comp_meaning.specs.Same.{same_identity, same_option}
 use Rattle.comp_meaning.specs.Reads.{is_of}
 use Rattle.wit_shown.proofs.Alike.{identity-alike}
-
--- what a look-up by text finds
-pub found-entry : {V : Type 0} (number : V → ℕ) (es : List (String Global × V)) (n : ℕ) (t : Text) → is_id n (option_map number (lookup (λ k. bytes_eq t (text_of k)) es)) ≡ true
-    → (e : String Global × V) × Contains es e × (number e.1 ≡ n) × (text_of e.0 ≡ t)
-found-entry number [] n t h = let wrong : ⊥ = cc in absurd wrong
-found-entry number (e ∷ es) n t h = go (found-entry number es n t) (bytes_eq t (text_of e.0)) refl h
-  where
-    go : (is_id n (option_map number (lookup (λ k. bytes_eq t (text_of k)) es)) ≡ true → (e : String Global × _) × Contains es e × (number e.1 ≡ n) × (text_of e.0 ≡ t)) → (b : Bool) → bytes_eq t (text_of e.0) ≡ b
-        → is_id n (option_map number (cond b (Some e.1) (lookup (λ k. bytes_eq t (text_of k)) es))) ≡ true → (x : String Global × _) × Contains (e ∷ es) x × (number x.1 ≡ n) × (text_of x.0 ≡ t)
-    go more true q h = (e, (0, omega arith, refl), equal (number e.1) n h, sym (text-same t (text_of e.0) q))
-    go more false q h = let rest = more h in (rest.0, contains-later e es rest.0 rest.1, rest.2, rest.3)
 
 same-optional : (a b : Option Text) → same_option text_eq a b ≡ true → a ≡ b
 same-optional None None h = refl

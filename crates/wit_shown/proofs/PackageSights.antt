@@ -38,8 +38,7 @@ use Rattle.wit_shown.proofs.Owning.{identity, own-interface, own-path}
 use Rattle.wit_shown.proofs.Reach.{Chain, chain-reached, holds-reached, used-chain, earlier-used}
 use Rattle.wit_shown.proofs.WorldMeans.{IsWhole, seen-whole}
 use Rattle.wit_shown.proofs.Sights.{IsSight, is_seen_whole}
-use Rattle.wit_shown.proofs.SameEntries.{any-contains}
-use Rattle.wit_shown.proofs.Zips.{zip-left, zip-right, contains-filter, filter-contains, given-contains}
+use Rattle.wit_shown.proofs.Zips.{any-contains, zip-left, zip-right, contains-filter, filter-contains, given-contains}
 
 -- what stands behind others passes the test behind some of them
 after-item : {A : Type 0} (q : List A → A → Bool) (before xs : List A) (x : A) → each_after q before xs ≡ true → Contains xs x → (front : List A) × (q front x ≡ true) × ((y : A) → Contains front y → Contains (before ++ xs) y)

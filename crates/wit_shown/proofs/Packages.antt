@@ -32,9 +32,9 @@ use Rattle.wit_shown.proofs.Interfaces.{interface-means, contains-mapped}
 use Rattle.wit_shown.proofs.WorldMeans.{world-means}
 use Rattle.wit_shown.proofs.Owning.{foreign-path, own-listed}
 use Rattle.wit_shown.proofs.Sights.{IsSight, all-sights-agree, all-sights-obey, sight-means}
-use Rattle.wit_shown.proofs.SameEntries.{zip-all, same-entries}
+use Rattle.wit_shown.proofs.SameEntries.{same-entries}
 use Rattle.wit_shown.proofs.PackageSights.{seen-reached, reached-seen, whole-shown, interface-member}
-use Rattle.wit_shown.proofs.Zips.{zip-left, contains-filter, filter-contains}
+use Rattle.wit_shown.proofs.Zips.{zip-all, zip-left, contains-filter, filter-contains}
 
 -- lists, element by element
 zip-flat : {A B C : Type 0} (R : A → B → Type 0) (f : A → C) (g : B → List C) → ((a : A) (b : B) → R a b → g b ≡ f a ∷ []) → (xs : List A) (ys : List B) → AllZip R xs ys → flat_map g ys ≡ map f xs

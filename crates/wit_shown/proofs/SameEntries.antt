@@ -1,29 +1,12 @@
 -- Lists of the same entries make the same finite map, where a name has one meaning.
-use Rattle.std.proofs.Common.{◌≡◌, refl, sym, ap, ◌∙◌, zero, suc, Bool, true, false, ◌||◌, cond, List, [], ◌∷◌, Option, Some, None, arith}
-use Rattle.std.specs.List.{AllZip, Contains, list_any}
+use Rattle.std.proofs.Common.{◌≡◌, refl, sym, ap, ◌∙◌, zero, suc, Bool, true, false, cond, List, [], ◌∷◌, Option, Some, None, arith}
+use Rattle.std.specs.List.{Contains}
 use Rattle.std.specs.Ordering.{eq_by_cmp}
 use Rattle.std.specs.FinMap.{find, from_entries, get-from_entries, same_map, slice_cmp-IsAntisymmetric, nat_cmp-IsAntisymmetric}
 use Rattle.std.proofs.lemmas.Cmp.{nat_list_cmp_total, nat_list_eq_equiv}
 use Rattle.wit_model.specs.Text.{Text, TextMap, text_cmp}
 use Rattle.wit_model.proofs.AnyOrder.{same-text, found-there}
-use Rattle.wit_model.proofs.Elements.{none-in, contains-later}
-
--- a list of what belongs to each element of another
-pub zip-all : {A B : Type 0} (R : A → B → Type 0) (ys : List B) → ((y : B) → Contains ys y → (x : A) × R x y) → (xs : List A) × AllZip R xs ys
-zip-all R [] h = ([], tt)
-zip-all R (y ∷ ys) h =
-    let first = h y (0, omega arith, refl) in
-    let rest = zip-all R ys (λ z c. h z (contains-later y ys z c)) in
-    (first.0 ∷ rest.0, (first.1, rest.1))
-
--- an element that passes
-pub any-contains : {A : Type 0} (p : A → Bool) (xs : List A) → list_any p xs ≡ true → (x : A) × Contains xs x × (p x ≡ true)
-any-contains p [] h = let wrong : ⊥ = cc in absurd wrong
-any-contains p (x ∷ xs) h = go (any-contains p xs) (p x) refl h
-  where
-    go : (list_any p xs ≡ true → (y : _) × Contains xs y × (p y ≡ true)) → (b : Bool) → p x ≡ b → (b || list_any p xs) ≡ true → (y : _) × Contains (x ∷ xs) y × (p y ≡ true)
-    go more true e h = (x, (0, omega arith, refl), e)
-    go more false e h = let rest = more h in (rest.0, contains-later x xs rest.0 rest.1, rest.2)
+use Rattle.wit_model.proofs.Elements.{none-in}
 
 module _ {X : Type 0} where
   -- something is found under a name that stands there

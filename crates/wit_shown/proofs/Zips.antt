@@ -1,7 +1,7 @@
 -- Two lists, place by place, and elements of lists that are made from others.
-use Rattle.std.proofs.Common.{◌≡◌, refl, sym, subst, ap, ◌∙◌, zero, suc, Bool, true, false, cond, List, [], ◌∷◌, ◌++◌, map, filter, Option, Some, None, arith}
+use Rattle.std.proofs.Common.{◌≡◌, refl, sym, subst, ap, ◌∙◌, zero, suc, Bool, true, false, ◌||◌, cond, List, [], ◌∷◌, ◌++◌, map, filter, Option, Some, None, arith}
 use Rattle.std.specs.Prelude.{filter_map}
-use Rattle.std.specs.List.{AllZip, Contains, cons_option}
+use Rattle.std.specs.List.{AllZip, Contains, cons_option, list_any}
 use Rattle.wit_model.proofs.Elements.{contains-later, none-in}
 
 pub zip-left : {A B : Type 0} (R : A → B → Type 0) (xs : List A) (ys : List B) (y : B) → AllZip R xs ys → Contains ys y → (x : A) × Contains xs x × R x y
@@ -58,3 +58,20 @@ given-contains h (x ∷ xs) y c = go (given-contains h xs y) (h x) refl c
     go more None e c = let rest = more c in (rest.0, contains-later x xs rest.0 rest.1, rest.2)
     go more (Some w) e (zero, l, q) = (x, (0, omega arith, refl), e ∙ ap Some q)
     go more (Some w) e (suc k, l, q) = let rest = more (k, omega (arith, l), q) in (rest.0, contains-later x xs rest.0 rest.1, rest.2)
+
+-- a list of what belongs to each element of another
+pub zip-all : {A B : Type 0} (R : A → B → Type 0) (ys : List B) → ((y : B) → Contains ys y → (x : A) × R x y) → (xs : List A) × AllZip R xs ys
+zip-all R [] h = ([], tt)
+zip-all R (y ∷ ys) h =
+    let first = h y (0, omega arith, refl) in
+    let rest = zip-all R ys (λ z c. h z (contains-later y ys z c)) in
+    (first.0 ∷ rest.0, (first.1, rest.1))
+
+-- an element that passes
+pub any-contains : {A : Type 0} (p : A → Bool) (xs : List A) → list_any p xs ≡ true → (x : A) × Contains xs x × (p x ≡ true)
+any-contains p [] h = let wrong : ⊥ = cc in absurd wrong
+any-contains p (x ∷ xs) h = go (any-contains p xs) (p x) refl h
+  where
+    go : (list_any p xs ≡ true → (y : _) × Contains xs y × (p y ≡ true)) → (b : Bool) → p x ≡ b → (b || list_any p xs) ≡ true → (y : _) × Contains (x ∷ xs) y × (p y ≡ true)
+    go more true e h = (x, (0, omega arith, refl), e)
+    go more false e h = let rest = more h in (rest.0, contains-later x xs rest.0 rest.1, rest.2)
