@@ -7,6 +7,7 @@ mod encode;
 mod encoder;
 mod func_type;
 mod key;
+pub mod laws;
 mod lend;
 mod maps;
 mod name;
