@@ -4,6 +4,8 @@ ghost use Rattle.wit_encode_types.specs.MetKinds.{MetKindsAreHeld};
 ghost use Rattle.wit_encode.specs.RoomLaws.{LackingInterfacesAreHeavy};
 ghost use Rattle.wit_encode.specs.OwnerScope.{FunctionsEncode, FunctionsUse, InterfaceUses, NamesEncode, TableScope, TypesEncode, TypesUse};
 
+pub use wit_encode_types::laws::equal_lists;
+
 /// Types can be encoded in the scope of an owner, where each name that is met is of the place, or of a named interface whose instance stands.
 pub fn names_encode()
     ensures { NamesEncode }

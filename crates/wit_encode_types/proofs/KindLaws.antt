@@ -22,7 +22,7 @@ optional_same None (Some y) e = absurd (let z : ⊥ = cc in z)
 optional_same (Some x) None e = absurd (let z : ⊥ = cc in z)
 optional_same (Some x) (Some y) e = ap Some (same_types x y e)
 
-types_same : (xs ys : List ValueType) → pointwise same_type xs ys ≡ true → xs ≡ ys
+pub types_same : (xs ys : List ValueType) → pointwise same_type xs ys ≡ true → xs ≡ ys
 types_same [] [] e = refl
 types_same [] (y ∷ ys) e = absurd (let z : ⊥ = cc in z)
 types_same (x ∷ xs) [] e = absurd (let z : ⊥ = cc in z)

@@ -18,3 +18,5 @@ pub mod Table
 pub mod Distinct
 pub mod Leaves
 pub mod MetKinds
+pub mod Codes
+pub mod CodeLaws

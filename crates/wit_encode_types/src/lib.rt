@@ -1,12 +1,14 @@
 //! Defines the types of packages as component types, in any encoder that keeps a stated law.
 #![tactic(auto)]
 
+mod codes;
 mod define;
 mod definition;
 mod encode;
 mod encoder;
 mod func_type;
 mod key;
+pub mod laws;
 mod lend;
 mod maps;
 mod name;
