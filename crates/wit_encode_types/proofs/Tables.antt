@@ -18,10 +18,10 @@ use Rattle.std.proofs.lemmas.List.{map-append, take_more}
 use Rattle.wit_model.specs.Text.{Text, text_of}
 use Rattle.wit_model.specs.declared.model.Param.{Param}
 use Rattle.wit_encode_types.specs.declared.key.FunctionKey.{FunctionKey}
-use Rattle.wit_encode_types.specs.Codes.{Names, IsTable, AreListed, AddsParams, IsKeyList, type_code}
+use Rattle.wit_encode_types.specs.Codes.{names_of, lists_of, Names, IsTable, AreListed, AddsParams, IsKeyList, type_code}
 use Rattle.wit_encode_types.specs.KeyLaws.{key_equiv}
-use Rattle.wit_encode_types.proofs.EqualLists.{lists-of-keys}
-use Rattle.wit_encode_types.specs.Maps.{AreNumbered, NamesGrow, NamesParams, AddsNames}
+use Rattle.wit_encode_types.proofs.EqualLists.{lists-of-keys, key-shrink}
+use Rattle.wit_encode_types.specs.Maps.{AreNumbered, NamesGrow, NamesParams, AddsNames, IsOnce, LacksKey, LacksList}
 use Rattle.wit_encode_types.specs.declared.maps.TypeEncodingMaps.{TypeEncodingMaps}
 use Rattle.wit_encode_types.proofs.Lists.{none-in, contains-map}
 
@@ -333,3 +333,20 @@ adds-names-then p q = record {
   };
   grow = names-then p.grow q.grow;
 }
+
+-- names that all have a number give a list
+listed-all : (names : Names) (ps : List Param) → NamesParams names ps → (xs : List ℕ) × AreListed names ps xs
+listed-all names [] h = ([], tt)
+listed-all names (p ∷ ps) h =
+    let n = h p (0, omega arith, refl) in
+    let r = listed-all names ps (λ q c. h q (suc c.0, (let l = c.1 in omega (arith, l)), c.2)) in
+    (n.0 ∷ type_code p.ty ∷ r.0, (n.1, refl, r.1))
+
+pub key-listed : (names : Names) (key : FunctionKey) → NamesParams names key.params.0.now → (xs : List ℕ) × IsKeyList names key xs
+key-listed names key h = let r = listed-all names key.params.0.now h in (_, record { middle = r.0; listed = r.1; is = refl })
+
+-- a key that the maps lack has a list that they lack, also by more names
+pub list-lacking : (m : TypeEncodingMaps) (names' : Names) (key : FunctionKey) (xs : List ℕ) → IsOnce m → NamesGrow (names_of m.names) names' → LacksKey m key → IsKeyList names' key xs → LacksList (lists_of m.func_type_map) xs
+list-lacking m names' key xs once g none is i c =
+    let other = once.key_lists xs i c in
+    none i (xs, key-shrink (names_of m.names) names' (g.numbered once.names_).table g.kept key other.key xs is other.is, c)

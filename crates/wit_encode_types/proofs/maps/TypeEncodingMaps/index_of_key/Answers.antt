@@ -1,5 +1,6 @@
 use Rattle.std.proofs.Common.{◌≡◌, ◌∙◌, sym, ap, subst, ℕ, List, Vec}
 use Rattle.std.specs.List.{Contains}
+use Rattle.std.specs.Prelude.{IfSome}
 use Rattle.std.specs.declared.alloc.Global.{Global}
 use Rattle.std.proofs.lemmas.Option.{IfSome_then}
 use Rattle.wit_encode_types.specs.Codes.{names_of, lists_of, IsKeyList}
@@ -14,8 +15,11 @@ pub returns-in_default-clause-none : goal.returns-in_default-clause-none
 returns-in_default-clause-none c = λ once i h. at-none c.in_ok-list.field-0 _ c.in_default.is c.in_ok-list.ensures.none h.0 h.1
 
 pub returns-clause-some : goal.returns-clause-some
-returns-clause-some c = IfSome_then c.copied.result (rw c.as_slice.ensures.value at list-found (λ (v : Vec ℕ Global). v.items) c.args.self.now.func_type_map.entries c.as_slice.result.now c.copied.result (c.copied.ensures ∙ c.get.ensures.value))
-    (λ i h. (c.in-Some.list.items, is-list (goal.at.returns-clause-some c).In-Some, h))
+returns-clause-some c =
+    let h : IfSome c.copied.result (λ i. Contains (lists_of c.args.self.now.func_type_map) (c.as_slice.result.now, i)) =
+        list-found (λ (v : Vec ℕ Global). v.items) c.args.self.now.func_type_map.entries c.as_slice.result.now c.copied.result (c.copied.ensures ∙ c.get.ensures.value) in
+    IfSome_then c.copied.result (subst (λ (xs : List ℕ). IfSome c.copied.result (λ i. Contains (lists_of c.args.self.now.func_type_map) (xs, i))) c.as_slice.ensures.value h)
+    (λ i k. (c.in-Some.list.items, is-list (goal.at.returns-clause-some c).In-Some, k))
 
 pub returns-clause-none : goal.returns-clause-none
 returns-clause-none c = none-when c.copied.result _ (λ e once i h.

@@ -1,4 +1,4 @@
-use Rattle.std.proofs.Common.{◌≡◌, ap, subst, ℕ, List, arith, ◌≤◌, length}
+use Rattle.std.proofs.Common.{rules, ◌≡◌, ap, subst, ℕ, List, arith, ◌≤◌, length}
 use Rattle.std.specs.List.{Contains}
 use Rattle.std.proofs.lemmas.List.{take_all}
 use Rattle.wit_model.specs.Text.{Text}
@@ -17,4 +17,4 @@ loop-param-preserved c = record {
 }
 
 pub returns-clause-ok : goal.returns-clause-ok
-returns-clause-ok c = subst (λ (ps : List Param). NamesParams (names_of c.loop-param.self.names) ps) (take_all c.args.params.now c.loop-param.param-index (search rules)) c.loop-param.invariant.ok
+returns-clause-ok c = subst (λ (ps : List Param). NamesParams (names_of c.loop-param.self.names) ps) (take_all c.loop-param.param-index c.args.params.now (let h = c.loop-param-test.false in let l = c.loop-param.auto in search rules)) c.loop-param.invariant.ok
