@@ -41,17 +41,17 @@ on_ok (Err e) P Q f p = p
 -- the same entries, under names that may have been added
 pub adds-holds : (m m' : TypeEncodingMaps) → AddsNames m m' → (k : Known) (i : ℕ) → Holds m k i → Holds m' k i
 adds-holds m m' s (by_number n) i h = subst (λ (xs : List (ℕ × ℕ)). Contains xs (n, i)) (sym s.rest.numbers) h
-adds-holds m m' s (by_kind k) i h = (h.0, subst (λ (xs : List (Vec ℕ Global × ℕ)). Contains (map (λ e. (e.0.items, e.1)) xs) (kind_code k, i)) (sym s.rest.kinds) h.1)
-adds-holds m m' s (by_key k) i h = (h.0, key-grow (names_of m.names) (names_of m'.names) k h.0 s.grow h.1, subst (λ (xs : List (Vec ℕ Global × ℕ)). Contains (map (λ e. (e.0.items, e.1)) xs) (h.0, i)) (sym s.rest.keys) h.2)
+adds-holds m m' s (by_kind k) i h = (h.0, subst (λ (xs : List (Vec ℕ Global × ℕ)). Contains (map {B = List ℕ × ℕ} (λ e. (e.0.items, e.1)) xs) (kind_code k, i)) (sym s.rest.kinds) h.1)
+adds-holds m m' s (by_key k) i h = (h.0, key-grow (names_of m.names) (names_of m'.names) k h.0 s.grow h.1, subst (λ (xs : List (Vec ℕ Global × ℕ)). Contains (map {B = List ℕ × ℕ} (λ e. (e.0.items, e.1)) xs) (h.0, i)) (sym s.rest.keys) h.2)
 adds-holds m m' s by_unit_future i h = s.rest.unit_future_ ∙ h
 adds-holds m m' s by_unit_stream i h = s.rest.unit_stream_ ∙ h
 
 -- and back: a key that is found by more names was found before
 adds-back : (m m' : TypeEncodingMaps) → IsOnce m → AddsNames m m' → (k : Known) (i : ℕ) → Holds m' k i → Holds m k i
 adds-back m m' o s (by_number n) i h = subst (λ (xs : List (ℕ × ℕ)). Contains xs (n, i)) s.rest.numbers h
-adds-back m m' o s (by_kind k) i h = (h.0, subst (λ (xs : List (Vec ℕ Global × ℕ)). Contains (map (λ e. (e.0.items, e.1)) xs) (kind_code k, i)) s.rest.kinds h.1)
+adds-back m m' o s (by_kind k) i h = (h.0, subst (λ (xs : List (Vec ℕ Global × ℕ)). Contains (map {B = List ℕ × ℕ} (λ e. (e.0.items, e.1)) xs) (kind_code k, i)) s.rest.kinds h.1)
 adds-back m m' o s (by_key k) i h =
-    let c : Contains (lists_of m.func_type_map) (h.0, i) = subst (λ (xs : List (Vec ℕ Global × ℕ)). Contains (map (λ e. (e.0.items, e.1)) xs) (h.0, i)) s.rest.keys h.2 in
+    let c : Contains (lists_of m.func_type_map) (h.0, i) = subst (λ (xs : List (Vec ℕ Global × ℕ)). Contains (map {B = List ℕ × ℕ} (λ e. (e.0.items, e.1)) xs) (h.0, i)) s.rest.keys h.2 in
     let other = o.key_lists h.0 i c in
     (h.0, key-shrink (names_of m.names) (names_of m'.names) (s.grow.numbered o.names_).table s.grow.kept k other.key h.0 h.1 other.is, c)
 adds-back m m' o s by_unit_future i h = sym s.rest.unit_future_ ∙ h
@@ -60,11 +60,11 @@ adds-back m m' o s by_unit_stream i h = sym s.rest.unit_stream_ ∙ h
 adds-once : (m m' : TypeEncodingMaps) → AddsNames m m' → IsOnce m → IsOnce m'
 adds-once m m' s o = record {
   numbers = subst (λ (xs : List (ℕ × ℕ)). AllPairs (λ x y. nat_eq x.0 y.0 ≡ false) xs) (sym s.rest.numbers) o.numbers;
-  kinds = subst (λ (xs : List (Vec ℕ Global × ℕ)). AllPairs (λ x y. x.0 ≡ y.0 → ⊥) (map (λ e. (e.0.items, e.1)) xs)) (sym s.rest.kinds) o.kinds;
-  keys = subst (λ (xs : List (Vec ℕ Global × ℕ)). AllPairs (λ x y. x.0 ≡ y.0 → ⊥) (map (λ e. (e.0.items, e.1)) xs)) (sym s.rest.keys) o.keys;
-  kind_lists = λ xs i c. o.kind_lists xs i (subst (λ (es : List (Vec ℕ Global × ℕ)). Contains (map (λ e. (e.0.items, e.1)) es) (xs, i)) s.rest.kinds c);
+  kinds = subst (λ (xs : List (Vec ℕ Global × ℕ)). AllPairs (λ x y. x.0 ≡ y.0 → ⊥) (map {B = List ℕ × ℕ} (λ e. (e.0.items, e.1)) xs)) (sym s.rest.kinds) o.kinds;
+  keys = subst (λ (xs : List (Vec ℕ Global × ℕ)). AllPairs (λ x y. x.0 ≡ y.0 → ⊥) (map {B = List ℕ × ℕ} (λ e. (e.0.items, e.1)) xs)) (sym s.rest.keys) o.keys;
+  kind_lists = λ xs i c. o.kind_lists xs i (subst (λ (es : List (Vec ℕ Global × ℕ)). Contains (map {B = List ℕ × ℕ} (λ e. (e.0.items, e.1)) es) (xs, i)) s.rest.kinds c);
   key_lists = λ xs i c.
-      let other = o.key_lists xs i (subst (λ (es : List (Vec ℕ Global × ℕ)). Contains (map (λ e. (e.0.items, e.1)) es) (xs, i)) s.rest.keys c) in
+      let other = o.key_lists xs i (subst (λ (es : List (Vec ℕ Global × ℕ)). Contains (map {B = List ℕ × ℕ} (λ e. (e.0.items, e.1)) es) (xs, i)) s.rest.keys c) in
       record { key = other.key; is = key-grow (names_of m.names) (names_of m'.names) other.key xs s.grow other.is };
   names_ = s.grow.numbered o.names_;
 }
@@ -72,7 +72,7 @@ adds-once m m' s o = record {
 pub same-adds : (m m' : TypeEncodingMaps) → SameMaps m m' → AddsNames m m'
 same-adds m m' s = record {
   rest = record { numbers = s.numbers; kinds = s.kinds; keys = s.keys; names_ = refl; unit_future_ = s.unit_future_; unit_stream_ = s.unit_stream_ };
-  grow = subst (λ (xs : List (Bor Text × ℕ)). NamesGrow (names_of m.names) (map (λ e. (e.0.now, e.1)) xs)) (sym s.names_) (record { kept = λ t n c. c; numbered = λ a. a });
+  grow = subst (λ (xs : List (Bor Text × ℕ)). NamesGrow (names_of m.names) (map {B = Text × ℕ} (λ e. (e.0.now, e.1)) xs)) (sym s.names_) (record { kept = λ t n c. c; numbered = λ a. a });
 }
 
 -- what a change of the maps leaves
@@ -124,11 +124,11 @@ learns-number r m m' id i fresh l = record { grow = grow; only = λ o. only; onc
   where
     grow : (k : Known) (j : ℕ) → Holds m k j → Holds m' k j
     grow (by_number n) j h = kept-in m.id_to_index.entries m'.id_to_index.entries (id.0, i) l.more (n, j) h
-    grow (by_kind k) j h = (h.0, subst (λ (xs : List (Vec ℕ Global × ℕ)). Contains (map (λ e. (e.0.items, e.1)) xs) (kind_code k, j)) (sym l.rest.kinds) h.1)
+    grow (by_kind k) j h = (h.0, subst (λ (xs : List (Vec ℕ Global × ℕ)). Contains (map {B = List ℕ × ℕ} (λ e. (e.0.items, e.1)) xs) (kind_code k, j)) (sym l.rest.kinds) h.1)
     grow (by_key k) j h = (
       h.0,
-      subst (λ (xs : List (Bor Text × ℕ)). IsKeyList (map (λ e. (e.0.now, e.1)) xs) k h.0) (sym l.rest.names_) h.1,
-      subst (λ (xs : List (Vec ℕ Global × ℕ)). Contains (map (λ e. (e.0.items, e.1)) xs) (h.0, j)) (sym l.rest.keys) h.2,
+      subst (λ (xs : List (Bor Text × ℕ)). IsKeyList (map {B = Text × ℕ} (λ e. (e.0.now, e.1)) xs) k h.0) (sym l.rest.names_) h.1,
+      subst (λ (xs : List (Vec ℕ Global × ℕ)). Contains (map {B = List ℕ × ℕ} (λ e. (e.0.items, e.1)) xs) (h.0, j)) (sym l.rest.keys) h.2,
     )
     grow by_unit_future j h = l.rest.unit_future_ ∙ h
     grow by_unit_stream j h = l.rest.unit_stream_ ∙ h
@@ -138,11 +138,11 @@ learns-number r m m' id i fresh l = record { grow = grow; only = λ o. only; onc
       | inl q ↦ inl q
       | inr e ↦ inr (ap (λ (p : ℕ × ℕ). standing_of r (by_number p.0)) (sym e), ap (λ (p : ℕ × ℕ). p.1) (sym e))
     ]
-    only (by_kind k) j h = inl (h.0, subst (λ (xs : List (Vec ℕ Global × ℕ)). Contains (map (λ e. (e.0.items, e.1)) xs) (kind_code k, j)) l.rest.kinds h.1)
+    only (by_kind k) j h = inl (h.0, subst (λ (xs : List (Vec ℕ Global × ℕ)). Contains (map {B = List ℕ × ℕ} (λ e. (e.0.items, e.1)) xs) (kind_code k, j)) l.rest.kinds h.1)
     only (by_key k) j h = inl (
       h.0,
-      subst (λ (xs : List (Bor Text × ℕ)). IsKeyList (map (λ e. (e.0.now, e.1)) xs) k h.0) l.rest.names_ h.1,
-      subst (λ (xs : List (Vec ℕ Global × ℕ)). Contains (map (λ e. (e.0.items, e.1)) xs) (h.0, j)) l.rest.keys h.2,
+      subst (λ (xs : List (Bor Text × ℕ)). IsKeyList (map {B = Text × ℕ} (λ e. (e.0.now, e.1)) xs) k h.0) l.rest.names_ h.1,
+      subst (λ (xs : List (Vec ℕ Global × ℕ)). Contains (map {B = List ℕ × ℕ} (λ e. (e.0.items, e.1)) xs) (h.0, j)) l.rest.keys h.2,
     )
     only by_unit_future j h = inl (sym l.rest.unit_future_ ∙ h)
     only by_unit_stream j h = inl (sym l.rest.unit_stream_ ∙ h)
@@ -155,12 +155,12 @@ learns-number r m m' id i fresh l = record { grow = grow; only = λ o. only; onc
     once o = record {
       numbers = pairs-permuted (λ (x y : ℕ × ℕ). nat_eq x.0 y.0 ≡ false) numbers-apart _ m'.id_to_index.entries l.more
           (all_pairs_push (λ x y. nat_eq x.0 y.0 ≡ false) m.id_to_index.entries (id.0, i) o.numbers (λ k d lt. apart _ (Contains-get_or _ k d lt) _ refl));
-      kinds = subst (λ (xs : List (Vec ℕ Global × ℕ)). AllPairs (λ x y. x.0 ≡ y.0 → ⊥) (map (λ e. (e.0.items, e.1)) xs)) (sym l.rest.kinds) o.kinds;
-      keys = subst (λ (xs : List (Vec ℕ Global × ℕ)). AllPairs (λ x y. x.0 ≡ y.0 → ⊥) (map (λ e. (e.0.items, e.1)) xs)) (sym l.rest.keys) o.keys;
-      kind_lists = λ xs j c. o.kind_lists xs j (subst (λ (es : List (Vec ℕ Global × ℕ)). Contains (map (λ e. (e.0.items, e.1)) es) (xs, j)) l.rest.kinds c);
-      key_lists = λ xs j c. subst (λ (ns : List (Bor Text × ℕ)). IsSomeKeyList (map (λ e. (e.0.now, e.1)) ns) xs) (sym l.rest.names_)
-          (o.key_lists xs j (subst (λ (es : List (Vec ℕ Global × ℕ)). Contains (map (λ e. (e.0.items, e.1)) es) (xs, j)) l.rest.keys c));
-      names_ = subst (λ (ns : List (Bor Text × ℕ)). AreNumbered (map (λ e. (e.0.now, e.1)) ns)) (sym l.rest.names_) o.names_;
+      kinds = subst (λ (xs : List (Vec ℕ Global × ℕ)). AllPairs (λ x y. x.0 ≡ y.0 → ⊥) (map {B = List ℕ × ℕ} (λ e. (e.0.items, e.1)) xs)) (sym l.rest.kinds) o.kinds;
+      keys = subst (λ (xs : List (Vec ℕ Global × ℕ)). AllPairs (λ x y. x.0 ≡ y.0 → ⊥) (map {B = List ℕ × ℕ} (λ e. (e.0.items, e.1)) xs)) (sym l.rest.keys) o.keys;
+      kind_lists = λ xs j c. o.kind_lists xs j (subst (λ (es : List (Vec ℕ Global × ℕ)). Contains (map {B = List ℕ × ℕ} (λ e. (e.0.items, e.1)) es) (xs, j)) l.rest.kinds c);
+      key_lists = λ xs j c. subst (λ (ns : List (Bor Text × ℕ)). IsSomeKeyList (map {B = Text × ℕ} (λ e. (e.0.now, e.1)) ns) xs) (sym l.rest.names_)
+          (o.key_lists xs j (subst (λ (es : List (Vec ℕ Global × ℕ)). Contains (map {B = List ℕ × ℕ} (λ e. (e.0.items, e.1)) es) (xs, j)) l.rest.keys c));
+      names_ = subst (λ (ns : List (Bor Text × ℕ)). AreNumbered (map {B = Text × ℕ} (λ e. (e.0.now, e.1)) ns)) (sym l.rest.names_) o.names_;
     }
 
 pub learns-kind : (r : Resolve) (m m' : TypeEncodingMaps) (kind : TypeDefKind) (xs : List ℕ) (i : ℕ) → is_named_kind kind ≡ false → xs ≡ kind_code kind → LacksList (lists_of m.def_to_index) xs → LearnsList m m' xs i
@@ -172,8 +172,8 @@ learns-kind r m m' kind xs i unnamed is lacks l = record { grow = grow; only = �
     grow (by_kind k) j h = (h.0, kept-in (lists_of m.def_to_index) (lists_of m'.def_to_index) (xs, i) l.more (kind_code k, j) h.1)
     grow (by_key k) j h = (
       h.0,
-      subst (λ (ns : List (Bor Text × ℕ)). IsKeyList (map (λ e. (e.0.now, e.1)) ns) k h.0) (sym l.rest.names_) h.1,
-      subst (λ (es : List (Vec ℕ Global × ℕ)). Contains (map (λ e. (e.0.items, e.1)) es) (h.0, j)) (sym l.rest.keys) h.2,
+      subst (λ (ns : List (Bor Text × ℕ)). IsKeyList (map {B = Text × ℕ} (λ e. (e.0.now, e.1)) ns) k h.0) (sym l.rest.names_) h.1,
+      subst (λ (es : List (Vec ℕ Global × ℕ)). Contains (map {B = List ℕ × ℕ} (λ e. (e.0.items, e.1)) es) (h.0, j)) (sym l.rest.keys) h.2,
     )
     grow by_unit_future j h = l.rest.unit_future_ ∙ h
     grow by_unit_stream j h = l.rest.unit_stream_ ∙ h
@@ -189,8 +189,8 @@ learns-kind r m m' kind xs i unnamed is lacks l = record { grow = grow; only = �
     ]
     only (by_key k) j h = inl (
       h.0,
-      subst (λ (ns : List (Bor Text × ℕ)). IsKeyList (map (λ e. (e.0.now, e.1)) ns) k h.0) l.rest.names_ h.1,
-      subst (λ (es : List (Vec ℕ Global × ℕ)). Contains (map (λ e. (e.0.items, e.1)) es) (h.0, j)) l.rest.keys h.2,
+      subst (λ (ns : List (Bor Text × ℕ)). IsKeyList (map {B = Text × ℕ} (λ e. (e.0.now, e.1)) ns) k h.0) l.rest.names_ h.1,
+      subst (λ (es : List (Vec ℕ Global × ℕ)). Contains (map {B = List ℕ × ℕ} (λ e. (e.0.items, e.1)) es) (h.0, j)) l.rest.keys h.2,
     )
     only by_unit_future j h = inl (sym l.rest.unit_future_ ∙ h)
     only by_unit_stream j h = inl (sym l.rest.unit_stream_ ∙ h)
@@ -199,14 +199,14 @@ learns-kind r m m' kind xs i unnamed is lacks l = record { grow = grow; only = �
     once o = record {
       numbers = subst (λ (es : List (ℕ × ℕ)). AllPairs (λ x y. nat_eq x.0 y.0 ≡ false) es) (sym l.rest.numbers) o.numbers;
       kinds = new-pairs (lists_of m.def_to_index) (lists_of m'.def_to_index) xs i l.more lacks o.kinds;
-      keys = subst (λ (es : List (Vec ℕ Global × ℕ)). AllPairs (λ x y. x.0 ≡ y.0 → ⊥) (map (λ e. (e.0.items, e.1)) es)) (sym l.rest.keys) o.keys;
+      keys = subst (λ (es : List (Vec ℕ Global × ℕ)). AllPairs (λ x y. x.0 ≡ y.0 → ⊥) (map {B = List ℕ × ℕ} (λ e. (e.0.items, e.1)) es)) (sym l.rest.keys) o.keys;
       kind_lists = λ ys j c. elim (one-more-in (lists_of m.def_to_index) (lists_of m'.def_to_index) (xs, i) l.more (ys, j) c) [
         | inl q ↦ o.kind_lists ys j q
         | inr e ↦ record { kind = kind; unnamed = unnamed; is = ap (λ (p : List ℕ × ℕ). p.0) (sym e) ∙ is }
       ];
-      key_lists = λ ys j c. subst (λ (ns : List (Bor Text × ℕ)). IsSomeKeyList (map (λ e. (e.0.now, e.1)) ns) ys) (sym l.rest.names_)
-          (o.key_lists ys j (subst (λ (es : List (Vec ℕ Global × ℕ)). Contains (map (λ e. (e.0.items, e.1)) es) (ys, j)) l.rest.keys c));
-      names_ = subst (λ (ns : List (Bor Text × ℕ)). AreNumbered (map (λ e. (e.0.now, e.1)) ns)) (sym l.rest.names_) o.names_;
+      key_lists = λ ys j c. subst (λ (ns : List (Bor Text × ℕ)). IsSomeKeyList (map {B = Text × ℕ} (λ e. (e.0.now, e.1)) ns) ys) (sym l.rest.names_)
+          (o.key_lists ys j (subst (λ (es : List (Vec ℕ Global × ℕ)). Contains (map {B = List ℕ × ℕ} (λ e. (e.0.items, e.1)) es) (ys, j)) l.rest.keys c));
+      names_ = subst (λ (ns : List (Bor Text × ℕ)). AreNumbered (map {B = Text × ℕ} (λ e. (e.0.now, e.1)) ns)) (sym l.rest.names_) o.names_;
     }
 
 pub learns-key : (r : Resolve) (m m' : TypeEncodingMaps) (key : FunctionKey) (i : ℕ) → LacksKey m key → LearnsKey m m' key i → Learns r m m' i (standing_of r (by_key key))
@@ -214,14 +214,14 @@ learns-key r m m' key i lacks l = record { grow = grow; only = only; once = once
   where
     grow : (k : Known) (j : ℕ) → Holds m k j → Holds m' k j
     grow (by_number n) j h = subst (λ (es : List (ℕ × ℕ)). Contains es (n, j)) (sym l.rest.numbers) h
-    grow (by_kind k) j h = (h.0, subst (λ (es : List (Vec ℕ Global × ℕ)). Contains (map (λ e. (e.0.items, e.1)) es) (kind_code k, j)) (sym l.rest.kinds) h.1)
+    grow (by_kind k) j h = (h.0, subst (λ (es : List (Vec ℕ Global × ℕ)). Contains (map {B = List ℕ × ℕ} (λ e. (e.0.items, e.1)) es) (kind_code k, j)) (sym l.rest.kinds) h.1)
     grow (by_key k) j h = (h.0, key-grow (names_of m.names) (names_of m'.names) k h.0 l.grow h.1, kept-in (lists_of m.func_type_map) (lists_of m'.func_type_map) (l.list, i) l.more (h.0, j) h.2)
     grow by_unit_future j h = l.rest.unit_future_ ∙ h
     grow by_unit_stream j h = l.rest.unit_stream_ ∙ h
 
     only : IsOnce m → (k : Known) (j : ℕ) → Holds m' k j → Holds m k j ⊎ ((standing_of r k ≡ standing_of r (by_key key)) × (j ≡ i))
     only o (by_number n) j h = inl (subst (λ (es : List (ℕ × ℕ)). Contains es (n, j)) l.rest.numbers h)
-    only o (by_kind k) j h = inl (h.0, subst (λ (es : List (Vec ℕ Global × ℕ)). Contains (map (λ e. (e.0.items, e.1)) es) (kind_code k, j)) l.rest.kinds h.1)
+    only o (by_kind k) j h = inl (h.0, subst (λ (es : List (Vec ℕ Global × ℕ)). Contains (map {B = List ℕ × ℕ} (λ e. (e.0.items, e.1)) es) (kind_code k, j)) l.rest.kinds h.1)
     only o (by_key k) j h = elim (one-more-in (lists_of m.func_type_map) (lists_of m'.func_type_map) (l.list, i) l.more (h.0, j) h.2) [
       | inl q ↦
           let other = o.key_lists h.0 j q in
@@ -236,9 +236,9 @@ learns-key r m m' key i lacks l = record { grow = grow; only = only; once = once
     once : IsOnce m → IsOnce m'
     once o = record {
       numbers = subst (λ (es : List (ℕ × ℕ)). AllPairs (λ x y. nat_eq x.0 y.0 ≡ false) es) (sym l.rest.numbers) o.numbers;
-      kinds = subst (λ (es : List (Vec ℕ Global × ℕ)). AllPairs (λ x y. x.0 ≡ y.0 → ⊥) (map (λ e. (e.0.items, e.1)) es)) (sym l.rest.kinds) o.kinds;
+      kinds = subst (λ (es : List (Vec ℕ Global × ℕ)). AllPairs (λ x y. x.0 ≡ y.0 → ⊥) (map {B = List ℕ × ℕ} (λ e. (e.0.items, e.1)) es)) (sym l.rest.kinds) o.kinds;
       keys = new-pairs (lists_of m.func_type_map) (lists_of m'.func_type_map) l.list i l.more (list-lacking m (names_of m'.names) key l.list o l.grow lacks l.is) o.keys;
-      kind_lists = λ ys j c. o.kind_lists ys j (subst (λ (es : List (Vec ℕ Global × ℕ)). Contains (map (λ e. (e.0.items, e.1)) es) (ys, j)) l.rest.kinds c);
+      kind_lists = λ ys j c. o.kind_lists ys j (subst (λ (es : List (Vec ℕ Global × ℕ)). Contains (map {B = List ℕ × ℕ} (λ e. (e.0.items, e.1)) es) (ys, j)) l.rest.kinds c);
       key_lists = λ ys j c. elim (one-more-in (lists_of m.func_type_map) (lists_of m'.func_type_map) (l.list, i) l.more (ys, j) c) [
         | inl q ↦ let other = o.key_lists ys j q in record { key = other.key; is = key-grow (names_of m.names) (names_of m'.names) other.key ys l.grow other.is }
         | inr e ↦ record { key = key; is = subst (IsKeyList (names_of m'.names) key) (ap (λ (p : List ℕ × ℕ). p.0) e) l.is }

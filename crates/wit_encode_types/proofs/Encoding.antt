@@ -130,5 +130,5 @@ learns-both r own own' a b c xs ys e g p q = record {
   ];
 }
 
-pub learns-same : {P : ℕ → Type 0} (a b c : TypeEncodingMaps) → LearnsOnly P a b → c.id_to_index.items ≡ b.id_to_index.items → LearnsOnly P a c
+pub learns-same : {P : ℕ → Type 0} (a b c : TypeEncodingMaps) → LearnsOnly P a b → c.id_to_index.entries ≡ b.id_to_index.entries → LearnsOnly P a c
 learns-same a b c l e = record { each = λ id i h. l.each id i (subst (λ (xs : List (TypeId × ℕ)). Contains xs (id, i)) e h) }

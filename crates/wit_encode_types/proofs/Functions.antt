@@ -65,9 +65,9 @@ counts-key r scope m m₁ m' d d₁ d' key i lacks a l e =
     let kinds : length m'.def_to_index.entries ≡ length m₁.def_to_index.entries = ap length l.rest.kinds in
     let names : names_defined r scope m' ≡ names_defined r scope m₁ = ap (count_by (λ e. is_defined_by_name r scope e.0)) l.rest.numbers in
     let more : IsPermutation (lists_of m.func_type_map ++ (l.list, i) ∷ []) (lists_of m'.func_type_map) =
-        subst (λ (es : List (Vec ℕ Global × ℕ)). IsPermutation (map (λ e. (e.0.items, e.1)) es ++ (l.list, i) ∷ []) (lists_of m'.func_type_map)) a.keys.lists l.more in
+        subst (λ (es : List (Vec ℕ Global × ℕ)). IsPermutation (map {B = List ℕ × ℕ} (λ e. (e.0.items, e.1)) es ++ (l.list, i) ∷ []) (lists_of m'.func_type_map)) a.keys.lists l.more in
     let many : length m'.func_type_map.entries ≡ length m.func_type_map.entries + 1 = lists-longer m.func_type_map.entries m'.func_type_map.entries (l.list, i) more in
-    let grow : NamesGrow (names_of m.names) (names_of m'.names) = subst (λ (ns : List (Bor Text × ℕ)). NamesGrow (map (λ e. (e.0.now, e.1)) ns) (names_of m'.names)) a.keys.names_ l.grow in
+    let grow : NamesGrow (names_of m.names) (names_of m'.names) = subst (λ (ns : List (Bor Text × ℕ)). NamesGrow (map {B = Text × ℕ} (λ e. (e.0.now, e.1)) ns) (names_of m'.names)) a.keys.names_ l.grow in
     record { types = omega arith; functions = omega arith; keys = inr (lacks, record { grow = grow; list = l.list; is = l.is; more = more }); shows = shows-trans a.shows (shows-none r scope m₁ m' d₁ d' l.rest.numbers (ap (λ (z : Definitions). z.exports) e)) }
 
 pub counts-known : (r : Resolve) (scope : Scope) (m : TypeEncodingMaps) (d : Definitions) (key : FunctionKey) (i : ℕ) → HasKey m key i → AddsFunction r scope m m d d key i
@@ -76,6 +76,6 @@ counts-known r scope m d key i h = record { types = refl; functions = refl; keys
 pub lacks-same : (m m' : TypeEncodingMaps) (key : FunctionKey) → SameKeys m m' → LacksKey m key → LacksKey m' key
 lacks-same m m' key e l i h = l i (
   h.0,
-  subst (λ (ns : List (Bor Text × ℕ)). IsKeyList (map (λ e. (e.0.now, e.1)) ns) key h.0) e.names_ h.1,
-  subst (λ (es : List (Vec ℕ Global × ℕ)). Contains (map (λ e. (e.0.items, e.1)) es) (h.0, i)) e.lists h.2,
+  subst (λ (ns : List (Bor Text × ℕ)). IsKeyList (map {B = Text × ℕ} (λ e. (e.0.now, e.1)) ns) key h.0) e.names_ h.1,
+  subst (λ (es : List (Vec ℕ Global × ℕ)). Contains (map {B = List ℕ × ℕ} (λ e. (e.0.items, e.1)) es) (h.0, i)) e.lists h.2,
 )

@@ -80,10 +80,15 @@ pub record IsReadyKey (m : TypeEncodingMaps) (xs : List ℕ) : Type 0 where
   pub is : IsKeyList (names_of m.names) key xs
   pub ready : AllReady m (key_types key)
 
+-- the list of a key by the names of the first maps is its list by those of the second
+pub record KeepsNames (m m' : TypeEncodingMaps) : Type 0 where
+  pub kept_list : (key : FunctionKey) (xs : List ℕ) → IsKeyList (names_of m.names) key xs → IsKeyList (names_of m'.names) key xs
+
 -- Of each type that has been learnt, other than those of other interfaces, the parts are known, and the kind where it has no name.
 -- Each kind that has been learnt is that of an unnamed type that is known, and the types of each key that has been learnt are known.
 pub record Learns (r : Resolve) (own : Option InterfaceId) (m m' : TypeEncodingMaps) : Type 0 where
   pub grow : MapsGrow m m'
+  pub names_ : KeepsNames m m'
   pub numbers : (n : ℕ) (def : TypeDef) → IsKnown m' n → type_at r n ≡ Some def → foreign_owner own def.owner ≡ None → IsKnown m n ⊎ IsHeld m' def
   pub kinds : (xs : List ℕ) (i : ℕ) → Contains (lists_of m'.def_to_index) (xs, i) → Contains (lists_of m.def_to_index) (xs, i) ⊎ IsKnownList r m' xs
   pub keys : (xs : List ℕ) (i : ℕ) → Contains (lists_of m'.func_type_map) (xs, i) → Contains (lists_of m.func_type_map) (xs, i) ⊎ IsReadyKey m' xs
