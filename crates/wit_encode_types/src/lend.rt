@@ -146,7 +146,7 @@ pub(crate) fn remember_kind<'a, E: ValtypeEncoder<'a>>(
     requires stands { StandsAsKind resolve.now (E.view enc.old).stands list.items index }
     requires fresh { LacksList (lists_of (E.view enc.old).maps.def_to_index) list.items }
     requires agree { Agrees resolve.now (E.view enc.old) }
-    ensures ok { OnOk result (LearnsList (E.view enc.old).maps (E.view enc.new).maps list.entry.items index) }
+    ensures ok { OnOk result (LearnsList (E.view enc.old).maps (E.view enc.new).maps list.items index) }
     ensures leaves { Leaves resolve.now (E.view enc.old) (E.view enc.new) }
     ensures counts { (E.view enc.new).definitions ≡ (E.view enc.old).definitions }
     ensures held { (E.view enc.new).held ≡ (E.view enc.old).held }
