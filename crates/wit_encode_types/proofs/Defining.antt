@@ -110,8 +110,8 @@ own-form _ n m = refl
 -- ---- counts
 
 -- what has been learnt, step by step
-pub more-then : {X : Type 0} (as bs cs xs ys : List X) → IsPermutation (as ++ xs) bs → IsPermutation (bs ++ ys) cs → IsPermutation (as ++ (xs ++ ys)) cs
-more-then as bs cs xs ys p q = subst (λ zs. IsPermutation zs cs) (append_assoc as xs ys) (IsPermutation-trans ((as ++ xs) ++ ys) (bs ++ ys) cs (IsPermutation-append_left ys (as ++ xs) bs p) q)
+pub more-then : {X : Type 0} (us vs ws xs ys : List X) → IsPermutation (us ++ xs) vs → IsPermutation (vs ++ ys) ws → IsPermutation (us ++ (xs ++ ys)) ws
+more-then us vs ws xs ys p q = subst (λ zs. IsPermutation zs ws) (append_assoc us xs ys) (IsPermutation-trans ((us ++ xs) ++ ys) (vs ++ ys) ws (IsPermutation-append_left ys (us ++ xs) vs p) q)
 
 pub lists-longer : {K : Type 0} (es fs : List (K × ℕ)) {f : K → List ℕ} (x : List ℕ × ℕ) → IsPermutation (map {B = List ℕ × ℕ} (λ e. (f e.0, e.1)) es ++ x ∷ []) (map {B = List ℕ × ℕ} (λ e. (f e.0, e.1)) fs) → length fs ≡ length es + 1
 lists-longer es fs {f} x p =
