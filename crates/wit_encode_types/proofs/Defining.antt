@@ -1,5 +1,5 @@
 -- What is defined, call by call.
-use Rattle.std.proofs.Common.{◌≡◌, refl, sym, subst, ap, ◌∙◌, ℕ, ◌+◌, ◌<◌, inl, inr, append_assoc, append-nil, Bool, true, false, cond, List, [], ◌∷◌, ◌++◌, Result, Ok, Err, IfOk, Option, Some, None, length, length-append, arith, count_by, zero-add, map}
+use Rattle.std.proofs.Common.{◌≡◌, refl, sym, subst, ap, ◌∙◌, ℕ, ◌+◌, ◌<◌, inl, inr, append_assoc, append-nil, Bool, true, false, cond, List, [], ◌∷◌, ◌++◌, Result, Ok, Err, IfOk, Option, Some, None, length, length-append, arith, count_by, zero-add, map, Vec}
 use Rattle.std.proofs.lemmas.List.Sums.{sum_by-append}
 use Rattle.wit_model.specs.Rules.{is_named_kind}
 use Rattle.wit_model.specs.Tree.{Tree, Declaration}
@@ -11,6 +11,7 @@ use Rattle.wit_model.specs.declared.model.TypeDefKind.{TypeDefKind}
 use Rattle.wit_model.specs.declared.model.TypeDefKind.TheVariants as kind
 use Rattle.wit_model.specs.declared.model.«Type».{«Type» as ValueType}
 use Rattle.std.specs.Borrow.{Bor}
+use Rattle.std.specs.declared.alloc.Global.{Global}
 use Rattle.std.specs.List.{AllZip, Contains, cons_option}
 use Rattle.std.proofs.lemmas.List.{map-append, length-map}
 use Rattle.std.specs.Prelude.{IsPermutation}
@@ -113,8 +114,8 @@ own-form _ n m = refl
 pub more-then : {X : Type 0} (us vs ws xs ys : List X) → IsPermutation (us ++ xs) vs → IsPermutation (vs ++ ys) ws → IsPermutation (us ++ (xs ++ ys)) ws
 more-then us vs ws xs ys p q = subst (λ zs. IsPermutation zs ws) (append_assoc us xs ys) (IsPermutation-trans ((us ++ xs) ++ ys) (vs ++ ys) ws (IsPermutation-append_left ys (us ++ xs) vs p) q)
 
-pub lists-longer : {K : Type 0} (es fs : List (K × ℕ)) {f : K → List ℕ} (x : List ℕ × ℕ) → IsPermutation (map {B = List ℕ × ℕ} (λ e. (f e.0, e.1)) es ++ x ∷ []) (map {B = List ℕ × ℕ} (λ e. (f e.0, e.1)) fs) → length fs ≡ length es + 1
-lists-longer es fs {f} x p =
+pub lists-longer : {K : Type 0} (f : K → List ℕ) (es fs : List (K × ℕ)) (x : List ℕ × ℕ) → IsPermutation (map {B = List ℕ × ℕ} (λ e. (f e.0, e.1)) es ++ x ∷ []) (map {B = List ℕ × ℕ} (λ e. (f e.0, e.1)) fs) → length fs ≡ length es + 1
+lists-longer f es fs x p =
     sym (length-map fs (λ e. (f e.0, e.1))) ∙ length_permutation _ _ p ∙ length-append (map (λ e. (f e.0, e.1)) es) (x ∷ []) ∙ ap (λ n. n + 1) (length-map es (λ e. (f e.0, e.1)))
 
 pub shows-none : (r : Resolve) (scope : Scope) (m m' : TypeEncodingMaps) (d d' : Definitions) → m'.id_to_index.entries ≡ m.id_to_index.entries → d'.exports ≡ d.exports → Shows r scope m m' d d'
@@ -166,7 +167,7 @@ counts-trans {r} {scope} {scope'} {a} {b} {c} {d} {e} {f} s p q =
 pub counts-kind : (r : Resolve) (scope : Scope) (m m' : TypeEncodingMaps) (d d' : Definitions) (xs : List ℕ) (i : ℕ) → LearnsList m m' xs i → d' ≡ one_type_more d → AddsTypes r scope m m' d d'
 counts-kind r scope m m' d d' xs i l e =
     let a : d'.types ≡ d.types + 1 = ap (λ (z : Definitions). z.types) e in
-    let b : length m'.def_to_index.entries ≡ length m.def_to_index.entries + 1 = lists-longer m.def_to_index.entries m'.def_to_index.entries (xs, i) l.more in
+    let b : length m'.def_to_index.entries ≡ length m.def_to_index.entries + 1 = lists-longer (λ (v : Vec ℕ Global). v.items) m.def_to_index.entries m'.def_to_index.entries (xs, i) l.more in
     let c : names_defined r scope m' ≡ names_defined r scope m = ap (count_by (λ q. is_defined_by_name r scope q.0)) l.rest.numbers in
     record { types = omega arith; functions = ap (λ (z : Definitions). z.functions) e; keys = record { lists = l.rest.keys; names_ = l.rest.names_ }; shows = shows-none r scope m m' d d' l.rest.numbers (ap (λ (z : Definitions). z.exports) e) }
 

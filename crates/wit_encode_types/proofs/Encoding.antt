@@ -92,7 +92,7 @@ known-more m m' items k lt g known here j h =
 pub ready-at-last : (r : Resolve) (own : Option InterfaceId) (m₀ m : TypeEncodingMaps) (ts : List ValueType) (items : List ℕ) (k : ℕ) → IsOrderOf r own m₀ ts items → length items ≤ k → MapsGrow m₀ m → ((j : ℕ) → Contains (take k items) j → IsKnown m j) → AllReady m ts
 ready-at-last r own m₀ m ts items k p le g known t c id e = elim (p.stands t c id e) [
   | inl q ↦ known-grow m₀ m id.0 g q
-  | inr q ↦ known id.0 (subst (λ (xs : List ℕ). Contains xs id) (sym (take_all k items le)) q)
+  | inr q ↦ known id.0 (subst (λ (xs : List ℕ). Contains xs id.0) (sym (take_all k items le)) q)
 ]
 
 pub learns-nothing : (P : ℕ → Type 0) (m : TypeEncodingMaps) → LearnsOnly P m m

@@ -65,8 +65,8 @@ counts-key r scope m m₁ m' d d₁ d' key i lacks a l e =
     let kinds : length m'.def_to_index.entries ≡ length m₁.def_to_index.entries = ap length l.rest.kinds in
     let names : names_defined r scope m' ≡ names_defined r scope m₁ = ap (count_by (λ e. is_defined_by_name r scope e.0)) l.rest.numbers in
     let more : IsPermutation (lists_of m.func_type_map ++ (l.list, i) ∷ []) (lists_of m'.func_type_map) =
-        subst (λ (es : List (Vec ℕ Global × ℕ)). IsPermutation (map {B = List ℕ × ℕ} (λ e. (e.0.items, e.1)) es ++ (l.list, i) ∷ []) (lists_of m'.func_type_map)) a.keys.lists l.more in
-    let many : length m'.func_type_map.entries ≡ length m.func_type_map.entries + 1 = lists-longer m.func_type_map.entries m'.func_type_map.entries (l.list, i) more in
+    subst (λ (es : List (Vec ℕ Global × ℕ)). IsPermutation (map {B = List ℕ × ℕ} (λ e. (e.0.items, e.1)) es ++ (l.list, i) ∷ []) (lists_of m'.func_type_map)) a.keys.lists l.more in
+    let many : length m'.func_type_map.entries ≡ length m.func_type_map.entries + 1 = lists-longer (λ (v : Vec ℕ Global). v.items) m.func_type_map.entries m'.func_type_map.entries (l.list, i) more in
     let grow : NamesGrow (names_of m.names) (names_of m'.names) = subst (λ (ns : List (Bor Text × ℕ)). NamesGrow (map {B = Text × ℕ} (λ e. (e.0.now, e.1)) ns) (names_of m'.names)) a.keys.names_ l.grow in
     record { types = omega arith; functions = omega arith; keys = inr (lacks, record { grow = grow; list = l.list; is = l.is; more = more }); shows = shows-trans a.shows (shows-none r scope m₁ m' d₁ d' l.rest.numbers (ap (λ (z : Definitions). z.exports) e)) }
 

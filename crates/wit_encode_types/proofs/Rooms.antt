@@ -82,7 +82,7 @@ pub reached-right : {r : Resolve} {own : Option InterfaceId} (xs ys : List Value
 reached-right xs ys n x = (x.0, Contains-append_right xs ys x.0 x.1, x.2)
 
 pub only-more : {P Q : ℕ → Type 0} {m m' : TypeEncodingMaps} → ((n : ℕ) → P n → Q n) → LearnsOnly P m m' → LearnsOnly Q m m'
-only-more f l = record { each = λ id i c. elim (l.each id i c) [ inl q ↦ inl q | inr p ↦ inr (f id.0 p) ] }
+only-more f l = record { each = λ id i c. elim (l.each id i c) [ inl q ↦ inl q | inr p ↦ inr (f id p) ] }
 
 pub only-reached : (r : Resolve) (own : Option InterfaceId) (ts : List ValueType) {m m' : TypeEncodingMaps} → LearnsOnly (MetFrom r own m ts) m m' → LearnsOnly (ReachedFrom r own ts) m m'
 only-reached r own ts {m} l = only-more (λ n a. (a.0, a.1, meets-reaches r own m a.0 n a.2)) l
@@ -109,7 +109,7 @@ pub learns-reached : (r : Resolve) (own : Option InterfaceId) (m m' : TypeEncodi
 learns-reached r own m m' ts items k o l = record {
   each = λ id i c. elim (l.each id i c) [
     | inl q ↦ inl q
-    | inr q ↦ (let a = o.added id.0 (taken items k id.0 q) in inr (a.0, a.1, meets-reaches r own m a.0 id.0 a.2))
+    | inr q ↦ (let a = o.added id (taken items k id q) in inr (a.0, a.1, meets-reaches r own m a.0 id a.2))
   ];
 }
   where
@@ -213,6 +213,6 @@ module _ {a b : TypeEncodingMaps} {h h' k : ℕ} (holds : HoldsFor a b h h' k) (
       | inl x ↦ new-unknown n x
       | inr x ↦ (λ known. p.unknown n x (before-known n known))
     ];
-    held = (let x = holds.held in let y = p.held in let l = length-append new-numbers p.numbers in let m = length-map holds.learnt (λ (e : TypeId × ℕ). e.0.0) in omega (arith, count));
+    held = (let x = holds.held in let y = p.held in let l = length-append new-numbers p.numbers in let m = length-map holds.learnt (λ (e : ℕ × ℕ). e.0) in omega (arith, count));
     lacks = lacks-more (λ n c. Contains-append_right new-numbers p.numbers n c) among (subst (λ (o : Option InterfaceId). LacksOne r o N p.numbers qs') e p.lacks);
   }

@@ -88,13 +88,13 @@ module _ {X : Type 0} (R : X → X → Type 0) (back : (x y : X) → R x y → R
       let s = swapped_from_swap xs (swap xs a b) a b d la lb refl in
       let m : length (swap xs a b) ≡ length xs = length_permutation xs (swap xs a b) (IsPermutation-swap xs (swap xs a b) a b la lb refl) in
       let place : (k : ℕ) → k < length xs → (p : ℕ) × (get_or (swap xs a b) k d ≡ get_or xs p d) × (p < length xs) × (((k ≡ a) × (p ≡ b)) ⊎ (((k ≡ b) × (p ≡ a)) ⊎ ((k ≡ a → ⊥) × (k ≡ b → ⊥) × (p ≡ k)))) =
-          λ k lk. elim (cases_eq k a) [
-            | inl e ↦ (b, ap (λ z. get_or (swap xs a b) z d) e ∙ s.0, lb, inl (e, refl))
-            | inr e ↦ elim (cases_eq k b) [
-              | inl f ↦ (a, ap (λ z. get_or (swap xs a b) z d) f ∙ s.1, la, inr (inl (f, refl)))
-              | inr f ↦ (k, s.2 k e f, lk, inr (inr (e, f, refl)))
-            ]
-          ] in
+      λ k lk. elim (cases_eq k a) [
+        | inl e ↦ (b, ap (λ z. get_or (swap xs a b) z d) e ∙ s.0, lb, inl (e, refl))
+        | inr e ↦ elim (cases_eq k b) [
+          | inl f ↦ (a, ap (λ z. get_or (swap xs a b) z d) f ∙ s.1, la, inr (inl (f, refl)))
+          | inr f ↦ (k, s.2 k e f, lk, inr (inr (e, f, refl)))
+        ]
+      ] in
       let p = place i (omega (arith, li, m)) in
       let q = place j (omega (arith, lj, m)) in
       rw (p.1, q.1) (h p.0 q.0 d (λ e. differ a b i j p.0 q.0 n p.3 q.3 e) p.2 q.2)

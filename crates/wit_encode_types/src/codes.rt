@@ -119,11 +119,7 @@ pub(crate) fn kind_list(alloc: Global, kind: &TypeDefKind) -> Result<Vec<u64>, A
 }
 
 /// Adds the parameters to a list, each by the numbers of its name and its type. Answers whether each name has one.
-fn push_params(
-    names: &Names,
-    list: &mut Vec<u64>,
-    params: &[Param],
-) -> Result<bool, AllocError>
+fn push_params(names: &Names, list: &mut Vec<u64>, params: &[Param]) -> Result<bool, AllocError>
     ensures { IfOk result (λ b. AddsParams (names_of names.now) b list.old.items list.new.items params.now) }
 {
     for param in params {

@@ -72,7 +72,11 @@ impl<'a> TypeEncodingMaps<'a> {
     }
 
     /// The index under which an equal key is known.
-    pub(crate) fn index_of_key(&self, alloc: Global, key: &FunctionKey) -> Result<Option<u32>, AllocError>
+    pub(crate) fn index_of_key(
+        &self,
+        alloc: Global,
+        key: &FunctionKey,
+    ) -> Result<Option<u32>, AllocError>
         ensures some { IfOk result (λ o. IfSome o (HasKey self.now key.now)) }
         ensures none { IfOk result (λ o. IfNone o (IsOnce self.now → LacksKey self.now key.now)) }
     {

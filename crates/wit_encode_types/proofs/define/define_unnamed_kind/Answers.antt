@@ -25,7 +25,8 @@ define_new_kind-requires g c = λ _. (
         subst (LacksList (lists_of (g.E.ValtypeEncoder.view c.args.enc.now).maps.def_to_index)) (c.as_slice.ensures.value ∙ c.in_ok-list.ensures) (rw c.in_default.is at c.index_of_kind.ensures.none),
         (c.requires.ready, (c.requires.formed, c.requires.agree)),
       ),
-    )),
+    ),
+  ),
 )
 
 pub returns-in-Some-clause-counts : goal.returns-in-Some-clause-counts

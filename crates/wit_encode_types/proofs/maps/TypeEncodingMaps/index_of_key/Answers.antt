@@ -17,7 +17,7 @@ returns-in_default-clause-none c = λ once i h. at-none c.in_ok-list.field-0 _ c
 pub returns-clause-some : goal.returns-clause-some
 returns-clause-some c =
     let h : IfSome c.copied.result (λ i. Contains (lists_of c.args.self.now.func_type_map) (c.as_slice.result.now, i)) =
-        list-found (λ (v : Vec ℕ Global). v.items) c.args.self.now.func_type_map.entries c.as_slice.result.now c.copied.result (c.copied.ensures ∙ c.get.ensures.value) in
+    list-found (λ (v : Vec ℕ Global). v.items) c.args.self.now.func_type_map.entries c.as_slice.result.now c.copied.result (c.copied.ensures ∙ c.get.ensures.value) in
     IfSome_then c.copied.result (subst (λ (xs : List ℕ). IfSome c.copied.result (λ i. Contains (lists_of c.args.self.now.func_type_map) (xs, i))) c.as_slice.ensures.value h)
     (λ i k. (c.in-Some.list.items, is-list (goal.at.returns-clause-some c).In-Some, k))
 
