@@ -15,5 +15,7 @@ pub mod Validity
 pub mod Matching
 pub mod Counting
 pub mod Refusing
+pub mod Sided
+pub mod SameSignatures
 pub mod Reflexive
 mod Examples

@@ -161,3 +161,13 @@ module _ (r : Resolve) where
         let e : is_place 4294967295 ≡ true = first_true (is_place 4294967295) (list_all (in_list r.types.items) (kind_numbers x.kind) && owner_in_range r x.owner) passed in
         false_true e)
         in omega (arith, le)
+
+    -- the numbers of interfaces too
+    pub interfaces_fit : length r.interfaces.items < 4294967296
+    unfolding numbers_in_range
+    interfaces_fit =
+        let le = not_past r.interfaces.items 4294967295 (λ x at.
+        let passed = each_from_at (numbers_in_range.interface_ r) 0 r.interfaces.items 4294967295 x (lists_pass numbers_in_range r v.rules.numbers_in_range).1 at in
+        let e : is_place 4294967295 ≡ true = first_true (is_place 4294967295) (passes (in_list r.packages.items) (package_number x.«package») && (list_all (λ id. in_list r.types.items id.0) (values x.types) && list_all (function_in_range r) (values x.functions))) passed in
+        false_true e)
+        in omega (arith, le)

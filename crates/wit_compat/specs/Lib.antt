@@ -6,3 +6,4 @@ pub mod Table
 pub mod Outline
 pub mod Parts
 pub mod Index
+pub mod TwoSides
