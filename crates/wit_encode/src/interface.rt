@@ -85,7 +85,10 @@ fn define_inside(inner: &mut InstanceType, def: &ComponentDefinedType) -> Result
     Ok(index)
 }
 
-fn define_outside(outer: &mut ComponentType, def: &ComponentDefinedType) -> Result<u32, Error>
+pub(crate) fn define_outside(
+    outer: &mut ComponentType,
+    def: &ComponentDefinedType,
+) -> Result<u32, Error>
     ensures ok { IfOk result (DeclaresOutside outer.old outer.new (Declaration.defined (raw_defined def.now))) }
     ensures err { OnErr result (outer.new ≡ outer.old) }
     ensures held { declaration_count outer.new ≤ declaration_count outer.old + 1 }
@@ -109,7 +112,10 @@ fn define_function_inside(inner: &mut InstanceType, def: &ComponentFuncType) -> 
     Ok(index)
 }
 
-fn define_function_outside(outer: &mut ComponentType, def: &ComponentFuncType) -> Result<u32, Error>
+pub(crate) fn define_function_outside(
+    outer: &mut ComponentType,
+    def: &ComponentFuncType,
+) -> Result<u32, Error>
     ensures ok { IfOk result (DeclaresOutside outer.old outer.new (Declaration.function (raw_function def.now))) }
     ensures err { OnErr result (outer.new ≡ outer.old) }
     ensures held { declaration_count outer.new ≤ declaration_count outer.old + 1 }
@@ -196,7 +202,7 @@ fn make_alias(
 }
 
 // The slot around of a type of another interface whose instance stands there: its alias is made where there is none.
-fn reach(
+pub(crate) fn reach(
     outer: &mut ComponentType,
     foreign: &mut Foreign,
     resolve: &Resolve,

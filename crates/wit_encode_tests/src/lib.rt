@@ -30,3 +30,7 @@ mod shown;
 mod steps;
 #[cfg(test)]
 mod units;
+#[cfg(test)]
+mod world_steps;
+#[cfg(test)]
+mod worlds;
