@@ -7,3 +7,6 @@ pub mod Exports
 pub mod UsesAlone
 pub mod OwnerScope
 pub mod Worlds
+pub mod WorldNames
+pub mod WorldRoom
+pub mod WorldItems

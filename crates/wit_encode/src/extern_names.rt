@@ -1,5 +1,11 @@
 //! The names under which the imports and exports of a world are written.
 
+ghost use Rattle.std.specs.Prelude.{◌≡◌, IfOk, IfErr, option_map};
+ghost use Rattle.std.specs.Cow.{cow_str_bytes};
+ghost use Rattle.wit_model.specs.declared.error.Error.TheVariants.{Memory};
+ghost use Rattle.comp_bytes.specs.RawOf.{raw_name, text_given};
+ghost use Rattle.wit_encode.specs.WorldNames.{name_of_item, pathed_interface as pathed_interface_lem, written_key as written_key_lem, written_path as written_path_lem, written_suffix as written_suffix_lem};
+
 use comp_bytes::ComponentExternName;
 use std::alloc::Global;
 use std::borrow::CowStr;
@@ -11,7 +17,10 @@ fn written_path<'a>(
     resolve: &Resolve,
     interface: InterfaceId,
     canonical_names: bool,
-) -> Result<CowStr<'a>, Error> {
+) -> Result<CowStr<'a>, Error>
+    ensures ok { IfOk result (λ path. cow_str_bytes path ≡ written_path_lem resolve.now canonical_names interface.0) }
+    ensures refuses { IfErr result (λ e. e ≡ Memory) }
+{
     let path = if canonical_names {
         resolve.canonicalized_id_of(alloc, interface)?
     } else {
@@ -29,7 +38,10 @@ fn written_key<'a>(
     resolve: &Resolve,
     key: &'a WorldKey,
     canonical_names: bool,
-) -> Result<CowStr<'a>, Error> {
+) -> Result<CowStr<'a>, Error>
+    ensures ok { IfOk result (λ text. cow_str_bytes text ≡ written_key_lem resolve.now canonical_names key.entry.now) }
+    ensures refuses { IfErr result (λ e. e ≡ Memory) }
+{
     match key {
         WorldKey::Name(name) => Ok(CowStr::Borrowed(name.as_str())),
         WorldKey::Interface(id) => written_path(alloc, resolve, *id, canonical_names),
@@ -37,7 +49,9 @@ fn written_key<'a>(
 }
 
 // The interface whose path is written, as the name or as the one that is implemented.
-fn pathed_interface(key: &WorldKey, implemented: Option<InterfaceId>) -> Option<InterfaceId> {
+fn pathed_interface(key: &WorldKey, implemented: Option<InterfaceId>) -> Option<InterfaceId>
+    ensures { option_map (λ id. id.0) result ≡ pathed_interface_lem key.now (option_map (λ id. id.0) implemented) }
+{
     match key {
         WorldKey::Name(_) => implemented,
         WorldKey::Interface(id) => Some(*id),
@@ -50,7 +64,10 @@ fn written_suffix<'a>(
     resolve: &Resolve,
     interface: Option<InterfaceId>,
     canonical_names: bool,
-) -> Result<Option<CowStr<'a>>, Error> {
+) -> Result<Option<CowStr<'a>>, Error>
+    ensures ok { IfOk result (λ suffix. text_given suffix ≡ written_suffix_lem resolve.now canonical_names (option_map (λ id. id.0) interface)) }
+    ensures refuses { IfErr result (λ e. e ≡ Memory) }
+{
     let Some(interface) = interface else {
         return Ok(None);
     };
@@ -74,7 +91,10 @@ pub(crate) fn item_name<'a>(
     key: &'a WorldKey,
     item: &'a WorldItem,
     canonical_names: bool,
-) -> Result<ComponentExternName<'a>, Error> {
+) -> Result<ComponentExternName<'a>, Error>
+    ensures ok { IfOk result (λ name. raw_name name ≡ name_of_item resolve.entry.now canonical_names (key.entry.now, item.entry.now)) }
+    ensures refuses { IfErr result (λ e. e ≡ Memory) }
+{
     let implemented = resolve.implements_interface(key, item);
     let name = written_key(alloc, resolve, key, canonical_names)?;
     let implements = match implemented {
