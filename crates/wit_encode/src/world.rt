@@ -7,7 +7,7 @@ ghost use Rattle.wit_model.specs.Lookup.{world_at};
 ghost use Rattle.wit_model.specs.Valid.{IsValid};
 ghost use Rattle.wit_model.specs.Weight.{world_weight};
 ghost use Rattle.wit_model.specs.declared.model.World.{World as WorldValue};
-ghost use Rattle.wit_model.specs.declared.model.WorldItem.TheVariants as items;
+ghost use Rattle.wit_model.specs.declared.model.WorldItem.TheVariants as item_kinds;
 ghost use Rattle.comp_bytes.specs.Raw.{Declaration, Declarations};
 ghost use Rattle.comp_bytes.specs.RawOf.{raw_name};
 ghost use Rattle.comp_bytes.specs.Held.{declaration_slots, fits_added};
@@ -242,7 +242,7 @@ impl<'a> WorldEncoderOf<'a, TypeEncodingMaps<'a>> {
     ) -> Result<(), Error>
         requires valid { IsValid resolve.now }
         requires next { IsNext resolve.now self.old placed }
-        requires item { placed.item.now ≡ items.Function func.now }
+        requires item { placed.item.now ≡ item_kinds.Function func.now }
         ensures ok { OnOk result (Encodes resolve.now self.old self.new placed.entry) }
         ensures world { self.new.world ≡ self.old.world }
         ensures size { result ≡ Err Size → LacksRoom resolve.now self.old }
@@ -270,7 +270,7 @@ impl<'a> WorldEncoderOf<'a, TypeEncodingMaps<'a>> {
     ) -> Result<(), Error>
         requires valid { IsValid resolve.now }
         requires next { IsNext resolve.now self.old placed }
-        requires item { placed.item.now ≡ items.Type_ id }
+        requires item { placed.item.now ≡ item_kinds.Type_ id }
         ensures ok { OnOk result (Encodes resolve.now self.old self.new placed.entry) }
         ensures world { self.new.world ≡ self.old.world }
         ensures size { result ≡ Err Size → LacksRoom resolve.now self.old }
