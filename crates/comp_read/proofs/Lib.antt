@@ -1,0 +1,4 @@
+pub mod DeclarationLaws
+pub mod FrontReaders
+pub mod Refusing
+pub mod ValueLaws

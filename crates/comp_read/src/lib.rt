@@ -1,0 +1,14 @@
+//! Reading forms from the front of bytes, as parts of the input.
+#![tactic(auto)]
+
+mod declarations;
+mod definitions;
+mod front;
+mod items;
+mod names;
+mod refusal;
+mod value;
+mod vector;
+
+pub use declarations::{Declared, Description, declaration_of};
+pub use refusal::Refusal;

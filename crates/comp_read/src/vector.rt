@@ -1,0 +1,58 @@
+//! Vectors of any form.
+
+ghost use Rattle.std.specs.Prelude.{◌≡◌, map};
+ghost use Rattle.comp_bytes.specs.Reading.{Reader, vector_at, sequence_at};
+ghost use Rattle.comp_read.specs.Found.{Finds};
+
+use crate::front::u32_of;
+use crate::refusal::Refusal;
+use std::alloc::Global;
+
+/// A form that is read from the front of bytes.
+pub(crate) trait Form<'a> {
+    /// What a value of it stands for.
+    ghost Raw: { Type 0 };
+
+    /// The definition that finds it.
+    ghost reader: { Reader Raw };
+
+    /// The raw form of a value.
+    ghost raw: { Self → Raw };
+
+    fn read(alloc: Global, bytes: &'a [u8]) -> Result<(Self, &'a [u8]), Refusal>
+        ensures { Finds raw result (reader bytes.now) };
+}
+
+/// So many items, and the bytes behind them.
+fn sequence_of<'a, T: Form<'a> + Drop>(
+    alloc: Global,
+    count: u32,
+    bytes: &'a [u8],
+) -> Result<(Vec<T>, &'a [u8]), Refusal>
+    ensures { Finds (λ v. map T.raw v.items) result (sequence_at T.reader count bytes.now) }
+{
+    let mut items = Vec::new(alloc);
+    let mut rest = bytes;
+    for _ in 0..count {
+        match T::read(alloc, rest) {
+            Ok((item, behind)) => {
+                items.push(item)?;
+                rest = behind;
+            }
+            Err(refusal) => return Err(refusal),
+        }
+    }
+    Ok((items, rest))
+}
+
+/// A vector, and the bytes behind it. Nothing is allocated for an item before it has been read, whatever the count says.
+#[tactic(auto, unfolding(comp_bytes::specs::Reading::vector_at))]
+pub(crate) fn vector_of<'a, T: Form<'a> + Drop>(
+    alloc: Global,
+    bytes: &'a [u8],
+) -> Result<(Vec<T>, &'a [u8]), Refusal>
+    ensures { Finds (λ v. map T.raw v.items) result (vector_at T.reader bytes.now) }
+{
+    let (count, rest) = u32_of(bytes)?;
+    sequence_of(alloc, count, rest)
+}
