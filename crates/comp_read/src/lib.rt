@@ -1,6 +1,7 @@
 //! Reading forms from the front of bytes, as parts of the input.
 #![tactic(auto)]
 
+mod bodies;
 mod declarations;
 mod definitions;
 mod front;
@@ -10,5 +11,6 @@ mod refusal;
 mod value;
 mod vector;
 
+pub use bodies::{Body, Entry, entry_of};
 pub use declarations::{Declared, Description, declaration_of};
 pub use refusal::Refusal;
