@@ -3,6 +3,8 @@ pub mod DeclarationLaws
 pub mod EntryLaws
 pub mod FrontReaders
 pub mod HeldLaws
+pub mod PartTypeLaws
 pub mod Refusing
 pub mod SkipLaws
 pub mod ValueLaws
+pub mod WholeLaws

@@ -85,6 +85,8 @@ impl<'a> Form<'a> for Held<'a> {
 
     ghost raw = { λ h. raw_declared h.0 };
 
+    ghost whole = { λ _. Unit {0} };
+
     fn read(alloc: Global, bytes: &'a [u8]) -> Result<(Held<'a>, &'a [u8]), Refusal> {
         match held_declaration_of(alloc, bytes) {
             Ok((declared, rest)) => Ok((Held(declared), rest)),
@@ -153,6 +155,8 @@ impl<'a> Form<'a> for Entry<'a> {
     ghost reader = { entry_at };
 
     ghost raw = { raw_entry };
+
+    ghost whole = { IsWhole };
 
     fn read(alloc: Global, bytes: &'a [u8]) -> Result<(Entry<'a>, &'a [u8]), Refusal> {
         entry_of(alloc, bytes)

@@ -160,6 +160,15 @@ fn map_of<'a>(bytes: &'a [u8]) -> Result<(ComponentDefinedType<'a>, &'a [u8]), R
     Ok((ComponentDefinedType::Map(first, second), rest))
 }
 
+/// Why a byte begins no definition here: a component type or an instance type stands elsewhere, and any other byte begins no form.
+fn unknown(tag: u8) -> Cause {
+    match tag {
+        0x41 => Cause::NotWit,
+        0x42 => Cause::NotWit,
+        _ => Cause::UnknownForm,
+    }
+}
+
 /// The definition of a value type behind its first byte, in front of which so many bytes were left.
 #[tactic(auto, unfolding(comp_bytes::specs::FirstByte::defined_type_at))]
 pub(crate) fn defined_type_of<'a>(
@@ -187,7 +196,7 @@ pub(crate) fn defined_type_of<'a>(
         0x63 => map_of(bytes),
         _ => match primitive_of(tag) {
             Some(primitive) => Ok((ComponentDefinedType::Primitive(primitive), bytes)),
-            None => Err(Refusal::Absent(Cause::UnknownForm, left)),
+            None => Err(Refusal::Absent(unknown(tag), left)),
         },
     }
 }

@@ -40,6 +40,8 @@ impl<'a> Form<'a> for ComponentValType {
 
     ghost raw = { λ v. v };
 
+    ghost whole = { λ _. Unit {0} };
+
     fn read(_alloc: Global, bytes: &'a [u8]) -> Result<(ComponentValType, &'a [u8]), Refusal> {
         value_type_of(bytes)
     }
@@ -51,6 +53,8 @@ impl<'a> Form<'a> for &'a str {
     ghost reader = { name_at };
 
     ghost raw = { text_of };
+
+    ghost whole = { λ _. Unit {0} };
 
     fn read(_alloc: Global, bytes: &'a [u8]) -> Result<(&'a str, &'a [u8]), Refusal> {
         name_of(bytes)
@@ -73,6 +77,8 @@ impl<'a> Form<'a> for (&'a str, ComponentValType) {
     ghost reader = { field_at };
 
     ghost raw = { labeled };
+
+    ghost whole = { λ _. Unit {0} };
 
     fn read(
         _alloc: Global,
@@ -116,6 +122,8 @@ impl<'a> Form<'a> for (&'a str, Option<ComponentValType>) {
     ghost reader = { case_at };
 
     ghost raw = { labeled };
+
+    ghost whole = { λ _. Unit {0} };
 
     fn read(
         _alloc: Global,

@@ -33,6 +33,8 @@ impl<'a> Form<'a> for (u8, &'a str) {
 
     ghost raw = { attribute };
 
+    ghost whole = { λ _. Unit {0} };
+
     fn read(_alloc: Global, bytes: &'a [u8]) -> Result<((u8, &'a str), &'a [u8]), Refusal> {
         attribute_of(bytes)
     }

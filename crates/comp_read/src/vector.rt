@@ -1,6 +1,7 @@
 //! Vectors of any form.
 
-ghost use Rattle.std.specs.Prelude.{◌≡◌, map};
+ghost use Rattle.std.specs.List.{AllByRecursion};
+ghost use Rattle.std.specs.Prelude.{◌≡◌, map, IfOk};
 ghost use Rattle.comp_bytes.specs.Reading.{Reader, vector_at, sequence_at};
 ghost use Rattle.comp_read.specs.Found.{Finds};
 
@@ -19,8 +20,12 @@ pub(crate) trait Form<'a> {
     /// The raw form of a value.
     ghost raw: { Self → Raw };
 
+    /// What a value that was read keeps.
+    ghost whole: { Self → Type 0 };
+
     fn read(alloc: Global, bytes: &'a [u8]) -> Result<(Self, &'a [u8]), Refusal>
-        ensures { Finds raw result (reader bytes.now) };
+        ensures whole { IfOk result (λ x. whole x.0) }
+        ensures found { Finds raw result (reader bytes.now) };
 }
 
 /// So many items, and the bytes behind them.
@@ -29,7 +34,8 @@ fn sequence_of<'a, T: Form<'a> + Drop>(
     count: u32,
     bytes: &'a [u8],
 ) -> Result<(Vec<T>, &'a [u8]), Refusal>
-    ensures { Finds (λ v. map T.raw v.items) result (sequence_at T.reader count bytes.now) }
+    ensures whole { IfOk result (λ x. AllByRecursion T.whole x.0.items) }
+    ensures found { Finds (λ v. map T.raw v.items) result (sequence_at T.reader count bytes.now) }
 {
     let mut items = Vec::new(alloc);
     let mut rest = bytes;
@@ -51,7 +57,8 @@ pub(crate) fn vector_of<'a, T: Form<'a> + Drop>(
     alloc: Global,
     bytes: &'a [u8],
 ) -> Result<(Vec<T>, &'a [u8]), Refusal>
-    ensures { Finds (λ v. map T.raw v.items) result (vector_at T.reader bytes.now) }
+    ensures whole { IfOk result (λ x. AllByRecursion T.whole x.0.items) }
+    ensures found { Finds (λ v. map T.raw v.items) result (vector_at T.reader bytes.now) }
 {
     let (count, rest) = u32_of(bytes)?;
     sequence_of(alloc, count, rest)
