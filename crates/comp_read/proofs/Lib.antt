@@ -5,6 +5,7 @@ pub mod FrontReaders
 pub mod HeldLaws
 pub mod PartTypeLaws
 pub mod Refusing
+pub mod SectionLaws
 pub mod SkipLaws
 pub mod ValueLaws
 pub mod WholeLaws

@@ -2,3 +2,4 @@ pub mod Found
 pub mod Declares
 pub mod Bodies
 pub mod PartTypes
+pub mod Pieces

@@ -9,6 +9,7 @@ mod items;
 mod names;
 mod part_types;
 mod refusal;
+mod sections;
 mod value;
 mod vector;
 
