@@ -1,0 +1,10 @@
+pub mod BodyLaws
+pub mod DeclarationLaws
+pub mod EntryLaws
+pub mod FrontReaders
+pub mod HeldLaws
+pub mod PartTypeLaws
+pub mod Refusing
+pub mod SkipLaws
+pub mod ValueLaws
+pub mod WholeLaws

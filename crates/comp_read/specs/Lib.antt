@@ -1,0 +1,4 @@
+pub mod Found
+pub mod Declares
+pub mod Bodies
+pub mod PartTypes
