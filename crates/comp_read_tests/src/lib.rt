@@ -1,0 +1,5 @@
+//! The tests of the readers of forms.
+#![tactic(auto)]
+
+#[cfg(test)]
+mod forms;
