@@ -1,0 +1,5 @@
+//! The tests of what interfaces reach.
+#![tactic(auto)]
+
+#[cfg(test)]
+mod reached;
