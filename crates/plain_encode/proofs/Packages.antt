@@ -29,20 +29,11 @@ use Rattle.comp_meaning.specs.Reads as reads
 use Rattle.comp_meaning.specs.Reads.{Top, steps, top_section, top_type, exported_types, part_of, labelled_path, member, Member, sights, worlds_of, interfaces_of, package_with, package_of_members, Sight, stands_at_top, all_agree, are_interfaces, seen_meaning, is_of}
 use Rattle.comp_meaning.specs.Same.{same_identity, same_option}
 use Rattle.comp_meaning.specs.Rules.{distinct, is_world}
+use Rattle.component_exports.proofs.Exports.{sections_from, sections_apart, types_exported}
 use Rattle.plain_encode.specs.Written.{write_world, wrapper_of, world_parts, parts_of}
 use Rattle.plain_encode.proofs.Entries.{IsFunctionWorld, scope_of_world, world_followed, world_obeys, world_means, both_true}
 
 -- ---- the sections
-
--- each component type in a section, and its export in another
-abbrev pub sections_from : ℕ → List (Text × Declarations) → List Section
-sections_from slots [] = []
-sections_from slots (x ∷ xs) = Section.types (TopType.component x.1 ∷ []) ∷ Section.exports (plain_export x.0 slots ∷ []) ∷ sections_from (suc (suc slots)) xs
-
-sections_apart : (ds : Declarations) (e : TopExport) (slots : ℕ) (xs : List (Text × Declarations))
-    → with_part (Part.top_type (TopType.component ds)) (with_part (Part.top_export e) (sections_from slots xs)) ≡ Section.types (TopType.component ds ∷ []) ∷ Section.exports (e ∷ []) ∷ sections_from slots xs
-sections_apart ds e slots [] = refl
-sections_apart ds e slots (x ∷ xs) = refl
 
 -- an entry of a package's map, and the world of functions that it names
 pub record IsWorldEntry (r : Resolve) (e : String Global × WorldId) : Type 0 where
@@ -73,109 +64,6 @@ labelled r p (e ∷ es) h = both_true _ _ h.0.label (labelled r p es h.1)
 wrapper_names : (r : Resolve) (p : PackageIdentity) (es : List (String Global × WorldId)) (h : AreWorldEntries r es) → map (λ x. x.0) (wrappers r p es h) ≡ map (λ e. text_of e.0) es
 wrapper_names r p [] h = refl
 wrapper_names r p (e ∷ es) h = ap (λ names. text_of e.0 ∷ names) (wrapper_names r p es h.1)
-
--- ---- the types that they export
-
-abbrev numbers_from : ℕ → List (Text × Declarations) → List (Text × ℕ)
-numbers_from n [] = []
-numbers_from n (x ∷ xs) = (x.0, n) ∷ numbers_from (suc n) xs
-
--- nothing is exported with this number or a larger one
-abbrev IsFresh : ℕ → List (Text × ℕ) → Type 0
-IsFresh n es = (m : ℕ) → n ≤ m → list_any (λ x. x.1 == m) es ≡ false
-
-apart : (n m : ℕ) → n < m → (n == m) ≡ false
-apart n m h = grind (arith, nat_tests)
-
-any_end : (m : ℕ) (es : List (Text × ℕ)) (name : Text) (n : ℕ) → list_any (λ x. x.1 == m) es ≡ false → (n == m) ≡ false → list_any (λ x. x.1 == m) (es ++ (name, n) ∷ []) ≡ false
-any_end m [] name n none h = rw h refl
-any_end m (e ∷ es) name n none h = both_false (e.1 == m) (list_any (λ x. x.1 == m) es) none (λ rest. any_end m es name n rest h)
-  where
-    both_false : (a b : Bool) {c : Bool} → (a || b) ≡ false → (b ≡ false → c ≡ false) → (a || c) ≡ false
-    both_false true b none f = none
-    both_false false b none f = f none
-
-fresh_next : (n : ℕ) (es : List (Text × ℕ)) (name : Text) → IsFresh n es → IsFresh (suc n) (es ++ (name, n) ∷ [])
-fresh_next n es name h m above =
-    let low : n ≤ m = omega arith in
-    let less : n < m = omega arith in
-    any_end m es name n (h m low) (apart n m less)
-
-last_found : {A : Type 0} (xs : List A) (x : A) (rest : List A) → slice_get (xs ++ x ∷ rest) (length xs) ≡ Some x
-last_found [] x rest = refl
-last_found (y ∷ ys) x rest = last_found ys x rest
-
-one_longer : {A : Type 0} (xs : List A) (x : A) → length (xs ++ x ∷ []) ≡ suc (length xs)
-one_longer [] x = refl
-one_longer (y ∷ ys) x = ap suc (one_longer ys x)
-
-abbrev AreLabelled : List (Text × Declarations) → Type 0
-AreLabelled xs = list_all (λ x. is_label x.0) xs ≡ true
-
--- one more component type and its export
-one_world : (ds : List Declarations) (slots : List ℕ) (es : List (Text × ℕ)) (name : Text) (d : Declarations) → IsFresh (length ds) es → is_label name ≡ true
-    → (top_section (record { types = ds; slots = slots; exported = es }) (Section.types (TopType.component d ∷ [])) >>= λ next. top_section next (Section.exports (plain_export name (length slots) ∷ [])))
-    ≡ Some (record { types = ds ++ d ∷ []; slots = (slots ++ length ds ∷ []) ++ length ds ∷ []; exported = es ++ (name, length ds) ∷ [] })
-one_world ds slots es name d fresh label =
-    let here : length ds ≤ length ds = omega arith in
-    rw (last_found slots (length ds) []) (rw (fresh (length ds) here) (rw label refl))
-
--- the same, by the number of indexes that are taken
-next_world : (ds : List Declarations) (slots : List ℕ) (es : List (Text × ℕ)) (k : ℕ) (name : Text) (d : Declarations) (rest : List Section) → length slots ≡ k → IsFresh (length ds) es → is_label name ≡ true
-    → steps top_section (record { types = ds; slots = slots; exported = es }) (Section.types (TopType.component d ∷ []) ∷ Section.exports (plain_export name k ∷ []) ∷ rest)
-    ≡ steps top_section (record { types = ds ++ d ∷ []; slots = (slots ++ length ds ∷ []) ++ length ds ∷ []; exported = es ++ (name, length ds) ∷ [] }) rest
-next_world ds slots es k name d rest taken fresh label =
-    ap (λ (n : ℕ). steps top_section (record { types = ds; slots = slots; exported = es }) (Section.types (TopType.component d ∷ []) ∷ Section.exports (plain_export name n ∷ []) ∷ rest)) (sym taken)
-    ∙ ap (λ (o : Option Top). o >>= λ next. steps top_section next rest) (one_world ds slots es name d fresh label)
-
--- the component types and their exports behind what stood at the top
-top_after : (xs : List (Text × Declarations)) (ds : List Declarations) (slots : List ℕ) (es : List (Text × ℕ)) (k : ℕ) → length slots ≡ k → IsFresh (length ds) es → AreLabelled xs
-    → (after : List ℕ) × (steps top_section (record { types = ds; slots = slots; exported = es }) (sections_from k xs) ≡ Some (record { types = ds ++ map (λ x. x.1) xs; slots = after; exported = es ++ numbers_from (length ds) xs }))
-top_after [] ds slots es k taken fresh labels = (slots, λ i. Some (record { types = sym (append-nil ds) i; slots = slots; exported = sym (append-nil es) i }))
-top_after (x ∷ xs) ds slots es k taken fresh labels =
-    let longer = one_longer ds x.1 in
-    let slots_longer : length ((slots ++ length ds ∷ []) ++ length ds ∷ []) ≡ suc (suc k) = one_longer (slots ++ length ds ∷ []) (length ds) ∙ ap suc (one_longer slots (length ds) ∙ ap suc taken) in
-    let P : ℕ → Type 0 = λ n. IsFresh n (es ++ (x.0, length ds) ∷ []) in
-    let later = top_after xs (ds ++ x.1 ∷ []) ((slots ++ length ds ∷ []) ++ length ds ∷ []) (es ++ (x.0, length ds) ∷ []) (suc (suc k)) slots_longer (subst P (sym longer) (fresh_next (length ds) es x.0 fresh)) (second_true (is_label x.0) (list_all (λ y. is_label y.0) xs) labels) in (
-      later.0,
-      next_world ds slots es k x.0 x.1 (sections_from (suc (suc k)) xs) taken fresh (first_true (is_label x.0) (list_all (λ y. is_label y.0) xs) labels) ∙ later.1
-          ∙ λ i. Some (record {
-            types = append_assoc ds (x.1 ∷ []) (map (λ y. y.1) xs) i;
-            slots = later.0;
-            exported = (ap (λ (n : ℕ). (es ++ (x.0, length ds) ∷ []) ++ numbers_from n xs) longer ∙ append_assoc es ((x.0, length ds) ∷ []) (numbers_from (suc (length ds)) xs)) i;
-          }),
-    )
-
-as_many : (n : ℕ) (xs : List (Text × Declarations)) → length (numbers_from n xs) ≡ length (map (λ x. x.1) xs)
-as_many n [] = refl
-as_many n (x ∷ xs) = ap suc (as_many (suc n) xs)
-
-same_names : (n : ℕ) (xs : List (Text × Declarations)) → map (λ x. x.0) (numbers_from n xs) ≡ map (λ x. x.0) xs
-same_names n [] = refl
-same_names n (x ∷ xs) = ap (λ names. x.0 ∷ names) (same_names (suc n) xs)
-
-abbrev find_in : List Declarations → Text × ℕ → Option (Text × Declarations)
-find_in types x = slice_get types x.1 >>= λ ds. Some (x.0, ds)
-
-each_found : (front : List Declarations) (xs : List (Text × Declarations)) → each (find_in (front ++ map (λ x. x.1) xs)) (numbers_from (length front) xs) ≡ Some xs
-each_found front [] = refl
-each_found front (x ∷ xs) =
-    let whole : (front ++ x.1 ∷ []) ++ map (λ y. y.1) xs ≡ front ++ map (λ y. y.1) (x ∷ xs) = append_assoc front (x.1 ∷ []) (map (λ y. y.1) xs) in
-    let later : each (find_in (front ++ map (λ y. y.1) (x ∷ xs))) (numbers_from (suc (length front)) xs) ≡ Some xs =
-    (λ i. each (find_in (sym whole i)) (numbers_from (sym (one_longer front x.1) i) xs)) ∙ each_found (front ++ x.1 ∷ []) xs in
-    ap (λ (o : Option Declarations). (o >>= λ ds. Some (x.0, ds)) >>= λ y. each (find_in (front ++ map (λ y. y.1) (x ∷ xs))) (numbers_from (suc (length front)) xs) >>= λ ys. Some (y ∷ ys)) (last_found front x.1 (map (λ y. y.1) xs))
-    ∙ ap (λ (o : Option (List (Text × Declarations))). o >>= λ ys. Some (x ∷ ys)) later
-
-no_exports : IsFresh 0 []
-no_exports m h = refl
-
--- the component types that the sections export
-types_exported : (xs : List (Text × Declarations)) → AreLabelled xs → distinct (map (λ x. x.0) xs) ≡ true → exported_types (sections_from 0 xs) ≡ Some xs
-types_exported xs labels apart =
-    let top = top_after xs [] [] [] 0 refl no_exports labels in
-    ap (λ (o : Option Top). o >>= λ top. when (length top.exported == length top.types && distinct (map (λ x. x.0) top.exported)) (each (find_in top.types) top.exported)) top.1
-    ∙ ap (λ (b : Bool). when b (each (find_in (map (λ x. x.1) xs)) (numbers_from 0 xs))) (both_true _ _ (eq-eqb _ _ (as_many 0 xs)) (ap distinct (same_names 0 xs) ∙ apart))
-    ∙ each_found [] xs
 
 -- ---- the parts
 

@@ -1,0 +1,17 @@
+-- The parts of a component that exports component types, each under its label (Component Model WIT.md, "Package Format").
+use Rattle.std.specs.Prelude.{ℕ, zero, suc, List, [], ◌∷◌, ◌++◌}
+use Rattle.wit_model.specs.Text.{Text}
+use Rattle.comp_bytes.specs.Raw.{Declarations, TopType}
+use Rattle.comp_bytes.specs.Parts.{Part, plain_export}
+
+-- a component type that takes this type index, and its export
+abbrev pub one_exported : ℕ → Text × Declarations → List Part
+one_exported n x = Part.top_type (TopType.component x.1) ∷ Part.top_export (plain_export x.0 n) ∷ []
+
+-- Component types, each with its export, from this type index on. Each type takes an index, and so does each export.
+abbrev pub exporting_from : ℕ → List (Text × Declarations) → List Part
+exporting_from n [] = []
+exporting_from n (x ∷ xs) = one_exported n x ++ exporting_from (suc (suc n)) xs
+
+abbrev pub exporting : List (Text × Declarations) → List Part
+exporting xs = exporting_from zero xs

@@ -1,0 +1,2 @@
+pub mod ExportedParts
+pub mod ExportLaws
