@@ -1,5 +1,5 @@
 -- A world's component type declares one function type for each distinct key of its functions.
-use Rattle.std.proofs.Common.{◌≡◌, ℕ, suc, ◌+◌, Bool, true, false, ◌&&◌, ◌||◌, not, if◌then◌else◌, List, [], ◌∷◌, ◌++◌, map, length, Some, None, Option, String, filter_map, refl, sym, ap, ◌∙◌, add-zero, zero-add, arith}
+use Rattle.std.proofs.Common.{◌≡◌, ℕ, suc, ◌+◌, Bool, true, false, ◌||◌, if◌then◌else◌, List, [], ◌∷◌, ◌++◌, map, length, Some, Option, String, filter_map, refl, sym, ap, ◌∙◌, add-zero, zero-add, arith}
 use Rattle.std.proofs.lemmas.List.Folds.{list_any-append}
 use Rattle.std.proofs.lemmas.Map.Made.{length-from_keys}
 use Rattle.std.specs.declared.alloc.Global.{Global}
@@ -7,7 +7,7 @@ use Rattle.std.specs.Cmp.{IsEquivalence, and_equiv, on_equiv, bool_eq_equiv}
 use Rattle.std.specs.Cmp.Lexicographic.{options_equiv}
 use Rattle.std.specs.List.{list_any, flat_map, cons_option, IsDistinct, AllByRecursion}
 use Rattle.std.specs.Option.{option_map_or}
-use Rattle.std.specs.Set.{distinct_count, is_member}
+use Rattle.std.specs.Set.{distinct_count}
 use Rattle.indexmap.specs.IndexSet.{insert_key}
 use Rattle.wit_model.specs.declared.model.Resolve.{Resolve}
 use Rattle.wit_model.specs.declared.model.Package.{Package}
@@ -19,7 +19,7 @@ use Rattle.wit_model.specs.declared.model.Function.{Function}
 use Rattle.wit_model.specs.contracts.model.TypeEq.TheImpl.Laws as type_eq_laws
 use Rattle.wit_model.specs.Lookup.{package_at, world_at, identity_of}
 use Rattle.wit_model.specs.Names.{PackageIdentity}
-use Rattle.wit_model.specs.Uses.{worlds_of, items_of}
+use Rattle.wit_model.specs.Uses.{worlds_of}
 use Rattle.wit_model.specs.Valid.{IsValid, item_function, functions_of_world}
 use Rattle.wit_model.specs.Plain.{IsPlain}
 use Rattle.comp_bytes.specs.Raw.{ExternName, Declaration, Declarations, Section, append}
@@ -31,7 +31,8 @@ use Rattle.plain_encode.specs.declared.world.Direction.TheVariants as directions
 use Rattle.plain_encode.specs.Key.{same_params-laws}
 use Rattle.plain_encode.specs.Written.{Key, key_of, same_key, function_form, Written, with_declaration, write_type, write_function, write_items, write_world, nothing_written, named, index_of, parts_of}
 use Rattle.plain_encode.specs.Encoded.{function_types, wrapped_types, SharesFunctionTypes}
-use Rattle.plain_encode.proofs.Packages.{AreWorldEntries, wrappers, sections_from, sections_are}
+use Rattle.plain_encode.proofs.Packages.{AreWorldEntries, wrappers, sections_are}
+use Rattle.component_exports.proofs.Exports.{sections_from}
 use Rattle.plain_encode.proofs.Validity.{package_worlds}
 
 pub same_key-laws : IsEquivalence same_key

@@ -1,5 +1,5 @@
 -- What is written of a package without a world is the preamble.
-use Rattle.std.proofs.Common.{◌≡◌, ◌++◌, ◌||◌, ℕ, true, false, List, [], ◌∷◌, Some, Option, Bool, String, refl, sym, ap, ◌∙◌}
+use Rattle.std.proofs.Common.{◌≡◌, ◌++◌, ◌||◌, ℕ, true, false, List, [], ◌∷◌, Some, Option, Bool, String, sym, ap, ◌∙◌}
 use Rattle.std.specs.declared.alloc.Global.{Global}
 use Rattle.std.specs.Option.{option_map_or}
 use Rattle.std.proofs.lemmas.Bool.{true≢false}
@@ -10,7 +10,6 @@ use Rattle.wit_model.specs.declared.model.WorldId.{WorldId}
 use Rattle.wit_model.specs.Rules.{has_items}
 use Rattle.wit_model.specs.Lookup.{package_at, identity_of}
 use Rattle.wit_model.specs.Names.{PackageIdentity}
-use Rattle.comp_bytes.specs.Raw.{Section}
 use Rattle.comp_bytes.specs.Spelling.{IsComponent, preamble}
 use Rattle.comp_bytes.specs.Parts.{sections_of_parts}
 use Rattle.plain_encode.specs.Written.{parts_of}

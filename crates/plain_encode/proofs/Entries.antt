@@ -1,5 +1,5 @@
 -- A world whose items are functions over primitive types, from its entries to what its component type shows.
-use Rattle.std.proofs.Common.{◌≡◌, ℕ, ◌==◌, Bool, true, false, ◌&&◌, ◌||◌, not, List, [], ◌∷◌, ◌++◌, map, length, Some, None, Option, refl, sym, ap, ◌∙◌, subst, append_assoc, append-nil, option_map, String}
+use Rattle.std.proofs.Common.{◌≡◌, ◌==◌, Bool, true, ◌&&◌, ◌||◌, List, [], ◌∷◌, ◌++◌, map, length, Some, None, Option, refl, sym, ap, ◌∙◌, subst, append_assoc, append-nil, option_map, String}
 use Rattle.std.specs.declared.alloc.Global.{Global}
 use Rattle.std.specs.List.{list_all, list_any}
 use Rattle.wit_model.specs.declared.model.Resolve.{Resolve}
@@ -12,23 +12,22 @@ use Rattle.wit_model.specs.declared.model.Function.{Function}
 use Rattle.wit_model.specs.declared.model.Param.{Param}
 use Rattle.wit_model.specs.declared.model.«Type».{«Type» as ValueType}
 use Rattle.wit_model.specs.declared.model.«Type».TheVariants as ty
-use Rattle.wit_model.specs.Text.{Text, text_of, text_eq, optional_text}
+use Rattle.wit_model.specs.Text.{Text, text_of, optional_text}
 use Rattle.wit_model.specs.Names.{is_label}
 use Rattle.wit_model.specs.Lookup.{key_text}
 use Rattle.wit_model.specs.Tree.{Tree, Place}
 use Rattle.wit_model.specs.Types.{tree_of, trees_of}
-use Rattle.wit_model.specs.Meaning.{Item, Entry, InterfaceMeaning}
+use Rattle.wit_model.specs.Meaning.{Item}
 use Rattle.wit_model.specs.Meant.{signature_of, entries_meaning, entry_meaning, world_meaning}
-use Rattle.comp_bytes.specs.Raw.{Declarations}
 use Rattle.comp_bytes.specs.Reading.{◌>>=◌}
-use Rattle.comp_meaning.specs.Follow.{Slot, Seen, Shown, Scope, new_scope, instance_types, component_scope, component_steps, provided}
+use Rattle.comp_meaning.specs.Follow.{Seen, Scope, instance_types, component_scope, provided}
 use Rattle.comp_meaning.specs.Reads as reads
 use Rattle.comp_meaning.specs.Rules as rules_of
 use Rattle.comp_meaning.specs.Rules.{are_labels, is_world, is_item, is_signature, is_parameter_type, are_imports, stand_earlier, distinct}
 use Rattle.plain_encode.specs.declared.world.Direction.{Direction}
 use Rattle.plain_encode.specs.declared.world.Direction.TheVariants as directions
 use Rattle.plain_encode.specs.Written.{Key, key_of, Written, write_function, write_items, write_world, nothing_written}
-use Rattle.plain_encode.proofs.Functions.{key_signature, param_meaning, is_value, is_given_value, has_values, slot_of, map_end}
+use Rattle.plain_encode.proofs.Functions.{key_signature, param_meaning, is_value, is_given_value, has_values, slot_of}
 use Rattle.plain_encode.proofs.Worlds.{seen_function, scope_of, Stands, imports_with, exports_with, function_step}
 use Rattle.wit_model.proofs.Lists.{first_true, second_true}
 

@@ -1,10 +1,9 @@
 -- What is written takes at most its weight.
-use Rattle.std.proofs.Common.{◌≡◌, ℕ, zero, suc, ◌+◌, ◌/◌, ◌%◌, ◌<◌, ◌≤◌, ◌^◌, nat_lt, Bool, true, false, ◌&&◌, not, cond, if◌then◌else◌, List, [], ◌∷◌, ◌++◌, map, length, Some, None, Option, String, filter_map, option_to_list, refl, sym, ap, ◌∙◌, arith, length-append, add-zero, zero-add, append-nil}
+use Rattle.std.proofs.Common.{◌≡◌, ℕ, zero, suc, ◌+◌, ◌/◌, ◌%◌, ◌<◌, ◌≤◌, ◌^◌, nat_lt, Bool, true, false, ◌&&◌, not, cond, if◌then◌else◌, List, [], ◌∷◌, ◌++◌, map, length, Some, None, Option, filter_map, option_to_list, refl, sym, ap, ◌∙◌, arith, length-append, add-zero, zero-add, append-nil}
 use Rattle.std.specs.Prelude.{sum_by}
 use Rattle.std.proofs.lemmas.List.Sums.{sum_by-cons}
 use Rattle.std.proofs.lemmas.Bool.{lt-ltb, ltb-true, ltb-false}
 use Rattle.std.specs.List.{list_all, list_any, flat_map, position_or_len}
-use Rattle.indexmap.specs.IndexSet.{insert_key}
 use Rattle.wit_model.specs.declared.model.Function.{Function}
 use Rattle.wit_model.specs.declared.model.Param.{Param}
 use Rattle.wit_model.specs.declared.model.WorldItem.{WorldItem}
@@ -14,18 +13,16 @@ use Rattle.wit_model.specs.Valid.{item_function}
 use Rattle.wit_model.specs.Weight.{unit_of, function_weight}
 use Rattle.comp_bytes.specs.declared.forms.ComponentValType.{ComponentValType}
 use Rattle.comp_bytes.specs.declared.forms.ComponentValType.TheVariants as values
-use Rattle.comp_bytes.specs.declared.forms.ComponentTypeRef.TheVariants as refs
-use Rattle.comp_bytes.specs.Raw.{Labeled, FunctionType, Declaration, Declarations, append, declaration_count}
+use Rattle.comp_bytes.specs.Raw.{Declaration, Declarations, append, declaration_count}
 use Rattle.comp_bytes.specs.Reading.{plain_name}
-use Rattle.comp_bytes.specs.Writing.{u32_bytes, unsigned_bytes, type_index_bytes, positive_bytes, name_bytes, value_bytes, field_bytes, vector_bytes, result_list_bytes, function_type_bytes, declaration_bytes, declarations_bytes}
-use Rattle.comp_bytes.specs.Fits.{fits_length, fits_labels, fits_function, fits_declaration}
+use Rattle.comp_bytes.specs.Writing.{u32_bytes, unsigned_bytes, type_index_bytes, positive_bytes, name_bytes, value_bytes, field_bytes, vector_bytes, result_list_bytes, declaration_bytes, declarations_bytes}
+use Rattle.comp_bytes.specs.Fits.{fits_length, fits_declaration}
 use Rattle.comp_bytes.specs.Held.{type_slots_of, fits_added, declaration_slots}
 use Rattle.plain_encode.specs.declared.world.Direction.{Direction}
 use Rattle.plain_encode.specs.declared.world.Direction.TheVariants as directions
 use Rattle.plain_encode.specs.Written.{Key, key_of, same_key, param_form, function_form, option_form, Written, with_declaration, write_type, write_function, write_items, nothing_written, named, index_of}
 use Rattle.plain_encode.specs.Extent.{limit, extent, items_weight}
 use Rattle.plain_encode.proofs.Entries.{both_true}
-use Rattle.wit_model.proofs.Lists.{first_true, second_true}
 
 -- ---- numbers
 

@@ -1,5 +1,5 @@
 -- What the type of a function stands for: its signature. Equal keys have one signature.
-use Rattle.std.proofs.Common.{◌≡◌, ℕ, suc, ◌+◌, ◌==◌, Bool, true, false, ◌&&◌, ◌||◌, not, cond, if◌then◌else◌, List, [], ◌∷◌, ◌++◌, map, length, Some, None, Option, option_map, slice_get, is_none, string_bytes, refl, sym, ap, ◌∙◌, subst, arith}
+use Rattle.std.proofs.Common.{◌≡◌, ℕ, suc, ◌+◌, ◌==◌, Bool, true, false, ◌&&◌, ◌||◌, not, cond, if◌then◌else◌, List, [], ◌∷◌, ◌++◌, map, Some, None, Option, option_map, slice_get, is_none, refl, sym, ap, arith}
 use Rattle.std.specs.List.{list_all, list_any, position_or_len}
 use Rattle.std.specs.Option.{option_eq}
 use Rattle.std.specs.Cmp.{unsigned_Decides}
@@ -8,20 +8,16 @@ use Rattle.std.proofs.Common.{rules}
 use Rattle.indexmap.specs.IndexSet.{insert_key}
 use mathlib.Core.Bool.{beq}
 use Rattle.wit_model.specs.declared.model.Param.{Param}
-use Rattle.wit_model.specs.declared.model.Function.{Function}
-use Rattle.wit_model.specs.declared.model.Resolve.{Resolve}
 use Rattle.wit_model.specs.declared.model.«Type».{«Type» as ValueType}
 use Rattle.wit_model.specs.declared.model.«Type».TheVariants as ty
 use Rattle.wit_model.specs.Text.{Text, text_of}
 use Rattle.wit_model.specs.Tree.{Tree}
-use Rattle.wit_model.specs.Types.{tree_of, trees_of, number_of}
+use Rattle.wit_model.specs.Types.{tree_of, number_of}
 use Rattle.wit_model.specs.Meaning.{Signature}
-use Rattle.wit_model.specs.Meant.{signature_of}
 use Rattle.wit_model.proofs.Lists.{first_true, second_true}
-use Rattle.comp_bytes.specs.Reading.{◌>>=◌}
-use Rattle.comp_meaning.specs.Follow.{Slot, each, given, value_type, field_type, function_signature, function_in}
+use Rattle.comp_meaning.specs.Follow.{Slot, each, given, value_type, field_type, function_signature}
 use Rattle.plain_encode.specs.Key.{same_value_type, same_param, same_params}
-use Rattle.plain_encode.specs.Written.{Key, key_of, same_key, value_form, option_form, param_form, function_form}
+use Rattle.plain_encode.specs.Written.{Key, same_key, value_form, option_form, param_form, function_form}
 
 -- ---- signatures
 

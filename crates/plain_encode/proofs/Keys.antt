@@ -1,13 +1,13 @@
 -- What the set of keys has, by the keys' views.
-use Rattle.std.proofs.Common.{◌≡◌, ℕ, ◌+◌, Bool, true, false, not, ◌||◌, List, [], ◌∷◌, ◌++◌, map, refl, sym, ap, ◌∙◌, cond, subst, if◌then◌else◌}
+use Rattle.std.proofs.Common.{◌≡◌, ◌+◌, Bool, true, false, not, ◌||◌, List, [], ◌∷◌, ◌++◌, map, refl, ap, ◌∙◌, cond, if◌then◌else◌}
 use Rattle.std.specs.List.{list_any, position_or_len}
 use Rattle.indexmap.specs.IndexSet.{insert_key}
 use Rattle.wit_model.specs.declared.model.Function.{Function}
-use Rattle.comp_bytes.specs.Raw.{Declaration, Declarations}
+use Rattle.comp_bytes.specs.Raw.{Declaration}
 use Rattle.plain_encode.specs.declared.key.FunctionKey.{FunctionKey}
 use Rattle.plain_encode.specs.declared.world.WorldScope.{WorldScope}
 use Rattle.plain_encode.specs.contracts.key.FunctionKeyPartialEq.TheImpl as key_eq
-use Rattle.plain_encode.specs.Written.{Key, key_of, key_view, same_key, function_form, with_declaration, scope_view, write_type, index_of}
+use Rattle.plain_encode.specs.Written.{key_of, key_view, same_key, function_form, with_declaration, scope_view, write_type, index_of}
 
 abbrev pub code_eq : FunctionKey → FunctionKey → Bool
 code_eq = key_eq.ghosts.eq

@@ -1,5 +1,5 @@
 -- What is written of a package takes at most its weight.
-use Rattle.std.proofs.Common.{◌≡◌, ℕ, suc, ◌+◌, ◌<◌, ◌≤◌, ◌==◌, ◌^◌, nat_lt, Bool, true, false, ◌&&◌, List, [], ◌∷◌, ◌++◌, map, filter_map, length, Some, None, Option, String, option_to_list, option_map, option_and_then, refl, sym, ap, ◌∙◌, arith, append_assoc, length-append, add-zero, zero-add, append-nil, subst}
+use Rattle.std.proofs.Common.{◌≡◌, ℕ, suc, ◌+◌, ◌<◌, ◌≤◌, ◌^◌, Bool, true, false, ◌&&◌, List, [], ◌∷◌, ◌++◌, map, filter_map, length, Some, None, Option, String, option_to_list, option_map, option_and_then, refl, sym, ap, ◌∙◌, arith, append_assoc, length-append, append-nil}
 use Rattle.std.specs.Prelude.{sum_by}
 use Rattle.std.proofs.lemmas.List.Sums.{sum_by-cons, sum_by-append}
 use Rattle.std.proofs.lemmas.Bool.{lt-ltb, eqb-true}
@@ -20,7 +20,7 @@ use Rattle.wit_model.specs.Lookup.{package_at, world_at, identity_of, path_of_wo
 use Rattle.wit_model.specs.Uses.{items_of, item_interface, once}
 use Rattle.wit_model.specs.Weight.{unit_of, number_weight, world_numbers, brought_into, item_weight, interface_weight, world_weight, wrapped_weight, exported_weight, package_weight}
 use Rattle.comp_bytes.specs.declared.forms.ComponentTypeRef.TheVariants as refs
-use Rattle.comp_bytes.specs.Raw.{Declaration, Declarations, TopType, TopExport, Section, declaration_count}
+use Rattle.comp_bytes.specs.Raw.{Declaration, Declarations, TopType, Section, declaration_count}
 use Rattle.comp_bytes.specs.Reading.{plain_name}
 use Rattle.comp_bytes.specs.Writing.{u32_bytes, name_bytes, vector_bytes, declaration_bytes, declarations_bytes, top_type_bytes, top_export_bytes, framed, section_bytes, component_bytes}
 use Rattle.comp_bytes.specs.Fits.{fits_name}
@@ -33,7 +33,7 @@ use Rattle.wit_model.specs.Rules.{is_id, package_number, passes, world_belongs, 
 use Rattle.wit_model.proofs.Lists.{first_true, second_true}
 use Rattle.plain_encode.proofs.Validity.{of_package}
 use Rattle.plain_encode.specs.Written.{parts_from, nothing_written, write_items, write_world, wrapper_of, world_parts, parts_of}
-use Rattle.plain_encode.specs.Extent.{limit, extent, items_weight, part_extent, parts_extent, world_extent, worlds_extent}
+use Rattle.plain_encode.specs.Extent.{limit, items_weight, part_extent, parts_extent, world_extent, worlds_extent}
 use Rattle.plain_encode.proofs.Extents.{u32_short, name_short, items_extent, items_weight-append, next_item, one_text, over, name_fits}
 
 -- ---- sections

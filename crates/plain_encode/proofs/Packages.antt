@@ -1,36 +1,31 @@
 -- A package whose worlds have functions over primitive types: what its sections mean.
-use Rattle.std.proofs.Common.{◌≡◌, ℕ, zero, suc, ◌+◌, ◌<◌, ◌≤◌, ◌==◌, Bool, true, false, ◌&&◌, ◌||◌, not, List, [], ◌∷◌, ◌++◌, map, length, Some, None, Option, String, slice_get, is_some, refl, sym, ap, ◌∙◌, subst, append_assoc, append-nil, arith}
-use Rattle.std.proofs.lemmas.Bool.Decides.{nat_tests}
-use borrow.Author.Tests.{eq-eqb}
+use Rattle.std.proofs.Common.{◌≡◌, ℕ, zero, suc, Bool, true, ◌&&◌, not, List, [], ◌∷◌, map, Some, None, Option, String, is_some, refl, sym, ap, ◌∙◌}
 use Rattle.std.specs.Cmp.{unsigned_Decides}
 use Rattle.std.specs.Cmp.Lexicographic.{pointwise_decides}
 use Rattle.std.specs.Option.{option_map_or}
 use Rattle.std.specs.declared.alloc.Global.{Global}
 use Rattle.std.specs.FinMap.{from_entries}
-use Rattle.std.specs.List.{list_all, list_any, flat_map, filter}
+use Rattle.std.specs.List.{list_all, flat_map, filter}
 use Rattle.wit_model.specs.declared.model.Resolve.{Resolve}
-use Rattle.wit_model.specs.declared.model.Package.{Package}
 use Rattle.wit_model.specs.declared.model.World.{World}
 use Rattle.wit_model.specs.declared.model.WorldId.{WorldId}
 use Rattle.wit_model.specs.Text.{Text, text_of, text_eq}
 use Rattle.wit_model.specs.Names.{PackageIdentity, is_label, is_identity, read_path, path_in}
-use Rattle.wit_model.specs.Lookup.{world_at, identity_of}
-use Rattle.wit_model.specs.Meaning.{PackageMeaning, WorldMeaning, InterfaceMeaning}
-use Rattle.wit_model.specs.Meant.{world_meaning_at, world_meaning, foreign_of, foreign_meaning, by_path, no_world}
-use Rattle.wit_model.specs.Meant as meant
-use Rattle.wit_model.proofs.Lists.{first_true, second_true}
+use Rattle.wit_model.specs.Lookup.{world_at}
+use Rattle.wit_model.specs.Meaning.{PackageMeaning, WorldMeaning}
+use Rattle.wit_model.specs.Meant.{world_meaning_at, world_meaning, no_world}
 use Rattle.wit_model.proofs.NameLaws.{spelled_path_reads}
 use Rattle.comp_bytes.specs.declared.forms.ComponentTypeRef.TheVariants as refs
-use Rattle.comp_bytes.specs.Raw.{Declaration, Declarations, TopType, TopExport, Section}
+use Rattle.comp_bytes.specs.Raw.{Declaration, Declarations}
 use Rattle.comp_bytes.specs.Reading.{◌>>=◌, plain_name}
-use Rattle.comp_bytes.specs.Parts.{Part, sections_of_parts, with_part, plain_export}
-use Rattle.comp_meaning.specs.Follow.{each, when, provided, Scope, component_scope, complete_path}
+use Rattle.comp_bytes.specs.Parts.{sections_of_parts, plain_export}
+use Rattle.comp_meaning.specs.Follow.{each, provided, Scope, component_scope}
 use Rattle.comp_meaning.specs.Reads as reads
 use Rattle.comp_meaning.specs.Reads.{Top, steps, top_section, top_type, exported_types, part_of, labelled_path, member, Member, sights, worlds_of, interfaces_of, package_with, package_of_members, Sight, stands_at_top, all_agree, are_interfaces, seen_meaning, is_of}
 use Rattle.comp_meaning.specs.Same.{same_identity, same_option}
 use Rattle.comp_meaning.specs.Rules.{distinct, is_world}
 use Rattle.component_exports.proofs.Exports.{sections_from, sections_apart, types_exported}
-use Rattle.plain_encode.specs.Written.{write_world, wrapper_of, world_parts, parts_of}
+use Rattle.plain_encode.specs.Written.{write_world, wrapper_of, parts_of}
 use Rattle.plain_encode.proofs.Entries.{IsFunctionWorld, scope_of_world, world_followed, world_obeys, world_means, both_true}
 
 -- ---- the sections

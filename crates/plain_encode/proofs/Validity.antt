@@ -1,19 +1,17 @@
 -- A valid plain package is one of worlds of functions over primitive types.
-use Rattle.std.proofs.Common.{◌≡◌, ℕ, zero, suc, ◌+◌, ◌<◌, nat_lt, ◌==◌, Bool, true, false, ◌&&◌, ◌||◌, not, List, [], ◌∷◌, ◌++◌, map, length, Some, None, Option, String, slice_get, is_none, is_some, is_ok, refl, sym, ap, ◌∙◌, subst, arith, zero-add, option_map, option_to_list, filter_map, option_and_then, string_eq}
+use Rattle.std.proofs.Common.{◌≡◌, ℕ, zero, suc, ◌<◌, nat_lt, ◌==◌, Bool, true, false, ◌&&◌, ◌||◌, not, List, [], ◌∷◌, ◌++◌, map, length, Some, None, Option, String, slice_get, is_none, is_some, is_ok, refl, sym, ap, ◌∙◌, subst, arith, zero-add, option_to_list, filter_map, option_and_then, string_eq}
 use Rattle.std.proofs.lemmas.Bool.{ltb-true, lt-ltb}
 use Rattle.std.proofs.lemmas.Option.{same_Some}
 use Rattle.std.specs.declared.alloc.Global.{Global}
-use Rattle.std.specs.FinMap.{from_entries}
 use Rattle.std.specs.Cmp.{unsigned_Decides}
 use Rattle.std.specs.Cmp.Lexicographic.{pointwise_decides}
 use Rattle.std.specs.List.{list_all, list_any, filter, IsDistinct, AllByRecursion, cons_option}
 use Rattle.std.specs.Option.{option_map_or}
 use Rattle.semver.specs.declared.Version.{Version}
-use Rattle.semver.specs.Identifiers.{parts_of as version_parts_of, version_text}
+use Rattle.semver.specs.Identifiers.{parts_of as version_parts_of}
 use Rattle.semver.proofs.Grammar.{version_parts-complete}
 use Rattle.wit_model.specs.declared.model.Resolve.{Resolve}
 use Rattle.wit_model.specs.declared.model.Package.{Package}
-use Rattle.wit_model.specs.declared.model.PackageName.{PackageName}
 use Rattle.wit_model.specs.declared.model.Interface.{Interface}
 use Rattle.wit_model.specs.declared.model.InterfaceId.{InterfaceId}
 use Rattle.wit_model.specs.declared.model.World.{World}
@@ -29,7 +27,7 @@ use Rattle.wit_model.specs.Text.{Text, text_of, text_eq}
 use Rattle.wit_model.specs.Names.{PackageIdentity, is_label, is_identity, is_optional_version, is_version}
 use Rattle.wit_model.specs.Lookup.{package_at, world_at, interface_at, interface_path, path_of_interface, identity_of, optional_version_text, resource_of}
 use Rattle.wit_model.specs.Types.{number_of}
-use Rattle.wit_model.specs.Parts.{function_types, function_numbers}
+use Rattle.wit_model.specs.Parts.{function_types}
 use Rattle.wit_model.specs.Uses.{reached_by_package, items_of}
 use Rattle.wit_model.specs.Rules.{in_list, passes, item_in_range, key_in_range, is_name_key, key_label, item_labels, function_labels, is_freestanding, are_distinct, are_member_labels, is_stability, is_member, entries_in_range, entries_labels, package_number, text_is, has_items}
 use Rattle.wit_model.specs.Valid.{Rule, Keeps, IsValid, key_eq, item_function, as_world, is_place, numbers_in_range, package_names, labels, function_names, names_in_packages}
@@ -39,11 +37,11 @@ use Rattle.wit_model.specs.Meant.{is_foreign, foreign_of, by_path, foreign_meani
 use Rattle.wit_model.proofs.Entries.{each_from_at, lists_pass}
 use Rattle.wit_model.proofs.Lists.{first_true, second_true}
 use Rattle.wit_model.proofs.VersionLaws.{valid_parts}
-use Rattle.comp_meaning.specs.Rules.{are_labels, distinct}
+use Rattle.comp_meaning.specs.Rules.{distinct}
 use Rattle.comp_meaning.specs.Reads as reads
 use Rattle.comp_bytes.specs.Parts.{sections_of_parts}
-use Rattle.plain_encode.specs.Written.{key_of, parts_of}
-use Rattle.plain_encode.proofs.Functions.{is_value, is_given_value, has_values}
+use Rattle.plain_encode.specs.Written.{parts_of}
+use Rattle.plain_encode.proofs.Functions.{is_value, is_given_value}
 use Rattle.plain_encode.proofs.Entries.{IsFunctionEntry, AreFunctionEntries, functions_of, IsFunctionWorld, both_true}
 use Rattle.plain_encode.proofs.Packages.{IsWorldEntry, AreWorldEntries, worlds_alone, sections_mean}
 

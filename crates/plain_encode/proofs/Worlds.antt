@@ -1,19 +1,15 @@
 -- What the component type of a world shows: its functions, each under its name with its signature.
-use Rattle.std.proofs.Common.{◌≡◌, ℕ, suc, ◌+◌, Bool, true, false, ◌&&◌, if◌then◌else◌, List, [], ◌∷◌, ◌++◌, map, length, Some, None, Option, slice_get, refl, sym, ap, ◌∙◌, subst}
-use Rattle.std.specs.List.{list_all, list_any, position_or_len}
-use Rattle.indexmap.specs.IndexSet.{insert_key}
+use Rattle.std.proofs.Common.{◌≡◌, ℕ, Bool, true, false, if◌then◌else◌, List, [], ◌∷◌, ◌++◌, map, length, Some, None, Option, slice_get, refl, sym, ap, ◌∙◌}
+use Rattle.std.specs.List.{list_any}
 use Rattle.wit_model.specs.declared.model.Function.{Function}
-use Rattle.wit_model.specs.declared.model.WorldItem.{WorldItem}
-use Rattle.wit_model.specs.declared.model.WorldItem.TheVariants as item
-use Rattle.wit_model.specs.Text.{Text, text_of}
+use Rattle.wit_model.specs.Text.{text_of}
 use Rattle.wit_model.specs.Tree.{Tree}
 use Rattle.comp_bytes.specs.Raw.{Declaration, Declarations, append}
 use Rattle.comp_bytes.specs.Reading.{◌>>=◌, plain_name}
-use Rattle.comp_meaning.specs.Follow as follow
-use Rattle.comp_meaning.specs.Follow.{Slot, Seen, Shown, Scope, new_scope, component_step, component_steps, flat, in_scope, function_signature, function_in, instance_types, component_scope}
+use Rattle.comp_meaning.specs.Follow.{Slot, Seen, Shown, Scope, new_scope, component_step, component_steps, flat, in_scope}
 use Rattle.plain_encode.specs.declared.world.Direction.{Direction}
 use Rattle.plain_encode.specs.declared.world.Direction.TheVariants as directions
-use Rattle.plain_encode.specs.Written.{Key, key_of, same_key, function_form, Written, with_declaration, index_of, write_type, named, write_function, write_items, nothing_written}
+use Rattle.plain_encode.specs.Written.{Key, key_of, same_key, function_form, Written, with_declaration, index_of, write_type, named, write_function}
 use Rattle.plain_encode.proofs.Functions.{key_signature, has_values, signature_followed, slot_of, map_end, key_found}
 
 -- ---- declarations behind declarations

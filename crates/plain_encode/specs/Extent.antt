@@ -1,5 +1,5 @@
 -- How much is written at most, as far as it has been written.
-use Rattle.std.specs.Prelude.{ℕ, ◌+◌, List, [], ◌∷◌, length, sum_by, filter_map, String}
+use Rattle.std.specs.Prelude.{ℕ, ◌+◌, List, length, sum_by, filter_map, String}
 use Rattle.std.specs.declared.alloc.Global.{Global}
 use Rattle.std.specs.Option.{option_map_or}
 use Rattle.wit_model.specs.declared.model.Resolve.{Resolve}

@@ -1,5 +1,4 @@
-use Rattle.std.proofs.Common.{◌≡◌, ◌++◌, fold, take}
-use Rattle.std.specs.Hash as fed
+use Rattle.std.proofs.Common.{◌≡◌, fold, take}
 use Rattle.std.specs.List.{flat_map}
 use Rattle.plain_encode.specs.Key.{param_writes}
 use Rattle.plain_encode.proofs.key.hash_params.Given as goal

@@ -6,7 +6,7 @@ use Rattle.std.specs.Map.Iter.{deref_pair}
 use Rattle.wit_model.specs.declared.model.World.{World}
 use Rattle.wit_model.specs.declared.model.WorldId.{WorldId}
 use Rattle.wit_model.specs.Lookup.{identity_of}
-use Rattle.comp_bytes.specs.Parts.{Part, top_slots}
+use Rattle.comp_bytes.specs.Parts.{top_slots}
 use Rattle.plain_encode.specs.Written.{parts_of, world_parts}
 use Rattle.wit_model.specs.declared.error.Error.TheVariants.{Size}
 use Rattle.plain_encode.specs.Extent.{worlds_extent}

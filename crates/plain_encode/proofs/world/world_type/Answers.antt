@@ -1,4 +1,4 @@
-use Rattle.std.proofs.Common.{◌≡◌, ◌∙◌, Err, rules}
+use Rattle.std.proofs.Common.{◌≡◌, Err, rules}
 use Rattle.wit_model.specs.declared.error.Error.TheVariants.{Size}
 use Rattle.indexmap.specs.IndexMap.{values}
 use Rattle.plain_encode.specs.Written.{scope_view}

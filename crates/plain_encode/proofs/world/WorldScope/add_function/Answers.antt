@@ -1,4 +1,4 @@
-use Rattle.std.proofs.Common.{◌≡◌, ◌+◌, ◌&&◌, sym, ap, ◌∙◌}
+use Rattle.std.proofs.Common.{◌+◌, ◌&&◌, sym, ap, ◌∙◌}
 use Rattle.wit_model.specs.Weight.{function_weight}
 use Rattle.comp_bytes.specs.Fits.{fits_name}
 use Rattle.comp_bytes.specs.Held.{fits_added}

@@ -1,4 +1,4 @@
-use Rattle.std.proofs.Common.{◌≡◌, ◌+◌, ◌∙◌}
+use Rattle.std.proofs.Common.{◌+◌, ◌∙◌}
 use Rattle.std.proofs.lemmas.Map.Iter.{rest_more}
 use Rattle.std.specs.Map.Iter.{deref}
 use Rattle.indexmap.specs.IndexMap.{values}
