@@ -1,0 +1,9 @@
+//! Laws of what is read.
+
+ghost use Rattle.read_plan.specs.Shapes.{OneNumber, TreeAtNumber};
+
+/// Each number of a table of shapes stands for the tree of its shape, and equal trees have one number.
+pub fn shapes_are_trees()
+    ensures at_number { TreeAtNumber }
+    ensures one_number { OneNumber }
+{}
