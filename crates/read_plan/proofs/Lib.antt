@@ -1,1 +1,3 @@
 pub mod ShapeLaws
+pub mod Lists
+pub mod Words

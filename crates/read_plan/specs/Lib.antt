@@ -1,1 +1,5 @@
 pub mod Shapes
+pub mod Plan
+pub mod PlanMeaning
+pub mod PlanRules
+pub mod Built

@@ -1,0 +1,115 @@
+-- Lists and options that are made entry by entry of others.
+use Rattle.std.proofs.Common.{◌≡◌, refl, sym, ap, ◌∙◌, ℕ, zero, suc, ◌+◌, Bool, true, false, ◌&&◌, ◌||◌, not, cond, List, [], ◌∷◌, ◌++◌, length, map, filter, filter_map, flat_map, option_map, option_and_then, Option, Some, None, slice_get, is_some}
+use Rattle.core.specs.List.{fold}
+use Rattle.std.specs.List.{list_all, list_any, cons_option}
+use Rattle.std.specs.Option.{option_map_or}
+use Rattle.std.specs.Map.{lookup}
+use Rattle.std.proofs.lemmas.List.Folds.{list_all-map}
+use Rattle.wit_model.specs.Types.{grow}
+use Rattle.wit_model.specs.Rules.{each_from, each_after}
+use Rattle.wit_model.specs.Parts.{numbered_from}
+use Rattle.wit_model.proofs.Lists.{first_true, second_true}
+
+-- ---- lists
+
+pub map_of_map : {A B C : Type 0} (f : B → C) (g : A → B) (xs : List A) → map f (map g xs) ≡ map (λ x. f (g x)) xs
+map_of_map f g [] = refl
+map_of_map f g (x ∷ xs) = ap (λ ys. f (g x) ∷ ys) (map_of_map f g xs)
+
+pub same_map : {A B : Type 0} (f g : A → B) → ((x : A) → f x ≡ g x) → (xs : List A) → map f xs ≡ map g xs
+same_map f g same xs = ap (λ h. map h xs) (λ i x. same x i)
+
+pub filter_of_map : {A B C : Type 0} (f : B → Option C) (g : A → B) (xs : List A) → filter_map f (map g xs) ≡ filter_map (λ x. f (g x)) xs
+filter_of_map f g [] = refl
+filter_of_map f g (x ∷ xs) = ap (λ ys. cons_option (f (g x)) ys) (filter_of_map f g xs)
+
+pub any_of_map : {A B : Type 0} (test : B → Bool) (g : A → B) (xs : List A) → list_any test (map g xs) ≡ list_any (λ x. test (g x)) xs
+any_of_map test g [] = refl
+any_of_map test g (x ∷ xs) = ap (λ b. test (g x) || b) (any_of_map test g xs)
+
+pub fold_of_map : {A B C : Type 0} (step : C → B → C) (g : A → B) (c : C) (xs : List A) → fold step c (map g xs) ≡ fold (λ a x. step a (g x)) c xs
+fold_of_map step g c [] = refl
+fold_of_map step g c (x ∷ xs) = fold_of_map step g (step c (g x)) xs
+
+pub get_of_map : {A B : Type 0} (g : A → B) (xs : List A) (n : ℕ) → slice_get (map g xs) n ≡ option_map g (slice_get xs n)
+get_of_map g [] n = refl
+get_of_map g (x ∷ xs) zero = refl
+get_of_map g (x ∷ xs) (suc n) = get_of_map g xs n
+
+pub length_of_map : {A B : Type 0} (g : A → B) (xs : List A) → length (map g xs) ≡ length xs
+length_of_map g [] = refl
+length_of_map g (x ∷ xs) = ap suc (length_of_map g xs)
+
+pub append_of_map : {A B : Type 0} (g : A → B) (xs ys : List A) → map g (xs ++ ys) ≡ map g xs ++ map g ys
+append_of_map g [] ys = refl
+append_of_map g (x ∷ xs) ys = ap (λ zs. g x ∷ zs) (append_of_map g xs ys)
+
+pub each_of_map : {A B : Type 0} (test : ℕ → B → Bool) (g : A → B) (n : ℕ) (xs : List A) → each_from test n (map g xs) ≡ each_from (λ m x. test m (g x)) n xs
+each_of_map test g n [] = refl
+each_of_map test g n (x ∷ xs) = ap (λ b. test n (g x) && b) (each_of_map test g (n + 1) xs)
+
+pub after_of_map : {A B : Type 0} (test : List B → B → Bool) (g : A → B) (before xs : List A) → each_after test (map g before) (map g xs) ≡ each_after (λ ys x. test (map g ys) (g x)) before xs
+after_of_map test g before [] = refl
+after_of_map test g before (x ∷ xs) =
+    ap (λ ys. test (map g before) (g x) && each_after test ys (map g xs)) (sym (append_of_map g before (x ∷ [])))
+    ∙ ap (λ b. test (map g before) (g x) && b) (after_of_map test g (before ++ x ∷ []) xs)
+
+pub grow_of_map : {A B X : Type 0} (step : List X → B → X) (g : A → B) (done : List X) (xs : List A) → grow step done (map g xs) ≡ grow (λ table x. step table (g x)) done xs
+grow_of_map step g done [] = refl
+grow_of_map step g done (x ∷ xs) = grow_of_map step g (done ++ step done (g x) ∷ []) xs
+
+pub same_grow : {A X : Type 0} (f g : List X → A → X) → ((table : List X) (x : A) → f table x ≡ g table x) → (xs : List A) → grow f [] xs ≡ grow g [] xs
+same_grow f g same xs = ap (λ step. grow step [] xs) (λ i table x. same table x i)
+
+pub numbered_of_map : {A B : Type 0} (g : A → B) (n : ℕ) (xs : List A) → numbered_from n (map g xs) ≡ map (λ e. (e.0, g e.1)) (numbered_from n xs)
+numbered_of_map g n [] = refl
+numbered_of_map g n (x ∷ xs) = ap (λ ys. (n, g x) ∷ ys) (numbered_of_map g (n + 1) xs)
+
+pub lookup_of_map : {A B K X : Type 0} (test : K → Bool) (g : A → K) (h : B → X) (es : List (A × B)) → lookup test (map (λ e. (g e.0, h e.1)) es) ≡ option_map h (lookup (λ a. test (g a)) es)
+lookup_of_map test g h [] = refl
+lookup_of_map test g h (e ∷ es) = go (test (g e.0)) (lookup_of_map test g h es)
+  where
+    go : (b : Bool) → lookup test (map (λ x. (g x.0, h x.1)) es) ≡ option_map h (lookup (λ a. test (g a)) es)
+        → cond b (Some (h e.1)) (lookup test (map (λ x. (g x.0, h x.1)) es)) ≡ option_map h (cond b (Some e.1) (lookup (λ a. test (g a)) es))
+    go true rest = refl
+    go false rest = rest
+
+-- ---- options
+
+pub then_of_map : {A B C : Type 0} (f : B → Option C) (g : A → B) (o : Option A) → option_and_then f (option_map g o) ≡ option_and_then (λ x. f (g x)) o
+then_of_map f g None = refl
+then_of_map f g (Some x) = refl
+
+pub option_of_map : {A B C : Type 0} (f : B → C) (g : A → B) (o : Option A) → option_map f (option_map g o) ≡ option_map (λ x. f (g x)) o
+option_of_map f g None = refl
+option_of_map f g (Some x) = refl
+
+pub or_of_map : {A B C : Type 0} (f : B → C) (g : A → B) (d : C) (o : Option A) → option_map_or f (option_map g o) d ≡ option_map_or (λ x. f (g x)) o d
+or_of_map f g d None = refl
+or_of_map f g d (Some x) = refl
+
+pub same_then : {A B : Type 0} (f g : A → Option B) → ((x : A) → f x ≡ g x) → (o : Option A) → option_and_then f o ≡ option_and_then g o
+same_then f g same o = ap (λ h. option_and_then h o) (λ i x. same x i)
+
+pub same_or : {A B : Type 0} (f g : A → B) (d : B) → ((x : A) → f x ≡ g x) → (o : Option A) → option_map_or f o d ≡ option_map_or g o d
+same_or f g d same o = ap (λ h. option_map_or h o d) (λ i x. same x i)
+
+pub same_all : {A : Type 0} (p q : A → Bool) → ((x : A) → p x ≡ q x) → (xs : List A) → list_all p xs ≡ list_all q xs
+same_all p q same xs = ap (λ test. list_all test xs) (λ i x. same x i)
+
+pub all_of_map : {A B : Type 0} (p : B → Bool) (q : A → Bool) (g : A → B) → ((x : A) → p (g x) ≡ q x) → (xs : List A) → list_all p (map g xs) ≡ list_all q xs
+all_of_map p q g same xs = list_all-map p g xs ∙ same_all (λ x. p (g x)) q same xs
+
+-- what passes one test passes another
+pub all_weaker : {A : Type 0} (p q : A → Bool) → ((x : A) → p x ≡ true → q x ≡ true) → (xs : List A) → list_all p xs ≡ true → list_all q xs ≡ true
+all_weaker p q weaker [] h = refl
+all_weaker p q weaker (x ∷ xs) h = (λ i. weaker x (first_true (p x) (list_all p xs) h) i && all_weaker p q weaker xs (second_true (p x) (list_all p xs) h) i)
+
+pub each_weaker : {A : Type 0} (p q : ℕ → A → Bool) → ((n : ℕ) (x : A) → p n x ≡ true → q n x ≡ true) → (n : ℕ) (xs : List A) → each_from p n xs ≡ true → each_from q n xs ≡ true
+each_weaker p q weaker n [] h = refl
+each_weaker p q weaker n (x ∷ xs) h = (λ i. weaker n x (first_true (p n x) (each_from p (n + 1) xs) h) i && each_weaker p q weaker (n + 1) xs (second_true (p n x) (each_from p (n + 1) xs) h) i)
+
+-- a test that looks at no number
+pub each_all : {A : Type 0} (p : A → Bool) (n : ℕ) (xs : List A) → each_from (λ m x. p x) n xs ≡ list_all p xs
+each_all p n [] = refl
+each_all p n (x ∷ xs) = ap (λ b. p x && b) (each_all p (n + 1) xs)
