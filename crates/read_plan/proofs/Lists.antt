@@ -1,6 +1,6 @@
 -- Lists and options that are made entry by entry of others.
-use Rattle.std.proofs.Common.{◌≡◌, refl, sym, ap, ◌∙◌, ℕ, zero, suc, ◌+◌, Bool, true, false, ◌&&◌, ◌||◌, not, cond, List, [], ◌∷◌, ◌++◌, length, map, filter, filter_map, flat_map, option_map, option_and_then, Option, Some, None, slice_get, is_some}
-use Rattle.core.specs.List.{fold}
+use Rattle.std.proofs.Common.{◌≡◌, refl, sym, ap, ◌∙◌, ℕ, zero, suc, ◌+◌, Bool, true, false, ◌&&◌, ◌||◌, not, cond, List, [], ◌∷◌, ◌++◌, length, map, filter, filter_map, flat_map, option_map, option_and_then, Option, Some, None, slice_get, unwrap_or, is_some, subst, arith}
+use Rattle.std.specs.Prelude.{fold}
 use Rattle.std.specs.List.{list_all, list_any, cons_option}
 use Rattle.std.specs.Option.{option_map_or}
 use Rattle.std.specs.Map.{lookup}
@@ -9,6 +9,13 @@ use Rattle.wit_model.specs.Types.{grow}
 use Rattle.wit_model.specs.Rules.{each_from, each_after}
 use Rattle.wit_model.specs.Parts.{numbered_from}
 use Rattle.wit_model.proofs.Lists.{first_true, second_true}
+use Rattle.wit_model.proofs.Entries.{each_from_at, each_from_all}
+
+-- ---- tests
+
+pub both : (a b : Bool) → a ≡ true → b ≡ true → (a && b) ≡ true
+both true b p q = q
+both false b p q = p
 
 -- ---- lists
 
@@ -103,13 +110,56 @@ all_of_map p q g same xs = list_all-map p g xs ∙ same_all (λ x. p (g x)) q sa
 -- what passes one test passes another
 pub all_weaker : {A : Type 0} (p q : A → Bool) → ((x : A) → p x ≡ true → q x ≡ true) → (xs : List A) → list_all p xs ≡ true → list_all q xs ≡ true
 all_weaker p q weaker [] h = refl
-all_weaker p q weaker (x ∷ xs) h = (λ i. weaker x (first_true (p x) (list_all p xs) h) i && all_weaker p q weaker xs (second_true (p x) (list_all p xs) h) i)
+all_weaker p q weaker (x ∷ xs) h = both (q x) (list_all q xs) (weaker x (first_true (p x) (list_all p xs) h)) (all_weaker p q weaker xs (second_true (p x) (list_all p xs) h))
 
 pub each_weaker : {A : Type 0} (p q : ℕ → A → Bool) → ((n : ℕ) (x : A) → p n x ≡ true → q n x ≡ true) → (n : ℕ) (xs : List A) → each_from p n xs ≡ true → each_from q n xs ≡ true
 each_weaker p q weaker n [] h = refl
-each_weaker p q weaker n (x ∷ xs) h = (λ i. weaker n x (first_true (p n x) (each_from p (n + 1) xs) h) i && each_weaker p q weaker (n + 1) xs (second_true (p n x) (each_from p (n + 1) xs) h) i)
+each_weaker p q weaker n (x ∷ xs) h =
+    both (q n x) (each_from q (n + 1) xs) (weaker n x (first_true (p n x) (each_from p (n + 1) xs) h)) (each_weaker p q weaker (n + 1) xs (second_true (p n x) (each_from p (n + 1) xs) h))
 
 -- a test that looks at no number
 pub each_all : {A : Type 0} (p : A → Bool) (n : ℕ) (xs : List A) → each_from (λ m x. p x) n xs ≡ list_all p xs
 each_all p n [] = refl
 each_all p n (x ∷ xs) = ap (λ b. p x && b) (each_all p (n + 1) xs)
+
+-- ---- what is built passes what was planned
+
+module _ {A B : Type 0} (g : A → B) where
+  pub all_built : (p : B → Bool) (q : A → Bool) → ((x : A) → p (g x) ≡ true → q x ≡ true) → (xs : List A) → list_all p (map g xs) ≡ true → list_all q xs ≡ true
+  all_built p q weaker xs h = all_weaker (λ x. p (g x)) q weaker xs (sym (list_all-map p g xs) ∙ h)
+
+  pub each_built : (p : ℕ → B → Bool) (q : ℕ → A → Bool) → ((n : ℕ) (x : A) → p n (g x) ≡ true → q n x ≡ true) → (xs : List A) → each_from p 0 (map g xs) ≡ true → each_from q 0 xs ≡ true
+  each_built p q weaker xs h = each_weaker (λ n x. p n (g x)) q weaker 0 xs (sym (each_of_map p g 0 xs) ∙ h)
+
+  -- a test that looks at no number
+  pub each_from_built : (p : B → Bool) (q : A → Bool) → ((x : A) → p (g x) ≡ true → q x ≡ true) → (xs : List A) → list_all p (map g xs) ≡ true → each_from (λ n x. q x) 0 xs ≡ true
+  each_from_built p q weaker xs h = each_all q 0 xs ∙ all_built p q weaker xs h
+
+pub no_true : {A : Type 0} → false ≡ true → A
+no_true e = let wrong : ⊥ = cc in absurd wrong
+
+-- ---- two tests that make a third
+
+pub all_two : {A : Type 0} (p q s : A → Bool) → ((x : A) → p x ≡ true → q x ≡ true → s x ≡ true) → (xs : List A) → list_all p xs ≡ true → list_all q xs ≡ true → list_all s xs ≡ true
+all_two p q s make [] h k = refl
+all_two p q s make (x ∷ xs) h k =
+    both (s x) (list_all s xs) (make x (first_true (p x) (list_all p xs) h) (first_true (q x) (list_all q xs) k)) (all_two p q s make xs (second_true (p x) (list_all p xs) h) (second_true (q x) (list_all q xs) k))
+
+pub each_two : {A : Type 0} (p q s : ℕ → A → Bool) → ((n : ℕ) (x : A) → p n x ≡ true → q n x ≡ true → s n x ≡ true) → (n : ℕ) (xs : List A) → each_from p n xs ≡ true → each_from q n xs ≡ true → each_from s n xs ≡ true
+each_two p q s make n [] h k = refl
+each_two p q s make n (x ∷ xs) h k =
+    both (s n x) (each_from s (n + 1) xs) (make n x (first_true (p n x) (each_from p (n + 1) xs) h) (first_true (q n x) (each_from q (n + 1) xs) k))
+    (each_two p q s make (n + 1) xs (second_true (p n x) (each_from p (n + 1) xs) h) (second_true (q n x) (each_from q (n + 1) xs) k))
+
+pub all_get : {A : Type 0} (p : A → Bool) (xs : List A) (n : ℕ) (x : A) → list_all p xs ≡ true → slice_get xs n ≡ Some x → p x ≡ true
+all_get p [] n x h e = absurd (let wrong : ⊥ = cc in wrong)
+all_get p (y ∷ ys) zero x h e = let same : y ≡ x = ap (λ o. unwrap_or o y) e in ap p (sym same) ∙ first_true (p y) (list_all p ys) h
+all_get p (y ∷ ys) (suc n) x h e = all_get p ys n x (second_true (p y) (list_all p ys) h) e
+
+-- ---- each, by its number
+
+pub each_at : {A : Type 0} (test : ℕ → A → Bool) (xs : List A) (n : ℕ) (x : A) → each_from test 0 xs ≡ true → slice_get xs n ≡ Some x → test n x ≡ true
+each_at test xs n x h e = let here : 0 + n ≡ n = omega arith in subst (λ (k : ℕ). test k x ≡ true) here (each_from_at test 0 xs n x h e)
+
+pub each_by_number : {A : Type 0} (test : ℕ → A → Bool) (xs : List A) → ((n : ℕ) (x : A) → slice_get xs n ≡ Some x → test n x ≡ true) → each_from test 0 xs ≡ true
+each_by_number test xs all = each_from_all test 0 xs (λ n x e. let here : n ≡ 0 + n = omega arith in subst (λ (k : ℕ). test k x ≡ true) here (all n x e))

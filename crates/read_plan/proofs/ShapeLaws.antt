@@ -72,7 +72,7 @@ slice_behind : {X : Type 0} (xs ys : List X) (n : ℕ) → slice_get (xs ++ ys) 
 slice_behind [] ys n = ap (slice_get ys) (omega arith)
 slice_behind (x ∷ xs) ys n = let one : length (x ∷ xs) + n ≡ suc (length xs + n) = omega arith in ap (slice_get (x ∷ (xs ++ ys))) one ∙ slice_behind xs ys n
 
-slice_take : {X : Type 0} (xs : List X) (n m : ℕ) → m < n → slice_get (take n xs) m ≡ slice_get xs m
+pub slice_take : {X : Type 0} (xs : List X) (n m : ℕ) → m < n → slice_get (take n xs) m ≡ slice_get xs m
 slice_take [] zero m h = refl
 slice_take [] (suc n) m h = refl
 slice_take (x ∷ xs) zero m h = absurd (omega (arith, h))

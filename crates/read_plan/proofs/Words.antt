@@ -48,7 +48,7 @@ plan_of r m = record {
 
 -- ---- parts
 
-behind : (n : ℕ) → part_number (14 + n) ≡ Some n
+pub behind : (n : ℕ) → part_number (14 + n) ≡ Some n
 behind n =
     let past : nat_lt (14 + n) 14 ≡ false = grind (arith, nat_tests) in
     let less : (14 + n) - 14 ≡ n = omega arith in
@@ -269,12 +269,9 @@ module _ (r : Resolve) (m : ℕ) where
   pub met_are : met_in P ≡ met_of r
   unfolding met_in met_of
   met_are =
-      ap (grow_met []) (numbered_of_map planned_type 0 r.types.items)
+      ap (λ es. types.grow met_at [] es) (numbered_of_map planned_type 0 r.types.items)
       ∙ (grow_of_map met_at (λ (e : ℕ × TypeDef). (e.0, planned_type e.1)) [] (numbered_from 0 r.types.items)
       ∙ same_grow (λ table e. met_at table (e.0, planned_type e.1)) parts.met_at met_step_is (numbered_from 0 r.types.items))
-    where
-      grow_met : List (List ℕ) → List (ℕ × _) → List (List ℕ)
-      grow_met = types.grow met_at
 
   pub has_owner_is : (o : TypeOwner) (n : ℕ) → has_owner P o n ≡ parts.has_owner r o n
   has_owner_is o n =

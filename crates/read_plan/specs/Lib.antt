@@ -3,3 +3,4 @@ pub mod Plan
 pub mod PlanMeaning
 pub mod PlanRules
 pub mod Built
+pub mod PlanLaws

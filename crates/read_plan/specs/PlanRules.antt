@@ -266,7 +266,7 @@ keys_differ (e ∷ es) = not (list_any (λ other. same_key e.0 other.0) es) && k
 
 -- a function stands under its name, which is a label if it belongs to no resource
 abbrev pub is_function_key : Text → PlannedFunction → Bool
-is_function_key t f = text_eq f.name t && (not (is_freestanding f.kind) || is_label t)
+is_function_key t f = text_eq t f.name && (not (is_freestanding f.kind) || is_label t)
 
 abbrev pub import_stands : Plan → ℕ → PlannedKey × PlannedItem → Bool
 import_stands p w e = stands e.0 e.1
