@@ -17,3 +17,9 @@ pub mod Owning
 pub mod ItemOrder
 pub mod DistinctKeys
 pub mod Valid
+pub mod Meanings
+pub mod Reaching
+pub mod PackageMeans
+pub mod WorldAlone
+pub mod NothingElse
+mod WholePlan

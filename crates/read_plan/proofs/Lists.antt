@@ -1,7 +1,9 @@
 -- Lists and options that are made entry by entry of others.
-use Rattle.std.proofs.Common.{◌≡◌, refl, sym, ap, ◌∙◌, ℕ, zero, suc, ◌+◌, Bool, true, false, ◌&&◌, ◌||◌, not, cond, List, [], ◌∷◌, ◌++◌, length, map, filter, filter_map, flat_map, option_map, option_and_then, Option, Some, None, slice_get, unwrap_or, is_some, subst, arith}
+use Rattle.std.proofs.Common.{◌≡◌, refl, sym, ap, ◌∙◌, ℕ, zero, suc, ◌+◌, Bool, true, false, ◌&&◌, ◌||◌, ◌==◌, not, cond, List, [], ◌∷◌, ◌++◌, length, map, filter, filter_map, flat_map, option_map, option_and_then, Option, Some, None, slice_get, unwrap_or, is_some, subst, arith}
 use Rattle.std.specs.Prelude.{fold}
-use Rattle.std.specs.List.{list_all, list_any, cons_option}
+use Rattle.std.specs.List.{Contains, list_all, list_any, cons_option}
+use Rattle.std.proofs.lemmas.Bool.{eqb-true, or_right}
+use Rattle.wit_model.specs.Uses.{has}
 use Rattle.std.specs.Option.{option_map_or}
 use Rattle.std.specs.Map.{lookup}
 use Rattle.std.proofs.lemmas.List.Folds.{list_all-map}
@@ -163,3 +165,66 @@ each_at test xs n x h e = let here : 0 + n ≡ n = omega arith in subst (λ (k :
 
 pub each_by_number : {A : Type 0} (test : ℕ → A → Bool) (xs : List A) → ((n : ℕ) (x : A) → slice_get xs n ≡ Some x → test n x ≡ true) → each_from test 0 xs ≡ true
 each_by_number test xs all = each_from_all test 0 xs (λ n x e. let here : n ≡ 0 + n = omega arith in subst (λ (k : ℕ). test k x ≡ true) here (all n x e))
+
+-- ---- what stands in a list that is made of another
+
+pub get_back : {A B : Type 0} (g : A → B) (xs : List A) (n : ℕ) (y : B) → slice_get (map g xs) n ≡ Some y → (x : A) × (slice_get xs n ≡ Some x) × (g x ≡ y)
+get_back g [] n y e = absurd (let wrong : ⊥ = cc in wrong)
+get_back g (x ∷ xs) zero y e = (x, refl, ap (λ o. unwrap_or o y) e)
+get_back g (x ∷ xs) (suc n) y e = get_back g xs n y e
+
+pub any_get : {A : Type 0} (p : A → Bool) (xs : List A) → list_any p xs ≡ true → (n : ℕ) × (x : A) × (slice_get xs n ≡ Some x) × (p x ≡ true)
+any_get p [] h = no_true h
+any_get p (x ∷ xs) h = go (p x) refl (any_get p xs)
+  where
+    go : (b : Bool) → p x ≡ b → (list_any p xs ≡ true → (n : ℕ) × (y : _) × (slice_get xs n ≡ Some y) × (p y ≡ true)) → (n : ℕ) × (y : _) × (slice_get (x ∷ xs) n ≡ Some y) × (p y ≡ true)
+    go true e rest = (0, x, refl, e)
+    go false e rest = let more = rest (sym (ap (λ b. b || list_any p xs) e) ∙ h) in (suc more.0, more.1, more.2, more.3)
+
+pub get_any : {A : Type 0} (p : A → Bool) (xs : List A) (n : ℕ) (x : A) → slice_get xs n ≡ Some x → p x ≡ true → list_any p xs ≡ true
+get_any p [] n x e h = absurd (let wrong : ⊥ = cc in wrong)
+get_any p (y ∷ ys) zero x e h = let same : y ≡ x = ap (λ o. unwrap_or o y) e in ap (λ z. p z || list_any p ys) same ∙ ap (λ b. b || list_any p ys) h
+get_any p (y ∷ ys) (suc n) x e h = or_second (p y) (list_any p ys) (get_any p ys n x e h)
+  where
+    or_second : (a b : Bool) → b ≡ true → (a || b) ≡ true
+    or_second true b e = refl
+    or_second false b e = e
+
+pub has_filter : (p : ℕ → Bool) (ns : List ℕ) (n : ℕ) → has ns n ≡ true → p n ≡ true → has (filter p ns) n ≡ true
+has_filter p [] n h k = no_true h
+has_filter p (x ∷ ns) n h k = go (x == n) refl (p x) refl (λ e. has_filter p ns n e k)
+  where
+    go : (b : Bool) → (x == n) ≡ b → (c : Bool) → p x ≡ c → (has ns n ≡ true → has (filter p ns) n ≡ true) → has (cond c (x ∷ filter p ns) (filter p ns)) n ≡ true
+    go true e true f rest = ap (λ b. b || has (filter p ns) n) e
+    go true e false f rest = no_true (sym f ∙ (ap p (eqb-true x n e) ∙ k))
+    go false e true f rest = ap (λ b. b || has (filter p ns) n) e ∙ rest (sym (ap (λ b. b || has ns n) e) ∙ h)
+    go false e false f rest = rest (sym (ap (λ b. b || has ns n) e) ∙ h)
+
+pub filter_has : (p : ℕ → Bool) (ns : List ℕ) (n : ℕ) → has (filter p ns) n ≡ true → (has ns n ≡ true) × (p n ≡ true)
+filter_has p [] n h = no_true h
+filter_has p (x ∷ ns) n h = go (p x) refl h (filter_has p ns n)
+  where
+    later : (has ns n ≡ true) × (p n ≡ true) → ((x == n) || has ns n) ≡ true
+    later more = or_right (x == n) (has ns n) more.0
+
+    front : p x ≡ true → (b : Bool) → (x == n) ≡ b → (b || has (filter p ns) n) ≡ true → (has (filter p ns) n ≡ true → (has ns n ≡ true) × (p n ≡ true)) → (has (x ∷ ns) n ≡ true) × (p n ≡ true)
+    front f true e h rest = (ap (λ b. b || has ns n) e, sym (ap p (eqb-true x n e)) ∙ f)
+    front f false e h rest = let more = rest h in (later more, more.1)
+
+    go : (c : Bool) → p x ≡ c → has (cond c (x ∷ filter p ns) (filter p ns)) n ≡ true → (has (filter p ns) n ≡ true → (has ns n ≡ true) × (p n ≡ true)) → (has (x ∷ ns) n ≡ true) × (p n ≡ true)
+    go true f h rest = front f (x == n) refl h rest
+    go false f h rest = let more = rest h in (later more, more.1)
+
+pub filter_map_from : {A B : Type 0} (h : A → Option B) (xs : List A) (y : B) → Contains (filter_map h xs) y → (n : ℕ) × (x : A) × (slice_get xs n ≡ Some x) × (h x ≡ Some y)
+filter_map_from h [] y (i, l, e) = absurd (omega (arith, l))
+filter_map_from h (x ∷ xs) y c = go (h x) refl c (filter_map_from h xs y)
+  where
+    go : (o : Option _) → h x ≡ o → Contains (cons_option o (filter_map h xs)) y → (Contains (filter_map h xs) y → (n : ℕ) × (z : _) × (slice_get xs n ≡ Some z) × (h z ≡ Some y)) → (n : ℕ) × (z : _) × (slice_get (x ∷ xs) n ≡ Some z) × (h z ≡ Some y)
+    go None e c rest = let more = rest c in (suc more.0, more.1, more.2, more.3)
+    go (Some z) e (zero, l, f) rest = (0, x, refl, e ∙ ap Some f)
+    go (Some z) e (suc i, l, f) rest = let more = rest (i, omega (arith, l), f) in (suc more.0, more.1, more.2, more.3)
+
+pub map_from : {A B : Type 0} (g : A → B) (xs : List A) (y : B) → Contains (map g xs) y → (x : A) × Contains xs x × (g x ≡ y)
+map_from g [] y (i, l, e) = absurd (omega (arith, l))
+map_from g (x ∷ xs) y (zero, l, e) = (x, (0, omega arith, refl), e)
+map_from g (x ∷ xs) y (suc i, l, e) = let more = map_from g xs y (i, omega (arith, l), e) in (more.0, (suc more.1.0, (let k = more.1.1 in omega (arith, k)), more.1.2), more.2)

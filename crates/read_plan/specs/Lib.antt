@@ -3,4 +3,5 @@ pub mod Plan
 pub mod PlanMeaning
 pub mod PlanRules
 pub mod Built
+pub mod NothingElse
 pub mod PlanLaws

@@ -360,10 +360,9 @@ is_shown_in w n = has (filter_map item_interface (items_of w)) n
 abbrev pub is_foreign : Plan → PlannedInterface → Bool
 is_foreign p i = is_some i.name && not (is_id p.main i.package_)
 
--- Why an interface is there: a world shows it, or has a type that is another name for one of its types, or another interface uses it.
+-- Why an interface is there: a world shows it, or another interface uses it.
 pub data IsWanted (p : Plan) (n : ℕ) : Type 0 where
   shown : (m : ℕ) (w : PlannedWorld) → world_in p m ≡ Some w → is_shown_in w n ≡ true → IsWanted p n
-  brought : (m : ℕ) (w : PlannedWorld) (t : ℕ) → world_in p m ≡ Some w → has (world_types w) t ≡ true → interface_used_by p t ≡ Some n → IsWanted p n
   used : (m : ℕ) → has (direct_uses p m) n ≡ true → IsWanted p n
 
 -- a part of a type, or of a function
