@@ -22,4 +22,5 @@ pub mod Reaching
 pub mod PackageMeans
 pub mod WorldAlone
 pub mod NothingElse
+pub mod Renumbering
 mod WholePlan

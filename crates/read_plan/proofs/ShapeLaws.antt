@@ -57,7 +57,7 @@ by_form place T (Form.stream_of some) ks = refl
 pub node_tree : (place : ℕ → Place) (T : List Tree) (f : Form) (ks : List ℕ) → shape_tree place T (node_shape f ks) ≡ Tree.node f (children (map (part_tree T) ks))
 node_tree place T f ks = by_form place T f ks ∙ ap (λ g. Tree.node g (children (map (part_tree T) ks))) (form_back f)
 
-name_tree : (place : ℕ → Place) (T : List Tree) (p : ℕ) (name : Text) → shape_tree place T (named_shape p name) ≡ Tree.named (place p) name
+pub name_tree : (place : ℕ → Place) (T : List Tree) (p : ℕ) (name : Text) → shape_tree place T (named_shape p name) ≡ Tree.named (place p) name
 unfolding shape_tree
 name_tree place T p name = refl
 
@@ -140,7 +140,7 @@ unfolding shape_trees
 tree_at_number place ss table n s e =
     grow_at (shape_tree place) ss n s e ∙ ap Some (shape_same (grow (shape_tree place) [] ss) n place s (table.each n s e))
 
-slice_there : {X : Type 0} (xs : List X) (n : ℕ) → n < length xs → (x : X) × (slice_get xs n ≡ Some x)
+pub slice_there : {X : Type 0} (xs : List X) (n : ℕ) → n < length xs → (x : X) × (slice_get xs n ≡ Some x)
 slice_there [] n h = absurd (omega (arith, h))
 slice_there (x ∷ xs) zero h = (x, refl)
 slice_there (x ∷ xs) (suc n) h = slice_there xs n (omega (arith, h))

@@ -7,12 +7,18 @@ ghost use Rattle.read_plan.specs.PlanLaws.{
   WorldIsMeant,
   WorldStandsAlone,
 };
+ghost use Rattle.read_plan.specs.Renumbering.{TreesAreKept};
 ghost use Rattle.read_plan.specs.Shapes.{OneNumber, TreeAtNumber};
 
 /// Each number of a table of shapes stands for the tree of its shape, and equal trees have one number.
 pub fn shapes_are_trees()
     ensures at_number { TreeAtNumber }
     ensures one_number { OneNumber }
+{}
+
+/// Where the types of a plan are those of the shapes of a table that are kept, each part stands for the tree that it stood for.
+pub fn trees_are_kept()
+    ensures { TreesAreKept }
 {}
 
 /// A `Resolve` that is built, entry by entry, from a plan that was read is valid.
