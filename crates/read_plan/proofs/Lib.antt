@@ -24,3 +24,4 @@ pub mod WorldAlone
 pub mod NothingElse
 pub mod Renumbering
 mod WholePlan
+mod OneWorldPlan
