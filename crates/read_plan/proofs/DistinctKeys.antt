@@ -1,11 +1,11 @@
 -- No map of a built `Resolve` has a key twice.
-use Rattle.std.proofs.Common.{◌≡◌, refl, sym, ap, ◌∙◌, ℕ, Bool, true, false, ◌&&◌, ◌||◌, ◌==◌, not, List, [], ◌∷◌, ◌++◌, map, option_map, Option, Some, None, slice_get, String}
+use Rattle.std.proofs.Common.{◌≡◌, refl, sym, ap, ◌∙◌, ℕ, Bool, true, false, ◌&&◌, ◌||◌, not, List, [], ◌∷◌, ◌++◌, map, option_map, Some, String}
 use Rattle.std.specs.Prelude.{string_eq}
 use Rattle.std.specs.declared.alloc.Global.{Global}
-use Rattle.std.specs.List.{list_all, list_any, IsDistinct, AllByRecursion}
+use Rattle.std.specs.List.{list_any, IsDistinct, AllByRecursion}
 use Rattle.std.specs.Map.{keys_of}
 use Rattle.std.proofs.lemmas.List.Folds.{list_any-append}
-use Rattle.indexmap.specs.IndexMap.{keys, IsUnique}
+use Rattle.indexmap.specs.IndexMap.{IsUnique}
 use Rattle.wit_model.specs.declared.model.Resolve.{Resolve}
 use Rattle.wit_model.specs.declared.model.Package.{Package}
 use Rattle.wit_model.specs.declared.model.Interface.{Interface}
@@ -19,10 +19,9 @@ use Rattle.wit_model.specs.Lookup.{package_at, interface_at, world_at}
 use Rattle.wit_model.specs.Rules.{passes, are_distinct}
 use Rattle.wit_model.specs.Valid.{HasDistinctKeys, key_eq}
 use Rattle.wit_model.proofs.Lists.{first_true, second_true}
-use Rattle.read_plan.specs.Plan.{PlannedKey, PlannedItem}
 use Rattle.read_plan.specs.PlanRules as planned
 use Rattle.read_plan.specs.PlanRules.{IsPlan, names_of, members_differ, same_key, keys_differ}
-use Rattle.read_plan.specs.Built.{planned_function, planned_package, planned_interface, planned_world, planned_key, planned_item, planned_entries}
+use Rattle.read_plan.specs.Built.{planned_function, planned_package, planned_interface, planned_world, planned_key, planned_entries}
 use Rattle.read_plan.proofs.Lists.{get_of_map, all_get, both, no_true}
 use Rattle.read_plan.proofs.Words.{plan_of}
 use Rattle.read_plan.proofs.Labels.{names_are}
@@ -57,9 +56,10 @@ strings_distinct (k ∷ ks) h = (others_differ k ks (first_true _ _ h), strings_
 
 both_distinct : {A B C D : Type 0} (f : A → C) (g : B → D) (es : List (String Global × A)) (fs : List (String Global × B))
     → are_distinct (names_of (map (λ e. (text_of e.0, f e.1)) es) ++ names_of (map (λ e. (text_of e.0, g e.1)) fs)) ≡ true → IsDistinct string_eq (keys_of es) × IsDistinct string_eq (keys_of fs)
-both_distinct f g es fs h =
-    (strings_distinct (keys_of es) (ap are_distinct (sym (names_are f es)) ∙ front_distinct (names_of (map (λ e. (text_of e.0, f e.1)) es)) (names_of (map (λ e. (text_of e.0, g e.1)) fs)) h),
-    strings_distinct (keys_of fs) (ap are_distinct (sym (names_are g fs)) ∙ back_distinct (names_of (map (λ e. (text_of e.0, f e.1)) es)) (names_of (map (λ e. (text_of e.0, g e.1)) fs)) h))
+both_distinct f g es fs h = (
+  strings_distinct (keys_of es) (ap are_distinct (sym (names_are f es)) ∙ front_distinct (names_of (map (λ e. (text_of e.0, f e.1)) es)) (names_of (map (λ e. (text_of e.0, g e.1)) fs)) h),
+  strings_distinct (keys_of fs) (ap are_distinct (sym (names_are g fs)) ∙ back_distinct (names_of (map (λ e. (text_of e.0, f e.1)) es)) (names_of (map (λ e. (text_of e.0, g e.1)) fs)) h),
+)
 
 -- ---- keys of worlds
 

@@ -1,12 +1,11 @@
 -- Functions stand under their names, and those of a resource are named and shaped after it.
-use Rattle.std.proofs.Common.{◌≡◌, refl, sym, ap, ◌∙◌, ℕ, Bool, true, false, ◌&&◌, ◌||◌, ◌==◌, List, [], ◌∷◌, ◌++◌, map, option_map, option_and_then, Option, Some, None, slice_get, is_none, is_some, String, codes}
+use Rattle.std.proofs.Common.{◌≡◌, refl, sym, ap, ◌∙◌, ℕ, Bool, true, false, ◌&&◌, ◌||◌, [], ◌∷◌, ◌++◌, option_and_then, Option, Some, None, slice_get, is_none, is_some, String, codes}
 use Rattle.std.specs.Prelude.{if◌then◌else◌}
 use Rattle.std.specs.declared.alloc.Global.{Global}
 use Rattle.std.specs.List.{list_all}
 use Rattle.std.specs.Option.{option_map_or}
 use Rattle.std.proofs.lemmas.List.Folds.{list_all-append, list_all-map}
 use Rattle.wit_model.specs.declared.model.Resolve.{Resolve}
-use Rattle.wit_model.specs.declared.model.Interface.{Interface}
 use Rattle.wit_model.specs.declared.model.World.{World}
 use Rattle.wit_model.specs.declared.model.WorldKey.{WorldKey}
 use Rattle.wit_model.specs.declared.model.WorldKey.TheVariants as key
@@ -37,7 +36,7 @@ use Rattle.read_plan.specs.Plan as plan
 use Rattle.read_plan.specs.Plan.{PlannedType, PlannedFunction, part_number, type_in}
 use Rattle.read_plan.specs.PlanRules as planned
 use Rattle.read_plan.specs.PlanRules.{IsPlan}
-use Rattle.read_plan.specs.Built.{part_of, given_parts, planned_kind, planned_type, planned_function, planned_interface, planned_world, planned_key, planned_item, planned_entries}
+use Rattle.read_plan.specs.Built.{part_of, given_parts, planned_kind, planned_type, planned_function, planned_interface, planned_world, planned_key, planned_item}
 use Rattle.read_plan.proofs.Lists.{get_of_map, then_of_map, or_of_map, same_then, same_or, all_built, each_built, each_from_built, all_two, each_two, both, no_true}
 use Rattle.read_plan.proofs.Words.{plan_of, behind, number_part}
 use Rattle.read_plan.proofs.FunctionRules.{interfaces_pass, worlds_pass, entries_pass}

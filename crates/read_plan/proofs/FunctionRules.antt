@@ -10,7 +10,6 @@ use Rattle.wit_model.specs.declared.model.WorldItem.{WorldItem}
 use Rattle.wit_model.specs.declared.model.WorldItem.TheVariants as item
 use Rattle.wit_model.specs.declared.model.TypeDefKind.{TypeDefKind}
 use Rattle.wit_model.specs.declared.model.TypeDefKind.TheVariants as kind
-use Rattle.wit_model.specs.declared.model.Handle.TheVariants as handle
 use Rattle.wit_model.specs.declared.model.TypeOwner.{TypeOwner}
 use Rattle.wit_model.specs.declared.model.«Type».{«Type» as ValueType}
 use Rattle.wit_model.specs.declared.model.Function.{Function}
@@ -25,7 +24,7 @@ use Rattle.read_plan.specs.Plan as plan
 use Rattle.read_plan.specs.Plan.{PlannedKind, PlannedKey, PlannedItem, PlannedFunction, resource, alias, formed}
 use Rattle.read_plan.specs.PlanRules.{FunctionsPass, functions_of, world_functions}
 use Rattle.read_plan.specs.Built.{part_of, given_parts, planned_kind, planned_function, planned_interface, planned_item, planned_entries, planned_world}
-use Rattle.read_plan.proofs.Lists.{map_of_map, filter_of_map, append_of_map, all_built, each_built, same_all}
+use Rattle.read_plan.proofs.Lists.{map_of_map, append_of_map, all_built, each_built, same_all}
 use Rattle.read_plan.proofs.Words.{plan_of, given_all}
 
 -- ---- functions and items
@@ -122,6 +121,7 @@ module _ (p : Function → Bool) where
       → (list_all (λ e. passes p (item_function e.1)) w.imports.entries ≡ true) × (list_all (λ e. passes p (item_function e.1)) w.exports.entries ≡ true)
   entries_pass w h =
       let split : (list_all (λ x. passes p (item_function x)) (values w.imports) && list_all (λ x. passes p (item_function x)) (values w.exports)) ≡ true =
-      sym (list_all-append (λ x. passes p (item_function x)) (values w.imports) (values w.exports)) ∙ (sym (items_pass (items_of w)) ∙ h) in
-      (sym (list_all-map (λ x. passes p (item_function x)) (λ e. e.1) w.imports.entries) ∙ first_true _ _ split,
-      sym (list_all-map (λ x. passes p (item_function x)) (λ e. e.1) w.exports.entries) ∙ second_true (list_all (λ x. passes p (item_function x)) (values w.imports)) _ split)
+      sym (list_all-append (λ x. passes p (item_function x)) (values w.imports) (values w.exports)) ∙ (sym (items_pass (items_of w)) ∙ h) in (
+        sym (list_all-map (λ x. passes p (item_function x)) (λ e. e.1) w.imports.entries) ∙ first_true _ _ split,
+        sym (list_all-map (λ x. passes p (item_function x)) (λ e. e.1) w.exports.entries) ∙ second_true (list_all (λ x. passes p (item_function x)) (values w.imports)) _ split,
+      )

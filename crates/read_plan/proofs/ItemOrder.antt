@@ -1,5 +1,5 @@
 -- What an item of a world uses stands before it.
-use Rattle.std.proofs.Common.{◌≡◌, refl, sym, ap, ◌∙◌, ℕ, Bool, true, ◌&&◌, List, [], ◌∷◌, map, filter, filter_map, flat_map, option_map, option_to_list, Option, Some, None, slice_get}
+use Rattle.std.proofs.Common.{◌≡◌, refl, sym, ap, ◌∙◌, ℕ, ◌&&◌, List, [], map, filter, filter_map, option_to_list, Option}
 use Rattle.std.specs.List.{list_all}
 use Rattle.std.specs.Option.{option_map_or}
 use Rattle.wit_model.specs.declared.model.Resolve.{Resolve}
@@ -19,7 +19,7 @@ use Rattle.read_plan.specs.Plan as plan
 use Rattle.read_plan.specs.Plan.{kind_numbers, function_numbers, used_by_numbers, type_in}
 use Rattle.read_plan.specs.PlanRules as planned
 use Rattle.read_plan.specs.PlanRules.{IsPlan}
-use Rattle.read_plan.specs.Built.{planned_kind, planned_type, planned_function, planned_world, planned_item}
+use Rattle.read_plan.specs.Built.{planned_kind, planned_type, planned_world, planned_item}
 use Rattle.read_plan.proofs.Lists.{filter_of_map, get_of_map, or_of_map, same_or, after_of_map, each_built}
 use Rattle.read_plan.proofs.Words.{plan_of, function_numbers_are, has_owner_is, used_are, used_by_kind_is, interface_used_is, direct_uses_are}
 use Rattle.read_plan.proofs.FunctionRules.{items_are}

@@ -1,5 +1,5 @@
 -- Shapes of kinds, and which kinds have names.
-use Rattle.std.proofs.Common.{◌≡◌, refl, sym, ap, ◌∙◌, ℕ, ◌+◌, ◌≤◌, Bool, true, false, ◌&&◌, ◌||◌, not, List, [], ◌∷◌, length, map, Option, Some, None, option_map, slice_get, is_some, String, arith}
+use Rattle.std.proofs.Common.{◌≡◌, refl, sym, ap, ◌∙◌, ℕ, ◌+◌, ◌≤◌, true, false, ◌&&◌, ◌||◌, not, List, [], ◌∷◌, map, Option, Some, None, option_map, is_some, String, arith}
 use Rattle.std.specs.declared.alloc.Global.{Global}
 use Rattle.std.specs.Option.{option_map_or}
 use Rattle.std.proofs.lemmas.Option.{slice_get_past}
@@ -20,7 +20,7 @@ use Rattle.wit_model.proofs.Lists.{first_true, second_true}
 use Rattle.wit_model.proofs.Entries.{types_keep}
 use Rattle.comp_meaning.specs.Follow.{is_key_primitive}
 use Rattle.read_plan.specs.Shapes.{primitives}
-use Rattle.read_plan.specs.Plan.{type_in, alias_number}
+use Rattle.read_plan.specs.Plan.{alias_number}
 use Rattle.read_plan.specs.PlanRules as planned
 use Rattle.read_plan.specs.PlanRules.{IsPlan, is_key_part}
 use Rattle.read_plan.specs.Built.{part_of, planned_kind, planned_type}

@@ -1,35 +1,30 @@
 -- What a package lists is in range, of the package, and under its own name; packages are apart.
-use Rattle.std.proofs.Common.{◌≡◌, refl, sym, ap, subst, ◌∙◌, ℕ, zero, suc, ◌+◌, ◌<◌, ◌≤◌, Bool, true, false, ◌&&◌, ◌||◌, not, ◌==◌, nat_lt, nat_le, List, [], ◌∷◌, ◌++◌, length, map, option_map, option_and_then, Option, Some, None, slice_get, unwrap_or, is_some, String, arith}
+use Rattle.std.proofs.Common.{◌≡◌, refl, sym, ap, subst, ◌∙◌, ℕ, zero, suc, ◌+◌, Bool, true, false, ◌&&◌, ◌||◌, not, ◌==◌, nat_lt, List, [], ◌∷◌, length, map, option_map, Option, Some, None, slice_get, unwrap_or, is_some, String, arith}
 use Rattle.std.specs.declared.alloc.Global.{Global}
-use Rattle.std.specs.List.{list_all, list_any}
+use Rattle.std.specs.List.{list_all}
 use Rattle.std.specs.Option.{option_map_or}
 use Rattle.std.proofs.lemmas.Bool.Decides.{nat_tests}
 use Rattle.std.proofs.lemmas.List.Folds.{list_all-map}
 use Rattle.std.proofs.lemmas.Option.{slice_get_within}
-use Rattle.std.proofs.lemmas.Slice.Eq.{bytes_eq-Decides}
-use Rattle.semver.specs.declared.Version.{Version}
 use Rattle.wit_model.specs.declared.model.Resolve.{Resolve}
 use Rattle.wit_model.specs.declared.model.Package.{Package}
 use Rattle.wit_model.specs.declared.model.PackageName.{PackageName}
 use Rattle.wit_model.specs.declared.model.PackageId.{PackageId}
-use Rattle.wit_model.specs.declared.model.Interface.{Interface}
 use Rattle.wit_model.specs.declared.model.InterfaceId.{InterfaceId}
-use Rattle.wit_model.specs.declared.model.World.{World}
 use Rattle.wit_model.specs.declared.model.WorldId.{WorldId}
 use Rattle.wit_model.specs.Text.{Text, text_of, text_eq, optional_text}
-use Rattle.wit_model.specs.Names.{PackageIdentity, is_label, is_version, is_identity, is_optional_version}
+use Rattle.wit_model.specs.Names.{is_label, is_version, is_identity}
 use Rattle.wit_model.specs.Lookup.{interface_at, world_at, package_at, identity_of}
-use Rattle.wit_model.specs.Rules.{in_list, passes, each_from, is_id, package_number, text_is, same_package_name, interface_belongs, world_belongs}
+use Rattle.wit_model.specs.Rules.{in_list, passes, each_from, is_id, package_number, text_is, same_package_name}
 use Rattle.wit_model.specs.Valid.{Keeps, package_names, names_in_packages}
 use Rattle.wit_model.proofs.Lists.{first_true, second_true}
 use Rattle.wit_model.proofs.Entries.{packages_keep, each_from_at, each_from_all}
 use Rattle.wit_model.proofs.VersionLaws.{same_name}
 use Rattle.comp_meaning.specs.Same.{same_identity}
 use Rattle.comp_meaning.proofs.SameLaws.{identities_decide}
-use Rattle.read_plan.specs.Plan.{PlannedInterface, PlannedWorld, interface_in, world_in}
 use Rattle.read_plan.specs.PlanRules.{IsPlan, bears, lists_interface, lists_world, lists_members, is_alone}
 use Rattle.read_plan.specs.Built.{planned_interface, planned_world, planned_package}
-use Rattle.read_plan.proofs.Lists.{get_of_map, each_of_map, all_built, all_weaker, each_weaker, each_built, each_from_built, both, no_true}
+use Rattle.read_plan.proofs.Lists.{get_of_map, each_of_map, all_built, each_built, both, no_true}
 use Rattle.read_plan.proofs.Words.{plan_of}
 
 -- ---- a name that stands there
@@ -71,19 +66,21 @@ module _ (r : Resolve) (m : ℕ) (is : IsPlan (plan_of r m)) where
       → (in_list r.interfaces.items e.1.0 ≡ true) × (passes (λ i. text_is i.name (text_of e.0)) (interface_at r e.1.0) ≡ true) × (passes (λ i. is_id n (package_number i.package)) (interface_at r e.1.0) ≡ true)
   interface_listed n e h =
       let found = interface_there n e h in
-      let kept = there planned_interface (λ i. bears (text_of e.0) i.name && is_id n i.package_) (interface_at r e.1.0) found in
-      (in_range r.interfaces.items e.1.0 (some_there planned_interface (λ i. bears (text_of e.0) i.name && is_id n i.package_) (interface_at r e.1.0) found),
-      passes_weaker _ (λ i. text_is i.name (text_of e.0)) (λ i k. sym (bears_is i.name (text_of e.0)) ∙ first_true _ _ k) (interface_at r e.1.0) kept,
-      passes_weaker _ (λ i. is_id n (package_number i.package)) (λ i k. second_true (bears (text_of e.0) (optional_text i.name)) _ k) (interface_at r e.1.0) kept)
+      let kept = there planned_interface (λ i. bears (text_of e.0) i.name && is_id n i.package_) (interface_at r e.1.0) found in (
+        in_range r.interfaces.items e.1.0 (some_there planned_interface (λ i. bears (text_of e.0) i.name && is_id n i.package_) (interface_at r e.1.0) found),
+        passes_weaker _ (λ i. text_is i.name (text_of e.0)) (λ i k. sym (bears_is i.name (text_of e.0)) ∙ first_true _ _ k) (interface_at r e.1.0) kept,
+        passes_weaker _ (λ i. is_id n (package_number i.package)) (λ i k. second_true (bears (text_of e.0) (optional_text i.name)) _ k) (interface_at r e.1.0) kept,
+      )
 
   pub world_listed : (n : ℕ) (e : String Global × WorldId) → lists_world (plan_of r m) n (text_of e.0, e.1.0) ≡ true
       → (in_list r.worlds.items e.1.0 ≡ true) × (passes (λ w. text_eq (text_of w.name) (text_of e.0)) (world_at r e.1.0) ≡ true) × (passes (λ w. is_id n (package_number w.package)) (world_at r e.1.0) ≡ true)
   world_listed n e h =
       let found = sym (ap (λ o. option_map_or (λ w. text_eq w.name (text_of e.0) && is_id n w.package_) o false) (get_of_map planned_world r.worlds.items e.1.0)) ∙ h in
-      let kept = there planned_world (λ w. text_eq w.name (text_of e.0) && is_id n w.package_) (world_at r e.1.0) found in
-      (in_range r.worlds.items e.1.0 (some_there planned_world (λ w. text_eq w.name (text_of e.0) && is_id n w.package_) (world_at r e.1.0) found),
-      passes_weaker _ (λ w. text_eq (text_of w.name) (text_of e.0)) (λ w k. first_true _ _ k) (world_at r e.1.0) kept,
-      passes_weaker _ (λ w. is_id n (package_number w.package)) (λ w k. second_true (text_eq (text_of w.name) (text_of e.0)) _ k) (world_at r e.1.0) kept)
+      let kept = there planned_world (λ w. text_eq w.name (text_of e.0) && is_id n w.package_) (world_at r e.1.0) found in (
+        in_range r.worlds.items e.1.0 (some_there planned_world (λ w. text_eq w.name (text_of e.0) && is_id n w.package_) (world_at r e.1.0) found),
+        passes_weaker _ (λ w. text_eq (text_of w.name) (text_of e.0)) (λ w k. first_true _ _ k) (world_at r e.1.0) kept,
+        passes_weaker _ (λ w. is_id n (package_number w.package)) (λ w k. second_true (text_eq (text_of w.name) (text_of e.0)) _ k) (world_at r e.1.0) kept,
+      )
 
   -- what holds of all that a package lists
   module _ (q : ℕ → String Global × InterfaceId → Bool) (s : ℕ → String Global × WorldId → Bool)

@@ -1,5 +1,5 @@
 -- What a plan means, part by part, is what the `Resolve` means that is built from it.
-use Rattle.std.proofs.Common.{◌≡◌, refl, sym, ap, ◌∙◌, ℕ, List, [], map, option_map, option_and_then, Option, Some, None, slice_get, unwrap_or, String}
+use Rattle.std.proofs.Common.{◌≡◌, refl, ap, ◌∙◌, ℕ, List, [], map, option_map, Option, Some, None, unwrap_or, String}
 use Rattle.std.specs.declared.alloc.Global.{Global}
 use Rattle.wit_model.specs.declared.model.TypeId.{TypeId}
 use Rattle.std.specs.Option.{option_map_or}
@@ -15,19 +15,19 @@ use Rattle.wit_model.specs.declared.model.TypeDef.{TypeDef}
 use Rattle.wit_model.specs.declared.model.Param.{Param}
 use Rattle.wit_model.specs.declared.model.«Type».{«Type» as ValueType}
 use Rattle.wit_model.specs.declared.model.Function.{Function}
-use Rattle.wit_model.specs.Text.{Text, TextMap, text_of, optional_text}
+use Rattle.wit_model.specs.Text.{Text, text_of, optional_text}
 use Rattle.wit_model.specs.Tree.{Tree}
-use Rattle.wit_model.specs.Types.{trees_of, type_tree, tree_of}
+use Rattle.wit_model.specs.Types.{trees_of, type_tree}
 use Rattle.wit_model.specs.Lookup.{interface_at, world_at, type_at, is_async}
 use Rattle.wit_model.specs.Lookup as lookup
-use Rattle.wit_model.specs.Meaning.{Signature, FunctionMeaning, TypeMeaning, InterfaceMeaning, Item, Entry, WorldMeaning}
+use Rattle.wit_model.specs.Meaning.{FunctionMeaning, TypeMeaning, InterfaceMeaning, Item, Entry}
 use Rattle.wit_model.specs.Meant as meant
 use Rattle.wit_model.specs.Meant.{no_type, no_interface, no_world}
 use Rattle.read_plan.specs.Shapes.{part_tree}
-use Rattle.read_plan.specs.Plan.{PlannedFunction, PlannedType, PlannedInterface, PlannedWorld, PlannedKey, PlannedItem, trees_in, declared_as, path_at}
+use Rattle.read_plan.specs.Plan.{PlannedFunction, PlannedKey, PlannedItem, trees_in, declared_as}
 use Rattle.read_plan.specs.PlanMeaning as planned
 use Rattle.read_plan.specs.Built.{part_of, planned_kind, planned_type, planned_function, planned_interface, planned_world, planned_key, planned_item, planned_entries}
-use Rattle.read_plan.proofs.Lists.{map_of_map, same_map, get_of_map, option_of_map, or_of_map, same_or}
+use Rattle.read_plan.proofs.Lists.{map_of_map, same_map, get_of_map, or_of_map, same_or}
 use Rattle.read_plan.proofs.Words.{plan_of, part_tree_is, trees_are, declared_is, path_is}
 
 module _ (r : Resolve) (m : ℕ) where

@@ -2,20 +2,19 @@
 use Rattle.std.proofs.Common.{◌≡◌, refl, sym, ap, ◌∙◌, ℕ, Bool, true, false, ◌&&◌, ◌||◌, ◌==◌, List, [], ◌∷◌, map, filter_map, option_map, option_and_then, Option, Some, None, slice_get, unwrap_or, zero, suc, is_some, subst, String}
 use Rattle.std.specs.Prelude.{sum_by}
 use Rattle.std.specs.declared.alloc.Global.{Global}
-use Rattle.std.specs.List.{Contains, list_all, list_any}
+use Rattle.std.specs.List.{list_all, list_any}
 use Rattle.std.specs.Option.{option_map_or, option_eq}
 use Rattle.wit_model.specs.declared.model.Resolve.{Resolve}
 use Rattle.wit_model.specs.declared.model.Package.{Package}
 use Rattle.wit_model.specs.declared.model.Interface.{Interface}
 use Rattle.wit_model.specs.declared.model.World.{World}
-use Rattle.wit_model.specs.declared.model.TypeDef.{TypeDef}
 use Rattle.wit_model.specs.declared.model.Function.{Function}
 use Rattle.wit_model.specs.Text.{Text, text_of, optional_text}
-use Rattle.wit_model.specs.Lookup.{package_at, interface_at, world_at, type_at}
+use Rattle.wit_model.specs.Lookup.{package_at, interface_at, world_at}
 use Rattle.wit_model.specs.Parts as parts
 use Rattle.wit_model.specs.Uses as uses
 use Rattle.wit_model.specs.Uses.{has, items_of}
-use Rattle.wit_model.specs.Rules.{each_from, is_id, in_list, has_items}
+use Rattle.wit_model.specs.Rules.{is_id, in_list, has_items}
 use Rattle.wit_model.specs.Valid.{IsValid, functions_of_interface, functions_of_world}
 use Rattle.wit_model.proofs.Lists.{first_true, second_true}
 use Rattle.read_plan.specs.Plan as plan
@@ -24,7 +23,7 @@ use Rattle.read_plan.specs.PlanRules as planned
 use Rattle.read_plan.specs.PlanRules.{IsPlan, HoldsNoMore, IsPackagePlan, IsWorldPlan}
 use Rattle.read_plan.specs.Built.{IsBuilt, planned_kind, planned_type, planned_function, planned_interface, planned_world, planned_package}
 use Rattle.read_plan.specs.NothingElse.{is_part_of, TypesAreUsed, PackagesAreUsed, HoldsPackageAlone, HoldsWorldAlone}
-use Rattle.read_plan.proofs.Lists.{any_of_map, get_of_map, get_back, any_get, each_of_map, each_at, both, no_true}
+use Rattle.read_plan.proofs.Lists.{any_of_map, get_of_map, get_back, any_get, each_of_map, each_at}
 use Rattle.read_plan.proofs.Words.{plan_of, kind_numbers_are, function_numbers_are}
 use Rattle.read_plan.proofs.KindRules.{has_text}
 use Rattle.read_plan.proofs.FunctionRules.{functions_are, world_functions_are}

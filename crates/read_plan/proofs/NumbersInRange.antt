@@ -1,19 +1,17 @@
 -- Every number is in range of its list, and no list is too long.
-use Rattle.std.proofs.Common.{◌≡◌, refl, sym, ap, subst, ◌∙◌, ℕ, ◌+◌, ◌<◌, ◌≤◌, Bool, true, false, ◌&&◌, ◌==◌, not, nat_lt, nat_le, List, [], ◌∷◌, ◌++◌, length, map, option_map, option_and_then, Option, Some, None, slice_get, is_some, String, arith}
+use Rattle.std.proofs.Common.{◌≡◌, refl, sym, ap, subst, ◌∙◌, ℕ, ◌+◌, ◌<◌, Bool, true, false, ◌&&◌, ◌==◌, nat_lt, nat_le, List, length, map, option_map, option_and_then, Option, Some, None, slice_get, is_some, String, arith}
 use Rattle.std.specs.declared.alloc.Global.{Global}
 use Rattle.std.specs.List.{list_all}
 use Rattle.std.specs.Option.{option_map_or}
 use Rattle.std.specs.Map.{lookup}
 use Rattle.std.proofs.lemmas.Bool.{eqb-true}
 use Rattle.std.proofs.lemmas.Bool.Decides.{nat_tests}
-use Rattle.std.proofs.lemmas.List.Folds.{list_all-append, list_all-map}
+use Rattle.std.proofs.lemmas.List.Folds.{list_all-map}
 use Rattle.std.proofs.lemmas.Option.{slice_get_within}
 use Rattle.indexmap.specs.IndexMap.{values}
 use Rattle.wit_model.specs.declared.model.Resolve.{Resolve}
-use Rattle.wit_model.specs.declared.model.Package.{Package}
 use Rattle.wit_model.specs.declared.model.PackageId.{PackageId}
 use Rattle.wit_model.specs.declared.model.Interface.{Interface}
-use Rattle.wit_model.specs.declared.model.World.{World}
 use Rattle.wit_model.specs.declared.model.WorldKey.{WorldKey}
 use Rattle.wit_model.specs.declared.model.WorldKey.TheVariants as key
 use Rattle.wit_model.specs.declared.model.WorldItem.{WorldItem}
@@ -22,7 +20,7 @@ use Rattle.wit_model.specs.declared.model.TypeDef.{TypeDef}
 use Rattle.wit_model.specs.declared.model.TypeOwner.{TypeOwner}
 use Rattle.wit_model.specs.declared.model.TypeOwner.TheVariants as owner
 use Rattle.wit_model.specs.declared.model.Function.{Function}
-use Rattle.wit_model.specs.Text.{Text, text_of, text_eq, optional_text}
+use Rattle.wit_model.specs.Text.{Text, text_of, optional_text}
 use Rattle.wit_model.specs.Parts as parts
 use Rattle.wit_model.specs.Parts.{same_owner}
 use Rattle.wit_model.specs.Rules as rules
@@ -36,7 +34,7 @@ use Rattle.read_plan.specs.Plan.{PlannedPackage, PlannedInterface, PlannedWorld,
 use Rattle.read_plan.specs.PlanRules as planned
 use Rattle.read_plan.specs.PlanRules.{IsPlan, fits, bears}
 use Rattle.read_plan.specs.Built.{planned_kind, planned_type, planned_function, planned_interface, planned_world, planned_package, planned_key, planned_item}
-use Rattle.read_plan.proofs.Lists.{get_of_map, length_of_map, same_all, all_weaker, all_built, each_of_map, each_weaker, each_built, each_from_built, all_two, each_two, both, no_true}
+use Rattle.read_plan.proofs.Lists.{length_of_map, all_weaker, all_built, each_of_map, each_built, each_from_built, all_two, each_two, both, no_true}
 use Rattle.read_plan.proofs.Words.{plan_of, kind_numbers_are, function_numbers_are}
 use Rattle.read_plan.proofs.FunctionRules.{interfaces_pass, worlds_pass, entries_pass}
 use Rattle.read_plan.proofs.Listed.{in_range, interface_listed, world_listed, members_pass}

@@ -1,12 +1,12 @@
 -- A worked example: the plan of a package of one world with functions means what its bytes mean, as a package and as a world.
-use Rattle.std.proofs.Common.{◌≡◌, refl, ℕ, true, false, List, [], ◌∷◌, Option, Some, None}
+use Rattle.std.proofs.Common.{◌≡◌, refl, ℕ, [], ◌∷◌, Some, None}
 use Rattle.std.specs.Prelude.{codes}
 use Rattle.wit_model.specs.declared.model.FunctionKind.TheVariants as call
 use Rattle.wit_model.specs.Names.{cut as cut_at}
 use Rattle.wit_model.specs.Text.{Text}
 use Rattle.comp_meaning.proofs.Computing.{computes, one_world, meaning, world_meaning_of}
 use Rattle.read_plan.specs.Shapes.{part_tree}
-use Rattle.read_plan.specs.Plan.{Plan, PlannedFunction, PlannedInterface, PlannedItem, function, PlannedKey, label, PlannedWorld, met_in, resource_marks, trees_in, interface_in}
+use Rattle.read_plan.specs.Plan.{Plan, PlannedFunction, PlannedInterface, function, label, PlannedWorld, met_in, resource_marks, trees_in, interface_in}
 use Rattle.read_plan.specs.PlanMeaning.{plan_meaning, plan_world_meaning}
 use Rattle.read_plan.specs.PlanRules.{IsPlan, HoldsNoMore, IsPackagePlan, IsWorldPlan}
 

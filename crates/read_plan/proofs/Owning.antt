@@ -1,5 +1,5 @@
 -- What is met from types and functions of an owner belongs to it.
-use Rattle.std.proofs.Common.{◌≡◌, refl, sym, ap, ◌∙◌, ℕ, Bool, true, false, ◌&&◌, ◌||◌, not, nat_lt, nat_le, List, map, filter_map, flat_map, option_map, option_to_list, Option, Some, None, slice_get, is_some}
+use Rattle.std.proofs.Common.{◌≡◌, refl, sym, ap, ◌∙◌, ℕ, true, false, ◌&&◌, ◌||◌, not, nat_lt, nat_le, filter_map, Some, is_some}
 use Rattle.std.specs.List.{list_all}
 use Rattle.std.specs.Option.{option_map_or}
 use Rattle.indexmap.specs.IndexMap.{values}
@@ -18,7 +18,7 @@ use Rattle.wit_model.specs.Uses as uses
 use Rattle.wit_model.specs.Uses.{owner_interface, alias_target, direct_deps}
 use Rattle.wit_model.specs.Rules as rules
 use Rattle.wit_model.specs.Rules.{each_from}
-use Rattle.wit_model.specs.Valid.{Keeps, owners, as_interface, as_world, functions_of_interface}
+use Rattle.wit_model.specs.Valid.{Keeps, owners, as_interface, functions_of_interface}
 use Rattle.wit_model.proofs.Lists.{list_all_filter_map}
 use Rattle.wit_model.proofs.Owners.{used_within}
 use Rattle.wit_model.proofs.Checks.{keeps_three}
@@ -26,7 +26,7 @@ use Rattle.read_plan.specs.Plan as plan
 use Rattle.read_plan.specs.Plan.{part_number, function_parts, type_in, interface_in}
 use Rattle.read_plan.specs.PlanRules as planned
 use Rattle.read_plan.specs.PlanRules.{IsPlan}
-use Rattle.read_plan.specs.Built.{planned_kind, planned_type, planned_function, planned_interface}
+use Rattle.read_plan.specs.Built.{planned_type, planned_function, planned_interface}
 use Rattle.read_plan.proofs.Lists.{get_of_map, or_of_map, same_or, each_two, each_from_built, each_of_map, each_at, each_by_number, both}
 use Rattle.read_plan.proofs.Words.{plan_of, alias_is, value_numbers_are, has_owner_is, used_are, used_by_kind_is, interfaces_used_are}
 use Rattle.read_plan.proofs.KindRules.{has_text}

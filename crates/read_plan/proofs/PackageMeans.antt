@@ -1,10 +1,10 @@
 -- A package that is built from a plan of it means what the plan means.
-use Rattle.std.proofs.Common.{◌≡◌, refl, sym, ap, ◌∙◌, ℕ, Bool, true, false, ◌&&◌, not, cond, ◌==◌, List, [], ◌∷◌, map, filter, filter_map, option_map, option_and_then, option_to_list, Option, Some, None, slice_get, unwrap_or, is_some, subst, String}
+use Rattle.std.proofs.Common.{◌≡◌, refl, sym, ap, ◌∙◌, ℕ, Bool, true, false, ◌&&◌, not, ◌==◌, List, [], map, filter_map, option_map, option_and_then, option_to_list, Option, Some, None, unwrap_or, is_some, subst, String}
 use Rattle.std.specs.Prelude.{if◌then◌else◌, ◌↔◌}
-use Rattle.std.specs.List.{Contains, list_all, list_any}
+use Rattle.std.specs.List.{Contains, list_any}
 use Rattle.std.specs.Option.{option_map_or}
 use Rattle.std.specs.declared.alloc.Global.{Global}
-use Rattle.std.specs.FinMap.{from_entries, empty}
+use Rattle.std.specs.FinMap.{from_entries}
 use Rattle.wit_model.specs.declared.model.Resolve.{Resolve}
 use Rattle.wit_model.specs.declared.model.Package.{Package}
 use Rattle.wit_model.specs.declared.model.PackageId.{PackageId}
@@ -14,8 +14,7 @@ use Rattle.wit_model.specs.declared.model.WorldId.{WorldId}
 use Rattle.wit_model.specs.Text.{Text, TextMap, text_of, optional_text}
 use Rattle.wit_model.specs.Lookup.{package_at, interface_at, interface_path, path_of_interface, path_in_package, identity_of}
 use Rattle.wit_model.specs.Uses.{has, reached_by_package, is_shown_in}
-use Rattle.wit_model.specs.Maps.{HaveSameEntries}
-use Rattle.wit_model.specs.Meaning.{FunctionMeaning, InterfaceMeaning, WorldMeaning, PackageMeaning}
+use Rattle.wit_model.specs.Meaning.{InterfaceMeaning, WorldMeaning, PackageMeaning}
 use Rattle.wit_model.specs.Meant as meant
 use Rattle.wit_model.specs.Meant.{Meant, interface_meaning_at, types_alone, is_foreign, foreign_of, foreign_meaning, no_interface}
 use Rattle.wit_model.specs.Rules.{is_id, package_number}
@@ -24,12 +23,12 @@ use Rattle.wit_model.proofs.Lists.{first_true, second_true}
 use Rattle.wit_model.proofs.Elements.{contains-map, contains-filter_map, contains-one, has-contains, contains-has, get-contains, same-some}
 use Rattle.wit_model.proofs.Maps.{one_map}
 use Rattle.wit_model.proofs.OnePath.{has-path, path-once, some-of}
-use Rattle.read_plan.specs.Plan.{Plan, PlannedFunction, PlannedInterface, path_of_planned, package_in}
+use Rattle.read_plan.specs.Plan.{Plan, path_of_planned}
 use Rattle.read_plan.specs.PlanRules as rules
 use Rattle.read_plan.specs.PlanRules.{IsPlan, IsPackagePlan}
 use Rattle.read_plan.specs.PlanMeaning as planned
 use Rattle.read_plan.specs.PlanMeaning.{plan_meaning, foreign_entry}
-use Rattle.read_plan.specs.Built.{IsBuilt, planned_function, planned_interface, planned_world, planned_package}
+use Rattle.read_plan.specs.Built.{IsBuilt, planned_interface, planned_world, planned_package}
 use Rattle.read_plan.proofs.Lists.{map_of_map, same_map, get_of_map, any_get, has_filter, filter_has, filter_map_from, map_from, get_back, both, no_true}
 use Rattle.read_plan.proofs.Words.{plan_of, path_of_planned_is}
 use Rattle.read_plan.proofs.Meanings.{planned_function_entry, meant_function_entry, interface_is, interface_at_is, world_at_is, functions_are}

@@ -1,5 +1,5 @@
 -- Interfaces and worlds stand in the places that they say.
-use Rattle.std.proofs.Common.{◌≡◌, refl, sym, ap, ◌∙◌, ℕ, ◌+◌, Bool, true, false, ◌&&◌, ◌||◌, ◌==◌, not, cond, List, [], ◌∷◌, ◌++◌, map, option_map, option_and_then, Option, Some, None, slice_get, is_some, String}
+use Rattle.std.proofs.Common.{◌≡◌, refl, sym, ap, ◌∙◌, ℕ, ◌+◌, Bool, true, false, ◌&&◌, ◌||◌, ◌==◌, not, cond, List, [], ◌∷◌, ◌++◌, map, option_map, option_and_then, Option, Some, None, is_some, String}
 use Rattle.std.specs.Prelude.{fold, sum_by}
 use Rattle.std.specs.declared.alloc.Global.{Global}
 use Rattle.std.specs.List.{list_all, list_any}
@@ -11,14 +11,12 @@ use Rattle.indexmap.specs.IndexMap.{keys}
 use Rattle.wit_model.specs.declared.model.Resolve.{Resolve}
 use Rattle.wit_model.specs.declared.model.Package.{Package}
 use Rattle.wit_model.specs.declared.model.PackageId.{PackageId}
-use Rattle.wit_model.specs.declared.model.Interface.{Interface}
 use Rattle.wit_model.specs.declared.model.InterfaceId.{InterfaceId}
 use Rattle.wit_model.specs.declared.model.World.{World}
 use Rattle.wit_model.specs.declared.model.WorldId.{WorldId}
 use Rattle.wit_model.specs.declared.model.WorldItem.{WorldItem}
 use Rattle.wit_model.specs.Text.{Text, text_of, text_eq, optional_text}
 use Rattle.wit_model.specs.Lookup.{package_at, interface_at, world_at}
-use Rattle.wit_model.specs.Uses as uses
 use Rattle.wit_model.specs.Uses.{items_of}
 use Rattle.wit_model.specs.Rules as rules
 use Rattle.wit_model.specs.Rules.{each_from, passes, is_id, package_number, text_is, are_distinct, interface_belongs, world_belongs, interface_is_listed, world_is_listed, names_itself, is_world_name}
@@ -31,7 +29,7 @@ use Rattle.read_plan.specs.Plan.{PlannedPackage, PlannedWorld, number_under, pac
 use Rattle.read_plan.specs.PlanRules as planned
 use Rattle.read_plan.specs.PlanRules.{IsPlan, names_of, members_differ}
 use Rattle.read_plan.specs.Built.{planned_interface, planned_world, planned_package, planned_item}
-use Rattle.read_plan.proofs.Lists.{get_of_map, any_of_map, fold_of_map, lookup_of_map, same_all, all_of_map, all_get, all_two, each_two, each_built, each_from_built, each_all, both, no_true}
+use Rattle.read_plan.proofs.Lists.{get_of_map, any_of_map, fold_of_map, lookup_of_map, all_of_map, all_get, all_two, each_two, each_built, each_from_built, both, no_true}
 use Rattle.read_plan.proofs.Words.{plan_of}
 use Rattle.read_plan.proofs.FunctionRules.{items_are}
 use Rattle.read_plan.proofs.Listed.{interface_listed, world_listed, members_pass}

@@ -1,5 +1,5 @@
 -- Each interface of a plan of a package is reached from the package.
-use Rattle.std.proofs.Common.{◌≡◌, ◌⊎◌, inl, inr, refl, sym, ap, ◌∙◌, ℕ, zero, suc, ◌+◌, ◌<◌, ◌≤◌, Bool, true, false, ◌&&◌, ◌||◌, ◌==◌, not, cond, List, [], ◌∷◌, ◌++◌, length, map, filter, filter_map, flat_map, count_by, option_map, option_and_then, option_to_list, Option, Some, None, slice_get, is_some, String, subst, arith}
+use Rattle.std.proofs.Common.{◌≡◌, ◌⊎◌, inl, inr, refl, sym, ap, ◌∙◌, ℕ, zero, suc, ◌+◌, ◌≤◌, Bool, true, false, ◌&&◌, ◌||◌, ◌==◌, not, cond, List, [], ◌∷◌, ◌++◌, length, map, filter, filter_map, flat_map, count_by, option_map, option_and_then, option_to_list, Option, Some, None, slice_get, is_some, String, subst, arith}
 use Rattle.std.specs.Prelude.{sum_by}
 use Rattle.std.specs.declared.alloc.Global.{Global}
 use Rattle.std.specs.List.{Contains, list_all, list_any, cons_option}
@@ -32,8 +32,8 @@ use Rattle.read_plan.specs.Plan as plan
 use Rattle.read_plan.specs.Plan.{PlannedInterface, PlannedWorld, PlannedItem, PlannedPackage, number_under, numbers_of, package_in}
 use Rattle.read_plan.specs.PlanRules as planned
 use Rattle.read_plan.specs.PlanRules.{IsPlan, IsWanted, shown, used}
-use Rattle.read_plan.specs.Built.{planned_interface, planned_world, planned_package, planned_item}
-use Rattle.read_plan.proofs.Lists.{map_of_map, get_of_map, each_of_map, each_at, all_get, any_get, get_any, get_back, map_from, has_filter, both, no_true}
+use Rattle.read_plan.specs.Built.{planned_interface, planned_world, planned_package}
+use Rattle.read_plan.proofs.Lists.{map_of_map, get_of_map, each_of_map, each_at, all_get, any_get, get_any, get_back, map_from, has_filter, no_true}
 use Rattle.read_plan.proofs.Words.{plan_of, direct_uses_are}
 use Rattle.read_plan.proofs.FunctionRules.{items_are}
 use Rattle.read_plan.proofs.TypeOrder.{under_has}

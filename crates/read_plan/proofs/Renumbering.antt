@@ -1,10 +1,8 @@
 -- The types of a plan stand for the trees of the shapes that they are made of.
-use Rattle.std.proofs.Common.{◌≡◌, refl, sym, ap, subst, ◌∙◌, ℕ, zero, suc, ◌+◌, ◌<◌, Bool, true, false, ◌&&◌, nat_lt, T, ltb→lt, List, [], ◌∷◌, length, map, take, filter_map, Option, Some, None, slice_get, unwrap_or, arith}
+use Rattle.std.proofs.Common.{◌≡◌, refl, sym, ap, subst, ◌∙◌, ℕ, zero, suc, ◌+◌, ◌<◌, Bool, true, nat_lt, T, ltb→lt, List, [], ◌∷◌, length, map, take, filter_map, Option, Some, None, slice_get, unwrap_or, arith}
 use Rattle.std.specs.List.{AllZip, list_all, cons_option}
 use Rattle.std.specs.Option.{option_map_or}
-use Rattle.std.proofs.lemmas.Option.{slice_get_within}
-use Rattle.wit_model.specs.Text.{Text}
-use Rattle.wit_model.specs.Tree.{Place, Form, Tree, node, children, named}
+use Rattle.wit_model.specs.Tree.{Place, Tree, node, children, named}
 use Rattle.wit_model.specs.Types.{no_tree, tree_of_declaration}
 use Rattle.wit_model.specs.Rules.{each_from}
 use Rattle.wit_model.proofs.Elements.{same-some}

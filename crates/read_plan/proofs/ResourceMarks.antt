@@ -1,23 +1,21 @@
 -- Which numbers are resources: the marks along a plan's types say what following aliases finds.
-use Rattle.std.proofs.Common.{◌≡◌, refl, sym, ap, subst, ◌∙◌, ℕ, zero, suc, ◌+◌, ◌<◌, ◌≤◌, Bool, true, false, ◌&&◌, not, nat_lt, T, ltb→lt, List, [], ◌∷◌, ◌++◌, length, map, take, filter_map, option_map, option_to_list, Option, Some, None, slice_get, unwrap_or, ◌⊎◌, inl, inr, arith}
+use Rattle.std.proofs.Common.{◌≡◌, refl, sym, ap, subst, ◌∙◌, ℕ, zero, suc, ◌+◌, ◌<◌, ◌≤◌, Bool, true, false, ◌&&◌, not, nat_lt, T, ltb→lt, List, [], ◌∷◌, length, map, take, filter_map, option_map, option_to_list, Option, Some, None, slice_get, unwrap_or, arith}
 use Rattle.std.specs.List.{list_all, cons_option}
 use Rattle.std.specs.Option.{option_map_or}
-use Rattle.std.proofs.lemmas.Option.{slice_get_within, slice_get_past}
+use Rattle.std.proofs.lemmas.Option.{slice_get_past}
 use Rattle.wit_model.specs.declared.model.Resolve.{Resolve}
 use Rattle.wit_model.specs.declared.model.TypeDef.{TypeDef}
 use Rattle.wit_model.specs.declared.model.TypeDefKind.{TypeDefKind}
 use Rattle.wit_model.specs.declared.model.TypeDefKind.TheVariants as kind
 use Rattle.wit_model.specs.declared.model.Handle.TheVariants as handle
 use Rattle.wit_model.specs.declared.model.«Type».{«Type» as ValueType}
-use Rattle.wit_model.specs.declared.model.«Type».TheVariants as ty
 use Rattle.wit_model.specs.declared.model.TypeOwner.{TypeOwner}
 use Rattle.wit_model.specs.declared.model.Function.{Function}
-use Rattle.wit_model.specs.declared.error.EntryList.TheVariants as lists
 use Rattle.wit_model.specs.Lookup.{type_at}
 use Rattle.wit_model.specs.Types.{number_of}
 use Rattle.wit_model.specs.Parts as parts
 use Rattle.wit_model.specs.Parts.{member_types, handled, function_types, is_resource_type, is_resource_kind}
-use Rattle.wit_model.specs.Rules.{each_from, passes}
+use Rattle.wit_model.specs.Rules.{passes}
 use Rattle.wit_model.specs.Valid.{Keeps, handles}
 use Rattle.wit_model.specs.Checks.{references}
 use Rattle.wit_model.proofs.Lists.{first_true, second_true, list_all_filter_map}

@@ -1,10 +1,10 @@
 -- Types refer to smaller ones, and stand with their owners in order.
-use Rattle.std.proofs.Common.{◌≡◌, refl, sym, ap, ◌∙◌, ℕ, Bool, true, false, ◌&&◌, ◌||◌, ◌==◌, not, cond, nat_lt, List, [], ◌∷◌, ◌++◌, map, filter_map, option_map, option_and_then, option_to_list, count_by, Option, Some, None, slice_get, is_some, String}
+use Rattle.std.proofs.Common.{◌≡◌, refl, sym, ap, ◌∙◌, ℕ, Bool, true, false, ◌&&◌, ◌||◌, ◌==◌, cond, nat_lt, List, [], ◌∷◌, map, filter_map, option_map, option_and_then, option_to_list, Option, Some, None, is_some, String}
 use Rattle.std.specs.declared.alloc.Global.{Global}
-use Rattle.std.specs.List.{list_all, cons_option}
+use Rattle.std.specs.List.{list_all}
 use Rattle.std.specs.Option.{option_map_or}
 use Rattle.std.specs.Map.{lookup}
-use Rattle.std.specs.HashMap.{get_by, get_by_text}
+use Rattle.std.specs.HashMap.{get_by}
 use Rattle.std.proofs.lemmas.Bool.{or_left, or_right}
 use Rattle.std.proofs.lemmas.List.Folds.{list_all-map}
 use Rattle.indexmap.specs.IndexMap.{values}
@@ -15,7 +15,6 @@ use Rattle.wit_model.specs.declared.model.WorldKey.{WorldKey}
 use Rattle.wit_model.specs.declared.model.WorldKey.TheVariants as key
 use Rattle.wit_model.specs.declared.model.WorldItem.{WorldItem}
 use Rattle.wit_model.specs.declared.model.WorldItem.TheVariants as item
-use Rattle.wit_model.specs.declared.model.TypeDef.{TypeDef}
 use Rattle.wit_model.specs.declared.model.TypeId.{TypeId}
 use Rattle.wit_model.specs.declared.model.TypeOwner.{TypeOwner}
 use Rattle.wit_model.specs.declared.model.TypeOwner.TheVariants as owner
@@ -34,8 +33,8 @@ use Rattle.read_plan.specs.Plan as plan
 use Rattle.read_plan.specs.Plan.{PlannedInterface, PlannedWorld, number_under, numbers_of}
 use Rattle.read_plan.specs.PlanRules as planned
 use Rattle.read_plan.specs.PlanRules.{IsPlan, are_rising, is_under_label}
-use Rattle.read_plan.specs.Built.{planned_kind, planned_type, planned_interface, planned_world, planned_key, planned_item}
-use Rattle.read_plan.proofs.Lists.{map_of_map, filter_of_map, get_of_map, then_of_map, same_then, lookup_of_map, all_get, all_built, all_two, each_two, each_built, each_from_built, both, no_true}
+use Rattle.read_plan.specs.Built.{planned_type, planned_interface, planned_world, planned_key, planned_item}
+use Rattle.read_plan.proofs.Lists.{map_of_map, filter_of_map, get_of_map, then_of_map, same_then, lookup_of_map, all_get, all_built, each_two, each_built, each_from_built, both, no_true}
 use Rattle.read_plan.proofs.Words.{plan_of, kind_numbers_are}
 use Rattle.read_plan.proofs.FunctionRules.{values_are}
 use Rattle.read_plan.proofs.Listed.{passes_weaker}

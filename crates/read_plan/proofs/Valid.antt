@@ -1,11 +1,11 @@
 -- What is built from a plan that was read is valid.
-use Rattle.std.proofs.Common.{◌≡◌, sym, ap, subst, ℕ, true, map}
+use Rattle.std.proofs.Common.{◌≡◌, sym, subst, ℕ, true}
 use Rattle.std.specs.List.{list_all}
 use Rattle.wit_model.specs.declared.model.Resolve.{Resolve}
 use Rattle.wit_model.specs.Names.{is_version}
 use Rattle.wit_model.specs.Rules.{passes}
-use Rattle.wit_model.specs.Valid.{IsValid, KeepsRules}
-use Rattle.read_plan.specs.Plan.{Plan, PlannedPackage, PlannedInterface, PlannedWorld, PlannedType}
+use Rattle.wit_model.specs.Valid.{IsValid}
+use Rattle.read_plan.specs.Plan.{Plan}
 use Rattle.read_plan.specs.PlanRules.{IsPlan}
 use Rattle.read_plan.specs.Built.{IsBuilt, IsBare}
 use Rattle.read_plan.proofs.Words.{plan_of}

@@ -1,6 +1,6 @@
 -- A worked example: the plan of two packages, with uses across them, a resource, an inline interface, a type of a world, an interface under
 -- a label, an external id, and an interface of the other package that no world shows.
-use Rattle.std.proofs.Common.{◌≡◌, refl, sym, ap, ℕ, zero, suc, Bool, true, false, List, [], ◌∷◌, ◌+◌, Option, Some, None, subst}
+use Rattle.std.proofs.Common.{◌≡◌, refl, sym, ap, ℕ, zero, suc, Bool, true, false, List, [], ◌∷◌, Option, Some, None, subst}
 use Rattle.std.specs.Prelude.{codes}
 use Rattle.std.specs.List.{list_any}
 use Rattle.std.specs.FinMap.{from_entries}
@@ -11,10 +11,10 @@ use Rattle.wit_model.specs.declared.model.FunctionKind.TheVariants as call
 use Rattle.wit_model.specs.Text.{Text}
 use Rattle.wit_model.specs.Tree as tree
 use Rattle.wit_model.specs.Tree.{Tree, Primitive, Place, Form, list_tree, own_tree, borrow_tree, result_tree}
-use Rattle.wit_model.specs.Meaning.{FunctionMeaning, TypeMeaning, InterfaceMeaning, Item, PackageMeaning}
+use Rattle.wit_model.specs.Meaning.{FunctionMeaning, TypeMeaning, Item}
 use Rattle.wit_model.proofs.Elements.{same-some}
 use Rattle.read_plan.specs.Shapes.{part_tree}
-use Rattle.read_plan.specs.Plan.{Plan, PlannedKind, resource, alias, formed, PlannedType, PlannedFunction, PlannedInterface, PlannedItem, interface, function, declares, PlannedKey, label, path_of, PlannedWorld, PlannedPackage, met_in, resource_marks, trees_in, interface_in}
+use Rattle.read_plan.specs.Plan.{Plan, PlannedKind, resource, alias, formed, PlannedType, PlannedFunction, PlannedInterface, interface, function, declares, label, path_of, PlannedWorld, met_in, resource_marks, trees_in, interface_in}
 use Rattle.read_plan.specs.PlanMeaning.{plan_meaning}
 use Rattle.read_plan.specs.PlanRules as rules
 use Rattle.read_plan.specs.PlanRules.{IsPlan, HoldsNoMore, IsPackagePlan, IsWanted, shown, used}
@@ -184,14 +184,14 @@ whole_means : plan_meaning whole_plan ≡ Some (record {
     },
   )
       ∷ (
-    codes "s",
-    record {
-      types = (codes "r", record { declaration = tree.resource; external_id = None }) ∷ (codes "h", record { declaration = tree.type_ (own_tree tree-r); external_id = None }) ∷ [];
-      functions = from_entries (
-          (codes "[constructor]r", meant_plain false (codes "x", Tree.primitive Primitive.u8) (Some (result_tree (Some (own_tree tree-r)) None)))
-          ∷ (codes "[method]r.m", meant_plain true (codes "self", borrow_tree tree-r) None) ∷ []);
-    },
-  ) ∷ [];
+        codes "s",
+        record {
+          types = (codes "r", record { declaration = tree.resource; external_id = None }) ∷ (codes "h", record { declaration = tree.type_ (own_tree tree-r); external_id = None }) ∷ [];
+          functions = from_entries (
+              (codes "[constructor]r", meant_plain false (codes "x", Tree.primitive Primitive.u8) (Some (result_tree (Some (own_tree tree-r)) None)))
+              ∷ (codes "[method]r.m", meant_plain true (codes "self", borrow_tree tree-r) None) ∷ []);
+        },
+      ) ∷ [];
   worlds = (
     codes "w",
     record {

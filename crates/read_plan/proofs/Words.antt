@@ -1,11 +1,10 @@
 -- The words of a plan, on the plan that a `Resolve` is built from, are those of the `Resolve`.
-use Rattle.std.proofs.Common.{◌≡◌, refl, sym, ap, ◌∙◌, ℕ, zero, suc, ◌+◌, ◌-◌, Bool, true, false, not, ◌==◌, cond, nat_lt, filter, List, [], ◌∷◌, ◌++◌, length, map, filter_map, flat_map, option_map, option_and_then, option_to_list, Option, Some, None, slice_get, unwrap_or, is_some, append-nil, String, arith}
+use Rattle.std.proofs.Common.{◌≡◌, refl, sym, ap, ◌∙◌, ℕ, ◌+◌, ◌-◌, false, not, ◌==◌, nat_lt, filter, List, [], ◌∷◌, ◌++◌, map, filter_map, flat_map, option_map, option_and_then, option_to_list, Option, Some, None, is_some, append-nil, String, arith}
 use Rattle.std.specs.Prelude.{if◌then◌else◌}
 use Rattle.std.specs.declared.alloc.Global.{Global}
-use Rattle.std.specs.List.{list_all, cons_option}
+use Rattle.std.specs.List.{cons_option}
 use Rattle.std.specs.Option.{option_map_or}
 use Rattle.std.proofs.lemmas.Bool.Decides.{nat_tests}
-use Rattle.std.proofs.lemmas.Option.{slice_get_past}
 use Rattle.wit_model.specs.declared.model.Resolve.{Resolve}
 use Rattle.wit_model.specs.declared.model.Interface.{Interface}
 use Rattle.wit_model.specs.declared.model.PackageId.{PackageId}
@@ -14,7 +13,6 @@ use Rattle.wit_model.specs.declared.model.TypeDefKind.{TypeDefKind}
 use Rattle.wit_model.specs.declared.model.TypeDefKind.TheVariants as kind
 use Rattle.wit_model.specs.declared.model.TypeOwner.{TypeOwner}
 use Rattle.wit_model.specs.declared.model.TypeOwner.TheVariants as owner
-use Rattle.wit_model.specs.declared.model.Handle.{Handle}
 use Rattle.wit_model.specs.declared.model.Handle.TheVariants as handle
 use Rattle.wit_model.specs.declared.model.«Type».{«Type» as ValueType}
 use Rattle.wit_model.specs.declared.model.«Type».TheVariants as ty
@@ -24,15 +22,15 @@ use Rattle.wit_model.specs.Names.{path_in}
 use Rattle.wit_model.specs.Tree.{Form, Tree, Place, Declaration, type_, node, children, child, given, named, is_given}
 use Rattle.wit_model.specs.Types as types
 use Rattle.wit_model.specs.Types.{number_of, no_tree, tree_of, declared_by, tree_of_declaration, tree_of_definition, trees_of}
-use Rattle.wit_model.specs.Lookup.{package_at, interface_at, type_at, identity_of, path_in_package, path_of_interface, interface_path, place_of_path, place_of, resource_of}
+use Rattle.wit_model.specs.Lookup.{package_at, interface_at, type_at, path_in_package, path_of_interface, interface_path, place_of_path, place_of, resource_of}
 use Rattle.wit_model.specs.Parts as parts
 use Rattle.wit_model.specs.Parts.{member_types, handled, met_by, met_of, met_inside, numbered_from, same_owner, function_types}
 use Rattle.wit_model.specs.Uses as uses
 use Rattle.wit_model.specs.Uses.{alias_target, owner_interface, used_interface, direct_deps, once}
-use Rattle.read_plan.specs.Shapes.{primitives, part_tree}
-use Rattle.read_plan.specs.Plan.{Plan, PlannedKind, PlannedFunction, path_of_planned, path_at, place_in, part_number, kind_parts, kind_numbers, function_parts, function_numbers, met_at, met_in, used_by_numbers, has_owner, declared_as, tree_of_planned, trees_in, alias_number, interface_used_by, interfaces_used_by, type_in, interface_in, package_in}
+use Rattle.read_plan.specs.Shapes.{part_tree}
+use Rattle.read_plan.specs.Plan.{Plan, path_of_planned, path_at, place_in, part_number, kind_numbers, function_parts, function_numbers, met_at, met_in, used_by_numbers, has_owner, declared_as, tree_of_planned, trees_in, alias_number, interface_used_by, interfaces_used_by, type_in, interface_in, package_in}
 use Rattle.read_plan.specs.PlanRules.{direct_uses}
-use Rattle.read_plan.specs.Built.{part_of, given_parts, planned_handle, planned_kind, planned_type, planned_function, planned_interface, planned_world, planned_package}
+use Rattle.read_plan.specs.Built.{part_of, given_parts, planned_kind, planned_type, planned_function, planned_interface, planned_world, planned_package}
 use Rattle.read_plan.proofs.ShapeLaws.{part_behind}
 use Rattle.read_plan.proofs.Lists.{map_of_map, same_map, filter_of_map, get_of_map, grow_of_map, same_grow, numbered_of_map, then_of_map, option_of_map, or_of_map, same_then, same_or}
 

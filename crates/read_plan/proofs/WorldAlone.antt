@@ -1,5 +1,5 @@
 -- A world that is built from a plan of it means what the plan means as a world.
-use Rattle.std.proofs.Common.{◌≡◌, refl, sym, ap, ◌∙◌, ℕ, Bool, true, false, ◌==◌, List, [], ◌∷◌, map, filter_map, option_map, option_and_then, option_to_list, Option, Some, None, slice_get, unwrap_or, is_some, subst, String}
+use Rattle.std.proofs.Common.{◌≡◌, refl, sym, ap, ◌∙◌, ℕ, true, List, [], map, filter_map, option_map, option_and_then, option_to_list, Option, Some, None, slice_get, unwrap_or, is_some, subst}
 use Rattle.std.specs.Prelude.{◌↔◌}
 use Rattle.std.specs.List.{Contains}
 use Rattle.std.specs.FinMap.{from_entries}
@@ -21,7 +21,7 @@ use Rattle.wit_model.specs.Valid.{IsValid}
 use Rattle.wit_model.proofs.Elements.{contains-map, contains-filter_map, contains-one, has-contains, contains-has, get-contains, same-some}
 use Rattle.wit_model.proofs.Maps.{one_map}
 use Rattle.wit_model.proofs.OnePath.{has-path, path-once, some-of}
-use Rattle.read_plan.specs.Plan.{Plan, PlannedPackage, PlannedWorld, path_of_planned, package_in}
+use Rattle.read_plan.specs.Plan.{Plan, PlannedWorld, path_of_planned, package_in}
 use Rattle.read_plan.specs.PlanRules as rules
 use Rattle.read_plan.specs.PlanRules.{IsWorldPlan}
 use Rattle.read_plan.specs.PlanMeaning as planned

@@ -1,18 +1,14 @@
 -- Items of worlds stand under their keys.
-use Rattle.std.proofs.Common.{◌≡◌, refl, sym, ap, ◌∙◌, ℕ, Bool, true, false, ◌&&◌, List, map, option_map, Option, Some, None, is_some, String}
+use Rattle.std.proofs.Common.{◌≡◌, refl, sym, ap, ◌∙◌, ℕ, true, false, ◌&&◌, is_some}
 use Rattle.std.specs.List.{list_all}
 use Rattle.std.specs.Option.{option_map_or}
-use Rattle.std.proofs.lemmas.List.Folds.{list_all-map}
 use Rattle.wit_model.specs.declared.model.Resolve.{Resolve}
-use Rattle.wit_model.specs.declared.model.Interface.{Interface}
-use Rattle.wit_model.specs.declared.model.World.{World}
 use Rattle.wit_model.specs.declared.model.WorldKey.{WorldKey}
 use Rattle.wit_model.specs.declared.model.WorldKey.TheVariants as key
 use Rattle.wit_model.specs.declared.model.WorldItem.{WorldItem}
 use Rattle.wit_model.specs.declared.model.WorldItem.TheVariants as item
-use Rattle.wit_model.specs.declared.model.TypeDef.{TypeDef}
 use Rattle.wit_model.specs.declared.model.TypeOwner.{TypeOwner}
-use Rattle.wit_model.specs.Text.{Text, text_of, text_eq, optional_text}
+use Rattle.wit_model.specs.Text.{Text, text_of, optional_text}
 use Rattle.wit_model.specs.Lookup.{interface_at, type_at}
 use Rattle.wit_model.specs.Parts.{same_owner}
 use Rattle.wit_model.specs.Uses as uses
@@ -24,7 +20,7 @@ use Rattle.wit_model.proofs.Entries.{worlds_keep}
 use Rattle.read_plan.specs.Plan as plan
 use Rattle.read_plan.specs.PlanRules as planned
 use Rattle.read_plan.specs.PlanRules.{IsPlan, bears}
-use Rattle.read_plan.specs.Built.{planned_type, planned_function, planned_interface, planned_world, planned_key, planned_item, planned_entries}
+use Rattle.read_plan.specs.Built.{planned_type, planned_function, planned_interface, planned_world, planned_key, planned_item}
 use Rattle.read_plan.proofs.Lists.{get_of_map, all_built, each_built, each_from_built, each_two, both, no_true}
 use Rattle.read_plan.proofs.Words.{plan_of}
 use Rattle.read_plan.proofs.KindRules.{has_text}

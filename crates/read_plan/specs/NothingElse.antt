@@ -1,7 +1,6 @@
 -- That a `Resolve` holds what its package, or its world, means, and nothing else.
-use Rattle.std.specs.Prelude.{◌≡◌, ℕ, Bool, true, ◌||◌, ◌==◌, List, [], ◌∷◌, filter_map, Some, is_some}
+use Rattle.std.specs.Prelude.{◌≡◌, ℕ, Bool, true, ◌||◌, ◌==◌, [], ◌∷◌, filter_map, Some, is_some}
 use Rattle.std.specs.List.{Contains, list_any}
-use Rattle.indexmap.specs.IndexMap.{values}
 use Rattle.wit_model.specs.declared.model.Resolve.{Resolve}
 use Rattle.wit_model.specs.declared.model.Package.{Package}
 use Rattle.wit_model.specs.declared.model.Interface.{Interface}

@@ -1,6 +1,6 @@
 -- What is read of a package or of a world, in plain numbers and texts, before a `Resolve` is made of it. Packages, interfaces, worlds
 -- and types stand under the numbers that they get in the `Resolve` (WIT.md, "Packages", "Interfaces", "Worlds" and "Types").
-use Rattle.std.specs.Prelude.{ℕ, Bool, true, false, ◌+◌, ◌-◌, ◌==◌, nat_lt, if◌then◌else◌, List, [], ◌∷◌, ◌++◌, map, filter_map, flat_map, Option, Some, None, option_map, option_and_then, option_to_list, unwrap_or, slice_get}
+use Rattle.std.specs.Prelude.{ℕ, Bool, true, false, ◌-◌, nat_lt, if◌then◌else◌, List, [], ◌∷◌, ◌++◌, map, filter_map, flat_map, Option, Some, None, option_map, option_and_then, option_to_list, unwrap_or, slice_get}
 use Rattle.std.specs.Option.{option_map_or}
 use Rattle.std.specs.Map.{lookup}
 use Rattle.wit_model.specs.declared.model.TypeOwner.{TypeOwner}

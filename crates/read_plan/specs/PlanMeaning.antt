@@ -1,5 +1,5 @@
 -- What a plan means: nothing that it doesn't hold, and the interfaces of other packages by path.
-use Rattle.std.specs.Prelude.{ℕ, ◌==◌, if◌then◌else◌, List, [], map, filter_map, Option, Some, None, option_map, option_and_then, unwrap_or}
+use Rattle.std.specs.Prelude.{ℕ, if◌then◌else◌, List, [], map, filter_map, Option, None, option_map, option_and_then, unwrap_or}
 use Rattle.std.specs.Option.{option_map_or}
 use Rattle.std.specs.FinMap.{from_entries}
 use Rattle.wit_model.specs.Text.{Text}

@@ -1,6 +1,6 @@
 -- What holds of a plan that was read. Each is a test of numbers and labels along one list of the plan
 -- (WIT.md; Binary.md, "Type Validation" and "Import and Export Definitions").
-use Rattle.std.specs.Prelude.{◌≡◌, ℕ, Bool, true, false, ◌&&◌, ◌||◌, not, ◌==◌, nat_lt, nat_le, if◌then◌else◌, List, [], ◌∷◌, ◌++◌, map, filter, filter_map, length, count_by, sum_by, codes, Option, Some, None, option_map, option_and_then, option_to_list, is_some, is_none, slice_get}
+use Rattle.std.specs.Prelude.{◌≡◌, ℕ, Bool, true, false, ◌&&◌, ◌||◌, not, ◌==◌, nat_lt, nat_le, if◌then◌else◌, List, [], ◌∷◌, ◌++◌, map, filter, filter_map, length, count_by, sum_by, codes, Option, Some, None, option_and_then, option_to_list, is_some, is_none, slice_get}
 use Rattle.std.specs.Option.{option_map_or, option_eq}
 use Rattle.std.specs.List.{list_all, list_any}
 use Rattle.std.specs.Map.{lookup}
@@ -20,7 +20,7 @@ use Rattle.comp_meaning.specs.Follow.{is_key_primitive}
 use Rattle.comp_meaning.specs.Rules.{is_named_form, form_labels, most_levels}
 use Rattle.comp_meaning.specs.Same.{same_identity}
 use Rattle.read_plan.specs.Shapes.{primitives, part_tree}
-use Rattle.read_plan.specs.Plan.{Plan, PlannedKind, resource, alias, formed, PlannedType, PlannedFunction, PlannedInterface, PlannedKey, label, path_of, PlannedItem, interface, function, declares, PlannedWorld, PlannedPackage, package_in, interface_in, world_in, type_in, number_under, numbers_of, part_number, kind_parts, kind_numbers, function_parts, function_numbers, used_by_numbers, has_owner, is_resource, trees_in, alias_number, interface_used_by, interfaces_used_by, item_interface, item_function, item_type, items_of, world_types}
+use Rattle.read_plan.specs.Plan.{Plan, PlannedKind, resource, alias, formed, PlannedType, PlannedFunction, PlannedInterface, PlannedKey, label, path_of, PlannedItem, interface, function, declares, PlannedWorld, PlannedPackage, package_in, interface_in, world_in, type_in, number_under, numbers_of, part_number, kind_numbers, function_parts, function_numbers, used_by_numbers, has_owner, is_resource, trees_in, alias_number, interface_used_by, interfaces_used_by, item_interface, item_function, item_type, items_of, world_types}
 
 -- ---- small words
 
@@ -309,13 +309,11 @@ pub record IsPlan (p : Plan) : Type 0 where
   pub interfaces_fit : fits p.interfaces ≡ true
   pub worlds_fit : fits p.worlds ≡ true
   pub types_fit : fits p.types ≡ true
-
   -- Packages are named, apart, and list what is theirs, under names that differ.
   pub identities : list_all (λ k. is_identity k.identity) p.packages ≡ true
   pub alone : each_from (is_alone p) 0 p.packages ≡ true
   pub members : each_from (lists_members p) 0 p.packages ≡ true
   pub members_differ : list_all members_differ p.packages ≡ true
-
   -- Interfaces stand in their places, under labels; their types are theirs, their numbers rise, and they use smaller interfaces alone.
   pub interfaces_placed : each_from (is_placed p) 0 p.interfaces ≡ true
   pub interface_labels : list_all interface_labels p.interfaces ≡ true
@@ -323,7 +321,6 @@ pub record IsPlan (p : Plan) : Type 0 where
   pub types_rise : list_all (λ i. are_rising (numbers_of i.types)) p.interfaces ≡ true
   pub uses_fall : each_from (λ n i. list_all (λ m. nat_le m n) (interfaces_used_by p i)) 0 p.interfaces ≡ true
   pub function_keys : list_all (λ i. list_all (λ e. text_eq e.0 e.1.name) i.functions) p.interfaces ≡ true
-
   -- Worlds stand in their places, under labels; so do their items, behind what they use.
   pub worlds_placed : each_from (is_world_placed p) 0 p.worlds ≡ true
   pub world_labels : list_all (λ w. is_label w.name) p.worlds ≡ true
@@ -332,7 +329,6 @@ pub record IsPlan (p : Plan) : Type 0 where
   pub keys_differ : list_all (λ w. keys_differ w.imports && keys_differ w.exports) p.worlds ≡ true
   pub world_types_rise : list_all (λ w. are_rising (world_types w)) p.worlds ≡ true
   pub items_in_order : each_from (λ n w. each_after (uses_stand_before p n) [] (items_of w)) 0 p.worlds ≡ true
-
   -- Types refer to smaller numbers. A named one stands in its owner's list, and an unnamed one has no owner.
   pub types_fall : each_from (λ n t. list_all (λ m. nat_lt m n) (kind_numbers t.kind)) 0 p.types ≡ true
   pub types_listed : each_from (is_listed p) 0 p.types ≡ true
@@ -342,7 +338,6 @@ pub record IsPlan (p : Plan) : Type 0 where
   pub kinds_named : list_all (kind_is_named p) p.types ≡ true
   pub handles : list_all (λ t. handles_resources p t.kind) p.types ≡ true
   pub depths : list_all (λ t. parts_are_shallow p t.kind) p.types ≡ true
-
   -- Functions of interfaces and worlds
   pub functions_in_range : FunctionsPass p (λ o f. function_in_range p f)
   pub functions_labelled : FunctionsPass p (λ o f. function_labels f)
