@@ -23,5 +23,6 @@ pub mod PackageMeans
 pub mod WorldAlone
 pub mod NothingElse
 pub mod Renumbering
+pub mod Gathering
 mod WholePlan
 mod OneWorldPlan

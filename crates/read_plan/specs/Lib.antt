@@ -4,5 +4,6 @@ pub mod PlanMeaning
 pub mod PlanRules
 pub mod Built
 pub mod Renumbering
+pub mod Gathering
 pub mod NothingElse
 pub mod PlanLaws

@@ -1,5 +1,6 @@
 //! Laws of what is read.
 
+ghost use Rattle.read_plan.specs.Gathering.{OneViewIsEnough, ViewsMeanOne};
 ghost use Rattle.read_plan.specs.PlanLaws.{
   BuiltIsValid,
   PackageIsMeant,
@@ -14,6 +15,12 @@ ghost use Rattle.read_plan.specs.Shapes.{OneNumber, TreeAtNumber};
 pub fn shapes_are_trees()
     ensures at_number { TreeAtNumber }
     ensures one_number { OneNumber }
+{}
+
+/// Where the views of interfaces agree, those of one path mean one interface, so one view of each path gathers to the map of all.
+pub fn one_view_is_enough()
+    ensures mean_one { ViewsMeanOne }
+    ensures gather { OneViewIsEnough }
 {}
 
 /// Where the types of a plan are those of the shapes of a table that are kept, each part stands for the tree that it stood for.
