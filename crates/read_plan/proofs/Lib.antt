@@ -1,0 +1,28 @@
+pub mod ShapeLaws
+pub mod Lists
+pub mod Words
+pub mod KindRules
+pub mod FunctionRules
+pub mod Depths
+pub mod ResourceMarks
+pub mod Listed
+pub mod Labels
+pub mod WorldItems
+pub mod FunctionNames
+pub mod NumbersInRange
+pub mod Places
+pub mod Rising
+pub mod TypeOrder
+pub mod Owning
+pub mod ItemOrder
+pub mod DistinctKeys
+pub mod Valid
+pub mod Meanings
+pub mod Reaching
+pub mod PackageMeans
+pub mod WorldAlone
+pub mod NothingElse
+pub mod Renumbering
+pub mod Gathering
+mod WholePlan
+mod OneWorldPlan

@@ -1,0 +1,9 @@
+pub mod Shapes
+pub mod Plan
+pub mod PlanMeaning
+pub mod PlanRules
+pub mod Built
+pub mod Renumbering
+pub mod Gathering
+pub mod NothingElse
+pub mod PlanLaws

@@ -1,0 +1,48 @@
+//! Laws of what is read.
+
+ghost use Rattle.read_plan.specs.Gathering.{OneViewIsEnough, ViewsMeanOne};
+ghost use Rattle.read_plan.specs.PlanLaws.{
+  BuiltIsValid,
+  PackageIsMeant,
+  PackageStandsAlone,
+  WorldIsMeant,
+  WorldStandsAlone,
+};
+ghost use Rattle.read_plan.specs.Renumbering.{TreesAreKept};
+ghost use Rattle.read_plan.specs.Shapes.{OneNumber, TreeAtNumber};
+
+/// Each number of a table of shapes stands for the tree of its shape, and equal trees have one number.
+pub fn shapes_are_trees()
+    ensures at_number { TreeAtNumber }
+    ensures one_number { OneNumber }
+{}
+
+/// Where the views of interfaces agree, those of one path mean one interface, so one view of each path gathers to the map of all.
+pub fn one_view_is_enough()
+    ensures mean_one { ViewsMeanOne }
+    ensures gather { OneViewIsEnough }
+{}
+
+/// Where the types of a plan are those of the shapes of a table that are kept, each part stands for the tree that it stood for.
+pub fn trees_are_kept()
+    ensures { TreesAreKept }
+{}
+
+/// A `Resolve` that is built, entry by entry, from a plan that was read is valid.
+pub fn plans_are_valid()
+    ensures { BuiltIsValid }
+{}
+
+/// The main package of a `Resolve` that is built from the plan of a package means exactly what the plan means, and the one world of a
+/// `Resolve` that is built from the plan of a world what that plan means as a world.
+pub fn plans_are_meant()
+    ensures package_ { PackageIsMeant }
+    ensures world { WorldIsMeant }
+{}
+
+/// Nothing stands in such a `Resolve` beyond what its package, or its world, means: each interface is reached, each world is one of the
+/// package, each type is named or a part, and each package but the main one has an interface.
+pub fn nothing_else()
+    ensures package_ { PackageStandsAlone }
+    ensures world { WorldStandsAlone }
+{}
