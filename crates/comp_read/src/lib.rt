@@ -4,15 +4,26 @@
 mod bodies;
 mod declarations;
 mod definitions;
+mod facts;
 mod front;
 mod items;
+mod keys;
+pub mod laws;
 mod names;
 mod part_types;
 mod refusal;
+mod sections;
+mod slots;
+mod table;
 mod value;
 mod vector;
 
 pub use bodies::{Body, Entry, entry_of};
 pub use declarations::{Declared, Description, declaration_of};
+pub use facts::{Fact, Names};
+pub use keys::Key;
 pub use part_types::{PartType, part_type_of};
 pub use refusal::Refusal;
+pub use sections::{Piece, TopExport, component_of};
+pub use slots::{Slot, resource_in, value_in};
+pub use table::Table;
