@@ -1,5 +1,5 @@
 -- Facts about types, by those about their parts.
-use Rattle.std.proofs.Common.{◌≡◌, ◌≢◌, ◌⊎◌, inl, inr, refl, sym, ap, ◌∙◌, subst, ℕ, zero, suc, ◌+◌, ◌-◌, ◌<◌, ◌≤◌, min, max, arith, Bool, true, false, not, ◌&&◌, ◌==◌, cond, ltb, lit<, List, [], ◌∷◌, ◌++◌, map, take, length, get_or, Some, slice_get, unwrap_or, append-nil, append_assoc}
+use Rattle.std.proofs.Common.{◌≡◌, inl, inr, refl, sym, ap, ◌∙◌, subst, ℕ, zero, suc, ◌+◌, ◌-◌, ◌<◌, ◌≤◌, min, max, arith, Bool, true, false, not, ◌&&◌, ◌==◌, cond, lit<, List, [], ◌∷◌, ◌++◌, map, take, length, get_or, Some, slice_get, unwrap_or, append-nil, append_assoc}
 use Rattle.std.specs.Borrow.{Bor}
 use Rattle.std.specs.List.{AllByRecursion, Contains}
 use Rattle.std.proofs.lemmas.Bool.{eq-eqb, eqb-true, lt-ltb, le-ltb, false≢true}
@@ -14,7 +14,7 @@ use Rattle.comp_read.specs.declared.facts.Fact.{Fact}
 use Rattle.comp_read.specs.declared.facts.Names.{Names}
 use Rattle.comp_read.specs.declared.facts.Names.TheVariants as names
 use Rattle.comp_read.specs.declared.facts.Summary.{Summary}
-use Rattle.comp_read.specs.Shapes.{Shape, form_code, label_of, marked, node_shape, named_shape, primitives, part_tree, shape_tree, IsShape, a_name, a_node}
+use Rattle.comp_read.specs.Shapes.{Shape, form_code, label_of, marked, primitives, part_tree, shape_tree, IsShape, a_name, a_node}
 use Rattle.comp_read.specs.Facts.{places, places_in, is_plain, are_plain, below, labels_of, cap, joined, with_fact, primitive_fact, name_fact, node_fact, fact_at, is_named_sort, AreOf, Tells, FactsHold, Sums}
 use Rattle.comp_read.proofs.AddLaws.{mapped_get}
 use Rattle.comp_read.proofs.TableLaws.{name_tree, node_tree, part_front, split_part, slice_there}

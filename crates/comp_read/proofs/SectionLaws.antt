@@ -1,5 +1,5 @@
 -- Sections in front of bytes, and those behind them.
-use Rattle.std.proofs.Common.{◌≡◌, refl, sym, ap, subst, ◌∙◌, ℕ, suc, ◌+◌, ◌<◌, ◌≤◌, ◌^◌, arith, Bool, true, false, ◌&&◌, cond, eqb, ◌==◌, ltb, nat_eq, List, [], ◌∷◌, ◌++◌, length, map, take, drop, Option, Some, None, Ok, Err, append_assoc, append-nil}
+use Rattle.std.proofs.Common.{◌≡◌, refl, sym, ap, subst, ◌∙◌, ℕ, suc, ◌+◌, ◌<◌, ◌≤◌, ◌^◌, arith, Bool, true, false, ◌&&◌, cond, ◌==◌, ltb, nat_eq, List, [], ◌∷◌, ◌++◌, length, map, take, drop, Option, Some, None, Ok, Err, append_assoc, append-nil}
 use Rattle.std.specs.Prelude.{Result}
 use Rattle.std.proofs.lemmas.Bool.{ne_eqb, eq-eqb, eqb-true, false≢true, lt-ltb, ltb-true, false_from_ne_true}
 use Rattle.std.proofs.lemmas.List.{length-append, map-append}

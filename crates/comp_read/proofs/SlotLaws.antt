@@ -1,12 +1,11 @@
 -- What the slots of a scope stand for, by number.
-use Rattle.std.proofs.Common.{◌≡◌, refl, sym, ap, ◌∙◌, ℕ, zero, suc, ◌<◌, ◌+◌, arith, List, [], ◌∷◌, map, Option, Some, None, slice_get}
+use Rattle.std.proofs.Common.{◌≡◌, refl, ap, ◌∙◌, ℕ, zero, suc, ◌<◌, ◌+◌, arith, List, [], ◌∷◌, map, Some, None, slice_get}
 use Rattle.wit_model.specs.Meaning.{Signature}
 use Rattle.wit_model.specs.Tree.{Tree}
 use Rattle.comp_bytes.specs.declared.forms.PrimitiveValType.{PrimitiveValType}
 use Rattle.comp_bytes.specs.declared.forms.PrimitiveValType.TheVariants as primitives
 use Rattle.comp_bytes.specs.declared.forms.ComponentValType.TheVariants as values
 use Rattle.comp_meaning.specs.Follow.{value_type, value_in, resource_in, primitive_of_type}
-use Rattle.comp_meaning.specs.Follow as follow
 use Rattle.comp_read.specs.declared.slots.Slot.{Slot}
 use Rattle.comp_read.specs.declared.slots.Slot.TheVariants as slots
 use Rattle.comp_read.specs.Shapes.{part_tree}

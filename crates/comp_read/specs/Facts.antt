@@ -1,5 +1,5 @@
 -- What is kept of each type of a table beside its shape, so that its parts need not be looked at again.
-use Rattle.std.specs.Prelude.{◌≡◌, ◌≢◌, ℕ, ◌+◌, ◌-◌, min, max, Bool, true, false, not, ◌&&◌, ◌==◌, nat_lt, if◌then◌else◌, List, [], ◌∷◌, ◌++◌, length, map, Some, slice_get, unwrap_or}
+use Rattle.std.specs.Prelude.{◌≡◌, ◌≢◌, ℕ, ◌+◌, ◌-◌, min, max, Bool, true, false, not, ◌&&◌, ◌==◌, nat_lt, if◌then◌else◌, List, [], ◌∷◌, ◌++◌, length, Some, slice_get, unwrap_or}
 use Rattle.std.specs.List.{Contains}
 use Rattle.wit_model.specs.Text.{Text}
 use Rattle.wit_model.specs.Tree as tree

@@ -1,12 +1,9 @@
 -- The sections of a component as they are kept.
-use Rattle.std.specs.Prelude.{◌≡◌, ℕ, ◌≤◌, List, length, map, Option, Some, None, Result, Ok, Err}
+use Rattle.std.specs.Prelude.{map, Some}
 use Rattle.std.specs.List.{AllByRecursion}
-use Rattle.std.specs.declared.alloc.Global.{Global}
-use Rattle.wit_model.specs.declared.error.Error.{Error}
-use Rattle.wit_model.specs.declared.error.Error.TheVariants as errors
 use Rattle.comp_bytes.specs.Raw.{TopExport as RawExport}
 use Rattle.comp_bytes.specs.RawOf.{raw_name}
-use Rattle.comp_bytes.specs.Levels.{Piece as RawPiece, custom, types, exports, piece_of, levels_of}
+use Rattle.comp_bytes.specs.Levels.{Piece as RawPiece, custom, types, exports, piece_of}
 use Rattle.comp_bytes.specs.Reading.{Reader, ◌>>=◌, frame_at}
 use Rattle.comp_read.specs.declared.refusal.Refusal.{Refusal}
 use Rattle.comp_read.specs.declared.refusal.Refusal.TheVariants as refusals

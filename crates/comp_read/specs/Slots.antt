@@ -1,11 +1,9 @@
 -- What the slots of a scope stand for, where T are the trees of the table, and F the types of functions by number.
-use Rattle.std.specs.Prelude.{◌≡◌, ◌<◌, ◌+◌, ℕ, false, List, [], ◌∷◌, map, None, Result, Ok, Err, slice_get, unwrap_or}
-use Rattle.std.specs.List.{AllByRecursion}
+use Rattle.std.specs.Prelude.{◌<◌, ◌+◌, ℕ, false, List, [], ◌∷◌, map, None, slice_get, unwrap_or}
 use Rattle.wit_model.specs.Meaning.{Signature}
-use Rattle.wit_model.specs.Tree.{Form, Tree, children}
+use Rattle.wit_model.specs.Tree.{Tree}
 use Rattle.comp_bytes.specs.declared.forms.PrimitiveValType.{PrimitiveValType}
-use Rattle.comp_bytes.specs.Raw.{DefinedType}
-use Rattle.comp_meaning.specs.Follow.{Slot as Meant, value, resource, function, instance, primitive_of_type, definition}
+use Rattle.comp_meaning.specs.Follow.{Slot as Meant, value, resource, function, instance, primitive_of_type}
 use Rattle.comp_meaning.specs.Same.{primitive_number}
 use Rattle.comp_read.specs.declared.slots.Slot.{Slot}
 use Rattle.comp_read.specs.declared.slots.Slot.TheVariants as slots

@@ -1,4 +1,3 @@
-use Rattle.std.proofs.Common.{◌≤◌, length, rules}
 use Rattle.comp_read.proofs.LabelLaws.{label_seen, label_new, labels_all}
 use Rattle.comp_read.proofs.facts.are_distinct.Goals as goal
 

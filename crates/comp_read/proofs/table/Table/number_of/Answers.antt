@@ -1,4 +1,4 @@
-use Rattle.std.proofs.Common.{◌≡◌, ◌∙◌, ap, sym, subst, ℕ, List, length, map}
+use Rattle.std.proofs.Common.{◌∙◌, ap, sym, subst, ℕ, List, length, map}
 use Rattle.comp_read.specs.declared.facts.Fact.{Fact}
 use Rattle.comp_read.specs.Facts.{FactsHold}
 use Rattle.comp_read.specs.Shapes.{Shape, shape_of, shape_trees, IsShape}
