@@ -1,6 +1,7 @@
 pub mod AddLaws
 pub mod BodyLaws
 pub mod DeclarationLaws
+pub mod DefinitionKeyLaws
 pub mod EntryLaws
 pub mod FactLaws
 pub mod FrontReaders
@@ -9,6 +10,7 @@ pub mod KeyLaws
 pub mod LabelLaws
 pub mod PartTypeLaws
 pub mod Refusing
+pub mod RowLaws
 pub mod SectionLaws
 pub mod SkipLaws
 pub mod SlotLaws

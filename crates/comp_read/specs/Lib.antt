@@ -6,3 +6,5 @@ pub mod Pieces
 pub mod Shapes
 pub mod Facts
 pub mod Slots
+pub mod DefinitionKeys
+pub mod Rows

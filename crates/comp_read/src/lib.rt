@@ -1,8 +1,9 @@
-//! Reading forms from the front of bytes, as parts of the input.
+//! Reads component types: forms in bytes, as parts of the input; a table of types; what definitions stand for.
 #![tactic(auto)]
 
 mod bodies;
 mod declarations;
+mod definition_keys;
 mod definitions;
 mod facts;
 mod front;
@@ -20,6 +21,7 @@ mod vector;
 
 pub use bodies::{Body, Entry, entry_of};
 pub use declarations::{Declared, Description, declaration_of};
+pub use definition_keys::{Definition, definition_of};
 pub use facts::{Fact, Names};
 pub use keys::Key;
 pub use part_types::{PartType, part_type_of};

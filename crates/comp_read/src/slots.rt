@@ -26,7 +26,8 @@ pub enum Slot<'a> {
     Instance(Body<'a>, usize),
 }
 
-fn primitive_index(primitive: PrimitiveValType) -> usize
+/// The number of a primitive.
+pub(crate) fn primitive_index(primitive: PrimitiveValType) -> usize
     ensures { result ≡ primitive_index_lem primitive }
 {
     match primitive {
@@ -50,11 +51,7 @@ fn primitive_index(primitive: PrimitiveValType) -> usize
 fn slot_at<'a>(slots: &[Slot<'a>], n: u32) -> Option<Slot<'a>>
     ensures { result ≡ slice_get slots.now n }
 {
-    if (n as usize) < slots.len() {
-        Some(slots[n as usize])
-    } else {
-        None
-    }
+    slots.get(n as usize).copied()
 }
 
 /// The part that a value type is. Takes constant time.
