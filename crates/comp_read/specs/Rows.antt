@@ -1,5 +1,5 @@
 -- Rows of a definition, its fields, cases or values: what each of them is, the labels and the parts.
-use Rattle.std.specs.Prelude.{◌≡◌, ℕ, Bool, true, false, List, [], ◌∷◌, ◌++◌, drop, option_to_list, Option, Some, None}
+use Rattle.std.specs.Prelude.{◌≡◌, ℕ, Bool, true, List, [], ◌∷◌, ◌++◌, drop, option_to_list, Option, Some}
 use Rattle.std.specs.List.{flat_map}
 use Rattle.wit_model.specs.Text.{Text}
 use Rattle.wit_model.specs.Tree.{Tree, is_given}

@@ -1,4 +1,4 @@
-use Rattle.std.proofs.Common.{refl, slice_get}
+use Rattle.std.proofs.Common.{refl}
 use Rattle.wit_model.specs.Tree.{Form}
 use Rattle.comp_bytes.specs.Raw.{DefinedType}
 use Rattle.comp_meaning.specs.Follow.{value_type}
