@@ -19,7 +19,7 @@ module _ {A : Type 0} {form : A → Spellings} {reader : Reader A} (law : IsRead
       let again = law.again x (take end bytes) (drop end bytes) front in
       subst (λ (text : List ℕ). reader text ≡ Some (x, drop end bytes)) (take-append-drop end bytes) again
 
-  none_when : (bytes : List ℕ) (found : Option (A × List ℕ)) → reader bytes ≡ found → ((y : A) (end : ℕ) → form y (slice_range bytes 0 end) → ⊥) → found ≡ None
+  pub none_when : (bytes : List ℕ) (found : Option (A × List ℕ)) → reader bytes ≡ found → ((y : A) (end : ℕ) → form y (slice_range bytes 0 end) → ⊥) → found ≡ None
   none_when bytes None e absent = refl
   none_when bytes (Some x) e absent =
       let t = law.takes bytes x.0 x.1 e in

@@ -1,18 +1,31 @@
-//! Reading forms from the front of bytes, as parts of the input.
+//! Reads component types: forms in bytes, as parts of the input; a table of types; what definitions stand for.
 #![tactic(auto)]
 
 mod bodies;
 mod declarations;
+mod definition_keys;
 mod definitions;
+mod facts;
 mod front;
 mod items;
+mod keys;
+pub mod laws;
 mod names;
 mod part_types;
 mod refusal;
+mod sections;
+mod slots;
+mod table;
 mod value;
 mod vector;
 
 pub use bodies::{Body, Entry, entry_of};
 pub use declarations::{Declared, Description, declaration_of};
+pub use definition_keys::{Definition, definition_of};
+pub use facts::{Fact, Names};
+pub use keys::Key;
 pub use part_types::{PartType, part_type_of};
 pub use refusal::Refusal;
+pub use sections::{Piece, TopExport, component_of};
+pub use slots::{Slot, resource_in, value_in};
+pub use table::Table;

@@ -1,0 +1,8 @@
+//! Laws over definitions alone.
+
+ghost use Rattle.comp_read.specs.Shapes.{OneNumber};
+
+/// Equal trees have one number, where each place has one number.
+pub fn one_number()
+    ensures { OneNumber }
+{}
