@@ -1,0 +1,5 @@
+pub mod Repeats
+pub mod Refusing
+pub mod OneClash
+pub mod PathsRead
+pub mod NamesRead

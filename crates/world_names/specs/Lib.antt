@@ -1,0 +1,4 @@
+pub mod WorldNames
+pub mod Clashes
+pub mod ClashLaws
+pub mod NameLaws
