@@ -3,3 +3,9 @@ pub mod Refusing
 pub mod OneClash
 pub mod PathsRead
 pub mod NamesRead
+pub mod WorldSteps
+pub mod Lists
+pub mod Rebuilt
+pub mod TypesFound
+pub mod InstancesStand
+pub mod EntriesRebuilt

@@ -5,6 +5,7 @@ use Rattle.std.proofs.lemmas.List.Elements.{Contains-append_cases, Contains-appe
 use Rattle.wit_model.specs.Text.{Text, text_eq}
 use Rattle.wit_model.proofs.VersionLaws.{same_text}
 use Rattle.wit_model.proofs.Elements.{contains-one, none-in, one-contained}
+use Rattle.world_names.proofs.Lists.{head-of, tail-of}
 use Rattle.world_names.specs.Clashes.{canonical_names_of, AreDifferent, IsClash, IsFirstRepeat}
 use Rattle.world_names.specs.ClashLaws.{NoClashWithout, OneClash}
 
@@ -36,14 +37,6 @@ data AreSplit (x y : Text) (before other : List Text) : Type 0 where
   same : x ≡ y → AreSplit x y before other
   sooner : (rest : List Text) → other ≡ before ++ (x ∷ rest) → AreSplit x y before other
   later : (rest : List Text) → before ≡ other ++ (y ∷ rest) → AreSplit x y before other
-
-abbrev head-of : (xs : List Text) (d : Text) → Text
-head-of [] d = d
-head-of (x ∷ xs) d = x
-
-abbrev tail-of : List Text → List Text
-tail-of [] = []
-tail-of (x ∷ xs) = xs
 
 split-twice : (before after other rest : List Text) (x y : Text) → before ++ (x ∷ after) ≡ other ++ (y ∷ rest) → AreSplit x y before other
 split-twice [] after [] rest x y e = AreSplit.same (ap (λ l. head-of l x) e)

@@ -1,4 +1,4 @@
-//! The names under which the imports and exports of a world are written, and which of them clash.
+//! The names under which the imports and exports of a world are written, which of them clash, and what each shows once it is declared.
 #![tactic(auto)]
 
 mod clash;
