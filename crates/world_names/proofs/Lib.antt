@@ -1,0 +1,11 @@
+pub mod Repeats
+pub mod Refusing
+pub mod OneClash
+pub mod PathsRead
+pub mod NamesRead
+pub mod WorldSteps
+pub mod Lists
+pub mod Rebuilt
+pub mod TypesFound
+pub mod InstancesStand
+pub mod EntriesRebuilt

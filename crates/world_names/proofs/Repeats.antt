@@ -1,0 +1,33 @@
+-- Texts that are seen one after the other: a text that was seen, and one that is new.
+use Rattle.std.proofs.Common.{◌≡◌, sym, ap, subst, ◌∙◌, true, false, cond, Bool, List, [], ◌∷◌, ◌++◌, map, String}
+use Rattle.std.specs.declared.alloc.Global.{Global}
+use Rattle.std.specs.List.{list_any, Contains, IsDistinct}
+use Rattle.std.proofs.lemmas.List.{map-append}
+use Rattle.std.proofs.lemmas.Cmp.{nat_list_eq_equiv}
+use Rattle.std.proofs.lemmas.Map.Keys.{IsDistinct-push}
+use Rattle.std.proofs.lemmas.Map.Views.{Contains-from_any}
+use Rattle.wit_model.specs.Text.{Text, text_eq, text_of}
+use Rattle.wit_model.proofs.AnyOrder.{text-same}
+use Rattle.wit_model.proofs.Lists.{list_any_mapped}
+
+abbrev pub Strings : Type 0
+Strings = List (String Global)
+
+module _ (names : Strings) (name : String Global) where
+  abbrev was_seen : Bool
+  was_seen = list_any (λ k. text_eq (text_of name) (text_of k)) names
+
+  abbrev texts : List Text
+  texts = map text_of names
+
+  pub seen-there : was_seen ≡ true → Contains texts (text_of name)
+  seen-there e = Contains-from_any text-same (text_of name) texts (list_any_mapped (text_eq (text_of name)) text_of names ∙ e)
+
+  pub new-pushed : was_seen ≡ false → cond was_seen names (names ++ name ∷ []) ≡ names ++ name ∷ []
+  new-pushed e = ap (λ b. cond b names (names ++ name ∷ [])) e
+
+  pub texts-pushed : map text_of (names ++ name ∷ []) ≡ texts ++ text_of name ∷ []
+  texts-pushed = map-append text_of names (name ∷ [])
+
+  pub new-distinct : IsDistinct text_eq texts → was_seen ≡ false → IsDistinct text_eq (map text_of (names ++ name ∷ []))
+  new-distinct d e = subst (IsDistinct text_eq) (sym texts-pushed) (IsDistinct-push nat_list_eq_equiv texts (text_of name) d (list_any_mapped (text_eq (text_of name)) text_of names ∙ e))

@@ -1,0 +1,9 @@
+//! The names under which the imports and exports of a world are written, which of them clash, and what each shows once it is declared.
+#![tactic(auto)]
+
+mod clash;
+mod extern_names;
+pub mod laws;
+
+pub use clash::{refuse_clash, refuse_clashes};
+pub use extern_names::item_name;
