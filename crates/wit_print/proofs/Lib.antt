@@ -21,6 +21,7 @@ pub mod OneLine
 pub mod DocLines
 pub mod Runs
 pub mod Printables
+pub mod WellLists
 pub mod PlainReads
 pub mod TokensUnique
 pub mod TypeUnique
@@ -32,4 +33,6 @@ pub mod ValidPlain
 pub mod ShownWell
 pub mod TypesWell
 pub mod FunctionsWell
+pub mod ValidNames
+pub mod ValidDeclared
 pub mod PrintedText

@@ -56,6 +56,8 @@ use Rattle.wit_print.specs.AsRead.{file_as_read}
 use Rattle.wit_print.specs.Reading.{IsOnlyReading}
 use Rattle.wit_print.proofs.FileReads.{file_reads_only}
 use Rattle.wit_print.proofs.ByteTests.{both, left_of, right_of}
+use Rattle.wit_print.proofs.WellLists.{all_get, one_there, kept_well}
+use Rattle.wit_print.proofs.ShownWell.{optional_version}
 
 -- ---- what is not there
 
@@ -71,49 +73,7 @@ no_gates stability.Unknown h = refl
 no_gates (stability.Stable since deprecated) h = absurd cc
 no_gates (stability.Unstable feature deprecated) h = absurd cc
 
--- ---- versions
-
-pub version_is_text : (v : Version) → is_version v ≡ true → is_version_text (version_text v) ≡ true
-version_is_text v h = ap is_ok (version_parts-complete (parts_of v) valid)
-  where
-    after_major : (nat_lt v.minor (2 ^ 64) && (nat_lt v.patch (2 ^ 64) && (is_pre_release (pre_text v.pre) && is_build (build_text v.build)))) ≡ true
-    after_major = right_of (nat_lt v.major (2 ^ 64)) _ h
-
-    after_minor : (nat_lt v.patch (2 ^ 64) && (is_pre_release (pre_text v.pre) && is_build (build_text v.build))) ≡ true
-    after_minor = right_of (nat_lt v.minor (2 ^ 64)) _ after_major
-
-    after_patch : (is_pre_release (pre_text v.pre) && is_build (build_text v.build)) ≡ true
-    after_patch = right_of (nat_lt v.patch (2 ^ 64)) _ after_minor
-
-    valid : IsValidVersion (parts_of v)
-    valid = (ltb-true _ _ (left_of _ _ h), ltb-true _ _ (left_of _ _ after_major), ltb-true _ _ (left_of _ _ after_minor), left_of _ _ after_patch, right_of (is_pre_release (pre_text v.pre)) _ after_patch)
-
-pub optional_version : (v : Option Version) → passes is_version v ≡ true → is_well_optional is_version_text (optional_version_text v) ≡ true
-optional_version None h = refl
-optional_version (Some v) h = version_is_text v h
-
 -- ---- lists
-
--- an element of a list, each of which passes
-pub all_get : {X : Type 0} (p : X → Bool) (xs : List X) (n : ℕ) (x : X) → list_all p xs ≡ true → slice_get xs n ≡ Some x → p x ≡ true
-all_get p xs n x h e = each_from_at (λ m y. p y) 0 xs n x (from xs 0 h) e
-  where
-    from : (ys : List _) (m : ℕ) → list_all p ys ≡ true → each_from (λ k y. p y) m ys ≡ true
-    from [] m g = refl
-    from (y ∷ ys) m g = both _ _ (left_of _ _ g) (from ys (m + 1) (right_of (p y) _ g))
-
--- what stands at a place of a list
-pub one_there : {X : Type 0} (xs : List X) (n : ℕ) → n < length xs → (x : X) × (slice_get xs n ≡ Some x)
-one_there [] n below = absurd (omega arith)
-one_there (x ∷ xs) zero below = (x, refl)
-one_there (x ∷ xs) (suc n) below = one_there xs n (omega arith)
-
-kept_well : {X Y : Type 0} (known test : X → Bool) (shown : X → Y) (well : Y → Bool) → ((x : X) → known x ≡ true → test x ≡ true → well (shown x) ≡ true) → (xs : List X) → list_all known xs ≡ true → list_all well (map shown (filter test xs)) ≡ true
-kept_well known test shown well each [] h = refl
-kept_well known test shown well each (x ∷ xs) h = elim (cases_Bool (test x)) [
-  | inl yes_ ↦ rw yes_ (both _ _ (each x (left_of _ _ h) yes_) (kept_well known test shown well each xs (right_of (known x) _ h)))
-  | inr no_ ↦ rw no_ (kept_well known test shown well each xs (right_of (known x) _ h))
-]
 
 none_given : {X Y : Type 0} (f : X → Option Y) → ((x : X) → f x ≡ None) → (xs : List X) → filter_map f xs ≡ []
 none_given f none [] = refl

@@ -1,0 +1,64 @@
+-- Lists whose elements pass a test.
+use Rattle.std.proofs.Common.{◌≡◌, refl, ◌∙◌, ap, ℕ, zero, suc, ◌+◌, ◌<◌, Bool, true, false, ◌&&◌, nat_lt, List, [], ◌∷◌, ◌++◌, length, map, filter, filter_map, Option, Some, None, slice_get, drop, arith, inl, inr}
+use Rattle.std.specs.Prelude.{if◌then◌else◌}
+use Rattle.std.specs.List.{list_all, cons_option}
+use Rattle.std.proofs.lemmas.Bool.{cases_Bool, lt-ltb}
+use Rattle.std.proofs.lemmas.List.Folds.{list_all-append}
+use Rattle.wit_model.specs.Rules.{each_from, passes, has_items}
+use Rattle.wit_model.proofs.Entries.{each_from_at}
+use Rattle.wit_print.specs.WellNamed.{are_well_some}
+use Rattle.wit_print.proofs.ByteTests.{both, left_of, right_of}
+
+-- an element of a list, each of which passes
+pub all_get : {X : Type 0} (p : X → Bool) (xs : List X) (n : ℕ) (x : X) → list_all p xs ≡ true → slice_get xs n ≡ Some x → p x ≡ true
+all_get p xs n x h e = each_from_at (λ m y. p y) 0 xs n x (from xs 0 h) e
+  where
+    from : (ys : List _) (m : ℕ) → list_all p ys ≡ true → each_from (λ k y. p y) m ys ≡ true
+    from [] m g = refl
+    from (y ∷ ys) m g = both _ _ (left_of _ _ g) (from ys (m + 1) (right_of (p y) _ g))
+
+-- what stands at a place of a list
+pub one_there : {X : Type 0} (xs : List X) (n : ℕ) → n < length xs → (x : X) × (slice_get xs n ≡ Some x)
+one_there [] n below = absurd (omega arith)
+one_there (x ∷ xs) zero below = (x, refl)
+one_there (x ∷ xs) (suc n) below = one_there xs n (omega arith)
+
+-- what is made of each element
+pub each_well : {X Y : Type 0} (known : X → Bool) (shown : X → Y) (well : Y → Bool) → ((x : X) → known x ≡ true → well (shown x) ≡ true) → (xs : List X) → list_all known xs ≡ true → list_all well (map shown xs) ≡ true
+each_well known shown well each [] h = refl
+each_well known shown well each (x ∷ xs) h = both (well (shown x)) _ (each x (left_of _ _ h)) (each_well known shown well each xs (right_of (known x) _ h))
+
+-- what is made of each element that passes another test
+pub kept_well : {X Y : Type 0} (known test : X → Bool) (shown : X → Y) (well : Y → Bool) → ((x : X) → known x ≡ true → test x ≡ true → well (shown x) ≡ true) → (xs : List X) → list_all known xs ≡ true → list_all well (map shown (filter test xs)) ≡ true
+kept_well known test shown well each [] h = refl
+kept_well known test shown well each (x ∷ xs) h = elim (cases_Bool (test x)) [
+  | inl yes_ ↦ rw yes_ (both _ _ (each x (left_of _ _ h) yes_) (kept_well known test shown well each xs (right_of (known x) _ h)))
+  | inr no_ ↦ rw no_ (kept_well known test shown well each xs (right_of (known x) _ h))
+]
+
+-- what is given by some elements
+pub given_well : {X Y : Type 0} (known : X → Bool) (give : X → Option Y) (well : Y → Bool) → ((x : X) → known x ≡ true → passes well (give x) ≡ true) → (xs : List X) → list_all known xs ≡ true → list_all well (filter_map give xs) ≡ true
+given_well known give well each [] h = refl
+given_well known give well each (x ∷ xs) h = one_more (give x) (each x (left_of _ _ h)) (given_well known give well each xs (right_of (known x) _ h))
+  where
+    one_more : (o : Option _) → passes well o ≡ true → list_all well (filter_map give xs) ≡ true → list_all well (cons_option o (filter_map give xs)) ≡ true
+    one_more None g rest = rest
+    one_more (Some y) g rest = both (well y) _ g rest
+
+-- one list behind another
+pub joined_well : {X : Type 0} (p : X → Bool) (xs ys : List X) → list_all p xs ≡ true → list_all p ys ≡ true → list_all p (xs ++ ys) ≡ true
+joined_well p xs ys h g = list_all-append p xs ys ∙ both (list_all p xs) _ h g
+
+-- a list with an element, each of which passes
+pub some_well : {X Y : Type 0} (well : Y → Bool) (shown : X → Y) (xs : List X) → has_items xs ≡ true → list_all well (map shown xs) ≡ true → are_well_some well (map shown xs) ≡ true
+some_well well shown [] some h = absurd cc
+some_well well shown (x ∷ xs) some h = both (nat_lt 0 (length (map shown (x ∷ xs)))) _ (lt-ltb 0 (length (map shown (x ∷ xs))) (omega arith)) h
+
+without_first : {X : Type 0} (p : X → Bool) (xs : List X) → list_all p xs ≡ true → list_all p (drop 1 xs) ≡ true
+without_first p [] h = refl
+without_first p (x ∷ xs) h = right_of (p x) _ h
+
+-- a list, or what follows its first element
+pub written_well : {X : Type 0} (p : X → Bool) (b : Bool) (xs : List X) → list_all p xs ≡ true → list_all p (if b then drop 1 xs else xs) ≡ true
+written_well p true xs h = without_first p xs h
+written_well p false xs h = h
