@@ -35,4 +35,9 @@ pub mod TypesWell
 pub mod FunctionsWell
 pub mod ValidNames
 pub mod ValidDeclared
+pub mod ValidOwners
+pub mod ValidUses
+pub mod ValidInterfaces
+pub mod ValidWorlds
+pub mod ValidFiles
 pub mod PrintedText

@@ -1,6 +1,6 @@
 -- What is shown in front of an item of a valid package is well named.
 use Rattle.std.proofs.Common.{◌≡◌, refl, sym, ap, ◌∙◌, subst, ℕ, zero, suc, ◌<◌, Bool, true, false, ◌&&◌, List, [], ◌∷◌, length, get_or, Option, Some, None, nat_lt, ◌^◌, arith}
-use Rattle.std.specs.Prelude.{String, is_ok}
+use Rattle.std.specs.Prelude.{String, is_ok, is_some}
 use Rattle.std.specs.declared.alloc.Global.{Global}
 use Rattle.std.specs.List.{list_all}
 use Rattle.std.specs.Str.{chars, IsUtf8}
@@ -20,7 +20,7 @@ use Rattle.semver.proofs.Grammar.{version_parts-complete}
 use Rattle.wit_model.specs.Lookup.{optional_version_text}
 use Rattle.std.proofs.lemmas.Bool.{ltb-true}
 use Rattle.wit_print.specs.OutputCall.{is_one_line}
-use Rattle.wit_print.specs.Shown.{shown_docs, shown_gates, shown_external_id, shown_prefix}
+use Rattle.wit_print.specs.Shown.{present_name, shown_docs, shown_gates, shown_external_id, shown_prefix}
 use Rattle.wit_print.specs.WellNamed.{is_well_optional, is_well_gates, is_well_prefix}
 use Rattle.wit_print.proofs.ByteTests.{both, left_of, right_of}
 use Rattle.wit_print.proofs.DocLines.{line_one_line}
@@ -45,6 +45,11 @@ version_is_text v h = ap is_ok (version_parts-complete (parts_of v) valid)
 pub optional_version : (v : Option Version) → passes is_version v ≡ true → is_well_optional is_version_text (optional_version_text v) ≡ true
 optional_version None h = refl
 optional_version (Some v) h = version_is_text v h
+
+-- a given name is a label
+pub given_label : (name : Option (String Global)) → is_some name ≡ true → passes (λ s. is_label (text_of s)) name ≡ true → is_label (present_name name) ≡ true
+given_label None given label = absurd cc
+given_label (Some s) given label = label
 
 -- ---- what stands in front of an item
 

@@ -27,6 +27,7 @@ use Rattle.wit_print.specs.Shown.{present_name, shown_type, type_name, used_type
 use Rattle.wit_print.specs.WellNamed.{is_well_type, are_well_types, are_well_more}
 use Rattle.wit_print.proofs.ByteTests.{both, left_of, right_of}
 use Rattle.wit_print.proofs.WellLists.{all_get, one_there}
+use Rattle.wit_print.proofs.ShownWell.{given_label}
 
 -- a length that fits 32 bits fits 64
 short_length : (n : ℕ) → (nat_le 1 n && nat_lt n 4294967296) ≡ true → nat_lt n (2 ^ 64) ≡ true
@@ -167,11 +168,6 @@ module _ (r : Resolve) (valid : IsValid r) where
   pub shape_of : (n : ℕ) (def : TypeDef) → type_at r n ≡ Some def → has_shape def.kind ≡ true
   unfolding shapes
   shape_of n def e = type_rule shapes valid.rules.shapes n def e
-
-  -- a given name is a label
-  given_label : (name : Option (String Global)) → is_some name ≡ true → passes (λ s. is_label (text_of s)) name ≡ true → is_label (present_name name) ≡ true
-  given_label None given label = absurd cc
-  given_label (Some s) given label = label
 
   -- A type with a name has a label.
   pub name_well : (n : ℕ) (def : TypeDef) → type_at r n ≡ Some def → is_some def.name ≡ true → is_label (present_name def.name) ≡ true
