@@ -2,6 +2,7 @@ pub mod Moves
 pub mod RenderLaws
 mod ReadingExamples
 pub mod ByteTests
+pub mod ByPlace
 pub mod TokenFacts
 pub mod VersionFacts
 pub mod TextOf
@@ -22,7 +23,6 @@ pub mod DocLines
 pub mod Runs
 pub mod Printables
 pub mod WellLists
-pub mod PlainReads
 pub mod TokensUnique
 pub mod TypeUnique
 pub mod ListsUnique
@@ -40,4 +40,3 @@ pub mod ValidUses
 pub mod ValidInterfaces
 pub mod ValidWorlds
 pub mod ValidFiles
-pub mod PrintedText

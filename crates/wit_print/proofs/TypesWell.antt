@@ -26,7 +26,7 @@ use Rattle.wit_print.specs.Tree.TypeTree.{Name}
 use Rattle.wit_print.specs.Shown.{present_name, shown_type, type_name, used_type, used_types, future_tree, stream_tree, result_tree, kind_tree, def_tree, trees_from, type_trees}
 use Rattle.wit_print.specs.WellNamed.{is_well_type, are_well_types, are_well_more}
 use Rattle.wit_print.proofs.ByteTests.{both, left_of, right_of}
-use Rattle.wit_print.proofs.WellLists.{all_get, one_there}
+use Rattle.wit_print.proofs.ByPlace.{all_get, one_there}
 use Rattle.wit_print.proofs.ShownWell.{given_label}
 
 -- a length that fits 32 bits fits 64

@@ -29,7 +29,8 @@ use Rattle.wit_print.specs.Tree.ItemTree.{InterfaceItem, WorldItem}
 use Rattle.wit_print.specs.Shown.{shown_docs, shown_gates, shown_interface, shown_interface_item, shown_world, shown_world_item, shown_package_of, no_package, shown_package, shown_file}
 use Rattle.wit_print.specs.WellNamed.{is_well_gates, is_well_member, is_well_world_member, is_well_item, is_well_package, is_well_file}
 use Rattle.wit_print.proofs.ByteTests.{both, left_of, right_of}
-use Rattle.wit_print.proofs.WellLists.{one_there, each_well, given_well, joined_well}
+use Rattle.wit_print.proofs.ByPlace.{one_there}
+use Rattle.wit_print.proofs.WellLists.{each_well, given_well, joined_well}
 use Rattle.wit_print.proofs.RenderLaws.{Moves-writes}
 use Rattle.wit_print.proofs.FileReads.{file_reads_only}
 use Rattle.wit_print.proofs.ShownWell.{docs_well, gates_well, optional_version}

@@ -35,7 +35,7 @@ use Rattle.wit_model.proofs.OnePath.{interface-passes, equal-numbers, given-test
 use Rattle.wit_model.proofs.VersionLaws.{text_same}
 use Rattle.wit_print.specs.Shown.{Listed}
 use Rattle.wit_print.proofs.ByteTests.{both, left_of, right_of, refuted}
-use Rattle.wit_print.proofs.WellLists.{one_there}
+use Rattle.wit_print.proofs.ByPlace.{one_there}
 use Rattle.wit_print.proofs.TypesWell.{type_rule, label_of}
 
 -- ---- owners

@@ -34,7 +34,8 @@ use Rattle.wit_print.specs.Tree.WorldMember.{WorldUse, WorldType}
 use Rattle.wit_print.specs.Shown.{Entry, Used, DeclaredWith, Listed, shown_docs, shown_gates, shown_external_id, shown_path, shown_uses, shown_declarations, shown_interface, function_prefix, extern_docs, extern_prefix, shown_extern, shown_import, shown_export, is_interface_item, is_freestanding_item, function_of_item, type_of_entry, listed_imports, imported_functions, shown_world_in, shown_world}
 use Rattle.wit_print.specs.WellNamed.{is_well_gates, is_well_prefix, is_well_path, is_well_member, is_well_extern, is_well_world_member}
 use Rattle.wit_print.proofs.ByteTests.{both, left_of, right_of, weaker_all}
-use Rattle.wit_print.proofs.WellLists.{one_there, all_both, each_well, kept_well, given_well, joined_well}
+use Rattle.wit_print.proofs.ByPlace.{one_there}
+use Rattle.wit_print.proofs.WellLists.{all_both, each_well, kept_well, given_well, joined_well}
 use Rattle.wit_print.proofs.ShownWell.{docs_well, gates_well, external_id_well}
 use Rattle.wit_print.proofs.FunctionsWell.{signature_well, function_prefix_well}
 use Rattle.wit_print.proofs.ValidDeclared.{is_known_function}

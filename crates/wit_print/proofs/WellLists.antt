@@ -1,11 +1,10 @@
 -- Lists whose elements pass a test.
-use Rattle.std.proofs.Common.{◌≡◌, refl, ◌∙◌, ap, ℕ, zero, suc, ◌+◌, ◌<◌, Bool, true, false, ◌&&◌, ◌||◌, not, nat_lt, List, [], ◌∷◌, ◌++◌, length, map, filter, filter_map, Option, Some, None, slice_get, drop, arith, inl, inr}
+use Rattle.std.proofs.Common.{◌≡◌, refl, ◌∙◌, ap, Bool, true, false, ◌&&◌, ◌||◌, not, nat_lt, List, [], ◌∷◌, ◌++◌, length, map, filter, filter_map, Option, Some, None, drop, arith, inl, inr}
 use Rattle.std.specs.Prelude.{if◌then◌else◌}
 use Rattle.std.specs.List.{list_all, cons_option}
 use Rattle.std.proofs.lemmas.Bool.{cases_Bool, lt-ltb}
 use Rattle.std.proofs.lemmas.List.Folds.{list_all-append}
-use Rattle.wit_model.specs.Rules.{each_from, passes, has_items}
-use Rattle.wit_model.proofs.Entries.{each_from_at}
+use Rattle.wit_model.specs.Rules.{passes, has_items}
 use Rattle.wit_print.specs.WellNamed.{are_well_some}
 use Rattle.wit_print.proofs.ByteTests.{both, left_of, right_of}
 
@@ -13,20 +12,6 @@ use Rattle.wit_print.proofs.ByteTests.{both, left_of, right_of}
 pub implied : (a b : Bool) → a ≡ true → (not a || b) ≡ true → b ≡ true
 implied true b e h = h
 implied false b e h = absurd cc
-
--- an element of a list, each of which passes
-pub all_get : {X : Type 0} (p : X → Bool) (xs : List X) (n : ℕ) (x : X) → list_all p xs ≡ true → slice_get xs n ≡ Some x → p x ≡ true
-all_get p xs n x h e = each_from_at (λ m y. p y) 0 xs n x (from xs 0 h) e
-  where
-    from : (ys : List _) (m : ℕ) → list_all p ys ≡ true → each_from (λ k y. p y) m ys ≡ true
-    from [] m g = refl
-    from (y ∷ ys) m g = both _ _ (left_of _ _ g) (from ys (m + 1) (right_of (p y) _ g))
-
--- what stands at a place of a list
-pub one_there : {X : Type 0} (xs : List X) (n : ℕ) → n < length xs → (x : X) × (slice_get xs n ≡ Some x)
-one_there [] n below = absurd (omega arith)
-one_there (x ∷ xs) zero below = (x, refl)
-one_there (x ∷ xs) (suc n) below = one_there xs n (omega arith)
 
 -- what is made of each element
 pub each_well : {X Y : Type 0} (known : X → Bool) (shown : X → Y) (well : Y → Bool) → ((x : X) → known x ≡ true → well (shown x) ≡ true) → (xs : List X) → list_all known xs ≡ true → list_all well (map shown xs) ≡ true
