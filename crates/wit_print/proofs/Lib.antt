@@ -1,6 +1,7 @@
 pub mod Moves
 pub mod RenderLaws
 mod ReadingExamples
+mod TextExamples
 pub mod ByteTests
 pub mod ByPlace
 pub mod TokenFacts
@@ -40,3 +41,6 @@ pub mod ValidUses
 pub mod ValidInterfaces
 pub mod ValidWorlds
 pub mod ValidFiles
+pub mod UndocumentedCalls
+pub mod AlikeTypes
+pub mod AlikeFiles

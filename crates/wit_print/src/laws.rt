@@ -1,6 +1,6 @@
 //! Laws about the definitions.
 
-ghost use Rattle.std.specs.Prelude.{◌≡◌, ◌<◌, ◌++◌, Bool, List, length, true};
+ghost use Rattle.std.specs.Prelude.{◌≡◌, ◌<◌, ◌++◌, Bool, List, false, length, true};
 ghost use Rattle.std.specs.List.{list_all};
 ghost use Rattle.wit_model.specs.Rules.{in_list};
 ghost use Rattle.wit_model.specs.Valid.{IsValid};
@@ -8,6 +8,7 @@ ghost use Rattle.wit_model.specs.declared.model.PackageId.{PackageId};
 ghost use Rattle.wit_model.specs.declared.model.Resolve.{Resolve};
 ghost use Rattle.wit_print.specs.AsRead.{file_as_read};
 ghost use Rattle.wit_print.specs.Calls.{file_calls};
+ghost use Rattle.wit_print.specs.Documentation.{DifferInDocumentation};
 ghost use Rattle.wit_print.specs.Reading.{IsOnlyReading, OneReading};
 ghost use Rattle.wit_print.specs.Shown.{shown_file};
 ghost use Rattle.wit_print.specs.Tree.{FileTree};
@@ -55,4 +56,9 @@ pub fn packages_read()
 /// So is the text of an output that kept the text of a completed print from the start.
 pub fn kept_text_reads()
     ensures { (emits_docs : Bool) (r : Resolve) (main : PackageId) (nested : List PackageId) → IsValid r → main.0 < length r.packages.items → list_all (λ id. in_list r.packages.items id.0) nested ≡ true → (new : View Written) → Moves writes blank (file_calls emits_docs (shown_file r main nested)) new → IsOnlyReading new.kept.text (file_as_read (shown_file r main nested)) }
+{}
+
+/// Without documentation, packages that differ in documentation alone make the same calls, and so print the same text.
+pub fn undocumented_prints_alike()
+    ensures { (a b : Resolve) (main : PackageId) (nested : List PackageId) → DifferInDocumentation a b → file_calls false (shown_file a main nested) ≡ file_calls false (shown_file b main nested) }
 {}
