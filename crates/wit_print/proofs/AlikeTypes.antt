@@ -1,8 +1,8 @@
 -- Where two `Resolve`s differ in documentation alone, what is shown of their types differs in documentation alone.
-use Rattle.std.proofs.Common.{◌≡◌, refl, sym, ap, ◌∙◌, subst, ℕ, zero, suc, ◌+◌, Bool, true, false, ◌&&◌, ◌==◌, List, [], ◌∷◌, ◌++◌, map, filter, filter_map, drop, cond, Option, Some, None, option_map, option_and_then, unwrap_or, slice_get}
-use Rattle.std.specs.Prelude.{String, is_some, is_none, if◌then◌else◌}
+use Rattle.std.proofs.Common.{◌≡◌, refl, ap, ◌∙◌, subst, ℕ, zero, suc, Bool, true, false, ◌&&◌, ◌==◌, List, [], ◌∷◌, ◌++◌, map, filter, drop, cond, Option, Some, None, option_map, option_and_then, unwrap_or, slice_get}
+use Rattle.std.specs.Prelude.{String, is_none, if◌then◌else◌}
 use Rattle.std.specs.Option.{option_map_or}
-use Rattle.std.specs.List.{AllZip, cons_option}
+use Rattle.std.specs.List.{AllZip}
 use Rattle.std.specs.Str.{chars}
 use Rattle.std.specs.declared.alloc.Global.{Global}
 use Rattle.wit_model.specs.declared.model.Resolve.{Resolve}
@@ -22,14 +22,14 @@ use Rattle.wit_model.specs.declared.model.Case.{Case}
 use Rattle.wit_model.specs.declared.model.Flag.{Flag}
 use Rattle.wit_model.specs.declared.model.EnumCase.{EnumCase}
 use Rattle.wit_model.specs.declared.model.Stability.{Stability}
-use Rattle.wit_model.specs.Text.{Text, text_of, optional_text}
+use Rattle.wit_model.specs.Text.{text_of, optional_text}
 use Rattle.wit_model.specs.Lookup.{type_at, is_async, resource_of}
 use Rattle.wit_model.specs.Calls.{own_name_of}
 use Rattle.wit_model.specs.Rules.{is_own_of, is_own_kind}
 use Rattle.wit_print.specs.Documentation.{AlikeGates, AlikeParams, AlikeFields, AlikeCases, AlikeFlags, AlikeEnumCases, AlikeKinds, AlikeTypes, AlikeFunctions, DifferInDocumentation}
 use Rattle.wit_print.specs.Documentation.AlikeGates.{unknown, stable, unstable}
 use Rattle.wit_print.specs.Documentation.AlikeKinds.{records, resources, handles, flags, tuples, variants, enums, options, results, lists, maps, fixed_lists, futures, streams, aliases}
-use Rattle.wit_print.specs.Tree.{TypeTree, ParamTree, Prefix, Gates, ResourceMember}
+use Rattle.wit_print.specs.Tree.{TypeTree}
 use Rattle.wit_print.specs.Tree.TypeTree.{Name, TupleOf}
 use Rattle.wit_print.specs.Tree.Gates.{Since, Unstable}
 use Rattle.wit_print.specs.Tree.ResourceMember.{Constructor, Method, Static}

@@ -1,5 +1,5 @@
 -- What is shown of a function of a valid `Resolve` is well named.
-use Rattle.std.proofs.Common.{◌≡◌, refl, sym, ap, ◌∙◌, subst, Bool, true, false, ◌&&◌, ◌||◌, not, List, [], ◌∷◌, ◌++◌, length, drop, Option, Some, None, map}
+use Rattle.std.proofs.Common.{◌≡◌, refl, sym, ◌∙◌, Bool, true, ◌&&◌, ◌||◌, not, List, [], ◌∷◌, length, drop, Option, Some, None, map}
 use Rattle.std.specs.Prelude.{option_map, option_to_list, if◌then◌else◌}
 use Rattle.std.specs.List.{list_all}
 use Rattle.std.proofs.lemmas.List.Folds.{list_all-append}
@@ -11,9 +11,8 @@ use Rattle.wit_model.specs.Text.{text_of}
 use Rattle.wit_model.specs.Names.{is_label}
 use Rattle.wit_model.specs.Lookup.{resource_of}
 use Rattle.wit_model.specs.Parts.{function_types}
-use Rattle.wit_model.specs.Rules.{function_in_range, function_labels, is_freestanding, is_stability, are_member_labels}
+use Rattle.wit_model.specs.Rules.{function_in_range, function_labels, is_freestanding, are_member_labels}
 use Rattle.wit_model.specs.Valid.{IsValid}
-use Rattle.wit_print.specs.Tree.{ParamTree}
 use Rattle.wit_print.specs.Shown.{shown_type, shown_param, shown_params, shown_signature, function_prefix, is_method}
 use Rattle.wit_print.specs.WellNamed.{is_well_type, is_well_optional, is_well_param, is_well_signature, is_well_prefix}
 use Rattle.wit_print.proofs.ByteTests.{both, left_of, right_of}

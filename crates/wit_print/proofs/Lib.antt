@@ -2,6 +2,7 @@ pub mod Moves
 pub mod RenderLaws
 mod ReadingExamples
 mod TextExamples
+mod DeclaredExamples
 pub mod ByteTests
 pub mod ByPlace
 pub mod TokenFacts

@@ -1,9 +1,9 @@
 -- What is shown in front of an item of a valid package is well named.
-use Rattle.std.proofs.Common.{◌≡◌, refl, sym, ap, ◌∙◌, subst, ℕ, zero, suc, ◌<◌, Bool, true, false, ◌&&◌, List, [], ◌∷◌, length, get_or, Option, Some, None, nat_lt, ◌^◌, arith}
+use Rattle.std.proofs.Common.{◌≡◌, refl, ap, ℕ, suc, ◌<◌, Bool, true, ◌&&◌, List, [], ◌∷◌, length, get_or, Option, Some, None, nat_lt, ◌^◌, arith}
 use Rattle.std.specs.Prelude.{String, is_ok, is_some}
 use Rattle.std.specs.declared.alloc.Global.{Global}
 use Rattle.std.specs.List.{list_all}
-use Rattle.std.specs.Str.{chars, IsUtf8}
+use Rattle.std.specs.Str.{chars}
 use Rattle.std.specs.Str.Lines.{lines}
 use Rattle.std.proofs.lemmas.Str.{scalars-chars, IsUtf8-string_bytes}
 use lib.Utf8.{scalar, scalars}

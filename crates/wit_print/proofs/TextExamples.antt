@@ -1,43 +1,39 @@
 -- The tokens and the trees of texts of every kind: types, strings with escapes, nested packages.
 use Rattle.std.proofs.Common.{◌≡◌, [], ◌∷◌, ◌++◌, List, ℕ, refl, codes, None, Some, false, true}
+use Rattle.std.specs.Fmt.{digits}
 use Rattle.wit_model.specs.Names.{cut}
-use Rattle.wit_print.specs.Keyword.Keyword.{PrimitiveWord, Package, Interface, Func, Record, Variant, Flags, Enum, Resource, Constructor, Static, Async, Type_, Tuple, Option_, List_, Map, Underscore}
-use Rattle.wit_print.specs.Keyword.Keyword as keyword
+use Rattle.wit_print.specs.Keyword.Keyword.{PrimitiveWord, Package, Interface, Func, Record, Tuple, Option_, List_, Map, Underscore}
+use Rattle.wit_print.specs.Keyword.{Keyword}
 use Rattle.wit_print.specs.Keyword.Primitive.{Bool_, U8, U16, U32, U64, S8, S16, S32, S64, F32, F64, Char, String, ErrorContext}
 use Rattle.wit_print.specs.Render.{render}
 use Rattle.wit_print.specs.Calls.{type_calls, file_calls}
 use Rattle.wit_print.specs.Token.{Token, Tokens}
 use Rattle.wit_print.specs.Token.Token.{Word, Escaped, Key, VersionText, Digits, Quoted, Punctuation}
-use Rattle.wit_print.specs.Token.Mark.{OpenBrace, CloseBrace, OpenParen, CloseParen, Less, Greater, Colon, Semi, Comma, Dot, Equals, At, Arrow}
+use Rattle.wit_print.specs.Token.Mark.{OpenBrace, CloseBrace, OpenParen, CloseParen, Less, Greater, Colon, Semi, Comma, Dot, Equals, At}
 use Rattle.wit_print.specs.Token.Tokens.{no_tokens, skip, token}
 use Rattle.wit_print.specs.Tree.{TypeTree, Prefix, SignatureTree, FileTree}
 use Rattle.wit_print.specs.Tree.TypeTree.{PrimitiveType, Name, Own, Borrow, TupleOf, OptionOf, ListOf, FixedListOf, MapOf, Result, ResultOk, ResultErr, ResultOf, Future, FutureOf, Stream, StreamOf}
 use Rattle.wit_print.specs.Tree.TypeTrees.{NoTypes, AndTypes}
 use Rattle.wit_print.specs.Tree.Gates.{Ungated, Unstable}
-use Rattle.wit_print.specs.Tree.Declared.{RecordOf, VariantOf, FlagsOf, EnumOf, AliasOf, ResourceOf}
-use Rattle.wit_print.specs.Tree.ResourceMember as function
+use Rattle.wit_print.specs.Tree.Declared.{RecordOf}
 use Rattle.wit_print.specs.Tree.MemberTree.{TypeMember, FunctionMember}
 use Rattle.wit_print.specs.Tree.ItemTree.{InterfaceItem}
 use Rattle.wit_print.specs.Grammar.{ReadsType, ReadsSignature}
 use Rattle.wit_print.specs.Grammar.IsId.{plain, with_percent}
 use Rattle.wit_print.specs.Grammar.Repeated.{closed, again}
-use Rattle.wit_print.specs.Grammar.Listed.{last, last_with_comma, next}
+use Rattle.wit_print.specs.Grammar.Listed.{last_with_comma, next}
 use Rattle.wit_print.specs.Grammar.ReadsType.{primitive, named, named_with_percent, own, borrow, tuple, option, map, list, fixed_list, future, future_of, stream, stream_of, result, result_ok, result_of, result_err}
 use Rattle.wit_print.specs.Grammar.ReadsTypes.{last_type, next_type}
-use Rattle.wit_print.specs.Grammar.ReadsParam.{param}
-use Rattle.wit_print.specs.Grammar.ReadsParams.{no_params, params}
-use Rattle.wit_print.specs.Grammar.ReadsResult.{no_result, with_result}
-use Rattle.wit_print.specs.Grammar.ReadsSignature.{func, async_func}
+use Rattle.wit_print.specs.Grammar.ReadsParams.{no_params}
+use Rattle.wit_print.specs.Grammar.ReadsResult.{no_result}
+use Rattle.wit_print.specs.Grammar.ReadsSignature.{func}
 use Rattle.wit_print.specs.Grammar.ReadsVersion.{no_version, with_version}
 use Rattle.wit_print.specs.Grammar.ReadsDeprecated.{not_deprecated}
 use Rattle.wit_print.specs.Grammar.ReadsGates.{no_gates, unstable}
 use Rattle.wit_print.specs.Grammar.ReadsExternalId.{no_external_id, external_id}
 use Rattle.wit_print.specs.Grammar.ReadsPrefix.{prefix}
 use Rattle.wit_print.specs.Grammar.ReadsField.{field}
-use Rattle.wit_print.specs.Grammar.ReadsCase.{case_alone, case_of}
-use Rattle.wit_print.specs.Grammar.ReadsLabel.{label}
-use Rattle.wit_print.specs.Grammar.ReadsResourceMember.{constructor_, method, static}
-use Rattle.wit_print.specs.Grammar.ReadsDeclared.{record_, variant, flags, enum, alias, resource_with}
+use Rattle.wit_print.specs.Grammar.ReadsDeclared.{record_}
 use Rattle.wit_print.specs.Grammar.ReadsMember.{member_type, member_function}
 use Rattle.wit_print.specs.Grammar.ReadsItem.{interface_item}
 use Rattle.wit_print.specs.Grammar.ReadsItems.{no_items, next_item}
@@ -91,15 +87,16 @@ forms_tokens =
     Key Tuple ∷ Punctuation Less ∷ Key Option_ ∷ Punctuation Less ∷ Word (codes "t") ∷ Punctuation Greater ∷ Punctuation Comma ∷ Key List_
     ∷ Punctuation Less ∷ Key (PrimitiveWord U8) ∷ Punctuation Greater ∷ Punctuation Comma ∷ Key List_ ∷ Punctuation Less ∷ Key (PrimitiveWord U8)
     ∷ Punctuation Comma ∷ Digits 4 ∷ Punctuation Greater ∷ Punctuation Comma ∷ Key Map ∷ Punctuation Less ∷ Key (PrimitiveWord String)
-    ∷ Punctuation Comma ∷ Key (PrimitiveWord U32) ∷ Punctuation Greater ∷ Punctuation Comma ∷ Key Result ∷ Punctuation Comma ∷ Key Result
-    ∷ Punctuation Less ∷ Key (PrimitiveWord U8) ∷ Punctuation Greater ∷ Punctuation Comma ∷ Key Result ∷ Punctuation Less ∷ Key Underscore
-    ∷ Punctuation Comma ∷ Key (PrimitiveWord U8) ∷ Punctuation Greater ∷ Punctuation Comma ∷ Key Result ∷ Punctuation Less ∷ Key (PrimitiveWord U8)
-    ∷ Punctuation Comma ∷ Key (PrimitiveWord String) ∷ Punctuation Greater ∷ Punctuation Comma ∷ Key Future ∷ Punctuation Comma ∷ Key Future
-    ∷ Punctuation Less ∷ Key (PrimitiveWord U8) ∷ Punctuation Greater ∷ Punctuation Comma ∷ Key Stream ∷ Punctuation Comma ∷ Key Stream
-    ∷ Punctuation Less ∷ Key (PrimitiveWord U8) ∷ Punctuation Greater ∷ Punctuation Comma ∷ Key Own ∷ Punctuation Less ∷ Word (codes "r")
-    ∷ Punctuation Greater ∷ Punctuation Comma ∷ Key Borrow ∷ Punctuation Less ∷ Word (codes "r") ∷ Punctuation Greater ∷ Punctuation Greater ∷ []
+    ∷ Punctuation Comma ∷ Key (PrimitiveWord U32) ∷ Punctuation Greater ∷ Punctuation Comma ∷ Key Keyword.Result ∷ Punctuation Comma ∷ Key Keyword.Result
+    ∷ Punctuation Less ∷ Key (PrimitiveWord U8) ∷ Punctuation Greater ∷ Punctuation Comma ∷ Key Keyword.Result ∷ Punctuation Less ∷ Key Underscore
+    ∷ Punctuation Comma ∷ Key (PrimitiveWord U8) ∷ Punctuation Greater ∷ Punctuation Comma ∷ Key Keyword.Result ∷ Punctuation Less ∷ Key (PrimitiveWord U8)
+    ∷ Punctuation Comma ∷ Key (PrimitiveWord String) ∷ Punctuation Greater ∷ Punctuation Comma ∷ Key Keyword.Future ∷ Punctuation Comma ∷ Key Keyword.Future
+    ∷ Punctuation Less ∷ Key (PrimitiveWord U8) ∷ Punctuation Greater ∷ Punctuation Comma ∷ Key Keyword.Stream ∷ Punctuation Comma ∷ Key Keyword.Stream
+    ∷ Punctuation Less ∷ Key (PrimitiveWord U8) ∷ Punctuation Greater ∷ Punctuation Comma ∷ Key Keyword.Own ∷ Punctuation Less ∷ Word (codes "r")
+    ∷ Punctuation Greater ∷ Punctuation Comma ∷ Key Keyword.Borrow ∷ Punctuation Less ∷ Word (codes "r") ∷ Punctuation Greater ∷ Punctuation Greater ∷ []
 
 pub forms-tokens : Tokens forms_text forms_tokens
+unfolding cut
 forms-tokens =
     token refl (token refl (token refl (token refl (token refl (token refl (token refl (skip refl (token refl (token refl (token refl (token refl
     (token refl (skip refl (token refl (token refl (token refl (token refl (skip refl (token refl (token refl (token refl (skip refl (token refl
@@ -118,6 +115,7 @@ pub forms-tree : ReadsType forms_tokens forms []
 forms-tree = tuple (next_type (option named) (next_type (list primitive) (next_type (fixed_list primitive) (next_type (map primitive primitive) (next_type result (next_type (result_ok primitive) (next_type (result_err primitive) (next_type (result_of primitive primitive) (next_type future (next_type (future_of primitive) (next_type stream (next_type (stream_of primitive) (next_type (own plain) (last_type (borrow plain)))))))))))))))
 
 pub forms-text : render (type_calls forms) ≡ forms_text
+unfolding digits
 forms-text = refl
 
 -- a name that is a keyword, and without `%` a primitive type in its place
@@ -188,6 +186,7 @@ escapes-reading = record {
 }
 
 pub escapes-text : render (file_calls true escapes) ≡ escapes_text
+unfolding digits
 escapes-text = refl
 
 -- ---- a nested package

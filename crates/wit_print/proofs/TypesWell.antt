@@ -1,5 +1,5 @@
 -- What is shown of a type number is well named, if its parts stand before it.
-use Rattle.std.proofs.Common.{◌≡◌, refl, sym, ap, ◌∙◌, subst, ℕ, zero, suc, ◌+◌, ◌<◌, ◌^◌, Bool, true, false, ◌&&◌, ◌||◌, not, nat_lt, nat_le, lit≤, ◌≤◌, List, [], ◌∷◌, ◌++◌, length, length-append, Option, Some, None, slice_get, filter_map, unwrap_or, arith}
+use Rattle.std.proofs.Common.{◌≡◌, refl, sym, ◌∙◌, subst, ℕ, zero, suc, ◌+◌, ◌<◌, ◌^◌, Bool, true, false, ◌&&◌, ◌||◌, not, nat_lt, nat_le, lit≤, ◌≤◌, List, [], ◌∷◌, ◌++◌, length, length-append, Option, Some, None, slice_get, filter_map, unwrap_or, arith}
 use Rattle.std.specs.Prelude.{option_map, option_to_list, is_some, String}
 use Rattle.std.specs.Option.{option_map_or}
 use Rattle.std.specs.List.{list_all}
@@ -21,7 +21,7 @@ use Rattle.wit_model.specs.Lookup.{type_at}
 use Rattle.wit_model.specs.Valid.{IsValid, Rule, Keeps, is_place, numbers_in_range, labels, order_of_types, shapes, named_kinds, handles}
 use Rattle.wit_model.proofs.Entries.{each_from_at, lists_pass}
 use Rattle.wit_model.specs.Rules.{passes, has_shape, has_items, is_named_kind}
-use Rattle.wit_print.specs.Tree.{TypeTree, TypeTrees}
+use Rattle.wit_print.specs.Tree.{TypeTree}
 use Rattle.wit_print.specs.Tree.TypeTree.{Name}
 use Rattle.wit_print.specs.Shown.{present_name, shown_type, type_name, used_type, used_types, future_tree, stream_tree, result_tree, kind_tree, def_tree, trees_from, type_trees}
 use Rattle.wit_print.specs.WellNamed.{is_well_type, are_well_types, are_well_more}

@@ -3,7 +3,6 @@ use Rattle.std.proofs.Common.{◌≡◌, refl, sym, ap, ◌∙◌, Bool, true, f
 use Rattle.std.specs.Prelude.{option_map}
 use Rattle.wit_print.specs.declared.type_kind.TypeKind.TheVariants as kind
 use Rattle.wit_print.specs.Keyword.{escaped}
-use Rattle.wit_print.specs.OutputCall.{OutputCall}
 use Rattle.wit_print.specs.OutputCall.OutputCall.{IndentStart, IndentEnd, Newline, Keyword, Ty, Str}
 use Rattle.wit_print.specs.Tree.{TypeTree, ParamTree, CaseTree, SignatureTree, ResourceMember, Declared, MemberTree, ExternTree, WorldMember, ItemTree, PackageTree, FileTree}
 use Rattle.wit_print.specs.Tree.ResourceMember.{Constructor, Method, Static}

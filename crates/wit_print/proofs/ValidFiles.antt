@@ -1,5 +1,5 @@
 -- What is shown of valid packages is well named, and so is read as it stands.
-use Rattle.std.proofs.Common.{◌≡◌, refl, sym, ap, subst, ◌<◌, ℕ, Bool, true, ◌&&◌, List, [], ◌∷◌, ◌++◌, map, filter_map, length, Option, Some, None}
+use Rattle.std.proofs.Common.{◌≡◌, refl, sym, ap, subst, ◌<◌, ℕ, Bool, true, List, filter_map, length, Option, Some, None}
 use Rattle.std.specs.Prelude.{String, option_map}
 use Rattle.std.specs.Option.{option_map_or}
 use Rattle.std.specs.List.{list_all}
@@ -13,7 +13,7 @@ use Rattle.wit_model.specs.declared.model.InterfaceId.{InterfaceId}
 use Rattle.wit_model.specs.declared.model.World.{World}
 use Rattle.wit_model.specs.declared.model.WorldId.{WorldId}
 use Rattle.wit_model.specs.Text.{Text, text_of, text_eq}
-use Rattle.wit_model.specs.Names.{is_label, is_version}
+use Rattle.wit_model.specs.Names.{is_label}
 use Rattle.wit_model.specs.Lookup.{package_at, interface_at, world_at}
 use Rattle.wit_model.specs.Rules.{in_list, passes, is_stability, text_is}
 use Rattle.wit_model.specs.Valid.{IsValid, package_names, labels, names_in_packages}
@@ -24,10 +24,9 @@ use Rattle.wit_print.specs.Render.{Written, render, writes, blank}
 use Rattle.wit_print.specs.Calls.{file_calls}
 use Rattle.wit_print.specs.AsRead.{file_as_read}
 use Rattle.wit_print.specs.Reading.{IsOnlyReading}
-use Rattle.wit_print.specs.Tree.{ItemTree}
 use Rattle.wit_print.specs.Tree.ItemTree.{InterfaceItem, WorldItem}
 use Rattle.wit_print.specs.Shown.{shown_docs, shown_gates, shown_interface, shown_interface_item, shown_world, shown_world_item, shown_package_of, no_package, shown_package, shown_file}
-use Rattle.wit_print.specs.WellNamed.{is_well_gates, is_well_member, is_well_world_member, is_well_item, is_well_package, is_well_file}
+use Rattle.wit_print.specs.WellNamed.{is_well_gates, is_well_item, is_well_package, is_well_file}
 use Rattle.wit_print.proofs.ByteTests.{both, left_of, right_of}
 use Rattle.wit_print.proofs.ByPlace.{one_there}
 use Rattle.wit_print.proofs.WellLists.{each_well, given_well, joined_well}

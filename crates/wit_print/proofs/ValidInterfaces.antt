@@ -1,5 +1,5 @@
 -- What is shown of a valid `Resolve`'s interfaces is well named.
-use Rattle.std.proofs.Common.{◌≡◌, refl, Bool, true, false, ◌&&◌, ◌||◌, not, List, [], ◌∷◌, ◌++◌, map, filter, Option, Some, None, ℕ}
+use Rattle.std.proofs.Common.{◌≡◌, refl, true, ◌&&◌, List, [], ◌∷◌, ◌++◌, map, filter, Some, ℕ}
 use Rattle.std.specs.Prelude.{String, is_some}
 use Rattle.std.specs.List.{list_all}
 use Rattle.std.specs.Map.{values_of}
@@ -18,7 +18,7 @@ use Rattle.wit_model.specs.Rules.{in_list, passes, package_number, is_stability,
 use Rattle.wit_model.specs.Valid.{IsValid, is_place, numbers_in_range, places, labels, order_of_types, function_names}
 use Rattle.wit_model.proofs.OnePath.{interface-passes}
 use Rattle.wit_print.specs.Tree.MemberTree.{UseMember, TypeMember}
-use Rattle.wit_print.specs.Shown.{Used, DeclaredWith, shown_uses, shown_declarations, path_from_owner, listed_types, listed_functions, function_prefix, shown_signature, shown_function, shown_interface}
+use Rattle.wit_print.specs.Shown.{Used, DeclaredWith, shown_uses, shown_declarations, path_from_owner, listed_types, listed_functions, function_prefix, shown_function, shown_interface}
 use Rattle.wit_print.specs.WellNamed.{is_well_prefix, is_well_path, is_well_member}
 use Rattle.wit_print.proofs.ByteTests.{both, left_of, right_of}
 use Rattle.wit_print.proofs.WellLists.{implied, each_well, kept_well, joined_well}

@@ -1,5 +1,5 @@
 -- The own names of a valid `Resolve`'s functions are labels.
-use Rattle.std.proofs.Common.{◌≡◌, refl, sym, ap, ◌∙◌, subst, ℕ, ◌+◌, Bool, true, false, ◌&&◌, ◌||◌, ◌==◌, not, cond, T, eqb→eq, List, [], ◌∷◌, ◌++◌, append_assoc, length, drop, Option, Some, None, unwrap_or, option_and_then, arith}
+use Rattle.std.proofs.Common.{◌≡◌, refl, sym, ap, ◌∙◌, subst, ℕ, ◌+◌, Bool, true, false, ◌&&◌, ◌||◌, ◌==◌, not, cond, T, eqb→eq, [], ◌∷◌, ◌++◌, append_assoc, length, drop, Option, Some, None, option_and_then, arith}
 use Rattle.std.specs.Prelude.{codes, String, if◌then◌else◌}
 use Rattle.std.specs.List.{list_all, position_or_len}
 use Rattle.std.specs.Option.{option_map_or}

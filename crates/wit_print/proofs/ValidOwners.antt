@@ -1,5 +1,5 @@
 -- What a valid `Resolve` says of owners and of the names in their lists.
-use Rattle.std.proofs.Common.{◌≡◌, refl, sym, ap, ◌∙◌, subst, ℕ, ◌+◌, Bool, true, false, ◌&&◌, ◌||◌, ◌==◌, not, nat_lt, eq-eqb, List, [], ◌∷◌, ◌++◌, flat_map, map, Option, Some, None, slice_get, option_map, length, arith}
+use Rattle.std.proofs.Common.{◌≡◌, refl, sym, ap, ◌∙◌, subst, ℕ, ◌+◌, Bool, true, false, ◌&&◌, ◌||◌, not, eq-eqb, List, [], ◌∷◌, flat_map, map, Option, Some, None, option_map, length, arith}
 use Rattle.std.specs.Prelude.{is_some, String}
 use Rattle.std.specs.Option.{option_map_or}
 use Rattle.std.specs.List.{list_all, find}

@@ -1,5 +1,5 @@
 -- What is shown of a valid `Resolve`'s paths and uses is well named.
-use Rattle.std.proofs.Common.{◌≡◌, refl, sym, ap, ◌∙◌, subst, ℕ, Bool, true, false, ◌&&◌, ◌||◌, ◌==◌, not, List, [], ◌∷◌, ◌++◌, Option, Some, None, option_and_then, filter_map, slice_get, inl, inr}
+use Rattle.std.proofs.Common.{◌≡◌, refl, ap, subst, ℕ, Bool, true, false, ◌&&◌, ◌||◌, ◌==◌, not, List, [], ◌∷◌, ◌++◌, Option, Some, None, option_and_then, filter_map, inl, inr}
 use Rattle.std.specs.Prelude.{is_some, if◌then◌else◌}
 use Rattle.std.specs.Option.{option_map_or}
 use Rattle.std.specs.List.{list_all}
@@ -19,16 +19,15 @@ use Rattle.wit_model.specs.declared.model.«Type».{«Type» as ValueType}
 use Rattle.wit_model.specs.declared.model.«Type».TheVariants as value
 use Rattle.wit_model.specs.declared.model.Function.{Function}
 use Rattle.wit_model.specs.Text.{Text, text_of, text_eq}
-use Rattle.wit_model.specs.Names.{is_label, is_version}
+use Rattle.wit_model.specs.Names.{is_label}
 use Rattle.wit_model.specs.Lookup.{package_at, interface_at, type_at}
 use Rattle.wit_model.specs.Uses.{alias_target}
 use Rattle.wit_model.specs.Parts.{same_owner}
-use Rattle.wit_model.specs.Rules.{passes, is_stability, is_named_of, is_named_number, is_named_kind}
+use Rattle.wit_model.specs.Rules.{passes, is_stability, is_named_number, is_named_kind}
 use Rattle.wit_model.specs.Valid.{IsValid, package_names, labels, named_kinds}
 use Rattle.wit_model.proofs.OnePath.{package-passes, interface-passes}
-use Rattle.wit_print.specs.Tree.{UsedName}
 use Rattle.wit_print.specs.Tree.PathTree.{Local}
-use Rattle.wit_print.specs.Shown.{present_name, shown_prefix, shown_gates, full_path, path_from, shown_path, Used, own_name, used_of, same_group, grouped_with, grouped, Listed, shown_uses, DeclaredWith, shown_declared, declared_with, shown_declarations, path_from_owner}
+use Rattle.wit_print.specs.Shown.{present_name, shown_prefix, full_path, path_from, shown_path, Used, own_name, used_of, same_group, grouped_with, grouped, Listed, shown_uses, DeclaredWith, shown_declared, declared_with, shown_declarations, path_from_owner}
 use Rattle.wit_print.specs.WellNamed.{is_well_optional, is_well_prefix, is_well_path, is_well_used, are_well_some, is_well_declared}
 use Rattle.wit_print.proofs.ByteTests.{both, left_of, right_of}
 use Rattle.wit_print.proofs.WellLists.{given_well, joined_some}

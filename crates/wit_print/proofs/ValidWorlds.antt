@@ -1,5 +1,5 @@
 -- What is shown of a valid `Resolve`'s worlds is well named.
-use Rattle.std.proofs.Common.{◌≡◌, refl, sym, ◌∙◌, subst, Bool, true, false, ◌&&◌, ◌||◌, not, List, [], ◌∷◌, ◌++◌, map, filter, filter_map, Option, Some, None, ℕ, length}
+use Rattle.std.proofs.Common.{◌≡◌, refl, sym, ◌∙◌, subst, Bool, true, false, ◌&&◌, List, [], ◌∷◌, ◌++◌, map, filter, filter_map, Option, Some, None, ℕ, length}
 use Rattle.std.specs.Prelude.{String, is_some, if◌then◌else◌}
 use Rattle.std.specs.Option.{option_map_or}
 use Rattle.std.specs.List.{list_all, cons_option}
@@ -21,17 +21,16 @@ use Rattle.wit_model.specs.declared.model.TypeOwner.{TypeOwner}
 use Rattle.wit_model.specs.declared.model.TypeOwner.TheVariants as owner
 use Rattle.wit_model.specs.declared.model.Docs.{Docs}
 use Rattle.wit_model.specs.declared.model.Stability.{Stability}
-use Rattle.wit_model.specs.declared.model.Function.{Function}
 use Rattle.wit_model.specs.Text.{Text, text_of}
 use Rattle.wit_model.specs.Names.{is_label}
 use Rattle.wit_model.specs.Lookup.{interface_at, world_at}
-use Rattle.wit_model.specs.Rules.{in_list, passes, is_id, package_number, is_stability, is_freestanding, function_labels, key_in_range, item_in_range, entries_in_range, key_label, item_labels, entries_labels, item_type, is_name_key, is_named_of, is_member, is_interface_key, import_stands, export_stands, is_export_item}
+use Rattle.wit_model.specs.Rules.{in_list, passes, is_id, package_number, is_stability, function_labels, key_in_range, item_in_range, entries_in_range, key_label, item_labels, entries_labels, item_type, is_name_key, is_named_of, is_member, is_interface_key, import_stands, export_stands, is_export_item}
 use Rattle.wit_model.specs.Valid.{IsValid, is_place, item_function, numbers_in_range, labels, order_of_types, function_names, world_items}
 use Rattle.wit_print.specs.OutputCall.{is_one_line}
 use Rattle.wit_print.specs.Tree.ExternTree.{NamedPath, NamedInterface}
 use Rattle.wit_print.specs.Tree.{WorldMember}
 use Rattle.wit_print.specs.Tree.WorldMember.{WorldUse, WorldType}
-use Rattle.wit_print.specs.Shown.{Entry, Used, DeclaredWith, Listed, shown_docs, shown_gates, shown_external_id, shown_path, shown_uses, shown_declarations, shown_interface, function_prefix, extern_docs, extern_prefix, shown_extern, shown_import, shown_export, is_interface_item, is_freestanding_item, function_of_item, type_of_entry, listed_imports, imported_functions, shown_world_in, shown_world}
+use Rattle.wit_print.specs.Shown.{Entry, Used, shown_docs, shown_gates, shown_path, shown_uses, shown_declarations, shown_interface, function_prefix, extern_docs, extern_prefix, shown_extern, shown_import, shown_export, is_interface_item, is_freestanding_item, function_of_item, type_of_entry, listed_imports, imported_functions, shown_world_in, shown_world}
 use Rattle.wit_print.specs.WellNamed.{is_well_gates, is_well_prefix, is_well_path, is_well_member, is_well_extern, is_well_world_member}
 use Rattle.wit_print.proofs.ByteTests.{both, left_of, right_of, weaker_all}
 use Rattle.wit_print.proofs.ByPlace.{one_there}

@@ -1,5 +1,5 @@
 -- When what two `Resolve`s hold differs in documentation alone.
-use Rattle.std.specs.Prelude.{◌≡◌, List, Option, String}
+use Rattle.std.specs.Prelude.{◌≡◌, Option, String}
 use Rattle.std.specs.List.{AllZip}
 use Rattle.std.specs.declared.alloc.Global.{Global}
 use Rattle.semver.specs.declared.Version.{Version}
@@ -34,7 +34,7 @@ use Rattle.wit_model.specs.declared.model.EnumCase.{EnumCase}
 use Rattle.wit_model.specs.declared.model.Docs.{Docs}
 use Rattle.wit_model.specs.declared.model.Stability.{Stability}
 use Rattle.wit_model.specs.declared.model.Stability.TheVariants as stability
-use Rattle.wit_model.specs.Text.{Text, text_of, optional_text}
+use Rattle.wit_model.specs.Text.{text_of, optional_text}
 use Rattle.wit_model.specs.Lookup.{optional_version_text}
 
 -- feature gates with the same texts
