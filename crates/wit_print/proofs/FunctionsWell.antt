@@ -1,5 +1,5 @@
 -- What is shown of a function of a valid `Resolve` is well named.
-use Rattle.std.proofs.Common.{◌≡◌, refl, sym, ap, ◌∙◌, subst, Bool, true, false, ◌&&◌, ◌||◌, not, List, [], ◌∷◌, ◌++◌, length, drop, Option, Some, None, map}
+use Rattle.std.proofs.Common.{◌≡◌, refl, sym, ◌∙◌, Bool, true, ◌&&◌, ◌||◌, not, List, [], ◌∷◌, length, drop, Option, Some, None, map}
 use Rattle.std.specs.Prelude.{option_map, option_to_list, if◌then◌else◌}
 use Rattle.std.specs.List.{list_all}
 use Rattle.std.proofs.lemmas.List.Folds.{list_all-append}
@@ -11,24 +11,16 @@ use Rattle.wit_model.specs.Text.{text_of}
 use Rattle.wit_model.specs.Names.{is_label}
 use Rattle.wit_model.specs.Lookup.{resource_of}
 use Rattle.wit_model.specs.Parts.{function_types}
-use Rattle.wit_model.specs.Rules.{function_in_range, function_labels, is_freestanding, is_stability, are_member_labels}
+use Rattle.wit_model.specs.Rules.{function_in_range, function_labels, is_freestanding, are_member_labels}
 use Rattle.wit_model.specs.Valid.{IsValid}
-use Rattle.wit_print.specs.Tree.{ParamTree}
 use Rattle.wit_print.specs.Shown.{shown_type, shown_param, shown_params, shown_signature, function_prefix, is_method}
 use Rattle.wit_print.specs.WellNamed.{is_well_type, is_well_optional, is_well_param, is_well_signature, is_well_prefix}
 use Rattle.wit_print.proofs.ByteTests.{both, left_of, right_of}
+use Rattle.wit_print.proofs.WellLists.{written_well}
 use Rattle.wit_print.proofs.ShownWell.{shown_prefix_well}
-use Rattle.wit_print.proofs.TypesWell.{has_short_length, is_below, below_of_numbers, shown_type_well}
+use Rattle.wit_print.proofs.TypesWell.{is_below, below_of_numbers, shown_type_well}
 
-without_first : {X : Type 0} (p : X → Bool) (xs : List X) → list_all p xs ≡ true → list_all p (drop 1 xs) ≡ true
-without_first p [] h = refl
-without_first p (x ∷ xs) h = right_of (p x) _ h
-
-written_params : {X : Type 0} (p : X → Bool) (b : Bool) (xs : List X) → list_all p xs ≡ true → list_all p (if b then drop 1 xs else xs) ≡ true
-written_params p true xs h = without_first p xs h
-written_params p false xs h = h
-
-module _ (r : Resolve) (valid : IsValid r) (short : list_all (λ def. has_short_length def.kind) r.types.items ≡ true) where
+module _ (r : Resolve) (valid : IsValid r) where
   -- a parameter with a label and a type in range
   abbrev known_param : Param → Bool
   known_param p = is_label (text_of p.name) && is_below (length r.types.items) p.ty
@@ -47,12 +39,13 @@ module _ (r : Resolve) (valid : IsValid r) (short : list_all (λ def. has_short_
       let known : known_param p ≡ true = left_of _ _ h in
       let label : is_label (text_of p.name) ≡ true = left_of _ _ known in
       both (is_well_param (shown_param r p)) (list_all is_well_param (map (shown_param r) ps))
-      (both (is_label (text_of p.name)) (is_well_type (shown_type r p.ty)) label (shown_type_well r valid short p.ty (right_of (is_label (text_of p.name)) _ known)))
+      (both (is_label (text_of p.name)) (is_well_type (shown_type r p.ty)) label (shown_type_well r valid p.ty (right_of (is_label (text_of p.name)) _ known)))
       (params_well ps (right_of (known_param p) _ h))
 
-  result_well : (o : Option ValueType) → list_all (is_below (length r.types.items)) (option_to_list o) ≡ true → is_well_optional is_well_type (option_map (shown_type r) o) ≡ true
-  result_well None h = refl
-  result_well (Some t) h = shown_type_well r valid short t (left_of _ _ h)
+  -- So is a type that may be left out.
+  pub optional_type_well : (o : Option ValueType) → list_all (is_below (length r.types.items)) (option_to_list o) ≡ true → is_well_optional is_well_type (option_map (shown_type r) o) ≡ true
+  optional_type_well None h = refl
+  optional_type_well (Some t) h = shown_type_well r valid t (left_of _ _ h)
 
   -- The signature of a function whose numbers are in range and that keeps the rule on labels is shown well.
   pub signature_well : (f : Function) → function_in_range r f ≡ true → function_labels f ≡ true → is_well_signature (shown_signature r f) ≡ true
@@ -61,8 +54,8 @@ module _ (r : Resolve) (valid : IsValid r) (short : list_all (λ def. has_short_
       let split = sym (list_all-append (is_below (length r.types.items)) (map (λ p. p.ty) f.params.items) (option_to_list f.result)) ∙ all in
       let names = left_of _ _ (left_of _ _ (right_of (not (is_freestanding f.kind) || is_label (text_of f.name)) _ named)) in
       let known = params_known f.params.items names (left_of _ _ split) in
-      both (list_all is_well_param (shown_params r f)) _ (params_well (if is_method f.kind then drop 1 f.params.items else f.params.items) (written_params known_param (is_method f.kind) f.params.items known))
-      (result_well f.result (right_of (list_all (is_below (length r.types.items)) (map (λ p. p.ty) f.params.items)) _ split))
+      both (list_all is_well_param (shown_params r f)) _ (params_well (if is_method f.kind then drop 1 f.params.items else f.params.items) (written_well known_param (is_method f.kind) f.params.items known))
+      (optional_type_well f.result (right_of (list_all (is_below (length r.types.items)) (map (λ p. p.ty) f.params.items)) _ split))
 
 -- So is what stands in front of it.
 pub function_prefix_well : (f : Function) → function_labels f ≡ true → is_well_prefix (function_prefix f) ≡ true

@@ -1,7 +1,10 @@
 pub mod Moves
 pub mod RenderLaws
 mod ReadingExamples
+mod TextExamples
+mod DeclaredExamples
 pub mod ByteTests
+pub mod ByPlace
 pub mod TokenFacts
 pub mod VersionFacts
 pub mod TextOf
@@ -21,7 +24,7 @@ pub mod OneLine
 pub mod DocLines
 pub mod Runs
 pub mod Printables
-pub mod PlainReads
+pub mod WellLists
 pub mod TokensUnique
 pub mod TypeUnique
 pub mod ListsUnique
@@ -32,4 +35,13 @@ pub mod ValidPlain
 pub mod ShownWell
 pub mod TypesWell
 pub mod FunctionsWell
-pub mod PrintedText
+pub mod ValidNames
+pub mod ValidDeclared
+pub mod ValidOwners
+pub mod ValidUses
+pub mod ValidInterfaces
+pub mod ValidWorlds
+pub mod ValidFiles
+pub mod UndocumentedCalls
+pub mod AlikeTypes
+pub mod AlikeFiles

@@ -10,6 +10,7 @@ pub mod Token
 pub mod Grammar
 pub mod Reading
 pub mod WellNamed
+pub mod Documentation
 pub mod Drafted
 pub mod Printable
 pub mod Printer

@@ -1,14 +1,14 @@
 //! Laws about the definitions.
 
-ghost use Rattle.std.specs.Prelude.{◌≡◌, ◌<◌, ◌++◌, Bool, List, length, true};
+ghost use Rattle.std.specs.Prelude.{◌≡◌, ◌<◌, ◌++◌, Bool, List, false, length, true};
 ghost use Rattle.std.specs.List.{list_all};
 ghost use Rattle.wit_model.specs.Rules.{in_list};
-ghost use Rattle.wit_model.specs.Plain.{IsPlain};
 ghost use Rattle.wit_model.specs.Valid.{IsValid};
 ghost use Rattle.wit_model.specs.declared.model.PackageId.{PackageId};
 ghost use Rattle.wit_model.specs.declared.model.Resolve.{Resolve};
 ghost use Rattle.wit_print.specs.AsRead.{file_as_read};
 ghost use Rattle.wit_print.specs.Calls.{file_calls};
+ghost use Rattle.wit_print.specs.Documentation.{DifferInDocumentation};
 ghost use Rattle.wit_print.specs.Reading.{IsOnlyReading, OneReading};
 ghost use Rattle.wit_print.specs.Shown.{shown_file};
 ghost use Rattle.wit_print.specs.Tree.{FileTree};
@@ -48,12 +48,17 @@ pub fn well_named_file_reads()
     ensures { (emits_docs : Bool) (file : FileTree) → is_well_file file ≡ true → IsOnlyReading (render (file_calls emits_docs file)) (file_as_read file) }
 {}
 
-/// The text of plain packages is read as what is shown of them and as nothing else, with documentation or without.
-pub fn plain_packages_read()
-    ensures { (emits_docs : Bool) (r : Resolve) (main : PackageId) (nested : List PackageId) → IsPlain r → IsValid r → main.0 < length r.packages.items → list_all (λ id. in_list r.packages.items id.0) nested ≡ true → IsOnlyReading (render (file_calls emits_docs (shown_file r main nested))) (file_as_read (shown_file r main nested)) }
+/// The text of valid packages is read as what is shown of them and as nothing else, with documentation or without.
+pub fn packages_read()
+    ensures { (emits_docs : Bool) (r : Resolve) (main : PackageId) (nested : List PackageId) → IsValid r → main.0 < length r.packages.items → list_all (λ id. in_list r.packages.items id.0) nested ≡ true → IsOnlyReading (render (file_calls emits_docs (shown_file r main nested))) (file_as_read (shown_file r main nested)) }
 {}
 
 /// So is the text of an output that kept the text of a completed print from the start.
 pub fn kept_text_reads()
-    ensures { (emits_docs : Bool) (r : Resolve) (main : PackageId) (nested : List PackageId) → IsPlain r → IsValid r → main.0 < length r.packages.items → list_all (λ id. in_list r.packages.items id.0) nested ≡ true → (new : View Written) → Moves writes blank (file_calls emits_docs (shown_file r main nested)) new → IsOnlyReading new.kept.text (file_as_read (shown_file r main nested)) }
+    ensures { (emits_docs : Bool) (r : Resolve) (main : PackageId) (nested : List PackageId) → IsValid r → main.0 < length r.packages.items → list_all (λ id. in_list r.packages.items id.0) nested ≡ true → (new : View Written) → Moves writes blank (file_calls emits_docs (shown_file r main nested)) new → IsOnlyReading new.kept.text (file_as_read (shown_file r main nested)) }
+{}
+
+/// Without documentation, packages that differ in documentation alone make the same calls, and so print the same text.
+pub fn undocumented_prints_alike()
+    ensures { (a b : Resolve) (main : PackageId) (nested : List PackageId) → DifferInDocumentation a b → file_calls false (shown_file a main nested) ≡ file_calls false (shown_file b main nested) }
 {}

@@ -1,0 +1,290 @@
+-- Where two `Resolve`s differ in documentation alone, what is shown of their types differs in documentation alone.
+use Rattle.std.proofs.Common.{◌≡◌, refl, ap, ◌∙◌, subst, ℕ, zero, suc, Bool, true, false, ◌&&◌, ◌==◌, List, [], ◌∷◌, ◌++◌, map, filter, drop, cond, Option, Some, None, option_map, option_and_then, unwrap_or, slice_get}
+use Rattle.std.specs.Prelude.{String, is_none, if◌then◌else◌}
+use Rattle.std.specs.Option.{option_map_or}
+use Rattle.std.specs.List.{AllZip}
+use Rattle.std.specs.Str.{chars}
+use Rattle.std.specs.declared.alloc.Global.{Global}
+use Rattle.wit_model.specs.declared.model.Resolve.{Resolve}
+use Rattle.wit_model.specs.declared.model.TypeDef.{TypeDef}
+use Rattle.wit_model.specs.declared.model.TypeDefKind.{TypeDefKind}
+use Rattle.wit_model.specs.declared.model.TypeDefKind.TheVariants as defined
+use Rattle.wit_model.specs.declared.model.TypeId.{TypeId}
+use Rattle.wit_model.specs.declared.model.Handle.TheVariants as handle
+use Rattle.wit_model.specs.declared.model.«Type».{«Type» as ValueType}
+use Rattle.wit_model.specs.declared.model.«Type».TheVariants as value
+use Rattle.wit_model.specs.declared.model.Function.{Function}
+use Rattle.wit_model.specs.declared.model.FunctionKind.{FunctionKind}
+use Rattle.wit_model.specs.declared.model.FunctionKind.TheVariants as call
+use Rattle.wit_model.specs.declared.model.Param.{Param}
+use Rattle.wit_model.specs.declared.model.Field.{Field}
+use Rattle.wit_model.specs.declared.model.Case.{Case}
+use Rattle.wit_model.specs.declared.model.Flag.{Flag}
+use Rattle.wit_model.specs.declared.model.EnumCase.{EnumCase}
+use Rattle.wit_model.specs.declared.model.Stability.{Stability}
+use Rattle.wit_model.specs.Text.{text_of, optional_text}
+use Rattle.wit_model.specs.Lookup.{type_at, is_async, resource_of}
+use Rattle.wit_model.specs.Calls.{own_name_of}
+use Rattle.wit_model.specs.Rules.{is_own_of, is_own_kind}
+use Rattle.wit_print.specs.Documentation.{AlikeGates, AlikeParams, AlikeFields, AlikeCases, AlikeFlags, AlikeEnumCases, AlikeKinds, AlikeTypes, AlikeFunctions, DifferInDocumentation}
+use Rattle.wit_print.specs.Documentation.AlikeGates.{unknown, stable, unstable}
+use Rattle.wit_print.specs.Documentation.AlikeKinds.{records, resources, handles, flags, tuples, variants, enums, options, results, lists, maps, fixed_lists, futures, streams, aliases}
+use Rattle.wit_print.specs.Tree.{TypeTree}
+use Rattle.wit_print.specs.Tree.TypeTree.{Name, TupleOf}
+use Rattle.wit_print.specs.Tree.Gates.{Since, Unstable}
+use Rattle.wit_print.specs.Tree.ResourceMember.{Constructor, Method, Static}
+use Rattle.wit_print.specs.Tree.Declared.{RecordOf, VariantOf, FlagsOf, EnumOf, AliasOf, ResourceOf}
+use Rattle.wit_print.specs.AsRead.{bare_prefix, bare_param, bare_field, bare_case, bare_label, bare_signature, bare_resource_member, bare_declared}
+use Rattle.wit_print.specs.Shown.{present_name, shown_gates, shown_external_id, type_name, used_type, used_types, result_tree, kind_tree, def_tree, trees_from, type_trees, shown_type, shown_field, shown_case, shown_flag, shown_enum_case, is_method, belongs_to, shown_param, shown_params, shown_signature, constructor_result, function_prefix, shown_resource_member, shown_declared}
+
+abbrev pub same : TypeTree → TypeTree
+same ty = ty
+
+-- ---- lists and options, place by place
+
+-- two that are both there and alike, or neither
+abbrev pub Both : {X : Type 0} → (X → X → Type 0) → Option X → Option X → Type 0
+Both R None None = Unit {0}
+Both R None (Some y) = ⊥
+Both R (Some x) None = ⊥
+Both R (Some x) (Some y) = R x y
+
+pub at_both : {X : Type 0} (R : X → X → Type 0) (xs ys : List X) (n : ℕ) → AllZip R xs ys → Both R (slice_get xs n) (slice_get ys n)
+at_both R [] [] n h = tt
+at_both R [] (y ∷ ys) n h = absurd h
+at_both R (x ∷ xs) [] n h = absurd h
+at_both R (x ∷ xs) (y ∷ ys) zero h = h.0
+at_both R (x ∷ xs) (y ∷ ys) (suc n) h = at_both R xs ys n h.1
+
+pub or_alike : {X Y : Type 0} (R : X → X → Type 0) (f g : X → Y) (d : Y) → ((x y : X) → R x y → f x ≡ g y) → (o p : Option X) → Both R o p → option_map_or f o d ≡ option_map_or g p d
+or_alike R f g d each None None h = refl
+or_alike R f g d each None (Some y) h = absurd h
+or_alike R f g d each (Some x) None h = absurd h
+or_alike R f g d each (Some x) (Some y) h = each x y h
+
+pub then_alike : {X Y : Type 0} (R : X → X → Type 0) (f g : X → Option Y) → ((x y : X) → R x y → f x ≡ g y) → (o p : Option X) → Both R o p → option_and_then f o ≡ option_and_then g p
+then_alike R f g each None None h = refl
+then_alike R f g each None (Some y) h = absurd h
+then_alike R f g each (Some x) None h = absurd h
+then_alike R f g each (Some x) (Some y) h = each x y h
+
+pub map_alike : {X Y : Type 0} (R : X → X → Type 0) (f g : X → Y) → ((x y : X) → R x y → f x ≡ g y) → (xs ys : List X) → AllZip R xs ys → map f xs ≡ map g ys
+map_alike R f g each [] [] h = refl
+map_alike R f g each [] (y ∷ ys) h = absurd h
+map_alike R f g each (x ∷ xs) [] h = absurd h
+map_alike R f g each (x ∷ xs) (y ∷ ys) h = λ i. each x y h.0 i ∷ map_alike R f g each xs ys h.1 i
+
+-- two steps of which the second takes documentation away
+pub bare_map_alike : {X Y Z : Type 0} (R : X → X → Type 0) (bare : Y → Z) (f g : X → Y) → ((x y : X) → R x y → bare (f x) ≡ bare (g y)) → (xs ys : List X) → AllZip R xs ys → map bare (map f xs) ≡ map bare (map g ys)
+bare_map_alike R bare f g each [] [] h = refl
+bare_map_alike R bare f g each [] (y ∷ ys) h = absurd h
+bare_map_alike R bare f g each (x ∷ xs) [] h = absurd h
+bare_map_alike R bare f g each (x ∷ xs) (y ∷ ys) h = λ i. each x y h.0 i ∷ bare_map_alike R bare f g each xs ys h.1 i
+
+pub filter_alike : {X : Type 0} (R : X → X → Type 0) (p : X → Bool) → ((x y : X) → R x y → p x ≡ p y) → (xs ys : List X) → AllZip R xs ys → AllZip R (filter p xs) (filter p ys)
+filter_alike R p each [] [] h = tt
+filter_alike R p each [] (y ∷ ys) h = absurd h
+filter_alike R p each (x ∷ xs) [] h = absurd h
+filter_alike R p each (x ∷ xs) (y ∷ ys) h = go (p x) (p y) (each x y h.0) (filter_alike R p each xs ys h.1)
+  where
+    go : (b c : Bool) → b ≡ c → AllZip R (filter p xs) (filter p ys) → AllZip R (cond b (x ∷ filter p xs) (filter p xs)) (cond c (y ∷ filter p ys) (filter p ys))
+    go true true e rest = (h.0, rest)
+    go false false e rest = rest
+    go true false e rest = absurd cc
+    go false true e rest = absurd cc
+
+rest_alike : {X : Type 0} (R : X → X → Type 0) (xs ys : List X) → AllZip R xs ys → AllZip R (drop 1 xs) (drop 1 ys)
+rest_alike R [] [] h = tt
+rest_alike R [] (y ∷ ys) h = absurd h
+rest_alike R (x ∷ xs) [] h = absurd h
+rest_alike R (x ∷ xs) (y ∷ ys) h = h.1
+
+-- ---- texts
+
+pub name_alike : (x y : Option (String Global)) → optional_text x ≡ optional_text y → present_name x ≡ present_name y
+name_alike None None h = refl
+name_alike None (Some t) h = let wrong : ⊥ = cc in absurd wrong
+name_alike (Some s) None h = let wrong : ⊥ = cc in absurd wrong
+name_alike (Some s) (Some t) h = ap (λ o. unwrap_or o []) h
+
+pub external_id_alike : (x y : Option (String Global)) → optional_text x ≡ optional_text y → shown_external_id x ≡ shown_external_id y
+external_id_alike None None h = refl
+external_id_alike None (Some t) h = let wrong : ⊥ = cc in absurd wrong
+external_id_alike (Some s) None h = let wrong : ⊥ = cc in absurd wrong
+external_id_alike (Some s) (Some t) h = ap (option_map chars) h
+
+pub gates_alike : (s t : Stability) → AlikeGates s t → shown_gates s ≡ shown_gates t
+gates_alike s t unknown = refl
+gates_alike s t (stable v d) = λ i. Since (v i) (d i)
+gates_alike s t (unstable f d) = λ i. Unstable (f i) (d i)
+
+none_alike : (x y : Option (String Global)) → optional_text x ≡ optional_text y → is_none x ≡ is_none y
+none_alike None None h = refl
+none_alike None (Some t) h = let wrong : ⊥ = cc in absurd wrong
+none_alike (Some s) None h = let wrong : ⊥ = cc in absurd wrong
+none_alike (Some s) (Some t) h = refl
+
+own_kind_alike : (n : ℕ) (k l : TypeDefKind) → AlikeKinds k l → is_own_kind n k ≡ is_own_kind n l
+own_kind_alike n k l (records h) = refl
+own_kind_alike n k l resources = refl
+own_kind_alike n k l handles = refl
+own_kind_alike n k l (flags h) = refl
+own_kind_alike n k l (tuples h) = refl
+own_kind_alike n k l (variants h) = refl
+own_kind_alike n k l (enums h) = refl
+own_kind_alike n k l options = refl
+own_kind_alike n k l (results h g) = refl
+own_kind_alike n k l lists = refl
+own_kind_alike n k l maps = refl
+own_kind_alike n k l fixed_lists = refl
+own_kind_alike n k l futures = refl
+own_kind_alike n k l streams = refl
+own_kind_alike n k l aliases = refl
+
+module _ (a b : Resolve) (alike : DifferInDocumentation a b) where
+  -- ---- types
+
+  pub types_at : (n : ℕ) → Both AlikeTypes (type_at a n) (type_at b n)
+  types_at n = at_both AlikeTypes a.types.items b.types.items n alike.types
+
+  type_name_alike : (id : TypeId) → type_name a id ≡ type_name b id
+  type_name_alike id = or_alike AlikeTypes (λ d. present_name d.name) (λ d. present_name d.name) [] (λ x y h. name_alike x.name y.name h.name) (type_at a id.0) (type_at b id.0) (types_at id.0)
+
+  kind_alike : (trees : List TypeTree) (k l : TypeDefKind) → AlikeKinds k l → kind_tree a trees k ≡ kind_tree b trees l
+  kind_alike trees k l (records h) = refl
+  kind_alike trees k l resources = refl
+  kind_alike trees k l (handles {h = handle.Own id}) = ap TypeTree.Handle (type_name_alike id)
+  kind_alike trees k l (handles {h = handle.Borrow id}) = ap TypeTree.Borrow (type_name_alike id)
+  kind_alike trees k l (flags h) = refl
+  kind_alike trees k l (tuples h) = ap (λ types. TupleOf (used_types trees types)) h
+  kind_alike trees k l (variants h) = refl
+  kind_alike trees k l (enums h) = refl
+  kind_alike trees k l options = refl
+  kind_alike trees k l (results h g) = λ i. result_tree (option_map (used_type trees) (h i)) (option_map (used_type trees) (g i))
+  kind_alike trees k l lists = refl
+  kind_alike trees k l maps = refl
+  kind_alike trees k l fixed_lists = refl
+  kind_alike trees k l futures = refl
+  kind_alike trees k l streams = refl
+  kind_alike trees k l aliases = refl
+
+  def_alike : (trees : List TypeTree) (d e : TypeDef) → AlikeTypes d e → def_tree a trees d ≡ def_tree b trees e
+  def_alike trees d e h = go d.name e.name h.name
+    where
+      go : (x y : Option (String Global)) → optional_text x ≡ optional_text y → option_map_or (λ name. Name (text_of name)) x (kind_tree a trees d.kind) ≡ option_map_or (λ name. Name (text_of name)) y (kind_tree b trees e.kind)
+      go None None q = kind_alike trees d.kind e.kind h.kind
+      go None (Some t) q = let wrong : ⊥ = cc in absurd wrong
+      go (Some s) None q = let wrong : ⊥ = cc in absurd wrong
+      go (Some s) (Some t) q = ap (λ o. Name (unwrap_or o [])) q
+
+  trees_alike : (trees : List TypeTree) (ds es : List TypeDef) → AllZip AlikeTypes ds es → trees_from a trees ds ≡ trees_from b trees es
+  trees_alike trees [] [] h = refl
+  trees_alike trees [] (e ∷ es) h = absurd h
+  trees_alike trees (d ∷ ds) [] h = absurd h
+  trees_alike trees (d ∷ ds) (e ∷ es) h = trees_alike (trees ++ def_tree a trees d ∷ []) ds es h.1 ∙ ap (λ t. trees_from b (trees ++ t ∷ []) es) (def_alike trees d e h.0)
+
+  all_trees_alike : type_trees a ≡ type_trees b
+  all_trees_alike = trees_alike [] a.types.items b.types.items alike.types
+
+  type_alike : (t : ValueType) → shown_type a t ≡ shown_type b t
+  type_alike t = ap (λ trees. used_type trees t) all_trees_alike
+
+  optional_type_alike : (s t : Option ValueType) → s ≡ t → option_map (shown_type a) s ≡ option_map (shown_type b) t
+  optional_type_alike s t h = λ i. option_map (λ ty. type_alike ty i) (h i)
+
+  -- ---- functions
+
+  param_alike : (p q : Param) → AlikeParams p q → shown_param a p ≡ shown_param b q
+  param_alike p q h = λ i. record { name = h.name i; ty = type_alike (h.ty i) i }
+
+  params_alike : (f g : Function) → AlikeFunctions f g → shown_params a f ≡ shown_params b g
+  params_alike f g h = go (is_method f.kind) (is_method g.kind) (ap is_method h.kind)
+    where
+      go : (m n : Bool) → m ≡ n → map (shown_param a) (if m then drop 1 f.params.items else f.params.items) ≡ map (shown_param b) (if n then drop 1 g.params.items else g.params.items)
+      go true true e = map_alike AlikeParams (shown_param a) (shown_param b) param_alike (drop 1 f.params.items) (drop 1 g.params.items) (rest_alike AlikeParams f.params.items g.params.items h.params)
+      go false false e = map_alike AlikeParams (shown_param a) (shown_param b) param_alike f.params.items g.params.items h.params
+      go true false e = absurd cc
+      go false true e = absurd cc
+
+  pub signature_alike : (f g : Function) → AlikeFunctions f g → shown_signature a f ≡ shown_signature b g
+  signature_alike f g h = λ i. record { is_async = is_async (h.kind i); params = params_alike f g h i; result = optional_type_alike f.result g.result h.result i }
+
+  pub function_prefix_alike : (f g : Function) → AlikeFunctions f g → bare_prefix same (function_prefix f) ≡ bare_prefix same (function_prefix g)
+  function_prefix_alike f g h = λ i. record { docs = []; gates = gates_alike f.stability g.stability h.gates i; external_id = external_id_alike f.external_id g.external_id h.external_id i }
+
+  own_alike : (n : ℕ) (x y : TypeDef) → AlikeTypes x y → is_own_of n x ≡ is_own_of n y
+  own_alike n x y h = λ i. none_alike x.name y.name h.name i && own_kind_alike n x.kind y.kind h.kind i
+
+  constructor_alike : (id : TypeId) (result : Option ValueType) → constructor_result a id result ≡ constructor_result b id result
+  constructor_alike id None = refl
+  constructor_alike id (Some (value.Id t)) =
+      let given = or_alike AlikeTypes (is_own_of id.0) (is_own_of id.0) false (own_alike id.0) (type_at a t.0) (type_at b t.0) (types_at t.0) in
+      λ i. (if given i then None else Some (type_alike (value.Id t) i))
+  constructor_alike id (Some t) = ap Some (type_alike t)
+
+  resource_member_alike : (f g : Function) → AlikeFunctions f g → bare_resource_member same (shown_resource_member a f) ≡ bare_resource_member same (shown_resource_member b g)
+  resource_member_alike f g h = subst (λ k. bare_resource_member same (shown_resource_member a f) ≡ bare_resource_member same (shown_resource_member b (record g { kind = k }))) h.kind (go f.kind)
+    where
+      with_kind : (k : FunctionKind) → AlikeFunctions (record f { kind = k }) (record g { kind = k })
+      with_kind k = record { name = h.name; kind = refl; params = h.params; result = h.result; gates = h.gates; external_id = h.external_id }
+
+      prefixes : bare_prefix same (function_prefix f) ≡ bare_prefix same (function_prefix g)
+      prefixes = function_prefix_alike f g h
+
+      given : (id : TypeId) → constructor_result a id f.result ≡ constructor_result b id g.result
+      given id = constructor_alike id f.result ∙ ap (constructor_result b id) h.result
+
+      go : (k : FunctionKind) → bare_resource_member same (shown_resource_member a (record f { kind = k })) ≡ bare_resource_member same (shown_resource_member b (record g { kind = k }))
+      go (call.Constructor id) = λ i. Constructor (prefixes i) (map (bare_param same) (params_alike (record f { kind = call.Constructor id }) (record g { kind = call.Constructor id }) (with_kind (call.Constructor id)) i)) (option_map same (given id i))
+      go (call.Static id) = λ i. Static (prefixes i) (own_name_of (call.Static id) (h.name i)) (bare_signature same (signature_alike (record f { kind = call.Static id }) (record g { kind = call.Static id }) (with_kind (call.Static id)) i))
+      go (call.AsyncStatic id) = λ i. Static (prefixes i) (own_name_of (call.AsyncStatic id) (h.name i)) (bare_signature same (signature_alike (record f { kind = call.AsyncStatic id }) (record g { kind = call.AsyncStatic id }) (with_kind (call.AsyncStatic id)) i))
+      go (call.Method id) = λ i. Method (prefixes i) (own_name_of (call.Method id) (h.name i)) (bare_signature same (signature_alike (record f { kind = call.Method id }) (record g { kind = call.Method id }) (with_kind (call.Method id)) i))
+      go (call.AsyncMethod id) = λ i. Method (prefixes i) (own_name_of (call.AsyncMethod id) (h.name i)) (bare_signature same (signature_alike (record f { kind = call.AsyncMethod id }) (record g { kind = call.AsyncMethod id }) (with_kind (call.AsyncMethod id)) i))
+      go call.Freestanding = λ i. Method (prefixes i) (h.name i) (bare_signature same (signature_alike (record f { kind = call.Freestanding }) (record g { kind = call.Freestanding }) (with_kind call.Freestanding) i))
+      go call.AsyncFreestanding = λ i. Method (prefixes i) (h.name i) (bare_signature same (signature_alike (record f { kind = call.AsyncFreestanding }) (record g { kind = call.AsyncFreestanding }) (with_kind call.AsyncFreestanding) i))
+
+  -- ---- declared types
+
+  field_alike : (f g : Field) → AlikeFields f g → bare_field same (shown_field a f) ≡ bare_field same (shown_field b g)
+  field_alike f g h = λ i. record { docs = []; name = h.name i; ty = type_alike (h.ty i) i }
+
+  case_alike : (c d : Case) → AlikeCases c d → bare_case same (shown_case a c) ≡ bare_case same (shown_case b d)
+  case_alike c d h = λ i. record { docs = []; name = h.name i; payload = option_map same (optional_type_alike c.ty d.ty h.ty i) }
+
+  flag_alike : (f g : Flag) → AlikeFlags f g → bare_label same (shown_flag f) ≡ bare_label same (shown_flag g)
+  flag_alike f g h = λ i. record { docs = []; name = h i }
+
+  enum_case_alike : (c d : EnumCase) → AlikeEnumCases c d → bare_label same (shown_enum_case c) ≡ bare_label same (shown_enum_case d)
+  enum_case_alike c d h = λ i. record { docs = []; name = h i }
+
+  belongs_alike : (id : TypeId) (f g : Function) → AlikeFunctions f g → belongs_to id f ≡ belongs_to id g
+  belongs_alike id f g h = ap (λ k. option_map_or (λ n. n == id.0) (resource_of k) false) h.kind
+
+  -- What is declared differs in documentation alone, among functions that do.
+  pub declared_alike : (fs gs : List Function) → AllZip AlikeFunctions fs gs → (id : TypeId) (d e : TypeDef) → AlikeTypes d e → bare_declared same (shown_declared a fs id d) ≡ bare_declared same (shown_declared b gs id e)
+  declared_alike fs gs functions id d e h = go d.kind e.kind h.kind
+    where
+      name : present_name d.name ≡ present_name e.name
+      name = name_alike d.name e.name h.name
+
+      kinds : (k l : TypeDefKind) → AlikeKinds k l → kind_tree a (type_trees a) k ≡ kind_tree b (type_trees b) l
+      kinds k l q = kind_alike (type_trees a) k l q ∙ ap (λ trees. kind_tree b trees l) all_trees_alike
+
+      go : (k l : TypeDefKind) → AlikeKinds k l → bare_declared same (shown_declared a fs id (record d { kind = k })) ≡ bare_declared same (shown_declared b gs id (record e { kind = l }))
+      go (defined.Record x) (defined.Record y) (records q) = λ i. RecordOf (name i) (bare_map_alike AlikeFields (bare_field same) (shown_field a) (shown_field b) field_alike x.fields.items y.fields.items q i)
+      go k l resources =
+          λ i. ResourceOf (name i) (bare_map_alike AlikeFunctions (bare_resource_member same) (shown_resource_member a) (shown_resource_member b) resource_member_alike (filter (belongs_to id) fs) (filter (belongs_to id) gs) (filter_alike AlikeFunctions (belongs_to id) (belongs_alike id) fs gs functions) i)
+      go (defined.Flags x) (defined.Flags y) (flags q) = λ i. FlagsOf (name i) (bare_map_alike AlikeFlags (bare_label same) shown_flag shown_flag flag_alike x.flags.items y.flags.items q i)
+      go (defined.Variant x) (defined.Variant y) (variants q) = λ i. VariantOf (name i) (bare_map_alike AlikeCases (bare_case same) (shown_case a) (shown_case b) case_alike x.cases.items y.cases.items q i)
+      go (defined.Enum x) (defined.Enum y) (enums q) = λ i. EnumOf (name i) (bare_map_alike AlikeEnumCases (bare_label same) shown_enum_case shown_enum_case enum_case_alike x.cases.items y.cases.items q i)
+      go k l (handles {h = handle.Own r}) = λ i. AliasOf (name i) (TypeTree.Own (type_name_alike r i))
+      go k l (handles {h = handle.Borrow r}) = λ i. AliasOf (name i) (TypeTree.Borrow (type_name_alike r i))
+      go (defined.Tuple x) (defined.Tuple y) (tuples q) = λ i. AliasOf (name i) (kinds (defined.Tuple x) (defined.Tuple y) (tuples q) i)
+      go (defined.Result x) (defined.Result y) (results q p) = λ i. AliasOf (name i) (kinds (defined.Result x) (defined.Result y) (results q p) i)
+      go (defined.Option t) (defined.Option u) options = λ i. AliasOf (name i) (kinds (defined.Option t) (defined.Option t) options i)
+      go (defined.List t) (defined.List u) lists = λ i. AliasOf (name i) (kinds (defined.List t) (defined.List t) lists i)
+      go (defined.Map t u) (defined.Map v w) maps = λ i. AliasOf (name i) (kinds (defined.Map t u) (defined.Map t u) maps i)
+      go (defined.FixedLengthList t n) (defined.FixedLengthList u m) fixed_lists = λ i. AliasOf (name i) (kinds (defined.FixedLengthList t n) (defined.FixedLengthList t n) fixed_lists i)
+      go (defined.Future t) (defined.Future u) futures = λ i. AliasOf (name i) (kinds (defined.Future t) (defined.Future t) futures i)
+      go (defined.Stream t) (defined.Stream u) streams = λ i. AliasOf (name i) (kinds (defined.Stream t) (defined.Stream t) streams i)
+      go (defined.Type_ t) (defined.Type_ u) aliases = λ i. AliasOf (name i) (kinds (defined.Type_ t) (defined.Type_ t) aliases i)

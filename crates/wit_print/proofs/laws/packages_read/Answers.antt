@@ -1,0 +1,5 @@
+use Rattle.wit_print.proofs.ValidFiles.{packages_read}
+use Rattle.wit_print.proofs.laws.packages_read.Goals as goal
+
+pub returns : goal.returns
+returns c = packages_read
