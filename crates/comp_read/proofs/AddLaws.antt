@@ -3,7 +3,8 @@ use Rattle.std.proofs.Common.{◌≡◌, refl, sym, ap, ◌∙◌, subst, ℕ, z
 use Rattle.std.specs.List.{list_any}
 use Rattle.std.proofs.lemmas.List.{map-append}
 use Rattle.comp_read.specs.declared.keys.Key.{Key}
-use Rattle.comp_read.specs.Shapes.{shape_of, Adds, stays, comes}
+use Rattle.read_plan.specs.Shapes.{Adds, stays, comes}
+use Rattle.comp_read.specs.KeyShapes.{shape_of}
 
 pub mapped_get : {A B : Type 0} (f : A → B) (xs : List A) (n : ℕ) (x : A) → slice_get xs n ≡ Some x → slice_get (map f xs) n ≡ Some (f x)
 mapped_get f [] n x e = absurd cc

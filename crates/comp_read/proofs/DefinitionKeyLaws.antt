@@ -19,12 +19,13 @@ use Rattle.comp_read.specs.declared.refusal.Refusal.{Refusal}
 use Rattle.comp_read.specs.declared.refusal.Refusal.TheVariants as refusals
 use Rattle.comp_read.specs.declared.slots.Slot.{Slot}
 use Rattle.comp_read.specs.Found.{Refuses}
-use Rattle.comp_read.specs.Shapes.{node_shape, part_tree, primitives, shape_of, one_mark, two_marks}
+use Rattle.read_plan.specs.Shapes.{node_shape, part_tree, primitives, one_mark, two_marks}
+use Rattle.comp_read.specs.KeyShapes.{shape_of}
 use Rattle.comp_read.specs.Slots.{slots_in, AreInRange, AreNames}
 use Rattle.comp_read.specs.DefinitionKeys.{key_marks, HasNoKeys, IsForm, IsKeyOf}
 use Rattle.comp_read.proofs.AddLaws.{mapped_get}
 use Rattle.comp_read.proofs.Refusing.{refused}
-use Rattle.comp_read.proofs.TableLaws.{part_front, slice_there, split_part}
+use Rattle.read_plan.proofs.ShapeLaws.{part_front, slice_there, split_part}
 
 or_none : {A B : Type 0} (o : Option A) (f : A → Option B) → ((x : A) → f x ≡ None) → (o >>= f) ≡ None
 or_none None f e = refl

@@ -14,10 +14,11 @@ use Rattle.comp_read.specs.declared.facts.Fact.{Fact}
 use Rattle.comp_read.specs.declared.facts.Names.{Names}
 use Rattle.comp_read.specs.declared.facts.Names.TheVariants as names
 use Rattle.comp_read.specs.declared.facts.Summary.{Summary}
-use Rattle.comp_read.specs.Shapes.{Shape, form_code, label_of, marked, primitives, part_tree, shape_tree, IsShape, a_name, a_node}
+use Rattle.read_plan.specs.Shapes.{Shape, form_code, marked, primitives, part_tree, shape_tree, IsShape, a_name, a_node}
+use Rattle.comp_read.specs.KeyShapes.{label_of}
 use Rattle.comp_read.specs.Facts.{places, places_in, is_plain, are_plain, below, labels_of, cap, joined, with_fact, primitive_fact, name_fact, node_fact, fact_at, is_named_sort, AreOf, Tells, FactsHold, Sums}
 use Rattle.comp_read.proofs.AddLaws.{mapped_get}
-use Rattle.comp_read.proofs.TableLaws.{name_tree, node_tree, part_front, split_part, slice_there}
+use Rattle.read_plan.proofs.ShapeLaws.{name_tree, node_tree, part_front, split_part, slice_there}
 
 -- ---- places
 

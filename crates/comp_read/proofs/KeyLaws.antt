@@ -9,7 +9,8 @@ use Rattle.wit_model.specs.Text.{Text, text_eq}
 use Rattle.wit_model.proofs.Lists.{first_true, second_true}
 use Rattle.comp_read.specs.contracts.keys.KeyPartialEq.TheImpl as key_eq
 use Rattle.comp_read.specs.declared.keys.Key.{Key}
-use Rattle.comp_read.specs.Shapes.{Shape, shape_of, label_of}
+use Rattle.read_plan.specs.Shapes.{Shape}
+use Rattle.comp_read.specs.KeyShapes.{shape_of, label_of}
 
 abbrev pub same_key : Key → Key → Bool
 same_key = key_eq.ghosts.eq

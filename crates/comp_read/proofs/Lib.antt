@@ -15,6 +15,5 @@ pub mod SectionLaws
 pub mod SkipLaws
 pub mod SlotLaws
 pub mod TableGrowth
-pub mod TableLaws
 pub mod ValueLaws
 pub mod WholeLaws

@@ -20,7 +20,7 @@ use Rattle.comp_read.specs.declared.refusal.Refusal.{Refusal}
 use Rattle.comp_read.specs.declared.slots.Slot.{Slot}
 use Rattle.comp_read.specs.Found.{Refuses}
 use Rattle.comp_read.specs.Rows.{behind_rows, case_labels, case_trees, field_labels, field_trees, value_labels, value_trees, RowsOf, RowsSoFar}
-use Rattle.comp_read.specs.Shapes.{marked, part_tree}
+use Rattle.read_plan.specs.Shapes.{marked, part_tree}
 use Rattle.comp_read.specs.Slots.{slots_in, AreInRange}
 use Rattle.comp_read.specs.DefinitionKeys.{IsNodeOf}
 use Rattle.comp_read.proofs.Refusing.{refused}

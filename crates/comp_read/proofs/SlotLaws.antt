@@ -8,7 +8,7 @@ use Rattle.comp_bytes.specs.declared.forms.ComponentValType.TheVariants as value
 use Rattle.comp_meaning.specs.Follow.{value_type, value_in, resource_in, primitive_of_type}
 use Rattle.comp_read.specs.declared.slots.Slot.{Slot}
 use Rattle.comp_read.specs.declared.slots.Slot.TheVariants as slots
-use Rattle.comp_read.specs.Shapes.{part_tree}
+use Rattle.read_plan.specs.Shapes.{part_tree}
 use Rattle.comp_read.specs.Slots.{slot_in, slots_in, resource_slot, primitive_index, AreInRange, IsName, AreNames}
 use Rattle.comp_read.proofs.AddLaws.{mapped_get}
 

@@ -3,11 +3,11 @@ use Rattle.std.proofs.Common.{◌≡◌, ◌⊎◌, inl, inr, refl, sym, ap, ◌
 use Rattle.wit_model.specs.Tree.{Place, Tree}
 use Rattle.wit_model.specs.Types.{grow, no_tree}
 use Rattle.wit_model.proofs.Tables.{grow_keeps}
-use Rattle.comp_read.specs.Shapes.{Shape, part_tree, shape_tree, shape_trees, IsShape, IsTable, Adds, stays, comes}
+use Rattle.read_plan.specs.Shapes.{Shape, part_tree, shape_tree, shape_trees, IsShape, IsTable, Adds, stays, comes}
 use Rattle.comp_read.specs.declared.facts.Fact.{Fact}
 use Rattle.comp_read.specs.Facts.{IsKept, Tells}
 use Rattle.comp_read.proofs.FactLaws.{tells_along}
-use Rattle.comp_read.proofs.TableLaws.{part_behind, part_front, split_part, slice_front}
+use Rattle.read_plan.proofs.ShapeLaws.{part_behind, part_front, split_part, slice_front}
 
 -- where a number of the longer list stands
 pub last_or : {X : Type 0} (xs : List X) (y : X) (n : ℕ) (x : X) → slice_get (xs ++ y ∷ []) n ≡ Some x → ((n < length xs) × (slice_get xs n ≡ Some x)) ⊎ ((n ≡ length xs) × (y ≡ x))

@@ -13,7 +13,8 @@ use Rattle.comp_read.specs.declared.keys.Key.{Key}
 use Rattle.comp_read.specs.declared.refusal.Refusal.{Refusal}
 use Rattle.comp_read.specs.declared.slots.Slot.{Slot}
 use Rattle.comp_read.specs.Found.{Refuses}
-use Rattle.comp_read.specs.Shapes.{Shape, node_shape, part_tree, primitives, shape_of}
+use Rattle.read_plan.specs.Shapes.{Shape, node_shape, part_tree, primitives}
+use Rattle.comp_read.specs.KeyShapes.{shape_of}
 use Rattle.comp_read.specs.Slots.{slots_in, AreInRange, AreNames}
 
 -- of each primitive, whether a map may have it as its key

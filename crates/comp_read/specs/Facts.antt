@@ -9,7 +9,7 @@ use Rattle.comp_read.specs.declared.facts.Fact.{Fact}
 use Rattle.comp_read.specs.declared.facts.Names.{Names}
 use Rattle.comp_read.specs.declared.facts.Names.TheVariants as names
 use Rattle.comp_read.specs.declared.facts.Summary.{Summary}
-use Rattle.comp_read.specs.Shapes.{Shape, part_tree, shape_trees, IsTable}
+use Rattle.read_plan.specs.Shapes.{Shape, part_tree, shape_trees, IsTable}
 
 -- ---- of a tree
 

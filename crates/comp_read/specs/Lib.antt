@@ -3,7 +3,7 @@ pub mod Declares
 pub mod Bodies
 pub mod PartTypes
 pub mod Pieces
-pub mod Shapes
+pub mod KeyShapes
 pub mod Facts
 pub mod Slots
 pub mod DefinitionKeys

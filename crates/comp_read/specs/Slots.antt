@@ -8,7 +8,7 @@ use Rattle.comp_meaning.specs.Same.{primitive_number}
 use Rattle.comp_read.specs.declared.slots.Slot.{Slot}
 use Rattle.comp_read.specs.declared.slots.Slot.TheVariants as slots
 use Rattle.comp_read.specs.Bodies.{held_declaration_at, items_in}
-use Rattle.comp_read.specs.Shapes.{part_tree}
+use Rattle.read_plan.specs.Shapes.{part_tree}
 
 -- a resource by its name
 abbrev pub resource_slot : Tree → Meant

@@ -10,7 +10,8 @@ ghost use Rattle.comp_meaning.specs.Follow.{case_type, each, field_type, value_t
 ghost use Rattle.comp_read.specs.DefinitionKeys.{key_marks, IsDefinitionOf, IsForm, IsKeyOf};
 ghost use Rattle.comp_read.specs.Found.{Refuses};
 ghost use Rattle.comp_read.specs.Rows.{case_labels, case_trees, field_labels, field_trees, value_labels, value_trees, RowsOf};
-ghost use Rattle.comp_read.specs.Shapes.{label_of, marked, one_mark as one_mark_lem, part_tree, shape_of, two_marks as two_marks_lem};
+ghost use Rattle.read_plan.specs.Shapes.{marked, one_mark as one_mark_lem, part_tree, two_marks as two_marks_lem};
+ghost use Rattle.comp_read.specs.KeyShapes.{label_of, shape_of};
 ghost use Rattle.comp_read.specs.Slots.{slots_in, AreInRange};
 ghost use Rattle.comp_read.specs.declared.refusal.Refusal.TheVariants as refusals;
 

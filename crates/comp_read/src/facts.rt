@@ -6,7 +6,8 @@ ghost use Rattle.wit_model.specs.Names.{is_label as is_label_lem};
 ghost use Rattle.wit_model.specs.Tree.{Place, Tree};
 ghost use Rattle.comp_meaning.specs.Rules.{are_labels as are_labels_lem, distinct};
 ghost use Rattle.comp_read.specs.Facts.{cap, fact_at as fact_at_lem, is_named_sort as is_named_sort_lem, joined as joined_lem, node_fact as node_fact_lem, with_fact as with_fact_lem, FactsHold, Sums, Tells};
-ghost use Rattle.comp_read.specs.Shapes.{part_tree, shape_of, shape_tree, IsShape};
+ghost use Rattle.read_plan.specs.Shapes.{part_tree, shape_tree, IsShape};
+ghost use Rattle.comp_read.specs.KeyShapes.{shape_of};
 
 use crate::keys::Key;
 use indexmap::IndexSet;

@@ -1,6 +1,6 @@
 //! Laws over definitions alone.
 
-ghost use Rattle.comp_read.specs.Shapes.{OneNumber};
+ghost use Rattle.read_plan.specs.Shapes.{OneNumber};
 
 /// Equal trees have one number, where each place has one number.
 pub fn one_number()

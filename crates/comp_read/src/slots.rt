@@ -5,7 +5,7 @@ ghost use Rattle.wit_model.specs.Meaning.{Signature};
 ghost use Rattle.wit_model.specs.Tree.{Tree};
 ghost use Rattle.comp_meaning.specs.Follow.{given, value_type, resource_in as resource_in_lem};
 ghost use Rattle.comp_read.specs.Found.{Gives};
-ghost use Rattle.comp_read.specs.Shapes.{part_tree};
+ghost use Rattle.read_plan.specs.Shapes.{part_tree};
 ghost use Rattle.comp_read.specs.Slots.{primitive_index as primitive_index_lem, slots_in, AreInRange, AreNames};
 
 use crate::bodies::Body;

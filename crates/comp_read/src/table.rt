@@ -2,7 +2,8 @@
 
 ghost use Rattle.std.specs.Prelude.{◌≡◌, ◌<◌, ◌+◌, ◌^◌, [], length, map, slice_get, IfOk, OnOk, OnErr, IsOkUnless, Some};
 ghost use Rattle.comp_read.specs.Facts.{IsKept, Tells};
-ghost use Rattle.comp_read.specs.Shapes.{part_tree, shape_of, shape_tree, shape_trees, Adds, IsShape, IsTable};
+ghost use Rattle.read_plan.specs.Shapes.{part_tree, shape_tree, shape_trees, Adds, IsShape, IsTable};
+ghost use Rattle.comp_read.specs.KeyShapes.{shape_of};
 ghost use Rattle.comp_read.specs.declared.refusal.Refusal.TheVariants as refusals;
 
 use crate::facts::{Fact, fact_at, fact_of};
@@ -21,7 +22,8 @@ pub struct Table<'a> {
 
 impl<'a> Model for Table<'a> {
     ghost use Rattle.std.specs.Prelude.{List, map};
-    ghost use Rattle.comp_read.specs.Shapes.{Shape, shape_of};
+    ghost use Rattle.read_plan.specs.Shapes.{Shape};
+    ghost use Rattle.comp_read.specs.KeyShapes.{shape_of};
     ghost use Rattle.comp_read.specs.Facts.{IsKept};
 
     ghost Value = { List Shape };

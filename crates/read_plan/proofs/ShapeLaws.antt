@@ -63,7 +63,7 @@ name_tree place T p name = refl
 
 -- ---- parts
 
-slice_front : {X : Type 0} (xs ys : List X) (n : ℕ) → n < length xs → slice_get (xs ++ ys) n ≡ slice_get xs n
+pub slice_front : {X : Type 0} (xs ys : List X) (n : ℕ) → n < length xs → slice_get (xs ++ ys) n ≡ slice_get xs n
 slice_front [] ys n h = absurd (omega (arith, h))
 slice_front (x ∷ xs) ys zero h = refl
 slice_front (x ∷ xs) ys (suc n) h = slice_front xs ys n (omega (arith, h))

@@ -1,6 +1,6 @@
 use Rattle.std.proofs.Common.{◌∙◌, ap, [], ◌∷◌, map}
 use Rattle.std.proofs.lemmas.List.{map-append}
-use Rattle.comp_read.specs.Shapes.{label_of}
+use Rattle.comp_read.specs.KeyShapes.{label_of}
 use Rattle.comp_read.proofs.RowLaws.{case_refused, case_row, case_rows, part_more}
 use Rattle.comp_read.proofs.definition_keys.case_parts.Goals as goal
 

@@ -2,7 +2,7 @@ use Rattle.std.proofs.Common.{◌∙◌, ◌+◌, ◌<◌, ap, sym, arith, Some}
 use Rattle.comp_bytes.specs.declared.forms.ComponentDefinedType.{ComponentDefinedType}
 use Rattle.comp_bytes.specs.RawOf.{raw_defined}
 use Rattle.comp_meaning.specs.Follow.{definition}
-use Rattle.comp_read.specs.Shapes.{part_tree}
+use Rattle.read_plan.specs.Shapes.{part_tree}
 use Rattle.comp_read.specs.Slots.{primitive_index, slots_in}
 use Rattle.comp_read.proofs.DefinitionKeyLaws.{is_form}
 use Rattle.comp_read.proofs.SlotLaws.{primitive_part, primitive_small}

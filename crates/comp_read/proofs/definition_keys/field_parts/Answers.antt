@@ -1,6 +1,6 @@
 use Rattle.std.proofs.Common.{◌∙◌, ap, ◌+◌, ◌<◌, [], ◌∷◌, map}
 use Rattle.std.proofs.lemmas.List.{map-append}
-use Rattle.comp_read.specs.Shapes.{label_of}
+use Rattle.comp_read.specs.KeyShapes.{label_of}
 use Rattle.comp_read.proofs.RowLaws.{field_refused, field_row, field_rows}
 use Rattle.comp_read.proofs.WholeLaws.{all_end}
 use Rattle.comp_read.proofs.definition_keys.field_parts.Goals as goal

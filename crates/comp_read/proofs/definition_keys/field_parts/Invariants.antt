@@ -5,7 +5,8 @@ use Rattle.wit_model.specs.Tree.{Tree}
 use Rattle.comp_bytes.specs.RawOf.{labeled}
 use Rattle.comp_meaning.specs.Follow.{field_type}
 use Rattle.comp_read.specs.Rows.{field_labels, field_trees, RowsSoFar}
-use Rattle.comp_read.specs.Shapes.{label_of, part_tree}
+use Rattle.read_plan.specs.Shapes.{part_tree}
+use Rattle.comp_read.specs.KeyShapes.{label_of}
 use Rattle.comp_read.specs.Slots.{slots_in, AreInRange}
 use Rattle.comp_read.proofs.definition_keys.field_parts.Given as goal
 

@@ -1,6 +1,6 @@
 use Rattle.std.proofs.Common.{map}
 use Rattle.comp_bytes.specs.RawOf.{labeled}
-use Rattle.comp_read.specs.Shapes.{label_of}
+use Rattle.comp_read.specs.KeyShapes.{label_of}
 use Rattle.comp_read.proofs.RowLaws.{all_filled, no_record, record_is}
 use Rattle.comp_read.proofs.definition_keys.record_key.Goals as goal
 

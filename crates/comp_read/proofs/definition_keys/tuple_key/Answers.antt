@@ -1,5 +1,5 @@
 use Rattle.std.proofs.Common.{ap, map}
-use Rattle.comp_read.specs.Shapes.{label_of}
+use Rattle.comp_read.specs.KeyShapes.{label_of}
 use Rattle.comp_read.proofs.RowLaws.{list_filled, no_tuple, tuple_is}
 use Rattle.comp_read.proofs.definition_keys.tuple_key.Goals as goal
 

@@ -4,7 +4,7 @@ use Rattle.wit_model.specs.Meaning.{Signature}
 use Rattle.wit_model.specs.Tree.{Tree}
 use Rattle.comp_meaning.specs.Follow.{value_type}
 use Rattle.comp_read.specs.Rows.{value_labels, value_trees, RowsSoFar}
-use Rattle.comp_read.specs.Shapes.{part_tree}
+use Rattle.read_plan.specs.Shapes.{part_tree}
 use Rattle.comp_read.specs.Slots.{slots_in, AreInRange}
 use Rattle.comp_read.proofs.definition_keys.value_parts.Given as goal
 

@@ -2,7 +2,8 @@ use Rattle.std.proofs.Common.{sym, ap, subst, ◌∙◌, ◌+◌, ◌<◌, ℕ, 
 use Rattle.std.specs.List.{AllByRecursion}
 use Rattle.comp_meaning.specs.Rules.{are_labels}
 use Rattle.comp_read.specs.declared.facts.Fact.{Fact}
-use Rattle.comp_read.specs.Shapes.{part_tree, shape_of, shape_tree}
+use Rattle.read_plan.specs.Shapes.{part_tree, shape_tree}
+use Rattle.comp_read.specs.KeyShapes.{shape_of}
 use Rattle.comp_read.specs.Facts.{Sums, Tells}
 use Rattle.comp_read.proofs.FactLaws.{shape_named, shape_of_form, first_labels}
 use Rattle.comp_read.proofs.facts.labelled_fact.Goals as goal

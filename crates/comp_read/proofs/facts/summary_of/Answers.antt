@@ -1,6 +1,6 @@
 use Rattle.std.proofs.Common.{sym, ap, subst, ◌∙◌, ◌+◌, map, take}
 use Rattle.comp_read.specs.declared.facts.Summary.{Summary}
-use Rattle.comp_read.specs.Shapes.{part_tree}
+use Rattle.read_plan.specs.Shapes.{part_tree}
 use Rattle.comp_read.specs.Facts.{with_fact, Sums}
 use Rattle.comp_read.proofs.FactLaws.{part_summed, none_taken, all_taken}
 use Rattle.comp_read.proofs.facts.summary_of.Goals as goal

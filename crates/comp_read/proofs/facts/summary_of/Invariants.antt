@@ -1,7 +1,7 @@
 use Rattle.std.proofs.Common.{ℕ, ◌+◌, ◌<◌, List, length, map, take}
 use Rattle.std.specs.List.{AllByRecursion}
 use Rattle.wit_model.specs.Tree.{Place, Tree}
-use Rattle.comp_read.specs.Shapes.{part_tree}
+use Rattle.read_plan.specs.Shapes.{part_tree}
 use Rattle.comp_read.specs.Facts.{FactsHold, Sums}
 use Rattle.comp_read.proofs.facts.summary_of.Given as goal
 

@@ -1,6 +1,6 @@
 use Rattle.std.proofs.Common.{◌∙◌, ap, sym, Some}
 use Rattle.comp_meaning.specs.Follow.{value_type, value_in}
-use Rattle.comp_read.specs.Shapes.{part_tree}
+use Rattle.read_plan.specs.Shapes.{part_tree}
 use Rattle.comp_read.specs.Slots.{slot_in, slots_in}
 use Rattle.comp_read.proofs.SlotLaws.{primitive_small, part_below, primitive_part, value_part, value_resource, value_function, value_instance, value_none}
 use Rattle.comp_read.proofs.slots.value_in.Goals as goal

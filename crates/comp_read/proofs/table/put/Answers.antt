@@ -3,7 +3,8 @@ use Rattle.std.specs.List.{list_any}
 use Rattle.std.proofs.lemmas.Bool.{not-true}
 use Rattle.comp_read.specs.declared.facts.Fact.{Fact}
 use Rattle.comp_read.specs.Facts.{IsKept}
-use Rattle.comp_read.specs.Shapes.{Shape, shape_of}
+use Rattle.read_plan.specs.Shapes.{Shape}
+use Rattle.comp_read.specs.KeyShapes.{shape_of}
 use Rattle.comp_read.proofs.AddLaws.{mapped_get, adds, fresh_key, grown}
 use Rattle.comp_read.proofs.KeyLaws.{same_key, key_same, key_again}
 use Rattle.comp_read.proofs.TableGrowth.{kept_more}

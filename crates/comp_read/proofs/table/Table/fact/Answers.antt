@@ -1,7 +1,8 @@
 use Rattle.std.proofs.Common.{◌≡◌, ◌<◌, ◌+◌, ap, sym, subst, ◌∙◌, arith, List, length, map}
 use Rattle.comp_read.specs.declared.facts.Fact.{Fact}
 use Rattle.comp_read.specs.Facts.{fact_at, Tells}
-use Rattle.comp_read.specs.Shapes.{Shape, part_tree, shape_of, shape_trees}
+use Rattle.read_plan.specs.Shapes.{Shape, part_tree, shape_trees}
+use Rattle.comp_read.specs.KeyShapes.{shape_of}
 use Rattle.comp_read.proofs.FactLaws.{tells_part}
 use Rattle.comp_read.proofs.table.Table.fact.Goals as goal
 

@@ -1,7 +1,8 @@
 use Rattle.std.proofs.Common.{◌∙◌, ap, sym, subst, ℕ, List, length, map}
 use Rattle.comp_read.specs.declared.facts.Fact.{Fact}
 use Rattle.comp_read.specs.Facts.{FactsHold}
-use Rattle.comp_read.specs.Shapes.{Shape, shape_of, shape_trees, IsShape}
+use Rattle.read_plan.specs.Shapes.{Shape, shape_trees, IsShape}
+use Rattle.comp_read.specs.KeyShapes.{shape_of}
 use Rattle.comp_read.proofs.table.Table.number_of.Goals as goal
 
 pub put-requires-clause-shape : goal.put-requires-clause-shape
