@@ -62,7 +62,7 @@ pub record ShowsEntries (r : Resolve) (done : Entries) (scope : Scope) : Type 0 
   pub used : length scope.used ≡ instance_types scope.slots
   pub in_range : list_all (λ n. nat_lt n (length scope.slots)) scope.used ≡ true
 
--- the entry is an import or an export of the world
+-- the entry is an import or an export of a world
 pub record IsEntryOf (r : Resolve) (e : Entry) : Type 0 where
   pub number : ℕ
   pub world : World
