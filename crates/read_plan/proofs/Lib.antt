@@ -25,4 +25,5 @@ pub mod NothingElse
 pub mod Renumbering
 pub mod Gathering
 mod WholePlan
+mod WholeBuilt
 mod OneWorldPlan

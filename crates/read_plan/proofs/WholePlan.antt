@@ -81,7 +81,7 @@ planned_world = record {
       ∷ (path_of 3, interface 3 None) ∷ [];
 }
 
-abbrev whole_plan : Plan
+abbrev pub whole_plan : Plan
 whole_plan = record {
   packages = record { identity = record { namespace = codes "s"; name = codes "r"; version = None }; interfaces = (codes "j", 0) ∷ (codes "k", 1) ∷ []; worlds = [] }
       ∷ record { identity = record { namespace = codes "a"; name = codes "b"; version = None }; interfaces = (codes "i", 2) ∷ (codes "s", 3) ∷ []; worlds = (codes "w", 0) ∷ [] } ∷ [];
@@ -93,7 +93,7 @@ whole_plan = record {
 
 -- ---- what holds of it
 
-is_plan : IsPlan whole_plan
+pub is_plan : IsPlan whole_plan
 unfolding met_in resource_marks trees_in part_tree
 is_plan = record {
   packages_fit = refl;
@@ -157,7 +157,7 @@ bare (suc (suc (suc (suc zero)))) i e h hidden = no_true (sym hidden)
 bare (suc (suc (suc (suc (suc n))))) i e h hidden = absurd (let wrong : ⊥ = cc in wrong)
 
 -- It is the plan of a package.
-is_package_plan : IsPackagePlan whole_plan
+pub is_package_plan : IsPackagePlan whole_plan
 is_package_plan = record { plan = is_plan; no_more = record { types = refl; packages = refl }; main = refl; worlds = refl; wanted = wanted; bare = bare }
 
 -- ---- what it means
