@@ -1,21 +1,18 @@
 -- How much is defined for functions, and by an instance type as a whole.
-use Rattle.std.proofs.Common.{◌≡◌, refl, sym, subst, ap, ◌∙◌, ℕ, zero, suc, ◌+◌, ◌<◌, Bool, true, false, ◌&&◌, ◌||◌, ◌⊎◌, inl, inr, List, [], ◌∷◌, ◌++◌, length, get_or, take, map, filter, cond, length-append, count_by, Result, Ok, Err, OnOk, Option, Some, None, arith}
-use Rattle.std.specs.Prelude.{AllPairs, nat_eq, IsPermutation, String}
+use Rattle.std.proofs.Common.{◌≡◌, refl, sym, subst, ap, ◌∙◌, ℕ, zero, suc, ◌+◌, ◌<◌, ◌≤◌, Bool, true, false, ◌&&◌, ◌||◌, ◌⊎◌, inl, inr, List, [], ◌∷◌, ◌++◌, length, get_or, take, map, filter, cond, length-append, count_by, Result, Ok, Err, OnOk, Option, Some, None, arith, Vec}
+use Rattle.std.specs.Prelude.{nat_eq, IsPermutation, String}
 use Rattle.std.specs.declared.alloc.Global.{Global}
-use Rattle.std.specs.Borrow.{Bor}
 use Rattle.std.specs.List.{Contains, IsDistinct, list_any, filter_map, cons_option}
 use Rattle.std.specs.Option.{option_map, option_map_or, option_and_then, is_some, is_none}
 use Rattle.std.specs.Set.{is_member, distinct_count}
-use Rattle.std.specs.Cmp.{IsEquivalence, bool_eq_equiv}
-use Rattle.std.specs.Cmp.Lexicographic.{options_equiv}
 use Rattle.std.proofs.lemmas.Bool.{cases_Bool, cond-true, cond-false, eqb-true, eq-eqb}
-use Rattle.std.proofs.lemmas.Cmp.{on_equiv, and_equiv, lists_equiv, nat_eq_equiv}
-use Rattle.std.proofs.lemmas.List.{take_more, map-append, length-map, get_or-map}
+use Rattle.std.proofs.lemmas.Cmp.{nat_eq_equiv}
+use Rattle.std.proofs.lemmas.List.{take_more, take_all, map-append, length-map}
 use Rattle.std.proofs.lemmas.List.Elements.{filter_passes, All-contains}
 use Rattle.std.proofs.lemmas.List.Folds.{list_any-append}
 use Rattle.std.proofs.lemmas.List.Kept.{AllPairs-filter}
 use Rattle.std.proofs.lemmas.List.Sums.{length-filter, sum_by-append}
-use Rattle.std.proofs.lemmas.List.Sorted.{list_any-IsPermutation, IsPermutation-map}
+use Rattle.std.proofs.lemmas.List.Sorted.{list_any-IsPermutation, IsPermutation-map, sum_by-IsPermutation}
 use Rattle.std.proofs.lemmas.Map.Keys.{IsDistinct-from_apart}
 use Rattle.std.proofs.lemmas.Map.Made.{length-from_keys}
 use Rattle.wit_model.proofs.Lists.{first_true, second_true}
@@ -28,100 +25,115 @@ use Rattle.wit_model.specs.declared.model.TypeId.{TypeId}
 use Rattle.wit_model.specs.declared.model.TypeDef.{TypeDef}
 use Rattle.wit_model.specs.declared.model.TypeDefKind.{TypeDefKind}
 use Rattle.wit_model.specs.declared.model.Function.{Function}
+use Rattle.wit_model.specs.declared.model.«Type».{«Type» as ValueType}
 use Rattle.comp_bytes.specs.Raw.{Declaration, Declarations}
 use Rattle.wit_encode_types.specs.declared.key.FunctionKey.{FunctionKey}
 use Rattle.wit_encode_types.specs.declared.maps.TypeEncodingMaps.{TypeEncodingMaps}
 use Rattle.wit_encode.specs.declared.interface.OpenInterface.{OpenInterface}
 use Rattle.wit_encode.specs.declared.interface.Foreign.{Foreign}
 use Rattle.wit_encode_types.specs.Key.{IsKeyOf}
-use Rattle.wit_encode_types.specs.KeyLaws.{type_equiv, param_equiv}
 use Rattle.wit_encode_types.specs.Kinds.{has_definition}
-use Rattle.wit_encode_types.specs.Slots.{Pairs}
 use Rattle.wit_encode_types.specs.Plan.{foreign_owner}
-use Rattle.wit_encode_types.specs.Maps.{MapsAgree, IsOnce, IsKnown, HasKey}
+use Rattle.wit_encode_types.specs.Codes.{IsTable, kind_code, names_of, lists_of}
+use Rattle.wit_encode_types.specs.Maps.{IsOnce, IsKnown}
 use Rattle.wit_encode_types.specs.Scope.{Scope}
 use Rattle.wit_encode_types.specs.MetKinds.{AreMetKinds, referred}
-use Rattle.wit_encode_types.specs.Counts.{Definitions, names_defined, is_defined_by_name, is_defined_under_name, own_name, name_of_own, Shows, AddsTypes, AddsFunction}
-use Rattle.wit_encode_types.specs.Distinct.{Key, key_of, key_view, are_same, keys_of, defined_under_names, AddsFunctions, DefinesKeys, DefinesTypes, is_value_type, is_function_type}
+use Rattle.wit_encode_types.specs.Counts.{Definitions, names_defined, is_defined_by_name, is_defined_under_name, own_name, name_of_own, Shows, AddsKey, AddsTypes, AddsFunction}
+use Rattle.wit_encode_types.specs.Distinct.{Key, key_of, key_view, are_same, KnowsKey, defined_under_names, AddsFunctions, DefinesKeys, DefinesTypes, is_value_type, is_function_type}
 use Rattle.wit_encode.specs.Instance.{own_of, contents_of, inner_contents, encoder_scope, definitions_with, opened, ShowsFunction}
 use Rattle.wit_encode_types.proofs.Lists.{contains-map}
 use Rattle.wit_encode_types.proofs.Pairs.{pairs-map}
+use Rattle.wit_encode_types.proofs.Tables.{kept-in, new-in, one-more-in}
+use Rattle.wit_encode.proofs.Naming.{or-second}
+use Rattle.wit_encode.proofs.HeldKeys.{both-ways, any-at, same_equiv, HasList, alike, grown, shrunk, knows-same, knows-along, knows-none, keyed}
 
 -- ---- keys
 
-pub same_equiv : IsEquivalence are_same
-same_equiv = and_equiv (on_equiv (λ k. k.is_async) bool_eq_equiv) (and_equiv (on_equiv (λ k. k.params) (lists_equiv param_equiv))
-    (on_equiv (λ k. k.result_type) (options_equiv type_equiv)))
-
 key-is : (key : FunctionKey) (f : Function) → IsKeyOf key f → key_view key ≡ key_of f
 key-is key f h = λ i. record { is_async = h.async i; params = h.params i; result_type = h.result_ i }
-
-or-second : (a b : Bool) → b ≡ true → (a || b) ≡ true
-or-second true b e = refl
-or-second false b e = e
 
 or-none : (a : Bool) → (a || false) ≡ a
 or-none true = refl
 or-none false = refl
 
-or-assoc : (a b c : Bool) → ((a || b) || c) ≡ (a || (b || c))
-or-assoc true b c = refl
-or-assoc false b c = refl
+-- a key is that of a function alone
+only-one : (f : Function) (q : Key) → is_member are_same (map key_of (f ∷ [])) q ≡ true → are_same q (key_of f) ≡ true
+only-one f q e = sym (or-none (are_same q (key_of f))) ∙ e
 
-pub any-at : {X : Type 0} (p : X → Bool) (xs : List X) (x : X) → Contains xs x → p x ≡ true → list_any p xs ≡ true
-any-at p [] x (i, l, e) h = absurd (omega (arith, l))
-any-at p (y ∷ xs) x (zero, l, e) h = ap (λ b. b || list_any p xs) (ap p e ∙ h)
-any-at p (y ∷ xs) x (suc i, l, e) h = or-second (p y) (list_any p xs) (any-at p xs x (i, omega (arith, l), e) h)
+one-alone : (f : Function) (q : Key) → are_same q (key_of f) ≡ true → is_member are_same (map key_of (f ∷ [])) q ≡ true
+one-alone f q e = or-none (are_same q (key_of f)) ∙ e
 
--- a key that the maps have an equal one of
-known-member : (m : TypeEncodingMaps) (key : FunctionKey) (i : ℕ) (q : Key) → HasKey m key i
-    → is_member are_same (keys_of m) q ≡ (is_member are_same (keys_of m) q || (are_same q (key_view key) || false))
-known-member m key i q (k, c, e) = go (are_same q (key_view key)) refl
-  where
-    go : (b : Bool) → are_same q (key_view key) ≡ b → is_member are_same (keys_of m) q ≡ (is_member are_same (keys_of m) q || (b || false))
-    go false h = sym (or-none (is_member are_same (keys_of m) q))
-    go true h =
-        let there : Contains (keys_of m) (key_view k) = contains-map (λ (x : FunctionKey × ℕ). key_view x.0) m.func_type_map.items (k, i) c in
-        let same : are_same q (key_view k) ≡ true =
-        same_equiv.symm q (key_view k) ∙ sym (same_equiv.congr (key_view key) (key_view k) q (same_equiv.symm (key_view key) (key_view k) ∙ e))
-        ∙ same_equiv.symm (key_view key) q ∙ h in
-        any-at (are_same q) (keys_of m) (key_view k) there same ∙ sym (or-second (is_member are_same (keys_of m) q) true refl)
+-- the keys of functions and of others
+members-both : (fs gs : List Function) (q : Key) → is_member are_same (map key_of (fs ++ gs)) q ≡ (is_member are_same (map key_of fs) q || is_member are_same (map key_of gs) q)
+members-both fs gs q = ap (λ xs. is_member are_same xs q) (map-append key_of fs gs) ∙ list_any-append (are_same q) (map key_of fs) (map key_of gs)
 
-key-member : (m m' : TypeEncodingMaps) (key : FunctionKey) (i : ℕ) (q : Key) → m'.func_type_map.items ≡ m.func_type_map.items ++ (key, i) ∷ []
-    → is_member are_same (keys_of m') q ≡ (is_member are_same (keys_of m) q || (are_same q (key_view key) || false))
-key-member m m' key i q e =
-    ap (λ (xs : List (FunctionKey × ℕ)). is_member are_same (map (λ x. key_view x.0) xs) q) e
-    ∙ ap (λ xs. is_member are_same xs q) (map-append (λ (x : FunctionKey × ℕ). key_view x.0) m.func_type_map.items ((key, i) ∷ []))
-    ∙ list_any-append (are_same q) (keys_of m) (key_view key ∷ [])
+or-first : (a b : Bool) → a ≡ true → (a || b) ≡ true
+or-first true b e = refl
+or-first false b e = absurd (let z : ⊥ = cc in z)
+
+either-one : (a b : Bool) → (a || b) ≡ true → (a ≡ true) ⊎ (b ≡ true)
+either-one true b e = inl refl
+either-one false b e = inr e
+
+none-member : (q : Key) → is_member are_same (map key_of []) q ≡ true → ⊥
+none-member q h = let z : ⊥ = cc in z
 
 -- ---- what is added
 
 pub names-alike : (r : Resolve) (s s' : Scope) (m : TypeEncodingMaps) → s'.own_interface ≡ s.own_interface → names_defined r s' m ≡ names_defined r s m
-names-alike r s s' m e = ap (λ (own : Option InterfaceId). count_by (λ (e : TypeId × ℕ). option_map_or
-    (λ (def : TypeDef). is_none (foreign_owner own def.owner) && (is_some def.name && has_definition def.kind)) (type_at r e.0.0) false) m.id_to_index.items) e
+names-alike r s s' m e = ap (λ (own : Option InterfaceId). count_by (λ (e : ℕ × ℕ). option_map_or
+    (λ (def : TypeDef). is_none (foreign_owner own def.owner) && (is_some def.name && has_definition def.kind)) (type_at r e.0) false) m.id_to_index.entries) e
 
 pub adds-types : {r : Resolve} {scope : Scope} {m m' : TypeEncodingMaps} {d d' : Definitions} → AddsTypes r scope m m' d d' → AddsFunctions r scope m m' d d' []
 adds-types {r} {scope} {m} {m'} {d} {d'} a = record {
   types = a.types;
-  functions_ = (let f = a.functions in let n : length m'.func_type_map.items ≡ length m.func_type_map.items = ap length a.keys in omega arith);
-  keys = λ q. ap (λ (xs : List (FunctionKey × ℕ)). is_member are_same (map (λ x. key_view x.0) xs) q) a.keys ∙ sym (or-none (is_member are_same (keys_of m) q));
+  functions_ = (let f = a.functions in let n : length m'.func_type_map.entries ≡ length m.func_type_map.entries = ap length a.keys.lists in omega arith);
+  known = λ q k. inl (knows-along m' m (sym a.keys.lists) (sym a.keys.names_) q k);
+  stay = λ q k. knows-along m m' a.keys.lists a.keys.names_ q k;
+  learnt = λ q h. absurd (none-member q h);
 }
 
-pub adds-function : {r : Resolve} {scope : Scope} {m m' : TypeEncodingMaps} {d d' : Definitions} (key : FunctionKey) (i : ℕ) (f : Function) → IsKeyOf key f
+-- a key that was known
+module _ (m m' : TypeEncodingMaps) (key : FunctionKey) (i : ℕ) (f : Function) (is : IsKeyOf key f) where
+  learns-member : KnowsKey m' (key_view key) → (q : Key) → is_member are_same (map key_of (f ∷ [])) q ≡ true → KnowsKey m' q
+  learns-member k q h = knows-same m' (key_view key) q (same_equiv.symm (key_view key) q ∙ ap (are_same q) (key-is key f is) ∙ only-one f q h) k
+
+  -- a key that is new: by the list that it has now, and by more names
+  module _ (once : IsOnce m) (a : AddsKey m m' key i) where
+    table : IsTable (names_of m'.names)
+    table = (a.grow.numbered once.names_).table
+
+    new-known : (q : Key) → KnowsKey m' q → KnowsKey m q ⊎ (is_member are_same (map key_of (f ∷ [])) q ≡ true)
+    new-known q (xs, j, l, c) = elim (one-more-in (lists_of m.func_type_map) (lists_of m'.func_type_map) (a.list, i) a.more (xs, j) c) [
+      | inl old ↦
+          let other = once.key_lists xs j old in
+          inl (xs, j, shrunk (names_of m.names) (names_of m'.names) table a.grow.kept q (key_view other.key) xs l other.is, old)
+      | inr e ↦
+          let here : HasList (names_of m'.names) (key_view key) xs = subst (HasList (names_of m'.names) (key_view key)) (ap (λ (p : List ℕ × ℕ). p.0) e) a.is in
+          inr (one-alone f q (sym (ap (are_same q) (key-is key f is)) ∙ alike (names_of m'.names) q (key_view key) xs table l here))
+    ]
+
+    new-stay : (q : Key) → KnowsKey m q → KnowsKey m' q
+    new-stay q (xs, j, l, c) = (xs, j, grown (names_of m.names) (names_of m'.names) q xs a.grow l, kept-in (lists_of m.func_type_map) (lists_of m'.func_type_map) (a.list, i) a.more (xs, j) c)
+
+    new-learnt : KnowsKey m' (key_view key)
+    new-learnt = (a.list, i, a.is, new-in (lists_of m.func_type_map) (lists_of m'.func_type_map) (a.list, i) a.more)
+
+pub adds-function : {r : Resolve} {scope : Scope} {m m' : TypeEncodingMaps} {d d' : Definitions} (key : FunctionKey) (i : ℕ) (f : Function) → IsKeyOf key f → IsOnce m
     → AddsFunction r scope m m' d d' key i → AddsFunctions r scope m m' d d' (f ∷ [])
-adds-function {r} {scope} {m} {m'} {d} {d'} key i f is a = record {
+adds-function {r} {scope} {m} {m'} {d} {d'} key i f is once a = record {
   types = a.types;
   functions_ = a.functions;
-  keys = λ q. elim a.keys [ inl h ↦ known q h.0 h.1 | inr h ↦ key-member m m' key i q h.1 ]
-      ∙ ap (λ k. is_member are_same (keys_of m) q || (are_same q k || false)) (key-is key f is);
+  known = λ q k. elim a.keys [ inl h ↦ inl (knows-along m' m (sym h.1.lists) (sym h.1.names_) q k) | inr h ↦ new-known m m' key i f is once h.1 q k ];
+  stay = λ q k. elim a.keys [ inl h ↦ knows-along m m' h.1.lists h.1.names_ q k | inr h ↦ new-stay m m' key i f is once h.1 q k ];
+  learnt = λ q k. elim a.keys [
+    | inl h ↦ learns-member m m' key i f is (knows-along m m' h.1.lists h.1.names_ (key_view key) (h.0.0, i, h.0.1, h.0.2)) q k
+    | inr h ↦ learns-member m m' key i f is (new-learnt m m' key i f is once h.1) q k
+  ];
 }
-  where
-    known : (q : Key) → HasKey m key i → m'.func_type_map.items ≡ m.func_type_map.items
-        → is_member are_same (keys_of m') q ≡ (is_member are_same (keys_of m) q || (are_same q (key_view key) || false))
-    known q h e = ap (λ (xs : List (FunctionKey × ℕ)). is_member are_same (map (λ x. key_view x.0) xs) q) e ∙ known-member m key i q h
 
 pub adds-nothing : (r : Resolve) (scope : Scope) (m : TypeEncodingMaps) (d : Definitions) → AddsFunctions r scope m m d d []
-adds-nothing r scope m d = record { types = refl; functions_ = refl; keys = λ q. sym (or-none (is_member are_same (keys_of m) q)) }
+adds-nothing r scope m d = record { types = refl; functions_ = refl; known = λ q k. inl k; stay = λ q k. k; learnt = λ q h. absurd (none-member q h) }
 
 pub adds-trans : {r : Resolve} {s s' : Scope} {a b c : TypeEncodingMaps} {d e f : Definitions} (fs gs : List Function) → s'.own_interface ≡ s.own_interface
     → AddsFunctions r s a b d e fs → AddsFunctions r s' b c e f gs → AddsFunctions r s a c d f (fs ++ gs)
@@ -131,11 +143,18 @@ adds-trans {r} {s} {s'} {a} {b} {c} {d} {e} {f} fs gs o p q =
     record {
       types = (let x = p.types in let y = q.types in omega arith);
       functions_ = (let x = p.functions_ in let y = q.functions_ in omega arith);
-      keys = λ k.
-          q.keys k ∙ ap (λ z. z || is_member are_same (map key_of gs) k) (p.keys k)
-          ∙ or-assoc (is_member are_same (keys_of a) k) (is_member are_same (map key_of fs) k) (is_member are_same (map key_of gs) k)
-          ∙ ap (λ z. is_member are_same (keys_of a) k || z) (sym (ap (λ xs. is_member are_same xs k) (map-append key_of fs gs)
-          ∙ list_any-append (are_same k) (map key_of fs) (map key_of gs)));
+      known = λ k h. elim (q.known k h) [
+        | inl x ↦ elim (p.known k x) [
+          | inl y ↦ inl y
+          | inr y ↦ inr (members-both fs gs k ∙ or-first (is_member are_same (map key_of fs) k) (is_member are_same (map key_of gs) k) y)
+        ]
+        | inr x ↦ inr (members-both fs gs k ∙ or-second (is_member are_same (map key_of fs) k) (is_member are_same (map key_of gs) k) x)
+      ];
+      stay = λ k h. q.stay k (p.stay k h);
+      learnt = λ k h. elim (either-one (is_member are_same (map key_of fs) k) (is_member are_same (map key_of gs) k) (sym (members-both fs gs k) ∙ h)) [
+        | inl x ↦ q.stay k (p.learnt k x)
+        | inr x ↦ q.learnt k x
+      ];
     }
 
 -- the same of what counts alike
@@ -145,7 +164,9 @@ pub adds-alike : {r : Resolve} {s s' : Scope} {m m' m'' : TypeEncodingMaps} {d d
 adds-alike {r} {s} {s'} {m} {m'} {m''} {d} {d'} {e} {e'} {fs} o h a b a' b' p = subst (λ (z : TypeEncodingMaps). AddsFunctions r s' m z e e' fs) (sym h) (record {
   types = (let n : names_defined r s' m ≡ names_defined r s m = names-alike r s s' m o in let n' : names_defined r s' m' ≡ names_defined r s m' = names-alike r s s' m' o in let x = p.types in omega arith);
   functions_ = (let x = p.functions_ in omega arith);
-  keys = p.keys;
+  known = p.known;
+  stay = p.stay;
+  learnt = p.learnt;
 })
 
 -- ---- an instance type as a whole
@@ -157,40 +178,50 @@ from-map f (x ∷ xs) y (suc i, l, e) = let r = from-map f xs y (i, omega (arith
 
 -- the maps of a scope that began with none
 pub record Began (m : TypeEncodingMaps) : Type 0 where
-  pub numbers : m.id_to_index.items ≡ []
-  pub kinds : m.def_to_index.items ≡ []
-  pub keys : m.func_type_map.items ≡ []
+  pub numbers : m.id_to_index.entries ≡ []
+  pub kinds : m.def_to_index.entries ≡ []
+  pub keys : m.func_type_map.entries ≡ []
 
-defines-keys : (r : Resolve) (scope : Scope) (m m' : TypeEncodingMaps) (S : Pairs) (d d' : Definitions) (fs : List Function) (ds : List Declaration) → Began m
-    → d.functions ≡ 0 → d'.functions ≡ count_by is_function_type ds → AddsFunctions r scope m m' d d' fs → MapsAgree r m' S → DefinesKeys fs ds
-defines-keys r scope m m' S d d' fs ds b z n a agree = record {
-  keys = keys_of m';
-  count =
-      let l : length m.func_type_map.items ≡ 0 = ap length b.keys in
-      let x = a.functions_ in
-      let k : length (keys_of m') ≡ length m'.func_type_map.items = length-map m'.func_type_map.items (λ (x : FunctionKey × ℕ). key_view x.0) in
-      omega arith;
-  different = IsDistinct-from_apart are_same (keys_of m') (pairs-map (λ (x : FunctionKey × ℕ). key_view x.0) (λ x y. are_same x y ≡ false)
-      m'.func_type_map.items agree.once.keys);
-  same = λ q. a.keys q ∙ ap (λ (xs : List (FunctionKey × ℕ)). is_member are_same (map (λ x. key_view x.0) xs) q || is_member are_same (map key_of fs) q) b.keys;
-}
+-- these kinds are those whose lists the maps hold, each once
+pub record HeldKinds (r : Resolve) (own : Option InterfaceId) (ts : List ValueType) (m : TypeEncodingMaps) : Type 0 where
+  pub kinds : List TypeDefKind
+  pub lists : map (λ e. e.0) (lists_of m.def_to_index) ≡ map kind_code kinds
+  pub met : AreMetKinds r own ts kinds
 
-abbrev pub held_kinds : TypeEncodingMaps → List TypeDefKind
-held_kinds m = map (λ e. e.0.now) m.def_to_index.items
+defines-keys : (r : Resolve) (scope : Scope) (m m' : TypeEncodingMaps) (d d' : Definitions) (fs : List Function) (ds : List Declaration) → Began m
+    → d.functions ≡ 0 → d'.functions ≡ count_by is_function_type ds → AddsFunctions r scope m m' d d' fs → IsOnce m' → DefinesKeys fs ds
+defines-keys r scope m m' d d' fs ds b z n a once =
+    let k = keyed m' once in
+    record {
+      keys = k.keys;
+      count =
+          let l : length m.func_type_map.entries ≡ 0 = ap length b.keys in
+          let x = a.functions_ in
+          let y = k.count in
+          let w : length (lists_of m'.func_type_map) ≡ length m'.func_type_map.entries = length-map m'.func_type_map.entries (λ (e : Vec ℕ Global × ℕ). (e.0.items, e.1)) in
+          omega arith;
+      different = k.different;
+      same = λ q. both-ways (is_member are_same k.keys q) (is_member are_same (map key_of fs) q)
+          (λ h. elim (a.known q (k.known q h)) [ inl c ↦ absurd (knows-none m q b.keys c) | inr c ↦ c ])
+          (λ h. k.all q (a.learnt q h));
+    }
 
 defines-types : (r : Resolve) (scope : Scope) (i : InterfaceId) (m m' : TypeEncodingMaps) (d d' : Definitions) (fs : List Function) (ts : List TypeId)
     (ds : List Declaration) → Began m → d.types ≡ 0 → d'.types ≡ count_by is_value_type ds
-    → AddsFunctions r scope m m' d d' fs → AreMetKinds r (Some i) (referred ts fs) (held_kinds m') → names_defined r scope m' ≡ distinct_count nat_eq (defined_under_names r (Some i) ts)
+    → AddsFunctions r scope m m' d d' fs → HeldKinds r (Some i) (referred ts fs) m' → names_defined r scope m' ≡ distinct_count nat_eq (defined_under_names r (Some i) ts)
     → DefinesTypes r i ts fs ds
-defines-types r scope i m m' d d' fs ts ds b z n a met defined = record {
-  kinds = held_kinds m';
+defines-types r scope i m m' d d' fs ts ds b z n a held defined = record {
+  kinds = held.kinds;
   count =
-      let l : length m.def_to_index.items ≡ 0 = ap length b.kinds in
-      let c : names_defined r scope m ≡ 0 = ap (count_by (λ (e : TypeId × ℕ). is_defined_by_name r scope e.0.0)) b.numbers in
+      let l : length m.def_to_index.entries ≡ 0 = ap length b.kinds in
+      let c : names_defined r scope m ≡ 0 = ap (count_by (λ (e : ℕ × ℕ). is_defined_by_name r scope e.0)) b.numbers in
       let x = a.types in
-      let k : length (held_kinds m') ≡ length m'.def_to_index.items = length-map m'.def_to_index.items (λ (e : Bor TypeDefKind × ℕ). e.0.now) in
+      let k : length (map kind_code held.kinds) ≡ length held.kinds = length-map held.kinds kind_code in
+      let s : length (map (λ (e : List ℕ × ℕ). e.0) (lists_of m'.def_to_index)) ≡ length (map kind_code held.kinds) = ap length held.lists in
+      let u : length (map (λ (e : List ℕ × ℕ). e.0) (lists_of m'.def_to_index)) ≡ length (lists_of m'.def_to_index) = length-map (lists_of m'.def_to_index) (λ (e : List ℕ × ℕ). e.0) in
+      let w : length (lists_of m'.def_to_index) ≡ length m'.def_to_index.entries = length-map m'.def_to_index.entries (λ (e : Vec ℕ Global × ℕ). (e.0.items, e.1)) in
       omega arith;
-  met = met;
+  met = held.met;
 }
 
 pub record Counted (r : Resolve) (i : InterfaceId) (fs : List Function) (ts : List TypeId) (ds : List Declaration) : Type 0 where
@@ -198,17 +229,17 @@ pub record Counted (r : Resolve) (i : InterfaceId) (fs : List Function) (ts : Li
   pub types : DefinesTypes r i ts fs ds
 
 pub closed-counts : (r : Resolve) (outer outer' : Declarations) (i : InterfaceId) (known : Foreign) (inner' : Option OpenInterface) (current : OpenInterface) (m m' : TypeEncodingMaps)
-    (S : Pairs) (fs : List Function) (ts : List TypeId) → inner' ≡ Some current → Began m → AreMetKinds r (Some i) (referred ts fs) (held_kinds m')
+    (fs : List Function) (ts : List TypeId) → inner' ≡ Some current → Began m → HeldKinds r (Some i) (referred ts fs) m'
     → AddsFunctions r (encoder_scope r outer (opened i known)) m m' (definitions_with (contents_of r outer (opened i known))) (definitions_with (contents_of r outer' inner')) fs
-    → MapsAgree r m' S
+    → IsOnce m'
     → names_defined r (encoder_scope r outer (opened i known)) m' ≡ distinct_count nat_eq (defined_under_names r (Some i) ts) → Counted r i fs ts current.declared
 unfolding inner_contents
-closed-counts r outer outer' i known inner' current m m' S fs ts is b met a agree defined = record {
-  keys = defines-keys r (encoder_scope r outer (opened i known)) m m' S (definitions_with (contents_of r outer (opened i known)))
-      (definitions_with (contents_of r outer' inner')) fs current.declared b refl (ap (λ (o : Option OpenInterface). (contents_of r outer' o).functions) is) a agree;
+closed-counts r outer outer' i known inner' current m m' fs ts is b held a once defined = record {
+  keys = defines-keys r (encoder_scope r outer (opened i known)) m m' (definitions_with (contents_of r outer (opened i known)))
+      (definitions_with (contents_of r outer' inner')) fs current.declared b refl (ap (λ (o : Option OpenInterface). (contents_of r outer' o).functions) is) a once;
   types = defines-types r (encoder_scope r outer (opened i known)) i m m' (definitions_with (contents_of r outer (opened i known)))
       (definitions_with (contents_of r outer' inner')) fs ts current.declared b refl (ap (λ (o : Option OpenInterface). (contents_of r outer' o).types) is)
-      a met defined;
+      a held defined;
 }
 
 -- the keys of functions in another order
@@ -222,16 +253,16 @@ count-keys fs gs ds p h = h.count ∙ length-from_keys same_equiv h.keys (map ke
 -- a function: its type, and then its export, which defines nothing
 pub function-counted : {A E : Type 0} (res : Result A E) (r r₀ r₁ r₂ : Resolve) (o₀ o₁ o₂ : Declarations) (i₀ i₁ i₂ : Option OpenInterface)
     (m₀ m₁ m₂ : TypeEncodingMaps) (f : Function) (g : Text × FunctionMeaning) (index : ℕ)
-    → r₀ ≡ r → encoder_scope r₁ o₁ i₁ ≡ encoder_scope r₀ o₀ i₀ → r₂ ≡ r₁ → m₂ ≡ m₁
+    → IsOnce m₀ → r₀ ≡ r → encoder_scope r₁ o₁ i₁ ≡ encoder_scope r₀ o₀ i₀ → r₂ ≡ r₁ → m₂ ≡ m₁
     → (key : FunctionKey) × IsKeyOf key f × AddsFunction r (encoder_scope r₀ o₀ i₀) m₀ m₁ (definitions_with (contents_of r₀ o₀ i₀))
     (definitions_with (contents_of r₁ o₁ i₁)) key index → OnOk res (ShowsFunction (contents_of r₁ o₁ i₁) (contents_of r₂ o₂ i₂) g)
     → OnOk res (AddsFunctions r (encoder_scope r o₀ i₀) m₀ m₂ (definitions_with (contents_of r o₀ i₀)) (definitions_with (contents_of r o₂ i₂)) (f ∷ []))
-function-counted (Err e) r r₀ r₁ r₂ o₀ o₁ o₂ i₀ i₁ i₂ m₀ m₁ m₂ f g index e₀ s e₂ em (key, is, a) shown = shown
-function-counted (Ok x) r r₀ r₁ r₂ o₀ o₁ o₂ i₀ i₁ i₂ m₀ m₁ m₂ f g index e₀ s e₂ em (key, is, a) shown =
+function-counted (Err e) r r₀ r₁ r₂ o₀ o₁ o₂ i₀ i₁ i₂ m₀ m₁ m₂ f g index once e₀ s e₂ em (key, is, a) shown = shown
+function-counted (Ok x) r r₀ r₁ r₂ o₀ o₁ o₂ i₀ i₁ i₂ m₀ m₁ m₂ f g index once e₀ s e₂ em (key, is, a) shown =
     let here : r₂ ≡ r = e₂ ∙ (ap (λ (z : Scope). z.packages) s ∙ e₀) in
     adds-alike refl em (ap (λ (z : Resolve). (contents_of z o₀ i₀).types) (sym e₀)) (ap (λ (z : Resolve). (contents_of z o₀ i₀).functions) (sym e₀))
     (ap (λ (z : Resolve). (contents_of z o₂ i₂).types) (sym here) ∙ shown.types) (ap (λ (z : Resolve). (contents_of z o₂ i₂).functions) (sym here) ∙ shown.functions)
-    (adds-function key index f is a)
+    (adds-function key index f is once a)
 
 -- types, and then functions
 pub parts-counted : {A E : Type 0} (res : Result A E) (r r₀ r₁ : Resolve) (o₀ o₁ o₂ : Declarations) (i₀ i₁ i₂ : Option OpenInterface) (m₀ m₁ m₂ : TypeEncodingMaps)
@@ -256,6 +287,11 @@ functions-counted {r} {s} {s'} {a} {b} {c} {d} {e} {f} view xs i x l is own p q 
     subst (AddsFunctions r s a c d f) (ap (λ y. map view (take i xs) ++ view y ∷ []) is
     ∙ sym (ap (map view) (take_more xs i x l) ∙ map-append view (take i xs) (get_or xs i x ∷ [])))
     (adds-trans (map view (take i xs)) (view x ∷ []) own p q)
+
+-- all of them
+pub functions-all : {r : Resolve} {s : Scope} {a b : TypeEncodingMaps} {d e : Definitions} {X : Type 0} (view : X → Function) (xs : List X) (i : ℕ)
+    → length xs ≤ i → AddsFunctions r s a b d e (map view (take i xs)) → AddsFunctions r s a b d e (map view xs)
+functions-all {r} {s} {a} {b} {d} {e} view xs i l p = subst (λ ys. AddsFunctions r s a b d e (map view ys)) (take_all i xs l) p
 
 -- ---- which named types have been defined
 
@@ -295,11 +331,6 @@ member-there (x ∷ xs) q h =
 there-member : (xs : List ℕ) (q : ℕ) → Contains xs q → is_member nat_eq xs q ≡ true
 there-member xs q c = any-at (nat_eq q) xs q c (eq-eqb q q refl)
 
-both-ways : (a b : Bool) → (a ≡ true → b ≡ true) → (b ≡ true → a ≡ true) → a ≡ b
-both-ways true b f g = sym (f refl)
-both-ways false true f g = g refl
-both-ways false false f g = refl
-
 -- what is defined under a name is shown under it
 shown-where-defined : (r : Resolve) (scope : Scope) (n : ℕ) → is_defined_by_name r scope n ≡ true → own_name r scope n ≡ None → ⊥
 shown-where-defined r scope n = go (type_at r n)
@@ -318,70 +349,70 @@ shown-where-defined r scope n = go (type_at r n)
 
 -- where these types are known, and no other named type of the place is, those of them that have a definition of their own are counted once each
 pub exact-names : (r : Resolve) (scope : Scope) (m : TypeEncodingMaps) (types : List TypeId) → IsOnce m → ((t : TypeId) → Contains types t → IsKnown m t.0)
-    → ((t : TypeId) (i : ℕ) → Contains m.id_to_index.items (t, i) → (own_name r scope t.0 ≡ None) ⊎ Contains types t)
+    → ((t : TypeId) (i : ℕ) → Contains m.id_to_index.entries (t.0, i) → (own_name r scope t.0 ≡ None) ⊎ Contains types t)
     → names_defined r scope m ≡ distinct_count nat_eq (defined_under_names r scope.own_interface types)
 exact-names r scope m types once known alone =
-    sym (length-map (filter test m.id_to_index.items) number ∙ length-filter test m.id_to_index.items)
+    sym (length-map (filter test m.id_to_index.entries) number ∙ length-filter test m.id_to_index.entries)
     ∙ length-from_keys nat_eq_equiv names own distinct (λ q. both-ways (is_member nat_eq names q) (is_member nat_eq own q)
-    (λ h. there-member own q (listed q (from-map number (filter test m.id_to_index.items) q (member-there names q h))))
+    (λ h. there-member own q (listed q (from-map number (filter test m.id_to_index.entries) q (member-there names q h))))
     (λ h. there-member names q (learnt q (from-map (λ (t : TypeId). t.0) (filter at types) q (member-there own q h)))))
   where
-    number : TypeId × ℕ → ℕ
-    number e = e.0.0
+    number : ℕ × ℕ → ℕ
+    number e = e.0
 
-    test : TypeId × ℕ → Bool
-    test e = is_defined_by_name r scope e.0.0
+    test : ℕ × ℕ → Bool
+    test e = is_defined_by_name r scope e.0
 
     at : TypeId → Bool
     at t = is_defined_by_name r scope t.0
 
     names : List ℕ
-    names = map number (filter test m.id_to_index.items)
+    names = map number (filter test m.id_to_index.entries)
 
     own : List ℕ
     own = map (λ t. t.0) (filter at types)
 
     distinct : IsDistinct nat_eq names
-    distinct = IsDistinct-from_apart nat_eq names (pairs-map number (λ x y. nat_eq x y ≡ false) (filter test m.id_to_index.items)
-        (AllPairs-filter (λ x y. nat_eq x.0.0 y.0.0 ≡ false) test m.id_to_index.items once.numbers))
+    distinct = IsDistinct-from_apart nat_eq names (pairs-map number (λ x y. nat_eq x y ≡ false) (filter test m.id_to_index.entries)
+        (AllPairs-filter (λ x y. nat_eq x.0 y.0 ≡ false) test m.id_to_index.entries once.numbers))
 
-    listed : (q : ℕ) → (x : TypeId × ℕ) × Contains (filter test m.id_to_index.items) x × (number x ≡ q) → Contains own q
+    listed : (q : ℕ) → (x : ℕ × ℕ) × Contains (filter test m.id_to_index.entries) x × (number x ≡ q) → Contains own q
     listed q (x, c, e) =
-        let passed : test x ≡ true = All-contains (λ (y : TypeId × ℕ). test y ≡ true) (filter test m.id_to_index.items) x (filter_passes test m.id_to_index.items) c in
-        elim (alone x.0 x.1 (from-filter test m.id_to_index.items x c)) [
-          | inl none ↦ absurd (shown-where-defined r scope x.0.0 passed none)
-          | inr there ↦ subst (Contains own) e (contains-map (λ (t : TypeId). t.0) (filter at types) x.0 (contains-filter at types x.0 passed there))
+        let passed : test x ≡ true = All-contains (λ (y : ℕ × ℕ). test y ≡ true) (filter test m.id_to_index.entries) x (filter_passes test m.id_to_index.entries) c in
+        elim (alone (record { 0 = x.0 }) x.1 (from-filter test m.id_to_index.entries x c)) [
+          | inl none ↦ absurd (shown-where-defined r scope x.0 passed none)
+          | inr there ↦ subst (Contains own) e (contains-map (λ (t : TypeId). t.0) (filter at types) (record { 0 = x.0 }) (contains-filter at types (record { 0 = x.0 }) passed there))
         ]
 
     learnt : (q : ℕ) → (t : TypeId) × Contains (filter at types) t × (t.0 ≡ q) → Contains names q
     learnt q (t, c, e) =
         let passed : at t ≡ true = All-contains (λ (y : TypeId). at y ≡ true) (filter at types) t (filter_passes at types) c in
         let k = known t (from-filter at types t c) in
-        subst (Contains names) e (contains-map number (filter test m.id_to_index.items) (t, k.0) (contains-filter test m.id_to_index.items (t, k.0) passed k.1))
+        subst (Contains names) e (contains-map number (filter test m.id_to_index.entries) (t.0, k.0) (contains-filter test m.id_to_index.entries (t.0, k.0) passed k.1))
 
 -- what exports nothing defines nothing under a name
-unshown-undefined : (r : Resolve) (scope : Scope) (es : List (TypeId × ℕ)) → filter_map (λ e. own_name r scope e.0.0) es ≡ []
-    → count_by (λ e. is_defined_by_name r scope e.0.0) es ≡ 0
+unshown-undefined : (r : Resolve) (scope : Scope) (es : List (ℕ × ℕ)) → filter_map (λ e. own_name r scope e.0) es ≡ []
+    → count_by (λ e. is_defined_by_name r scope e.0) es ≡ 0
 unshown-undefined r scope [] h = refl
-unshown-undefined r scope (e ∷ es) h = sum_by-append (λ (x : TypeId × ℕ). cond (is_defined_by_name r scope x.0.0) 1 0) (e ∷ []) es
-    ∙ go (own_name r scope e.0.0) (is_defined_by_name r scope e.0.0) refl refl h (unshown-undefined r scope es)
+unshown-undefined r scope (e ∷ es) h = sum_by-append (λ (x : ℕ × ℕ). cond (is_defined_by_name r scope x.0) 1 0) (e ∷ []) es
+    ∙ go (own_name r scope e.0) (is_defined_by_name r scope e.0) refl refl h (unshown-undefined r scope es)
   where
-    go : (o : Option Text) (b : Bool) → own_name r scope e.0.0 ≡ o → is_defined_by_name r scope e.0.0 ≡ b
-        → cons_option o (filter_map (λ e. own_name r scope e.0.0) es) ≡ []
-        → (filter_map (λ e. own_name r scope e.0.0) es ≡ [] → count_by (λ e. is_defined_by_name r scope e.0.0) es ≡ 0)
-        → 0 + cond b 1 0 + count_by (λ e. is_defined_by_name r scope e.0.0) es ≡ 0
+    go : (o : Option Text) (b : Bool) → own_name r scope e.0 ≡ o → is_defined_by_name r scope e.0 ≡ b
+        → cons_option o (filter_map (λ e. own_name r scope e.0) es) ≡ []
+        → (filter_map (λ e. own_name r scope e.0) es ≡ [] → count_by (λ e. is_defined_by_name r scope e.0) es ≡ 0)
+        → 0 + cond b 1 0 + count_by (λ e. is_defined_by_name r scope e.0) es ≡ 0
     go (Some name) b n d h rest = absurd (let z : ⊥ = cc in z)
-    go None true n d h rest = absurd (shown-where-defined r scope e.0.0 d n)
+    go None true n d h rest = absurd (shown-where-defined r scope e.0 d n)
     go None false n d h rest = let more = rest h in omega arith
 
 names-unchanged : (r : Resolve) (scope : Scope) (m m' : TypeEncodingMaps) (d d' : Definitions) → Shows r scope m m' d d' → d'.exports ≡ d.exports
     → names_defined r scope m' ≡ names_defined r scope m
 names-unchanged r scope m m' d d' s same =
-    let test : TypeId × ℕ → Bool = λ e. is_defined_by_name r scope e.0.0 in
+    let test : ℕ × ℕ → Bool = λ e. is_defined_by_name r scope e.0 in
     let none : s.shown ≡ [] = no-more d.exports s.shown (sym s.exports ∙ same) in
     let zero : count_by test s.learnt ≡ 0 = unshown-undefined r scope s.learnt (sym s.names ∙ ap (map (λ (x : Text × TypeMeaning). x.0)) none) in
-    let sum : names_defined r scope m' ≡ names_defined r scope m + count_by test s.learnt = ap (count_by test) s.numbers
-    ∙ sum_by-append (λ e. cond (test e) 1 0) m.id_to_index.items s.learnt in
+    let sum : names_defined r scope m' ≡ names_defined r scope m + count_by test s.learnt = sum_by-IsPermutation (λ e. cond (test e) 1 0) (m.id_to_index.entries ++ s.learnt) m'.id_to_index.entries s.numbers
+    ∙ sum_by-append (λ e. cond (test e) 1 0) m.id_to_index.entries s.learnt in
     omega arith
   where
     no-more : {X : Type 0} (xs ys : List X) → xs ++ ys ≡ xs → ys ≡ []

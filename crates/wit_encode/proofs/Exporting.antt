@@ -1,12 +1,13 @@
 -- The types that are exported as those of an interface are encoded, one for each, in order.
 use Rattle.std.proofs.Common.{◌≡◌, refl, sym, subst, ap, ◌∙◌, ℕ, zero, suc, ◌+◌, ◌<◌, ◌≤◌, ◌⊎◌, inl, inr, Bool, true, false, ◌&&◌, cond, ◌==◌, nat_eq, List, [], ◌∷◌, ◌++◌, append-nil, take, length, get_or, map, filter_map, slice_get, Some, None, String, string_eq, string_bytes, nat_lt, option_map, option_and_then, option_to_list, arith}
 use Rattle.std.specs.declared.alloc.Global.{Global}
-use Rattle.std.specs.Prelude.{AllPairs, is_none}
+use Rattle.std.specs.Prelude.{AllPairs, is_none, IsPermutation}
 use Rattle.std.specs.List.{Contains, IsDistinct, AllByRecursion, list_all}
 use Rattle.std.specs.Str.{bytes_eq}
 use Rattle.std.specs.Map.{keys_of}
 use Rattle.std.specs.Option.{option_map_or}
-use Rattle.std.proofs.lemmas.Cmp.{nat_list_eq_equiv}
+use Rattle.std.proofs.lemmas.Cmp.{nat_list_eq_equiv, nat_eq_equiv}
+use Rattle.std.proofs.lemmas.List.Sorted.{IsPermutation-sym, Contains-permutation}
 use Rattle.std.proofs.lemmas.Option.{slice_get_within, get_or_from_slice_get}
 use Rattle.std.proofs.lemmas.List.{take_more, take_all, take-map, length-map}
 use Rattle.std.proofs.Math.ListN.{get_or-map}
@@ -48,29 +49,42 @@ use Rattle.wit_encode.proofs.Numbers.{same-some, same-number, equal, contains-ge
 use Rattle.wit_encode.proofs.ListedTypes.{IsListedType, numbers, owned-listed, listed-type, type-there, number-there, listed-once, listed-key, uses-before}
 use Rattle.wit_encode.proofs.Meeting.{AllMeetKnown, part-uses, meets-unnamed}
 use Rattle.wit_encode_types.proofs.Pairs.{pairs-across, pairs-right}
+use Rattle.wit_encode_types.proofs.Tables.{pairs-permuted}
 
 -- ---- what is learnt
 
+-- no number has been learnt twice
+learnt-apart : (m m' : TypeEncodingMaps) (learnt : List (ℕ × ℕ)) → IsOnce m' → IsPermutation (m.id_to_index.entries ++ learnt) m'.id_to_index.entries
+    → AllPairs (λ a b. nat_eq a.0 b.0 ≡ false) (m.id_to_index.entries ++ learnt)
+learnt-apart m m' learnt once p =
+    pairs-permuted (λ (a b : ℕ × ℕ). nat_eq a.0 b.0 ≡ false) (λ a b e. nat_eq_equiv.symm b.0 a.0 ∙ e) m'.id_to_index.entries (m.id_to_index.entries ++ learnt)
+    (IsPermutation-sym (m.id_to_index.entries ++ learnt) m'.id_to_index.entries p) once.numbers
+
+-- what is known was, or has been learnt
+was-or-learnt : (m m' : TypeEncodingMaps) (learnt : List (ℕ × ℕ)) → IsPermutation (m.id_to_index.entries ++ learnt) m'.id_to_index.entries → (x : ℕ × ℕ) → Contains m'.id_to_index.entries x
+    → Contains m.id_to_index.entries x ⊎ Contains learnt x
+was-or-learnt m m' learnt p x c = Contains-append_cases m.id_to_index.entries learnt x (Contains-permutation m'.id_to_index.entries (m.id_to_index.entries ++ learnt) x
+    (IsPermutation-sym (m.id_to_index.entries ++ learnt) m'.id_to_index.entries p) c)
+
 -- a number that has been learnt is one of these
-learnt-one : (P : ℕ → Type 0) (m m' : TypeEncodingMaps) (learnt : List (TypeId × ℕ)) → IsOnce m' → m'.id_to_index.items ≡ m.id_to_index.items ++ learnt
-    → LearnsOnly P m m' → (x : TypeId × ℕ) → Contains learnt x → P x.0.0
+learnt-one : (P : ℕ → Type 0) (m m' : TypeEncodingMaps) (learnt : List (ℕ × ℕ)) → IsOnce m' → IsPermutation (m.id_to_index.entries ++ learnt) m'.id_to_index.entries
+    → LearnsOnly P m m' → (x : ℕ × ℕ) → Contains learnt x → P x.0
 learnt-one P m m' learnt once e l x c = elim (l.each x.0 x.1
-    (subst (λ (xs : List (TypeId × ℕ)). Contains xs x) (sym e) (Contains-append_right m.id_to_index.items learnt x c))) [
+    (Contains-permutation (m.id_to_index.entries ++ learnt) m'.id_to_index.entries x e (Contains-append_right m.id_to_index.entries learnt x c))) [
       | inl q ↦ absurd (twice q)
       | inr p ↦ p
     ]
   where
-    twice : Contains m.id_to_index.items x → ⊥
+    twice : Contains m.id_to_index.entries x → ⊥
     twice q =
-        let apart = pairs-across (λ a b. nat_eq a.0.0 b.0.0 ≡ false) m.id_to_index.items learnt x x
-        (subst (λ (xs : List (TypeId × ℕ)). AllPairs (λ a b. nat_eq a.0.0 b.0.0 ≡ false) xs) e once.numbers) q c in
-        let wrong : true ≡ false = sym (same-number x.0.0) ∙ apart in cc
+        let apart = pairs-across (λ (a b : ℕ × ℕ). nat_eq a.0 b.0 ≡ false) m.id_to_index.entries learnt x x (learnt-apart m m' learnt once e) q c in
+        let wrong : true ≡ false = sym (same-number x.0) ∙ apart in cc
 
 -- where nothing that is learnt is a named type of the place, nothing is exported
 pub shows-nothing : (r : Resolve) (scope : Scope) (m m' : TypeEncodingMaps) (d d' : Definitions) (P : ℕ → Type 0) → IsOnce m' → LearnsOnly P m m'
     → ((n : ℕ) → P n → own_name r scope n ≡ None) → Shows r scope m m' d d' → d'.exports ≡ d.exports
 shows-nothing r scope m m' d d' P once l none s =
-    let names = s.names ∙ gives-none (λ e. own_name r scope e.0.0) s.learnt (λ x c. none x.0.0 (learnt-one P m m' s.learnt once s.numbers l x c)) in
+    let names = s.names ∙ gives-none (λ e. own_name r scope e.0) s.learnt (λ x c. none x.0 (learnt-one P m m' s.learnt once s.numbers l x c)) in
     s.exports ∙ ap (λ xs. d.exports ++ xs) (nothing-mapped (λ x. x.0) s.shown names) ∙ append-nil d.exports
 
 -- ---- functions
@@ -155,10 +169,10 @@ module _ (r : Resolve) (v : IsValid r) (scope : Scope) (id : InterfaceId) (inter
   declarations-are : scope.declarations ≡ map declaration interface.types.entries
   declarations-are = declares ∙ ap (λ o. (option_map_or (interface_meaning r) o no_interface).types) there
 
-  pub starts : (m : TypeEncodingMaps) (d : Definitions) → m.id_to_index.items ≡ [] → d.exports ≡ [] → ShowsFirst r scope (values interface.types) 0 m d
+  pub starts : (m : TypeEncodingMaps) (d : Definitions) → m.id_to_index.entries ≡ [] → d.exports ≡ [] → ShowsFirst r scope (values interface.types) 0 m d
   starts m d e f = record {
     known = λ t c. none-in t c;
-    alone = λ t i c. none-in (t, i) (subst (λ (xs : List (TypeId × ℕ)). Contains xs (t, i)) e c);
+    alone = λ t i c. none-in (t.0, i) (subst (λ (xs : List (ℕ × ℕ)). Contains xs (t.0, i)) e c);
     exported = f;
   }
 
@@ -235,22 +249,20 @@ module _ (r : Resolve) (v : IsValid r) (scope : Scope) (id : InterfaceId) (inter
 
     module _ (once : IsOnce m') (grow : MapsGrow m m') (ready : IsReady m' (ty.Id e.1)) (learns : LearnsOnly (MetFrom r scope.own_interface m (ty.Id e.1 ∷ [])) m m')
         (shows : Shows r scope m m' d d') where
-      met-learnt : (x : TypeId × ℕ) → Contains shows.learnt x → MetFrom r scope.own_interface m (ty.Id e.1 ∷ []) x.0.0
+      met-learnt : (x : ℕ × ℕ) → Contains shows.learnt x → MetFrom r scope.own_interface m (ty.Id e.1 ∷ []) x.0
       met-learnt = learnt-one (MetFrom r scope.own_interface m (ty.Id e.1 ∷ [])) m m' shows.learnt once shows.numbers learns
 
       -- its number has been learnt
-      itself : Contains shows.learnt (e.1, (ready e.1 refl).0)
-      itself = elim (Contains-append_cases m.id_to_index.items shows.learnt (e.1, (ready e.1 refl).0)
-          (subst (λ (xs : List (TypeId × ℕ)). Contains xs (e.1, (ready e.1 refl).0)) shows.numbers (ready e.1 refl).1)) [
-            | inl q ↦ absurd (fresh ((ready e.1 refl).0, q))
-            | inr q ↦ q
-          ]
+      itself : Contains shows.learnt (e.1.0, (ready e.1 refl).0)
+      itself = elim (was-or-learnt m m' shows.learnt shows.numbers (e.1.0, (ready e.1 refl).0) (ready e.1 refl).1) [
+        | inl q ↦ absurd (fresh ((ready e.1 refl).0, q))
+        | inr q ↦ q
+      ]
 
-      one-name : filter_map (λ x. own_name r scope x.0.0) shows.learnt ≡ text_of entry.name ∷ []
-      one-name = gives-one (λ (x : TypeId × ℕ). x.0.0) (λ x. own_name r scope x.0.0) e.1.0 (text_of entry.name) shows.learnt
-          (pairs-right (λ a b. nat_eq a.0.0 b.0.0 ≡ false) m.id_to_index.items shows.learnt
-          (subst (λ (xs : List (TypeId × ℕ)). AllPairs (λ a b. nat_eq a.0.0 b.0.0 ≡ false) xs) shows.numbers once.numbers))
-          (λ x q. ap (own_name r scope) q ∙ named) (λ x c other. met-no-other x.0.0 (met-learnt x c) other) (e.1, (ready e.1 refl).0) itself refl
+      one-name : filter_map (λ x. own_name r scope x.0) shows.learnt ≡ text_of entry.name ∷ []
+      one-name = gives-one (λ (x : ℕ × ℕ). x.0) (λ x. own_name r scope x.0) e.1.0 (text_of entry.name) shows.learnt
+          (pairs-right (λ (a b : ℕ × ℕ). nat_eq a.0 b.0 ≡ false) m.id_to_index.entries shows.learnt (learnt-apart m m' shows.learnt once shows.numbers))
+          (λ x q. ap (own_name r scope) q ∙ named) (λ x c other. met-no-other x.0 (met-learnt x c) other) (e.1.0, (ready e.1 refl).0) itself refl
 
       -- its declaration has been exported
       one-shown : shows.shown ≡ declaration e ∷ []
@@ -283,10 +295,10 @@ module _ (r : Resolve) (v : IsValid r) (scope : Scope) (id : InterfaceId) (inter
       pub next : ShowsFirst r scope (values interface.types) (k + 1) m' d'
       next = record {
         known = λ t c. elim (Contains-push_cases (take k (values interface.types)) e.1 t (subst (λ (xs : List TypeId). Contains xs t) types-more c)) [
-          | inl q ↦ (let old = first.known t q in (old.0, grow.keeps (by_number t) old.0 old.1))
+          | inl q ↦ (let old = first.known t q in (old.0, grow.keeps (by_number t.0) old.0 old.1))
           | inr q ↦ subst (λ (x : TypeId). IsKnown m' x.0) q (ready e.1 refl)
         ];
-        alone = λ t i c. elim (Contains-append_cases m.id_to_index.items shows.learnt (t, i) (subst (λ (xs : List (TypeId × ℕ)). Contains xs (t, i)) shows.numbers c)) [
+        alone = λ t i c. elim (was-or-learnt m m' shows.learnt shows.numbers (t.0, i) c) [
           | inl q ↦ elim (first.alone t i q) [
             | inl none ↦ inl none
             | inr before ↦ inr (subst (λ (xs : List TypeId). Contains xs t) (sym types-more) (Contains-append_left (take k (values interface.types)) (e.1 ∷ []) t before))
@@ -296,13 +308,13 @@ module _ (r : Resolve) (v : IsValid r) (scope : Scope) (id : InterfaceId) (inter
         exported = shows.exports ∙ (λ j. first.exported j ++ one-shown j) ∙ sym declarations-more;
       }
         where
-          new : (t : TypeId) (i : ℕ) → Contains shows.learnt (t, i) → (b : Bool) → (t.0 == e.1.0) ≡ b → (own_name r scope t.0 ≡ None)
+          new : (t : TypeId) (i : ℕ) → Contains shows.learnt (t.0, i) → (b : Bool) → (t.0 == e.1.0) ≡ b → (own_name r scope t.0 ≡ None)
               ⊎ Contains (take (k + 1) (values interface.types)) t
           new t i q true s =
               let same : e.1 ≡ t = ap (λ n. record { 0 = n }) (sym (equal t.0 e.1.0 s)) in
               inr (subst (λ (xs : List TypeId). Contains xs t) (sym types-more)
               (subst (λ (x : TypeId). Contains (take k (values interface.types) ++ e.1 ∷ []) x) same (Contains-push (take k (values interface.types)) e.1)))
-          new t i q false s = inl (met-no-other t.0 (met-learnt (t, i) q) (λ same. differ same))
+          new t i q false s = inl (met-no-other t.0 (met-learnt (t.0, i) q) (λ same. differ same))
             where
               differ : t.0 ≡ e.1.0 → ⊥
               differ same = let wrong : true ≡ false = sym (subst (λ (n : ℕ). (t.0 == n) ≡ true) same (same-number t.0)) ∙ s in cc
@@ -320,7 +332,7 @@ module _ (r : Resolve) (v : IsValid r) (scope : Scope) (types : List TypeId) (of
   here : scope.declarations ≡ (interface_meaning_at r of.id.0).types
   here = declares ∙ ap (declarations_in r) of.is
 
-  pub exports-start : (m : TypeEncodingMaps) (d : Definitions) → m.id_to_index.items ≡ [] → d.exports ≡ [] → ShowsFirst r scope types 0 m d
+  pub exports-start : (m : TypeEncodingMaps) (d : Definitions) → m.id_to_index.entries ≡ [] → d.exports ≡ [] → ShowsFirst r scope types 0 m d
   exports-start m d e f = subst (λ (ts : List TypeId). ShowsFirst r scope ts 0 m d) (sym of.listed) (starts r v scope of.id of.def of.is of.there here m d e f)
 
   pub exports-end : (k : ℕ) (m : TypeEncodingMaps) (d : Definitions) → length types ≤ k → ShowsFirst r scope types k m d

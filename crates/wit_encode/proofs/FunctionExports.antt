@@ -38,7 +38,7 @@ function-stays (Ok a) r r₀ r₁ r₂ o₀ o₁ o₂ i₀ i₁ i₂ m₀ m₁ f
 
 -- what is known stays known
 pub used-kept : (r : Resolve) (m m' : TypeEncodingMaps) (f : Function) → MapsGrow m m' → KnowsUsed r m f → KnowsUsed r m' f
-used-kept r m m' f grow used n c = let old = used n c in (old.0, grow.keeps (by_number (record { 0 = n })) old.0 old.1)
+used-kept r m m' f grow used n c = let old = used n c in (old.0, grow.keeps (by_number n) old.0 old.1)
 
 -- functions that use types of the list alone, where these are known
 pub listed-used : (r : Resolve) (m : TypeEncodingMaps) (types : List TypeId) (f : Function) → AllKnown m types → UsesListed r types f → KnowsUsed r m f

@@ -1,11 +1,15 @@
 -- A type of another interface whose instance stands around is reached by an alias there.
-use Rattle.std.proofs.Common.{◌≡◌, refl, sym, subst, ap, ◌∙◌, ℕ, zero, suc, ◌+◌, ◌==◌, eq-eqb, eqb-true, Bool, true, false, not, cond, ◌&&◌, ◌||◌, if◌then◌else◌, List, [], ◌∷◌, length, Option, Some, None, String, slice_get, is_some, ◌++◌, Result, Ok, Err, IfOk, OnErr, option_map, OnOk, arith}
-use Rattle.std.specs.List.{Contains, find, list_all, list_any, filter}
+use Rattle.std.proofs.Common.{◌≡◌, refl, sym, subst, ap, ◌∙◌, ℕ, zero, suc, ◌+◌, ◌==◌, eq-eqb, nat_cmp, Ordering, Bool, true, false, not, ◌&&◌, ◌||◌, if◌then◌else◌, List, [], ◌∷◌, length, Option, Some, None, String, slice_get, is_some, ◌++◌, Result, Ok, Err, IfOk, OnErr, OnOk, arith}
+use Rattle.std.specs.List.{Contains, list_all, list_any, filter}
 use Rattle.std.specs.Option.{option_map_or}
 use Rattle.std.specs.declared.alloc.Global.{Global}
-use Rattle.std.specs.declared.vec.Vec.{Vec}
+use Rattle.std.specs.declared.cmp.Ordering.TheVariants.{Less, Equal, Greater}
+use Rattle.std.specs.Ordering.{is_eq, match_ordering}
+use Rattle.std.specs.Map.{remove_entry}
+use Rattle.std.specs.BTreeMap.{BTreeMap, insert_entry, is_at}
+use Rattle.std.proofs.lemmas.Bool.{cond-true, cond-false}
+use Rattle.std.proofs.lemmas.Cmp.{nat_cmp_total}
 use Rattle.std.proofs.lemmas.List.Elements.{All-contains, filter_passes}
-use Rattle.std.proofs.lemmas.List.Folds.{list_all-append}
 use Rattle.wit_model.specs.Text.{Text, text_eq, text_of}
 use Rattle.wit_model.specs.Tree.{Tree, Place, here, of_interface, named, primitive, node}
 use Rattle.wit_model.specs.Types.{number_tree}
@@ -31,7 +35,8 @@ use Rattle.wit_encode_types.specs.Resources.{is_named_interface, named_resources
 use Rattle.wit_encode_types.specs.Known.{Around, Aliased, alias_declared, with_alias, with_aliases, IsAlias, AreAliases, IsSource, ReachesAround, as_before, aliased, known_slot, known_instance, is_name_slot, is_slot_for, is_named_of, is_instance_of, shows_type, is_standing, stands_around, are_right, below}
 use Rattle.wit_encode_types.specs.Scope.{Scope, IsImportable}
 use Rattle.wit_encode.specs.Instance.{standing_at, SlotsStand, is_slot_of, outer_slots, outer_instances, is_owner_in, resources_in, is_sound_in, place_in, Contents, standing_instances, scope_from, scope_with, inner_contents, contents_of, around_at, encoder_scope, definitions_with}
-use Rattle.wit_encode_types.proofs.Lists.{both}
+use Rattle.wit_encode_types.proofs.Lists.{both, all-contained}
+use Rattle.wit_encode_types.proofs.Tables.{equal-self, at-some, number-found}
 use Rattle.wit_encode.proofs.Contents.{slots-kept}
 use Rattle.wit_encode.proofs.Calls.{Calls, alias-inside}
 use Rattle.wit_encode.proofs.Wider.{get-left, Widened, widened, contents-wider}
@@ -127,25 +132,19 @@ known-slot r i a n k (Some x) at h =
     }
 
 -- what is listed is right
-known-right : (r : Resolve) (known : List (TypeId × ℕ)) (slots : List Slot) (n k : ℕ) → are_right r known slots ≡ true → known_slot known n ≡ Some k → is_slot_for r n (slice_get slots k) ≡ true
-known-right r [] slots n k h e = absurd (let z : ⊥ = cc in z)
-known-right r (x ∷ xs) slots n k h e = go (λ q. known-right r xs slots n k (second_true (is_slot_for r x.0.0 (slice_get slots x.1)) _ h) q) (x.0.0 == n) refl e
-  where
-    go : (known_slot xs n ≡ Some k → is_slot_for r n (slice_get slots k) ≡ true) → (b : Bool) → (x.0.0 == n) ≡ b → option_map (λ y. y.1) (cond b (Some x) (find (λ y. y.0.0 == n) xs)) ≡ Some k → is_slot_for r n (slice_get slots k) ≡ true
-    go later true q e =
-        let slot : x.1 ≡ k = cc in
-        sym (λ j. is_slot_for r (eqb-true x.0.0 n q j) (slice_get slots (slot j))) ∙ first_true (is_slot_for r x.0.0 (slice_get slots x.1)) _ h
-    go later false q e = later e
+known-right : (r : Resolve) (known : List (ℕ × ℕ)) (slots : List Slot) (n k : ℕ) → are_right r known slots ≡ true → known_slot known n ≡ Some k → is_slot_for r n (slice_get slots k) ≡ true
+known-right r known slots n k h e = all-contained (λ (x : ℕ × ℕ). is_slot_for r x.0 (slice_get slots x.1)) known (n, k) h
+    (at-some (known_slot known n) (λ i. Contains known (n, i)) k e (number-found known n (known_slot known n) refl))
 
 for-more : (r : Resolve) (slots : List Slot) (y : Slot) (n k : ℕ) (o : Option Slot) → slice_get slots k ≡ o → is_slot_for r n o ≡ true → is_slot_for r n (slice_get (slots ++ y ∷ []) k) ≡ true
 for-more r slots y n k None e h = absurd (let z : ⊥ = cc in z)
 for-more r slots y n k (Some x) e h = ap (is_slot_for r n) (get-left slots y k x e) ∙ h
 
-pub right-more : (r : Resolve) (known : List (TypeId × ℕ)) (slots : List Slot) (y : Slot) → are_right r known slots ≡ true → are_right r known (slots ++ y ∷ []) ≡ true
+pub right-more : (r : Resolve) (known : List (ℕ × ℕ)) (slots : List Slot) (y : Slot) → are_right r known slots ≡ true → are_right r known (slots ++ y ∷ []) ≡ true
 right-more r [] slots y h = refl
 right-more r (x ∷ xs) slots y h =
-    both (is_slot_for r x.0.0 (slice_get (slots ++ y ∷ []) x.1)) (are_right r xs (slots ++ y ∷ [])) (for-more r slots y x.0.0 x.1 (slice_get slots x.1) refl (first_true (is_slot_for r x.0.0 (slice_get slots x.1)) _ h))
-    (right-more r xs slots y (second_true (is_slot_for r x.0.0 (slice_get slots x.1)) _ h))
+    both (is_slot_for r x.0 (slice_get (slots ++ y ∷ []) x.1)) (are_right r xs (slots ++ y ∷ [])) (for-more r slots y x.0 x.1 (slice_get slots x.1) refl (first_true (is_slot_for r x.0 (slice_get slots x.1)) _ h))
+    (right-more r xs slots y (second_true (is_slot_for r x.0 (slice_get slots x.1)) _ h))
 
 -- ---- what can be imported
 
@@ -256,6 +255,48 @@ none-outside r outer j n m = go (is_sound_in r None (contents_of r outer None)) 
     go false (k, l, e) = omega (arith, l)
     go true h = none-listed r [] (below (length r.interfaces.items)) j h
 
+-- ---- one entry more in an ordered map
+
+module _ (n t : ℕ) where
+  own-key : is_at (nat_cmp n) n ≡ true
+  own-key = ap is_eq (equal-self nat_cmp_total n)
+
+  apart : (e : ℕ × ℕ) (es : List (ℕ × ℕ)) → known_slot (e ∷ es) n ≡ None → nat_cmp n e.0 ≡ Equal → ⊥
+  apart e es h q = let y : is_eq (nat_cmp n e.0) ≡ true = ap is_eq q in let s : Some e.1 ≡ None = sym (cond-true _ _ _ y) ∙ h in cc
+
+  -- it is found
+  pub new-slot : (es : List (ℕ × ℕ)) → known_slot es n ≡ None → known_slot (insert_entry nat_cmp es n t) n ≡ Some t
+  new-slot [] h = cond-true _ _ _ own-key
+  new-slot (e ∷ es) h = by (nat_cmp n e.0) refl (λ q. new-slot es (sym (cond-false _ _ _ q) ∙ h))
+    where
+      by : (o : Ordering) → nat_cmp n e.0 ≡ o → (is_eq (nat_cmp n e.0) ≡ false → known_slot (insert_entry nat_cmp es n t) n ≡ Some t)
+          → known_slot (match_ordering o ((n, t) ∷ e ∷ es) ((e.0, t) ∷ es) (e ∷ insert_entry nat_cmp es n t)) n ≡ Some t
+      by Less q more = cond-true _ _ _ own-key
+      by Equal q more = absurd (apart e es h q)
+      by Greater q more = let f : is_eq (nat_cmp n e.0) ≡ false = ap is_eq q in cond-false _ _ _ f ∙ more f
+
+  -- without it the entries are those that were there
+  pub taken-back : (es : List (ℕ × ℕ)) → known_slot es n ≡ None → remove_entry (is_at (nat_cmp n)) (insert_entry nat_cmp es n t) ≡ es
+  taken-back [] h = cond-true _ _ _ own-key
+  taken-back (e ∷ es) h = by (nat_cmp n e.0) refl (λ q. taken-back es (sym (cond-false _ _ _ q) ∙ h))
+    where
+      by : (o : Ordering) → nat_cmp n e.0 ≡ o → (is_eq (nat_cmp n e.0) ≡ false → remove_entry (is_at (nat_cmp n)) (insert_entry nat_cmp es n t) ≡ es)
+          → remove_entry (is_at (nat_cmp n)) (match_ordering o ((n, t) ∷ e ∷ es) ((e.0, t) ∷ es) (e ∷ insert_entry nat_cmp es n t)) ≡ e ∷ es
+      by Less q more = cond-true _ _ _ own-key
+      by Equal q more = absurd (apart e es h q)
+      by Greater q more = let f : is_eq (nat_cmp n e.0) ≡ false = ap is_eq q in cond-false _ _ _ f ∙ ap (λ xs. e ∷ xs) (more f)
+
+  -- what each entry passes, each passes with it
+  pub all-inserted : (p : ℕ × ℕ → Bool) (es : List (ℕ × ℕ)) → known_slot es n ≡ None → list_all p es ≡ true → p (n, t) ≡ true → list_all p (insert_entry nat_cmp es n t) ≡ true
+  all-inserted p [] h a b = both (p (n, t)) true b refl
+  all-inserted p (e ∷ es) h a b = by (nat_cmp n e.0) refl (λ q. all-inserted p es (sym (cond-false _ _ _ q) ∙ h) (second_true (p e) (list_all p es) a) b)
+    where
+      by : (o : Ordering) → nat_cmp n e.0 ≡ o → (is_eq (nat_cmp n e.0) ≡ false → list_all p (insert_entry nat_cmp es n t) ≡ true)
+          → list_all p (match_ordering o ((n, t) ∷ e ∷ es) ((e.0, t) ∷ es) (e ∷ insert_entry nat_cmp es n t)) ≡ true
+      by Less q more = both (p (n, t)) (list_all p (e ∷ es)) b a
+      by Equal q more = absurd (apart e es h q)
+      by Greater q more = both (p e) (list_all p (insert_entry nat_cmp es n t)) (first_true (p e) (list_all p es) a) (more (ap is_eq q))
+
 -- ---- an alias is made
 
 module _ (r : Resolve) (a : Around) (al : Aliased) (is : IsAlias r a al) where
@@ -282,11 +323,8 @@ module _ (r : Resolve) (a : Around) (al : Aliased) (is : IsAlias r a al) where
   new-fits = ap (is_slot_for r al.number.0) wide.new ∙ stands.fits
 
   pub still-right : are_right r next.known (outer_slots next.declared) ≡ true
-  still-right =
-      list_all-append (λ (e : TypeId × ℕ). is_slot_for r e.0.0 (slice_get (outer_slots next.declared) e.1)) a.known ((al.number, type_slots_of a.declared) ∷ [])
-      ∙ both (are_right r a.known (outer_slots next.declared)) (is_slot_for r al.number.0 (slice_get (outer_slots next.declared) (type_slots_of a.declared)) && true)
-      (ap (are_right r a.known) wide.slots ∙ right-more r a.known (outer_slots a.declared) stands.slot stands.right)
-      (both (is_slot_for r al.number.0 (slice_get (outer_slots next.declared) (type_slots_of a.declared))) true new-fits refl)
+  still-right = all-inserted al.number.0 (type_slots_of a.declared) (λ (e : ℕ × ℕ). is_slot_for r e.0 (slice_get (outer_slots next.declared) e.1)) a.known is.first
+      (ap (are_right r a.known) wide.slots ∙ right-more r a.known (outer_slots a.declared) stands.slot stands.right) new-fits
 
   pub still-standing : standing_instances r next ≡ standing_instances r a
   still-standing =
@@ -294,36 +332,26 @@ module _ (r : Resolve) (a : Around) (al : Aliased) (is : IsAlias r a al) where
       ∙ ap (λ xs. filter (stands_around r a.instances xs) (below (length r.interfaces.items))) wide.instances
       ∙ sym (ap (λ b. if b then filter (stands_around r a.instances (outer_instances a.declared)) (below (length r.interfaces.items)) else []) stands.right)
 
--- the slot of a new alias
-pub new-slot : (known : List (TypeId × ℕ)) (id : TypeId) (t : ℕ) → known_slot known id.0 ≡ None → known_slot (known ++ (id, t) ∷ []) id.0 ≡ Some t
-new-slot [] id t h = ap (λ b. option_map (λ (e : TypeId × ℕ). e.1) (cond b (Some (id, t)) None)) (same-number id.0)
-new-slot (x ∷ xs) id t h = go (new-slot xs id t) (x.0.0 == id.0) h
-  where
-    go : (known_slot xs id.0 ≡ None → known_slot (xs ++ (id, t) ∷ []) id.0 ≡ Some t) → (b : Bool) → option_map (λ y. y.1) (cond b (Some x) (find (λ y. y.0.0 == id.0) xs)) ≡ None
-        → option_map (λ y. y.1) (cond b (Some x) (find (λ y. y.0.0 == id.0) (xs ++ (id, t) ∷ []))) ≡ Some t
-    go later true e = absurd (let z : ⊥ = cc in z)
-    go later false e = later e
-
-module _ {E : Type 0} (res : Result ℕ E) (r : Resolve) (outer outer' : Declarations) (foreign : Foreign) (known' : Vec (TypeId × ℕ) Global) (id : TypeId) (k : ℕ) (name : Text) where
+module _ {E : Type 0} (res : Result ℕ E) (r : Resolve) (outer outer' : Declarations) (foreign : Foreign) (known' : BTreeMap ℕ ℕ) (id : TypeId) (k : ℕ) (name : Text) where
   abbrev new : Aliased
   new = record { number = id; instance = k; name = name }
 
-  pub made-slot : known_slot foreign.known.items id.0 ≡ None → IfOk res (λ q. q ≡ type_slots_of outer) → OnOk res (known'.items ≡ foreign.known.items ++ (id, type_slots_of outer) ∷ [])
-      → IfOk res (λ q. known_slot known'.items id.0 ≡ Some q)
+  pub made-slot : known_slot foreign.known.entries id.0 ≡ None → IfOk res (λ q. q ≡ type_slots_of outer) → OnOk res (known'.entries ≡ insert_entry nat_cmp foreign.known.entries id.0 (type_slots_of outer))
+      → IfOk res (λ q. known_slot known'.entries id.0 ≡ Some q)
   made-slot first ok listed = go res ok listed
     where
-      go : {E : Type 0} (res : Result ℕ E) → IfOk res (λ q. q ≡ type_slots_of outer) → OnOk res (known'.items ≡ foreign.known.items ++ (id, type_slots_of outer) ∷ []) → IfOk res (λ q. known_slot known'.items id.0 ≡ Some q)
-      go (Ok q) ok listed = ap (λ xs. known_slot xs id.0) listed ∙ new-slot foreign.known.items id (type_slots_of outer) first ∙ ap Some (sym ok)
+      go : {E : Type 0} (res : Result ℕ E) → IfOk res (λ q. q ≡ type_slots_of outer) → OnOk res (known'.entries ≡ insert_entry nat_cmp foreign.known.entries id.0 (type_slots_of outer)) → IfOk res (λ q. known_slot known'.entries id.0 ≡ Some q)
+      go (Ok q) ok listed = ap (λ xs. known_slot xs id.0) listed ∙ new-slot id.0 (type_slots_of outer) foreign.known.entries first ∙ ap Some (sym ok)
       go (Err e) ok listed = ok
 
-  pub made-reaches : IsAlias r (around_at outer foreign) new → OnOk res (outer' ≡ append outer (Declarations.declares (alias_declared new) Declarations.no_more)) → OnOk res (known'.items ≡ foreign.known.items ++ (id, type_slots_of outer) ∷ [])
-      → OnErr res (outer' ≡ outer) → OnErr res (known'.items ≡ foreign.known.items) → ReachesAround r id (around_at outer foreign) (around_at outer' (record foreign { known = known' }))
+  pub made-reaches : IsAlias r (around_at outer foreign) new → OnOk res (outer' ≡ append outer (Declarations.declares (alias_declared new) Declarations.no_more)) → OnOk res (known'.entries ≡ insert_entry nat_cmp foreign.known.entries id.0 (type_slots_of outer))
+      → OnErr res (outer' ≡ outer) → OnErr res (known'.entries ≡ foreign.known.entries) → ReachesAround r id (around_at outer foreign) (around_at outer' (record foreign { known = known' }))
   made-reaches is made listed err same = go res made listed err same
     where
-      go : {E : Type 0} (res : Result ℕ E) → OnOk res (outer' ≡ append outer (Declarations.declares (alias_declared new) Declarations.no_more)) → OnOk res (known'.items ≡ foreign.known.items ++ (id, type_slots_of outer) ∷ [])
-          → OnErr res (outer' ≡ outer) → OnErr res (known'.items ≡ foreign.known.items) → ReachesAround r id (around_at outer foreign) (around_at outer' (record foreign { known = known' }))
-      go (Ok q) made listed err same = aliased new is refl (λ j. record { declared = made j; instances = foreign.instances.items; known = listed j })
-      go (Err e) made listed err same = as_before (λ j. record { declared = err j; instances = foreign.instances.items; known = same j })
+      go : {E : Type 0} (res : Result ℕ E) → OnOk res (outer' ≡ append outer (Declarations.declares (alias_declared new) Declarations.no_more)) → OnOk res (known'.entries ≡ insert_entry nat_cmp foreign.known.entries id.0 (type_slots_of outer))
+          → OnErr res (outer' ≡ outer) → OnErr res (known'.entries ≡ foreign.known.entries) → ReachesAround r id (around_at outer foreign) (around_at outer' (record foreign { known = known' }))
+      go (Ok q) made listed err same = aliased new is refl (λ j. record { declared = made j; instances = foreign.instances.entries; known = listed j })
+      go (Err e) made listed err same = as_before (λ j. record { declared = err j; instances = foreign.instances.entries; known = same j })
 
 -- the alias is one of the type that was asked for
 pub source-alias : (r : Resolve) (a : Around) (j k : ℕ) (id : TypeId) (def : TypeDef) (name : String Global) (shown : Text) → IsSource r a j id.0 → type_at r id.0 ≡ Some def → def.name ≡ Some name → shown ≡ text_of name → known_instance a.instances j ≡ Some k → known_slot a.known id.0 ≡ None
@@ -415,7 +443,7 @@ module _ {E : Type 0} (res : Result ℕ E) (r : Resolve) (outer outer' : Declara
   abbrev pub ImportsTo : Option OpenInterface → ℕ → Type 0
   ImportsTo o n = CallsTo res r outer o outer' afterwards (λ m. m ≡ tree (number_tree r n)) (definitions_with (contents_of r outer' afterwards) ≡ definitions_with (contents_of r outer o))
 
-  pub imported : (j : ℕ) (id : TypeId) (k : ℕ) → IsImportable (encoder_scope r outer inner) j id.0 → ReachesAround r id (around_at outer current.foreign) (around_at outer' foreign) → known_slot foreign.known.items id.0 ≡ Some k
+  pub imported : (j : ℕ) (id : TypeId) (k : ℕ) → IsImportable (encoder_scope r outer inner) j id.0 → ReachesAround r id (around_at outer current.foreign) (around_at outer' foreign) → known_slot foreign.known.entries id.0 ≡ Some k
       → IfOk res (λ k'. (k' ≡ type_slots current.declared) × (ds' ≡ current.declared ++ Declaration.alias_of (Alias.of_outer 1 k) ∷ [])) → OnErr res (ds' ≡ current.declared) → ImportsTo inner id.0
   imported j id k m reaches known ok err = subst (λ (o : Option OpenInterface). IsImportable (encoder_scope r outer o) j id.0 → ImportsTo o id.0) (sym is)
       (λ m. alias-reached r current.interface (around_at outer current.foreign) current.declared j id m res (around_at outer' foreign) k ds' reaches known ok err) m

@@ -16,6 +16,7 @@ pub mod Reached
 pub mod Weighing
 pub mod ShowFunctions
 pub mod Continuing
+pub mod HeldKeys
 pub mod Counting
 pub mod Opening
 pub mod Ordering

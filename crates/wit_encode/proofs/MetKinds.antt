@@ -1,32 +1,100 @@
 -- Maps that began empty hold the kinds of the unnamed types that are met, each once.
-use Rattle.std.proofs.Common.{◌≡◌, refl, subst, ℕ, ◌⊎◌, inl, inr, true, false, List, [], ◌∷◌, map, Option}
+use Rattle.std.proofs.Common.{◌≡◌, refl, sym, subst, ap, ◌∙◌, ℕ, zero, suc, ◌<◌, ◌⊎◌, inl, inr, Bool, true, false, List, [], ◌∷◌, map, length, get_or, arith, Option, Vec}
+use Rattle.std.specs.Prelude.{AllPairs}
+use Rattle.std.specs.declared.alloc.Global.{Global}
 use Rattle.std.specs.List.{Contains}
-use Rattle.std.specs.Borrow.{Bor}
 use Rattle.std.specs.Cmp.Lexicographic.{pointwise}
 use Rattle.wit_model.specs.Text.{text_of, text_eq}
+use Rattle.wit_model.specs.Rules.{is_named_kind}
 use Rattle.wit_model.specs.Valid.{IsValid}
 use Rattle.wit_model.specs.declared.model.Resolve.{Resolve}
 use Rattle.wit_model.specs.declared.model.Param.{Param}
 use Rattle.wit_model.specs.declared.model.TypeDefKind.{TypeDefKind}
-use Rattle.wit_model.specs.declared.model.TypeId.{TypeId}
 use Rattle.wit_model.specs.declared.model.InterfaceId.{InterfaceId}
 use Rattle.wit_model.specs.declared.model.«Type».{«Type» as ValueType}
 use Rattle.wit_model.proofs.Lists.{first_true, second_true}
 use Rattle.wit_encode_types.specs.declared.maps.TypeEncodingMaps.{TypeEncodingMaps}
 use Rattle.wit_encode_types.specs.Key.{same_type, same_param}
+use Rattle.wit_encode_types.specs.Codes.{kind_code, lists_of}
 use Rattle.wit_encode_types.specs.Maps.{same_kind, IsKnown, IsReady, AllReady, IsOnce, LearnsOnly}
 use Rattle.wit_encode_types.specs.Plan.{Reaches, itself, through}
 use Rattle.wit_encode_types.specs.MetKinds.{ReachedFrom, IsMetKind, HasSame, AreMetKinds, IsKnownKind, IsHeld, Learns, MetKindsAreHeld}
-use Rattle.wit_encode_types.proofs.Lists.{contains-map, none-in}
+use Rattle.wit_encode_types.proofs.Lists.{none-in}
+use Rattle.wit_encode_types.proofs.EqualLists.{kinds-of-lists, lists-of-kinds}
 use Rattle.wit_encode_types.proofs.KindLaws.{same_types}
 use Rattle.wit_encode.proofs.OwnerScope.{unnamed-home}
-use Rattle.wit_encode.proofs.Counting.{from-map}
-use Rattle.wit_encode_types.proofs.Pairs.{pairs-map}
+use Rattle.wit_encode.proofs.Validity.{valid-unnamed}
 
 -- ---- empty maps
 
-none-known : (m : TypeEncodingMaps) (n : ℕ) → m.id_to_index.items ≡ [] → IsKnown m n → ⊥
-none-known m n e (i, c) = none-in (record { 0 = n }, i) (subst (λ (xs : List (TypeId × ℕ)). Contains xs (record { 0 = n }, i)) e c)
+none-known : (m : TypeEncodingMaps) (n : ℕ) → m.id_to_index.entries ≡ [] → IsKnown m n → ⊥
+none-known m n e (i, c) = none-in (n, i) (subst (λ (xs : List (ℕ × ℕ)). Contains xs (n, i)) e c)
+
+-- ---- one kind for each entry
+
+-- this is the list of an unnamed kind that is known
+record IsKindOf (r : Resolve) (m : TypeEncodingMaps) (xs : List ℕ) (kind : TypeDefKind) : Type 0 where
+  pub is : xs ≡ kind_code kind
+  pub unnamed : is_named_kind kind ≡ false
+  pub known : IsKnownKind r m kind
+
+abbrev AreKindsOf : Resolve → TypeEncodingMaps → List TypeDefKind → List (List ℕ × ℕ) → Type 0
+AreKindsOf r m [] [] = Unit {0}
+AreKindsOf r m (k ∷ ks) (e ∷ es) = IsKindOf r m e.0 k × AreKindsOf r m ks es
+AreKindsOf r m _ _ = ⊥
+
+kinds-at : (r : Resolve) (m : TypeEncodingMaps) (es : List (List ℕ × ℕ)) → ((xs : List ℕ) (i : ℕ) → Contains es (xs, i) → (k : TypeDefKind) × IsKindOf r m xs k) → (ks : List TypeDefKind) × AreKindsOf r m ks es
+kinds-at r m [] h = ([], tt)
+kinds-at r m (e ∷ es) h =
+    let x = h e.0 e.1 (0, omega arith, refl) in
+    let more = kinds-at r m es (λ xs i c. h xs i (suc c.0, (let l = c.1 in omega (arith, l)), c.2)) in
+    (x.0 ∷ more.0, (x.1, more.1))
+
+kind-lists : (r : Resolve) (m : TypeEncodingMaps) (ks : List TypeDefKind) (es : List (List ℕ × ℕ)) → AreKindsOf r m ks es → map (λ e. e.0) es ≡ map kind_code ks
+kind-lists r m [] [] h = refl
+kind-lists r m [] (e ∷ es) h = absurd h
+kind-lists r m (k ∷ ks) [] h = absurd h
+kind-lists r m (k ∷ ks) (e ∷ es) h = let more = kind-lists r m ks es h.1 in λ i. h.0.is i ∷ more i
+
+kinds-long : (r : Resolve) (m : TypeEncodingMaps) (ks : List TypeDefKind) (es : List (List ℕ × ℕ)) → AreKindsOf r m ks es → length ks ≡ length es
+kinds-long r m [] [] h = refl
+kinds-long r m [] (e ∷ es) h = absurd h
+kinds-long r m (k ∷ ks) [] h = absurd h
+kinds-long r m (k ∷ ks) (e ∷ es) h = ap suc (kinds-long r m ks es h.1)
+
+kind-at : (r : Resolve) (m : TypeEncodingMaps) (ks : List TypeDefKind) (es : List (List ℕ × ℕ)) → AreKindsOf r m ks es → (i : ℕ) (d : TypeDefKind) (e : List ℕ × ℕ) → i < length ks → IsKindOf r m (get_or es i e).0 (get_or ks i d)
+kind-at r m [] es h i d e l = absurd (omega (arith, l))
+kind-at r m (k ∷ ks) [] h i d e l = absurd h
+kind-at r m (k ∷ ks) (x ∷ es) h zero d e l = h.0
+kind-at r m (k ∷ ks) (x ∷ es) h (suc i) d e l = kind-at r m ks es h.1 i d e (omega (arith, l))
+
+kind-there : (r : Resolve) (m : TypeEncodingMaps) (ks : List TypeDefKind) (es : List (List ℕ × ℕ)) → AreKindsOf r m ks es → (k : TypeDefKind) → Contains ks k → IsKnownKind r m k
+kind-there r m [] es h k c = none-in k c
+kind-there r m (x ∷ ks) [] h k c = absurd h
+kind-there r m (x ∷ ks) (e ∷ es) h k (zero, l, q) = subst (IsKnownKind r m) q h.0.known
+kind-there r m (x ∷ ks) (e ∷ es) h k (suc i, l, q) = kind-there r m ks es h.1 k (i, omega (arith, l), q)
+
+list-there : (r : Resolve) (m : TypeEncodingMaps) (ks : List TypeDefKind) (es : List (List ℕ × ℕ)) → AreKindsOf r m ks es → (e : List ℕ × ℕ) → Contains es e → (k : TypeDefKind) × Contains ks k × IsKindOf r m e.0 k
+list-there r m ks [] h e c = none-in e c
+list-there r m [] (x ∷ es) h e c = absurd h
+list-there r m (k ∷ ks) (x ∷ es) h e (zero, l, q) = (k, (0, omega arith, refl), subst (λ (z : List ℕ × ℕ). IsKindOf r m z.0 k) q h.0)
+list-there r m (k ∷ ks) (x ∷ es) h e (suc i, l, q) = let more = list-there r m ks es h.1 e (i, omega (arith, l), q) in (more.0, (suc more.1.0, (let n = more.1.1 in omega (arith, n)), more.1.2), more.2)
+
+kinds-apart : (r : Resolve) (m : TypeEncodingMaps) (ks : List TypeDefKind) (es : List (List ℕ × ℕ)) → AreKindsOf r m ks es → AllPairs (λ x y. x.0 ≡ y.0 → ⊥) es → AllPairs (λ x y. same_kind x y ≡ false) ks
+kinds-apart r m ks es h p i j d l n = go (same_kind (get_or ks i d) (get_or ks j d)) refl
+  where
+    long : length ks ≡ length es
+    long = kinds-long r m ks es h
+
+    none : List ℕ × ℕ
+    none = ([], 0)
+
+    go : (b : Bool) → same_kind (get_or ks i d) (get_or ks j d) ≡ b → same_kind (get_or ks i d) (get_or ks j d) ≡ false
+    go false e = e
+    go true e =
+        let first = kind-at r m ks es h i d none (omega (arith, l, n)) in
+        let second = kind-at r m ks es h j d none n in
+        absurd (p i j none l (let q = long in omega (arith, q, n)) (first.is ∙ lists-of-kinds (get_or ks i d) (get_or ks j d) first.unnamed e ∙ sym second.is))
 
 -- ---- keys
 
@@ -40,7 +108,7 @@ params-same (p ∷ ps) (q ∷ qs) e =
     ∷ params-same ps qs (second_true (same_param p q) (pointwise same_param ps qs) e) i
 
 module _ (r : Resolve) (v : IsValid r) (own : Option InterfaceId) (ts : List ValueType) (m m' : TypeEncodingMaps) (learns : Learns r own m m') where
-  module _ (none : m.id_to_index.items ≡ []) where
+  module _ (none : m.id_to_index.entries ≡ []) where
     -- what is met from a type that is known is known
     reached-known : (t : ValueType) (n : ℕ) → Reaches r own t n → IsReady m' t → IsKnown m' n
     reached-known _ _ (itself id) ready = ready id refl
@@ -50,45 +118,54 @@ module _ (r : Resolve) (v : IsValid r) (own : Option InterfaceId) (ts : List Val
         part (inl k) = absurd (none-known m id.0 none k)
         part (inr h) = h.parts t c
 
-    module _ (no_kinds : m.def_to_index.items ≡ []) (ready : AllReady m' ts) (only : LearnsOnly (ReachedFrom r own ts) m m') (once : IsOnce m') where
-      abbrev kinds_of : List TypeDefKind
-      kinds_of = map (λ (e : Bor TypeDefKind × ℕ). e.0.now) m'.def_to_index.items
+    module _ (no_kinds : m.def_to_index.entries ≡ []) (ready : AllReady m' ts) (only : LearnsOnly (ReachedFrom r own ts) m m') (once : IsOnce m') where
+      abbrev held : List (List ℕ × ℕ)
+      held = lists_of m'.def_to_index
 
-      held-kind : (kind : TypeDefKind) → Contains kinds_of kind → IsMetKind r own ts kind
-      held-kind kind c =
-          let x = from-map (λ (e : Bor TypeDefKind × ℕ). e.0.now) m'.def_to_index.items kind c in
-          subst (IsMetKind r own ts) x.2 (elim (learns.kinds x.0.0 x.0.1 x.1) [
-            | inl h ↦ none-in x.0 (subst (λ (xs : List (Bor TypeDefKind × ℕ)). Contains xs x.0) no_kinds h)
-            | inr k ↦ met k
-          ])
+      kind-of : (xs : List ℕ) (i : ℕ) → Contains held (xs, i) → (k : TypeDefKind) × IsKindOf r m' xs k
+      kind-of xs i c = elim (learns.kinds xs i c) [
+        | inl h ↦ none-in (xs, i) (subst (λ (es : List (Vec ℕ Global × ℕ)). Contains (map {B = List ℕ × ℕ} (λ e. (e.0.items, e.1)) es) (xs, i)) no_kinds h)
+        | inr k ↦ (k.kind, record { is = k.is; unnamed = unnamed k.kind k.known; known = k.known })
+      ]
         where
-          met : {kind : TypeDefKind} → IsKnownKind r m' kind → IsMetKind r own ts kind
-          met k = record {
-            number = k.number;
-            met = elim (only.each (record { 0 = k.number }) k.known.0 k.known.1) [ inl h ↦ absurd (none-known m k.number none (k.known.0, h)) | inr q ↦ q ];
-            def = k.def;
-            there = k.there;
-            unnamed = k.unnamed;
-            same = k.same;
-          }
+          unnamed : (kind : TypeDefKind) → IsKnownKind r m' kind → is_named_kind kind ≡ false
+          unnamed kind k = subst (λ (z : TypeDefKind). is_named_kind z ≡ false) k.same (valid-unnamed r v k.number k.def k.there k.unnamed)
 
-      met-held : (kind : TypeDefKind) → IsMetKind r own ts kind → HasSame kinds_of kind
+      made : (ks : List TypeDefKind) × AreKindsOf r m' ks held
+      made = kinds-at r m' held kind-of
+
+      met : (kind : TypeDefKind) → IsKnownKind r m' kind → IsMetKind r own ts kind
+      met kind k = record {
+        number = k.number;
+        met = elim (only.each k.number k.known.0 k.known.1) [ inl h ↦ absurd (none-known m k.number none (k.known.0, h)) | inr q ↦ q ];
+        def = k.def;
+        there = k.there;
+        unnamed = k.unnamed;
+        same = k.same;
+      }
+
+      met-held : (kind : TypeDefKind) → IsMetKind r own ts kind → HasSame made.0 kind
       met-held kind k =
           let known = reached-known k.met.0 k.number k.met.2 (ready k.met.0 k.met.1) in
-          subst (HasSame kinds_of) k.same (has (learns.numbers k.number k.def known k.there (unnamed-home r v own k.number k.def k.there k.unnamed)))
+          subst (HasSame made.0) k.same (has (learns.numbers k.number k.def known k.there (unnamed-home r v own k.number k.def k.there k.unnamed)))
         where
-          has : IsKnown m k.number ⊎ IsHeld m' k.def → HasSame kinds_of k.def.kind
+          has : IsKnown m k.number ⊎ IsHeld m' k.def → HasSame made.0 k.def.kind
           has (inl h) = absurd (none-known m k.number none h)
           has (inr h) =
               let x = h.kind k.unnamed in
-              (x.1.0.now, contains-map (λ (e : Bor TypeDefKind × ℕ). e.0.now) m'.def_to_index.items (x.1.0, x.0) x.1.1, x.1.2)
+              let there = list-there r m' made.0 held made.1 (kind_code k.def.kind, x.0) x.1.1 in
+              (there.0, there.1, kinds-of-lists there.0 k.def.kind there.2.unnamed x.1.0 (sym there.2.is))
 
-      pub met-kinds : AreMetKinds r own ts kinds_of
-      met-kinds = record {
-        different = pairs-map (λ (e : Bor TypeDefKind × ℕ). e.0.now) (λ x y. same_kind x y ≡ false) m'.def_to_index.items once.kinds;
-        met = held-kind;
-        all = met-held;
-      }
+      pub met-kinds : (kinds : List TypeDefKind) × (map (λ e. e.0) held ≡ map kind_code kinds) × AreMetKinds r own ts kinds
+      met-kinds = (
+        made.0,
+        kind-lists r m' made.0 held made.1,
+        record {
+          different = kinds-apart r m' made.0 held made.1 once.kinds;
+          met = λ kind c. met kind (kind-there r m' made.0 held made.1 kind c);
+          all = met-held;
+        },
+      )
 
 pub met_kinds_are_held : MetKindsAreHeld
 met_kinds_are_held r own ts m m' v none no_kinds learns only ready once = met-kinds r v own ts m m' learns none no_kinds ready only once

@@ -168,7 +168,7 @@ closed-keeps (Ok k) r r' a outer outer' foreign inner inner' es x y grown h =
 
 -- ---- instances that stand around
 
-none-stands : (r : Resolve) (listed : List (InterfaceId × ℕ)) (j : ℕ) → stands_around r listed [] j ≡ true → ⊥
+none-stands : (r : Resolve) (listed : List (ℕ × ℕ)) (j : ℕ) → stands_around r listed [] j ≡ true → ⊥
 none-stands r listed j h = go (known_instance listed j) h
   where
     go : (o : Option ℕ) → option_map_or (λ k. option_map_or (is_standing r j) (slice_get [] k) false) o false ≡ true → ⊥
@@ -179,22 +179,22 @@ module _ (r : Resolve) (foreign : Foreign) (outer : Declarations) (es : List Dec
   abbrev one-more : Declarations
   one-more = append outer (Declarations.instance (from_list es) Declarations.no_more)
 
-  instances-then : (j : ℕ) → (o : Option follow.Scope) → outer_scope outer ≡ o → (b : Bool) → are_right r foreign.known.items (outer_slots outer) ≡ b
-      → Contains (if b then filter (stands_around r foreign.instances.items (outer_instances outer)) (below (length r.interfaces.items)) else []) j → Contains (standing_instances r (around_at one-more foreign)) j
+  instances-then : (j : ℕ) → (o : Option follow.Scope) → outer_scope outer ≡ o → (b : Bool) → are_right r foreign.known.entries (outer_slots outer) ≡ b
+      → Contains (if b then filter (stands_around r foreign.instances.entries (outer_instances outer)) (below (length r.interfaces.items)) else []) j → Contains (standing_instances r (around_at one-more foreign)) j
   instances-then j o q false right (k, l, e) = absurd (omega (arith, l))
   instances-then j None q true right h =
-      let test = stands_around r foreign.instances.items (outer_instances outer) in
+      let test = stands_around r foreign.instances.entries (outer_instances outer) in
       let passes : test j ≡ true = All-contains (λ x. test x ≡ true) (filter test (below (length r.interfaces.items))) j (filter_passes test (below (length r.interfaces.items))) h in
-      absurd (none-stands r foreign.instances.items j (ap (λ z. stands_around r foreign.instances.items (option_map_or (λ s. s.instances) z []) j) (sym q) ∙ passes))
+      absurd (none-stands r foreign.instances.entries j (ap (λ z. stands_around r foreign.instances.entries (option_map_or (λ s. s.instances) z []) j) (sym q) ∙ passes))
   instances-then j (Some s) q true right h =
       let x = Slot.instance es (length s.slots) in
       let next : outer_scope one-more ≡ Some (in_scope x s) = steps-instance new_scope s outer es q in
       let slots : outer_slots one-more ≡ outer_slots outer ++ x ∷ [] = ap (λ z. option_map_or (λ s. s.slots) z []) next ∙ ap (λ xs. xs ++ x ∷ []) (sym (ap (λ z. option_map_or (λ s. s.slots) z []) q)) in
       let instances : outer_instances one-more ≡ outer_instances outer = ap (λ z. option_map_or (λ s. s.instances) z []) next ∙ sym (ap (λ z. option_map_or (λ s. s.instances) z []) q) in
-      let still : are_right r foreign.known.items (outer_slots one-more) ≡ true = ap (are_right r foreign.known.items) slots ∙ right-more r foreign.known.items (outer_slots outer) x right in
-      let same : standing_instances r (around_at one-more foreign) ≡ filter (stands_around r foreign.instances.items (outer_instances outer)) (below (length r.interfaces.items)) =
-      ap (λ b. if b then filter (stands_around r foreign.instances.items (outer_instances one-more)) (below (length r.interfaces.items)) else []) still
-      ∙ ap (λ xs. filter (stands_around r foreign.instances.items xs) (below (length r.interfaces.items))) instances in
+      let still : are_right r foreign.known.entries (outer_slots one-more) ≡ true = ap (are_right r foreign.known.entries) slots ∙ right-more r foreign.known.entries (outer_slots outer) x right in
+      let same : standing_instances r (around_at one-more foreign) ≡ filter (stands_around r foreign.instances.entries (outer_instances outer)) (below (length r.interfaces.items)) =
+      ap (λ b. if b then filter (stands_around r foreign.instances.entries (outer_instances one-more)) (below (length r.interfaces.items)) else []) still
+      ∙ ap (λ xs. filter (stands_around r foreign.instances.entries xs) (below (length r.interfaces.items))) instances in
       subst (λ xs. Contains xs j) (sym same) h
 
 pub grown-stay : (r : Resolve) (a a' : Around) → GrowsAround r a a' → (j : ℕ) → Contains (standing_instances r a) j → Contains (standing_instances r a') j
@@ -205,6 +205,6 @@ pub closed-stay : {E : Type 0} (res : Result ℕ E) (r : Resolve) (a : Around) (
     → (j : ℕ) → Contains (standing_instances r a) j → Contains (standing_instances r (around_at outer' foreign')) j
 closed-stay (Ok k) r a outer outer' foreign foreign' es g e ok err j h =
     subst (λ (z : Around). Contains (standing_instances r z) j) (λ i. around_at (sym ok.1 i) (sym e i))
-    (instances-then r foreign outer es j (outer_scope outer) refl (are_right r foreign.known.items (outer_slots outer)) refl (grown-stay r a (around_at outer foreign) g j h))
+    (instances-then r foreign outer es j (outer_scope outer) refl (are_right r foreign.known.entries (outer_slots outer)) refl (grown-stay r a (around_at outer foreign) g j h))
 closed-stay (Err x) r a outer outer' foreign foreign' es g e ok err j h =
     subst (λ (z : Around). Contains (standing_instances r z) j) (λ i. around_at (sym err i) (sym e i)) (grown-stay r a (around_at outer foreign) g j h)

@@ -1,11 +1,11 @@
 -- What the types and functions of an interface meet, and what maps learn of it, type by type and function by function.
-use Rattle.std.proofs.Common.{◌≡◌, refl, sym, subst, ap, ◌∙◌, ℕ, suc, ◌+◌, ◌<◌, ◌≤◌, Bool, true, ◌&&◌, ◌||◌, inl, inr, List, [], ◌∷◌, ◌++◌, map, take, length, get_or, Option, Some, option_to_list, Result, Ok, Err, OnOk, arith}
+use Rattle.std.proofs.Common.{◌≡◌, refl, sym, subst, ap, ◌∙◌, ℕ, suc, ◌+◌, ◌<◌, ◌≤◌, true, ◌&&◌, inl, inr, List, [], ◌∷◌, ◌++◌, map, take, length, get_or, Option, Some, option_to_list, Result, Ok, Err, OnOk, arith, Vec}
+use Rattle.std.specs.declared.alloc.Global.{Global}
 use Rattle.std.specs.Prelude.{IsPermutation, flat_map}
-use Rattle.std.specs.List.{Contains, list_any}
+use Rattle.std.specs.List.{Contains}
 use Rattle.std.specs.Option.{option_eq}
 use Rattle.std.specs.Cmp.Lexicographic.{pointwise}
 use Rattle.std.specs.Set.{is_member}
-use Rattle.std.proofs.lemmas.Bool.{cases_Bool}
 use Rattle.std.proofs.lemmas.Grind.{flat_map-append}
 use Rattle.std.proofs.lemmas.List.{take_more, take_all, map-append}
 use Rattle.std.proofs.lemmas.List.Elements.{Contains-append_left, Contains-append_right, Contains-append_cases}
@@ -30,13 +30,14 @@ use Rattle.wit_encode_types.specs.Counts.{Definitions}
 use Rattle.wit_encode_types.specs.Key.{same_type, same_param}
 use Rattle.wit_encode_types.specs.Maps.{IsKnown, AllReady, IsOnce}
 use Rattle.wit_encode.specs.Exports.{AllKnown}
-use Rattle.wit_encode_types.specs.Distinct.{key_of, key_view, are_same, keys_of, AddsFunctions, DefinesTypes}
+use Rattle.wit_encode_types.specs.Codes.{names_of}
+use Rattle.wit_encode_types.specs.Distinct.{key_of, key_view, are_same, AddsFunctions, DefinesTypes}
 use Rattle.wit_encode_types.specs.MetKinds.{referred, IsMetKind, AreMetKinds, LearnsMet, LearnsFrom, key_types}
 use Rattle.wit_encode_types.proofs.Lists.{contains-map, none-in}
 use Rattle.wit_encode_types.proofs.KindLaws.{optional_same}
 use Rattle.wit_encode_types.proofs.Encoding.{meets-reaches, learns-nothing}
-use Rattle.wit_encode.proofs.Counting.{Began, held_kinds, any-at, from-map, same_equiv}
-use Rattle.wit_encode.proofs.Naming.{or-second}
+use Rattle.wit_encode.proofs.HeldKeys.{any-at, same_equiv, alike}
+use Rattle.wit_encode.proofs.Counting.{Began, HeldKinds, from-map}
 use Rattle.wit_encode_types.proofs.Learning.{learns-none, learns-then}
 use Rattle.wit_encode.proofs.MetKinds.{met-kinds, params-same}
 use Rattle.wit_encode.proofs.Numbers.{contains-flat}
@@ -49,16 +50,16 @@ from-none r own ts m = record { only = learns-nothing _ m; learns = learns-none 
 
 pub from-met : (r : Resolve) (own : Option InterfaceId) (ts : List ValueType) (m m' : TypeEncodingMaps) → LearnsMet r own ts m m' → LearnsFrom r own ts m m'
 from-met r own ts m m' l = record {
-  only = record { each = λ id i c. elim (l.only.each id i c) [ inl h ↦ inl h | inr x ↦ inr (x.0, x.1, meets-reaches r own m x.0 id.0 x.2) ] };
+  only = record { each = λ n i c. elim (l.only.each n i c) [ inl h ↦ inl h | inr x ↦ inr (x.0, x.1, meets-reaches r own m x.0 n x.2) ] };
   learns = l.learns;
 }
 
 pub from-then : {r : Resolve} {own own' : Option InterfaceId} {xs ys : List ValueType} {a b c : TypeEncodingMaps} → own' ≡ own → LearnsFrom r own xs a b → LearnsFrom r own' ys b c → LearnsFrom r own (xs ++ ys) a c
 from-then {r} {own} {own'} {xs} {ys} {a} {b} {c} e p q = record {
   only = record {
-    each = λ id i h. elim (q.only.each id i h) [
-      | inl x ↦ elim (p.only.each id i x) [ inl y ↦ inl y | inr y ↦ inr (y.0, Contains-append_left xs ys y.0 y.1, y.2) ]
-      | inr y ↦ inr (y.0, Contains-append_right xs ys y.0 y.1, subst (λ (o : Option InterfaceId). Reaches r o y.0 id.0) e y.2)
+    each = λ n i h. elim (q.only.each n i h) [
+      | inl x ↦ elim (p.only.each n i x) [ inl y ↦ inl y | inr y ↦ inr (y.0, Contains-append_left xs ys y.0 y.1, y.2) ]
+      | inr y ↦ inr (y.0, Contains-append_right xs ys y.0 y.1, subst (λ (o : Option InterfaceId). Reaches r o y.0 n) e y.2)
     ];
   };
   learns = learns-then e p.learns q.learns;
@@ -110,16 +111,6 @@ from-functions view r own xs i a b l p = subst (λ ys. LearnsFrom r own (flat_ma
 
 -- ---- functions whose keys are held
 
-any-found : {X : Type 0} (p : X → Bool) (xs : List X) → list_any p xs ≡ true → (x : X) × Contains xs x × (p x ≡ true)
-any-found p [] h = absurd (let z : ⊥ = cc in z)
-any-found {X} p (x ∷ xs) h = elim (cases_Bool (p x)) [
-  | inl e ↦ (x, (0, omega arith, refl), e)
-  | inr e ↦ later (any-found p xs (sym (ap (λ b. b || list_any p xs) e) ∙ h))
-]
-  where
-    later : (y : X) × Contains xs y × (p y ≡ true) → (y : X) × Contains (x ∷ xs) y × (p y ≡ true)
-    later (y, (k, l, e), t) = (y, (suc k, omega (arith, l), e), t)
-
 same-types : (f : Function) (key : FunctionKey) → are_same (key_of f) (key_view key) ≡ true → function_types f ≡ key_types key
 same-types f key e =
     let a = key_of f in
@@ -137,18 +128,15 @@ from-flat {X} f (x ∷ xs) y c = elim (Contains-append_cases (f x) (flat_map f x
     later (z, (k, l, e), d) = (z, (suc k, omega (arith, l), e), d)
 
 module _ (r : Resolve) (scope : Scope) (own : Option InterfaceId) (m m' : TypeEncodingMaps) (d d' : Definitions) (types : List TypeId) (fs : List Function) (b : Began m)
-    (a : AddsFunctions r scope m m' d d' fs) (l : LearnsFrom r own (referred types fs) m m') (known : AllKnown m' types) where
+    (a : AddsFunctions r scope m m' d d' fs) (l : LearnsFrom r own (referred types fs) m m') (known : AllKnown m' types) (once : IsOnce m') where
   function-ready : (f : Function) → Contains fs f → AllReady m' (function_types f)
   function-ready f c =
       let here : is_member are_same (map key_of fs) (key_of f) ≡ true = any-at (are_same (key_of f)) (map key_of fs) (key_of f) (contains-map key_of fs f c) (same_equiv.refl (key_of f)) in
-      let member : is_member are_same (keys_of m') (key_of f) ≡ true = a.keys (key_of f) ∙ or-second (is_member are_same (keys_of m) (key_of f)) (is_member are_same (map key_of fs) (key_of f)) here in
-      let found = any-found (are_same (key_of f)) (keys_of m') member in
-      let entry = from-map (λ (e : FunctionKey × ℕ). key_view e.0) m'.func_type_map.items found.0 found.1 in
-      let same : are_same (key_of f) (key_view entry.0.0) ≡ true = ap (are_same (key_of f)) entry.2 ∙ found.2 in
-      subst (AllReady m') (sym (same-types f entry.0.0 same)) (elim (l.learns.keys entry.0.0 entry.0.1 entry.1) [
-        | inl h ↦ none-in entry.0 (subst (λ (xs : List (FunctionKey × ℕ)). Contains xs entry.0) b.keys h)
-        | inr h ↦ h
-      ])
+      let held = a.learnt (key_of f) here in
+      elim (l.learns.keys held.0 held.1 held.3) [
+        | inl h ↦ none-in (held.0, held.1) (subst (λ (es : List (Vec ℕ Global × ℕ)). Contains (map {B = List ℕ × ℕ} (λ e. (e.0.items, e.1)) es) (held.0, held.1)) b.keys h)
+        | inr h ↦ subst (AllReady m') (sym (same-types f h.key (alike (names_of m'.names) (key_of f) (key_view h.key) held.0 once.names_.table held.2 h.is))) h.ready
+      ]
 
   all-ready : AllReady m' (referred types fs)
   all-ready t c = elim (Contains-append_cases (map (λ t. ty.Id t) types) (flat_map function_types fs) t c) [
@@ -160,8 +148,8 @@ module _ (r : Resolve) (scope : Scope) (own : Option InterfaceId) (m m' : TypeEn
       type-ready (x, h, e) id q = let same : x ≡ id = cc in subst (λ (y : TypeId). IsKnown m' y.0) same (known x h)
 
   -- what the types and functions of an interface meet
-  pub interface-kinds : IsValid r → IsOnce m' → AreMetKinds r own (referred types fs) (held_kinds m')
-  interface-kinds v once = met-kinds r v own (referred types fs) m m' l.learns b.numbers b.kinds all-ready l.only once
+  pub interface-kinds : IsValid r → HeldKinds r own (referred types fs) m'
+  interface-kinds v = let k = met-kinds r v own (referred types fs) m m' l.learns b.numbers b.kinds all-ready l.only once in record { kinds = k.0; lists = k.1; met = k.2 }
 
 -- ---- functions in another order
 

@@ -79,7 +79,7 @@ pub record Begins (r : Resolve) (e : InterfaceEncoder) (types : List TypeId) : T
   pub agree : Agrees r (encoder_view e)
   pub valid : IsValid r
   pub listed : AreTypesOf r (own_of e.inner) types
-  pub fresh : e.maps.id_to_index.items ≡ []
+  pub fresh : e.maps.id_to_index.entries ≡ []
   pub unshown : (encoder_view e).definitions.exports ≡ []
 
 -- ---- what a call has added

@@ -25,7 +25,7 @@ pub record AreTypesOf (r : Resolve) (interface : Option InterfaceId) (types : Li
 -- The first k types are known, and no other named type of the place is; their declarations have been exported, in order.
 pub record ShowsFirst (r : Resolve) (scope : Scope) (types : List TypeId) (k : ℕ) (m : TypeEncodingMaps) (d : Definitions) : Type 0 where
   pub known : (t : TypeId) → Contains (take k types) t → IsKnown m t.0
-  pub alone : (t : TypeId) (i : ℕ) → Contains m.id_to_index.items (t, i) → (own_name r scope t.0 ≡ None) ⊎ Contains (take k types) t
+  pub alone : (t : TypeId) (i : ℕ) → Contains m.id_to_index.entries (t.0, i) → (own_name r scope t.0 ≡ None) ⊎ Contains (take k types) t
   pub exported : d.exports ≡ take k scope.declarations
 
 -- each type is known

@@ -117,7 +117,7 @@ contents_of r outer (Some current) = inner_contents (place_of r (owner.Interface
 
 -- a component type, and what is listed of it
 abbrev pub around_at : Declarations → Foreign → Around
-around_at outer foreign = record { declared = outer; instances = foreign.instances.items; known = foreign.known.items }
+around_at outer foreign = record { declared = outer; instances = foreign.instances.entries; known = foreign.known.entries }
 
 -- what stands around an instance type, if one is open
 abbrev pub around_of : Declarations → Option OpenInterface → Around

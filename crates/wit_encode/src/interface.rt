@@ -3,6 +3,8 @@
 ghost use Rattle.std.proofs.Common.{refl};
 ghost use Rattle.std.specs.Prelude.{◌≡◌, ◌≤◌, ◌+◌, ◌*◌, ◌&&◌, false, Err, ◌++◌, ◌∷◌, [], Some, None, ◌<◌, true, length, map, IfOk, OnOk, OnErr, IsSome, IfErr};
 ghost use Rattle.std.specs.List.{Contains};
+ghost use Rattle.std.specs.BTreeMap.{insert_entry};
+ghost use Rattle.std.specs.Ordering.{nat_cmp};
 ghost use Rattle.comp_bytes.specs.Raw.{Alias as RawAlias, Declaration, Declarations, append, declaration_count, from_list};
 ghost use Rattle.wit_encode_types.specs.Known.{known_slot, known_instance, IsSource, ReachesAround};
 ghost use Rattle.wit_encode.specs.Instance.{around_at, around_of};
@@ -21,6 +23,7 @@ use comp_bytes::{
     ComponentTypeRef, InstanceType,
 };
 use std::alloc::Global;
+use std::collections::BTreeMap;
 use std::mem;
 use wit_encode_types::{
     LendsMaps, TypeEncodingMaps, ValtypeEncoder, encode_func_type, encode_valtype, name_of,
@@ -30,10 +33,10 @@ use wit_model::{Error, Function, InterfaceId, Resolve, Type, TypeId};
 /// What stands of other interfaces in a component type.
 #[derive(Drop)]
 pub struct Foreign {
-    /// Interfaces, each with the number of an instance. Of two instances of an interface the first counts.
-    pub instances: Vec<(InterfaceId, u32)>,
-    /// Types of these interfaces that have an alias, each with its slot.
-    pub known: Vec<(TypeId, u32)>,
+    /// Numbers of interfaces, each with the number of an instance.
+    pub instances: BTreeMap<u32, u32>,
+    /// Numbers of types of these interfaces that have an alias, each with its slot.
+    pub known: BTreeMap<u32, u32>,
 }
 
 /// An interface that is being encoded.
@@ -64,12 +67,12 @@ pub struct InterfaceEncoderOf<'a, M> {
 pub type InterfaceEncoder<'a> = InterfaceEncoderOf<'a, TypeEncodingMaps<'a>>;
 
 fn no_foreign(alloc: Global) -> Foreign
-    ensures instances { result.instances.items ≡ [] }
-    ensures known { result.known.items ≡ [] }
+    ensures instances { result.instances.entries ≡ [] }
+    ensures known { result.known.entries ≡ [] }
 {
     Foreign {
-        instances: Vec::new(alloc),
-        known: Vec::new(alloc),
+        instances: BTreeMap::new(alloc),
+        known: BTreeMap::new(alloc),
     }
 }
 
@@ -153,43 +156,42 @@ fn alias_inside(inner: &mut InstanceType, slot: u32) -> Result<u32, Error>
 }
 
 // The slot around of a type that is known.
-fn slot_around(known: &[(TypeId, u32)], id: TypeId) -> Option<u32>
-    ensures { result ≡ known_slot known.now id.0 }
+fn slot_around(known: &BTreeMap<u32, u32>, id: TypeId) -> Option<u32>
+    ensures { result ≡ known_slot known.now.entries id.0 }
 {
-    let entry = known.iter().find(|entry| entry.0.0 == id.0)?;
-    Some(entry.1)
+    known.get(&id.0).copied()
 }
 
 // The instance around of an interface.
-fn instance_around(instances: &[(InterfaceId, u32)], interface: InterfaceId) -> Option<u32>
-    ensures { result ≡ known_instance instances.now interface.0 }
+fn instance_around(instances: &BTreeMap<u32, u32>, interface: InterfaceId) -> Option<u32>
+    ensures { result ≡ known_instance instances.now.entries interface.0 }
 {
-    let entry = instances.iter().find(|entry| entry.0.0 == interface.0)?;
-    Some(entry.1)
+    instances.get(&interface.0).copied()
 }
 
 // Makes an alias of the type that an instance around shows under a name, and answers its slot.
 fn make_alias(
     outer: &mut ComponentType,
-    known: &mut Vec<(TypeId, u32)>,
+    known: &mut BTreeMap<u32, u32>,
     id: TypeId,
     instance: u32,
     name: &str,
 ) -> Result<u32, Error>
+    requires { known_slot known.old.entries id.0 ≡ None }
     ensures ok { IfOk result (λ k. k ≡ type_slots_of outer.old) }
     ensures made { OnOk result (outer.new ≡ declared_after outer.old (Declaration.alias_of (RawAlias.of_export instance name.now))) }
-    ensures listed { OnOk result (known.new.items ≡ known.old.items ++ (id, type_slots_of outer.old) ∷ []) }
+    ensures listed { OnOk result (known.new.entries ≡ insert_entry nat_cmp known.old.entries id.0 (type_slots_of outer.old)) }
     ensures err { OnErr result (outer.new ≡ outer.old) }
-    ensures same { OnErr result (known.new.items ≡ known.old.items) }
+    ensures same { OnErr result (known.new.entries ≡ known.old.entries) }
     ensures size { result ≡ Err Size → (fits_declaration (Declaration.alias_of (RawAlias.of_export instance name.now)) && fits_added outer.new 1) ≡ false }
     ensures refuses { IfErr result IsMemoryOrSize }
 {
     let slot = outer.type_count();
-    known.push((id, slot))?;
+    known.insert(id.0, slot)?;
     match outer.alias(&Alias::InstanceExport { instance, name }) {
         Ok(()) => Ok(slot),
         Err(error) => {
-            known.pop();
+            known.remove(&id.0);
             Err(error)
         }
     }
@@ -205,7 +207,7 @@ fn reach(
 ) -> Result<u32, Error>
     requires source { IsSource resolve.now (around_at outer.old foreign.old) interface.0 id.0 }
     requires in_range { id.0 < length resolve.now.types.items }
-    ensures slot { IfOk result (λ k. known_slot foreign.new.known.items id.0 ≡ Some k) }
+    ensures slot { IfOk result (λ k. known_slot foreign.new.known.entries id.0 ≡ Some k) }
     ensures reaches { ReachesAround resolve.now id (around_at outer.old foreign.old) (around_at outer.new foreign.new) }
     ensures err { OnErr result (around_at outer.new foreign.new ≡ around_at outer.old foreign.old) }
     ensures size { result ≡ Err Size → (fits_type_name resolve.now id.0 && fits_added outer.new 1) ≡ false }
@@ -345,8 +347,8 @@ impl<'a> InterfaceEncoderOf<'a, TypeEncodingMaps<'a>> {
     pub fn new(alloc: Global, resolve: &'a Resolve) -> InterfaceEncoder<'a>
         ensures outer { result.outer ≡ Declarations.no_more }
         ensures closed { result.inner ≡ None }
-        ensures instances { result.foreign.instances.items ≡ [] }
-        ensures known { result.foreign.known.items ≡ [] }
+        ensures instances { result.foreign.instances.entries ≡ [] }
+        ensures known { result.foreign.known.entries ≡ [] }
         ensures resolve { result.resolve.now ≡ resolve.now }
         ensures agree { Agrees resolve.now (encoder_view result) }
         ensures sound { (encoder_view result).scope.is_sound ≡ true }
@@ -551,14 +553,14 @@ impl<'a> InterfaceEncoderOf<'a, TypeEncodingMaps<'a>> {
     /// Encodes an interface as an instance type, and answers its slot: its types in order, then functions of resources by the order of
     /// their resource, then the others. The type of a function is defined just before its export, where its key is new.
     ///
-    /// Of each interface that it uses, an instance stands in the component type, and `foreign` lists its number. An interface that uses no
+    /// Of each interface that it uses, an instance stands in the component type, and `foreign` has its number. An interface that uses no
     /// other, as `stands_alone` tests, asks for nothing. A type of another interface gets an alias in the component type when it is first met,
     /// which later calls use, too. No instance stands by this call alone. After a refusal the encoder is as it was, but for aliases that have
     /// been made. `Size` comes only where a type that is met from the interface, or a function of it, doesn't fit in 32 bits by itself, where
     /// there are too many of them (two declarations for each type number that is met, each once, and two for each function), or where the
     /// component type, after aliases have been made, has no room for one more alias or instance type.
     ///
-    /// Takes as long as encoding the types and functions and sorting the functions.
+    /// Takes as long as encoding the types and functions and sorting the functions, with a search in an ordered map for each.
     pub fn encode_instance(&mut self, alloc: Global, interface: InterfaceId) -> Result<u32, Error>
         requires closed { self.old.inner ≡ None }
         requires in_range { interface.0 < length self.old.resolve.now.interfaces.items }

@@ -47,17 +47,34 @@ const G_OF_Y: Signature = Signature {
     ..FUNCTION
 };
 
+const F_OF_A_AND_B: Signature = Signature {
+    params: &[("a", Type::U32), ("b", Type::U64)],
+    ..FUNCTION
+};
+
+const G_OF_B_AND_A: Signature = Signature {
+    name: "g",
+    params: &[("b", Type::U32), ("a", Type::U64)],
+    ..FUNCTION
+};
+
+const H_OF_A_AND_B: Signature = Signature {
+    name: "h",
+    ..F_OF_A_AND_B
+};
+
 const GIVES_FIRST: Signature = Signature {
     result: Some(TYPE_0),
     ..FUNCTION
 };
 
 // Two functions over equal unnamed lists of their own: one list, and two types of functions, since types are told apart by number.
-// Functions with equal keys share a type. Functions that differ in the name of a parameter alone have two types. The last has
-// `type t = u32` and `f: func() -> t`.
+// Functions with equal keys share a type. Functions that differ in the name of a parameter alone have two types. The fourth has
+// `type t = u32` and `f: func() -> t`. The last has functions of the same names and the same types of parameters, of which the second
+// joins them otherwise than the first, and the third as the first.
 #[test]
 fn functions_of_an_interface(rt: HostRuntime) -> Result<(), Fail> {
-    static CASES: [Shown; 4] = [
+    static CASES: [Shown; 5] = [
         Shown {
             types: TWO_LISTS,
             functions: &[F_OVER_FIRST, G_OVER_SECOND],
@@ -81,6 +98,12 @@ fn functions_of_an_interface(rt: HostRuntime) -> Result<(), Fail> {
             functions: &[GIVES_FIRST],
             interfaces: &[OWN],
             expected: "00 61 73 6d 0d 00 01 00 07 1a 01 41 01 01 42 04 01 79 04 00 01 74 03 00 00 01 40 00 00 01 04 00 01 66 01 02",
+        },
+        Shown {
+            types: &[],
+            functions: &[F_OF_A_AND_B, G_OF_B_AND_A, H_OF_A_AND_B],
+            interfaces: &[OWN],
+            expected: "00 61 73 6d 0d 00 01 00 07 2e 01 41 01 01 42 05 01 40 02 01 61 79 01 62 77 01 00 04 00 01 66 01 00 01 40 02 01 62 79 01 61 77 01 00 04 00 01 67 01 01 04 00 01 68 01 00",
         },
     ];
     assert_all_shown(&rt, rt.alloc(), &CASES)

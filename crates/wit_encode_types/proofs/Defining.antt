@@ -1,5 +1,5 @@
 -- What is defined, call by call.
-use Rattle.std.proofs.Common.{◌≡◌, refl, sym, subst, ap, ◌∙◌, ℕ, ◌+◌, inl, inr, append_assoc, append-nil, Bool, true, false, cond, List, [], ◌∷◌, ◌++◌, Result, Ok, Err, IfOk, Option, Some, None, length, length-append, arith, count_by, zero-add, map}
+use Rattle.std.proofs.Common.{◌≡◌, refl, sym, subst, ap, ◌∙◌, ℕ, ◌+◌, ◌<◌, inl, inr, append_assoc, append-nil, Bool, true, false, cond, List, [], ◌∷◌, ◌++◌, Result, Ok, Err, IfOk, Option, Some, None, length, length-append, arith, count_by, zero-add, map, Vec}
 use Rattle.std.proofs.lemmas.List.Sums.{sum_by-append}
 use Rattle.wit_model.specs.Rules.{is_named_kind}
 use Rattle.wit_model.specs.Tree.{Tree, Declaration}
@@ -11,8 +11,11 @@ use Rattle.wit_model.specs.declared.model.TypeDefKind.{TypeDefKind}
 use Rattle.wit_model.specs.declared.model.TypeDefKind.TheVariants as kind
 use Rattle.wit_model.specs.declared.model.«Type».{«Type» as ValueType}
 use Rattle.std.specs.Borrow.{Bor}
+use Rattle.std.specs.declared.alloc.Global.{Global}
 use Rattle.std.specs.List.{AllZip, Contains, cons_option}
-use Rattle.std.proofs.lemmas.List.{map-append}
+use Rattle.std.proofs.lemmas.List.{map-append, length-map}
+use Rattle.std.specs.Prelude.{IsPermutation}
+use Rattle.std.proofs.lemmas.List.Sorted.{IsPermutation-refl, IsPermutation-trans, IsPermutation-append_left, length_permutation, sum_by-IsPermutation}
 use Rattle.std.proofs.lemmas.List.Elements.{Contains-append_cases, filter_map-append}
 use Rattle.wit_model.specs.Meaning.{TypeMeaning}
 use Rattle.comp_bytes.specs.Raw.{ExternName}
@@ -23,7 +26,7 @@ use Rattle.comp_bytes.specs.declared.forms.ComponentDefinedType.TheVariants as f
 use Rattle.wit_encode_types.specs.declared.maps.TypeEncodingMaps.{TypeEncodingMaps}
 use Rattle.wit_encode_types.specs.Slots.{Pairs, Standing, tree, Keeps, SlotAdded, StandsFor, StandsForOptional, NamedStands, CaseStands, Follows}
 use Rattle.wit_encode_types.specs.Kinds.{kind_tree, has_form}
-use Rattle.wit_encode_types.specs.Maps.{Says, Holds, MapsAgree, IsWritten, HasKind, by_kind, LearnsNumber, LearnsKind}
+use Rattle.wit_encode_types.specs.Maps.{Says, Holds, MapsAgree, IsWritten, HasKind, by_kind, LearnsNumber, LearnsList}
 use Rattle.wit_model.specs.Text.{Text, text_of}
 use Rattle.wit_model.specs.declared.model.Param.{Param}
 use Rattle.wit_encode_types.specs.Definition.{FollowsKind, IsWrittenParam}
@@ -91,11 +94,9 @@ pub adds-ok : {E : Type 0} (x : Result ℕ E) (S S' : Pairs) (n n' : ℕ) (P : S
 adds-ok (Ok i) S S' n n' P m h p = h.adds.new m p
 adds-ok (Err e) S S' n n' P m h p = h
 
--- an equal kind has the tree
-pub kind-stands : (r : Resolve) (m : TypeEncodingMaps) (S : Pairs) (k : TypeDefKind) (i : ℕ) → MapsAgree r m S → is_named_kind k ≡ false → HasKind m k i → S i (tree (kind_tree r k))
-kind-stands r m S k i a n (x, c, e) =
-    let t : declared_by (trees_of r) k ≡ declared_by (trees_of r) x.now = same_tree (trees_of r) k x.now n (kind_laws.symm k x.now ∙ e) in
-    subst (λ (z : Declaration). S i (tree (tree_of_declaration z))) (sym t) (a.says (by_kind x) i c)
+-- a kind that is known has the tree
+pub kind-stands : (r : Resolve) (m : TypeEncodingMaps) (S : Pairs) (k : TypeDefKind) (i : ℕ) → MapsAgree r m S → HasKind m k i → S i (tree (kind_tree r k))
+kind-stands r m S k i a h = a.says (by_kind k) i h
 
 pub unnamed-form : (k : TypeDefKind) → is_named_kind k ≡ false → has_form k ≡ true
 unnamed-form kind.Resource n = absurd (let z : ⊥ = cc in z)
@@ -109,17 +110,25 @@ own-form _ n m = refl
 
 -- ---- counts
 
-pub shows-none : (r : Resolve) (scope : Scope) (m m' : TypeEncodingMaps) (d d' : Definitions) → m'.id_to_index.items ≡ m.id_to_index.items → d'.exports ≡ d.exports → Shows r scope m m' d d'
-shows-none r scope m m' d d' e f = record { learnt = []; shown = []; numbers = e ∙ sym (append-nil m.id_to_index.items); exports = f ∙ sym (append-nil d.exports); declared = λ x c. none-in x c; names = refl }
+-- what has been learnt, step by step
+pub more-then : {X : Type 0} (us vs ws xs ys : List X) → IsPermutation (us ++ xs) vs → IsPermutation (vs ++ ys) ws → IsPermutation (us ++ (xs ++ ys)) ws
+more-then us vs ws xs ys p q = subst (λ zs. IsPermutation zs ws) (append_assoc us xs ys) (IsPermutation-trans ((us ++ xs) ++ ys) (vs ++ ys) ws (IsPermutation-append_left ys (us ++ xs) vs p) q)
+
+pub lists-longer : {K : Type 0} (f : K → List ℕ) (es fs : List (K × ℕ)) (x : List ℕ × ℕ) → IsPermutation (map {B = List ℕ × ℕ} (λ e. (f e.0, e.1)) es ++ x ∷ []) (map {B = List ℕ × ℕ} (λ e. (f e.0, e.1)) fs) → length fs ≡ length es + 1
+lists-longer f es fs x p =
+    sym (length-map fs (λ e. (f e.0, e.1))) ∙ length_permutation _ _ p ∙ length-append (map (λ e. (f e.0, e.1)) es) (x ∷ []) ∙ ap (λ n. n + 1) (length-map es (λ e. (f e.0, e.1)))
+
+pub shows-none : (r : Resolve) (scope : Scope) (m m' : TypeEncodingMaps) (d d' : Definitions) → m'.id_to_index.entries ≡ m.id_to_index.entries → d'.exports ≡ d.exports → Shows r scope m m' d d'
+shows-none r scope m m' d d' e f = record { learnt = []; shown = []; numbers = subst (λ (es : List (ℕ × ℕ)). IsPermutation (m.id_to_index.entries ++ []) es) (append-nil m.id_to_index.entries ∙ sym e) (IsPermutation-refl _); exports = f ∙ sym (append-nil d.exports); declared = λ x c. none-in x c; names = refl }
 
 pub shows-trans : {r : Resolve} {scope : Scope} {a b c : TypeEncodingMaps} {d e f : Definitions} → Shows r scope a b d e → Shows r scope b c e f → Shows r scope a c d f
 shows-trans {r} {scope} {a} {b} {c} {d} {e} {f} p q = record {
   learnt = p.learnt ++ q.learnt;
   shown = p.shown ++ q.shown;
-  numbers = q.numbers ∙ ap (λ xs. xs ++ q.learnt) p.numbers ∙ append_assoc a.id_to_index.items p.learnt q.learnt;
+  numbers = more-then a.id_to_index.entries b.id_to_index.entries c.id_to_index.entries p.learnt q.learnt p.numbers q.numbers;
   exports = q.exports ∙ ap (λ xs. xs ++ q.shown) p.exports ∙ append_assoc d.exports p.shown q.shown;
   declared = λ x h. elim (Contains-append_cases p.shown q.shown x h) [ inl y ↦ p.declared x y | inr y ↦ q.declared x y ];
-  names = map-append (λ (x : Text × TypeMeaning). x.0) p.shown q.shown ∙ (λ i. p.names i ++ q.names i) ∙ sym (filter_map-append (λ e. own_name r scope e.0.0) p.learnt q.learnt);
+  names = map-append (λ (x : Text × TypeMeaning). x.0) p.shown q.shown ∙ (λ i. p.names i ++ q.names i) ∙ sym (filter_map-append (λ e. own_name r scope e.0) p.learnt q.learnt);
 }
 
 one-name : (o : Option Text) (t : Text) → o ≡ Some t → cons_option o [] ≡ t ∷ []
@@ -128,7 +137,7 @@ one-name o t e = ap (λ x. cons_option x []) e
 -- a number that shows nothing
 shows-unshown : (r : Resolve) (scope : Scope) (m m' : TypeEncodingMaps) (d d' : Definitions) (id : TypeId) (i : ℕ) → LearnsNumber m m' id i → own_name r scope id.0 ≡ None → d'.exports ≡ d.exports → Shows r scope m m' d d'
 shows-unshown r scope m m' d d' id i l n e = record {
-  learnt = (id, i) ∷ [];
+  learnt = (id.0, i) ∷ [];
   shown = [];
   numbers = l.more;
   exports = e ∙ sym (append-nil d.exports);
@@ -139,7 +148,7 @@ shows-unshown r scope m m' d d' id i l n e = record {
 -- a number that is shown by its name
 shows-shown : (r : Resolve) (scope : Scope) (m m' : TypeEncodingMaps) (d d₁ d' : Definitions) (id : TypeId) (i : ℕ) (name : ExternName) → LearnsNumber m m' id i → own_name r scope id.0 ≡ Some name.text → d₁.exports ≡ d.exports → ExportsOne scope d₁ d' name → Shows r scope m m' d d'
 shows-shown r scope m m' d d₁ d' id i name l n e x = record {
-  learnt = (id, i) ∷ [];
+  learnt = (id.0, i) ∷ [];
   shown = x.declaration ∷ [];
   numbers = l.more;
   exports = ap (λ (z : Definitions). z.exports) x.one_more ∙ ap (λ xs. xs ++ x.declaration ∷ []) e;
@@ -148,26 +157,26 @@ shows-shown r scope m m' d d₁ d' id i name l n e x = record {
 }
 
 pub counts-none : (r : Resolve) (scope : Scope) (m : TypeEncodingMaps) (d : Definitions) → AddsTypes r scope m m d d
-counts-none r scope m d = record { types = refl; functions = refl; keys = refl; shows = shows-none r scope m m d d refl refl }
+counts-none r scope m d = record { types = refl; functions = refl; keys = record { lists = refl; names_ = refl }; shows = shows-none r scope m m d d refl refl }
 
 pub counts-trans : {r : Resolve} {scope scope' : Scope} {a b c : TypeEncodingMaps} {d e f : Definitions} → scope' ≡ scope → AddsTypes r scope a b d e → AddsTypes r scope' b c e f → AddsTypes r scope a c d f
 counts-trans {r} {scope} {scope'} {a} {b} {c} {d} {e} {f} s p q =
     let q' : AddsTypes r scope b c e f = subst (λ (z : Scope). AddsTypes r z b c e f) s q in
-    record { types = (let x = p.types in let y = q'.types in omega arith); functions = q'.functions ∙ p.functions; keys = q'.keys ∙ p.keys; shows = shows-trans p.shows q'.shows }
+    record { types = (let x = p.types in let y = q'.types in omega arith); functions = q'.functions ∙ p.functions; keys = record { lists = q'.keys.lists ∙ p.keys.lists; names_ = q'.keys.names_ ∙ p.keys.names_ }; shows = shows-trans p.shows q'.shows }
 
-pub counts-kind : (r : Resolve) (scope : Scope) (m m' : TypeEncodingMaps) (d d' : Definitions) (k : Bor TypeDefKind) (i : ℕ) → LearnsKind m m' k i → d' ≡ one_type_more d → AddsTypes r scope m m' d d'
-counts-kind r scope m m' d d' k i l e =
+pub counts-kind : (r : Resolve) (scope : Scope) (m m' : TypeEncodingMaps) (d d' : Definitions) (xs : List ℕ) (i : ℕ) → LearnsList m m' xs i → d' ≡ one_type_more d → AddsTypes r scope m m' d d'
+counts-kind r scope m m' d d' xs i l e =
     let a : d'.types ≡ d.types + 1 = ap (λ (z : Definitions). z.types) e in
-    let b : length m'.def_to_index.items ≡ length m.def_to_index.items + 1 = ap length l.more ∙ length-append m.def_to_index.items ((k, i) ∷ []) in
-    let c : names_defined r scope m' ≡ names_defined r scope m = ap (count_by (λ q. is_defined_by_name r scope q.0.0)) l.rest.numbers in
-    record { types = omega arith; functions = ap (λ (z : Definitions). z.functions) e; keys = l.rest.keys; shows = shows-none r scope m m' d d' l.rest.numbers (ap (λ (z : Definitions). z.exports) e) }
+    let b : length m'.def_to_index.entries ≡ length m.def_to_index.entries + 1 = lists-longer (λ (v : Vec ℕ Global). v.items) m.def_to_index.entries m'.def_to_index.entries (xs, i) l.more in
+    let c : names_defined r scope m' ≡ names_defined r scope m = ap (count_by (λ q. is_defined_by_name r scope q.0)) l.rest.numbers in
+    record { types = omega arith; functions = ap (λ (z : Definitions). z.functions) e; keys = record { lists = l.rest.keys; names_ = l.rest.names_ }; shows = shows-none r scope m m' d d' l.rest.numbers (ap (λ (z : Definitions). z.exports) e) }
 
 pub count-push : {X : Type 0} (p : X → Bool) (xs : List X) (x : X) → count_by p (xs ++ x ∷ []) ≡ count_by p xs + cond (p x) 1 0
 count-push p xs x = sum_by-append (λ y. cond (p y) 1 0) xs (x ∷ []) ∙ ap (λ n. count_by p xs + n) (zero-add (cond (p x) 1 0))
 
-number-types : {X : Type 0} (b : Bool) (ys xs : List X) (x : X) (p : X → Bool) (n n' : ℕ) (d d' : ℕ) → p x ≡ b → ys ≡ xs ++ x ∷ [] → n' ≡ n → d' ≡ d + cond b 1 0 → d' + (n + count_by p xs) ≡ d + (n' + count_by p ys)
+number-types : {X : Type 0} (b : Bool) (ys xs : List X) (x : X) (p : X → Bool) (n n' : ℕ) (d d' : ℕ) → p x ≡ b → IsPermutation (xs ++ x ∷ []) ys → n' ≡ n → d' ≡ d + cond b 1 0 → d' + (n + count_by p xs) ≡ d + (n' + count_by p ys)
 number-types b ys xs x p n n' d d' q l s e =
-    let c : count_by p ys ≡ count_by p xs + cond b 1 0 = ap (count_by p) l ∙ count-push p xs x ∙ ap (λ (z : Bool). count_by p xs + cond z 1 0) q in
+    let c : count_by p ys ≡ count_by p xs + cond b 1 0 = sum_by-IsPermutation (λ y. cond (p y) 1 0) _ ys l ∙ count-push p xs x ∙ ap (λ (z : Bool). count_by p xs + cond z 1 0) q in
     omega arith
 
 more-types : (b : Bool) (d : Definitions) → (type_more_if b d).types ≡ d.types + cond b 1 0
@@ -186,10 +195,10 @@ counts-learnt : (r : Resolve) (scope : Scope) (m m' : TypeEncodingMaps) (d d₁ 
 counts-learnt r scope m m' d d₁ d' id i l e t f s =
     let b = is_defined_by_name r scope id.0 in
     record {
-      types = number-types b m'.id_to_index.items m.id_to_index.items (id, i) (λ q. is_defined_by_name r scope q.0.0) (length m.def_to_index.items) (length m'.def_to_index.items) d.types d'.types refl l.more (ap length l.rest.kinds)
+      types = number-types b m'.id_to_index.entries m.id_to_index.entries (id.0, i) (λ q. is_defined_by_name r scope q.0) (length m.def_to_index.entries) (length m'.def_to_index.entries) d.types d'.types refl l.more (ap length l.rest.kinds)
           (t ∙ ap (λ (z : Definitions). z.types) e ∙ more-types b d);
       functions = f ∙ ap (λ (z : Definitions). z.functions) e ∙ more-functions b d;
-      keys = l.rest.keys;
+      keys = record { lists = l.rest.keys; names_ = l.rest.names_ };
       shows = s;
     }
 

@@ -104,9 +104,9 @@ learns-more m m' m'' items k lt l o = record {
   each = λ id i c. elim (o.only.each id i c) [
     | inl q ↦ elim (l.each id i q) [
       | inl p ↦ inl p
-      | inr p ↦ inr (subst (λ (xs : List ℕ). Contains xs id.0) (sym (take_more items k 0 lt)) (Contains-append_left _ _ id.0 p))
+      | inr p ↦ inr (subst (λ (xs : List ℕ). Contains xs id) (sym (take_more items k 0 lt)) (Contains-append_left _ _ id p))
     ]
-    | inr e ↦ inr (subst (λ (xs : List ℕ). Contains xs id.0) (sym (take_more items k 0 lt)) (subst (λ (x : ℕ). Contains (take k items ++ get_or items k 0 ∷ []) x) (sym e) (Contains-push _ (get_or items k 0))))
+    | inr e ↦ inr (subst (λ (xs : List ℕ). Contains xs id) (sym (take_more items k 0 lt)) (subst (λ (x : ℕ). Contains (take k items ++ get_or items k 0 ∷ []) x) (sym e) (Contains-push _ (get_or items k 0))))
   ];
 }
 
@@ -114,7 +114,7 @@ pub learns-at-last : (r : Resolve) (own : Option InterfaceId) (m m' : TypeEncodi
 learns-at-last r own m m' ts items k o le l = record {
   each = λ id i c. elim (l.each id i c) [
     | inl q ↦ inl q
-    | inr q ↦ inr (o.added id.0 (subst (λ (xs : List ℕ). Contains xs id.0) (take_all k items le) q))
+    | inr q ↦ inr (o.added id (subst (λ (xs : List ℕ). Contains xs id) (take_all k items le) q))
   ];
 }
 
@@ -126,9 +126,9 @@ learns-both r own own' a b c xs ys e g p q = record {
       | inl y ↦ inl y
       | inr y ↦ inr (y.0, Contains-append_left xs ys y.0 y.1, y.2)
     ]
-    | inr y ↦ inr (y.0, Contains-append_right xs ys y.0 y.1, meets-before r own a b g y.0 id.0 (subst (λ (o : Option InterfaceId). Meets r o b y.0 id.0) e y.2))
+    | inr y ↦ inr (y.0, Contains-append_right xs ys y.0 y.1, meets-before r own a b g y.0 id (subst (λ (o : Option InterfaceId). Meets r o b y.0 id) e y.2))
   ];
 }
 
-pub learns-same : {P : ℕ → Type 0} (a b c : TypeEncodingMaps) → LearnsOnly P a b → c.id_to_index.items ≡ b.id_to_index.items → LearnsOnly P a c
-learns-same a b c l e = record { each = λ id i h. l.each id i (subst (λ (xs : List (TypeId × ℕ)). Contains xs (id, i)) e h) }
+pub learns-same : {P : ℕ → Type 0} (a b c : TypeEncodingMaps) → LearnsOnly P a b → c.id_to_index.entries ≡ b.id_to_index.entries → LearnsOnly P a c
+learns-same a b c l e = record { each = λ id i h. l.each id i (subst (λ (xs : List (ℕ × ℕ)). Contains xs (id, i)) e h) }

@@ -19,8 +19,8 @@ use Rattle.wit_encode_types.specs.declared.key.FunctionKey.{FunctionKey}
 use Rattle.wit_encode_types.specs.Key.{same_type, same_param, same_params, same_key}
 use Rattle.wit_encode_types.specs.KeyLaws.{type_equiv, text_same}
 use Rattle.wit_encode_types.specs.Maps.{same_kind}
-use Rattle.wit_encode_types.specs.Codes.{type_code, optional_code, kind_code, Names, IsTable, AreListed, async_code, IsKeyList}
-use Rattle.wit_encode_types.specs.CodeLaws.{EqualKinds, EqualKeys}
+use Rattle.wit_encode_types.specs.Codes.{type_code, optional_code, kind_code, Names, IsTable, AreListed, async_code, IsListed, IsKeyList}
+use Rattle.wit_encode_types.specs.CodeLaws.{EqualKindLists, EqualKeyLists, EqualKinds, EqualKeys}
 use Rattle.wit_encode_types.proofs.KindLaws.{same_types, optional_same, types_same}
 use Rattle.wit_encode_types.proofs.Lists.{both}
 
@@ -207,6 +207,28 @@ lists-of-params names t (p ∷ ps) (q ∷ qs) (x ∷ a ∷ xs) (y ∷ b ∷ ys) 
     let code : a ≡ b = l.1 ∙ ap type_code value ∙ sym k.1 in
     let more = lists-of-params names t ps qs xs ys l.2 k.2 (second_true (same_param p q) (pointwise same_param ps qs) e) in
     (λ i. number i ∷ code i ∷ more.0 i, ap suc more.1)
+
+-- A list that is that of parameters in a table, and of others in a smaller one: so it is that of the first in the smaller one.
+listed-shrink : (names names' : Names) → IsTable names' → ((t : Text) (n : ℕ) → Contains names (t, n) → Contains names' (t, n)) → (ps qs : List Param) (xs ys us vs : List ℕ) → AreListed names' ps xs → AreListed names qs ys
+    → length ps ≡ length qs → xs ++ us ≡ ys ++ vs → AreListed names ps xs
+listed-shrink names names' t g [] qs [] ys us vs l k n e = tt
+listed-shrink names names' t g [] qs (x ∷ xs) ys us vs l k n e = absurd l
+listed-shrink names names' t g (p ∷ ps) [] xs ys us vs l k n e = absurd (omega (arith, n))
+listed-shrink names names' t g (p ∷ ps) (q ∷ qs) [] ys us vs l k n e = absurd l
+listed-shrink names names' t g (p ∷ ps) (q ∷ qs) (x ∷ []) ys us vs l k n e = absurd l
+listed-shrink names names' t g (p ∷ ps) (q ∷ qs) (x ∷ a ∷ xs) [] us vs l k n e = absurd k
+listed-shrink names names' t g (p ∷ ps) (q ∷ qs) (x ∷ a ∷ xs) (y ∷ []) us vs l k n e = absurd k
+listed-shrink names names' t g (p ∷ ps) (q ∷ qs) (x ∷ a ∷ xs) (y ∷ b ∷ ys) us vs l k n e =
+    let h : y ≡ x = sym (head-same _ _ _ _ e) in
+    let there : Contains names (text_of q.name, x) = subst (λ m. Contains names (text_of q.name, m)) h k.0 in
+    let name : text_of q.name ≡ text_of p.name = t.one_text _ _ x (g _ x there) l.0 in
+    (subst (λ w. Contains names (w, x)) name there, l.1, listed-shrink names names' t g ps qs xs ys us vs l.2 k.2 (omega (arith, n)) (tail-same _ _ _ _ (tail-same _ _ _ _ e)))
+
+pub key-shrink : (names names' : Names) → IsTable names' → ((t : Text) (n : ℕ) → Contains names (t, n) → Contains names' (t, n)) → (a b : FunctionKey) (xs : List ℕ) → IsKeyList names' a xs → IsKeyList names b xs → IsKeyList names a xs
+key-shrink names names' t g a b xs l k =
+    let w = sym l.is ∙ k.is in
+    let r = tail-same _ _ _ _ w in
+    record { middle = l.middle; listed = listed-shrink names names' t g a.params.0.now b.params.0.now l.middle k.middle _ _ l.listed k.listed (head-same _ _ _ _ r) (tail-same _ _ _ _ r); is = l.is }
 
 async-back : (a b : Bool) → async_code a ≡ async_code b → beq a b ≡ true
 async-back true true e = refl

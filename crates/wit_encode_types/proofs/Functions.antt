@@ -1,5 +1,8 @@
 -- Types of functions by their keys.
-use Rattle.std.proofs.Common.{◌≡◌, refl, sym, subst, ap, ◌∙◌, ℕ, ◌+◌, Bool, true, false, ◌&&◌, List, [], ◌∷◌, ◌++◌, inl, inr, map, Result, Ok, Err, IfOk, option_map, length, length-append, arith, count_by}
+use Rattle.std.proofs.Common.{◌≡◌, refl, sym, subst, ap, ◌∙◌, ℕ, ◌+◌, Bool, true, false, ◌&&◌, List, [], ◌∷◌, ◌++◌, inl, inr, map, Result, Ok, Err, IfOk, option_map, length, arith, count_by, Vec}
+use Rattle.std.specs.Prelude.{IsPermutation}
+use Rattle.std.specs.Borrow.{Bor}
+use Rattle.std.specs.declared.alloc.Global.{Global}
 use Rattle.std.specs.List.{Contains}
 use Rattle.std.specs.Option.{option_eq}
 use Rattle.std.specs.Cmp.Lexicographic.{pointwise}
@@ -19,43 +22,17 @@ use Rattle.wit_encode_types.specs.declared.key.FunctionKey.{FunctionKey}
 use Rattle.wit_encode_types.specs.declared.maps.TypeEncodingMaps.{TypeEncodingMaps}
 use Rattle.wit_encode_types.specs.Key.{same_type, same_param, same_params, same_key, IsKeyOf, key_signature}
 use Rattle.wit_encode_types.specs.KeyLaws.{text_same}
-use Rattle.wit_encode_types.specs.Maps.{MapsAgree, HasKey, LacksKey, LearnsKey, by_key}
+use Rattle.wit_encode_types.specs.Maps.{MapsAgree, NamesGrow, HasKey, LacksKey, LearnsKey, by_key}
 use Rattle.wit_encode_types.specs.Slots.{Pairs, function}
 use Rattle.wit_encode_types.specs.Scope.{Scope}
 use Rattle.wit_encode_types.specs.Fits.{CanEncode}
-use Rattle.wit_encode_types.specs.Counts.{Definitions, one_function_more, AddsTypes, AddsFunction, names_defined, is_defined_by_name}
-use Rattle.wit_encode_types.proofs.Defining.{shows-none, shows-trans}
-use Rattle.wit_encode_types.proofs.KindLaws.{same_types, optional_same}
+use Rattle.wit_encode_types.specs.Codes.{names_of, lists_of, IsKeyList}
+use Rattle.wit_encode_types.specs.Counts.{SameKeys, Definitions, one_function_more, AddsTypes, AddsFunction, names_defined, is_defined_by_name}
+use Rattle.wit_encode_types.proofs.Defining.{shows-none, shows-trans, lists-longer}
 
 pub ok-map : {A E : Type 0} (x : Result A E) (P Q : A → Type 0) → ((a : A) → P a → Q a) → IfOk x P → IfOk x Q
 ok-map (Ok a) P Q f p = f a p
 ok-map (Err e) P Q f p = p
-
-beq-same : (a b : Bool) → beq a b ≡ true → a ≡ b
-beq-same true true h = refl
-beq-same true false h = absurd (true≢false (sym h))
-beq-same false true h = absurd (true≢false (sym h))
-beq-same false false h = refl
-
-params-same : (trees : List Tree) (xs ys : List Param) → pointwise same_param xs ys ≡ true → map {B = Text × Tree} (λ p. (text_of p.name, tree_of trees p.ty)) xs ≡ map {B = Text × Tree} (λ p. (text_of p.name, tree_of trees p.ty)) ys
-params-same trees [] [] h = refl
-params-same trees [] (y ∷ ys) h = absurd (true≢false (sym h))
-params-same trees (x ∷ xs) [] h = absurd (true≢false (sym h))
-params-same trees (x ∷ xs) (y ∷ ys) h =
-    let here = first_true (same_param x y) (pointwise same_param xs ys) h in
-    let name = text_same (text_of x.name) (text_of y.name) (first_true (text_eq (text_of x.name) (text_of y.name)) (same_type x.ty y.ty) here) in
-    let type_ = same_types x.ty y.ty (second_true (text_eq (text_of x.name) (text_of y.name)) (same_type x.ty y.ty) here) in
-    let rest = params-same trees xs ys (second_true (same_param x y) (pointwise same_param xs ys) h) in
-    λ i. (name i, tree_of trees (type_ i)) ∷ rest i
-
--- equal keys have one signature
-pub same-signature : (r : Resolve) (a b : FunctionKey) → same_key a b ≡ true → key_signature r a ≡ key_signature r b
-same-signature r a b h =
-    let more = second_true (beq a.async_ b.async_) (same_params a.params b.params && option_eq same_type a.result.now b.result.now) h in
-    let async = beq-same a.async_ b.async_ (first_true (beq a.async_ b.async_) (same_params a.params b.params && option_eq same_type a.result.now b.result.now) h) in
-    let params = params-same (trees_of r) a.params.0.now b.params.0.now (first_true (same_params a.params b.params) (option_eq same_type a.result.now b.result.now) more) in
-    let result = optional_same a.result.now b.result.now (second_true (same_params a.params b.params) (option_eq same_type a.result.now b.result.now) more) in
-    λ i. record { is_async = async i; params = params i; result = option_map (tree_of (trees_of r)) (result i) }
 
 pub key-signature : (r : Resolve) (key : FunctionKey) (f : Function) → IsKeyOf key f → key_signature r key ≡ signature_of r f
 key-signature r key f k = λ i. record {
@@ -64,9 +41,9 @@ key-signature r key f k = λ i. record {
   result = option_map (tree_of (trees_of r)) (k.result_ i);
 }
 
--- what an equal key has as its slot
+-- what a key that is known has as its slot
 pub key-stands : (r : Resolve) (m : TypeEncodingMaps) (S : Pairs) (key : FunctionKey) (f : Function) (i : ℕ) → MapsAgree r m S → IsKeyOf key f → HasKey m key i → S i (function (signature_of r f))
-key-stands r m S key f i a k (x, c, e) = subst (λ (z : Signature). S i (function z)) (same-signature r x key e ∙ key-signature r key f k) (a.says (by_key x) i c)
+key-stands r m S key f i a k h = subst (λ (z : Signature). S i (function z)) (key-signature r key f k) (a.says (by_key key) i h)
 
 -- ---- what is asked of parameters and results
 
@@ -85,14 +62,20 @@ counts-key r scope m m₁ m' d d₁ d' key i lacks a l e =
     let f : d'.functions ≡ d₁.functions + 1 = ap (λ (z : Definitions). z.functions) e in
     let f₁ : d₁.functions ≡ d.functions = a.functions in
     let old = a.types in
-    let kinds : length m'.def_to_index.items ≡ length m₁.def_to_index.items = ap length l.rest.kinds in
-    let names : names_defined r scope m' ≡ names_defined r scope m₁ = ap (count_by (λ e. is_defined_by_name r scope e.0.0)) l.rest.numbers in
-    let keys : m'.func_type_map.items ≡ m.func_type_map.items ++ (key, i) ∷ [] = l.more ∙ ap (λ xs. xs ++ (key, i) ∷ []) a.keys in
-    let many : length m'.func_type_map.items ≡ length m.func_type_map.items + 1 = ap length keys ∙ length-append m.func_type_map.items ((key, i) ∷ []) in
-    record { types = omega arith; functions = omega arith; keys = inr (lacks, keys); shows = shows-trans a.shows (shows-none r scope m₁ m' d₁ d' l.rest.numbers (ap (λ (z : Definitions). z.exports) e)) }
+    let kinds : length m'.def_to_index.entries ≡ length m₁.def_to_index.entries = ap length l.rest.kinds in
+    let names : names_defined r scope m' ≡ names_defined r scope m₁ = ap (count_by (λ e. is_defined_by_name r scope e.0)) l.rest.numbers in
+    let more : IsPermutation (lists_of m.func_type_map ++ (l.list, i) ∷ []) (lists_of m'.func_type_map) =
+    subst (λ (es : List (Vec ℕ Global × ℕ)). IsPermutation (map {B = List ℕ × ℕ} (λ e. (e.0.items, e.1)) es ++ (l.list, i) ∷ []) (lists_of m'.func_type_map)) a.keys.lists l.more in
+    let many : length m'.func_type_map.entries ≡ length m.func_type_map.entries + 1 = lists-longer (λ (v : Vec ℕ Global). v.items) m.func_type_map.entries m'.func_type_map.entries (l.list, i) more in
+    let grow : NamesGrow (names_of m.names) (names_of m'.names) = subst (λ (ns : List (Bor Text × ℕ)). NamesGrow (map {B = Text × ℕ} (λ e. (e.0.now, e.1)) ns) (names_of m'.names)) a.keys.names_ l.grow in
+    record { types = omega arith; functions = omega arith; keys = inr (lacks, record { grow = grow; list = l.list; is = l.is; more = more }); shows = shows-trans a.shows (shows-none r scope m₁ m' d₁ d' l.rest.numbers (ap (λ (z : Definitions). z.exports) e)) }
 
 pub counts-known : (r : Resolve) (scope : Scope) (m : TypeEncodingMaps) (d : Definitions) (key : FunctionKey) (i : ℕ) → HasKey m key i → AddsFunction r scope m m d d key i
-counts-known r scope m d key i h = record { types = refl; functions = refl; keys = inl (h, refl); shows = shows-none r scope m m d d refl refl }
+counts-known r scope m d key i h = record { types = refl; functions = refl; keys = inl (h, record { lists = refl; names_ = refl }); shows = shows-none r scope m m d d refl refl }
 
-pub lacks-same : (m m' : TypeEncodingMaps) (key : FunctionKey) → m'.func_type_map.items ≡ m.func_type_map.items → LacksKey m key → LacksKey m' key
-lacks-same m m' key e l k i c = l k i (subst (λ (xs : List (FunctionKey × ℕ)). Contains xs (k, i)) e c)
+pub lacks-same : (m m' : TypeEncodingMaps) (key : FunctionKey) → SameKeys m m' → LacksKey m key → LacksKey m' key
+lacks-same m m' key e l i h = l i (
+  h.0,
+  subst (λ (ns : List (Bor Text × ℕ)). IsKeyList (map {B = Text × ℕ} (λ e. (e.0.now, e.1)) ns) key h.0) e.names_ h.1,
+  subst (λ (es : List (Vec ℕ Global × ℕ)). Contains (map {B = List ℕ × ℕ} (λ e. (e.0.items, e.1)) es) (h.0, i)) e.lists h.2,
+)

@@ -1,5 +1,5 @@
 -- Kinds that are the same declare the same tree.
-use Rattle.std.proofs.Common.{◌≡◌, refl, ap, true, false, rules, List, [], ◌∷◌, map, Option, Some, None, option_map, nat_eq}
+use Rattle.std.proofs.Common.{◌≡◌, refl, sym, ap, Bool, true, false, ◌&&◌, rules, List, [], ◌∷◌, map, Option, Some, None, option_map, nat_eq}
 use Rattle.wit_model.specs.declared.model.TypeDefKind.{TypeDefKind}
 use Rattle.wit_model.specs.declared.model.TypeDefKind.TheVariants as kind
 use Rattle.wit_model.specs.declared.model.«Type».{«Type» as ValueType}
@@ -11,7 +11,14 @@ use Rattle.std.specs.Cmp.Lexicographic.{pointwise}
 use Rattle.wit_model.proofs.Lists.{first_true, second_true}
 use Rattle.std.proofs.lemmas.Bool.{eqb-true}
 use Rattle.wit_encode_types.specs.Maps.{same_kind}
-use Rattle.wit_encode_types.specs.Key.{same_type}
+use Rattle.wit_encode_types.specs.declared.key.FunctionKey.{FunctionKey}
+use Rattle.wit_encode_types.specs.Key.{same_type, same_param, same_params, same_key, key_signature}
+use Rattle.wit_encode_types.specs.KeyLaws.{text_same}
+use mathlib.Core.Bool.{beq, true≢false}
+use Rattle.wit_model.specs.Text.{Text, text_of, text_eq}
+use Rattle.wit_model.specs.Types.{trees_of}
+use Rattle.wit_model.specs.declared.model.Param.{Param}
+use Rattle.wit_model.specs.declared.model.Resolve.{Resolve}
 
 pub same_types : (a b : ValueType) → same_type a b ≡ true → a ≡ b
 same_types a b e = search rules
@@ -59,3 +66,31 @@ same_tree ts (kind.Future a) _ n e = absurd (let z : ⊥ = cc in z)
 same_tree ts (kind.Stream a) (kind.Stream b) n e = let h : option_eq same_type a b ≡ true = search rules in ap (λ t. declared_by ts (kind.Stream t)) (optional_same a b h)
 same_tree ts (kind.Stream a) _ n e = absurd (let z : ⊥ = cc in z)
 same_tree ts _ _ n e = absurd (let z : ⊥ = cc in z)
+
+-- ---- keys of functions
+
+beq-same : (a b : Bool) → beq a b ≡ true → a ≡ b
+beq-same true true h = refl
+beq-same true false h = absurd (true≢false (sym h))
+beq-same false true h = absurd (true≢false (sym h))
+beq-same false false h = refl
+
+params-same : (trees : List Tree) (xs ys : List Param) → pointwise same_param xs ys ≡ true → map {B = Text × Tree} (λ p. (text_of p.name, tree_of trees p.ty)) xs ≡ map {B = Text × Tree} (λ p. (text_of p.name, tree_of trees p.ty)) ys
+params-same trees [] [] h = refl
+params-same trees [] (y ∷ ys) h = absurd (true≢false (sym h))
+params-same trees (x ∷ xs) [] h = absurd (true≢false (sym h))
+params-same trees (x ∷ xs) (y ∷ ys) h =
+    let here = first_true (same_param x y) (pointwise same_param xs ys) h in
+    let name = text_same (text_of x.name) (text_of y.name) (first_true (text_eq (text_of x.name) (text_of y.name)) (same_type x.ty y.ty) here) in
+    let type_ = same_types x.ty y.ty (second_true (text_eq (text_of x.name) (text_of y.name)) (same_type x.ty y.ty) here) in
+    let rest = params-same trees xs ys (second_true (same_param x y) (pointwise same_param xs ys) h) in
+    λ i. (name i, tree_of trees (type_ i)) ∷ rest i
+
+-- equal keys have one signature
+pub same-signature : (r : Resolve) (a b : FunctionKey) → same_key a b ≡ true → key_signature r a ≡ key_signature r b
+same-signature r a b h =
+    let more = second_true (beq a.async_ b.async_) (same_params a.params b.params && option_eq same_type a.result.now b.result.now) h in
+    let async = beq-same a.async_ b.async_ (first_true (beq a.async_ b.async_) (same_params a.params b.params && option_eq same_type a.result.now b.result.now) h) in
+    let params = params-same (trees_of r) a.params.0.now b.params.0.now (first_true (same_params a.params b.params) (option_eq same_type a.result.now b.result.now) more) in
+    let result = optional_same a.result.now b.result.now (second_true (same_params a.params b.params) (option_eq same_type a.result.now b.result.now) more) in
+    λ i. record { is_async = async i; params = params i; result = option_map (tree_of (trees_of r)) (result i) }

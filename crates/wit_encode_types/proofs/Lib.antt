@@ -2,6 +2,7 @@ pub mod KeySteps
 pub mod Lists
 pub mod Pairs
 pub mod KindLaws
+pub mod Tables
 pub mod EqualLists
 pub mod Planning
 pub mod Written

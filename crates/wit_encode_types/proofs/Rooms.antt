@@ -1,6 +1,10 @@
 -- How much an encoder holds, and what it has no room for, call after call.
 use Rattle.std.proofs.Common.{◌≡◌, refl, sym, subst, ap, ◌∙◌, ℕ, zero, suc, ◌+◌, ◌≤◌, inl, inr, Bool, true, false, List, [], ◌∷◌, ◌++◌, map, length, length-append, take, append_assoc, append-nil, Option, Some, arith, nat_eq, Result, Ok, Err, OnOk}
-use Rattle.std.specs.Prelude.{flat_map}
+use Rattle.std.specs.Prelude.{flat_map, IsPermutation}
+use Rattle.std.proofs.lemmas.Cmp.{nat_eq_equiv}
+use Rattle.std.proofs.lemmas.List.Sorted.{IsPermutation-refl, IsPermutation-sym, Contains-permutation}
+use Rattle.wit_encode_types.proofs.Tables.{pairs-permuted}
+use Rattle.wit_encode_types.proofs.Defining.{more-then}
 use Rattle.std.specs.List.{Contains, AllPairs, All}
 use Rattle.std.proofs.lemmas.List.Kept.{AllPairs-cons}
 use Rattle.std.proofs.lemmas.List.Elements.{Contains-append_left, Contains-append_right, Contains-append_cases, Contains-get_or}
@@ -40,22 +44,22 @@ pairs-both {X} R (x ∷ xs) ys a b h = AllPairs-cons R x (xs ++ ys) each (pairs-
 -- ---- what is held
 
 pub holds-none : (m : TypeEncodingMaps) (h : ℕ) → HoldsFor m m h h 0
-holds-none m h = record { learnt = []; numbers = sym (append-nil m.id_to_index.items); held = omega arith }
+holds-none m h = record { learnt = []; numbers = subst (λ (es : List (ℕ × ℕ)). IsPermutation (m.id_to_index.entries ++ []) es) (append-nil m.id_to_index.entries) (IsPermutation-refl _); held = omega arith }
 
 pub holds-then : {a b c : TypeEncodingMaps} {h h' h'' k l : ℕ} → HoldsFor a b h h' k → HoldsFor b c h' h'' l → HoldsFor a c h h'' (k + l)
-holds-then {a} p q = record {
+holds-then {a} {b} {c} p q = record {
   learnt = p.learnt ++ q.learnt;
-  numbers = q.numbers ∙ ap (λ xs. xs ++ q.learnt) p.numbers ∙ append_assoc a.id_to_index.items p.learnt q.learnt;
+  numbers = more-then a.id_to_index.entries b.id_to_index.entries c.id_to_index.entries p.learnt q.learnt p.numbers q.numbers;
   held = (let x = p.held in let y = q.held in let e = length-append p.learnt q.learnt in omega arith);
 }
 
 -- maps that have learnt no number
-pub holds-same : {a b c : TypeEncodingMaps} {h h' h'' : ℕ} (k n : ℕ) → c.id_to_index.items ≡ b.id_to_index.items → h'' ≤ h' + n → HoldsFor a b h h' k → HoldsFor a c h h'' (k + n)
-holds-same k n e l p = record { learnt = p.learnt; numbers = e ∙ p.numbers; held = (let x = p.held in omega (arith, l)) }
+pub holds-same : {a b c : TypeEncodingMaps} {h h' h'' : ℕ} (k n : ℕ) → c.id_to_index.entries ≡ b.id_to_index.entries → h'' ≤ h' + n → HoldsFor a b h h' k → HoldsFor a c h h'' (k + n)
+holds-same {a} k n e l p = record { learnt = p.learnt; numbers = subst (λ (es : List (ℕ × ℕ)). IsPermutation (a.id_to_index.entries ++ p.learnt) es) (sym e) p.numbers; held = (let x = p.held in omega (arith, l)) }
 
 -- one number more, for which two more are held
-pub holds-number : {a b : TypeEncodingMaps} {h h' : ℕ} (learnt : List (TypeId × ℕ)) (n : ℕ) → b.id_to_index.items ≡ a.id_to_index.items ++ learnt → IsKnown b n → (IsKnown a n → ⊥) → h' ≤ h + 2 → HoldsFor a b h h' 0
-holds-number {a} {b} [] n e known unknown l = absurd (unknown (known.0, subst (λ (xs : List (TypeId × ℕ)). Contains xs (record { 0 = n }, known.0)) (e ∙ append-nil a.id_to_index.items) known.1))
+pub holds-number : {a b : TypeEncodingMaps} {h h' : ℕ} (learnt : List (ℕ × ℕ)) (n : ℕ) → IsPermutation (a.id_to_index.entries ++ learnt) b.id_to_index.entries → IsKnown b n → (IsKnown a n → ⊥) → h' ≤ h + 2 → HoldsFor a b h h' 0
+holds-number {a} {b} [] n e known unknown l = absurd (unknown (known.0, subst (λ (xs : List (ℕ × ℕ)). Contains xs (n, known.0)) (append-nil a.id_to_index.entries) (Contains-permutation _ _ (n, known.0) (IsPermutation-sym _ _ e) known.1)))
 holds-number (x ∷ xs) n e known unknown l = record { learnt = x ∷ xs; numbers = e; held = omega (arith, l) }
 
 pub holds-most : {a b : TypeEncodingMaps} {h h' k n : ℕ} → k ≤ n → HoldsFor a b h h' k → HoldsFor a b h h' n
@@ -78,7 +82,7 @@ pub reached-right : {r : Resolve} {own : Option InterfaceId} (xs ys : List Value
 reached-right xs ys n x = (x.0, Contains-append_right xs ys x.0 x.1, x.2)
 
 pub only-more : {P Q : ℕ → Type 0} {m m' : TypeEncodingMaps} → ((n : ℕ) → P n → Q n) → LearnsOnly P m m' → LearnsOnly Q m m'
-only-more f l = record { each = λ id i c. elim (l.each id i c) [ inl q ↦ inl q | inr p ↦ inr (f id.0 p) ] }
+only-more f l = record { each = λ id i c. elim (l.each id i c) [ inl q ↦ inl q | inr p ↦ inr (f id p) ] }
 
 pub only-reached : (r : Resolve) (own : Option InterfaceId) (ts : List ValueType) {m m' : TypeEncodingMaps} → LearnsOnly (MetFrom r own m ts) m m' → LearnsOnly (ReachedFrom r own ts) m m'
 only-reached r own ts {m} l = only-more (λ n a. (a.0, a.1, meets-reaches r own m a.0 n a.2)) l
@@ -105,7 +109,7 @@ pub learns-reached : (r : Resolve) (own : Option InterfaceId) (m m' : TypeEncodi
 learns-reached r own m m' ts items k o l = record {
   each = λ id i c. elim (l.each id i c) [
     | inl q ↦ inl q
-    | inr q ↦ (let a = o.added id.0 (taken items k id.0 q) in inr (a.0, a.1, meets-reaches r own m a.0 id.0 a.2))
+    | inr q ↦ (let a = o.added id (taken items k id q) in inr (a.0, a.1, meets-reaches r own m a.0 id a.2))
   ];
 }
   where
@@ -160,34 +164,34 @@ room-more {r} {own} {own'} {ts} {ts'} {qs} {qs'} {m} {h} {h'} {N} e reach among 
 -- after calls that have learnt what is met from the same types
 module _ {a b : TypeEncodingMaps} {h h' k : ℕ} (holds : HoldsFor a b h h' k) (once : IsOnce b) where
   abbrev new-numbers : List ℕ
-  new-numbers = map (λ e. e.0.0) holds.learnt
+  new-numbers = map (λ e. e.0) holds.learnt
 
-  apart : AllPairs (λ x y. nat_eq x.0.0 y.0.0 ≡ false) (a.id_to_index.items ++ holds.learnt)
-  apart = subst (λ (xs : List (TypeId × ℕ)). AllPairs (λ x y. nat_eq x.0.0 y.0.0 ≡ false) xs) holds.numbers once.numbers
+  apart : AllPairs (λ x y. nat_eq x.0 y.0 ≡ false) (a.id_to_index.entries ++ holds.learnt)
+  apart = pairs-permuted (λ (x y : ℕ × ℕ). nat_eq x.0 y.0 ≡ false) (λ x y e. nat_eq_equiv.symm y.0 x.0 ∙ e) b.id_to_index.entries _ (IsPermutation-sym _ _ holds.numbers) once.numbers
 
   new-different : AllPairs (λ x y. nat_eq x y ≡ false) new-numbers
-  new-different = pairs-map (λ (e : TypeId × ℕ). e.0.0) (λ x y. nat_eq x y ≡ false) holds.learnt (pairs-right (λ x y. nat_eq x.0.0 y.0.0 ≡ false) a.id_to_index.items holds.learnt apart)
+  new-different = pairs-map (λ (e : ℕ × ℕ). e.0) (λ x y. nat_eq x y ≡ false) holds.learnt (pairs-right (λ x y. nat_eq x.0 y.0 ≡ false) a.id_to_index.entries holds.learnt apart)
 
-  from-learnt : (es : List (TypeId × ℕ)) (n : ℕ) → Contains (map (λ e. e.0.0) es) n → (i : ℕ) × Contains es (record { 0 = n }, i)
+  from-learnt : (es : List (ℕ × ℕ)) (n : ℕ) → Contains (map (λ e. e.0) es) n → (i : ℕ) × Contains es (n, i)
   from-learnt [] n c = none-in n c
-  from-learnt (e ∷ es) n (zero, l, q) = (e.1, (0, omega arith, (λ j. (record { 0 = q j }, e.1))))
+  from-learnt (e ∷ es) n (zero, l, q) = (e.1, (0, omega arith, (λ j. (q j, e.1))))
   from-learnt (e ∷ es) n (suc i, l, q) = (let x = from-learnt es n (i, omega (arith, l), q) in (x.0, (suc x.1.0, (let y = x.1.1 in omega (arith, y)), x.1.2)))
 
   new-known : (n : ℕ) → Contains new-numbers n → IsKnown b n
-  new-known n c = let x = from-learnt holds.learnt n c in (x.0, subst (λ (xs : List (TypeId × ℕ)). Contains xs (record { 0 = n }, x.0)) (sym holds.numbers) (Contains-append_right a.id_to_index.items holds.learnt _ x.1))
+  new-known n c = let x = from-learnt holds.learnt n c in (x.0, Contains-permutation _ _ (n, x.0) holds.numbers (Contains-append_right a.id_to_index.entries holds.learnt _ x.1))
 
   same-not : (n : ℕ) → nat_eq n n ≡ false → ⊥
   same-not n e = let t : nat_eq n n ≡ true = eq-eqb n n refl in let z : ⊥ = cc in z
 
   new-unknown : (n : ℕ) → Contains new-numbers n → IsKnown a n → ⊥
   new-unknown n c known = let x = from-learnt holds.learnt n c in
-      same-not n (pairs-across (λ x y. nat_eq x.0.0 y.0.0 ≡ false) a.id_to_index.items holds.learnt (record { 0 = n }, known.0) (record { 0 = n }, x.0) apart known.1 x.1)
+      same-not n (pairs-across (λ x y. nat_eq x.0 y.0 ≡ false) a.id_to_index.entries holds.learnt (n, known.0) (n, x.0) apart known.1 x.1)
 
   before-known : (n : ℕ) → IsKnown a n → IsKnown b n
-  before-known n known = (known.0, subst (λ (xs : List (TypeId × ℕ)). Contains xs (record { 0 = n }, known.0)) (sym holds.numbers) (Contains-append_left a.id_to_index.items holds.learnt _ known.1))
+  before-known n known = (known.0, Contains-permutation _ _ (n, known.0) holds.numbers (Contains-append_left a.id_to_index.entries holds.learnt _ known.1))
 
   new-met : (P : ℕ → Type 0) → LearnsOnly P a b → (n : ℕ) → Contains new-numbers n → P n
-  new-met P only n c = elim (only.each (record { 0 = n }) (new-known n c).0 (new-known n c).1) [
+  new-met P only n c = elim (only.each n (new-known n c).0 (new-known n c).1) [
     | inl old ↦ absurd (new-unknown n c ((new-known n c).0, old))
     | inr p ↦ p
   ]
@@ -209,6 +213,6 @@ module _ {a b : TypeEncodingMaps} {h h' k : ℕ} (holds : HoldsFor a b h h' k) (
       | inl x ↦ new-unknown n x
       | inr x ↦ (λ known. p.unknown n x (before-known n known))
     ];
-    held = (let x = holds.held in let y = p.held in let l = length-append new-numbers p.numbers in let m = length-map holds.learnt (λ (e : TypeId × ℕ). e.0.0) in omega (arith, count));
+    held = (let x = holds.held in let y = p.held in let l = length-append new-numbers p.numbers in let m = length-map holds.learnt (λ (e : ℕ × ℕ). e.0) in omega (arith, count));
     lacks = lacks-more (λ n c. Contains-append_right new-numbers p.numbers n c) among (subst (λ (o : Option InterfaceId). LacksOne r o N p.numbers qs') e p.lacks);
   }

@@ -28,7 +28,7 @@ use Rattle.wit_encode_types.specs.Definition.{IsWrittenOptional, IsWrittenField,
 use Rattle.wit_encode_types.proofs.Lists.{contains-at, contains-map, contains-one, contains-filter_map, zip-along}
 
 pub written-stands : (r : Resolve) (m : TypeEncodingMaps) (x : ComponentValType) (t : ValueType) → IsWritten m x t → StandsFor (Says r m) x (tree_of (trees_of r) t)
-written-stands r m x (ty.Id id) w = subst (λ (y : ComponentValType). StandsFor (Says r m) y (number_tree r id.0)) (sym w.1) (by_number id, w.2, refl)
+written-stands r m x (ty.Id id) w = subst (λ (y : ComponentValType). StandsFor (Says r m) y (number_tree r id.0)) (sym w.1) (by_number id.0, w.2, refl)
 written-stands r m x ty.Bool w = subst (λ (y : ComponentValType). StandsFor (Says r m) y (primitive Primitive.bool)) (sym w) refl
 written-stands r m x ty.U8 w = subst (λ (y : ComponentValType). StandsFor (Says r m) y (primitive Primitive.u8)) (sym w) refl
 written-stands r m x ty.U16 w = subst (λ (y : ComponentValType). StandsFor (Says r m) y (primitive Primitive.u16)) (sym w) refl
@@ -106,8 +106,8 @@ module _ (m : TypeEncodingMaps) where
   pub stream-follows : (t : Option ValueType) (x : Option ComponentValType) → IsWrittenOptional m x t → FollowsKind m (kind.Stream t) (form.Stream x)
   stream-follows t x w r = (_, optional-stands r m x t w, refl)
 
-  pub own-follows : (id : TypeId) (i : ℕ) → Contains m.id_to_index.items (id, i) → FollowsKind m (kind.Handle (handle.Own id)) (form.Own i)
-  own-follows id i h r = (number_tree r id.0, (by_number id, h, refl), refl)
+  pub own-follows : (id : TypeId) (i : ℕ) → Contains m.id_to_index.entries (id.0, i) → FollowsKind m (kind.Handle (handle.Own id)) (form.Own i)
+  own-follows id i h r = (number_tree r id.0, (by_number id.0, h, refl), refl)
 
-  pub borrow-follows : (id : TypeId) (i : ℕ) → Contains m.id_to_index.items (id, i) → FollowsKind m (kind.Handle (handle.Borrow id)) (form.Borrow i)
-  borrow-follows id i h r = (number_tree r id.0, (by_number id, h, refl), refl)
+  pub borrow-follows : (id : TypeId) (i : ℕ) → Contains m.id_to_index.entries (id.0, i) → FollowsKind m (kind.Handle (handle.Borrow id)) (form.Borrow i)
+  borrow-follows id i h r = (number_tree r id.0, (by_number id.0, h, refl), refl)

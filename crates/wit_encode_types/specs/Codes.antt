@@ -1,6 +1,9 @@
 -- Types, unnamed kinds and keys of functions as numbers and lists of numbers, for ordered tables.
-use Rattle.std.specs.Prelude.{ℕ, ◌≡◌, ◌+◌, Bool, true, false, List, [], ◌∷◌, ◌++◌, map, length, Option, Some, None}
+use Rattle.std.specs.Prelude.{ℕ, ◌≡◌, ◌+◌, Bool, true, false, List, [], ◌∷◌, ◌++◌, map, length, Option, Some, None, Vec}
+use Rattle.std.specs.Borrow.{Bor}
+use Rattle.std.specs.BTreeMap.{BTreeMap}
 use Rattle.std.specs.List.{Contains}
+use Rattle.std.specs.declared.alloc.Global.{Global}
 use Rattle.wit_model.specs.Text.{Text, text_of}
 use Rattle.wit_model.specs.declared.model.Param.{Param}
 use Rattle.wit_model.specs.declared.model.TypeDefKind.{TypeDefKind}
@@ -77,3 +80,20 @@ pub record IsListed (names : Names) (is_async : Bool) (params : List Param) (res
 
 abbrev pub IsKeyList : Names → FunctionKey → List ℕ → Type 0
 IsKeyList names key xs = IsListed names key.async_ key.params.0.now key.result.now xs
+
+-- no list is that of the key: a name has no number
+abbrev pub LacksKeyList : Names → FunctionKey → Type 0
+LacksKeyList names key = (xs : List ℕ) → IsKeyList names key xs → ⊥
+
+-- the names of an ordered map
+abbrev pub names_of : BTreeMap (Bor Text) ℕ → Names
+names_of t = map (λ e. (e.0.now, e.1)) t.entries
+
+-- what has been added to a list stands for the parameters; or a name has no number
+abbrev pub AddsParams : Names → Bool → List ℕ → List ℕ → List Param → Type 0
+AddsParams names true xs ys params = (middle : List ℕ) × (ys ≡ xs ++ middle) × AreListed names params middle
+AddsParams names false xs ys params = (middle : List ℕ) → AreListed names params middle → ⊥
+
+-- the lists of an ordered map, each with its number
+abbrev pub lists_of : BTreeMap (Vec ℕ Global) ℕ → List (List ℕ × ℕ)
+lists_of t = map (λ e. (e.0.items, e.1)) t.entries

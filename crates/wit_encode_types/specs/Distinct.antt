@@ -1,6 +1,6 @@
 -- How much the declarations of an instance type define: each function type and each unnamed kind once.
-use Rattle.std.specs.Prelude.{ℕ, ◌≡◌, ◌+◌, ◌&&◌, ◌||◌, Bool, true, false, nat_eq, List, map, filter, length, count_by, Option, Some}
-use Rattle.std.specs.List.{IsDistinct}
+use Rattle.std.specs.Prelude.{ℕ, ◌≡◌, ◌+◌, ◌&&◌, ◌⊎◌, Bool, true, false, nat_eq, List, map, filter, length, count_by, Option, Some}
+use Rattle.std.specs.List.{IsDistinct, Contains}
 use Rattle.std.specs.Option.{option_eq, option_map_or, is_some, is_none}
 use Rattle.std.specs.Set.{is_member, distinct_count}
 use Rattle.std.specs.Cmp.Lexicographic.{pointwise}
@@ -16,6 +16,7 @@ use Rattle.wit_model.specs.declared.model.Function.{Function}
 use Rattle.wit_model.specs.declared.model.«Type».{«Type» as ValueType}
 use Rattle.wit_encode_types.specs.declared.key.FunctionKey.{FunctionKey}
 use Rattle.wit_encode_types.specs.declared.maps.TypeEncodingMaps.{TypeEncodingMaps}
+use Rattle.wit_encode_types.specs.Codes.{IsListed, names_of, lists_of}
 use Rattle.wit_encode_types.specs.Key.{same_type, same_param}
 use Rattle.wit_encode_types.specs.Kinds.{has_definition}
 use Rattle.wit_encode_types.specs.Plan.{foreign_owner}
@@ -41,9 +42,9 @@ key_view k = record { is_async = k.async_; params = k.params.0.now; result_type 
 abbrev pub are_same : Key → Key → Bool
 are_same a b = beq a.is_async b.is_async && (pointwise same_param a.params b.params && option_eq same_type a.result_type b.result_type)
 
--- the keys that the maps hold
-abbrev pub keys_of : TypeEncodingMaps → List Key
-keys_of m = map (λ e. key_view e.0) m.func_type_map.items
+-- the maps hold an equal key
+abbrev pub KnowsKey : TypeEncodingMaps → Key → Type 0
+KnowsKey m key = (xs : List ℕ) × (i : ℕ) × IsListed (names_of m.names) key.is_async key.params key.result_type xs × Contains (lists_of m.func_type_map) (xs, i)
 
 -- ---- named types
 
@@ -59,9 +60,11 @@ defined_under_names r own ts = map (λ t. t.0) (filter (λ t. has_own_definition
 
 -- What has been defined for functions is what the maps have learnt, and the keys that they have learnt are those of the functions.
 pub record AddsFunctions (r : Resolve) (scope : Scope) (m m' : TypeEncodingMaps) (d d' : Definitions) (functions : List Function) : Type 0 where
-  pub types : d'.types + (length m.def_to_index.items + names_defined r scope m) ≡ d.types + (length m'.def_to_index.items + names_defined r scope m')
-  pub functions_ : d'.functions + length m.func_type_map.items ≡ d.functions + length m'.func_type_map.items
-  pub keys : (key : Key) → is_member are_same (keys_of m') key ≡ (is_member are_same (keys_of m) key || is_member are_same (map key_of functions) key)
+  pub types : d'.types + (length m.def_to_index.entries + names_defined r scope m) ≡ d.types + (length m'.def_to_index.entries + names_defined r scope m')
+  pub functions_ : d'.functions + length m.func_type_map.entries ≡ d.functions + length m'.func_type_map.entries
+  pub known : (key : Key) → KnowsKey m' key → KnowsKey m key ⊎ (is_member are_same (map key_of functions) key ≡ true)
+  pub stay : (key : Key) → KnowsKey m key → KnowsKey m' key
+  pub learnt : (key : Key) → is_member are_same (map key_of functions) key ≡ true → KnowsKey m' key
 
 -- ---- what is declared
 

@@ -1,8 +1,11 @@
 -- What stands in the scope around an instance type: instances of other interfaces, and aliases of their types, for which an outer alias in
 -- the instance type can stand (Component Model Explainer.md, "Alias Definitions").
-use Rattle.std.specs.Prelude.{ℕ, ◌≡◌, Bool, false, not, ◌&&◌, ◌||◌, ◌==◌, if◌then◌else◌, List, [], ◌∷◌, ◌++◌, length, Option, Some, None, String, option_map, slice_get, is_some}
+use Rattle.std.specs.Prelude.{ℕ, ◌≡◌, Bool, false, not, ◌&&◌, ◌||◌, if◌then◌else◌, List, [], ◌∷◌, length, Option, Some, None, String, slice_get, is_some}
 use Prim.Native.Nat.{zero, suc}
-use Rattle.std.specs.List.{Contains, find, filter, list_all}
+use Rattle.std.specs.List.{Contains, filter, list_all}
+use Rattle.std.specs.Map.{lookup}
+use Rattle.std.specs.BTreeMap.{is_at, insert_entry}
+use Rattle.std.specs.Ordering.{nat_cmp}
 use Rattle.std.specs.Option.{option_map_or}
 use Rattle.std.specs.declared.alloc.Global.{Global}
 use Rattle.wit_model.specs.Text.{Text, text_eq, text_of}
@@ -29,22 +32,22 @@ use Rattle.wit_encode_types.specs.Standing.{is_slot_of}
 pub record Around : Type 0 where
   -- what has been declared there
   pub declared : Declarations
-  -- interfaces, each with an instance there, by its number
-  pub instances : List (InterfaceId × ℕ)
-  -- types of other interfaces that have an alias there, each with its slot
-  pub known : List (TypeId × ℕ)
+  -- numbers of interfaces, each with the number of an instance there
+  pub instances : List (ℕ × ℕ)
+  -- numbers of types of other interfaces that have an alias there, each with its slot
+  pub known : List (ℕ × ℕ)
 
 -- of a scope around which there is none
 abbrev pub no_around : Around
 no_around = record { declared = Declarations.no_more; instances = []; known = [] }
 
--- the instance of an interface: the first that is listed
-abbrev pub known_instance : List (InterfaceId × ℕ) → ℕ → Option ℕ
-known_instance instances i = option_map (λ e. e.1) (find (λ e. e.0.0 == i) instances)
+-- the instance of an interface
+abbrev pub known_instance : List (ℕ × ℕ) → ℕ → Option ℕ
+known_instance instances i = lookup (is_at (nat_cmp i)) instances
 
--- the slot of a type number: the first that is listed
-abbrev pub known_slot : List (TypeId × ℕ) → ℕ → Option ℕ
-known_slot known n = option_map (λ e. e.1) (find (λ e. e.0.0 == n) known)
+-- the slot of a type number
+abbrev pub known_slot : List (ℕ × ℕ) → ℕ → Option ℕ
+known_slot known n = lookup (is_at (nat_cmp n)) known
 
 -- ---- which interfaces stand
 
@@ -78,12 +81,12 @@ abbrev pub is_standing : Resolve → ℕ → Instance → Bool
 is_standing r i instance =
     is_instance_of (interface_path r i) instance && list_all (λ e. not (is_named_of i e.1) || shows_type r instance e) (numbered_from 0 r.types.items)
 
-abbrev pub stands_around : Resolve → List (InterfaceId × ℕ) → List Instance → ℕ → Bool
+abbrev pub stands_around : Resolve → List (ℕ × ℕ) → List Instance → ℕ → Bool
 stands_around r listed instances i = option_map_or (λ k. option_map_or (is_standing r i) (slice_get instances k) false) (known_instance listed i) false
 
 -- whether each type that is listed with a slot has that slot around
-abbrev pub are_right : Resolve → List (TypeId × ℕ) → List Slot → Bool
-are_right r known slots = list_all (λ e. is_slot_for r e.0.0 (slice_get slots e.1)) known
+abbrev pub are_right : Resolve → List (ℕ × ℕ) → List Slot → Bool
+are_right r known slots = list_all (λ e. is_slot_for r e.0 (slice_get slots e.1)) known
 
 abbrev pub below : ℕ → List ℕ
 below zero = []
@@ -119,7 +122,7 @@ abbrev pub with_alias : Around → Aliased → Around
 with_alias around a = record {
   declared = append around.declared (Declarations.declares (alias_declared a) Declarations.no_more);
   instances = around.instances;
-  known = around.known ++ (a.number, type_slots_of around.declared) ∷ [];
+  known = insert_entry nat_cmp around.known a.number.0 (type_slots_of around.declared);
 }
 
 -- the alias of a named type that had none, by the instance that stands for its interface

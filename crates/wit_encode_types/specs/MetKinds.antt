@@ -1,7 +1,6 @@
 -- The kinds of unnamed types that the types and functions of an interface meet, and what maps have learnt on the way.
 use Rattle.std.specs.Prelude.{ℕ, ◌≡◌, ◌⊎◌, true, false, Some, List, [], ◌++◌, map, flat_map, option_to_list, Option, None}
 use Rattle.std.specs.List.{Contains, AllPairs}
-use Rattle.std.specs.Borrow.{Bor}
 use Rattle.wit_model.specs.Lookup.{type_at}
 use Rattle.wit_model.specs.Parts.{function_types}
 use Rattle.wit_model.specs.Valid.{IsValid}
@@ -15,6 +14,7 @@ use Rattle.wit_model.specs.declared.model.«Type».{«Type» as ValueType}
 use Rattle.wit_model.specs.declared.model.«Type».TheVariants as ty
 use Rattle.wit_encode_types.specs.declared.key.FunctionKey.{FunctionKey}
 use Rattle.wit_encode_types.specs.declared.maps.TypeEncodingMaps.{TypeEncodingMaps}
+use Rattle.wit_encode_types.specs.Codes.{kind_code, IsKeyList, names_of, lists_of}
 use Rattle.wit_encode_types.specs.Kinds.{parts_of}
 use Rattle.wit_encode_types.specs.Maps.{same_kind, IsKnown, AllReady, HasKind, IsOnce, MapsGrow, LearnsOnly}
 use Rattle.wit_encode_types.specs.Plan.{foreign_owner, Reaches, MetFrom}
@@ -68,13 +68,30 @@ pub record IsHeld (m : TypeEncodingMaps) (def : TypeDef) : Type 0 where
 abbrev pub key_types : FunctionKey → List ValueType
 key_types key = map (λ p. p.ty) key.params.0.now ++ option_to_list key.result.now
 
+-- the list of a kind that is known
+pub record IsKnownList (r : Resolve) (m : TypeEncodingMaps) (xs : List ℕ) : Type 0 where
+  pub kind : TypeDefKind
+  pub is : xs ≡ kind_code kind
+  pub known : IsKnownKind r m kind
+
+-- the list of a key whose types are known
+pub record IsReadyKey (m : TypeEncodingMaps) (xs : List ℕ) : Type 0 where
+  pub key : FunctionKey
+  pub is : IsKeyList (names_of m.names) key xs
+  pub ready : AllReady m (key_types key)
+
+-- the list of a key by the names of the first maps is its list by those of the second
+pub record KeepsNames (m m' : TypeEncodingMaps) : Type 0 where
+  pub kept_list : (key : FunctionKey) (xs : List ℕ) → IsKeyList (names_of m.names) key xs → IsKeyList (names_of m'.names) key xs
+
 -- Of each type that has been learnt, other than those of other interfaces, the parts are known, and the kind where it has no name.
 -- Each kind that has been learnt is that of an unnamed type that is known, and the types of each key that has been learnt are known.
 pub record Learns (r : Resolve) (own : Option InterfaceId) (m m' : TypeEncodingMaps) : Type 0 where
   pub grow : MapsGrow m m'
+  pub names_ : KeepsNames m m'
   pub numbers : (n : ℕ) (def : TypeDef) → IsKnown m' n → type_at r n ≡ Some def → foreign_owner own def.owner ≡ None → IsKnown m n ⊎ IsHeld m' def
-  pub kinds : (k : Bor TypeDefKind) (i : ℕ) → Contains m'.def_to_index.items (k, i) → Contains m.def_to_index.items (k, i) ⊎ IsKnownKind r m' k.now
-  pub keys : (key : FunctionKey) (i : ℕ) → Contains m'.func_type_map.items (key, i) → Contains m.func_type_map.items (key, i) ⊎ AllReady m' (key_types key)
+  pub kinds : (xs : List ℕ) (i : ℕ) → Contains (lists_of m'.def_to_index) (xs, i) → Contains (lists_of m.def_to_index) (xs, i) ⊎ IsKnownList r m' xs
+  pub keys : (xs : List ℕ) (i : ℕ) → Contains (lists_of m'.func_type_map) (xs, i) → Contains (lists_of m.func_type_map) (xs, i) ⊎ IsReadyKey m' xs
 
 -- What is met on the way down from these types has been learnt, and nothing else.
 pub record LearnsMet (r : Resolve) (own : Option InterfaceId) (ts : List ValueType) (m m' : TypeEncodingMaps) : Type 0 where
@@ -89,11 +106,12 @@ pub record LearnsFrom (r : Resolve) (own : Option InterfaceId) (ts : List ValueT
 -- The kind is known, and no other has been learnt.
 pub record LearnsKindOf (m m' : TypeEncodingMaps) (kind : TypeDefKind) : Type 0 where
   pub known : (i : ℕ) × HasKind m' kind i
-  pub only : (k : Bor TypeDefKind) (i : ℕ) → Contains m'.def_to_index.items (k, i) → Contains m.def_to_index.items (k, i) ⊎ (k.now ≡ kind)
+  pub only : (xs : List ℕ) (i : ℕ) → Contains (lists_of m'.def_to_index) (xs, i) → Contains (lists_of m.def_to_index) (xs, i) ⊎ (xs ≡ kind_code kind)
 
 -- ---- law
 
 -- Maps that were empty, and have learnt what is met from some types and nothing else, hold the kinds of the unnamed types that are met, each once.
 abbrev pub MetKindsAreHeld : Type 0
-MetKindsAreHeld = (r : Resolve) (own : Option InterfaceId) (ts : List ValueType) (m m' : TypeEncodingMaps) → IsValid r → m.id_to_index.items ≡ [] → m.def_to_index.items ≡ []
-    → Learns r own m m' → LearnsOnly (ReachedFrom r own ts) m m' → AllReady m' ts → IsOnce m' → AreMetKinds r own ts (map (λ e. e.0.now) m'.def_to_index.items)
+MetKindsAreHeld = (r : Resolve) (own : Option InterfaceId) (ts : List ValueType) (m m' : TypeEncodingMaps) → IsValid r → m.id_to_index.entries ≡ [] → m.def_to_index.entries ≡ []
+    → Learns r own m m' → LearnsOnly (ReachedFrom r own ts) m m' → AllReady m' ts → IsOnce m'
+    → (kinds : List TypeDefKind) × (map (λ e. e.0) (lists_of m'.def_to_index) ≡ map kind_code kinds) × AreMetKinds r own ts kinds

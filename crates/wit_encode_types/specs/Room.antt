@@ -1,6 +1,6 @@
 -- What an encoder is asked to add, and what of it has no room: where every count and every length is a number of 32 bits
 -- (Component Model Binary.md, "vec" and the numbers of "Core WebAssembly").
-use Rattle.std.specs.Prelude.{ℕ, ◌≡◌, ◌≤◌, ◌+◌, ◌*◌, ◌⊎◌, Bool, true, false, nat_eq, Some, None, Option, String, List, [], ◌∷◌, ◌++◌, map, length}
+use Rattle.std.specs.Prelude.{ℕ, ◌≡◌, ◌≤◌, ◌+◌, ◌*◌, ◌⊎◌, Bool, true, false, nat_eq, Some, None, Option, String, List, [], ◌∷◌, ◌++◌, map, length, IsPermutation}
 use Rattle.std.specs.List.{Contains, AllPairs}
 use Rattle.std.specs.Option.{option_map_or}
 use Rattle.std.specs.declared.alloc.Global.{Global}
@@ -13,7 +13,6 @@ use Rattle.wit_model.specs.declared.model.Resolve.{Resolve}
 use Rattle.wit_model.specs.declared.model.TypeDef.{TypeDef}
 use Rattle.wit_model.specs.declared.model.Function.{Function}
 use Rattle.wit_model.specs.declared.model.InterfaceId.{InterfaceId}
-use Rattle.wit_model.specs.declared.model.TypeId.{TypeId}
 use Rattle.wit_model.specs.declared.model.«Type».{«Type» as ValueType}
 use Rattle.comp_bytes.specs.Raw.{ExternName}
 use Rattle.comp_bytes.specs.Fits.{fits_length, fits_names, fits_given, fits_name}
@@ -85,8 +84,8 @@ function_requests r f = function_type (signature_of r f.1) ∷ export_name (func
 
 -- what has been learnt, and what is held: at most two more for each type number that is new in the maps, and so many more
 pub record HoldsFor (m m' : TypeEncodingMaps) (before after more : ℕ) : Type 0 where
-  pub learnt : List (TypeId × ℕ)
-  pub numbers : m'.id_to_index.items ≡ m.id_to_index.items ++ learnt
+  pub learnt : List (ℕ × ℕ)
+  pub numbers : IsPermutation (m.id_to_index.entries ++ learnt) m'.id_to_index.entries
   pub held : after ≤ before + (2 * length learnt + more)
 
 -- a part of a type has no room: its definition or its name, or, where it is of another interface, what stands for it

@@ -16,6 +16,7 @@ ghost use Rattle.wit_encode_types.specs.Slots.{tree};
 ghost use Rattle.wit_encode_types.specs.Room.{value_type, export_name, import_of};
 ghost use Rattle.wit_encode_types.specs.View.{Agrees, Grows, ExportsName, HoldsMore, HoldsLearnt};
 ghost use Rattle.wit_encode_types.specs.Kinds.{parts_of, kind_of, kind_tree, has_form, has_definition};
+ghost use Rattle.wit_encode_types.specs.Codes.{kind_code};
 ghost use Rattle.wit_encode_types.specs.Maps.{IsKnown, IsReady, AllReady, LacksKind, LearnsOne};
 ghost use Rattle.wit_encode_types.specs.Scope.{DeclaresSlot, DeclaresResource, IsImportable, IsDeclared, exported_name};
 ghost use Rattle.wit_encode_types.specs.Formed.{IsFormed};
@@ -25,6 +26,7 @@ ghost use Rattle.wit_encode_types.specs.Counts.{one_type_more, is_defined_by_nam
 ghost use Rattle.wit_encode_types.specs.MetKinds.{LearnsKindOf};
 ghost use Rattle.wit_encode_types.specs.Leaves.{Leaves, LearnsFrom, LearnsParts, CountsTypes, DefinesIf, LacksRoom};
 
+use crate::codes::kind_list;
 use crate::encoder::ValtypeEncoder;
 use crate::lend::{
     definition_of, index_of, index_of_kind, order_of, remember_id, remember_kind, value_of,
@@ -117,14 +119,16 @@ fn define_new_kind<'a, E: ValtypeEncoder<'a>>(
     enc: &mut E,
     resolve: &'a Resolve,
     kind: &'a TypeDefKind,
+    list: Vec<u64>,
 ) -> Result<u32, Error>
     requires unnamed { is_named_kind kind.now ≡ false }
+    requires list { list.items ≡ kind_code kind.now }
     requires lacks { LacksKind (E.view enc.old).maps kind.now }
     requires ready { AllReady (E.view enc.old).maps (parts_of kind.now) }
     requires formed { IsFormed (E.view enc.old).scope (kind_tree resolve.now kind.now) }
     requires agree { Agrees resolve.now (E.view enc.old) }
     ensures ok { IfOk result (λ i. (E.view enc.new).stands i (tree (kind_tree resolve.now kind.now))) }
-    ensures numbers { OnOk result ((E.view enc.new).maps.id_to_index.items ≡ (E.view enc.old).maps.id_to_index.items) }
+    ensures numbers { OnOk result ((E.view enc.new).maps.id_to_index.entries ≡ (E.view enc.old).maps.id_to_index.entries) }
     ensures leaves { Leaves resolve.now (E.view enc.old) (E.view enc.new) }
     ensures counts { OnOk result (CountsTypes resolve.now (E.view enc.old) (E.view enc.new)) }
     ensures kinds { OnOk result (LearnsKindOf (E.view enc.old).maps (E.view enc.new).maps kind.now) }
@@ -133,7 +137,7 @@ fn define_new_kind<'a, E: ValtypeEncoder<'a>>(
     ensures refuses { IfErr result IsMemoryOrSize }
 {
     let index = define_shape(alloc, enc, resolve, shape_of(kind))?;
-    remember_kind(enc, resolve, kind, index)?;
+    remember_kind(enc, resolve, list, index)?;
     Ok(index)
 }
 
@@ -149,7 +153,7 @@ fn define_unnamed_kind<'a, E: ValtypeEncoder<'a>>(
     requires formed { IsFormed (E.view enc.old).scope (kind_tree resolve.now kind.now) }
     requires agree { Agrees resolve.now (E.view enc.old) }
     ensures ok { IfOk result (λ i. (E.view enc.new).stands i (tree (kind_tree resolve.now kind.now))) }
-    ensures numbers { OnOk result ((E.view enc.new).maps.id_to_index.items ≡ (E.view enc.old).maps.id_to_index.items) }
+    ensures numbers { OnOk result ((E.view enc.new).maps.id_to_index.entries ≡ (E.view enc.old).maps.id_to_index.entries) }
     ensures leaves { Leaves resolve.now (E.view enc.old) (E.view enc.new) }
     ensures counts { OnOk result (CountsTypes resolve.now (E.view enc.old) (E.view enc.new)) }
     ensures kinds { OnOk result (LearnsKindOf (E.view enc.old).maps (E.view enc.new).maps kind.now) }
@@ -157,10 +161,11 @@ fn define_unnamed_kind<'a, E: ValtypeEncoder<'a>>(
     ensures size { result ≡ Err Size → (E.view enc.new).lacks_room (value_type (kind_tree resolve.now kind.entry.now)) }
     ensures refuses { IfErr result IsMemoryOrSize }
 {
-    if let Some(index) = index_of_kind(enc, kind) {
+    let list = kind_list(alloc, kind)?;
+    if let Some(index) = index_of_kind(enc, list.as_slice()) {
         return Ok(index);
     }
-    define_new_kind(alloc, enc, resolve, kind)
+    define_new_kind(alloc, enc, resolve, kind, list)
 }
 
 /// Defines an unnamed type.
@@ -207,7 +212,7 @@ fn define_resource<'a, E: ValtypeEncoder<'a>>(
     ensures ok { OnOk result (LearnsOne (E.view enc.old).maps (E.view enc.new).maps id.0) }
     ensures leaves { Leaves resolve.now (E.view enc.old) (E.view enc.new) }
     ensures counts { OnOk result (CountsTypes resolve.now (E.view enc.old) (E.view enc.new)) }
-    ensures kinds { OnOk result ((E.view enc.new).maps.def_to_index.items ≡ (E.view enc.old).maps.def_to_index.items) }
+    ensures kinds { OnOk result ((E.view enc.new).maps.def_to_index.entries ≡ (E.view enc.old).maps.def_to_index.entries) }
     ensures held { HoldsMore 1 (E.view enc.old) (E.view enc.new) }
     ensures size { result ≡ Err Size → (E.view enc.new).lacks_room (export_name (raw_name name.entry)) }
     ensures refuses { IfErr result IsMemoryOrSize }
@@ -260,7 +265,7 @@ fn define_named<'a, E: ValtypeEncoder<'a>>(
     ensures ok { OnOk result (LearnsOne (E.view enc.old).maps (E.view enc.new).maps id.0) }
     ensures leaves { Leaves resolve.now (E.view enc.old) (E.view enc.new) }
     ensures counts { OnOk result (CountsTypes resolve.now (E.view enc.old) (E.view enc.new)) }
-    ensures kinds { OnOk result ((E.view enc.new).maps.def_to_index.items ≡ (E.view enc.old).maps.def_to_index.items) }
+    ensures kinds { OnOk result ((E.view enc.new).maps.def_to_index.entries ≡ (E.view enc.old).maps.def_to_index.entries) }
     ensures held { HoldsMore 2 (E.view enc.old) (E.view enc.new) }
     ensures size { result ≡ Err Size → (E.view enc.new).lacks_room (value_type (kind_tree resolve.now def.entry.now.kind)) ⊎ (E.view enc.new).lacks_room (export_name (raw_name name.entry)) }
     ensures refuses { IfErr result IsMemoryOrSize }
@@ -353,7 +358,7 @@ fn import<'a, E: ValtypeEncoder<'a>>(
     ensures ok { OnOk result (LearnsOne (E.view enc.old).maps (E.view enc.new).maps id.0) }
     ensures leaves { Leaves resolve.now (E.view enc.old) (E.view enc.new) }
     ensures counts { OnOk result (CountsTypes resolve.now (E.view enc.old) (E.view enc.new)) }
-    ensures kinds { OnOk result ((E.view enc.new).maps.def_to_index.items ≡ (E.view enc.old).maps.def_to_index.items) }
+    ensures kinds { OnOk result ((E.view enc.new).maps.def_to_index.entries ≡ (E.view enc.old).maps.def_to_index.entries) }
     ensures held { HoldsMore 1 (E.view enc.old) (E.view enc.new) }
     ensures size { result ≡ Err Size → (E.view enc.new).lacks_room (import_of id.0) }
     ensures refuses { IfErr result IsMemoryOrSize }

@@ -117,7 +117,7 @@ pub(crate) fn case_names<'a>(
 
 fn index_in(maps: &TypeEncodingMaps, id: TypeId) -> u32
     requires { IsKnown maps.now id.0 }
-    ensures { Contains maps.now.id_to_index.items (id, result) }
+    ensures { Contains maps.now.id_to_index.entries (id.0, result) }
 {
     match maps.index_of(id) {
         Some(index) => index,

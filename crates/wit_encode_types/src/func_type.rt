@@ -74,7 +74,7 @@ fn define_key<'a, E: ValtypeEncoder<'a>>(
 {
     let def = function_of(alloc, enc, resolve, func, key.async_)?;
     let index = enc.define_function_type(def)?;
-    remember_key(enc, resolve, key, index)?;
+    remember_key(alloc, enc, resolve, key, index)?;
     Ok(index)
 }
 
@@ -99,7 +99,7 @@ pub fn encode_func_type<'a, E: ValtypeEncoder<'a>>(
     ensures refuses { IfErr result IsMemoryOrSize }
 {
     let key = key_of(func);
-    if let Some(index) = index_of_key(enc, &key) {
+    if let Some(index) = index_of_key(alloc, enc, &key)? {
         return Ok(index);
     }
     define_key(alloc, enc, resolve, func, key)

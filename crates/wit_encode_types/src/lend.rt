@@ -8,8 +8,9 @@ ghost use Rattle.wit_model.specs.Types.{number_tree};
 ghost use Rattle.wit_model.specs.Tree.{future_tree, stream_tree};
 ghost use Rattle.wit_encode_types.specs.Slots.{tree, function};
 ghost use Rattle.wit_encode_types.specs.Key.{key_signature};
-ghost use Rattle.wit_encode_types.specs.Kinds.{kind_tree, kind_of, parts_of};
-ghost use Rattle.wit_encode_types.specs.Maps.{IsKnown, HasKind, LacksKind, HasKey, LacksKey, IsReady, AllReady, IsWritten, LearnsNumber, LearnsKind, LearnsKey};
+ghost use Rattle.wit_encode_types.specs.Kinds.{kind_of, parts_of};
+ghost use Rattle.wit_encode_types.specs.Codes.{lists_of};
+ghost use Rattle.wit_encode_types.specs.Maps.{IsKnown, HasKey, IsOnce, LacksKey, LacksList, StandsAsKind, IsReady, AllReady, IsWritten, LearnsNumber, LearnsList, LearnsKey};
 ghost use Rattle.wit_encode_types.specs.Definition.{IsWrittenParam, FollowsKind};
 ghost use Rattle.wit_encode_types.specs.Plan.{IsLayered, AllInRange, IsOrderOf};
 ghost use Rattle.wit_encode_types.specs.View.{Agrees};
@@ -22,35 +23,36 @@ use crate::maps::value_in;
 use crate::shape::Shape;
 use comp_bytes::{ComponentDefinedType, ComponentValType};
 use std::alloc::{AllocError, Global};
-use wit_model::{Error, Param, Resolve, Type, TypeDefKind, TypeId};
+use wit_model::{Error, Param, Resolve, Type, TypeId};
 
 // ---- reads
 
 pub(crate) fn index_of<'a, E: ValtypeEncoder<'a>>(enc: &mut E, id: TypeId) -> Option<u32>
     ensures same { enc.new ≡ enc.old }
-    ensures some { IfSome result (λ i. Contains (E.view enc.old).maps.id_to_index.items (id, i)) }
+    ensures some { IfSome result (λ i. Contains (E.view enc.old).maps.id_to_index.entries (id.0, i)) }
     ensures none { IsKnown (E.view enc.old).maps id.0 → IsSome result }
 {
     enc.type_encoding_maps().index_of(id)
 }
 
-pub(crate) fn index_of_kind<'a, E: ValtypeEncoder<'a>>(
-    enc: &mut E,
-    kind: &TypeDefKind,
-) -> Option<u32>
+pub(crate) fn index_of_kind<'a, E: ValtypeEncoder<'a>>(enc: &mut E, list: &[u64]) -> Option<u32>
     ensures same { enc.new ≡ enc.old }
-    ensures some { IfSome result (HasKind (E.view enc.old).maps kind.now) }
-    ensures none { IfNone result (LacksKind (E.view enc.old).maps kind.now) }
+    ensures some { IfSome result (λ i. Contains (lists_of (E.view enc.old).maps.def_to_index) (list.now, i)) }
+    ensures none { IfNone result (LacksList (lists_of (E.view enc.old).maps.def_to_index) list.now) }
 {
-    enc.type_encoding_maps().index_of_kind(kind)
+    enc.type_encoding_maps().index_of_kind(list)
 }
 
-pub(crate) fn index_of_key<'a, E: ValtypeEncoder<'a>>(enc: &mut E, key: &FunctionKey) -> Option<u32>
+pub(crate) fn index_of_key<'a, E: ValtypeEncoder<'a>>(
+    alloc: Global,
+    enc: &mut E,
+    key: &FunctionKey,
+) -> Result<Option<u32>, AllocError>
     ensures same { enc.new ≡ enc.old }
-    ensures some { IfSome result (HasKey (E.view enc.old).maps key.now) }
-    ensures none { IfNone result (LacksKey (E.view enc.old).maps key.now) }
+    ensures some { IfOk result (λ o. IfSome o (HasKey (E.view enc.old).maps key.now)) }
+    ensures none { IfOk result (λ o. IfNone o (IsOnce (E.view enc.old).maps → LacksKey (E.view enc.old).maps key.now)) }
 {
-    enc.type_encoding_maps().index_of_key(key)
+    enc.type_encoding_maps().index_of_key(alloc, key)
 }
 
 pub(crate) fn unit_future<'a, E: ValtypeEncoder<'a>>(enc: &mut E) -> Option<u32>
@@ -138,23 +140,24 @@ pub(crate) fn remember_id<'a, E: ValtypeEncoder<'a>>(
 pub(crate) fn remember_kind<'a, E: ValtypeEncoder<'a>>(
     enc: &mut E,
     resolve: &'a Resolve,
-    kind: &'a TypeDefKind,
+    list: Vec<u64>,
     index: u32,
 ) -> Result<(), Error>
-    requires stands { (E.view enc.old).stands index (tree (kind_tree resolve.now kind.now)) }
-    requires fresh { LacksKind (E.view enc.old).maps kind.now }
+    requires stands { StandsAsKind resolve.now (E.view enc.old).stands list.items index }
+    requires fresh { LacksList (lists_of (E.view enc.old).maps.def_to_index) list.items }
     requires agree { Agrees resolve.now (E.view enc.old) }
-    ensures ok { OnOk result (LearnsKind (E.view enc.old).maps (E.view enc.new).maps kind.entry index) }
+    ensures ok { OnOk result (LearnsList (E.view enc.old).maps (E.view enc.new).maps list.items index) }
     ensures leaves { Leaves resolve.now (E.view enc.old) (E.view enc.new) }
     ensures counts { (E.view enc.new).definitions ≡ (E.view enc.old).definitions }
     ensures held { (E.view enc.new).held ≡ (E.view enc.old).held }
     ensures size { result ≡ Err Size → ⊥ }
     ensures refuses { IfErr result IsMemoryOrSize }
 {
-    enc.type_encoding_maps().remember_kind(kind, index)
+    enc.type_encoding_maps().remember_kind(list, index)
 }
 
 pub(crate) fn remember_key<'a, E: ValtypeEncoder<'a>>(
+    alloc: Global,
     enc: &mut E,
     resolve: &'a Resolve,
     key: FunctionKey<'a>,
@@ -170,7 +173,7 @@ pub(crate) fn remember_key<'a, E: ValtypeEncoder<'a>>(
     ensures size { result ≡ Err Size → ⊥ }
     ensures refuses { IfErr result IsMemoryOrSize }
 {
-    enc.type_encoding_maps().remember_key(key, index)
+    enc.type_encoding_maps().remember_key(alloc, key, index)
 }
 
 pub(crate) fn remember_unit_future<'a, E: ValtypeEncoder<'a>>(enc: &mut E, index: u32)

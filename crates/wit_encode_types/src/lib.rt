@@ -1,6 +1,7 @@
 //! Defines the types of packages as component types, in any encoder that keeps a stated law.
 #![tactic(auto)]
 
+mod codes;
 mod define;
 mod definition;
 mod encode;

@@ -2,7 +2,7 @@ use Rattle.std.proofs.Common.{◌≡◌, refl, sym, ap, ◌∙◌, ◌&&◌, tru
 use Rattle.std.proofs.lemmas.Option.{slice_get_read}
 use Rattle.wit_model.specs.Lookup.{type_at}
 use Rattle.wit_model.specs.declared.model.TypeDef.{TypeDef}
-use Rattle.wit_encode_types.specs.Known.{IsAlias, known_slot, known_instance}
+use Rattle.wit_encode_types.specs.Known.{IsAlias, known_slot}
 use Rattle.std.specs.Option.{option_map_or}
 use Rattle.wit_model.specs.Text.{optional_text}
 use Rattle.comp_bytes.specs.Held.{fits_added}
@@ -15,7 +15,7 @@ use Rattle.wit_encode.proofs.interface.reach.Goals.{After-index, After-make_alia
 
 pub unreachable-requires : goal.unreachable-requires
 unreachable-requires c = source-listed c.args.resolve.now (around_at c.args.outer.now c.args.foreign.now) c.args.interface.0 c.args.id.0 c.requires.source
-    (ap (λ xs. known_instance xs c.args.interface.0) (sym c.deref-in-None.ensures.value) ∙ sym c.instance_around.ensures ∙ c.in_default.is)
+    (sym c.instance_around.ensures ∙ c.in_default.is)
 
 there : (c : After-index) → type_at c.args.resolve.now c.args.id.0 ≡ Some c.index.result.now
 there c = slice_get_read _ _ _ _ refl c.requires.in_range c.index.ensures
@@ -28,25 +28,25 @@ unreachable-requires-in_default-name c =
     let same = some-same c.index.result.now c.requires.source.def (sym (there (goal.at.unreachable-requires-in_default-name c).After-index) ∙ c.requires.source.there) in
     c.in_default-name.not-Some c.requires.source.name (ap (λ (d : TypeDef). d.name) same ∙ c.requires.source.named_)
 
-first : (c : After-make_alias) → known_slot c.args.foreign.now.known.items c.args.id.0 ≡ None
-first c = ap (λ xs. known_slot xs c.args.id.0) (sym c.deref.ensures.value) ∙ sym c.slot_around.ensures ∙ c.in-None.is
+first : (c : After-make_alias) → known_slot c.args.foreign.now.known.entries c.args.id.0 ≡ None
+first c = sym c.slot_around.ensures ∙ c.in-None.is
 
 pub returns-in-Some-name-clause-slot : goal.returns-in-Some-name-clause-slot
-returns-in-Some-name-clause-slot c = made-slot c.make_alias.result c.args.resolve.now c.args.outer.now c.make_alias.new.outer c.args.foreign.now c.make_alias.new.known c.args.id c.in-Some-instance_around.instance c.deref-in-None-2.result.now
+returns-in-Some-name-clause-slot c = made-slot c.make_alias.result c.args.resolve.now c.args.outer.now c.make_alias.new.outer c.args.foreign.now c.make_alias.new.known c.args.id c.in-Some-instance_around.instance c.deref.result.now
     (first (goal.at.returns-in-Some-name-clause-slot c).After-make_alias) c.make_alias.ensures.ok c.make_alias.ensures.listed
 
-is-alias : (c : After-make_alias) → IsAlias c.args.resolve.now (around_at c.args.outer.now c.args.foreign.now) (record { number = c.args.id; instance = c.in-Some-instance_around.instance; name = c.deref-in-None-2.result.now })
-is-alias c = source-alias c.args.resolve.now (around_at c.args.outer.now c.args.foreign.now) c.args.interface.0 c.in-Some-instance_around.instance c.args.id c.index.result.now c.in-Some-name.name c.deref-in-None-2.result.now c.requires.source
-    (slice_get_read _ _ _ _ refl c.requires.in_range c.index.ensures) c.in-Some-name.is c.deref-in-None-2.ensures
-    (ap (λ xs. known_instance xs c.args.interface.0) (sym c.deref-in-None.ensures.value) ∙ sym c.instance_around.ensures ∙ c.in-Some-instance_around.is) (first c)
+is-alias : (c : After-make_alias) → IsAlias c.args.resolve.now (around_at c.args.outer.now c.args.foreign.now) (record { number = c.args.id; instance = c.in-Some-instance_around.instance; name = c.deref.result.now })
+is-alias c = source-alias c.args.resolve.now (around_at c.args.outer.now c.args.foreign.now) c.args.interface.0 c.in-Some-instance_around.instance c.args.id c.index.result.now c.in-Some-name.name c.deref.result.now c.requires.source
+    (slice_get_read _ _ _ _ refl c.requires.in_range c.index.ensures) c.in-Some-name.is c.deref.ensures
+    (sym c.instance_around.ensures ∙ c.in-Some-instance_around.is) (first c)
 
 pub returns-in-Some-name-clause-reaches : goal.returns-in-Some-name-clause-reaches
-returns-in-Some-name-clause-reaches c = made-reaches c.make_alias.result c.args.resolve.now c.args.outer.now c.make_alias.new.outer c.args.foreign.now c.make_alias.new.known c.args.id c.in-Some-instance_around.instance c.deref-in-None-2.result.now
+returns-in-Some-name-clause-reaches c = made-reaches c.make_alias.result c.args.resolve.now c.args.outer.now c.make_alias.new.outer c.args.foreign.now c.make_alias.new.known c.args.id c.in-Some-instance_around.instance c.deref.result.now
     (is-alias (goal.at.returns-in-Some-name-clause-reaches c).After-make_alias) c.make_alias.ensures.made c.make_alias.ensures.listed c.make_alias.ensures.err c.make_alias.ensures.same
 
 pub returns-in-Some-name-clause-size : goal.returns-in-Some-name-clause-size
 returns-in-Some-name-clause-size c = λ h.
     let def = there (goal.at.returns-in-Some-name-clause-size c).After-index in
-    let named : fits_type_name c.args.resolve.now c.args.id.0 ≡ fits_length c.deref-in-None-2.result.now =
-    ap (λ (o : Option TypeDef). option_map_or (λ d. fits_given (optional_text d.name)) o true) def ∙ ap (λ n. fits_given (optional_text n)) c.in-Some-name.is ∙ ap fits_length (sym c.deref-in-None-2.ensures) in
+    let named : fits_type_name c.args.resolve.now c.args.id.0 ≡ fits_length c.deref.result.now =
+    ap (λ (o : Option TypeDef). option_map_or (λ d. fits_given (optional_text d.name)) o true) def ∙ ap (λ n. fits_given (optional_text n)) c.in-Some-name.is ∙ ap fits_length (sym c.deref.ensures) in
     ap (λ b. b && fits_added c.make_alias.new.outer 1) named ∙ c.make_alias.ensures.size h

@@ -9,7 +9,7 @@ use Rattle.wit_encode_types.proofs.Defining.{counts-named, leaves-kept, leaves-t
 use Rattle.wit_encode_types.proofs.define.define_named.Goals as goal
 
 pub returns-clause-ok : goal.returns-clause-ok
-returns-clause-ok g c = on_ok c.remember_id.result _ _ (λ l. learnt-one (g.E.ValtypeEncoder.view c.args.enc.now).maps _ _ c.args.id _ (ap (λ (z : TypeEncodingMaps). z.id_to_index.items) (c.export.ensures.maps_stay ∙ c.define_kind.ensures.maps_stay)) l) c.remember_id.ensures.ok
+returns-clause-ok g c = on_ok c.remember_id.result _ _ (λ l. learnt-one (g.E.ValtypeEncoder.view c.args.enc.now).maps _ _ c.args.id _ (ap (λ (z : TypeEncodingMaps). z.id_to_index.entries) (c.export.ensures.maps_stay ∙ c.define_kind.ensures.maps_stay)) l) c.remember_id.ensures.ok
 
 pub returns-clause-counts : goal.returns-clause-counts
 returns-clause-counts g c = on_ok c.remember_id.result _ _
@@ -22,7 +22,7 @@ returns-clause-counts g c = on_ok c.remember_id.result _ _
     c.remember_id.ensures.ok
 
 pub returns-clause-kinds : goal.returns-clause-kinds
-returns-clause-kinds g c = on_ok c.remember_id.result _ _ (λ l. l.rest.kinds ∙ ap (λ (z : TypeEncodingMaps). z.def_to_index.items) (c.export.ensures.maps_stay ∙ c.define_kind.ensures.maps_stay)) c.remember_id.ensures.ok
+returns-clause-kinds g c = on_ok c.remember_id.result _ _ (λ l. l.rest.kinds ∙ ap (λ (z : TypeEncodingMaps). z.def_to_index.entries) (c.export.ensures.maps_stay ∙ c.define_kind.ensures.maps_stay)) c.remember_id.ensures.ok
 
 pub returns-clause-leaves : goal.returns-clause-leaves
 returns-clause-leaves g c = leaves-trans (leaves-kept {v = g.E.ValtypeEncoder.view c.args.enc.now} {v' = g.E.ValtypeEncoder.view c.define_kind.new.enc} c.requires.agree c.define_kind.ensures.grows c.define_kind.ensures.scope_stays c.define_kind.ensures.maps_stay) (leaves-trans (leaves-kept {v = g.E.ValtypeEncoder.view c.define_kind.new.enc} {v' = g.E.ValtypeEncoder.view c.export.new.enc} (leaves-kept {v = g.E.ValtypeEncoder.view c.args.enc.now} {v' = g.E.ValtypeEncoder.view c.define_kind.new.enc} c.requires.agree c.define_kind.ensures.grows c.define_kind.ensures.scope_stays c.define_kind.ensures.maps_stay).agree c.export.ensures.grows c.export.ensures.scope_stays c.export.ensures.maps_stay) c.remember_id.ensures.leaves)

@@ -8,7 +8,7 @@ use Rattle.wit_encode_types.proofs.Defining.{counts-named, leaves-kept, leaves-t
 use Rattle.wit_encode_types.proofs.define.define_resource.Goals as goal
 
 pub returns-clause-ok : goal.returns-clause-ok
-returns-clause-ok g c = on_ok c.remember_id.result _ _ (λ l. learnt-one (g.E.ValtypeEncoder.view c.args.enc.now).maps _ _ c.args.id _ (ap (λ (z : TypeEncodingMaps). z.id_to_index.items) c.export_resource.ensures.maps_stay) l) c.remember_id.ensures.ok
+returns-clause-ok g c = on_ok c.remember_id.result _ _ (λ l. learnt-one (g.E.ValtypeEncoder.view c.args.enc.now).maps _ _ c.args.id _ (ap (λ (z : TypeEncodingMaps). z.id_to_index.entries) c.export_resource.ensures.maps_stay) l) c.remember_id.ensures.ok
 
 pub returns-clause-counts : goal.returns-clause-counts
 returns-clause-counts g c = on_ok c.remember_id.result _ _
@@ -20,7 +20,7 @@ returns-clause-counts g c = on_ok c.remember_id.result _ _
     c.remember_id.ensures.ok
 
 pub returns-clause-kinds : goal.returns-clause-kinds
-returns-clause-kinds g c = on_ok c.remember_id.result _ _ (λ l. l.rest.kinds ∙ ap (λ (z : TypeEncodingMaps). z.def_to_index.items) c.export_resource.ensures.maps_stay) c.remember_id.ensures.ok
+returns-clause-kinds g c = on_ok c.remember_id.result _ _ (λ l. l.rest.kinds ∙ ap (λ (z : TypeEncodingMaps). z.def_to_index.entries) c.export_resource.ensures.maps_stay) c.remember_id.ensures.ok
 
 pub returns-clause-leaves : goal.returns-clause-leaves
 returns-clause-leaves g c = leaves-trans (leaves-kept {v = g.E.ValtypeEncoder.view c.args.enc.now} {v' = g.E.ValtypeEncoder.view c.export_resource.new.self} c.requires.agree c.export_resource.ensures.grows c.export_resource.ensures.scope_stays c.export_resource.ensures.maps_stay) c.remember_id.ensures.leaves

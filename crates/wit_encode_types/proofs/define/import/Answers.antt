@@ -7,7 +7,7 @@ use Rattle.wit_encode_types.proofs.Defining.{counts-number, leaves-kept, leaves-
 use Rattle.wit_encode_types.proofs.define.import.Goals as goal
 
 pub returns-clause-ok : goal.returns-clause-ok
-returns-clause-ok g c = on_ok c.remember_id.result _ _ (λ l. learnt-one (g.E.ValtypeEncoder.view c.args.enc.now).maps _ _ c.args.id _ (ap (λ (z : TypeEncodingMaps). z.id_to_index.items) c.import_type.ensures.maps_stay) l) c.remember_id.ensures.ok
+returns-clause-ok g c = on_ok c.remember_id.result _ _ (λ l. learnt-one (g.E.ValtypeEncoder.view c.args.enc.now).maps _ _ c.args.id _ (ap (λ (z : TypeEncodingMaps). z.id_to_index.entries) c.import_type.ensures.maps_stay) l) c.remember_id.ensures.ok
 
 pub returns-clause-counts : goal.returns-clause-counts
 returns-clause-counts g c = on_ok c.remember_id.result _ _
@@ -18,7 +18,7 @@ returns-clause-counts g c = on_ok c.remember_id.result _ _
     c.remember_id.ensures.ok
 
 pub returns-clause-kinds : goal.returns-clause-kinds
-returns-clause-kinds g c = on_ok c.remember_id.result _ _ (λ l. l.rest.kinds ∙ ap (λ (z : TypeEncodingMaps). z.def_to_index.items) c.import_type.ensures.maps_stay) c.remember_id.ensures.ok
+returns-clause-kinds g c = on_ok c.remember_id.result _ _ (λ l. l.rest.kinds ∙ ap (λ (z : TypeEncodingMaps). z.def_to_index.entries) c.import_type.ensures.maps_stay) c.remember_id.ensures.ok
 
 pub returns-clause-leaves : goal.returns-clause-leaves
 returns-clause-leaves g c = leaves-trans (leaves-kept {v = g.E.ValtypeEncoder.view c.args.enc.now} {v' = g.E.ValtypeEncoder.view c.import_type.new.self} c.requires.agree c.import_type.ensures.grows c.import_type.ensures.scope_stays c.import_type.ensures.maps_stay) c.remember_id.ensures.leaves

@@ -55,7 +55,7 @@ returns-clause-counts c =
         signature = signature_of c.args.resolve.now c.args.func.now;
         external_id = (raw_name c.name_of.result).external_id;
       },
-    ) c.in_ok-index.index
+    ) c.in_ok-index.index c.requires.open.agree.once
     c.requires.open.packages_ c.encode_func_type.ensures.leaves.scope_stays (λ i. (c.export_function.ensures.resolve i).now) c.export_function.ensures.maps
     c.in_ok-index.ensures.counts (c.export_function.ensures.ok (signature_of c.args.resolve.now c.args.func.now) c.in_ok-index.ensures.ok)
 
@@ -97,7 +97,7 @@ returns-clause-learns c = on-any c.export_function.result (subst (λ (m : TypeEn
     (from-met c.args.resolve.now (own_of c.args.self.now.inner) (function_types c.args.func.now) c.args.self.now.maps c.encode_func_type.new.enc.maps c.in_ok-index.ensures.learns))
 
 pub returns-clause-held : goal.returns-clause-held
-returns-clause-held c = on-any c.export_function.result (holds-same 1 1 (ap (λ (m : TypeEncodingMaps). m.id_to_index.items) c.export_function.ensures.maps) c.export_function.ensures.held c.in_ok-index.ensures.held)
+returns-clause-held c = on-any c.export_function.result (holds-same 1 1 (ap (λ (m : TypeEncodingMaps). m.id_to_index.entries) c.export_function.ensures.maps) c.export_function.ensures.held c.in_ok-index.ensures.held)
 
 pub returns-in_err-index-clause-size : goal.returns-in_err-index-clause-size
 returns-in_err-index-clause-size c = λ h.

@@ -5,7 +5,7 @@ use Rattle.wit_model.specs.declared.model.Function.{Function}
 use Rattle.wit_encode.specs.Instance.{own_of}
 use Rattle.wit_encode.proofs.Referring.{from-function, from-functions}
 use Rattle.wit_encode_types.proofs.Lists.{contains-at}
-use Rattle.wit_encode.proofs.Counting.{functions-counted, names-after}
+use Rattle.wit_encode.proofs.Counting.{functions-counted, functions-all, names-after}
 use Rattle.wit_encode.proofs.Continuing.{function-continues, continues-trans}
 use Rattle.std.proofs.lemmas.List.{take_all}
 use Rattle.wit_encode.specs.Instance.{placed_function, meaning_of, contents_of, encoder_scope}
@@ -51,6 +51,9 @@ encode_function-requires-clause-used c = used-kept c.args.resolve.now c.args.sel
 pub returns-clause-shows : goal.returns-clause-shows
 returns-clause-shows c = c.loop-entry.invariant.shows
     ∙ ap (λ fs. (contents_of c.args.resolve.now c.args.self.now.outer c.args.self.now.inner).shown.functions ++ map (λ f. meaning_of c.args.resolve.now (placed_function f)) fs) (take_all c.loop-entry.entry-index c.args.functions.now c.loop-entry-test.false)
+
+pub returns-clause-counts : goal.returns-clause-counts
+returns-clause-counts c = functions-all (λ (f : ℕ × Bor (String Global) × Bor Function). f.2.now) c.args.functions.now c.loop-entry.entry-index c.loop-entry-test.false c.loop-entry.invariant.counts
 
 pub returns-in_err-encode_function-clause-continues : goal.returns-in_err-encode_function-clause-continues
 returns-in_err-encode_function-clause-continues c = record { packages_ = search rules; inside = search rules; continues = continues-trans c.loop-entry.invariant.continues c.encode_function.ensures.continues.continues refl }

@@ -55,9 +55,9 @@ began : (c : In-Some) → Began c.replace-saved.new.dest
 began c =
     let same = c.replace-saved.ensures.after in
     record {
-      numbers = ap (λ (m : TypeEncodingMaps). m.id_to_index.items) same ∙ c.new.ensures.ids;
-      kinds = ap (λ (m : TypeEncodingMaps). m.def_to_index.items) same ∙ c.new.ensures.kinds;
-      keys = ap (λ (m : TypeEncodingMaps). m.func_type_map.items) same ∙ c.new.ensures.functions;
+      numbers = ap (λ (m : TypeEncodingMaps). m.id_to_index.entries) same ∙ c.new.ensures.ids;
+      kinds = ap (λ (m : TypeEncodingMaps). m.def_to_index.entries) same ∙ c.new.ensures.kinds;
+      keys = ap (λ (m : TypeEncodingMaps). m.func_type_map.entries) same ∙ c.new.ensures.functions;
     }
 
 counted : (c : In_ok-outcome-in-Some) → Began c.replace-saved.new.dest → Counted c.args.self.now.resolve.now c.args.interface (map (λ f. f.2.now) c.args.functions.now) c.args.types.now c.in-Some.current.declared
@@ -65,16 +65,16 @@ counted c new =
     let r = c.args.self.now.resolve.now in
     let after = c.encode_parts-outcome.new.self in
     let fs : List Function = map (λ f. f.2.now) c.args.functions.now in
-    closed-counts r c.args.self.now.outer after.outer c.args.interface c.args.self.now.foreign after.inner c.in-Some.current _ _ _ fs c.args.types.now
+    closed-counts r c.args.self.now.outer after.outer c.args.interface c.args.self.now.foreign after.inner c.in-Some.current _ _ fs c.args.types.now
     (sym c.replace-inner.ensures.value ∙ c.in-Some.is) new
     (interface-kinds r _ (Some c.args.interface) c.replace-saved.new.dest after.maps _ _ c.args.types.now fs new c.in_ok-outcome-in-Some.ensures.counts c.in_ok-outcome-in-Some.ensures.learns
-    c.in_ok-outcome-in-Some.ensures.known c.requires.valid c.encode_parts-outcome.ensures.continues.continues.agree.once)
+    c.in_ok-outcome-in-Some.ensures.known c.encode_parts-outcome.ensures.continues.continues.agree.once c.requires.valid)
     (subst (λ (o : Option OpenInterface). AddsFunctions c.args.self.now.resolve.now
     (encoder_scope c.args.self.now.resolve.now c.args.self.now.outer o)
     c.replace-saved.new.dest after.maps
     (definitions_with (contents_of c.args.self.now.resolve.now c.args.self.now.outer o))
     (definitions_with (contents_of c.args.self.now.resolve.now after.outer after.inner)) fs) (opened-with c.args.interface c.new-2.result c.replace-foreign.result c.args.self.now.foreign c.new-2.ensures c.replace-foreign.ensures.value) c.in_ok-outcome-in-Some.ensures.counts)
-    c.encode_parts-outcome.ensures.continues.continues.agree c.in_ok-outcome-in-Some.ensures.defined
+    c.encode_parts-outcome.ensures.continues.continues.agree.once c.in_ok-outcome-in-Some.ensures.defined
 
 pub returns-clause-function_types : goal.returns-clause-function_types
 returns-clause-function_types c = (counted c (began (goal.at.returns-clause-function_types c).In-Some)).keys

@@ -1,12 +1,28 @@
-use Rattle.std.proofs.Common.{◌≡◌, ℕ, false, sym, ap, ◌∙◌, get_or, below_more}
-use Rattle.wit_encode_types.specs.declared.key.FunctionKey.{FunctionKey}
-use Rattle.wit_encode_types.specs.Key.{same_key}
-use Rattle.wit_encode_types.proofs.Lists.{item-at}
+use Rattle.std.proofs.Common.{◌≡◌, ◌∙◌, sym, ap, subst, ℕ, List, Vec}
+use Rattle.std.specs.List.{Contains}
+use Rattle.std.specs.Prelude.{IfSome}
+use Rattle.std.specs.declared.alloc.Global.{Global}
+use Rattle.std.proofs.lemmas.Option.{IfSome_then}
+use Rattle.wit_encode_types.specs.Codes.{names_of, lists_of, IsKeyList}
+use Rattle.wit_encode_types.proofs.Tables.{list-found, list-lacks, lacks, none-when, at-some, at-none, one-list}
 use Rattle.wit_encode_types.proofs.maps.TypeEncodingMaps.index_of_key.Goals as goal
+use Rattle.wit_encode_types.proofs.maps.TypeEncodingMaps.index_of_key.Goals.{In-Some}
 
-pub loop-other-preserved : goal.loop-other-preserved
-loop-other-preserved c = λ k d lt.
-    below_more (λ k. (d : FunctionKey × ℕ) → same_key (get_or c.args.self.now.func_type_map.items k d).0 c.args.key.now ≡ false) c.loop-other.other-index
-    (λ k l d. c.loop-other.invariant k d l)
-    (λ d. ap (λ e. same_key e.0 c.args.key.now) (item-at c.deref-other-items.result.now c.args.self.now.func_type_map.items c.loop-other.other-index c.loop-other-item.result d c.deref-other-items.ensures.value c.loop-other-test.true c.loop-other-item.is) ∙ (sym c.eq.ensures ∙ c.if-eq.false))
-    k lt d
+is-list : (c : In-Some) → IsKeyList (names_of c.args.self.now.names) c.args.key.now c.in-Some.list.items
+is-list c = at-some c.in_ok-list.field-0 (λ v. IsKeyList (names_of c.args.self.now.names) c.args.key.now v.items) c.in-Some.list c.in-Some.is c.in_ok-list.ensures.some
+
+pub returns-in_default-clause-none : goal.returns-in_default-clause-none
+returns-in_default-clause-none c = λ once i h. at-none c.in_ok-list.field-0 _ c.in_default.is c.in_ok-list.ensures.none h.0 h.1
+
+pub returns-clause-some : goal.returns-clause-some
+returns-clause-some c =
+    let h : IfSome c.copied.result (λ i. Contains (lists_of c.args.self.now.func_type_map) (c.as_slice.result.now, i)) =
+    list-found (λ (v : Vec ℕ Global). v.items) c.args.self.now.func_type_map.entries c.as_slice.result.now c.copied.result (c.copied.ensures ∙ c.get.ensures.value) in
+    IfSome_then c.copied.result (subst (λ (xs : List ℕ). IfSome c.copied.result (λ i. Contains (lists_of c.args.self.now.func_type_map) (xs, i))) c.as_slice.ensures.value h)
+    (λ i k. (c.in-Some.list.items, is-list (goal.at.returns-clause-some c).In-Some, k))
+
+pub returns-clause-none : goal.returns-clause-none
+returns-clause-none c = none-when c.copied.result _ (λ e once i h.
+    lacks (λ (v : Vec ℕ Global). v.items) c.args.self.now.func_type_map.entries c.as_slice.result.now (sym (c.copied.ensures ∙ c.get.ensures.value) ∙ e) i
+    (subst (λ (xs : List ℕ). Contains (lists_of c.args.self.now.func_type_map) (xs, i))
+    (one-list (names_of c.args.self.now.names) c.args.key.now h.0 c.in-Some.list.items once.names_.table h.1 (is-list (goal.at.returns-clause-none c).In-Some) ∙ sym c.as_slice.ensures.value) h.2))

@@ -1,0 +1,202 @@
+-- The keys of functions whose lists maps hold.
+use Rattle.std.proofs.Common.{◌≡◌, refl, sym, subst, ap, ◌∙◌, ℕ, zero, suc, ◌<◌, Bool, true, false, ◌&&◌, ◌||◌, inl, inr, List, [], ◌∷◌, ◌++◌, map, length, get_or, arith, Vec}
+use Rattle.std.specs.Prelude.{AllPairs}
+use Rattle.std.specs.Borrow.{Bor}
+use Rattle.std.specs.declared.alloc.Global.{Global}
+use Rattle.std.specs.List.{Contains, IsDistinct, list_any}
+use Rattle.std.specs.Option.{option_eq}
+use Rattle.std.specs.Set.{is_member}
+use Rattle.std.specs.Cmp.{IsEquivalence, bool_eq_equiv}
+use Rattle.std.specs.Cmp.Lexicographic.{pointwise, options_equiv}
+use Rattle.std.proofs.lemmas.Bool.{cases_Bool}
+use Rattle.std.proofs.lemmas.Cmp.{on_equiv, and_equiv, lists_equiv}
+use Rattle.std.proofs.lemmas.Map.Keys.{IsDistinct-from_apart}
+use mathlib.Core.Bool.{beq}
+use Rattle.wit_model.proofs.Lists.{first_true, second_true}
+use Rattle.wit_model.specs.Text.{Text, text_of, text_eq}
+use Rattle.wit_model.specs.declared.model.Param.{Param}
+use Rattle.wit_encode_types.specs.declared.key.FunctionKey.{FunctionKey}
+use Rattle.wit_encode_types.specs.declared.maps.TypeEncodingMaps.{TypeEncodingMaps}
+use Rattle.wit_encode_types.specs.Key.{same_type, same_param}
+use Rattle.wit_encode_types.specs.KeyLaws.{type_equiv, param_equiv, text_same}
+use Rattle.wit_encode_types.specs.Codes.{type_code, optional_code, Names, IsTable, AreListed, async_code, IsListed, names_of, lists_of}
+use Rattle.wit_encode_types.specs.Maps.{IsSomeKeyList, IsOnce, NamesGrow}
+use Rattle.wit_encode_types.specs.Distinct.{Key, key_view, are_same, KnowsKey}
+use Rattle.wit_encode_types.proofs.Lists.{none-in}
+use Rattle.wit_encode_types.proofs.KindLaws.{same_types, optional_same}
+use Rattle.wit_encode_types.proofs.EqualLists.{keys-of-lists, lists-of-keys, key-shrink}
+use Rattle.wit_encode_types.proofs.Tables.{key-grow}
+use Rattle.wit_encode.proofs.Naming.{or-second}
+
+-- ---- lists and members
+
+pub both-ways : (a b : Bool) → (a ≡ true → b ≡ true) → (b ≡ true → a ≡ true) → a ≡ b
+both-ways true b f g = sym (f refl)
+both-ways false true f g = g refl
+both-ways false false f g = refl
+
+pub any-at : {X : Type 0} (p : X → Bool) (xs : List X) (x : X) → Contains xs x → p x ≡ true → list_any p xs ≡ true
+any-at p [] x (i, l, e) h = absurd (omega (arith, l))
+any-at p (y ∷ xs) x (zero, l, e) h = ap (λ b. b || list_any p xs) (ap p e ∙ h)
+any-at p (y ∷ xs) x (suc i, l, e) h = or-second (p y) (list_any p xs) (any-at p xs x (i, omega (arith, l), e) h)
+
+pub any-found : {X : Type 0} (p : X → Bool) (xs : List X) → list_any p xs ≡ true → (x : X) × Contains xs x × (p x ≡ true)
+any-found p [] h = absurd (let z : ⊥ = cc in z)
+any-found {X} p (x ∷ xs) h = elim (cases_Bool (p x)) [
+  | inl e ↦ (x, (0, omega arith, refl), e)
+  | inr e ↦ later (any-found p xs (sym (ap (λ b. b || list_any p xs) e) ∙ h))
+]
+  where
+    later : (y : X) × Contains xs y × (p y ≡ true) → (y : X) × Contains (x ∷ xs) y × (p y ≡ true)
+    later (y, (k, l, e), t) = (y, (suc k, omega (arith, l), e), t)
+
+-- ---- keys and their lists
+
+pub same_equiv : IsEquivalence are_same
+same_equiv = and_equiv (on_equiv (λ k. k.is_async) bool_eq_equiv) (and_equiv (on_equiv (λ k. k.params) (lists_equiv param_equiv))
+    (on_equiv (λ k. k.result_type) (options_equiv type_equiv)))
+
+abbrev pub HasList : Names → Key → List ℕ → Type 0
+HasList names k xs = IsListed names k.is_async k.params k.result_type xs
+
+abbrev as_key : Key → FunctionKey
+as_key k = record { async_ = k.is_async; params = record { 0 = record { ref_ptr = (0, 0); now = k.params } }; result = record { ref_ptr = (0, 0); now = k.result_type } }
+
+-- keys of one list are the same, and the same keys have one list
+pub alike : (names : Names) (a b : Key) (xs : List ℕ) → IsTable names → HasList names a xs → HasList names b xs → are_same a b ≡ true
+alike names a b xs t l k = keys-of-lists names (as_key a) (as_key b) xs xs t l k refl
+
+lists-alike : (names : Names) (a b : Key) (xs ys : List ℕ) → IsTable names → HasList names a xs → HasList names b ys → are_same a b ≡ true → xs ≡ ys
+lists-alike names a b xs ys t l k e = lists-of-keys names (as_key a) (as_key b) xs ys t l k e
+
+-- by more names the list is the same, and by fewer, where it is the list of some key
+pub grown : (names names' : Names) (k : Key) (xs : List ℕ) → NamesGrow names names' → HasList names k xs → HasList names' k xs
+grown names names' k xs g l = key-grow names names' (as_key k) xs g l
+
+pub shrunk : (names names' : Names) → IsTable names' → ((t : Text) (n : ℕ) → Contains names (t, n) → Contains names' (t, n)) → (a b : Key) (xs : List ℕ) → HasList names' a xs → HasList names b xs → HasList names a xs
+shrunk names names' t g a b xs l k = key-shrink names names' t g (as_key a) (as_key b) xs l k
+
+async-alike : (a b : Bool) → beq a b ≡ true → async_code a ≡ async_code b
+async-alike true true e = refl
+async-alike false false e = refl
+async-alike true false e = absurd (let z : ⊥ = cc in z)
+async-alike false true e = absurd (let z : ⊥ = cc in z)
+
+params-alike : (names : Names) (ps qs : List Param) (xs : List ℕ) → pointwise same_param ps qs ≡ true → AreListed names ps xs → AreListed names qs xs × (length ps ≡ length qs)
+params-alike names [] [] xs e h = (h, refl)
+params-alike names [] (q ∷ qs) xs e h = absurd (let z : ⊥ = cc in z)
+params-alike names (p ∷ ps) [] xs e h = absurd (let z : ⊥ = cc in z)
+params-alike names (p ∷ ps) (q ∷ qs) [] e h = absurd h
+params-alike names (p ∷ ps) (q ∷ qs) (x ∷ []) e h = absurd h
+params-alike names (p ∷ ps) (q ∷ qs) (x ∷ y ∷ xs) e h =
+    let one = first_true (same_param p q) (pointwise same_param ps qs) e in
+    let name = text_same _ _ (first_true (text_eq (text_of p.name) (text_of q.name)) (same_type p.ty q.ty) one) in
+    let value = same_types p.ty q.ty (second_true (text_eq (text_of p.name) (text_of q.name)) (same_type p.ty q.ty) one) in
+    let more = params-alike names ps qs xs (second_true (same_param p q) (pointwise same_param ps qs) e) h.2 in
+    ((subst (λ w. Contains names (w, x)) name h.0, h.1 ∙ ap type_code value, more.0), ap suc more.1)
+
+pub same-list : (names : Names) (a b : Key) (xs : List ℕ) → are_same a b ≡ true → HasList names a xs → HasList names b xs
+same-list names a b xs e l =
+    let rest = second_true (beq a.is_async b.is_async) (pointwise same_param a.params b.params && option_eq same_type a.result_type b.result_type) e in
+    let async = async-alike a.is_async b.is_async (first_true (beq a.is_async b.is_async) (pointwise same_param a.params b.params && option_eq same_type a.result_type b.result_type) e) in
+    let params = params-alike names a.params b.params l.middle (first_true (pointwise same_param a.params b.params) (option_eq same_type a.result_type b.result_type) rest) l.listed in
+    let result = optional_same a.result_type b.result_type (second_true (pointwise same_param a.params b.params) (option_eq same_type a.result_type b.result_type) rest) in
+    record { middle = l.middle; listed = params.0; is = l.is ∙ (λ i. async i ∷ params.1 i ∷ (l.middle ++ optional_code (result i))) }
+
+-- ---- what maps hold
+
+-- a key that is the same is known, too
+pub knows-same : (m : TypeEncodingMaps) (a b : Key) → are_same a b ≡ true → KnowsKey m a → KnowsKey m b
+knows-same m a b e (xs, i, l, c) = (xs, i, same-list (names_of m.names) a b xs e l, c)
+
+-- maps with the same entries
+pub knows-along : (m m' : TypeEncodingMaps) → m'.func_type_map.entries ≡ m.func_type_map.entries → m'.names.entries ≡ m.names.entries → (k : Key) → KnowsKey m k → KnowsKey m' k
+knows-along m m' e n k (xs, i, l, c) = (
+  xs,
+  i,
+  subst (λ (ns : List (Bor Text × ℕ)). HasList (map {B = Text × ℕ} (λ e. (e.0.now, e.1)) ns) k xs) (sym n) l,
+  subst (λ (es : List (Vec ℕ Global × ℕ)). Contains (map {B = List ℕ × ℕ} (λ e. (e.0.items, e.1)) es) (xs, i)) (sym e) c,
+)
+
+-- where there is no entry, no key is known
+pub knows-none : (m : TypeEncodingMaps) (k : Key) → m.func_type_map.entries ≡ [] → KnowsKey m k → ⊥
+knows-none m k e (xs, i, l, c) = none-in (xs, i) (subst (λ (es : List (Vec ℕ Global × ℕ)). Contains (map {B = List ℕ × ℕ} (λ e. (e.0.items, e.1)) es) (xs, i)) e c)
+
+-- ---- one key for each entry
+
+abbrev AreKeysOf : Names → List Key → List (List ℕ × ℕ) → Type 0
+AreKeysOf names [] [] = Unit {0}
+AreKeysOf names (k ∷ ks) (e ∷ es) = HasList names k e.0 × AreKeysOf names ks es
+AreKeysOf names _ _ = ⊥
+
+keys-at : (names : Names) (es : List (List ℕ × ℕ)) → ((xs : List ℕ) (i : ℕ) → Contains es (xs, i) → IsSomeKeyList names xs) → (ks : List Key) × AreKeysOf names ks es
+keys-at names [] h = ([], tt)
+keys-at names (e ∷ es) h =
+    let x = h e.0 e.1 (0, omega arith, refl) in
+    let more = keys-at names es (λ xs i c. h xs i (suc c.0, (let l = c.1 in omega (arith, l)), c.2)) in
+    (key_view x.key ∷ more.0, (x.is, more.1))
+
+keys-long : (names : Names) (ks : List Key) (es : List (List ℕ × ℕ)) → AreKeysOf names ks es → length ks ≡ length es
+keys-long names [] [] h = refl
+keys-long names [] (e ∷ es) h = absurd h
+keys-long names (k ∷ ks) [] h = absurd h
+keys-long names (k ∷ ks) (e ∷ es) h = ap suc (keys-long names ks es h.1)
+
+key-at : (names : Names) (ks : List Key) (es : List (List ℕ × ℕ)) → AreKeysOf names ks es → (i : ℕ) (d : Key) (e : List ℕ × ℕ) → i < length ks → HasList names (get_or ks i d) (get_or es i e).0
+key-at names [] es h i d e l = absurd (omega (arith, l))
+key-at names (k ∷ ks) [] h i d e l = absurd h
+key-at names (k ∷ ks) (x ∷ es) h zero d e l = h.0
+key-at names (k ∷ ks) (x ∷ es) h (suc i) d e l = key-at names ks es h.1 i d e (omega (arith, l))
+
+key-there : (names : Names) (ks : List Key) (es : List (List ℕ × ℕ)) → AreKeysOf names ks es → (k : Key) → Contains ks k → (e : List ℕ × ℕ) × Contains es e × HasList names k e.0
+key-there names [] es h k c = none-in k c
+key-there names (x ∷ ks) [] h k c = absurd h
+key-there names (x ∷ ks) (e ∷ es) h k (zero, l, q) = (e, (0, omega arith, refl), subst (λ (z : Key). HasList names z e.0) q h.0)
+key-there names (x ∷ ks) (e ∷ es) h k (suc i, l, q) = let more = key-there names ks es h.1 k (i, omega (arith, l), q) in (more.0, (suc more.1.0, (let n = more.1.1 in omega (arith, n)), more.1.2), more.2)
+
+list-there : (names : Names) (ks : List Key) (es : List (List ℕ × ℕ)) → AreKeysOf names ks es → (e : List ℕ × ℕ) → Contains es e → (k : Key) × Contains ks k × HasList names k e.0
+list-there names ks [] h e c = none-in e c
+list-there names [] (x ∷ es) h e c = absurd h
+list-there names (k ∷ ks) (x ∷ es) h e (zero, l, q) = (k, (0, omega arith, refl), subst (λ (z : List ℕ × ℕ). HasList names k z.0) q h.0)
+list-there names (k ∷ ks) (x ∷ es) h e (suc i, l, q) = let more = list-there names ks es h.1 e (i, omega (arith, l), q) in (more.0, (suc more.1.0, (let n = more.1.1 in omega (arith, n)), more.1.2), more.2)
+
+keys-apart : (names : Names) → IsTable names → (ks : List Key) (es : List (List ℕ × ℕ)) → AreKeysOf names ks es → AllPairs (λ x y. x.0 ≡ y.0 → ⊥) es → AllPairs (λ x y. are_same x y ≡ false) ks
+keys-apart names t ks es h p i j d l n = go (are_same (get_or ks i d) (get_or ks j d)) refl
+  where
+    long : length ks ≡ length es
+    long = keys-long names ks es h
+
+    none : List ℕ × ℕ
+    none = ([], 0)
+
+    go : (b : Bool) → are_same (get_or ks i d) (get_or ks j d) ≡ b → are_same (get_or ks i d) (get_or ks j d) ≡ false
+    go false e = e
+    go true e = absurd (p i j none l (let q = long in omega (arith, q, n))
+        (lists-alike names (get_or ks i d) (get_or ks j d) (get_or es i none).0 (get_or es j none).0 t (key-at names ks es h i d none (omega (arith, l, n))) (key-at names ks es h j d none n) e))
+
+-- These keys, no two of them the same, are those that the maps know.
+pub record Keyed (m : TypeEncodingMaps) : Type 0 where
+  pub keys : List Key
+  pub count : length keys ≡ length (lists_of m.func_type_map)
+  pub different : IsDistinct are_same keys
+  pub known : (q : Key) → is_member are_same keys q ≡ true → KnowsKey m q
+  pub all : (q : Key) → KnowsKey m q → is_member are_same keys q ≡ true
+
+pub keyed : (m : TypeEncodingMaps) → IsOnce m → Keyed m
+keyed m once =
+    let names = names_of m.names in
+    let es = lists_of m.func_type_map in
+    let made = keys-at names es once.key_lists in
+    let ks = made.0 in
+    record {
+      keys = ks;
+      count = keys-long names ks es made.1;
+      different = IsDistinct-from_apart are_same ks (keys-apart names once.names_.table ks es made.1 once.keys);
+      known = λ q h.
+          let found = any-found (are_same q) ks h in
+          let there = key-there names ks es made.1 found.0 found.1 in
+          (there.0.0, there.0.1, same-list names found.0 q there.0.0 (same_equiv.symm found.0 q ∙ found.2) there.2, there.1);
+      all = λ q k.
+          let there = list-there names ks es made.1 (k.0, k.1) k.3 in
+          any-at (are_same q) ks there.0 there.1 (alike names q there.0 k.0 once.names_.table k.2 there.2);
+    }
