@@ -2,6 +2,7 @@ pub mod Moves
 pub mod RenderLaws
 mod ReadingExamples
 pub mod ByteTests
+pub mod ByPlace
 pub mod TokenFacts
 pub mod VersionFacts
 pub mod TextOf
@@ -31,5 +32,7 @@ pub mod ShownPlain
 pub mod ValidPlain
 pub mod ShownWell
 pub mod TypesWell
+pub mod TypeParts
+pub mod InterfaceHeads
 pub mod FunctionsWell
 pub mod PrintedText

@@ -55,6 +55,7 @@ use Rattle.wit_print.proofs.RenderLaws.{Moves-writes}
 use Rattle.wit_print.specs.AsRead.{file_as_read}
 use Rattle.wit_print.specs.Reading.{IsOnlyReading}
 use Rattle.wit_print.proofs.FileReads.{file_reads_only}
+use Rattle.wit_print.proofs.ByPlace.{all_get, one_there}
 use Rattle.wit_print.proofs.ByteTests.{both, left_of, right_of}
 
 -- ---- what is not there
@@ -93,20 +94,6 @@ optional_version None h = refl
 optional_version (Some v) h = version_is_text v h
 
 -- ---- lists
-
--- an element of a list, each of which passes
-pub all_get : {X : Type 0} (p : X → Bool) (xs : List X) (n : ℕ) (x : X) → list_all p xs ≡ true → slice_get xs n ≡ Some x → p x ≡ true
-all_get p xs n x h e = each_from_at (λ m y. p y) 0 xs n x (from xs 0 h) e
-  where
-    from : (ys : List _) (m : ℕ) → list_all p ys ≡ true → each_from (λ k y. p y) m ys ≡ true
-    from [] m g = refl
-    from (y ∷ ys) m g = both _ _ (left_of _ _ g) (from ys (m + 1) (right_of (p y) _ g))
-
--- what stands at a place of a list
-pub one_there : {X : Type 0} (xs : List X) (n : ℕ) → n < length xs → (x : X) × (slice_get xs n ≡ Some x)
-one_there [] n below = absurd (omega arith)
-one_there (x ∷ xs) zero below = (x, refl)
-one_there (x ∷ xs) (suc n) below = one_there xs n (omega arith)
 
 kept_well : {X Y : Type 0} (known test : X → Bool) (shown : X → Y) (well : Y → Bool) → ((x : X) → known x ≡ true → test x ≡ true → well (shown x) ≡ true) → (xs : List X) → list_all known xs ≡ true → list_all well (map shown (filter test xs)) ≡ true
 kept_well known test shown well each [] h = refl

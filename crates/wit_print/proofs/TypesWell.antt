@@ -26,7 +26,7 @@ use Rattle.wit_print.specs.Tree.TypeTree.{Name}
 use Rattle.wit_print.specs.Shown.{present_name, shown_type, type_name, used_type, used_types, future_tree, stream_tree, result_tree, kind_tree, def_tree, trees_from, type_trees}
 use Rattle.wit_print.specs.WellNamed.{is_well_type, are_well_types, are_well_more}
 use Rattle.wit_print.proofs.ByteTests.{both, left_of, right_of}
-use Rattle.wit_print.proofs.PlainReads.{all_get, one_there}
+use Rattle.wit_print.proofs.ByPlace.{all_get, one_there}
 
 -- the length of a list fits a number of 64 bits
 abbrev pub has_short_length : TypeDefKind → Bool
@@ -195,7 +195,11 @@ module _ (r : Resolve) (valid : IsValid r) where
       go None e g = absurd cc
       go (Some def) e g = present_label def.name (is_named_kind def.kind) (resource_kind (ends_in_resource r steps) def.kind g) (name_of_kind n def e) (label_of n def e)
 
-  type_is_shown : (n : ℕ) (def : TypeDef) → type_at r n ≡ Some def → has_short_length def.kind ≡ true → IsShownType r n def
+  pub shape_of : (n : ℕ) (def : TypeDef) → type_at r n ≡ Some def → has_shape def.kind ≡ true
+  unfolding shapes
+  shape_of n def e = type_rule shapes valid.rules.shapes n def e
+
+  pub type_is_shown : (n : ℕ) (def : TypeDef) → type_at r n ≡ Some def → has_short_length def.kind ≡ true → IsShownType r n def
   unfolding order_of_types shapes handles
   type_is_shown n def e short = record {
     label = label_of n def e;

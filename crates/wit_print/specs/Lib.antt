@@ -10,6 +10,8 @@ pub mod Token
 pub mod Grammar
 pub mod Reading
 pub mod WellNamed
+pub mod TypeParts
+pub mod Heads
 pub mod Drafted
 pub mod Printable
 pub mod Printer
