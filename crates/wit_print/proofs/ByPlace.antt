@@ -1,5 +1,5 @@
 -- What stands at a place of a list.
-use Rattle.std.proofs.Common.{◌≡◌, refl, ℕ, zero, suc, ◌+◌, ◌<◌, Bool, true, ◌&&◌, List, [], ◌∷◌, length, Option, Some, slice_get, arith}
+use Rattle.std.proofs.Common.{◌≡◌, refl, ℕ, zero, suc, ◌+◌, ◌<◌, Bool, true, List, [], ◌∷◌, length, Some, slice_get, arith}
 use Rattle.std.specs.List.{list_all}
 use Rattle.wit_model.specs.Rules.{each_from}
 use Rattle.wit_model.proofs.Entries.{each_from_at}

@@ -1,5 +1,5 @@
 -- What is shown of a type number: its name, or the calls for its kind part by part.
-use Rattle.std.proofs.Common.{◌≡◌, refl, sym, ap, ◌∙◌, subst, ℕ, zero, suc, ◌+◌, ◌<◌, ◌≤◌, Bool, true, false, IsTrue, ◌&&◌, ◌||◌, not, nat_lt, nat_le, List, [], ◌∷◌, ◌++◌, length, take, drop, map, Option, Some, None, slice_get, filter_map, unwrap_or, arith, append-nil, append_assoc, add-one, codes, is_some}
+use Rattle.std.proofs.Common.{◌≡◌, refl, sym, ap, ◌∙◌, subst, ℕ, zero, suc, ◌+◌, ◌<◌, ◌≤◌, Bool, true, false, IsTrue, ◌&&◌, ◌||◌, not, nat_lt, nat_le, List, [], ◌∷◌, ◌++◌, length, take, drop, Option, Some, None, slice_get, unwrap_or, arith, append-nil, append_assoc, add-one, codes, is_some}
 use Rattle.std.specs.Prelude.{option_map, option_to_list, String}
 use Rattle.std.specs.Option.{option_map_or}
 use Rattle.std.specs.List.{list_all}
@@ -27,7 +27,7 @@ use Rattle.wit_print.specs.OutputCall.{OutputCall, View, lines_begun_after, line
 use Rattle.wit_print.specs.Tree.{TypeTree, TypeTrees}
 use Rattle.wit_print.specs.Tree.TypeTree.{PrimitiveType, Name, Handle, Own, Borrow, TupleOf, OptionOf, ListOf, FixedListOf, MapOf, Result, ResultOk, ResultErr, ResultOf, Future, FutureOf, Stream, StreamOf}
 use Rattle.wit_print.specs.Tree.TypeTrees.{NoTypes, AndTypes}
-use Rattle.wit_print.specs.Shown.{present_name, shown_type, type_name, used_type, used_types, future_tree, stream_tree, result_tree, kind_tree, def_tree, trees_from, type_trees}
+use Rattle.wit_print.specs.Shown.{shown_type, type_name, used_type, used_types, future_tree, stream_tree, result_tree, kind_tree, def_tree, trees_from, type_trees}
 use Rattle.wit_print.specs.Keyword.{escaped}
 use Rattle.wit_print.specs.declared.type_kind.TypeKind.TheVariants.{Other}
 use Rattle.wit_print.specs.Calls.{type_calls, types_calls, more_types_calls}

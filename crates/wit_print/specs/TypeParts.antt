@@ -1,5 +1,5 @@
 -- The calls for a kind without a name of its own, in three parts: before its types, its types with commas between, and behind them.
-use Rattle.std.specs.Prelude.{Bool, true, false, List, [], ◌∷◌, ◌++◌, ◌&&◌, not, ℕ, zero, suc, Option, Some, None, codes}
+use Rattle.std.specs.Prelude.{Bool, false, List, [], ◌∷◌, ◌++◌, ◌&&◌, not, ℕ, zero, suc, Option, Some, None, codes}
 use Rattle.std.specs.Option.{option_map_or}
 use Rattle.std.specs.Fmt.{decimal}
 use Rattle.wit_model.specs.declared.model.Resolve.{Resolve}
