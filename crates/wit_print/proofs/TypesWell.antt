@@ -213,7 +213,7 @@ module _ (r : Resolve) (valid : IsValid r) where
       go None g = refl
       go (Some m) g = resource_label (length r.types.items) m g
 
-  type_is_shown : (n : ℕ) (def : TypeDef) → type_at r n ≡ Some def → IsShownType r n def
+  pub type_is_shown : (n : ℕ) (def : TypeDef) → type_at r n ≡ Some def → IsShownType r n def
   unfolding order_of_types
   type_is_shown n def e = record {
     label = label_of n def e;
