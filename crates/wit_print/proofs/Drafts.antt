@@ -3,7 +3,7 @@ use Rattle.std.proofs.Common.{◌≡◌, ◌&&◌, Bool, true, false, IsTrue, Li
 use Rattle.std.proofs.lemmas.List.{map-append}
 use Rattle.wit_print.specs.declared.piece.Piece.{Piece}
 use Rattle.wit_print.specs.Drafted.{piece_call, piece_calls}
-use Rattle.wit_print.specs.OutputCall.{OutputCall, may_follow, may_stand, line_begun_after, lines_begun_after, is_one_line, may_begin}
+use Rattle.wit_print.specs.OutputCall.{OutputCall, may_follow, may_stand, line_begun_after, lines_begun_after, is_one_line, has_no_space_first, may_begin}
 use Rattle.wit_print.specs.OutputCall.OutputCall.{PushStr, IndentIfNeeded, IndentEnd, Newline, IndentAndPrint, Keyword, Ty, Param, Case, Doc, Str}
 
 pub lines_begun_after-append : (b : Bool) (xs : List OutputCall) (call : OutputCall) → lines_begun_after b (xs ++ call ∷ []) ≡ line_begun_after call (lines_begun_after b xs)
@@ -47,3 +47,10 @@ follow_anywhere true calls h = h
 follow_anywhere false calls h = follow_off calls h
 
 pub ruleset anywhere = (follow_anywhere)
+
+-- text without a space at its front may stand anywhere
+pub front_anywhere : (b : Bool) (text : List ℕ) → IsTrue (has_no_space_first text) → IsTrue (may_begin b text)
+front_anywhere true text h = h
+front_anywhere false text h = refl
+
+pub ruleset fronts = (front_anywhere)

@@ -34,6 +34,8 @@ pub mod ShownPlain
 pub mod ValidPlain
 pub mod ShownWell
 pub mod TypesWell
+pub mod TypeParts
+pub mod InterfaceHeads
 pub mod FunctionsWell
 pub mod ValidNames
 pub mod ValidDeclared

@@ -140,3 +140,8 @@ marked_may_begin false text = refl
 pub version_may_stand : (begun : Bool) (v : Version) (text : Text) → text ≡ 64 ∷ version_text v → is_version v ≡ true → IsTrue (is_one_line text && may_begin begun text)
 version_may_stand begun v text e h =
     subst (λ t. (is_one_line t && may_begin begun t) ≡ true) (sym e) (both_true _ _ (version_one_line v h) (marked_may_begin begun (version_text v)))
+
+-- and behind other text without it
+pub plain_version_may_stand : (begun : Bool) (v : Version) (text : Text) → text ≡ version_text v → begun ≡ false → is_version v ≡ true → IsTrue (is_one_line text && may_begin begun text)
+plain_version_may_stand begun v text e b h =
+    subst (λ x. (is_one_line text && may_begin x text) ≡ true) (sym b) (subst (λ t. (is_one_line t && true) ≡ true) (sym e) (both_true _ _ (version_one_line v h) refl))

@@ -11,6 +11,8 @@ pub mod Grammar
 pub mod Reading
 pub mod WellNamed
 pub mod Documentation
+pub mod TypeParts
+pub mod Heads
 pub mod Drafted
 pub mod Printable
 pub mod Printer

@@ -1,10 +1,11 @@
 //! The calls for one item are drafted first, and then made.
 
-ghost use Rattle.std.specs.Prelude.{◌≡◌, true, false, [], ◌∷◌, ◌++◌, IsTrue, OnOk, OnErr, IsOkUnless};
+ghost use Rattle.std.specs.Prelude.{◌≡◌, true, false, [], ◌∷◌, ◌++◌, codes, IsTrue, OnOk, OnErr, IsOkUnless};
+ghost use Rattle.std.specs.Fmt.{decimal};
 ghost use Rattle.semver.specs.Identifiers.{version_text};
 ghost use Rattle.wit_model.specs.declared.error.Error.TheVariants.{Memory};
 ghost use Rattle.wit_model.specs.Names.{is_label, is_version};
-ghost use Rattle.wit_print.specs.OutputCall.{OutputCall, Moves, Begins, is_one_line, may_begin, may_stand, line_begun_after};
+ghost use Rattle.wit_print.specs.OutputCall.{OutputCall, Moves, Begins, is_one_line, has_no_space_first, may_begin, may_stand, line_begun_after};
 ghost use Rattle.wit_print.specs.Drafted.{piece_call};
 ghost use Rattle.wit_print.specs.Keyword.{escaped};
 
@@ -74,9 +75,10 @@ impl<'a> Draft<'a> {
         Ok(())
     }
 
+    #[tactic(auto, using(crate::proofs::Drafts::fronts))]
     pub(crate) fn keyword(&mut self, text: &'a str) -> Result<(), AllocError>
         requires one_line { IsTrue (is_one_line text.now) }
-        requires front { IsTrue (may_begin self.old.line_begun text.now) }
+        requires front { IsTrue (has_no_space_first text.now) }
         ensures { OnOk result (self.new ≡ record { line_begun = false; kept = self.old.kept ++ OutputCall.Keyword text.now ∷ [] }) }
     {
         self.push(Piece::Keyword(text), false)
@@ -87,13 +89,14 @@ impl<'a> Draft<'a> {
         requires front { IsTrue (may_begin self.old.line_begun text.now) }
         ensures { OnOk result (self.new ≡ record { line_begun = false; kept = self.old.kept ++ OutputCall.Str text.now ∷ [] }) }
     {
-        self.push(Piece::Str(text), false)
+        self.push(Piece::Str(CowStr::Borrowed(text)), false)
     }
 
     /// A word of a kind, as it stands.
+    #[tactic(auto, using(crate::proofs::Drafts::fronts))]
     pub(crate) fn word(&mut self, text: &'a str, kind: TypeKind) -> Result<(), AllocError>
         requires one_line { IsTrue (is_one_line text.now) }
-        requires front { IsTrue (may_begin self.old.line_begun text.now) }
+        requires front { IsTrue (has_no_space_first text.now) }
         ensures { OnOk result (self.new ≡ record { line_begun = false; kept = self.old.kept ++ OutputCall.Ty text.now kind ∷ [] }) }
     {
         self.push(Piece::Ty(CowStr::Borrowed(text), kind), false)
@@ -117,6 +120,60 @@ impl<'a> Draft<'a> {
     {
         let text = escape(self.alloc, label)?;
         self.push(Piece::Param(text), false)
+    }
+
+    /// Text as it stands, without indentation.
+    pub(crate) fn push_str(&mut self, text: &'a str) -> Result<(), AllocError>
+        ensures { OnOk result (self.new ≡ record { line_begun = self.old.line_begun; kept = self.old.kept ++ OutputCall.PushStr text.now ∷ [] }) }
+    {
+        let line_begun = self.line_begun;
+        self.push(Piece::PushStr(CowStr::Borrowed(text)), line_begun)
+    }
+
+    /// The length of a list behind the type of its elements, without indentation.
+    pub(crate) fn push_length(&mut self, length: u32) -> Result<(), AllocError>
+        ensures { OnOk result (self.new ≡ record { line_begun = self.old.line_begun; kept = self.old.kept ++ OutputCall.PushStr (codes ", " ++ decimal length) ∷ [] }) }
+    {
+        let line_begun = self.line_begun;
+        let text = format!(in self.alloc; ", {length}")?;
+        self.push(Piece::PushStr(CowStr::Owned(text)), line_begun)
+    }
+
+    pub(crate) fn generic_args_start(&mut self) -> Result<(), AllocError>
+        requires { self.old.line_begun ≡ false }
+        ensures { OnOk result (self.new ≡ record { line_begun = false; kept = self.old.kept ++ OutputCall.GenericArgsStart ∷ [] }) }
+    {
+        self.push(Piece::GenericArgsStart, false)
+    }
+
+    pub(crate) fn generic_args_end(&mut self) -> Result<(), AllocError>
+        requires { self.old.line_begun ≡ false }
+        ensures { OnOk result (self.new ≡ record { line_begun = false; kept = self.old.kept ++ OutputCall.GenericArgsEnd ∷ [] }) }
+    {
+        self.push(Piece::GenericArgsEnd, false)
+    }
+
+    /// The name of a feature, as an id.
+    #[tactic(auto, using(crate::proofs::OneLine::labels))]
+    pub(crate) fn feature(&mut self, label: &'a str) -> Result<(), AllocError>
+        requires { is_label label.now ≡ true }
+        ensures { OnOk result (self.new ≡ record { line_begun = false; kept = self.old.kept ++ OutputCall.Str (escaped label.now) ∷ [] }) }
+    {
+        let text = escape(self.alloc, label)?;
+        self.push(Piece::Str(text), false)
+    }
+
+    /// A version in an attribute, behind other text in its line.
+    pub(crate) fn plain_version(&mut self, version: &Version) -> Result<(), AllocError>
+        requires same_line { self.old.line_begun ≡ false }
+        requires version { is_version version.now ≡ true }
+        ensures { OnOk result (self.new ≡ record { line_begun = false; kept = self.old.kept ++ OutputCall.Ty (version_text version.now) TypeKind.VersionAnnotation ∷ [] }) }
+    {
+        let text = format!(in self.alloc; "{version}")?;
+        self.push(
+            Piece::Ty(CowStr::Owned(text), TypeKind::VersionAnnotation),
+            false,
+        )
     }
 
     /// A version after its mark, `@`.

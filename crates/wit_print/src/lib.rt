@@ -4,6 +4,8 @@
 mod draft;
 mod escape;
 mod function;
+mod gates;
+mod interface;
 mod items;
 pub mod laws;
 mod make;
@@ -14,6 +16,7 @@ mod parts;
 mod piece;
 mod printer;
 mod type_kind;
+mod type_name;
 mod world;
 
 pub use output::Output;

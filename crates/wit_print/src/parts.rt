@@ -1,20 +1,20 @@
 //! Parts of an item, drafted.
 
-ghost use Rattle.std.specs.Prelude.{◌≡◌, ◌++◌, ◌∷◌, [], codes, true, false, map, option_map, List, OnOk, IsTrue};
+ghost use Rattle.std.specs.Prelude.{◌≡◌, ◌++◌, ◌∷◌, [], codes, true, false, map, option_map, OnOk};
 ghost use Rattle.std.specs.List.{flat_map, list_all};
 ghost use Rattle.std.specs.Str.Lines.{lines};
 ghost use Rattle.wit_model.specs.Text.{text_of};
 ghost use Rattle.wit_model.specs.Names.{is_label, is_version};
 ghost use Rattle.wit_model.specs.Lookup.{optional_version_text};
 ghost use Rattle.wit_model.specs.Rules.{passes};
-ghost use Rattle.wit_print.specs.OutputCall.{OutputCall, is_one_line, may_begin};
+ghost use Rattle.wit_print.specs.OutputCall.{OutputCall};
 ghost use Rattle.wit_print.specs.Printable.{is_primitive, is_printable_param};
-ghost use Rattle.wit_print.specs.Shown.{shown_docs, shown_head, shown_param, shown_type, used_type};
-ghost use Rattle.wit_print.specs.Calls.{doc_calls, package_name_calls, package_outer_calls, param_calls, result_calls, separated, type_calls, version_calls};
-ghost use Rattle.wit_print.specs.Tree.{TypeTree};
+ghost use Rattle.wit_print.specs.Shown.{shown_docs, shown_head, shown_param, shown_type};
+ghost use Rattle.wit_print.specs.Calls.{doc_calls, package_name_calls, package_outer_calls, param_calls, result_calls, separated, version_calls};
 
 use crate::draft::Draft;
 use crate::type_kind::TypeKind;
+use crate::type_name::draft_primitive;
 use semver::Version;
 use std::alloc::AllocError;
 use wit_model::{Docs, Package, PackageName, Param, Resolve, Type};
@@ -94,40 +94,6 @@ pub(crate) fn draft_package_outer<'a>(
     draft_package_name(draft, &package.name)
 }
 
-/// The word of a primitive type.
-fn type_word(ty: &Type) -> &'static str
-    requires { is_primitive ty.now ≡ true }
-    ensures word { (trees : List TypeTree) → type_calls (used_type trees ty.now) ≡ OutputCall.Ty result.now TypeKind.BuiltIn ∷ [] }
-    ensures one_line { IsTrue (is_one_line result.now) }
-{
-    match ty {
-        Type::Bool => "bool",
-        Type::U8 => "u8",
-        Type::U16 => "u16",
-        Type::U32 => "u32",
-        Type::U64 => "u64",
-        Type::S8 => "s8",
-        Type::S16 => "s16",
-        Type::S32 => "s32",
-        Type::S64 => "s64",
-        Type::F32 => "f32",
-        Type::F64 => "f64",
-        Type::Char => "char",
-        Type::String => "string",
-        Type::ErrorContext => "error-context",
-        Type::Id(_) => "",
-    }
-}
-
-/// A type where it is used.
-fn draft_type<'a>(draft: &mut Draft<'a>, resolve: &'a Resolve, ty: &Type) -> Result<(), AllocError>
-    requires same_line { draft.old.line_begun ≡ false }
-    requires primitive { is_primitive ty.now ≡ true }
-    ensures { OnOk result (draft.new ≡ record { line_begun = false; kept = draft.old.kept ++ type_calls (shown_type resolve.now ty.now) }) }
-{
-    draft.word(type_word(ty), TypeKind::BuiltIn)
-}
-
 fn draft_param<'a>(
     draft: &mut Draft<'a>,
     resolve: &'a Resolve,
@@ -139,7 +105,7 @@ fn draft_param<'a>(
 {
     draft.param(&param.name)?;
     draft.str(": ")?;
-    draft_type(draft, resolve, &param.ty)
+    draft_primitive(draft, resolve, &param.ty)
 }
 
 /// Parameters, each after a comma.
@@ -188,7 +154,7 @@ pub(crate) fn draft_result<'a>(
 {
     if let Some(ty) = returned {
         draft.str(" -> ")?;
-        draft_type(draft, resolve, ty)?;
+        draft_primitive(draft, resolve, ty)?;
     }
     Ok(())
 }

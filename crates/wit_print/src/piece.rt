@@ -7,10 +7,13 @@ use std::borrow::CowStr;
 #[derive(Drop)]
 pub(crate) enum Piece<'a> {
     Keyword(&'a str),
-    Str(&'a str),
+    Str(CowStr<'a>),
     Ty(CowStr<'a>, TypeKind),
     Param(CowStr<'a>),
+    PushStr(CowStr<'a>),
     Doc(&'a str),
+    GenericArgsStart,
+    GenericArgsEnd,
     IndentStart,
     Newline,
     Semicolon,

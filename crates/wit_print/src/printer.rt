@@ -4,23 +4,27 @@ ghost use Rattle.std.specs.Prelude.{◌≡◌, ◌<◌, [], true, length, OnOk, 
 ghost use Rattle.wit_model.specs.declared.error.Error.TheVariants.{Memory};
 ghost use Rattle.wit_model.specs.Text.{text_of};
 ghost use Rattle.wit_model.specs.Names.{is_label, is_version};
-ghost use Rattle.wit_model.specs.Rules.{passes};
+ghost use Rattle.wit_model.specs.Rules.{in_list, passes};
+ghost use Rattle.wit_model.specs.Types.{number_of};
 ghost use Rattle.wit_model.specs.Valid.{IsValid};
 ghost use Rattle.wit_model.specs.Plain.{IsPlain};
 ghost use Rattle.wit_print.specs.OutputCall.{Moves, Begins};
 ghost use Rattle.wit_print.specs.AsRead.{file_as_read};
 ghost use Rattle.wit_print.specs.Reading.{IsOnlyReading};
 ghost use Rattle.wit_print.specs.Render.{render};
-ghost use Rattle.wit_print.specs.Shown.{shown_file, shown_head, shown_package};
-ghost use Rattle.wit_print.specs.Calls.{file_calls, package_calls, package_outer_calls};
+ghost use Rattle.wit_print.specs.Shown.{shown_file, shown_head, shown_package, shown_type};
+ghost use Rattle.wit_print.specs.Calls.{file_calls, package_calls, package_outer_calls, type_calls};
+ghost use Rattle.wit_print.specs.Heads.{interface_head_calls};
 
 use crate::draft::Draft;
+use crate::interface::print_head;
 use crate::output::Output;
 use crate::output_to_string::OutputToString;
 use crate::package::print_plain_package;
 use crate::parts::draft_package_outer;
+use crate::type_name::draft_type_name;
 use std::alloc::Global;
-use wit_model::{Error, Package, PackageId, Resolve};
+use wit_model::{Error, InterfaceId, Package, PackageId, Resolve, Type};
 
 /// Prints packages to an output.
 #[derive(Drop)]
@@ -126,6 +130,51 @@ impl<O: Output> WitPrinter<O> {
     {
         let mut draft = Draft::new(alloc);
         draft_package_outer(&mut draft, self.emit_docs, package)?;
+        draft.make(&mut self.output)
+    }
+    /// Prints an interface's documentation, gates and name, under the name that is handed in, as they are declared.
+    /// Neither the start of its block nor what it has.
+    ///
+    /// After a refusal the output has a beginning of the calls.
+    pub fn print_interface_outer(
+        &mut self,
+        alloc: Global,
+        resolve: &Resolve,
+        id: InterfaceId,
+        name: &str,
+    ) -> Result<(), Error>
+        requires valid { IsValid resolve.now }
+        requires in_range { id.0 < length resolve.now.interfaces.items }
+        requires name { is_label name.now ≡ true }
+        ensures ok { OnOk result (Moves O.keeps (O.view self.old.output) (interface_head_calls (emits_docs self.old) resolve.now id name.now) (O.view self.new.output)) }
+        ensures err { OnErr result (Begins O.keeps (O.view self.old.output) (interface_head_calls (emits_docs self.old) resolve.now id name.now) (O.view self.new.output)) }
+        ensures memory { IsOkUnless result Memory }
+        ensures docs { emits_docs self.new ≡ emits_docs self.old }
+    {
+        let interface = &resolve.interfaces[id.0 as usize];
+        print_head(&mut self.output, alloc, self.emit_docs, interface, name)
+    }
+
+    /// Prints a type as it stands where it is used: by its name, or else by its kind. A handle that owns a resource and has no
+    /// name of its own is printed as the resource.
+    ///
+    /// What the printer keeps meanwhile is bounded by what is printed. After a refusal the output has a beginning of the calls.
+    #[tactic(auto, using(crate::proofs::Moves::moving))]
+    pub fn print_type_name(
+        &mut self,
+        alloc: Global,
+        resolve: &Resolve,
+        ty: &Type,
+    ) -> Result<(), Error>
+        requires valid { IsValid resolve.now }
+        requires in_range { passes (in_list resolve.now.types.items) (number_of ty.now) ≡ true }
+        ensures ok { OnOk result (Moves O.keeps (O.view self.old.output) (type_calls (shown_type resolve.now ty.now)) (O.view self.new.output)) }
+        ensures err { OnErr result (Begins O.keeps (O.view self.old.output) (type_calls (shown_type resolve.now ty.now)) (O.view self.new.output)) }
+        ensures memory { IsOkUnless result Memory }
+        ensures docs { emits_docs self.new ≡ emits_docs self.old }
+    {
+        let mut draft = Draft::new(alloc);
+        draft_type_name(&mut draft, resolve, ty)?;
         draft.make(&mut self.output)
     }
 }

@@ -2,6 +2,8 @@
 #![tactic(auto)]
 
 #[cfg(test)]
+mod interfaces;
+#[cfg(test)]
 mod outputs;
 #[cfg(test)]
 mod packages;
@@ -9,3 +11,5 @@ mod packages;
 mod printed;
 #[cfg(test)]
 mod recording;
+#[cfg(test)]
+mod type_names;

@@ -1,0 +1,24 @@
+-- What stands before the block of an interface of a valid `Resolve`.
+use Rattle.std.proofs.Common.{◌≡◌, sym, ap, ℕ, Bool, true, Some, []}
+use Rattle.std.specs.Option.{option_map_or}
+use Rattle.wit_model.specs.declared.model.Resolve.{Resolve}
+use Rattle.wit_model.specs.declared.model.Interface.{Interface}
+use Rattle.wit_model.specs.declared.model.InterfaceId.{InterfaceId}
+use Rattle.wit_model.specs.Lookup.{interface_at}
+use Rattle.wit_model.specs.Names.{is_label}
+use Rattle.wit_model.specs.Rules.{is_stability, passes}
+use Rattle.wit_model.specs.Text.{Text, text_of}
+use Rattle.wit_model.specs.Valid.{IsValid, labels}
+use Rattle.wit_model.proofs.Entries.{each_from_at, lists_pass}
+use Rattle.wit_model.proofs.Lists.{first_true, second_true}
+use Rattle.wit_print.specs.Heads.{head_calls, interface_head_calls}
+
+-- its gates have labels and versions
+pub interface_gates : (r : Resolve) (n : ℕ) (i : Interface) → IsValid r → interface_at r n ≡ Some i → is_stability i.stability ≡ true
+unfolding labels
+interface_gates r n i v e =
+    let here = each_from_at (labels.interface_ r) 0 r.interfaces.items n i (lists_pass labels r v.rules.labels).1 e in
+    first_true _ _ (second_true (passes (λ name. is_label (text_of name)) i.name) _ here)
+
+pub head_at : (emits_docs : Bool) (r : Resolve) (id : InterfaceId) (i : Interface) (name : Text) → interface_at r id.0 ≡ Some i → head_calls emits_docs i name ≡ interface_head_calls emits_docs r id name
+head_at emits_docs r id i name e = sym (ap (λ o. option_map_or (λ interface. head_calls emits_docs interface name) o []) e)

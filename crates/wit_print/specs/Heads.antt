@@ -1,0 +1,26 @@
+-- The calls for a feature, and for what stands before the block of an interface.
+use Rattle.std.specs.Prelude.{Bool, List, [], ◌∷◌, codes}
+use Rattle.std.specs.Option.{option_map_or}
+use Rattle.wit_model.specs.declared.model.Resolve.{Resolve}
+use Rattle.wit_model.specs.declared.model.Interface.{Interface}
+use Rattle.wit_model.specs.declared.model.InterfaceId.{InterfaceId}
+use Rattle.wit_model.specs.Lookup.{interface_at}
+use Rattle.wit_model.specs.Text.{Text}
+use Rattle.wit_print.specs.Keyword.{escaped}
+use Rattle.wit_print.specs.OutputCall.{OutputCall}
+use Rattle.wit_print.specs.OutputCall.OutputCall.{Keyword, Newline, Str}
+use Rattle.wit_print.specs.Shown.{shown_docs, shown_gates}
+use Rattle.wit_print.specs.Calls.{interface_outer_calls}
+
+-- the feature under which an item is unstable, in a line of its own
+abbrev pub feature_calls : Text → List OutputCall
+feature_calls feature =
+    Keyword (codes "@unstable") ∷ Str (codes "(") ∷ Keyword (codes "feature") ∷ Str (codes " = ") ∷ Str (escaped feature) ∷ Str (codes ")") ∷ Newline ∷ []
+
+-- an interface's documentation and gates, and a name
+abbrev pub head_calls : Bool → Interface → Text → List OutputCall
+head_calls emits_docs interface name = interface_outer_calls emits_docs (shown_docs interface.docs) (shown_gates interface.stability) name
+
+-- the same of an interface's number
+abbrev pub interface_head_calls : Bool → Resolve → InterfaceId → Text → List OutputCall
+interface_head_calls emits_docs r id name = option_map_or (λ interface. head_calls emits_docs interface name) (interface_at r id.0) []
