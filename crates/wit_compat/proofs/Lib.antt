@@ -15,5 +15,13 @@ pub mod Validity
 pub mod Matching
 pub mod Counting
 pub mod Refusing
+pub mod Sided
+pub mod SameMaps
+pub mod Declared
+pub mod Members
+pub mod WorldItems
+pub mod WorldContents
+pub mod Ranges
+pub mod SameSignatures
 pub mod Reflexive
 mod Examples

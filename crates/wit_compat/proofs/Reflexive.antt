@@ -158,7 +158,7 @@ any_contained p (y ∷ ys) x c h = by (λ d. any_contained p ys x d h) (Contains
     by later (inl d) = ap (λ b. b || list_any p ys) (ap p (contains_one y x d) ∙ h)
     by later (inr d) = ap (λ b. p y || b) (later d) ∙ or_true (p y)
 
-found_at : {X : Type 0} (xs : List X) (n : ℕ) → n < length xs → (x : X) × (slice_get xs n ≡ Some x)
+pub found_at : {X : Type 0} (xs : List X) (n : ℕ) → n < length xs → (x : X) × (slice_get xs n ≡ Some x)
 found_at {X} xs n lt = by (slice_get_cases xs n).1
   where
     by : ((x : X) × (n < length xs) × (slice_get xs n ≡ Some x) × (get_or xs n x ≡ x)) ⊎ ((length xs ≤ n) × (slice_get xs n ≡ None)) → (x : X) × (slice_get xs n ≡ Some x)

@@ -73,7 +73,7 @@ module _ (r : Resolve) where
       let one : list_all (in_list r.types.items) (option_to_list (number_of t)) ≡ true = all_contained (λ x. list_all (in_list r.types.items) (option_to_list (number_of x))) ts t all c in
       is_below id.0 (length r.types.items) (first_true (in_list r.types.items id.0) true (ap (λ x. list_all (in_list r.types.items) (option_to_list (number_of x))) (sym is) ∙ one))
 
-  function_types_in_range : (f : Function) → function_in_range r f ≡ true → AllInRange r (function_types f)
+  pub function_types_in_range : (f : Function) → function_in_range r f ≡ true → AllInRange r (function_types f)
   function_types_in_range f h = types_in_range (function_types f) (first_true (list_all (in_list r.types.items) (filter_map number_of (function_types f))) (list_all (in_list r.types.items) (option_to_list (resource_of f.kind)))
       (sym (list_all-append (in_list r.types.items) (filter_map number_of (function_types f)) (option_to_list (resource_of f.kind))) ∙ h))
 
@@ -159,5 +159,15 @@ module _ (r : Resolve) where
         let le = not_past r.types.items 4294967295 (λ x at.
         let passed = each_from_at (numbers_in_range.type_ r) 0 r.types.items 4294967295 x (lists_pass numbers_in_range r v.rules.numbers_in_range).3 at in
         let e : is_place 4294967295 ≡ true = first_true (is_place 4294967295) (list_all (in_list r.types.items) (kind_numbers x.kind) && owner_in_range r x.owner) passed in
+        false_true e)
+        in omega (arith, le)
+
+    -- the numbers of interfaces too
+    pub interfaces_fit : length r.interfaces.items < 4294967296
+    unfolding numbers_in_range
+    interfaces_fit =
+        let le = not_past r.interfaces.items 4294967295 (λ x at.
+        let passed = each_from_at (numbers_in_range.interface_ r) 0 r.interfaces.items 4294967295 x (lists_pass numbers_in_range r v.rules.numbers_in_range).1 at in
+        let e : is_place 4294967295 ≡ true = first_true (is_place 4294967295) (passes (in_list r.packages.items) (package_number x.«package») && (list_all (λ id. in_list r.types.items id.0) (values x.types) && list_all (function_in_range r) (values x.functions))) passed in
         false_true e)
         in omega (arith, le)

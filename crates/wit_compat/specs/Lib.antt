@@ -6,3 +6,5 @@ pub mod Table
 pub mod Outline
 pub mod Parts
 pub mod Index
+pub mod TwoSides
+pub mod Senses

@@ -198,7 +198,11 @@ fn count_of(kind: &TypeDefKind) -> u32
 }
 
 /// Whether two kinds have the same form.
-fn same_forms(alloc: Global, prev: &TypeDefKind, new: &TypeDefKind) -> Result<bool, AllocError>
+pub(crate) fn same_forms(
+    alloc: Global,
+    prev: &TypeDefKind,
+    new: &TypeDefKind,
+) -> Result<bool, AllocError>
     ensures same { IfOk result (λ b. b ≡ true → form_of prev.now ≡ form_of new.now) }
     ensures differ { IfOk result (λ b. b ≡ false → form_of prev.now ≡ form_of new.now → ⊥) }
 {
@@ -221,7 +225,7 @@ fn same_forms(alloc: Global, prev: &TypeDefKind, new: &TypeDefKind) -> Result<bo
     Ok(true)
 }
 
-fn name_text(name: &Option<String>) -> &str
+pub(crate) fn name_text(name: &Option<String>) -> &str
     ensures { result.now ≡ option_map_or text_of name.now [] }
 {
     match name {

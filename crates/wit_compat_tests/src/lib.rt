@@ -6,4 +6,6 @@ mod answers;
 #[cfg(test)]
 mod counts;
 #[cfg(test)]
+mod senses;
+#[cfg(test)]
 mod steps;

@@ -71,6 +71,10 @@ pub(super) enum Step {
     World(u32, &'static str, u32),
     Unnamed(Kind),
     Type(u32, &'static str, Kind),
+    /// Documentation of the type of this number.
+    Document(usize, &'static str),
+    /// An external id of the type of this number.
+    Identify(usize, &'static str),
     /// So many levels of a tuple of twice the one before, the first of twice `u8`.
     Tower(u32),
     /// So many levels of a tuple of two equal ones below, which have two numbers, the first of twice `u8`: two at each level but the last.
@@ -180,6 +184,32 @@ fn push_twins(alloc: Global, resolve: &mut Resolve, levels: u32) -> Result<(), A
     push_pair(alloc, resolve, first, second)
 }
 
+fn document(
+    alloc: Global,
+    resolve: &mut Resolve,
+    number: usize,
+    text: &str,
+) -> Result<(), AllocError> {
+    let contents = Some(String::from_str(alloc, text)?);
+    if let Some(def) = resolve.types.get_mut(number) {
+        def.docs.contents = contents;
+    }
+    Ok(())
+}
+
+fn identify(
+    alloc: Global,
+    resolve: &mut Resolve,
+    number: usize,
+    text: &str,
+) -> Result<(), AllocError> {
+    let external_id = Some(String::from_str(alloc, text)?);
+    if let Some(def) = resolve.types.get_mut(number) {
+        def.external_id = external_id;
+    }
+    Ok(())
+}
+
 fn add(alloc: Global, resolve: &mut Resolve, step: Step) -> Result<(), AllocError> {
     match step {
         Step::Package(namespace, name, minor) => {
@@ -200,6 +230,8 @@ fn add(alloc: Global, resolve: &mut Resolve, step: Step) -> Result<(), AllocErro
         Step::Type(interface, name, kind) => {
             add_type_of(alloc, resolve, interface, name, kind_of(alloc, kind)?)
         }
+        Step::Document(number, text) => document(alloc, resolve, number, text),
+        Step::Identify(number, text) => identify(alloc, resolve, number, text),
         Step::Tower(levels) => push_tower(alloc, resolve, levels),
         Step::TwinTower(levels) => push_twins(alloc, resolve, levels),
         Step::Function(interface, name, signature) => {
@@ -221,7 +253,7 @@ fn add(alloc: Global, resolve: &mut Resolve, step: Step) -> Result<(), AllocErro
     }
 }
 
-fn made(alloc: Global, steps: &[Step]) -> Result<Resolve, AllocError> {
+pub(super) fn made(alloc: Global, steps: &[Step]) -> Result<Resolve, AllocError> {
     let mut resolve = empty(alloc);
     for step in steps {
         add(alloc, &mut resolve, *step)?;

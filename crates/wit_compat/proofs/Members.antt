@@ -1,0 +1,61 @@
+-- What is found under a name, and what two interfaces have by name.
+use Rattle.std.proofs.Common.{◌≡◌, ◌↔◌, sym, ap, ◌∙◌, ℕ, Bool, false, List, [], ◌∷◌, map, Option, Some, None, option_map, IsTrue, IfOk, Result, Ok, Err}
+use Rattle.std.specs.List.{AllByRecursion, Contains, IsAmong, IsDistinct}
+use Rattle.std.specs.Option.{option_map_or}
+use Rattle.wit_model.specs.declared.model.Resolve.{Resolve}
+use Rattle.wit_model.specs.declared.model.Interface.{Interface}
+use Rattle.wit_model.specs.Lookup.{interface_at}
+use Rattle.wit_model.specs.Meaning.{InterfaceSense, interface_sense}
+use Rattle.wit_model.specs.Meant.{interface_meaning, interface_meaning_at, no_interface}
+use Rattle.wit_model.specs.Text.{Text, text_eq}
+use Rattle.wit_model.proofs.Elements.{same-some}
+use Rattle.wit_compat.specs.TwoSides.{functions_sense, types_sense}
+use Rattle.wit_compat.proofs.Sided.{never}
+
+pub among_contains : {X : Type 0} (xs : List X) (x : X) → IsAmong xs x → Contains xs x
+among_contains xs x (i, h) = (i, h.0, sym h.1)
+
+-- what an answer says, said otherwise
+pub in_ok : {A E : Type 0} (P Q : A → Type 0) → ((x : A) → P x → Q x) → (r : Result A E) → IfOk r P → IfOk r Q
+in_ok P Q f (Ok x) h = f x h
+in_ok P Q f (Err e) h = tt
+
+-- ---- what is found under a name
+
+module _ {X Y : Type 0} (g : Y → X) (x : X) where
+  pub found_exact : (o : Option Y) (y : Y) (b : Bool) → o ≡ Some y → (IsTrue b ↔ (x ≡ g y)) → IsTrue b ↔ (option_map g o ≡ Some x)
+  found_exact o y b e h = (λ t. ap (option_map g) e ∙ ap Some (sym (h.0 t)), λ same. h.1 (sym (same-some (g y) x (sym (ap (option_map g) e) ∙ same))))
+
+  pub missing_exact : (o : Option Y) → o ≡ None → IsTrue false ↔ (option_map g o ≡ Some x)
+  missing_exact o e = never _ (λ same. let wrong : None ≡ Some x = sym (ap (option_map g) e) ∙ same in let z : ⊥ = cc in z)
+
+-- names by which entries differ are different texts
+pub distinct_texts_by : {K : Type 0} (same : K → K → Bool) (text : K → Text) → ((x y : K) → same x y ≡ text_eq (text x) (text y)) → (ks : List K) → IsDistinct same ks → IsDistinct text_eq (map text ks)
+unfolding IsDistinct
+distinct_texts_by same text is [] d = tt
+distinct_texts_by {K} same text is (k ∷ ks) d = (apart ks d.0, distinct_texts_by same text is ks d.1)
+  where
+    apart : (ls : List K) → AllByRecursion (λ y. same k y ≡ false) ls → AllByRecursion (λ y. text_eq (text k) y ≡ false) (map text ls)
+    apart [] h = tt
+    apart (l ∷ ls) h = (sym (is k l) ∙ h.0, apart ls h.1)
+
+-- ---- interfaces
+
+pub interface_there : (r : Resolve) (n : ℕ) (i : Interface) → interface_at r n ≡ Some i → interface_meaning_at r n ≡ interface_meaning r i
+interface_there r n i at = ap (λ o. option_map_or (interface_meaning r) o no_interface) at
+
+module _ (a b : Resolve) where
+  module _ (i j : Interface) where
+    pub types_back : interface_sense (interface_meaning a i) ≡ interface_sense (interface_meaning b j) → types_sense a i.types.entries ≡ types_sense b j.types.entries
+    types_back same = ap (λ (s : InterfaceSense). s.types) same
+
+    pub members_exact : (y : Bool) → types_sense a i.types.entries ≡ types_sense b j.types.entries → (IsTrue y ↔ (functions_sense a i.functions.entries ≡ functions_sense b j.functions.entries))
+        → IsTrue y ↔ (interface_sense (interface_meaning a i) ≡ interface_sense (interface_meaning b j))
+    members_exact y types h = (λ t. let functions = h.0 t in λ k. record { types = types k; functions = functions k }, λ same. h.1 (ap (λ (s : InterfaceSense). s.functions) same))
+
+  pub interfaces_exact : (n m : ℕ) (i j : Interface) (y : Bool) → interface_at a n ≡ Some i → interface_at b m ≡ Some j
+      → (IsTrue y ↔ (interface_sense (interface_meaning a i) ≡ interface_sense (interface_meaning b j))) → IsTrue y ↔ (interface_sense (interface_meaning_at a n) ≡ interface_sense (interface_meaning_at b m))
+  interfaces_exact n m i j y iat jat h =
+      let left = ap interface_sense (interface_there a n i iat) in
+      let right = ap interface_sense (interface_there b m j jat) in
+      (λ t. left ∙ h.0 t ∙ sym right, λ same. h.1 (sym left ∙ same ∙ right))

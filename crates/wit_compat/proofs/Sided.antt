@@ -1,0 +1,325 @@
+-- Types of two `Resolve`s, and the paths of their interfaces.
+use Rattle.std.proofs.Common.{arith, ◌≡◌, ◌↔◌, refl, sym, ap, subst, ◌∙◌, ◌⊎◌, inl, inr, ℕ, zero, suc, ◌+◌, ◌<◌, ◌≤◌, Bool, true, false, not, ◌||◌, cond, List, [], ◌∷◌, ◌++◌, take, map, length, get_or, slice_get, Option, Some, None, option_map, option_and_then, unwrap_or, is_some, IsTrue, String, Vec, Result, Ok, Err, IfOk}
+use Rattle.std.specs.declared.alloc.Global.{Global}
+use Rattle.std.specs.declared.alloc.AllocError.{AllocError}
+use Rattle.std.specs.List.{Contains}
+use Rattle.std.specs.Option.{option_map_or}
+use Rattle.std.proofs.Math.ListN.{length-map}
+use Rattle.std.proofs.lemmas.List.{map-append, take_all}
+use Rattle.std.proofs.lemmas.List.Elements.{Contains-append_left, Contains-append_right, Contains-push, Contains-push_cases}
+use Rattle.std.proofs.lemmas.Option.{slice_get_cases, slice_get-get_or, slice_get-map}
+use Rattle.wit_model.specs.declared.model.Resolve.{Resolve}
+use Rattle.wit_model.specs.declared.model.Interface.{Interface}
+use Rattle.wit_model.specs.declared.model.TypeDef.{TypeDef}
+use Rattle.wit_model.specs.declared.model.TypeId.{TypeId}
+use Rattle.wit_model.specs.declared.model.TypeDefKind.{TypeDefKind}
+use Rattle.wit_model.specs.declared.model.TypeDefKind.TheVariants as kind
+use Rattle.wit_model.specs.declared.model.Handle.TheVariants as handle
+use Rattle.wit_model.specs.declared.model.«Type».{«Type» as ValueType}
+use Rattle.wit_model.specs.declared.model.«Type».TheVariants as ty
+use Rattle.wit_model.specs.Lookup.{interface_path, path_of_interface, place_of, type_at}
+use Rattle.wit_model.specs.Rules.{is_named_kind, is_named_number, passes}
+use Rattle.wit_model.specs.Text.{Text, optional_text, text_of}
+use Rattle.wit_model.specs.Tree.{Tree, Trees, Place, Form, node, named, children, child_list, list_of, fixed_list_of, option_of, own_of, borrow_of, map_of, tuple_of, result_of, future_of, stream_of}
+use Rattle.wit_model.specs.Types.{number_of, number_tree, type_tree, tree_of, trees_of, no_tree, declared_by, tree_of_declaration, tree_of_definition}
+use Rattle.wit_model.specs.Uses.{alias_target}
+use Rattle.wit_model.specs.Valid.{IsValid, named_kinds}
+use Rattle.wit_model.proofs.Entries.{each_from_at, lists_pass}
+use Rattle.wit_model.proofs.Lists.{first_true}
+use Rattle.wit_model.proofs.TreeTable.{kept_numbers, kept_trees_at}
+use Rattle.wit_compat.specs.declared.look.Look.{Look}
+use Rattle.wit_compat.specs.declared.look.Look.TheVariants as look
+use Rattle.wit_compat.specs.Opened.{form_of, is_there, opened_kind, places_of}
+use Rattle.wit_compat.specs.Table.{AllInRange, InRange, is_alias}
+use Rattle.wit_compat.specs.TwoSides.{paths_from, interface_paths, name_leaf, rank, AllSame, IsParted, SameType, Says}
+use Rattle.wit_compat.specs.Walk.{Pair}
+use Rattle.wit_compat.proofs.Alike.{below_number, children_back, is_below, node_children, node_form, places_below, primitive_back, primitive_in, tree_of_number}
+use Rattle.wit_compat.proofs.OpenedTable.{built, opened_built}
+use Rattle.wit_compat.proofs.Reflexive.{found_at}
+use Rattle.wit_compat.proofs.Validity.{all_contained}
+
+-- ---- paths
+
+paths_within : (r : Resolve) (k : ℕ) (is : List Interface) (n : ℕ) → n < length is → slice_get (paths_from r k is) n ≡ Some (interface_path r (k + n))
+paths_within r k [] n h = absurd (omega (arith, h))
+paths_within r k (i ∷ is) zero h = ap (λ m. Some (interface_path r m)) (omega arith)
+paths_within r k (i ∷ is) (suc n) h = paths_within r (k + 1) is n (omega (arith, h)) ∙ ap (λ m. Some (interface_path r m)) (omega arith)
+
+paths_past : (r : Resolve) (k : ℕ) (is : List Interface) (n : ℕ) → length is ≤ n → slice_get (paths_from r k is) n ≡ None
+paths_past r k [] n h = refl
+paths_past r k (i ∷ is) zero h = absurd (omega (arith, h))
+paths_past r k (i ∷ is) (suc n) h = paths_past r (k + 1) is n (omega (arith, h))
+
+path_is : (r : Resolve) (n : ℕ) → unwrap_or (slice_get (interface_paths r) n) None ≡ interface_path r n
+path_is r n = by (slice_get_cases r.interfaces.items n).1
+  where
+    by : ((x : Interface) × (n < length r.interfaces.items) × (slice_get r.interfaces.items n ≡ Some x) × (get_or r.interfaces.items n x ≡ x)) ⊎ ((length r.interfaces.items ≤ n) × (slice_get r.interfaces.items n ≡ None)) → unwrap_or (slice_get (interface_paths r) n) None ≡ interface_path r n
+    by (inl (x, lt, at, is)) = ap (λ o. unwrap_or o None) (paths_within r 0 r.interfaces.items n lt) ∙ ap (interface_path r) (omega arith)
+    by (inr (le, none)) = ap (λ o. unwrap_or o None) (paths_past r 0 r.interfaces.items n le) ∙ sym (ap (option_and_then (path_of_interface r)) none)
+
+-- a path by the table of all
+pub path_found : (r : Resolve) (paths : List (Option (String Global))) (n : ℕ) (o : Option (Option (String Global))) → map optional_text paths ≡ interface_paths r → slice_get paths n ≡ o → unwrap_or (option_map optional_text o) None ≡ interface_path r n
+path_found r paths n o e at =
+    ap (λ x. unwrap_or (option_map optional_text x) None) (sym at) ∙ ap (λ x. unwrap_or x None) (sym (slice_get-map optional_text paths n))
+    ∙ ap (λ xs. unwrap_or (slice_get xs n) None) e ∙ path_is r n
+
+-- one path more
+pub paths_more : (r : Resolve) (k : ℕ) (is : List Interface) (n : ℕ) → n < length is → paths_from r k (take (suc n) is) ≡ paths_from r k (take n is) ++ interface_path r (k + n) ∷ []
+paths_more r k [] n h = absurd (omega (arith, h))
+paths_more r k (i ∷ is) zero h = ap (λ m. interface_path r m ∷ []) (omega arith)
+paths_more r k (i ∷ is) (suc n) h =
+    ap (λ xs. interface_path r k ∷ xs) (paths_more r (k + 1) is n (omega (arith, h)))
+    ∙ ap (λ m. interface_path r k ∷ (paths_from r (k + 1) (take n is) ++ interface_path r m ∷ [])) (omega arith)
+
+-- ---- trees
+
+no_some : {A B : Type 0} (x : A) → None ≡ Some x → B
+no_some x e = let wrong : ⊥ = cc in absurd wrong
+
+pub number_case : (u : ValueType) → (number_of u ≡ None) ⊎ ((id : TypeId) × (u ≡ ty.Id id))
+number_case (ty.Id id) = inr (id, refl)
+number_case _ = inl refl
+
+no_rank : (t : ValueType) → number_of t ≡ None → rank t ≡ 0
+no_rank (ty.Id id) e = no_some id.0 (sym e)
+no_rank _ e = refl
+
+pub below_length : {X : Type 0} (xs : List X) (n : ℕ) (x : X) → slice_get xs n ≡ Some x → n < length xs
+below_length [] n x e = no_some x e
+below_length (y ∷ ys) zero x e = omega arith
+below_length (y ∷ ys) (suc n) x e = let h = below_length ys n x e in omega (arith, h)
+
+-- an unnamed kind has a form
+form_there : (k : TypeDefKind) → is_named_kind k ≡ false → (f : Form) × (form_of k ≡ Some f) × ((leaf : Tree) (trees : List Tree) → tree_of_declaration (declared_by trees k) ≡ opened_kind leaf trees k) × (is_alias k ≡ false)
+form_there (kind.Record x) h = absurd (let z : ⊥ = cc in z)
+form_there (kind.Variant x) h = absurd (let z : ⊥ = cc in z)
+form_there (kind.Flags x) h = absurd (let z : ⊥ = cc in z)
+form_there (kind.Enum x) h = absurd (let z : ⊥ = cc in z)
+form_there kind.Resource h = absurd (let z : ⊥ = cc in z)
+form_there (kind.Type_ t) h = absurd (let z : ⊥ = cc in z)
+form_there (kind.Tuple x) h = (tuple_of, refl, λ leaf trees. refl, refl)
+form_there (kind.Option t) h = (option_of, refl, λ leaf trees. refl, refl)
+form_there (kind.Result x) h = (result_of (is_there x.ok) (is_there x.err), refl, λ leaf trees. refl, refl)
+form_there (kind.List t) h = (list_of, refl, λ leaf trees. refl, refl)
+form_there (kind.Map t u) h = (map_of, refl, λ leaf trees. refl, refl)
+form_there (kind.FixedLengthList t n) h = (fixed_list_of n, refl, λ leaf trees. refl, refl)
+form_there (kind.Future t) h = (future_of (is_there t), refl, λ leaf trees. refl, refl)
+form_there (kind.Stream t) h = (stream_of (is_there t), refl, λ leaf trees. refl, refl)
+form_there (kind.Handle (handle.Own id)) h = (own_of, refl, λ leaf trees. refl, refl)
+form_there (kind.Handle (handle.Borrow id)) h = (borrow_of, refl, λ leaf trees. refl, refl)
+
+not_or : (a b : Bool) → (not a || b) ≡ true → b ≡ false → a ≡ false
+not_or false b h e = refl
+not_or true b h e = absurd (let z : true ≡ false = sym h ∙ e in let w : ⊥ = cc in w)
+
+module _ (r : Resolve) (v : IsValid r) (n : ℕ) (def : TypeDef) (at : type_at r n ≡ Some def) where
+  tree_is : number_tree r n ≡ tree_of_definition r (trees_of r) def
+  tree_is = ap (λ o. unwrap_or o no_tree) (kept_trees_at r v.rules n def at)
+
+  pub named_is : is_some def.name ≡ true → number_tree r n ≡ name_leaf r def
+  named_is h = by def.name refl h
+    where
+      by : (o : Option (String Global)) → def.name ≡ o → is_some o ≡ true → number_tree r n ≡ name_leaf r def
+      by None e s = absurd (let z : ⊥ = cc in z)
+      by (Some name) e s =
+          tree_is ∙ ap (λ o. option_map_or (λ x. named (place_of r def.owner) (text_of x)) o (tree_of_declaration (declared_by (trees_of r) def.kind))) e
+          ∙ ap (λ o. named (place_of r def.owner) (option_map_or text_of o [])) (sym e)
+
+  unnamed_kind : is_some def.name ≡ false → is_named_kind def.kind ≡ false
+  unfolding named_kinds
+  unnamed_kind e = not_or (is_named_kind def.kind) (is_some def.name)
+      (first_true (not (is_named_kind def.kind) || is_some def.name) (passes (is_named_number r) (alias_target def.kind)) (each_from_at (named_kinds.type_ r) 0 r.types.items n def (lists_pass named_kinds r v.rules.named_kinds).3 at))
+      e
+
+  -- an unnamed type is a form over what stands at its places
+  pub unnamed_is : is_some def.name ≡ false → (f : Form) × (form_of def.kind ≡ Some f) × (number_tree r n ≡ node f (children (map (type_tree r) (places_of def.kind))))
+  unnamed_is e = by def.name refl e (form_there def.kind (unnamed_kind e))
+    where
+      by : (o : Option (String Global)) → def.name ≡ o → is_some o ≡ false
+          → (f : Form) × (form_of def.kind ≡ Some f) × ((leaf : Tree) (trees : List Tree) → tree_of_declaration (declared_by trees def.kind) ≡ opened_kind leaf trees def.kind) × (is_alias def.kind ≡ false)
+          → (f : Form) × (form_of def.kind ≡ Some f) × (number_tree r n ≡ node f (children (map (type_tree r) (places_of def.kind))))
+      by (Some name) q s w = absurd (let z : ⊥ = cc in z)
+      by None q s w = (
+        w.0,
+        w.1,
+        tree_is ∙ ap (λ o. option_map_or (λ x. named (place_of r def.owner) (text_of x)) o (tree_of_declaration (declared_by (trees_of r) def.kind))) q
+            ∙ w.2 no_tree (trees_of r) ∙ opened_built (trees_of r) no_tree def.kind w.3
+            ∙ ap (λ g. built no_tree g (children (map (type_tree r) (places_of def.kind)))) w.1,
+      )
+
+  pub no_primitive_at : primitive_in (number_tree r n) ≡ None
+  no_primitive_at = by (is_some def.name) refl
+    where
+      by : (b : Bool) → is_some def.name ≡ b → primitive_in (number_tree r n) ≡ None
+      by true e = ap primitive_in (named_is e)
+      by false e = ap primitive_in (unnamed_is e).2
+
+  -- what stands at its places is in range, and of smaller numbers
+  pub parts_below : (x : ValueType) → Contains (places_of def.kind) x → rank x < n + 1
+  parts_below x c = by (number_case x) (all_contained (is_below n) (places_of def.kind) x (places_below n def.kind (kept_numbers r v.rules n def at)) c)
+    where
+      by : (number_of x ≡ None) ⊎ ((id : TypeId) × (x ≡ ty.Id id)) → is_below n x ≡ true → rank x < n + 1
+      by (inl e) h = let none = no_rank x e in omega (arith, none)
+      by (inr (id, e)) h = let low = below_number n x h id e in let is : rank x ≡ id.0 + 1 = ap rank e in omega (arith, low, is)
+
+  pub places_in_range : AllInRange r (places_of def.kind)
+  places_in_range t c id e =
+      let low = parts_below t c in
+      let lt = below_length r.types.items n def at in
+      let rank_is : rank t ≡ id.0 + 1 = ap rank e in
+      omega (arith, low, lt, rank_is)
+
+-- ---- two types
+
+primitive_trees : (t : ValueType) → number_of t ≡ None → (trees more : List Tree) → tree_of trees t ≡ tree_of more t
+primitive_trees (ty.Id id) e trees more = no_some id.0 (sym e)
+primitive_trees _ e trees more = refl
+
+name_no_node : (p : Place) (name : Text) (f : Form) (ts : Trees) → named p name ≡ node f ts → ⊥
+name_no_node p name f ts e = cc
+
+module _ (a b : Resolve) (va : IsValid a) (vb : IsValid b) where
+  -- a primitive is like the same primitive alone
+  pub primitive_alone : (t u : ValueType) → number_of t ≡ None → InRange b u → SameType a b t u → t ≡ u
+  primitive_alone t u none range same = by (number_case u)
+    where
+      by : (number_of u ≡ None) ⊎ ((id : TypeId) × (u ≡ ty.Id id)) → t ≡ u
+      by (inl e) = ap (λ o. unwrap_or o t) (sym (primitive_back (trees_of a) t none) ∙ ap primitive_in same ∙ primitive_back (trees_of b) u e)
+      by (inr (id, e)) =
+          let found = found_at b.types.items id.0 (range id e) in
+          let tree : tree_of (trees_of b) u ≡ number_tree b id.0 = ap (tree_of (trees_of b)) e in
+          no_some t (sym (ap primitive_in (same ∙ tree) ∙ no_primitive_at b vb id.0 found.0 found.1) ∙ primitive_back (trees_of a) t none)
+
+  pub primitive_same : (t u : ValueType) → number_of t ≡ None → t ≡ u → SameType a b t u
+  primitive_same t u none e = primitive_trees t none (trees_of a) (trees_of b) ∙ ap (tree_of (trees_of b)) e
+
+  pub primitive_exact : (t u : ValueType) (y : Bool) → (y ≡ true → t ≡ u) → (y ≡ false → t ≡ u → ⊥) → number_of t ≡ None → InRange b u → IsTrue y ↔ SameType a b t u
+  primitive_exact t u true same differ none range = (λ h. primitive_same t u none (same refl), λ h. refl)
+  primitive_exact t u false same differ none range = (λ h. absurd (let z : ⊥ = cc in z), λ h. absurd (differ refl (primitive_alone t u none range h)))
+
+  module _ (n m : ℕ) (d e : TypeDef) (dat : type_at a n ≡ Some d) (eat : type_at b m ≡ Some e) where
+    abbrev Equal : Type 0
+    Equal = number_tree a n ≡ number_tree b m
+
+    pub both_named : (y : Bool) → is_some d.name ≡ true → is_some e.name ≡ true → (IsTrue y ↔ (name_leaf a d ≡ name_leaf b e)) → IsTrue y ↔ Equal
+    both_named y p q h = (λ t. named_is a va n d dat p ∙ h.0 t ∙ sym (named_is b vb m e eat q), λ same. h.1 (sym (named_is a va n d dat p) ∙ same ∙ named_is b vb m e eat q))
+
+    pub first_named : is_some d.name ≡ true → is_some e.name ≡ false → Equal → ⊥
+    first_named p q same = name_no_node (place_of a d.owner) (option_map_or text_of d.name []) (unnamed_is b vb m e eat q).0 (children (map (type_tree b) (places_of e.kind)))
+        (sym (named_is a va n d dat p) ∙ same ∙ (unnamed_is b vb m e eat q).2)
+
+    pub second_named : is_some d.name ≡ false → is_some e.name ≡ true → Equal → ⊥
+    second_named p q same = name_no_node (place_of b e.owner) (option_map_or text_of e.name []) (unnamed_is a va n d dat p).0 (children (map (type_tree a) (places_of d.kind)))
+        (sym (named_is b vb m e eat q) ∙ sym same ∙ (unnamed_is a va n d dat p).2)
+
+    module _ (p : is_some d.name ≡ false) (q : is_some e.name ≡ false) where
+      nodes : Equal → node (unnamed_is a va n d dat p).0 (children (map (type_tree a) (places_of d.kind))) ≡ node (unnamed_is b vb m e eat q).0 (children (map (type_tree b) (places_of e.kind)))
+      nodes same = sym (unnamed_is a va n d dat p).2 ∙ same ∙ (unnamed_is b vb m e eat q).2
+
+      pub forms_same : Equal → form_of d.kind ≡ form_of e.kind
+      forms_same same = (unnamed_is a va n d dat p).1 ∙ ap Some (node_form _ _ _ _ (nodes same)) ∙ sym (unnamed_is b vb m e eat q).1
+
+      pub parts_same : Equal → map (type_tree a) (places_of d.kind) ≡ map (type_tree b) (places_of e.kind)
+      parts_same same = sym (children_back _) ∙ ap child_list (node_children _ _ _ _ (nodes same)) ∙ children_back _
+
+      pub lengths_same : Equal → length (places_of d.kind) ≡ length (places_of e.kind)
+      lengths_same same = sym (length-map (places_of d.kind) (type_tree a)) ∙ ap length (parts_same same) ∙ length-map (places_of e.kind) (type_tree b)
+
+      equal_again : form_of d.kind ≡ form_of e.kind → map (type_tree a) (places_of d.kind) ≡ map (type_tree b) (places_of e.kind) → Equal
+      equal_again f ts =
+          let forms : (unnamed_is a va n d dat p).0 ≡ (unnamed_is b vb m e eat q).0 = ap (λ o. unwrap_or o (unnamed_is a va n d dat p).0) (sym (unnamed_is a va n d dat p).1 ∙ f ∙ (unnamed_is b vb m e eat q).1) in
+          (unnamed_is a va n d dat p).2 ∙ (λ i. node (forms i) (children (ts i))) ∙ sym (unnamed_is b vb m e eat q).2
+
+      pub parted : form_of d.kind ≡ form_of e.kind → length (places_of d.kind) ≡ length (places_of e.kind) → IsParted a b (ty.Id (record { 0 = n })) (ty.Id (record { 0 = m })) (places_of d.kind) (places_of e.kind)
+      parted f l = record {
+        alike = l;
+        left = places_in_range a va n d dat;
+        right = places_in_range b vb m e eat;
+        below = parts_below a va n d dat;
+        same = equal_again f;
+        back = parts_same;
+      }
+
+      pub looked : (x : Result Look AllocError)
+          → IfOk x (λ l. (y : Bool) → l ≡ look.Known y → (y ≡ false) × (form_of d.kind ≡ form_of e.kind → length (places_of d.kind) ≡ length (places_of e.kind) → ⊥))
+          → IfOk x (λ l. (ts us : Vec ValueType Global) → l ≡ look.Parts ts us → (form_of d.kind ≡ form_of e.kind) × (ts.items ≡ places_of d.kind) × (us.items ≡ places_of e.kind) × (length ts.items ≡ length us.items))
+          → IfOk x (Says a b (ty.Id (record { 0 = n })) (ty.Id (record { 0 = m })))
+      looked (Err x) h k = tt
+      looked (Ok (look.Known y)) h k =
+          let w = h y refl in
+          (λ t. absurd (let z : true ≡ false = sym t ∙ w.0 in let o : ⊥ = cc in o), λ same. absurd (w.1 (forms_same same) (lengths_same same)))
+      looked (Ok (look.Parts ts us)) h k =
+          let w = k ts us refl in
+          let l = ap length (sym w.1) ∙ w.3 ∙ ap length w.2 in
+          subst (λ xs. IsParted a b (ty.Id (record { 0 = n })) (ty.Id (record { 0 = m })) xs us.items) (sym w.1)
+          (subst (λ ys. IsParted a b (ty.Id (record { 0 = n })) (ty.Id (record { 0 = m })) (places_of d.kind) ys) (sym w.2) (parted w.0 l))
+
+-- a number isn't like a primitive
+pub number_apart : (a b : Resolve) → IsValid a → IsValid b → (t u : ValueType) (n : ℕ) → number_of t ≡ Some n → InRange a t → number_of u ≡ None → SameType a b t u → ⊥
+number_apart a b va vb t u n e range none same = no_some n (sym none ∙ ap number_of (primitive_alone b a vb va u t none range (sym same)) ∙ e)
+
+-- what doesn't hold isn't claimed
+pub never : (P : Type 0) → (P → ⊥) → IsTrue false ↔ P
+never P h = (λ t. absurd (let z : ⊥ = cc in z), λ p. absurd (h p))
+
+-- ---- place by place
+
+take_more_at : {X : Type 0} (xs : List X) (i : ℕ) (x : X) → slice_get xs i ≡ Some x → take (i + 1) xs ≡ take i xs ++ x ∷ []
+take_more_at [] i x e = no_some x e
+take_more_at (y ∷ ys) zero x e = let same : y ≡ x = ap (λ o. unwrap_or o y) e in ap (λ z. z ∷ []) same
+take_more_at (y ∷ ys) (suc i) x e =
+    let next : suc i + 1 ≡ suc (i + 1) = omega arith in
+    ap (λ k. take k (y ∷ ys)) next ∙ ap (λ zs. y ∷ zs) (take_more_at ys i x e)
+
+pub contains_at : {X : Type 0} (xs : List X) (i : ℕ) (x : X) → slice_get xs i ≡ Some x → Contains xs x
+contains_at [] i x e = no_some x e
+contains_at (y ∷ ys) zero x e = let same : y ≡ x = ap (λ o. unwrap_or o y) e in subst (λ z. Contains (y ∷ ys) z) same (Contains-append_left (y ∷ []) ys y (Contains-push [] y))
+contains_at (y ∷ ys) (suc i) x e = Contains-append_right (y ∷ []) ys x (contains_at ys i x e)
+
+pub place_at : (xs ys : List ValueType) (i : ℕ) → ys ≡ xs → i < length ys → (d : ValueType) → slice_get xs i ≡ Some (get_or ys i d)
+place_at xs ys i e lt d = ap (λ zs. slice_get zs i) (sym e) ∙ slice_get-get_or ys i d lt
+
+pub tree_at_place : (a b : Resolve) (xs ys : List ValueType) (i : ℕ) (x y : ValueType) → slice_get xs i ≡ Some x → slice_get ys i ≡ Some y → map (type_tree a) xs ≡ map (type_tree b) ys → SameType a b x y
+tree_at_place a b xs ys i x y xat yat e =
+    let maps = ap (λ zs. slice_get zs i) e in
+    let left = slice_get-map (type_tree a) xs i ∙ ap (option_map (type_tree a)) xat in
+    let right = slice_get-map (type_tree b) ys i ∙ ap (option_map (type_tree b)) yat in
+    ap (λ o. unwrap_or o (type_tree a x)) (sym left ∙ maps ∙ right)
+
+module _ (a b : Resolve) (t u : ValueType) (xs ys : List ValueType) (w : IsParted a b t u xs ys) where
+  module _ (i : ℕ) (x y : ValueType) (xat : slice_get xs i ≡ Some x) (yat : slice_get ys i ≡ Some y) where
+    pub part_below : rank x < rank t
+    part_below = w.below x (contains_at xs i x xat)
+
+    pub part_left : InRange a x
+    part_left = w.left x (contains_at xs i x xat)
+
+    pub part_right : InRange b y
+    part_right = w.right y (contains_at ys i y yat)
+
+    pub part_differs : (SameType a b x y → ⊥) → SameType a b t u → ⊥
+    part_differs n same = n (tree_at_place a b xs ys i x y xat yat (w.back same))
+
+    pub part_more : map (type_tree a) (take i xs) ≡ map (type_tree b) (take i ys) → SameType a b x y → map (type_tree a) (take (i + 1) xs) ≡ map (type_tree b) (take (i + 1) ys)
+    part_more e same =
+        ap (map (type_tree a)) (take_more_at xs i x xat) ∙ map-append (type_tree a) (take i xs) (x ∷ []) ∙ (λ j. e j ++ same j ∷ [])
+        ∙ sym (ap (map (type_tree b)) (take_more_at ys i y yat) ∙ map-append (type_tree b) (take i ys) (y ∷ []))
+
+  pub all_parts : (i : ℕ) → length xs ≤ i → map (type_tree a) (take i xs) ≡ map (type_tree b) (take i ys) → SameType a b t u
+  all_parts i past e =
+      let l = w.alike in
+      w.same (ap (map (type_tree a)) (sym (take_all i xs past)) ∙ e ∙ ap (map (type_tree b)) (take_all i ys (omega (arith, past, l))))
+
+pub not_same : {P : Type 0} (y : Bool) → (IsTrue y ↔ P) → y ≡ false → P → ⊥
+not_same y h e p = let wrong : true ≡ false = sym (h.1 p) ∙ e in cc
+
+pub remembered : (a b : Resolve) (t u : ValueType) (old new : List Pair) (n m : ℕ) → number_of t ≡ Some n → number_of u ≡ Some m → SameType a b t u → AllSame a b old → ((p : Pair) → Contains new p → Contains old p ⊎ ((n, m) ≡ p)) → AllSame a b new
+remembered a b t u old new n m tn um same h k p c = by (k p c)
+  where
+    by : Contains old p ⊎ ((n, m) ≡ p) → number_tree a p.0 ≡ number_tree b p.1
+    by (inl d) = h p d
+    by (inr e) = subst (λ (q : Pair). number_tree a q.0 ≡ number_tree b q.1) e (sym (tree_of_number (trees_of a) t n tn) ∙ same ∙ tree_of_number (trees_of b) u m um)
+
+pub inserted : (c : Bool) (old : List Pair) (k p : Pair) → Contains (cond c old (old ++ k ∷ [])) p → Contains old p ⊎ (k ≡ p)
+inserted true old k p d = inl d
+inserted false old k p d = Contains-push_cases old k p d

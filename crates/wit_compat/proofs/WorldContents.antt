@@ -1,0 +1,158 @@
+-- The contents of a world by the texts of their keys.
+use Rattle.std.proofs.Common.{◌≡◌, ◌↔◌, refl, sym, ap, subst, ◌∙◌, ◌⊎◌, inl, inr, ℕ, Bool, true, false, ◌&&◌, cond, List, [], ◌∷◌, ◌++◌, map, Option, Some, None, is_some, IsSome, option_map, IsTrue}
+use Rattle.std.specs.Borrow.{Bor}
+use Rattle.std.specs.Option.{option_copied, option_map_or}
+use Rattle.std.specs.FinMap.{from_entries}
+use Rattle.std.specs.List.{Contains}
+use Rattle.std.specs.Map.{lookup, values_of}
+use Rattle.std.proofs.lemmas.Map.Made.{Contains-from_values_of}
+use Rattle.std.proofs.lemmas.List.{map-append}
+use Rattle.std.proofs.lemmas.List.Elements.{Contains-push_cases}
+use Rattle.wit_model.specs.declared.model.Resolve.{Resolve}
+use Rattle.wit_model.specs.declared.model.World.{World}
+use Rattle.wit_model.specs.declared.model.WorldKey.{WorldKey}
+use Rattle.wit_model.specs.declared.model.WorldItem.{WorldItem}
+use Rattle.wit_model.specs.Lookup.{key_text, world_at}
+use Rattle.wit_model.specs.Meaning.{Entry, InterfaceSense, WorldSense, entries_sense, entry_sense, world_sense}
+use Rattle.wit_model.specs.Meant.{entries_meaning, entry_meaning, no_world, world_meaning, world_meaning_at}
+use Rattle.wit_model.specs.Rules.{entries_in_range, item_in_range, key_in_range}
+use Rattle.wit_model.specs.Text.{Text, text_cmp, text_eq}
+use Rattle.wit_model.proofs.AnyOrder.{text-same}
+use Rattle.wit_model.proofs.Lists.{first_true, second_true}
+use Rattle.wit_model.proofs.OnePath.{some-of}
+use Rattle.wit_compat.specs.TwoSides.{indexed_sense, sense_entry, AllItemsInRange, BorrowedEntry, PutsFirst}
+use Rattle.wit_compat.proofs.SameMaps.{maps_same, under, under_is}
+
+-- ---- the first of two answers
+
+abbrev pub or_first : {X : Type 0} → Option X → Option X → Option X
+or_first (Some x) o = Some x
+or_first None o = o
+
+module _ {X : Type 0} where
+  last_put : (q : Text) (es : List (Text × X)) (e : Text × X) (o : Option X) → or_first (under q (es ++ e ∷ [])) o ≡ or_first (under q es) (cond (text_eq q e.0) (Some e.1) o)
+  last_put q [] e o = by (text_eq q e.0)
+    where
+      by : (b : Bool) → or_first (cond b (Some e.1) None) o ≡ cond b (Some e.1) o
+      by true = refl
+      by false = refl
+  last_put q (d ∷ ds) e o = by (text_eq q d.0) (last_put q ds e o)
+    where
+      by : (b : Bool) → or_first (under q (ds ++ e ∷ [])) o ≡ or_first (under q ds) (cond (text_eq q e.0) (Some e.1) o)
+          → or_first (cond b (Some d.1) (under q (ds ++ e ∷ []))) o ≡ or_first (cond b (Some d.1) (under q ds)) (cond (text_eq q e.0) (Some e.1) o)
+      by true h = refl
+      by false h = h
+
+  -- a name that is there already stays as it is
+  stays_put : (q : Text) (es : List (Text × X)) (e : Text × X) (o : Option X) (y : X) → under e.0 es ≡ Some y → or_first (under q es) o ≡ or_first (under q es) (cond (text_eq q e.0) (Some e.1) o)
+  stays_put q es e o y h = by (under q es) refl (text_eq q e.0) refl
+    where
+      by : (u : Option X) → under q es ≡ u → (b : Bool) → text_eq q e.0 ≡ b → or_first u o ≡ or_first u (cond b (Some e.1) o)
+      by (Some z) p b s = refl
+      by None p false s = refl
+      by None p true s = let wrong : None ≡ Some y = sym p ∙ ap (λ k. under k es) (text-same q e.0 s) ∙ h in let z : ⊥ = cc in absurd z
+
+none_over : {X : Type 0} (o : Option X) → or_first o None ≡ o
+none_over None = refl
+none_over (Some x) = refl
+
+-- what a copy of what was lent is
+pub copied_there : {A : Type 0} (o : Option (Bor A)) → is_some o ≡ true → is_some (option_copied o) ≡ true
+copied_there None h = h
+copied_there (Some x) h = refl
+
+pub copied_missing : {A : Type 0} (o : Option (Bor A)) → is_some o ≡ false → option_copied o ≡ None
+copied_missing None h = refl
+copied_missing (Some x) h = let wrong : ⊥ = cc in absurd wrong
+
+-- ---- the items of a list by their keys
+
+module _ (r : Resolve) where
+  abbrev pub key_entry : WorldKey × WorldItem → Text × Entry InterfaceSense
+  key_entry e = (key_text r e.0, entry_sense (entry_meaning r e.1))
+
+  senses_are : (es : List (WorldKey × WorldItem)) → map (λ (e : Text × Entry _). (e.0, entry_sense e.1)) (entries_meaning r es) ≡ map key_entry es
+  senses_are [] = refl
+  senses_are (e ∷ es) = ap (λ xs. key_entry e ∷ xs) (senses_are es)
+
+  -- the items so far come before those that are left
+  abbrev pub IsSplit : List BorrowedEntry → List (WorldKey × WorldItem) → List (WorldKey × WorldItem) → Type 0
+  IsSplit made rest all = (q : Text) → or_first (under q (map (sense_entry r) made)) (under q (map key_entry rest)) ≡ under q (map key_entry all)
+
+  pub nothing_made : (made : List BorrowedEntry) (rest all : List (WorldKey × WorldItem)) → made ≡ [] → rest ≡ all → IsSplit made rest all
+  nothing_made made rest all m e q = ap (λ es. or_first (under q (map (sense_entry r) es)) (under q (map key_entry rest))) m ∙ ap (λ es. under q (map key_entry es)) e
+
+  pub all_made : (made : List BorrowedEntry) (rest all : List (WorldKey × WorldItem)) → IsSplit made rest all → rest ≡ [] → indexed_sense r made ≡ entries_sense (entries_meaning r all)
+  all_made made rest all s e =
+      maps_same (map (sense_entry r) made) (map key_entry all) (λ q. sym (none_over (under q (map (sense_entry r) made))) ∙ ap (λ es. or_first (under q (map (sense_entry r) made)) (under q (map key_entry es))) (sym e) ∙ s q)
+      ∙ ap (from_entries {R = text_cmp}) (sym (senses_are all))
+
+  module _ (made : List BorrowedEntry) (rest next all : List (WorldKey × WorldItem)) (k : WorldKey) (i : WorldItem) (s : IsSplit made rest all) (split : rest ≡ (k, i) ∷ next) where
+    opened : (q : Text) → or_first (under q (map (sense_entry r) made)) (cond (text_eq q (key_text r k)) (Some (key_entry (k, i)).1) (under q (map key_entry next))) ≡ under q (map key_entry all)
+    opened q = ap (λ es. or_first (under q (map (sense_entry r) made)) (under q (map key_entry es))) (sym split) ∙ s q
+
+    made_more : (key : Bor Text) (item : Bor WorldItem) (new : List BorrowedEntry) → key.now ≡ key_text r k → item.now ≡ i → new ≡ made ++ (key, item) ∷ [] → IsSplit new next all
+    made_more key item new text is n q =
+        ap (λ es. or_first (under q (map (sense_entry r) es)) (under q (map key_entry next))) n
+        ∙ ap (λ es. or_first (under q es) (under q (map key_entry next))) (map-append (sense_entry r) made ((key, item) ∷ []))
+        ∙ last_put q (map (sense_entry r) made) (key.now, entry_sense (entry_meaning r item.now)) (under q (map key_entry next))
+        ∙ (λ j. or_first (under q (map (sense_entry r) made)) (cond (text_eq q (text j)) (Some (entry_sense (entry_meaning r (is j)))) (under q (map key_entry next))))
+        ∙ opened q
+
+    made_stays : (y : Entry InterfaceSense) → under (key_text r k) (map (sense_entry r) made) ≡ Some y → IsSplit made next all
+    made_stays y h q = stays_put q (map (sense_entry r) made) (key_entry (k, i)) (under q (map key_entry next)) y h ∙ opened q
+
+    found_again : (key : Bor Text) → IsSome (lookup (λ (k : Bor Text). text_eq key.now k.now) made) → (y : Entry InterfaceSense) × (under key.now (map (sense_entry r) made) ≡ Some y)
+    found_again key h =
+        let x = some-of (lookup (λ (k : Bor Text). text_eq key.now k.now) made) h in
+        (entry_sense (entry_meaning r x.0.now), under_is (λ (k : Bor Text). k.now) (λ (j : Bor WorldItem). entry_sense (entry_meaning r j.now)) key.now made ∙ ap (option_map (λ (j : Bor WorldItem). entry_sense (entry_meaning r j.now))) x.1)
+
+    pub put_split : (key : Bor Text) (item : Bor WorldItem) (new : List BorrowedEntry) → key.now ≡ key_text r k → item.now ≡ i → PutsFirst made new (key, item) → IsSplit new next all
+    put_split key item new text is (inr n) = made_more key item new text is n
+    put_split key item new text is (inl h) =
+        let y = found_again key h.1 in
+        subst (λ es. IsSplit es next all) (sym h.0) (made_stays y.0 (ap (λ t. under t (map (sense_entry r) made)) (sym text) ∙ y.1))
+
+    pub rest_in_range : entries_in_range r rest ≡ true → (item_in_range r i ≡ true) × (entries_in_range r next ≡ true)
+    rest_in_range h =
+        let all : (key_in_range r k && item_in_range r i) && entries_in_range r next ≡ true = ap (entries_in_range r) (sym split) ∙ h in
+        (second_true (key_in_range r k) (item_in_range r i) (first_true (key_in_range r k && item_in_range r i) (entries_in_range r next) all), second_true (key_in_range r k && item_in_range r i) (entries_in_range r next) all)
+
+  pushed_in_range : (made new : List BorrowedEntry) (key : Bor Text) (item : Bor WorldItem) → new ≡ made ++ (key, item) ∷ [] → AllItemsInRange r made → item_in_range r item.now ≡ true → AllItemsInRange r new
+  pushed_in_range made new key item n h is e c = by (Contains-push_cases made (key, item) e (subst (λ es. Contains es e) n c))
+    where
+      by : Contains made e ⊎ ((key, item) ≡ e) → item_in_range r e.1.now ≡ true
+      by (inl d) = h e d
+      by (inr d) = ap (λ (x : BorrowedEntry). item_in_range r x.1.now) (sym d) ∙ is
+
+  -- what stands among the values is in range
+  pub value_in_range : (made : List BorrowedEntry) → AllItemsInRange r made → (item : Bor WorldItem) → Contains (values_of made) item → item_in_range r item.now ≡ true
+  value_in_range made h item c = let k = Contains-from_values_of made item c in h (k.0, item) k.1
+
+  pub put_in_range : (made new : List BorrowedEntry) (key : Bor Text) (item : Bor WorldItem) → PutsFirst made new (key, item) → AllItemsInRange r made → item_in_range r item.now ≡ true → AllItemsInRange r new
+  put_in_range made new key item (inr n) h is = pushed_in_range made new key item n h is
+  put_in_range made new key item (inl w) h is = subst (AllItemsInRange r) (sym w.0) h
+
+-- maps that are the same as two others
+pub lists_exact : {M : Type 0} {x y u w : M} (b : Bool) → x ≡ u → y ≡ w → (IsTrue b ↔ (x ≡ y)) → IsTrue b ↔ (u ≡ w)
+lists_exact b p q h = (λ t. sym p ∙ h.0 t ∙ q, λ same. h.1 (p ∙ same ∙ sym q))
+
+-- ---- worlds
+
+module _ (a b : Resolve) (v w : World) where
+  pub imports_back : world_sense (world_meaning a v) ≡ world_sense (world_meaning b w) → entries_sense (entries_meaning a v.imports.entries) ≡ entries_sense (entries_meaning b w.imports.entries)
+  imports_back same = ap (λ (s : WorldSense). s.imports) same
+
+  pub contents_exact : (y : Bool) → entries_sense (entries_meaning a v.imports.entries) ≡ entries_sense (entries_meaning b w.imports.entries)
+      → (IsTrue y ↔ (entries_sense (entries_meaning a v.exports.entries) ≡ entries_sense (entries_meaning b w.exports.entries))) → IsTrue y ↔ (world_sense (world_meaning a v) ≡ world_sense (world_meaning b w))
+  contents_exact y imports h = (λ t. let exports = h.0 t in λ k. record { imports = imports k; exports = exports k }, λ same. h.1 (ap (λ (s : WorldSense). s.exports) same))
+
+world_there : (r : Resolve) (n : ℕ) (w : World) → world_at r n ≡ Some w → world_meaning_at r n ≡ world_meaning r w
+world_there r n w at = ap (λ o. option_map_or (world_meaning r) o no_world) at
+
+pub worlds_exact : (a b : Resolve) (n m : ℕ) (v w : World) → world_at a n ≡ Some v → world_at b m ≡ Some w → (y : Bool)
+    → (IsTrue y ↔ (world_sense (world_meaning a v) ≡ world_sense (world_meaning b w))) → IsTrue y ↔ (world_sense (world_meaning_at a n) ≡ world_sense (world_meaning_at b m))
+worlds_exact a b n m v w vat wat y h =
+    let left = ap world_sense (world_there a n v vat) in
+    let right = ap world_sense (world_there b m w wat) in
+    (λ t. left ∙ h.0 t ∙ sym right, λ same. h.1 (sym left ∙ same ∙ right))

@@ -1,0 +1,35 @@
+use Rattle.std.proofs.Common.{rules, arith, refl, subst}
+use Rattle.std.specs.List.{Contains}
+use Rattle.std.specs.Map.Iter.{deref_pair}
+use Rattle.std.proofs.lemmas.Map.Iter.{rest_all, rest_more}
+use Rattle.wit_compat.proofs.WorldContents.{all_made, nothing_made, put_in_range, put_split, rest_in_range}
+use Rattle.wit_compat.proofs.contents.items.Goals as goal
+
+pub loop-key-init : goal.loop-key-init
+loop-key-init c = record {
+  split = nothing_made c.args.side.now.resolve.now _ _ _ (search rules) (search rules);
+  made = λ e d. absurd (let h = subst (λ es. Contains es e) c.new-items.ensures.empty d in let z = h.1 in omega (arith, z));
+  left = search rules;
+}
+
+pub loop-key-preserved : goal.loop-key-preserved
+loop-key-preserved c =
+    let r = c.args.side.now.resolve.now in
+    let made = c.loop-key.items.entries in
+    let key = c.key_text-text.result in
+    let item = c.in-Some.item in
+    let next = rest_more deref_pair c.loop-key.key-iterator c.next.new.self c.next.result (c.in-Some.key, item) c.in-Some.is c.next.ensures.steps in
+    let range = rest_in_range r made c.loop-key.key-iterator c.next.new.self c.args.list.now.entries c.in-Some.key.now item.now c.loop-key.invariant.split next c.loop-key.invariant.left in
+    record {
+      split = put_split r made c.loop-key.key-iterator c.next.new.self c.args.list.now.entries c.in-Some.key.now item.now c.loop-key.invariant.split next key item _ c.key_text-text.ensures refl c.in_ok-put.ensures;
+      made = put_in_range r made _ key item c.in_ok-put.ensures c.loop-key.invariant.made range.0;
+      left = range.1;
+    }
+
+pub returns-clause-sense : goal.returns-clause-sense
+returns-clause-sense c =
+    all_made c.args.side.now.resolve.now c.loop-key.items.entries c.loop-key.key-iterator c.args.list.now.entries c.loop-key.invariant.split
+    (rest_all deref_pair c.loop-key.key-iterator c.next.new.self c.next.result c.in-None.is c.next.ensures.steps)
+
+pub returns-clause-in_range : goal.returns-clause-in_range
+returns-clause-in_range c = c.loop-key.invariant.made

@@ -1,0 +1,13 @@
+use Rattle.std.proofs.Common.{rules}
+use Rattle.wit_compat.proofs.Members.{in_ok, members_exact, types_back}
+use Rattle.wit_compat.proofs.Sided.{never, not_same}
+use Rattle.wit_compat.proofs.interfaces.same_members.Goals as goal
+
+pub returns-then-not-branch-clause-exact : goal.returns-then-not-branch-clause-exact
+returns-then-not-branch-clause-exact c =
+    never _ (λ same. not_same _ c.in_ok-same_named_types.ensures.exact (search rules) (types_back c.args.left.now.resolve.now c.args.right.now.resolve.now c.args.a.now c.args.b.now same))
+
+pub returns-clause-exact : goal.returns-clause-exact
+returns-clause-exact c =
+    in_ok _ _ (λ y. members_exact c.args.left.now.resolve.now c.args.right.now.resolve.now c.args.a.now c.args.b.now y (c.in_ok-same_named_types.ensures.exact.0 (search rules)))
+    c.same_functions.result c.same_functions.ensures.exact

@@ -1,0 +1,14 @@
+use Rattle.std.proofs.Common.{◌≡◌, map, take}
+use Rattle.wit_model.specs.Types.{type_tree}
+use Rattle.wit_compat.specs.TwoSides.{rank, AllSame}
+use Rattle.wit_compat.proofs.sense.+same_type.Given as goal
+
+abbrev pub decreases-same_type : goal.decreases-same_type
+decreases-same_type l = rank l.a
+
+-- those so far stand for the same
+abbrev pub invariant-loop-i : goal.invariant-loop-i
+invariant-loop-i l = record {
+  same : map (type_tree l.left.resolve.now) (take l.i l.x-items) ≡ map (type_tree l.right.resolve.now) (take l.i l.ys.items);
+  kept : AllSame l.left.resolve.now l.right.resolve.now l.pairs.keys;
+}

@@ -1,0 +1,170 @@
+-- Two `Resolve`s side by side: which of their types stand for the same.
+use Rattle.std.specs.Prelude.{◌≡◌, ◌↔◌, ◌⊎◌, ℕ, ◌+◌, ◌<◌, Bool, true, false, List, [], ◌∷◌, ◌++◌, length, map, Option, Some, None, String, IsSome, IsTrue}
+use Rattle.std.specs.Borrow.{Bor}
+use Rattle.std.specs.declared.alloc.Global.{Global}
+use Rattle.std.specs.FinMap.{from_entries}
+use Rattle.std.specs.List.{Contains}
+use Rattle.std.specs.Map.{lookup}
+use Rattle.indexmap.specs.IndexMap.{values}
+use Rattle.wit_model.specs.declared.model.Resolve.{Resolve}
+use Rattle.wit_model.specs.declared.model.Interface.{Interface}
+use Rattle.wit_model.specs.declared.model.«Type».{«Type» as ValueType}
+use Rattle.wit_model.specs.declared.model.«Type».TheVariants as ty
+use Rattle.wit_model.specs.Lookup.{interface_path, place_of, type_at}
+use Rattle.wit_model.specs.Tree.{Tree, named}
+use Rattle.wit_model.specs.declared.model.TypeDef.{TypeDef}
+use Rattle.wit_model.specs.declared.model.TypeDefKind.{TypeDefKind}
+use Rattle.wit_model.specs.declared.model.TypeDefKind.TheVariants as kind
+use Rattle.wit_model.specs.declared.model.TypeId.{TypeId}
+use Rattle.wit_model.specs.declared.model.Function.{Function}
+use Rattle.wit_model.specs.declared.model.WorldItem.{WorldItem}
+use Rattle.wit_model.specs.Meaning.{Entry, FunctionMeaning, InterfaceSense, TypeMeaning, entry_sense, item_sense}
+use Rattle.wit_model.specs.Meant.{entry_meaning, function_meaning, interface_item, type_meaning_at}
+use Rattle.wit_model.specs.Parts.{function_types}
+use Rattle.wit_model.specs.Rules.{item_in_range}
+use Rattle.wit_model.specs.Text.{Text, TextMap, optional_text, text_eq, text_of}
+use Rattle.std.specs.Option.{option_map_or}
+use Rattle.wit_model.specs.Types.{number_tree, type_tree, trees_of, declared_by}
+use Rattle.wit_model.specs.Valid.{IsValid}
+use Rattle.wit_compat.specs.declared.senses.Senses.{Senses}
+use Rattle.wit_compat.specs.declared.side.Side.{Side}
+use Rattle.wit_compat.specs.declared.look.Look.{Look}
+use Rattle.wit_compat.specs.declared.look.Look.TheVariants as look
+use Rattle.wit_compat.specs.Table.{AllInRange}
+use Rattle.wit_compat.specs.Walk.{Pair}
+
+-- ---- paths
+
+abbrev pub paths_from : Resolve → ℕ → List Interface → List (Option Text)
+paths_from r n [] = []
+paths_from r n (i ∷ is) = interface_path r n ∷ paths_from r (n + 1) is
+
+abbrev pub interface_paths : Resolve → List (Option Text)
+interface_paths r = paths_from r 0 r.interfaces.items
+
+-- a valid `Resolve`, and the paths of its interfaces
+pub record IsSide (s : Side) : Type 0 where
+  pub valid : IsValid s.resolve.now
+  pub paths : map optional_text s.paths.items ≡ interface_paths s.resolve.now
+
+-- ---- types
+
+-- the types stand for the same
+abbrev pub SameType : Resolve → Resolve → ValueType → ValueType → Type 0
+SameType a b t u = type_tree a t ≡ type_tree b u
+
+-- each pair of numbers stands for the same
+abbrev pub AllSame : Resolve → Resolve → List Pair → Type 0
+AllSame a b pairs = (p : Pair) → Contains pairs p → number_tree a p.0 ≡ number_tree b p.1
+
+-- a named type where it is used: its place and its name
+abbrev pub name_leaf : Resolve → TypeDef → Tree
+name_leaf r def = named (place_of r def.owner) (option_map_or text_of def.name [])
+
+-- one more than a type's number, if it has one
+abbrev pub rank : ValueType → ℕ
+rank (ty.Id id) = id.0 + 1
+rank _ = 0
+
+-- The types stand for the same exactly where those at equal places do.
+pub record IsParted (a b : Resolve) (t u : ValueType) (ts us : List ValueType) : Type 0 where
+  pub alike : length ts ≡ length us
+  pub left : AllInRange a ts
+  pub right : AllInRange b us
+  pub below : (x : ValueType) → Contains ts x → rank x < rank t
+  pub same : map (type_tree a) ts ≡ map (type_tree b) us → SameType a b t u
+  pub back : SameType a b t u → map (type_tree a) ts ≡ map (type_tree b) us
+
+-- what a look at two types says
+abbrev pub Says : Resolve → Resolve → ValueType → ValueType → Look → Type 0
+Says a b t u (look.Known y) = IsTrue y ↔ SameType a b t u
+Says a b t u (look.Parts ts us) = IsParted a b t u ts.items us.items
+
+-- ---- declarations
+
+-- what an alias stands for
+abbrev pub aliased : TypeDefKind → Option ValueType
+aliased (kind.Type_ t) = Some t
+aliased _ = None
+
+abbrev pub is_resource_itself : TypeDefKind → Bool
+is_resource_itself kind.Resource = true
+is_resource_itself _ = false
+
+-- the kind of a type of the `Resolve`
+abbrev pub IsKindOf : Resolve → TypeDefKind → Type 0
+IsKindOf r k = (n : ℕ) × (def : TypeDef) × (type_at r n ≡ Some def) × (def.kind ≡ k)
+
+-- the kinds declare the same
+abbrev pub SameDeclared : Resolve → Resolve → TypeDefKind → TypeDefKind → Type 0
+SameDeclared a b d e = declared_by (trees_of a) d ≡ declared_by (trees_of b) e
+
+-- The kinds declare the same exactly where the types at equal places stand for the same.
+pub record AreParted (a b : Resolve) (d e : TypeDefKind) (ts us : List ValueType) : Type 0 where
+  pub left : AllInRange a ts
+  pub right : AllInRange b us
+  pub same : map (type_tree a) ts ≡ map (type_tree b) us → SameDeclared a b d e
+  pub back : SameDeclared a b d e → map (type_tree a) ts ≡ map (type_tree b) us
+
+-- what a look at two kinds says
+abbrev pub SaysDeclared : Resolve → Resolve → TypeDefKind → TypeDefKind → Look → Type 0
+SaysDeclared a b d e (look.Known y) = IsTrue y ↔ SameDeclared a b d e
+SaysDeclared a b d e (look.Parts ts us) = AreParted a b d e ts.items us.items
+
+-- it says so of the types of any two valid `Resolve`s
+abbrev pub TellsDeclared : TypeDefKind → TypeDefKind → Look → Type 0
+TellsDeclared d e l = (a b : Resolve) → IsValid a → IsValid b → IsKindOf a d → IsKindOf b e → SaysDeclared a b d e l
+
+-- ---- interfaces and worlds
+
+-- the numbers in an interface are of types
+pub record HasTypesInRange (r : Resolve) (i : Interface) : Type 0 where
+  pub types : (id : TypeId) → Contains (values i.types) id → id.0 < length r.types.items
+  pub functions : (f : Function) → Contains (values i.functions) f → AllInRange r (function_types f)
+
+-- the types, and the functions, of an interface by name
+abbrev pub types_sense : Resolve → List (String Global × TypeId) → TextMap TypeMeaning
+types_sense r es = from_entries (map (λ e. (text_of e.0, type_meaning_at r e.1.0)) es)
+
+abbrev pub functions_sense : Resolve → List (String Global × Function) → TextMap FunctionMeaning
+functions_sense r es = from_entries (map (λ e. (text_of e.0, function_meaning r e.1)) es)
+
+-- an interface as an item, with an external id
+abbrev pub interface_entry : Resolve → ℕ → Option (String Global) → Entry InterfaceSense
+interface_entry r n i = record { item = item_sense (interface_item r n); external_id = optional_text i }
+
+-- two interfaces are the same item with the same external id
+abbrev pub SameInterfaceEntries : Resolve → Resolve → ℕ → ℕ → Option (String Global) → Option (String Global) → Type 0
+SameInterfaceEntries a b n m i j = interface_entry a n i ≡ interface_entry b m j
+
+abbrev pub BorrowedEntry : Type 0
+BorrowedEntry = Bor (List ℕ) × Bor WorldItem
+
+-- the entries of a list of imports or exports by the texts of their keys, as a map of senses
+abbrev pub sense_entry : Resolve → BorrowedEntry → Text × Entry InterfaceSense
+sense_entry r e = (e.0.now, entry_sense (entry_meaning r e.1.now))
+
+abbrev pub indexed_sense : Resolve → List BorrowedEntry → TextMap (Entry InterfaceSense)
+indexed_sense r es = from_entries (map (sense_entry r) es)
+
+-- an entry is there unless its key was
+abbrev pub PutsFirst : List BorrowedEntry → List BorrowedEntry → BorrowedEntry → Type 0
+PutsFirst old new e = ((new ≡ old) × IsSome (lookup (λ k. text_eq e.0.now k.now) old)) ⊎ (new ≡ old ++ e ∷ [])
+
+abbrev pub AllItemsInRange : Resolve → List BorrowedEntry → Type 0
+AllItemsInRange r es = (e : BorrowedEntry) → Contains es e → item_in_range r e.1.now ≡ true
+
+-- ---- a comparison of many places
+
+-- the first `Resolve` of a comparison, and the second
+abbrev pub first_of : Senses → Resolve
+first_of s = s.left.resolve.now
+
+abbrev pub second_of : Senses → Resolve
+second_of s = s.right.resolve.now
+
+-- Both are valid, their paths are at hand, and what the table holds are pairs of types that stand for the same.
+pub record IsReady (s : Senses) : Type 0 where
+  pub left : IsSide s.left
+  pub right : IsSide s.right
+  pub pairs : AllSame s.left.resolve.now s.right.resolve.now s.pairs.keys

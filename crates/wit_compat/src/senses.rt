@@ -1,0 +1,181 @@
+//! The senses of places of two `Resolve`s.
+
+ghost use Rattle.std.specs.Prelude.{◌≡◌, ◌<◌, ◌↔◌, true, is_some, length, IfErr, IfOk, IsTrue};
+ghost use Rattle.wit_model.specs.declared.error.Error.TheVariants.{Memory as MemoryError};
+ghost use Rattle.wit_model.specs.Meaning.{world_sense};
+ghost use Rattle.wit_model.specs.Meant.{world_meaning_at};
+ghost use Rattle.wit_model.specs.Valid.{IsValid};
+ghost use Rattle.wit_compat.specs.Senses.{sense_of};
+ghost use Rattle.wit_compat.specs.TwoSides.{first_of, second_of, AllSame, IsReady, IsSide};
+
+use crate::contents::same_worlds;
+use crate::interfaces::same_interfaces;
+use crate::items::same_items;
+use crate::pairs::Pairs;
+use crate::place::{Place, import_at};
+use crate::side::{Side, side_of};
+use indexmap::IndexSet;
+use std::alloc::{AllocError, Global};
+use wit_model::{Error, Resolve, WorldId};
+
+/// Whether two worlds, by number, have the same sense.
+fn same_worlds_at(
+    alloc: Global,
+    left: &Side,
+    right: &Side,
+    a: WorldId,
+    b: WorldId,
+    pairs: &mut Pairs,
+) -> Result<bool, AllocError>
+    requires left { IsSide left.now }
+    requires right { IsSide right.now }
+    requires a { a.0 < length left.now.resolve.now.worlds.items }
+    requires b { b.0 < length right.now.resolve.now.worlds.items }
+    requires pairs { AllSame left.now.resolve.now right.now.resolve.now pairs.old.keys }
+    ensures exact { IfOk result (λ y. IsTrue y ↔ (world_sense (world_meaning_at left.now.resolve.now a.0) ≡ world_sense (world_meaning_at right.now.resolve.now b.0))) }
+    ensures kept { AllSame left.now.resolve.now right.now.resolve.now pairs.new.keys }
+{
+    let world = &left.resolve.worlds[a.0 as usize];
+    let other = &right.resolve.worlds[b.0 as usize];
+    same_worlds(alloc, left, right, world, other, pairs)
+}
+
+/// Whether two places have the same sense.
+fn same_places(
+    alloc: Global,
+    left: &Side,
+    right: &Side,
+    at: Place,
+    other: Place,
+    pairs: &mut Pairs,
+) -> Result<bool, AllocError>
+    requires left { IsSide left.now }
+    requires right { IsSide right.now }
+    requires at { is_some (sense_of left.now.resolve.now at) ≡ true }
+    requires other { is_some (sense_of right.now.resolve.now other) ≡ true }
+    requires pairs { AllSame left.now.resolve.now right.now.resolve.now pairs.old.keys }
+    ensures exact { IfOk result (λ y. IsTrue y ↔ (sense_of left.now.resolve.now at ≡ sense_of right.now.resolve.now other)) }
+    ensures kept { AllSame left.now.resolve.now right.now.resolve.now pairs.new.keys }
+{
+    match at {
+        Place::Interface(a) => match other {
+            Place::Interface(b) => same_interfaces(alloc, left, right, a, b, pairs),
+            Place::World(_) => Ok(false),
+            Place::Import(_, _) => Ok(false),
+        },
+        Place::World(a) => match other {
+            Place::Interface(_) => Ok(false),
+            Place::World(b) => same_worlds_at(alloc, left, right, a, b, pairs),
+            Place::Import(_, _) => Ok(false),
+        },
+        Place::Import(a, n) => match other {
+            Place::Interface(_) => Ok(false),
+            Place::World(_) => Ok(false),
+            Place::Import(b, m) => match import_at(left.resolve, a, n) {
+                Some(item) => match import_at(right.resolve, b, m) {
+                    Some(found) => same_items(alloc, left, right, item, found, pairs),
+                    None => Ok(false),
+                },
+                None => Ok(false),
+            },
+        },
+    }
+}
+
+/// Two valid `Resolve`s side by side: many places of the one are compared with places of the other over one table of pairs of
+/// types that were found the same.
+#[derive(Drop)]
+pub struct Senses<'a> {
+    left: Side<'a>,
+    right: Side<'a>,
+    pairs: Pairs,
+}
+
+impl<'a> Senses<'a> {
+    /// The two, with nothing compared yet. Both are valid. Takes memory for the paths of their interfaces. Refuses `Memory` alone.
+    pub fn new(alloc: Global, left: &'a Resolve, right: &'a Resolve) -> Result<Self, Error>
+        requires left { IsValid left.now }
+        requires right { IsValid right.now }
+        ensures ready { IfOk result IsReady }
+        ensures first { IfOk result (λ s. first_of s ≡ left.entry.now) }
+        ensures second { IfOk result (λ s. second_of s ≡ right.entry.now) }
+        ensures refuses { IfErr result (λ e. e ≡ MemoryError) }
+    {
+        match sides(alloc, left, right) {
+            Ok((left, right)) => Ok(Senses {
+                left,
+                right,
+                pairs: IndexSet::new(alloc),
+            }),
+            Err(_) => Err(Error::Memory),
+        }
+    }
+
+    /// Whether a place of the first `Resolve` and a place of the second have the same sense. Something stands at both places.
+    ///
+    /// Interfaces have the same sense where their types' names, declarations and external ids, and their functions' names,
+    /// signatures and external ids are the same; worlds, where the keys, items and external ids of their imports are, and those of
+    /// their exports; imports, where items and external ids are, whatever their keys. A named type stands for its place and its
+    /// name and isn't opened. Order, documentation and stability play no part. Places of different sorts never have the same sense.
+    ///
+    /// Refuses `Memory` alone; then, too, the two stay as they were, and more may be compared.
+    ///
+    /// Each pair of types that are the same is compared once over all calls, and all look-ups are hashed: the time goes with the
+    /// size of what is compared and of the types met for the first time.
+    pub fn same(&mut self, alloc: Global, at: Place, other: Place) -> Result<bool, Error>
+        requires ready { IsReady self.old }
+        requires at { is_some (sense_of (first_of self.old) at) ≡ true }
+        requires other { is_some (sense_of (second_of self.old) other) ≡ true }
+        ensures exact { IfOk result (λ y. IsTrue y ↔ (sense_of (first_of self.old) at ≡ sense_of (second_of self.old) other)) }
+        ensures refuses { IfErr result (λ e. e ≡ MemoryError) }
+        ensures ready { IsReady self.new }
+        ensures first { first_of self.new ≡ first_of self.old }
+        ensures second { second_of self.new ≡ second_of self.old }
+    {
+        match same_places(alloc, &self.left, &self.right, at, other, &mut self.pairs) {
+            Ok(same) => Ok(same),
+            Err(_) => Err(Error::Memory),
+        }
+    }
+}
+
+/// Both with their paths.
+fn sides<'a>(
+    alloc: Global,
+    left: &'a Resolve,
+    right: &'a Resolve,
+) -> Result<(Side<'a>, Side<'a>), AllocError>
+    requires left { IsValid left.now }
+    requires right { IsValid right.now }
+    ensures left { IfOk result (λ p. IsSide p.0) }
+    ensures right { IfOk result (λ p. IsSide p.1) }
+    ensures first { IfOk result (λ p. p.0.resolve.now ≡ left.entry.now) }
+    ensures second { IfOk result (λ p. p.1.resolve.now ≡ right.entry.now) }
+{
+    let left = side_of(alloc, left)?;
+    let right = side_of(alloc, right)?;
+    Ok((left, right))
+}
+
+/// Whether a place of one `Resolve` and a place of another, which may be the same, have the same sense: `Senses::same` of the two
+/// alone, which has what that means. Both are valid, and something stands at both places. Refuses `Memory` alone.
+pub fn same_sense(
+    alloc: Global,
+    resolve: &Resolve,
+    at: Place,
+    other: &Resolve,
+    place: Place,
+) -> Result<bool, Error>
+    requires resolve { IsValid resolve.now }
+    requires other { IsValid other.now }
+    requires at { is_some (sense_of resolve.now at) ≡ true }
+    requires place { is_some (sense_of other.now place) ≡ true }
+    ensures exact { IfOk result (λ y. IsTrue y ↔ (sense_of resolve.now at ≡ sense_of other.now place)) }
+    ensures refuses { IfErr result (λ e. e ≡ MemoryError) }
+{
+    let mut senses = match Senses::new(alloc, resolve, other) {
+        Ok(senses) => senses,
+        Err(error) => return Err(error),
+    };
+    senses.same(alloc, at, place)
+}
