@@ -6,3 +6,7 @@ pub mod RoomLaws
 pub mod Exports
 pub mod UsesAlone
 pub mod OwnerScope
+pub mod Worlds
+pub mod WorldNames
+pub mod WorldRoom
+pub mod WorldItems

@@ -85,7 +85,10 @@ fn define_inside(inner: &mut InstanceType, def: &ComponentDefinedType) -> Result
     Ok(index)
 }
 
-fn define_outside(outer: &mut ComponentType, def: &ComponentDefinedType) -> Result<u32, Error>
+pub(crate) fn define_outside(
+    outer: &mut ComponentType,
+    def: &ComponentDefinedType,
+) -> Result<u32, Error>
     ensures ok { IfOk result (DeclaresOutside outer.old outer.new (Declaration.defined (raw_defined def.now))) }
     ensures err { OnErr result (outer.new ≡ outer.old) }
     ensures held { declaration_count outer.new ≤ declaration_count outer.old + 1 }
@@ -109,7 +112,10 @@ fn define_function_inside(inner: &mut InstanceType, def: &ComponentFuncType) -> 
     Ok(index)
 }
 
-fn define_function_outside(outer: &mut ComponentType, def: &ComponentFuncType) -> Result<u32, Error>
+pub(crate) fn define_function_outside(
+    outer: &mut ComponentType,
+    def: &ComponentFuncType,
+) -> Result<u32, Error>
     ensures ok { IfOk result (DeclaresOutside outer.old outer.new (Declaration.function (raw_function def.now))) }
     ensures err { OnErr result (outer.new ≡ outer.old) }
     ensures held { declaration_count outer.new ≤ declaration_count outer.old + 1 }
@@ -196,7 +202,7 @@ fn make_alias(
 }
 
 // The slot around of a type of another interface whose instance stands there: its alias is made where there is none.
-fn reach(
+pub(crate) fn reach(
     outer: &mut ComponentType,
     foreign: &mut Foreign,
     resolve: &Resolve,
@@ -546,6 +552,19 @@ impl<'a> InterfaceEncoderOf<'a, TypeEncodingMaps<'a>> {
         let index = self.outer.type_count();
         self.outer.instance(declared)?;
         Ok(index)
+    }
+
+    /// Encodes the types of an interface as an instance type, without its functions, and answers its slot: what a component type imports that
+    /// uses the interface.
+    pub(crate) fn encode_dependency(
+        &mut self,
+        alloc: Global,
+        interface: InterfaceId,
+    ) -> Result<u32, Error> {
+        let def = &self.resolve.interfaces[interface.0 as usize];
+        let types = types_in_order(alloc, def)?;
+        let declared = self.encode_inside(alloc, interface, &types, &[])?;
+        self.close(&declared)
     }
 
     /// Encodes an interface as an instance type, and answers its slot: its types in order, then functions of resources by the order of

@@ -31,7 +31,7 @@ pub(super) fn add_function(
 }
 
 // Two digits a byte, with a space between.
-fn hex(alloc: Global, bytes: &[u8]) -> Result<String, AllocError> {
+pub(super) fn hex(alloc: Global, bytes: &[u8]) -> Result<String, AllocError> {
     let mut out = String::new(alloc);
     for (i, byte) in bytes.iter().enumerate() {
         if i > 0 {

@@ -3,6 +3,8 @@
 #![tactic(auto)]
 
 #[cfg(test)]
+mod components;
+#[cfg(test)]
 mod encoded;
 #[cfg(test)]
 mod fresh;
@@ -30,3 +32,7 @@ mod shown;
 mod steps;
 #[cfg(test)]
 mod units;
+#[cfg(test)]
+mod world_steps;
+#[cfg(test)]
+mod worlds;
