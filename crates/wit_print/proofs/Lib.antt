@@ -34,5 +34,6 @@ pub mod ShownWell
 pub mod TypesWell
 pub mod TypeParts
 pub mod InterfaceHeads
+pub mod Constructors
 pub mod FunctionsWell
 pub mod PrintedText

@@ -12,6 +12,7 @@ pub mod Reading
 pub mod WellNamed
 pub mod TypeParts
 pub mod Heads
+pub mod ItemCalls
 pub mod Drafted
 pub mod Printable
 pub mod Printer

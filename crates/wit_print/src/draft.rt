@@ -7,9 +7,10 @@ ghost use Rattle.wit_model.specs.declared.error.Error.TheVariants.{Memory};
 ghost use Rattle.wit_model.specs.Names.{is_label, is_version};
 ghost use Rattle.wit_print.specs.OutputCall.{OutputCall, Moves, Begins, is_one_line, has_no_space_first, may_begin, may_stand, line_begun_after};
 ghost use Rattle.wit_print.specs.Drafted.{piece_call};
+ghost use Rattle.wit_print.specs.Calls.{character_call};
 ghost use Rattle.wit_print.specs.Keyword.{escaped};
 
-use crate::escape::escape;
+use crate::escape::{escape, escape_character};
 use crate::make::make_calls;
 use crate::output::Output;
 use crate::piece::Piece;
@@ -122,6 +123,16 @@ impl<'a> Draft<'a> {
         self.push(Piece::Param(text), false)
     }
 
+    /// The name of a case of a variant or an enum, or of a flag, as an id.
+    #[tactic(auto, using(crate::proofs::OneLine::labels))]
+    pub(crate) fn case(&mut self, label: &'a str) -> Result<(), AllocError>
+        requires { is_label label.now ≡ true }
+        ensures { OnOk result (self.new ≡ record { line_begun = false; kept = self.old.kept ++ OutputCall.Case (escaped label.now) ∷ [] }) }
+    {
+        let text = escape(self.alloc, label)?;
+        self.push(Piece::Case(text), false)
+    }
+
     /// Text as it stands, without indentation.
     pub(crate) fn push_str(&mut self, text: &'a str) -> Result<(), AllocError>
         ensures { OnOk result (self.new ≡ record { line_begun = self.old.line_begun; kept = self.old.kept ++ OutputCall.PushStr text.now ∷ [] }) }
@@ -163,17 +174,32 @@ impl<'a> Draft<'a> {
         self.push(Piece::Str(text), false)
     }
 
-    /// A version in an attribute, behind other text in its line.
+    /// The length of a list behind the type of its elements, with indentation where it is due.
+    pub(crate) fn length(&mut self, length: u32) -> Result<(), AllocError>
+        requires { self.old.line_begun ≡ false }
+        ensures { OnOk result (self.new ≡ record { line_begun = false; kept = self.old.kept ++ OutputCall.Str (codes ", " ++ decimal length) ∷ [] }) }
+    {
+        let text = format!(in self.alloc; ", {length}")?;
+        self.push(Piece::Str(CowStr::Owned(text)), false)
+    }
+
+    /// A character of a string, escaped where it doesn't stand for itself.
+    pub(crate) fn character(&mut self, c: char) -> Result<(), AllocError>
+        ensures { OnOk result (self.new ≡ record { line_begun = self.old.line_begun; kept = self.old.kept ++ character_call c ∷ [] }) }
+    {
+        let line_begun = self.line_begun;
+        let text = escape_character(self.alloc, c)?;
+        self.push(Piece::PushStr(text), line_begun)
+    }
+
+    /// A version in an attribute.
     pub(crate) fn plain_version(&mut self, version: &Version) -> Result<(), AllocError>
         requires same_line { self.old.line_begun ≡ false }
         requires version { is_version version.now ≡ true }
         ensures { OnOk result (self.new ≡ record { line_begun = false; kept = self.old.kept ++ OutputCall.Ty (version_text version.now) TypeKind.VersionAnnotation ∷ [] }) }
     {
         let text = format!(in self.alloc; "{version}")?;
-        self.push(
-            Piece::Ty(CowStr::Owned(text), TypeKind::VersionAnnotation),
-            false,
-        )
+        self.push(Piece::Ty(CowStr::Owned(text), TypeKind::VersionAnnotation), false)
     }
 
     /// A version after its mark, `@`.
@@ -197,6 +223,12 @@ impl<'a> Draft<'a> {
         ensures { OnOk result (self.new ≡ record { line_begun = true; kept = self.old.kept ++ OutputCall.IndentStart ∷ [] }) }
     {
         self.push(Piece::IndentStart, true)
+    }
+
+    pub(crate) fn indent_end(&mut self) -> Result<(), AllocError>
+        ensures { OnOk result (self.new ≡ record { line_begun = true; kept = self.old.kept ++ OutputCall.IndentEnd ∷ [] }) }
+    {
+        self.push(Piece::IndentEnd, true)
     }
 
     pub(crate) fn newline(&mut self) -> Result<(), AllocError>

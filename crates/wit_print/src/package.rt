@@ -1,136 +1,126 @@
 //! Packages, printed item by item.
 
-ghost use Rattle.std.specs.Prelude.{◌≡◌, ◌++◌, ◌∷◌, [], true, false, IsTrue, OnOk, OnErr, IsOkUnless};
-ghost use Rattle.std.specs.List.{flat_map, list_all};
-ghost use Rattle.wit_model.specs.declared.error.Error.TheVariants.{Memory};
-ghost use Rattle.wit_model.specs.Text.{text_of};
-ghost use Rattle.wit_model.specs.Names.{is_label, is_version};
-ghost use Rattle.wit_model.specs.Rules.{passes};
-ghost use Rattle.wit_print.specs.OutputCall.{OutputCall, Moves, Begins};
-ghost use Rattle.wit_print.specs.Printable.{IsPrintableWorld, is_printable_listed, listed_calls, plain_package_calls, world_start_calls, world_calls};
-ghost use Rattle.wit_print.specs.Shown.{shown_head};
-ghost use Rattle.wit_print.specs.Calls.{package_outer_calls, package_start_calls, package_end_calls};
-
+use crate::block::draft_block_start;
 use crate::draft::Draft;
-use crate::items::print_world_body;
+use crate::interface::{draft_head, print_interface_body};
 use crate::output::Output;
-use crate::parts::{draft_docs, draft_package_outer};
+use crate::parts::draft_package_outer;
+use crate::gates::draft_gates;
+use crate::prefix::draft_docs;
 use crate::type_kind::TypeKind;
+use crate::world::print_world_body;
 use std::alloc::{AllocError, Global};
-use wit_model::{Error, Map, Package, PackageId, Resolve, World, WorldId};
+use wit_model::{Error, InterfaceId, Package, PackageId, Resolve, World, WorldId};
 
-/// A world's documentation and name, and the start of its block.
+/// A world's documentation, gates and name, and the start of its block.
 fn draft_world_start<'a>(
     draft: &mut Draft<'a>,
     emits_docs: bool,
     name: &'a str,
     world: &'a World,
-) -> Result<(), AllocError>
-    requires begun { draft.old.line_begun ≡ true }
-    requires name { is_label name.now ≡ true }
-    ensures { OnOk result (draft.new ≡ record { line_begun = true; kept = draft.old.kept ++ world_start_calls emits_docs name.now world.now }) }
-{
+) -> Result<(), AllocError> {
     draft_docs(draft, emits_docs, &world.docs)?;
-    draft.keyword("world")?;
-    draft.str(" ")?;
-    draft.name(name, TypeKind::WorldDeclaration)?;
-    draft.indent_start()
+    draft_gates(draft, &world.stability)?;
+    draft_block_start(draft, "world", name, TypeKind::WorldDeclaration)
 }
 
-#[tactic(auto, using(crate::proofs::Moves::moving))]
-fn print_world_start<'a, O: Output>(
+fn print_world_start<O: Output>(
     output: &mut O,
     alloc: Global,
     emits_docs: bool,
-    name: &'a str,
-    world: &'a World,
-) -> Result<(), Error>
-    requires { is_label name.now ≡ true }
-    ensures ok { OnOk result (Moves O.keeps (O.view output.old) (world_start_calls emits_docs name.now world.now) (O.view output.new)) }
-    ensures err { OnErr result (Begins O.keeps (O.view output.old) (world_start_calls emits_docs name.now world.now) (O.view output.new)) }
-    ensures memory { IsOkUnless result Memory }
-{
+    name: &str,
+    world: &World,
+) -> Result<(), Error> {
     let mut draft = Draft::new(alloc);
     draft_world_start(&mut draft, emits_docs, name, world)?;
     draft.make(output)
 }
 
-/// The end of a block.
-#[tactic(auto, using(crate::proofs::Moves::moving))]
-fn print_block_end<O: Output>(output: &mut O) -> Result<(), Error>
-    ensures ok { OnOk result (Moves O.keeps (O.view output.old) (OutputCall.IndentEnd ∷ []) (O.view output.new)) }
-    ensures err { OnErr result (Begins O.keeps (O.view output.old) (OutputCall.IndentEnd ∷ []) (O.view output.new)) }
-    ensures memory { IsOkUnless result Memory }
-{
+/// A world of the package `here`, under a name.
+fn print_world<O: Output>(
+    output: &mut O,
+    alloc: Global,
+    emits_docs: bool,
+    resolve: &Resolve,
+    here: PackageId,
+    name: &str,
+    id: WorldId,
+) -> Result<(), Error> {
+    print_world_start(output, alloc, emits_docs, name, &resolve.worlds[id.0 as usize])?;
+    print_world_body(output, alloc, emits_docs, resolve, here, id)?;
+    output.indent_end()
+}
+
+fn print_interface_start<O: Output>(
+    output: &mut O,
+    alloc: Global,
+    emits_docs: bool,
+    resolve: &Resolve,
+    name: &str,
+    id: InterfaceId,
+) -> Result<(), Error> {
+    let mut draft = Draft::new(alloc);
+    draft_head(
+        &mut draft,
+        emits_docs,
+        &resolve.interfaces[id.0 as usize],
+        name,
+    )?;
+    draft.indent_start()?;
+    draft.make(output)
+}
+
+/// An interface of the package `here`, under a name. An empty line follows it in a main package.
+fn print_interface<O: Output>(
+    output: &mut O,
+    alloc: Global,
+    emits_docs: bool,
+    resolve: &Resolve,
+    here: PackageId,
+    is_main: bool,
+    name: &str,
+    id: InterfaceId,
+) -> Result<(), Error> {
+    print_interface_start(output, alloc, emits_docs, resolve, name, id)?;
+    print_interface_body(output, alloc, emits_docs, resolve, here, id)?;
     output.indent_end()?;
+    if is_main {
+        output.newline()?;
+    }
     Ok(())
 }
 
-/// A world of the package `here`, under a name.
-fn print_world<'a, O: Output>(
+fn print_interfaces<O: Output>(
     output: &mut O,
     alloc: Global,
     emits_docs: bool,
-    resolve: &'a Resolve,
+    resolve: &Resolve,
     here: PackageId,
-    name: &'a str,
-    world: &'a World,
-) -> Result<(), Error>
-    requires name { is_label name.now ≡ true }
-    requires world { IsPrintableWorld here world.now }
-    ensures ok { OnOk result (Moves O.keeps (O.view output.old) (world_calls emits_docs resolve.now here name.now world.now) (O.view output.new)) }
-    ensures err { OnErr result (Begins O.keeps (O.view output.old) (world_calls emits_docs resolve.now here name.now world.now) (O.view output.new)) }
-    ensures memory { IsOkUnless result Memory }
-{
-    print_world_start(output, alloc, emits_docs, name, world)?;
-    print_world_body(output, alloc, emits_docs, resolve, here, world)?;
-    print_block_end(output)
+    is_main: bool,
+    package: &Package,
+) -> Result<(), Error> {
+    for (name, id) in &package.interfaces {
+        print_interface(output, alloc, emits_docs, resolve, here, is_main, name, *id)?;
+    }
+    Ok(())
 }
 
-/// A world of a package's list.
-fn print_listed<'a, O: Output>(
+fn print_worlds<O: Output>(
     output: &mut O,
     alloc: Global,
     emits_docs: bool,
-    resolve: &'a Resolve,
+    resolve: &Resolve,
     here: PackageId,
-    name: &'a String,
-    id: &'a WorldId,
-) -> Result<(), Error>
-    requires { is_printable_listed resolve.now here (name.now, id.now) ≡ true }
-    ensures ok { OnOk result (Moves O.keeps (O.view output.old) (listed_calls emits_docs resolve.now (name.now, id.now)) (O.view output.new)) }
-    ensures err { OnErr result (Begins O.keeps (O.view output.old) (listed_calls emits_docs resolve.now (name.now, id.now)) (O.view output.new)) }
-    ensures memory { IsOkUnless result Memory }
-{
-    let world = &resolve.worlds[id.0 as usize];
-    print_world(output, alloc, emits_docs, resolve, here, name, world)
-}
-
-/// The worlds of the package `here`.
-fn print_worlds<'a, O: Output>(
-    output: &mut O,
-    alloc: Global,
-    emits_docs: bool,
-    resolve: &'a Resolve,
-    here: PackageId,
-    worlds: &'a Map<String, WorldId>,
-) -> Result<(), Error>
-    requires { list_all (is_printable_listed resolve.now here) worlds.now.entries ≡ true }
-    ensures ok { OnOk result (Moves O.keeps (O.view output.old) (flat_map (listed_calls emits_docs resolve.now) worlds.now.entries) (O.view output.new)) }
-    ensures err { OnErr result (Begins O.keeps (O.view output.old) (flat_map (listed_calls emits_docs resolve.now) worlds.now.entries) (O.view output.new)) }
-    ensures memory { IsOkUnless result Memory }
-{
-    for (name, id) in worlds {
-        print_listed(output, alloc, emits_docs, resolve, here, name, id)?;
+    package: &Package,
+) -> Result<(), Error> {
+    for (name, id) in &package.worlds {
+        print_world(output, alloc, emits_docs, resolve, here, name, *id)?;
     }
     Ok(())
 }
 
 /// What follows a package's name: the end of its line and an empty line, or the start of a block.
-fn draft_package_open<'a>(draft: &mut Draft<'a>, is_main: bool) -> Result<(), AllocError>
-    requires { draft.old.line_begun ≡ false }
-    ensures { OnOk result (draft.new ≡ record { line_begun = true; kept = draft.old.kept ++ package_start_calls is_main }) }
-{
+fn draft_package_open<'a>(draft: &mut Draft<'a>, is_main: bool) -> Result<(), AllocError> {
     if is_main {
         draft.semicolon()?;
         draft.newline()
@@ -139,75 +129,34 @@ fn draft_package_open<'a>(draft: &mut Draft<'a>, is_main: bool) -> Result<(), Al
     }
 }
 
-/// A package's documentation and name, and what follows.
-fn draft_package_start<'a>(
-    draft: &mut Draft<'a>,
-    emits_docs: bool,
-    package: &'a Package,
-    is_main: bool,
-) -> Result<(), AllocError>
-    requires begun { draft.old.line_begun ≡ true }
-    requires namespace { is_label (text_of «package».now.name.namespace) ≡ true }
-    requires name { is_label (text_of «package».now.name.name) ≡ true }
-    requires version { passes is_version «package».now.name.version ≡ true }
-    ensures { OnOk result (draft.new ≡ record { line_begun = true; kept = draft.old.kept ++ (package_outer_calls emits_docs (shown_head «package».now) ++ package_start_calls is_main) }) }
-{
-    draft_package_outer(draft, emits_docs, package)?;
-    draft_package_open(draft, is_main)
-}
-
-#[tactic(auto, using(crate::proofs::Moves::moving))]
-fn print_package_start<'a, O: Output>(
+fn print_package_start<O: Output>(
     output: &mut O,
     alloc: Global,
     emits_docs: bool,
-    package: &'a Package,
+    package: &Package,
     is_main: bool,
-) -> Result<(), Error>
-    requires namespace { is_label (text_of «package».now.name.namespace) ≡ true }
-    requires name { is_label (text_of «package».now.name.name) ≡ true }
-    requires version { passes is_version «package».now.name.version ≡ true }
-    ensures ok { OnOk result (Moves O.keeps (O.view output.old) (package_outer_calls emits_docs (shown_head «package».now) ++ package_start_calls is_main) (O.view output.new)) }
-    ensures err { OnErr result (Begins O.keeps (O.view output.old) (package_outer_calls emits_docs (shown_head «package».now) ++ package_start_calls is_main) (O.view output.new)) }
-    ensures memory { IsOkUnless result Memory }
-{
+) -> Result<(), Error> {
     let mut draft = Draft::new(alloc);
-    draft_package_start(&mut draft, emits_docs, package, is_main)?;
+    draft_package_outer(&mut draft, emits_docs, package)?;
+    draft_package_open(&mut draft, is_main)?;
     draft.make(output)
 }
 
-/// The end of a package's block, if it has one.
-#[tactic(auto, using(crate::proofs::Moves::moving))]
-fn print_package_end<O: Output>(output: &mut O, is_main: bool) -> Result<(), Error>
-    ensures ok { OnOk result (Moves O.keeps (O.view output.old) (package_end_calls is_main) (O.view output.new)) }
-    ensures err { OnErr result (Begins O.keeps (O.view output.old) (package_end_calls is_main) (O.view output.new)) }
-    ensures memory { IsOkUnless result Memory }
-{
+/// The package whose number is `here`.
+pub(crate) fn print_whole_package<O: Output>(
+    output: &mut O,
+    alloc: Global,
+    emits_docs: bool,
+    resolve: &Resolve,
+    here: PackageId,
+    is_main: bool,
+) -> Result<(), Error> {
+    let package = &resolve.packages[here.0 as usize];
+    print_package_start(output, alloc, emits_docs, package, is_main)?;
+    print_interfaces(output, alloc, emits_docs, resolve, here, is_main, package)?;
+    print_worlds(output, alloc, emits_docs, resolve, here, package)?;
     if !is_main {
         output.indent_end()?;
     }
     Ok(())
-}
-
-/// A package without interfaces, whose number is `here`.
-pub(crate) fn print_plain_package<'a, O: Output>(
-    output: &mut O,
-    alloc: Global,
-    emits_docs: bool,
-    resolve: &'a Resolve,
-    here: PackageId,
-    package: &'a Package,
-    is_main: bool,
-) -> Result<(), Error>
-    requires namespace { is_label (text_of «package».now.name.namespace) ≡ true }
-    requires name { is_label (text_of «package».now.name.name) ≡ true }
-    requires version { passes is_version «package».now.name.version ≡ true }
-    requires worlds { list_all (is_printable_listed resolve.now here) «package».now.worlds.entries ≡ true }
-    ensures ok { OnOk result (Moves O.keeps (O.view output.old) (plain_package_calls emits_docs is_main resolve.now «package».now) (O.view output.new)) }
-    ensures err { OnErr result (Begins O.keeps (O.view output.old) (plain_package_calls emits_docs is_main resolve.now «package».now) (O.view output.new)) }
-    ensures memory { IsOkUnless result Memory }
-{
-    print_package_start(output, alloc, emits_docs, package, is_main)?;
-    print_worlds(output, alloc, emits_docs, resolve, here, &package.worlds)?;
-    print_package_end(output, is_main)
 }

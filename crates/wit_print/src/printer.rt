@@ -17,14 +17,18 @@ ghost use Rattle.wit_print.specs.Calls.{file_calls, package_calls, package_outer
 ghost use Rattle.wit_print.specs.Heads.{interface_head_calls};
 
 use crate::draft::Draft;
-use crate::interface::print_head;
+use crate::interface::{print_head, print_interface_body};
 use crate::output::Output;
 use crate::output_to_string::OutputToString;
-use crate::package::print_plain_package;
+use crate::package::print_whole_package;
 use crate::parts::draft_package_outer;
 use crate::type_name::draft_type_name;
+use crate::types::{package_of, print_owned_types};
 use std::alloc::Global;
-use wit_model::{Error, InterfaceId, Package, PackageId, Resolve, Type};
+use std::collections::HashMap;
+use wit_model::{
+    Error, Function, InterfaceId, Package, PackageId, Resolve, Type, TypeId, TypeOwner,
+};
 
 /// Prints packages to an output.
 #[derive(Drop)]
@@ -32,10 +36,12 @@ pub struct WitPrinter<O: Output = OutputToString> {
     /// What the printer drives.
     pub output: O,
     emit_docs: bool,
+    // The outer block has printed something.
+    has_printed: bool,
 }
 
 impl<O: Output> WitPrinter<O> {
-    ghost use Rattle.wit_print.specs.Printer.{emits_docs};
+    ghost use Rattle.wit_print.specs.Printer.{emits_docs, has_printed};
 
     /// A printer to an output. Documentation is printed.
     pub fn new(output: O) -> WitPrinter<O>
@@ -45,6 +51,7 @@ impl<O: Output> WitPrinter<O> {
         WitPrinter {
             output,
             emit_docs: true,
+            has_printed: false,
         }
     }
 
@@ -58,13 +65,7 @@ impl<O: Output> WitPrinter<O> {
         self
     }
 
-    /// Prints a package as a file. Nested packages aren't printed yet.
-    ///
-    /// What the calls of the file render to, which is what a fresh `OutputToString` holds after a completed print, has one
-    /// reading in the grammar of WIT text: what is shown of the package.
-    ///
-    /// What the printer keeps meanwhile is bounded by the largest item. After a refusal the output has a beginning of
-    /// the calls.
+    /// Prints a package as a file, with others nested in it.
     pub fn print(
         &mut self,
         alloc: Global,
@@ -73,23 +74,38 @@ impl<O: Output> WitPrinter<O> {
         nested: &[PackageId],
     ) -> Result<(), Error>
         requires valid { IsValid resolve.now }
-        requires plain { IsPlain resolve.now }
         requires in_range { id.0 < length resolve.now.packages.items }
-        requires nested { nested.now ≡ [] }
+        requires nested { list_all (λ other. in_list resolve.now.packages.items other.0) nested.now ≡ true }
         ensures ok { OnOk result (Moves O.keeps (O.view self.old.output) (file_calls (emits_docs self.old) (shown_file resolve.now id nested.now)) (O.view self.new.output)) }
         ensures err { OnErr result (Begins O.keeps (O.view self.old.output) (file_calls (emits_docs self.old) (shown_file resolve.now id nested.now)) (O.view self.new.output)) }
         ensures reads { IsOnlyReading (render (file_calls (emits_docs self.old) (shown_file resolve.now id nested.now))) (file_as_read (shown_file resolve.now id nested.now)) }
         ensures memory { IsOkUnless result Memory }
         ensures docs { emits_docs self.new ≡ emits_docs self.old }
     {
-        let _nested = nested;
-        self.print_package(alloc, resolve, id, true)
+        self.print_package(alloc, resolve, id, true)?;
+        if let Some((first, rest)) = nested.split_first() {
+            self.print_package(alloc, resolve, *first, false)?;
+            self.print_more(alloc, resolve, rest)?;
+        }
+        Ok(())
+    }
+
+    // Nested packages, each after two line ends.
+    fn print_more(
+        &mut self,
+        alloc: Global,
+        resolve: &Resolve,
+        nested: &[PackageId],
+    ) -> Result<(), Error> {
+        for id in nested {
+            self.output.newline()?;
+            self.output.newline()?;
+            self.print_package(alloc, resolve, *id, false)?;
+        }
+        Ok(())
     }
 
     /// Prints a package: the main one of a file, or one that is nested in it.
-    ///
-    /// What the printer keeps meanwhile is bounded by the largest item. After a refusal the output has a beginning of
-    /// the calls.
     pub fn print_package(
         &mut self,
         alloc: Global,
@@ -98,27 +114,16 @@ impl<O: Output> WitPrinter<O> {
         is_main: bool,
     ) -> Result<(), Error>
         requires valid { IsValid resolve.now }
-        requires plain { IsPlain resolve.now }
         requires in_range { id.0 < length resolve.now.packages.items }
         ensures ok { OnOk result (Moves O.keeps (O.view self.old.output) (package_calls (emits_docs self.old) is_main (shown_package resolve.now id)) (O.view self.new.output)) }
         ensures err { OnErr result (Begins O.keeps (O.view self.old.output) (package_calls (emits_docs self.old) is_main (shown_package resolve.now id)) (O.view self.new.output)) }
         ensures memory { IsOkUnless result Memory }
         ensures docs { emits_docs self.new ≡ emits_docs self.old }
     {
-        let package = &resolve.packages[id.0 as usize];
-        print_plain_package(
-            &mut self.output,
-            alloc,
-            self.emit_docs,
-            resolve,
-            id,
-            package,
-            is_main,
-        )
+        print_whole_package(&mut self.output, alloc, self.emit_docs, resolve, id, is_main)
     }
 
     /// Prints a package's documentation, and its name and version as they are declared.
-    #[tactic(auto, using(crate::proofs::Moves::moving))]
     pub fn print_package_outer(&mut self, alloc: Global, package: &Package) -> Result<(), Error>
         requires namespace { is_label (text_of «package».now.name.namespace) ≡ true }
         requires name { is_label (text_of «package».now.name.name) ≡ true }
@@ -132,10 +137,8 @@ impl<O: Output> WitPrinter<O> {
         draft_package_outer(&mut draft, self.emit_docs, package)?;
         draft.make(&mut self.output)
     }
+
     /// Prints an interface's documentation, gates and name, under the name that is handed in, as they are declared.
-    /// Neither the start of its block nor what it has.
-    ///
-    /// After a refusal the output has a beginning of the calls.
     pub fn print_interface_outer(
         &mut self,
         alloc: Global,
@@ -155,11 +158,51 @@ impl<O: Output> WitPrinter<O> {
         print_head(&mut self.output, alloc, self.emit_docs, interface, name)
     }
 
-    /// Prints a type as it stands where it is used: by its name, or else by its kind. A handle that owns a resource and has no
-    /// name of its own is printed as the resource.
-    ///
-    /// What the printer keeps meanwhile is bounded by what is printed. After a refusal the output has a beginning of the calls.
-    #[tactic(auto, using(crate::proofs::Moves::moving))]
+    /// Prints what an interface has, a block of its own.
+    pub fn print_interface(
+        &mut self,
+        alloc: Global,
+        resolve: &Resolve,
+        id: InterfaceId,
+    ) -> Result<(), Error>
+        requires valid { IsValid resolve.now }
+        requires in_range { id.0 < length resolve.now.interfaces.items }
+        ensures ok { OnOk result (Moves O.keeps (O.view self.old.output) (interface_body_calls (emits_docs self.old) resolve.now id) (O.view self.new.output)) }
+        ensures err { OnErr result (Begins O.keeps (O.view self.old.output) (interface_body_calls (emits_docs self.old) resolve.now id) (O.view self.new.output)) }
+        ensures memory { IsOkUnless result Memory }
+        ensures docs { emits_docs self.new ≡ emits_docs self.old }
+        ensures mark { has_printed self.new ≡ has_printed self.old }
+    {
+        let here = package_of(resolve, TypeOwner::Interface(id)).unwrap();
+        print_interface_body(&mut self.output, alloc, self.emit_docs, resolve, here, id)
+    }
+
+    /// Prints types of an owner, with functions of resources among them. They go on in the printer's outer block.
+    pub fn print_types<'a, I: Iterator<Item = (&'a str, TypeId)>>(
+        &mut self,
+        alloc: Global,
+        resolve: &Resolve,
+        owner: TypeOwner,
+        types: I,
+        functions: &HashMap<TypeId, Vec<&Function>>,
+    ) -> Result<(), Error> {
+        let here = package_of(resolve, owner).unwrap();
+        let has_printed = print_owned_types(
+            &mut self.output,
+            alloc,
+            self.emit_docs,
+            self.has_printed,
+            resolve,
+            owner,
+            here,
+            types,
+            functions,
+        )?;
+        self.has_printed = has_printed;
+        Ok(())
+    }
+
+    /// Prints a type as it stands where it is used: by its name, or else by its kind.
     pub fn print_type_name(
         &mut self,
         alloc: Global,

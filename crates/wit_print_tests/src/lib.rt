@@ -13,3 +13,5 @@ mod printed;
 mod recording;
 #[cfg(test)]
 mod type_names;
+#[cfg(test)]
+mod whole;

@@ -1,0 +1,14 @@
+-- The parameters so far are drafted.
+use Rattle.std.proofs.Common.{◌≡◌, ◌++◌, ◌∷◌, take, false}
+use Rattle.std.specs.Prelude.{codes}
+use Rattle.std.specs.List.{flat_map}
+use Rattle.wit_print.specs.OutputCall.{OutputCall}
+use Rattle.wit_print.specs.Shown.{shown_param}
+use Rattle.wit_print.specs.Calls.{param_calls}
+use Rattle.wit_print.proofs.function.draft_more_params.Given as goal
+
+abbrev pub invariant-loop-param : goal.invariant-loop-param
+invariant-loop-param l = record {
+  line : l.draft.line_begun ≡ false;
+  calls : l.draft.kept ≡ l.fn.draft.kept ++ flat_map (λ param. OutputCall.Str (codes ", ") ∷ param_calls (shown_param l.resolve param)) (take l.param-index l.params);
+}
