@@ -37,6 +37,15 @@ line_end_calls = Str (codes ",") ∷ Newline ∷ []
 abbrev pub angle_calls : Text → List OutputCall
 angle_calls word = Ty word kind.BuiltIn ∷ Str (codes "<") ∷ []
 
+-- a type in such brackets
+abbrev pub angled_calls : Text → TypeTree → List OutputCall
+angled_calls word ty = angle_calls word ++ (type_calls ty ++ (Str (codes ">") ∷ []))
+
+-- a word alone, or with a payload
+abbrev pub carrier_calls : Text → Option TypeTree → List OutputCall
+carrier_calls word None = Ty word kind.BuiltIn ∷ []
+carrier_calls word (Some ty) = angled_calls word ty
+
 -- ---- functions
 
 -- a function under a name
@@ -75,8 +84,17 @@ alias_tree r (defined.Handle h) = named_handle r h
 alias_tree r k = kind_tree r (type_trees r) k
 
 -- a name for a type, without the end of its line
-abbrev pub alias_start_calls : Text → TypeTree → List OutputCall
-alias_start_calls name ty = Keyword (codes "type") ∷ space ∷ Ty (escaped name) (alias_kind ty) ∷ Str (codes " = ") ∷ []
+abbrev pub alias_start_calls : Text → TypeKind → List OutputCall
+alias_start_calls name of_kind = Keyword (codes "type") ∷ space ∷ Ty (escaped name) of_kind ∷ Str (codes " = ") ∷ []
+
+-- a kind that `type` declares
+abbrev pub is_declared_by_type : TypeDefKind → Bool
+is_declared_by_type (defined.Record x) = false
+is_declared_by_type (defined.Variant x) = false
+is_declared_by_type (defined.Flags x) = false
+is_declared_by_type (defined.Enum x) = false
+is_declared_by_type defined.Resource = false
+is_declared_by_type k = true
 
 -- a resource's word and name
 abbrev pub resource_name_calls : Text → List OutputCall

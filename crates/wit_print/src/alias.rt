@@ -1,7 +1,6 @@
 //! Types that `type` declares, drafted.
 
-ghost use Rattle.std.specs.Prelude.{◌≡◌, ◌++◌, ◌∷◌, [], codes, true, false, not, option_map, IsTrue, OnOk};
-ghost use Rattle.std.specs.Fmt.{decimal};
+ghost use Rattle.std.specs.Prelude.{◌≡◌, ◌++◌, ◌∷◌, [], codes, true, false, Some, option_map, IsTrue, OnOk};
 ghost use Rattle.wit_model.specs.Names.{is_label};
 ghost use Rattle.wit_model.specs.Lookup.{type_at};
 ghost use Rattle.wit_model.specs.Parts.{handle_target};
@@ -10,9 +9,10 @@ ghost use Rattle.wit_print.specs.OutputCall.{OutputCall, is_one_line, has_no_spa
 ghost use Rattle.wit_print.specs.Shown.{kind_tree, shown_type, type_trees};
 ghost use Rattle.wit_print.specs.Tree.Declared.{AliasOf};
 ghost use Rattle.wit_print.specs.Calls.{alias_body_calls, alias_kind as alias_kind_lem, declared_calls, type_calls};
-ghost use Rattle.wit_print.specs.ItemCalls.{alias_start_calls, alias_tree, angle_calls, named_handle};
+ghost use Rattle.wit_print.specs.ItemCalls.{alias_start_calls, alias_tree, angle_calls, angled_calls, carrier_calls, is_declared_by_type, named_handle};
 ghost use Rattle.wit_print.specs.TypeParts.{is_labelled};
-ghost use Rattle.wit_print.specs.WellNamed.{is_well_type};
+ghost use Rattle.wit_print.specs.Tree.TypeTree.{FixedListOf, MapOf};
+ghost use Rattle.wit_print.specs.WellNamed.{is_well_optional, is_well_type};
 
 use crate::draft::Draft;
 use crate::type_kind::TypeKind;
@@ -21,7 +21,10 @@ use std::alloc::AllocError;
 use wit_model::{Handle, Resolve, Type, TypeDefKind, TypeId};
 
 /// The kind of a name that `type` declares.
-fn alias_kind(kind: &TypeDefKind) -> TypeKind {
+fn alias_kind(resolve: &Resolve, kind: &TypeDefKind) -> TypeKind
+    ensures { result ≡ alias_kind_lem (alias_tree resolve.now kind.now) }
+{
+    let _resolve = resolve;
     match kind {
         TypeDefKind::Handle(_) => TypeKind::Resource,
         TypeDefKind::Tuple(_) => TypeKind::Tuple,
@@ -72,7 +75,7 @@ fn draft_angled<'a>(
     requires front { IsTrue (has_no_space_first word.now) }
     requires valid { IsValid resolve.now }
     requires well { is_well_type (shown_type resolve.now ty.now) ≡ true }
-    ensures { OnOk result (draft.new ≡ record { line_begun = false; kept = draft.old.kept ++ (angle_calls word.now ++ (type_calls (shown_type resolve.now ty.now) ++ (OutputCall.Str (codes ">") ∷ []))) }) }
+    ensures { OnOk result (draft.new ≡ record { line_begun = false; kept = draft.old.kept ++ angled_calls word.now (shown_type resolve.now ty.now) }) }
 {
     draft_angle(draft, word)?;
     draft_type(draft, resolve, ty)?;
@@ -85,7 +88,13 @@ fn draft_carrier<'a>(
     resolve: &'a Resolve,
     word: &'a str,
     payload: &Option<Type>,
-) -> Result<(), AllocError> {
+) -> Result<(), AllocError>
+    requires one_line { IsTrue (is_one_line word.now) }
+    requires front { IsTrue (has_no_space_first word.now) }
+    requires valid { IsValid resolve.now }
+    requires well { is_well_optional is_well_type (option_map (shown_type resolve.now) payload.now) ≡ true }
+    ensures { OnOk result (draft.new ≡ record { line_begun = false; kept = draft.old.kept ++ carrier_calls word.now (option_map (shown_type resolve.now) payload.now) }) }
+{
     match payload {
         Some(ty) => draft_angled(draft, resolve, word, ty),
         None => draft.word(word, TypeKind::BuiltIn),
@@ -115,7 +124,12 @@ fn draft_map<'a>(
     resolve: &'a Resolve,
     key: &Type,
     value: &Type,
-) -> Result<(), AllocError> {
+) -> Result<(), AllocError>
+    requires valid { IsValid resolve.now }
+    requires key { is_well_type (shown_type resolve.now key.now) ≡ true }
+    requires value { is_well_type (shown_type resolve.now value.now) ≡ true }
+    ensures { OnOk result (draft.new ≡ record { line_begun = false; kept = draft.old.kept ++ alias_body_calls (MapOf (shown_type resolve.now key.now) (shown_type resolve.now value.now)) }) }
+{
     draft_angle(draft, "map")?;
     draft_two(draft, resolve, key, value)?;
     draft.str(">")
@@ -126,7 +140,11 @@ fn draft_fixed_list<'a>(
     resolve: &'a Resolve,
     ty: &Type,
     length: u32,
-) -> Result<(), AllocError> {
+) -> Result<(), AllocError>
+    requires valid { IsValid resolve.now }
+    requires well { is_well_type (shown_type resolve.now ty.now) ≡ true }
+    ensures { OnOk result (draft.new ≡ record { line_begun = false; kept = draft.old.kept ++ alias_body_calls (FixedListOf (shown_type resolve.now ty.now) length) }) }
+{
     draft_angle(draft, "list")?;
     draft_type(draft, resolve, ty)?;
     draft.length(length)?;
@@ -139,7 +157,14 @@ fn draft_body<'a>(
     resolve: &'a Resolve,
     id: TypeId,
     kind: &TypeDefKind,
-) -> Result<(), AllocError> {
+) -> Result<(), AllocError>
+    requires same_line { draft.old.line_begun ≡ false }
+    requires valid { IsValid resolve.now }
+    requires at { option_map (λ def. def.kind) (type_at resolve.now id.0) ≡ Some kind.now }
+    requires unnamed { is_declared_by_type kind.now ≡ true }
+    requires well { is_well_type (alias_tree resolve.now kind.now) ≡ true }
+    ensures { OnOk result (draft.new ≡ record { line_begun = false; kept = draft.old.kept ++ alias_body_calls (alias_tree resolve.now kind.now) }) }
+{
     match kind {
         TypeDefKind::Type_(ty) => draft_type(draft, resolve, ty),
         TypeDefKind::Handle(handle) => draft_named_handle(draft, resolve, handle),
@@ -157,7 +182,10 @@ fn draft_alias_start<'a>(
     draft: &mut Draft<'a>,
     name: &'a str,
     kind: TypeKind,
-) -> Result<(), AllocError> {
+) -> Result<(), AllocError>
+    requires { is_label name.now ≡ true }
+    ensures { OnOk result (draft.new ≡ record { line_begun = false; kept = draft.old.kept ++ alias_start_calls name.now kind }) }
+{
     draft.keyword("type")?;
     draft.str(" ")?;
     draft.name(name, kind)?;
@@ -171,8 +199,15 @@ pub(crate) fn draft_alias<'a>(
     id: TypeId,
     name: &'a str,
     kind: &TypeDefKind,
-) -> Result<(), AllocError> {
-    draft_alias_start(draft, name, alias_kind(kind))?;
+) -> Result<(), AllocError>
+    requires valid { IsValid resolve.now }
+    requires at { option_map (λ def. def.kind) (type_at resolve.now id.0) ≡ Some kind.now }
+    requires unnamed { is_declared_by_type kind.now ≡ true }
+    requires label { is_label name.now ≡ true }
+    requires well { is_well_type (alias_tree resolve.now kind.now) ≡ true }
+    ensures { OnOk result (draft.new ≡ record { line_begun = true; kept = draft.old.kept ++ declared_calls true (AliasOf name.now (alias_tree resolve.now kind.now)) }) }
+{
+    draft_alias_start(draft, name, alias_kind(resolve, kind))?;
     draft_body(draft, resolve, id, kind)?;
     draft.semicolon()
 }

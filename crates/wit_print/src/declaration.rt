@@ -42,5 +42,12 @@ pub(crate) fn draft_declaration<'a>(
         &def.stability,
         &def.external_id,
     )?;
-    draft_declared(draft, emits_docs, resolve, id, present(&def.name), &def.kind)
+    draft_declared(
+        draft,
+        emits_docs,
+        resolve,
+        id,
+        present(&def.name),
+        &def.kind,
+    )
 }

@@ -199,7 +199,10 @@ impl<'a> Draft<'a> {
         ensures { OnOk result (self.new ≡ record { line_begun = false; kept = self.old.kept ++ OutputCall.Ty (version_text version.now) TypeKind.VersionAnnotation ∷ [] }) }
     {
         let text = format!(in self.alloc; "{version}")?;
-        self.push(Piece::Ty(CowStr::Owned(text), TypeKind::VersionAnnotation), false)
+        self.push(
+            Piece::Ty(CowStr::Owned(text), TypeKind::VersionAnnotation),
+            false,
+        )
     }
 
     /// A version after its mark, `@`.

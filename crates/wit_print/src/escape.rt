@@ -123,7 +123,5 @@ pub(crate) fn escape_character(alloc: Global, c: char) -> Result<CowStr<'static>
         return Ok(CowStr::Borrowed("\\t"));
     }
     let number = c as u32;
-    Ok(CowStr::Owned(
-        format!(in alloc; "\\u{{{number:x}}}")?,
-    ))
+    Ok(CowStr::Owned(format!(in alloc; "\\u{{{number:x}}}")?))
 }

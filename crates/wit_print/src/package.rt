@@ -2,10 +2,10 @@
 
 use crate::block::draft_block_start;
 use crate::draft::Draft;
+use crate::gates::draft_gates;
 use crate::interface::{draft_head, print_interface_body};
 use crate::output::Output;
 use crate::parts::draft_package_outer;
-use crate::gates::draft_gates;
 use crate::prefix::draft_docs;
 use crate::type_kind::TypeKind;
 use crate::world::print_world_body;
@@ -46,7 +46,13 @@ fn print_world<O: Output>(
     name: &str,
     id: WorldId,
 ) -> Result<(), Error> {
-    print_world_start(output, alloc, emits_docs, name, &resolve.worlds[id.0 as usize])?;
+    print_world_start(
+        output,
+        alloc,
+        emits_docs,
+        name,
+        &resolve.worlds[id.0 as usize],
+    )?;
     print_world_body(output, alloc, emits_docs, resolve, here, id)?;
     output.indent_end()
 }

@@ -120,7 +120,14 @@ impl<O: Output> WitPrinter<O> {
         ensures memory { IsOkUnless result Memory }
         ensures docs { emits_docs self.new ≡ emits_docs self.old }
     {
-        print_whole_package(&mut self.output, alloc, self.emit_docs, resolve, id, is_main)
+        print_whole_package(
+            &mut self.output,
+            alloc,
+            self.emit_docs,
+            resolve,
+            id,
+            is_main,
+        )
     }
 
     /// Prints a package's documentation, and its name and version as they are declared.

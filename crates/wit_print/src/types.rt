@@ -146,8 +146,7 @@ pub(crate) fn print_owned_types<'t, O: Output, I: Iterator<Item = (&'t str, Type
     types: I,
     functions: &HashMap<TypeId, Vec<&Function>>,
 ) -> Result<bool, Error> {
-    let Declared { numbers, has_uses } =
-        print_uses(output, alloc, resolve, owner, here, types)?;
+    let Declared { numbers, has_uses } = print_uses(output, alloc, resolve, owner, here, types)?;
     print_declarations(
         output,
         alloc,

@@ -1,9 +1,9 @@
 //! Types that are used from other interfaces, in groups.
 
 use crate::draft::Draft;
+use crate::gates::draft_gates;
 use crate::output::Output;
 use crate::path::draft_path;
-use crate::gates::draft_gates;
 use crate::prefix::draft_external_id;
 use crate::type_kind::TypeKind;
 use crate::type_name::present;

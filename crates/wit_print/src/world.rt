@@ -2,10 +2,10 @@
 
 use crate::draft::Draft;
 use crate::function::draft_named;
+use crate::gates::draft_gates;
 use crate::interface::{print_interface_body, put_function};
 use crate::output::Output;
 use crate::path::draft_path;
-use crate::gates::draft_gates;
 use crate::prefix::{draft_docs, draft_external_id, draft_prefix};
 use crate::type_kind::TypeKind;
 use crate::types::{print_line_before, print_owned_types};
@@ -17,12 +17,7 @@ use wit_model::{
 };
 
 /// The documentation of an interface item: its own, and the interface's where it has none and stands under a label.
-fn docs_of<'a>(
-    resolve: &'a Resolve,
-    key: &WorldKey,
-    id: InterfaceId,
-    docs: &'a Docs,
-) -> &'a Docs {
+fn docs_of<'a>(resolve: &'a Resolve, key: &WorldKey, id: InterfaceId, docs: &'a Docs) -> &'a Docs {
     match key {
         WorldKey::Interface(_) => docs,
         WorldKey::Name(_) => match docs.contents {
@@ -174,7 +169,9 @@ fn print_imported_interfaces<O: Output>(
     let mut has_printed = false;
     for (key, item) in items {
         if let WorldItem::Interface { .. } = item {
-            print_interface_item(output, alloc, emits_docs, resolve, here, "import", key, item)?;
+            print_interface_item(
+                output, alloc, emits_docs, resolve, here, "import", key, item,
+            )?;
             has_printed = true;
         }
     }
@@ -214,7 +211,9 @@ fn print_export<O: Output>(
 ) -> Result<(), Error> {
     match item {
         WorldItem::Interface { .. } => {
-            print_interface_item(output, alloc, emits_docs, resolve, here, "export", key, item)
+            print_interface_item(
+                output, alloc, emits_docs, resolve, here, "export", key, item,
+            )
         }
         WorldItem::Function(function) => {
             print_function_item(output, alloc, emits_docs, resolve, "export", function)
