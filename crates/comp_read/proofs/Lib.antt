@@ -1,6 +1,7 @@
 pub mod AddLaws
 pub mod BodyLaws
 pub mod DeclarationLaws
+pub mod DefiningLaws
 pub mod DefinitionKeyLaws
 pub mod EntryLaws
 pub mod FactLaws

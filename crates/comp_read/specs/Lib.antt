@@ -8,3 +8,4 @@ pub mod Facts
 pub mod Slots
 pub mod DefinitionKeys
 pub mod Rows
+pub mod Defining

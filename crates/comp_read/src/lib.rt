@@ -3,6 +3,7 @@
 
 mod bodies;
 mod declarations;
+mod defining;
 mod definition_keys;
 mod definitions;
 mod facts;
@@ -21,6 +22,7 @@ mod vector;
 
 pub use bodies::{Body, Entry, entry_of};
 pub use declarations::{Declared, Description, declaration_of};
+pub use defining::define;
 pub use definition_keys::{Definition, definition_of};
 pub use facts::{Fact, Names};
 pub use keys::Key;
