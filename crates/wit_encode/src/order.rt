@@ -47,7 +47,7 @@ fn placed<'a>(
     ensures functions { IfOk result (λ v. map placed_function v.items ≡ map keyed interface.now.functions.entries) }
     ensures places { IfOk result (λ v. All (λ e. e.0 ≡ place_among types.now e.2.now) v.items) }
 {
-    let mut all = Vec::new(alloc);
+    let mut all = Vec::with_capacity(alloc, interface.functions.len())?;
     for (name, func) in interface.functions.iter() {
         all.push((place_of(types, places, func), name, func))?;
     }
@@ -79,7 +79,7 @@ pub(crate) fn types_in_order(
 ) -> Result<Vec<TypeId>, AllocError>
     ensures { IfOk result (λ v. v.items ≡ values interface.now.types) }
 {
-    let mut all = Vec::new(alloc);
+    let mut all = Vec::with_capacity(alloc, interface.types.len())?;
     for id in interface.types.values() {
         all.push(*id)?;
     }

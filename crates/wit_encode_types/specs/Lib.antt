@@ -18,5 +18,6 @@ pub mod Table
 pub mod Distinct
 pub mod Leaves
 pub mod MetKinds
+pub mod Numbers
 pub mod Codes
 pub mod CodeLaws

@@ -142,7 +142,7 @@ pub(crate) fn key_list(
     ensures some { IfOk result (λ o. IfSome o (λ v. IsKeyList (names_of names.now) key.now v.items)) }
     ensures none { IfOk result (λ o. IfNone o (LacksKeyList (names_of names.now) key.now)) }
 {
-    let mut list = Vec::new(alloc);
+    let mut list = Vec::with_capacity(alloc, 2 * key.params.0.len() + 4)?;
     list.push(u64::from(key.async_))?;
     list.push(key.params.0.len() as u64)?;
     if !push_params(names, &mut list, key.params.0)? {

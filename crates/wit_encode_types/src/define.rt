@@ -1,6 +1,6 @@
 //! Defines types whose parts are known, in a scope of any encoder.
 
-ghost use Rattle.std.specs.Prelude.{◌≡◌, ◌⊎◌, Err, ◌<◌, ◌&&◌, true, false, not, length, IfOk, OnOk, List, Some, None, is_some, IfErr, ◌∷◌, []};
+ghost use Rattle.std.specs.Prelude.{◌≡◌, Err, ◌<◌, ◌&&◌, true, false, not, length, IfOk, OnOk, List, Some, None, is_some, IfErr, ◌∷◌, []};
 ghost use Rattle.std.specs.List.{Contains};
 ghost use Rattle.comp_bytes.specs.RawOf.{raw_name};
 ghost use Rattle.comp_bytes.specs.Refusal.{IsMemoryOrSize};
@@ -17,6 +17,7 @@ ghost use Rattle.wit_encode_types.specs.Room.{value_type, export_name, import_of
 ghost use Rattle.wit_encode_types.specs.View.{Agrees, Grows, ExportsName, HoldsMore, HoldsLearnt};
 ghost use Rattle.wit_encode_types.specs.Kinds.{parts_of, kind_of, kind_tree, has_form, has_definition};
 ghost use Rattle.wit_encode_types.specs.Codes.{kind_code};
+ghost use Rattle.wit_encode_types.specs.Numbers.{PartsReady, NamedLacksRoom};
 ghost use Rattle.wit_encode_types.specs.Maps.{IsKnown, IsReady, AllReady, LacksKind, LearnsOne};
 ghost use Rattle.wit_encode_types.specs.Scope.{DeclaresSlot, DeclaresResource, IsImportable, IsDeclared, exported_name};
 ghost use Rattle.wit_encode_types.specs.Formed.{IsFormed};
@@ -267,7 +268,7 @@ fn define_named<'a, E: ValtypeEncoder<'a>>(
     ensures counts { OnOk result (CountsTypes resolve.now (E.view enc.old) (E.view enc.new)) }
     ensures kinds { OnOk result ((E.view enc.new).maps.def_to_index.entries ≡ (E.view enc.old).maps.def_to_index.entries) }
     ensures held { HoldsMore 2 (E.view enc.old) (E.view enc.new) }
-    ensures size { result ≡ Err Size → (E.view enc.new).lacks_room (value_type (kind_tree resolve.now def.entry.now.kind)) ⊎ (E.view enc.new).lacks_room (export_name (raw_name name.entry)) }
+    ensures size { result ≡ Err Size → NamedLacksRoom resolve.now def.entry.now (raw_name name.entry) (E.view enc.new) }
     ensures refuses { IfErr result IsMemoryOrSize }
 {
     let index = define_kind(alloc, enc, resolve, &def.kind)?;
@@ -321,7 +322,7 @@ fn define_number<'a, E: ValtypeEncoder<'a>>(
     requires layered { IsLayered resolve.now }
     requires in_range { id.0 < length resolve.now.types.items }
     requires fits { Fits resolve.now (E.view enc.old).scope id.0 }
-    requires ready { (def : _) → type_at resolve.now id.0 ≡ Some def → foreign_owner (E.view enc.old).scope.own_interface def.owner ≡ None → AllReady (E.view enc.old).maps (parts_of def.kind) }
+    requires ready { PartsReady resolve.now (E.view enc.old) id.0 }
     requires agree { Agrees resolve.now (E.view enc.old) }
     ensures ok { OnOk result (LearnsOne (E.view enc.old).maps (E.view enc.new).maps id.0) }
     ensures leaves { Leaves resolve.now (E.view enc.old) (E.view enc.new) }
