@@ -35,3 +35,5 @@ pub mod MetKinds
 pub mod Referring
 pub mod ImportsStand
 pub mod Imported
+pub mod UsedPaths
+pub mod ImportLoop

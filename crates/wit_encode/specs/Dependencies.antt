@@ -1,7 +1,7 @@
 -- The component type of an interface: it imports the types of each interface that it reaches, and exports itself, all by their paths
 -- (Component Model WIT.md, "Package Format").
-use Rattle.std.specs.Prelude.{ℕ, ◌≡◌, Bool, true, List, [], ◌∷◌, ◌++◌, length, map, Some, None, slice_get, nat_lt}
-use Rattle.std.specs.List.{AllZip, Contains, list_all}
+use Rattle.std.specs.Prelude.{ℕ, ◌≡◌, ◌==◌, Bool, true, is_some, List, [], ◌∷◌, ◌++◌, length, map, Some, None, slice_get, nat_lt}
+use Rattle.std.specs.List.{AllZip, Contains, IsDistinct, list_all}
 use Rattle.std.specs.BTreeMap.{insert_entry}
 use Rattle.std.specs.Ordering.{nat_cmp}
 use Rattle.wit_model.specs.Text.{Text}
@@ -14,7 +14,7 @@ use Rattle.wit_model.specs.declared.model.InterfaceId.{InterfaceId}
 use Rattle.comp_bytes.specs.Raw.{Declaration, Declarations, append}
 use Rattle.comp_bytes.specs.declared.forms.ComponentTypeRef.TheVariants as refs
 use Rattle.comp_meaning.specs.Follow.{Instance, Key, Scope, Seen, Shown, View, component_scope, instance_types}
-use Rattle.wit_shown.specs.Views.{AreReached, ShowsDependencies, ShowsImport}
+use Rattle.wit_shown.specs.Views.{AreReached, ShowsDependencies, ShowsImport, UseEarlier}
 use Rattle.world_names.specs.WorldNames.{name_of_interface}
 use Rattle.wit_encode_types.specs.Known.{Around, GrowsAround, UsedStand, are_right, known_instance, no_around, outer_scope, outer_slots, standing_instances}
 use Rattle.wit_encode.specs.Instance.{EncodesDependency, EncodesInterface}
@@ -52,6 +52,20 @@ with_import r canonical i k number around = record around {
 -- behind an instance type in slot k, the export that uses it
 abbrev pub with_export : Resolve → Bool → InterfaceId → ℕ → Declarations → Declarations
 with_export r canonical i k declared = append declared (Declarations.declares (Declaration.exported (name_of_interface r canonical i.0) (refs.Instance k)) Declarations.no_more)
+
+-- the types of an interface have been encoded, and imported as the instance of this number
+pub record ImportsTypes (r : Resolve) (canonical : Bool) (around around' : Around) (i : InterfaceId) (number : ℕ) : Type 0 where
+  pub def : Interface
+  pub slot : ℕ
+  pub encoded : Around
+  pub encodes : EncodesDependency r around encoded i def slot
+  pub imports : around' ≡ with_import r canonical i slot number encoded
+
+-- These interfaces can be imported in this order: each has a path, uses only earlier ones, and stands once.
+pub record AreImportable (r : Resolve) (numbers : List ℕ) : Type 0 where
+  pub earlier : UseEarlier r [] numbers
+  pub once : IsDistinct (λ a b. a == b) numbers
+  pub paths : (n : ℕ) → Contains numbers n → is_some (interface_path r n) ≡ true
 
 -- The declarations show interface n, exported by its path, behind the types of the interfaces that it reaches.
 pub record ShowsComponent (r : Resolve) (n : ℕ) (path : Text) (declared : Declarations) : Type 0 where
