@@ -243,10 +243,20 @@ closed-counts r outer outer' i known inner' current m m' fs ts is b held a once 
 }
 
 -- the keys of functions in another order
+permuted-same : (fs gs : List Function) (ds : List Declaration) → IsPermutation fs gs → (h : DefinesKeys gs ds) (q : Key) → is_member are_same h.keys q ≡ is_member are_same (map key_of fs) q
+permuted-same fs gs ds p h q = h.same q ∙ sym (list_any-IsPermutation (are_same q) (map key_of fs) (map key_of gs) (IsPermutation-map key_of fs gs p))
+
+pub permuted-keys : (fs gs : List Function) (ds : List Declaration) → IsPermutation fs gs → DefinesKeys gs ds → DefinesKeys fs ds
+permuted-keys fs gs ds p h = record {
+  keys = h.keys;
+  count = h.count;
+  different = h.different;
+  same = permuted-same fs gs ds p h;
+}
+
 pub count-keys : (fs gs : List Function) (ds : List Declaration) → IsPermutation fs gs → DefinesKeys gs ds
     → count_by is_function_type ds ≡ distinct_count are_same (map key_of fs)
-count-keys fs gs ds p h = h.count ∙ length-from_keys same_equiv h.keys (map key_of fs) h.different
-    (λ q. h.same q ∙ sym (list_any-IsPermutation (are_same q) (map key_of fs) (map key_of gs) (IsPermutation-map key_of fs gs p)))
+count-keys fs gs ds p h = h.count ∙ length-from_keys same_equiv h.keys (map key_of fs) h.different (permuted-same fs gs ds p h)
 
 -- ---- the calls of an encoder of interfaces
 

@@ -300,10 +300,10 @@ module _ (n t : ℕ) where
 -- ---- an alias is made
 
 module _ (r : Resolve) (a : Around) (al : Aliased) (is : IsAlias r a al) where
-  abbrev source : IsSource r a is.interface.0 al.number.0
+  abbrev pub source : IsSource r a is.interface.0 al.number.0
   source = record { def = is.def; name = is.name; there = is.there; named_ = is.named_; owned = is.owned; stands = is.stands }
 
-  abbrev stands : Stands r a is.interface.0 al.number.0 is.name
+  abbrev pub stands : Stands r a is.interface.0 al.number.0 is.name
   stands = standing r a is.interface.0 al.number.0 source
 
   same-instance : al.instance ≡ stands.number

@@ -6,6 +6,7 @@ pub mod Forming
 pub mod Strict
 pub mod Contents
 pub mod Steps
+pub mod ShownSlots
 pub mod Components
 pub mod Calls
 pub mod Wider
@@ -19,6 +20,7 @@ pub mod Continuing
 pub mod HeldKeys
 pub mod Counting
 pub mod Opening
+pub mod Closing
 pub mod Ordering
 pub mod Numbers
 pub mod Meeting
@@ -27,8 +29,11 @@ pub mod Exporting
 pub mod FunctionExports
 pub mod Encodable
 pub mod UsesNone
-pub mod Reordering
 pub mod Importing
 pub mod OwnerScope
 pub mod MetKinds
 pub mod Referring
+pub mod ImportsStand
+pub mod Imported
+pub mod UsedPaths
+pub mod ImportLoop

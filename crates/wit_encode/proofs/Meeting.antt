@@ -28,7 +28,7 @@ use Rattle.wit_encode.proofs.Numbers.{contains-flat}
 
 module _ (r : Resolve) (below : Keeps references r) where
   -- a named type meets itself
-  named-meets : (n : ℕ) (def : TypeDef) (name : String Global) → type_at r n ≡ Some def → def.name ≡ Some name → Contains (met_by (met_of r) n) n
+  pub named-meets : (n : ℕ) (def : TypeDef) (name : String Global) → type_at r n ≡ Some def → def.name ≡ Some name → Contains (met_by (met_of r) n) n
   named-meets n def name at named = subst (λ (ns : List ℕ). Contains ns n)
       (sym (met_step r below n def at ∙ ap (λ o. option_map_or (λ x. n ∷ []) o (used_by_type r def)) named)) (contains-one n)
 

@@ -21,11 +21,12 @@ use Rattle.wit_model.specs.Lookup.{place_of, interface_at}
 use Rattle.wit_model.specs.Valid.{IsValid}
 use Rattle.wit_model.specs.declared.model.Resolve.{Resolve}
 use Rattle.wit_model.specs.declared.model.InterfaceId.{InterfaceId}
+use Rattle.wit_model.specs.declared.model.TypeId.{TypeId}
 use Rattle.wit_model.specs.declared.model.TypeOwner.TheVariants as owner
-use Rattle.wit_model.proofs.Lists.{first_true}
+use Rattle.wit_model.proofs.Lists.{first_true, second_true}
 use Rattle.comp_bytes.specs.Raw.{Declaration, Declarations, append, from_list}
 use Rattle.comp_bytes.specs.Reading.{◌>>=◌}
-use Rattle.comp_meaning.specs.Follow.{instance_view}
+use Rattle.comp_meaning.specs.Follow.{View, instance_view}
 use Rattle.wit_encode_types.specs.declared.maps.TypeEncodingMaps.{TypeEncodingMaps}
 use Rattle.wit_encode.specs.declared.interface.OpenInterface.{OpenInterface}
 use Rattle.wit_encode.specs.declared.interface.Foreign.{Foreign}
@@ -36,16 +37,15 @@ use Rattle.comp_meaning.specs.Follow.{Slot, new_scope, in_scope}
 use Rattle.wit_encode_types.specs.Known.{Around, GrowsAround, known_instance, is_standing, stands_around, are_right, below, outer_scope, outer_instances}
 use Rattle.wit_encode.proofs.Components.{steps-instance}
 use Rattle.wit_encode_types.specs.Scope.{Scope}
-use Rattle.wit_encode.specs.Order.{functions_in_order}
-use Rattle.wit_encode_types.specs.Distinct.{DefinesKeys, DefinesTypes}
+use Rattle.wit_encode.specs.Exports.{AreTypesOf}
+use Rattle.wit_encode_types.proofs.Paths.{some-same}
 use Rattle.indexmap.specs.IndexMap.{values}
-use Rattle.wit_encode.proofs.Counting.{count-keys}
-use Rattle.wit_encode.specs.Instance.{is_slot_of, no_view, outer_slots, inner_contents, outer_contents, stands_in, SlotsStand, own_of, around_at, around_of, standing_instances, resources_in, contents_of, encoder_scope, opened, keyed, placed_function, meaning_of, EncodesInterface, IsInstance, Continues, definitions_with}
+use Rattle.wit_encode.proofs.ShownSlots.{interface-shown}
+use Rattle.wit_encode.specs.Instance.{is_slot_of, no_view, outer_slots, inner_contents, outer_contents, stands_in, SlotsStand, own_of, around_at, around_of, standing_instances, resources_in, contents_of, encoder_scope, opened, keyed, placed_function, meaning_of, is_sound_in, IsInstance, Continues, definitions_with}
 use Rattle.wit_encode_types.specs.Slots.{Keeps}
-use Rattle.wit_encode.proofs.Calls.{inner-at}
+use Rattle.wit_encode.proofs.Calls.{InnerAt, inner-at}
 use Rattle.wit_encode.proofs.Outside.{instance-keeps}
 use Rattle.wit_encode.proofs.Importing.{grown-keeps, grown-stands, right-more}
-use Rattle.wit_encode.proofs.Reordering.{functions-mean}
 
 pub opened-sound : (r : Resolve) (outer : Declarations) (i : InterfaceId) (known : Foreign) → (encoder_scope r outer (opened i known)).is_sound ≡ true
 unfolding inner_contents
@@ -69,21 +69,37 @@ view-at place outer ds e =
     let a = inner-at place outer ds e in
     ap (λ o. o >>= λ scope. Some scope.shown) a.is ∙ ap Some (sym (ap (λ o. option_map_or (λ s. s.shown) o no_view) a.is))
 
+shown-at : (place : Place) (outer : Declarations) (ds : List Declaration) (a : InnerAt place outer ds) → (inner_contents place outer ds).shown ≡ a.scope.shown
+unfolding inner_contents
+shown-at place outer ds a = ap (λ o. option_map_or (λ s. s.shown) o no_view) a.is
+
 -- what is closed is an instance type that can be followed
-pub closed-instance : (r : Resolve) (outer outer' : Declarations) (i : InterfaceId) (known : Foreign) (inner' : Option OpenInterface) (current : OpenInterface) (m m' : TypeEncodingMaps) (fs : List (Text × FunctionMeaning)) → inner' ≡ Some current → own_of inner' ≡ Some i
+pub closed-instance : (r : Resolve) → IsValid r → (outer outer' : Declarations) (i : InterfaceId) (def : Interface) → interface_at r i.0 ≡ Some def
+    → (known : Foreign) (inner' : Option OpenInterface) (current : OpenInterface) (m m' : TypeEncodingMaps) (fs : List (Text × FunctionMeaning)) → inner' ≡ Some current → own_of inner' ≡ Some i
     → Continues r r outer outer' (opened i known) inner' m m' → (contents_of r outer' inner').shown.functions ≡ (contents_of r outer (opened i known)).shown.functions ++ fs
     → (definitions_with (contents_of r outer' inner')).exports ≡ (interface_meaning_at r i.0).types → IsInstance r outer' i current.declared fs
-closed-instance r outer outer' i known inner' current m m' fs is own c h exported =
-    let at : contents_of r outer' inner' ≡ inner_contents (place_of r (owner.Interface i)) outer' current.declared =
+closed-instance r v outer outer' i def there known inner' current m m' fs is own c h exported =
+    let place = place_of r (owner.Interface i) in
+    let inside = inner_contents place outer' current.declared in
+    let at : contents_of r outer' inner' ≡ inside =
     (λ j. contents_of r outer' (is j)) ∙ ap (λ (k : InterfaceId). inner_contents (place_of r (owner.Interface k)) outer' current.declared) (let e : Some current.interface ≡ Some i = sym (ap own_of is) ∙ own in let z : current.interface ≡ i = cc in z) in
     let sound : (encoder_scope r outer' inner').is_sound ≡ true = ap (λ (s : Scope). s.is_sound) c.scope_stays ∙ opened-sound r outer i known in
-    let followed : (contents_of r outer' inner').is_followed ≡ true = first_true (contents_of r outer' inner').is_followed (list_all (is_slot_of (resources_in r (own_of inner'))) (contents_of r outer' inner').slots) sound in
+    let all : is_sound_in r (Some i) inside ≡ true = (λ j. is_sound_in r (sym own j) (sym at j)) ∙ sound in
+    let followed : inside.is_followed ≡ true = first_true inside.is_followed _ all in
+    let a = inner-at place outer' current.declared followed in
+    let shown = shown-at place outer' current.declared a in
     record {
-      view = (inner_contents (place_of r (owner.Interface i)) outer' current.declared).shown;
-      followed = view-at (place_of r (owner.Interface i)) outer' current.declared (sym (ap (λ z. z.is_followed) at) ∙ followed);
+      view = inside.shown;
+      followed = view-at place outer' current.declared followed;
       shows = sym (ap (λ z. z.shown.functions) at) ∙ h ∙ ap (λ zs. zs ++ fs) (opened-shows r outer i known);
-      types = sym (ap (λ z. (definitions_with z).exports) at) ∙ exported;
+      types = ap (λ (w : View). w.types) shown
+          ∙ interface-shown r v i def there (outer_slots outer') current.declared a.scope a.is (ap (list_all (is_slot_of (resources_in r (Some i)))) (sym a.slots) ∙ second_true inside.is_followed _ all)
+          (ap (λ (w : View). map (λ t. (t.name, t.meaning)) w.types) (sym shown) ∙ sym (ap (λ z. (definitions_with z).exports) at) ∙ exported);
     }
+
+-- the interface whose types are listed
+pub listed-there : (r : Resolve) (i : InterfaceId) (types : List TypeId) (h : AreTypesOf r (Some i) types) → interface_at r i.0 ≡ Some h.def
+listed-there r i types h = ap (λ (x : InterfaceId). interface_at r x.0) (some-same i h.id h.is) ∙ h.there
 
 -- around it, nothing has been declared but aliases
 pub closed-around : (r : Resolve) (outer outer' : Declarations) (i : InterfaceId) (known : Foreign) (inner' : Option OpenInterface) (current : OpenInterface) (m m' : TypeEncodingMaps) → inner' ≡ Some current → Continues r r outer outer' (opened i known) inner' m m'
@@ -94,11 +110,11 @@ closed-around r outer outer' i known inner' current m m' is c = subst (λ (o : O
 pub opened-with : (i : InterfaceId) (ds : List Declaration) (known known' : Foreign) → ds ≡ [] → known ≡ known' → ◌≡◌ {A = Option OpenInterface} (Some (record { interface = i; declared = ds; foreign = known })) (opened i known')
 opened-with i ds known known' e f = λ j. Some (record { interface = i; declared = e j; foreign = f j })
 
-map-twice : {A B C : Type 0} (f : B → C) (g : A → B) (xs : List A) → map f (map g xs) ≡ map (λ x. f (g x)) xs
+pub map-twice : {A B C : Type 0} (f : B → C) (g : A → B) (xs : List A) → map f (map g xs) ≡ map (λ x. f (g x)) xs
 map-twice f g [] = refl
 map-twice f g (x ∷ xs) = ap (λ ys. f (g x) ∷ ys) (map-twice f g xs)
 
-abbrev Placed : Type 0
+abbrev pub Placed : Type 0
 Placed = ℕ × Bor (String Global) × Bor Function
 
 pub values-permuted : (def : Interface) (fs : List Placed) → IsPermutation (map keyed def.functions.entries) (map placed_function fs)
@@ -107,33 +123,6 @@ values-permuted def fs p =
     subst (λ (xs : List Function). IsPermutation xs (map (λ f. f.2.now) fs)) (map-twice (λ (x : Text × Function). x.1) keyed def.functions.entries)
     (subst (λ (xs : List Function). IsPermutation (map (λ x. x.1) (map keyed def.functions.entries)) xs)
     (map-twice (λ (x : Text × Function). x.1) placed_function fs) (IsPermutation-map (λ (x : Text × Function). x.1) _ _ p))
-
--- the instance type takes its slot
-pub closes : {E : Type 0} (res : Result ℕ E) (r : Resolve) (a : Around) (outer outer' : Declarations) (foreign foreign' : Foreign) (i : InterfaceId) (def def' : Interface) (declared : List Declaration) (fs items : List (ℕ × Bor (String Global) × Bor Function)) → Some def' ≡ Some def → GrowsAround r a (around_at outer foreign) → foreign' ≡ foreign → items ≡ fs
-    → IsPermutation (map keyed def'.functions.entries) (map placed_function fs) → map placed_function fs ≡ functions_in_order def' → DefinesKeys (map (λ f. f.2.now) items) declared → DefinesTypes r i (values def'.types) (values def'.functions) declared → IsInstance r outer i declared (map (λ f. meaning_of r (placed_function f)) items)
-    → IfOk res (λ k. (k ≡ type_slots_of outer) × (outer' ≡ append outer (Declarations.instance (from_list declared) Declarations.no_more))) → IsValid r → interface_at r i.0 ≡ Some def → IfOk res (λ k. EncodesInterface r a (around_at outer' foreign') i def k)
-closes (Err e) r a outer outer' foreign foreign' i def def' declared fs items d grown o n p ordered keys types is h v there = h
-closes (Ok k) r a outer outer' foreign foreign' i def def' declared fs items d grown o n p ordered keys types is h v there =
-    let same : def' ≡ def = cc in
-    let all : IsPermutation (map (meaning_of r) (map keyed def.functions.entries)) (map (λ f. meaning_of r (placed_function f)) items) =
-    subst (λ (xs : List (Text × FunctionMeaning)). IsPermutation (map (meaning_of r) (map keyed def.functions.entries)) xs) (map-twice (meaning_of r) placed_function fs ∙ ap (map (λ f. meaning_of r (placed_function f))) (sym n))
-    (subst (λ (z : Interface). IsPermutation (map (meaning_of r) (map keyed z.functions.entries)) (map (meaning_of r) (map placed_function fs))) same (IsPermutation-map (meaning_of r) _ _ p)) in
-    record {
-      before = around_at outer foreign;
-      aliases = grown;
-      declared = declared;
-      functions = map (λ f. meaning_of r (placed_function f)) items;
-      index = h.0;
-      one_more = λ j. around_at (h.1 j) (o j);
-      is_instance = is;
-      means = λ j. record { types = is.types j; functions = (ap from_entries is.shows ∙ functions-mean r v i def there (map (λ f. meaning_of r (placed_function f)) items) all) j };
-      in_order = ap (map (λ f. meaning_of r (placed_function f))) n ∙ sym (map-twice (meaning_of r) placed_function fs)
-          ∙ ap (map (meaning_of r)) (ordered ∙ ap functions_in_order same);
-      function_types = count-keys (values def.functions) (map (λ f. f.2.now) items) declared
-          (subst (λ (zs : List Placed). IsPermutation (values def.functions) (map (λ f. f.2.now) zs)) (sym n)
-          (subst (λ (z : Interface). IsPermutation (values z.functions) (map (λ f. f.2.now) fs)) same (values-permuted def' fs p))) keys;
-      value_types = subst (λ (z : Interface). DefinesTypes r i (values z.types) (values z.functions) declared) same types;
-    }
 
 map-itself : {A : Type 0} (xs : List A) → map (λ x. x) xs ≡ xs
 map-itself [] = refl
@@ -144,6 +133,11 @@ pub permuted-contains : {A : Type 0} (xs ys : List A) (y : A) → IsPermutation 
 permuted-contains xs ys y p c =
     let all = All-map-IsPermutation (λ x. x) (Contains (map (λ x. x) xs)) xs ys p (All-contains_itself (map (λ x. x) xs)) in
     subst (λ zs. Contains zs y) (map-itself xs) (All-contains (Contains (map (λ x. x) xs)) (map (λ x. x) ys) y all (contains-map (λ x. x) ys y c))
+
+-- what follows of what is answered
+pub ok-then : {A E : Type 0} (res : Result A E) (P Q : A → Type 0) → ((x : A) → P x → Q x) → IfOk res P → IfOk res Q
+ok-then (Ok x) P Q f h = f x h
+ok-then (Err e) P Q f h = h
 
 pub close-each : {E D : Type 0} (res : Result ℕ E) (is : D → Type 0) (P : D → ℕ → Type 0) (d : D) → is d → ((d : D) → is d → IfOk res (P d)) → IfOk res (λ k. (d : D) → is d → P d k)
 close-each (Ok k) is P d h all = λ d h. all d h

@@ -12,6 +12,7 @@ use Rattle.wit_encode.proofs.Strict.{bind}
 use Rattle.wit_encode.proofs.Steps.{unbind}
 use Rattle.wit_encode.proofs.Components.{steps-count, steps-more}
 use Rattle.wit_encode.proofs.Calls.{inner-at}
+use Rattle.wit_encode_types.proofs.Paths.{some-same}
 
 pub get-left : {X : Type 0} (xs : List X) (y : X) (k : ℕ) (x : X) → slice_get xs k ≡ Some x → slice_get (xs ++ y ∷ []) k ≡ Some x
 get-left [] y k x e = absurd (let z : ⊥ = cc in z)
@@ -43,6 +44,7 @@ steps-wider place outer x s m (d ∷ ds) e =
 -- ---- a component type, with one alias more
 
 pub record Widened (a : Around) (al : Aliased) (x : Slot) : Type 0 where
+  pub scope : (s : follow.Scope) → outer_scope a.declared ≡ Some s → outer_scope (with_alias a al).declared ≡ Some (in_scope x s)
   pub slots : outer_slots (with_alias a al).declared ≡ outer_slots a.declared ++ x ∷ []
   pub instances : outer_instances (with_alias a al).declared ≡ outer_instances a.declared
   pub number : type_slots_of a.declared ≡ length (outer_slots a.declared)
@@ -72,6 +74,7 @@ widened a al x instance at path found = go (outer_scope a.declared) refl
         let same : length (outer_slots a.declared) ≡ length s.slots = ap (λ o. length (slots_of o)) q in
         let number : type_slots_of a.declared ≡ length (outer_slots a.declared) = omega arith in
         record {
+          scope = λ t p. next ∙ ap (λ z. Some (in_scope x z)) (some-same s t (sym q ∙ p));
           slots = slots;
           instances = ap instances_of next ∙ sym (ap instances_of q);
           number = number;

@@ -30,7 +30,7 @@ use Rattle.wit_encode_types.specs.MetKinds.{referred}
 use Rattle.wit_encode_types.specs.Leaves.{LacksRoom}
 use Rattle.indexmap.specs.IndexMap.{values}
 use Rattle.wit_encode_types.specs.View.{View, Agrees, HoldsLearnt}
-use Rattle.wit_encode.specs.Instance.{own_of, ShowsFunction, placed_function, meaning_of, Contents, contents_of, encoder_scope, around_of, around_at, slots_in, stands_in, defined_in, opened, standing_instances, Continues, EncodesInterface, held_in, lacks_room_in, LacksInstanceRoom}
+use Rattle.wit_encode.specs.Instance.{own_of, ShowsFunction, placed_function, meaning_of, Contents, contents_of, encoder_scope, around_of, around_at, slots_in, stands_in, defined_in, opened, standing_instances, Continues, EncodesInterface, EncodesDependency, EncodesPart, held_in, lacks_room_in, LacksInstanceRoom}
 
 abbrev pub InterfaceEncoder : Type 0
 InterfaceEncoder = InterfaceEncoderOf TypeEncodingMaps
@@ -167,6 +167,14 @@ Reaches e e' = GrowsAround e.resolve.now (outside e) (outside e')
 abbrev pub EncodesAs : InterfaceEncoder → InterfaceEncoder → InterfaceId → ℕ → Type 0
 EncodesAs e e' i k = (def : Interface) → interface_at e.resolve.now i.0 ≡ Some def → EncodesInterface e.resolve.now (outside e) (outside e') i def k
 
+-- it stands for the interface's types alone
+abbrev pub EncodesTypesAs : InterfaceEncoder → InterfaceEncoder → InterfaceId → ℕ → Type 0
+EncodesTypesAs e e' i k = (def : Interface) → interface_at e.resolve.now i.0 ≡ Some def → EncodesDependency e.resolve.now (outside e) (outside e') i def k
+
+-- it stands for the interface's types and these functions
+abbrev pub EncodesPlaced : InterfaceEncoder → InterfaceEncoder → InterfaceId → List Placed → ℕ → Type 0
+EncodesPlaced e e' i fs k = (def : Interface) → interface_at e.resolve.now i.0 ≡ Some def → EncodesPart e.resolve.now (outside e) (outside e') i def (map placed_function fs) (plain fs) k
+
 -- an instance type has no room for the types and functions of an interface
 abbrev pub InterfaceLacksRoom : Resolve → InterfaceId → Interface → Type 0
 InterfaceLacksRoom r i def = HasNoRoom r (Some i) (referred (values def.types) (map (λ f. f.1) (functions_in_order def))) (flat_map (function_requests r) (functions_in_order def))
@@ -175,6 +183,10 @@ InterfaceLacksRoom r i def = HasNoRoom r (Some i) (referred (values def.types) (
 -- for one more alias or instance type.
 abbrev pub LacksInstance : InterfaceEncoder → InterfaceId → Type 0
 LacksInstance e i = (def : Interface) → interface_at e.resolve.now i.0 ≡ Some def → InterfaceLacksRoom e.resolve.now i def ⊎ LacksInstanceRoom e.resolve.now (outside e)
+
+-- the same of the interface's types alone
+abbrev pub LacksDependency : InterfaceEncoder → InterfaceId → Type 0
+LacksDependency e i = (def : Interface) → interface_at e.resolve.now i.0 ≡ Some def → HasNoRoom e.resolve.now (Some i) (referred (values def.types) []) [] ⊎ LacksInstanceRoom e.resolve.now (outside e)
 
 -- the same of these types and functions of the interface
 abbrev pub LacksWithin : InterfaceEncoder → InterfaceId → List TypeId → List Placed → Type 0

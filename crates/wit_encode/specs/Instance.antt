@@ -10,8 +10,8 @@ use Rattle.std.specs.declared.alloc.Global.{Global}
 use Rattle.wit_model.specs.Text.{Text, text_of}
 use Rattle.wit_model.specs.Tree.{Place, here}
 use Rattle.wit_model.specs.Meaning.{TypeMeaning, FunctionMeaning}
-use Rattle.wit_model.specs.Meant.{interface_meaning_at}
-use Rattle.wit_model.specs.Lookup.{place_of}
+use Rattle.wit_model.specs.Meant.{interface_meaning_at, types_alone}
+use Rattle.wit_model.specs.Lookup.{interface_at, place_of}
 use Rattle.wit_model.specs.declared.model.Resolve.{Resolve}
 use Rattle.wit_model.specs.declared.model.InterfaceId.{InterfaceId}
 use Rattle.wit_model.specs.declared.model.TypeOwner.{TypeOwner}
@@ -19,6 +19,7 @@ use Rattle.wit_model.specs.declared.model.TypeOwner.TheVariants as owner
 use Rattle.comp_bytes.specs.Raw.{Declaration, Declarations, append, declaration_count, from_list}
 use Rattle.comp_meaning.specs.Reads.{interface_meaning}
 use Rattle.comp_meaning.specs.Follow.{Slot, View, InstanceScope, instance_view, instance_steps, new_instance}
+use Rattle.wit_shown.specs.Views.{ShowsInterface, ShowsTypes, types_of}
 use Rattle.wit_encode.specs.declared.interface.OpenInterface.{OpenInterface}
 use Rattle.wit_encode.specs.declared.interface.Foreign.{Foreign}
 use Rattle.std.specs.List.{Contains}
@@ -43,7 +44,7 @@ use Rattle.wit_encode_types.specs.Fits.{CanEncode}
 use Rattle.wit_encode_types.specs.Scope.{Scope}
 use Rattle.wit_encode.specs.Order.{functions_in_order}
 pub use Rattle.wit_encode_types.specs.Distinct.{is_value_type, is_function_type}
-use Rattle.wit_encode_types.specs.Distinct.{key_of, are_same, DefinesTypes}
+use Rattle.wit_encode_types.specs.Distinct.{key_of, are_same, DefinesKeys, DefinesTypes}
 use Rattle.wit_encode_types.specs.Counts.{Definitions}
 
 -- ---- what has been declared in a scope
@@ -226,13 +227,13 @@ meaning_of r f = (f.0, function_meaning r f.1)
 abbrev pub opened : InterfaceId → Foreign → Option OpenInterface
 opened i foreign = Some (record { interface = i; declared = []; foreign = foreign })
 
--- Declarations of an instance type that can be followed, with each resource in a slot of its own kind, and that show exactly the types of
--- the interface, in order, and these functions.
+-- Declarations of an instance type that can be followed, and that show exactly the types of the interface, in order, each in the slot of its
+-- name, and these functions.
 pub record IsInstance (r : Resolve) (outer : Declarations) (i : InterfaceId) (ds : List Declaration) (functions : List (Text × FunctionMeaning)) : Type 0 where
   pub view : View
   pub followed : instance_view (place_of r (owner.Interface i)) (outer_slots outer) ds ≡ Some view
   pub shows : view.functions ≡ functions
-  pub types : map (λ t. (t.name, t.meaning)) view.types ≡ (interface_meaning_at r i.0).types
+  pub types : view.types ≡ option_map_or (types_of r i.0) (interface_at r i.0) []
 
 -- after aliases have been made, the component type has no room for one more alias or instance type
 pub record LacksInstanceRoom (r : Resolve) (around : Around) : Type 0 where
@@ -245,18 +246,30 @@ pub record CanEncodeInterface (r : Resolve) (outer : Declarations) (i : Interfac
   pub types : (t : TypeId) → Contains (values def.types) t → CanEncode r (encoder_scope r outer (opened i foreign)) (ty.Id t ∷ [])
   pub functions : (f : Text × Function) → Contains (map keyed def.functions.entries) f → CanEncodeFunction r (encoder_scope r outer (opened i foreign)) f.1
 
--- Slot k of the component type is new: an instance type that can be followed, and that shows the types of the interface, in order, and its
--- functions, with what they mean. Before it, nothing has been declared but aliases of types that had none.
-pub record EncodesInterface (r : Resolve) (around around' : Around) (i : InterfaceId) (def : Interface) (k : ℕ) : Type 0 where
+-- Slot k of the component type is new: an instance type that can be followed, and that shows the types of the interface, in order, and these
+-- functions, in order, with what they mean. Before it, nothing has been declared but aliases of types that had none. Types of functions and
+-- value types are defined as the interface's types and these functions, in any order, ask for, each once.
+pub record EncodesPart (r : Resolve) (around around' : Around) (i : InterfaceId) (def : Interface) (written : List (Text × Function)) (functions : List Function) (k : ℕ) : Type 0 where
   pub before : Around
   pub aliases : GrowsAround r around before
   pub declared : List Declaration
-  pub functions : List (Text × FunctionMeaning)
   pub index : k ≡ type_slots_of before.declared
   pub one_more : around' ≡ record before { declared = append before.declared (Declarations.instance (from_list declared) Declarations.no_more) }
-  pub is_instance : IsInstance r before.declared i declared functions
-  pub means : interface_meaning is_instance.view is_instance.view.functions ≡ interface_meaning_at r i.0
-  pub in_order : functions ≡ map (meaning_of r) (functions_in_order def)
-  -- how many types of functions and how many value types are defined
-  pub function_types : count_by is_function_type declared ≡ distinct_count are_same (map key_of (values def.functions))
-  pub value_types : DefinesTypes r i (values def.types) (values def.functions) declared
+  pub is_instance : IsInstance r before.declared i declared (map (meaning_of r) written)
+  pub function_types : DefinesKeys functions declared
+  pub value_types : DefinesTypes r i (values def.types) functions declared
+
+-- So it is with the types of the interface and all its functions: what is shown is the interface.
+pub record EncodesInterface (r : Resolve) (around around' : Around) (i : InterfaceId) (def : Interface) (k : ℕ) : Type 0 where
+  pub part : EncodesPart r around around' i def (functions_in_order def) (values def.functions) k
+  pub shows : ShowsInterface r i.0 part.is_instance.view
+  pub means : interface_meaning part.is_instance.view part.is_instance.view.functions ≡ interface_meaning_at r i.0
+  -- how many types of functions are defined
+  pub function_types : count_by is_function_type part.declared ≡ distinct_count are_same (map key_of (values def.functions))
+
+-- So it is with the types alone.
+pub record EncodesDependency (r : Resolve) (around around' : Around) (i : InterfaceId) (def : Interface) (k : ℕ) : Type 0 where
+  pub part : EncodesPart r around around' i def [] [] k
+  pub shows : ShowsTypes r i.0 part.is_instance.view
+  pub means : interface_meaning part.is_instance.view part.is_instance.view.functions ≡ types_alone (interface_meaning_at r i.0)
+  pub function_types : count_by is_function_type part.declared ≡ 0

@@ -6,3 +6,4 @@ pub mod RoomLaws
 pub mod Exports
 pub mod UsesAlone
 pub mod OwnerScope
+pub mod Dependencies

@@ -339,7 +339,7 @@ impl<'a> InterfaceEncoderOf<'a, TypeEncodingMaps<'a>> {
     ghost use Rattle.wit_encode.specs.Exports.{AreTypesOf, AllKnown, KnowsUsed, UsesListed};
     ghost use Rattle.wit_model.specs.declared.model.«Type».TheVariants as ValueType;
     ghost use Rattle.wit_encode.specs.Instance.{ShowsFunction, CanEncodeFunction, IsInstance, placed_function, meaning_of, own_of, declarations_in};
-    ghost use Rattle.wit_encode.specs.Encoders.{encoder_view, view_of, contents_in, shown_as, scope_within, outside, GoesOn, Reaches, InstancesStay, UsedAround, EncodesAs, LacksInstance, LacksWithin, plain, requests_of, meanings_of, ShowsAs, ShowsMore, HoldsInside, LacksInside, TypesStay, NamesStay, LearnsInside, DefinesNames, IsEncoding, Begins};
+    ghost use Rattle.wit_encode.specs.Encoders.{encoder_view, view_of, contents_in, shown_as, scope_within, outside, GoesOn, Reaches, InstancesStay, UsedAround, EncodesAs, EncodesPlaced, EncodesTypesAs, LacksDependency, LacksInstance, LacksWithin, plain, requests_of, meanings_of, ShowsAs, ShowsMore, HoldsInside, LacksInside, TypesStay, NamesStay, LearnsInside, DefinesNames, IsEncoding, Begins};
     ghost use Rattle.wit_encode_types.specs.Room.{export_name, function_requests};
     ghost use Rattle.wit_encode_types.specs.Maps.{MapsGrow};
 
@@ -550,6 +550,62 @@ impl<'a> InterfaceEncoderOf<'a, TypeEncodingMaps<'a>> {
         Ok(index)
     }
 
+    /// Encodes types and functions of an interface as an instance type of the component type, and answers its slot.
+    fn encode_part(
+        &mut self,
+        alloc: Global,
+        interface: InterfaceId,
+        types: &[TypeId],
+        functions: &[(usize, &'a String, &'a Function)],
+    ) -> Result<u32, Error>
+        requires types { (t : _) → Contains types.now t → CanEncode self.old.resolve.now (scope_within self.old interface) (ValueType.Id t ∷ []) }
+        requires functions { (f : _) → Contains functions.now f → CanEncodeFunction self.old.resolve.now (scope_within self.old interface) f.2.now }
+        requires closed { self.old.inner ≡ None }
+        requires valid { IsValid self.old.resolve.now }
+        requires listed { AreTypesOf self.old.resolve.now (Some interface) types.now }
+        requires uses { (f : _) → Contains functions.now f → UsesListed self.old.resolve.now types.now f.2.now }
+        ensures closed { self.new.inner ≡ None }
+        ensures resolve { self.new.resolve.now ≡ self.old.resolve.now }
+        ensures maps { self.new.maps ≡ self.old.maps }
+        ensures err { OnErr result (Reaches self.old self.new) }
+        ensures ok { IfOk result (EncodesPlaced self.old self.new interface functions.now) }
+        ensures stands { OnOk result (Keeps (encoder_view self.old).stands (encoder_view self.new).stands) }
+        ensures instances { InstancesStay self.old self.new }
+        ensures size { result ≡ Err Size → LacksWithin self.old interface types.now functions.now }
+        ensures refuses { IfErr result IsMemoryOrSize }
+    {
+        let declared = self.encode_inside(alloc, interface, types, functions)?;
+        self.close(&declared)
+    }
+
+    /// Encodes the types of an interface as an instance type, without its functions, and answers its slot: what is imported of an interface
+    /// whose types are used (WIT.md, "Package Format").
+    ///
+    /// It asks for what `encode_instance` asks for, and leaves what that leaves. `Size` comes only where a type that is met from the types of
+    /// the interface doesn't fit in 32 bits by itself, where there are too many of them, or where the component type, after aliases have been
+    /// made, has no room for one more alias or instance type.
+    ///
+    /// Takes as long as encoding the types.
+    pub fn encode_dependency(&mut self, alloc: Global, interface: InterfaceId) -> Result<u32, Error>
+        requires closed { self.old.inner ≡ None }
+        requires in_range { interface.0 < length self.old.resolve.now.interfaces.items }
+        requires valid { IsValid self.old.resolve.now }
+        requires around { UsedAround self.old interface }
+        ensures closed { self.new.inner ≡ None }
+        ensures resolve { self.new.resolve.now ≡ self.old.resolve.now }
+        ensures maps { self.new.maps ≡ self.old.maps }
+        ensures err { OnErr result (Reaches self.old self.new) }
+        ensures ok { IfOk result (EncodesTypesAs self.old self.new interface) }
+        ensures stands { OnOk result (Keeps (encoder_view self.old).stands (encoder_view self.new).stands) }
+        ensures instances { InstancesStay self.old self.new }
+        ensures size { result ≡ Err Size → LacksDependency self.old interface }
+        ensures refuses { IfErr result IsMemoryOrSize }
+    {
+        let def = &self.resolve.interfaces[interface.0 as usize];
+        let types = types_in_order(alloc, def)?;
+        self.encode_part(alloc, interface, &types, &[])
+    }
+
     /// Encodes an interface as an instance type, and answers its slot: its types in order, then functions of resources by the order of
     /// their resource, then the others. The type of a function is defined just before its export, where its key is new.
     ///
@@ -579,7 +635,6 @@ impl<'a> InterfaceEncoderOf<'a, TypeEncodingMaps<'a>> {
         let def = &self.resolve.interfaces[interface.0 as usize];
         let types = types_in_order(alloc, def)?;
         let functions = functions_in_order(alloc, def)?;
-        let declared = self.encode_inside(alloc, interface, &types, &functions)?;
-        self.close(&declared)
+        self.encode_part(alloc, interface, &types, &functions)
     }
 }

@@ -2,6 +2,7 @@
 
 ghost use Rattle.wit_encode_types.specs.MetKinds.{MetKindsAreHeld};
 ghost use Rattle.wit_encode.specs.RoomLaws.{LackingInterfacesAreHeavy};
+ghost use Rattle.wit_encode.specs.Dependencies.{AliasesLeaveImports, ExportsEnd, ImportsGrow, ImportsStand, NothingIsImported};
 ghost use Rattle.wit_encode.specs.OwnerScope.{FunctionsEncode, FunctionsUse, InterfaceUses, NamesEncode, TableScope, TypesEncode, TypesUse};
 
 pub use wit_encode_types::laws::equal_lists;
@@ -44,4 +45,24 @@ pub fn met_kinds_are_held()
 /// one, or where the component type, after aliases have been made, has no room for one more alias or instance type.
 pub fn lacking_interfaces_are_heavy()
     ensures { LackingInterfacesAreHeavy }
+{}
+
+/// Of interfaces that a component type has imported, by their types, instances stand in it. So an interface that uses no others can be
+/// encoded in it.
+pub fn imports_stand()
+    ensures { ImportsStand }
+{}
+
+/// A component type in which nothing has been declared has imported nothing, and aliases leave what has been imported. An interface whose
+/// types have been encoded and then imported by its path is one import more.
+pub fn imports_grow()
+    ensures nothing { NothingIsImported }
+    ensures aliases { AliasesLeaveImports }
+    ensures grow { ImportsGrow }
+{}
+
+/// Behind the imports of the interfaces that it reaches, an interface that has been encoded and then exported by its path ends its component
+/// type, which shows it.
+pub fn exports_end()
+    ensures { ExportsEnd }
 {}

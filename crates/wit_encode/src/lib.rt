@@ -1,11 +1,13 @@
 //! Encodes interfaces as instance types, and their types and functions in any encoder.
 #![tactic(auto)]
 
+mod component_types;
 mod interface;
 pub mod laws;
 mod order;
 mod uses;
 
+pub use component_types::interface_type;
 pub use interface::{Foreign, InterfaceEncoder, InterfaceEncoderOf, OpenInterface};
 pub use uses::stands_alone;
 pub use wit_encode_types::{

@@ -39,7 +39,7 @@ use Rattle.world_names.proofs.NamesRead.{names_are_read}
 
 -- ---- slots
 
-types-appended : (xs ys : List Slot) → instance_types (xs ++ ys) ≡ instance_types xs + instance_types ys
+pub types-appended : (xs ys : List Slot) → instance_types (xs ++ ys) ≡ instance_types xs + instance_types ys
 types-appended [] ys = omega arith
 types-appended (Slot.value t ∷ xs) ys = types-appended xs ys
 types-appended (Slot.resource p t ∷ xs) ys = types-appended xs ys
@@ -63,12 +63,12 @@ apart m n l = go (m == n) refl
     go true e = let same : m ≡ n = equal m n e in absurd (omega (arith, l, same))
 
 -- an index beyond all that have been used
-unused : (n : ℕ) (used : List ℕ) → AreBelow n used → list_any (λ m. m == n) used ≡ false
+pub unused : (n : ℕ) (used : List ℕ) → AreBelow n used → list_any (λ m. m == n) used ≡ false
 unused n [] h = refl
 unused n (m ∷ ms) h =
     ap (λ b. b || list_any (λ k. k == n) ms) (apart m n (ltb-true m n (first_true (nat_lt m n) _ h))) ∙ unused n ms (second_true (nat_lt m n) _ h)
 
-slot-behind : (xs : List Slot) (x : Slot) → slice_get (xs ++ x ∷ []) (length xs) ≡ Some x
+pub slot-behind : (xs : List Slot) (x : Slot) → slice_get (xs ++ x ∷ []) (length xs) ≡ Some x
 slot-behind [] x = refl
 slot-behind (y ∷ ys) x = slot-behind ys x
 
@@ -241,7 +241,7 @@ module _ (name : ExternName) (n : ℕ) (scope : Scope) where
         ∙ ap (λ b. when (not b) (used_view scope.slots (follow.place_of (interface_of k)) (slice_get scope.slots n)) >>= seen-by direction k) fresh
         ∙ ap (λ o. o >>= seen-by direction k) used
 
-    instance-step : (direction : Direction) → component_step scope (declared_towards direction name (refs.Instance n)) ≡ seen-by direction k view
+    pub instance-step : (direction : Direction) → component_step scope (declared_towards direction name (refs.Instance n)) ≡ seen-by direction k view
     instance-step import_ = instance-seen import_
     instance-step export_ = instance-seen export_
 

@@ -29,6 +29,10 @@ pathed_interface (key.Interface id) target = Some id.0
 abbrev pub written_suffix : Resolve → Bool → Option ℕ → Option Text
 written_suffix r canonical interface = if canonical then option_and_then (canonical_suffix r) interface else None
 
+-- the name of an interface: its path
+abbrev pub name_of_interface : Resolve → Bool → ℕ → ExternName
+name_of_interface r canonical n = record { text = written_path r canonical n; implements = None; version_suffix = written_suffix r canonical (Some n); external_id = None }
+
 -- the name of an import or an export, with its attributes
 abbrev pub name_of_item : Resolve → Bool → WorldKey × WorldItem → ExternName
 name_of_item r canonical e = record {

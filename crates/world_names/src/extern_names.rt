@@ -6,7 +6,7 @@ ghost use Rattle.std.specs.Cow.{cow_str_bytes};
 ghost use Rattle.wit_model.specs.declared.error.Error.TheVariants.{Memory};
 ghost use Rattle.wit_model.specs.Text.{text_of};
 ghost use Rattle.comp_bytes.specs.RawOf.{raw_name, text_given};
-ghost use Rattle.world_names.specs.WorldNames.{name_of_item, pathed_interface as pathed_interface_lem, written_key as written_key_lem, written_path as written_path_lem, written_suffix as written_suffix_lem};
+ghost use Rattle.world_names.specs.WorldNames.{name_of_interface, name_of_item, pathed_interface as pathed_interface_lem, written_key as written_key_lem, written_path as written_path_lem, written_suffix as written_suffix_lem};
 
 use comp_bytes::ComponentExternName;
 use std::alloc::Global;
@@ -111,6 +111,29 @@ fn borrowed<'a>(text: Option<&'a str>) -> Option<CowStr<'a>>
         Some(text) => Some(CowStr::Borrowed(text)),
         None => None,
     }
+}
+
+/// The name of an interface, its path, under which the component type of an interface imports or exports it (Component Model Binary.md,
+/// "Import and Export Definitions"). With canonical names it is the path with the canonical part of its version alone, and what completes
+/// it is an attribute. An interface without a path gives the empty text.
+///
+/// Takes one pass over the texts. Refuses `Memory` alone.
+pub fn interface_name<'a>(
+    alloc: Global,
+    resolve: &Resolve,
+    interface: InterfaceId,
+    canonical_names: bool,
+) -> Result<ComponentExternName<'a>, Error>
+    ensures ok { IfOk result (λ name. raw_name name ≡ name_of_interface resolve.now canonical_names interface.0) }
+    ensures refuses { IfErr result (λ e. e ≡ Memory) }
+{
+    let path = written_path(alloc, resolve, interface, canonical_names)?;
+    Ok(ComponentExternName {
+        name: CowStr::Owned(path),
+        implements: None,
+        version_suffix: written_suffix(alloc, resolve, Some(interface), canonical_names)?,
+        external_id: None,
+    })
 }
 
 /// The name under which an import or an export is written (Component Model Binary.md, "Import and Export Definitions"): its label or its

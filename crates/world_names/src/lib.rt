@@ -6,4 +6,4 @@ mod extern_names;
 pub mod laws;
 
 pub use clash::{refuse_clash, refuse_clashes};
-pub use extern_names::item_name;
+pub use extern_names::{interface_name, item_name};

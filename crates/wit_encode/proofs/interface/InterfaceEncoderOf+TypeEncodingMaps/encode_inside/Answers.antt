@@ -7,7 +7,7 @@ use Rattle.wit_encode_types.specs.Fits.{CanEncode}
 use Rattle.wit_encode_types.specs.Distinct.{AddsFunctions}
 use Rattle.wit_encode.specs.Instance.{encoder_scope, contents_of, definitions_with, CanEncodeFunction, Continues, placed_function, meaning_of, exports_in, opened, around_at}
 use Rattle.wit_encode.proofs.Referring.{interface-kinds}
-use Rattle.wit_encode.proofs.Opening.{closed-instance, closed-around, opened-exports, opened-with}
+use Rattle.wit_encode.proofs.Opening.{closed-instance, closed-around, listed-there, opened-exports, opened-with}
 use Rattle.wit_encode_types.specs.Known.{GrowsAround}
 use Rattle.wit_encode.proofs.Counting.{Began, Counted, closed-counts}
 use Rattle.wit_encode.proofs.Refusing.{no-room}
@@ -49,7 +49,7 @@ returns-clause-ok c =
     let continues = continued (goal.at.returns-clause-ok c).In-Some in
     let shows = subst (λ (o : Option OpenInterface). (contents_of c.args.self.now.resolve.now after.outer after.inner).shown.functions ≡ (contents_of c.args.self.now.resolve.now c.args.self.now.outer o).shown.functions ++ map (λ f. meaning_of c.args.self.now.resolve.now (placed_function f)) c.args.functions.now)
     (begun (goal.at.returns-clause-ok c).After-new-2) c.in_ok-outcome-in-Some.ensures.shows in
-    closed-instance r c.args.self.now.outer after.outer c.args.interface known after.inner c.in-Some.current _ _ _ (sym c.replace-inner.ensures.value ∙ c.in-Some.is) c.encode_parts-outcome.ensures.continues.inside continues shows c.in_ok-outcome-in-Some.ensures.exported
+    closed-instance r c.requires.valid c.args.self.now.outer after.outer c.args.interface c.requires.listed.def (listed-there r c.args.interface c.args.types.now c.requires.listed) known after.inner c.in-Some.current _ _ _ (sym c.replace-inner.ensures.value ∙ c.in-Some.is) c.encode_parts-outcome.ensures.continues.inside continues shows c.in_ok-outcome-in-Some.ensures.exported
 
 began : (c : In-Some) → Began c.replace-saved.new.dest
 began c =

@@ -1,0 +1,198 @@
+-- Interfaces imported one after the other, in the order in which they are reached.
+use Rattle.std.proofs.Common.{◌≡◌, refl, sym, subst, ap, ◌∙◌, ℕ, zero, suc, ◌+◌, ◌<◌, ◌≤◌, ◌==◌, nat_lt, Bool, true, false, not, map, get_or, option_map, List, [], ◌∷◌, ◌++◌, length, take, append_assoc, Option, Some, None, slice_get, is_some, option_and_then, arith}
+use Rattle.std.specs.List.{AllByRecursion, Contains, IsDistinct, list_any}
+use Rattle.std.proofs.lemmas.List.Elements.{Contains-append_left, Contains-append_right}
+use Rattle.std.proofs.lemmas.Option.{slice_get_within, slice_get-map, slice_get-get_or}
+use Rattle.std.proofs.Math.ListN.{length-map}
+use Rattle.std.proofs.lemmas.List.{take_all}
+use Rattle.std.proofs.lemmas.Bool.{ltb-false}
+use Rattle.std.proofs.lemmas.Map.Steps.{length-le_from_distinct_below}
+use Rattle.wit_model.proofs.Lists.{first_true}
+use Rattle.wit_shown.proofs.Zips.{any-contains}
+use Rattle.wit_encode.proofs.Validity.{interface_passes}
+use Rattle.wit_model.specs.Lookup.{interface_at, interface_path, path_of_interface}
+use Rattle.wit_model.specs.Uses.{direct_deps}
+use Rattle.wit_model.specs.Valid.{IsValid, is_place, numbers_in_range}
+use Rattle.wit_model.specs.declared.model.Resolve.{Resolve}
+use Rattle.wit_model.specs.declared.model.Interface.{Interface}
+use Rattle.wit_model.specs.declared.model.InterfaceId.{InterfaceId}
+use Rattle.wit_model.proofs.Elements.{equal, none-in, same-number, same-some}
+use Rattle.wit_shown.specs.Views.{AreReached, AreUsed, UseEarlier}
+use Rattle.wit_encode_types.specs.Known.{Around, UsedStand, known_instance, standing_instances}
+use Rattle.wit_encode_types.proofs.Paths.{found-in, some-of}
+use Rattle.wit_encode.specs.Dependencies.{AreImportable, HasImported, ImportsTypes, with_import}
+use Rattle.wit_encode.proofs.Imported.{imports_grow}
+use Rattle.wit_encode.proofs.ImportsStand.{imports_stand}
+use Rattle.wit_encode.proofs.UsedPaths.{used-path}
+
+-- ---- lists
+
+-- what an interface uses stands before it
+earlier-at : (r : Resolve) (earlier ns : List ℕ) (k n m : ℕ) → UseEarlier r earlier ns → slice_get ns k ≡ Some n → Contains (direct_deps r n) m → Contains (earlier ++ take k ns) m
+earlier-at r earlier [] k n m u e c = let wrong : ⊥ = cc in absurd wrong
+earlier-at r earlier (x ∷ ns) zero n m u e c = Contains-append_left earlier [] m (u.0 m (subst (λ y. Contains (direct_deps r y) m) (sym (same-some x n e)) c))
+earlier-at r earlier (x ∷ ns) (suc k) n m u e c = subst (λ xs. Contains xs m) (append_assoc earlier (x ∷ []) (take k ns)) (earlier-at r (earlier ++ x ∷ []) ns k n m u.1 e c)
+
+earlier-front : (r : Resolve) (earlier ns ms : List ℕ) → UseEarlier r earlier (ns ++ ms) → UseEarlier r earlier ns
+earlier-front r earlier [] ms u = tt
+earlier-front r earlier (x ∷ ns) ms u = (u.0, earlier-front r (earlier ++ x ∷ []) ns ms u.1)
+
+distinct-front : (xs ys : List ℕ) → IsDistinct (λ a b. a == b) (xs ++ ys) → IsDistinct (λ a b. a == b) xs
+unfolding IsDistinct
+distinct-front [] ys d = tt
+distinct-front (x ∷ xs) ys d = (front xs d.0, distinct-front xs ys d.1)
+  where
+    front : (zs : List ℕ) → AllByRecursion (λ y. (x == y) ≡ false) (zs ++ ys) → AllByRecursion (λ y. (x == y) ≡ false) zs
+    front [] a = tt
+    front (z ∷ zs) a = (a.0, front zs a.1)
+
+-- a number doesn't stand before its place
+not-before : (ns : List ℕ) (k n : ℕ) → IsDistinct (λ a b. a == b) ns → slice_get ns k ≡ Some n → Contains (take k ns) n → ⊥
+unfolding IsDistinct
+not-before [] k n d e c = let wrong : ⊥ = cc in wrong
+not-before (x ∷ ns) zero n d e c = none-in n c
+not-before (x ∷ ns) (suc k) n d e (suc j, l, q) = not-before ns k n d.1 e (j, omega (arith, l), q)
+not-before (x ∷ ns) (suc k) n d e (zero, l, q) = differs ns k d.0 e
+  where
+    differs : (zs : List ℕ) (j : ℕ) → AllByRecursion (λ y. (x == y) ≡ false) zs → slice_get zs j ≡ Some n → ⊥
+    differs [] j a h = let wrong : ⊥ = cc in wrong
+    differs (z ∷ zs) zero a h =
+        let same : z ≡ x = same-some z n h ∙ sym q in
+        let bad : true ≡ false = sym (same-number x) ∙ ap (λ y. x == y) (sym same) ∙ a.0 in
+        let wrong : ⊥ = cc in wrong
+    differs (z ∷ zs) (suc j) a h = differs zs j a.1 h
+
+take-next : (ns : List ℕ) (k n : ℕ) → slice_get ns k ≡ Some n → take k ns ++ n ∷ [] ≡ take (suc k) ns
+take-next [] k n e = let wrong : ⊥ = cc in absurd wrong
+take-next (x ∷ ns) zero n e = ap (λ y. y ∷ []) (sym (same-some x n e))
+take-next (x ∷ ns) (suc k) n e = ap (λ xs. x ∷ xs) (take-next ns k n e)
+
+take-whole : (ns ms : List ℕ) → take (length ns) (ns ++ ms) ≡ ns
+take-whole [] [] = refl
+take-whole [] (m ∷ ms) = refl
+take-whole (x ∷ ns) ms = ap (λ xs. x ∷ xs) (take-whole ns ms)
+
+behind : (ns : List ℕ) (n : ℕ) → slice_get (ns ++ n ∷ []) (length ns) ≡ Some n
+behind [] n = refl
+behind (x ∷ ns) n = behind ns n
+
+length-taken : (ns : List ℕ) (k n : ℕ) → slice_get ns k ≡ Some n → length (take k ns) ≡ k
+length-taken [] k n e = let wrong : ⊥ = cc in absurd wrong
+length-taken (x ∷ ns) zero n e = refl
+length-taken (x ∷ ns) (suc k) n e = ap suc (length-taken ns k n e)
+
+-- ---- one import after the other
+
+pub path-in-range : (r : Resolve) (n : ℕ) → is_some (interface_path r n) ≡ true → n < length r.interfaces.items
+path-in-range r n h = go (interface_at r n) refl
+  where
+    go : (o : Option Interface) → interface_at r n ≡ o → n < length r.interfaces.items
+    go (Some i) e = slice_get_within r.interfaces.items n i e
+    go None e = let wrong : false ≡ true = sym (ap (λ o. is_some (option_and_then (path_of_interface r) o)) e) ∙ h in let z : ⊥ = cc in absurd z
+
+module _ (r : Resolve) (v : IsValid r) (ns : List ℕ) (can : AreImportable r ns) (k n : ℕ) (at : slice_get ns k ≡ Some n) (a : Around) (h : HasImported r a (take k ns)) where
+  pub next-uses : UsedStand r (standing_instances r a) n
+  next-uses = imports_stand r a (take k ns) n v h (λ m c. earlier-at r [] ns k n m can.earlier at c)
+
+  pub next-path : is_some (interface_path r n) ≡ true
+  next-path = can.paths n (listed ns k n at)
+    where
+      listed : (xs : List ℕ) (j x : ℕ) → slice_get xs j ≡ Some x → Contains xs x
+      listed [] j x e = let wrong : ⊥ = cc in absurd wrong
+      listed (y ∷ xs) zero x e = (0, omega arith, same-some y x e)
+      listed (y ∷ xs) (suc j) x e = let rest = listed xs j x e in (suc rest.0, (let l = rest.1 in omega arith), rest.2)
+
+  first : known_instance a.instances n ≡ None
+  first = go (known_instance a.instances n) refl
+    where
+      go : (o : Option ℕ) → known_instance a.instances n ≡ o → known_instance a.instances n ≡ None
+      go None e = e
+      go (Some j) e = absurd (not-before ns k n can.once at (h.alone n j e))
+
+  pub next-imported : (canonical : Bool) (a' : Around) → ImportsTypes r canonical a a' (record { 0 = n }) k → HasImported r a' (take (suc k) ns)
+  next-imported canonical a' t =
+      let path = some-of (interface_path r n) next-path in
+      let grown = imports_grow r canonical a t.encoded (take k ns) (record { 0 = n }) t.def path.0 t.slot v path.1 h first t.encodes in
+      subst (HasImported r a') (take-next ns k n at)
+      (subst (λ (z : Around). HasImported r z (take k ns ++ n ∷ [])) (ap (λ j. with_import r canonical (record { 0 = n }) t.slot j t.encoded) (length-taken ns k n at) ∙ sym t.imports) grown)
+
+-- ---- what an interface reaches
+
+used-at : (r : Resolve) (ns : List ℕ) (last n : ℕ) → AreUsed r ns last → Contains ns n → (m : ℕ) × Contains (direct_deps r m) n
+used-at r [] last n u c = none-in n c
+used-at r (x ∷ ns) last n u (zero, l, e) = (u.0.0, subst (Contains (direct_deps r u.0.0)) e u.0.2)
+used-at r (x ∷ ns) last n u (suc k, l, e) = used-at r ns last n u.1 (k, omega (arith, l), e)
+
+pub reached-importable : (r : Resolve) → IsValid r → (n : ℕ) (ns : List ℕ) → AreReached r n ns → AreImportable r ns
+reached-importable r v n ns h = record {
+  earlier = earlier-front r [] ns (n ∷ []) h.earlier;
+  once = distinct-front ns (n ∷ []) h.once;
+  paths = λ m c. let u = used-at r ns n m h.used c in used-path r v u.0 m u.1;
+}
+
+-- the interface itself uses these alone
+pub reached-used : (r : Resolve) (n : ℕ) (ns : List ℕ) → AreReached r n ns → (m : ℕ) → Contains (direct_deps r n) m → Contains ns m
+reached-used r n ns h m c = subst (λ xs. Contains xs m) (take-whole ns (n ∷ [])) (earlier-at r [] (ns ++ n ∷ []) (length ns) n m h.earlier (behind ns n) c)
+
+-- ---- how many there are
+
+not-itself : (m : ℕ) → not (m == m) ≡ true → ⊥
+not-itself m h = let wrong : false ≡ true = sym (ap not (same-number m)) ∙ h in let z : ⊥ = cc in z
+
+in-place : (r : Resolve) → IsValid r → (n : ℕ) (i : Interface) → interface_at r n ≡ Some i → is_place n ≡ true
+unfolding numbers_in_range
+in-place r v n i at = first_true (is_place n) _ (interface_passes numbers_in_range r v.rules.numbers_in_range n i at)
+
+few-interfaces : (r : Resolve) → IsValid r → length r.interfaces.items ≤ 4294967295
+few-interfaces r v = go (nat_lt 4294967295 (length r.interfaces.items)) refl
+  where
+    go : (b : Bool) → nat_lt 4294967295 (length r.interfaces.items) ≡ b → length r.interfaces.items ≤ 4294967295
+    go false e = ltb-false 4294967295 (length r.interfaces.items) e
+    go true e = let found = found-in r.interfaces.items 4294967295 e in absurd (not-itself 4294967295 (in-place r v 4294967295 found.0 found.1))
+
+pub few-importable : (r : Resolve) → IsValid r → (ns : List ℕ) → AreImportable r ns → length ns ≤ 4294967295
+few-importable r v ns h =
+    let below = length-le_from_distinct_below ns (length r.interfaces.items) h.once (λ q m. path-in-range r q (h.paths q (found q m))) in
+    let few = few-interfaces r v in
+    omega (arith, below, few)
+  where
+    found : (q : ℕ) → list_any (λ y. q == y) ns ≡ true → Contains ns q
+    found q m = let x = any-contains (λ y. q == y) ns m in subst (Contains ns) (sym (equal q x.0 x.2)) x.1
+
+-- ---- the same interfaces, as a slice and in their packages
+
+pub moved : (r r' : Resolve) (xs ys : List InterfaceId) (a : Around) → r' ≡ r → ys ≡ xs → HasImported r' a (map (λ (id : InterfaceId). id.0) ys) → HasImported r a (map (λ (id : InterfaceId). id.0) xs)
+moved r r' xs ys a e l h = subst (λ (q : Resolve). HasImported q a (map (λ (id : InterfaceId). id.0) xs)) e (subst (λ (zs : List InterfaceId). HasImported r' a (map (λ (id : InterfaceId). id.0) zs)) l h)
+
+abbrev item : List InterfaceId → ℕ → InterfaceId
+item xs k = get_or xs k (record { 0 = 0 })
+
+abbrev numbers : List InterfaceId → List ℕ
+numbers xs = map (λ (id : InterfaceId). id.0) xs
+
+number-at : (xs : List InterfaceId) (k : ℕ) → k < length xs → slice_get (numbers xs) k ≡ Some (item xs k).0
+number-at xs k l = slice_get-map (λ (id : InterfaceId). id.0) xs k ∙ ap (option_map (λ (id : InterfaceId). id.0)) (slice_get-get_or xs k (record { 0 = 0 }) l)
+
+-- what holds where the next interface is imported
+pub record IsNext (r : Resolve) (xs : List InterfaceId) (k : ℕ) (a : Around) : Type 0 where
+  pub valid : IsValid r
+  pub inside : (item xs k).0 < length r.interfaces.items
+  pub uses : UsedStand r (standing_instances r a) (item xs k).0
+  pub then : (canonical : Bool) (a' : Around) → ImportsTypes r canonical a a' (item xs k) k → HasImported r a' (take (k + 1) (numbers xs))
+
+pub is-next : (r r' : Resolve) (xs : List InterfaceId) (k : ℕ) (a : Around) → r' ≡ r → IsValid r → AreImportable r (numbers xs) → k < length xs → HasImported r' a (take k (numbers xs)) → IsNext r' xs k a
+is-next r r' xs k a e v can l = subst (λ (q : Resolve). HasImported q a (take k (numbers xs)) → IsNext q xs k a) (sym e)
+    (λ h.
+    let at = number-at xs k l in
+    let more : suc k ≡ k + 1 = omega arith in
+    record {
+      valid = v;
+      inside = path-in-range r (item xs k).0 (next-path r v (numbers xs) can k (item xs k).0 at a h);
+      uses = next-uses r v (numbers xs) can k (item xs k).0 at a h;
+      then = λ canonical a' t. subst (λ (j : ℕ). HasImported r a' (take j (numbers xs))) more (next-imported r v (numbers xs) can k (item xs k).0 at a h canonical a' t);
+    })
+
+pub all-imported : (r r' : Resolve) (xs : List InterfaceId) (k : ℕ) (a : Around) → r' ≡ r → length xs ≤ k → HasImported r' a (take k (numbers xs)) → HasImported r a (numbers xs)
+all-imported r r' xs k a e l h =
+    let same : length (numbers xs) ≡ length xs = length-map xs (λ (id : InterfaceId). id.0) in
+    subst (λ (q : Resolve). HasImported q a (numbers xs)) e (subst (HasImported r' a) (take_all k (numbers xs) (omega (arith, same, l))) h)

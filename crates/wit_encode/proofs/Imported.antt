@@ -1,0 +1,262 @@
+-- What a component type has imported, after aliases, and after one instance type more and the import or export that uses it.
+use Rattle.std.proofs.Common.{◌≡◌, ◌⊎◌, inl, inr, refl, sym, subst, ap, ◌∙◌, ℕ, zero, suc, ◌+◌, ◌<◌, ◌≤◌, ◌==◌, nat_lt, nat_cmp, Ordering, Bool, true, false, cond, List, [], ◌∷◌, ◌++◌, length, length-append, map, take, Option, Some, None, slice_get, arith}
+use Rattle.std.specs.Prelude.{◌&&◌}
+use Rattle.std.specs.List.{AllZip, Contains, list_all}
+use Rattle.std.specs.Option.{option_map_or}
+use Rattle.std.specs.BTreeMap.{insert_entry, is_at}
+use Rattle.std.specs.FinMap.{nat_cmp-IsAntisymmetric}
+use Rattle.std.specs.Ordering.{is_eq, match_ordering}
+use Rattle.std.specs.declared.cmp.Ordering.TheVariants.{Less, Equal, Greater}
+use Rattle.std.proofs.Math.Seq.{take-append_seam}
+use Rattle.std.proofs.lemmas.Bool.{cond-true, cond-false, lt-ltb}
+use Rattle.std.proofs.lemmas.List.{map-append}
+use Rattle.std.proofs.lemmas.List.Elements.{Contains-append_left, Contains-append_right}
+use Rattle.std.proofs.lemmas.List.Folds.{list_all-append}
+use Rattle.wit_model.specs.Text.{Text}
+use Rattle.wit_model.specs.Lookup.{interface_path, place_of, place_of_path}
+use Rattle.wit_model.specs.Valid.{IsValid}
+use Rattle.wit_model.specs.declared.model.Resolve.{Resolve}
+use Rattle.wit_model.specs.declared.model.Interface.{Interface}
+use Rattle.wit_model.specs.declared.model.InterfaceId.{InterfaceId}
+use Rattle.wit_model.specs.declared.model.Function.{Function}
+use Rattle.wit_model.specs.declared.model.TypeOwner.TheVariants as owner
+use Rattle.wit_model.proofs.Elements.{contains-one, same-number, same-some, zip-push}
+use Rattle.wit_model.proofs.Lists.{first_true}
+use Rattle.comp_bytes.specs.Raw.{Declaration, Declarations, append}
+use Rattle.comp_bytes.specs.Held.{type_slots_of}
+use Rattle.comp_bytes.specs.Reading.{◌>>=◌}
+use Rattle.comp_bytes.specs.declared.forms.ComponentTypeRef.TheVariants as refs
+use Rattle.comp_meaning.specs.Follow as follow
+use Rattle.comp_meaning.specs.Follow.{Direction, import_, export_, Instance, Key, Scope, Seen, Slot, View, component_scope, component_step, in_scope, instance_types, instance_view, is_foreign_name, new_scope, provided, see, used_view}
+use Rattle.comp_bytes.specs.Raw.{ExternName}
+use Rattle.wit_shown.specs.Views.{AreReached, ShowsImport}
+use Rattle.world_names.specs.WorldNames.{name_of_interface}
+use Rattle.world_names.specs.WorldSteps.{declared_towards, seen_instance, with_instance}
+use Rattle.world_names.proofs.PathsRead.{path-key}
+use Rattle.world_names.proofs.WorldSteps.{below-more, instance-step, slot-behind, types-appended, unused}
+use Rattle.wit_encode_types.specs.Known.{Aliased, AreAliases, Around, GrowsAround, IsAlias, are_right, is_slot_for, known_instance, known_slot, no_around, outer_scope, outer_slots, with_alias, with_aliases}
+use Rattle.wit_encode_types.proofs.Lists.{both}
+use Rattle.wit_encode_types.proofs.Tables.{equal-is}
+use Rattle.wit_encode.specs.Instance.{EncodesDependency, EncodesInterface, EncodesPart}
+use Rattle.wit_encode.specs.Dependencies.{AliasesLeaveImports, ExportsEnd, HasImported, ImportsGrow, NothingIsImported, ShowsComponent, imported_instance, seen_import, with_export, with_import}
+use Rattle.wit_encode.proofs.Components.{steps-count, steps-instance, steps-more}
+use Rattle.wit_encode.proofs.Importing.{new-slot, right-more, stands, still-right, wide}
+
+pub nothing_is_imported : NothingIsImported
+nothing_is_imported r = record {
+  scope = new_scope;
+  followed = refl;
+  views = [];
+  shown = tt;
+  imports = refl;
+  exports = refl;
+  instances = refl;
+  used = refl;
+  in_range = refl;
+  right = refl;
+  listed = λ k n e. absurd (let wrong : ⊥ = cc in wrong);
+  alone = λ n k e. absurd (let wrong : ⊥ = cc in wrong);
+}
+
+-- ---- aliases
+
+no-instance : (x : Slot) → is_foreign_name x ≡ true → instance_types (x ∷ []) ≡ 0
+no-instance (Slot.value t) h = refl
+no-instance (Slot.resource p t) h = refl
+no-instance (Slot.function f) h = refl
+no-instance (Slot.instance ds n) h = let wrong : ⊥ = cc in absurd wrong
+
+alias-leaves : (r : Resolve) (a : Around) (al : Aliased) (ns : List ℕ) → HasImported r a ns → IsAlias r a al → HasImported r (with_alias a al) ns
+alias-leaves r a al ns h is =
+    let s = stands r a al is in
+    let x = s.slot in
+    let w = wide r a al is in
+    let more : length (h.scope.slots ++ x ∷ []) ≡ length h.scope.slots + 1 = length-append h.scope.slots (x ∷ []) in
+    let types : instance_types (h.scope.slots ++ x ∷ []) ≡ instance_types h.scope.slots + instance_types (x ∷ []) = types-appended h.scope.slots (x ∷ []) in
+    let none : instance_types (x ∷ []) ≡ 0 = no-instance x (first_true (is_foreign_name x) _ s.fits) in
+    let used : length h.scope.used ≡ instance_types h.scope.slots = h.used in
+    record {
+      scope = in_scope x h.scope;
+      followed = w.scope h.scope h.followed;
+      views = h.views;
+      shown = h.shown;
+      imports = h.imports;
+      exports = h.exports;
+      instances = h.instances;
+      used = omega (arith, types, none, used);
+      in_range = below-more (length h.scope.slots) (length (h.scope.slots ++ x ∷ [])) h.scope.used (omega (arith, more)) h.in_range;
+      right = still-right r a al is;
+      listed = h.listed;
+      alone = h.alone;
+    }
+
+each-leaves : (r : Resolve) (a : Around) (made : List Aliased) (ns : List ℕ) → HasImported r a ns → AreAliases r a made → HasImported r (with_aliases a made) ns
+each-leaves r a [] ns h are = h
+each-leaves r a (x ∷ made) ns h are = each-leaves r (with_alias a x) made ns (alias-leaves r a x ns h are.0) are.1
+
+pub aliases_leave_imports : AliasesLeaveImports
+aliases_leave_imports r around around' numbers h g = subst (λ (z : Around). HasImported r z numbers) (sym g.is) (each-leaves r around g.made numbers h g.are)
+
+-- ---- one entry more in an ordered map
+
+other-slot : (n t m : ℕ) (es : List (ℕ × ℕ)) → is_at (nat_cmp m) n ≡ false → known_slot es n ≡ None → known_slot (insert_entry nat_cmp es n t) m ≡ known_slot es m
+other-slot n t m [] other h = cond-false _ _ _ other
+other-slot n t m (e ∷ es) other h = by (λ q. other-slot n t m es other (sym (cond-false _ _ _ (ap is_eq q)) ∙ h)) (nat_cmp n e.0) refl
+  where
+    by : (nat_cmp n e.0 ≡ Greater → known_slot (insert_entry nat_cmp es n t) m ≡ known_slot es m) → (o : Ordering) → nat_cmp n e.0 ≡ o → known_slot (match_ordering o ((n, t) ∷ e ∷ es) ((e.0, t) ∷ es) (e ∷ insert_entry nat_cmp es n t)) m ≡ known_slot (e ∷ es) m
+    by more Less q = cond-false _ _ _ other
+    by more Equal q = let y : is_eq (nat_cmp n e.0) ≡ true = ap is_eq q in let s : Some e.1 ≡ None = sym (cond-true _ _ _ y) ∙ h in absurd (let z : ⊥ = cc in z)
+    by more Greater q = ap (λ o. cond (is_at (nat_cmp m) e.0) (Some e.1) o) (more q)
+
+at-same : (n m : ℕ) → is_at (nat_cmp n) m ≡ true → n ≡ m
+at-same n m h = nat_cmp-IsAntisymmetric n m (equal-is (nat_cmp n m) h)
+
+-- what stands behind a list, or in it
+behind-cases : {X : Type 0} (xs : List X) (y x : X) (k : ℕ) → slice_get (xs ++ y ∷ []) k ≡ Some x → (slice_get xs k ≡ Some x) ⊎ ((k ≡ length xs) × (x ≡ y))
+behind-cases [] y x zero e = inr (refl, sym (same-some y x e))
+behind-cases [] y x (suc k) e = let wrong : ⊥ = cc in absurd wrong
+behind-cases (w ∷ xs) y x zero e = inl e
+behind-cases (w ∷ xs) y x (suc k) e = elim (behind-cases xs y x k e) [
+  | inl h ↦ inl h
+  | inr h ↦ inr (ap suc h.0, h.1)
+]
+
+module _ (i : ℕ) (ns : List ℕ) (es : List (ℕ × ℕ)) (first : known_instance es i ≡ None) where
+  abbrev after : List (ℕ × ℕ)
+  after = insert_entry nat_cmp es i (length ns)
+
+  listed-more : ((k n : ℕ) → slice_get ns k ≡ Some n → known_instance es n ≡ Some k) → (k n : ℕ) → slice_get (ns ++ i ∷ []) k ≡ Some n → known_instance after n ≡ Some k
+  listed-more all k n e = elim (behind-cases ns i n k e) [
+    | inl h ↦ go h (is_at (nat_cmp n) i) refl
+    | inr h ↦ ap (known_instance after) h.1 ∙ new-slot i (length ns) es first ∙ ap Some (sym h.0)
+  ]
+    where
+      go : slice_get ns k ≡ Some n → (b : Bool) → is_at (nat_cmp n) i ≡ b → known_instance after n ≡ Some k
+      go h true q = let wrong : Some k ≡ None = sym (all k n h) ∙ ap (known_instance es) (at-same n i q) ∙ first in let z : ⊥ = cc in absurd z
+      go h false q = other-slot i (length ns) n es q first ∙ all k n h
+
+  alone-more : ((n k : ℕ) → known_instance es n ≡ Some k → Contains ns n) → (n k : ℕ) → known_instance after n ≡ Some k → Contains (ns ++ i ∷ []) n
+  alone-more all n k e = go (is_at (nat_cmp n) i) refl
+    where
+      go : (b : Bool) → is_at (nat_cmp n) i ≡ b → Contains (ns ++ i ∷ []) n
+      go true q = subst (Contains (ns ++ i ∷ [])) (sym (at-same n i q)) (Contains-append_right ns (i ∷ []) i (contains-one i))
+      go false q = Contains-append_left ns (i ∷ []) n (all n k (sym (other-slot i (length ns) n es q first) ∙ e))
+
+-- ---- one instance type more, and what uses it
+
+module _ (r : Resolve) (v : IsValid r) (canonical : Bool) (a a' : Around) (ns : List ℕ) (i : InterfaceId) (def : Interface) (path : Text) (written : List (Text × Function)) (fs : List Function) (k : ℕ)
+    (is : interface_path r i.0 ≡ Some path) (h : HasImported r a ns) (e : EncodesPart r a a' i def written fs k) where
+  before : HasImported r e.before ns
+  before = aliases_leave_imports r a e.before ns h e.aliases
+
+  abbrev s : Scope
+  s = before.scope
+
+  abbrev x : Slot
+  x = Slot.instance e.declared (length s.slots)
+
+  abbrev name : ExternName
+  name = name_of_interface r canonical i.0
+
+  abbrev view : View
+  view = e.is_instance.view
+
+  declared-after : outer_scope a'.declared ≡ Some (in_scope x s)
+  declared-after = ap (λ (z : Around). outer_scope z.declared) e.one_more ∙ steps-instance new_scope s e.before.declared e.declared before.followed
+
+  around-slots : outer_slots e.before.declared ≡ s.slots
+  around-slots = ap (λ o. option_map_or (λ (t : Scope). t.slots) o []) before.followed
+
+  number : k ≡ length s.slots
+  number =
+      let count : length s.slots ≡ length new_scope.slots + type_slots_of e.before.declared = steps-count new_scope s e.before.declared before.followed in
+      e.index ∙ (let same : type_slots_of e.before.declared ≡ length s.slots = omega (arith, count) in same)
+
+  viewed : used_view (in_scope x s).slots (follow.place_of (Some path)) (slice_get (in_scope x s).slots (length s.slots)) ≡ Some view
+  viewed =
+      ap (used_view (in_scope x s).slots (follow.place_of (Some path))) (slot-behind s.slots x)
+      ∙ ap (λ slots. instance_view (follow.place_of (Some path)) slots e.declared) (take-append_seam s.slots (x ∷ []) ∙ sym around-slots)
+      ∙ ap (λ o. instance_view (place_of_path o) (outer_slots e.before.declared) e.declared) (sym is) ∙ e.is_instance.followed
+
+  abbrev next : Direction → Scope
+  next direction = see direction (seen_instance name (Key.path path) view) (with_instance (Key.path path) view (length s.slots) (in_scope x s))
+
+  stepped : (direction : Direction) → component_step (in_scope x s) (declared_towards direction name (refs.Instance k)) ≡ Some (next direction)
+  stepped direction =
+      ap (λ m. component_step (in_scope x s) (declared_towards direction name (refs.Instance m))) number
+      ∙ instance-step name (length s.slots) (in_scope x s) (Key.path path) view (path-key r v i.0 path is canonical) (unused (length s.slots) s.used before.in_range) viewed direction
+
+  described : (direction : Direction) → outer_scope (append a'.declared (Declarations.declares (declared_towards direction name (refs.Instance k)) Declarations.no_more)) ≡ Some (next direction)
+  described direction = steps-more new_scope (in_scope x s) (next direction) a'.declared (declared_towards direction name (refs.Instance k)) declared-after (stepped direction)
+
+  used-once : length (s.used ++ length s.slots ∷ []) ≡ instance_types (s.slots ++ x ∷ [])
+  used-once =
+      let one : length (s.used ++ length s.slots ∷ []) ≡ length s.used + 1 = length-append s.used (length s.slots ∷ []) in
+      let types : instance_types (s.slots ++ x ∷ []) ≡ instance_types s.slots + 1 = types-appended s.slots (x ∷ []) in
+      let used : length s.used ≡ instance_types s.slots = before.used in
+      omega (arith, one, types, used)
+
+  all-below : list_all (λ n. nat_lt n (length (s.slots ++ x ∷ []))) (s.used ++ length s.slots ∷ []) ≡ true
+  all-below =
+      let more : length (s.slots ++ x ∷ []) ≡ length s.slots + 1 = length-append s.slots (x ∷ []) in
+      let less : length s.slots < length (s.slots ++ x ∷ []) = omega (arith, more) in
+      list_all-append (λ n. nat_lt n (length (s.slots ++ x ∷ []))) s.used (length s.slots ∷ [])
+      ∙ both (list_all (λ n. nat_lt n (length (s.slots ++ x ∷ []))) s.used) _ (below-more (length s.slots) (length (s.slots ++ x ∷ [])) s.used (omega (arith, more)) before.in_range)
+      (both (nat_lt (length s.slots) (length (s.slots ++ x ∷ []))) true (lt-ltb (length s.slots) (length (s.slots ++ x ∷ [])) less) refl)
+
+  abbrev imported : Around
+  imported = with_import r canonical i k (length ns) a'
+
+  slots-after : outer_slots imported.declared ≡ outer_slots e.before.declared ++ x ∷ []
+  slots-after = ap (λ o. option_map_or (λ (t : Scope). t.slots) o []) (described import_) ∙ ap (λ xs. xs ++ x ∷ []) (sym around-slots)
+
+  import-more : known_instance a.instances i.0 ≡ None → ShowsImport r i.0 (path, view) → HasImported r imported (ns ++ i.0 ∷ [])
+  import-more first shows = record {
+    scope = next import_;
+    followed = described import_;
+    views = before.views ++ (path, view) ∷ [];
+    shown = zip-push (ShowsImport r) ns before.views i.0 (path, view) before.shown shows;
+    imports = ap (λ t. t ++ seen_import (path, view) ∷ []) before.imports ∙ sym (map-append seen_import before.views ((path, view) ∷ []));
+    exports = before.exports;
+    instances = ap (λ t. t ++ imported_instance (path, view) ∷ []) before.instances ∙ sym (map-append imported_instance before.views ((path, view) ∷ []));
+    used = used-once;
+    in_range = all-below;
+    right = ap (are_right r imported.known) slots-after
+        ∙ ap (λ (z : Around). are_right r z.known (outer_slots e.before.declared ++ x ∷ [])) e.one_more ∙ right-more r e.before.known (outer_slots e.before.declared) x before.right;
+    listed = subst (λ es. (k n : ℕ) → slice_get (ns ++ i.0 ∷ []) k ≡ Some n → known_instance (insert_entry nat_cmp es i.0 (length ns)) n ≡ Some k) same-listed (listed-more i.0 ns e.before.instances missing before.listed);
+    alone = subst (λ es. (n k : ℕ) → known_instance (insert_entry nat_cmp es i.0 (length ns)) n ≡ Some k → Contains (ns ++ i.0 ∷ []) n) same-listed (alone-more i.0 ns e.before.instances missing before.alone);
+  }
+    where
+      same-listed : e.before.instances ≡ a'.instances
+      same-listed = sym (ap (λ (z : Around). z.instances) e.one_more)
+
+      kept : (b : Around) (made : List Aliased) → (with_aliases b made).instances ≡ b.instances
+      kept b [] = refl
+      kept b (y ∷ made) = kept (with_alias b y) made
+
+      missing : known_instance e.before.instances i.0 ≡ None
+      missing = ap (λ es. known_instance es i.0) (ap (λ (z : Around). z.instances) e.aliases.is ∙ kept a e.aliases.made) ∙ first
+
+  export-ends : component_scope (with_export r canonical i k a'.declared) ≡ Some (next export_)
+  export-ends =
+      ap (λ o. o >>= λ t. provided (length t.used == instance_types t.slots) t) (described export_)
+      ∙ ap (λ b. provided b (next export_)) (ap (λ n. length (s.used ++ length s.slots ∷ []) == n) (sym used-once) ∙ same-number (length (s.used ++ length s.slots ∷ [])))
+
+pub imports_grow : ImportsGrow
+imports_grow r canonical around around' numbers i def path k v is h first e =
+    import-more r v canonical around around' numbers i def path [] [] k is h e.part first (record { path = is; shows = e.shows })
+
+pub exports_end : ExportsEnd
+exports_end r canonical around around' numbers i def path k v is h reached e =
+    let b = before r v canonical around around' numbers i def path _ _ k is h e.part in
+    record {
+      scope = next r v canonical around around' numbers i def path _ _ k is h e.part export_;
+      follows = export-ends r v canonical around around' numbers i def path _ _ k is h e.part;
+      imports = b.views;
+      exported = e.part.is_instance.view;
+      shows = record {
+        reached = record { numbers = numbers; reached = reached; shown_imports = b.shown; shows = e.shows };
+        imports_are = b.imports;
+        exports_are = ap (λ t. t ++ seen_import (path, e.part.is_instance.view) ∷ []) b.exports;
+      };
+    }

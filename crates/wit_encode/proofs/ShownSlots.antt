@@ -1,0 +1,178 @@
+-- What the slots of the types stand for that an instance type shows: each for the name of its type, and for that of a resource exactly where the
+-- name is one.
+use Rattle.std.proofs.Common.{◌≡◌, ◌⊎◌, inl, inr, refl, sym, subst, ap, ◌∙◌, Bool, true, false, not, List, [], ◌∷◌, ◌++◌, map, Option, Some, None, String, slice_get}
+use Rattle.std.specs.List.{Contains, list_all}
+use Rattle.std.specs.Option.{option_map_or}
+use Rattle.std.specs.declared.alloc.Global.{Global}
+use Rattle.std.proofs.lemmas.List.Elements.{Contains-append_left, Contains-append_right, Contains-append_cases}
+use Rattle.wit_model.specs.Text.{Text, text_of}
+use Rattle.wit_model.specs.Tree.{Place, named}
+use Rattle.wit_model.specs.Tree as tree
+use Rattle.wit_model.specs.Lookup.{interface_at, place_of}
+use Rattle.wit_model.specs.Parts.{is_resource, same_owner}
+use Rattle.wit_model.specs.Meaning.{TypeMeaning}
+use Rattle.wit_model.specs.Meant.{type_meaning_at, interface_meaning, interface_meaning_at, no_interface}
+use Rattle.wit_model.specs.Valid.{IsValid}
+use Rattle.wit_model.specs.declared.model.Resolve.{Resolve}
+use Rattle.wit_model.specs.declared.model.TypeId.{TypeId}
+use Rattle.wit_model.specs.declared.model.Interface.{Interface}
+use Rattle.wit_model.specs.declared.model.InterfaceId.{InterfaceId}
+use Rattle.wit_model.specs.declared.model.TypeOwner.{TypeOwner}
+use Rattle.wit_model.specs.declared.model.TypeOwner.TheVariants as owner
+use Rattle.wit_model.proofs.Elements.{none-in, one-contained, contains-one, contains-later, all-contained, contains-get}
+use Rattle.comp_bytes.specs.declared.forms.ComponentTypeRef.{ComponentTypeRef}
+use Rattle.comp_bytes.specs.declared.forms.ComponentTypeRef.TheVariants as refs
+use Rattle.comp_bytes.specs.Raw.{Declaration, Alias, ExternName}
+use Rattle.comp_bytes.specs.Reading.{◌>>=◌}
+use Rattle.comp_meaning.specs.Follow.{Slot, ShownType, InstanceScope, when, provided, is_simple, is_foreign_name, in_instance, definition, function_signature, function_in, declared_by, named_like, named_type, show, show_type, show_function, instance_step, instance_steps, new_instance}
+use Rattle.wit_shown.specs.Views.{name_slot, shown_type, types_of}
+use Rattle.wit_encode_types.specs.Resources.{Names, is_met_owner, resource_names}
+use Rattle.wit_encode_types.specs.Standing.{is_slot_of}
+use Rattle.wit_encode_types.proofs.Paths.{some-same}
+use Rattle.wit_encode.proofs.Steps.{unbind, unwhen, unprovided}
+use Rattle.wit_encode.proofs.Owned.{same-owner}
+use Rattle.wit_encode.proofs.Numbers.{same-number}
+use Rattle.wit_encode.proofs.Naming.{or-first, one-home, names-agree}
+use Rattle.wit_encode.proofs.ListedTypes.{listed-type, listed-key}
+
+module _ (place : Place) where
+  -- ---- slots of names
+
+  abbrev IsNameSlot : Text → Slot → Type 0
+  IsNameSlot name slot = (slot ≡ Slot.value (named place name)) ⊎ (slot ≡ Slot.resource place name)
+
+  like-name : (slot : Slot) (name : Text) → IsNameSlot name (named_like slot place name)
+  like-name (Slot.value t) name = inl refl
+  like-name (Slot.resource p x) name = inr refl
+  like-name (Slot.function s) name = inl refl
+  like-name (Slot.instance ds n) name = inl refl
+
+  named-slot : (slots : List Slot) (name : Text) (described : ComponentTypeRef) (found : tree.Declaration × Slot) → named_type slots place name described ≡ Some found → IsNameSlot name found.1
+  named-slot slots name (refs.TypeEq n) found e =
+      let slot = unbind (slice_get slots n) _ found e in
+      let d = unbind (declared_by slot.item) _ found slot.then in
+      subst (IsNameSlot name) (ap (λ f. f.1) (some-same _ found d.then)) (like-name slot.item name)
+  named-slot slots name refs.SubResource found e = inr (ap (λ f. f.1) (sym (some-same _ found e)))
+  named-slot slots name (refs.Instance n) found e = absurd (let z : ⊥ = cc in z)
+  named-slot slots name (refs.Func n) found e = absurd (let z : ⊥ = cc in z)
+  named-slot slots name (refs.Component n) found e = absurd (let z : ⊥ = cc in z)
+
+  -- ---- each type that is shown has a slot of its name
+
+  abbrev HasSlot : InstanceScope → ShownType → Type 0
+  HasSlot s t = IsNameSlot t.name t.slot × Contains s.slots t.slot
+
+  abbrev AllNamed : InstanceScope → Type 0
+  AllNamed s = (t : ShownType) → Contains s.shown.types t → HasSlot s t
+
+  slot-more : (s : InstanceScope) (x : Slot) → AllNamed s → AllNamed (in_instance x s)
+  slot-more s x all t c = let h = all t c in (h.0, Contains-append_left s.slots (x ∷ []) t.slot h.1)
+
+  type-more : (s s' : InstanceScope) (name : ExternName) (described : ComponentTypeRef) → show_type place name described s ≡ Some s' → AllNamed s → AllNamed s'
+  type-more s s' name described e all =
+      let found = unbind (named_type s.slots place name.text described) _ s' e in
+      subst AllNamed (some-same _ s' found.then) (λ t c. by found.item (named-slot s.slots name.text described found.item found.is) t (Contains-append_cases s.shown.types _ t c))
+    where
+      by : (found : tree.Declaration × Slot) → IsNameSlot name.text found.1 → (t : ShownType)
+          → (Contains s.shown.types t ⊎ Contains (record { name = name.text; meaning = record { declaration = found.0; external_id = name.external_id }; slot = found.1 } ∷ []) t)
+          → IsNameSlot t.name t.slot × Contains (s.slots ++ found.1 ∷ []) t.slot
+      by found ok t (inl c) = let h = all t c in (h.0, Contains-append_left s.slots (found.1 ∷ []) t.slot h.1)
+      by found ok t (inr c) =
+          subst (λ (u : ShownType). IsNameSlot u.name u.slot × Contains (s.slots ++ found.1 ∷ []) u.slot) (one-contained _ t c)
+          (ok, Contains-append_right s.slots (found.1 ∷ []) found.1 (contains-one found.1))
+
+  function-more : (s s' : InstanceScope) (name : ExternName) (n : _) → show_function name n s ≡ Some s' → AllNamed s → AllNamed s'
+  function-more s s' name n e all = let f = unbind (function_in (slice_get s.slots n)) _ s' e in subst AllNamed (some-same _ s' f.then) all
+
+  step-named : (outer : List Slot) (s s' : InstanceScope) (d : Declaration) → instance_step place outer s d ≡ Some s' → AllNamed s → AllNamed s'
+  step-named outer s s' (Declaration.defined d) e all = let t = unbind (definition s.slots d) _ s' e in subst AllNamed (some-same _ s' t.then) (slot-more s (Slot.value t.item) all)
+  step-named outer s s' (Declaration.function f) e all = let t = unbind (function_signature s.slots f) _ s' e in subst AllNamed (some-same _ s' t.then) (slot-more s (Slot.function t.item) all)
+  step-named outer s s' (Declaration.alias_of (Alias.of_outer scopes n)) e all =
+      let slot = unbind (slice_get outer n) _ s' e in
+      subst AllNamed (unprovided _ _ s' slot.then) (slot-more s slot.item all)
+  step-named outer s s' (Declaration.alias_of (Alias.of_export m name)) e all = absurd (let z : ⊥ = cc in z)
+  step-named outer s s' (Declaration.imported name described) e all = absurd (let z : ⊥ = cc in z)
+  step-named outer s s' (Declaration.exported name (refs.Func n)) e all = function-more s s' name n (unwhen (is_simple name) (show_function name n s) s' e) all
+  step-named outer s s' (Declaration.exported name (refs.TypeEq n)) e all = type-more s s' name (refs.TypeEq n) (unwhen (is_simple name) (show_type place name (refs.TypeEq n) s) s' e) all
+  step-named outer s s' (Declaration.exported name refs.SubResource) e all = type-more s s' name refs.SubResource (unwhen (is_simple name) (show_type place name refs.SubResource s) s' e) all
+  step-named outer s s' (Declaration.exported name (refs.Instance n)) e all = type-more s s' name (refs.Instance n) (unwhen (is_simple name) (show_type place name (refs.Instance n) s) s' e) all
+  step-named outer s s' (Declaration.exported name (refs.Component n)) e all = type-more s s' name (refs.Component n) (unwhen (is_simple name) (show_type place name (refs.Component n) s) s' e) all
+
+  steps-named : (outer : List Slot) (ds : List Declaration) (s s' : InstanceScope) → instance_steps place outer s ds ≡ Some s' → AllNamed s → AllNamed s'
+  steps-named outer [] s s' e all = subst AllNamed (some-same s s' e) all
+  steps-named outer (d ∷ ds) s s' e all =
+      let next = unbind (instance_step place outer s d) _ s' e in
+      steps-named outer ds next.item s' next.then (step-named outer s next.item d next.is all)
+
+  module _ (resources : Names) where
+    -- with each resource in a slot of its own kind, the name says which slot it is
+    name-slot : (name : Text) (slot : Slot) → IsNameSlot name slot → is_slot_of resources slot ≡ true → slot ≡ name_slot (resources place name) place name
+    name-slot name slot (inl e) h = by (resources place name) refl
+      where
+        kept : not (resources place name) ≡ true
+        kept = ap (is_slot_of resources) (sym e) ∙ h
+
+        by : (b : Bool) → resources place name ≡ b → slot ≡ name_slot b place name
+        by false q = e
+        by true q = absurd (let z : false ≡ true = sym (ap not q) ∙ kept in cc)
+    name-slot name slot (inr e) h = e ∙ ap (λ b. name_slot b place name) (sym (ap (is_slot_of resources) (sym e) ∙ h))
+
+    pub shown-slots : (outer : List Slot) (ds : List Declaration) (s : InstanceScope) → instance_steps place outer new_instance ds ≡ Some s → list_all (is_slot_of resources) s.slots ≡ true
+        → (t : ShownType) → Contains s.shown.types t → t.slot ≡ name_slot (resources place t.name) place t.name
+    shown-slots outer ds s e sound t c =
+        let h = steps-named outer ds new_instance s e (λ u d. none-in u d) t c in
+        name-slot t.name t.slot h.0 (all-contained (is_slot_of resources) s.slots t.slot sound h.1)
+
+    -- types that are shown with the names and meanings of these, each with a slot of its name
+    pub types-shown : (r : Resolve) (es : List (String Global × TypeId)) (ts : List ShownType)
+        → map {B = Text × TypeMeaning} (λ (t : ShownType). (t.name, t.meaning)) ts ≡ map {B = Text × TypeMeaning} (λ (e : String Global × TypeId). (text_of e.0, type_meaning_at r e.1.0)) es
+        → ((t : ShownType) → Contains ts t → t.slot ≡ name_slot (resources place t.name) place t.name)
+        → ((e : String Global × TypeId) → Contains es e → resources place (text_of e.0) ≡ is_resource r e.1.0) → ts ≡ map (shown_type r place) es
+    types-shown r [] [] same slots are = refl
+    types-shown r [] (t ∷ ts) same slots are = absurd (let z : ⊥ = cc in z)
+    types-shown r (e ∷ es) [] same slots are = absurd (let z : ⊥ = cc in z)
+    types-shown r (e ∷ es) (t ∷ ts) same slots are = λ i. first i ∷ types-shown r es ts rest (λ u c. slots u (contains-later t ts u c)) (λ x c. are x (contains-later e es x c)) i
+      where
+        one : ◌≡◌ {A = Text × TypeMeaning} (t.name, t.meaning) (text_of e.0, type_meaning_at r e.1.0)
+        one = cc
+
+        rest : map {B = Text × TypeMeaning} (λ (u : ShownType). (u.name, u.meaning)) ts ≡ map {B = Text × TypeMeaning} (λ (x : String Global × TypeId). (text_of x.0, type_meaning_at r x.1.0)) es
+        rest = cc
+
+        slot : t.slot ≡ name_slot (is_resource r e.1.0) place (text_of e.0)
+        slot = slots t (contains-front t ts) ∙ (ap (λ n. name_slot (resources place n) place n) (ap (λ x. x.0) one) ∙ ap (λ b. name_slot b place (text_of e.0)) (are e (contains-front e es)))
+          where
+            contains-front : {X : Type 0} (x : X) (xs : List X) → Contains (x ∷ xs) x
+            contains-front x xs = Contains-append_left (x ∷ []) xs x (contains-one x)
+
+        first : t ≡ shown_type r place e
+        first = λ i. record { name = (one i).0; meaning = (one i).1; slot = slot i }
+
+-- ---- the types of an interface
+
+module _ (r : Resolve) (v : IsValid r) (i : InterfaceId) (def : Interface) (there : interface_at r i.0 ≡ Some def) where
+  abbrev own : TypeOwner
+  own = owner.Interface i
+
+  abbrev resources : Names
+  resources = resource_names r (is_met_owner r own)
+
+  -- the name of a type that is listed is one of a resource exactly where the type is
+  listed-resource : (e : String Global × TypeId) → Contains def.types.entries e → resources (place_of r own) (text_of e.0) ≡ is_resource r e.1.0
+  listed-resource e c =
+      let at = contains-get def.types.entries e c in
+      let h = listed-type r v i.0 def there at.0 e at.1 in
+      let home : h.def.owner ≡ own = same-owner h.def.owner own h.owned in
+      let met : is_met_owner r own h.def.owner ≡ true = ap (is_met_owner r own) home ∙ or-first (same_owner own own) _ (same-number i.0) in
+      ap (resources (place_of r own)) (listed-key r v i.0 def there at.0 e at.1 h)
+      ∙ ap (λ (o : TypeOwner). resources (place_of r o) (text_of h.name)) (sym home)
+      ∙ names-agree r v (is_met_owner r own) (one-home r v own) e.1.0 h.def h.name h.there h.named_ met
+
+  -- what is shown with the names and meanings of the interface's types is its types
+  pub interface-shown : (outer : List Slot) (ds : List Declaration) (s : InstanceScope) → instance_steps (place_of r own) outer new_instance ds ≡ Some s → list_all (is_slot_of resources) s.slots ≡ true
+      → map {B = Text × TypeMeaning} (λ (t : ShownType). (t.name, t.meaning)) s.shown.types ≡ (interface_meaning_at r i.0).types
+      → s.shown.types ≡ option_map_or (types_of r i.0) (interface_at r i.0) []
+  interface-shown outer ds s steps sound same =
+      types-shown (place_of r own) resources r def.types.entries s.shown.types (same ∙ ap (λ (o : Option Interface). (option_map_or (interface_meaning r) o no_interface).types) there)
+      (shown-slots (place_of r own) resources outer ds s steps sound) listed-resource
+      ∙ sym (ap (λ (o : Option Interface). option_map_or (types_of r i.0) o []) there)

@@ -1,0 +1,44 @@
+use Rattle.std.proofs.Common.{◌≡◌, refl, sym, subst, ◌∙◌, ◌+◌, map, take}
+use Rattle.wit_model.specs.declared.model.Resolve.{Resolve}
+use Rattle.wit_model.specs.declared.model.InterfaceId.{InterfaceId}
+use Rattle.wit_encode.specs.Encoders.{outside}
+use Rattle.wit_encode.specs.Dependencies.{HasImported}
+use Rattle.wit_encode.proofs.ImportLoop.{is-next, all-imported}
+use Rattle.wit_encode.proofs.component_types.import_dependencies.Goals as goal
+
+pub loop-number-init : goal.loop-number-init
+loop-number-init c = record { closed = c.requires.closed; packages_ = refl; imported = c.requires.nothing }
+
+pub import_dependency-requires-clause-closed : goal.import_dependency-requires-clause-closed
+import_dependency-requires-clause-closed c = c.loop-number.invariant.closed
+
+pub import_dependency-requires-clause-in_range : goal.import_dependency-requires-clause-in_range
+import_dependency-requires-clause-in_range c = (is-next c.args.encoder.now.resolve.now c.loop-number.encoder.resolve.now c.args.interfaces.now c.loop-number.number (outside c.loop-number.encoder) c.loop-number.invariant.packages_ c.requires.valid c.requires.importable c.loop-number-test.true c.loop-number.invariant.imported).inside
+
+pub import_dependency-requires-clause-valid : goal.import_dependency-requires-clause-valid
+import_dependency-requires-clause-valid c = (is-next c.args.encoder.now.resolve.now c.loop-number.encoder.resolve.now c.args.interfaces.now c.loop-number.number (outside c.loop-number.encoder) c.loop-number.invariant.packages_ c.requires.valid c.requires.importable c.loop-number-test.true c.loop-number.invariant.imported).valid
+
+pub import_dependency-requires-clause-around : goal.import_dependency-requires-clause-around
+import_dependency-requires-clause-around c = (is-next c.args.encoder.now.resolve.now c.loop-number.encoder.resolve.now c.args.interfaces.now c.loop-number.number (outside c.loop-number.encoder) c.loop-number.invariant.packages_ c.requires.valid c.requires.importable c.loop-number-test.true c.loop-number.invariant.imported).uses
+
+pub returns-in_err-import_dependency-clause-resolve : goal.returns-in_err-import_dependency-clause-resolve
+returns-in_err-import_dependency-clause-resolve c = c.import_dependency.ensures.resolve ∙ c.loop-number.invariant.packages_
+
+pub loop-number-preserved : goal.loop-number-preserved
+loop-number-preserved c = record {
+  closed = c.import_dependency.ensures.closed;
+  packages_ = c.import_dependency.ensures.resolve ∙ c.loop-number.invariant.packages_;
+  imported =
+      let here = is-next c.args.encoder.now.resolve.now c.loop-number.encoder.resolve.now c.args.interfaces.now c.loop-number.number (outside c.loop-number.encoder) c.loop-number.invariant.packages_ c.requires.valid c.requires.importable c.loop-number-test.true c.loop-number.invariant.imported in
+      subst (λ (q : Resolve). HasImported q (outside c.import_dependency.new.encoder) (take (c.loop-number.number + 1) (map (λ (id : InterfaceId). id.0) c.args.interfaces.now))) (sym c.import_dependency.ensures.resolve)
+      (here.then c.args.canonical_names (outside c.import_dependency.new.encoder) c.in_ok-import_dependency.ensures.imports);
+}
+
+pub returns-clause-closed : goal.returns-clause-closed
+returns-clause-closed c = c.loop-number.invariant.closed
+
+pub returns-clause-resolve : goal.returns-clause-resolve
+returns-clause-resolve c = c.loop-number.invariant.packages_
+
+pub returns-clause-imported : goal.returns-clause-imported
+returns-clause-imported c = all-imported c.args.encoder.now.resolve.now c.loop-number.encoder.resolve.now c.args.interfaces.now c.loop-number.number (outside c.loop-number.encoder) c.loop-number.invariant.packages_ c.loop-number-test.false c.loop-number.invariant.imported

@@ -1,0 +1,11 @@
+use Rattle.std.proofs.Common.{◌≡◌, None, map, take}
+use Rattle.wit_encode.specs.Encoders.{outside}
+use Rattle.wit_encode.specs.Dependencies.{HasImported}
+use Rattle.wit_encode.proofs.component_types.import_dependencies.Given as goal
+
+abbrev pub invariant-loop-number : goal.invariant-loop-number
+invariant-loop-number l = record {
+  closed : l.encoder.inner ≡ None;
+  packages_ : l.encoder.resolve.now ≡ l.fn.encoder.resolve.now;
+  imported : HasImported l.encoder.resolve.now (outside l.encoder) (take l.number (map (λ id. id.0) l.interfaces));
+}

@@ -1,0 +1,32 @@
+use Rattle.std.proofs.Common.{◌≡◌, sym, ap, ◌∙◌, inr, rules, Some, map}
+use Rattle.wit_model.specs.Lookup.{interface_at}
+use Rattle.wit_model.specs.declared.model.Interface.{Interface}
+use Rattle.indexmap.specs.IndexMap.{values}
+use Rattle.wit_encode_types.proofs.Paths.{some-same}
+use Rattle.wit_encode.specs.Instance.{placed_function, EncodesPart}
+use Rattle.wit_encode.specs.Encoders.{outside}
+use Rattle.wit_encode.proofs.Closing.{closes}
+use Rattle.wit_encode.proofs.Opening.{close-each, closed-keeps, closed-stay, grown-stay, listed-there}
+use Rattle.wit_encode.proofs.interface.InterfaceEncoderOf+TypeEncodingMaps.encode_part.Goals as goal
+
+pub returns-clause-ok : goal.returns-clause-ok
+returns-clause-ok c =
+    let there = listed-there c.args.self.now.resolve.now c.args.interface c.args.types.now c.requires.listed in
+    close-each c.close.result (λ def. interface_at c.args.self.now.resolve.now c.args.interface.0 ≡ Some def)
+    (λ def k. EncodesPart c.args.self.now.resolve.now (outside c.args.self.now) (outside c.close.new.self) c.args.interface def (map placed_function c.args.functions.now) (map (λ f. f.2.now) c.args.functions.now) k) c.requires.listed.def there
+    (λ def is. closes c.close.result c.args.self.now.resolve.now (outside c.args.self.now) c.encode_inside.new.self.outer c.close.new.self.outer c.encode_inside.new.self.foreign c.close.new.self.foreign c.args.interface def c.args.types.now c.in_ok-declared.declared c.args.functions.now
+    (c.requires.listed.listed ∙ ap (λ (d : Interface). values d.types) (some-same c.requires.listed.def def (sym there ∙ is))) c.encode_inside.ensures.reaches (λ i. (c.close.ensures.rest i).foreign) c.in_ok-declared.ensures.function_types c.in_ok-declared.ensures.value_types c.in_ok-declared.ensures.ok c.close.ensures.ok)
+
+pub returns-clause-stands : goal.returns-clause-stands
+returns-clause-stands c = closed-keeps c.close.result c.args.self.now.resolve.now c.close.new.self.resolve.now (outside c.args.self.now) c.encode_inside.new.self.outer c.close.new.self.outer c.encode_inside.new.self.foreign c.args.self.now.inner c.close.new.self.inner c.in_ok-declared.declared c.requires.closed
+    ((λ i. (c.close.ensures.rest i).inner) ∙ c.encode_inside.ensures.closed) c.encode_inside.ensures.reaches c.close.ensures.ok
+
+pub returns-clause-size : goal.returns-clause-size
+returns-clause-size c = λ h. inr (record { after = outside c.encode_inside.new.self; grown = c.encode_inside.ensures.reaches; full = c.close.ensures.size h })
+
+pub returns-clause-instances : goal.returns-clause-instances
+returns-clause-instances c = closed-stay c.close.result c.args.self.now.resolve.now (outside c.args.self.now) c.encode_inside.new.self.outer c.close.new.self.outer c.encode_inside.new.self.foreign c.close.new.self.foreign c.in_ok-declared.declared
+    c.encode_inside.ensures.reaches (λ i. (c.close.ensures.rest i).foreign) c.close.ensures.ok c.close.ensures.err
+
+pub returns-in_err-declared-clause-instances : goal.returns-in_err-declared-clause-instances
+returns-in_err-declared-clause-instances c = grown-stay c.args.self.now.resolve.now (outside c.args.self.now) (outside c.encode_inside.new.self) c.encode_inside.ensures.reaches

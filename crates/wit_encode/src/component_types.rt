@@ -1,0 +1,93 @@
+//! The component types of interfaces.
+
+ghost use Rattle.std.specs.Prelude.{◌≡◌, ◌<◌, ◌≤◌, [], false, true, None, Some, Err, IfErr, IfOk, OnOk, is_some, length, map};
+ghost use Rattle.std.specs.List.{Contains};
+ghost use Rattle.comp_bytes.specs.RawOf.{raw_name};
+ghost use Rattle.comp_bytes.specs.Refusal.{IsMemoryOrSize};
+ghost use Rattle.wit_model.specs.Lookup.{interface_path};
+ghost use Rattle.wit_model.specs.Text.{Text};
+ghost use Rattle.wit_model.specs.Valid.{IsValid};
+ghost use Rattle.wit_encode.specs.Encoders.{outside, UsedAround};
+ghost use Rattle.wit_encode.specs.Dependencies.{AreImportable, HasImported, ImportsTypes, ShowsComponent};
+
+use crate::interface::{InterfaceEncoder, InterfaceEncoderOf};
+use comp_bytes::{ComponentType, ComponentTypeRef};
+use interface_reach::interfaces_reached;
+use std::alloc::Global;
+use wit_model::{Error, InterfaceId, Resolve};
+use world_names::interface_name;
+
+// Imports the types of an interface by its path, as the instance of this number.
+fn import_dependency<'a>(
+    alloc: Global,
+    encoder: &mut InterfaceEncoder<'a>,
+    interface: InterfaceId,
+    number: u32,
+    canonical_names: bool,
+) -> Result<(), Error>
+    requires closed { encoder.old.inner ≡ None }
+    requires in_range { interface.0 < length encoder.old.resolve.now.interfaces.items }
+    requires valid { IsValid encoder.old.resolve.now }
+    requires around { UsedAround encoder.old interface }
+    ensures closed { encoder.new.inner ≡ None }
+    ensures resolve { encoder.new.resolve.now ≡ encoder.old.resolve.now }
+    ensures imports { OnOk result (ImportsTypes encoder.old.resolve.now canonical_names (outside encoder.old) (outside encoder.new) interface number) }
+    ensures refuses { IfErr result IsMemoryOrSize }
+{
+    let name = interface_name(alloc, encoder.resolve, interface, canonical_names)?;
+    let slot = encoder.encode_dependency(alloc, interface)?;
+    encoder
+        .outer
+        .import(&name, ComponentTypeRef::Instance(slot))?;
+    encoder.foreign.instances.insert(interface.0, number)?;
+    Ok(())
+}
+
+// Imports the types of these interfaces by their paths, in order.
+fn import_dependencies<'a>(
+    alloc: Global,
+    encoder: &mut InterfaceEncoder<'a>,
+    interfaces: &[InterfaceId],
+    canonical_names: bool,
+) -> Result<(), Error>
+    requires closed { encoder.old.inner ≡ None }
+    requires valid { IsValid encoder.old.resolve.now }
+    requires nothing { HasImported encoder.old.resolve.now (outside encoder.old) [] }
+    requires importable { AreImportable encoder.old.resolve.now (map (λ id. id.0) interfaces.now) }
+    requires few { length interfaces.now ≤ 4294967295 }
+    ensures closed { encoder.new.inner ≡ None }
+    ensures resolve { encoder.new.resolve.now ≡ encoder.old.resolve.now }
+    ensures imported { OnOk result (HasImported encoder.old.resolve.now (outside encoder.new) (map (λ id. id.0) interfaces.now)) }
+    ensures refuses { IfErr result IsMemoryOrSize }
+{
+    for (number, interface) in interfaces.iter().enumerate() {
+        import_dependency(alloc, encoder, *interface, number as u32, canonical_names)?;
+    }
+    Ok(())
+}
+
+/// The component type of an interface (Component Model WIT.md, "Package Format"): it imports the types of each interface that the interface
+/// reaches, each behind those that it uses itself and as an instance by its path, and then exports the interface by its own path. With
+/// canonical names each path has the canonical part of its version alone, and what completes it is an attribute.
+///
+/// Takes as long as encoding the types of these interfaces, and the functions of this one. Refuses `Memory` and `Size` alone.
+pub fn interface_type(
+    alloc: Global,
+    resolve: &Resolve,
+    interface: InterfaceId,
+    canonical_names: bool,
+) -> Result<ComponentType, Error>
+    requires valid { IsValid resolve.now }
+    requires named { is_some (interface_path resolve.now interface.0) ≡ true }
+    ensures shows { IfOk result (λ declared. (path : Text) → interface_path resolve.now interface.0 ≡ Some path → ShowsComponent resolve.now interface.0 path declared) }
+    ensures refuses { IfErr result IsMemoryOrSize }
+{
+    let reached = interfaces_reached(alloc, resolve, interface)?;
+    let mut encoder = InterfaceEncoderOf::new(alloc, resolve);
+    import_dependencies(alloc, &mut encoder, &reached, canonical_names)?;
+    let name = interface_name(alloc, resolve, interface, canonical_names)?;
+    let slot = encoder.encode_instance(alloc, interface)?;
+    let mut outer = encoder.outer;
+    outer.export(&name, ComponentTypeRef::Instance(slot))?;
+    Ok(outer)
+}
