@@ -22,6 +22,7 @@ pub mod Reaching
 pub mod PackageMeans
 pub mod WorldAlone
 pub mod NothingElse
+pub mod NumberedViews
 pub mod Renumbering
 pub mod Gathering
 mod WholePlan

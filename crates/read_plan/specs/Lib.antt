@@ -1,4 +1,5 @@
 pub mod Shapes
+pub mod NumberedViews
 pub mod Plan
 pub mod PlanMeaning
 pub mod PlanRules

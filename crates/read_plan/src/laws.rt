@@ -1,6 +1,11 @@
 //! Laws of what is read.
 
 ghost use Rattle.read_plan.specs.Gathering.{OneViewIsEnough, ViewsMeanOne};
+ghost use Rattle.read_plan.specs.NumberedViews.{
+  EachNumberTells,
+  FirstViewsAgreeInNumbers,
+  ViewsAgreeInNumbers,
+};
 ghost use Rattle.read_plan.specs.PlanLaws.{
   BuiltIsValid,
   PackageIsMeant,
@@ -15,6 +20,18 @@ ghost use Rattle.read_plan.specs.Shapes.{OneNumber, TreeAtNumber};
 pub fn shapes_are_trees()
     ensures at_number { TreeAtNumber }
     ensures one_number { OneNumber }
+{}
+
+/// In tables in which each type stands once, two parts are the same tree exactly where they are one number, and two functions have the same
+/// type exactly where that is one number.
+pub fn numbers_tell()
+    ensures { EachNumberTells }
+{}
+
+/// Views of interfaces agree, each with each and each with the first of its path, exactly where their numbers do.
+pub fn views_agree_in_numbers()
+    ensures each { ViewsAgreeInNumbers }
+    ensures first { FirstViewsAgreeInNumbers }
 {}
 
 /// Where the views of interfaces agree, those of one path mean one interface, so one view of each path gathers to the map of all.
