@@ -23,6 +23,7 @@ pub mod PackageMeans
 pub mod WorldAlone
 pub mod NothingElse
 pub mod NumberedViews
+pub mod NumberedRules
 pub mod Renumbering
 pub mod Gathering
 mod WholePlan

@@ -1,5 +1,6 @@
 pub mod Shapes
 pub mod NumberedViews
+pub mod NumberedRules
 pub mod Plan
 pub mod PlanMeaning
 pub mod PlanRules

@@ -1,6 +1,7 @@
 //! Laws of what is read.
 
 ghost use Rattle.read_plan.specs.Gathering.{OneViewIsEnough, ViewsMeanOne};
+ghost use Rattle.read_plan.specs.NumberedRules.{EachRuleInNumbers};
 ghost use Rattle.read_plan.specs.NumberedViews.{
   EachNumberTells,
   FirstViewsAgreeInNumbers,
@@ -32,6 +33,11 @@ pub fn numbers_tell()
 pub fn views_agree_in_numbers()
     ensures each { ViewsAgreeInNumbers }
     ensures first { FirstViewsAgreeInNumbers }
+{}
+
+/// Each rule of reading on types, functions and interfaces has the same answer over numbers, where what is known of each part is true.
+pub fn rules_in_numbers()
+    ensures { EachRuleInNumbers }
 {}
 
 /// Where the views of interfaces agree, those of one path mean one interface, so one view of each path gathers to the map of all.
