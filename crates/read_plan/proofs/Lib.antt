@@ -24,6 +24,7 @@ pub mod WorldAlone
 pub mod NothingElse
 pub mod NumberedViews
 pub mod NumberedRules
+pub mod NumberedWorlds
 pub mod Renumbering
 pub mod Gathering
 mod WholePlan

@@ -54,9 +54,17 @@ borrow_by_sort : (f : Form) → same_form f Form.borrow_of ≡ ((form_code f).so
 borrow_by_sort Form.borrow_of = refl
 borrow_by_sort _ = refl
 
-no_name : (f : Form) → ((form_code f).sort == 0) ≡ false
+pub no_name : (f : Form) → ((form_code f).sort == 0) ≡ false
 no_name Form.own_of = refl
 no_name _ = refl
+
+-- ---- what stands at a number
+
+pub no_shape : (t : Tables) (k : ℕ) → k < 14 → shape_at t k ≡ None
+no_shape t k small = ap (λ b. option_and_then (slice_get t.shapes) (cond b None (Some (k - 14)))) (lt-ltb k 14 small)
+
+pub shape_there : (t : Tables) (k n : ℕ) (s : Shape) → k ≡ 14 + n → slice_get t.shapes n ≡ Some s → shape_at t k ≡ Some s
+shape_there t k n s is e = ap (shape_at t) is ∙ (ap (option_and_then (slice_get t.shapes)) (behind n) ∙ e)
 
 resources_same : (t : Tables) (xs : List NumberedType) → rules.resources_of (map (shown_type t) xs) ≡ resources_of xs
 resources_same t [] = refl
@@ -74,14 +82,6 @@ module _ (t : Tables) (table : IsTable t.shapes) (known : ℕ → Fact) (p : ℕ
   abbrev Known : ℕ → Type 0
   Known = IsKnown t known p
 
-  -- ---- what stands at a number
-
-  no_shape : (k : ℕ) → k < 14 → shape_at t k ≡ None
-  no_shape k small = ap (λ b. option_and_then (slice_get t.shapes) (cond b None (Some (k - 14)))) (lt-ltb k 14 small)
-
-  shape_there : (k n : ℕ) (s : Shape) → k ≡ 14 + n → slice_get t.shapes n ≡ Some s → shape_at t k ≡ Some s
-  shape_there k n s is e = ap (shape_at t) is ∙ (ap (option_and_then (slice_get t.shapes)) (behind n) ∙ e)
-
   -- ---- levels and parts
 
   parameter_same : (k : ℕ) → Known k → rules.is_parameter_type here (tree_at t k) ≡ is_parameter_type p (known k)
@@ -95,14 +95,14 @@ module _ (t : Tables) (table : IsTable t.shapes) (known : ℕ → Fact) (p : ℕ
 
   declared_view : (k : ℕ) → Known k → PartView (place_at t) t.shapes table k (tree_at t k) → rules.is_declared here (declaration_of t (Some k)) ≡ is_declared t known p (Some k)
   declared_view k h (is_primitive q small e number) =
-      ap (λ x. rules.is_declared here (Declaration.type_ x)) e ∙ sym (ap (λ o. not (option_map_or (λ s. not (s.sort == 0)) o false) || is_declared_form p (known k)) (no_shape k small))
+      ap (λ x. rules.is_declared here (Declaration.type_ x)) e ∙ sym (ap (λ o. not (option_map_or (λ s. not (s.sort == 0)) o false) || is_declared_form p (known k)) (no_shape t k small))
   declared_view k h (is_named n q name is there e) =
       ap (λ x. rules.is_declared here (Declaration.type_ x)) e
-      ∙ sym (ap (λ o. not (option_map_or (λ s. not (s.sort == 0)) o false) || is_declared_form p (known k)) (shape_there k n (named_shape q name) is there))
+      ∙ sym (ap (λ o. not (option_map_or (λ s. not (s.sort == 0)) o false) || is_declared_form p (known k)) (shape_there t k n (named_shape q name) is there))
   declared_view k h (is_node n form ks is there e ranges) =
       ap (λ x. rules.is_declared here (Declaration.type_ x)) e
       ∙ (form_same form (children (map (tree_at t) ks)) k h e
-      ∙ sym (ap (λ o. not (option_map_or (λ s. not (s.sort == 0)) o false) || is_declared_form p (known k)) (shape_there k n (node_shape form ks) is there)
+      ∙ sym (ap (λ o. not (option_map_or (λ s. not (s.sort == 0)) o false) || is_declared_form p (known k)) (shape_there t k n (node_shape form ks) is there)
       ∙ ap (λ b. not (not b) || is_declared_form p (known k)) (no_name form)))
 
   pub declared_same : (d : Option ℕ) → AllOf Known d → rules.is_declared here (declaration_of t d) ≡ is_declared t known p d
@@ -133,14 +133,14 @@ module _ (t : Tables) (table : IsTable t.shapes) (known : ℕ → Fact) (p : ℕ
 
     name_view : (k : ℕ) → IsSeenFrom t p k → PartView (place_at t) t.shapes table k (tree_at t k) → same_tree (tree_at t k) itself_named ≡ is_name t known p resource k
     name_view k seen (is_primitive q small e number) =
-        ap (λ x. same_tree x itself_named) e ∙ sym (ap (λ o. option_map_or (λ (x : ℕ × Text). x.0 == p && text_eq x.1 resource) (option_and_then name_in o) false) (no_shape k small))
+        ap (λ x. same_tree x itself_named) e ∙ sym (ap (λ o. option_map_or (λ (x : ℕ × Text). x.0 == p && text_eq x.1 resource) (option_and_then name_in o) false) (no_shape t k small))
     name_view k seen (is_named n q name is there e) =
         ap (λ x. same_tree x itself_named) e
         ∙ (ap (λ b. b && text_eq name resource) (place_number q (seen q (itself k n q name is there)))
-        ∙ sym (ap (λ o. option_map_or (λ (x : ℕ × Text). x.0 == p && text_eq x.1 resource) (option_and_then name_in o) false) (shape_there k n (named_shape q name) is there)))
+        ∙ sym (ap (λ o. option_map_or (λ (x : ℕ × Text). x.0 == p && text_eq x.1 resource) (option_and_then name_in o) false) (shape_there t k n (named_shape q name) is there)))
     name_view k seen (is_node n form ks is there e ranges) =
         ap (λ x. same_tree x itself_named) e
-        ∙ sym (ap (λ o. option_map_or (λ (x : ℕ × Text). x.0 == p && text_eq x.1 resource) (option_and_then name_in o) false) (shape_there k n (node_shape form ks) is there)
+        ∙ sym (ap (λ o. option_map_or (λ (x : ℕ × Text). x.0 == p && text_eq x.1 resource) (option_and_then name_in o) false) (shape_there t k n (node_shape form ks) is there)
         ∙ ap (λ b. option_map_or (λ (x : ℕ × Text). x.0 == p && text_eq x.1 resource) (cond b (Some ((form_code form).number, first_label (form_code form).labels)) None) false) (no_name form))
 
     name_same : (k : ℕ) → IsPart t k → IsSeenFrom t p k → same_tree (tree_at t k) itself_named ≡ is_name t known p resource k
@@ -164,16 +164,16 @@ module _ (t : Tables) (table : IsTable t.shapes) (known : ℕ → Fact) (p : ℕ
 
       handle_view : (k : ℕ) → IsSeenFrom t p k → PartView (place_at t) t.shapes table k (tree_at t k) → same_tree (tree_at t k) handle_tree ≡ is_handle t known p sort resource k
       handle_view k seen (is_primitive q small e number) =
-          ap (λ x. same_tree x handle_tree) e ∙ sym (ap (λ o. option_map_or (is_name t known p resource) (option_and_then (held_in sort) o) false) (no_shape k small))
+          ap (λ x. same_tree x handle_tree) e ∙ sym (ap (λ o. option_map_or (is_name t known p resource) (option_and_then (held_in sort) o) false) (no_shape t k small))
       handle_view k seen (is_named n q name is there e) =
           ap (λ x. same_tree x handle_tree) e
-          ∙ sym (ap (λ o. option_map_or (is_name t known p resource) (option_and_then (held_in sort) o) false) (shape_there k n (named_shape q name) is there)
+          ∙ sym (ap (λ o. option_map_or (is_name t known p resource) (option_and_then (held_in sort) o) false) (shape_there t k n (named_shape q name) is there)
           ∙ ap (λ b. option_map_or (is_name t known p resource) (cond b None None) false) not_name)
       handle_view k seen (is_node n form ks is there e ranges) =
           ap (λ x. same_tree x handle_tree) e
           ∙ (handle_cases (same_form form handle) ((form_code form).sort == sort) (same_trees (children (map (tree_at t) ks)) (Trees.child itself_named Trees.no_children)) (only_of ks) (by_sort form)
           (only_same ks ranges (λ m c q h. seen q (inside k n m q form ks is there c h)))
-          ∙ sym (ap (λ o. option_map_or (is_name t known p resource) (option_and_then (held_in sort) o) false) (shape_there k n (node_shape form ks) is there)))
+          ∙ sym (ap (λ o. option_map_or (is_name t known p resource) (option_and_then (held_in sort) o) false) (shape_there t k n (node_shape form ks) is there)))
 
       handle_same : (k : ℕ) → IsPart t k → IsSeenFrom t p k → same_tree (tree_at t k) handle_tree ≡ is_handle t known p sort resource k
       handle_same k part seen = handle_view k seen (viewed (place_at t) t.shapes table k part)
@@ -210,18 +210,18 @@ module _ (t : Tables) (table : IsTable t.shapes) (known : ℕ → Fact) (p : ℕ
     constructs_view k h (is_primitive q small e number) =
         ap (λ x. rules.constructs (own_name here resource) (Some x)) e
         ∙ (sym (ap (λ x. same_tree x (own_name here resource)) e)
-        ∙ (own_same k h.part h.seen ∙ sym (ap (λ o. option_map_or (is_handle t known p own_sort resource) (option_and_then ok_in o) (is_handle t known p own_sort resource k)) (no_shape k small))))
+        ∙ (own_same k h.part h.seen ∙ sym (ap (λ o. option_map_or (is_handle t known p own_sort resource) (option_and_then ok_in o) (is_handle t known p own_sort resource k)) (no_shape t k small))))
     constructs_view k h (is_named n q name is there e) =
         ap (λ x. rules.constructs (own_name here resource) (Some x)) e
         ∙ (sym (ap (λ x. same_tree x (own_name here resource)) e)
         ∙ (own_same k h.part h.seen
-        ∙ sym (ap (λ o. option_map_or (is_handle t known p own_sort resource) (option_and_then ok_in o) (is_handle t known p own_sort resource k)) (shape_there k n (named_shape q name) is there))))
+        ∙ sym (ap (λ o. option_map_or (is_handle t known p own_sort resource) (option_and_then ok_in o) (is_handle t known p own_sort resource k)) (shape_there t k n (named_shape q name) is there))))
     constructs_view k h (is_node n form ks is there e ranges) =
         ap (λ x. rules.constructs (own_name here resource) (Some x)) e
         ∙ (ok_same form ks (is_handle t known p own_sort resource k)
         (λ m c. own_same m (in_range ks ranges m c) (λ q x. h.seen q (inside k n m q form ks is there c x)))
         (sym (ap (λ x. same_tree x (own_name here resource)) e) ∙ own_same k h.part h.seen)
-        ∙ sym (ap (λ o. option_map_or (is_handle t known p own_sort resource) (option_and_then ok_in o) (is_handle t known p own_sort resource k)) (shape_there k n (node_shape form ks) is there)))
+        ∙ sym (ap (λ o. option_map_or (is_handle t known p own_sort resource) (option_and_then ok_in o) (is_handle t known p own_sort resource k)) (shape_there t k n (node_shape form ks) is there)))
 
     constructs_same : (r : Option ℕ) → AllOf Known r → rules.constructs (own_name here resource) (option_map (tree_at t) r) ≡ constructs t known p resource r
     constructs_same None h = refl

@@ -1,6 +1,7 @@
 pub mod Shapes
 pub mod NumberedViews
 pub mod NumberedRules
+pub mod NumberedWorlds
 pub mod Plan
 pub mod PlanMeaning
 pub mod PlanRules

@@ -7,6 +7,13 @@ ghost use Rattle.read_plan.specs.NumberedViews.{
   FirstViewsAgreeInNumbers,
   ViewsAgreeInNumbers,
 };
+ghost use Rattle.read_plan.specs.NumberedWorlds.{
+  PathsInNumbers,
+  ReachedInNumbers,
+  SightsInNumbers,
+  UsesInNumbers,
+  WorldsInNumbers,
+};
 ghost use Rattle.read_plan.specs.PlanLaws.{
   BuiltIsValid,
   PackageIsMeant,
@@ -38,6 +45,21 @@ pub fn views_agree_in_numbers()
 /// Each rule of reading on types, functions and interfaces has the same answer over numbers, where what is known of each part is true.
 pub fn rules_in_numbers()
     ensures { EachRuleInNumbers }
+{}
+
+/// Views use the interfaces that their numbers use, imports are reached exactly where their numbers are, and no path stands twice exactly
+/// where no number does.
+pub fn uses_in_numbers()
+    ensures views { UsesInNumbers }
+    ensures reached { ReachedInNumbers }
+    ensures once { PathsInNumbers }
+{}
+
+/// What a component type shows obeys the rules on worlds exactly where its numbers do, and its instances give the views that their numbers
+/// give.
+pub fn worlds_in_numbers()
+    ensures obey { WorldsInNumbers }
+    ensures sights { SightsInNumbers }
 {}
 
 /// Where the views of interfaces agree, those of one path mean one interface, so one view of each path gathers to the map of all.
