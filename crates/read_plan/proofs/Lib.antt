@@ -25,6 +25,7 @@ pub mod NothingElse
 pub mod NumberedViews
 pub mod NumberedRules
 pub mod NumberedWorlds
+pub mod NumberedMembers
 pub mod Renumbering
 pub mod Gathering
 mod WholePlan

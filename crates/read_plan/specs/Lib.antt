@@ -2,6 +2,7 @@ pub mod Shapes
 pub mod NumberedViews
 pub mod NumberedRules
 pub mod NumberedWorlds
+pub mod NumberedMembers
 pub mod Plan
 pub mod PlanMeaning
 pub mod PlanRules

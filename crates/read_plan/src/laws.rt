@@ -1,6 +1,7 @@
 //! Laws of what is read.
 
 ghost use Rattle.read_plan.specs.Gathering.{OneViewIsEnough, ViewsMeanOne};
+ghost use Rattle.read_plan.specs.NumberedMembers.{OneWorldInNumbers, PackagesInNumbers};
 ghost use Rattle.read_plan.specs.NumberedRules.{EachRuleInNumbers};
 ghost use Rattle.read_plan.specs.NumberedViews.{
   EachNumberTells,
@@ -60,6 +61,12 @@ pub fn uses_in_numbers()
 pub fn worlds_in_numbers()
     ensures obey { WorldsInNumbers }
     ensures sights { SightsInNumbers }
+{}
+
+/// The members at the top are a package, and a world stands alone, exactly where their numbers are and do.
+pub fn packages_in_numbers()
+    ensures package_ { PackagesInNumbers }
+    ensures world { OneWorldInNumbers }
 {}
 
 /// Where the views of interfaces agree, those of one path mean one interface, so one view of each path gathers to the map of all.
