@@ -1,5 +1,5 @@
 -- Members are a package, and a world stands alone, exactly where their numbers are.
-use Rattle.std.proofs.Common.{◌≡◌, refl, sym, ap, subst, ◌∙◌, ℕ, Bool, true, false, not, ◌&&◌, ◌||◌, ◌==◌, cond, List, [], ◌∷◌, ◌++◌, map, Option, Some, None, unwrap_or, slice_get}
+use Rattle.std.proofs.Common.{◌≡◌, refl, sym, ap, subst, ◌∙◌, ℕ, Bool, true, false, not, ◌&&◌, ◌||◌, ◌==◌, cond, List, [], ◌∷◌, ◌++◌, map, Option, Some, None, option_map, is_none, unwrap_or, slice_get}
 use Rattle.std.specs.List.{AllByRecursion, AllZip, flat_map, list_all, list_any}
 use Rattle.std.specs.Option.{option_map_or}
 use Rattle.std.proofs.lemmas.Bool.{eqb-true, eq-eqb}
@@ -11,16 +11,17 @@ use Rattle.wit_model.proofs.Elements.{same-some}
 use Rattle.wit_model.proofs.Lists.{first_true, second_true}
 use Rattle.wit_model.proofs.NameLaws.{read_path_is_spelled}
 use Rattle.wit_model.proofs.VersionLaws.{same_text, text_same}
-use Rattle.comp_meaning.specs.Follow.{View, provided, place_of}
+use Rattle.comp_meaning.specs.Follow.{View, each, is_filled, provided, place_of}
+use Rattle.comp_bytes.specs.Reading.{◌>>=◌}
 use Rattle.comp_meaning.specs.Same.{same_identity}
 use Rattle.comp_meaning.specs.Rules as rules
 use Rattle.comp_meaning.specs.Reads as reads
 use Rattle.comp_meaning.specs.Reads.{Part, Member, Sight, is_of, all_agree, is_interface_part}
 use Rattle.comp_meaning.proofs.SameLaws.{identities_decide}
-use Rattle.read_plan.specs.NumberedViews.{Tables, path_at, path_text, place_at, AreTables, NumberedView, view_of, NumberedSight, sight_of, IsSight, agree_in_numbers}
+use Rattle.read_plan.specs.NumberedViews.{Tables, path_at, path_text, place_at, AreTables, NumberedView, view_of, shown_function, NumberedSight, sight_of, IsSight, agree_in_numbers}
 use Rattle.read_plan.specs.NumberedRules.{Fact, is_interface}
-use Rattle.read_plan.specs.NumberedWorlds.{NumberedScope, Shows, sights_of_scope, HasPath}
-use Rattle.read_plan.specs.NumberedMembers.{Homes, home_at, IsHomeOf, HomesStand, is_of_package, is_named_in, NumberedPart, world, interface, NumberedMember, sights_of_part, sights_of_members, ShowsInterface, ShowsPart, IsMember, are_interfaces, is_interface_of, stands_at_top, are_package, is_one_world, package_shown, world_shown, IsKnownSight, PackagesInNumbers, OneWorldInNumbers}
+use Rattle.read_plan.specs.NumberedWorlds.{path, label, implementing, NumberedShown, instance, function, declares, NumberedSeen, shown_of, seen_of, NumberedScope, Shows, sights_of_scope, HasPath}
+use Rattle.read_plan.specs.NumberedMembers.{Homes, home_at, IsHomeOf, HomesStand, is_of_package, is_named_in, NumberedPart, world, interface, NumberedMember, sights_of_part, sights_of_members, ShowsInterface, ShowsPart, IsMember, shown_view, imported_view, exported_view, are_interfaces, is_interface_of, stands_at_top, are_package, is_one_world, package_shown, world_shown, IsKnownSight, ImportsInNumbers, ExportInNumbers, PackagesInNumbers, OneWorldInNumbers}
 use Rattle.read_plan.proofs.Lists.{both, map_of_map, append_of_map}
 use Rattle.read_plan.proofs.NumberedRules.{interface_same}
 use Rattle.read_plan.proofs.NumberedViews.{all_agree_in_numbers}
@@ -64,28 +65,28 @@ module _ (t : Tables) (tables : AreTables t) (h : Homes) (stand : HomesStand t h
       where
         into : (home : IsHomeOf h p x.0) → text_eq (path_text t p) (path_in identity name) ≡ true → ((home.package_ == n) && text_eq home.name name) ≡ true
         into home e =
-            let path : x.0 ≡ path_in identity name = sym (path_is p x) ∙ text_same (path_text t p) (path_in identity name) e in
-            let pair : ◌≡◌ {A = PackageIdentity × Text} (home.identity, home.name) (identity, name) = same-some (home.identity, home.name) (identity, name) (sym home.reads ∙ (ap read_path path ∙ reads)) in
+            let same_path : x.0 ≡ path_in identity name = sym (path_is p x) ∙ text_same (path_text t p) (path_in identity name) e in
+            let pair : ◌≡◌ {A = PackageIdentity × Text} (home.identity, home.name) (identity, name) = same-some (home.identity, home.name) (identity, name) (sym home.reads ∙ (ap read_path same_path ∙ reads)) in
             let number : n ≡ home.package_ = stand.apart n home.package_ home.identity (there ∙ ap Some (sym (ap (λ (y : PackageIdentity × Text). y.0) pair))) home.stands in
             both (home.package_ == n) (text_eq home.name name) (eq-eqb home.package_ n (sym number)) (same_text home.name name (ap (λ (y : PackageIdentity × Text). y.1) pair))
 
         back : (home : IsHomeOf h p x.0) → ((home.package_ == n) && text_eq home.name name) ≡ true → text_eq (path_text t p) (path_in identity name) ≡ true
         back home e =
             let number : home.package_ ≡ n = eqb-true home.package_ n (first_true (home.package_ == n) (text_eq home.name name) e) in
-            let label : home.name ≡ name = text_same home.name name (second_true (home.package_ == n) (text_eq home.name name) e) in
+            let text : home.name ≡ name = text_same home.name name (second_true (home.package_ == n) (text_eq home.name name) e) in
             let package_ : home.identity ≡ identity = same-some home.identity identity (sym home.stands ∙ (ap (slice_get h.packages) number ∙ there)) in
-            same_text (path_text t p) (path_in identity name) (path_is p x ∙ ((read_path_is_spelled x.0 home.identity home.name home.reads).spelled ∙ (λ i. path_in (package_ i) (label i))))
+            same_text (path_text t p) (path_in identity name) (path_is p x ∙ ((read_path_is_spelled x.0 home.identity home.name home.reads).spelled ∙ (λ i. path_in (package_ i) (text i))))
 
   -- ---- members
 
   -- the path of an interface that is exported
   exported_path : (m : NumberedMember) (x : Member) → slice_get h.packages m.package_ ≡ Some x.package_ → x.label ≡ m.label → (p : ℕ) (v : NumberedView) (imports : List (ℕ × NumberedView)) (view : View) (views : List (Text × View))
       → ShowsInterface t h m p v imports view views → path_in x.package_ x.label ≡ path_text t p
-  exported_path m x package_ label p v imports view views is =
+  exported_path m x package_ under p v imports view views is =
       let home = stand.homes p is.path.0 is.path.1 in
       let pair : ◌≡◌ {A = ℕ × Text} (home.package_, home.name) (m.package_, m.label) = same-some (home.package_, home.name) (m.package_, m.label) (sym home.home ∙ is.home) in
       let identity : home.identity ≡ x.package_ = same-some home.identity x.package_ (sym home.stands ∙ (ap (λ (y : ℕ × Text). slice_get h.packages y.0) pair ∙ package_)) in
-      let name : home.name ≡ x.label = ap (λ (y : ℕ × Text). y.1) pair ∙ sym label in
+      let name : home.name ≡ x.label = ap (λ (y : ℕ × Text). y.1) pair ∙ sym under in
       sym (path_is p is.path ∙ ((read_path_is_spelled is.path.0 home.identity home.name home.reads).spelled ∙ (λ i. path_in (identity i) (name i))))
 
   abbrev imported_sight : Text × View → Sight
@@ -93,16 +94,16 @@ module _ (t : Tables) (tables : AreTables t) (h : Homes) (stand : HomesStand t h
 
   part_sights : (m : NumberedMember) (x : Member) → slice_get h.packages m.package_ ≡ Some x.package_ → x.label ≡ m.label → (a : NumberedPart) (b : Part) → ShowsPart t h m a b
       → reads.sights (record { label = x.label; package_ = x.package_; part = b }) ≡ map (sight_of t) (sights_of_part t a)
-  part_sights m x package_ label (world w) (Part.world scope) is = sights_in_numbers t w scope is
-  part_sights m x package_ label (interface p v imports) (Part.interface view views) is =
+  part_sights m x package_ under (world w) (Part.world scope) is = sights_in_numbers t w scope is
+  part_sights m x package_ under (interface p v imports) (Part.interface view views) is =
       let front : map imported_sight views ≡ map (sight_of t) (map (λ i. record { place = i.0; view = i.1; whole = false }) imports) =
       ap (map imported_sight) is.imported
       ∙ (map_of_map imported_sight (λ (i : ℕ × NumberedView). (path_text t i.0, view_of t i.1)) imports
       ∙ sym (map_of_map (sight_of t) (λ (i : ℕ × NumberedView). record { place = i.0; view = i.1; whole = false }) imports)) in
-      (λ i. front i ++ record { path = exported_path m x package_ label p v imports view views is i; view = is.shown i; whole = true } ∷ [])
+      (λ i. front i ++ record { path = exported_path m x package_ under p v imports view views is i; view = is.shown i; whole = true } ∷ [])
       ∙ sym (append_of_map (sight_of t) (map (λ (i : ℕ × NumberedView). record { place = i.0; view = i.1; whole = false }) imports) (record { place = p; view = v; whole = true } ∷ []))
-  part_sights m x package_ label (world w) (Part.interface view views) is = absurd is
-  part_sights m x package_ label (interface p v imports) (Part.world scope) is = absurd is
+  part_sights m x package_ under (world w) (Part.interface view views) is = absurd is
+  part_sights m x package_ under (interface p v imports) (Part.world scope) is = absurd is
 
   all_sights : (ms : List NumberedMember) (members : List Member) → AllZip (IsMember t h) ms members → flat_map reads.sights members ≡ map (sight_of t) (sights_of_members t ms)
   all_sights [] [] z = refl
@@ -140,12 +141,12 @@ module _ (t : Tables) (tables : AreTables t) (h : Homes) (stand : HomesStand t h
       -- one member is the interface of a place that is seen
       part_is : (s : NumberedSight) → HasPath t s.place → (m : NumberedMember) (x : Member) → slice_get h.packages m.package_ ≡ Some x.package_ → x.label ≡ m.label → same_identity identity x.package_ ≡ true
           → (a : NumberedPart) (b : Part) → ShowsPart t h m a b → (is_interface_part b && text_eq (path_text t s.place) (path_in identity x.label)) ≡ is_interface_of s.place a
-      part_is s at m x package_ label same (world w) (Part.world scope) is = refl
-      part_is s at m x package_ label same (interface p v imports) (Part.interface view views) is =
-          ap (text_eq (path_text t s.place)) (ap (λ k. path_in k x.label) ((identities_decide identity x.package_).0 same) ∙ exported_path m x package_ label p v imports view views is)
+      part_is s at m x package_ under same (world w) (Part.world scope) is = refl
+      part_is s at m x package_ under same (interface p v imports) (Part.interface view views) is =
+          ap (text_eq (path_text t s.place)) (ap (λ k. path_in k x.label) ((identities_decide identity x.package_).0 same) ∙ exported_path m x package_ under p v imports view views is)
           ∙ (path_number t tables s.place p at is.path ∙ flip n identity there p s.place)
-      part_is s at m x package_ label same (world w) (Part.interface view views) is = absurd is
-      part_is s at m x package_ label same (interface p v imports) (Part.world scope) is = absurd is
+      part_is s at m x package_ under same (world w) (Part.interface view views) is = absurd is
+      part_is s at m x package_ under same (interface p v imports) (Part.world scope) is = absurd is
 
       one_is : (s : NumberedSight) → HasPath t s.place → (ms : List NumberedMember) (members : List Member) → AllZip (IsMember t h) ms members → list_all (λ x. same_identity identity x.package_) members ≡ true
           → list_any (λ x. is_interface_part x.part && text_eq (path_text t s.place) (path_in identity x.label)) members ≡ list_any (λ m. is_interface_of s.place m.part) ms
@@ -181,6 +182,58 @@ module _ (t : Tables) (tables : AreTables t) (h : Homes) (stand : HomesStand t h
           → list_any (λ s. text_eq s.path (path_in identity name)) (map (sight_of t) seen) ≡ list_any (λ s. is_named_in h n name s.place) seen
       named_same name reads [] all = refl
       named_same name reads (s ∷ seen) all = λ i. named_in n identity there name reads s.place (all.0.0.path, all.0.0.home) i || named_same name reads seen all.1 i
+
+-- ---- the component type of an interface
+
+filled_same : {A B : Type 0} (f : A → B) (xs : List A) → is_filled (map f xs) ≡ is_filled xs
+filled_same f [] = refl
+filled_same f (x ∷ xs) = refl
+
+provided_map : {A B : Type 0} (f : A → B) (b : Bool) (x : A) → provided b (f x) ≡ option_map f (provided b x)
+provided_map f true x = refl
+provided_map f false x = refl
+
+import_same : (t : Tables) (s : NumberedSeen) → reads.imported_view (seen_of t s) ≡ option_map (shown_view t) (imported_view s)
+import_same t s = by s.shown
+  where
+    by : (x : NumberedShown) → reads.imported_view (record { key = s.key; shown = shown_of t x; external_id = s.external_id }) ≡ option_map (shown_view t) (imported_view (record { key = s.key; shown = x; external_id = s.external_id }))
+    by (instance (path p) v) =
+        ap (λ b. provided (is_none s.external_id && not b) (shown_view t (p, v))) (filled_same (shown_function t) v.functions) ∙ provided_map (shown_view t) (is_none s.external_id && not (is_filled v.functions)) (p, v)
+    by (instance (label l p) v) = refl
+    by (instance (implementing l p) v) = refl
+    by (function n) = refl
+    by (declares d) = refl
+
+imports_same : (t : Tables) (ss : List NumberedSeen) → each reads.imported_view (map (seen_of t) ss) ≡ option_map (map (shown_view t)) (each imported_view ss)
+imports_same t [] = refl
+imports_same t (s ∷ ss) =
+    (λ i. import_same t s i >>= λ y. imports_same t ss i >>= λ ys. Some (y ∷ ys)) ∙ by (imported_view s) (each imported_view ss)
+  where
+    by : (o : Option (ℕ × NumberedView)) (os : Option (List (ℕ × NumberedView)))
+        → (option_map (shown_view t) o >>= λ y. option_map (map (shown_view t)) os >>= λ ys. Some (y ∷ ys)) ≡ option_map (map (shown_view t)) (o >>= λ y. os >>= λ ys. Some (y ∷ ys))
+    by None os = refl
+    by (Some y) None = refl
+    by (Some y) (Some ys) = refl
+
+pub imports_in_numbers : ImportsInNumbers
+imports_in_numbers t w scope shows = ap (each reads.imported_view) shows.imports ∙ imports_same t w.imports
+
+export_same : (t : Tables) (ss : List NumberedSeen) → reads.exported_view (map (seen_of t) ss) ≡ option_map (shown_view t) (exported_view ss)
+export_same t [] = refl
+export_same t (s ∷ r ∷ ss) = refl
+export_same t (s ∷ []) = by s.shown
+  where
+    by : (x : NumberedShown) → reads.exported_view (record { key = s.key; shown = shown_of t x; external_id = s.external_id } ∷ []) ≡ option_map (shown_view t) (exported_view (record { key = s.key; shown = x; external_id = s.external_id } ∷ []))
+    by (instance (path p) v) = provided_map (shown_view t) (is_none s.external_id) (p, v)
+    by (instance (label l p) v) = refl
+    by (instance (implementing l p) v) = refl
+    by (function n) = refl
+    by (declares d) = refl
+
+pub export_in_numbers : ExportInNumbers
+export_in_numbers t w scope shows = ap reads.exported_view shows.exports ∙ export_same t w.exports
+
+-- ---- laws
 
 pub packages_in_numbers : PackagesInNumbers
 packages_in_numbers t tables h stand known n identity there ms members z all =

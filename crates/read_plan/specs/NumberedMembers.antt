@@ -1,17 +1,17 @@
 -- What is exported at the top, and the rules of reading on a package and on one world, in numbers (WIT.md, "Package Format").
-use Rattle.std.specs.Prelude.{◌≡◌, ℕ, Bool, true, false, not, ◌&&◌, ◌||◌, ◌==◌, List, [], ◌∷◌, ◌++◌, map, Option, Some, None, unwrap_or, slice_get}
+use Rattle.std.specs.Prelude.{◌≡◌, ℕ, Bool, true, false, not, ◌&&◌, ◌||◌, ◌==◌, List, [], ◌∷◌, ◌++◌, map, Option, Some, None, option_map, is_none, unwrap_or, slice_get}
 use Rattle.std.specs.List.{AllByRecursion, AllZip, flat_map, filter, list_all, list_any}
 use Rattle.std.specs.Option.{option_map_or}
 use Rattle.std.specs.FinMap.{from_entries}
 use Rattle.wit_model.specs.Text.{Text, text_eq}
 use Rattle.wit_model.specs.Names.{PackageIdentity, path_in, read_path}
 use Rattle.wit_model.specs.Meaning.{PackageMeaning, WorldPackage}
-use Rattle.comp_meaning.specs.Follow.{Scope, View, provided}
+use Rattle.comp_meaning.specs.Follow.{Scope, View, each, is_filled, provided}
 use Rattle.comp_meaning.specs.Reads as reads
 use Rattle.comp_meaning.specs.Reads.{Part, Member, of_instance, seen_meaning, is_of, world_meaning, package_with, world_with}
 use Rattle.read_plan.specs.NumberedViews.{Tables, path_at, path_text, AreTables, NumberedView, view_of, NumberedSight, sight_of, ViewPasses, IsSight, agree_in_numbers}
 use Rattle.read_plan.specs.NumberedRules.{Fact, is_interface, IsKnown}
-use Rattle.read_plan.specs.NumberedWorlds.{NumberedScope, Shows, sights_of_scope, HasPath}
+use Rattle.read_plan.specs.NumberedWorlds.{NumberedShown, instance, path, NumberedSeen, NumberedScope, Shows, sights_of_scope, HasPath}
 
 -- ---- packages
 
@@ -81,6 +81,28 @@ pub record IsMember (t : Tables) (h : Homes) (m : NumberedMember) (x : Member) :
   pub package_ : slice_get h.packages m.package_ ≡ Some x.package_
   pub part : ShowsPart t h m m.part x.part
 
+-- ---- the component type of an interface
+
+abbrev pub shown_view : Tables → ℕ × NumberedView → Text × View
+shown_view t i = (path_text t i.0, view_of t i.1)
+
+-- an import of it: an instance under a path, without functions
+abbrev pub imported_view : NumberedSeen → Option (ℕ × NumberedView)
+imported_view s = import_of s.shown
+  where
+    import_of : NumberedShown → Option (ℕ × NumberedView)
+    import_of (instance (path p) v) = provided (is_none s.external_id && not (is_filled v.functions)) (p, v)
+    import_of _ = None
+
+-- its one export: an instance under a path
+abbrev pub exported_view : List NumberedSeen → Option (ℕ × NumberedView)
+exported_view (s ∷ []) = export_of s.shown
+  where
+    export_of : NumberedShown → Option (ℕ × NumberedView)
+    export_of (instance (path p) v) = provided (is_none s.external_id) (p, v)
+    export_of _ = None
+exported_view _ = None
+
 -- ---- rules
 
 abbrev pub are_interfaces : Tables → (ℕ → Fact) → List NumberedSight → Bool
@@ -130,6 +152,13 @@ world_shown identity name scope =
 -- a view of an interface with a path, where what is known of each part is true as it is seen from there
 abbrev pub IsKnownSight : Tables → (ℕ → Fact) → NumberedSight → Type 0
 IsKnownSight t known s = IsSight t s × ViewPasses t (IsKnown t known s.place) s.view
+
+-- A scope imports and exports the views of interfaces that its numbers import and export.
+abbrev pub ImportsInNumbers : Type 0
+ImportsInNumbers = (t : Tables) (w : NumberedScope) (scope : Scope) → Shows t w scope → each reads.imported_view scope.imports ≡ option_map (map (shown_view t)) (each imported_view w.imports)
+
+abbrev pub ExportInNumbers : Type 0
+ExportInNumbers = (t : Tables) (w : NumberedScope) (scope : Scope) → Shows t w scope → reads.exported_view scope.exports ≡ option_map (shown_view t) (exported_view w.exports)
 
 -- Members are a package exactly where their numbers are.
 abbrev pub PackagesInNumbers : Type 0

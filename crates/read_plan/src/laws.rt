@@ -1,7 +1,12 @@
 //! Laws of what is read.
 
 ghost use Rattle.read_plan.specs.Gathering.{OneViewIsEnough, ViewsMeanOne};
-ghost use Rattle.read_plan.specs.NumberedMembers.{OneWorldInNumbers, PackagesInNumbers};
+ghost use Rattle.read_plan.specs.NumberedMembers.{
+  ExportInNumbers,
+  ImportsInNumbers,
+  OneWorldInNumbers,
+  PackagesInNumbers,
+};
 ghost use Rattle.read_plan.specs.NumberedRules.{EachRuleInNumbers};
 ghost use Rattle.read_plan.specs.NumberedViews.{
   EachNumberTells,
@@ -61,6 +66,12 @@ pub fn uses_in_numbers()
 pub fn worlds_in_numbers()
     ensures obey { WorldsInNumbers }
     ensures sights { SightsInNumbers }
+{}
+
+/// The component type of an interface imports and exports the views that its numbers import and export.
+pub fn interfaces_in_numbers()
+    ensures imports { ImportsInNumbers }
+    ensures export { ExportInNumbers }
 {}
 
 /// The members at the top are a package, and a world stands alone, exactly where their numbers are and do.
