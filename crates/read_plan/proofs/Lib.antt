@@ -26,6 +26,7 @@ pub mod NumberedViews
 pub mod NumberedRules
 pub mod NumberedWorlds
 pub mod NumberedMembers
+pub mod GatheredPlan
 pub mod Renumbering
 pub mod Gathering
 mod WholePlan

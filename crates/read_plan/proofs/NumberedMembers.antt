@@ -47,7 +47,7 @@ module _ (t : Tables) (tables : AreTables t) (h : Homes) (stand : HomesStand t h
     of_read None = false
     of_read (Some q) = same_identity identity q.0
 
-    of_package : (p : ℕ) → HasPath t p → is_of identity (path_text t p) ≡ is_of_package h n p
+    pub of_package : (p : ℕ) → HasPath t p → is_of identity (path_text t p) ≡ is_of_package h n p
     unfolding of_read
     of_package p x =
         let home = stand.homes p x.0 x.1 in
@@ -105,7 +105,7 @@ module _ (t : Tables) (tables : AreTables t) (h : Homes) (stand : HomesStand t h
   part_sights m x package_ under (world w) (Part.interface view views) is = absurd is
   part_sights m x package_ under (interface p v imports) (Part.world scope) is = absurd is
 
-  all_sights : (ms : List NumberedMember) (members : List Member) → AllZip (IsMember t h) ms members → flat_map reads.sights members ≡ map (sight_of t) (sights_of_members t ms)
+  pub all_sights : (ms : List NumberedMember) (members : List Member) → AllZip (IsMember t h) ms members → flat_map reads.sights members ≡ map (sight_of t) (sights_of_members t ms)
   all_sights [] [] z = refl
   all_sights [] (x ∷ members) z = absurd z
   all_sights (m ∷ ms) [] z = absurd z
@@ -128,7 +128,7 @@ module _ (t : Tables) (tables : AreTables t) (h : Homes) (stand : HomesStand t h
     only_sights [] all = tt
     only_sights (s ∷ seen) all = (all.0.0, only_sights seen all.1)
 
-    agree_same : (seen : List NumberedSight) → AllByRecursion (IsKnownSight t known) seen → all_agree (map (sight_of t) seen) ≡ agree_in_numbers seen
+    pub agree_same : (seen : List NumberedSight) → AllByRecursion (IsKnownSight t known) seen → all_agree (map (sight_of t) seen) ≡ agree_in_numbers seen
     agree_same seen all = all_agree_in_numbers t tables seen (only_sights seen all)
 
     module _ (n : ℕ) (identity : PackageIdentity) (there : slice_get h.packages n ≡ Some identity) where

@@ -1,5 +1,6 @@
 //! Laws of what is read.
 
+ghost use Rattle.read_plan.specs.GatheredPlan.{GatheredPackageIsMeant, GatheredWorldIsMeant};
 ghost use Rattle.read_plan.specs.Gathering.{OneViewIsEnough, ViewsMeanOne};
 ghost use Rattle.read_plan.specs.NumberedMembers.{
   ExportInNumbers,
@@ -89,6 +90,12 @@ pub fn one_view_is_enough()
 /// Where the types of a plan are those of the shapes of a table that are kept, each part stands for the tree that it stood for.
 pub fn trees_are_kept()
     ensures { TreesAreKept }
+{}
+
+/// A plan that is gathered from views in numbers, of the members of a package or of one world, means what they mean.
+pub fn gathered_plans_are_meant()
+    ensures package_ { GatheredPackageIsMeant }
+    ensures world { GatheredWorldIsMeant }
 {}
 
 /// A `Resolve` that is built, entry by entry, from a plan that was read is valid.
