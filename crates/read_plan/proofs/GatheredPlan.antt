@@ -1,19 +1,18 @@
 -- A plan that is gathered from views in numbers means what they mean.
-use Rattle.std.proofs.Common.{◌≡◌, refl, sym, ap, subst, ◌∙◌, ℕ, zero, suc, ◌+◌, ◌<◌, arith, Bool, true, false, not, ◌&&◌, ◌==◌, cond, List, [], ◌∷◌, ◌++◌, map, filter_map, Option, Some, None, option_map, unwrap_or, slice_get}
+use Rattle.std.proofs.Common.{◌≡◌, refl, sym, ap, subst, ◌∙◌, ℕ, zero, suc, ◌+◌, arith, Bool, true, false, not, ◌&&◌, ◌==◌, cond, List, [], ◌∷◌, ◌++◌, map, filter_map, Option, Some, None, option_map, unwrap_or, slice_get}
 use Rattle.std.specs.Prelude.{option_and_then}
 use Rattle.std.specs.List.{AllByRecursion, AllZip, Contains, cons_option, filter, flat_map, list_all, list_any}
 use Rattle.std.specs.Option.{option_map_or}
 use Rattle.std.specs.FinMap.{from_entries}
 use Rattle.wit_model.specs.Text.{Text, TextMap, text_eq}
-use Rattle.wit_model.specs.Names.{PackageIdentity, path_in, read_path}
 use Rattle.wit_model.specs.Tree.{Form, Tree, Declaration, children}
 use Rattle.wit_model.specs.Types.{no_tree}
 use Rattle.wit_model.specs.Rules.{is_id}
-use Rattle.wit_model.specs.Meaning.{Signature, FunctionMeaning, TypeMeaning, InterfaceMeaning, WorldMeaning, Item}
+use Rattle.wit_model.specs.Meaning.{FunctionMeaning, TypeMeaning, InterfaceMeaning, WorldMeaning, Item}
 use Rattle.wit_model.specs.Meant.{no_type, no_interface, no_world}
 use Rattle.wit_model.proofs.Elements.{contains-later, contains-map}
 use Rattle.wit_model.proofs.Lists.{first_true, second_true}
-use Rattle.comp_meaning.specs.Follow.{Scope, View, ShownType, provided}
+use Rattle.comp_meaning.specs.Follow.{Scope, View, provided}
 use Rattle.comp_meaning.specs.SameLaws.{named_meaning}
 use Rattle.comp_meaning.specs.Reads as reads
 use Rattle.comp_meaning.specs.Reads.{Part, Member, Sight, seen_meaning, is_of, package_with, world_with}
@@ -23,13 +22,13 @@ use Rattle.read_plan.specs.Plan.{Plan, PlannedKind, PlannedType, PlannedFunction
 use Rattle.read_plan.specs.PlanMeaning as planned
 use Rattle.read_plan.specs.PlanMeaning.{type_meaning_in, function_meaning, interface_meaning_in, world_meaning_in, foreign_entry, shown_entry, plan_meaning, plan_world_meaning}
 use Rattle.read_plan.specs.Gathering.{AreEnough}
-use Rattle.read_plan.specs.NumberedViews.{FunctionShape, Tables, path_at, path_text, place_at, tree_at, signature_over, function_at, AreTables, NumberedType, NumberedFunction, NumberedView, view_of, declaration_of, shown_type, shown_function, NumberedSight, sight_of, IsSight, agree_in_numbers}
+use Rattle.read_plan.specs.NumberedViews.{FunctionShape, Tables, path_text, place_at, tree_at, signature_over, function_at, AreTables, NumberedType, NumberedFunction, NumberedView, view_of, declaration_of, shown_type, shown_function, NumberedSight, sight_of, IsSight, agree_in_numbers}
 use Rattle.read_plan.specs.NumberedRules.{Fact}
 use Rattle.read_plan.specs.NumberedWorlds.{path, label, implementing, NumberedShown, instance, function, declares, NumberedSeen, shown_of, seen_of, NumberedScope, Shows, sights_of_scope, HasPath}
-use Rattle.read_plan.specs.NumberedMembers.{Homes, HomesStand, is_of_package, NumberedPart, world, interface, NumberedMember, sights_of_members, ShowsPart, IsMember, stands_at_top, are_interfaces, are_package, is_named_in, is_one_world, package_shown, world_shown, IsKnownSight}
-use Rattle.read_plan.specs.GatheredPlan.{functions_seen, interfaces_listed, worlds_listed, Becomes, BecomesIfGiven, DeclaresKind, a_resource, a_name, a_form, TypeBecomes, TypeListed, ParamBecomes, FunctionBecomes, FunctionListed, InterfaceBecomes, InterfaceAt, ItemBecomes, SeenBecomes, WorldBecomes, WorldAt, SightBecomes, Keeps, InterfacesListed, WorldsListed, under_path, foreign_interface, AreChosen, is_foreign, IsGathered, IsGatheredWorld, GatheredPackageIsMeant, GatheredWorldIsMeant}
+use Rattle.read_plan.specs.NumberedMembers.{Homes, HomesStand, is_of_package, NumberedPart, world, interface, NumberedMember, sights_of_members, ShowsPart, IsMember, stands_at_top, are_interfaces, are_package, is_named_in, package_shown, world_shown, IsKnownSight}
+use Rattle.read_plan.specs.GatheredPlan.{functions_seen, interfaces_listed, worlds_listed, Becomes, BecomesIfGiven, DeclaresKind, a_resource, a_name, a_form, TypeBecomes, TypeListed, ParamBecomes, FunctionBecomes, FunctionListed, InterfaceBecomes, InterfaceAt, ItemBecomes, SeenBecomes, WorldBecomes, SightBecomes, Keeps, InterfacesListed, WorldsListed, under_path, foreign_interface, AreChosen, is_foreign, IsGathered, GatheredPackageIsMeant, GatheredWorldIsMeant}
 use Rattle.read_plan.proofs.Gathering.{one_view_is_enough}
-use Rattle.read_plan.proofs.Lists.{map_from, no_true}
+use Rattle.read_plan.proofs.Lists.{map_from}
 use Rattle.read_plan.proofs.NumberedMembers.{of_package, all_sights, agree_same, packages_in_numbers, one_world_in_numbers}
 use Rattle.read_plan.proofs.NumberedWorlds.{path_number, sights_in_numbers}
 use Rattle.read_plan.proofs.Renumbering.{trees_are_kept}

@@ -1,15 +1,15 @@
 -- Equal numbers are equal trees and equal types of functions, so views agree where their numbers do.
-use Rattle.std.proofs.Common.{◌≡◌, refl, sym, ap, ◌∙◌, ℕ, zero, suc, ◌+◌, ◌<◌, arith, Bool, true, false, not, ◌&&◌, ◌||◌, ◌==◌, cond, List, [], ◌∷◌, ◌++◌, length, map, Option, Some, None, option_map, unwrap_or, slice_get}
+use Rattle.std.proofs.Common.{◌≡◌, refl, sym, ap, ◌∙◌, ℕ, ◌<◌, Bool, true, false, not, ◌&&◌, ◌||◌, ◌==◌, cond, List, [], ◌∷◌, ◌++◌, length, map, Option, Some, None, option_map, unwrap_or, slice_get}
 use Rattle.std.specs.List.{AllByRecursion, list_all, list_any, find}
 use Rattle.std.specs.Option.{option_map_or}
 use Rattle.std.specs.Cmp.Lexicographic.{pointwise}
 use Rattle.std.proofs.lemmas.Bool.{eqb-true, eq-eqb}
 use Rattle.wit_model.specs.Text.{Text, text_eq}
 use Rattle.wit_model.specs.Tree.{Place, Tree}
-use Rattle.wit_model.specs.Meaning.{Signature, FunctionMeaning}
+use Rattle.wit_model.specs.Meaning.{Signature}
 use Rattle.wit_model.proofs.Distinct.{either_way}
 use Rattle.wit_model.proofs.VersionLaws.{same_text, text_same}
-use Rattle.comp_meaning.specs.Follow.{ShownType, place_of}
+use Rattle.comp_meaning.specs.Follow.{place_of}
 use Rattle.comp_meaning.specs.Same.{same_option, same_tree, same_declaration, same_type, same_signature, stand_in}
 use Rattle.comp_meaning.specs.Same as same
 use Rattle.comp_meaning.specs.Reads.{Sight, all_agree}
@@ -17,7 +17,7 @@ use Rattle.comp_meaning.specs.Reads as reads
 use Rattle.comp_meaning.specs.Agreement.{first_of, first_whole, agree_with_first}
 use Rattle.comp_meaning.specs.Agreement as agreement
 use Rattle.comp_meaning.proofs.SameLaws.{trees_decide, signatures_decide}
-use Rattle.read_plan.specs.NumberedViews.{FunctionShape, Tables, path_at, path_text, place_at, tree_at, signature_over, function_at, no_function, signature_at, IsPart, AllOf, PartsOf, AreTables, HasNameIn, AreApart, IsOutside, NumberedType, NumberedFunction, declaration_of, shown_type, shown_function, NumberedSight, sight_of, same_number, same_shown, same_function, same_functions, same_types, same_whole, agree, agree_in_numbers, first_at, first_whole_at, agrees_with_first, agree_with_first_in_numbers, TypePasses, FunctionPasses, IsOutsidePart, IsSight, NumbersTell, EachNumberTells, ViewsAgreeInNumbers, FirstViewsAgreeInNumbers}
+use Rattle.read_plan.specs.NumberedViews.{FunctionShape, Tables, path_at, path_text, place_at, tree_at, signature_over, function_at, no_function, signature_at, IsPart, AllOf, PartsOf, AreTables, AreApart, IsOutside, NumberedType, NumberedFunction, declaration_of, shown_type, shown_function, NumberedSight, sight_of, same_number, same_shown, same_function, same_functions, same_types, same_whole, agree, agree_in_numbers, first_at, first_whole_at, agrees_with_first, agree_with_first_in_numbers, TypePasses, FunctionPasses, IsOutsidePart, IsSight, NumbersTell, EachNumberTells, ViewsAgreeInNumbers, FirstViewsAgreeInNumbers}
 use Rattle.read_plan.proofs.Lists.{length_of_map, append_of_map}
 use Rattle.read_plan.proofs.ShapeLaws.{one_number_apart, slice_there}
 

@@ -10,14 +10,14 @@ use Rattle.wit_model.specs.Tree.{Place, Tree, Declaration}
 use Rattle.wit_model.specs.Uses.{has}
 use Rattle.wit_model.proofs.Distinct.{either_way}
 use Rattle.wit_model.proofs.VersionLaws.{same_text, text_same}
-use Rattle.comp_meaning.specs.Follow.{View, Seen, Scope, interface_of, place_of}
+use Rattle.comp_meaning.specs.Follow.{View, Seen, interface_of, place_of}
 use Rattle.comp_meaning.specs.Rules as rules
 use Rattle.comp_meaning.specs.Rules.{distinct}
 use Rattle.comp_meaning.specs.Reads as reads
 use Rattle.read_plan.specs.Shapes.{form_code, first_label, named_shape, node_shape}
 use Rattle.read_plan.specs.NumberedViews.{Tables, path_at, path_text, place_at, tree_at, signature_at, function_at, IsPart, AllOf, AreTables, NumberedType, NumberedView, view_of, declaration_of, shown_type, sight_of}
 use Rattle.read_plan.specs.NumberedRules.{Fact, name_in, name_at, IsKnown}
-use Rattle.read_plan.specs.NumberedWorlds.{NumberedKey, path, label, implementing, place_of_key, key_of, NumberedShown, instance, function, declares, NumberedSeen, shown_of, seen_of, NumberedInstance, instance_of, NumberedScope, Shows, sights_of_instance, sights_of_scope, if_outside, used_by, used_by_view, others_than, uses_of, path_seen, stand_earlier, are_reached, are_once, resources_seen, is_resource_seen, is_item, are_imports, is_world, HasPath, KeyStands, ItemStands, ScopeStands, DeclaresParts, UsesInNumbers, ReachedInNumbers, PathsInNumbers, WorldsInNumbers, SightsInNumbers}
+use Rattle.read_plan.specs.NumberedWorlds.{NumberedKey, path, label, implementing, place_of_key, key_of, NumberedShown, instance, function, declares, NumberedSeen, shown_of, seen_of, NumberedInstance, instance_of, sights_of_instance, if_outside, used_by, used_by_view, others_than, uses_of, path_seen, stand_earlier, are_reached, are_once, resources_seen, is_resource_seen, is_item, are_imports, HasPath, KeyStands, ItemStands, DeclaresParts, UsesInNumbers, ReachedInNumbers, PathsInNumbers, WorldsInNumbers, SightsInNumbers}
 use Rattle.read_plan.proofs.Lists.{map_of_map, append_of_map}
 use Rattle.read_plan.proofs.ShapeLaws.{PartView, is_primitive, is_name, is_node, viewed}
 use Rattle.read_plan.proofs.NumberedRules.{no_shape, shape_there, no_name, declared_same, function_same, interface_same}
@@ -215,7 +215,7 @@ module _ (t : Tables) (tables : AreTables t) where
       let all : flat_map (λ l. rules.used_by_view l.1) (map seen_view later) ++ rules.used_by_view (view_of t exported) ≡ map (path_text t) (flat_map (λ l. used_by_view t l.1) later ++ used_by_view t exported) =
       (λ j. later_uses later h.1 j ++ view_uses exported he j) ∙ sym (append_of_map (path_text t) (flat_map (λ l. used_by_view t l.1) later) (used_by_view t exported)) in
       let one = ap (list_any (text_eq (path_text t i.0))) all
-          ∙ has_path (flat_map (λ l. used_by_view t l.1) later ++ used_by_view t exported) i.0 (all_in_both (HasPath t) (flat_map (λ l. used_by_view t l.1) later) (used_by_view t exported) (later_paths later) (view_paths exported)) h.0.0 in
+      ∙ has_path (flat_map (λ l. used_by_view t l.1) later ++ used_by_view t exported) i.0 (all_in_both (HasPath t) (flat_map (λ l. used_by_view t l.1) later) (used_by_view t exported) (later_paths later) (view_paths exported)) h.0.0 in
       λ j. one j && reached_same later exported h.1 he j
 
 -- ---- worlds

@@ -8,7 +8,7 @@ use Rattle.wit_model.proofs.Elements.{contains-later, get-contains}
 use Rattle.wit_model.proofs.Tables.{grow_at}
 use Rattle.comp_meaning.specs.Same.{primitive_number}
 use Rattle.read_plan.specs.Shapes.{Shape, form_code, form_of, marked, node_shape, named_shape, primitives, part_tree, shape_tree, shape_trees, IsShape, a_name, a_node, IsTable, OneNumber}
-use Rattle.read_plan.specs.NumberedViews.{HasNameIn, itself, inside, AreApart}
+use Rattle.read_plan.specs.NumberedViews.{itself, inside, AreApart}
 use Rattle.read_plan.proofs.Lists.{get_of_map}
 
 -- ---- forms by their codes

@@ -1,14 +1,14 @@
 -- What a plan is gathered from: the views in numbers of all that is exported at the top, and the numbers of the types that are kept
 -- (Component Model WIT.md, "Package Format").
 use Rattle.std.specs.Prelude.{◌≡◌, ℕ, ◌<◌, ◌+◌, Bool, true, false, ◌&&◌, ◌==◌, nat_lt, if◌then◌else◌, List, [], ◌∷◌, length, filter_map, Option, Some, None, option_map, slice_get}
-use Rattle.std.specs.List.{AllByRecursion, AllZip, Contains, flat_map, list_all}
+use Rattle.std.specs.List.{AllByRecursion, AllZip, Contains, list_all}
 use Rattle.wit_model.specs.Text.{Text}
 use Rattle.wit_model.specs.Tree.{Form}
 use Rattle.wit_model.specs.Lookup.{is_async}
 use Rattle.wit_model.specs.Rules.{each_from, is_id}
 use Rattle.comp_meaning.specs.Follow.{Scope}
 use Rattle.comp_meaning.specs.Reads.{Member, package_with, world_with}
-use Rattle.wit_model.specs.Names.{PackageIdentity, path_in, read_path}
+use Rattle.wit_model.specs.Names.{path_in, read_path}
 use Rattle.read_plan.specs.Shapes.{node_shape}
 use Rattle.read_plan.specs.Plan as plan
 use Rattle.read_plan.specs.Plan.{Plan, PlannedKind, PlannedType, PlannedFunction, PlannedInterface, PlannedKey, PlannedItem, PlannedWorld, PlannedPackage, package_in, interface_in, world_in, type_in, path_of_planned, kind_numbers}

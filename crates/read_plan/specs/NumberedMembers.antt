@@ -9,7 +9,7 @@ use Rattle.wit_model.specs.Meaning.{PackageMeaning, WorldPackage}
 use Rattle.comp_meaning.specs.Follow.{Scope, View, each, is_filled, provided}
 use Rattle.comp_meaning.specs.Reads as reads
 use Rattle.comp_meaning.specs.Reads.{Part, Member, of_instance, seen_meaning, is_of, world_meaning, package_with, world_with}
-use Rattle.read_plan.specs.NumberedViews.{Tables, path_at, path_text, AreTables, NumberedView, view_of, NumberedSight, sight_of, ViewPasses, IsSight, agree_in_numbers}
+use Rattle.read_plan.specs.NumberedViews.{Tables, path_at, path_text, AreTables, NumberedView, view_of, NumberedSight, ViewPasses, IsSight, agree_in_numbers}
 use Rattle.read_plan.specs.NumberedRules.{Fact, is_interface, IsKnown}
 use Rattle.read_plan.specs.NumberedWorlds.{NumberedShown, instance, path, NumberedSeen, NumberedScope, Shows, sights_of_scope, HasPath}
 

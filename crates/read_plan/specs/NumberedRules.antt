@@ -87,6 +87,7 @@ is_parameter_type p f = is_part p f && nat_le f.levels most_levels
 -- a form that a name may be declared as: the form itself may be one that only a named type has
 abbrev pub is_declared_form : ℕ → Fact → Bool
 is_declared_form p f = f.has_good_labels && (f.has_plain_parts && stand_in_place p f.names) && nat_le f.levels (most_levels + 1)
+
 module _ (t : Tables) (known : ℕ → Fact) (p : ℕ) where
   -- what a name may be declared as: a resource, a primitive, another name, or a form
   abbrev pub is_declared : Option ℕ → Bool

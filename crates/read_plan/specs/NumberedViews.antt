@@ -1,15 +1,13 @@
 -- What is shown of interfaces and of worlds, in numbers: a type is a number of a table of shapes, the type of a function a number of a table
 -- of these, and a place the number of a path (Binary.md, "Type Definitions" and "Import and Export Definitions"; WIT.md, "Interfaces", "Worlds").
-use Rattle.std.specs.Prelude.{◌≡◌, ℕ, ◌<◌, ◌+◌, Bool, true, false, not, ◌&&◌, ◌||◌, ◌==◌, List, [], ◌∷◌, ◌++◌, length, map, Option, Some, None, option_map, option_and_then, unwrap_or, slice_get}
-use Rattle.std.specs.List.{AllByRecursion, Contains, list_all, list_any, find}
+use Rattle.std.specs.Prelude.{◌≡◌, ℕ, ◌<◌, ◌+◌, Bool, true, false, not, ◌&&◌, ◌||◌, ◌==◌, List, [], ◌∷◌, ◌++◌, length, map, Option, Some, None, option_map, unwrap_or, slice_get}
+use Rattle.std.specs.List.{AllByRecursion, Contains, list_all, find}
 use Rattle.std.specs.Option.{option_map_or}
 use Rattle.std.specs.Cmp.Lexicographic.{pointwise}
 use Rattle.wit_model.specs.Text.{Text, text_eq}
 use Rattle.wit_model.specs.Tree.{Place, Form, Tree, Declaration}
-use Rattle.wit_model.specs.Tree as tree
 use Rattle.wit_model.specs.Meaning.{Signature, FunctionMeaning}
 use Rattle.comp_meaning.specs.Follow.{Slot, View, ShownType, place_of}
-use Rattle.comp_meaning.specs.Follow as follow
 use Rattle.comp_meaning.specs.Same.{same_option, same_tree, same_signature, stand_in}
 use Rattle.comp_meaning.specs.Reads.{Sight, all_agree}
 use Rattle.comp_meaning.specs.Agreement.{agree_with_first}
