@@ -72,23 +72,23 @@ filter_mapped g h f same (x ∷ xs) = ap (λ o. cons_option o (filter_map g xs))
 module _ (t : Tables) (tables : AreTables t) (kept : List ℕ) (p : Plan) (keeps : Keeps t kept p) where
   -- ---- types
 
-  part_kept : (old new : ℕ) → Becomes t kept p old new → part_tree (trees_in p) new ≡ tree_at t old
+  pub part_kept : (old new : ℕ) → Becomes t kept p old new → part_tree (trees_in p) new ≡ tree_at t old
   part_kept old new b = trees_are_kept (place_at t) t.shapes kept p tables.shapes keeps.types keeps.fall old new b.part b.range
 
-  parts_kept : (olds news : List ℕ) → AllZip (Becomes t kept p) olds news → map (part_tree (trees_in p)) news ≡ map (tree_at t) olds
+  pub parts_kept : (olds news : List ℕ) → AllZip (Becomes t kept p) olds news → map (part_tree (trees_in p)) news ≡ map (tree_at t) olds
   parts_kept [] [] z = refl
   parts_kept [] (new ∷ news) z = absurd z
   parts_kept (old ∷ olds) [] z = absurd z
   parts_kept (old ∷ olds) (new ∷ news) z = λ i. part_kept old new z.0 i ∷ parts_kept olds news z.1 i
 
-  form_tree : (old n : ℕ) (form : Form) (olds : List ℕ) → old ≡ 14 + n → slice_get t.shapes n ≡ Some (node_shape form olds) → tree_at t old ≡ Tree.node form (children (map (tree_at t) olds))
+  pub form_tree : (old n : ℕ) (form : Form) (olds : List ℕ) → old ≡ 14 + n → slice_get t.shapes n ≡ Some (node_shape form olds) → tree_at t old ≡ Tree.node form (children (map (tree_at t) olds))
   form_tree old n form olds is there =
       let trees = shape_trees (place_at t) t.shapes in
       ap (tree_at t) is ∙ (part_behind trees n ∙ (ap (λ o. unwrap_or o no_tree) (tree_at_number (place_at t) t.shapes tables.shapes n (node_shape form olds) there) ∙ node_tree (place_at t) trees form olds))
 
   declared_kept : (d : Option ℕ) (kind : PlannedKind) → DeclaresKind t kept p d kind → declared_as (trees_in p) kind ≡ declaration_of t d
   declared_kept d kind (a_resource e k) = ap (declared_as (trees_in p)) k ∙ sym (ap (declaration_of t) e)
-  declared_kept d kind (a_name old new e b k) = ap (declared_as (trees_in p)) k ∙ (ap Declaration.type_ (part_kept old new b) ∙ sym (ap (declaration_of t) e))
+  declared_kept d kind (a_name old new e no_form b k) = ap (declared_as (trees_in p)) k ∙ (ap Declaration.type_ (part_kept old new b) ∙ sym (ap (declaration_of t) e))
   declared_kept d kind (a_form old n form olds news e is there z k) =
       ap (declared_as (trees_in p)) k
       ∙ (ap (λ ts. Declaration.type_ (Tree.node form (children ts))) (parts_kept olds news z) ∙ (ap Declaration.type_ (sym (form_tree old n form olds is there)) ∙ sym (ap (declaration_of t) e)))

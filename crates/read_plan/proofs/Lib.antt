@@ -27,6 +27,7 @@ pub mod NumberedRules
 pub mod NumberedWorlds
 pub mod NumberedMembers
 pub mod GatheredPlan
+pub mod KeptTypes
 pub mod Renumbering
 pub mod Gathering
 mod WholePlan

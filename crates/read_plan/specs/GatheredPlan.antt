@@ -15,7 +15,7 @@ use Rattle.read_plan.specs.Plan.{Plan, PlannedKind, PlannedType, PlannedFunction
 use Rattle.read_plan.specs.PlanMeaning.{key_text, plan_meaning, plan_world_meaning}
 use Rattle.read_plan.specs.Renumbering.{IsPart, AreKept}
 use Rattle.read_plan.specs.NumberedViews.{FunctionShape, Tables, path_text, place_at, function_at, AreTables, NumberedType, NumberedFunction, NumberedView, NumberedSight}
-use Rattle.read_plan.specs.NumberedRules.{Fact}
+use Rattle.read_plan.specs.NumberedRules.{Fact, is_form}
 use Rattle.read_plan.specs.NumberedWorlds.{NumberedKey, path, label, implementing, NumberedShown, instance, function, declares, NumberedSeen, NumberedScope, Shows, sights_of_scope}
 use Rattle.read_plan.specs.NumberedMembers.{Homes, HomesStand, is_of_package, NumberedPart, world, interface, NumberedMember, sights_of_members, IsMember, are_package, is_one_world, IsKnownSight}
 
@@ -57,7 +57,7 @@ module _ (t : Tables) (kept : List ℕ) (p : Plan) where
   -- The kind of a type that declares this part: another name for the part that it becomes, or its form over those that its parts become.
   pub data DeclaresKind (d : Option ℕ) (kind : PlannedKind) : Type 0 where
     a_resource : d ≡ None → kind ≡ plan.resource → DeclaresKind d kind
-    a_name : (old new : ℕ) → d ≡ Some old → Becomes old new → kind ≡ plan.alias new → DeclaresKind d kind
+    a_name : (old new : ℕ) → d ≡ Some old → is_form t old ≡ false → Becomes old new → kind ≡ plan.alias new → DeclaresKind d kind
     a_form : (old n : ℕ) (form : Form) (olds news : List ℕ) → d ≡ Some old → old ≡ 14 + n → slice_get t.shapes n ≡ Some (node_shape form olds) → AllZip Becomes olds news → kind ≡ plan.formed form news → DeclaresKind d kind
 
   -- the type of this number, by what it declares

@@ -4,6 +4,7 @@ pub mod NumberedRules
 pub mod NumberedWorlds
 pub mod NumberedMembers
 pub mod GatheredPlan
+pub mod KeptTypes
 pub mod Plan
 pub mod PlanMeaning
 pub mod PlanRules

@@ -2,6 +2,7 @@
 
 ghost use Rattle.read_plan.specs.GatheredPlan.{GatheredPackageIsMeant, GatheredWorldIsMeant};
 ghost use Rattle.read_plan.specs.Gathering.{OneViewIsEnough, ViewsMeanOne};
+ghost use Rattle.read_plan.specs.KeptTypes.{KeptTypesPass};
 ghost use Rattle.read_plan.specs.NumberedMembers.{
   ExportInNumbers,
   ImportsInNumbers,
@@ -90,6 +91,12 @@ pub fn one_view_is_enough()
 /// Where the types of a plan are those of the shapes of a table that are kept, each part stands for the tree that it stood for.
 pub fn trees_are_kept()
     ensures { TreesAreKept }
+{}
+
+/// Types of a plan that are those of the shapes that are kept, where what was read obeys the rules, pass the tests on types alone: they
+/// refer to smaller numbers, and have the labels, the shapes, the names and the levels that they may.
+pub fn kept_types_pass()
+    ensures { KeptTypesPass }
 {}
 
 /// A plan that is gathered from views in numbers, of the members of a package or of one world, means what they mean.
