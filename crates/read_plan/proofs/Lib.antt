@@ -22,6 +22,12 @@ pub mod Reaching
 pub mod PackageMeans
 pub mod WorldAlone
 pub mod NothingElse
+pub mod NumberedViews
+pub mod NumberedRules
+pub mod NumberedWorlds
+pub mod NumberedMembers
+pub mod GatheredPlan
+pub mod KeptTypes
 pub mod Renumbering
 pub mod Gathering
 mod WholePlan

@@ -1,12 +1,15 @@
 -- In a table of shapes each number has a tree, and no tree has two numbers.
-use Rattle.std.proofs.Common.{◌≡◌, ◌⊎◌, inl, inr, refl, sym, ap, ◌∙◌, ℕ, zero, suc, ◌+◌, ◌-◌, ◌<◌, ◌≤◌, arith, Bool, true, false, List, [], ◌∷◌, ◌++◌, map, take, length, Some, slice_get, unwrap_or}
-use Rattle.std.specs.List.{AllByRecursion}
+use Rattle.std.proofs.Common.{◌≡◌, ◌⊎◌, inl, inr, refl, sym, ap, ◌∙◌, ℕ, zero, suc, ◌+◌, ◌-◌, ◌<◌, ◌≤◌, arith, Bool, true, false, List, [], ◌∷◌, ◌++◌, map, take, length, Some, slice_get, unwrap_or, option_map}
+use Rattle.std.specs.List.{AllByRecursion, Contains}
 use Rattle.wit_model.specs.Text.{Text}
 use Rattle.wit_model.specs.Tree.{Primitive, Place, Form, Tree, Trees, children}
 use Rattle.wit_model.specs.Types.{grow, no_tree}
+use Rattle.wit_model.proofs.Elements.{contains-later, get-contains}
 use Rattle.wit_model.proofs.Tables.{grow_at}
 use Rattle.comp_meaning.specs.Same.{primitive_number}
-use Rattle.read_plan.specs.Shapes.{Shape, form_code, form_of, marked, node_shape, named_shape, primitives, part_tree, shape_tree, shape_trees, IsShape, a_name, a_node, IsTable}
+use Rattle.read_plan.specs.Shapes.{Shape, form_code, form_of, marked, node_shape, named_shape, primitives, part_tree, shape_tree, shape_trees, IsShape, a_name, a_node, IsTable, OneNumber}
+use Rattle.read_plan.specs.NumberedViews.{itself, inside, AreApart}
+use Rattle.read_plan.proofs.Lists.{get_of_map}
 
 -- ---- forms by their codes
 
@@ -147,15 +150,16 @@ slice_there (x ∷ xs) (suc n) h = slice_there xs n (omega (arith, h))
 
 -- ---- no tree has two numbers
 
-module _ (place : ℕ → Place) (apart_places : (p q : ℕ) → place p ≡ place q → p ≡ q) (ss : List Shape) (table : IsTable ss) where
+module _ (place : ℕ → Place) (ss : List Shape) (table : IsTable ss) where
   abbrev trees : List Tree
   trees = shape_trees place ss
 
   abbrev InRange : ℕ → Type 0
   InRange k = k < 14 + length ss
 
-  data PartView (k : ℕ) (t : Tree) : Type 0 where
-    is_primitive : k < 14 → number_in t ≡ k → PartView k t
+  -- what a part is, and what it stands for
+  pub data PartView (k : ℕ) (t : Tree) : Type 0 where
+    is_primitive : (p : Primitive) → k < 14 → t ≡ Tree.primitive p → primitive_number p ≡ k → PartView k t
     is_name : (n : ℕ) (p : ℕ) (x : Text) → k ≡ 14 + n → slice_get ss n ≡ Some (named_shape p x) → t ≡ Tree.named (place p) x → PartView k t
     is_node : (n : ℕ) (f : Form) (ks : List ℕ) → k ≡ 14 + n → slice_get ss n ≡ Some (node_shape f ks) → t ≡ Tree.node f (children (map (part_tree trees) ks)) → AllByRecursion InRange ks → PartView k t
 
@@ -167,9 +171,12 @@ module _ (place : ℕ → Place) (apart_places : (p q : ℕ) → place p ≡ pla
   shape_view k n s is h e (a_name p x same) t = is_name n p x is (e ∙ ap Some same) (t ∙ (ap (shape_tree place trees) same ∙ name_tree place trees p x))
   shape_view k n s is h e (a_node f ks same below) t = is_node n f ks is (e ∙ ap Some same) (t ∙ (ap (shape_tree place trees) same ∙ node_tree place trees f ks)) (wider n ks h below)
 
-  viewed : (k : ℕ) → InRange k → PartView k (part_tree trees k)
+  pub viewed : (k : ℕ) → InRange k → PartView k (part_tree trees k)
   viewed k h = elim (split_part k) [
-    | inl small ↦ is_primitive small (primitive_at trees k small)
+    | inl small ↦
+        let found = slice_there primitives k small in
+        let stands : part_tree trees k ≡ Tree.primitive found.0 = part_front trees k small ∙ ap (λ o. unwrap_or o no_tree) (get_of_map Tree.primitive primitives k ∙ ap (option_map Tree.primitive) found.1) in
+        is_primitive found.0 small stands (sym (ap number_in stands) ∙ primitive_at trees k small)
     | inr m ↦
         let below : m.0 < length ss = omega (arith, h, m.1) in
         let found = slice_there ss m.0 below in
@@ -177,67 +184,76 @@ module _ (place : ℕ → Place) (apart_places : (p q : ℕ) → place p ≡ pla
         (ap (part_tree trees) m.1 ∙ (part_behind trees m.0 ∙ ap (λ o. unwrap_or o no_tree) (tree_at_number place ss table m.0 found.0 found.1)))
   ]
 
-  same_number : (a b n m : ℕ) (s : Shape) → a ≡ 14 + n → b ≡ 14 + m → slice_get ss n ≡ Some s → slice_get ss m ≡ Some s → a ≡ b
-  same_number a b n m s ea eb fn fm = ea ∙ (ap (λ i. 14 + i) (table.apart n m s fn fm) ∙ sym eb)
+  same_place_number : (a b n m : ℕ) (s : Shape) → a ≡ 14 + n → b ≡ 14 + m → slice_get ss n ≡ Some s → slice_get ss m ≡ Some s → a ≡ b
+  same_place_number a b n m s ea eb fn fm = ea ∙ (ap (λ i. 14 + i) (table.apart n m s fn fm) ∙ sym eb)
 
-  both_views : (a b : ℕ) (t u : Tree) → t ≡ u → PartView a t → PartView b u → ((ks ls : List ℕ) → AllByRecursion InRange ks → AllByRecursion InRange ls → (f g : Form) → t ≡ Tree.node f (children (map (part_tree trees) ks)) → u ≡ Tree.node g (children (map (part_tree trees) ls)) → ks ≡ ls) → a ≡ b
-  both_views a b t u e (is_primitive ha na) (is_primitive hb nb) rec = sym na ∙ (ap number_in e ∙ nb)
-  both_views a b t u e (is_primitive ha na) (is_name m q y eb sb tb) rec =
-      let wrong : a ≡ 99 = sym na ∙ (ap number_in e ∙ ap number_in tb) in absurd (omega (arith, wrong, ha))
-  both_views a b t u e (is_primitive ha na) (is_node m g ls eb sb tb below) rec =
-      let wrong : a ≡ 99 = sym na ∙ (ap number_in e ∙ ap number_in tb) in absurd (omega (arith, wrong, ha))
-  both_views a b t u e (is_name n p x ea sa ta) (is_primitive hb nb) rec =
-      let wrong : b ≡ 99 = sym nb ∙ (ap number_in (sym e) ∙ ap number_in ta) in absurd (omega (arith, wrong, hb))
-  both_views a b t u e (is_node n f ks ea sa ta below) (is_primitive hb nb) rec =
-      let wrong : b ≡ 99 = sym nb ∙ (ap number_in (sym e) ∙ ap number_in ta) in absurd (omega (arith, wrong, hb))
-  both_views a b t u e (is_name n p x ea sa ta) (is_name m q y eb sb tb) rec =
+  -- the parts of two parts
+  abbrev SameParts : ℕ → ℕ → Tree → Tree → Type 0
+  SameParts a b t u = (ks ls : List ℕ) → AllByRecursion InRange ks → AllByRecursion InRange ls → ((k l : ℕ) → Contains ks k → Contains ls l → AreApart place ss k l)
+      → (f g : Form) → t ≡ Tree.node f (children (map (part_tree trees) ks)) → u ≡ Tree.node g (children (map (part_tree trees) ls)) → ks ≡ ls
+
+  both_views : (a b : ℕ) (t u : Tree) → AreApart place ss a b → t ≡ u → PartView a t → PartView b u → SameParts a b t u → a ≡ b
+  both_views a b t u apart e (is_primitive p ha ta na) (is_primitive q hb tb nb) rec = sym na ∙ (ap number_in (sym ta ∙ (e ∙ tb)) ∙ nb)
+  both_views a b t u apart e (is_primitive p ha ta na) (is_name m q y eb sb tb) rec =
+      let wrong : Tree.primitive p ≡ Tree.named (place q) y = sym ta ∙ (e ∙ tb) in absurd cc
+  both_views a b t u apart e (is_primitive p ha ta na) (is_node m g ls eb sb tb below) rec =
+      let wrong : Tree.primitive p ≡ Tree.node g (children (map (part_tree trees) ls)) = sym ta ∙ (e ∙ tb) in absurd cc
+  both_views a b t u apart e (is_name n p x ea sa ta) (is_primitive q hb tb nb) rec =
+      let wrong : Tree.named (place p) x ≡ Tree.primitive q = sym ta ∙ (e ∙ tb) in absurd cc
+  both_views a b t u apart e (is_node n f ks ea sa ta below) (is_primitive q hb tb nb) rec =
+      let wrong : Tree.node f (children (map (part_tree trees) ks)) ≡ Tree.primitive q = sym ta ∙ (e ∙ tb) in absurd cc
+  both_views a b t u apart e (is_name n p x ea sa ta) (is_name m q y eb sb tb) rec =
       let named : Tree.named (place p) x ≡ Tree.named (place q) y = sym ta ∙ (e ∙ tb) in
       let places : place p ≡ place q = cc in
       let names : x ≡ y = cc in
-      let numbers : p ≡ q = apart_places p q places in
-      same_number a b n m (named_shape q y) ea eb (sa ∙ (λ i. Some (named_shape (numbers i) (names i)))) sb
-  both_views a b t u e (is_name n p x ea sa ta) (is_node m g ls eb sb tb below) rec =
+      let numbers : p ≡ q = apart p q (itself a n p x ea sa) (itself b m q y eb sb) places in
+      same_place_number a b n m (named_shape q y) ea eb (sa ∙ (λ i. Some (named_shape (numbers i) (names i)))) sb
+  both_views a b t u apart e (is_name n p x ea sa ta) (is_node m g ls eb sb tb below) rec =
       let wrong : Tree.named (place p) x ≡ Tree.node g (children (map (part_tree trees) ls)) = sym ta ∙ (e ∙ tb) in absurd cc
-  both_views a b t u e (is_node n f ks ea sa ta below) (is_name m q y eb sb tb) rec =
+  both_views a b t u apart e (is_node n f ks ea sa ta below) (is_name m q y eb sb tb) rec =
       let wrong : Tree.node f (children (map (part_tree trees) ks)) ≡ Tree.named (place q) y = sym ta ∙ (e ∙ tb) in absurd cc
-  both_views a b t u e (is_node n f ks ea sa ta ra) (is_node m g ls eb sb tb rb) rec =
+  both_views a b t u apart e (is_node n f ks ea sa ta ra) (is_node m g ls eb sb tb rb) rec =
       let nodes : Tree.node f (children (map (part_tree trees) ks)) ≡ Tree.node g (children (map (part_tree trees) ls)) = sym ta ∙ (e ∙ tb) in
       let forms : f ≡ g = cc in
-      let parts : ks ≡ ls = rec ks ls ra rb f g ta tb in
-      same_number a b n m (node_shape g ls) ea eb (sa ∙ (λ i. Some (node_shape (forms i) (parts i)))) sb
+      let parts : ks ≡ ls = rec ks ls ra rb (λ k l ck cl p q hp hq. apart p q (inside a n k p f ks ea sa ck hp) (inside b m l q g ls eb sb cl hq)) f g ta tb in
+      same_place_number a b n m (node_shape g ls) ea eb (sa ∙ (λ i. Some (node_shape (forms i) (parts i)))) sb
 
   mutual
-    same_part : (x : Tree) (a b : ℕ) → InRange a → InRange b → part_tree trees a ≡ x → part_tree trees b ≡ x → a ≡ b
-    same_part (Tree.primitive p) a b ha hb ea eb =
-        both_views a b (part_tree trees a) (part_tree trees b) (ea ∙ sym eb) (viewed a ha) (viewed b hb)
-        (λ ks ls ra rb f g ta tb. let wrong : Tree.primitive p ≡ Tree.node f (children (map (part_tree trees) ks)) = sym ea ∙ ta in absurd cc)
-    same_part (Tree.named q y) a b ha hb ea eb =
-        both_views a b (part_tree trees a) (part_tree trees b) (ea ∙ sym eb) (viewed a ha) (viewed b hb)
-        (λ ks ls ra rb f g ta tb. let wrong : Tree.named q y ≡ Tree.node f (children (map (part_tree trees) ks)) = sym ea ∙ ta in absurd cc)
-    same_part (Tree.node h ts) a b ha hb ea eb =
-        both_views a b (part_tree trees a) (part_tree trees b) (ea ∙ sym eb) (viewed a ha) (viewed b hb)
-        (λ ks ls ra rb f g ta tb.
+    same_part : (x : Tree) (a b : ℕ) → InRange a → InRange b → AreApart place ss a b → part_tree trees a ≡ x → part_tree trees b ≡ x → a ≡ b
+    same_part (Tree.primitive p) a b ha hb apart ea eb =
+        both_views a b (part_tree trees a) (part_tree trees b) apart (ea ∙ sym eb) (viewed a ha) (viewed b hb)
+        (λ ks ls ra rb near f g ta tb. let wrong : Tree.primitive p ≡ Tree.node f (children (map (part_tree trees) ks)) = sym ea ∙ ta in absurd cc)
+    same_part (Tree.named q y) a b ha hb apart ea eb =
+        both_views a b (part_tree trees a) (part_tree trees b) apart (ea ∙ sym eb) (viewed a ha) (viewed b hb)
+        (λ ks ls ra rb near f g ta tb. let wrong : Tree.named q y ≡ Tree.node f (children (map (part_tree trees) ks)) = sym ea ∙ ta in absurd cc)
+    same_part (Tree.node h ts) a b ha hb apart ea eb =
+        both_views a b (part_tree trees a) (part_tree trees b) apart (ea ∙ sym eb) (viewed a ha) (viewed b hb)
+        (λ ks ls ra rb near f g ta tb.
         let one : Tree.node h ts ≡ Tree.node f (children (map (part_tree trees) ks)) = sym ea ∙ ta in
         let two : Tree.node h ts ≡ Tree.node g (children (map (part_tree trees) ls)) = sym eb ∙ tb in
         let first : children (map (part_tree trees) ks) ≡ ts = cc in
         let second : children (map (part_tree trees) ls) ≡ ts = cc in
-        same_parts ts ks ls ra rb first second)
+        same_parts ts ks ls ra rb near first second)
 
-    same_parts : (xs : Trees) (ks ls : List ℕ) → AllByRecursion InRange ks → AllByRecursion InRange ls → children (map (part_tree trees) ks) ≡ xs → children (map (part_tree trees) ls) ≡ xs → ks ≡ ls
-    same_parts xs [] [] ra rb ea eb = refl
-    same_parts Trees.no_children (k ∷ ks) ls ra rb ea eb = absurd cc
-    same_parts Trees.no_children [] (l ∷ ls) ra rb ea eb = absurd cc
-    same_parts (Trees.child x xs) [] (l ∷ ls) ra rb ea eb = absurd cc
-    same_parts (Trees.child x xs) (k ∷ ks) [] ra rb ea eb = absurd cc
-    same_parts (Trees.child x xs) (k ∷ ks) (l ∷ ls) ra rb ea eb =
+    same_parts : (xs : Trees) (ks ls : List ℕ) → AllByRecursion InRange ks → AllByRecursion InRange ls → ((k l : ℕ) → Contains ks k → Contains ls l → AreApart place ss k l)
+        → children (map (part_tree trees) ks) ≡ xs → children (map (part_tree trees) ls) ≡ xs → ks ≡ ls
+    same_parts xs [] [] ra rb near ea eb = refl
+    same_parts Trees.no_children (k ∷ ks) ls ra rb near ea eb = absurd cc
+    same_parts Trees.no_children [] (l ∷ ls) ra rb near ea eb = absurd cc
+    same_parts (Trees.child x xs) [] (l ∷ ls) ra rb near ea eb = absurd cc
+    same_parts (Trees.child x xs) (k ∷ ks) [] ra rb near ea eb = absurd cc
+    same_parts (Trees.child x xs) (k ∷ ks) (l ∷ ls) ra rb near ea eb =
         let ka : part_tree trees k ≡ x = cc in
         let la : part_tree trees l ≡ x = cc in
         let kr : children (map (part_tree trees) ks) ≡ xs = cc in
         let lr : children (map (part_tree trees) ls) ≡ xs = cc in
-        let heads : k ≡ l = same_part x k l ra.0 rb.0 ka la in
-        let rests : ks ≡ ls = same_parts xs ks ls ra.1 rb.1 kr lr in
+        let heads : k ≡ l = same_part x k l ra.0 rb.0 (near k l (get-contains (k ∷ ks) 0 k refl) (get-contains (l ∷ ls) 0 l refl)) ka la in
+        let rests : ks ≡ ls = same_parts xs ks ls ra.1 rb.1 (λ m n cm cn. near m n (contains-later k ks m cm) (contains-later l ls n cn)) kr lr in
         λ i. heads i ∷ rests i
 
-  -- equal trees have one number
-  pub one_number : (a b : ℕ) → InRange a → InRange b → part_tree trees a ≡ part_tree trees b → a ≡ b
-  one_number a b ha hb e = same_part (part_tree trees b) a b ha hb e refl
+  -- equal trees have one number, where no two names in them are of one place under two numbers
+  pub one_number_apart : (a b : ℕ) → InRange a → InRange b → AreApart place ss a b → part_tree trees a ≡ part_tree trees b → a ≡ b
+  one_number_apart a b ha hb apart e = same_part (part_tree trees b) a b ha hb apart e refl
+
+pub one_number : OneNumber
+one_number place apart ss table a b ha hb e = one_number_apart place ss table a b ha hb (λ p q hp hq. apart p q) e

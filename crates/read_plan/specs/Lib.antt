@@ -1,4 +1,10 @@
 pub mod Shapes
+pub mod NumberedViews
+pub mod NumberedRules
+pub mod NumberedWorlds
+pub mod NumberedMembers
+pub mod GatheredPlan
+pub mod KeptTypes
 pub mod Plan
 pub mod PlanMeaning
 pub mod PlanRules

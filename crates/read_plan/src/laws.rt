@@ -1,6 +1,27 @@
 //! Laws of what is read.
 
+ghost use Rattle.read_plan.specs.GatheredPlan.{GatheredPackageIsMeant, GatheredWorldIsMeant};
 ghost use Rattle.read_plan.specs.Gathering.{OneViewIsEnough, ViewsMeanOne};
+ghost use Rattle.read_plan.specs.KeptTypes.{KeptTypesPass};
+ghost use Rattle.read_plan.specs.NumberedMembers.{
+  ExportInNumbers,
+  ImportsInNumbers,
+  OneWorldInNumbers,
+  PackagesInNumbers,
+};
+ghost use Rattle.read_plan.specs.NumberedRules.{EachRuleInNumbers};
+ghost use Rattle.read_plan.specs.NumberedViews.{
+  EachNumberTells,
+  FirstViewsAgreeInNumbers,
+  ViewsAgreeInNumbers,
+};
+ghost use Rattle.read_plan.specs.NumberedWorlds.{
+  PathsInNumbers,
+  ReachedInNumbers,
+  SightsInNumbers,
+  UsesInNumbers,
+  WorldsInNumbers,
+};
 ghost use Rattle.read_plan.specs.PlanLaws.{
   BuiltIsValid,
   PackageIsMeant,
@@ -17,6 +38,50 @@ pub fn shapes_are_trees()
     ensures one_number { OneNumber }
 {}
 
+/// In tables in which each type stands once, two parts are the same tree exactly where they are one number, and two functions have the same
+/// type exactly where that is one number.
+pub fn numbers_tell()
+    ensures { EachNumberTells }
+{}
+
+/// Views of interfaces agree, each with each and each with the first of its path, exactly where their numbers do.
+pub fn views_agree_in_numbers()
+    ensures each { ViewsAgreeInNumbers }
+    ensures first { FirstViewsAgreeInNumbers }
+{}
+
+/// Each rule of reading on types, functions and interfaces has the same answer over numbers, where what is known of each part is true.
+pub fn rules_in_numbers()
+    ensures { EachRuleInNumbers }
+{}
+
+/// Views use the interfaces that their numbers use, imports are reached exactly where their numbers are, and no path stands twice exactly
+/// where no number does.
+pub fn uses_in_numbers()
+    ensures views { UsesInNumbers }
+    ensures reached { ReachedInNumbers }
+    ensures once { PathsInNumbers }
+{}
+
+/// What a component type shows obeys the rules on worlds exactly where its numbers do, and its instances give the views that their numbers
+/// give.
+pub fn worlds_in_numbers()
+    ensures obey { WorldsInNumbers }
+    ensures sights { SightsInNumbers }
+{}
+
+/// The component type of an interface imports and exports the views that its numbers import and export.
+pub fn interfaces_in_numbers()
+    ensures imports { ImportsInNumbers }
+    ensures export { ExportInNumbers }
+{}
+
+/// The members at the top are a package, and a world stands alone, exactly where their numbers are and do.
+pub fn packages_in_numbers()
+    ensures package_ { PackagesInNumbers }
+    ensures world { OneWorldInNumbers }
+{}
+
 /// Where the views of interfaces agree, those of one path mean one interface, so one view of each path gathers to the map of all.
 pub fn one_view_is_enough()
     ensures mean_one { ViewsMeanOne }
@@ -26,6 +91,18 @@ pub fn one_view_is_enough()
 /// Where the types of a plan are those of the shapes of a table that are kept, each part stands for the tree that it stood for.
 pub fn trees_are_kept()
     ensures { TreesAreKept }
+{}
+
+/// Types of a plan that are those of the shapes that are kept, where what was read obeys the rules, pass the tests on types alone: they
+/// refer to smaller numbers, and have the labels, the shapes, the names and the levels that they may.
+pub fn kept_types_pass()
+    ensures { KeptTypesPass }
+{}
+
+/// A plan that is gathered from views in numbers, of the members of a package or of one world, means what they mean.
+pub fn gathered_plans_are_meant()
+    ensures package_ { GatheredPackageIsMeant }
+    ensures world { GatheredWorldIsMeant }
 {}
 
 /// A `Resolve` that is built, entry by entry, from a plan that was read is valid.
