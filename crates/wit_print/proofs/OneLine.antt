@@ -1,17 +1,20 @@
 -- Labels and versions have no line end in them, and begin with no space.
-use Rattle.std.proofs.Common.{◌≡◌, refl, sym, ap, subst, ◌∙◌, inl, inr, ◌⊎◌, ℕ, ◌^◌, nat_lt, Bool, true, false, IsTrue, ◌&&◌, ◌||◌, not, ◌==◌, List, [], ◌∷◌, ◌++◌, T, eqb→eq, if◌then◌else◌, arith, zero, suc, ◌/◌, ◌%◌}
+use Rattle.std.proofs.Common.{◌≡◌, refl, sym, ap, subst, ◌∙◌, inl, inr, ◌⊎◌, ℕ, Bool, true, false, IsTrue, ◌&&◌, ◌||◌, not, ◌==◌, List, [], ◌∷◌, ◌++◌, T, eqb→eq, if◌then◌else◌, arith, zero, suc, ◌/◌, ◌%◌, Result, Ok, Err}
 use Rattle.std.proofs.lemmas.Bool.Decides.{nat_tests}
+use Rattle.std.specs.Prelude.{is_ok}
 use Rattle.std.specs.List.{list_all, slice_split, join_with_byte}
 use Rattle.std.specs.Char.{is_ascii_alphabetic}
 use Rattle.std.specs.Fmt.{decimal, digits, digits_onto, digit_glyph}
 use Rattle.std.proofs.lemmas.List.Splits.{join_with_byte-slice_split}
-use Rattle.semver.specs.declared.Version.{Version}
-use Rattle.semver.specs.Identifiers.{version_text, pre_text, build_text, marked}
+use Rattle.semver.specs.Identifiers.{marked, parts_text}
+use Rattle.semver.specs.Parse.{Parts, version_parts}
+use Rattle.semver.specs.declared.error.Error.{Error}
+use Rattle.semver.proofs.Grammar.{version_parts-sound}
 use Rattle.semver.specs.Order.{parts}
-use Rattle.semver.specs.Grammar.{is_identifier_byte, is_build_identifier, is_pre_identifier, is_pre_release, is_build}
+use Rattle.semver.specs.Grammar.{is_identifier_byte, is_build_identifier, is_pre_identifier, is_pre_release, is_build, IsValid as IsValidVersion}
 use Rattle.wit_model.proofs.Lists.{first_true, second_true}
 use Rattle.wit_model.specs.Text.{Text}
-use Rattle.wit_model.specs.Names.{is_lower_byte, is_upper_byte, is_fragment, begins_with_letter, is_label, is_version}
+use Rattle.wit_model.specs.Names.{is_lower_byte, is_upper_byte, is_fragment, begins_with_letter, is_label, is_version_text}
 use Rattle.wit_print.specs.Keyword.{escaped, is_keyword}
 use Rattle.wit_print.specs.OutputCall.{is_one_line, has_no_space_first, may_begin}
 
@@ -95,6 +98,12 @@ decimal_one_line : (n : ℕ) → is_one_line (decimal n) ≡ true
 unfolding digits
 decimal_one_line n = digits_onto_one_line 64 n [] refl
 
+-- a length behind a comma
+pub length_one_line : (n : ℕ) → IsTrue (is_one_line (44 ∷ 32 ∷ decimal n))
+length_one_line n = decimal_one_line n
+
+pub ruleset lengths = (length_one_line)
+
 -- parts between points, each of identifier bytes
 parts_one_line : (test : Text → Bool) → ((part : Text) → test part ≡ true → list_all is_identifier_byte part ≡ true) → (ps : List Text) → list_all test ps ≡ true → is_one_line (join_with_byte 46 ps) ≡ true
 parts_one_line test bytes [] h = refl
@@ -119,29 +128,31 @@ marked_build : (text : Text) → is_build text ≡ true → is_one_line (marked 
 marked_build [] h = refl
 marked_build (b ∷ bs) h = points_one_line is_build_identifier build_bytes (b ∷ bs) h
 
-last_two : (a b c d e : Bool) → (a && (b && (c && (d && e)))) ≡ true → (d ≡ true) × (e ≡ true)
-last_two a b c d e h =
-    let last = second_true c (d && e) (second_true b (c && (d && e)) (second_true a (b && (c && (d && e))) h)) in
-    (first_true d e last, second_true d e last)
+-- the text of a version, of which `version_parts` reads these parts
+parts_text_one_line : (p : Parts) → IsValidVersion p → is_one_line (parts_text p) ≡ true
+parts_text_one_line p h =
+    one_line_append (decimal p.0) _ (decimal_one_line p.0)
+    (one_line_append (decimal p.1) _ (decimal_one_line p.1)
+    (one_line_append (decimal p.2) _ (decimal_one_line p.2)
+    (one_line_append (marked 45 p.3) (marked 43 p.4) (marked_pre p.3 h.3) (marked_build p.4 h.4))))
 
-version_one_line : (v : Version) → is_version v ≡ true → IsTrue (is_one_line (64 ∷ version_text v))
-version_one_line v h =
-    let texts = last_two (nat_lt v.major (2 ^ 64)) (nat_lt v.minor (2 ^ 64)) (nat_lt v.patch (2 ^ 64)) (is_pre_release (pre_text v.pre)) (is_build (build_text v.build)) h in
-    one_line_append (decimal v.major) _ (decimal_one_line v.major)
-    (one_line_append (decimal v.minor) _ (decimal_one_line v.minor)
-    (one_line_append (decimal v.patch) _ (decimal_one_line v.patch)
-    (one_line_append (marked 45 (pre_text v.pre)) (marked 43 (build_text v.build)) (marked_pre (pre_text v.pre) texts.0) (marked_build (build_text v.build) texts.1))))
+version_one_line : (text : Text) → is_version_text text ≡ true → is_one_line text ≡ true
+version_one_line text h = go (version_parts text) refl h
+  where
+    go : (r : Result Parts Error) → version_parts text ≡ r → is_ok r ≡ true → is_one_line text ≡ true
+    go (Ok p) e k = let sound = version_parts-sound text p e in subst (λ t. is_one_line t ≡ true) sound.0 (parts_text_one_line p sound.1)
+    go (Err e) q k = absurd cc
 
 marked_may_begin : (begun : Bool) (text : Text) → may_begin begun (64 ∷ text) ≡ true
 marked_may_begin true text = refl
 marked_may_begin false text = refl
 
 -- a version after `@` may stand anywhere
-pub version_may_stand : (begun : Bool) (v : Version) (text : Text) → text ≡ 64 ∷ version_text v → is_version v ≡ true → IsTrue (is_one_line text && may_begin begun text)
-version_may_stand begun v text e h =
-    subst (λ t. (is_one_line t && may_begin begun t) ≡ true) (sym e) (both_true _ _ (version_one_line v h) (marked_may_begin begun (version_text v)))
+pub version_may_stand : (begun : Bool) (version text : Text) → text ≡ 64 ∷ version → is_version_text version ≡ true → IsTrue (is_one_line text && may_begin begun text)
+version_may_stand begun version text e h =
+    subst (λ t. (is_one_line t && may_begin begun t) ≡ true) (sym e) (both_true _ _ (version_one_line version h) (marked_may_begin begun version))
 
 -- and behind other text without it
-pub plain_version_may_stand : (begun : Bool) (v : Version) (text : Text) → text ≡ version_text v → begun ≡ false → is_version v ≡ true → IsTrue (is_one_line text && may_begin begun text)
-plain_version_may_stand begun v text e b h =
-    subst (λ x. (is_one_line text && may_begin x text) ≡ true) (sym b) (subst (λ t. (is_one_line t && true) ≡ true) (sym e) (both_true _ _ (version_one_line v h) refl))
+pub plain_version_may_stand : (begun : Bool) (version text : Text) → text ≡ version → begun ≡ false → is_version_text version ≡ true → IsTrue (is_one_line text && may_begin begun text)
+plain_version_may_stand begun version text e b h =
+    subst (λ x. (is_one_line text && may_begin x text) ≡ true) (sym b) (subst (λ t. (is_one_line t && true) ≡ true) (sym e) (both_true _ _ (version_one_line version h) refl))

@@ -1,5 +1,5 @@
 -- Runs of calls, one for each element of a list.
-use Rattle.std.proofs.Common.{◌≡◌, sym, ap, subst, ◌∙◌, ◌<◌, ◌+◌, ℕ, Bool, true, List, [], ◌∷◌, ◌++◌, length, take, get_or, add-one, append-nil, append_assoc, map}
+use Rattle.std.proofs.Common.{◌≡◌, refl, sym, ap, subst, ◌∙◌, ◌<◌, ◌+◌, ℕ, Bool, true, List, [], ◌∷◌, ◌++◌, length, take, get_or, add-one, append-nil, append_assoc, map}
 use Rattle.std.specs.List.{flat_map, list_all}
 use Rattle.std.proofs.Math.Seq.{take-suc}
 use Rattle.std.proofs.lemmas.Grind.{flat_map-append}
@@ -55,3 +55,23 @@ pub separated_first : {X Tree : Type 0} (separator : OutputCall) (show : X → T
 separated_first separator show calls x xs =
     ap (λ rest. calls (show x) ++ rest)
     (sym (flat_map-map (λ next. separator ∷ next) calls (map show xs) ∙ flat_map-map (λ tree. separator ∷ calls tree) show xs))
+
+-- ---- calls before calls
+
+-- what is kept, and calls that are left, are calls and then these
+pub record Left {Call : Type 0} (kept before rest all : List Call) : Type 0 where
+  pub is : kept ++ rest ≡ before ++ all
+
+pub at_start : {Call : Type 0} (kept all : List Call) → Left kept kept all all
+at_start kept all = record { is = refl }
+
+-- some of the calls that were left are drafted
+pub step : {Call : Type 0} {kept before all : List Call} {begun : Bool} {view : View (List Call)} (run rest : List Call)
+    → Left kept before (run ++ rest) all → view ≡ record { line_begun = begun; kept = kept ++ run } → Left view.kept before rest all
+step {kept = kept} run rest l e = record { is = ap (λ x. x.kept ++ rest) e ∙ append_assoc kept run rest ∙ l.is }
+
+-- the last of them are drafted
+pub last : {Call : Type 0} {kept before all : List Call} {begun : Bool} {view : View (List Call)} (run : List Call)
+    → Left kept before run all → view ≡ record { line_begun = begun; kept = kept ++ run } → view ≡ record { line_begun = begun; kept = before ++ all }
+last {before = before} {all = all} {begun = begun} {view = view} run l e =
+    view_is view begun (before ++ all) (ap (λ x. x.line_begun) e) (ap (λ x. x.kept) e ∙ l.is)

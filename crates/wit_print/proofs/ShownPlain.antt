@@ -19,16 +19,16 @@ use Rattle.wit_model.specs.Text.{Text, text_of}
 use Rattle.wit_model.specs.Names.{is_label}
 use Rattle.wit_model.specs.Lookup.{package_at, world_at, interface_at}
 use Rattle.wit_model.specs.Rules.{has_items, is_id, package_number}
-use Rattle.wit_model.specs.Plain.{is_unknown}
 use Rattle.wit_model.proofs.Lists.{first_true, second_true}
 use Rattle.wit_print.specs.OutputCall.{OutputCall}
 use Rattle.wit_print.specs.Tree.{ItemTree, WorldMember}
 use Rattle.wit_print.specs.Printable.{is_printable_entry, is_printable_world, IsPrintableWorld, entry_calls, line_between, world_body_calls, world_calls, is_printable_listed, listed_calls, plain_package_calls}
 use Rattle.wit_print.specs.Shown.{Entry, is_interface_item, is_freestanding_item, type_of_entry, shown_import, shown_export, shown_world, shown_world_in, shown_world_item, shown_interface_item, shown_docs, shown_gates, shown_head, shown_package, shown_package_of, shown_file}
 use Rattle.wit_print.specs.Keyword.{escaped}
-use Rattle.wit_print.specs.Calls.{space, world_members_calls, package_item_calls, block_calls, doc_calls, package_outer_calls, package_start_calls, package_end_calls, package_calls, file_calls}
+use Rattle.wit_print.specs.Calls.{space, world_members_calls, package_item_calls, block_calls, doc_calls, gates_calls, package_outer_calls, package_start_calls, package_end_calls, package_calls, file_calls}
 use Rattle.wit_print.specs.declared.type_kind.TypeKind.TheVariants.{WorldDeclaration}
-use Rattle.wit_print.proofs.Printables.{printable_function, no_gates}
+use Rattle.wit_print.specs.WellNamed.{is_well_gates}
+use Rattle.wit_print.proofs.Printables.{printable_freestanding}
 
 -- ---- lists whose elements are alike
 
@@ -47,23 +47,23 @@ module _ {X : Type 0} (known : X → Bool) where
 
 -- ---- what a plain world has
 
-no_interface : (k : WorldKey) (i : WorldItem) → is_printable_entry (k, i) ≡ true → is_interface_item i ≡ false
-no_interface k (item.Function f) h = refl
-no_interface k (item.Type_ id) h = refl
-no_interface (key.Name s) (item.Interface id gates docs external_id) h = absurd cc
-no_interface (key.Interface n) (item.Interface id gates docs external_id) h = absurd cc
+no_interface : (r : Resolve) (k : WorldKey) (i : WorldItem) → is_printable_entry r (k, i) ≡ true → is_interface_item i ≡ false
+no_interface r k (item.Function f) h = refl
+no_interface r k (item.Type_ id) h = refl
+no_interface r (key.Name s) (item.Interface id gates docs external_id) h = absurd cc
+no_interface r (key.Interface n) (item.Interface id gates docs external_id) h = absurd cc
 
-no_type : (k : WorldKey) (i : WorldItem) → is_printable_entry (k, i) ≡ true → type_of_entry k i ≡ None
-no_type (key.Name s) (item.Function f) h = refl
-no_type (key.Name s) (item.Interface id gates docs external_id) h = refl
-no_type (key.Name s) (item.Type_ id) h = absurd cc
-no_type (key.Interface n) i h = refl
+no_type : (r : Resolve) (k : WorldKey) (i : WorldItem) → is_printable_entry r (k, i) ≡ true → type_of_entry k i ≡ None
+no_type r (key.Name s) (item.Function f) h = refl
+no_type r (key.Name s) (item.Interface id gates docs external_id) h = refl
+no_type r (key.Name s) (item.Type_ id) h = absurd cc
+no_type r (key.Interface n) i h = refl
 
-freestanding : (k : WorldKey) (i : WorldItem) → is_printable_entry (k, i) ≡ true → is_freestanding_item i ≡ true
-freestanding (key.Name s) (item.Function f) h = (printable_function f h).freestanding
-freestanding (key.Name s) (item.Interface id gates docs external_id) h = absurd cc
-freestanding (key.Name s) (item.Type_ id) h = absurd cc
-freestanding (key.Interface n) i h = absurd cc
+freestanding : (r : Resolve) (k : WorldKey) (i : WorldItem) → is_printable_entry r (k, i) ≡ true → is_freestanding_item i ≡ true
+freestanding r (key.Name s) (item.Function f) h = printable_freestanding r f h
+freestanding r (key.Name s) (item.Interface id gates docs external_id) h = absurd cc
+freestanding r (key.Name s) (item.Type_ id) h = absurd cc
+freestanding r (key.Interface n) i h = absurd cc
 
 -- ---- the calls for what a plain world has
 
@@ -92,43 +92,41 @@ module _ (emits : Bool) (r : Resolve) (here : PackageId) where
       ∙ sym (append_assoc (entry_calls emits r here (codes "import") x) (flat_map (entry_calls emits r here (codes "import")) xs) (line_between (true && has_items ys) ++ flat_map (entry_calls emits r here (codes "export")) ys))
 
 -- a plain world is shown as its imports and its exports
-plain_members : (r : Resolve) (id : WorldId) (w : World) (here : PackageId) → list_all is_printable_entry w.imports.entries ≡ true → shown_world_in r id w here ≡ map (shown_import r here) w.imports.entries ++ map (shown_export r here) w.exports.entries
+plain_members : (r : Resolve) (id : WorldId) (w : World) (here : PackageId) → list_all (is_printable_entry r) w.imports.entries ≡ true → shown_world_in r id w here ≡ map (shown_import r here) w.imports.entries ++ map (shown_export r here) w.exports.entries
 plain_members r id w here h =
     rw (
-      filter_none is_printable_entry (λ e. is_interface_item e.1) (λ e k. no_interface e.0 e.1 k) w.imports.entries h,
-      filter_map_none is_printable_entry (λ e. type_of_entry e.0 e.1) (λ e k. no_type e.0 e.1 k) w.imports.entries h,
-      filter_all is_printable_entry (λ e. is_freestanding_item e.1) (λ e k. freestanding e.0 e.1 k) w.imports.entries h,
+      filter_none (is_printable_entry r) (λ e. is_interface_item e.1) (λ e k. no_interface r e.0 e.1 k) w.imports.entries h,
+      filter_map_none (is_printable_entry r) (λ e. type_of_entry e.0 e.1) (λ e k. no_type r e.0 e.1 k) w.imports.entries h,
+      filter_all (is_printable_entry r) (λ e. is_freestanding_item e.1) (λ e k. freestanding r e.0 e.1 k) w.imports.entries h,
     )
 
 in_package : (n : PackageId) (o : Option PackageId) → is_id n.0 (package_number o) ≡ true → o ≡ Some n
 in_package n None h = absurd cc
 in_package n (Some m) h = let same : m.0 ≡ n.0 = eqb→eq m.0 n.0 (subst T (sym h) tt) in ap (λ (k : ℕ). let id : PackageId = record { 0 = k } in Some id) same
 
-pub printable_world : (here : PackageId) (w : World) → is_printable_world here w ≡ true → IsPrintableWorld here w
-printable_world here w h =
-    let placed = second_true (is_unknown w.stability) _ h in
+pub printable_world : (r : Resolve) (here : PackageId) (w : World) → is_printable_world r here w ≡ true → IsPrintableWorld r here w
+printable_world r here w h =
+    let placed = second_true (is_well_gates (shown_gates w.stability)) _ h in
     let items = second_true (is_id here.0 (package_number w.«package»)) _ placed in
     record {
-      stability = first_true _ _ h;
+      gates = first_true _ _ h;
       package_ = in_package here w.«package» (first_true _ _ placed);
       imports = first_true _ _ items;
-      exports = second_true (list_all is_printable_entry w.imports.entries) _ items;
+      exports = second_true (list_all (is_printable_entry r) w.imports.entries) _ items;
     }
 
 -- the calls for a plain world
-pub shown_calls : (emits : Bool) (r : Resolve) (here : PackageId) (name : Text) (id : WorldId) (w : World) → IsPrintableWorld here w
+pub shown_calls : (emits : Bool) (r : Resolve) (here : PackageId) (name : Text) (id : WorldId) (w : World) → IsPrintableWorld r here w
     → package_item_calls emits false (ItemTree.WorldItem (shown_docs w.docs) (shown_gates w.stability) name (shown_world r id w)) ≡ world_calls emits r here name w
 shown_calls emits r here name id w h =
     let members : shown_world r id w ≡ map (shown_import r here) w.imports.entries ++ map (shown_export r here) w.exports.entries = rw h.package_ (plain_members r id w here h.imports) in
     let inner : world_members_calls emits false false (shown_world r id w) ≡ world_body_calls emits r here w = ap (world_members_calls emits false false) members ∙ body_calls_of emits r here w.imports.entries w.exports.entries in
-    let docs = doc_calls emits (shown_docs w.docs) in
-    ap (λ calls. (docs ++ calls) ++ block_calls (codes "world") name WorldDeclaration (world_members_calls emits false false (shown_world r id w))) (no_gates w.stability h.stability)
-    ∙ ap (λ calls. calls ++ block_calls (codes "world") name WorldDeclaration (world_members_calls emits false false (shown_world r id w))) (append-nil docs)
-    ∙ ap (λ calls. docs ++ block_calls (codes "world") name WorldDeclaration calls) inner
-    ∙ sym (append_assoc docs (OutputCall.Keyword (codes "world") ∷ space ∷ OutputCall.Ty (escaped name) WorldDeclaration ∷ OutputCall.IndentStart ∷ []) (world_body_calls emits r here w ++ (OutputCall.IndentEnd ∷ [])))
+    let front : List OutputCall = doc_calls emits (shown_docs w.docs) ++ gates_calls (shown_gates w.stability) in
+    ap (λ calls. front ++ block_calls (codes "world") name WorldDeclaration calls) inner
+    ∙ sym (append_assoc front (OutputCall.Keyword (codes "world") ∷ space ∷ OutputCall.Ty (escaped name) WorldDeclaration ∷ OutputCall.IndentStart ∷ []) (world_body_calls emits r here w ++ (OutputCall.IndentEnd ∷ [])))
 
 -- the calls for a world of a package, where it stands in its list
-pub calls_listed : (emits : Bool) (r : Resolve) (here : PackageId) (entry : String Global × WorldId) (w : World) → world_at r entry.1.0 ≡ Some w → IsPrintableWorld here w → world_calls emits r here (text_of entry.0) w ≡ listed_calls emits r entry
+pub calls_listed : (emits : Bool) (r : Resolve) (here : PackageId) (entry : String Global × WorldId) (w : World) → world_at r entry.1.0 ≡ Some w → IsPrintableWorld r here w → world_calls emits r here (text_of entry.0) w ≡ listed_calls emits r entry
 calls_listed emits r here entry w e h = rw e (sym (shown_calls emits r here (text_of entry.0) entry.1 w h))
 
 -- ---- packages
@@ -157,12 +155,12 @@ items_shown emits main r interfaces worlds e =
     ap (λ items. flat_map (package_item_calls emits main) (items ++ filter_map (shown_world_item r) worlds)) (none_shown r e interfaces) ∙ worlds_shown emits main r worlds
 
 -- a world of a list that can be printed is there
-pub listed_world : (r : Resolve) (here : PackageId) (entry : String Global × WorldId) → is_printable_listed r here entry ≡ true → (w : World) × (world_at r entry.1.0 ≡ Some w) × IsPrintableWorld here w
+pub listed_world : (r : Resolve) (here : PackageId) (entry : String Global × WorldId) → is_printable_listed r here entry ≡ true → (w : World) × (world_at r entry.1.0 ≡ Some w) × IsPrintableWorld r here w
 listed_world r here entry h = go (world_at r entry.1.0) refl (second_true (is_label (text_of entry.0)) _ h)
   where
-    go : (o : Option World) → world_at r entry.1.0 ≡ o → option_map_or (is_printable_world here) o false ≡ true → (w : World) × (world_at r entry.1.0 ≡ Some w) × IsPrintableWorld here w
+    go : (o : Option World) → world_at r entry.1.0 ≡ o → option_map_or (is_printable_world r here) o false ≡ true → (w : World) × (world_at r entry.1.0 ≡ Some w) × IsPrintableWorld r here w
     go None e k = absurd cc
-    go (Some w) e k = (w, e, printable_world here w k)
+    go (Some w) e k = (w, e, printable_world r here w k)
 
 -- what is read at a number is what stands there
 read_is : {X : Type 0} (xs : List X) (n : ℕ) (d x : X) → slice_get xs n ≡ Some x → get_or xs n d ≡ x
@@ -171,11 +169,11 @@ read_is (y ∷ ys) zero d x e = cc
 read_is (y ∷ ys) (suc n) d x e = read_is ys n d x e
 
 -- the world that was read is that of the entry, and can be printed
-pub listed_at : (r : Resolve) (here : PackageId) (entry : String Global × WorldId) (w : World) → w ≡ get_or r.worlds.items entry.1.0 w → is_printable_listed r here entry ≡ true → (world_at r entry.1.0 ≡ Some w) × IsPrintableWorld here w
+pub listed_at : (r : Resolve) (here : PackageId) (entry : String Global × WorldId) (w : World) → w ≡ get_or r.worlds.items entry.1.0 w → is_printable_listed r here entry ≡ true → (world_at r entry.1.0 ≡ Some w) × IsPrintableWorld r here w
 listed_at r here entry w e h =
     let found = listed_world r here entry h in
     let same : found.0 ≡ w = sym (e ∙ read_is r.worlds.items entry.1.0 w found.0 found.1) in
-    (found.1 ∙ ap Some same, subst (IsPrintableWorld here) same found.2)
+    (found.1 ∙ ap Some same, subst (IsPrintableWorld r here) same found.2)
 
 pub calls_at : (emits : Bool) (r : Resolve) (here : PackageId) (entry : String Global × WorldId) (w : World) (name : Text) → name ≡ text_of entry.0 → w ≡ get_or r.worlds.items entry.1.0 w → is_printable_listed r here entry ≡ true
     → world_calls emits r here name w ≡ listed_calls emits r entry

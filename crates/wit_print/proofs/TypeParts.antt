@@ -4,8 +4,8 @@ use Rattle.std.specs.Prelude.{option_map, option_to_list, String}
 use Rattle.std.specs.Option.{option_map_or}
 use Rattle.std.specs.List.{list_all}
 use Rattle.std.specs.declared.alloc.Global.{Global}
-use Rattle.std.proofs.lemmas.Bool.{ltb-true, lt-ltb}
-use Rattle.std.proofs.lemmas.Option.{same_Some, slice_get_within}
+use Rattle.std.proofs.lemmas.Bool.{ltb-true, ltb-false, lt-ltb}
+use Rattle.std.proofs.lemmas.Option.{same_Some, slice_get_past, slice_get_within}
 use Rattle.wit_model.specs.declared.model.Resolve.{Resolve}
 use Rattle.wit_model.specs.declared.model.TypeDef.{TypeDef}
 use Rattle.wit_model.specs.declared.model.TypeDefKind.{TypeDefKind}
@@ -36,7 +36,8 @@ use Rattle.wit_print.specs.TypeParts.{kind_start, kind_end, result_start, result
 use Rattle.wit_print.proofs.ByteTests.{both, left_of, right_of}
 use Rattle.wit_print.proofs.ByPlace.{all_get}
 use Rattle.wit_print.proofs.Runs.{view_is}
-use Rattle.wit_print.proofs.TypesWell.{is_below, below_of_numbers, IsShownType, type_is_shown}
+use Rattle.wit_print.specs.WellNamed.{is_well_type}
+use Rattle.wit_print.proofs.TypesWell.{is_below, below_of_numbers, IsShownType, type_is_shown, trees_count}
 
 -- ---- the trees of the type numbers
 
@@ -377,3 +378,32 @@ types_past trees ts n h = ap (types_from trees n) (drop_past ts n h)
     drop_past [] (suc m) l = refl
     drop_past (x ∷ xs) zero l = absurd (omega arith)
     drop_past (x ∷ xs) (suc m) l = drop_past xs m (omega arith)
+
+-- ---- types that are shown well
+
+-- a type whose tree is well named is in range
+pub well_in_range : (r : Resolve) (t : ValueType) → is_well_type (shown_type r t) ≡ true → passes (in_list r.types.items) (number_of t) ≡ true
+well_in_range r (value.Id id) h = go (nat_lt id.0 (length r.types.items)) refl
+  where
+    count : length (type_trees r) ≡ length r.types.items
+    count = omega (arith, trees_count r [] r.types.items)
+
+    go : (b : Bool) → nat_lt id.0 (length r.types.items) ≡ b → nat_lt id.0 (length r.types.items) ≡ true
+    go true e = e
+    go false e =
+        let past : length (type_trees r) ≤ id.0 = (let l : length r.types.items ≤ id.0 = ltb-false id.0 (length r.types.items) e in omega (arith, count)) in
+        let wrong : is_well_type (Name []) ≡ true = subst (λ o. is_well_type (unwrap_or o (Name [])) ≡ true) (slice_get_past (type_trees r) id.0 past) h in absurd cc
+well_in_range r value.Bool h = refl
+well_in_range r value.U8 h = refl
+well_in_range r value.U16 h = refl
+well_in_range r value.U32 h = refl
+well_in_range r value.U64 h = refl
+well_in_range r value.S8 h = refl
+well_in_range r value.S16 h = refl
+well_in_range r value.S32 h = refl
+well_in_range r value.S64 h = refl
+well_in_range r value.F32 h = refl
+well_in_range r value.F64 h = refl
+well_in_range r value.Char h = refl
+well_in_range r value.String h = refl
+well_in_range r value.ErrorContext h = refl

@@ -145,7 +145,7 @@ trees_well r trees (def ∷ defs) well each =
     (λ k d e. let next : length trees + suc k ≡ length (trees ++ def_tree r trees def ∷ []) + k = omega (arith, length-append trees (def_tree r trees def ∷ [])) in subst (λ n. IsShownType r n d) next (each (suc k) d e))
 
 -- as many trees as type numbers
-trees_count : (r : Resolve) (trees : List TypeTree) (defs : List TypeDef) → length (trees_from r trees defs) ≡ length trees + length defs
+pub trees_count : (r : Resolve) (trees : List TypeTree) (defs : List TypeDef) → length (trees_from r trees defs) ≡ length trees + length defs
 trees_count r trees [] = omega arith
 trees_count r trees (def ∷ defs) = omega (arith, trees_count r (trees ++ def_tree r trees def ∷ []) defs, length-append trees (def_tree r trees def ∷ []))
 

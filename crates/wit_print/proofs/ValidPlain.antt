@@ -1,4 +1,4 @@
--- What validity says of a plain `Resolve`: its worlds can be printed.
+-- What validity says of a `Resolve` without types and interfaces: its worlds can be printed.
 use Rattle.std.proofs.Common.{◌≡◌, refl, sym, subst, ◌∙◌, ℕ, zero, suc, ◌<◌, ◌+◌, Bool, true, false, ◌&&◌, ◌||◌, not, List, [], ◌∷◌, ◌++◌, length, Option, Some, None, map, filter_map, slice_get, option_to_list, arith}
 use Rattle.std.specs.Prelude.{String, is_none}
 use Rattle.std.specs.List.{list_all, cons_option}
@@ -22,17 +22,20 @@ use Rattle.wit_model.specs.declared.model.Param.{Param}
 use Rattle.wit_model.specs.declared.model.«Type».{«Type» as ValueType}
 use Rattle.wit_model.specs.declared.model.«Type».TheVariants as value
 use Rattle.wit_model.specs.Text.{text_of, text_eq}
-use Rattle.wit_model.specs.Names.{is_label, is_version}
-use Rattle.wit_model.specs.Lookup.{package_at, world_at, resource_of}
+use Rattle.wit_model.specs.Names.{is_label, is_version, is_version_text}
+use Rattle.wit_model.specs.Lookup.{package_at, world_at, resource_of, optional_version_text}
 use Rattle.wit_model.specs.Uses.{items_of}
 use Rattle.wit_model.specs.Types.{number_of}
 use Rattle.wit_model.specs.Parts.{function_numbers, function_types}
 use Rattle.wit_model.specs.Rules.{in_list, passes, is_freestanding, function_in_range, key_in_range, item_in_range, entries_in_range, function_labels, are_member_labels, are_distinct, key_label, item_labels, entries_labels, is_stability, interface_belongs, world_belongs, is_id, package_number}
-use Rattle.wit_model.specs.Plain.{IsPlain, is_undocumented, is_unknown, is_plain_function, is_plain_item, is_plain_world}
 use Rattle.wit_model.specs.Valid.{IsValid, numbers_in_range, package_names, places, labels, is_place}
 use Rattle.wit_model.proofs.Lists.{first_true, second_true}
 use Rattle.wit_model.proofs.Entries.{each_from_at, lists_pass}
-use Rattle.wit_print.specs.Printable.{is_primitive, is_printable_param, is_printable_function, is_printable_entry, is_printable_world, is_printable_listed}
+use Rattle.wit_print.specs.Printable.{is_printable_function, is_printable_entry, is_printable_world, is_printable_listed}
+use Rattle.wit_print.specs.WellNamed.{is_well_optional}
+use Rattle.wit_print.proofs.WellLists.{implied}
+use Rattle.wit_print.proofs.ShownWell.{gates_well, optional_version}
+use Rattle.wit_print.proofs.FunctionsWell.{signature_well, function_prefix_well}
 
 both_true : (a b : Bool) → a ≡ true → b ≡ true → (a && b) ≡ true
 both_true a b p q = rw p q
@@ -74,59 +77,27 @@ none_of (Some x) e = absurd cc
 
 -- ---- functions
 
-primitive_or : (t : ValueType) (ns : List ℕ) → cons_option (number_of t) ns ≡ [] → (is_primitive t ≡ true) × (ns ≡ [])
-primitive_or (value.Id id) ns e = absurd cc
-primitive_or _ ns e = (refl, e)
-
-primitives : (ts : List ValueType) → filter_map number_of ts ≡ [] → list_all is_primitive ts ≡ true
-primitives [] e = refl
-primitives (t ∷ ts) e = let h = primitive_or t (filter_map number_of ts) e in both_true _ _ h.0 (primitives ts h.1)
-
-printable_params : (ps : List Param) → list_all is_label (map (λ p. text_of p.name) ps) ≡ true → list_all is_primitive (map (λ p. p.ty) ps) ≡ true → list_all is_printable_param ps ≡ true
-printable_params [] h k = refl
-printable_params (p ∷ ps) h k =
-    both_true (is_printable_param p) (list_all is_printable_param ps)
-    (both_true (is_label (text_of p.name)) (is_primitive p.ty) (first_true (is_label (text_of p.name)) _ h) (first_true (is_primitive p.ty) _ k))
-    (printable_params ps (second_true (is_label (text_of p.name)) _ h) (second_true (is_primitive p.ty) _ k))
-
-returned_primitive : (o : Option ValueType) → list_all is_primitive (option_to_list o) ≡ true → passes is_primitive o ≡ true
-returned_primitive None h = refl
-returned_primitive (Some t) h = first_true _ _ h
-
-named : (a b : Bool) → a ≡ true → (not a || b) ≡ true → b ≡ true
-named true b e h = h
-named false b e h = absurd cc
-
-valid_function : (r : Resolve) (f : Function) → r.types.items ≡ [] → function_in_range r f ≡ true → function_labels f ≡ true → is_plain_function f ≡ true → is_printable_function f ≡ true
-valid_function r f e range label plain =
+valid_function : (r : Resolve) (f : Function) → IsValid r → r.types.items ≡ [] → function_in_range r f ≡ true → function_labels f ≡ true → is_printable_function r f ≡ true
+valid_function r f v e range label =
     let numbers : function_numbers f ≡ [] = no_numbers r.types.items (function_numbers f) e range in
-    let typed : filter_map number_of (function_types f) ≡ [] = first_empty (filter_map number_of (function_types f)) (option_to_list (resource_of f.kind)) numbers in
     let free : is_freestanding f.kind ≡ true = none_of (resource_of f.kind) (second_empty (filter_map number_of (function_types f)) (option_to_list (resource_of f.kind)) numbers) in
-    let all : list_all is_primitive (map (λ p. p.ty) f.params.items ++ option_to_list f.result) ≡ true = primitives (function_types f) typed in
-    let split : (list_all is_primitive (map (λ p. p.ty) f.params.items) && list_all is_primitive (option_to_list f.result)) ≡ true = sym (list_all-append is_primitive (map (λ p. p.ty) f.params.items) (option_to_list f.result)) ∙ all in
-    let more = second_true (not (is_freestanding f.kind) || is_label (text_of f.name)) (are_member_labels (map (λ p. text_of p.name) f.params.items) && is_stability f.stability) label in
-    let members = first_true (are_member_labels (map (λ p. text_of p.name) f.params.items)) (is_stability f.stability) more in
-    let unknown = second_true (is_undocumented f.docs) (is_unknown f.stability && is_none f.external_id) plain in
-    both_true _ _ (named (is_freestanding f.kind) (is_label (text_of f.name)) free (first_true _ _ label))
-    (both_true _ _ free
-    (both_true _ _ (first_true _ _ unknown)
-    (both_true _ _ (second_true (is_unknown f.stability) (is_none f.external_id) unknown)
-    (both_true _ _ (printable_params f.params.items (first_true (list_all is_label (map (λ p. text_of p.name) f.params.items)) (are_distinct (map (λ p. text_of p.name) f.params.items)) members) (first_true _ _ split))
-    (returned_primitive f.result (second_true (list_all is_primitive (map (λ p. p.ty) f.params.items)) (list_all is_primitive (option_to_list f.result)) split))))))
+    both_true _ _ (implied (is_freestanding f.kind) (is_label (text_of f.name)) free (first_true _ _ label))
+    (both_true _ _ free (both_true _ _ (function_prefix_well f label) (signature_well r v f range label)))
 
 -- ---- items
 
-valid_entry : (r : Resolve) → r.types.items ≡ [] → r.interfaces.items ≡ [] → (k : WorldKey) (i : WorldItem) → (key_in_range r k && item_in_range r i) ≡ true → (key_label k i && item_labels i) ≡ true → is_plain_item i ≡ true → is_printable_entry (k, i) ≡ true
-valid_entry r types interfaces (key.Name s) (item.Function f) range label plain = valid_function r f types range (second_true (not (is_freestanding f.kind) || is_label (text_of s)) (function_labels f) label) plain
-valid_entry r types interfaces (key.Name s) (item.Interface id gates docs external_id) range label plain = absurd (none_in r.interfaces.items id.0 interfaces range)
-valid_entry r types interfaces (key.Name s) (item.Type_ id) range label plain = absurd (none_in r.types.items id.0 types range)
-valid_entry r types interfaces (key.Interface n) i range label plain = absurd (none_in r.interfaces.items n.0 interfaces (first_true (in_list r.interfaces.items n.0) (item_in_range r i) range))
+module _ (r : Resolve) (v : IsValid r) (types : r.types.items ≡ []) (interfaces : r.interfaces.items ≡ []) where
+  valid_entry : (k : WorldKey) (i : WorldItem) → (key_in_range r k && item_in_range r i) ≡ true → (key_label k i && item_labels i) ≡ true → is_printable_entry r (k, i) ≡ true
+  valid_entry (key.Name s) (item.Function f) range label = valid_function r f v types range (second_true (not (is_freestanding f.kind) || is_label (text_of s)) (function_labels f) label)
+  valid_entry (key.Name s) (item.Interface id gates docs external_id) range label = absurd (none_in r.interfaces.items id.0 interfaces range)
+  valid_entry (key.Name s) (item.Type_ id) range label = absurd (none_in r.types.items id.0 types range)
+  valid_entry (key.Interface n) i range label = absurd (none_in r.interfaces.items n.0 interfaces (first_true (in_list r.interfaces.items n.0) (item_in_range r i) range))
 
-valid_entries : (r : Resolve) → r.types.items ≡ [] → r.interfaces.items ≡ [] → (es : List (WorldKey × WorldItem)) → entries_in_range r es ≡ true → entries_labels es ≡ true → list_all is_plain_item (map (λ e. e.1) es) ≡ true → list_all is_printable_entry es ≡ true
-valid_entries r types interfaces [] range label plain = refl
-valid_entries r types interfaces (e ∷ es) range label plain =
-    both_true _ _ (valid_entry r types interfaces e.0 e.1 (first_true _ _ range) (first_true _ _ label) (first_true _ _ plain))
-    (valid_entries r types interfaces es (second_true (key_in_range r e.0 && item_in_range r e.1) _ range) (second_true (key_label e.0 e.1 && item_labels e.1) _ label) (second_true (is_plain_item e.1) _ plain))
+  valid_entries : (es : List (WorldKey × WorldItem)) → entries_in_range r es ≡ true → entries_labels es ≡ true → list_all (is_printable_entry r) es ≡ true
+  valid_entries [] range label = refl
+  valid_entries (e ∷ es) range label =
+      both_true _ _ (valid_entry e.0 e.1 (first_true _ _ range) (first_true _ _ label))
+      (valid_entries es (second_true (key_in_range r e.0 && item_in_range r e.1) _ range) (second_true (key_label e.0 e.1 && item_labels e.1) _ label))
 
 -- ---- worlds
 
@@ -137,12 +108,12 @@ last_three true false c d h = absurd cc
 last_three true true false d h = absurd cc
 last_three true true true false h = absurd cc
 
-world_labels : (r : Resolve) (n : ℕ) (w : World) → IsValid r → world_at r n ≡ Some w → (is_label (text_of w.name) ≡ true) × (entries_labels w.imports.entries ≡ true) × (entries_labels w.exports.entries ≡ true)
+world_labels : (r : Resolve) (n : ℕ) (w : World) → IsValid r → world_at r n ≡ Some w → (is_label (text_of w.name) ≡ true) × (is_stability w.stability ≡ true) × (entries_labels w.imports.entries ≡ true) × (entries_labels w.exports.entries ≡ true)
 unfolding labels
 world_labels r n w v e =
     let here = each_from_at (labels.world_ r) 0 r.worlds.items n w (lists_pass labels r v.rules.labels).2 e in
     let rest = last_three (is_label (text_of w.name)) (is_stability w.stability) (entries_labels w.imports.entries) (entries_labels w.exports.entries) here in
-    (first_true _ _ here, rest.1, rest.2)
+    (first_true _ _ here, rest.0, rest.1, rest.2)
 
 world_range : (r : Resolve) (n : ℕ) (w : World) → IsValid r → world_at r n ≡ Some w → (entries_in_range r w.imports.entries ≡ true) × (entries_in_range r w.exports.entries ≡ true)
 unfolding numbers_in_range
@@ -151,43 +122,34 @@ world_range r n w v e =
     let rest = last_three (is_place (0 + n)) (passes (in_list r.packages.items) (package_number w.«package»)) (entries_in_range r w.imports.entries) (entries_in_range r w.exports.entries) here in
     (rest.1, rest.2)
 
-plain_items : (w : World) → is_plain_world w ≡ true → (is_unknown w.stability ≡ true) × (list_all is_plain_item (map (λ e. e.1) w.imports.entries) ≡ true) × (list_all is_plain_item (map (λ e. e.1) w.exports.entries) ≡ true)
-plain_items w h =
-    let rest = second_true (is_undocumented w.docs) (is_unknown w.stability && list_all is_plain_item (items_of w)) h in
-    let items = second_true (is_unknown w.stability) (list_all is_plain_item (items_of w)) rest in
-    let split : (list_all is_plain_item (map (λ e. e.1) w.imports.entries) && list_all is_plain_item (map (λ e. e.1) w.exports.entries)) ≡ true =
-    sym (list_all-append is_plain_item (map (λ e. e.1) w.imports.entries) (map (λ e. e.1) w.exports.entries)) ∙ items in
-    (first_true _ _ rest, first_true _ _ split, second_true (list_all is_plain_item (map (λ e. e.1) w.imports.entries)) _ split)
-
-valid_world : (r : Resolve) (here : PackageId) (n : ℕ) (w : World) → IsValid r → IsPlain r → world_at r n ≡ Some w → is_id here.0 (package_number w.«package») ≡ true → is_printable_world here w ≡ true
-valid_world r here n w v plain e belongs =
+valid_world : (r : Resolve) (here : PackageId) (n : ℕ) (w : World) → IsValid r → r.types.items ≡ [] → r.interfaces.items ≡ [] → world_at r n ≡ Some w → is_id here.0 (package_number w.«package») ≡ true → is_printable_world r here w ≡ true
+valid_world r here n w v types interfaces e belongs =
     let names = world_labels r n w v e in
     let range = world_range r n w v e in
-    let items = plain_items w (at_index is_plain_world r.worlds.items n w plain.worlds e) in
-    both_true _ _ items.0
+    both_true _ _ (gates_well w.stability names.1)
     (both_true _ _ belongs
-    (both_true _ _ (valid_entries r plain.no_types plain.no_interfaces w.imports.entries range.0 names.1 items.1) (valid_entries r plain.no_types plain.no_interfaces w.exports.entries range.1 names.2 items.2)))
+    (both_true _ _ (valid_entries r v types interfaces w.imports.entries range.0 names.2) (valid_entries r v types interfaces w.exports.entries range.1 names.3)))
 
 -- ---- packages
 
 given : {X : Type 0} (test : X → Bool) (o : Option X) (x : X) → o ≡ Some x → passes test o ≡ true → test x ≡ true
 given test o x e h = subst (λ p. passes test p ≡ true) e h
 
-valid_listed : (r : Resolve) (here : PackageId) (x : String Global × WorldId) → IsValid r → IsPlain r → in_list r.worlds.items x.1.0 ≡ true → world_belongs r here.0 x ≡ true → is_printable_listed r here x ≡ true
-valid_listed r here x v plain range belongs =
+valid_listed : (r : Resolve) (here : PackageId) (x : String Global × WorldId) → IsValid r → r.types.items ≡ [] → r.interfaces.items ≡ [] → in_list r.worlds.items x.1.0 ≡ true → world_belongs r here.0 x ≡ true → is_printable_listed r here x ≡ true
+valid_listed r here x v types interfaces range belongs =
     let world = found r.worlds.items x.1.0 (ltb-true x.1.0 (length r.worlds.items) range) in
     let w = world.0 in
     let listed = given (λ w. is_id here.0 (package_number w.«package») && text_eq (text_of w.name) (text_of x.0)) (world_at r x.1.0) w world.1 belongs in
     let name : text_of w.name ≡ text_of x.0 = same_text (text_of w.name) (text_of x.0) (sym (second_true (is_id here.0 (package_number w.«package»)) (text_eq (text_of w.name) (text_of x.0)) listed)) in
-    let inside : option_map_or (is_printable_world here) (world_at r x.1.0) false ≡ true =
-    subst (λ o. option_map_or (is_printable_world here) o false ≡ true) (sym world.1) (valid_world r here x.1.0 w v plain world.1 (first_true _ _ listed)) in
+    let inside : option_map_or (is_printable_world r here) (world_at r x.1.0) false ≡ true =
+    subst (λ o. option_map_or (is_printable_world r here) o false ≡ true) (sym world.1) (valid_world r here x.1.0 w v types interfaces world.1 (first_true _ _ listed)) in
     both_true _ _ (subst (λ t. is_label t ≡ true) name (world_labels r x.1.0 w v world.1).0) inside
 
-all_listed : (r : Resolve) (here : PackageId) → IsValid r → IsPlain r → (xs : List (String Global × WorldId)) → list_all (λ x. in_list r.worlds.items x.1.0) xs ≡ true → list_all (world_belongs r here.0) xs ≡ true → list_all (is_printable_listed r here) xs ≡ true
-all_listed r here v plain [] range belongs = refl
-all_listed r here v plain (x ∷ xs) range belongs =
-    both_true _ _ (valid_listed r here x v plain (first_true _ _ range) (first_true _ _ belongs))
-    (all_listed r here v plain xs (second_true (in_list r.worlds.items x.1.0) _ range) (second_true (world_belongs r here.0 x) _ belongs))
+all_listed : (r : Resolve) (here : PackageId) → IsValid r → r.types.items ≡ [] → r.interfaces.items ≡ [] → (xs : List (String Global × WorldId)) → list_all (λ x. in_list r.worlds.items x.1.0) xs ≡ true → list_all (world_belongs r here.0) xs ≡ true → list_all (is_printable_listed r here) xs ≡ true
+all_listed r here v types interfaces [] range belongs = refl
+all_listed r here v types interfaces (x ∷ xs) range belongs =
+    both_true _ _ (valid_listed r here x v types interfaces (first_true _ _ range) (first_true _ _ belongs))
+    (all_listed r here v types interfaces xs (second_true (in_list r.worlds.items x.1.0) _ range) (second_true (world_belongs r here.0 x) _ belongs))
 
 package_range : (r : Resolve) (n : ℕ) (p : Package) → IsValid r → package_at r n ≡ Some p → list_all (λ x. in_list r.worlds.items x.1.0) p.worlds.entries ≡ true
 unfolding numbers_in_range
@@ -205,14 +167,14 @@ package_worlds r n p v e =
     first_true _ _ (second_true (list_all (interface_belongs r n) p.interfaces.entries) _ kept)
 
 -- the worlds of a package can be printed
-pub valid_worlds : (r : Resolve) (here : PackageId) (p : Package) → IsValid r → IsPlain r → package_at r here.0 ≡ Some p → list_all (is_printable_listed r here) p.worlds.entries ≡ true
-valid_worlds r here p v plain e = all_listed r here v plain p.worlds.entries (package_range r here.0 p v e) (package_worlds r here.0 p v e)
+pub valid_worlds : (r : Resolve) (here : PackageId) (p : Package) → IsValid r → r.types.items ≡ [] → r.interfaces.items ≡ [] → package_at r here.0 ≡ Some p → list_all (is_printable_listed r here) p.worlds.entries ≡ true
+valid_worlds r here p v types interfaces e = all_listed r here v types interfaces p.worlds.entries (package_range r here.0 p v e) (package_worlds r here.0 p v e)
 
 -- a package's name is one
-pub valid_name : (r : Resolve) (n : ℕ) (p : Package) → IsValid r → package_at r n ≡ Some p → (is_label (text_of p.name.namespace) ≡ true) × (is_label (text_of p.name.name) ≡ true) × (passes is_version p.name.version ≡ true)
+pub valid_name : (r : Resolve) (n : ℕ) (p : Package) → IsValid r → package_at r n ≡ Some p → (is_label (text_of p.name.namespace) ≡ true) × (is_label (text_of p.name.name) ≡ true) × (is_well_optional is_version_text (optional_version_text p.name.version) ≡ true)
 unfolding package_names
 valid_name r n p v e =
     let here = each_from_at (package_names.package_ r) 0 r.packages.items n p (lists_pass package_names r v.rules.package_names).0 e in
     let own = first_true (is_label (text_of p.name.namespace) && (is_label (text_of p.name.name) && passes is_version p.name.version)) _ here in
     let rest = second_true (is_label (text_of p.name.namespace)) (is_label (text_of p.name.name) && passes is_version p.name.version) own in
-    (first_true _ _ own, first_true _ _ rest, second_true (is_label (text_of p.name.name)) (passes is_version p.name.version) rest)
+    (first_true _ _ own, first_true _ _ rest, optional_version p.name.version (second_true (is_label (text_of p.name.name)) (passes is_version p.name.version) rest))

@@ -11,11 +11,13 @@ piece_call (piece.Keyword text) = OutputCall.Keyword text.now
 piece_call (piece.Str text) = OutputCall.Str (cow_str_bytes text)
 piece_call (piece.Ty text kind) = OutputCall.Ty (cow_str_bytes text) kind
 piece_call (piece.Param text) = OutputCall.Param (cow_str_bytes text)
+piece_call (piece.Case text) = OutputCall.Case (cow_str_bytes text)
 piece_call (piece.PushStr text) = OutputCall.PushStr (cow_str_bytes text)
 piece_call (piece.Doc line) = OutputCall.Doc line.now
 piece_call piece.GenericArgsStart = OutputCall.GenericArgsStart
 piece_call piece.GenericArgsEnd = OutputCall.GenericArgsEnd
 piece_call piece.IndentStart = OutputCall.IndentStart
+piece_call piece.IndentEnd = OutputCall.IndentEnd
 piece_call piece.Newline = OutputCall.Newline
 piece_call piece.Semicolon = OutputCall.Semicolon
 

@@ -13,6 +13,7 @@ pub mod WellNamed
 pub mod Documentation
 pub mod TypeParts
 pub mod Heads
+pub mod ItemCalls
 pub mod Drafted
 pub mod Printable
 pub mod Printer

@@ -1,5 +1,5 @@
--- What a package has to be to be printed: its names are labels and its versions versions. Plain worlds, so far.
-use Rattle.std.specs.Prelude.{◌≡◌, ◌++◌, ◌∷◌, [], List, codes, Bool, true, false, ◌&&◌, Some, is_none, String}
+-- What a package has to be to be printed: its names are labels and its versions versions. Worlds of functions, so far.
+use Rattle.std.specs.Prelude.{◌≡◌, ◌++◌, ◌∷◌, [], List, codes, Bool, true, false, ◌&&◌, Some, String}
 use Rattle.std.specs.List.{list_all, flat_map}
 use Rattle.std.specs.Option.{option_map_or}
 use Rattle.std.specs.declared.alloc.Global.{Global}
@@ -13,50 +13,39 @@ use Rattle.wit_model.specs.declared.model.WorldKey.TheVariants as key
 use Rattle.wit_model.specs.declared.model.WorldItem.{WorldItem}
 use Rattle.wit_model.specs.declared.model.WorldItem.TheVariants as item
 use Rattle.wit_model.specs.declared.model.Function.{Function}
-use Rattle.wit_model.specs.declared.model.Param.{Param}
 use Rattle.wit_model.specs.declared.model.«Type».{«Type» as ValueType}
 use Rattle.wit_model.specs.declared.model.«Type».TheVariants as value
 use Rattle.wit_model.specs.Text.{Text, text_of}
 use Rattle.wit_model.specs.Names.{is_label}
 use Rattle.wit_model.specs.Lookup.{world_at}
-use Rattle.wit_model.specs.Rules.{passes, is_freestanding, has_items, is_id, package_number}
-use Rattle.wit_model.specs.Plain.{is_unknown}
+use Rattle.wit_model.specs.Rules.{is_freestanding, has_items, is_id, package_number}
 use Rattle.wit_print.specs.declared.type_kind.TypeKind.TheVariants.{WorldDeclaration}
 use Rattle.wit_print.specs.OutputCall.{OutputCall}
 use Rattle.wit_print.specs.OutputCall.OutputCall.{IndentStart, IndentEnd, Keyword, Newline, Ty}
 use Rattle.wit_print.specs.Keyword.{escaped}
-use Rattle.wit_print.specs.Shown.{extern_prefix, shown_docs, shown_head, shown_extern, shown_world_item}
-use Rattle.wit_print.specs.Calls.{space, doc_calls, world_extern_calls, package_item_calls, package_outer_calls, package_start_calls, package_end_calls}
+use Rattle.wit_print.specs.Shown.{extern_prefix, function_prefix, shown_docs, shown_gates, shown_head, shown_extern, shown_signature, shown_world_item}
+use Rattle.wit_print.specs.WellNamed.{is_well_gates, is_well_prefix, is_well_signature}
+use Rattle.wit_print.specs.Calls.{space, doc_calls, gates_calls, world_extern_calls, package_item_calls, package_outer_calls, package_start_calls, package_end_calls}
 
 abbrev pub is_primitive : ValueType → Bool
 is_primitive (value.Id id) = false
 is_primitive ty = true
 
-abbrev pub is_printable_param : Param → Bool
-is_printable_param param = is_label (text_of param.name) && is_primitive param.ty
-
-abbrev pub is_printable_function : Function → Bool
-is_printable_function f =
-    is_label (text_of f.name)
-    && (is_freestanding f.kind
-    && (is_unknown f.stability
-    && (is_none f.external_id
-    && (list_all is_printable_param f.params.items && passes is_primitive f.result))))
+abbrev pub is_printable_function : Resolve → Function → Bool
+is_printable_function r f =
+    is_label (text_of f.name) && (is_freestanding f.kind && (is_well_prefix (function_prefix f) && is_well_signature (shown_signature r f)))
 
 -- what is known of such a function
-pub record IsPrintableFunction (f : Function) : Type 0 where
+pub record IsPrintableFunction (r : Resolve) (f : Function) : Type 0 where
   pub name : is_label (text_of f.name) ≡ true
-  pub freestanding : is_freestanding f.kind ≡ true
-  pub stability : is_unknown f.stability ≡ true
-  pub external_id : is_none f.external_id ≡ true
-  pub params : list_all is_printable_param f.params.items ≡ true
-  pub returned : passes is_primitive f.result ≡ true
+  pub prefix : is_well_prefix (function_prefix f) ≡ true
+  pub signature : is_well_signature (shown_signature r f) ≡ true
 
-abbrev pub is_printable_entry : WorldKey × WorldItem → Bool
-is_printable_entry entry = by entry.0 entry.1
+abbrev pub is_printable_entry : Resolve → WorldKey × WorldItem → Bool
+is_printable_entry r entry = by entry.0 entry.1
   where
     by : WorldKey → WorldItem → Bool
-    by (key.Name name) (item.Function f) = is_printable_function f
+    by (key.Name name) (item.Function f) = is_printable_function r f
     by k other = false
 
 -- the calls for an import or an export
@@ -74,31 +63,32 @@ world_body_calls emits_docs r here w =
     flat_map (entry_calls emits_docs r here (codes "import")) w.imports.entries
     ++ (line_between (has_items w.imports.entries && has_items w.exports.entries) ++ flat_map (entry_calls emits_docs r here (codes "export")) w.exports.entries)
 
--- the calls for a world's documentation and name, and the start of its block
+-- the calls for a world's documentation, gates and name, and the start of its block
 abbrev pub world_start_calls : Bool → Text → World → List OutputCall
-world_start_calls emits_docs name w = doc_calls emits_docs (shown_docs w.docs) ++ (Keyword (codes "world") ∷ space ∷ Ty (escaped name) WorldDeclaration ∷ IndentStart ∷ [])
+world_start_calls emits_docs name w =
+    doc_calls emits_docs (shown_docs w.docs) ++ gates_calls (shown_gates w.stability) ++ (Keyword (codes "world") ∷ space ∷ Ty (escaped name) WorldDeclaration ∷ IndentStart ∷ [])
 
 -- the calls for such a world under a name
 abbrev pub world_calls : Bool → Resolve → PackageId → Text → World → List OutputCall
 world_calls emits_docs r here name w = world_start_calls emits_docs name w ++ (world_body_calls emits_docs r here w ++ (IndentEnd ∷ []))
 
 -- a world of the package `here`
-abbrev pub is_printable_world : PackageId → World → Bool
-is_printable_world here w =
-    is_unknown w.stability
+abbrev pub is_printable_world : Resolve → PackageId → World → Bool
+is_printable_world r here w =
+    is_well_gates (shown_gates w.stability)
     && (is_id here.0 (package_number w.«package»)
-    && (list_all is_printable_entry w.imports.entries && list_all is_printable_entry w.exports.entries))
+    && (list_all (is_printable_entry r) w.imports.entries && list_all (is_printable_entry r) w.exports.entries))
 
 -- what is known of such a world
-pub record IsPrintableWorld (here : PackageId) (w : World) : Type 0 where
-  pub stability : is_unknown w.stability ≡ true
+pub record IsPrintableWorld (r : Resolve) (here : PackageId) (w : World) : Type 0 where
+  pub gates : is_well_gates (shown_gates w.stability) ≡ true
   pub package_ : w.«package» ≡ Some here
-  pub imports : list_all is_printable_entry w.imports.entries ≡ true
-  pub exports : list_all is_printable_entry w.exports.entries ≡ true
+  pub imports : list_all (is_printable_entry r) w.imports.entries ≡ true
+  pub exports : list_all (is_printable_entry r) w.exports.entries ≡ true
 
 -- a world of the package `here`, under its name there
 abbrev pub is_printable_listed : Resolve → PackageId → String Global × WorldId → Bool
-is_printable_listed r here entry = is_label (text_of entry.0) && option_map_or (is_printable_world here) (world_at r entry.1.0) false
+is_printable_listed r here entry = is_label (text_of entry.0) && option_map_or (is_printable_world r here) (world_at r entry.1.0) false
 
 -- the calls for a world of a package, under its name
 abbrev pub listed_calls : Bool → Resolve → String Global × WorldId → List OutputCall

@@ -1,15 +1,17 @@
 //! The calls for one item are drafted first, and then made.
 
-ghost use Rattle.std.specs.Prelude.{◌≡◌, true, false, [], ◌∷◌, ◌++◌, codes, IsTrue, OnOk, OnErr, IsOkUnless};
+ghost use Rattle.std.specs.Prelude.{◌≡◌, true, false, [], ◌∷◌, ◌++◌, codes, IsTrue, OnOk, OnErr, IfOk, IsOkUnless};
 ghost use Rattle.std.specs.Fmt.{decimal};
+ghost use Rattle.std.specs.String.{string_bytes};
 ghost use Rattle.semver.specs.Identifiers.{version_text};
 ghost use Rattle.wit_model.specs.declared.error.Error.TheVariants.{Memory};
-ghost use Rattle.wit_model.specs.Names.{is_label, is_version};
+ghost use Rattle.wit_model.specs.Names.{is_label, is_version_text};
 ghost use Rattle.wit_print.specs.OutputCall.{OutputCall, Moves, Begins, is_one_line, has_no_space_first, may_begin, may_stand, line_begun_after};
 ghost use Rattle.wit_print.specs.Drafted.{piece_call};
+ghost use Rattle.wit_print.specs.Calls.{character_call};
 ghost use Rattle.wit_print.specs.Keyword.{escaped};
 
-use crate::escape::escape;
+use crate::escape::{escape, escape_character};
 use crate::make::make_calls;
 use crate::output::Output;
 use crate::piece::Piece;
@@ -122,6 +124,16 @@ impl<'a> Draft<'a> {
         self.push(Piece::Param(text), false)
     }
 
+    /// The name of a case of a variant or an enum, or of a flag, as an id.
+    #[tactic(auto, using(crate::proofs::OneLine::labels))]
+    pub(crate) fn case(&mut self, label: &'a str) -> Result<(), AllocError>
+        requires { is_label label.now ≡ true }
+        ensures { OnOk result (self.new ≡ record { line_begun = false; kept = self.old.kept ++ OutputCall.Case (escaped label.now) ∷ [] }) }
+    {
+        let text = escape(self.alloc, label)?;
+        self.push(Piece::Case(text), false)
+    }
+
     /// Text as it stands, without indentation.
     pub(crate) fn push_str(&mut self, text: &'a str) -> Result<(), AllocError>
         ensures { OnOk result (self.new ≡ record { line_begun = self.old.line_begun; kept = self.old.kept ++ OutputCall.PushStr text.now ∷ [] }) }
@@ -135,8 +147,18 @@ impl<'a> Draft<'a> {
         ensures { OnOk result (self.new ≡ record { line_begun = self.old.line_begun; kept = self.old.kept ++ OutputCall.PushStr (codes ", " ++ decimal length) ∷ [] }) }
     {
         let line_begun = self.line_begun;
-        let text = format!(in self.alloc; ", {length}")?;
+        let text = length_text(self.alloc, length)?;
         self.push(Piece::PushStr(CowStr::Owned(text)), line_begun)
+    }
+
+    /// The length of a list behind the type of its elements, as other text.
+    #[tactic(auto, using(crate::proofs::OneLine::lengths))]
+    pub(crate) fn length(&mut self, length: u32) -> Result<(), AllocError>
+        requires { self.old.line_begun ≡ false }
+        ensures { OnOk result (self.new ≡ record { line_begun = false; kept = self.old.kept ++ OutputCall.Str (codes ", " ++ decimal length) ∷ [] }) }
+    {
+        let text = length_text(self.alloc, length)?;
+        self.push(Piece::Str(CowStr::Owned(text)), false)
     }
 
     pub(crate) fn generic_args_start(&mut self) -> Result<(), AllocError>
@@ -153,6 +175,15 @@ impl<'a> Draft<'a> {
         self.push(Piece::GenericArgsEnd, false)
     }
 
+    /// A character of a string, escaped where it doesn't stand for itself.
+    pub(crate) fn character(&mut self, c: char) -> Result<(), AllocError>
+        ensures { OnOk result (self.new ≡ record { line_begun = self.old.line_begun; kept = self.old.kept ++ character_call c ∷ [] }) }
+    {
+        let line_begun = self.line_begun;
+        let text = escape_character(self.alloc, c)?;
+        self.push(Piece::PushStr(text), line_begun)
+    }
+
     /// The name of a feature, as an id.
     #[tactic(auto, using(crate::proofs::OneLine::labels))]
     pub(crate) fn feature(&mut self, label: &'a str) -> Result<(), AllocError>
@@ -166,7 +197,7 @@ impl<'a> Draft<'a> {
     /// A version in an attribute, behind other text in its line.
     pub(crate) fn plain_version(&mut self, version: &Version) -> Result<(), AllocError>
         requires same_line { self.old.line_begun ≡ false }
-        requires version { is_version version.now ≡ true }
+        requires version { is_version_text (version_text version.now) ≡ true }
         ensures { OnOk result (self.new ≡ record { line_begun = false; kept = self.old.kept ++ OutputCall.Ty (version_text version.now) TypeKind.VersionAnnotation ∷ [] }) }
     {
         let text = format!(in self.alloc; "{version}")?;
@@ -178,7 +209,7 @@ impl<'a> Draft<'a> {
 
     /// A version after its mark, `@`.
     pub(crate) fn version(&mut self, version: &Version, kind: TypeKind) -> Result<(), AllocError>
-        requires { is_version version.now ≡ true }
+        requires { is_version_text (version_text version.now) ≡ true }
         ensures { OnOk result (self.new ≡ record { line_begun = false; kept = self.old.kept ++ OutputCall.Ty (64 ∷ version_text version.now) kind ∷ [] }) }
     {
         let text = format!(in self.alloc; "@{version}")?;
@@ -199,6 +230,12 @@ impl<'a> Draft<'a> {
         self.push(Piece::IndentStart, true)
     }
 
+    pub(crate) fn indent_end(&mut self) -> Result<(), AllocError>
+        ensures { OnOk result (self.new ≡ record { line_begun = true; kept = self.old.kept ++ OutputCall.IndentEnd ∷ [] }) }
+    {
+        self.push(Piece::IndentEnd, true)
+    }
+
     pub(crate) fn newline(&mut self) -> Result<(), AllocError>
         ensures { OnOk result (self.new ≡ record { line_begun = true; kept = self.old.kept ++ OutputCall.Newline ∷ [] }) }
     {
@@ -211,4 +248,11 @@ impl<'a> Draft<'a> {
     {
         self.push(Piece::Semicolon, true)
     }
+}
+
+/// The length of a list as it stands behind the type of its elements.
+fn length_text(alloc: Global, length: u32) -> Result<String, AllocError>
+    ensures { IfOk result (λ text. string_bytes text ≡ codes ", " ++ decimal length) }
+{
+    format!(in alloc; ", {length}")
 }

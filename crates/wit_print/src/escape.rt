@@ -4,6 +4,7 @@ ghost use Rattle.std.specs.Prelude.{◌≡◌, IfOk};
 ghost use Rattle.std.specs.List.{list_any};
 ghost use Rattle.std.specs.Cow.{cow_str_bytes};
 ghost use Rattle.wit_model.specs.Text.{text_eq};
+ghost use Rattle.wit_print.specs.Calls.{escaped_character, is_plain as is_plain_lem};
 ghost use Rattle.wit_print.specs.Keyword.{escaped, is_keyword as is_keyword_lem};
 
 use std::alloc::{AllocError, Global};
@@ -82,4 +83,45 @@ pub(crate) fn escape<'a>(alloc: Global, label: &'a str) -> Result<CowStr<'a>, Al
     let mut text = String::from_str(alloc, "%")?;
     text.push_str(label)?;
     Ok(CowStr::Owned(text))
+}
+
+/// Whether a character stands for itself in a string: ASCII letters, digits and a few marks.
+fn is_plain(c: char) -> bool
+    ensures { result ≡ is_plain_lem c }
+{
+    c.is_ascii_alphanumeric()
+        || c == '-'
+        || c == '_'
+        || c == '.'
+        || c == '/'
+        || c == ':'
+        || c == ' '
+}
+
+/// A character as it is written in a string: itself, an escape of its own, or its number in lower-case hexadecimal.
+pub(crate) fn escape_character(alloc: Global, c: char) -> Result<CowStr<'static>, AllocError>
+    ensures { IfOk result (λ text. cow_str_bytes text ≡ escaped_character c) }
+{
+    if is_plain(c) {
+        let mut text = String::new(alloc);
+        text.push(c)?;
+        return Ok(CowStr::Owned(text));
+    }
+    if c == '\\' {
+        return Ok(CowStr::Borrowed("\\\\"));
+    }
+    if c == '"' {
+        return Ok(CowStr::Borrowed("\\\""));
+    }
+    if c == '\n' {
+        return Ok(CowStr::Borrowed("\\n"));
+    }
+    if c == '\r' {
+        return Ok(CowStr::Borrowed("\\r"));
+    }
+    if c == '\t' {
+        return Ok(CowStr::Borrowed("\\t"));
+    }
+    let number = c as u32;
+    Ok(CowStr::Owned(format!(in alloc; "\\u{{{number:x}}}")?))
 }

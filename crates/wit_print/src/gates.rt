@@ -2,13 +2,13 @@
 
 ghost use Rattle.std.specs.Prelude.{◌≡◌, ◌++◌, true, IsTrue, OnOk};
 ghost use Rattle.semver.specs.Identifiers.{version_text};
-ghost use Rattle.wit_model.specs.Names.{is_label, is_version};
+ghost use Rattle.wit_model.specs.Names.{is_label, is_version_text};
 ghost use Rattle.wit_model.specs.Lookup.{optional_version_text};
-ghost use Rattle.wit_model.specs.Rules.{is_stability, passes};
 ghost use Rattle.wit_print.specs.OutputCall.{is_one_line, has_no_space_first};
 ghost use Rattle.wit_print.specs.Shown.{shown_gates};
 ghost use Rattle.wit_print.specs.Calls.{deprecated_calls, gates_calls, version_attribute_calls};
 ghost use Rattle.wit_print.specs.Heads.{feature_calls};
+ghost use Rattle.wit_print.specs.WellNamed.{is_well_gates, is_well_optional};
 
 use crate::draft::Draft;
 use semver::Version;
@@ -23,7 +23,7 @@ fn draft_version_attribute<'a>(
 ) -> Result<(), AllocError>
     requires one_line { IsTrue (is_one_line word.now) }
     requires front { IsTrue (has_no_space_first word.now) }
-    requires version { is_version version.now ≡ true }
+    requires version { is_version_text (version_text version.now) ≡ true }
     ensures { OnOk result (draft.new ≡ record { line_begun = true; kept = draft.old.kept ++ version_attribute_calls word.now (version_text version.now) }) }
 {
     draft.keyword(word)?;
@@ -41,7 +41,7 @@ fn draft_deprecated<'a>(
     deprecated: &Option<Version>,
 ) -> Result<(), AllocError>
     requires begun { draft.old.line_begun ≡ true }
-    requires version { passes is_version deprecated.now ≡ true }
+    requires version { is_well_optional is_version_text (optional_version_text deprecated.now) ≡ true }
     ensures { OnOk result (draft.new ≡ record { line_begun = true; kept = draft.old.kept ++ deprecated_calls (optional_version_text deprecated.now) }) }
 {
     match deprecated {
@@ -70,7 +70,7 @@ pub(crate) fn draft_gates<'a>(
     stability: &'a Stability,
 ) -> Result<(), AllocError>
     requires begun { draft.old.line_begun ≡ true }
-    requires stability { is_stability stability.now ≡ true }
+    requires well { is_well_gates (shown_gates stability.now) ≡ true }
     ensures { OnOk result (draft.new ≡ record { line_begun = true; kept = draft.old.kept ++ gates_calls (shown_gates stability.now) }) }
 {
     match stability {

@@ -3,6 +3,7 @@
 ghost use Rattle.std.specs.Prelude.{◌≡◌, ◌&&◌, true, IsTrue, OnOk, OnErr, IsOkUnless};
 ghost use Rattle.std.specs.List.{flat_map, list_all};
 ghost use Rattle.wit_model.specs.declared.error.Error.TheVariants.{Memory};
+ghost use Rattle.wit_model.specs.Valid.{IsValid};
 ghost use Rattle.wit_print.specs.OutputCall.{Moves, Begins, is_one_line, has_no_space_first};
 ghost use Rattle.wit_print.specs.Printable.{is_printable_entry, entry_calls, line_between, world_body_calls};
 ghost use Rattle.wit_model.specs.Rules.{has_items as has_items_lem};
@@ -27,7 +28,8 @@ fn print_item<'a, O: Output>(
 ) -> Result<(), Error>
     requires one_line { IsTrue (is_one_line word.now) }
     requires front { IsTrue (has_no_space_first word.now) }
-    requires printable { is_printable_entry (key.now, item.now) ≡ true }
+    requires valid { IsValid resolve.now }
+    requires printable { is_printable_entry resolve.now (key.now, item.now) ≡ true }
     ensures ok { OnOk result (Moves O.keeps (O.view output.old) (entry_calls emits_docs resolve.now here word.now (key.now, item.now)) (O.view output.new)) }
     ensures err { OnErr result (Begins O.keeps (O.view output.old) (entry_calls emits_docs resolve.now here word.now (key.now, item.now)) (O.view output.new)) }
     ensures memory { IsOkUnless result Memory }
@@ -49,7 +51,8 @@ pub(crate) fn print_items<'a, O: Output>(
 ) -> Result<(), Error>
     requires one_line { IsTrue (is_one_line word.now) }
     requires front { IsTrue (has_no_space_first word.now) }
-    requires printable { list_all is_printable_entry items.now.entries ≡ true }
+    requires valid { IsValid resolve.now }
+    requires printable { list_all (is_printable_entry resolve.now) items.now.entries ≡ true }
     ensures ok { OnOk result (Moves O.keeps (O.view output.old) (flat_map (entry_calls emits_docs resolve.now here word.now) items.now.entries) (O.view output.new)) }
     ensures err { OnErr result (Begins O.keeps (O.view output.old) (flat_map (entry_calls emits_docs resolve.now here word.now) items.now.entries) (O.view output.new)) }
     ensures memory { IsOkUnless result Memory }
@@ -94,8 +97,9 @@ pub(crate) fn print_world_body<'a, O: Output>(
     here: PackageId,
     world: &'a World,
 ) -> Result<(), Error>
-    requires imports { list_all is_printable_entry world.now.imports.entries ≡ true }
-    requires exports { list_all is_printable_entry world.now.exports.entries ≡ true }
+    requires valid { IsValid resolve.now }
+    requires imports { list_all (is_printable_entry resolve.now) world.now.imports.entries ≡ true }
+    requires exports { list_all (is_printable_entry resolve.now) world.now.exports.entries ≡ true }
     ensures ok { OnOk result (Moves O.keeps (O.view output.old) (world_body_calls emits_docs resolve.now here world.now) (O.view output.new)) }
     ensures err { OnErr result (Begins O.keeps (O.view output.old) (world_body_calls emits_docs resolve.now here world.now) (O.view output.new)) }
     ensures memory { IsOkUnless result Memory }

@@ -14,6 +14,7 @@ mod output_to_string;
 mod package;
 mod parts;
 mod piece;
+mod prefix;
 mod printer;
 mod type_kind;
 mod type_name;

@@ -23,11 +23,13 @@ fn make_call<O: Output>(output: &mut O, piece: &Piece) -> Result<(), Error>
         Piece::Str(text) => output.str(text.as_str()),
         Piece::Ty(text, kind) => output.ty(text.as_str(), *kind),
         Piece::Param(text) => output.param(text.as_str()),
+        Piece::Case(text) => output.case(text.as_str()),
         Piece::PushStr(text) => output.push_str(text.as_str()),
         Piece::Doc(line) => output.doc(line),
         Piece::GenericArgsStart => output.generic_args_start(),
         Piece::GenericArgsEnd => output.generic_args_end(),
         Piece::IndentStart => output.indent_start(),
+        Piece::IndentEnd => output.indent_end(),
         Piece::Newline => output.newline(),
         Piece::Semicolon => output.semicolon(),
     }

@@ -4,22 +4,26 @@ ghost use Rattle.std.specs.Prelude.{◌≡◌, ◌++◌, ◌∷◌, [], true, fa
 ghost use Rattle.std.specs.List.{flat_map, list_all};
 ghost use Rattle.wit_model.specs.declared.error.Error.TheVariants.{Memory};
 ghost use Rattle.wit_model.specs.Text.{text_of};
-ghost use Rattle.wit_model.specs.Names.{is_label, is_version};
-ghost use Rattle.wit_model.specs.Rules.{passes};
+ghost use Rattle.wit_model.specs.Names.{is_label, is_version_text};
+ghost use Rattle.wit_model.specs.Lookup.{optional_version_text};
+ghost use Rattle.wit_model.specs.Valid.{IsValid};
 ghost use Rattle.wit_print.specs.OutputCall.{OutputCall, Moves, Begins};
 ghost use Rattle.wit_print.specs.Printable.{IsPrintableWorld, is_printable_listed, listed_calls, plain_package_calls, world_start_calls, world_calls};
-ghost use Rattle.wit_print.specs.Shown.{shown_head};
+ghost use Rattle.wit_print.specs.Shown.{shown_gates, shown_head};
 ghost use Rattle.wit_print.specs.Calls.{package_outer_calls, package_start_calls, package_end_calls};
+ghost use Rattle.wit_print.specs.WellNamed.{is_well_gates, is_well_optional};
 
 use crate::draft::Draft;
+use crate::gates::draft_gates;
 use crate::items::print_world_body;
 use crate::output::Output;
-use crate::parts::{draft_docs, draft_package_outer};
+use crate::parts::draft_package_outer;
+use crate::prefix::draft_docs;
 use crate::type_kind::TypeKind;
 use std::alloc::{AllocError, Global};
 use wit_model::{Error, Map, Package, PackageId, Resolve, World, WorldId};
 
-/// A world's documentation and name, and the start of its block.
+/// A world's documentation, gates and name, and the start of its block.
 fn draft_world_start<'a>(
     draft: &mut Draft<'a>,
     emits_docs: bool,
@@ -27,10 +31,12 @@ fn draft_world_start<'a>(
     world: &'a World,
 ) -> Result<(), AllocError>
     requires begun { draft.old.line_begun ≡ true }
+    requires gates { is_well_gates (shown_gates world.now.stability) ≡ true }
     requires name { is_label name.now ≡ true }
     ensures { OnOk result (draft.new ≡ record { line_begun = true; kept = draft.old.kept ++ world_start_calls emits_docs name.now world.now }) }
 {
     draft_docs(draft, emits_docs, &world.docs)?;
+    draft_gates(draft, &world.stability)?;
     draft.keyword("world")?;
     draft.str(" ")?;
     draft.name(name, TypeKind::WorldDeclaration)?;
@@ -45,7 +51,8 @@ fn print_world_start<'a, O: Output>(
     name: &'a str,
     world: &'a World,
 ) -> Result<(), Error>
-    requires { is_label name.now ≡ true }
+    requires gates { is_well_gates (shown_gates world.now.stability) ≡ true }
+    requires name { is_label name.now ≡ true }
     ensures ok { OnOk result (Moves O.keeps (O.view output.old) (world_start_calls emits_docs name.now world.now) (O.view output.new)) }
     ensures err { OnErr result (Begins O.keeps (O.view output.old) (world_start_calls emits_docs name.now world.now) (O.view output.new)) }
     ensures memory { IsOkUnless result Memory }
@@ -76,8 +83,9 @@ fn print_world<'a, O: Output>(
     name: &'a str,
     world: &'a World,
 ) -> Result<(), Error>
+    requires valid { IsValid resolve.now }
     requires name { is_label name.now ≡ true }
-    requires world { IsPrintableWorld here world.now }
+    requires world { IsPrintableWorld resolve.now here world.now }
     ensures ok { OnOk result (Moves O.keeps (O.view output.old) (world_calls emits_docs resolve.now here name.now world.now) (O.view output.new)) }
     ensures err { OnErr result (Begins O.keeps (O.view output.old) (world_calls emits_docs resolve.now here name.now world.now) (O.view output.new)) }
     ensures memory { IsOkUnless result Memory }
@@ -97,7 +105,8 @@ fn print_listed<'a, O: Output>(
     name: &'a String,
     id: &'a WorldId,
 ) -> Result<(), Error>
-    requires { is_printable_listed resolve.now here (name.now, id.now) ≡ true }
+    requires valid { IsValid resolve.now }
+    requires printable { is_printable_listed resolve.now here (name.now, id.now) ≡ true }
     ensures ok { OnOk result (Moves O.keeps (O.view output.old) (listed_calls emits_docs resolve.now (name.now, id.now)) (O.view output.new)) }
     ensures err { OnErr result (Begins O.keeps (O.view output.old) (listed_calls emits_docs resolve.now (name.now, id.now)) (O.view output.new)) }
     ensures memory { IsOkUnless result Memory }
@@ -115,7 +124,8 @@ fn print_worlds<'a, O: Output>(
     here: PackageId,
     worlds: &'a Map<String, WorldId>,
 ) -> Result<(), Error>
-    requires { list_all (is_printable_listed resolve.now here) worlds.now.entries ≡ true }
+    requires valid { IsValid resolve.now }
+    requires printable { list_all (is_printable_listed resolve.now here) worlds.now.entries ≡ true }
     ensures ok { OnOk result (Moves O.keeps (O.view output.old) (flat_map (listed_calls emits_docs resolve.now) worlds.now.entries) (O.view output.new)) }
     ensures err { OnErr result (Begins O.keeps (O.view output.old) (flat_map (listed_calls emits_docs resolve.now) worlds.now.entries) (O.view output.new)) }
     ensures memory { IsOkUnless result Memory }
@@ -149,7 +159,7 @@ fn draft_package_start<'a>(
     requires begun { draft.old.line_begun ≡ true }
     requires namespace { is_label (text_of «package».now.name.namespace) ≡ true }
     requires name { is_label (text_of «package».now.name.name) ≡ true }
-    requires version { passes is_version «package».now.name.version ≡ true }
+    requires version { is_well_optional is_version_text (optional_version_text «package».now.name.version) ≡ true }
     ensures { OnOk result (draft.new ≡ record { line_begun = true; kept = draft.old.kept ++ (package_outer_calls emits_docs (shown_head «package».now) ++ package_start_calls is_main) }) }
 {
     draft_package_outer(draft, emits_docs, package)?;
@@ -166,7 +176,7 @@ fn print_package_start<'a, O: Output>(
 ) -> Result<(), Error>
     requires namespace { is_label (text_of «package».now.name.namespace) ≡ true }
     requires name { is_label (text_of «package».now.name.name) ≡ true }
-    requires version { passes is_version «package».now.name.version ≡ true }
+    requires version { is_well_optional is_version_text (optional_version_text «package».now.name.version) ≡ true }
     ensures ok { OnOk result (Moves O.keeps (O.view output.old) (package_outer_calls emits_docs (shown_head «package».now) ++ package_start_calls is_main) (O.view output.new)) }
     ensures err { OnErr result (Begins O.keeps (O.view output.old) (package_outer_calls emits_docs (shown_head «package».now) ++ package_start_calls is_main) (O.view output.new)) }
     ensures memory { IsOkUnless result Memory }
@@ -201,7 +211,8 @@ pub(crate) fn print_plain_package<'a, O: Output>(
 ) -> Result<(), Error>
     requires namespace { is_label (text_of «package».now.name.namespace) ≡ true }
     requires name { is_label (text_of «package».now.name.name) ≡ true }
-    requires version { passes is_version «package».now.name.version ≡ true }
+    requires version { is_well_optional is_version_text (optional_version_text «package».now.name.version) ≡ true }
+    requires valid { IsValid resolve.now }
     requires worlds { list_all (is_printable_listed resolve.now here) «package».now.worlds.entries ≡ true }
     ensures ok { OnOk result (Moves O.keeps (O.view output.old) (plain_package_calls emits_docs is_main resolve.now «package».now) (O.view output.new)) }
     ensures err { OnErr result (Begins O.keeps (O.view output.old) (plain_package_calls emits_docs is_main resolve.now «package».now) (O.view output.new)) }

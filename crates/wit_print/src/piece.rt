@@ -10,11 +10,13 @@ pub(crate) enum Piece<'a> {
     Str(CowStr<'a>),
     Ty(CowStr<'a>, TypeKind),
     Param(CowStr<'a>),
+    Case(CowStr<'a>),
     PushStr(CowStr<'a>),
     Doc(&'a str),
     GenericArgsStart,
     GenericArgsEnd,
     IndentStart,
+    IndentEnd,
     Newline,
     Semicolon,
 }

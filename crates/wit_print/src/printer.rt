@@ -7,7 +7,6 @@ ghost use Rattle.wit_model.specs.Names.{is_label, is_version};
 ghost use Rattle.wit_model.specs.Rules.{in_list, passes};
 ghost use Rattle.wit_model.specs.Types.{number_of};
 ghost use Rattle.wit_model.specs.Valid.{IsValid};
-ghost use Rattle.wit_model.specs.Plain.{IsPlain};
 ghost use Rattle.wit_print.specs.OutputCall.{Moves, Begins};
 ghost use Rattle.wit_print.specs.AsRead.{file_as_read};
 ghost use Rattle.wit_print.specs.Reading.{IsOnlyReading};
@@ -58,7 +57,7 @@ impl<O: Output> WitPrinter<O> {
         self
     }
 
-    /// Prints a package as a file. Nested packages aren't printed yet.
+    /// Prints a package as a file. Nested packages, interfaces and types aren't printed yet.
     ///
     /// What the calls of the file render to, which is what a fresh `OutputToString` holds after a completed print, has one
     /// reading in the grammar of WIT text: what is shown of the package.
@@ -73,7 +72,8 @@ impl<O: Output> WitPrinter<O> {
         nested: &[PackageId],
     ) -> Result<(), Error>
         requires valid { IsValid resolve.now }
-        requires plain { IsPlain resolve.now }
+        requires no_interfaces { resolve.now.interfaces.items ≡ [] }
+        requires no_types { resolve.now.types.items ≡ [] }
         requires in_range { id.0 < length resolve.now.packages.items }
         requires nested { nested.now ≡ [] }
         ensures ok { OnOk result (Moves O.keeps (O.view self.old.output) (file_calls (emits_docs self.old) (shown_file resolve.now id nested.now)) (O.view self.new.output)) }
@@ -98,7 +98,8 @@ impl<O: Output> WitPrinter<O> {
         is_main: bool,
     ) -> Result<(), Error>
         requires valid { IsValid resolve.now }
-        requires plain { IsPlain resolve.now }
+        requires no_interfaces { resolve.now.interfaces.items ≡ [] }
+        requires no_types { resolve.now.types.items ≡ [] }
         requires in_range { id.0 < length resolve.now.packages.items }
         ensures ok { OnOk result (Moves O.keeps (O.view self.old.output) (package_calls (emits_docs self.old) is_main (shown_package resolve.now id)) (O.view self.new.output)) }
         ensures err { OnErr result (Begins O.keeps (O.view self.old.output) (package_calls (emits_docs self.old) is_main (shown_package resolve.now id)) (O.view self.new.output)) }

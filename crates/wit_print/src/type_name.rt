@@ -14,6 +14,7 @@ ghost use Rattle.wit_print.specs.Shown.{present_name, shown_type, type_name, use
 ghost use Rattle.wit_print.specs.Calls.{handle_calls, type_calls};
 ghost use Rattle.wit_print.specs.TypeParts.{carrier_end, carrier_start, comma_calls, handle_start, handles_label, is_labelled, kind_calls, kind_end, kind_start, may_be_unnamed, result_end, result_start, word_start};
 ghost use Rattle.wit_print.specs.Tree.{TypeTree};
+ghost use Rattle.wit_print.specs.WellNamed.{is_well_type};
 
 use crate::draft::Draft;
 use crate::type_kind::TypeKind;
@@ -364,4 +365,18 @@ pub(crate) fn draft_type_name<'a>(
         Some(name) => draft.name(name, TypeKind::Other),
         None => draft_unnamed(draft, resolve, id),
     }
+}
+
+/// A type behind other text in its line.
+pub(crate) fn draft_type<'a>(
+    draft: &mut Draft<'a>,
+    resolve: &'a Resolve,
+    ty: &Type,
+) -> Result<(), AllocError>
+    requires same_line { draft.old.line_begun ≡ false }
+    requires valid { IsValid resolve.now }
+    requires well { is_well_type (shown_type resolve.now ty.now) ≡ true }
+    ensures { OnOk result (draft.new ≡ record { line_begun = false; kept = draft.old.kept ++ type_calls (shown_type resolve.now ty.now) }) }
+{
+    draft_type_name(draft, resolve, ty)
 }

@@ -1,35 +1,20 @@
 //! What a world imports and exports, drafted.
 
-ghost use Rattle.std.specs.Prelude.{◌≡◌, ◌++◌, ◌∷◌, [], true, false, IsTrue, OnOk};
+ghost use Rattle.std.specs.Prelude.{◌≡◌, ◌++◌, true, IsTrue, OnOk};
 ghost use Rattle.wit_model.specs.Text.{text_of};
-ghost use Rattle.wit_print.specs.OutputCall.{OutputCall, is_one_line, has_no_space_first};
+ghost use Rattle.wit_model.specs.Valid.{IsValid};
+ghost use Rattle.wit_print.specs.OutputCall.{is_one_line, has_no_space_first};
 ghost use Rattle.wit_print.specs.Printable.{IsPrintableFunction, is_printable_entry};
 ghost use Rattle.wit_print.specs.Tree.ExternTree.{NamedFunction};
 ghost use Rattle.wit_print.specs.Shown.{extern_prefix, function_prefix, shown_extern, shown_signature};
-ghost use Rattle.wit_print.specs.Calls.{extern_calls, world_extern_calls};
+ghost use Rattle.wit_print.specs.Calls.{world_extern_calls};
 
 use crate::draft::Draft;
-use crate::function::draft_signature;
-use crate::parts::draft_docs;
+use crate::function::draft_named;
+use crate::prefix::draft_prefix;
 use crate::type_kind::TypeKind;
 use std::alloc::AllocError;
 use wit_model::{Function, PackageId, Resolve, WorldItem, WorldKey};
-
-/// A function under its name.
-fn draft_named_function<'a>(
-    draft: &mut Draft<'a>,
-    resolve: &'a Resolve,
-    function: &'a Function,
-) -> Result<(), AllocError>
-    requires same_line { draft.old.line_begun ≡ false }
-    requires printable { IsPrintableFunction function.now }
-    ensures { OnOk result (draft.new ≡ record { line_begun = true; kept = draft.old.kept ++ extern_calls true (NamedFunction (text_of function.now.name) (shown_signature resolve.now function.now)) }) }
-{
-    draft.name(&function.name, TypeKind::Other)?;
-    draft.str(": ")?;
-    draft_signature(draft, resolve, function)?;
-    draft.semicolon()
-}
 
 /// An imported or exported function.
 fn draft_world_function<'a>(
@@ -42,13 +27,20 @@ fn draft_world_function<'a>(
     requires begun { draft.old.line_begun ≡ true }
     requires one_line { IsTrue (is_one_line word.now) }
     requires front { IsTrue (has_no_space_first word.now) }
-    requires printable { IsPrintableFunction function.now }
+    requires valid { IsValid resolve.now }
+    requires printable { IsPrintableFunction resolve.now function.now }
     ensures { OnOk result (draft.new ≡ record { line_begun = true; kept = draft.old.kept ++ world_extern_calls emits_docs (function_prefix function.now) word.now (NamedFunction (text_of function.now.name) (shown_signature resolve.now function.now)) }) }
 {
-    draft_docs(draft, emits_docs, &function.docs)?;
+    draft_prefix(
+        draft,
+        emits_docs,
+        &function.docs,
+        &function.stability,
+        &function.external_id,
+    )?;
     draft.keyword(word)?;
     draft.str(" ")?;
-    draft_named_function(draft, resolve, function)
+    draft_named(draft, resolve, function, &function.name, TypeKind::Other)
 }
 
 /// An import or an export of a world of the package `here`.
@@ -64,7 +56,8 @@ pub(crate) fn draft_world_item<'a>(
     requires begun { draft.old.line_begun ≡ true }
     requires one_line { IsTrue (is_one_line word.now) }
     requires front { IsTrue (has_no_space_first word.now) }
-    requires printable { is_printable_entry (key.now, item.now) ≡ true }
+    requires valid { IsValid resolve.now }
+    requires printable { is_printable_entry resolve.now (key.now, item.now) ≡ true }
     ensures { OnOk result (draft.new ≡ record { line_begun = true; kept = draft.old.kept ++ world_extern_calls emits_docs (extern_prefix resolve.now key.now item.now) word.now (shown_extern resolve.now here key.now item.now) }) }
 {
     match key {

@@ -6,7 +6,7 @@ use std::alloc::Global;
 use std::process::Abort;
 use std::test::Fail;
 use wit_check::Check;
-use wit_model::{PackageId, Resolve, is_plain};
+use wit_model::{PackageId, Resolve};
 use wit_print::{Output, OutputToString, WitPrinter};
 
 // Prints the one package.
@@ -17,7 +17,8 @@ fn print_to<O: Output>(
     resolve: &Resolve,
     is_main: bool,
 ) -> Result<(), Fail> {
-    assert!(rt; resolve.packages.len() > 0 && is_plain(resolve));
+    assert!(rt; resolve.packages.len() > 0);
+    assert!(rt; resolve.interfaces.as_slice().is_empty() && resolve.types.as_slice().is_empty());
     resolve.check(alloc)?;
     printer.print_package(alloc, resolve, PackageId(0), is_main)?;
     Ok(())

@@ -8,5 +8,5 @@ use Rattle.wit_print.proofs.items.print_items.Given as goal
 abbrev pub invariant-loop-key : goal.invariant-loop-key
 invariant-loop-key g l = record {
   underway : Underway g.O.Output.keeps (entry_calls l.emits_docs l.resolve l.here l.word) l.items.entries l.key-iterator (g.O.Output.view l.fn.output) (g.O.Output.view l.output);
-  printable : list_all is_printable_entry l.key-iterator ≡ true;
+  printable : list_all (is_printable_entry l.resolve) l.key-iterator ≡ true;
 }

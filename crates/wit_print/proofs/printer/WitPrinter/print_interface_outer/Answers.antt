@@ -4,12 +4,13 @@ use Rattle.wit_model.specs.Lookup.{interface_at}
 use Rattle.wit_print.specs.OutputCall.{Moves, Begins}
 use Rattle.wit_print.proofs.Moves.{on_ok, on_err}
 use Rattle.wit_print.proofs.InterfaceHeads.{interface_gates, head_at}
+use Rattle.wit_print.proofs.ShownWell.{gates_well}
 use Rattle.wit_print.proofs.printer.WitPrinter.print_interface_outer.Goals as goal
 
-pub print_head-requires-clause-stability : goal.print_head-requires-clause-stability
-print_head-requires-clause-stability g c =
+pub print_head-requires-clause-gates : goal.print_head-requires-clause-gates
+print_head-requires-clause-gates g c =
     let at : interface_at c.args.resolve.now c.args.id.0 ≡ Some c.index-interface.result.now = slice_get_read _ _ _ _ refl c.requires.in_range c.index-interface.ensures in
-    interface_gates c.args.resolve.now c.args.id.0 c.index-interface.result.now c.requires.valid at
+    gates_well c.index-interface.result.now.stability (interface_gates c.args.resolve.now c.args.id.0 c.index-interface.result.now c.requires.valid at)
 
 pub returns-clause-ok : goal.returns-clause-ok
 returns-clause-ok g c =

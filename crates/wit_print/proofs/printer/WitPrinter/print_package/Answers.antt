@@ -25,16 +25,16 @@ print_plain_package-requires-clause-version g c =
 pub print_plain_package-requires-clause-worlds : goal.print_plain_package-requires-clause-worlds
 print_plain_package-requires-clause-worlds g c =
     let at : package_at c.args.resolve.now c.args.id.0 ≡ Some c.index-package.result.now = slice_get_read _ _ _ _ refl c.requires.in_range c.index-package.ensures in
-    valid_worlds c.args.resolve.now c.args.id c.index-package.result.now c.requires.valid c.requires.plain at
+    valid_worlds c.args.resolve.now c.args.id c.index-package.result.now c.requires.valid c.requires.no_types c.requires.no_interfaces at
 
 pub returns-clause-ok : goal.returns-clause-ok
 returns-clause-ok g c =
     let at : package_at c.args.resolve.now c.args.id.0 ≡ Some c.index-package.result.now = slice_get_read _ _ _ _ refl c.requires.in_range c.index-package.ensures in
-    let same = plain_package_at c.args.self.now.emit_docs c.args.is_main c.args.resolve.now c.args.id c.index-package.result.now c.requires.plain.no_interfaces at in
+    let same = plain_package_at c.args.self.now.emit_docs c.args.is_main c.args.resolve.now c.args.id c.index-package.result.now c.requires.no_interfaces at in
     on_ok c.print_plain_package.result (λ m. subst (λ calls. Moves g.O.Output.keeps (g.O.Output.view c.args.self.now.output) calls (g.O.Output.view c.print_plain_package.new.output)) same m) c.print_plain_package.ensures.ok
 
 pub returns-clause-err : goal.returns-clause-err
 returns-clause-err g c =
     let at : package_at c.args.resolve.now c.args.id.0 ≡ Some c.index-package.result.now = slice_get_read _ _ _ _ refl c.requires.in_range c.index-package.ensures in
-    let same = plain_package_at c.args.self.now.emit_docs c.args.is_main c.args.resolve.now c.args.id c.index-package.result.now c.requires.plain.no_interfaces at in
+    let same = plain_package_at c.args.self.now.emit_docs c.args.is_main c.args.resolve.now c.args.id c.index-package.result.now c.requires.no_interfaces at in
     on_err c.print_plain_package.result (λ b. subst (λ calls. Begins g.O.Output.keeps (g.O.Output.view c.args.self.now.output) calls (g.O.Output.view c.print_plain_package.new.output)) same b) c.print_plain_package.ensures.err

@@ -5,7 +5,7 @@ use Rattle.std.specs.List.{flat_map}
 use Rattle.wit_print.specs.OutputCall.{OutputCall}
 use Rattle.wit_print.specs.Shown.{shown_param}
 use Rattle.wit_print.specs.Calls.{param_calls}
-use Rattle.wit_print.proofs.parts.draft_more_params.Given as goal
+use Rattle.wit_print.proofs.function.draft_more_params.Given as goal
 
 abbrev pub invariant-loop-param : goal.invariant-loop-param
 invariant-loop-param l = record {

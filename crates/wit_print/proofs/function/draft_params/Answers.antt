@@ -3,19 +3,19 @@ use Rattle.std.specs.Prelude.{codes}
 use Rattle.std.specs.List.{list_all, flat_map}
 use Rattle.wit_model.proofs.Lists.{first_true, second_true}
 use Rattle.wit_print.specs.OutputCall.OutputCall.{Str}
-use Rattle.wit_print.specs.Printable.{is_printable_param}
+use Rattle.wit_print.specs.WellNamed.{is_well_param}
 use Rattle.wit_print.specs.Shown.{shown_param}
 use Rattle.wit_print.specs.Calls.{param_calls, separated}
 use Rattle.wit_print.proofs.Runs.{started, add, whole, separated_first}
-use Rattle.wit_print.proofs.parts.draft_params.Goals as goal
+use Rattle.wit_print.proofs.function.draft_params.Goals as goal
 
-pub draft_param-requires-clause-printable : goal.draft_param-requires-clause-printable
-draft_param-requires-clause-printable c =
-    first_true (is_printable_param c.in-Some.first.now) _ (subst (λ ps. list_all is_printable_param ps ≡ true) c.in-Some.ensures.cases.0 c.requires.printable)
+pub draft_param-requires-clause-well : goal.draft_param-requires-clause-well
+draft_param-requires-clause-well c =
+    first_true (is_well_param (shown_param c.args.resolve.now c.in-Some.first.now)) _ (subst (λ ps. list_all (λ p. is_well_param (shown_param c.args.resolve.now p)) ps ≡ true) c.in-Some.ensures.cases.0 c.requires.well)
 
-pub draft_more_params-requires-clause-printable : goal.draft_more_params-requires-clause-printable
-draft_more_params-requires-clause-printable c =
-    second_true (is_printable_param c.in-Some.first.now) _ (subst (λ ps. list_all is_printable_param ps ≡ true) c.in-Some.ensures.cases.0 c.requires.printable)
+pub draft_more_params-requires-clause-well : goal.draft_more_params-requires-clause-well
+draft_more_params-requires-clause-well c =
+    second_true (is_well_param (shown_param c.args.resolve.now c.in-Some.first.now)) _ (subst (λ ps. list_all (λ p. is_well_param (shown_param c.args.resolve.now p)) ps ≡ true) c.in-Some.ensures.cases.0 c.requires.well)
 
 pub returns-in_ok-draft_more_params : goal.returns-in_ok-draft_more_params
 returns-in_ok-draft_more_params c =

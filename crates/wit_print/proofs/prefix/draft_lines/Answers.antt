@@ -2,7 +2,7 @@ use Rattle.std.proofs.Common.{length}
 use Rattle.std.proofs.lemmas.Iterator.Splits.{YieldsList-from_lines}
 use Rattle.std.proofs.lemmas.Iterator.Consumers.{YieldsList-turn, YieldsList-end}
 use Rattle.wit_print.proofs.DocLines.{line_one_line, drafted_lines}
-use Rattle.wit_print.proofs.parts.draft_lines.Goals as goal
+use Rattle.wit_print.proofs.prefix.draft_lines.Goals as goal
 
 pub doc-requires : goal.doc-requires
 doc-requires c =
