@@ -1,11 +1,14 @@
 pub mod AddLaws
 pub mod BodyLaws
 pub mod DeclarationLaws
+pub mod DefiningLaws
 pub mod DefinitionKeyLaws
 pub mod EntryLaws
 pub mod FactLaws
 pub mod FrontReaders
+pub mod FunctionKeyLaws
 pub mod HeldLaws
+pub mod JoinLaws
 pub mod KeyLaws
 pub mod LabelLaws
 pub mod PartTypeLaws

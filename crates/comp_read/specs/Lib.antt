@@ -8,3 +8,5 @@ pub mod Facts
 pub mod Slots
 pub mod DefinitionKeys
 pub mod Rows
+pub mod Functions
+pub mod Defining

@@ -3,10 +3,12 @@
 
 mod bodies;
 mod declarations;
+mod defining;
 mod definition_keys;
 mod definitions;
 mod facts;
 mod front;
+mod functions;
 mod items;
 mod keys;
 pub mod laws;
@@ -14,6 +16,7 @@ mod names;
 mod part_types;
 mod refusal;
 mod sections;
+mod signatures;
 mod slots;
 mod table;
 mod value;
@@ -21,11 +24,14 @@ mod vector;
 
 pub use bodies::{Body, Entry, entry_of};
 pub use declarations::{Declared, Description, declaration_of};
+pub use defining::{define, define_function};
 pub use definition_keys::{Definition, definition_of};
 pub use facts::{Fact, Names};
-pub use keys::Key;
+pub use functions::Functions;
+pub use keys::{FunctionKey, Key};
 pub use part_types::{PartType, part_type_of};
 pub use refusal::Refusal;
 pub use sections::{Piece, TopExport, component_of};
+pub use signatures::function_key_of;
 pub use slots::{Slot, resource_in, value_in};
 pub use table::Table;

@@ -87,6 +87,13 @@ impl<'a> Table<'a> {
         put(&mut self.keys, &mut self.facts, key, fact)
     }
 
+    /// Each type stands behind its parts, and none stands twice.
+    pub(crate) fn is_well_formed(&self)
+        ensures { IsTable self.now }
+    {
+        let _count = self.facts.len();
+    }
+
     /// What is known of a part: a primitive by its number, or 14 more than the number of a type in the table. Takes constant time.
     pub fn fact(&self, part: usize) -> Fact
         requires { part < 14 + length self.now }
