@@ -5,20 +5,21 @@ use Rattle.std.proofs.lemmas.Bool.{cases_lt}
 use Rattle.std.proofs.lemmas.Option.{slice_get_past}
 use Rattle.wit_model.specs.Meaning.{Signature}
 use Rattle.wit_model.specs.Text.{Text}
-use Rattle.wit_model.specs.Tree.{Place, Tree, children}
+use Rattle.wit_model.specs.Tree.{Form, Place, Tree, children}
 use Rattle.wit_model.specs.Types.{no_tree}
 use Rattle.comp_bytes.specs.Raw.{DefinedType}
 use Rattle.comp_meaning.specs.Follow.{definition, is_key}
 use Rattle.comp_read.specs.declared.refusal.Refusal.{Refusal}
 use Rattle.comp_read.specs.declared.slots.Slot.{Slot}
 use Rattle.comp_read.specs.declared.slots.Slot.TheVariants as slots
-use Rattle.comp_read.specs.Defining.{Grows, IsDefined, IsUndefined}
+use Rattle.comp_read.specs.Defining.{ArePlacedBelow, Grows, IsDefined, IsPlacedBelow, IsUndefined}
 use Rattle.comp_read.specs.DefinitionKeys.{HasNoKeys, IsNodeOf}
 use Rattle.comp_read.specs.Found.{Refuses}
 use Rattle.comp_read.specs.Functions.{functions_in, param_tree, signature_in, AreApart, AreFunctionsIn, FunctionShape, IsFunctionIn}
 use Rattle.comp_read.specs.Slots.{slots_in, AreInRange, AreNames}
-use Rattle.read_plan.specs.Shapes.{Shape, part_tree, shape_tree, shape_trees, Adds, stays, comes, IsShape, a_name, a_node, IsTable}
+use Rattle.read_plan.specs.Shapes.{Shape, form_code, part_tree, shape_tree, shape_trees, Adds, stays, comes, IsShape, a_name, a_node, IsTable}
 use Rattle.read_plan.proofs.ShapeLaws.{name_tree, node_tree, one_number, part_behind, slice_there, tree_at_number}
+use Rattle.comp_read.proofs.WholeLaws.{all_end}
 use Rattle.comp_read.proofs.TableGrowth.{found_below, part_kept, trees_length, trees_more}
 
 -- ---- lists that grow
@@ -32,6 +33,31 @@ one_longer xs x = record { more = x ∷ []; is = refl }
 pub adds_grow : (old new : List Shape) (s : Shape) → Adds old s new → Grows old new
 adds_grow old new s stays = same_list old
 adds_grow old new s (comes fresh) = one_longer old s
+
+pub adds_one : (old new : List Shape) (s : Shape) → Adds old s new → length new ≤ length old + 1
+adds_one old new s stays = omega arith
+adds_one old new s (comes fresh) = let long : length (old ++ s ∷ []) ≡ length old + 1 = length-append old (s ∷ []) in omega (arith, long)
+
+pub adds_placed : (m : ℕ) (old new : List Shape) (s : Shape) → Adds old s new → ArePlacedBelow m old → IsPlacedBelow m s → ArePlacedBelow m new
+adds_placed m old new s stays placed one = placed
+adds_placed m old new s (comes fresh) placed one = all_end (IsPlacedBelow m) old s placed one
+
+-- no form has the number of a name
+no_name : (f : Form) → (form_code f).sort ≡ 0 → ⊥
+no_name (Form.record_of names) e = cc
+no_name (Form.variant_of cases) e = cc
+no_name Form.list_of e = cc
+no_name (Form.fixed_list_of n) e = cc
+no_name Form.option_of e = cc
+no_name Form.own_of e = cc
+no_name Form.borrow_of e = cc
+no_name Form.map_of e = cc
+no_name Form.tuple_of e = cc
+no_name (Form.flags_of names) e = cc
+no_name (Form.enum_of names) e = cc
+no_name (Form.result_of ok err) e = cc
+no_name (Form.future_of some) e = cc
+no_name (Form.stream_of some) e = cc
 
 pub longer : {X : Type 0} (old new : List X) → Grows old new → length old ≤ length new
 longer old new g = let long : length new ≡ length old + length g.more = ap length g.is ∙ length-append old g.more in omega (arith, long)
@@ -107,6 +133,8 @@ part_defined ss old new d k small is found = record {
   next = is;
   range = omega (arith, small);
   grown = same_list ss;
+  count = omega arith;
+  placed = λ m placed. placed;
   found = λ place F named. found (shape_trees place ss) F;
 }
 
@@ -121,6 +149,8 @@ key_defined ss more old new d s n table wider ranges node at adds is =
       next = is;
       range = omega (arith, inside);
       grown = grown;
+      count = adds_one ss more s adds;
+      placed = λ m placed. adds_placed m ss more s adds placed (λ none. absurd (no_name node.form (sym (ap (λ (x : Shape). x.sort) node.shape) ∙ none)));
       found = λ place F named.
           let T = shape_trees place ss in
           let U = shape_trees place more in

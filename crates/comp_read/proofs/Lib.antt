@@ -5,6 +5,7 @@ pub mod DefiningLaws
 pub mod DefinitionKeyLaws
 pub mod EntryLaws
 pub mod FactLaws
+pub mod FollowingLaws
 pub mod FrontReaders
 pub mod FunctionKeyLaws
 pub mod HeldLaws

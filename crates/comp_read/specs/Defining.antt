@@ -1,5 +1,6 @@
 -- A definition takes the next slot of a scope.
-use Rattle.std.specs.Prelude.{◌≡◌, ◌<◌, ◌+◌, ℕ, List, [], ◌∷◌, ◌++◌, length, Some, slice_get}
+use Rattle.std.specs.Prelude.{◌≡◌, ◌<◌, ◌≤◌, ◌+◌, ℕ, List, [], ◌∷◌, ◌++◌, length, Some, slice_get}
+use Rattle.std.specs.List.{AllByRecursion}
 use Rattle.wit_model.specs.Meaning.{Signature}
 use Rattle.wit_model.specs.Tree.{Place, Tree}
 use Rattle.comp_bytes.specs.Raw.{DefinedType, FunctionType}
@@ -17,12 +18,21 @@ pub record Grows {X : Type 0} (old new : List X) : Type 0 where
   pub more : List X
   pub is : new ≡ old ++ more
 
+-- each name stands in one of the first so many places
+abbrev pub IsPlacedBelow : ℕ → Shape → Type 0
+IsPlacedBelow m s = s.sort ≡ 0 → s.number < m
+
+abbrev pub ArePlacedBelow : ℕ → List Shape → Type 0
+ArePlacedBelow m shapes = AllByRecursion (IsPlacedBelow m) shapes
+
 -- The next slot is a part, and it stands for what the definition stands for.
 pub record IsDefined (shapes : List Shape) (old : List Slot) (d : DefinedType) (more : List Shape) (new : List Slot) : Type 0 where
   pub part : ℕ
   pub next : new ≡ old ++ slots.Value part ∷ []
   pub range : part < 14 + length more
   pub grown : Grows shapes more
+  pub count : length more ≤ length shapes + 1
+  pub placed : (m : ℕ) → ArePlacedBelow m shapes → ArePlacedBelow m more
   pub found : (place : ℕ → Place) (F : List Signature) → AreNames (shape_trees place shapes) old
       → definition (slots_in (shape_trees place shapes) F old) d ≡ Some (part_tree (shape_trees place more) part)
 

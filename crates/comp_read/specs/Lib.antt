@@ -1,4 +1,5 @@
 pub mod Found
+pub mod ExternNames
 pub mod Declares
 pub mod Bodies
 pub mod PartTypes
@@ -10,3 +11,5 @@ pub mod DefinitionKeys
 pub mod Rows
 pub mod Functions
 pub mod Defining
+pub mod Following
+pub mod InstanceScopes
