@@ -1,5 +1,5 @@
 -- A scope of an instance type in tables that grow, and what each declaration does to it.
-use Rattle.std.proofs.Common.{◌≡◌, refl, sym, ap, ◌∙◌, subst, ℕ, zero, suc, ◌+◌, ◌<◌, ◌≤◌, arith, Bool, true, false, ◌&&◌, ◌==◌, cond, not, List, [], ◌∷◌, ◌++◌, map, length, Option, Some, None, option_map, is_some, IfSome, slice_get, unwrap_or, append_assoc, append-nil, length-append}
+use Rattle.std.proofs.Common.{◌≡◌, refl, sym, ap, ◌∙◌, subst, ℕ, zero, suc, ◌+◌, ◌<◌, ◌≤◌, arith, Bool, true, false, ◌&&◌, ◌==◌, cond, not, List, [], ◌∷◌, ◌++◌, map, length, Option, Some, None, option_map, is_some, IfSome, Result, Ok, Err, IfErr, OnOk, slice_get, unwrap_or, append_assoc, append-nil, length-append}
 use Rattle.std.specs.List.{AllByRecursion}
 use Rattle.std.proofs.Math.ListN.{length-map}
 use Rattle.std.proofs.lemmas.List.{map-append}
@@ -125,7 +125,7 @@ module _ (m : ℕ) (shapes more : List Shape) (fs more_fs : List FunctionShape) 
     slots_stay [] h = refl
     slots_stay (s ∷ ss) h = λ i. slot_stays s h.0 i ∷ slots_stay ss h.1 i
 
-    declared_stays : (o : Option ℕ) → IfSome o (λ k. k < 14 + length shapes) → declared_in U o ≡ declared_in T o
+    pub declared_stays : (o : Option ℕ) → IfSome o (λ k. k < 14 + length shapes) → declared_in U o ≡ declared_in T o
     declared_stays None h = refl
     declared_stays (Some k) h = ap tree.Declaration.type_ (part_stays k h)
 
@@ -140,7 +140,7 @@ module _ (m : ℕ) (shapes more : List Shape) (fs more_fs : List FunctionShape) 
     functions_stay [] h = refl
     functions_stay (f ∷ ts) h = λ i. (f.name.now, record { signature = unwrap_or (signature_stays f.function h.0 i) no_signature; external_id = option_map text_of f.external_id }) ∷ functions_stay ts h.1 i
 
-functions_wider : (n m : ℕ) (fs : List FunctionShape) → n ≤ m → AreFunctionsIn n fs → AreFunctionsIn m fs
+pub functions_wider : (n m : ℕ) (fs : List FunctionShape) → n ≤ m → AreFunctionsIn n fs → AreFunctionsIn m fs
 functions_wider n m [] le h = tt
 functions_wider n m (f ∷ fs) le h = (record { params = params_wider f.params h.0.params; outcome = outcome_wider f.outcome h.0.outcome }, functions_wider n m fs le h.1)
   where
@@ -282,3 +282,25 @@ module _ (marks : List Bool) (old : State) (st : IsState (length marks) old) (he
       refused e (function_signature (scope_at place old).slots f) (step_of (Declaration.function f) place (scope_at place old))
       (λ none. ap (λ o. o >>= λ s. Some (in_instance (follow.function s) (scope_at place old))) none)
       (r (trees_at place old) (signatures_at place old))
+
+-- ---- the same step in other words
+
+pub steps_as : (marks : List Bool) (few : ℕ) (f g : (ℕ → Place) → MeantScope → Option MeantScope) (old new : State) → ((place : ℕ → Place) (scope : MeantScope) → g place scope ≡ f place scope) → Steps marks few f old new → Steps marks few g old new
+steps_as marks few f g old new same s = record {
+  state = s.state;
+  shapes_grow = s.shapes_grow;
+  signatures_grow = s.signatures_grow;
+  count = s.count;
+  follows = λ place marked. same place (scope_at place old) ∙ s.follows place marked;
+}
+
+pub halts_as : (marks : List Bool) (f g : (ℕ → Place) → MeantScope → Option MeantScope) (old : State) (e : Refusal) → ((place : ℕ → Place) (scope : MeantScope) → g place scope ≡ f place scope) → Halts marks f old e → Halts marks g old e
+halts_as marks f g old e same h place marked = refused e (f place (scope_at place old)) (g place (scope_at place old)) (λ none. same place (scope_at place old) ∙ none) (h place marked)
+
+pub on_ok : {A : Type 0} (P Q : Type 0) (r : Result A Refusal) → (P → Q) → OnOk r P → OnOk r Q
+on_ok P Q (Ok x) f h = f h
+on_ok P Q (Err e) f h = h
+
+pub if_err : {A : Type 0} (P Q : Refusal → Type 0) (r : Result A Refusal) → ((e : Refusal) → P e → Q e) → IfErr r P → IfErr r Q
+if_err P Q (Ok x) f h = h
+if_err P Q (Err e) f h = f e h

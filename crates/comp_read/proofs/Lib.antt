@@ -16,6 +16,7 @@ pub mod PartTypeLaws
 pub mod Refusing
 pub mod RowLaws
 pub mod SectionLaws
+pub mod ShowLaws
 pub mod SkipLaws
 pub mod SlotLaws
 pub mod TableGrowth

@@ -61,7 +61,7 @@ named_resource (Tree.named place name) h = refl
 named_resource (Tree.node f ts) h = absurd h
 
 -- a resource of the slots is a name
-name_at : (T : List Tree) (ss : List Slot) (n part : ℕ) → slice_get ss n ≡ Some (slots.Resource part) → AreNames T ss → IsName (part_tree T part)
+pub name_at : (T : List Tree) (ss : List Slot) (n part : ℕ) → slice_get ss n ≡ Some (slots.Resource part) → AreNames T ss → IsName (part_tree T part)
 name_at T [] n part e h = absurd cc
 name_at T (slots.Value p ∷ ss) zero part e h = absurd cc
 name_at T (slots.Resource p ∷ ss) zero part e h =
