@@ -1,4 +1,5 @@
 pub mod AddLaws
+pub mod AliasLaws
 pub mod BodyLaws
 pub mod DeclarationLaws
 pub mod DefiningLaws
@@ -19,6 +20,7 @@ pub mod SectionLaws
 pub mod ShowLaws
 pub mod SkipLaws
 pub mod SlotLaws
+pub mod StepLaws
 pub mod TableGrowth
 pub mod ValueLaws
 pub mod WholeLaws

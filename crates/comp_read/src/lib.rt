@@ -9,6 +9,7 @@ mod definitions;
 mod facts;
 mod front;
 mod functions;
+mod instances;
 mod items;
 mod keys;
 pub mod laws;

@@ -3,6 +3,7 @@
 ghost use Rattle.std.specs.Prelude.{◌≡◌, ◌<◌, ◌+◌, ◌^◌, [], length, map, slice_get, IfOk, OnOk, OnErr, IsOkUnless, Some};
 ghost use Rattle.comp_read.specs.Facts.{IsKept, Tells};
 ghost use Rattle.read_plan.specs.Shapes.{part_tree, shape_tree, shape_trees, Adds, IsShape, IsTable};
+ghost use Rattle.comp_read.specs.InstanceScopes.{place_in};
 ghost use Rattle.comp_read.specs.KeyShapes.{shape_of};
 ghost use Rattle.comp_read.specs.declared.refusal.Refusal.TheVariants as refusals;
 
@@ -100,5 +101,23 @@ impl<'a> Table<'a> {
         ensures { Tells result (λ place. part_tree (shape_trees place self.now) part) }
     {
         fact_at(&self.facts, part)
+    }
+    /// The number of the place of a part that is a name. Takes constant time.
+    pub fn place_of(&self, part: usize) -> Option<u32>
+        ensures { result ≡ place_in self.now part }
+    {
+        if part < 14 {
+            return None;
+        }
+        match self.keys.get_index(part - 14) {
+            Some(key) => {
+                if key.sort == 0 {
+                    Some(key.number)
+                } else {
+                    None
+                }
+            }
+            None => None,
+        }
     }
 }

@@ -1,4 +1,4 @@
-use Rattle.std.proofs.Common.{◌≡◌, ◌∙◌, ap, sym, ℕ, true, Bool, Option}
+use Rattle.std.proofs.Common.{◌≡◌, ◌∙◌, ap, sym, refl, ℕ, true, Bool, Option}
 use Rattle.wit_model.specs.Tree.{Place}
 use Rattle.comp_bytes.specs.declared.forms.ComponentTypeRef.{ComponentTypeRef}
 use Rattle.comp_meaning.specs.Follow.{InstanceScope as MeantScope, is_simple, show, show_function, show_type, when}
@@ -41,15 +41,15 @@ pub returns-in_default-clause-shown : goal.returns-in_default-clause-shown
 returns-in_default-clause-shown c = λ marks fs st below.
     let old = state_of c.args.table.now fs c.args.scope.now in
     let new = state_of c.show_type.new.table fs c.show_type.new.scope in
-    on_ok (Steps marks 1 (shows_type_of c.args.name c.in_default.other c.args.here) old new) (Steps marks 1 (shows c.args.name c.args.kind c.args.here) old new) c.show_type.result
-    (steps_as marks 1 (shows_type_of c.args.name c.in_default.other c.args.here) (shows c.args.name c.args.kind c.args.here) old new
-    (λ place meant. as_type c.args.kind c.in_default.other c.in_default.not-Func (sym c.in_default.other-is) (place c.args.here) (raw_name c.args.name) meant (sym c.if-not-is_simple.ensures)))
+    on_ok (Steps marks 1 (shows_type_of c.args.name c.args.kind c.args.here) old new) (Steps marks 1 (shows c.args.name c.args.kind c.args.here) old new) c.show_type.result
+    (steps_as marks 1 (shows_type_of c.args.name c.args.kind c.args.here) (shows c.args.name c.args.kind c.args.here) old new
+    (λ place meant. as_type c.args.kind c.args.kind c.in_default.not-Func refl (place c.args.here) (raw_name c.args.name) meant (sym c.if-not-is_simple.ensures)))
     (c.show_type.ensures.shown marks fs st below)
 
 pub returns-in_default-clause-absent : goal.returns-in_default-clause-absent
 returns-in_default-clause-absent c = λ marks fs st.
     let old = state_of c.args.table.now fs c.args.scope.now in
-    if_err (Halts marks (shows_type_of c.args.name c.in_default.other c.args.here) old) (Halts marks (shows c.args.name c.args.kind c.args.here) old) c.show_type.result
-    (λ e. halts_as marks (shows_type_of c.args.name c.in_default.other c.args.here) (shows c.args.name c.args.kind c.args.here) old e
-    (λ place meant. as_type c.args.kind c.in_default.other c.in_default.not-Func (sym c.in_default.other-is) (place c.args.here) (raw_name c.args.name) meant (sym c.if-not-is_simple.ensures)))
+    if_err (Halts marks (shows_type_of c.args.name c.args.kind c.args.here) old) (Halts marks (shows c.args.name c.args.kind c.args.here) old) c.show_type.result
+    (λ e. halts_as marks (shows_type_of c.args.name c.args.kind c.args.here) (shows c.args.name c.args.kind c.args.here) old e
+    (λ place meant. as_type c.args.kind c.args.kind c.in_default.not-Func refl (place c.args.here) (raw_name c.args.name) meant (sym c.if-not-is_simple.ensures)))
     (c.show_type.ensures.absent marks fs st)
