@@ -21,22 +21,22 @@ same_label a b = text_eq a.0.now b.0.now && beq a.1 b.1
 same_by : (a b : Key) → same_key a b ≡ ((a.sort == b.sort) && ((a.number == b.number) && (pointwise same_label a.labels.items b.labels.items && pointwise nat_eq a.parts.items b.parts.items)))
 same_by a b = refl
 
-beq_same : (a b : Bool) → beq a b ≡ true → a ≡ b
+pub beq_same : (a b : Bool) → beq a b ≡ true → a ≡ b
 beq_same true true e = refl
 beq_same true false e = absurd (true≢false (sym e))
 beq_same false true e = absurd (true≢false (sym e))
 beq_same false false e = refl
 
-beq_again : (a : Bool) → beq a a ≡ true
+pub beq_again : (a : Bool) → beq a a ≡ true
 beq_again true = refl
 beq_again false = refl
 
-both : (a b : Bool) → a ≡ true → b ≡ true → (a && b) ≡ true
+pub both : (a b : Bool) → a ≡ true → b ≡ true → (a && b) ≡ true
 both true true p q = refl
 both true false p q = absurd (true≢false (sym q))
 both false b p q = absurd (true≢false (sym p))
 
-text_same : (a b : Text) → text_eq a b ≡ true → a ≡ b
+pub text_same : (a b : Text) → text_eq a b ≡ true → a ≡ b
 text_same a b h = (bytes_eq-Decides a b).0 h
 
 labels_same : (xs ys : List (Bor (List ℕ) × Bool)) → pointwise same_label xs ys ≡ true → map label_of xs ≡ map label_of ys

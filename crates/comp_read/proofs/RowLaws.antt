@@ -26,15 +26,15 @@ use Rattle.comp_read.specs.DefinitionKeys.{IsNodeOf}
 use Rattle.comp_read.proofs.Refusing.{refused}
 use Rattle.comp_read.proofs.WholeLaws.{all_end}
 
-behind_none : {Y : Type 0} (found : Option (List Y)) → behind_rows [] found ≡ found
+pub behind_none : {Y : Type 0} (found : Option (List Y)) → behind_rows [] found ≡ found
 behind_none None = refl
 behind_none (Some ys) = refl
 
-behind_more : {Y : Type 0} (front : List Y) (y : Y) (found : Option (List Y)) → behind_rows front (found >>= λ ys. Some (y ∷ ys)) ≡ behind_rows (front ++ y ∷ []) found
+pub behind_more : {Y : Type 0} (front : List Y) (y : Y) (found : Option (List Y)) → behind_rows front (found >>= λ ys. Some (y ∷ ys)) ≡ behind_rows (front ++ y ∷ []) found
 behind_more front y None = refl
 behind_more front y (Some ys) = ap Some (sym (append_assoc front (y ∷ []) ys))
 
-none_dropped : {X : Type 0} (xs : List X) → drop 0 xs ≡ xs
+pub none_dropped : {X : Type 0} (xs : List X) → drop 0 xs ≡ xs
 none_dropped [] = refl
 none_dropped (x ∷ xs) = refl
 
@@ -157,10 +157,10 @@ given_list f None = refl
 given_list f (Some k) = refl
 
 module _ {X A : Type 0} (raw : X → A) (all : List X) (i : ℕ) where
-  raw_at : (d : X) → i < length all → drop i (map raw all) ≡ raw (get_or all i d) ∷ drop (i + 1) (map raw all)
+  pub raw_at : (d : X) → i < length all → drop i (map raw all) ≡ raw (get_or all i d) ∷ drop (i + 1) (map raw all)
   raw_at d more = drop-map raw i all ∙ (ap (map raw) (drop_more all i d more) ∙ ap (λ xs. raw (get_or all i d) ∷ xs) (sym (drop-map raw (i + 1) all)))
 
-  raw_end : length all ≤ i → drop i (map raw all) ≡ []
+  pub raw_end : length all ≤ i → drop i (map raw all) ≡ []
   raw_end past = drop-map raw i all ∙ ap (map raw) (drop_of_length-le all past)
 
 module _ (ss : List Slot) (all : List ComponentValType) (i : ℕ) (ks : List ℕ)

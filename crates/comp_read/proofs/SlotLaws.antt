@@ -5,7 +5,7 @@ use Rattle.wit_model.specs.Tree.{Tree}
 use Rattle.comp_bytes.specs.declared.forms.PrimitiveValType.{PrimitiveValType}
 use Rattle.comp_bytes.specs.declared.forms.PrimitiveValType.TheVariants as primitives
 use Rattle.comp_bytes.specs.declared.forms.ComponentValType.TheVariants as values
-use Rattle.comp_meaning.specs.Follow.{value_type, value_in, resource_in, primitive_of_type}
+use Rattle.comp_meaning.specs.Follow.{function_in, value_type, value_in, resource_in, primitive_of_type}
 use Rattle.comp_read.specs.declared.slots.Slot.{Slot}
 use Rattle.comp_read.specs.declared.slots.Slot.TheVariants as slots
 use Rattle.read_plan.specs.Shapes.{part_tree}
@@ -61,7 +61,7 @@ named_resource (Tree.named place name) h = refl
 named_resource (Tree.node f ts) h = absurd h
 
 -- a resource of the slots is a name
-name_at : (T : List Tree) (ss : List Slot) (n part : ℕ) → slice_get ss n ≡ Some (slots.Resource part) → AreNames T ss → IsName (part_tree T part)
+pub name_at : (T : List Tree) (ss : List Slot) (n part : ℕ) → slice_get ss n ≡ Some (slots.Resource part) → AreNames T ss → IsName (part_tree T part)
 name_at T [] n part e h = absurd cc
 name_at T (slots.Value p ∷ ss) zero part e h = absurd cc
 name_at T (slots.Resource p ∷ ss) zero part e h =
@@ -75,30 +75,39 @@ name_at T (slots.Resource p ∷ ss) (suc n) part e h = name_at T ss n part e h.1
 name_at T (slots.Function m ∷ ss) (suc n) part e h = name_at T ss n part e h
 name_at T (slots.Instance b m ∷ ss) (suc n) part e h = name_at T ss n part e h
 
+pub no_function : (t : Tree) → function_in (Some (resource_slot t)) ≡ None
+no_function (Tree.primitive p) = refl
+no_function (Tree.named place name) = refl
+no_function (Tree.node f ts) = refl
+
 module _ (ss : List Slot) (n : ℕ) (T : List Tree) (F : List Signature) where
-  found_slot : (s : Slot) → slice_get ss n ≡ Some s → slice_get (slots_in T F ss) n ≡ Some (slot_in T F s)
-  found_slot s e = mapped_get (slot_in T F) ss n s e
+  -- what the slot of an index stands for
+  pub at_slot : (s : Slot) → slice_get ss n ≡ Some s → slice_get (slots_in T F ss) n ≡ Some (slot_in T F s)
+  at_slot s e = mapped_get (slot_in T F) ss n s e
+
+  pub no_slot : slice_get ss n ≡ None → slice_get (slots_in T F ss) n ≡ None
+  no_slot e = mapped_none (slot_in T F) ss n e
 
   pub value_part : (part : ℕ) → slice_get ss n ≡ Some (slots.Value part) → value_type (slots_in T F ss) (values.Type_ n) ≡ Some (part_tree T part)
-  value_part part e = ap value_in (found_slot (slots.Value part) e)
+  value_part part e = ap value_in (at_slot (slots.Value part) e)
 
   pub value_resource : (part : ℕ) → slice_get ss n ≡ Some (slots.Resource part) → value_type (slots_in T F ss) (values.Type_ n) ≡ None
-  value_resource part e = ap value_in (found_slot (slots.Resource part) e) ∙ no_value (part_tree T part)
+  value_resource part e = ap value_in (at_slot (slots.Resource part) e) ∙ no_value (part_tree T part)
 
   pub value_function : (m : ℕ) → slice_get ss n ≡ Some (slots.Function m) → value_type (slots_in T F ss) (values.Type_ n) ≡ None
-  value_function m e = ap value_in (found_slot (slots.Function m) e)
+  value_function m e = ap value_in (at_slot (slots.Function m) e)
 
   pub value_instance : (s : Slot) → slice_get ss n ≡ Some s → value_in (Some (slot_in T F s)) ≡ None → value_type (slots_in T F ss) (values.Type_ n) ≡ None
-  value_instance s e none = ap value_in (found_slot s e) ∙ none
+  value_instance s e none = ap value_in (at_slot s e) ∙ none
 
   pub value_none : slice_get ss n ≡ None → value_type (slots_in T F ss) (values.Type_ n) ≡ None
   value_none e = ap value_in (mapped_none (slot_in T F) ss n e)
 
   pub resource_part : (part : ℕ) → slice_get ss n ≡ Some (slots.Resource part) → AreNames T ss → resource_in (slice_get (slots_in T F ss) n) ≡ Some (part_tree T part)
-  resource_part part e h = ap resource_in (found_slot (slots.Resource part) e) ∙ named_resource (part_tree T part) (name_at T ss n part e h)
+  resource_part part e h = ap resource_in (at_slot (slots.Resource part) e) ∙ named_resource (part_tree T part) (name_at T ss n part e h)
 
   pub no_resource : (s : Slot) → slice_get ss n ≡ Some s → resource_in (Some (slot_in T F s)) ≡ None → resource_in (slice_get (slots_in T F ss) n) ≡ None
-  no_resource s e none = ap resource_in (found_slot s e) ∙ none
+  no_resource s e none = ap resource_in (at_slot s e) ∙ none
 
   pub resource_none : slice_get ss n ≡ None → resource_in (slice_get (slots_in T F ss) n) ≡ None
   resource_none e = ap resource_in (mapped_none (slot_in T F) ss n e)

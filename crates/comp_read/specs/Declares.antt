@@ -2,11 +2,12 @@
 use Rattle.std.specs.Prelude.{ℕ, List, [], ◌∷◌, None, ◌==◌, if◌then◌else◌}
 use Rattle.std.specs.Borrow.{Bor}
 use Rattle.comp_bytes.specs.Raw.{Declaration}
-use Rattle.comp_bytes.specs.RawOf.{raw_defined, raw_function, raw_alias, raw_name}
+use Rattle.comp_bytes.specs.RawOf.{raw_defined, raw_function, raw_alias}
 use Rattle.comp_bytes.specs.declared.forms.ComponentTypeRef.{ComponentTypeRef}
 use Rattle.comp_bytes.specs.declared.forms.ComponentTypeRef.TheVariants as refs
 use Rattle.comp_bytes.specs.Reading.{Reader, as_at, just_at, pair_at, tagged_at, u32_at, alias_at, extern_name_at, description_at}
 use Rattle.comp_bytes.specs.FirstByte.{declared_type_at}
+use Rattle.comp_read.specs.ExternNames.{raw_name}
 use Rattle.comp_read.specs.declared.declarations.Declared.{Declared}
 use Rattle.comp_read.specs.declared.declarations.Declared.TheVariants as declared
 

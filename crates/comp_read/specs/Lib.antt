@@ -1,4 +1,5 @@
 pub mod Found
+pub mod ExternNames
 pub mod Declares
 pub mod Bodies
 pub mod PartTypes
@@ -8,3 +9,7 @@ pub mod Facts
 pub mod Slots
 pub mod DefinitionKeys
 pub mod Rows
+pub mod Functions
+pub mod Defining
+pub mod Following
+pub mod InstanceScopes

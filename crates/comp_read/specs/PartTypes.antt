@@ -1,6 +1,6 @@
 -- Types at the top, whose entries are kept as a part of the input.
 use Rattle.comp_bytes.specs.Levels.{PartType as RawPartType, entry_at, wraps, shows}
-use Rattle.comp_bytes.specs.RawOf.{raw_name}
+use Rattle.comp_read.specs.ExternNames.{raw_name}
 use Rattle.comp_read.specs.declared.part_types.PartType.{PartType}
 use Rattle.comp_read.specs.declared.part_types.PartType.TheVariants as parts
 use Rattle.comp_read.specs.Bodies.{items_in, IsBody}

@@ -2,7 +2,7 @@
 use Rattle.std.specs.Prelude.{map, Some}
 use Rattle.std.specs.List.{AllByRecursion}
 use Rattle.comp_bytes.specs.Raw.{TopExport as RawExport}
-use Rattle.comp_bytes.specs.RawOf.{raw_name}
+use Rattle.comp_read.specs.ExternNames.{raw_name}
 use Rattle.comp_bytes.specs.Levels.{Piece as RawPiece, custom, types, exports, piece_of}
 use Rattle.comp_bytes.specs.Reading.{Reader, ◌>>=◌, frame_at}
 use Rattle.comp_read.specs.declared.refusal.Refusal.{Refusal}

@@ -65,7 +65,7 @@ struct Held<'a>(Declared<'a>);
 
 /// The declaration of an instance type in front, and the bytes behind it.
 #[tactic(auto, unfolding(crate::specs::Bodies::held_declaration_at))]
-fn held_declaration_of<'a>(
+pub(crate) fn held_declaration_of<'a>(
     alloc: Global,
     bytes: &'a [u8],
 ) -> Result<(Declared<'a>, &'a [u8]), Refusal>

@@ -8,11 +8,9 @@ ghost use Rattle.comp_read.specs.Found.{Finds};
 
 use crate::definitions::{defined_type_of, function_type_of};
 use crate::front::{name_of, u32_of};
-use crate::names::extern_name_of;
+use crate::names::{ExternName, extern_name_of};
 use crate::refusal::Refusal;
-use comp_bytes::{
-    Alias, ComponentDefinedType, ComponentExternName, ComponentFuncType, ComponentTypeRef,
-};
+use comp_bytes::{Alias, ComponentDefinedType, ComponentFuncType, ComponentTypeRef};
 use std::alloc::Global;
 use wit_model::Cause;
 
@@ -30,8 +28,8 @@ pub enum Declared<'a> {
     Defined(ComponentDefinedType<'a>),
     Function(ComponentFuncType<'a>),
     Alias(Alias<'a>),
-    Import(ComponentExternName<'a>, Description),
-    Export(ComponentExternName<'a>, Description),
+    Import(ExternName<'a>, Description),
+    Export(ExternName<'a>, Description),
 }
 
 /// An alias: of a type that an instance exports, or of a type of a scope around.

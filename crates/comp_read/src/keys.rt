@@ -12,3 +12,12 @@ pub struct Key<'a> {
     /// A primitive by its number, or 14 more than the number of a type in the table.
     pub parts: Vec<usize>,
 }
+
+/// What the type of a function is, over the parts of its parameters and its result. Texts are parts of the input.
+#[derive(PartialEq, Eq, Hash, Drop)]
+pub struct FunctionKey<'a> {
+    pub is_async: bool,
+    /// The parameters: the name and the part of each.
+    pub params: Vec<(&'a str, usize)>,
+    pub result: Option<usize>,
+}

@@ -1,18 +1,28 @@
 //! Names of imports and exports, with their attributes.
 
 ghost use Rattle.std.specs.Prelude.{◌≡◌, List, ℕ, map, option_map};
-ghost use Rattle.comp_bytes.specs.RawOf.{raw_name, text_given, text_of};
+ghost use Rattle.comp_bytes.specs.RawOf.{text_of};
 ghost use Rattle.comp_bytes.specs.Reading.{attributed_at, byte_at, extern_name_at, name_at, pair_at, plain_name, take_attribute as take_attribute_lem, with_attributes as with_attributes_lem};
 ghost use Rattle.comp_read.specs.Declares.{attribute};
+ghost use Rattle.comp_read.specs.ExternNames.{raw_name};
 ghost use Rattle.comp_read.specs.Found.{Finds, Gives};
 
 use crate::front::name_of;
 use crate::refusal::Refusal;
 use crate::vector::{Form, vector_of};
-use comp_bytes::ComponentExternName;
 use std::alloc::Global;
-use std::borrow::CowStr;
 use wit_model::Cause;
+
+/// The name of an import or an export, with its attributes. Texts are parts of the input.
+#[derive(Clone, Copy, PartialEq, Eq)]
+pub struct ExternName<'a> {
+    pub text: &'a str,
+    /// The path of the interface that an instance under a label implements.
+    pub implements: Option<&'a str>,
+    /// What completes the version of the path.
+    pub version_suffix: Option<&'a str>,
+    pub external_id: Option<&'a str>,
+}
 
 /// An attribute: its tag and its text.
 #[tactic(auto, unfolding(comp_bytes::specs::Reading::byte_at, comp_bytes::specs::Reading::pair_at))]
@@ -59,23 +69,13 @@ fn take_attribute<'a, 'b>(
     }
 }
 
-/// A text that is part of the input, if there is one.
-fn borrowed<'a>(text: Option<&'a str>) -> Option<CowStr<'a>>
-    ensures { text_given result ≡ option_map text_of text.entry }
-{
-    match text {
-        Some(text) => Some(CowStr::Borrowed(text)),
-        None => None,
-    }
-}
-
 /// The name with these attributes. There are some, and their tags rise.
 #[tactic(auto, unfolding(comp_bytes::specs::Reading::with_attributes))]
 fn with_attributes<'a>(
     name: &'a str,
     given: &[(u8, &'a str)],
     left: usize,
-) -> Result<ComponentExternName<'a>, Refusal>
+) -> Result<ExternName<'a>, Refusal>
     ensures { Gives raw_name result (with_attributes_lem (name.now, map attribute given.now)) }
 {
     let (implements, others) = take_attribute(0x00, given);
@@ -84,11 +84,11 @@ fn with_attributes<'a>(
     if given.is_empty() || !others.is_empty() {
         return Err(Refusal::Absent(Cause::UnknownForm, left));
     }
-    Ok(ComponentExternName {
-        name: CowStr::Borrowed(name),
-        implements: borrowed(implements),
-        version_suffix: borrowed(version_suffix),
-        external_id: borrowed(external_id),
+    Ok(ExternName {
+        text: name,
+        implements,
+        version_suffix,
+        external_id,
     })
 }
 
@@ -97,7 +97,7 @@ fn with_attributes<'a>(
 fn attributed_of<'a>(
     alloc: Global,
     bytes: &'a [u8],
-) -> Result<(ComponentExternName<'a>, &'a [u8]), Refusal>
+) -> Result<(ExternName<'a>, &'a [u8]), Refusal>
     ensures { Finds raw_name result (attributed_at bytes.now) }
 {
     let (name, rest) = name_of(bytes)?;
@@ -107,11 +107,11 @@ fn attributed_of<'a>(
 }
 
 /// A name without attributes.
-fn plain(text: &str) -> ComponentExternName<'_>
+fn plain(text: &str) -> ExternName<'_>
     ensures { raw_name result ≡ plain_name text.now }
 {
-    ComponentExternName {
-        name: CowStr::Borrowed(text),
+    ExternName {
+        text,
         implements: None,
         version_suffix: None,
         external_id: None,
@@ -125,7 +125,7 @@ fn plain(text: &str) -> ComponentExternName<'_>
 pub(crate) fn extern_name_of<'a>(
     alloc: Global,
     bytes: &'a [u8],
-) -> Result<(ComponentExternName<'a>, &'a [u8]), Refusal>
+) -> Result<(ExternName<'a>, &'a [u8]), Refusal>
     ensures { Finds raw_name result (extern_name_at bytes.now) }
 {
     let Some((first, rest)) = bytes.split_first() else {

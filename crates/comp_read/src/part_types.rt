@@ -2,7 +2,7 @@
 
 ghost use Rattle.std.specs.Prelude.{◌≡◌, IfOk};
 ghost use Rattle.comp_bytes.specs.Levels.{PartType as RawPartType, entry_at, part_behind_at, part_type_at, shows, world_export_at, wraps};
-ghost use Rattle.comp_bytes.specs.RawOf.{raw_name};
+ghost use Rattle.comp_read.specs.ExternNames.{raw_name};
 ghost use Rattle.comp_bytes.specs.Reading.{as_at, pair_at, sequence_at, vector_at};
 ghost use Rattle.comp_read.specs.Bodies.{items_in, IsBody};
 ghost use Rattle.comp_read.specs.Found.{Finds};
@@ -11,9 +11,10 @@ ghost use Rattle.comp_read.specs.PartTypes.{raw_part_type, IsWholePart};
 use crate::bodies::{Body, entry_items};
 use crate::declarations::{Declared, declaration_of};
 use crate::front::u32_of;
+use crate::names::ExternName;
 use crate::refusal::Refusal;
 use crate::vector::Form;
-use comp_bytes::{ComponentExternName, ComponentTypeRef};
+use comp_bytes::ComponentTypeRef;
 use std::alloc::Global;
 use wit_model::Cause;
 
@@ -21,7 +22,7 @@ use wit_model::Cause;
 #[derive(Drop)]
 pub enum PartType<'a> {
     /// The wrapper of a world: the entries of the world, and the name of its export.
-    Wraps(Body<'a>, ComponentExternName<'a>),
+    Wraps(Body<'a>, ExternName<'a>),
     /// The type of an interface: its entries.
     Shows(Body<'a>),
 }
@@ -43,7 +44,7 @@ fn entries_of<'a>(alloc: Global, bytes: &'a [u8]) -> Result<(Body<'a>, &'a [u8])
 fn world_export_of<'a>(
     alloc: Global,
     bytes: &'a [u8],
-) -> Result<(ComponentExternName<'a>, &'a [u8]), Refusal>
+) -> Result<(ExternName<'a>, &'a [u8]), Refusal>
     ensures { Finds raw_name result (world_export_at bytes.now) }
 {
     let (declared, rest) = declaration_of(alloc, bytes)?;

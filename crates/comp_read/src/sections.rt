@@ -9,18 +9,18 @@ ghost use Rattle.comp_read.specs.Found.{Finds, Gives};
 ghost use Rattle.comp_read.specs.Pieces.{piece_at, raw_export, raw_piece, AreAlike, IsWholePiece};
 
 use crate::front::{name_of, u32_of};
-use crate::names::extern_name_of;
+use crate::names::{ExternName, extern_name_of};
 use crate::part_types::PartType;
 use crate::refusal::{Refusal, refusal_of};
 use crate::vector::{Form, vector_of};
-use comp_bytes::{ComponentExternName, Section, Sections};
+use comp_bytes::{Section, Sections};
 use std::alloc::Global;
 use wit_model::Cause;
 
 /// An export at the top of a component. Texts are parts of the input.
 #[derive(Drop)]
 pub struct TopExport<'a> {
-    pub name: ComponentExternName<'a>,
+    pub name: ExternName<'a>,
     /// The index of a type.
     pub index: u32,
     /// How many bytes were left in front of the index.

@@ -48,7 +48,8 @@ pub(crate) fn primitive_index(primitive: PrimitiveValType) -> usize
     }
 }
 
-fn slot_at<'a>(slots: &[Slot<'a>], n: u32) -> Option<Slot<'a>>
+/// The slot of an index, if there is one.
+pub(crate) fn slot_at<'a>(slots: &[Slot<'a>], n: u32) -> Option<Slot<'a>>
     ensures { result ≡ slice_get slots.now n }
 {
     slots.get(n as usize).copied()

@@ -3,6 +3,7 @@
 ghost use Rattle.std.specs.Prelude.{◌≡◌, ◌<◌, ◌+◌, ◌^◌, [], length, map, slice_get, IfOk, OnOk, OnErr, IsOkUnless, Some};
 ghost use Rattle.comp_read.specs.Facts.{IsKept, Tells};
 ghost use Rattle.read_plan.specs.Shapes.{part_tree, shape_tree, shape_trees, Adds, IsShape, IsTable};
+ghost use Rattle.comp_read.specs.InstanceScopes.{place_in};
 ghost use Rattle.comp_read.specs.KeyShapes.{shape_of};
 ghost use Rattle.comp_read.specs.declared.refusal.Refusal.TheVariants as refusals;
 
@@ -87,11 +88,36 @@ impl<'a> Table<'a> {
         put(&mut self.keys, &mut self.facts, key, fact)
     }
 
+    /// Each type stands behind its parts, and none stands twice.
+    pub(crate) fn is_well_formed(&self)
+        ensures { IsTable self.now }
+    {
+        let _count = self.facts.len();
+    }
+
     /// What is known of a part: a primitive by its number, or 14 more than the number of a type in the table. Takes constant time.
     pub fn fact(&self, part: usize) -> Fact
         requires { part < 14 + length self.now }
         ensures { Tells result (λ place. part_tree (shape_trees place self.now) part) }
     {
         fact_at(&self.facts, part)
+    }
+    /// The number of the place of a part that is a name. Takes constant time.
+    pub fn place_of(&self, part: usize) -> Option<u32>
+        ensures { result ≡ place_in self.now part }
+    {
+        if part < 14 {
+            return None;
+        }
+        match self.keys.get_index(part - 14) {
+            Some(key) => {
+                if key.sort == 0 {
+                    Some(key.number)
+                } else {
+                    None
+                }
+            }
+            None => None,
+        }
     }
 }

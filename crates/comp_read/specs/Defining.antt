@@ -1,0 +1,51 @@
+-- A definition takes the next slot of a scope.
+use Rattle.std.specs.Prelude.{◌≡◌, ◌<◌, ◌≤◌, ◌+◌, ℕ, List, [], ◌∷◌, ◌++◌, length, Some, slice_get}
+use Rattle.std.specs.List.{AllByRecursion}
+use Rattle.wit_model.specs.Meaning.{Signature}
+use Rattle.wit_model.specs.Tree.{Place, Tree}
+use Rattle.comp_bytes.specs.Raw.{DefinedType, FunctionType}
+use Rattle.comp_meaning.specs.Follow.{definition, function_signature}
+use Rattle.comp_read.specs.declared.refusal.Refusal.{Refusal}
+use Rattle.comp_read.specs.declared.slots.Slot.{Slot}
+use Rattle.comp_read.specs.declared.slots.Slot.TheVariants as slots
+use Rattle.comp_read.specs.Found.{Refuses}
+use Rattle.comp_read.specs.Functions.{FunctionShape, IsFunctionIn, Joins, signature_in}
+use Rattle.comp_read.specs.Slots.{slots_in, AreInRange, AreNames}
+use Rattle.read_plan.specs.Shapes.{Shape, part_tree, shape_trees}
+
+-- The list has what it had, and perhaps more behind it.
+pub record Grows {X : Type 0} (old new : List X) : Type 0 where
+  pub more : List X
+  pub is : new ≡ old ++ more
+
+-- each name stands in one of the first so many places
+abbrev pub IsPlacedBelow : ℕ → Shape → Type 0
+IsPlacedBelow m s = s.sort ≡ 0 → s.number < m
+
+abbrev pub ArePlacedBelow : ℕ → List Shape → Type 0
+ArePlacedBelow m shapes = AllByRecursion (IsPlacedBelow m) shapes
+
+-- The next slot is a part, and it stands for what the definition stands for.
+pub record IsDefined (shapes : List Shape) (old : List Slot) (d : DefinedType) (more : List Shape) (new : List Slot) : Type 0 where
+  pub part : ℕ
+  pub next : new ≡ old ++ slots.Value part ∷ []
+  pub range : part < 14 + length more
+  pub grown : Grows shapes more
+  pub count : length more ≤ length shapes + 1
+  pub placed : (m : ℕ) → ArePlacedBelow m shapes → ArePlacedBelow m more
+  pub found : (place : ℕ → Place) (F : List Signature) → AreNames (shape_trees place shapes) old
+      → definition (slots_in (shape_trees place shapes) F old) d ≡ Some (part_tree (shape_trees place more) part)
+
+-- the definition stands for nothing, unless memory ran out
+abbrev pub IsUndefined : List Shape → List Slot → DefinedType → Refusal → Type 0
+IsUndefined shapes old d e = (place : ℕ → Place) (F : List Signature) → AreNames (shape_trees place shapes) old → Refuses e (definition (slots_in (shape_trees place shapes) F old) d)
+
+-- The next slot is a function, and its number that of what the type of a function stands for.
+pub record IsDefinedFunction (fs : List FunctionShape) (old : List Slot) (f : FunctionType) (more : List FunctionShape) (new : List Slot) : Type 0 where
+  pub number : ℕ
+  pub shape : FunctionShape
+  pub next : new ≡ old ++ slots.Function number ∷ []
+  pub at : slice_get more number ≡ Some shape
+  pub joins : Joins fs shape more
+  pub ranges : (n : ℕ) → AreInRange n old → IsFunctionIn n shape
+  pub found : (T : List Tree) (F : List Signature) → function_signature (slots_in T F old) f ≡ Some (signature_in T shape)

@@ -1,0 +1,70 @@
+-- Scopes of instance types as they are kept, and what their exports declare.
+use Rattle.std.specs.Prelude.{ℕ, ◌-◌, ◌==◌, ◌&&◌, nat_lt, if◌then◌else◌, Bool, true, false, List, Option, Some, None, slice_get, unwrap_or}
+use Rattle.wit_model.specs.Text.{Text}
+use Rattle.wit_model.specs.Tree as tree
+use Rattle.wit_model.specs.Tree.{Place, Tree}
+use Rattle.comp_meaning.specs.Follow as follow
+use Rattle.comp_bytes.specs.Raw.{Alias, Declaration}
+use Rattle.comp_bytes.specs.Reading.{◌>>=◌}
+use Rattle.comp_meaning.specs.Follow.{InstanceScope as MeantScope, Slot as Meant, instance_step, provided}
+use Rattle.comp_read.specs.declared.shows.NewName.{NewName}
+use Rattle.comp_read.specs.declared.slots.Slot.{Slot}
+use Rattle.comp_read.specs.declared.slots.Slot.TheVariants as slots
+use Rattle.comp_read.specs.declared.views.InstanceScope.{InstanceScope}
+use Rattle.comp_read.specs.Following.{declared_in, State}
+use Rattle.comp_read.specs.Functions.{functions_in, FunctionShape}
+use Rattle.comp_read.specs.Slots.{slots_in}
+use Rattle.read_plan.specs.Shapes.{Shape, shape_trees}
+
+-- the scope over the tables
+abbrev pub state_of : List Shape → List FunctionShape → InstanceScope → State
+state_of shapes fs s = record { shapes = shapes; signatures = fs; slots = s.slots.items; types = s.types.items; functions = s.functions.items }
+
+-- the name in its place, as a resource or as a type of a value
+abbrev pub name_meant : Bool → Place → Text → Meant
+name_meant true place name = follow.resource place name
+name_meant false place name = follow.value (Tree.named place name)
+
+-- what is declared, and what the index of its name stands for
+abbrev pub named_by : List Tree → Place → Text → NewName → tree.Declaration × Meant
+named_by T place name x = (declared_in T x.declared, name_meant x.is_resource place name)
+
+abbrev pub name_slot : Bool → ℕ → Slot
+name_slot true part = slots.Resource part
+name_slot false part = slots.Value part
+
+-- ---- aliases
+
+-- the number of the place of a name
+abbrev pub name_place : Option Shape → Option ℕ
+name_place None = None
+name_place (Some s) = if s.sort == 0 then Some s.number else None
+
+-- the number of the place of a part that is a name
+abbrev pub place_in : List Shape → ℕ → Option ℕ
+place_in shapes part = if nat_lt part 14 then None else name_place (slice_get shapes (part - 14))
+
+-- whether the place of this number, if there is one, is marked
+abbrev pub is_marked : List Bool → Option ℕ → Bool
+is_marked marks None = false
+is_marked marks (Some p) = unwrap_or (slice_get marks p) false
+
+abbrev pub foreign_part : List Bool → List Shape → ℕ → Bool
+foreign_part marks shapes part = is_marked marks (place_in shapes part)
+
+abbrev pub foreign_slot : List Bool → List Shape → Slot → Bool
+foreign_slot marks shapes (slots.Value part) = foreign_part marks shapes part
+foreign_slot marks shapes (slots.Resource part) = foreign_part marks shapes part
+foreign_slot marks shapes (slots.Function n) = false
+foreign_slot marks shapes (slots.Instance b n) = false
+
+-- ---- one declaration
+
+-- what the definition does with a declaration, where these slots stand around
+abbrev pub step_of : ℕ → List Shape → List FunctionShape → List Slot → Declaration → (ℕ → Place) → MeantScope → Option MeantScope
+step_of here shapes fs outer d place meant = instance_step (place here) (slots_in (shape_trees place shapes) (functions_in (shape_trees place shapes) fs) outer) meant d
+
+-- the slot that an alias takes over, where these slots stand around
+abbrev pub taken_by : List Bool → List Shape → List Slot → Alias → Option Slot
+taken_by marks shapes outer (Alias.of_export m name) = None
+taken_by marks shapes outer (Alias.of_outer scopes n) = slice_get outer n >>= λ s. provided (scopes == 1 && foreign_slot marks shapes s) s
