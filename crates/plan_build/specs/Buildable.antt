@@ -1,15 +1,14 @@
 -- When a `Resolve` can be built of a plan.
-use Rattle.std.specs.Prelude.{◌≡◌, Bool, true, false, ◌&&◌, not, List, [], ◌∷◌, map}
-use Rattle.std.specs.List.{list_all, list_any}
+use Rattle.std.specs.Prelude.{◌≡◌, Bool, true, ◌&&◌}
+use Rattle.std.specs.List.{list_all}
 use Rattle.wit_model.specs.Names.{is_optional_version}
 use Rattle.wit_model.specs.Rules.{are_distinct}
 use Rattle.read_plan.specs.Plan.{Plan, PlannedPackage, PlannedInterface, PlannedWorld}
 use Rattle.read_plan.specs.PlanRules.{IsPlan, names_of, keys_differ}
 
--- no two are alike
-abbrev pub differ : {C : Type 0} → (C → C → Bool) → List C → Bool
-differ same [] = true
-differ same (c ∷ cs) = not (list_any (same c) cs) && differ same cs
+-- the version is one of Semantic Versioning 2.0.0
+abbrev pub has_version : PlannedPackage → Bool
+has_version k = is_optional_version k.identity.version
 
 -- the names of a package's interfaces differ, and those of its worlds
 abbrev pub package_differs : PlannedPackage → Bool
@@ -25,7 +24,7 @@ world_differs w = keys_differ w.imports && keys_differ w.exports
 
 -- The versions are versions (Semantic Versioning 2.0.0), and no map gets a key twice.
 pub record IsBuildable (p : Plan) : Type 0 where
-  pub versions : list_all (λ k. is_optional_version k.identity.version) p.packages ≡ true
+  pub versions : list_all has_version p.packages ≡ true
   pub packages : list_all package_differs p.packages ≡ true
   pub interfaces : list_all interface_differs p.interfaces ≡ true
   pub worlds : list_all world_differs p.worlds ≡ true

@@ -1,13 +1,17 @@
 -- What the code's plan states, as a plan in plain numbers and texts.
-use Rattle.std.specs.Prelude.{ℕ, ◌+◌, Bool, List, [], ◌∷◌, map, Option, Some, None, option_map, is_some}
+use Rattle.std.specs.Prelude.{ℕ, ◌+◌, Bool, List, [], ◌∷◌, map, Option, Some, None, String, option_map, is_some}
 use Rattle.std.specs.Borrow.{Bor}
+use Rattle.std.specs.declared.alloc.Global.{Global}
 use Rattle.wit_model.specs.declared.model.«Type».{«Type» as ValueType}
 use Rattle.wit_model.specs.declared.model.Case.{Case}
+use Rattle.wit_model.specs.declared.model.Function.{Function}
+use Rattle.wit_model.specs.declared.model.Param.{Param}
+use Rattle.wit_model.specs.Names.{PackageIdentity}
 use Rattle.wit_model.specs.Text.{Text, text_of}
 use Rattle.wit_model.specs.Tree.{Form}
 use Rattle.read_plan.specs.Plan as plan
 use Rattle.read_plan.specs.Plan.{resource, alias, formed, label, path_of, interface, function, declares}
-use Rattle.read_plan.specs.Built.{part_of, given_parts}
+use Rattle.read_plan.specs.Built.{part_of, given_parts, planned_function}
 use Rattle.plan_build.specs.declared.plan.Plan.{Plan}
 use Rattle.plan_build.specs.declared.plan.PlannedPackage.{PlannedPackage}
 use Rattle.plan_build.specs.declared.plan.PlannedInterface.{PlannedInterface}
@@ -59,6 +63,20 @@ stated_type t = record { name = stated_text t.name; owner = t.owner; kind = stat
 
 -- ---- functions, interfaces, worlds and packages
 
+-- a number under its name, of a plan and of a map
+abbrev pub stated_number : {N : Type 0} → Bor Text × N → Text × N
+stated_number e = (e.0.now, e.1)
+
+abbrev pub built_number : {N : Type 0} → String Global × N → Text × N
+built_number e = (text_of e.0, e.1)
+
+abbrev pub built_param : Param → Text × ℕ
+built_param x = (text_of x.name, part_of x.ty)
+
+-- a function of a map under its name
+abbrev pub built_function : String Global × Function → Text × plan.PlannedFunction
+built_function e = (text_of e.0, planned_function e.1)
+
 abbrev pub stated_params : List (Bor Text × ValueType) → List (Text × ℕ)
 stated_params es = map (λ e. (e.0.now, part_of e.1)) es
 
@@ -103,9 +121,12 @@ stated_world w = record {
   exports = map stated_entry w.exports.items;
 }
 
+abbrev pub stated_identity : PlannedPackage → PackageIdentity
+stated_identity p = record { namespace = p.namespace.now; name = p.name.now; version = stated_text p.version }
+
 abbrev pub stated_package : PlannedPackage → plan.PlannedPackage
 stated_package p = record {
-  identity = record { namespace = p.namespace.now; name = p.name.now; version = stated_text p.version };
+  identity = stated_identity p;
   interfaces = map (λ e. (e.0.now, e.1.0)) p.interfaces.items;
   worlds = map (λ e. (e.0.now, e.1.0)) p.worlds.items;
 }
