@@ -1,13 +1,13 @@
 -- Maps that are built of lists whose keys differ.
-use Rattle.std.proofs.Common.{◌≡◌, refl, sym, ap, ◌∙◌, ℕ, zero, suc, ◌+◌, ◌<◌, Bool, true, false, ◌&&◌, ◌||◌, not, List, [], ◌∷◌, ◌++◌, map, take, length, get_or, option_map, Option, Some, None, slice_get}
-use Rattle.std.specs.List.{list_all, list_any, AllByRecursion}
+use Rattle.std.proofs.Common.{◌≡◌, refl, sym, ap, ◌∙◌, ℕ, zero, suc, ◌+◌, ◌<◌, Bool, true, false, ◌&&◌, ◌||◌, not, List, [], ◌∷◌, ◌++◌, map, take, length, get_or, option_map, Some, slice_get}
+use Rattle.std.specs.List.{list_any, AllByRecursion}
 use Rattle.std.specs.Map.{keys_of, values_of}
 use Rattle.std.proofs.lemmas.List.{map-append, take-map}
 use Rattle.std.proofs.lemmas.Option.{slice_get-get_or}
 use Rattle.indexmap.specs.IndexMap.{insert_entry}
 use Rattle.indexmap.proofs.MapLemmas.{insert_entry-absent}
 use Rattle.wit_model.proofs.Lists.{first_true, second_true}
-use Rattle.read_plan.proofs.Lists.{get_of_map, map_of_map, any_of_map, no_true}
+use Rattle.read_plan.proofs.Lists.{get_of_map, map_of_map, no_true}
 use Rattle.plan_build.proofs.Listing.{one_more}
 
 none_of : (a b : Bool) → (a || b) ≡ false → (a ≡ false) × (b ≡ false)

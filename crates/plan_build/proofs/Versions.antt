@@ -1,5 +1,5 @@
 -- A text that was read as a version is the text of that version.
-use Rattle.std.proofs.Common.{◌≡◌, ℕ, ◌^◌, Bool, true, ◌&&◌, nat_lt, Ok}
+use Rattle.std.proofs.Common.{◌≡◌, ◌^◌, true, ◌&&◌, nat_lt, Ok}
 use Rattle.std.proofs.lemmas.Bool.{and_from, lt-ltb}
 use Rattle.semver.specs.declared.Version.{Version}
 use Rattle.semver.specs.Identifiers.{parts_of, version_text, pre_text, build_text}

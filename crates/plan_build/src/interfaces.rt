@@ -13,10 +13,7 @@ use crate::texts::{copied_if_given, no_docs};
 use std::alloc::{AllocError, Global};
 use wit_model::{Interface, Stability};
 
-fn interface_of(
-    alloc: Global,
-    interface: &PlannedInterface<'_>,
-) -> Result<Interface, AllocError>
+fn interface_of(alloc: Global, interface: &PlannedInterface<'_>) -> Result<Interface, AllocError>
     ensures built { IfOk result (λ i. interface_differs (stated_interface interface.now) ≡ true → planned_interface i ≡ stated_interface interface.now) }
     ensures bare { IfOk result (λ i. interface_differs (stated_interface interface.now) ≡ true → is_bare_interface i ≡ true) }
 {

@@ -118,10 +118,7 @@ fn kind_of(alloc: Global, kind: &PlannedKind<'_>) -> Result<TypeDefKind, AllocEr
             Ok(TypeDefKind::Enum(Enum { cases }))
         }
         PlannedKind::Option(ty) => Ok(TypeDefKind::Option(*ty)),
-        PlannedKind::Result(ok, err) => Ok(TypeDefKind::Result(Result_ {
-            ok: *ok,
-            err: *err,
-        })),
+        PlannedKind::Result(ok, err) => Ok(TypeDefKind::Result(Result_ { ok: *ok, err: *err })),
         PlannedKind::Own(id) => Ok(TypeDefKind::Handle(Handle::Own(*id))),
         PlannedKind::Borrow(id) => Ok(TypeDefKind::Handle(Handle::Borrow(*id))),
         PlannedKind::Future(ty) => Ok(TypeDefKind::Future(*ty)),
@@ -147,10 +144,7 @@ fn type_of(alloc: Global, ty: &PlannedType<'_>) -> Result<TypeDef, AllocError>
 }
 
 /// The types, in their order.
-pub(crate) fn types_of(
-    alloc: Global,
-    types: &[PlannedType<'_>],
-) -> Result<Vec<TypeDef>, AllocError>
+pub(crate) fn types_of(alloc: Global, types: &[PlannedType<'_>]) -> Result<Vec<TypeDef>, AllocError>
     ensures built { IfOk result (λ xs. map planned_type xs.items ≡ map stated_type types.now) }
     ensures bare { IfOk result (λ xs. list_all is_bare_type xs.items ≡ true) }
 {

@@ -1,6 +1,5 @@
-use Rattle.std.proofs.Common.{◌≡◌, ◌∙◌, ap, refl, map}
+use Rattle.std.proofs.Common.{◌∙◌, refl, map}
 use Rattle.std.specs.Prelude.{string_eq}
-use Rattle.std.proofs.lemmas.List.{map-append}
 use Rattle.indexmap.specs.IndexMap.{values}
 use Rattle.wit_model.specs.Text.{text_of, text_eq}
 use Rattle.wit_model.proofs.Distinct.{text_eq_flip}

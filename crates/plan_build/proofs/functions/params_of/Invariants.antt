@@ -1,4 +1,4 @@
-use Rattle.std.proofs.Common.{◌≡◌, true, map, take}
+use Rattle.std.proofs.Common.{◌≡◌, map, take}
 use Rattle.plan_build.specs.PlanOf.{built_param, stated_params}
 use Rattle.plan_build.proofs.functions.params_of.Given as goal
 

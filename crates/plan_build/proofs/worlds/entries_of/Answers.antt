@@ -1,11 +1,9 @@
-use Rattle.std.proofs.Common.{◌≡◌, ◌∙◌, ap, refl, map}
 use Rattle.indexmap.specs.IndexMap.{values}
 use Rattle.read_plan.specs.PlanRules.{same_key}
 use Rattle.read_plan.specs.Built.{is_bare_item, planned_item, planned_key}
-use Rattle.read_plan.proofs.Lists.{map_of_map}
 use Rattle.plan_build.specs.PlanOf.{stated_entry}
 use Rattle.plan_build.proofs.Listing.{all_more}
-use Rattle.plan_build.proofs.Mapping.{differ, entry_more, goes_last, values_more}
+use Rattle.plan_build.proofs.Mapping.{entry_more, goes_last, values_more}
 use Rattle.plan_build.proofs.Named.{entries_apart, key_test, same_key_flip, same_keys}
 use Rattle.plan_build.proofs.worlds.entries_of.Goals as goal
 
