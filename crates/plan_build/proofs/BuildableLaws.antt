@@ -1,0 +1,49 @@
+-- A plan that was read can be built.
+use Rattle.std.proofs.Common.{◌≡◌, refl, sym, ap, ◌∙◌, Bool, true, false, ◌&&◌, ◌||◌, not, List, [], ◌∷◌, ◌++◌}
+use Rattle.std.specs.List.{list_any}
+use Rattle.std.proofs.lemmas.List.Folds.{list_any-append}
+use Rattle.wit_model.specs.Text.{Text, text_eq}
+use Rattle.wit_model.specs.Names.{is_label, is_identity, is_optional_version}
+use Rattle.wit_model.specs.Rules.{passes, are_distinct}
+use Rattle.wit_model.proofs.Lists.{first_true, second_true}
+use Rattle.read_plan.specs.Plan.{PlannedPackage, PlannedInterface}
+use Rattle.read_plan.specs.PlanRules.{names_of, members_differ, interface_labels}
+use Rattle.read_plan.proofs.Lists.{all_weaker, both, no_true}
+use Rattle.plan_build.specs.Buildable.{PlansAreBuildable, has_version, package_differs, interface_differs}
+
+first_missed : (a b : Bool) → not (a || b) ≡ true → not a ≡ true
+first_missed false b h = refl
+first_missed true b h = no_true h
+
+front_distinct : (xs ys : List Text) → are_distinct (xs ++ ys) ≡ true → are_distinct xs ≡ true
+front_distinct [] ys h = refl
+front_distinct (x ∷ xs) ys h =
+    both (not (list_any (text_eq x) xs)) (are_distinct xs)
+    (first_missed (list_any (text_eq x) xs) (list_any (text_eq x) ys) (ap not (sym (list_any-append (text_eq x) xs ys)) ∙ first_true (not (list_any (text_eq x) (xs ++ ys))) (are_distinct (xs ++ ys)) h))
+    (front_distinct xs ys (second_true (not (list_any (text_eq x) (xs ++ ys))) (are_distinct (xs ++ ys)) h))
+
+back_distinct : (xs ys : List Text) → are_distinct (xs ++ ys) ≡ true → are_distinct ys ≡ true
+back_distinct [] ys h = h
+back_distinct (x ∷ xs) ys h = back_distinct xs ys (second_true (not (list_any (text_eq x) (xs ++ ys))) (are_distinct (xs ++ ys)) h)
+
+parts_distinct : (xs ys : List Text) → are_distinct (xs ++ ys) ≡ true → (are_distinct xs && are_distinct ys) ≡ true
+parts_distinct xs ys h = both (are_distinct xs) (are_distinct ys) (front_distinct xs ys h) (back_distinct xs ys h)
+
+version_is : (k : PlannedPackage) → is_identity k.identity ≡ true → has_version k ≡ true
+version_is k h =
+    let rest = second_true (is_label k.identity.namespace) (is_label k.identity.name && is_optional_version k.identity.version) h in
+    second_true (is_label k.identity.name) (is_optional_version k.identity.version) rest
+
+package_apart : (k : PlannedPackage) → members_differ k ≡ true → package_differs k ≡ true
+package_apart k h = parts_distinct (names_of k.interfaces) (names_of k.worlds) h
+
+interface_apart : (i : PlannedInterface) → interface_labels i ≡ true → interface_differs i ≡ true
+interface_apart i h = parts_distinct (names_of i.types) (names_of i.functions) (second_true (passes is_label i.name) (are_distinct (names_of i.types ++ names_of i.functions)) h)
+
+pub plans_are_buildable : PlansAreBuildable
+plans_are_buildable p is = record {
+  versions = all_weaker (λ k. is_identity k.identity) has_version version_is p.packages is.identities;
+  packages = all_weaker members_differ package_differs package_apart p.packages is.members_differ;
+  interfaces = all_weaker interface_labels interface_differs interface_apart p.interfaces is.interface_labels;
+  worlds = is.keys_differ;
+}

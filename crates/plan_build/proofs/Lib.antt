@@ -1,0 +1,5 @@
+pub mod Listing
+pub mod Mapping
+pub mod Named
+pub mod Versions
+pub mod BuildableLaws

@@ -1,0 +1,2 @@
+pub mod Buildable
+pub mod PlanOf

@@ -1,0 +1,41 @@
+//! The `Resolve` of a plan.
+
+ghost use Rattle.std.specs.List.{list_all};
+ghost use Rattle.std.specs.Prelude.{◌≡◌, true, IfOk, IsOkUnless};
+ghost use Rattle.read_plan.specs.Built.{IsBuilt};
+ghost use Rattle.read_plan.specs.PlanRules.{IsPlan};
+ghost use Rattle.wit_model.specs.declared.error.Error.TheVariants as errors;
+ghost use Rattle.wit_model.specs.Valid.{IsValid};
+ghost use Rattle.plan_build.specs.Buildable.{has_version, IsBuildable};
+ghost use Rattle.plan_build.specs.PlanOf.{stated_plan};
+
+use crate::interfaces::interfaces_of;
+use crate::packages::packages_of;
+use crate::plan::Plan;
+use crate::types::types_of;
+use crate::worlds::worlds_of;
+use std::alloc::Global;
+use wit_model::{Error, Resolve};
+
+/// The `Resolve` that is built of a plan: each list of the plan is the list of the `Resolve`, entry by entry, without documentation
+/// and with no stability known. Of a plan that was read it is valid (WIT.md; Binary.md, "Type Validation").
+///
+/// So it is where no list names two things alike, as in each plan that was read. Takes time and memory linear in the plan, apart from
+/// look-ups in the hashed maps that it fills; each text is copied once for each place where it stands. Refused for want of memory alone
+/// where the versions are versions (Semantic Versioning 2.0.0), and else with the cause `BadName`.
+pub fn build(alloc: Global, plan: &Plan<'_>) -> Result<Resolve, Error>
+    ensures built { IfOk result (λ r. IsBuildable (stated_plan plan.now) → IsBuilt (stated_plan plan.now) r) }
+    ensures valid { IfOk result (λ r. IsPlan (stated_plan plan.now) → IsValid r) }
+    ensures memory { list_all has_version (stated_plan plan.now).packages ≡ true → IsOkUnless result errors.Memory }
+{
+    let packages = packages_of(alloc, &plan.packages)?;
+    let interfaces = interfaces_of(alloc, &plan.interfaces)?;
+    let worlds = worlds_of(alloc, &plan.worlds)?;
+    let types = types_of(alloc, &plan.types)?;
+    Ok(Resolve {
+        packages,
+        interfaces,
+        worlds,
+        types,
+    })
+}
