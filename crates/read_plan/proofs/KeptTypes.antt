@@ -39,7 +39,7 @@ distinct_same : (ts : List Text) → are_distinct ts ≡ distinct ts
 distinct_same [] = refl
 distinct_same (t ∷ ts) = ap (λ b. not (list_any (text_eq t) ts) && b) (distinct_same ts)
 
-member_labels : (ts : List Text) → are_labels ts ≡ true → are_member_labels ts ≡ true
+pub member_labels : (ts : List Text) → are_labels ts ≡ true → are_member_labels ts ≡ true
 member_labels ts h = ap (λ b. list_all is_label ts && b) (distinct_same ts) ∙ h
 
 -- ---- levels
@@ -146,7 +146,7 @@ module _ (t : Tables) (tables : AreTables t) (kept : List ℕ) (p : Plan) (are :
       (node_shape form olds, there, of_form form olds news refl (zip-weaker (Becomes t kept p) (IsPart kept) (λ a b h. h.part) olds news z) name kind)
   type_of n x (declared q name d there named home kind before good obeys) = (named_shape q name, there, of_name q name refl named home)
 
-  keeps : Keeps t kept p
+  pub keeps : Keeps t kept p
   keeps = record {
     types = record { types = λ j x e. let is = are.each j x e in let made = type_of is.0 x is.2 in (is.0, made.0, is.1, made.1, made.2) };
     fall = fall;

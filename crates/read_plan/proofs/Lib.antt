@@ -28,6 +28,7 @@ pub mod NumberedWorlds
 pub mod NumberedMembers
 pub mod GatheredPlan
 pub mod KeptTypes
+pub mod KeptFunctions
 pub mod Renumbering
 pub mod Gathering
 mod WholePlan

@@ -5,6 +5,7 @@ pub mod NumberedWorlds
 pub mod NumberedMembers
 pub mod GatheredPlan
 pub mod KeptTypes
+pub mod KeptFunctions
 pub mod Plan
 pub mod PlanMeaning
 pub mod PlanRules

@@ -2,6 +2,7 @@
 
 ghost use Rattle.read_plan.specs.GatheredPlan.{GatheredPackageIsMeant, GatheredWorldIsMeant};
 ghost use Rattle.read_plan.specs.Gathering.{OneViewIsEnough, ViewsMeanOne};
+ghost use Rattle.read_plan.specs.KeptFunctions.{KeptFunctionsPass};
 ghost use Rattle.read_plan.specs.KeptTypes.{KeptTypesPass};
 ghost use Rattle.read_plan.specs.NumberedMembers.{
   ExportInNumbers,
@@ -97,6 +98,12 @@ pub fn trees_are_kept()
 /// refer to smaller numbers, and have the labels, the shapes, the names and the levels that they may.
 pub fn kept_types_pass()
     ensures { KeptTypesPass }
+{}
+
+/// A function of a plan whose types are those of shapes that are kept, where what was read obeys the rules, passes the tests of its numbers,
+/// its labels, its levels and its resource.
+pub fn kept_functions_pass()
+    ensures { KeptFunctionsPass }
 {}
 
 /// A plan that is gathered from views in numbers, of the members of a package or of one world, means what they mean.
