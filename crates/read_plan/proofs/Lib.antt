@@ -29,6 +29,7 @@ pub mod NumberedMembers
 pub mod GatheredPlan
 pub mod KeptTypes
 pub mod KeptFunctions
+pub mod KeptResources
 pub mod Renumbering
 pub mod Gathering
 mod WholePlan

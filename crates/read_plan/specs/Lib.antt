@@ -6,6 +6,7 @@ pub mod NumberedMembers
 pub mod GatheredPlan
 pub mod KeptTypes
 pub mod KeptFunctions
+pub mod KeptResources
 pub mod Plan
 pub mod PlanMeaning
 pub mod PlanRules

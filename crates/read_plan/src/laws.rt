@@ -3,6 +3,7 @@
 ghost use Rattle.read_plan.specs.GatheredPlan.{GatheredPackageIsMeant, GatheredWorldIsMeant};
 ghost use Rattle.read_plan.specs.Gathering.{OneViewIsEnough, ViewsMeanOne};
 ghost use Rattle.read_plan.specs.KeptFunctions.{KeptFunctionsPass};
+ghost use Rattle.read_plan.specs.KeptResources.{KeptResourcesStand};
 ghost use Rattle.read_plan.specs.KeptTypes.{KeptTypesPass};
 ghost use Rattle.read_plan.specs.NumberedMembers.{
   ExportInNumbers,
@@ -98,6 +99,12 @@ pub fn trees_are_kept()
 /// refer to smaller numbers, and have the labels, the shapes, the names and the levels that they may.
 pub fn kept_types_pass()
     ensures { KeptTypesPass }
+{}
+
+/// Where the parts of the tables that are resources are marked, handles of a plan whose types are kept are of resources, and nothing else has
+/// one as a part.
+pub fn kept_resources_stand()
+    ensures { KeptResourcesStand }
 {}
 
 /// A function of a plan whose types are those of shapes that are kept, where what was read obeys the rules, passes the tests of its numbers,
