@@ -36,7 +36,7 @@ use Rattle.read_plan.proofs.ShapeLaws.{node_tree, part_behind, tree_at_number}
 
 -- ---- lists
 
-all_at : {X : Type 0} (P : X → Type 0) (xs : List X) → AllByRecursion P xs → (x : X) → Contains xs x → P x
+pub all_at : {X : Type 0} (P : X → Type 0) (xs : List X) → AllByRecursion P xs → (x : X) → Contains xs x → P x
 all_at P [] all x (i, low, e) = absurd (omega (arith, low))
 all_at P (y ∷ xs) all x (zero, low, e) = subst P e all.0
 all_at P (y ∷ xs) all x (suc i, low, e) = all_at P xs all.1 x (i, omega (arith, low), e)

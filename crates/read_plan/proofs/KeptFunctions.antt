@@ -1,13 +1,12 @@
 -- Functions whose types are those of kept shapes pass the tests on their types and their resource.
-use Rattle.std.proofs.Common.{◌≡◌, ◌⊎◌, inl, inr, refl, sym, ap, subst, ◌∙◌, ℕ, zero, suc, ◌+◌, ◌-◌, ◌<◌, arith, Bool, true, false, not, ◌&&◌, ◌||◌, ◌==◌, cond, List, [], ◌∷◌, ◌++◌, length, map, drop, filter_map, Option, Some, None, option_map, option_to_list, is_none, slice_get, codes}
-use Rattle.std.specs.Prelude.{nat_le, nat_lt, nat_eq, option_and_then}
+use Rattle.std.proofs.Common.{◌≡◌, inl, inr, refl, sym, ap, subst, ◌∙◌, ℕ, ◌+◌, ◌-◌, ◌<◌, arith, Bool, true, false, not, ◌&&◌, ◌||◌, ◌==◌, cond, List, [], ◌∷◌, ◌++◌, length, map, drop, filter_map, Option, Some, None, option_map, option_to_list, is_none, slice_get, codes}
+use Rattle.std.specs.Prelude.{nat_le, nat_eq, option_and_then}
 use Rattle.std.specs.List.{AllZip, cons_option, list_all, starts_with}
 use Rattle.std.specs.Option.{option_map_or}
 use Rattle.std.proofs.lemmas.Bool.{eqb-true, eq-eqb, lt-ltb}
 use Rattle.std.proofs.lemmas.Option.{slice_get_within}
 use Rattle.wit_model.specs.declared.model.TypeOwner.{TypeOwner}
 use Rattle.wit_model.specs.declared.model.TypeOwner.TheVariants as owner
-use Rattle.wit_model.specs.declared.model.TypeId.{TypeId}
 use Rattle.wit_model.specs.declared.model.FunctionKind.{FunctionKind}
 use Rattle.wit_model.specs.declared.model.FunctionKind.TheVariants as call
 use Rattle.wit_model.specs.Text.{Text, text_eq}
@@ -21,14 +20,14 @@ use Rattle.wit_model.proofs.Lists.{first_true, second_true}
 use Rattle.wit_model.proofs.VersionLaws.{same_text, text_same}
 use Rattle.comp_meaning.specs.Rules as rules
 use Rattle.comp_meaning.specs.Rules.{are_labels, is_label_behind, most_levels}
-use Rattle.read_plan.specs.Shapes.{Shape, first_label, form_code, named_shape, node_shape, part_tree, IsShape, a_name, a_node}
-use Rattle.read_plan.specs.Plan.{Plan, PlannedKind, PlannedType, PlannedFunction, formed, function_numbers, function_parts, part_number, trees_in, type_in}
+use Rattle.read_plan.specs.Shapes.{Shape, first_label, form_code, named_shape, node_shape, IsShape, a_name, a_node}
+use Rattle.read_plan.specs.Plan.{Plan, PlannedType, PlannedFunction, formed, function_parts, part_number, type_in}
 use Rattle.read_plan.specs.PlanRules as plan
 use Rattle.read_plan.specs.PlanRules.{function_in_range, function_labels, function_is_shallow, is_borrow_of, is_member, is_member_of, is_member_name, is_own_of, is_result_of_own, is_shallow, names_of, part_is, resource_name, takes_self}
 use Rattle.read_plan.specs.Renumbering.{IsPart, a_primitive, a_shape}
-use Rattle.read_plan.specs.NumberedViews.{FunctionShape, Tables, tree_at, signature_over, AreTables}
-use Rattle.read_plan.specs.NumberedRules.{Fact, shape_at, name_in, name_at, only_of, held_in, own_sort, borrow_sort, ok_in, begins_with_self, constructs, is_handle, is_name}
-use Rattle.read_plan.specs.GatheredPlan.{Becomes, BecomesIfGiven, FunctionBecomes, ParamBecomes}
+use Rattle.read_plan.specs.NumberedViews.{FunctionShape, Tables, tree_at, AreTables}
+use Rattle.read_plan.specs.NumberedRules.{Fact, shape_at, name_in, only_of, held_in, own_sort, borrow_sort, ok_in, begins_with_self, constructs, is_handle, is_name}
+use Rattle.read_plan.specs.GatheredPlan.{Becomes, BecomesIfGiven, ParamBecomes}
 use Rattle.read_plan.specs.KeptTypes.{IsKeptType, unnamed, declared, TypesAreKept}
 use Rattle.read_plan.specs.KeptFunctions.{IsResource, IsKindOf, of_none, a_constructor, a_method, an_async_method, a_static, an_async_static, IsKeptFunction, FunctionPasses, KeptFunctionsPass}
 use Rattle.read_plan.proofs.GatheredPlan.{part_kept}
@@ -50,7 +49,7 @@ behind_label (p ∷ ps) (b ∷ bs) h = by (p == b) refl (behind_label ps bs) h
     by true e more h = more (sym (ap (λ v. (v && starts_with nat_eq bs ps) && is_label (drop (length ps) bs)) e) ∙ h)
     by false e more h = no_true (sym (ap (λ v. (v && starts_with nat_eq bs ps) && is_label (drop (length ps) bs)) e) ∙ h)
 
-owner_itself : (o : TypeOwner) → same_owner o o ≡ true
+pub owner_itself : (o : TypeOwner) → same_owner o o ≡ true
 owner_itself (owner.World id) = same-number id.0
 owner_itself (owner.Interface id) = same-number id.0
 owner_itself owner.None = refl

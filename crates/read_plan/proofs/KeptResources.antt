@@ -1,5 +1,5 @@
 -- The numbers of a plan that are resources are those of the parts that are marked.
-use Rattle.std.proofs.Common.{◌≡◌, ◌⊎◌, inl, inr, refl, sym, ap, subst, ◌∙◌, ℕ, zero, suc, ◌+◌, ◌-◌, ◌<◌, arith, Bool, true, false, not, ◌&&◌, cond, List, [], ◌∷◌, ◌++◌, length, map, take, filter_map, Option, Some, None, option_to_list, slice_get, unwrap_or}
+use Rattle.std.proofs.Common.{◌≡◌, refl, sym, ap, subst, ◌∙◌, ℕ, zero, suc, ◌+◌, ◌-◌, ◌<◌, arith, Bool, true, false, not, cond, List, [], ◌∷◌, ◌++◌, length, map, take, filter_map, Option, Some, None, option_to_list, slice_get, unwrap_or}
 use Rattle.std.specs.List.{AllZip, AllByRecursion, cons_option, list_all}
 use Rattle.std.specs.Option.{option_map_or}
 use Rattle.std.proofs.lemmas.Bool.{lt-ltb}
@@ -8,11 +8,10 @@ use Rattle.wit_model.specs.Tree.{Form}
 use Rattle.wit_model.proofs.Elements.{same-some}
 use Rattle.wit_model.proofs.Lists.{first_true, second_true}
 use Rattle.wit_model.proofs.Tables.{grow_at}
-use Rattle.read_plan.specs.Shapes.{node_shape, named_shape}
-use Rattle.read_plan.specs.Plan.{Plan, PlannedKind, resource, alias, formed, PlannedType, PlannedFunction, part_number, marked_at, resource_marks, is_resource}
-use Rattle.read_plan.specs.PlanRules.{handles_resources, is_handle_form, takes_values}
+use Rattle.read_plan.specs.Plan.{Plan, PlannedKind, resource, alias, formed, PlannedType, part_number, marked_at, resource_marks, is_resource}
+use Rattle.read_plan.specs.PlanRules.{handles_resources, is_handle_form}
 use Rattle.read_plan.specs.Renumbering.{IsPart, a_primitive, a_shape}
-use Rattle.read_plan.specs.NumberedViews.{FunctionShape, Tables, AreTables, AllOf, PartsOf}
+use Rattle.read_plan.specs.NumberedViews.{Tables, AreTables, AllOf}
 use Rattle.read_plan.specs.GatheredPlan as gathered
 use Rattle.read_plan.specs.GatheredPlan.{Becomes, BecomesIfGiven, DeclaresKind, a_resource, a_form, FunctionBecomes, ParamBecomes}
 use Rattle.read_plan.specs.KeptTypes.{IsKeptType, unnamed, declared, TypesAreKept}

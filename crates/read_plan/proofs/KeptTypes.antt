@@ -96,7 +96,7 @@ module _ (t : Tables) (kept : List ℕ) (p : Plan) where
 module _ (t : Tables) (tables : AreTables t) (kept : List ℕ) (p : Plan) (are : TypesAreKept t kept p) where
   -- ---- parts stand before
 
-  parts_before : (n : ℕ) (form : Form) (olds : List ℕ) → slice_get t.shapes n ≡ Some (node_shape form olds) → AllByRecursion (λ k. k < 14 + n) olds
+  pub parts_before : (n : ℕ) (form : Form) (olds : List ℕ) → slice_get t.shapes n ≡ Some (node_shape form olds) → AllByRecursion (λ k. k < 14 + n) olds
   parts_before n form olds e = by (tables.shapes.each n (node_shape form olds) e)
     where
       by : IsShape n (node_shape form olds) → AllByRecursion (λ k. k < 14 + n) olds
@@ -177,7 +177,7 @@ module _ (t : Tables) (tables : AreTables t) (kept : List ℕ) (p : Plan) (are :
 
   module _ (old n : ℕ) (form : Form) (olds : List ℕ) (is : old ≡ 14 + n) (there : slice_get t.shapes n ≡ Some (node_shape form olds)) (place : Place) (d : Option ℕ) (e : d ≡ Some old)
       (obeys : rules.is_declared place (declaration_of t d) ≡ true) where
-    form_obeys : (are_labels (form_labels form) && are_parts place (children (map (tree_at t) olds)) && nat_le (deepest (children (map (tree_at t) olds))) most_levels) ≡ true
+    pub form_obeys : (are_labels (form_labels form) && are_parts place (children (map (tree_at t) olds)) && nat_le (deepest (children (map (tree_at t) olds))) most_levels) ≡ true
     form_obeys = sym (ap (λ x. rules.is_declared place (declaration_of t x)) e ∙ ap (λ x. rules.is_declared place (Declaration.type_ x)) (form_tree t tables kept p keeps old n form olds is there)) ∙ obeys
 
     form_has_labels : are_labels (form_labels form) ≡ true

@@ -30,6 +30,7 @@ pub mod GatheredPlan
 pub mod KeptTypes
 pub mod KeptFunctions
 pub mod KeptResources
+pub mod KeptOwners
 pub mod Renumbering
 pub mod Gathering
 mod WholePlan

@@ -7,6 +7,7 @@ pub mod GatheredPlan
 pub mod KeptTypes
 pub mod KeptFunctions
 pub mod KeptResources
+pub mod KeptOwners
 pub mod Plan
 pub mod PlanMeaning
 pub mod PlanRules

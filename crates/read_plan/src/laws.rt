@@ -3,6 +3,7 @@
 ghost use Rattle.read_plan.specs.GatheredPlan.{GatheredPackageIsMeant, GatheredWorldIsMeant};
 ghost use Rattle.read_plan.specs.Gathering.{OneViewIsEnough, ViewsMeanOne};
 ghost use Rattle.read_plan.specs.KeptFunctions.{KeptFunctionsPass};
+ghost use Rattle.read_plan.specs.KeptOwners.{KeptOwnersStand};
 ghost use Rattle.read_plan.specs.KeptResources.{KeptResourcesStand};
 ghost use Rattle.read_plan.specs.KeptTypes.{KeptTypesPass};
 ghost use Rattle.read_plan.specs.NumberedMembers.{
@@ -105,6 +106,11 @@ pub fn kept_types_pass()
 /// one as a part.
 pub fn kept_resources_stand()
     ensures { KeptResourcesStand }
+{}
+
+/// Where each place has an owner of its own, types and functions of a plan whose types are kept stay with the owner of their place.
+pub fn kept_owners_stand()
+    ensures { KeptOwnersStand }
 {}
 
 /// A function of a plan whose types are those of shapes that are kept, where what was read obeys the rules, passes the tests of its numbers,
