@@ -31,6 +31,7 @@ pub mod KeptTypes
 pub mod KeptFunctions
 pub mod KeptResources
 pub mod KeptOwners
+pub mod ReadFunctions
 pub mod Renumbering
 pub mod Gathering
 mod WholePlan

@@ -8,6 +8,7 @@ pub mod KeptTypes
 pub mod KeptFunctions
 pub mod KeptResources
 pub mod KeptOwners
+pub mod ReadFunctions
 pub mod Plan
 pub mod PlanMeaning
 pub mod PlanRules

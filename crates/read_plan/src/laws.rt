@@ -32,6 +32,7 @@ ghost use Rattle.read_plan.specs.PlanLaws.{
   WorldIsMeant,
   WorldStandsAlone,
 };
+ghost use Rattle.read_plan.specs.ReadFunctions.{ReadFunctionsPass};
 ghost use Rattle.read_plan.specs.Renumbering.{TreesAreKept};
 ghost use Rattle.read_plan.specs.Shapes.{OneNumber, TreeAtNumber};
 
@@ -111,6 +112,11 @@ pub fn kept_resources_stand()
 /// Where each place has an owner of its own, types and functions of a plan whose types are kept stay with the owner of their place.
 pub fn kept_owners_stand()
     ensures { KeptOwnersStand }
+{}
+
+/// Where each function of a plan is read in its owner's place, all tests of a plan on functions hold.
+pub fn read_functions_pass()
+    ensures { ReadFunctionsPass }
 {}
 
 /// A function of a plan whose types are those of shapes that are kept, where what was read obeys the rules, passes the tests of its numbers,
