@@ -35,7 +35,7 @@ pub all_by_number : {A : Type 0} (test : A → Bool) (xs : List A) → ((n : ℕ
 all_by_number test [] h = refl
 all_by_number test (x ∷ xs) h = both (test x) (list_all test xs) (h 0 x refl) (all_by_number test xs (λ n y e. h (suc n) y e))
 
-distinct_same : (ts : List Text) → are_distinct ts ≡ distinct ts
+pub distinct_same : (ts : List Text) → are_distinct ts ≡ distinct ts
 distinct_same [] = refl
 distinct_same (t ∷ ts) = ap (λ b. not (list_any (text_eq t) ts) && b) (distinct_same ts)
 

@@ -32,6 +32,7 @@ pub mod KeptFunctions
 pub mod KeptResources
 pub mod KeptOwners
 pub mod ReadFunctions
+pub mod ReadInterfaces
 pub mod Renumbering
 pub mod Gathering
 mod WholePlan

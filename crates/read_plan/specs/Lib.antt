@@ -9,6 +9,7 @@ pub mod KeptFunctions
 pub mod KeptResources
 pub mod KeptOwners
 pub mod ReadFunctions
+pub mod ReadInterfaces
 pub mod Plan
 pub mod PlanMeaning
 pub mod PlanRules

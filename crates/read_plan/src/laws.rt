@@ -33,6 +33,7 @@ ghost use Rattle.read_plan.specs.PlanLaws.{
   WorldStandsAlone,
 };
 ghost use Rattle.read_plan.specs.ReadFunctions.{ReadFunctionsPass};
+ghost use Rattle.read_plan.specs.ReadInterfaces.{ReadInterfacesPass};
 ghost use Rattle.read_plan.specs.Renumbering.{TreesAreKept};
 ghost use Rattle.read_plan.specs.Shapes.{OneNumber, TreeAtNumber};
 
@@ -117,6 +118,11 @@ pub fn kept_owners_stand()
 /// Where each function of a plan is read in its owner's place, all tests of a plan on functions hold.
 pub fn read_functions_pass()
     ensures { ReadFunctionsPass }
+{}
+
+/// Where each interface of a plan is read in its own place, its names are labels that differ, and its types are its own, under rising numbers.
+pub fn read_interfaces_pass()
+    ensures { ReadInterfacesPass }
 {}
 
 /// A function of a plan whose types are those of shapes that are kept, where what was read obeys the rules, passes the tests of its numbers,
