@@ -3,7 +3,7 @@ use Rattle.std.proofs.Common.{◌≡◌, inl, inr, refl, sym, ap, subst, ◌∙�
 use Rattle.std.specs.Prelude.{nat_le, nat_eq, option_and_then}
 use Rattle.std.specs.List.{AllZip, cons_option, list_all, starts_with}
 use Rattle.std.specs.Option.{option_map_or}
-use Rattle.std.proofs.lemmas.Bool.{eqb-true, eq-eqb, lt-ltb}
+use Rattle.std.proofs.lemmas.Bool.{eqb-true, eq-eqb, lt-ltb, or_right}
 use Rattle.std.proofs.lemmas.Option.{slice_get_within}
 use Rattle.wit_model.specs.declared.model.TypeOwner.{TypeOwner}
 use Rattle.wit_model.specs.declared.model.TypeOwner.TheVariants as owner
@@ -69,10 +69,6 @@ only_is : (ks : List ℕ) (k : ℕ) → only_of ks ≡ Some k → ks ≡ k ∷ [
 only_is [] k h = absurd cc
 only_is (l ∷ []) k h = ap (λ x. x ∷ []) (same-some l k h)
 only_is (l ∷ m ∷ ks) k h = absurd cc
-
-or_second : (a b : Bool) → b ≡ true → (a || b) ≡ true
-or_second true b e = refl
-or_second false b e = e
 
 -- a result that gives something where it succeeds
 result_form : (form : Form) (olds : List ℕ) (i : ℕ) → ok_in (node_shape form olds) ≡ Some i → (err : Bool) × (rest : List ℕ) × (form ≡ Form.result_of true err) × (olds ≡ i ∷ rest)
@@ -285,7 +281,7 @@ module _ (t : Tables) (tables : AreTables t) (known : ℕ → Fact) (kept : List
           by : (found : Option ℕ) → option_and_then ok_in (shape_at t old) ≡ found → option_map_or (is_handle t known q own_sort name) found (is_handle t known q own_sort name old) ≡ true
               → (part_is p (is_own_of n) new || part_is p (is_result_of_own p n) new) ≡ true
           by None e h = ap (λ c. c || part_is p (is_result_of_own p n) new) (own_becomes old new h becomes)
-          by (Some i) e h = or_second (part_is p (is_own_of n) new) (part_is p (is_result_of_own p n) new) (result_becomes old new i e h becomes)
+          by (Some i) e h = or_right (part_is p (is_own_of n) new) (part_is p (is_result_of_own p n) new) (result_becomes old new i e h becomes)
 
       self_becomes : (xs ys : List (Text × ℕ)) → AllZip (ParamBecomes t kept p) xs ys → begins_with_self t known q name xs ≡ true
           → option_map_or (λ (y : Text × ℕ). text_eq y.0 (codes "self") && part_is p (is_borrow_of n) y.1) (slice_get ys 0) false ≡ true
@@ -329,7 +325,7 @@ module _ (t : Tables) (tables : AreTables t) (known : ℕ → Fact) (kept : List
       resource_number (an_async_static id r e there named) = number_is r id.0 there g.kind (ap resource_of e)
 
       name_is_label : IsKindOf t known kept p o q name f g.kind → (not (is_freestanding g.kind) || is_label g.name) ≡ true
-      name_is_label (of_none label e) = or_second (not (is_freestanding g.kind)) (is_label g.name) (ap is_label is.named ∙ label)
+      name_is_label (of_none label e) = or_right (not (is_freestanding g.kind)) (is_label g.name) (ap is_label is.named ∙ label)
       name_is_label (a_constructor id r e there named made) = ap (λ k. not (is_freestanding k) || is_label g.name) e
       name_is_label (a_method id r e there named self) = ap (λ k. not (is_freestanding k) || is_label g.name) e
       name_is_label (an_async_method id r e there named self) = ap (λ k. not (is_freestanding k) || is_label g.name) e

@@ -3,7 +3,7 @@ use Rattle.std.proofs.Common.{◌≡◌, inl, inr, refl, sym, ap, subst, ◌∙�
 use Rattle.std.specs.Prelude.{nat_le}
 use Rattle.std.specs.List.{AllZip, AllByRecursion, Contains, cons_option, flat_map, list_all}
 use Rattle.std.specs.Option.{option_map_or}
-use Rattle.std.proofs.lemmas.Bool.{eqb-true, eq-eqb, lt-ltb}
+use Rattle.std.proofs.lemmas.Bool.{eqb-true, eq-eqb, lt-ltb, or_right}
 use Rattle.std.proofs.lemmas.List.Folds.{list_all-append}
 use Rattle.wit_model.specs.declared.model.TypeOwner.{TypeOwner}
 use Rattle.wit_model.specs.declared.model.TypeOwner.TheVariants as owner
@@ -41,10 +41,6 @@ numbered_there : {A : Type 0} (k : ℕ) (xs : List A) (n : ℕ) (x : A) → slic
 numbered_there k [] n x e = absurd cc
 numbered_there k (y ∷ ys) zero x e = let same : y ≡ x = same-some y x e in let here : k ≡ k + 0 = omega arith in λ i. Some (here i, same i)
 numbered_there k (y ∷ ys) (suc n) x e = let next : (k + 1) + n ≡ k + suc n = omega arith in numbered_there (k + 1) ys n x e ∙ ap (λ m. Some (m, x)) next
-
-or_second : (a b : Bool) → b ≡ true → (a || b) ≡ true
-or_second true b e = refl
-or_second false b e = e
 
 module _ (t : Tables) (tables : AreTables t) (kept : List ℕ) (p : Plan) (are : TypesAreKept t kept p) (owners : ℕ → TypeOwner) (owned : AreOwned t kept p owners) where
   abbrev all_met : List (List ℕ)
@@ -229,7 +225,7 @@ module _ (t : Tables) (tables : AreTables t) (kept : List ℕ) (p : Plan) (are :
         by false none = elim (owned.used n x r name m s other there kind at) [
           | inl same ↦ no_true (sym none ∙ eq-eqb s r same)
           | inr path ↦
-              or_second (list_all (has_owner p x.owner) (flat_map (met_by all_met) (kind_numbers x.kind))) (is_some x.name && is_use p x)
+              or_right (list_all (has_owner p x.owner) (flat_map (met_by all_met) (kind_numbers x.kind))) (is_some x.name && is_use p x)
               (both (is_some x.name) (is_use p x) (ap is_some named) (a_use none (owned.outside s path)))
         ]
 
@@ -266,7 +262,7 @@ module _ (t : Tables) (tables : AreTables t) (kept : List ℕ) (p : Plan) (are :
   type_fine j n x e stands (unnamed place form olds news there z name unowned kind part low) =
       ap (λ b. b || (list_all (has_owner p x.owner) (flat_map (met_by all_met) (kind_numbers x.kind)) || (is_some x.name && is_use p x))) (ap (λ o. same_owner o owner.None) unowned)
   type_fine j n x e stands (declared r name d there named home kind before good obeys) =
-      or_second (same_owner x.owner owner.None) (list_all (has_owner p x.owner) (flat_map (met_by all_met) (kind_numbers x.kind)) || (is_some x.name && is_use p x))
+      or_right (same_owner x.owner owner.None) (list_all (has_owner p x.owner) (flat_map (met_by all_met) (kind_numbers x.kind)) || (is_some x.name && is_use p x))
       (kind_fine n x r name there named (owned.owned j n x r name e stands there) d obeys kind)
 
   stand : OwnersStand t kept p owners

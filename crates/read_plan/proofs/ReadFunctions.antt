@@ -1,9 +1,9 @@
 -- Functions that are read pass the tests of a plan on functions.
-use Rattle.std.proofs.Common.{◌≡◌, refl, ap, subst, ◌∙◌, ℕ, Bool, true, List, [], ◌∷◌, Some}
+use Rattle.std.proofs.Common.{◌≡◌, refl, subst, ℕ, Bool, true, List, [], ◌∷◌}
 use Rattle.std.specs.List.{AllByRecursion, list_all}
 use Rattle.wit_model.specs.declared.model.TypeOwner.{TypeOwner}
 use Rattle.wit_model.specs.Valid.{as_interface, as_world}
-use Rattle.read_plan.specs.Plan.{Plan, PlannedFunction, PlannedInterface, PlannedWorld}
+use Rattle.read_plan.specs.Plan.{Plan, PlannedFunction}
 use Rattle.read_plan.specs.PlanRules.{FunctionsPass, function_in_range, function_labels, function_stays, function_is_shallow, functions_of, is_member, takes_values, world_functions}
 use Rattle.read_plan.specs.NumberedViews.{Tables, AreTables}
 use Rattle.read_plan.specs.KeptTypes.{TypesAreKept}
@@ -44,7 +44,7 @@ module _ (t : Tables) (tables : AreTables t) (kept : List ℕ) (p : Plan) (are :
     functions_in_range = each_passes (λ o g. function_in_range p g) (λ o g is. (pass o g is).in_range);
     functions_labelled = each_passes (λ o g. function_labels g) (λ o g is. (pass o g is).labels);
     functions_stay = each_passes (function_stays p) (λ o g is.
-    subst (λ (x : TypeOwner). function_stays p x g ≡ true) is.owned (owners.functions is.place is.shape is.external_id g is.kept_function.becomes is.seen is.obeys));
+        subst (λ (x : TypeOwner). function_stays p x g ≡ true) is.owned (owners.functions is.place is.shape is.external_id g is.kept_function.becomes is.seen is.obeys));
     functions_take_values = each_passes (λ o g. takes_values p g) (λ o g is. resources.functions is.shape is.external_id g is.kept_function.becomes is.values);
     functions_shallow = each_passes (λ o g. function_is_shallow p g) (λ o g is. (pass o g is).shallow);
     functions_belong = each_passes (is_member p) (λ o g is. (pass o g is).belongs);

@@ -1,5 +1,5 @@
 -- Interfaces that are read pass the tests of a plan on each interface by itself.
-use Rattle.std.proofs.Common.{◌≡◌, refl, sym, ap, subst, ◌∙◌, ℕ, ◌<◌, Bool, true, false, ◌&&◌, ◌==◌, T, ltb→lt, List, [], ◌∷◌, ◌++◌, length, map, Option, Some, None, slice_get}
+use Rattle.std.proofs.Common.{◌≡◌, refl, sym, ap, subst, ◌∙◌, ℕ, ◌<◌, true, false, ◌&&◌, T, ltb→lt, List, [], ◌∷◌, ◌++◌, map, Some, slice_get}
 use Rattle.std.specs.Prelude.{nat_lt}
 use Rattle.std.specs.List.{AllZip, list_all}
 use Rattle.std.specs.Option.{option_map_or}
@@ -17,13 +17,13 @@ use Rattle.comp_meaning.specs.Follow.{ShownType}
 use Rattle.comp_meaning.specs.Rules as rules
 use Rattle.comp_meaning.specs.Rules.{distinct}
 use Rattle.read_plan.specs.Shapes.{Shape, first_label, form_code, named_shape, node_shape}
-use Rattle.read_plan.specs.Plan.{Plan, PlannedType, PlannedFunction, PlannedInterface, interface_in, numbers_of, type_in}
+use Rattle.read_plan.specs.Plan.{Plan, PlannedType, PlannedFunction, PlannedInterface, numbers_of}
 use Rattle.read_plan.specs.PlanRules.{are_rising, bears, interface_labels, is_type_of, names_of}
-use Rattle.read_plan.specs.NumberedViews.{Tables, place_at, AreTables, NumberedType, NumberedFunction, view_of, shown_type, shown_function}
+use Rattle.read_plan.specs.NumberedViews.{Tables, place_at, NumberedType, NumberedFunction, view_of, shown_type, shown_function}
 use Rattle.read_plan.specs.KeptTypes.{IsKeptType, unnamed, declared, TypesAreKept}
 use Rattle.read_plan.specs.KeptOwners.{AreOwned}
 use Rattle.read_plan.specs.ReadFunctions.{Beside}
-use Rattle.read_plan.specs.ReadInterfaces.{IsNumberOf, IsKeptAs, HasName, IsNamed, IsReadInterface, InterfaceTests, ReadInterfacesPass}
+use Rattle.read_plan.specs.ReadInterfaces.{IsNumberOf, IsKeptAs, HasName, IsNamed, IsReadInterface, ReadInterfacesPass}
 use Rattle.read_plan.proofs.KeptFunctions.{owner_itself}
 use Rattle.read_plan.proofs.KeptTypes.{all_by_number, distinct_same}
 use Rattle.read_plan.proofs.Lists.{both, each_by_number, map_of_map, no_true}
