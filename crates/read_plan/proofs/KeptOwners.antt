@@ -190,7 +190,7 @@ module _ (t : Tables) (tables : AreTables t) (kept : List ℕ) (p : Plan) (are :
   abbrev IsFine : PlannedType → Type 0
   IsFine x = (list_all (has_owner p x.owner) (flat_map (met_by all_met) (kind_numbers x.kind)) || (is_some x.name && is_use p x)) ≡ true
 
-  module _ (n : ℕ) (x : PlannedType) (r : ℕ) (name : Text) (there : slice_get t.shapes n ≡ Some (named_shape r name)) (named : x.name ≡ Some name) (home : x.owner ≡ owners r) where
+  module _ (j n : ℕ) (x : PlannedType) (planned_there : slice_get p.types j ≡ Some x) (kept_there : slice_get kept j ≡ Some n) (r : ℕ) (name : Text) (there : slice_get t.shapes n ≡ Some (named_shape r name)) (named : x.name ≡ Some name) (home : x.owner ≡ owners r) where
     own_numbers : IsOwn r (flat_map (met_by all_met) (kind_numbers x.kind)) → IsFine x
     own_numbers h = ap (λ b. b || (is_some x.name && is_use p x)) (ap (λ o. list_all (has_owner p o) (flat_map (met_by all_met) (kind_numbers x.kind))) home ∙ h)
 
@@ -222,7 +222,7 @@ module _ (t : Tables) (tables : AreTables t) (kept : List ℕ) (p : Plan) (are :
             let met : met_by all_met i ≡ i ∷ [] = met_there i u e ∙ ap (λ o. option_map_or (λ y. i ∷ []) o (flat_map (met_by (take i all_met)) (kind_numbers u.kind))) called in
             let own : IsOwn r (met_by all_met i) = ap (list_all (has_owner p (owners r))) met ∙ both (has_owner p (owners r) i) true (named_here r i m u s other e stands at (eqb-true s r same)) refl in
             own_numbers (ap (λ k. list_all (has_owner p (owners r)) (flat_map (met_by all_met) (kind_numbers k))) k ∙ met_number r all_met new i to own [] refl)
-        by false none = elim (owned.used n x r name m s other there kind at) [
+        by false none = elim (owned.used j n x r name m s other planned_there kept_there there kind at) [
           | inl same ↦ no_true (sym none ∙ eq-eqb s r same)
           | inr path ↦
               or_right (list_all (has_owner p x.owner) (flat_map (met_by all_met) (kind_numbers x.kind))) (is_some x.name && is_use p x)
@@ -233,7 +233,7 @@ module _ (t : Tables) (tables : AreTables t) (kept : List ℕ) (p : Plan) (are :
     kind_fine d obeys (a_resource none k) = own_numbers (ap (λ y. list_all (has_owner p (owners r)) (flat_map (met_by all_met) (kind_numbers y))) k)
     kind_fine d obeys (a_form old m form olds news some from at z k) =
         let whole = a_form old m form olds news some from at z k in
-        let seen_old : IsSeenFrom t r old = subst (AllOf (IsSeenFrom t r)) some (owned.seen n x r name d there whole) in
+        let seen_old : IsSeenFrom t r old = subst (AllOf (IsSeenFrom t r)) some (owned.seen j n x r name d planned_there kept_there there whole) in
         let labels = are_labels (form_labels form) in
         let parts = are_parts (place_at t r) (children (map (tree_at t) olds)) in
         let low = nat_le (deepest (children (map (tree_at t) olds))) most_levels in
@@ -263,7 +263,7 @@ module _ (t : Tables) (tables : AreTables t) (kept : List ℕ) (p : Plan) (are :
       ap (λ b. b || (list_all (has_owner p x.owner) (flat_map (met_by all_met) (kind_numbers x.kind)) || (is_some x.name && is_use p x))) (ap (λ o. same_owner o owner.None) unowned)
   type_fine j n x e stands (declared r name d there named home kind before good obeys) =
       or_right (same_owner x.owner owner.None) (list_all (has_owner p x.owner) (flat_map (met_by all_met) (kind_numbers x.kind)) || (is_some x.name && is_use p x))
-      (kind_fine n x r name there named (owned.owned j n x r name e stands there) d obeys kind)
+      (kind_fine j n x e stands r name there named (owned.owned j n x r name e stands there) d obeys kind)
 
   stand : OwnersStand t kept p owners
   stand = record {

@@ -29,8 +29,8 @@ pub record AreOwned (t : Tables) (kept : List ℕ) (p : Plan) (owners : ℕ → 
   pub apart : (a b : ℕ) → same_owner (owners a) (owners b) ≡ true → a ≡ b
   pub outside : (a : ℕ) → HasPath t a → IsNamedInterface p (owners a)
   pub owned : (j n : ℕ) (x : PlannedType) (q : ℕ) (name : Text) → slice_get p.types j ≡ Some x → slice_get kept j ≡ Some n → slice_get t.shapes n ≡ Some (named_shape q name) → x.owner ≡ owners q
-  pub seen : (n : ℕ) (x : PlannedType) (q : ℕ) (name : Text) (d : Option ℕ) → slice_get t.shapes n ≡ Some (named_shape q name) → DeclaresKind t kept p d x.kind → AllOf (IsSeenFrom t q) d
-  pub used : (n : ℕ) (x : PlannedType) (q : ℕ) (name : Text) (m r : ℕ) (other : Text) → slice_get t.shapes n ≡ Some (named_shape q name) → DeclaresKind t kept p (Some (14 + m)) x.kind
+  pub seen : (j n : ℕ) (x : PlannedType) (q : ℕ) (name : Text) (d : Option ℕ) → slice_get p.types j ≡ Some x → slice_get kept j ≡ Some n → slice_get t.shapes n ≡ Some (named_shape q name) → DeclaresKind t kept p d x.kind → AllOf (IsSeenFrom t q) d
+  pub used : (j n : ℕ) (x : PlannedType) (q : ℕ) (name : Text) (m r : ℕ) (other : Text) → slice_get p.types j ≡ Some x → slice_get kept j ≡ Some n → slice_get t.shapes n ≡ Some (named_shape q name) → DeclaresKind t kept p (Some (14 + m)) x.kind
       → slice_get t.shapes m ≡ Some (named_shape r other) → (r ≡ q) ⊎ HasPath t r
 
 -- Types and functions stay with the owner of their place.
