@@ -29,14 +29,14 @@ use Rattle.read_plan.specs.NumberedMembers.{Homes, HomesStand, is_of_package, Nu
 use Rattle.read_plan.specs.GatheredPlan.{functions_seen, interfaces_listed, worlds_listed, Becomes, BecomesIfGiven, DeclaresKind, a_resource, a_name, a_form, TypeBecomes, TypeListed, ParamBecomes, FunctionBecomes, FunctionListed, InterfaceBecomes, InterfaceAt, ItemBecomes, SeenBecomes, WorldBecomes, SightBecomes, Keeps, InterfacesListed, WorldsListed, under_path, foreign_interface, AreChosen, is_foreign, IsGathered, GatheredPackageIsMeant, GatheredWorldIsMeant}
 use Rattle.read_plan.proofs.Gathering.{one_view_is_enough}
 use Rattle.read_plan.proofs.Lists.{map_from}
-use Rattle.read_plan.proofs.NumberedMembers.{of_package, all_sights, agree_same, packages_in_numbers, one_world_in_numbers}
+use Rattle.read_plan.proofs.NumberedMembers.{only_sights, of_package, all_sights, agree_same, packages_in_numbers, one_world_in_numbers}
 use Rattle.read_plan.proofs.NumberedWorlds.{path_number, sights_in_numbers}
 use Rattle.read_plan.proofs.Renumbering.{trees_are_kept}
 use Rattle.read_plan.proofs.ShapeLaws.{node_tree, part_behind, tree_at_number}
 
 -- ---- lists
 
-all_at : {X : Type 0} (P : X → Type 0) (xs : List X) → AllByRecursion P xs → (x : X) → Contains xs x → P x
+pub all_at : {X : Type 0} (P : X → Type 0) (xs : List X) → AllByRecursion P xs → (x : X) → Contains xs x → P x
 all_at P [] all x (i, low, e) = absurd (omega (arith, low))
 all_at P (y ∷ xs) all x (zero, low, e) = subst P e all.0
 all_at P (y ∷ xs) all x (suc i, low, e) = all_at P xs all.1 x (i, omega (arith, low), e)
@@ -316,10 +316,6 @@ foreign_is p x = by (is_id p.main x.package_)
     by : (b : Bool) → cond b None (shown_entry p x) ≡ option_map (meant_entry p) (cond b None (under_path p x))
     by true = refl
     by false = shown_is p x
-
-only_sights : (t : Tables) (known : ℕ → Fact) (seen : List NumberedSight) → AllByRecursion (IsKnownSight t known) seen → AllByRecursion (IsSight t) seen
-only_sights t known [] all = tt
-only_sights t known (s ∷ seen) all = (all.0.0, only_sights t known seen all.1)
 
 -- ---- a package
 

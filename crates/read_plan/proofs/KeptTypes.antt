@@ -31,15 +31,15 @@ use Rattle.read_plan.proofs.Words.{behind}
 
 -- ---- lists
 
-all_by_number : {A : Type 0} (test : A → Bool) (xs : List A) → ((n : ℕ) (x : A) → slice_get xs n ≡ Some x → test x ≡ true) → list_all test xs ≡ true
+pub all_by_number : {A : Type 0} (test : A → Bool) (xs : List A) → ((n : ℕ) (x : A) → slice_get xs n ≡ Some x → test x ≡ true) → list_all test xs ≡ true
 all_by_number test [] h = refl
 all_by_number test (x ∷ xs) h = both (test x) (list_all test xs) (h 0 x refl) (all_by_number test xs (λ n y e. h (suc n) y e))
 
-distinct_same : (ts : List Text) → are_distinct ts ≡ distinct ts
+pub distinct_same : (ts : List Text) → are_distinct ts ≡ distinct ts
 distinct_same [] = refl
 distinct_same (t ∷ ts) = ap (λ b. not (list_any (text_eq t) ts) && b) (distinct_same ts)
 
-member_labels : (ts : List Text) → are_labels ts ≡ true → are_member_labels ts ≡ true
+pub member_labels : (ts : List Text) → are_labels ts ≡ true → are_member_labels ts ≡ true
 member_labels ts h = ap (λ b. list_all is_label ts && b) (distinct_same ts) ∙ h
 
 -- ---- levels
@@ -96,7 +96,7 @@ module _ (t : Tables) (kept : List ℕ) (p : Plan) where
 module _ (t : Tables) (tables : AreTables t) (kept : List ℕ) (p : Plan) (are : TypesAreKept t kept p) where
   -- ---- parts stand before
 
-  parts_before : (n : ℕ) (form : Form) (olds : List ℕ) → slice_get t.shapes n ≡ Some (node_shape form olds) → AllByRecursion (λ k. k < 14 + n) olds
+  pub parts_before : (n : ℕ) (form : Form) (olds : List ℕ) → slice_get t.shapes n ≡ Some (node_shape form olds) → AllByRecursion (λ k. k < 14 + n) olds
   parts_before n form olds e = by (tables.shapes.each n (node_shape form olds) e)
     where
       by : IsShape n (node_shape form olds) → AllByRecursion (λ k. k < 14 + n) olds
@@ -146,7 +146,7 @@ module _ (t : Tables) (tables : AreTables t) (kept : List ℕ) (p : Plan) (are :
       (node_shape form olds, there, of_form form olds news refl (zip-weaker (Becomes t kept p) (IsPart kept) (λ a b h. h.part) olds news z) name kind)
   type_of n x (declared q name d there named home kind before good obeys) = (named_shape q name, there, of_name q name refl named home)
 
-  keeps : Keeps t kept p
+  pub keeps : Keeps t kept p
   keeps = record {
     types = record { types = λ j x e. let is = are.each j x e in let made = type_of is.0 x is.2 in (is.0, made.0, is.1, made.1, made.2) };
     fall = fall;
@@ -177,7 +177,7 @@ module _ (t : Tables) (tables : AreTables t) (kept : List ℕ) (p : Plan) (are :
 
   module _ (old n : ℕ) (form : Form) (olds : List ℕ) (is : old ≡ 14 + n) (there : slice_get t.shapes n ≡ Some (node_shape form olds)) (place : Place) (d : Option ℕ) (e : d ≡ Some old)
       (obeys : rules.is_declared place (declaration_of t d) ≡ true) where
-    form_obeys : (are_labels (form_labels form) && are_parts place (children (map (tree_at t) olds)) && nat_le (deepest (children (map (tree_at t) olds))) most_levels) ≡ true
+    pub form_obeys : (are_labels (form_labels form) && are_parts place (children (map (tree_at t) olds)) && nat_le (deepest (children (map (tree_at t) olds))) most_levels) ≡ true
     form_obeys = sym (ap (λ x. rules.is_declared place (declaration_of t x)) e ∙ ap (λ x. rules.is_declared place (Declaration.type_ x)) (form_tree t tables kept p keeps old n form olds is there)) ∙ obeys
 
     form_has_labels : are_labels (form_labels form) ≡ true

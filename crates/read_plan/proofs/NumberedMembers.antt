@@ -1,5 +1,5 @@
 -- Members are a package, and a world stands alone, exactly where their numbers are.
-use Rattle.std.proofs.Common.{◌≡◌, refl, sym, ap, ◌∙◌, ℕ, Bool, true, false, not, ◌&&◌, ◌||◌, ◌==◌, List, [], ◌∷◌, ◌++◌, map, Option, Some, None, option_map, is_none, unwrap_or, slice_get}
+use Rattle.std.proofs.Common.{◌≡◌, refl, sym, ap, ◌∙◌, ℕ, Bool, true, false, not, ◌&&◌, ◌||◌, ◌==◌, List, [], ◌∷◌, ◌++◌, map, Option, Some, None, option_map, is_none, slice_get}
 use Rattle.std.specs.List.{AllByRecursion, AllZip, flat_map, list_all, list_any}
 use Rattle.std.specs.Option.{option_map_or}
 use Rattle.std.proofs.lemmas.Bool.{eqb-true, eq-eqb}
@@ -25,12 +25,13 @@ use Rattle.read_plan.specs.NumberedMembers.{Homes, IsHomeOf, HomesStand, is_of_p
 use Rattle.read_plan.proofs.Lists.{both, map_of_map, append_of_map}
 use Rattle.read_plan.proofs.NumberedRules.{interface_same}
 use Rattle.read_plan.proofs.NumberedViews.{all_agree_in_numbers}
-use Rattle.read_plan.proofs.NumberedWorlds.{path_number, sights_in_numbers}
+use Rattle.read_plan.proofs.NumberedWorlds.{path_is, path_number, sights_in_numbers}
+
+pub only_sights : (t : Tables) (known : ℕ → Fact) (seen : List NumberedSight) → AllByRecursion (IsKnownSight t known) seen → AllByRecursion (IsSight t) seen
+only_sights t known [] all = tt
+only_sights t known (s ∷ seen) all = (all.0.0, only_sights t known seen all.1)
 
 module _ (t : Tables) (tables : AreTables t) (h : Homes) (stand : HomesStand t h) where
-  path_is : (p : ℕ) (x : HasPath t p) → path_text t p ≡ x.0
-  path_is p x = ap (λ o. unwrap_or o []) x.1
-
   -- ---- packages
 
   module _ (n : ℕ) (identity : PackageIdentity) (there : slice_get h.packages n ≡ Some identity) where
@@ -51,7 +52,7 @@ module _ (t : Tables) (tables : AreTables t) (h : Homes) (stand : HomesStand t h
     unfolding of_read
     of_package p x =
         let home = stand.homes p x.0 x.1 in
-        ap (is_of identity) (path_is p x)
+        ap (is_of identity) (path_is t p x)
         ∙ (ap of_read home.reads
         ∙ (package_number home.package_ home.identity home.stands
         ∙ (flip n home.package_ ∙ sym (ap (λ o. option_map_or (λ (y : ℕ × Text). y.0 == n) o false) home.home))))
@@ -65,7 +66,7 @@ module _ (t : Tables) (tables : AreTables t) (h : Homes) (stand : HomesStand t h
       where
         into : (home : IsHomeOf h p x.0) → text_eq (path_text t p) (path_in identity name) ≡ true → ((home.package_ == n) && text_eq home.name name) ≡ true
         into home e =
-            let same_path : x.0 ≡ path_in identity name = sym (path_is p x) ∙ text_same (path_text t p) (path_in identity name) e in
+            let same_path : x.0 ≡ path_in identity name = sym (path_is t p x) ∙ text_same (path_text t p) (path_in identity name) e in
             let pair : ◌≡◌ {A = PackageIdentity × Text} (home.identity, home.name) (identity, name) = same-some (home.identity, home.name) (identity, name) (sym home.reads ∙ (ap read_path same_path ∙ reads)) in
             let number : n ≡ home.package_ = stand.apart n home.package_ home.identity (there ∙ ap Some (sym (ap (λ (y : PackageIdentity × Text). y.0) pair))) home.stands in
             both (home.package_ == n) (text_eq home.name name) (eq-eqb home.package_ n (sym number)) (same_text home.name name (ap (λ (y : PackageIdentity × Text). y.1) pair))
@@ -75,7 +76,7 @@ module _ (t : Tables) (tables : AreTables t) (h : Homes) (stand : HomesStand t h
             let number : home.package_ ≡ n = eqb-true home.package_ n (first_true (home.package_ == n) (text_eq home.name name) e) in
             let text : home.name ≡ name = text_same home.name name (second_true (home.package_ == n) (text_eq home.name name) e) in
             let package_ : home.identity ≡ identity = same-some home.identity identity (sym home.stands ∙ (ap (slice_get h.packages) number ∙ there)) in
-            same_text (path_text t p) (path_in identity name) (path_is p x ∙ ((read_path_is_spelled x.0 home.identity home.name home.reads).spelled ∙ (λ i. path_in (package_ i) (text i))))
+            same_text (path_text t p) (path_in identity name) (path_is t p x ∙ ((read_path_is_spelled x.0 home.identity home.name home.reads).spelled ∙ (λ i. path_in (package_ i) (text i))))
 
   -- ---- members
 
@@ -87,7 +88,7 @@ module _ (t : Tables) (tables : AreTables t) (h : Homes) (stand : HomesStand t h
       let pair : ◌≡◌ {A = ℕ × Text} (home.package_, home.name) (m.package_, m.label) = same-some (home.package_, home.name) (m.package_, m.label) (sym home.home ∙ is.home) in
       let identity : home.identity ≡ x.package_ = same-some home.identity x.package_ (sym home.stands ∙ (ap (λ (y : ℕ × Text). slice_get h.packages y.0) pair ∙ package_)) in
       let name : home.name ≡ x.label = ap (λ (y : ℕ × Text). y.1) pair ∙ sym under in
-      sym (path_is p is.path ∙ ((read_path_is_spelled is.path.0 home.identity home.name home.reads).spelled ∙ (λ i. path_in (identity i) (name i))))
+      sym (path_is t p is.path ∙ ((read_path_is_spelled is.path.0 home.identity home.name home.reads).spelled ∙ (λ i. path_in (identity i) (name i))))
 
   abbrev imported_sight : Text × View → Sight
   imported_sight i = record { path = i.0; view = i.1; whole = false }
@@ -116,7 +117,7 @@ module _ (t : Tables) (tables : AreTables t) (h : Homes) (stand : HomesStand t h
 
   module _ (known : ℕ → Fact) where
     sight_place : (s : NumberedSight) → IsSight t s → Place.of_interface (path_text t s.place) ≡ place_at t s.place
-    sight_place s x = ap Place.of_interface (path_is s.place (x.path, x.home)) ∙ sym (ap place_of x.home)
+    sight_place s x = ap Place.of_interface (path_is t s.place (x.path, x.home)) ∙ sym (ap place_of x.home)
 
     interfaces_same : (seen : List NumberedSight) → AllByRecursion (IsKnownSight t known) seen → reads.are_interfaces (map (sight_of t) seen) ≡ are_interfaces t known seen
     interfaces_same [] all = refl
@@ -124,12 +125,8 @@ module _ (t : Tables) (tables : AreTables t) (h : Homes) (stand : HomesStand t h
         let one = ap (λ place. rules.is_interface place (view_of t s.view)) (sight_place s all.0.0) ∙ interface_same t tables.shapes known s.place s.view all.0.1 in
         λ i. one i && interfaces_same seen all.1 i
 
-    only_sights : (seen : List NumberedSight) → AllByRecursion (IsKnownSight t known) seen → AllByRecursion (IsSight t) seen
-    only_sights [] all = tt
-    only_sights (s ∷ seen) all = (all.0.0, only_sights seen all.1)
-
     pub agree_same : (seen : List NumberedSight) → AllByRecursion (IsKnownSight t known) seen → all_agree (map (sight_of t) seen) ≡ agree_in_numbers seen
-    agree_same seen all = all_agree_in_numbers t tables seen (only_sights seen all)
+    agree_same seen all = all_agree_in_numbers t tables seen (only_sights t known seen all)
 
     module _ (n : ℕ) (identity : PackageIdentity) (there : slice_get h.packages n ≡ Some identity) where
       packages_same : (ms : List NumberedMember) (members : List Member) → AllZip (IsMember t h) ms members → list_all (λ x. same_identity identity x.package_) members ≡ list_all (λ m. n == m.package_) ms

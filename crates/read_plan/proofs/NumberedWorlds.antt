@@ -26,16 +26,16 @@ all_in_both : {X : Type 0} (P : X → Type 0) (xs ys : List X) → AllByRecursio
 all_in_both P [] ys h k = k
 all_in_both P (x ∷ xs) ys h k = (h.0, all_in_both P xs ys h.1 k)
 
+pub path_is : (t : Tables) (p : ℕ) (h : HasPath t p) → path_text t p ≡ h.0
+path_is t p h = ap (λ o. unwrap_or o []) h.1
+
 module _ (t : Tables) (tables : AreTables t) where
   -- ---- paths and their numbers
-
-  path_is : (p : ℕ) (h : HasPath t p) → path_text t p ≡ h.0
-  path_is p h = ap (λ o. unwrap_or o []) h.1
 
   pub path_number : (p q : ℕ) → HasPath t p → HasPath t q → text_eq (path_text t p) (path_text t q) ≡ (q == p)
   path_number p q hp hq =
       either_way (text_eq (path_text t p) (path_text t q)) (q == p)
-      (λ h. let texts : hp.0 ≡ hq.0 = sym (path_is p hp) ∙ (text_same (path_text t p) (path_text t q) h ∙ path_is q hq) in eq-eqb q p (tables.paths q p hp.0 (hq.1 ∙ ap Some (sym texts)) hp.1))
+      (λ h. let texts : hp.0 ≡ hq.0 = sym (path_is t p hp) ∙ (text_same (path_text t p) (path_text t q) h ∙ path_is t q hq) in eq-eqb q p (tables.paths q p hp.0 (hq.1 ∙ ap Some (sym texts)) hp.1))
       (λ h. same_text (path_text t p) (path_text t q) (ap (path_text t) (sym (eqb-true q p h))))
 
   pub has_path : (ps : List ℕ) (p : ℕ) → AllByRecursion (HasPath t) ps → HasPath t p → list_any (text_eq (path_text t p)) (map (path_text t) ps) ≡ has ps p
@@ -233,9 +233,9 @@ resources_same t (s ∷ ss) = by s.shown (resources_same t ss)
 
 module _ (t : Tables) (tables : AreTables t) (known : ℕ → Fact) (home : ℕ) (alone : path_at t home ≡ None) where
   key_place : (key : NumberedKey) → KeyStands t key → place_of (interface_of (key_of t key)) ≡ place_at t (place_of_key key)
-  key_place (path p) h = ap place_of (ap Some (path_is t tables p h) ∙ sym h.1)
+  key_place (path p) h = ap place_of (ap Some (path_is t p h) ∙ sym h.1)
   key_place (label l p) h = sym (ap place_of h)
-  key_place (implementing l p) h = ap place_of (ap Some (path_is t tables p h) ∙ sym h.1)
+  key_place (implementing l p) h = ap place_of (ap Some (path_is t p h) ∙ sym h.1)
 
   home_is : Place.here ≡ place_at t home
   home_is = sym (ap place_of alone)

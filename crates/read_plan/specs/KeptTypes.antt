@@ -23,10 +23,12 @@ pub data IsKeptType (t : Tables) (kept : List ℕ) (p : Plan) (n : ℕ) (x : Pla
   declared : (q : ℕ) (name : Text) (d : Option ℕ) → slice_get t.shapes n ≡ Some (named_shape q name) → x.name ≡ Some name → place_in p x.owner ≡ place_at t q → DeclaresKind t kept p d x.kind
       → AllOf (λ k. k < 14 + n) d → is_label name ≡ true → rules.is_declared (place_at t q) (declaration_of t d) ≡ true → IsKeptType t kept p n x
 
--- Forms are as a definition has them, the numbers that are kept are in the order of the table, and each type is that of the shape kept there.
+-- Forms are as a definition has them, the numbers that are kept are in the order of the table, each once, and each type is that of the shape
+-- kept there.
 pub record TypesAreKept (t : Tables) (kept : List ℕ) (p : Plan) : Type 0 where
   pub forms : (n : ℕ) (form : Form) (parts : List ℕ) → slice_get t.shapes n ≡ Some (node_shape form parts) → is_form form parts ≡ true
   pub rise : (i j m n : ℕ) → slice_get kept i ≡ Some m → slice_get kept j ≡ Some n → m < n → i < j
+  pub once : (i j m : ℕ) → slice_get kept i ≡ Some m → slice_get kept j ≡ Some m → i ≡ j
   pub each : (j : ℕ) (x : PlannedType) → slice_get p.types j ≡ Some x → (n : ℕ) × (slice_get kept j ≡ Some n) × IsKeptType t kept p n x
 
 -- the tests of a plan on its types alone: they refer to smaller numbers, and have the labels, the shapes, the names and the levels that they may

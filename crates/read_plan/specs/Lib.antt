@@ -5,6 +5,11 @@ pub mod NumberedWorlds
 pub mod NumberedMembers
 pub mod GatheredPlan
 pub mod KeptTypes
+pub mod KeptFunctions
+pub mod KeptResources
+pub mod KeptOwners
+pub mod ReadFunctions
+pub mod ReadInterfaces
 pub mod Plan
 pub mod PlanMeaning
 pub mod PlanRules

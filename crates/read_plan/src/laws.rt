@@ -2,6 +2,9 @@
 
 ghost use Rattle.read_plan.specs.GatheredPlan.{GatheredPackageIsMeant, GatheredWorldIsMeant};
 ghost use Rattle.read_plan.specs.Gathering.{OneViewIsEnough, ViewsMeanOne};
+ghost use Rattle.read_plan.specs.KeptFunctions.{KeptFunctionsPass};
+ghost use Rattle.read_plan.specs.KeptOwners.{KeptOwnersStand};
+ghost use Rattle.read_plan.specs.KeptResources.{KeptResourcesStand};
 ghost use Rattle.read_plan.specs.KeptTypes.{KeptTypesPass};
 ghost use Rattle.read_plan.specs.NumberedMembers.{
   ExportInNumbers,
@@ -29,6 +32,8 @@ ghost use Rattle.read_plan.specs.PlanLaws.{
   WorldIsMeant,
   WorldStandsAlone,
 };
+ghost use Rattle.read_plan.specs.ReadFunctions.{ReadFunctionsPass};
+ghost use Rattle.read_plan.specs.ReadInterfaces.{ReadInterfacesPass};
 ghost use Rattle.read_plan.specs.Renumbering.{TreesAreKept};
 ghost use Rattle.read_plan.specs.Shapes.{OneNumber, TreeAtNumber};
 
@@ -97,6 +102,33 @@ pub fn trees_are_kept()
 /// refer to smaller numbers, and have the labels, the shapes, the names and the levels that they may.
 pub fn kept_types_pass()
     ensures { KeptTypesPass }
+{}
+
+/// Where the parts of the tables that are resources are marked, handles of a plan whose types are kept are of resources, and nothing else has
+/// one as a part.
+pub fn kept_resources_stand()
+    ensures { KeptResourcesStand }
+{}
+
+/// Where each place has an owner of its own, types and functions of a plan whose types are kept stay with the owner of their place.
+pub fn kept_owners_stand()
+    ensures { KeptOwnersStand }
+{}
+
+/// Where each function of a plan is read in its owner's place, all tests of a plan on functions hold.
+pub fn read_functions_pass()
+    ensures { ReadFunctionsPass }
+{}
+
+/// Where each interface of a plan is read in its own place, its names are labels that differ, and its types are its own, under rising numbers.
+pub fn read_interfaces_pass()
+    ensures { ReadInterfacesPass }
+{}
+
+/// A function of a plan whose types are those of shapes that are kept, where what was read obeys the rules, passes the tests of its numbers,
+/// its labels, its levels and its resource.
+pub fn kept_functions_pass()
+    ensures { KeptFunctionsPass }
 {}
 
 /// A plan that is gathered from views in numbers, of the members of a package or of one world, means what they mean.
