@@ -2,6 +2,8 @@
 #![tactic(auto)]
 
 #[cfg(test)]
+mod defining;
+#[cfg(test)]
 mod forms;
 #[cfg(test)]
 mod sections;
