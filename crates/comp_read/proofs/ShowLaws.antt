@@ -1,8 +1,8 @@
 -- What the exports of an instance type show.
-use Rattle.std.proofs.Common.{◌≡◌, refl, sym, ap, ◌∙◌, subst, ℕ, ◌+◌, ◌<◌, ◌≤◌, arith, Bool, true, false, List, [], ◌∷◌, ◌++◌, map, length, Option, Some, None, option_map, is_some, IfSome, slice_get, unwrap_or}
+use Rattle.std.proofs.Common.{◌≡◌, refl, sym, ap, ◌∙◌, subst, ℕ, ◌+◌, ◌<◌, ◌≤◌, arith, Bool, true, false, List, [], ◌∷◌, ◌++◌, map, length, Option, Some, None, IfSome, slice_get, unwrap_or}
 use Rattle.std.specs.List.{AllByRecursion}
 use Rattle.std.proofs.lemmas.List.{map-append}
-use Rattle.wit_model.specs.Meaning.{FunctionMeaning, Signature}
+use Rattle.wit_model.specs.Meaning.{Signature}
 use Rattle.wit_model.specs.Text.{Text}
 use Rattle.wit_model.specs.Tree as tree
 use Rattle.wit_model.specs.Tree.{Place, Tree}
@@ -20,9 +20,9 @@ use Rattle.comp_read.specs.declared.slots.Slot.TheVariants as slots
 use Rattle.comp_read.specs.declared.views.ShownFunction.{ShownFunction}
 use Rattle.comp_read.specs.declared.views.ShownType.{ShownType}
 use Rattle.comp_read.specs.ExternNames.{raw_name}
-use Rattle.comp_read.specs.Following.{scope_at, shown_function, signatures_at, slots_at, trees_at, AreMarked, AreTables, Halts, IsNamePart, IsShownFunctionIn, IsShownIn, IsSlotIn, IsState, State, Steps}
+use Rattle.comp_read.specs.Following.{scope_at, shown_function, signatures_at, slots_at, trees_at, AreTables, Halts, IsShownFunctionIn, IsShownIn, IsSlotIn, IsState, State, Steps}
 use Rattle.comp_read.specs.Found.{Refuses}
-use Rattle.comp_read.specs.Functions.{functions_in, FunctionShape}
+use Rattle.comp_read.specs.Functions.{functions_in}
 use Rattle.comp_read.specs.InstanceScopes.{name_meant, name_slot, named_by}
 use Rattle.comp_read.specs.Slots.{no_signature, resource_slot, slot_in, slots_in, AreInRange, AreNames, IsName}
 use Rattle.read_plan.specs.Shapes.{Shape, named_shape, part_tree, shape_trees, Adds, IsTable}

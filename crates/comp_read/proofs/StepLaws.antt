@@ -1,11 +1,10 @@
 -- One declaration of an instance type after the other.
-use Rattle.std.proofs.Common.{◌≡◌, refl, sym, ap, ◌∙◌, subst, ℕ, zero, suc, ◌+◌, ◌-◌, ◌<◌, ◌≤◌, arith, Bool, true, false, ◌&&◌, ◌==◌, List, [], ◌∷◌, ◌++◌, length, Option, Some, None, slice_get, append_assoc}
+use Rattle.std.proofs.Common.{◌≡◌, refl, sym, ap, ◌∙◌, subst, ℕ, suc, ◌+◌, ◌-◌, ◌<◌, ◌≤◌, arith, Bool, true, false, ◌&&◌, ◌==◌, List, [], ◌∷◌, ◌++◌, length, Option, Some, None, slice_get, append_assoc}
 use Rattle.std.specs.List.{AllByRecursion}
 use Rattle.wit_model.specs.Tree.{Place, Tree}
 use Rattle.comp_bytes.specs.Raw.{Alias, Declaration}
 use Rattle.comp_bytes.specs.Reading.{◌>>=◌, Reader, sequence_at}
-use Rattle.comp_bytes.proofs.Readers.{bind_some}
-use Rattle.comp_meaning.specs.Follow.{InstanceScope as MeantScope, Slot as Meant, in_instance, instance_step, instance_steps, instance_view, is_foreign_name, new_instance, provided}
+use Rattle.comp_meaning.specs.Follow.{InstanceScope as MeantScope, in_instance, instance_step, instance_steps, instance_view, is_foreign_name, new_instance, provided}
 use Rattle.comp_read.specs.declared.bodies.Body.{Body}
 use Rattle.comp_read.specs.declared.refusal.Refusal.{Refusal}
 use Rattle.comp_read.specs.declared.refusal.Refusal.TheVariants as refusals

@@ -4,6 +4,8 @@
 #[cfg(test)]
 mod defining;
 #[cfg(test)]
+mod following;
+#[cfg(test)]
 mod forms;
 #[cfg(test)]
 mod sections;

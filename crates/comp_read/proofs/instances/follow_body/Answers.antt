@@ -1,4 +1,3 @@
-use Rattle.std.proofs.Common.{◌≡◌, ap, sym, Some}
 use Rattle.comp_meaning.specs.Follow.{instance_view}
 use Rattle.comp_read.specs.Bodies.{held_declaration_at, items_in}
 use Rattle.comp_read.specs.Declares.{raw_declared}
