@@ -22,16 +22,41 @@ struct Row {
 }
 
 const U8: ComponentValType = ComponentValType::Primitive(PrimitiveValType::U8);
+
 const STRING: ComponentValType = ComponentValType::Primitive(PrimitiveValType::String);
 
 // A type has 14 more than its number, and what is equal to an earlier type has its number.
 static ROWS: [Row; 6] = [
-    Row { first: U8, second: None, wanted: Wanted::Part(14) },
-    Row { first: STRING, second: None, wanted: Wanted::Part(15) },
-    Row { first: U8, second: None, wanted: Wanted::Part(14) },
-    Row { first: ComponentValType::Type_(0), second: Some(ComponentValType::Type_(1)), wanted: Wanted::Part(16) },
-    Row { first: ComponentValType::Type_(2), second: Some(ComponentValType::Type_(1)), wanted: Wanted::Part(16) },
-    Row { first: ComponentValType::Type_(9), second: None, wanted: Wanted::Refused(Cause::OutOfScope) },
+    Row {
+        first: U8,
+        second: None,
+        wanted: Wanted::Part(14),
+    },
+    Row {
+        first: STRING,
+        second: None,
+        wanted: Wanted::Part(15),
+    },
+    Row {
+        first: U8,
+        second: None,
+        wanted: Wanted::Part(14),
+    },
+    Row {
+        first: ComponentValType::Type_(0),
+        second: Some(ComponentValType::Type_(1)),
+        wanted: Wanted::Part(16),
+    },
+    Row {
+        first: ComponentValType::Type_(2),
+        second: Some(ComponentValType::Type_(1)),
+        wanted: Wanted::Part(16),
+    },
+    Row {
+        first: ComponentValType::Type_(9),
+        second: None,
+        wanted: Wanted::Refused(Cause::OutOfScope),
+    },
 ];
 
 fn definition<'a>(alloc: Global, row: Row) -> Result<ComponentDefinedType<'a>, Refusal> {
@@ -85,7 +110,11 @@ fn number(
     let mut slots = Vec::new(alloc);
     let mut params = Vec::new(alloc);
     params.push(("a", U8))?;
-    let function = ComponentFuncType { async_, params, result: outcome };
+    let function = ComponentFuncType {
+        async_,
+        params,
+        result: outcome,
+    };
     define_function(alloc, functions, &mut slots, &function)?;
     match slots.last() {
         Some(Slot::Function(number)) => Ok(Some(*number)),
@@ -102,5 +131,12 @@ fn types_of_functions(rt: HostRuntime) {
     assert!(rt; number(alloc, &mut functions, true, None) == Ok(Some(1)));
     assert!(rt; number(alloc, &mut functions, false, Some(U8)) == Ok(Some(2)));
     assert!(rt; number(alloc, &mut functions, true, None) == Ok(Some(1)));
-    assert!(rt; number(alloc, &mut functions, true, Some(ComponentValType::Type_(0))) == Err(Refusal::Absent(Cause::OutOfScope, 0)));
+    assert!(rt;
+        number(
+            alloc,
+            &mut functions,
+            true,
+            Some(ComponentValType::Type_(0))
+        ) == Err(Refusal::Absent(Cause::OutOfScope, 0))
+    );
 }

@@ -71,16 +71,46 @@ struct Change {
 
 static CHANGES: [Change; 6] = [
     // An export of a type that isn't there, and of a function that is a handle.
-    Change { at: 12, to: 0x09, cause: Cause::OutOfScope, left: 24 },
-    Change { at: 35, to: 0x03, cause: Cause::NotWit, left: 1 },
+    Change {
+        at: 12,
+        to: 0x09,
+        cause: Cause::OutOfScope,
+        left: 24,
+    },
+    Change {
+        at: 35,
+        to: 0x03,
+        cause: Cause::NotWit,
+        left: 1,
+    },
     // A handle of a type that is no resource.
-    Change { at: 21, to: 0x01, cause: Cause::NotWit, left: 17 },
+    Change {
+        at: 21,
+        to: 0x01,
+        cause: Cause::NotWit,
+        left: 17,
+    },
     // A parameter that is a resource.
-    Change { at: 27, to: 0x02, cause: Cause::NotWit, left: 14 },
+    Change {
+        at: 27,
+        to: 0x02,
+        cause: Cause::NotWit,
+        left: 14,
+    },
     // An export of an instance.
-    Change { at: 34, to: 0x05, cause: Cause::NotWit, left: 1 },
+    Change {
+        at: 34,
+        to: 0x05,
+        cause: Cause::NotWit,
+        left: 1,
+    },
     // A parameter of a type that isn't there.
-    Change { at: 27, to: 0x07, cause: Cause::OutOfScope, left: 14 },
+    Change {
+        at: 27,
+        to: 0x07,
+        cause: Cause::OutOfScope,
+        left: 14,
+    },
 ];
 
 #[test]
