@@ -1,10 +1,9 @@
 -- Which slots are names of interfaces with a path.
-use Rattle.std.proofs.Common.{◌≡◌, refl, sym, ap, ◌∙◌, subst, ℕ, zero, suc, ◌+◌, ◌-◌, ◌<◌, ◌≤◌, arith, inl, inr, Bool, true, false, ◌==◌, nat_lt, cond, List, [], ◌∷◌, ◌++◌, map, length, Option, Some, None, slice_get, unwrap_or}
-use Rattle.std.specs.List.{AllByRecursion}
+use Rattle.std.proofs.Common.{◌≡◌, refl, sym, ap, ◌∙◌, ℕ, ◌+◌, ◌-◌, ◌<◌, arith, inl, inr, Bool, false, ◌==◌, cond, List, length, Some, None, slice_get, unwrap_or}
 use Rattle.std.proofs.lemmas.Bool.{lt-ltb, le-ltb}
 use Rattle.wit_model.specs.Meaning.{Signature}
 use Rattle.wit_model.specs.Text.{Text}
-use Rattle.wit_model.specs.Tree.{Form, Place, Tree, children}
+use Rattle.wit_model.specs.Tree.{Form, Place, Tree}
 use Rattle.wit_model.specs.Types.{no_tree}
 use Rattle.comp_meaning.specs.Follow as follow
 use Rattle.comp_meaning.specs.Follow.{is_foreign_name}
@@ -15,7 +14,7 @@ use Rattle.comp_read.specs.Following.{is_path, AreMarked, IsNamePart, IsSlotIn}
 use Rattle.comp_read.specs.Functions.{FunctionShape}
 use Rattle.comp_read.specs.InstanceScopes.{foreign_part, foreign_slot, is_marked, name_place, place_in}
 use Rattle.comp_read.specs.Slots.{resource_slot, slot_in}
-use Rattle.read_plan.specs.Shapes.{Shape, form_code, named_shape, node_shape, part_tree, primitives, shape_tree, shape_trees, IsShape, a_name, a_node, IsTable}
+use Rattle.read_plan.specs.Shapes.{Shape, form_code, named_shape, part_tree, primitives, shape_tree, shape_trees, IsShape, a_name, a_node, IsTable}
 use Rattle.read_plan.proofs.ShapeLaws.{name_tree, node_tree, part_behind, part_front, slice_there, split_part, tree_at_number}
 use Rattle.comp_read.proofs.AddLaws.{mapped_get}
 use Rattle.comp_read.proofs.DefiningLaws.{all_at}

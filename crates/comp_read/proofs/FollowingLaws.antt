@@ -1,14 +1,14 @@
 -- A scope of an instance type in tables that grow, and what each declaration does to it.
-use Rattle.std.proofs.Common.{◌≡◌, refl, sym, ap, ◌∙◌, subst, ℕ, zero, suc, ◌+◌, ◌<◌, ◌≤◌, arith, Bool, true, false, ◌&&◌, ◌==◌, cond, not, List, [], ◌∷◌, ◌++◌, map, length, Option, Some, None, option_map, is_some, IfSome, Result, Ok, Err, IfErr, OnOk, slice_get, unwrap_or, append_assoc, append-nil, length-append}
+use Rattle.std.proofs.Common.{◌≡◌, refl, sym, ap, ◌∙◌, subst, ℕ, ◌+◌, ◌<◌, ◌≤◌, arith, Bool, List, [], ◌∷◌, ◌++◌, map, length, Option, Some, None, option_map, IfSome, Result, Ok, Err, IfErr, OnOk, slice_get, unwrap_or}
 use Rattle.std.specs.List.{AllByRecursion}
 use Rattle.std.proofs.Math.ListN.{length-map}
 use Rattle.std.proofs.lemmas.List.{map-append}
-use Rattle.wit_model.specs.Meaning.{FunctionMeaning, Signature}
+use Rattle.wit_model.specs.Meaning.{Signature}
 use Rattle.wit_model.specs.Text.{Text}
 use Rattle.wit_model.specs.Tree as tree
 use Rattle.wit_model.specs.Tree.{Place, Tree}
 use Rattle.wit_model.specs.Types.{no_tree}
-use Rattle.comp_bytes.specs.Raw.{Declaration, DefinedType, ExternName, FunctionType}
+use Rattle.comp_bytes.specs.Raw.{Declaration, DefinedType, FunctionType}
 use Rattle.comp_bytes.specs.RawOf.{text_of}
 use Rattle.comp_bytes.specs.Reading.{◌>>=◌}
 use Rattle.comp_meaning.specs.Follow as follow
@@ -18,15 +18,15 @@ use Rattle.comp_read.specs.declared.slots.Slot.{Slot}
 use Rattle.comp_read.specs.declared.slots.Slot.TheVariants as slots
 use Rattle.comp_read.specs.declared.views.ShownFunction.{ShownFunction}
 use Rattle.comp_read.specs.declared.views.ShownType.{ShownType}
-use Rattle.comp_read.specs.Defining.{ArePlacedBelow, Grows, IsDefined, IsDefinedFunction, IsUndefined}
-use Rattle.comp_read.specs.Following.{declared_in, scope_at, shown_function, shown_type, signatures_at, slots_at, trees_at, view_at, AreMarked, AreSlotsIn, AreTables, Halts, IsNamePart, IsShownFunctionIn, IsShownIn, IsSlotIn, IsState, State, Steps}
+use Rattle.comp_read.specs.Defining.{Grows, IsDefined, IsDefinedFunction, IsUndefined}
+use Rattle.comp_read.specs.Following.{declared_in, scope_at, shown_function, shown_type, signatures_at, slots_at, trees_at, view_at, AreSlotsIn, AreTables, Halts, IsNamePart, IsShownFunctionIn, IsShownIn, IsSlotIn, IsState, State, Steps}
 use Rattle.comp_read.specs.Found.{Refuses}
 use Rattle.comp_read.specs.Functions.{functions_in, signature_in, AreFunctionsIn, FunctionShape, IsFunctionIn, Joins, stays, comes}
 use Rattle.comp_read.specs.Slots.{no_signature, resource_slot, slot_in, slots_in, AreInRange, AreNames, IsName}
-use Rattle.read_plan.specs.Shapes.{Shape, named_shape, part_tree, shape_tree, shape_trees, IsTable}
+use Rattle.read_plan.specs.Shapes.{Shape, named_shape, part_tree, shape_trees, IsTable}
 use Rattle.read_plan.proofs.ShapeLaws.{name_tree, part_behind, slice_front, tree_at_number}
 use Rattle.comp_read.proofs.AddLaws.{mapped_get}
-use Rattle.comp_read.proofs.DefiningLaws.{all_at, functions_grown, longer, one_longer, part_grown, same_list}
+use Rattle.comp_read.proofs.DefiningLaws.{functions_grown, longer, one_longer, part_grown, same_list}
 use Rattle.comp_read.proofs.Refusing.{refused}
 use Rattle.comp_read.proofs.TableGrowth.{found_below}
 use Rattle.comp_read.proofs.WholeLaws.{all_end}

@@ -1,8 +1,8 @@
 -- What the exports of an instance type show.
-use Rattle.std.proofs.Common.{◌≡◌, refl, sym, ap, ◌∙◌, subst, ℕ, ◌+◌, ◌<◌, ◌≤◌, arith, Bool, true, false, List, [], ◌∷◌, ◌++◌, map, length, Option, Some, None, option_map, is_some, IfSome, slice_get, unwrap_or}
+use Rattle.std.proofs.Common.{◌≡◌, refl, sym, ap, ◌∙◌, subst, ℕ, ◌+◌, ◌<◌, ◌≤◌, arith, Bool, true, false, List, [], ◌∷◌, ◌++◌, map, length, Option, Some, None, IfSome, slice_get, unwrap_or}
 use Rattle.std.specs.List.{AllByRecursion}
 use Rattle.std.proofs.lemmas.List.{map-append}
-use Rattle.wit_model.specs.Meaning.{FunctionMeaning, Signature}
+use Rattle.wit_model.specs.Meaning.{Signature}
 use Rattle.wit_model.specs.Text.{Text}
 use Rattle.wit_model.specs.Tree as tree
 use Rattle.wit_model.specs.Tree.{Place, Tree}
@@ -20,9 +20,9 @@ use Rattle.comp_read.specs.declared.slots.Slot.TheVariants as slots
 use Rattle.comp_read.specs.declared.views.ShownFunction.{ShownFunction}
 use Rattle.comp_read.specs.declared.views.ShownType.{ShownType}
 use Rattle.comp_read.specs.ExternNames.{raw_name}
-use Rattle.comp_read.specs.Following.{scope_at, shown_function, signatures_at, slots_at, trees_at, AreMarked, AreTables, Halts, IsNamePart, IsShownFunctionIn, IsShownIn, IsSlotIn, IsState, State, Steps}
+use Rattle.comp_read.specs.Following.{scope_at, shown_function, signatures_at, slots_at, trees_at, AreTables, Halts, IsShownFunctionIn, IsShownIn, IsSlotIn, IsState, State, Steps}
 use Rattle.comp_read.specs.Found.{Refuses}
-use Rattle.comp_read.specs.Functions.{functions_in, FunctionShape}
+use Rattle.comp_read.specs.Functions.{functions_in}
 use Rattle.comp_read.specs.InstanceScopes.{name_meant, name_slot, named_by}
 use Rattle.comp_read.specs.Slots.{no_signature, resource_slot, slot_in, slots_in, AreInRange, AreNames, IsName}
 use Rattle.read_plan.specs.Shapes.{Shape, named_shape, part_tree, shape_trees, Adds, IsTable}
@@ -168,7 +168,7 @@ module _ (marks : List Bool) (old : State) (st : IsState (length marks) old) (na
           follows = λ place marked.
               let U = shape_trees place more in
               let stands : slot_in U (functions_in U old.signatures) s ≡ name_meant made.is_resource (place here) name.text.now =
-                ap (slot_in U (functions_in U old.signatures)) is ∙ name_stands place made.is_resource more number table at in
+              ap (slot_in U (functions_in U old.signatures)) is ∙ name_stands place made.is_resource more number table at in
               let declared = declared_stays (length marks) old.shapes more old.signatures old.signatures st.tables gs gf place made.declared (old_range made.declared range) in
               ap (with_named (scope_at place old)) (found (trees_at place old) (signatures_at place old) (place here) name.text.now (names_of place old.shapes old.signatures old.slots st.tables.table st.slots))
               ∙ ((λ i. with_named (scope_at place old) (Some (sym declared i, sym stands i)))

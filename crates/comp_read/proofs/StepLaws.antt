@@ -1,18 +1,25 @@
 -- One declaration of an instance type after the other.
-use Rattle.std.proofs.Common.{◌≡◌, refl, sym, ap, ◌∙◌, subst, ℕ, zero, suc, ◌+◌, ◌-◌, ◌<◌, ◌≤◌, arith, Bool, true, false, ◌&&◌, ◌==◌, List, [], ◌∷◌, ◌++◌, length, Option, Some, None, slice_get, append_assoc}
+use Rattle.std.proofs.Common.{◌≡◌, refl, sym, ap, ◌∙◌, subst, ℕ, suc, ◌+◌, ◌-◌, ◌<◌, ◌≤◌, arith, Bool, true, false, ◌&&◌, ◌==◌, List, [], ◌∷◌, ◌++◌, length, Option, Some, None, slice_get, append_assoc}
+use Rattle.std.specs.List.{AllByRecursion}
 use Rattle.wit_model.specs.Tree.{Place, Tree}
 use Rattle.comp_bytes.specs.Raw.{Alias, Declaration}
 use Rattle.comp_bytes.specs.Reading.{◌>>=◌, Reader, sequence_at}
-use Rattle.comp_bytes.proofs.Readers.{bind_some}
-use Rattle.comp_meaning.specs.Follow.{InstanceScope as MeantScope, Slot as Meant, in_instance, instance_step, instance_steps, instance_view, is_foreign_name, new_instance, provided}
+use Rattle.comp_meaning.specs.Follow.{InstanceScope as MeantScope, in_instance, instance_step, instance_steps, instance_view, is_foreign_name, new_instance, provided}
+use Rattle.comp_read.specs.declared.bodies.Body.{Body}
 use Rattle.comp_read.specs.declared.refusal.Refusal.{Refusal}
+use Rattle.comp_read.specs.declared.refusal.Refusal.TheVariants as refusals
 use Rattle.comp_read.specs.declared.slots.Slot.{Slot}
-use Rattle.comp_read.specs.Bodies.{held_declaration_at}
+use Rattle.comp_read.specs.declared.views.InstanceScope.{InstanceScope}
+use Rattle.comp_read.specs.declared.views.ShownFunction.{ShownFunction}
+use Rattle.comp_read.specs.declared.views.ShownType.{ShownType}
+use Rattle.comp_read.specs.declared.views.View.{View}
+use Rattle.comp_read.specs.Bodies.{held_declaration_at, items_in, IsBody}
 use Rattle.comp_read.specs.Defining.{Grows}
-use Rattle.comp_read.specs.Following.{scope_at, signatures_at, trees_at, AreMarked, AreSlotsIn, Halts, IsSlotIn, IsState, State, Steps}
+use Rattle.comp_read.specs.Following.{scope_at, signatures_at, slots_at, trees_at, view_at, AreMarked, AreSlotsIn, AreTables, Halts, IsShownFunctionIn, IsShownIn, IsSlotIn, IsState, State, Steps}
 use Rattle.comp_read.specs.Found.{Refuses}
 use Rattle.comp_read.specs.Functions.{functions_in, FunctionShape}
-use Rattle.comp_read.specs.InstanceScopes.{foreign_slot, step_of, taken_by}
+use Rattle.comp_read.specs.InstanceScopes.{foreign_slot, state_of, step_of, tables_of, taken_by, IsFollowed, IsViewOf, ShowsNothing}
+use Rattle.comp_read.specs.Pieces.{AreAlike}
 use Rattle.comp_read.specs.Slots.{slot_in, slots_in}
 use Rattle.read_plan.specs.Shapes.{Shape, shape_trees}
 use Rattle.comp_read.proofs.AliasLaws.{slot_foreign}
@@ -78,3 +85,152 @@ module _ (marks : List Bool) (old : State) (st : IsState (length marks) old) (he
   alias_halts a e r place marked =
       refused e (taken_by marks old.shapes outer a) (step_of here old.shapes old.signatures outer (Declaration.alias_of a) place (scope_at place old))
       (λ none. alias_meant place marked a (scope_at place old) ∙ ap (λ o. o >>= λ x. Some (in_instance (slot_in (trees_at place old) (signatures_at place old) x) (scope_at place old))) none) r
+
+grow_on : {X : Type 0} (a b c : List X) → Grows a b → Grows b c → Grows a c
+grow_on a b c g h = record { more = g.more ++ h.more; is = h.is ∙ (ap (λ xs. xs ++ h.more) g.is ∙ append_assoc a g.more h.more) }
+
+-- ---- a sequence, one by one
+
+sequence_more : {A : Type 0} (reader : Reader A) (k : ℕ) (bytes : List ℕ) → sequence_at reader (suc k) bytes ≡ (reader bytes >>= λ x. sequence_at reader k x.1 >>= λ xs. Some (x.0 ∷ xs.0, xs.1))
+unfolding sequence_at
+sequence_more reader k bytes = refl
+
+abbrev headed : {A : Type 0} → A → Option (List A × List ℕ) → Option (List A × List ℕ)
+headed x found = found >>= λ xs. Some (x ∷ xs.0, xs.1)
+
+abbrev after_first : {A : Type 0} → Reader A → ℕ → Option (A × List ℕ) → Option (List A × List ℕ)
+after_first reader k o = o >>= λ x. headed x.0 (sequence_at reader k x.1)
+
+headed_is : {A : Type 0} (xs : List A) (x : A) (o : Option (List A × List ℕ)) → headed x o ≡ Some (xs, []) → (ys : List A) × (o ≡ Some (ys, [])) × (xs ≡ x ∷ ys)
+headed_is {A = A} xs x None h = absurd cc
+headed_is {A = A} xs x (Some ys) h =
+    let whole : (x ∷ ys.0, ys.1) ≡ (xs, []) = cc in
+    let none : ys.1 ≡ [] = ap (λ (p : List A × List ℕ). p.1) whole in
+    let same : xs ≡ x ∷ ys.0 = ap (λ (p : List A × List ℕ). p.0) (sym whole) in
+    (ys.0, (λ i. Some (ys.0, none i)), same)
+
+-- the first of those that are left, and those behind it
+peeled : {A : Type 0} (reader : Reader A) (k : ℕ) (bytes : List ℕ) (xs : List A) → sequence_at reader (suc k) bytes ≡ Some (xs, [])
+    → (x : A) (behind : List ℕ) → reader bytes ≡ Some (x, behind) → (ys : List A) × (sequence_at reader k behind ≡ Some (ys, [])) × (xs ≡ x ∷ ys)
+peeled reader k bytes xs all x behind at = headed_is xs x (sequence_at reader k behind) (ap (after_first reader k) (sym at) ∙ (sym (sequence_more reader k bytes) ∙ all))
+
+not_some : {X : Type 0} (x : X) → None ≡ Some x → ⊥
+not_some x e = cc
+
+unread : {A : Type 0} (reader : Reader A) (k : ℕ) (bytes : List ℕ) (xs : List A) → sequence_at reader (suc k) bytes ≡ Some (xs, []) → reader bytes ≡ None → ⊥
+unread reader k bytes xs all none = not_some (xs, []) (ap (after_first reader k) (sym none) ∙ (sym (sequence_more reader k bytes) ∙ all))
+
+none_less : (n : ℕ) → n - 0 ≡ n
+none_less n = omega arith
+
+less : (n i : ℕ) → i < n → n - i ≡ suc (n - (i + 1))
+less n i h = omega (arith, h)
+
+some_same : {X : Type 0} (x y : X) → Some x ≡ Some y → x ≡ y
+some_same x y e = cc
+
+ended : {A : Type 0} (reader : Reader A) (rest : List ℕ) (ds : List A) → sequence_at reader 0 rest ≡ Some (ds, []) → (ds ≡ []) × (rest ≡ [])
+unfolding sequence_at
+ended {A = A} reader rest ds e =
+    let whole : ([], rest) ≡ (ds, []) = some_same ([], rest) (ds, []) e in
+    (ap (λ (p : List A × List ℕ). p.0) (sym whole), ap (λ (p : List A × List ℕ). p.1) whole)
+
+none_left : {A : Type 0} (reader : Reader A) (n : ℕ) (rest : List ℕ) (ds : List A) → n ≡ 0 → sequence_at reader n rest ≡ Some (ds, []) → (ds ≡ []) × (rest ≡ [])
+none_left reader n rest ds none e = ended reader rest ds (ap (λ k. sequence_at reader k rest) (sym none) ∙ e)
+
+-- ---- the declarations of a body
+
+module _ (marks : List Bool) (here : ℕ) (start : State) (tables : AreTables (length marks) start.shapes start.signatures) (outer : List Slot) (inside : AreSlotsIn start.shapes start.signatures outer) (b : Body) where
+  pub followed_none : (ss : List Slot) (ts : List ShownType) (fs : List ShownFunction) → ss ≡ [] → ts ≡ [] → fs ≡ [] → IsBody held_declaration_at b
+      → IsFollowed marks here start outer b 0 b.bytes.now (record { shapes = start.shapes; signatures = start.signatures; slots = ss; types = ts; functions = fs })
+  followed_none ss ts fs es et ef whole =
+      subst (λ (xs : List ShownFunction). IsFollowed marks here start outer b 0 b.bytes.now (record { shapes = start.shapes; signatures = start.signatures; slots = ss; types = ts; functions = xs })) (sym ef)
+      (subst (λ (xs : List ShownType). IsFollowed marks here start outer b 0 b.bytes.now (record { shapes = start.shapes; signatures = start.signatures; slots = ss; types = xs; functions = [] })) (sym et)
+      (subst (λ (xs : List Slot). IsFollowed marks here start outer b 0 b.bytes.now (record { shapes = start.shapes; signatures = start.signatures; slots = xs; types = []; functions = [] })) (sym es)
+      (record {
+        state = record { tables = tables; slots = tt; types = tt; functions = tt };
+        shapes_grow = same_list start.shapes;
+        signatures_grow = same_list start.signatures;
+        count = omega arith;
+        ds = items_in held_declaration_at b;
+        left = ap (λ n. sequence_at held_declaration_at n b.bytes.now) (none_less b.count) ∙ whole;
+        follows = λ place marked. refl;
+      })))
+
+  module _ (i : ℕ) (rest : List ℕ) (now : State) (f : IsFollowed marks here start outer b i rest now) where
+    -- what stands around is what it was
+    around_stays : (place : ℕ → Place) → slots_at place now outer ≡ slots_at place start outer
+    around_stays place = slots_stay (length marks) start.shapes now.shapes start.signatures now.signatures tables f.shapes_grow f.signatures_grow place outer inside
+
+    pub around_in : AreSlotsIn now.shapes now.signatures outer
+    around_in = wider_slots (length marks) start.shapes now.shapes start.signatures now.signatures tables f.shapes_grow f.signatures_grow outer inside
+
+    module _ (more : i < b.count) where
+      left_here : sequence_at held_declaration_at (suc (b.count - (i + 1))) rest ≡ Some (f.ds, [])
+      left_here = ap (λ k. sequence_at held_declaration_at k rest) (sym (less b.count i more)) ∙ f.left
+
+      -- there is a declaration
+      pub not_unread : (e : Refusal) → Refuses e (held_declaration_at rest) → ShowsNothing marks here start outer b e
+      not_unread e r place marked =
+          refused e (held_declaration_at rest) (instance_view (place here) (slots_at place start outer) (items_in held_declaration_at b))
+          (λ none. absurd (unread held_declaration_at (b.count - (i + 1)) rest f.ds left_here none)) r
+
+      module _ (d : Declaration) (behind : List ℕ) (at : held_declaration_at rest ≡ Some (d, behind)) where
+        steps_on : (place : ℕ → Place) → AreMarked marks place → (o : Option MeantScope) → step_of here now.shapes now.signatures outer d place (scope_at place now) ≡ o
+            → (ys : List Declaration) → f.ds ≡ d ∷ ys → instance_steps (place here) (slots_at place start outer) new_instance (items_in held_declaration_at b) ≡ (o >>= λ next. instance_steps (place here) (slots_at place start outer) next ys)
+        steps_on place marked o e ys same =
+            sym (f.follows place marked)
+            ∙ (ap (instance_steps (place here) (slots_at place start outer) (scope_at place now)) same
+            ∙ ap (λ p. p >>= λ next. instance_steps (place here) (slots_at place start outer) next ys)
+            (ap (λ ss. instance_step (place here) ss (scope_at place now) d) (sym (around_stays place)) ∙ e))
+
+        pub followed_more : (next : State) → Steps marks 1 (step_of here now.shapes now.signatures outer d) now next → IsFollowed marks here start outer b (i + 1) behind next
+        followed_more next s =
+            let p = peeled held_declaration_at (b.count - (i + 1)) rest f.ds left_here d behind at in
+            let c = f.count in
+            let k = s.count in
+            record {
+              state = s.state;
+              shapes_grow = grow_on start.shapes now.shapes next.shapes f.shapes_grow s.shapes_grow;
+              signatures_grow = grow_on start.signatures now.signatures next.signatures f.signatures_grow s.signatures_grow;
+              count = omega (arith, c, k);
+              ds = p.0;
+              left = p.1;
+              follows = λ place marked. sym (steps_on place marked (Some (scope_at place next)) (s.follows place marked) p.0 p.2);
+            }
+
+        pub nothing_shown : (e : Refusal) → Halts marks (step_of here now.shapes now.signatures outer d) now e → ShowsNothing marks here start outer b e
+        nothing_shown e h place marked =
+            let p = peeled held_declaration_at (b.count - (i + 1)) rest f.ds left_here d behind at in
+            refused e (step_of here now.shapes now.signatures outer d place (scope_at place now)) (instance_view (place here) (slots_at place start outer) (items_in held_declaration_at b))
+            (λ none. ap (λ o. o >>= λ scope. Some scope.shown) (steps_on place marked None none p.0 p.2)) (h place marked)
+
+  pub followed_all : (i : ℕ) (rest : List ℕ) (now : State) → IsFollowed marks here start outer b i rest now → i ≤ b.count → b.count ≤ i → IsFollowed marks here start outer b b.count [] now
+  followed_all i rest now f le ge =
+      let same : i ≡ b.count = omega (arith, le, ge) in
+      let none = none_left held_declaration_at (b.count - i) rest f.ds (omega (arith, ge)) f.left in
+      subst (λ (n : ℕ). IsFollowed marks here start outer b n [] now) same (subst (λ (bytes : List ℕ). IsFollowed marks here start outer b i bytes now) none.1 f)
+
+  pub viewed : (shapes : List Shape) (fs : List FunctionShape) (scope : InstanceScope) (v : View) → v.types.items ≡ scope.types.items → v.functions.items ≡ scope.functions.items
+      → IsFollowed marks here start outer b b.count [] (state_of shapes fs scope) → IsViewOf marks here start outer b v (tables_of shapes fs)
+  viewed shapes fs scope v et ef f =
+      let now = state_of shapes fs scope in
+      let none = none_left held_declaration_at (b.count - b.count) [] f.ds (omega arith) f.left in
+      record {
+        tables = f.state.tables;
+        types = subst (λ (ts : List ShownType). AllByRecursion (IsShownIn shapes fs) ts) (sym et) f.state.types;
+        functions = subst (λ (ts : List ShownFunction). AllByRecursion (IsShownFunctionIn fs) ts) (sym ef) f.state.functions;
+        shapes_grow = f.shapes_grow;
+        signatures_grow = f.signatures_grow;
+        count = f.count;
+        shows = λ place marked.
+            ap (λ o. o >>= λ s. Some s.shown) (sym (f.follows place marked) ∙ ap (instance_steps (place here) (slots_at place start outer) (scope_at place now)) none.0)
+            ∙ (λ i. Some (view_at place now (sym et i) (sym ef i)));
+      }
+
+-- where a refusal is seen changes nothing
+pub alike : {A : Type 0} (e f : Refusal) (o : Option A) → AreAlike e f → Refuses e o → Refuses f o
+alike refusals.Memory refusals.Memory o h r = r
+alike refusals.Memory (refusals.Absent cause left) o h r = absurd h
+alike (refusals.Absent cause left) refusals.Memory o h r = absurd h
+alike (refusals.Absent cause left) (refusals.Absent other more) o h r = r

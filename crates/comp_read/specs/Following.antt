@@ -1,12 +1,11 @@
 -- Declarations of an instance type that are followed one after the other: what their scope stands for, and what each of them does to it.
-use Rattle.std.specs.Prelude.{◌≡◌, ◌<◌, ◌≤◌, ◌+◌, ℕ, Bool, false, true, List, [], ◌∷◌, ◌++◌, length, map, option_map, slice_get, unwrap_or, IfSome, Option, Some, None}
+use Rattle.std.specs.Prelude.{◌≡◌, ◌<◌, ◌≤◌, ◌+◌, ℕ, Bool, false, true, List, length, map, option_map, slice_get, unwrap_or, IfSome, Option, Some, None}
 use Rattle.std.specs.List.{AllByRecursion}
 use Rattle.wit_model.specs.Meaning.{FunctionMeaning, Signature}
 use Rattle.wit_model.specs.Text.{Text}
 use Rattle.wit_model.specs.Tree as tree
 use Rattle.wit_model.specs.Tree.{Place, Tree}
 use Rattle.comp_bytes.specs.RawOf.{text_of}
-use Rattle.comp_meaning.specs.Follow as follow
 use Rattle.comp_meaning.specs.Follow.{InstanceScope as MeantScope, ShownType as MeantType, View as MeantView, Slot as Meant}
 use Rattle.comp_read.specs.declared.refusal.Refusal.{Refusal}
 use Rattle.comp_read.specs.declared.slots.Slot.{Slot}

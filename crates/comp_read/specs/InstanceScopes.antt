@@ -1,17 +1,24 @@
 -- Scopes of instance types as they are kept, and what their exports declare.
-use Rattle.std.specs.Prelude.{ℕ, ◌-◌, ◌==◌, ◌&&◌, nat_lt, if◌then◌else◌, Bool, true, false, List, Option, Some, None, slice_get, unwrap_or}
+use Rattle.std.specs.Prelude.{◌≡◌, ◌≤◌, ℕ, ◌+◌, ◌-◌, ◌==◌, ◌&&◌, nat_lt, if◌then◌else◌, Bool, true, false, List, [], length, Option, Some, None, slice_get, unwrap_or}
+use Rattle.std.specs.List.{AllByRecursion}
 use Rattle.wit_model.specs.Text.{Text}
 use Rattle.wit_model.specs.Tree as tree
 use Rattle.wit_model.specs.Tree.{Place, Tree}
 use Rattle.comp_meaning.specs.Follow as follow
 use Rattle.comp_bytes.specs.Raw.{Alias, Declaration}
-use Rattle.comp_bytes.specs.Reading.{◌>>=◌}
-use Rattle.comp_meaning.specs.Follow.{InstanceScope as MeantScope, Slot as Meant, instance_step, provided}
+use Rattle.comp_bytes.specs.Reading.{◌>>=◌, sequence_at}
+use Rattle.comp_meaning.specs.Follow.{InstanceScope as MeantScope, Slot as Meant, instance_step, instance_steps, instance_view, new_instance, provided}
+use Rattle.comp_read.specs.declared.bodies.Body.{Body}
 use Rattle.comp_read.specs.declared.shows.NewName.{NewName}
+use Rattle.comp_read.specs.declared.refusal.Refusal.{Refusal}
 use Rattle.comp_read.specs.declared.slots.Slot.{Slot}
 use Rattle.comp_read.specs.declared.slots.Slot.TheVariants as slots
 use Rattle.comp_read.specs.declared.views.InstanceScope.{InstanceScope}
-use Rattle.comp_read.specs.Following.{declared_in, State}
+use Rattle.comp_read.specs.declared.views.View.{View}
+use Rattle.comp_read.specs.Bodies.{held_declaration_at, items_in}
+use Rattle.comp_read.specs.Defining.{Grows}
+use Rattle.comp_read.specs.Following.{declared_in, scope_at, slots_at, view_at, AreMarked, AreTables, IsShownFunctionIn, IsShownIn, IsState, State}
+use Rattle.comp_read.specs.Found.{Refuses}
 use Rattle.comp_read.specs.Functions.{functions_in, FunctionShape}
 use Rattle.comp_read.specs.Slots.{slots_in}
 use Rattle.read_plan.specs.Shapes.{Shape, shape_trees}
@@ -68,3 +75,35 @@ step_of here shapes fs outer d place meant = instance_step (place here) (slots_i
 abbrev pub taken_by : List Bool → List Shape → List Slot → Alias → Option Slot
 taken_by marks shapes outer (Alias.of_export m name) = None
 taken_by marks shapes outer (Alias.of_outer scopes n) = slice_get outer n >>= λ s. provided (scopes == 1 && foreign_slot marks shapes s) s
+
+-- ---- all declarations
+
+-- So many declarations of a body have been followed. Those that are left decide what it shows.
+pub record IsFollowed (marks : List Bool) (here : ℕ) (start : State) (outer : List Slot) (b : Body) (i : ℕ) (rest : List ℕ) (now : State) : Type 0 where
+  pub state : IsState (length marks) now
+  pub shapes_grow : Grows start.shapes now.shapes
+  pub signatures_grow : Grows start.signatures now.signatures
+  pub count : length now.shapes ≤ length start.shapes + i
+  pub ds : List Declaration
+  pub left : sequence_at held_declaration_at (b.count - i) rest ≡ Some (ds, [])
+  pub follows : (place : ℕ → Place) → AreMarked marks place
+      → instance_steps (place here) (slots_at place start outer) (scope_at place now) ds ≡ instance_steps (place here) (slots_at place start outer) new_instance (items_in held_declaration_at b)
+
+-- what the tables hold, with nothing in scope
+abbrev pub tables_of : List Shape → List FunctionShape → State
+tables_of shapes fs = record { shapes = shapes; signatures = fs; slots = []; types = []; functions = [] }
+
+-- The tables grow by a type for each declaration at most, and the view stands for what the body shows.
+pub record IsViewOf (marks : List Bool) (here : ℕ) (start : State) (outer : List Slot) (b : Body) (v : View) (now : State) : Type 0 where
+  pub tables : AreTables (length marks) now.shapes now.signatures
+  pub types : AllByRecursion (IsShownIn now.shapes now.signatures) v.types.items
+  pub functions : AllByRecursion (IsShownFunctionIn now.signatures) v.functions.items
+  pub shapes_grow : Grows start.shapes now.shapes
+  pub signatures_grow : Grows start.signatures now.signatures
+  pub count : length now.shapes ≤ length start.shapes + b.count
+  pub shows : (place : ℕ → Place) → AreMarked marks place
+      → instance_view (place here) (slots_at place start outer) (items_in held_declaration_at b) ≡ Some (view_at place now v.types.items v.functions.items)
+
+-- the body shows nothing, unless memory ran out
+abbrev pub ShowsNothing : List Bool → ℕ → State → List Slot → Body → Refusal → Type 0
+ShowsNothing marks here start outer b e = (place : ℕ → Place) → AreMarked marks place → Refuses e (instance_view (place here) (slots_at place start outer) (items_in held_declaration_at b))

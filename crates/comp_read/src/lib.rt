@@ -31,6 +31,7 @@ pub use defining::{define, define_function};
 pub use definition_keys::{Definition, definition_of};
 pub use facts::{Fact, Names};
 pub use functions::Functions;
+pub use instances::follow_instance;
 pub use keys::{FunctionKey, Key};
 pub use names::ExternName;
 pub use part_types::{PartType, part_type_of};

@@ -94,10 +94,7 @@ fn with_attributes<'a>(
 
 /// A name with attributes, behind the byte that says so.
 #[tactic(auto, unfolding(comp_bytes::specs::Reading::attributed_at, comp_bytes::specs::Reading::pair_at))]
-fn attributed_of<'a>(
-    alloc: Global,
-    bytes: &'a [u8],
-) -> Result<(ExternName<'a>, &'a [u8]), Refusal>
+fn attributed_of<'a>(alloc: Global, bytes: &'a [u8]) -> Result<(ExternName<'a>, &'a [u8]), Refusal>
     ensures { Finds raw_name result (attributed_at bytes.now) }
 {
     let (name, rest) = name_of(bytes)?;

@@ -2,6 +2,10 @@
 #![tactic(auto)]
 
 #[cfg(test)]
+mod defining;
+#[cfg(test)]
+mod following;
+#[cfg(test)]
 mod forms;
 #[cfg(test)]
 mod sections;

@@ -1,14 +1,14 @@
-use Rattle.std.proofs.Common.{◌≡◌, ap, sym, subst, ℕ, List, Bool, Option}
+use Rattle.std.proofs.Common.{ap, ℕ, List}
 use Rattle.wit_model.specs.Tree.{Place}
 use Rattle.comp_bytes.specs.Raw.{Declaration}
 use Rattle.comp_bytes.specs.RawOf.{raw_alias, raw_defined, raw_function}
-use Rattle.comp_meaning.specs.Follow.{InstanceScope as MeantScope, Slot as Meant}
+use Rattle.comp_meaning.specs.Follow.{Slot as Meant}
 use Rattle.comp_read.specs.declared.declarations.Declared.{Declared}
 use Rattle.comp_read.specs.declared.declarations.Declared.TheVariants as declared
 use Rattle.comp_read.specs.declared.slots.Slot.{Slot}
 use Rattle.comp_read.specs.Declares.{raw_declared}
 use Rattle.comp_read.specs.Defining.{IsDefined, IsDefinedFunction, IsUndefined}
-use Rattle.comp_read.specs.Following.{Halts, State, Steps}
+use Rattle.comp_read.specs.Following.{Halts, Steps}
 use Rattle.comp_read.specs.Functions.{functions_in, FunctionShape}
 use Rattle.comp_read.specs.InstanceScopes.{state_of, step_of}
 use Rattle.comp_read.specs.Slots.{slots_in}

@@ -1,6 +1,3 @@
-use Rattle.std.proofs.Common.{subst, List}
-use Rattle.wit_model.specs.Meaning.{Signature}
-use Rattle.wit_model.specs.Tree.{Tree}
 use Rattle.comp_read.specs.InstanceScopes.{state_of}
 use Rattle.comp_read.proofs.ShowLaws.{function_absent, function_shown}
 use Rattle.comp_read.proofs.shows.show_function.Goals as goal

@@ -1,4 +1,3 @@
-use Rattle.std.proofs.Common.{subst, List}
 use Rattle.comp_read.specs.InstanceScopes.{state_of}
 use Rattle.comp_read.proofs.ShowLaws.{type_absent, type_shown}
 use Rattle.comp_read.proofs.shows.show_type.Goals as goal
