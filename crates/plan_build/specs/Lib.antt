@@ -1,2 +1,3 @@
 pub mod Buildable
+pub mod MeansPlan
 pub mod PlanOf

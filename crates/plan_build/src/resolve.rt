@@ -7,6 +7,7 @@ ghost use Rattle.read_plan.specs.PlanRules.{IsPlan};
 ghost use Rattle.wit_model.specs.declared.error.Error.TheVariants as errors;
 ghost use Rattle.wit_model.specs.Valid.{IsValid};
 ghost use Rattle.plan_build.specs.Buildable.{has_version, IsBuildable};
+ghost use Rattle.plan_build.specs.MeansPlan.{MeansPlan};
 ghost use Rattle.plan_build.specs.PlanOf.{stated_plan};
 
 use crate::interfaces::interfaces_of;
@@ -18,7 +19,8 @@ use std::alloc::Global;
 use wit_model::{Error, Resolve};
 
 /// The `Resolve` that is built of a plan: each list of the plan is the list of the `Resolve`, entry by entry, without documentation
-/// and with no stability known. Of a plan that was read it is valid (WIT.md; Binary.md, "Type Validation").
+/// and with no stability known. Of a plan that was read it is valid (WIT.md; Binary.md, "Type Validation"), and its main package, or the
+/// one world, means exactly what the plan means.
 ///
 /// So it is where no list names two things alike, as in each plan that was read. Takes time and memory linear in the plan, apart from
 /// look-ups in the hashed maps that it fills; each text is copied once for each place where it stands. Refused for want of memory alone
@@ -26,6 +28,7 @@ use wit_model::{Error, Resolve};
 pub fn build(alloc: Global, plan: &Plan<'_>) -> Result<Resolve, Error>
     ensures built { IfOk result (λ r. IsBuildable (stated_plan plan.now) → IsBuilt (stated_plan plan.now) r) }
     ensures valid { IfOk result (λ r. IsPlan (stated_plan plan.now) → IsValid r) }
+    ensures meant { IfOk result (MeansPlan (stated_plan plan.now)) }
     ensures memory { list_all has_version (stated_plan plan.now).packages ≡ true → IsOkUnless result errors.Memory }
 {
     let packages = packages_of(alloc, &plan.packages)?;

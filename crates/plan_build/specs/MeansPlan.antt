@@ -1,0 +1,13 @@
+-- When a `Resolve` means what a plan means.
+use Rattle.std.specs.Prelude.{◌≡◌, ◌↔◌, Some}
+use Rattle.wit_model.specs.declared.model.Resolve.{Resolve}
+use Rattle.wit_model.specs.Meaning.{PackageMeaning, WorldPackage}
+use Rattle.wit_model.specs.Meant.{Meant, MeantWorld}
+use Rattle.read_plan.specs.Plan.{Plan}
+use Rattle.read_plan.specs.PlanMeaning.{plan_meaning, plan_world_meaning}
+use Rattle.read_plan.specs.PlanRules.{IsPackagePlan, IsWorldPlan}
+
+-- Its main package means exactly what the plan of a package means, and its one world what the plan of a world means.
+pub record MeansPlan (p : Plan) (r : Resolve) : Type 0 where
+  pub package_ : IsPackagePlan p → (m : PackageMeaning) → Meant r p.main m ↔ (plan_meaning p ≡ Some m)
+  pub world : IsWorldPlan p → (m : WorldPackage) → MeantWorld r 0 m ↔ (plan_world_meaning p ≡ Some m)
