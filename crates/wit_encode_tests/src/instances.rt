@@ -1,6 +1,7 @@
 //! Interfaces encoded, and the bytes that come of it.
 
-ghost use Rattle.std.specs.Prelude.{◌≡◌, None};
+ghost use Rattle.std.specs.Prelude.{◌≡◌, ◌<◌, [], None, length, true};
+ghost use Rattle.wit_model.specs.Uses.{direct_deps};
 ghost use Rattle.wit_model.specs.Valid.{IsValid};
 
 use super::encoded::is_valid;
@@ -31,7 +32,7 @@ pub(super) fn add_function(
 }
 
 // Two digits a byte, with a space between.
-fn hex(alloc: Global, bytes: &[u8]) -> Result<String, AllocError> {
+pub(super) fn hex(alloc: Global, bytes: &[u8]) -> Result<String, AllocError> {
     let mut out = String::new(alloc);
     for (i, byte) in bytes.iter().enumerate() {
         if i > 0 {
@@ -40,6 +41,14 @@ fn hex(alloc: Global, bytes: &[u8]) -> Result<String, AllocError> {
         write!(out, "{byte:02x}")?;
     }
     Ok(out)
+}
+
+/// Whether there is such an interface, and it uses no other.
+pub(super) fn uses_none(resolve: &Resolve, id: InterfaceId) -> bool
+    ensures in_range { result ≡ true → id.0 < length resolve.now.interfaces.items }
+    ensures alone { result ≡ true → direct_deps resolve.now id.0 ≡ [] }
+{
+    (id.0 as usize) < resolve.interfaces.len() && stands_alone(resolve, id)
 }
 
 // The slot of one interface more, where there is one that uses no other.
@@ -53,7 +62,7 @@ fn slot_of<'a>(
     ensures closed { encoder.new.inner ≡ None }
     ensures resolve { encoder.new.resolve.now ≡ encoder.old.resolve.now }
 {
-    if id.0 as usize >= encoder.resolve.interfaces.len() || !stands_alone(encoder.resolve, id) {
+    if !uses_none(encoder.resolve, id) {
         return Ok(None);
     }
     let slot = encoder.encode_instance(alloc, id)?;
