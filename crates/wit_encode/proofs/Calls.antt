@@ -28,8 +28,9 @@ use Rattle.wit_encode_types.specs.Counts.{one_type_more, one_function_more, Expo
 use Rattle.wit_encode.specs.Instance.{standing_at, SlotsStand, is_slot_of, Contents, no_view, outer_slots, inner_scope, inner_contents, is_value_type, is_function_type, place_in, resources_in, scope_with, definitions_with}
 use Rattle.wit_encode_types.specs.Known.{Around}
 use Rattle.wit_encode_types.proofs.Defining.{count-push}
-use Rattle.wit_encode.proofs.Strict.{bind, slot-at, definition-strict, function-strict, follows-once, signature-once}
+use Rattle.wit_encode.proofs.Strict.{bind, definition-strict, function-strict, follows-once, signature-once}
 use Rattle.wit_encode.proofs.Contents.{IsOf, Grew, grew-adds, grew-grows, same-grows, grew-scope}
+use Rattle.wit_encode.proofs.Declaring.{DeclaredAs, declared-slot, declared-resource}
 use Rattle.wit_encode.proofs.Steps as steps
 
 -- what a call that adds a slot ensures
@@ -305,47 +306,15 @@ module _ {E : Type 0} (res : Result ℕ E) (r : Resolve) (i : InterfaceId) (arou
     pub type-inside : (k : ℕ) (name : ExternName) → DeclaresSlot (scope_with r here around before) (SlotsStand before.slots) name k
         → IfOk res (λ k'. (k' ≡ type_slots ds) × (ds' ≡ ds ++ Declaration.exported name (refs.TypeEq k) ∷ [])) → OnErr res (ds' ≡ ds)
         → Calls res (scope_with r here around before) (scope_with r here around after) before after (λ m. m ≡ tree (named (place_in r here) name.text)) (ShownAs name)
-    type-inside k name s ok err = go (slice_get before.slots k) refl s.stands
-      where
-        simple : is_simple name ≡ true
-        simple = simple-name name s.declaration s.named_
-
-        step : (m : InstanceScope) → instance_step (place_in r here) (outer_slots outer) m (Declaration.exported name (refs.TypeEq k)) ≡ show_type (place_in r here) name (refs.TypeEq k) m
-        step m = ap (λ b. follow.when b (show_type (place_in r here) name (refs.TypeEq k) m)) simple
-
-        text : name.text ≡ s.declaration.0
-        text = ap (λ (n : ExternName). n.text) s.named_
-
-        alike : resources_in r here (place_in r here) name.text ≡ is_resource_tree (resources_in r here) s.type_tree
-        alike = ap (resources_in r here (place_in r here)) text ∙ s.declared.alike ∙ ap (is_resource_declaration (resources_in r here)) s.is_type
-
-        found : (x y : Slot) → slice_get before.slots k ≡ Some x → declared_by x ≡ Some (tree_of_types.type_ s.type_tree) → named_like x (place_in r here) name.text ≡ y → named_type before.slots (place_in r here) name.text (refs.TypeEq k) ≡ Some (s.declaration.1.declaration, y)
-        found x y at by like =
-            bind (slice_get before.slots k) x (λ slot. declared_by slot >>= λ d. Some (d, named_like slot (place_in r here) name.text)) at
-            ∙ bind (declared_by x) (tree_of_types.type_ s.type_tree) (λ d. Some (d, named_like x (place_in r here) name.text)) by
-            ∙ (λ j. Some (sym s.is_type j, like j))
-
-        go : (o : Option Slot) → slice_get before.slots k ≡ o → standing_at o ≡ Some (tree s.type_tree)
-            → Calls res (scope_with r here around before) (scope_with r here around after) before after (λ m. m ≡ tree (named (place_in r here) name.text)) (ShownAs name)
-        go (Some (Slot.value u)) at q =
-            let same : u ≡ s.type_tree = cc in
-            let kept : not (resources_in r here (place_in r here) name.text) ≡ true = ap not (alike ∙ ap (is_resource_tree (resources_in r here)) (sym same)) ∙ slot-at (is_slot_of (resources_in r here)) before.slots k (Slot.value u) inner-slots at in
-            exported-inside (refs.TypeEq k) name s.declaration (Slot.value (named (place_in r here) name.text)) s.declared s.named_ kept refl step
-            (found (Slot.value u) (Slot.value (named (place_in r here) name.text)) at (ap (λ z. Some (tree_of_types.type_ z)) same) refl) ok err
-        go (Some (Slot.resource p n)) at q =
-            let same : named p n ≡ s.type_tree = cc in
-            let kept : resources_in r here (place_in r here) name.text ≡ true = alike ∙ ap (is_resource_tree (resources_in r here)) (sym same) ∙ slot-at (is_slot_of (resources_in r here)) before.slots k (Slot.resource p n) inner-slots at in
-            exported-inside (refs.TypeEq k) name s.declaration (Slot.resource (place_in r here) name.text) s.declared s.named_ kept refl step
-            (found (Slot.resource p n) (Slot.resource (place_in r here) name.text) at (ap (λ z. Some (tree_of_types.type_ z)) same) refl) ok err
-        go (Some (Slot.function x)) at q = absurd (let z : ⊥ = cc in z)
-        go (Some (Slot.instance xs n)) at q = absurd (let z : ⊥ = cc in z)
-        go None at q = absurd (let z : ⊥ = cc in z)
+    type-inside k name s ok err =
+        let its : DeclaredAs (scope_with r here around before) before.slots name (refs.TypeEq k) s.declaration = declared-slot (scope_with r here around before) before.slots inner-slots name k s in
+        exported-inside (refs.TypeEq k) name s.declaration its.slot s.declared s.named_ its.kept its.stands
+        (λ m. ap (λ b. follow.when b (show_type (place_in r here) name (refs.TypeEq k) m)) (simple-name name s.declaration s.named_)) its.found ok err
 
     pub resource-inside : (name : ExternName) → DeclaresResource (scope_with r here around before) name
         → IfOk res (λ k'. (k' ≡ type_slots ds) × (ds' ≡ ds ++ Declaration.exported name refs.SubResource ∷ [])) → OnErr res (ds' ≡ ds)
         → Calls res (scope_with r here around before) (scope_with r here around after) before after (λ m. m ≡ tree (named (place_in r here) name.text)) (ShownAs name)
     resource-inside name s ok err =
-        let kept : resources_in r here (place_in r here) name.text ≡ true = ap (λ (n : ExternName). resources_in r here (place_in r here) n.text) s.named_ ∙ s.declared.alike ∙ ap (is_resource_declaration (resources_in r here)) s.is_resource in
-        exported-inside refs.SubResource name s.declaration (Slot.resource (place_in r here) name.text) s.declared s.named_ kept refl
-        (λ m. ap (λ b. follow.when b (show_type (place_in r here) name refs.SubResource m)) (simple-name name s.declaration s.named_))
-        (λ j. Some (sym s.is_resource j, Slot.resource (place_in r here) name.text)) ok err
+        let its : DeclaredAs (scope_with r here around before) before.slots name refs.SubResource s.declaration = declared-resource (scope_with r here around before) before.slots inner-slots name s in
+        exported-inside refs.SubResource name s.declaration its.slot s.declared s.named_ its.kept its.stands
+        (λ m. ap (λ b. follow.when b (show_type (place_in r here) name refs.SubResource m)) (simple-name name s.declaration s.named_)) its.found ok err

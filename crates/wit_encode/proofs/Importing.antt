@@ -69,7 +69,7 @@ same-names : (p q : Place) (x y : Text) → (same_place p q && text_eq x y) ≡ 
 same-names p q x y h = λ i. named (sym (same-places p q (first_true (same_place p q) _ h)) i) (sym (text_same x y (second_true (same_place p q) _ h)) i)
 
 -- what stands in the slot of a name
-named-slot : (t : Tree) (slot : Slot) → is_name_slot t slot ≡ true → standing_at (Some slot) ≡ Some (tree t)
+pub named-slot : (t : Tree) (slot : Slot) → is_name_slot t slot ≡ true → standing_at (Some slot) ≡ Some (tree t)
 named-slot (named p x) (Slot.value (named q y)) h = ap (λ z. Some (tree z)) (same-names p q x y h)
 named-slot (named p x) (Slot.resource q y) h = ap (λ z. Some (tree z)) (same-names p q x y h)
 named-slot (named p x) (Slot.value (primitive z)) h = let wrong : ⊥ = cc in absurd wrong
@@ -81,7 +81,7 @@ named-slot (node f ts) slot h = let wrong : ⊥ = cc in absurd wrong
 
 -- ---- the names of resources of named interfaces are the same in each scope
 
-cut-short : (a b : Bool) → (a && (false && b)) ≡ false
+pub cut-short : (a b : Bool) → (a && (false && b)) ≡ false
 cut-short true b = refl
 cut-short false b = refl
 
@@ -132,7 +132,7 @@ known-slot r i a n k (Some x) at h =
     }
 
 -- what is listed is right
-known-right : (r : Resolve) (known : List (ℕ × ℕ)) (slots : List Slot) (n k : ℕ) → are_right r known slots ≡ true → known_slot known n ≡ Some k → is_slot_for r n (slice_get slots k) ≡ true
+pub known-right : (r : Resolve) (known : List (ℕ × ℕ)) (slots : List Slot) (n k : ℕ) → are_right r known slots ≡ true → known_slot known n ≡ Some k → is_slot_for r n (slice_get slots k) ≡ true
 known-right r known slots n k h e = all-contained (λ (x : ℕ × ℕ). is_slot_for r x.0 (slice_get slots x.1)) known (n, k) h
     (at-some (known_slot known n) (λ i. Contains known (n, i)) k e (number-found known n (known_slot known n) refl))
 
@@ -225,11 +225,11 @@ pub source-listed : (r : Resolve) (a : Around) (j n : ℕ) → IsSource r a j n 
 source-listed r a j n m none = let q : Some _ ≡ None = sym (standing r a j n m).listed ∙ none in absurd (let z : ⊥ = cc in z)
 
 -- where something can be imported, what has been declared can be followed
-importable-sound : (b : Bool) (xs : List ℕ) (j : ℕ) → Contains (if b then xs else []) j → b ≡ true
+pub importable-sound : (b : Bool) (xs : List ℕ) (j : ℕ) → Contains (if b then xs else []) j → b ≡ true
 importable-sound true xs j h = refl
 importable-sound false xs j (k, l, e) = absurd (omega (arith, l))
 
-importable-stands : (b : Bool) (xs : List ℕ) (j : ℕ) → Contains (if b then xs else []) j → Contains xs j
+pub importable-stands : (b : Bool) (xs : List ℕ) (j : ℕ) → Contains (if b then xs else []) j → Contains xs j
 importable-stands true xs j h = h
 importable-stands false xs j (k, l, e) = absurd (omega (arith, l))
 

@@ -33,6 +33,12 @@ pub mod Importing
 pub mod OwnerScope
 pub mod MetKinds
 pub mod Referring
+pub mod Declaring
+pub mod WorldScope
+pub mod WorldCalls
+pub mod WorldUses
+pub mod WorldShown
+pub mod WorldFunctions
 pub mod ImportsStand
 pub mod Imported
 pub mod UsedPaths

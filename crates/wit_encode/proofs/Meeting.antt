@@ -36,7 +36,7 @@ module _ (r : Resolve) (below : Keeps references r) where
   pub part-uses : (def : TypeDef) (id : TypeId) (x : ℕ) → Contains (parts_of def.kind) (ty.Id id) → Contains (met_by (met_of r) id.0) x → Contains (used_by_type r def) x
   part-uses def id x c d = contains-flat (met_by (met_of r)) (kind_numbers def.kind) id.0 x (part-number def.kind id c) d
 
-  unnamed-meets : (n : ℕ) (def : TypeDef) → type_at r n ≡ Some def → def.name ≡ None → met_by (met_of r) n ≡ used_by_type r def
+  pub unnamed-meets : (n : ℕ) (def : TypeDef) → type_at r n ≡ Some def → def.name ≡ None → met_by (met_of r) n ≡ used_by_type r def
   unnamed-meets n def at none = met_step r below n def at ∙ ap (λ o. option_map_or (λ x. n ∷ []) o (used_by_type r def)) none
 
   module _ (scope : Scope) (m : TypeEncodingMaps) where

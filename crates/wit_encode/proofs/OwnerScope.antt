@@ -175,12 +175,12 @@ module _ (r : Resolve) (v : IsValid r) (o : TypeOwner) (scope : Scope) (s : IsSc
 -- ---- what the types of an owner meet
 
 -- the target of an alias
-target-is : (k : TypeDefKind) (m : ℕ) (id : TypeId) → alias_target k ≡ Some m → Contains (parts_of k) (ty.Id id) → alias_target k ≡ Some id.0
+pub target-is : (k : TypeDefKind) (m : ℕ) (id : TypeId) → alias_target k ≡ Some m → Contains (parts_of k) (ty.Id id) → alias_target k ≡ Some id.0
 target-is k m id e c =
     let same : (id.0 == m) ≡ true = alias-part (λ (x : ℕ). x == m) k id (ap (λ (t : Option ℕ). option_map_or (λ (x : ℕ). x == m) t false) e ∙ eq-eqb m m refl) c in
     e ∙ ap Some (sym (equal-numbers id.0 m same))
 
-given-some : {A : Type 0} (test : A → Bool) (x : Option A) → option_map_or test x false ≡ true → is_some x ≡ true
+pub given-some : {A : Type 0} (test : A → Bool) (x : Option A) → option_map_or test x false ≡ true → is_some x ≡ true
 given-some test None h = let wrong : ⊥ = cc in absurd wrong
 given-some test (Some a) h = refl
 
@@ -194,14 +194,14 @@ module _ (r : Resolve) (v : IsValid r) (o : TypeOwner) where
   Stay n = stays r v o n ≡ true
 
   -- a type of another interface, which the owner uses
-  record IsUse (def : TypeDef) : Type 0 where
+  pub record IsUse (def : TypeDef) : Type 0 where
     pub interface : InterfaceId
     pub owns : def.owner ≡ owner.Interface interface
     pub other : same_owner def.owner o ≡ false
     pub named_ : has_named_owner r def ≡ true
     pub used : IsUsedBy r o interface.0
 
-  use-at : (n : ℕ) (def : TypeDef) → type_at r n ≡ Some def → (id : TypeId) → Contains (parts_of def.kind) (ty.Id id) → is_some def.name ≡ true → same_owner def.owner o ≡ true → is_use r def ≡ true
+  pub use-at : (n : ℕ) (def : TypeDef) → type_at r n ≡ Some def → (id : TypeId) → Contains (parts_of def.kind) (ty.Id id) → is_some def.name ≡ true → same_owner def.owner o ≡ true → is_use r def ≡ true
       → (def' : TypeDef) → type_at r id.0 ≡ Some def' → IsUse def'
   use-at n def is id c named here uses def' is' = go def'.owner refl passed
     where
@@ -265,7 +265,7 @@ module _ (r : Resolve) (v : IsValid r) (o : TypeOwner) where
   abbrev pub AllStay : List ValueType → Type 0
   AllStay ts = (id : TypeId) → Contains ts (ty.Id id) → Stay id.0
 
-  named-stays : (n : ℕ) (def : TypeDef) → type_at r n ≡ Some def → Stay n → is_some def.name ≡ true → def.owner ≡ o
+  pub named-stays : (n : ℕ) (def : TypeDef) → type_at r n ≡ Some def → Stay n → is_some def.name ≡ true → def.owner ≡ o
   named-stays n def is h named = same-owner def.owner o (named_met r (valid-references r v) n def is o named ∙ h)
 
   module _ (scope : Scope) (s : IsScopeOf r o scope) (ts : List ValueType) (all : AllStay ts) where
@@ -303,7 +303,7 @@ module _ (r : Resolve) (v : IsValid r) (o : TypeOwner) where
     pub uses-stand : UsesStand r o scope → InstancesStand r scope ts
     uses-stand stand n def i m is f = stand i.0 (foreign-used n def i m is f)
 
-  type-stays : (id : TypeId) → IsTypeOf r o id → AllStay (ty.Id id ∷ [])
+  pub type-stays : (id : TypeId) → IsTypeOf r o id → AllStay (ty.Id id ∷ [])
   type-stays id t id' c = one-id (one-contained (ty.Id id) (ty.Id id') c) (sym (named_met r (valid-references r v) id.0 t.def t.there o t.named_) ∙ is-owned t.def.owner o t.owned)
     where
       one-id : ty.Id id ≡ ty.Id id' → Stay id.0 → Stay id'.0
@@ -317,7 +317,7 @@ module _ (r : Resolve) (v : IsValid r) (o : TypeOwner) where
 none-there : {X P : Type 0} (x : X) → Contains [] x → P
 none-there x c = absurd (let l : c.0 < 0 = c.1 in omega arith)
 
-world_passes : (rule : Rule) (r : Resolve) → Keeps rule r → (n : ℕ) (w : World) → world_at r n ≡ Some w → rule.world_ r n w ≡ true
+pub world_passes : (rule : Rule) (r : Resolve) → Keeps rule r → (n : ℕ) (w : World) → world_at r n ≡ Some w → rule.world_ r n w ≡ true
 world_passes rule r k n w at = let here : 0 + n ≡ n = omega arith in subst (λ (m : ℕ). rule.world_ r m w ≡ true) here (each_from_at (rule.world_ r) 0 r.worlds.items n w (lists_pass rule r k).2 at)
 
 module _ (r : Resolve) (v : IsValid r) (p : TypeOwner → Function → Bool)
@@ -381,7 +381,7 @@ module _ (r : Resolve) (v : IsValid r) where
       second_true (passes (in_list r.packages.items) (package_number home.package)) _ (second_true (is_place w.0) _ (world_passes numbers_in_range r v.rules.numbers_in_range w.0 home e)) in
       world-fits r home (first_true (entries_in_range r home.imports.entries) _ entries) (second_true (entries_in_range r home.imports.entries) _ entries))
 
-  function-refers : (f : Function) (id : TypeId) → Contains (function_types f) (ty.Id id) → Contains (function_numbers f) id.0
+  pub function-refers : (f : Function) (id : TypeId) → Contains (function_types f) (ty.Id id) → Contains (function_numbers f) id.0
   function-refers f id c = Contains-append_left (filter_map number_of (function_types f)) (option_to_list (resource_of f.kind)) id.0
       (contains-filter_map number_of (function_types f) (ty.Id id) id.0 c (contains-one id.0))
 
@@ -390,7 +390,7 @@ module _ (r : Resolve) (v : IsValid r) where
       let refers = function-refers f id (subst (λ (x : ValueType). Contains (function_types f) x) e d) in
       ltb-true id.0 (length r.types.items) (all-contained (in_list r.types.items) (function_numbers f) id.0 (function-ranges o f c) refers)
 
-  types-stay : (o : TypeOwner) (f : Function) → Contains (functions_of r o) f → AllStay r v o (function_types f)
+  pub types-stay : (o : TypeOwner) (f : Function) → Contains (functions_of r o) f → AllStay r v o (function_types f)
   types-stay o f c id d = all-contained (stays r v o) (filter_map number_of (function_types f)) id.0
       (sym (all_flat (has_owner r o) (met_by (met_of r)) (filter_map number_of (function_types f))) ∙ function-stays o f c) (contains-filter_map number_of (function_types f) (ty.Id id) id.0 d (contains-one id.0))
 

@@ -177,6 +177,9 @@ module _ (r : Resolve) (res : Result ℕ Error) (refused : res ≡ Err errors.Si
 pub alias-inside : (r : Resolve) (ds : List Declaration) (n slot : ℕ) → fits_next ds (Declaration.alias_of (Alias.of_outer 1 slot)) ≡ false → LacksRoomBehind r (length ds) (import_of n)
 alias-inside r ds n slot e = behind r ds (Declaration.alias_of (Alias.of_outer 1 slot)) (import_of n) (λ h. absurd (let z : ⊥ = cc in z)) e
 
+pub alias-behind : (r : Resolve) (outer : Declarations) (n : ℕ) → (fits_type_name r n && fits_added outer 1) ≡ false → LacksRoomBehind r (declaration_count outer) (import_of n)
+alias-behind r outer n e = refused-by r (fits_type_name r n) (declaration_count outer) (type_slots_of outer + 1) (import_of n) (let a = outer-slots-few outer in omega arith) (λ h. h) e
+
 pub alias-outside : (r : Resolve) (outer : Declarations) (inner : Option OpenInterface) (n : ℕ) → (fits_type_name r n && fits_added outer 1) ≡ false → lacks_room_in r outer inner (import_of n)
 alias-outside r outer inner n e = by (fits_type_name r n) refl
   where
@@ -186,6 +189,9 @@ alias-outside r outer inner n e = by (fits_type_name r n) refl
 
 pub name-inside : (r : Resolve) (ds : List Declaration) (name : ExternName) (described : ComponentTypeRef) → fits_next ds (Declaration.exported name described) ≡ false → LacksRoomBehind r (length ds) (export_name name)
 name-inside r ds name described e = behind r ds (Declaration.exported name described) (export_name name) (λ h. h) e
+
+pub name-outside : (r : Resolve) (outer : Declarations) (name : ExternName) (described : ComponentTypeRef) → (fits_declaration (Declaration.imported name described) && fits_added outer 1) ≡ false → LacksRoomBehind r (declaration_count outer) (export_name name)
+name-outside r outer name described e = behind-outer r outer (Declaration.imported name described) (export_name name) (λ h. h) e
 
 -- how much is held after a call in an open interface
 pub held-inside : (outer : Declarations) (inner : Option OpenInterface) (current : OpenInterface) (ds : List Declaration) → inner ≡ Some current → length ds ≤ length current.declared + 1 → length ds ≤ held_in outer inner + 1

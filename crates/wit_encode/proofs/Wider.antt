@@ -50,6 +50,13 @@ pub record Widened (a : Around) (al : Aliased) (x : Slot) : Type 0 where
   pub number : type_slots_of a.declared ≡ length (outer_slots a.declared)
   pub new : slice_get (outer_slots (with_alias a al).declared) (type_slots_of a.declared) ≡ Some x
 
+-- the alias takes the slot that the instance shows
+pub alias-step : (s : follow.Scope) (al : Aliased) (x : Slot) (instance : Instance) → slice_get s.instances al.instance ≡ Some instance → is_some instance.interface ≡ true → find_type al.name instance.view.types ≡ Some x
+    → component_step s (alias_declared al) ≡ Some (in_scope x s)
+alias-step s al x instance at path found =
+    let shown : exported_slot al.name (Some instance) ≡ Some x = bind (find_type al.name instance.view.types) x _ found ∙ ap (λ b. provided b x) path in
+    bind (exported_slot al.name (slice_get s.instances al.instance)) x (λ slot. Some (in_scope slot s)) (ap (exported_slot al.name) at ∙ shown)
+
 pub widened : (a : Around) (al : Aliased) (x : Slot) (instance : Instance) → slice_get (outer_instances a.declared) al.instance ≡ Some instance → is_some instance.interface ≡ true
     → find_type al.name instance.view.types ≡ Some x → Widened a al x
 widened a al x instance at path found = go (outer_scope a.declared) refl
@@ -60,14 +67,10 @@ widened a al x instance at path found = go (outer_scope a.declared) refl
     instances_of : Option follow.Scope → List Instance
     instances_of o = option_map_or (λ s. s.instances) o []
 
-    shown : exported_slot al.name (Some instance) ≡ Some x
-    shown = bind (find_type al.name instance.view.types) x _ found ∙ ap (λ b. provided b x) path
-
     go : (o : Option follow.Scope) → outer_scope a.declared ≡ o → Widened a al x
     go None q = let nothing : slice_get [] al.instance ≡ Some instance = sym (ap (λ o. slice_get (instances_of o) al.instance) q) ∙ at in absurd (let z : ⊥ = cc in z)
     go (Some s) q =
-        let there : slice_get s.instances al.instance ≡ Some instance = sym (ap (λ o. slice_get (instances_of o) al.instance) q) ∙ at in
-        let step : component_step s (alias_declared al) ≡ Some (in_scope x s) = bind (exported_slot al.name (slice_get s.instances al.instance)) x (λ slot. Some (in_scope slot s)) (ap (exported_slot al.name) there ∙ shown) in
+        let step = alias-step s al x instance (sym (ap (λ o. slice_get (instances_of o) al.instance) q) ∙ at) path found in
         let next : outer_scope (with_alias a al).declared ≡ Some (in_scope x s) = steps-more new_scope s (in_scope x s) a.declared (alias_declared al) q step in
         let slots : outer_slots (with_alias a al).declared ≡ outer_slots a.declared ++ x ∷ [] = ap slots_of next ∙ ap (λ xs. xs ++ x ∷ []) (sym (ap slots_of q)) in
         let count : length s.slots ≡ length new_scope.slots + type_slots_of a.declared = steps-count new_scope s a.declared q in

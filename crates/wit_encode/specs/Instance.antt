@@ -41,7 +41,7 @@ use Rattle.wit_encode_types.specs.declared.maps.TypeEncodingMaps.{TypeEncodingMa
 use Rattle.wit_encode_types.specs.Maps.{MapsAgree}
 use Rattle.wit_encode_types.specs.Formed.{IsFormedSignature}
 use Rattle.wit_encode_types.specs.Fits.{CanEncode}
-use Rattle.wit_encode_types.specs.Scope.{Scope}
+use Rattle.wit_encode_types.specs.Scope.{Scope, no_others}
 use Rattle.wit_encode.specs.Order.{functions_in_order}
 pub use Rattle.wit_encode_types.specs.Distinct.{is_value_type, is_function_type}
 use Rattle.wit_encode_types.specs.Distinct.{key_of, are_same, DefinesKeys, DefinesTypes}
@@ -140,6 +140,7 @@ scope_from r interface standing functions sound = record {
   resources = resources_in r interface;
   functions = functions;
   is_sound = sound;
+  others = no_others;
 }
 
 -- the surroundings, with these contents

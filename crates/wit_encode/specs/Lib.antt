@@ -6,4 +6,7 @@ pub mod RoomLaws
 pub mod Exports
 pub mod UsesAlone
 pub mod OwnerScope
+pub mod Worlds
+pub mod WorldUses
 pub mod Dependencies
+pub mod WorldItems

@@ -66,7 +66,7 @@ pub struct InterfaceEncoderOf<'a, M> {
 /// An encoder of interfaces, each as an instance type in one component type.
 pub type InterfaceEncoder<'a> = InterfaceEncoderOf<'a, TypeEncodingMaps<'a>>;
 
-fn no_foreign(alloc: Global) -> Foreign
+pub(crate) fn no_foreign(alloc: Global) -> Foreign
     ensures instances { result.instances.entries ≡ [] }
     ensures known { result.known.entries ≡ [] }
 {
@@ -88,7 +88,10 @@ fn define_inside(inner: &mut InstanceType, def: &ComponentDefinedType) -> Result
     Ok(index)
 }
 
-fn define_outside(outer: &mut ComponentType, def: &ComponentDefinedType) -> Result<u32, Error>
+pub(crate) fn define_outside(
+    outer: &mut ComponentType,
+    def: &ComponentDefinedType,
+) -> Result<u32, Error>
     ensures ok { IfOk result (DeclaresOutside outer.old outer.new (Declaration.defined (raw_defined def.now))) }
     ensures err { OnErr result (outer.new ≡ outer.old) }
     ensures held { declaration_count outer.new ≤ declaration_count outer.old + 1 }
@@ -112,7 +115,10 @@ fn define_function_inside(inner: &mut InstanceType, def: &ComponentFuncType) -> 
     Ok(index)
 }
 
-fn define_function_outside(outer: &mut ComponentType, def: &ComponentFuncType) -> Result<u32, Error>
+pub(crate) fn define_function_outside(
+    outer: &mut ComponentType,
+    def: &ComponentFuncType,
+) -> Result<u32, Error>
     ensures ok { IfOk result (DeclaresOutside outer.old outer.new (Declaration.function (raw_function def.now))) }
     ensures err { OnErr result (outer.new ≡ outer.old) }
     ensures held { declaration_count outer.new ≤ declaration_count outer.old + 1 }
@@ -198,7 +204,7 @@ fn make_alias(
 }
 
 // The slot around of a type of another interface whose instance stands there: its alias is made where there is none.
-fn reach(
+pub(crate) fn reach(
     outer: &mut ComponentType,
     foreign: &mut Foreign,
     resolve: &Resolve,

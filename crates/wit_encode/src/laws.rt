@@ -4,6 +4,7 @@ ghost use Rattle.wit_encode_types.specs.MetKinds.{MetKindsAreHeld};
 ghost use Rattle.wit_encode.specs.RoomLaws.{LackingInterfacesAreHeavy};
 ghost use Rattle.wit_encode.specs.Dependencies.{AliasesLeaveImports, ExportsEnd, ImportsGrow, ImportsStand, NothingIsImported};
 ghost use Rattle.wit_encode.specs.OwnerScope.{FunctionsEncode, FunctionsUse, InterfaceUses, NamesEncode, TableScope, TypesEncode, TypesUse};
+ghost use Rattle.wit_encode.specs.WorldUses.{ItemsMeetStanding};
 
 pub use wit_encode_types::laws::equal_lists;
 
@@ -45,6 +46,12 @@ pub fn met_kinds_are_held()
 /// one, or where the component type, after aliases have been made, has no room for one more alias or instance type.
 pub fn lacking_interfaces_are_heavy()
     ensures { LackingInterfacesAreHeavy }
+{}
+
+/// Where an instance stands of each named interface before an item of a valid world, one stands of each other interface whose types the item
+/// meets.
+pub fn items_meet_standing()
+    ensures { ItemsMeetStanding }
 {}
 
 /// Of interfaces that a component type has imported, by their types, instances stand in it. So an interface that uses no others can be

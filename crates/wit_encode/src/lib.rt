@@ -6,6 +6,7 @@ mod interface;
 pub mod laws;
 mod order;
 mod uses;
+mod world;
 
 pub use component_types::interface_type;
 pub use interface::{Foreign, InterfaceEncoder, InterfaceEncoderOf, OpenInterface};

@@ -1,5 +1,5 @@
 -- The surroundings of a scope, and what may be exported and imported there.
-use Rattle.std.specs.Prelude.{ℕ, ◌≡◌, Bool, true, List, Option, Some, None, String}
+use Rattle.std.specs.Prelude.{ℕ, ◌≡◌, Bool, true, List, [], Option, Some, None, String}
 use Rattle.std.specs.List.{Contains}
 use Rattle.std.specs.declared.alloc.Global.{Global}
 use Rattle.wit_model.specs.Text.{Text}
@@ -11,8 +11,29 @@ use Rattle.wit_model.specs.declared.model.TypeDef.{TypeDef}
 use Rattle.wit_model.specs.declared.model.TypeOwner.TheVariants as owner
 use Rattle.wit_model.specs.declared.model.InterfaceId.{InterfaceId}
 use Rattle.comp_bytes.specs.Raw.{ExternName}
+use Rattle.comp_meaning.specs.Follow.{Seen, Instance}
 use Rattle.wit_encode_types.specs.Resources.{Names, is_resource_declaration}
 use Rattle.wit_encode_types.specs.Slots.{Pairs, tree}
+
+-- What else the surroundings of a scope hold that defining, exporting and importing types leaves as it is: of the component type of a world,
+-- all that has been imported and exported beside its types.
+pub record Others : Type 0 where
+  -- the world, by its number, if the scope is that of one between two of its items
+  pub world : Option ℕ
+  -- the interfaces that are listed with an instance, each by its number, and how many instances there are
+  pub listed : List (ℕ × ℕ)
+  pub instance_count : ℕ
+  -- what has been imported that is no type, each with how many types stand before it, and what has been exported
+  pub imports : List (ℕ × Seen)
+  pub exports : List Seen
+  pub instances : List Instance
+  -- how many instance types there are, and which of them have been used
+  pub instance_types : ℕ
+  pub used : List ℕ
+
+-- of a table, and of an instance type
+abbrev pub no_others : Others
+no_others = record { world = None; listed = []; instance_count = 0; imports = []; exports = []; instances = []; instance_types = 0; used = [] }
 
 -- Whose types are encoded, and where. None of it is changed by defining, exporting or importing types.
 pub record Scope : Type 0 where
@@ -30,6 +51,8 @@ pub record Scope : Type 0 where
   pub functions : List (Text × FunctionMeaning)
   -- whether what has been declared can be followed, and the slots of resources are those of the names above
   pub is_sound : Bool
+  -- what else stands in the surroundings
+  pub others : Others
 
 -- the name under which a declaration is exported: its text with its external id, and no other attribute
 abbrev pub exported_name : Text × TypeMeaning → ExternName

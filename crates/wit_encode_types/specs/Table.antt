@@ -35,7 +35,7 @@ use Rattle.wit_encode_types.specs.Resources.{resource_names}
 pub use Rattle.wit_encode_types.specs.Resources.{is_met_owner}
 pub use Rattle.wit_encode_types.specs.Known.{below}
 use Rattle.wit_encode_types.specs.Known.{no_around}
-use Rattle.wit_encode_types.specs.Scope.{Scope}
+use Rattle.wit_encode_types.specs.Scope.{Scope, no_others}
 use Rattle.wit_encode_types.specs.Counts.{Definitions}
 use Rattle.wit_encode_types.specs.View.{View, Agrees}
 
@@ -80,6 +80,7 @@ table_scope r o = record {
   resources = resource_names r (is_met_owner r o);
   functions = [];
   is_sound = true;
+  others = no_others;
 }
 
 -- whether a type may be met from the types of an owner: an unnamed one, one of the owner, and one of another interface, which has a name

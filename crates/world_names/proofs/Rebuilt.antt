@@ -44,13 +44,13 @@ same-imports n (x ∷ xs) (y ∷ ys) o t = go (same-imports n xs ys) (same-impor
     go same later false true o t = let more = first-at-least (n + 1) ys n x (others_seen n xs) (sym o) in absurd (omega (arith, more))
 
 -- types behind all are among the types, and change none of the others
-others-before : (n : ℕ) (xs ts : List Seen) → list_all (λ t. is_type_shown t.shown) ts ≡ true → others_seen n (xs ++ ts) ≡ others_seen n xs
+pub others-before : (n : ℕ) (xs ts : List Seen) → list_all (λ t. is_type_shown t.shown) ts ≡ true → others_seen n (xs ++ ts) ≡ others_seen n xs
 others-before n [] [] h = refl
 others-before n [] (t ∷ ts) h =
     ap (λ b. cond b (others_seen (n + 1) ts) ((n, t) ∷ others_seen n ts)) (first_true (is_type_shown t.shown) _ h) ∙ others-before (n + 1) [] ts (second_true (is_type_shown t.shown) _ h)
 others-before n (x ∷ xs) ts h = λ i. cond (is_type_shown x.shown) (others-before (n + 1) xs ts h i) ((n, x) ∷ others-before n xs ts h i)
 
-types-behind : (xs ts : List Seen) → list_all (λ t. is_type_shown t.shown) ts ≡ true → types_seen (xs ++ ts) ≡ types_seen xs ++ ts
+pub types-behind : (xs ts : List Seen) → list_all (λ t. is_type_shown t.shown) ts ≡ true → types_seen (xs ++ ts) ≡ types_seen xs ++ ts
 types-behind [] [] h = refl
 types-behind [] (t ∷ ts) h =
     ap (λ b. cond b (t ∷ types_seen ts) (types_seen ts)) (first_true (is_type_shown t.shown) _ h) ∙ ap (λ l. t ∷ l) (types-behind [] ts (second_true (is_type_shown t.shown) _ h))

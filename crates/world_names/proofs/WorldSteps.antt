@@ -181,7 +181,7 @@ abbrev named-as : Place → Text → Slot → tree.Declaration → Option (tree.
 named-as place name slot d = Some (d, named_like slot place name)
 
 -- the slot of a named type is no instance type
-named-slot : (slots : List Slot) (place : Place) (name : Text) (described : ComponentTypeRef) (d : tree.Declaration) (x : Slot) → named_type slots place name described ≡ Some (d, x) → instance_types (x ∷ []) ≡ 0
+pub named-slot : (slots : List Slot) (place : Place) (name : Text) (described : ComponentTypeRef) (d : tree.Declaration) (x : Slot) → named_type slots place name described ≡ Some (d, x) → instance_types (x ∷ []) ≡ 0
 named-slot slots place name (refs.TypeEq n) d x e = at (slice_get slots n) e
   where
     of : (slot : Slot) (o : Option tree.Declaration) → (o >>= named-as place name slot) ≡ Some (d, x) → instance_types (x ∷ []) ≡ 0
@@ -203,7 +203,7 @@ type-seen : (name : ExternName) (described : ComponentTypeRef) (scope : Scope) (
     → follow.see_type name described scope ≡ Some (see import_ (seen_type name d) (in_scope x scope))
 type-seen name described scope d x e simple = ap (λ o. o >>= seen_next name scope) e ∙ ap (λ b. provided b (see import_ (seen_type name d) (in_scope x scope))) simple
 
-type-step : (name : ExternName) (described : ComponentTypeRef) (scope : Scope) (d : tree.Declaration) (x : Slot) → named_type scope.slots here name.text described ≡ Some (d, x) → is_simple name ≡ true
+pub type-step : (name : ExternName) (described : ComponentTypeRef) (scope : Scope) (d : tree.Declaration) (x : Slot) → named_type scope.slots here name.text described ≡ Some (d, x) → is_simple name ≡ true
     → component_step scope (Declaration.imported name described) ≡ Some (see import_ (seen_type name d) (in_scope x scope))
 type-step name (refs.TypeEq n) scope d x e simple = type-seen name (refs.TypeEq n) scope d x e simple
 type-step name refs.SubResource scope d x e simple = type-seen name refs.SubResource scope d x e simple

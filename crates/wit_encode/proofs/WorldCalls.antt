@@ -1,0 +1,337 @@
+-- What the calls of an encoder of a world do to its component type.
+use Rattle.std.proofs.Common.{◌≡◌, refl, sym, subst, ap, ◌∙◌, ℕ, ◌+◌, Bool, true, false, not, ◌&&◌, ◌||◌, cond, List, [], ◌∷◌, ◌++◌, append-nil, filter_map, Result, Ok, Err, IfOk, OnOk, OnErr, Option, Some, None, slice_get, length, arith}
+use Rattle.std.specs.List.{list_all, list_any}
+use Rattle.std.specs.Option.{option_map_or, is_some}
+use Rattle.std.specs.Prelude.{◌≤◌}
+use Rattle.wit_model.specs.Text.{Text}
+use Rattle.wit_model.specs.Tree as tree_of_types
+use Rattle.wit_model.specs.Tree.{Tree, Place, here, of_interface, named, primitive, node}
+use Rattle.wit_model.specs.Types.{number_tree}
+use Rattle.wit_model.specs.Lookup.{place_of}
+use Rattle.wit_model.specs.Meaning.{Signature, TypeMeaning}
+use Rattle.wit_model.specs.Parts.{is_resource, numbered_from, same_owner}
+use Rattle.wit_model.specs.Rules.{text_is}
+use Rattle.wit_model.specs.declared.model.Resolve.{Resolve}
+use Rattle.wit_model.specs.declared.model.TypeId.{TypeId}
+use Rattle.wit_model.specs.declared.model.TypeOwner.{TypeOwner}
+use Rattle.wit_model.specs.declared.model.TypeOwner.TheVariants as owner
+use Rattle.wit_model.specs.declared.model.WorldId.{WorldId}
+use Rattle.wit_model.proofs.Lists.{first_true, second_true}
+use Rattle.comp_bytes.specs.declared.forms.ComponentDefinedType.{ComponentDefinedType}
+use Rattle.comp_bytes.specs.declared.forms.ComponentFuncType.{ComponentFuncType}
+use Rattle.comp_bytes.specs.declared.forms.ComponentTypeRef.{ComponentTypeRef}
+use Rattle.comp_bytes.specs.declared.forms.ComponentTypeRef.TheVariants as refs
+use Rattle.comp_bytes.specs.Raw.{Declaration, Declarations, ExternName, declaration_count}
+use Rattle.comp_bytes.specs.RawOf.{raw_defined, raw_function}
+use Rattle.comp_bytes.specs.Held.{type_slots_of}
+use Rattle.comp_bytes.specs.Reading.{◌>>=◌}
+use Rattle.comp_meaning.specs.Same.{same_place}
+use Rattle.comp_meaning.specs.Follow as follow
+use Rattle.comp_meaning.specs.Follow.{Direction, import_, Seen, Slot, component_step, declared_by, definition, function_signature, in_scope, instance_types, is_foreign_name, is_simple, named_like, named_type, new_scope, see}
+use Rattle.wit_encode_types.specs.declared.maps.TypeEncodingMaps.{TypeEncodingMaps}
+use Rattle.wit_encode_types.specs.Slots.{Standing, tree, Follows, FollowsFunction, Defines, DefinesFunction}
+use Rattle.wit_encode_types.specs.Resources.{Names, is_met_owner, is_named_interface, is_resource_tree, is_resource_declaration, named_resources, resource_names}
+use Rattle.wit_encode_types.specs.Scope.{Scope, IsDeclared, DeclaresSlot, DeclaresResource, IsImportable, exported_name}
+use Rattle.wit_encode_types.specs.Formed.{IsFormed, IsFormedSignature}
+use Rattle.wit_encode_types.specs.Counts.{Definitions, one_type_more, one_function_more, ExportsOne}
+use Rattle.wit_encode_types.specs.Distinct.{is_value_type, is_function_type}
+use Rattle.wit_encode_types.specs.Known.{Around, Aliased, IsAlias, IsSource, ReachesAround, as_before, aliased, alias_declared, are_right, is_known_as, is_slot_for, known_slot, outer_instances, outer_scope, outer_slots, standing_instances, with_alias}
+use Rattle.wit_encode_types.specs.Standing.{SlotsStand, is_slot_of, standing_at}
+use Rattle.wit_encode_types.specs.View.{View, Grows}
+use Rattle.wit_encode_types.proofs.Around.{around-same}
+use Rattle.world_names.specs.WorldSteps.{seen_type}
+use Rattle.world_names.proofs.WorldSteps.{named-slot as named-plain, type-step}
+use Rattle.wit_encode.specs.Encoders.{declared_after}
+use Rattle.wit_encode.specs.Worlds.{declared_type, is_sound_outside, seen_imports, world_definitions, world_resources, world_scope, world_view}
+use Rattle.wit_encode.proofs.Calls.{defines-of, formed-value, function-of}
+use Rattle.wit_encode.proofs.Components.{count-more, steps-count, steps-more}
+use Rattle.wit_encode.proofs.Contents.{IsOf, slots-kept}
+use Rattle.wit_encode.proofs.Declaring.{DeclaredAs, declared-slot, declared-resource}
+use Rattle.wit_encode.proofs.Importing.{Stands, cut-short, importable-sound, importable-stands, known-right, named-slot, right-more, stands, still-right}
+use Rattle.wit_encode.proofs.Refusing.{outer-pushed}
+use Rattle.wit_encode.proofs.Strict.{bind, definition-strict, function-strict}
+use Rattle.wit_encode.proofs.Wider.{alias-step}
+use Rattle.wit_encode.proofs.WorldScope.{Extends, SoundOutside, Widens, WorldCalls, exports-more, scope-stays, slot-extends, slots-more, sound-outside, world-calls}
+
+-- a component type, after something has been declared in it
+abbrev pub after_declaring : Around → Declarations → Around
+after_declaring a outer = record a { declared = outer }
+
+module _ (r : Resolve) (w : WorldId) (a : Around) (sound : SoundOutside r w a) where
+  same-slots : outer_slots a.declared ≡ sound.scope.slots
+  same-slots = ap (λ o. option_map_or (λ s. s.slots) o []) sound.followed
+
+  slots-sound : list_all (is_slot_of (world_resources r w)) (outer_slots a.declared) ≡ true
+  slots-sound = ap (list_all (is_slot_of (world_resources r w))) same-slots ∙ sound.slots
+
+  -- the slot of a new declaration has the next number
+  index-next : type_slots_of a.declared ≡ length (outer_slots a.declared)
+  index-next =
+      let count = steps-count new_scope sound.scope a.declared sound.followed in
+      let same : length (outer_slots a.declared) ≡ length sound.scope.slots = ap length same-slots in
+      omega (arith, count, same)
+
+  -- one declaration that adds a slot
+  declared-widens : (outer : Declarations) (d : Declaration) (x : Slot) (types : List Seen) (next : follow.Scope) → component_step sound.scope d ≡ Some next → Extends sound.scope next x types
+      → is_slot_of (world_resources r w) x ≡ true → outer ≡ declared_after a.declared d → Widens r w a (after_declaring a outer) x types
+  declared-widens outer d x types next step extends kept e =
+      let followed : outer_scope outer ≡ Some next = ap outer_scope e ∙ steps-more new_scope sound.scope next a.declared d sound.followed step in
+      record {
+        before = sound.scope;
+        after = next;
+        followed = sound.followed;
+        next = followed;
+        extends = extends;
+        listed = refl;
+        right = ap (are_right r a.known) (ap (λ o. option_map_or (λ s. s.slots) o []) followed ∙ extends.slots) ∙ right-more r a.known sound.scope.slots x sound.right;
+        kept = kept;
+      }
+
+  -- what has been defined afterwards
+  definitions-after : (outer : Declarations) (d : Declaration) (x : Slot) (types : List Seen) → Widens r w a (after_declaring a outer) x types → outer ≡ declared_after a.declared d → (n k : ℕ)
+      → (world_definitions a.declared).types + cond (is_value_type d) 1 0 ≡ n → (world_definitions a.declared).functions + cond (is_function_type d) 1 0 ≡ k
+      → world_definitions outer ≡ record { types = n; functions = k; exports = (world_definitions a.declared).exports ++ filter_map declared_type types }
+  definitions-after outer d x types m e n k t f = λ i. record {
+    types = (ap (λ z. (world_definitions z).types) e ∙ count-more is_value_type a.declared d ∙ t) i;
+    functions = (ap (λ z. (world_definitions z).functions) e ∙ count-more is_function_type a.declared d ∙ f) i;
+    exports = exports-more r w a (after_declaring a outer) x types m sound i;
+  }
+
+-- ---- definitions
+
+module _ {E : Type 0} (res : Result ℕ E) (r : Resolve) (w : WorldId) (count : ℕ) (a : Around) (outer : Declarations) (maps : TypeEncodingMaps) where
+  abbrev scope : Scope
+  scope = world_scope r w count a
+
+  abbrev next : Around
+  next = after_declaring a outer
+
+  abbrev Leads : (Standing → Type 0) → Type 0 → Type 0
+  Leads P counts = WorldCalls res (world_view r w count a maps) (world_view r w count next maps) P counts
+
+  abbrev Declared : Declaration → Type 0
+  Declared d = IfOk res (λ k. (k ≡ type_slots_of a.declared) × (outer ≡ declared_after a.declared d))
+
+  same-around : OnErr res (outer ≡ a.declared) → OnErr res (next ≡ a)
+  same-around h = each-err res h
+    where
+      each-err : {E : Type 0} (res : Result ℕ E) → OnErr res (outer ≡ a.declared) → OnErr res (next ≡ a)
+      each-err (Ok k) h = h
+      each-err (Err e) h = λ i. record a { declared = h i }
+
+  module _ (is_sound : is_sound_outside r w a ≡ true) where
+    abbrev sound : SoundOutside r w a
+    sound = sound-outside r w a is_sound
+
+    -- a call that declares something
+    declares : (d : Declaration) (x : Slot) (types : List Seen) (after : follow.Scope) (P : Standing → Type 0) (counts : Type 0) → component_step sound.scope d ≡ Some after → Extends sound.scope after x types
+        → is_slot_of (world_resources r w) x ≡ true → IsOf x P → (Widens r w a next x types → outer ≡ declared_after a.declared d → counts) → Declared d → OnErr res (outer ≡ a.declared) → Leads P counts
+    declares d x types after P counts step extends kept is q ok err =
+        world-calls res r w count a next maps P counts x types is_sound is (each-ok res (λ k h.
+        let m = declared-widens r w a sound outer d x types after step extends kept h.1 in
+        (h.0 ∙ index-next r w a sound, m, q m h.1)) ok) (same-around err)
+      where
+        each-ok : {E : Type 0} {P Q : ℕ → Type 0} (res : Result ℕ E) → ((k : ℕ) → P k → Q k) → IfOk res P → IfOk res Q
+        each-ok (Ok k) f h = f k h
+        each-ok (Err e) f h = h
+
+    pub defines-value : (d : ComponentDefinedType) (t : Tree) → Follows (SlotsStand (outer_slots a.declared)) d t → IsFormed scope t → Declared (Declaration.defined (raw_defined d)) → OnErr res (outer ≡ a.declared)
+        → Leads (Defines (SlotsStand (outer_slots a.declared)) d) (world_definitions outer ≡ one_type_more (world_definitions a.declared))
+    defines-value d t h f ok err =
+        let strict : definition sound.scope.slots (raw_defined d) ≡ Some t = ap (λ zs. definition zs (raw_defined d)) (sym (same-slots r w a sound))
+        ∙ definition-strict (world_resources r w) (outer_slots a.declared) (slots-sound r w a sound) d t h f.formed in
+        declares (Declaration.defined (raw_defined d)) (Slot.value t) [] (in_scope (Slot.value t) sound.scope) _ _
+        (bind (definition sound.scope.slots (raw_defined d)) t (λ u. Some (in_scope (Slot.value u) sound.scope)) strict) (slot-extends sound.scope (Slot.value t) refl) (formed-value (world_resources r w) t f.formed)
+        (defines-of (outer_slots a.declared) d t h)
+        (λ m e. definitions-after r w a sound outer (Declaration.defined (raw_defined d)) (Slot.value t) [] m e ((world_definitions a.declared).types + 1) (world_definitions a.declared).functions refl (omega arith)
+        ∙ (λ i. record { types = (world_definitions a.declared).types + 1; functions = (world_definitions a.declared).functions; exports = append-nil (world_definitions a.declared).exports i }))
+        ok err
+
+    pub defines-function : (d : ComponentFuncType) (s : Signature) → FollowsFunction (SlotsStand (outer_slots a.declared)) d s → IsFormedSignature scope s → Declared (Declaration.function (raw_function d)) → OnErr res (outer ≡ a.declared)
+        → Leads (DefinesFunction (SlotsStand (outer_slots a.declared)) d) (world_definitions outer ≡ one_function_more (world_definitions a.declared))
+    defines-function d s h f ok err =
+        let strict : function_signature sound.scope.slots (raw_function d) ≡ Some s = ap (λ zs. function_signature zs (raw_function d)) (sym (same-slots r w a sound))
+        ∙ function-strict (world_resources r w) (outer_slots a.declared) (slots-sound r w a sound) d s h f.params f.result_ in
+        declares (Declaration.function (raw_function d)) (Slot.function s) [] (in_scope (Slot.function s) sound.scope) _ _
+        (bind (function_signature sound.scope.slots (raw_function d)) s (λ u. Some (in_scope (Slot.function u) sound.scope)) strict) (slot-extends sound.scope (Slot.function s) refl) refl
+        (function-of (outer_slots a.declared) d s h)
+        (λ m e. definitions-after r w a sound outer (Declaration.function (raw_function d)) (Slot.function s) [] m e (world_definitions a.declared).types ((world_definitions a.declared).functions + 1) (omega arith) refl
+        ∙ (λ i. record { types = (world_definitions a.declared).types; functions = (world_definitions a.declared).functions + 1; exports = append-nil (world_definitions a.declared).exports i }))
+        ok err
+
+    -- ---- types of the world, which are imported
+
+    abbrev ShownAs : ExternName → Type 0
+    ShownAs name = ExportsOne scope (world_definitions a.declared) (world_definitions outer) name
+
+    some-standing : (u m : Standing) → Some u ≡ Some m → m ≡ u
+    some-standing u m e = cc
+
+    -- a declaration that is followed as it says
+    imports-declared : (described : ComponentTypeRef) (name : ExternName) (d : Text × TypeMeaning) (x : Slot) → IsDeclared scope d → name ≡ exported_name d → is_slot_of (world_resources r w) x ≡ true
+        → standing_at (Some x) ≡ Some (tree (named here name.text)) → named_type (outer_slots a.declared) here name.text described ≡ Some (d.1.declaration, x) → Declared (Declaration.imported name described)
+        → OnErr res (outer ≡ a.declared) → Leads (λ m. m ≡ tree (named here name.text)) (ShownAs name)
+    imports-declared described name d x declared is kept stands found ok err =
+        let there : named_type sound.scope.slots here name.text described ≡ Some (d.1.declaration, x) = ap (λ zs. named_type zs here name.text described) (sym (same-slots r w a sound)) ∙ found in
+        let seen : Seen = seen_type name d.1.declaration in
+        let after : follow.Scope = see import_ seen (in_scope x sound.scope) in
+        let extends : Extends sound.scope after x (seen ∷ []) = record {
+          slots = refl;
+          plain = named-plain sound.scope.slots here name.text described d.1.declaration x there;
+          imports = refl;
+          are_types = refl;
+          exports = refl;
+          instances = refl;
+          used = refl;
+        } in
+        let meaning : TypeMeaning = record { declaration = d.1.declaration; external_id = name.external_id } in
+        let meant : (name.text, meaning) ≡ d = λ j. (ap (λ (n : ExternName). n.text) is j, record { declaration = d.1.declaration; external_id = ap (λ (n : ExternName). n.external_id) is j }) in
+        declares (Declaration.imported name described) x (seen ∷ []) after _ _ (type-step name described sound.scope d.1.declaration x there (ap is_simple is)) extends kept
+        (record { gives = λ m e. stands ∙ ap Some (sym e); only = λ m e. some-standing _ m (sym stands ∙ e) })
+        (λ m e. record {
+          declaration = d;
+          there = declared.there;
+          named_ = is;
+          one_more = definitions-after r w a sound outer (Declaration.imported name described) x (seen ∷ []) m e (world_definitions a.declared).types (world_definitions a.declared).functions (omega arith) (omega arith)
+              ∙ (λ j. record { types = (world_definitions a.declared).types; functions = (world_definitions a.declared).functions; exports = (world_definitions a.declared).exports ++ meant j ∷ [] });
+        })
+        ok err
+
+    pub imports-type : (k : ℕ) (name : ExternName) → DeclaresSlot scope (SlotsStand (outer_slots a.declared)) name k → Declared (Declaration.imported name (refs.TypeEq k)) → OnErr res (outer ≡ a.declared)
+        → Leads (λ m. m ≡ tree (named here name.text)) (ShownAs name)
+    imports-type k name s ok err =
+        let its : DeclaredAs scope (outer_slots a.declared) name (refs.TypeEq k) s.declaration = declared-slot scope (outer_slots a.declared) (slots-sound r w a sound) name k s in
+        imports-declared (refs.TypeEq k) name s.declaration its.slot s.declared s.named_ its.kept its.stands its.found ok err
+
+    pub imports-resource : (name : ExternName) → DeclaresResource scope name → Declared (Declaration.imported name refs.SubResource) → OnErr res (outer ≡ a.declared)
+        → Leads (λ m. m ≡ tree (named here name.text)) (ShownAs name)
+    imports-resource name s ok err =
+        let its : DeclaredAs scope (outer_slots a.declared) name refs.SubResource s.declaration = declared-resource scope (outer_slots a.declared) (slots-sound r w a sound) name s in
+        imports-declared refs.SubResource name s.declaration its.slot s.declared s.named_ its.kept its.stands its.found ok err
+
+-- ---- types of other interfaces
+
+owner-alike : (r : Resolve) (w : WorldId) (p : Text) (o : TypeOwner) (a b : Bool) → ((is_met_owner r (owner.World w) o && a) && (same_place (of_interface p) (place_of r o) && b)) ≡ ((is_named_interface r o && a) && (same_place (of_interface p) (place_of r o) && b))
+owner-alike r w p (owner.Interface j) a b = refl
+owner-alike r w p (owner.World v) a b = cut-short ((same_owner (owner.World w) (owner.World v) || false) && a) b
+owner-alike r w p owner.None a b = refl
+
+resources-alike : (r : Resolve) (w : WorldId) (p x : Text) → world_resources r w (of_interface p) x ≡ named_resources r (of_interface p) x
+resources-alike r w p x = ap (λ test. list_any test (numbered_from 0 r.types.items)) (λ j e. owner-alike r w p e.1.owner (is_resource r e.0) (text_is e.1.name x) j)
+
+-- what is known of a slot of the name of a named interface
+record IsForeign (r : Resolve) (w : WorldId) (n : ℕ) (x : Slot) : Type 0 where
+  pub plain : instance_types (x ∷ []) ≡ 0
+  pub kept : is_slot_of (world_resources r w) x ≡ true
+  pub stands : standing_at (Some x) ≡ Some (tree (number_tree r n))
+
+foreign-slot : (r : Resolve) (w : WorldId) (n : ℕ) (x : Slot) → is_slot_for r n (Some x) ≡ true → IsForeign r w n x
+foreign-slot r w n x h = record {
+  plain = plain-name x (first_true (is_foreign_name x) _ h);
+  kept = kept-alike x (first_true (is_foreign_name x) _ h) (first_true (is_slot_of (named_resources r) x) _ (second_true (is_foreign_name x) _ h));
+  stands = named-slot (number_tree r n) x (second_true (is_slot_of (named_resources r) x) _ (second_true (is_foreign_name x) _ h));
+}
+  where
+    plain-name : (x : Slot) → is_foreign_name x ≡ true → instance_types (x ∷ []) ≡ 0
+    plain-name (Slot.value t) f = refl
+    plain-name (Slot.resource p t) f = refl
+    plain-name (Slot.function s) f = refl
+    plain-name (Slot.instance ds k) f = absurd (let z : ⊥ = cc in z)
+
+    kept-alike : (slot : Slot) → is_foreign_name slot ≡ true → is_slot_of (named_resources r) slot ≡ true → is_slot_of (world_resources r w) slot ≡ true
+    kept-alike (Slot.value (named (of_interface p) x)) f h = ap not (resources-alike r w p x) ∙ h
+    kept-alike (Slot.resource (of_interface p) x) f h = resources-alike r w p x ∙ h
+    kept-alike (Slot.value (named here x)) f h = absurd (let z : ⊥ = cc in z)
+    kept-alike (Slot.value (primitive q)) f h = absurd (let z : ⊥ = cc in z)
+    kept-alike (Slot.value (node q ts)) f h = absurd (let z : ⊥ = cc in z)
+    kept-alike (Slot.resource here x) f h = absurd (let z : ⊥ = cc in z)
+    kept-alike (Slot.function s) f h = absurd (let z : ⊥ = cc in z)
+    kept-alike (Slot.instance ds n) f h = absurd (let z : ⊥ = cc in z)
+
+slot-stands : (r : Resolve) (w : WorldId) (n : ℕ) (o : Option Slot) → is_slot_for r n o ≡ true → standing_at o ≡ Some (tree (number_tree r n))
+slot-stands r w n None h = absurd (let z : ⊥ = cc in z)
+slot-stands r w n (Some x) h = (foreign-slot r w n x h).stands
+
+-- an import of a type, by an alias at most
+pub record WorldImports (r : Resolve) (v v' : View) (n : ℕ) (known : List (ℕ × ℕ)) : Type 0 where
+  pub stands : (k : ℕ) → known_slot known n ≡ Some k → v'.stands k (tree (number_tree r n))
+  pub grows : Grows v v'
+  pub scope_stays : v'.scope ≡ v.scope
+  pub counted : v'.definitions ≡ v.definitions
+
+module _ (r : Resolve) (w : WorldId) (count : ℕ) (a : Around) (maps : TypeEncodingMaps) (j : ℕ) (id : TypeId) (m : IsImportable (world_scope r w count a) j id.0) where
+  abbrev importable : SoundOutside r w a
+  importable = sound-outside r w a (importable-sound (is_sound_outside r w a) (standing_instances r a) j m.stands)
+
+  pub world-source : IsSource r a j id.0
+  world-source = record {
+    def = m.def;
+    name = m.name;
+    there = m.there;
+    named_ = m.named_;
+    owned = m.owned;
+    stands = importable-stands (is_sound_outside r w a) (standing_instances r a) j m.stands;
+  }
+
+  abbrev ImportsTo : Around → Type 0
+  ImportsTo a' = WorldImports r (world_view r w count a maps) (world_view r w count a' maps) id.0 a'.known
+
+  was-known : ImportsTo a
+  was-known = record {
+    stands = λ k e. slot-stands r w id.0 (slice_get (outer_slots a.declared) k) (known-right r a.known (outer_slots a.declared) id.0 k (ap (are_right r a.known) (same-slots r w a importable) ∙ importable.right) e);
+    grows = record { kept = λ i s h. h; more = omega arith; around_ = around-same refl };
+    scope_stays = refl;
+    counted = refl;
+  }
+
+  was-made : (al : Aliased) → IsAlias r a al → al.number ≡ id → ImportsTo (with_alias a al)
+  was-made al is of_id =
+      let s = importable in
+      let source : Stands r a is.interface.0 al.number.0 is.name = stands r a al is in
+      let x : Slot = source.slot in
+      let foreign = foreign-slot r w al.number.0 x source.fits in
+      let instance_there : slice_get s.scope.instances source.number ≡ Some source.instance = sym (ap (λ o. slice_get (option_map_or (λ z. z.instances) o []) source.number) s.followed) ∙ source.at in
+      let same_number : al.instance ≡ source.number = one-some al.instance source.number (sym is.instance ∙ source.listed) in
+      let step = alias-step s.scope al x source.instance (ap (slice_get s.scope.instances) same_number ∙ instance_there) source.path (ap (λ t. follow.find_type t source.instance.view.types) is.text ∙ source.found) in
+      let followed : outer_scope (with_alias a al).declared ≡ Some (in_scope x s.scope) = steps-more new_scope s.scope (in_scope x s.scope) a.declared (alias_declared al) s.followed step in
+      let right : are_right r (with_alias a al).known (outer_slots (with_alias a al).declared) ≡ true = still-right r a al is in
+      let wide : Widens r w a (with_alias a al) x [] = record {
+        before = s.scope;
+        after = in_scope x s.scope;
+        followed = s.followed;
+        next = followed;
+        extends = slot-extends s.scope x foreign.plain;
+        listed = refl;
+        right = right;
+        kept = foreign.kept;
+      } in
+      let more : outer_slots (with_alias a al).declared ≡ outer_slots a.declared ++ x ∷ [] = slots-more r w a (with_alias a al) x [] wide s in
+      record {
+        stands = λ k e. slot-stands r w id.0 (slice_get (outer_slots (with_alias a al).declared) k) (known-right r (with_alias a al).known (outer_slots (with_alias a al).declared) id.0 k right e);
+        grows = record {
+          kept = λ i q h. subst (λ (zs : List Slot). SlotsStand zs i q) (sym more) (slots-kept x (outer_slots a.declared) i q h);
+          more = (let l : length (outer_slots (with_alias a al).declared) ≡ length (outer_slots a.declared ++ x ∷ []) = ap length more in let n = longer (outer_slots a.declared) x in omega (arith, l, n));
+          around_ = around-same refl;
+        };
+        scope_stays = scope-stays r w a (with_alias a al) x [] wide s count;
+        counted = definitions-after r w a s (with_alias a al).declared (alias_declared al) x []
+            (declared-widens r w a s (with_alias a al).declared (alias_declared al) x [] (in_scope x s.scope) step (slot-extends s.scope x foreign.plain) foreign.kept refl) refl
+            (world_definitions a.declared).types (world_definitions a.declared).functions (omega arith) (omega arith)
+            ∙ (λ i. record { types = (world_definitions a.declared).types; functions = (world_definitions a.declared).functions; exports = append-nil (world_definitions a.declared).exports i });
+      }
+    where
+      one-some : (x y : ℕ) → Some x ≡ Some y → x ≡ y
+      one-some x y e = cc
+
+      longer : (xs : List Slot) (x : Slot) → length xs ≤ length (xs ++ x ∷ [])
+      longer [] x = omega arith
+      longer (y ∷ xs) x = let l = longer xs x in omega (arith, l)
+
+  pub world-imports : (a' : Around) → ReachesAround r id a a' → ImportsTo a'
+  world-imports a' (as_before e) = subst ImportsTo (sym e) was-known
+  world-imports a' (aliased al is of_id e) = subst ImportsTo (sym e) (was-made al is of_id)
+
+-- one declaration more at most is held
+pub reached-held : {r : Resolve} {id : TypeId} {a a' : Around} → ReachesAround r id a a' → declaration_count a'.declared ≤ declaration_count a.declared + 1
+reached-held {r} {id} {a} {a'} (as_before e) = let same : declaration_count a'.declared ≡ declaration_count a.declared = ap (λ (z : Around). declaration_count z.declared) e in omega (arith, same)
+reached-held {r} {id} {a} {a'} (aliased al is of_id e) = outer-pushed a.declared a'.declared (alias_declared al) (ap (λ (z : Around). z.declared) e)

@@ -1,0 +1,303 @@
+-- What an item of a world meets is of the world, and stands before it, or is of an interface that stands before it.
+use Rattle.std.proofs.Common.{◌≡◌, refl, sym, subst, ap, ◌∙◌, ℕ, zero, suc, ◌+◌, ◌<◌, ◌≤◌, ◌⊎◌, inl, inr, Bool, true, false, ◌&&◌, List, [], ◌∷◌, ◌++◌, map, filter_map, slice_get, take, option_to_list, Option, Some, None, String, is_some, arith}
+use Rattle.std.specs.declared.alloc.Global.{Global}
+use Rattle.std.specs.List.{Contains, filter, list_all}
+use Rattle.std.specs.Option.{option_map_or}
+use Rattle.std.specs.Prelude.{option_and_then}
+use Rattle.std.proofs.lemmas.List.Elements.{Contains-append_cases}
+use Rattle.indexmap.specs.IndexMap.{values}
+use Rattle.wit_model.specs.Lookup.{interface_path, type_at, world_at}
+use Rattle.wit_model.specs.Parts.{met_by, met_of, same_owner, function_types, function_numbers, has_owner, used_by_type, used_by_function}
+use Rattle.wit_model.specs.Text.{Text, text_of}
+use Rattle.wit_model.specs.Rules.{is_use, in_list, passes, package_number, text_is, key_in_range, item_in_range, entries_in_range, item_type, uses_stand_before, used_interfaces, used_types, used_by_number, import_stands, export_stands}
+use Rattle.wit_model.specs.Uses.{alias_target, owner_interface, used_interface, interface_used_by, direct_deps, has, item_interface, items_of}
+use Rattle.wit_model.specs.Valid.{IsValid, numbers_in_range, order_of_items, world_items, is_place, functions_of_world, item_function}
+use Rattle.wit_model.specs.declared.model.Resolve.{Resolve}
+use Rattle.wit_model.specs.declared.model.World.{World}
+use Rattle.wit_model.specs.declared.model.WorldId.{WorldId}
+use Rattle.wit_model.specs.declared.model.WorldKey.{WorldKey}
+use Rattle.wit_model.specs.declared.model.WorldKey.TheVariants as key
+use Rattle.wit_model.specs.declared.model.WorldItem.{WorldItem}
+use Rattle.wit_model.specs.declared.model.WorldItem.TheVariants as item
+use Rattle.wit_model.specs.declared.model.Function.{Function}
+use Rattle.wit_model.specs.declared.model.InterfaceId.{InterfaceId}
+use Rattle.wit_model.specs.declared.model.TypeDef.{TypeDef}
+use Rattle.wit_model.specs.declared.model.TypeId.{TypeId}
+use Rattle.wit_model.specs.declared.model.TypeOwner.{TypeOwner}
+use Rattle.wit_model.specs.declared.model.TypeOwner.TheVariants as owner
+use Rattle.wit_model.specs.declared.model.«Type».{«Type» as ValueType}
+use Rattle.wit_model.specs.declared.model.«Type».TheVariants as ty
+use Rattle.wit_model.proofs.Lists.{first_true, second_true}
+use Rattle.wit_model.proofs.Owners.{met_step}
+use Rattle.wit_shown.proofs.Items.{typed-item}
+use Rattle.wit_shown.proofs.Zips.{given-contains}
+use Rattle.wit_encode_types.specs.Kinds.{parts_of}
+use Rattle.wit_encode_types.specs.Resources.{is_named_interface}
+use Rattle.wit_encode_types.specs.Plan.{foreign_owner, Reaches, itself, through}
+use Rattle.wit_encode_types.specs.Scope.{Scope}
+use Rattle.wit_encode_types.proofs.Lists.{all-contained, contains-filter_map, contains-one, none-in, one-contained}
+use Rattle.wit_encode_types.proofs.Paths.{found-in, some-of, some-same}
+use Rattle.wit_encode.specs.OwnerScope.{IsScopeOf, InstancesStand, IsTypeOf, functions_of}
+use Rattle.wit_encode.specs.WorldUses.{item_types, interfaces_before, StandBefore, ItemsMeetStanding}
+use Rattle.wit_encode.proofs.Counting.{contains-filter}
+use Rattle.wit_encode.proofs.Exporting.{contains-mapped}
+use Rattle.wit_encode.proofs.Meeting.{named-meets, unnamed-meets, part-uses}
+use Rattle.wit_encode.proofs.Naming.{named-owner}
+use Rattle.wit_encode.proofs.Numbers.{after-at, contains-flat, contains-get, get-contains, has-contains}
+use Rattle.wit_encode.proofs.Owned.{part-met, same-owner, stays, valid-references}
+use Rattle.wit_encode.proofs.OwnerScope.{AllStay, IsUse, Stay, function-refers, given-some, named-stays, target-is, type-stays, types-stay, use-at, world_passes}
+use Rattle.wit_encode.proofs.Validity.{valid-ownerless}
+
+-- ---- beginnings of lists
+
+taken-at : {A : Type 0} (xs : List A) (k p : ℕ) (x : A) → slice_get (take k xs) p ≡ Some x → (p < k) × (slice_get xs p ≡ Some x)
+taken-at xs zero p x h = absurd (let z : ⊥ = cc in z)
+taken-at [] (suc k) p x h = absurd (let z : ⊥ = cc in z)
+taken-at (y ∷ ys) (suc k) zero x h = (omega arith, h)
+taken-at (y ∷ ys) (suc k) (suc p) x h = let m = taken-at ys k p x h in let l = m.0 in (omega (arith, l), m.1)
+
+at-taken : {A : Type 0} (xs : List A) (k p : ℕ) (x : A) → slice_get xs p ≡ Some x → p < k → slice_get (take k xs) p ≡ Some x
+at-taken xs zero p x h l = absurd (omega (arith, l))
+at-taken [] (suc k) p x h l = absurd (let z : ⊥ = cc in z)
+at-taken (y ∷ ys) (suc k) zero x h l = h
+at-taken (y ∷ ys) (suc k) (suc p) x h l = at-taken ys k p x h (omega (arith, l))
+
+-- what is given before a place is given before a later one
+given-later : {A B : Type 0} (f : A → Option B) (xs : List A) (p k : ℕ) (y : B) → p ≤ k → Contains (filter_map f (take p xs)) y → Contains (filter_map f (take k xs)) y
+given-later f xs p k y l c =
+    let found = given-contains f (take p xs) y c in
+    let place = contains-get (take p xs) found.0 found.1 in
+    let there = taken-at xs p place.0 found.0 place.1 in
+    let low = there.0 in
+    contains-filter_map f (take k xs) found.0 y (get-contains (take k xs) place.0 found.0 (at-taken xs k place.0 found.0 there.1 (omega (arith, l, low))))
+    (subst (λ o. Contains (option_to_list o) y) (sym found.2) (contains-one y))
+
+-- ---- a use of another interface
+
+-- the interface that an alias of a part uses
+used-of : (r : Resolve) (def : TypeDef) (id : TypeId) (def' : TypeDef) (i : InterfaceId) → is_use r def ≡ true → Contains (parts_of def.kind) (ty.Id id) → type_at r id.0 ≡ Some def' → def'.owner ≡ owner.Interface i → used_interface r def ≡ Some i.0
+used-of r def id def' i uses c is owns =
+    let given = some-of (alias_target def.kind) (given-some _ (alias_target def.kind) uses) in
+    let target : alias_target def.kind ≡ Some id.0 = target-is def.kind given.0 id given.1 c in
+    ap (option_and_then (λ t. option_and_then (λ target. owner_interface target.owner) (type_at r t))) target
+    ∙ (ap (option_and_then (λ target. owner_interface target.owner)) is ∙ ap owner_interface owns)
+
+module _ (r : Resolve) (v : IsValid r) (id : WorldId) (w : World) (there : world_at r id.0 ≡ Some w) where
+  abbrev pub items : List WorldItem
+  items = items_of w
+
+  abbrev pub home : TypeOwner
+  home = owner.World id
+
+  abbrev pub types_before : ℕ → List ℕ
+  types_before k = filter_map item_type (take k items)
+
+  ready : (k : ℕ) (i : WorldItem) → slice_get items k ≡ Some i → uses_stand_before r id.0 (take k items) i ≡ true
+  unfolding order_of_items
+  ready k i at = after-at (uses_stand_before r id.0) [] items k i (world_passes order_of_items r v.rules.order_of_items id.0 w there) at
+
+  -- the interfaces, and the types of the world, that an item uses
+  interfaces-ready : (k : ℕ) (i : WorldItem) → slice_get items k ≡ Some i → (j : ℕ) → Contains (used_interfaces r i) j → Contains (interfaces_before w k) j
+  interfaces-ready k i at j c = has-contains (interfaces_before w k) j (all-contained (has (interfaces_before w k)) (used_interfaces r i) j (first_true (list_all (has (interfaces_before w k)) (used_interfaces r i)) _ (ready k i at)) c)
+
+  types-ready : (k : ℕ) (i : WorldItem) → slice_get items k ≡ Some i → (x : ℕ) → Contains (used_types r id.0 i) x → Contains (types_before k) x
+  types-ready k i at x c = has-contains (types_before k) x (all-contained (has (types_before k)) (used_types r id.0 i) x (second_true (list_all (has (interfaces_before w k)) (used_interfaces r i)) _ (ready k i at)) c)
+
+  -- the item of a type of the world before a place
+  record TypeItem (k x : ℕ) : Type 0 where
+    pub place : ℕ
+    pub before : place < k
+    pub id' : TypeId
+    pub at : slice_get items place ≡ Some (item.Type_ id')
+    pub same : id'.0 ≡ x
+
+  type-item : (k x : ℕ) → Contains (types_before k) x → TypeItem k x
+  type-item k x c =
+      let found = given-contains item_type (take k items) x c in
+      let place = contains-get (take k items) found.0 found.1 in
+      let there = taken-at items k place.0 found.0 place.1 in
+      let typed = typed-item found.0 x found.2 in
+      record { place = place.0; before = there.0; id' = typed.0; at = there.1 ∙ ap Some typed.1; same = typed.2 }
+
+  module _ (scope : Scope) (k : ℕ) (stand : StandBefore r w k scope.instances) where
+    -- a type of another interface, an instance of which stands
+    record StandingUse (def : TypeDef) : Type 0 where
+      pub interface : InterfaceId
+      pub owns : def.owner ≡ owner.Interface interface
+      pub stands : Contains scope.instances interface.0
+
+    -- each named type that is met is of the world, and stands before place k or there
+    record Among (n : ℕ) : Type 0 where
+      pub own : Stay r v home n
+      pub listed : (x : ℕ) → Contains (met_by (met_of r) n) x → Contains (types_before (suc k)) x
+
+    abbrev Meets : ℕ → Type 0
+    Meets n = Among n ⊎ ((def : TypeDef) → type_at r n ≡ Some def → StandingUse def)
+
+    -- the parts of a type of the world that stands before place k, or there
+    use-stands : (n : ℕ) (def : TypeDef) → type_at r n ≡ Some def → TypeItem (suc k) n → (id' : TypeId) → Contains (parts_of def.kind) (ty.Id id') → (def' : TypeDef) → type_at r id'.0 ≡ Some def' → is_use r def ≡ true → IsUse r v home def' → StandingUse def'
+    use-stands n def is t id' c def' is' uses u =
+        let used : interface_used_by r t.id'.0 ≡ Some u.interface.0 = ap (λ m. option_and_then (used_interface r) (type_at r m)) t.same ∙ ap (option_and_then (used_interface r)) is ∙ used-of r def id' def' u.interface uses c is' u.owns in
+        let low = t.before in
+        record {
+          interface = u.interface;
+          owns = u.owns;
+          stands = stand u.interface.0 (given-later item_interface items t.place k u.interface.0 (omega (arith, low))
+              (interfaces-ready t.place (item.Type_ t.id') t.at u.interface.0 (subst (λ o. Contains (option_to_list o) u.interface.0) (sym used) (contains-one u.interface.0))))
+              (subst (λ (o : TypeOwner). is_named_interface r o ≡ true) u.owns (named-owner r v def' u.named_));
+        }
+
+    part-listed : (n : ℕ) (def : TypeDef) → type_at r n ≡ Some def → Among n → (name : Option (String Global)) → def.name ≡ name → (id' : TypeId) → Contains (parts_of def.kind) (ty.Id id') → Stay r v home id'.0
+        → (x : ℕ) → Contains (met_by (met_of r) id'.0) x → Contains (types_before (suc k)) x
+    part-listed n def is a None e id' c stay x d = a.listed x (subst (λ (ns : List ℕ). Contains ns x) (sym (unnamed-meets r (valid-references r v) n def is e)) (part-uses r (valid-references r v) def id' x c d))
+    part-listed n def is a (Some name) e id' c stay x d =
+        let t = type-item (suc k) n (a.listed n (named-meets r (valid-references r v) n def name is e)) in
+        let low = t.before in
+        let used : Contains (used_by_number r t.id'.0) x = subst (λ (o : Option TypeDef). Contains (option_map_or (used_by_type r) o []) x) (sym (ap (type_at r) t.same ∙ is)) (part-uses r (valid-references r v) def id' x c d) in
+        given-later item_type items t.place (suc k) x (omega (arith, low))
+        (types-ready t.place (item.Type_ t.id') t.at x (contains-filter (has_owner r home) (used_by_number r t.id'.0) x (all-contained (has_owner r home) (met_by (met_of r) id'.0) x stay d) used))
+
+    name-there : {A P : Type 0} (o : Option A) → is_some o ≡ true → ((a : A) → o ≡ Some a → P) → P
+    name-there None e f = absurd (let z : ⊥ = cc in z)
+    name-there (Some a) e f = f a refl
+
+    part-meets : (n : ℕ) (def : TypeDef) → type_at r n ≡ Some def → Among n → (id' : TypeId) → Contains (parts_of def.kind) (ty.Id id') → Meets id'.0
+    part-meets n def is a id' c = part-met r v home n def is id' c a.own
+        (λ stay. inl (record { own = stay; listed = part-listed n def is a def.name refl id' c stay }))
+        (λ named here uses. inr (λ def' is'. name-there def.name named (λ name e.
+        use-stands n def is (type-item (suc k) n (a.listed n (named-meets r (valid-references r v) n def name is e))) id' c def' is' uses (use-at r v home n def is id' c named here uses def' is'))))
+
+    standing-foreign : (def : TypeDef) → StandingUse def → foreign_owner None def.owner ≡ None → ⊥
+    standing-foreign def u f = let e : foreign_owner None (owner.Interface u.interface) ≡ None = ap (foreign_owner None) (sym u.owns) ∙ f in let z : ⊥ = cc in z
+
+    reached-meets : (t : ValueType) (n : ℕ) → ((id' : TypeId) → t ≡ ty.Id id' → Meets id'.0) → Reaches r None t n → Meets n
+    reached-meets _ _ p (itself id') = p id' refl
+    reached-meets _ _ p (through id' def t n at f c re) = reached-meets t n (λ id'' e. further (p id' refl) id'' (subst (λ (x : ValueType). Contains (parts_of def.kind) x) e c)) re
+      where
+        further : Meets id'.0 → (id'' : TypeId) → Contains (parts_of def.kind) (ty.Id id'') → Meets id''.0
+        further (inl a) id'' c = part-meets id'.0 def at a id'' c
+        further (inr u) id'' c = absurd (standing-foreign def (u def at) f)
+
+    -- of what is met from types that are among them, nothing else is of another interface
+    met-stand : (s : IsScopeOf r home scope) (ts : List ValueType) → ((id' : TypeId) → Contains ts (ty.Id id') → Among id'.0) → InstancesStand r scope ts
+    met-stand s ts among n def i m is f = go (reached-meets m.0 n (λ id' e. inl (among id' (subst (λ (x : ValueType). Contains ts x) e m.1))) (subst (λ o. Reaches r o m.0 n) s.own m.2))
+      where
+        foreign : foreign_owner None def.owner ≡ Some i
+        foreign = ap (λ o. foreign_owner o def.owner) (sym s.own) ∙ f
+
+        owned : (o : TypeOwner) → foreign_owner None o ≡ Some i → o ≡ owner.Interface i
+        owned (owner.Interface j) e = ap owner.Interface (some-same j i e)
+        owned (owner.World x) e = absurd (let z : ⊥ = cc in z)
+        owned owner.None e = absurd (let z : ⊥ = cc in z)
+
+        unnamed-home : (name : Option (String Global)) → def.name ≡ name → Among n → Contains scope.instances i.0
+        unnamed-home None e a =
+            let none : foreign_owner None def.owner ≡ None = ap (foreign_owner None) (same-owner def.owner owner.None (valid-ownerless r v n def is e)) in
+            let wrong : None ≡ Some i = sym none ∙ foreign in
+            absurd (let z : ⊥ = cc in z)
+        unnamed-home (Some name) e a =
+            let own : def.owner ≡ home = named-stays r v home n def is a.own (ap is_some e) in
+            let wrong : None ≡ Some i = ap (foreign_owner None) (sym own) ∙ foreign in
+            absurd (let z : ⊥ = cc in z)
+
+        same-interface : (j : InterfaceId) → owner.Interface j ≡ owner.Interface i → j ≡ i
+        same-interface j e = cc
+
+        go : Meets n → Contains scope.instances i.0
+        go (inl a) = unnamed-home def.name refl a
+        go (inr u) =
+            let use_ = u def is in
+            subst (λ (j : InterfaceId). Contains scope.instances j.0) (same-interface use_.interface (sym use_.owns ∙ owned def.owner foreign)) use_.stands
+
+  -- ---- items
+
+  -- the entries are in range
+  entries-range : (entries_in_range r w.imports.entries && entries_in_range r w.exports.entries) ≡ true
+  unfolding numbers_in_range
+  entries-range = second_true (passes (in_list r.packages.items) (package_number w.package)) _ (second_true (is_place id.0) _ (world_passes numbers_in_range r v.rules.numbers_in_range id.0 w there))
+
+  entries-stand : (list_all (λ e. import_stands r id.0 e.0 e.1) w.imports.entries && list_all (λ e. export_stands r e.0 e.1) w.exports.entries) ≡ true
+  unfolding world_items
+  entries-stand = world_passes world_items r v.rules.world_items id.0 w there
+
+  -- a type that is an item is one of the world
+  own-type : (k : ℕ) (id' : TypeId) → slice_get items k ≡ Some (item.Type_ id') → IsTypeOf r home id'
+  own-type k id' at = elim (Contains-append_cases (values w.imports) (values w.exports) (item.Type_ id') (get-contains items k (item.Type_ id') at)) [
+    | inl c ↦ (let e = contains-mapped (λ (e : WorldKey × WorldItem). e.1) w.imports.entries (item.Type_ id') c in
+        let stands = all-contained (λ e. import_stands r id.0 e.0 e.1) w.imports.entries e.0 (first_true (list_all (λ e. import_stands r id.0 e.0 e.1) w.imports.entries) _ entries-stand) e.1 in
+        let range = second_true (key_in_range r e.0.0) _ (all-contained (λ e. key_in_range r e.0 && item_in_range r e.1) w.imports.entries e.0 (first_true (entries_in_range r w.imports.entries) _ entries-range) e.1) in
+        imported e.0.0 (subst (λ (i : WorldItem). import_stands r id.0 e.0.0 i ≡ true) e.2 stands) (subst (λ (i : WorldItem). item_in_range r i ≡ true) e.2 range))
+    | inr c ↦ (let e = contains-mapped (λ (e : WorldKey × WorldItem). e.1) w.exports.entries (item.Type_ id') c in
+        let stands = all-contained (λ e. export_stands r e.0 e.1) w.exports.entries e.0 (second_true (list_all (λ e. import_stands r id.0 e.0 e.1) w.imports.entries) _ entries-stand) e.1 in
+        exported e.0.0 (subst (λ (i : WorldItem). export_stands r e.0.0 i ≡ true) e.2 stands))
+  ]
+    where
+      exported : (k : WorldKey) → export_stands r k (item.Type_ id') ≡ true → IsTypeOf r home id'
+      exported (key.Name name) h = absurd (let z : ⊥ = cc in z)
+      exported (key.Interface i) h = absurd (let z : ⊥ = cc in z)
+
+      has-text : (o : Option (String Global)) (t : Text) → text_is o t ≡ true → is_some o ≡ true
+      has-text None t h = absurd (let z : ⊥ = cc in z)
+      has-text (Some x) t h = refl
+
+      imported : (k : WorldKey) → import_stands r id.0 k (item.Type_ id') ≡ true → item_in_range r (item.Type_ id') ≡ true → IsTypeOf r home id'
+      imported (key.Interface i) h range = absurd (let z : ⊥ = cc in z)
+      imported (key.Name name) h range =
+          let found = found-in r.types.items id'.0 range in
+          let test : (text_is found.0.name (text_of name) && same_owner found.0.owner home) ≡ true = subst (λ (o : Option TypeDef). passes (λ def. text_is def.name (text_of name) && same_owner def.owner home) o ≡ true) found.1 h in
+          record {
+            def = found.0;
+            there = found.1;
+            named_ = has-text found.0.name (text_of name) (first_true (text_is found.0.name (text_of name)) _ test);
+            owned = same-owner found.0.owner home (second_true (text_is found.0.name (text_of name)) _ test);
+          }
+
+  -- a function that is an item is one of the world
+  pub function-there : (f : Function) (k : ℕ) → slice_get items k ≡ Some (item.Function f) → Contains (functions_of r home) f
+  function-there f k at = subst (λ (o : Option World). Contains (option_map_or functions_of_world o []) f) (sym there)
+      (contains-filter_map item_function items (item.Function f) f (get-contains items k (item.Function f) at) (contains-one f))
+
+  function-stays : (f : Function) (k : ℕ) → slice_get items k ≡ Some (item.Function f) → AllStay r v home (function_types f)
+  function-stays f k at = types-stay r v home f (function-there f k at)
+
+  -- the named types that it meets stand before it
+  pub function-listed : (f : Function) (k : ℕ) → slice_get items k ≡ Some (item.Function f) → (id' : TypeId) → Contains (function_types f) (ty.Id id') → (x : ℕ) → Contains (met_by (met_of r) id'.0) x → Contains (types_before k) x
+  function-listed f k at id' c x d =
+      types-ready k (item.Function f) at x (contains-filter (has_owner r home) (used_by_function r f) x (all-contained (has_owner r home) (met_by (met_of r) id'.0) x (function-stays f k at id' c) d)
+      (contains-flat (met_by (met_of r)) (function_numbers f) id'.0 x (function-refers r v f id' c) d))
+
+  module _ (k : ℕ) (scope : Scope) (s : IsScopeOf r home scope) (stand : StandBefore r w k scope.instances) where
+    type-stands : (id' : TypeId) → slice_get items k ≡ Some (item.Type_ id') → InstancesStand r scope (ty.Id id' ∷ [])
+    type-stands id' at = met-stand scope k stand s (ty.Id id' ∷ []) (λ id'' c. record {
+      own = type-stays r v home id' (own-type k id' at) id'' c;
+      listed = λ x d. subst (λ (n : ℕ). Contains (types_before (suc k)) n) (alone id'' (one-contained (ty.Id id') (ty.Id id'') c) x d) itself-before;
+    })
+      where
+        own : IsTypeOf r home id'
+        own = own-type k id' at
+
+        itself-before : Contains (types_before (suc k)) id'.0
+        itself-before = contains-filter_map item_type (take (suc k) items) (item.Type_ id') id'.0 (get-contains (take (suc k) items) k (item.Type_ id') (at-taken items (suc k) k (item.Type_ id') at (omega arith))) (contains-one id'.0)
+
+        met-alone : (name : Option (String Global)) → own.def.name ≡ name → (x : ℕ) → Contains (met_by (met_of r) id'.0) x → id'.0 ≡ x
+        met-alone None e x d = absurd (let wrong : false ≡ true = sym (ap is_some e) ∙ own.named_ in let z : ⊥ = cc in z)
+        met-alone (Some name) e x d = one-contained id'.0 x (subst (λ (ns : List ℕ). Contains ns x) (met_step r (valid-references r v) id'.0 own.def own.there ∙ ap (λ o. option_map_or (λ x. id'.0 ∷ []) o (used_by_type r own.def)) e) d)
+
+        alone : (id'' : TypeId) → ty.Id id' ≡ ty.Id id'' → (x : ℕ) → Contains (met_by (met_of r) id''.0) x → id'.0 ≡ x
+        alone id'' e x d =
+            let same : id'' ≡ id' = cc in
+            met-alone own.def.name refl x (subst (λ (y : TypeId). Contains (met_by (met_of r) y.0) x) same d)
+
+    function-stands : (f : Function) → slice_get items k ≡ Some (item.Function f) → InstancesStand r scope (function_types f)
+    function-stands f at = met-stand scope k stand s (function_types f) (λ id' c. record {
+      own = function-stays f k at id' c;
+      listed = λ x d. given-later item_type items k (suc k) x (omega arith) (function-listed f k at id' c x d);
+    })
+
+pub items_meet_standing : ItemsMeetStanding
+items_meet_standing r id w k i scope v there at s stand = by i at
+  where
+    by : (i : WorldItem) → slice_get (items_of w) k ≡ Some i → InstancesStand r scope (item_types i)
+    by (item.Interface n stability docs external_id) at m def j met is f = none-in met.0 met.1
+    by (item.Type_ id') at m def j met is f = type-stands r v id w there k scope s stand id' at m def j met is f
+    by (item.Function f') at m def j met is f = function-stands r v id w there k scope s stand f' at m def j met is f

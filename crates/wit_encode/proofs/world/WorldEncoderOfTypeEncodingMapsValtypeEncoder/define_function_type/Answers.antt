@@ -1,0 +1,32 @@
+use Rattle.std.proofs.Common.{◌≡◌, refl, None}
+use Rattle.wit_encode_types.specs.Known.{outer_slots}
+use Rattle.wit_encode_types.specs.Standing.{SlotsStand}
+use Rattle.wit_encode.specs.Worlds.{world_around, world_definitions, world_encoder_view, world_view}
+use Rattle.wit_encode.proofs.WorldScope.{WorldCalls}
+use Rattle.wit_encode_types.specs.Counts.{one_function_more}
+use Rattle.wit_encode_types.specs.Slots.{DefinesFunction}
+use Rattle.wit_encode.proofs.Refusing.{function-outside}
+use Rattle.wit_encode.proofs.WorldCalls.{after_declaring, defines-function}
+use Rattle.wit_encode.proofs.world.WorldEncoderOfTypeEncodingMapsValtypeEncoder.define_function_type.Goals as goal
+use Rattle.wit_encode.proofs.world.WorldEncoderOfTypeEncodingMapsValtypeEncoder.define_function_type.Goals.{After-define_function_outside}
+
+calls : (c : After-define_function_outside) → WorldCalls c.define_function_outside.result (world_encoder_view c.args.self.now)
+    (world_view c.args.self.now.resolve.now c.args.self.now.world c.args.self.now.instances (after_declaring (world_around c.args.self.now) c.define_function_outside.new.outer) c.args.self.now.maps)
+    (DefinesFunction (SlotsStand (outer_slots c.args.self.now.outer)) c.args.def) (world_definitions c.define_function_outside.new.outer ≡ one_function_more (world_definitions c.args.self.now.outer))
+calls c = defines-function c.define_function_outside.result c.args.self.now.resolve.now c.args.self.now.world c.args.self.now.instances (world_around c.args.self.now) c.define_function_outside.new.outer c.args.self.now.maps
+    c.requires.2.sound c.args.def c.requires.0 c.requires.1 c.requires.2 c.define_function_outside.ensures.ok c.define_function_outside.ensures.err
+
+pub returns-clause-ok : goal.returns-clause-ok
+returns-clause-ok c = (calls (goal.at.returns-clause-ok c).After-define_function_outside).ok
+
+pub returns-clause-grows : goal.returns-clause-grows
+returns-clause-grows c = (calls (goal.at.returns-clause-grows c).After-define_function_outside).grows
+
+pub returns-clause-scope_stays : goal.returns-clause-scope_stays
+returns-clause-scope_stays c = (calls (goal.at.returns-clause-scope_stays c).After-define_function_outside).scope_stays
+
+pub returns-clause-counts : goal.returns-clause-counts
+returns-clause-counts c = (calls (goal.at.returns-clause-counts c).After-define_function_outside).counted
+
+pub returns-clause-size : goal.returns-clause-size
+returns-clause-size c = λ h s f. function-outside c.args.self.now.resolve.now c.define_function_outside.result h c.define_function_outside.new.outer None refl (SlotsStand (outer_slots c.args.self.now.outer)) c.args.def c.define_function_outside.ensures.size s f

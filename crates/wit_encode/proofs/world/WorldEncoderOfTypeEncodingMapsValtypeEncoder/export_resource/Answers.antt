@@ -1,0 +1,33 @@
+use Rattle.std.proofs.Common.{◌≡◌}
+use Rattle.wit_model.specs.Tree.{here, named}
+use Rattle.comp_bytes.specs.RawOf.{raw_name}
+use Rattle.comp_bytes.specs.declared.forms.ComponentTypeRef.TheVariants as refs
+use Rattle.wit_encode_types.specs.Counts.{ExportsOne}
+use Rattle.wit_encode_types.specs.Slots.{tree}
+use Rattle.wit_encode.specs.Worlds.{world_around, world_definitions, world_encoder_view, world_scope, world_view}
+use Rattle.wit_encode.proofs.Refusing.{name-outside}
+use Rattle.wit_encode.proofs.WorldCalls.{after_declaring, imports-resource}
+use Rattle.wit_encode.proofs.WorldScope.{WorldCalls}
+use Rattle.wit_encode.proofs.world.WorldEncoderOfTypeEncodingMapsValtypeEncoder.export_resource.Goals as goal
+use Rattle.wit_encode.proofs.world.WorldEncoderOfTypeEncodingMapsValtypeEncoder.export_resource.Goals.{After-import_type_outside}
+
+calls : (c : After-import_type_outside) → WorldCalls c.import_type_outside.result (world_encoder_view c.args.self.now)
+    (world_view c.args.self.now.resolve.now c.args.self.now.world c.args.self.now.instances (after_declaring (world_around c.args.self.now) c.import_type_outside.new.outer) c.args.self.now.maps) (λ m. m ≡ tree (named here (raw_name c.args.name).text))
+    (ExportsOne (world_scope c.args.self.now.resolve.now c.args.self.now.world c.args.self.now.instances (world_around c.args.self.now)) (world_definitions c.args.self.now.outer) (world_definitions c.import_type_outside.new.outer) (raw_name c.args.name))
+calls c = imports-resource c.import_type_outside.result c.args.self.now.resolve.now c.args.self.now.world c.args.self.now.instances (world_around c.args.self.now) c.import_type_outside.new.outer c.args.self.now.maps
+    c.requires.declared.sound (raw_name c.args.name) c.requires c.import_type_outside.ensures.ok c.import_type_outside.ensures.err
+
+pub returns-clause-ok : goal.returns-clause-ok
+returns-clause-ok c = (calls (goal.at.returns-clause-ok c).After-import_type_outside).ok
+
+pub returns-clause-grows : goal.returns-clause-grows
+returns-clause-grows c = (calls (goal.at.returns-clause-grows c).After-import_type_outside).grows
+
+pub returns-clause-scope_stays : goal.returns-clause-scope_stays
+returns-clause-scope_stays c = (calls (goal.at.returns-clause-scope_stays c).After-import_type_outside).scope_stays
+
+pub returns-clause-counts : goal.returns-clause-counts
+returns-clause-counts c = (calls (goal.at.returns-clause-counts c).After-import_type_outside).counted
+
+pub returns-clause-size : goal.returns-clause-size
+returns-clause-size c = λ h. name-outside c.args.self.now.resolve.now c.import_type_outside.new.outer (raw_name c.args.name) refs.SubResource (c.import_type_outside.ensures.size h)

@@ -1,0 +1,41 @@
+use Rattle.std.proofs.Common.{◌≡◌, ℕ, Result, Ok, Err, IfOk, OnErr, rules}
+use Rattle.comp_bytes.specs.Raw.{Declaration}
+use Rattle.comp_bytes.specs.Held.{type_slots_of}
+use Rattle.wit_model.specs.Tree.{here, named}
+use Rattle.wit_model.specs.declared.error.Error.{Error}
+use Rattle.wit_model.specs.declared.error.Error.TheVariants as errors
+use Rattle.comp_bytes.specs.RawOf.{raw_name}
+use Rattle.comp_bytes.specs.declared.forms.ComponentTypeRef.TheVariants as refs
+use Rattle.wit_encode_types.specs.Counts.{ExportsOne}
+use Rattle.wit_encode_types.specs.Slots.{tree}
+use Rattle.wit_encode.specs.Encoders.{declared_after}
+use Rattle.wit_encode.specs.Worlds.{world_around, world_definitions, world_encoder_view, world_scope, world_view}
+use Rattle.wit_encode.proofs.Refusing.{name-outside}
+use Rattle.wit_encode.proofs.WorldCalls.{after_declaring, imports-type}
+use Rattle.wit_encode.proofs.WorldScope.{WorldCalls}
+use Rattle.wit_encode.proofs.world.WorldEncoderOfTypeEncodingMapsValtypeEncoder.export_type.Goals as goal
+use Rattle.wit_encode.proofs.world.WorldEncoderOfTypeEncodingMapsValtypeEncoder.export_type.Goals.{After-import_type_outside}
+
+calls : (c : After-import_type_outside) (res : Result ℕ Error) → IfOk res (λ k. (k ≡ type_slots_of c.args.self.now.outer) × (c.import_type_outside.new.outer ≡ declared_after c.args.self.now.outer (Declaration.imported (raw_name c.args.name) (refs.TypeEq c.args.index))))
+    → OnErr res (c.import_type_outside.new.outer ≡ c.args.self.now.outer) → WorldCalls res (world_encoder_view c.args.self.now)
+    (world_view c.args.self.now.resolve.now c.args.self.now.world c.args.self.now.instances (after_declaring (world_around c.args.self.now) c.import_type_outside.new.outer) c.args.self.now.maps) (λ m. m ≡ tree (named here (raw_name c.args.name).text))
+    (ExportsOne (world_scope c.args.self.now.resolve.now c.args.self.now.world c.args.self.now.instances (world_around c.args.self.now)) (world_definitions c.args.self.now.outer) (world_definitions c.import_type_outside.new.outer) (raw_name c.args.name))
+calls c res ok err = imports-type res c.args.self.now.resolve.now c.args.self.now.world c.args.self.now.instances (world_around c.args.self.now) c.import_type_outside.new.outer c.args.self.now.maps
+    c.requires.declared.sound c.args.index (raw_name c.args.name) c.requires ok err
+
+pub returns-clause-ok : goal.returns-clause-ok
+returns-clause-ok c = (calls (goal.at.returns-clause-ok c).After-import_type_outside (Ok c.in_ok-slot.slot) c.in_ok-slot.ensures.ok tt).ok
+
+pub returns-clause-grows : goal.returns-clause-grows
+returns-clause-grows c = (calls (goal.at.returns-clause-grows c).After-import_type_outside (Ok c.in_ok-slot.slot) c.in_ok-slot.ensures.ok tt).grows
+
+pub returns-clause-scope_stays : goal.returns-clause-scope_stays
+returns-clause-scope_stays c = (calls (goal.at.returns-clause-scope_stays c).After-import_type_outside (Ok c.in_ok-slot.slot) c.in_ok-slot.ensures.ok tt).scope_stays
+
+pub returns-clause-counts : goal.returns-clause-counts
+returns-clause-counts c = (calls (goal.at.returns-clause-counts c).After-import_type_outside (Ok c.in_ok-slot.slot) c.in_ok-slot.ensures.ok tt).counted
+
+pub returns-in_err-slot-clause-size : goal.returns-in_err-slot-clause-size
+returns-in_err-slot-clause-size c = λ h.
+    let refused : ◌≡◌ {A = Result ℕ Error} c.import_type_outside.result (Err errors.Size) = search rules in
+    name-outside c.args.self.now.resolve.now c.import_type_outside.new.outer (raw_name c.args.name) (refs.TypeEq c.args.index) (c.import_type_outside.ensures.size refused)

@@ -1,0 +1,43 @@
+use Rattle.std.proofs.Common.{◌≡◌, ℕ, Result, Ok, Err, IfOk, OnOk}
+use Rattle.std.proofs.lemmas.Option.{slice_get_within}
+use Rattle.wit_encode.specs.Instance.{around_at}
+use Rattle.wit_encode.specs.Worlds.{world_around, world_encoder_view, world_view}
+use Rattle.wit_encode.proofs.Refusing.{alias-behind}
+use Rattle.wit_encode.proofs.WorldCalls.{WorldImports, reached-held, world-imports, world-source}
+use Rattle.wit_encode.proofs.world.WorldEncoderOfTypeEncodingMapsValtypeEncoder.import_type.Goals as goal
+use Rattle.wit_encode.proofs.world.WorldEncoderOfTypeEncodingMapsValtypeEncoder.import_type.Goals.{After-reach}
+
+imports : (c : After-reach) → WorldImports c.args.self.now.resolve.now (world_encoder_view c.args.self.now) (world_view c.args.self.now.resolve.now c.args.self.now.world c.args.self.now.instances (around_at c.reach.new.outer c.reach.new.foreign) c.args.self.now.maps) c.args.id.0 c.reach.new.foreign.known.entries
+imports c = world-imports c.args.self.now.resolve.now c.args.self.now.world c.args.self.now.instances (world_around c.args.self.now) c.args.self.now.maps c.args.interface.0 c.args.id c.requires (around_at c.reach.new.outer c.reach.new.foreign) c.reach.ensures.reaches
+
+on-ok : {E P : Type 0} (res : Result ℕ E) → P → OnOk res P
+on-ok (Ok k) p = p
+on-ok (Err e) p = tt
+
+each-ok : {E : Type 0} {P Q : ℕ → Type 0} (res : Result ℕ E) → ((k : ℕ) → P k → Q k) → IfOk res P → IfOk res Q
+each-ok (Ok k) f h = f k h
+each-ok (Err e) f h = h
+
+pub reach-requires-clause-source : goal.reach-requires-clause-source
+reach-requires-clause-source c = world-source c.args.self.now.resolve.now c.args.self.now.world c.args.self.now.instances (world_around c.args.self.now) c.args.self.now.maps c.args.interface.0 c.args.id c.requires
+
+pub reach-requires-clause-in_range : goal.reach-requires-clause-in_range
+reach-requires-clause-in_range c = slice_get_within c.args.self.now.resolve.now.types.items c.args.id.0 c.requires.def c.requires.there
+
+pub returns-clause-ok : goal.returns-clause-ok
+returns-clause-ok c = each-ok c.reach.result (imports (goal.at.returns-clause-ok c).After-reach).stands c.reach.ensures.slot
+
+pub returns-clause-grows : goal.returns-clause-grows
+returns-clause-grows c = (imports (goal.at.returns-clause-grows c).After-reach).grows
+
+pub returns-clause-scope_stays : goal.returns-clause-scope_stays
+returns-clause-scope_stays c = (imports (goal.at.returns-clause-scope_stays c).After-reach).scope_stays
+
+pub returns-clause-counts : goal.returns-clause-counts
+returns-clause-counts c = on-ok c.reach.result (imports (goal.at.returns-clause-counts c).After-reach).counted
+
+pub returns-clause-held : goal.returns-clause-held
+returns-clause-held c = reached-held c.reach.ensures.reaches
+
+pub returns-clause-size : goal.returns-clause-size
+returns-clause-size c = λ h. alias-behind c.args.self.now.resolve.now c.reach.new.outer c.args.id.0 (c.reach.ensures.size h)

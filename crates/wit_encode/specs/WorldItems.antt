@@ -1,0 +1,78 @@
+-- What an encoder of a world has encoded: imports and exports of the world, in order, each seen as such when every index is followed.
+use Rattle.std.specs.Prelude.{ℕ, ◌≡◌, ◌⊎◌, true, List, [], ◌∷◌, ◌++◌, length, filter_map, is_some, Some, None}
+use Rattle.std.specs.List.{Contains}
+use Rattle.wit_model.specs.Lookup.{interface_path, world_at}
+use Rattle.wit_model.specs.Rules.{item_type}
+use Rattle.wit_model.specs.declared.model.Resolve.{Resolve}
+use Rattle.wit_model.specs.declared.model.World.{World}
+use Rattle.comp_meaning.specs.Follow as follow
+use Rattle.comp_meaning.specs.Follow.{Direction, import_, export_}
+use Rattle.wit_encode_types.specs.Counts.{own_name}
+use Rattle.wit_encode_types.specs.Known.{outer_scope, standing_instances}
+use Rattle.wit_encode_types.specs.Maps.{IsKnown}
+use Rattle.wit_encode_types.specs.View.{Agrees}
+use Rattle.world_names.specs.WorldSteps.{Entry, Entries, IsTurnOf, ShowsEntries, interfaces_among, with_entry}
+use Rattle.wit_encode.specs.declared.world.Direction.{Direction as RustDirection}
+use Rattle.wit_encode.specs.declared.world.Direction.TheVariants as directions
+use Rattle.wit_encode.specs.declared.world.Placed.{Placed}
+use Rattle.wit_encode.specs.Worlds.{WorldEncoder, is_sound_outside, world_around, world_view_of}
+
+-- the numbers of the types among entries, in order
+abbrev pub types_among : List Entry → List ℕ
+types_among es = filter_map (λ e. item_type e.1) es
+
+abbrev pub all_done : Entries → List Entry
+all_done done = done.0 ++ done.1
+
+-- What holds between two items: these imports and exports of the world are shown. Instances of the interfaces among them stand, each named
+-- one for its number, and no other has been counted. The types of the world that are known are those that have been imported.
+pub record HasShown (r : Resolve) (w : World) (e : WorldEncoder) (done : Entries) : Type 0 where
+  pub packages_ : e.resolve.now ≡ r
+  pub world_ : world_at r e.world.0 ≡ Some w
+  pub scope : follow.Scope
+  pub followed : outer_scope e.outer ≡ Some scope
+  pub shows : ShowsEntries r done scope
+  pub agree : Agrees r (world_view_of r e)
+  pub sound : is_sound_outside r e.world (world_around e) ≡ true
+  pub stand : (i : ℕ) → Contains (interfaces_among (all_done done)) i → is_some (interface_path r i) ≡ true → Contains (standing_instances r (world_around e)) i
+  pub count : e.instances ≡ length (interfaces_among (all_done done))
+  pub known : (n : ℕ) → Contains (types_among (all_done done)) n → IsKnown e.maps n
+  pub alone : (n : ℕ) → IsKnown e.maps n → (own_name r (world_view_of r e).scope n ≡ None) ⊎ Contains (types_among (all_done done)) n
+
+abbrev pub towards : RustDirection → Direction
+towards directions.Import = import_
+towards directions.Export = export_
+
+-- imports, or exports, of a world, and those among what has been done
+abbrev pub entries_of : Direction → World → List Entry
+entries_of import_ w = w.imports.entries
+entries_of export_ w = w.exports.entries
+
+abbrev pub done_towards : Direction → Entries → List Entry
+done_towards import_ done = done.0
+done_towards export_ done = done.1
+
+-- before the exports all imports have been encoded, and before the imports no export
+abbrev pub IsBegun : Direction → World → Entries → Type 0
+IsBegun import_ w done = done.1 ≡ []
+IsBegun export_ w done = done.0 ≡ w.imports.entries
+
+-- The entry stands in the world's list right behind those that have been encoded.
+pub record IsNext (r : Resolve) (w : World) (direction : Direction) (done : Entries) (e : Entry) : Type 0 where
+  pub rest : List Entry
+  pub next : entries_of direction w ≡ done_towards direction done ++ e ∷ rest
+  pub begun : IsBegun direction w done
+
+abbrev pub entry_of : Placed → Entry
+entry_of x = (x.key.now, x.item.now)
+
+-- Some imports and exports of the world have been encoded, and the entry is next.
+pub record AwaitsNext (r : Resolve) (e : WorldEncoder) (x : Placed) : Type 0 where
+  pub world : World
+  pub done : Entries
+  pub shown : HasShown r world e done
+  pub next : IsNext r world (towards x.direction) done (entry_of x)
+
+-- Behind whatever had been encoded, the entry has been encoded.
+abbrev pub Encodes : Resolve → WorldEncoder → WorldEncoder → Placed → Type 0
+Encodes r e e' x = (w : World) (done : Entries) → HasShown r w e done → IsNext r w (towards x.direction) done (entry_of x) → HasShown r w e' (with_entry (towards x.direction) done (entry_of x))

@@ -1,0 +1,115 @@
+-- What an encoder of a world holds: a component type, in whose scope the types of the world are imported.
+use Rattle.std.specs.Prelude.{ℕ, Bool, ◌&&◌, if◌then◌else◌, List, [], Option, Some, None, length, filter_map, is_some}
+use Rattle.std.specs.Option.{option_map_or}
+use Rattle.std.specs.List.{list_all}
+use Rattle.wit_model.specs.Text.{Text}
+use Rattle.wit_model.specs.Tree.{Declaration}
+use Rattle.wit_model.specs.Meaning.{TypeMeaning}
+use Rattle.wit_model.specs.declared.model.Resolve.{Resolve}
+use Rattle.wit_model.specs.declared.model.WorldId.{WorldId}
+use Rattle.wit_model.specs.declared.model.TypeOwner.TheVariants as owner
+use Rattle.comp_bytes.specs.Raw.{Declarations, declaration_count}
+use Rattle.comp_meaning.specs.Follow.{Seen, Shown, instance_types}
+use Rattle.wit_encode_types.specs.declared.maps.TypeEncodingMaps.{TypeEncodingMaps}
+use Rattle.wit_encode_types.specs.Counts.{Definitions}
+use Rattle.wit_encode_types.specs.Distinct.{is_value_type, is_function_type}
+use Rattle.wit_encode_types.specs.Known.{Around, no_around, are_right, outer_instances, outer_scope, outer_slots, standing_instances}
+use Rattle.wit_encode_types.specs.Resources.{Names, resource_names, is_met_owner}
+use Rattle.wit_encode_types.specs.Room.{LacksRoomBehind}
+use Rattle.wit_encode_types.specs.Scope.{Others, Scope}
+use Rattle.wit_encode_types.specs.Standing.{SlotsStand, is_slot_of}
+use Rattle.wit_encode_types.specs.Table.{table_scope}
+use Rattle.wit_encode_types.specs.View.{View}
+use Rattle.world_names.specs.Rebuilt.{others_seen}
+use Rattle.wit_encode.specs.Instance.{around_at, count_declared}
+use Rattle.wit_encode.specs.declared.world.WorldEncoderOf.{WorldEncoderOf}
+
+abbrev pub WorldEncoder : Type 0
+WorldEncoder = WorldEncoderOf TypeEncodingMaps
+
+-- ---- what has been imported and exported
+
+abbrev pub seen_imports : Declarations → List Seen
+seen_imports outer = option_map_or (λ s. s.imports) (outer_scope outer) []
+
+abbrev pub seen_exports : Declarations → List Seen
+seen_exports outer = option_map_or (λ s. s.exports) (outer_scope outer) []
+
+-- the instance types that have been used
+abbrev pub used_types : Declarations → List ℕ
+used_types outer = option_map_or (λ s. s.used) (outer_scope outer) []
+
+-- the declaration of a type, if that is what is imported
+abbrev pub declaration_shown : Shown → Option Declaration
+declaration_shown (Shown.instance key view) = None
+declaration_shown (Shown.function f) = None
+declaration_shown (Shown.declares d) = Some d
+
+abbrev pub declared_type : Seen → Option (Text × TypeMeaning)
+declared_type seen = option_map_or (λ d. Some (seen.key, record { declaration = d; external_id = seen.external_id })) (declaration_shown seen.shown) None
+
+-- ---- the scope of the component type
+
+-- which names stand for resources there
+abbrev pub world_resources : Resolve → WorldId → Names
+world_resources r w = resource_names r (is_met_owner r (owner.World w))
+
+-- whether what has been declared can be followed, with each resource in a slot of its own kind, and what is listed of aliases is right
+abbrev pub is_sound_outside : Resolve → WorldId → Around → Bool
+is_sound_outside r w component =
+    is_some (outer_scope component.declared) && (list_all (is_slot_of (world_resources r w)) (outer_slots component.declared)
+    && are_right r component.known (outer_slots component.declared))
+
+-- what else a component type with so many instances holds, which no call of the generic functions changes: what has been imported beside
+-- types, what has been exported, the instances, and the instance types with those that have been used
+abbrev pub others_of : WorldId → ℕ → Around → Others
+others_of w count component = record {
+  world = Some w.0;
+  listed = component.instances;
+  instance_count = count;
+  imports = others_seen 0 (seen_imports component.declared);
+  exports = seen_exports component.declared;
+  instances = outer_instances component.declared;
+  instance_types = instance_types (outer_slots component.declared);
+  used = used_types component.declared;
+}
+
+-- the surroundings: instances stand where what has been declared can be followed
+abbrev pub world_scope : Resolve → WorldId → ℕ → Around → Scope
+world_scope r w count component = record (table_scope r (owner.World w)) {
+  instances = if is_sound_outside r w component then standing_instances r component else [];
+  is_sound = is_sound_outside r w component;
+  others = others_of w count component;
+}
+
+abbrev pub world_definitions : Declarations → Definitions
+world_definitions outer = record {
+  types = count_declared is_value_type outer;
+  functions = count_declared is_function_type outer;
+  exports = filter_map declared_type (seen_imports outer);
+}
+
+-- a component type with so many instances, and the maps of its scope
+abbrev pub world_view : Resolve → WorldId → ℕ → Around → TypeEncodingMaps → View
+world_view r w count component maps = record {
+  scope = world_scope r w count component;
+  around = no_around;
+  slot_count = length (outer_slots component.declared);
+  stands = SlotsStand (outer_slots component.declared);
+  definitions = world_definitions component.declared;
+  maps = maps;
+  held = declaration_count component.declared;
+  lacks_room = LacksRoomBehind r (declaration_count component.declared);
+}
+
+-- the component type, and what is listed of it
+abbrev pub world_around : WorldEncoder → Around
+world_around e = around_at e.outer e.foreign
+
+-- what an encoder of a world holds, read in these packages
+abbrev pub world_view_of : Resolve → WorldEncoder → View
+world_view_of r e = world_view r e.world e.instances (world_around e) e.maps
+
+-- in its own
+abbrev pub world_encoder_view : WorldEncoder → View
+world_encoder_view e = world_view_of e.resolve.now e
