@@ -23,7 +23,6 @@ pub mod Drafts
 pub mod OneLine
 pub mod DocLines
 pub mod Runs
-pub mod Printables
 pub mod WellLists
 pub mod TokensUnique
 pub mod TypeUnique
@@ -44,6 +43,8 @@ pub mod ValidUses
 pub mod ValidInterfaces
 pub mod ValidWorlds
 pub mod ValidFiles
+pub mod Functions
+pub mod PathParts
 pub mod UndocumentedCalls
 pub mod AlikeTypes
 pub mod AlikeFiles

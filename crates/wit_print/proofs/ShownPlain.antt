@@ -1,9 +1,11 @@
--- What is shown of plain worlds and packages, and its calls.
-use Rattle.std.proofs.Common.{◌≡◌, refl, sym, ap, subst, ◌∙◌, ℕ, Bool, true, false, ◌&&◌, List, [], ◌∷◌, ◌++◌, append-nil, append_assoc, Option, Some, None, map, filter, T, eqb→eq, slice_get, get_or, zero, suc}
-use Rattle.std.specs.Prelude.{codes, String, option_map}
+-- What is shown of worlds and packages without types, and its calls.
+use Rattle.std.proofs.Common.{◌≡◌, cond, refl, sym, ap, subst, ◌∙◌, ℕ, Bool, true, false, ◌&&◌, not, List, [], ◌∷◌, ◌++◌, append-nil, append_assoc, Option, Some, None, map, filter, T, eqb→eq, slice_get, get_or, zero, suc}
+use Rattle.std.specs.Prelude.{codes, String, option_map, if◌then◌else◌}
 use Rattle.std.specs.List.{list_all, flat_map, filter_map, cons_option}
 use Rattle.std.specs.Option.{option_map_or}
 use Rattle.std.specs.declared.alloc.Global.{Global}
+use Rattle.std.proofs.lemmas.Grind.{flat_map-append}
+use Rattle.wit_model.specs.declared.model.TypeOwner.TheVariants as owner
 use Rattle.wit_model.specs.declared.model.Resolve.{Resolve}
 use Rattle.wit_model.specs.declared.model.Package.{Package}
 use Rattle.wit_model.specs.declared.model.Interface.{Interface}
@@ -18,60 +20,35 @@ use Rattle.wit_model.specs.declared.model.WorldItem.TheVariants as item
 use Rattle.wit_model.specs.Text.{Text, text_of}
 use Rattle.wit_model.specs.Names.{is_label}
 use Rattle.wit_model.specs.Lookup.{package_at, world_at, interface_at}
-use Rattle.wit_model.specs.Rules.{has_items, is_id, package_number}
+use Rattle.wit_model.specs.Rules.{has_items, is_id, item_in_range, key_in_range, package_number}
 use Rattle.wit_model.proofs.Lists.{first_true, second_true}
 use Rattle.wit_print.specs.OutputCall.{OutputCall}
 use Rattle.wit_print.specs.Tree.{ItemTree, WorldMember}
-use Rattle.wit_print.specs.Printable.{is_printable_entry, is_printable_world, IsPrintableWorld, entry_calls, line_between, world_body_calls, world_calls, is_printable_listed, listed_calls, plain_package_calls}
-use Rattle.wit_print.specs.Shown.{Entry, is_interface_item, is_freestanding_item, type_of_entry, shown_import, shown_export, shown_world, shown_world_in, shown_world_item, shown_interface_item, shown_docs, shown_gates, shown_head, shown_package, shown_package_of, shown_file}
+use Rattle.wit_print.specs.Printable.{is_printable_entry, is_printable_world, IsPrintableWorld, entry_calls, function_entry_calls, interface_entry_calls, line_between, world_body_calls, world_calls, is_printable_listed, listed_calls, listed_interface_calls, listed_package_calls, next_package_calls}
+use Rattle.wit_print.specs.Shown.{Entry, is_interface_item, is_freestanding_item, imported_functions, listed_imports, shown_import, shown_export, shown_interface, shown_world, shown_world_in, shown_world_item, shown_interface_item, shown_docs, shown_gates, shown_head, shown_package, shown_package_of}
 use Rattle.wit_print.specs.Keyword.{escaped}
-use Rattle.wit_print.specs.Calls.{space, world_members_calls, package_item_calls, block_calls, doc_calls, gates_calls, package_outer_calls, package_start_calls, package_end_calls, package_calls, file_calls}
+use Rattle.wit_print.specs.Calls.{space, world_members_calls, package_item_calls, block_calls, doc_calls, gates_calls, more_nested_calls, nested_calls, package_outer_calls, package_start_calls, package_end_calls, package_calls}
 use Rattle.wit_print.specs.declared.type_kind.TypeKind.TheVariants.{WorldDeclaration}
 use Rattle.wit_print.specs.WellNamed.{is_well_gates}
-use Rattle.wit_print.proofs.Printables.{printable_freestanding}
+use Rattle.wit_print.proofs.Functions.{no_declarations, no_uses}
 
--- ---- lists whose elements are alike
+-- ---- the calls for what a world without types has
 
-module _ {X : Type 0} (known : X → Bool) where
-  filter_none : (test : X → Bool) → ((x : X) → known x ≡ true → test x ≡ false) → (xs : List X) → list_all known xs ≡ true → filter test xs ≡ []
-  filter_none test fails [] h = refl
-  filter_none test fails (x ∷ xs) h = rw (fails x (first_true _ _ h)) (filter_none test fails xs (second_true (known x) _ h))
+-- whether a block has printed something after these, too
+shown_after : Bool → List Entry → Bool
+shown_after printed [] = printed
+shown_after printed (x ∷ xs) = true
 
-  filter_all : (test : X → Bool) → ((x : X) → known x ≡ true → test x ≡ true) → (xs : List X) → list_all known xs ≡ true → filter test xs ≡ xs
-  filter_all test holds [] h = refl
-  filter_all test holds (x ∷ xs) h = rw (holds x (first_true _ _ h)) (ap (λ ys. x ∷ ys) (filter_all test holds xs (second_true (known x) _ h)))
-
-  filter_map_none : {Y : Type 0} (give : X → Option Y) → ((x : X) → known x ≡ true → give x ≡ None) → (xs : List X) → list_all known xs ≡ true → filter_map give xs ≡ []
-  filter_map_none give fails [] h = refl
-  filter_map_none give fails (x ∷ xs) h = rw (fails x (first_true _ _ h)) (filter_map_none give fails xs (second_true (known x) _ h))
-
--- ---- what a plain world has
-
-no_interface : (r : Resolve) (k : WorldKey) (i : WorldItem) → is_printable_entry r (k, i) ≡ true → is_interface_item i ≡ false
-no_interface r k (item.Function f) h = refl
-no_interface r k (item.Type_ id) h = refl
-no_interface r (key.Name s) (item.Interface id gates docs external_id) h = absurd cc
-no_interface r (key.Interface n) (item.Interface id gates docs external_id) h = absurd cc
-
-no_type : (r : Resolve) (k : WorldKey) (i : WorldItem) → is_printable_entry r (k, i) ≡ true → type_of_entry k i ≡ None
-no_type r (key.Name s) (item.Function f) h = refl
-no_type r (key.Name s) (item.Interface id gates docs external_id) h = refl
-no_type r (key.Name s) (item.Type_ id) h = absurd cc
-no_type r (key.Interface n) i h = refl
-
-freestanding : (r : Resolve) (k : WorldKey) (i : WorldItem) → is_printable_entry r (k, i) ≡ true → is_freestanding_item i ≡ true
-freestanding r (key.Name s) (item.Function f) h = printable_freestanding r f h
-freestanding r (key.Name s) (item.Interface id gates docs external_id) h = absurd cc
-freestanding r (key.Name s) (item.Type_ id) h = absurd cc
-freestanding r (key.Interface n) i h = absurd cc
-
--- ---- the calls for what a plain world has
+after_true : (xs : List Entry) → shown_after true xs ≡ true
+after_true [] = refl
+after_true (x ∷ xs) = refl
 
 module _ (emits : Bool) (r : Resolve) (here : PackageId) where
-  more_imports : (xs : List Entry) (rest : List WorldMember) → world_members_calls emits true false (map (shown_import r here) xs ++ rest) ≡ flat_map (entry_calls emits r here (codes "import")) xs ++ world_members_calls emits true false rest
-  more_imports [] rest = refl
-  more_imports (x ∷ xs) rest =
-      ap (λ calls. entry_calls emits r here (codes "import") x ++ calls) (more_imports xs rest)
+  imports_calls : (printed : Bool) (xs : List Entry) (rest : List WorldMember)
+      → world_members_calls emits printed false (map (shown_import r here) xs ++ rest) ≡ flat_map (entry_calls emits r here (codes "import")) xs ++ world_members_calls emits (shown_after printed xs) false rest
+  imports_calls printed [] rest = refl
+  imports_calls printed (x ∷ xs) rest =
+      ap (λ calls. entry_calls emits r here (codes "import") x ++ calls) (imports_calls true xs rest ∙ ap (λ b. flat_map (entry_calls emits r here (codes "import")) xs ++ world_members_calls emits b false rest) (after_true xs))
       ∙ sym (append_assoc (entry_calls emits r here (codes "import") x) (flat_map (entry_calls emits r here (codes "import")) xs) (world_members_calls emits true false rest))
 
   more_exports : (ys : List Entry) → world_members_calls emits true true (map (shown_export r here) ys) ≡ flat_map (entry_calls emits r here (codes "export")) ys
@@ -84,21 +61,72 @@ module _ (emits : Bool) (r : Resolve) (here : PackageId) where
   exports_after true (y ∷ ys) = ap (λ calls. (OutputCall.Newline ∷ entry_calls emits r here (codes "export") y) ++ calls) (more_exports ys)
   exports_after false (y ∷ ys) = ap (λ calls. entry_calls emits r here (codes "export") y ++ calls) (more_exports ys)
 
-  body_calls_of : (xs ys : List Entry) → world_members_calls emits false false (map (shown_import r here) xs ++ map (shown_export r here) ys)
-      ≡ flat_map (entry_calls emits r here (codes "import")) xs ++ (line_between (has_items xs && has_items ys) ++ flat_map (entry_calls emits r here (codes "export")) ys)
-  body_calls_of [] ys = exports_after false ys
-  body_calls_of (x ∷ xs) ys =
-      ap (λ calls. entry_calls emits r here (codes "import") x ++ calls) (more_imports xs (map (shown_export r here) ys) ∙ ap (λ calls. flat_map (entry_calls emits r here (codes "import")) xs ++ calls) (exports_after true ys))
-      ∙ sym (append_assoc (entry_calls emits r here (codes "import") x) (flat_map (entry_calls emits r here (codes "import")) xs) (line_between (true && has_items ys) ++ flat_map (entry_calls emits r here (codes "export")) ys))
+  -- an import is an interface or a freestanding function
+  one_of_both : (k : WorldKey) (i : WorldItem) → is_printable_entry r here (k, i) ≡ true → is_freestanding_item i ≡ not (is_interface_item i)
+  one_of_both k (item.Interface id gates docs external_id) h = refl
+  one_of_both (key.Name s) (item.Function f) h = first_true _ _ (second_true (key_in_range r (key.Name s) && item_in_range r (item.Function f)) _ h)
+  one_of_both (key.Interface m) (item.Function f) h =
+      let wrong : false ≡ true = first_true false _ (second_true (key_in_range r (key.Interface m) && item_in_range r (item.Function f)) _ h) in absurd cc
+  one_of_both (key.Name s) (item.Type_ id) h =
+      let wrong : false ≡ true = first_true false _ (second_true (key_in_range r (key.Name s) && item_in_range r (item.Type_ id)) _ h) in absurd cc
+  one_of_both (key.Interface m) (item.Type_ id) h =
+      let wrong : false ≡ true = first_true false _ (second_true (key_in_range r (key.Interface m) && item_in_range r (item.Type_ id)) _ h) in absurd cc
 
--- a plain world is shown as its imports and its exports
-plain_members : (r : Resolve) (id : WorldId) (w : World) (here : PackageId) → list_all (is_printable_entry r) w.imports.entries ≡ true → shown_world_in r id w here ≡ map (shown_import r here) w.imports.entries ++ map (shown_export r here) w.exports.entries
-plain_members r id w here h =
-    rw (
-      filter_none (is_printable_entry r) (λ e. is_interface_item e.1) (λ e k. no_interface r e.0 e.1 k) w.imports.entries h,
-      filter_map_none (is_printable_entry r) (λ e. type_of_entry e.0 e.1) (λ e k. no_type r e.0 e.1 k) w.imports.entries h,
-      filter_all (is_printable_entry r) (λ e. is_freestanding_item e.1) (λ e k. freestanding r e.0 e.1 k) w.imports.entries h,
-    )
+  -- those that pass a test make the runs of all, where the others make none
+  kept_runs : (run : Entry → List OutputCall) (test : Entry → Bool) (xs : List Entry) → flat_map run (filter test xs) ≡ flat_map (λ e. if test e then run e else []) xs
+  kept_runs run test [] = refl
+  kept_runs run test (x ∷ xs) = go (test x)
+    where
+      go : (b : Bool) → flat_map run (cond b (x ∷ filter test xs) (filter test xs)) ≡ (if b then run x else []) ++ flat_map (λ e. if test e then run e else []) xs
+      go true = ap (λ calls. run x ++ calls) (kept_runs run test xs)
+      go false = kept_runs run test xs
+
+  other_runs : (xs : List Entry) → list_all (is_printable_entry r here) xs ≡ true → flat_map (entry_calls emits r here (codes "import")) (filter (λ e. is_freestanding_item e.1) xs) ≡ flat_map (function_entry_calls emits r here) xs
+  other_runs [] h = refl
+  other_runs (x ∷ xs) h = go (is_interface_item x.1) (is_freestanding_item x.1) (one_of_both x.0 x.1 (first_true _ _ h))
+    where
+      rest : flat_map (entry_calls emits r here (codes "import")) (filter (λ e. is_freestanding_item e.1) xs) ≡ flat_map (function_entry_calls emits r here) xs
+      rest = other_runs xs (second_true (is_printable_entry r here x) _ h)
+
+      go : (a b : Bool) → b ≡ not a → flat_map (entry_calls emits r here (codes "import")) (cond b (x ∷ filter (λ e. is_freestanding_item e.1) xs) (filter (λ e. is_freestanding_item e.1) xs)) ≡ (if a then [] else entry_calls emits r here (codes "import") x) ++ flat_map (function_entry_calls emits r here) xs
+      go true true e = absurd cc
+      go true false e = rest
+      go false true e = ap (λ calls. entry_calls emits r here (codes "import") x ++ calls) rest
+      go false false e = absurd cc
+
+  -- something is printed exactly where something is imported
+  printed_where : (xs : List Entry) → list_all (is_printable_entry r here) xs ≡ true → shown_after (shown_after false (filter (λ e. is_interface_item e.1) xs)) (filter (λ e. is_freestanding_item e.1) xs) ≡ has_items xs
+  printed_where [] h = refl
+  printed_where (x ∷ xs) h = go (is_interface_item x.1) (is_freestanding_item x.1) (one_of_both x.0 x.1 (first_true _ _ h))
+    where
+      go : (a b : Bool) → b ≡ not a → shown_after (shown_after false (cond a (x ∷ filter (λ e. is_interface_item e.1) xs) (filter (λ e. is_interface_item e.1) xs))) (cond b (x ∷ filter (λ e. is_freestanding_item e.1) xs) (filter (λ e. is_freestanding_item e.1) xs)) ≡ true
+      go true true e = absurd cc
+      go true false e = after_true (filter (λ e. is_freestanding_item e.1) xs)
+      go false true e = refl
+      go false false e = absurd cc
+
+  -- the calls for imported interfaces, other imports and exports
+  body_calls_of : (xs ys : List Entry) → list_all (is_printable_entry r here) xs ≡ true
+      → world_members_calls emits false false ((map (shown_import r here) (filter (λ e. is_interface_item e.1) xs) ++ map (shown_import r here) (filter (λ e. is_freestanding_item e.1) xs)) ++ map (shown_export r here) ys)
+      ≡ flat_map (interface_entry_calls emits r here) xs ++ (flat_map (function_entry_calls emits r here) xs ++ (line_between (has_items xs && has_items ys) ++ flat_map (entry_calls emits r here (codes "export")) ys))
+  body_calls_of xs ys h =
+      let run = entry_calls emits r here (codes "import") in
+      let interfaces = filter (λ e. is_interface_item e.1) xs in
+      let functions = filter (λ e. is_freestanding_item e.1) xs in
+      let exports = map (shown_export r here) ys in
+      ap (world_members_calls emits false false) (append_assoc (map (shown_import r here) interfaces) (map (shown_import r here) functions) exports)
+      ∙ imports_calls false interfaces (map (shown_import r here) functions ++ exports)
+      ∙ ap (λ calls. flat_map run interfaces ++ calls) (imports_calls (shown_after false interfaces) functions exports)
+      ∙ ap (λ calls. flat_map run interfaces ++ (flat_map run functions ++ calls))
+      (ap (λ b. world_members_calls emits b false exports) (printed_where xs h) ∙ exports_after (has_items xs) ys)
+      ∙ ap (λ calls. calls ++ (flat_map run functions ++ (line_between (has_items xs && has_items ys) ++ flat_map (entry_calls emits r here (codes "export")) ys))) (kept_runs run (λ e. is_interface_item e.1) xs)
+      ∙ ap (λ calls. flat_map (interface_entry_calls emits r here) xs ++ (calls ++ (line_between (has_items xs && has_items ys) ++ flat_map (entry_calls emits r here (codes "export")) ys))) (other_runs xs h)
+
+-- a world without types is shown as its imports and its exports
+shown_members : (r : Resolve) (id : WorldId) (w : World) (here : PackageId) → r.types.items ≡ []
+    → shown_world_in r id w here ≡ (map (shown_import r here) (filter (λ e. is_interface_item e.1) w.imports.entries) ++ map (shown_import r here) (filter (λ e. is_freestanding_item e.1) w.imports.entries)) ++ map (shown_export r here) w.exports.entries
+shown_members r id w here none =
+    rw (no_uses r none (owner.World id) (listed_imports w), no_declarations r none (owner.World id) (imported_functions w) (listed_imports w), append-nil) refl
 
 in_package : (n : PackageId) (o : Option PackageId) → is_id n.0 (package_number o) ≡ true → o ≡ Some n
 in_package n None h = absurd cc
@@ -112,31 +140,25 @@ printable_world r here w h =
       gates = first_true _ _ h;
       package_ = in_package here w.«package» (first_true _ _ placed);
       imports = first_true _ _ items;
-      exports = second_true (list_all (is_printable_entry r) w.imports.entries) _ items;
+      exports = second_true (list_all (is_printable_entry r here) w.imports.entries) _ items;
     }
 
--- the calls for a plain world
-pub shown_calls : (emits : Bool) (r : Resolve) (here : PackageId) (name : Text) (id : WorldId) (w : World) → IsPrintableWorld r here w
+-- the calls for a world without types
+pub shown_calls : (emits : Bool) (r : Resolve) (here : PackageId) (name : Text) (id : WorldId) (w : World) → r.types.items ≡ [] → IsPrintableWorld r here w
     → package_item_calls emits false (ItemTree.WorldItem (shown_docs w.docs) (shown_gates w.stability) name (shown_world r id w)) ≡ world_calls emits r here name w
-shown_calls emits r here name id w h =
-    let members : shown_world r id w ≡ map (shown_import r here) w.imports.entries ++ map (shown_export r here) w.exports.entries = rw h.package_ (plain_members r id w here h.imports) in
-    let inner : world_members_calls emits false false (shown_world r id w) ≡ world_body_calls emits r here w = ap (world_members_calls emits false false) members ∙ body_calls_of emits r here w.imports.entries w.exports.entries in
+shown_calls emits r here name id w none h =
+    let members : shown_world r id w ≡ shown_world_in r id w here = ap (λ o. option_map_or (shown_world_in r id w) o []) h.package_ in
+    let inner : world_members_calls emits false false (shown_world r id w) ≡ world_body_calls emits r here w =
+    ap (world_members_calls emits false false) (members ∙ shown_members r id w here none) ∙ body_calls_of emits r here w.imports.entries w.exports.entries h.imports in
     let front : List OutputCall = doc_calls emits (shown_docs w.docs) ++ gates_calls (shown_gates w.stability) in
     ap (λ calls. front ++ block_calls (codes "world") name WorldDeclaration calls) inner
     ∙ sym (append_assoc front (OutputCall.Keyword (codes "world") ∷ space ∷ OutputCall.Ty (escaped name) WorldDeclaration ∷ OutputCall.IndentStart ∷ []) (world_body_calls emits r here w ++ (OutputCall.IndentEnd ∷ [])))
 
 -- the calls for a world of a package, where it stands in its list
-pub calls_listed : (emits : Bool) (r : Resolve) (here : PackageId) (entry : String Global × WorldId) (w : World) → world_at r entry.1.0 ≡ Some w → IsPrintableWorld r here w → world_calls emits r here (text_of entry.0) w ≡ listed_calls emits r entry
-calls_listed emits r here entry w e h = rw e (sym (shown_calls emits r here (text_of entry.0) entry.1 w h))
+pub calls_listed : (emits : Bool) (r : Resolve) (here : PackageId) (entry : String Global × WorldId) (w : World) → r.types.items ≡ [] → world_at r entry.1.0 ≡ Some w → IsPrintableWorld r here w → world_calls emits r here (text_of entry.0) w ≡ listed_calls emits r entry
+calls_listed emits r here entry w none e h = rw e (sym (shown_calls emits r here (text_of entry.0) entry.1 w none h))
 
 -- ---- packages
-
--- no interface is shown where there is none
-none_shown : (r : Resolve) → r.interfaces.items ≡ [] → (entries : List (String Global × InterfaceId)) → filter_map (shown_interface_item r) entries ≡ []
-none_shown r e [] = refl
-none_shown r e (x ∷ xs) =
-    let none : interface_at r x.1.0 ≡ None = ap (λ (is : List Interface). slice_get is x.1.0) e in
-    rw none (none_shown r e xs)
 
 given_calls : (emits main : Bool) (o : Option World) (show : World → ItemTree) (same : (w : World) → package_item_calls emits main (show w) ≡ package_item_calls emits false (show w)) (items : List ItemTree) (rest : List OutputCall)
     → flat_map (package_item_calls emits main) items ≡ rest
@@ -148,11 +170,22 @@ worlds_shown : (emits main : Bool) (r : Resolve) (entries : List (String Global 
 worlds_shown emits main r [] = refl
 worlds_shown emits main r (x ∷ xs) = given_calls emits main (world_at r x.1.0) _ (λ w. refl) (filter_map (shown_world_item r) xs) _ (worlds_shown emits main r xs)
 
--- the calls for what a package without interfaces has
-pub items_shown : (emits main : Bool) (r : Resolve) (interfaces : List (String Global × InterfaceId)) (worlds : List (String Global × WorldId)) → r.interfaces.items ≡ []
-    → flat_map (package_item_calls emits main) (filter_map (shown_interface_item r) interfaces ++ filter_map (shown_world_item r) worlds) ≡ flat_map (listed_calls emits r) worlds
-items_shown emits main r interfaces worlds e =
-    ap (λ items. flat_map (package_item_calls emits main) (items ++ filter_map (shown_world_item r) worlds)) (none_shown r e interfaces) ∙ worlds_shown emits main r worlds
+given_items : (emits main : Bool) (o : Option ItemTree) (items : List ItemTree) (rest : List OutputCall)
+    → flat_map (package_item_calls emits main) items ≡ rest → flat_map (package_item_calls emits main) (cons_option o items) ≡ option_map_or (package_item_calls emits main) o [] ++ rest
+given_items emits main None items rest e = e
+given_items emits main (Some i) items rest e = ap (λ calls. package_item_calls emits main i ++ calls) e
+
+interfaces_shown : (emits main : Bool) (r : Resolve) (entries : List (String Global × InterfaceId)) → flat_map (package_item_calls emits main) (filter_map (shown_interface_item r) entries) ≡ flat_map (listed_interface_calls emits main r) entries
+interfaces_shown emits main r [] = refl
+interfaces_shown emits main r (x ∷ xs) = given_items emits main (shown_interface_item r x) (filter_map (shown_interface_item r) xs) _ (interfaces_shown emits main r xs)
+
+-- the calls for what a package has
+items_shown : (emits main : Bool) (r : Resolve) (interfaces : List (String Global × InterfaceId)) (worlds : List (String Global × WorldId))
+    → flat_map (package_item_calls emits main) (filter_map (shown_interface_item r) interfaces ++ filter_map (shown_world_item r) worlds) ≡ flat_map (listed_interface_calls emits main r) interfaces ++ flat_map (listed_calls emits r) worlds
+items_shown emits main r interfaces worlds =
+    flat_map-append (package_item_calls emits main) (filter_map (shown_interface_item r) interfaces) (filter_map (shown_world_item r) worlds)
+    ∙ ap (λ calls. calls ++ flat_map (package_item_calls emits main) (filter_map (shown_world_item r) worlds)) (interfaces_shown emits main r interfaces)
+    ∙ ap (λ calls. flat_map (listed_interface_calls emits main r) interfaces ++ calls) (worlds_shown emits main r worlds)
 
 -- a world of a list that can be printed is there
 pub listed_world : (r : Resolve) (here : PackageId) (entry : String Global × WorldId) → is_printable_listed r here entry ≡ true → (w : World) × (world_at r entry.1.0 ≡ Some w) × IsPrintableWorld r here w
@@ -175,23 +208,35 @@ listed_at r here entry w e h =
     let same : found.0 ≡ w = sym (e ∙ read_is r.worlds.items entry.1.0 w found.0 found.1) in
     (found.1 ∙ ap Some same, subst (IsPrintableWorld r here) same found.2)
 
-pub calls_at : (emits : Bool) (r : Resolve) (here : PackageId) (entry : String Global × WorldId) (w : World) (name : Text) → name ≡ text_of entry.0 → w ≡ get_or r.worlds.items entry.1.0 w → is_printable_listed r here entry ≡ true
+pub calls_at : (emits : Bool) (r : Resolve) (here : PackageId) (entry : String Global × WorldId) (w : World) (name : Text) → r.types.items ≡ [] → name ≡ text_of entry.0 → w ≡ get_or r.worlds.items entry.1.0 w → is_printable_listed r here entry ≡ true
     → world_calls emits r here name w ≡ listed_calls emits r entry
-calls_at emits r here entry w name n e h =
+calls_at emits r here entry w name none n e h =
     let at = listed_at r here entry w e h in
-    ap (λ text. world_calls emits r here text w) n ∙ calls_listed emits r here entry w at.0 at.1
+    ap (λ text. world_calls emits r here text w) n ∙ calls_listed emits r here entry w none at.0 at.1
 
--- the calls for a package without interfaces
-plain_package : (emits main : Bool) (r : Resolve) (p : Package) → r.interfaces.items ≡ [] → plain_package_calls emits main r p ≡ package_calls emits main (shown_package_of r p)
-plain_package emits main r p e =
+-- the calls for an interface of a package
+pub interface_calls_at : (emits main : Bool) (r : Resolve) (entry : String Global × InterfaceId) (i : Interface) (name : Text) → name ≡ text_of entry.0 → interface_at r entry.1.0 ≡ Some i
+    → package_item_calls emits main (ItemTree.InterfaceItem (shown_docs i.docs) (shown_gates i.stability) name (shown_interface r entry.1 i)) ≡ listed_interface_calls emits main r entry
+interface_calls_at emits main r entry i name n e = rw (n, e) refl
+
+-- the calls for a package
+package_shown : (emits main : Bool) (r : Resolve) (p : Package) → listed_package_calls emits main r p ≡ package_calls emits main (shown_package_of r p)
+package_shown emits main r p =
     let start : List OutputCall = package_outer_calls emits (shown_head p) ++ package_start_calls main in
-    sym (append_assoc start (flat_map (listed_calls emits r) p.worlds.entries) (package_end_calls main))
-    ∙ ap (λ items. (start ++ items) ++ package_end_calls main) (sym (items_shown emits main r p.interfaces.entries p.worlds.entries e))
+    let interfaces = flat_map (listed_interface_calls emits main r) p.interfaces.entries in
+    let worlds = flat_map (listed_calls emits r) p.worlds.entries in
+    ap (λ calls. start ++ calls) (sym (append_assoc interfaces worlds (package_end_calls main)))
+    ∙ sym (append_assoc start (interfaces ++ worlds) (package_end_calls main))
+    ∙ ap (λ items. (start ++ items) ++ package_end_calls main) (sym (items_shown emits main r p.interfaces.entries p.worlds.entries))
 
-pub plain_package_at : (emits main : Bool) (r : Resolve) (id : PackageId) (p : Package) → r.interfaces.items ≡ [] → package_at r id.0 ≡ Some p → plain_package_calls emits main r p ≡ package_calls emits main (shown_package r id)
-plain_package_at emits main r id p none e = rw e (plain_package emits main r p none)
+pub package_shown_at : (emits main : Bool) (r : Resolve) (id : PackageId) (p : Package) → package_at r id.0 ≡ Some p → listed_package_calls emits main r p ≡ package_calls emits main (shown_package r id)
+package_shown_at emits main r id p e = rw e (package_shown emits main r p)
 
--- a file without nested packages
-pub alone : (emits : Bool) (r : Resolve) (id : PackageId) (nested : List PackageId) → nested ≡ [] → package_calls emits true (shown_package r id) ≡ file_calls emits (shown_file r id nested)
-alone emits r id nested e =
-    sym (append-nil (package_calls emits true (shown_package r id))) ∙ ap (λ ids. file_calls emits (shown_file r id ids)) (sym e)
+-- nested packages, each after two line ends
+more_nested : (emits : Bool) (r : Resolve) (ids : List PackageId) → flat_map (next_package_calls emits r) ids ≡ more_nested_calls emits (map (shown_package r) ids)
+more_nested emits r [] = refl
+more_nested emits r (id ∷ ids) = ap (λ calls. next_package_calls emits r id ++ calls) (more_nested emits r ids)
+
+-- the first nested package and the others
+pub nested_shown : (emits : Bool) (r : Resolve) (id : PackageId) (ids : List PackageId) → package_calls emits false (shown_package r id) ++ flat_map (next_package_calls emits r) ids ≡ nested_calls emits (map (shown_package r) (id ∷ ids))
+nested_shown emits r id ids = ap (λ calls. package_calls emits false (shown_package r id) ++ calls) (more_nested emits r ids)

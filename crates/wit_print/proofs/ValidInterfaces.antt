@@ -34,7 +34,7 @@ module _ (r : Resolve) (valid : IsValid r) where
   pub freestanding_label : (f : Function) → function_labels f ≡ true → is_freestanding f.kind ≡ true → is_label (text_of f.name) ≡ true
   freestanding_label f named free = implied (is_freestanding f.kind) (is_label (text_of f.name)) free (left_of _ _ named)
 
-  function_well : (o : TypeOwner) (f : Function) → is_known_function r o f ≡ true → is_freestanding f.kind ≡ true → is_well_member (shown_function r f) ≡ true
+  pub function_well : (o : TypeOwner) (f : Function) → is_known_function r o f ≡ true → is_freestanding f.kind ≡ true → is_well_member (shown_function r f) ≡ true
   function_well o f known free =
       let named : function_labels f ≡ true = left_of _ _ (right_of (function_in_range r f) _ known) in
       both (is_well_prefix (function_prefix f)) _ (function_prefix_well f named)
@@ -52,7 +52,7 @@ module _ (r : Resolve) (valid : IsValid r) where
 
   -- ---- what validity says
 
-  interface_functions : (n : ℕ) (i : Interface) → interface_at r n ≡ Some i → list_all (is_known_function r (owner.Interface (record { 0 = n }))) (listed_functions i) ≡ true
+  pub interface_functions : (n : ℕ) (i : Interface) → interface_at r n ≡ Some i → list_all (is_known_function r (owner.Interface (record { 0 = n }))) (listed_functions i) ≡ true
   unfolding numbers_in_range labels function_names
   interface_functions n i e =
       let range = right_of (passes (in_list r.packages.items) (package_number i.«package»)) _ (right_of (is_place n) _ (interface-passes numbers_in_range r valid.rules.numbers_in_range n i e)) in

@@ -1,4 +1,4 @@
--- What validity says of a `Resolve` without types and interfaces: its worlds can be printed.
+-- What validity says of a `Resolve` without types: its worlds and interfaces can be printed.
 use Rattle.std.proofs.Common.{◌≡◌, refl, sym, subst, ◌∙◌, ℕ, zero, suc, ◌<◌, ◌+◌, Bool, true, false, ◌&&◌, ◌||◌, not, List, [], ◌∷◌, ◌++◌, length, Option, Some, None, map, filter_map, slice_get, option_to_list, arith}
 use Rattle.std.specs.Prelude.{String, is_none}
 use Rattle.std.specs.List.{list_all, cons_option}
@@ -23,19 +23,24 @@ use Rattle.wit_model.specs.declared.model.«Type».{«Type» as ValueType}
 use Rattle.wit_model.specs.declared.model.«Type».TheVariants as value
 use Rattle.wit_model.specs.Text.{text_of, text_eq}
 use Rattle.wit_model.specs.Names.{is_label, is_version, is_version_text}
-use Rattle.wit_model.specs.Lookup.{package_at, world_at, resource_of, optional_version_text}
+use Rattle.wit_model.specs.Lookup.{interface_at, package_at, world_at, resource_of, optional_version_text}
 use Rattle.wit_model.specs.Uses.{items_of}
 use Rattle.wit_model.specs.Types.{number_of}
 use Rattle.wit_model.specs.Parts.{function_numbers, function_types}
-use Rattle.wit_model.specs.Rules.{in_list, passes, is_freestanding, function_in_range, key_in_range, item_in_range, entries_in_range, function_labels, are_member_labels, are_distinct, key_label, item_labels, entries_labels, is_stability, interface_belongs, world_belongs, is_id, package_number}
-use Rattle.wit_model.specs.Valid.{IsValid, numbers_in_range, package_names, places, labels, is_place}
+use Rattle.wit_model.specs.Rules.{in_list, passes, is_freestanding, function_in_range, key_in_range, item_in_range, entries_in_range, function_labels, are_member_labels, are_distinct, key_label, item_labels, entries_labels, is_stability, interface_belongs, world_belongs, is_id, package_number, is_export_item, text_is}
+use Rattle.wit_model.specs.Valid.{IsValid, names_in_packages, numbers_in_range, package_names, places, labels, is_place}
 use Rattle.wit_model.proofs.Lists.{first_true, second_true}
 use Rattle.wit_model.proofs.Entries.{each_from_at, lists_pass}
-use Rattle.wit_print.specs.Printable.{is_printable_function, is_printable_entry, is_printable_world, is_printable_listed}
+use Rattle.wit_print.specs.Printable.{is_shown_item, is_printable_interface, is_printable_entry, is_printable_world, is_printable_listed}
 use Rattle.wit_print.specs.WellNamed.{is_well_optional}
-use Rattle.wit_print.proofs.WellLists.{implied}
+use Rattle.wit_print.specs.WellNamed.{is_well_item}
+use Rattle.wit_print.specs.Shown.{shown_interface_item}
+use Rattle.wit_model.proofs.OnePath.{package-passes}
+use Rattle.wit_print.proofs.ByteTests.{weaker_all}
+use Rattle.wit_print.proofs.WellLists.{all_both}
+use Rattle.wit_print.proofs.ValidWorlds.{is_known_entry, extern_well, world_is_shown}
+use Rattle.wit_print.proofs.ValidFiles.{interface_item_well}
 use Rattle.wit_print.proofs.ShownWell.{gates_well, optional_version}
-use Rattle.wit_print.proofs.FunctionsWell.{signature_well, function_prefix_well}
 
 both_true : (a b : Bool) → a ≡ true → b ≡ true → (a && b) ≡ true
 both_true a b p q = rw p q
@@ -75,29 +80,43 @@ none_of : {X : Type 0} (o : Option X) → option_to_list o ≡ [] → is_none o 
 none_of None e = refl
 none_of (Some x) e = absurd cc
 
--- ---- functions
-
-valid_function : (r : Resolve) (f : Function) → IsValid r → r.types.items ≡ [] → function_in_range r f ≡ true → function_labels f ≡ true → is_printable_function r f ≡ true
-valid_function r f v e range label =
-    let numbers : function_numbers f ≡ [] = no_numbers r.types.items (function_numbers f) e range in
-    let free : is_freestanding f.kind ≡ true = none_of (resource_of f.kind) (second_empty (filter_map number_of (function_types f)) (option_to_list (resource_of f.kind)) numbers) in
-    both_true _ _ (implied (is_freestanding f.kind) (is_label (text_of f.name)) free (first_true _ _ label))
-    (both_true _ _ free (both_true _ _ (function_prefix_well f label) (signature_well r v f range label)))
-
 -- ---- items
 
-module _ (r : Resolve) (v : IsValid r) (types : r.types.items ≡ []) (interfaces : r.interfaces.items ≡ []) where
-  valid_entry : (k : WorldKey) (i : WorldItem) → (key_in_range r k && item_in_range r i) ≡ true → (key_label k i && item_labels i) ≡ true → is_printable_entry r (k, i) ≡ true
-  valid_entry (key.Name s) (item.Function f) range label = valid_function r f v types range (second_true (not (is_freestanding f.kind) || is_label (text_of s)) (function_labels f) label)
-  valid_entry (key.Name s) (item.Interface id gates docs external_id) range label = absurd (none_in r.interfaces.items id.0 interfaces range)
-  valid_entry (key.Name s) (item.Type_ id) range label = absurd (none_in r.types.items id.0 types range)
-  valid_entry (key.Interface n) i range label = absurd (none_in r.interfaces.items n.0 interfaces (first_true (in_list r.interfaces.items n.0) (item_in_range r i) range))
+-- a function whose numbers are of no type is freestanding
+freestanding_of : (r : Resolve) (f : Function) → r.types.items ≡ [] → function_in_range r f ≡ true → is_freestanding f.kind ≡ true
+freestanding_of r f e range =
+    let numbers : function_numbers f ≡ [] = no_numbers r.types.items (function_numbers f) e range in
+    none_of (resource_of f.kind) (second_empty (filter_map number_of (function_types f)) (option_to_list (resource_of f.kind)) numbers)
 
-  valid_entries : (es : List (WorldKey × WorldItem)) → entries_in_range r es ≡ true → entries_labels es ≡ true → list_all (is_printable_entry r) es ≡ true
-  valid_entries [] range label = refl
-  valid_entries (e ∷ es) range label =
-      both_true _ _ (valid_entry e.0 e.1 (first_true _ _ range) (first_true _ _ label))
-      (valid_entries es (second_true (key_in_range r e.0 && item_in_range r e.1) _ range) (second_true (key_label e.0 e.1 && item_labels e.1) _ label))
+-- a printable entry is in range, stands where it may, and is shown well
+is_printable : (r : Resolve) (valid : IsValid r) (here : PackageId) (n : ℕ) (k : WorldKey) (i : WorldItem) → is_known_entry r n (k, i) ≡ true → is_export_item i ≡ true → is_printable_entry r here (k, i) ≡ true
+is_printable r valid here n k i known exported =
+    both_true (key_in_range r k && item_in_range r i) _ (first_true _ _ known)
+    (both_true (is_shown_item k i) _ (shown k i known exported) (extern_well r valid here n k i known exported))
+  where
+    shown : (l : WorldKey) (j : WorldItem) → is_known_entry r n (l, j) ≡ true → is_export_item j ≡ true → is_shown_item l j ≡ true
+    shown l (item.Interface id gates docs external_id) h x = refl
+    shown (key.Name s) (item.Function f) h x = x
+    shown (key.Interface m) (item.Function f) h x =
+        let wrong : false ≡ true = second_true (key_label (key.Interface m) (item.Function f) && item_labels (item.Function f)) false (second_true (key_in_range r (key.Interface m) && item_in_range r (item.Function f)) _ h) in
+        absurd cc
+    shown (key.Name s) (item.Type_ id) h x = absurd cc
+    shown (key.Interface m) (item.Type_ id) h x = absurd cc
+
+module _ (r : Resolve) (valid : IsValid r) (types : r.types.items ≡ []) (here : PackageId) (n : ℕ) where
+  -- where there are no types, a world imports none
+  no_type_imported : (k : WorldKey) (i : WorldItem) → item_in_range r i ≡ true → is_export_item i ≡ true
+  no_type_imported k (item.Interface id gates docs external_id) range = refl
+  no_type_imported k (item.Function f) range = freestanding_of r f types range
+  no_type_imported k (item.Type_ id) range = absurd (none_in r.types.items id.0 types range)
+
+  imports_printable : (es : List (WorldKey × WorldItem)) → list_all (is_known_entry r n) es ≡ true → list_all (is_printable_entry r here) es ≡ true
+  imports_printable = weaker_all (is_known_entry r n) (is_printable_entry r here)
+      (λ e known. is_printable r valid here n e.0 e.1 known (no_type_imported e.0 e.1 (second_true (key_in_range r e.0) _ (first_true (key_in_range r e.0 && item_in_range r e.1) _ known))))
+
+  exports_printable : (es : List (WorldKey × WorldItem)) → list_all (λ e. is_known_entry r n e && is_export_item e.1) es ≡ true → list_all (is_printable_entry r here) es ≡ true
+  exports_printable = weaker_all (λ e. is_known_entry r n e && is_export_item e.1) (is_printable_entry r here)
+      (λ e known. is_printable r valid here n e.0 e.1 (first_true _ _ known) (second_true (is_known_entry r n e) _ known))
 
 -- ---- worlds
 
@@ -115,41 +134,34 @@ world_labels r n w v e =
     let rest = last_three (is_label (text_of w.name)) (is_stability w.stability) (entries_labels w.imports.entries) (entries_labels w.exports.entries) here in
     (first_true _ _ here, rest.0, rest.1, rest.2)
 
-world_range : (r : Resolve) (n : ℕ) (w : World) → IsValid r → world_at r n ≡ Some w → (entries_in_range r w.imports.entries ≡ true) × (entries_in_range r w.exports.entries ≡ true)
-unfolding numbers_in_range
-world_range r n w v e =
-    let here = each_from_at (numbers_in_range.world_ r) 0 r.worlds.items n w (lists_pass numbers_in_range r v.rules.numbers_in_range).2 e in
-    let rest = last_three (is_place (0 + n)) (passes (in_list r.packages.items) (package_number w.«package»)) (entries_in_range r w.imports.entries) (entries_in_range r w.exports.entries) here in
-    (rest.1, rest.2)
-
-valid_world : (r : Resolve) (here : PackageId) (n : ℕ) (w : World) → IsValid r → r.types.items ≡ [] → r.interfaces.items ≡ [] → world_at r n ≡ Some w → is_id here.0 (package_number w.«package») ≡ true → is_printable_world r here w ≡ true
-valid_world r here n w v types interfaces e belongs =
+valid_world : (r : Resolve) (here : PackageId) (n : ℕ) (w : World) → IsValid r → r.types.items ≡ [] → world_at r n ≡ Some w → is_id here.0 (package_number w.«package») ≡ true → is_printable_world r here w ≡ true
+valid_world r here n w v types e belongs =
     let names = world_labels r n w v e in
-    let range = world_range r n w v e in
+    let known = world_is_shown r v n w e in
     both_true _ _ (gates_well w.stability names.1)
     (both_true _ _ belongs
-    (both_true _ _ (valid_entries r v types interfaces w.imports.entries range.0 names.2) (valid_entries r v types interfaces w.exports.entries range.1 names.3)))
+    (both_true _ _ (imports_printable r v types here n w.imports.entries known.imports) (exports_printable r v types here n w.exports.entries known.exports)))
 
 -- ---- packages
 
 given : {X : Type 0} (test : X → Bool) (o : Option X) (x : X) → o ≡ Some x → passes test o ≡ true → test x ≡ true
 given test o x e h = subst (λ p. passes test p ≡ true) e h
 
-valid_listed : (r : Resolve) (here : PackageId) (x : String Global × WorldId) → IsValid r → r.types.items ≡ [] → r.interfaces.items ≡ [] → in_list r.worlds.items x.1.0 ≡ true → world_belongs r here.0 x ≡ true → is_printable_listed r here x ≡ true
-valid_listed r here x v types interfaces range belongs =
+valid_listed : (r : Resolve) (here : PackageId) (x : String Global × WorldId) → IsValid r → r.types.items ≡ [] → in_list r.worlds.items x.1.0 ≡ true → world_belongs r here.0 x ≡ true → is_printable_listed r here x ≡ true
+valid_listed r here x v types range belongs =
     let world = found r.worlds.items x.1.0 (ltb-true x.1.0 (length r.worlds.items) range) in
     let w = world.0 in
     let listed = given (λ w. is_id here.0 (package_number w.«package») && text_eq (text_of w.name) (text_of x.0)) (world_at r x.1.0) w world.1 belongs in
     let name : text_of w.name ≡ text_of x.0 = same_text (text_of w.name) (text_of x.0) (sym (second_true (is_id here.0 (package_number w.«package»)) (text_eq (text_of w.name) (text_of x.0)) listed)) in
     let inside : option_map_or (is_printable_world r here) (world_at r x.1.0) false ≡ true =
-    subst (λ o. option_map_or (is_printable_world r here) o false ≡ true) (sym world.1) (valid_world r here x.1.0 w v types interfaces world.1 (first_true _ _ listed)) in
+    subst (λ o. option_map_or (is_printable_world r here) o false ≡ true) (sym world.1) (valid_world r here x.1.0 w v types world.1 (first_true _ _ listed)) in
     both_true _ _ (subst (λ t. is_label t ≡ true) name (world_labels r x.1.0 w v world.1).0) inside
 
-all_listed : (r : Resolve) (here : PackageId) → IsValid r → r.types.items ≡ [] → r.interfaces.items ≡ [] → (xs : List (String Global × WorldId)) → list_all (λ x. in_list r.worlds.items x.1.0) xs ≡ true → list_all (world_belongs r here.0) xs ≡ true → list_all (is_printable_listed r here) xs ≡ true
-all_listed r here v types interfaces [] range belongs = refl
-all_listed r here v types interfaces (x ∷ xs) range belongs =
-    both_true _ _ (valid_listed r here x v types interfaces (first_true _ _ range) (first_true _ _ belongs))
-    (all_listed r here v types interfaces xs (second_true (in_list r.worlds.items x.1.0) _ range) (second_true (world_belongs r here.0 x) _ belongs))
+all_listed : (r : Resolve) (here : PackageId) → IsValid r → r.types.items ≡ [] → (xs : List (String Global × WorldId)) → list_all (λ x. in_list r.worlds.items x.1.0) xs ≡ true → list_all (world_belongs r here.0) xs ≡ true → list_all (is_printable_listed r here) xs ≡ true
+all_listed r here v types [] range belongs = refl
+all_listed r here v types (x ∷ xs) range belongs =
+    both_true _ _ (valid_listed r here x v types (first_true _ _ range) (first_true _ _ belongs))
+    (all_listed r here v types xs (second_true (in_list r.worlds.items x.1.0) _ range) (second_true (world_belongs r here.0 x) _ belongs))
 
 package_range : (r : Resolve) (n : ℕ) (p : Package) → IsValid r → package_at r n ≡ Some p → list_all (λ x. in_list r.worlds.items x.1.0) p.worlds.entries ≡ true
 unfolding numbers_in_range
@@ -167,8 +179,8 @@ package_worlds r n p v e =
     first_true _ _ (second_true (list_all (interface_belongs r n) p.interfaces.entries) _ kept)
 
 -- the worlds of a package can be printed
-pub valid_worlds : (r : Resolve) (here : PackageId) (p : Package) → IsValid r → r.types.items ≡ [] → r.interfaces.items ≡ [] → package_at r here.0 ≡ Some p → list_all (is_printable_listed r here) p.worlds.entries ≡ true
-valid_worlds r here p v types interfaces e = all_listed r here v types interfaces p.worlds.entries (package_range r here.0 p v e) (package_worlds r here.0 p v e)
+pub valid_worlds : (r : Resolve) (here : PackageId) (p : Package) → IsValid r → r.types.items ≡ [] → package_at r here.0 ≡ Some p → list_all (is_printable_listed r here) p.worlds.entries ≡ true
+valid_worlds r here p v types e = all_listed r here v types p.worlds.entries (package_range r here.0 p v e) (package_worlds r here.0 p v e)
 
 -- a package's name is one
 pub valid_name : (r : Resolve) (n : ℕ) (p : Package) → IsValid r → package_at r n ≡ Some p → (is_label (text_of p.name.namespace) ≡ true) × (is_label (text_of p.name.name) ≡ true) × (is_well_optional is_version_text (optional_version_text p.name.version) ≡ true)
@@ -178,3 +190,14 @@ valid_name r n p v e =
     let own = first_true (is_label (text_of p.name.namespace) && (is_label (text_of p.name.name) && passes is_version p.name.version)) _ here in
     let rest = second_true (is_label (text_of p.name.namespace)) (is_label (text_of p.name.name) && passes is_version p.name.version) own in
     (first_true _ _ own, first_true _ _ rest, optional_version p.name.version (second_true (is_label (text_of p.name.name)) (passes is_version p.name.version) rest))
+
+-- the interfaces of a package can be printed
+pub valid_interfaces : (r : Resolve) (n : ℕ) (p : Package) → IsValid r → package_at r n ≡ Some p → list_all (is_printable_interface r) p.interfaces.entries ≡ true
+unfolding numbers_in_range names_in_packages
+valid_interfaces r n p v e =
+    let here = each_from_at (numbers_in_range.package_ r) 0 r.packages.items n p (lists_pass numbers_in_range r v.rules.numbers_in_range).0 e in
+    let ids = first_true (list_all (λ id. in_list r.interfaces.items id.0) (values p.interfaces)) _ (second_true (is_place (0 + n)) _ here) in
+    let range = sym (list_all-map (λ id. in_list r.interfaces.items id.0) (λ x. x.1) p.interfaces.entries) ∙ ids in
+    let keys = package-passes names_in_packages r v.rules.names_in_packages n p e in
+    all_both (λ x. in_list r.interfaces.items x.1.0) (λ x. passes is_well_item (shown_interface_item r x)) p.interfaces.entries range
+    (weaker_all (λ x. passes (λ i. text_is i.name (text_of x.0)) (interface_at r x.1.0)) (λ x. passes is_well_item (shown_interface_item r x)) (interface_item_well r v) p.interfaces.entries (first_true _ _ keys))

@@ -3,6 +3,8 @@
 
 mod draft;
 mod escape;
+mod extern_item;
+mod file;
 mod function;
 mod gates;
 mod interface;
@@ -13,6 +15,7 @@ mod output;
 mod output_to_string;
 mod package;
 mod parts;
+mod path;
 mod piece;
 mod prefix;
 mod printer;
