@@ -18,7 +18,7 @@ use Rattle.wit_model.specs.Valid.{IsValid}
 use Rattle.wit_print.specs.OutputCall.{OutputCall}
 use Rattle.wit_print.specs.Tree.{MemberTree}
 use Rattle.wit_print.specs.Shown.{Listed, Used, declared_with, function_prefix, grouped, listed_functions, listed_types, shown_declarations, shown_function, shown_interface, shown_signature, shown_uses, used_of}
-use Rattle.wit_print.specs.Calls.{members_calls, prefix_calls}
+use Rattle.wit_print.specs.Calls.{function_calls, item_calls, members_calls, prefix_calls}
 use Rattle.wit_print.specs.ItemCalls.{named_calls}
 use Rattle.wit_print.specs.Printable.{is_printable_function, line_between, shown_functions}
 use Rattle.wit_print.specs.WellNamed.{is_well_member}
@@ -35,8 +35,8 @@ function_alone emits false r f = sym (append-nil _)
 
 -- one function and then others
 one_and_more : (emits printed : Bool) (r : Resolve) (f : Function) (ms : List MemberTree) → members_calls emits printed (shown_function r f ∷ ms) ≡ members_calls emits printed (shown_function r f ∷ []) ++ members_calls emits true ms
-one_and_more emits true r f ms = ap (λ x. x ++ members_calls emits true ms) (sym (append-nil _))
-one_and_more emits false r f ms = ap (λ x. x ++ members_calls emits true ms) (sym (append-nil _))
+one_and_more emits true r f ms = ap (λ x. x ++ members_calls emits true ms) (sym (append-nil (item_calls true (function_calls emits (function_prefix f) (text_of f.name) FunctionFreestanding (shown_signature r f)))))
+one_and_more emits false r f ms = ap (λ x. x ++ members_calls emits true ms) (sym (append-nil (item_calls false (function_calls emits (function_prefix f) (text_of f.name) FunctionFreestanding (shown_signature r f)))))
 
 module _ (emits printed : Bool) (r : Resolve) (e : String Global × Function) (es : List (String Global × Function)) where
   -- a freestanding function is next

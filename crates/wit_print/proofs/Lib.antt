@@ -45,6 +45,7 @@ pub mod ValidWorlds
 pub mod ValidFiles
 pub mod Functions
 pub mod PathParts
+pub mod PrintableItems
 pub mod UndocumentedCalls
 pub mod AlikeTypes
 pub mod AlikeFiles

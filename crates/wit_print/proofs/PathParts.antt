@@ -1,7 +1,9 @@
 -- What a path is, by the package of the interface that it leads to.
-use Rattle.std.proofs.Common.{◌≡◌, refl, sym, ap, subst, ℕ, Bool, true, false, ◌==◌, Option, Some, None}
+use Rattle.std.proofs.Common.{◌≡◌, refl, sym, ap, subst, ℕ, Bool, true, false, ◌==◌, [], Option, Some, None, ◌≢◌, get_or}
 use Rattle.std.specs.Prelude.{if◌then◌else◌}
 use Rattle.std.specs.Option.{option_map_or}
+use Rattle.std.proofs.lemmas.Bool.{ltb-true, ne_eqb}
+use Rattle.std.proofs.lemmas.Option.{slice_get_read}
 use Rattle.wit_model.specs.declared.model.Resolve.{Resolve}
 use Rattle.wit_model.specs.declared.model.Package.{Package}
 use Rattle.wit_model.specs.declared.model.PackageId.{PackageId}
@@ -12,6 +14,7 @@ use Rattle.wit_model.specs.Rules.{in_list, package_number, passes}
 use Rattle.wit_model.specs.Valid.{IsValid, is_place, numbers_in_range}
 use Rattle.wit_model.proofs.OnePath.{interface-passes}
 use Rattle.wit_print.specs.Shown.{full_path, path_from, present_name, shown_path}
+use Rattle.wit_print.specs.WellNamed.{is_well_path}
 use Rattle.wit_print.specs.Tree.{PathTree}
 use Rattle.wit_print.specs.Tree.PathTree.{Local}
 use Rattle.wit_print.proofs.ByteTests.{left_of, right_of}
@@ -47,3 +50,14 @@ placed_at r n i v e = left_of _ _ (right_of (is_place n) _ (interface-passes num
 -- a path to the interface of a number
 pub path_at : (r : Resolve) (here : PackageId) (id : InterfaceId) (i : Interface) → interface_at r id.0 ≡ Some i → path_from r here i ≡ shown_path r here id
 path_at r here id i e = sym (ap (λ o. option_map_or (path_from r here) o (Local [])) e)
+
+-- what is read at a number of another package
+module _ (r : Resolve) (here : PackageId) (i : Interface) (p : PackageId) (x : Package) (placed : passes (in_list r.packages.items) (package_number i.«package») ≡ true) (given : i.«package» ≡ Some p) (other : p.0 ≢ here.0) (read : x ≡ get_or r.packages.items p.0 x) where
+  there : package_at r p.0 ≡ Some x
+  there = slice_get_read _ _ _ _ refl (ltb-true _ _ (subst (λ o. passes (in_list r.packages.items) (package_number o) ≡ true) given placed)) read
+
+  pub full_path_at : path_from r here i ≡ full_path (present_name i.name) x
+  full_path_at = other_path r here i p x given (ne_eqb p.0 here.0 other) there
+
+  pub full_path_well : is_well_path (path_from r here i) ≡ true → is_well_path (full_path (present_name i.name) x) ≡ true
+  full_path_well h = subst (λ t. is_well_path t ≡ true) full_path_at h

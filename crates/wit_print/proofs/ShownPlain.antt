@@ -20,22 +20,22 @@ use Rattle.wit_model.specs.declared.model.WorldItem.TheVariants as item
 use Rattle.wit_model.specs.Text.{Text, text_of}
 use Rattle.wit_model.specs.Names.{is_label}
 use Rattle.wit_model.specs.Lookup.{package_at, world_at, interface_at}
-use Rattle.wit_model.specs.Rules.{has_items, is_id, item_in_range, key_in_range, package_number}
+use Rattle.wit_model.specs.Rules.{has_items, in_list, is_id, item_in_range, key_in_range, package_number, passes}
 use Rattle.wit_model.proofs.Lists.{first_true, second_true}
-use Rattle.wit_print.specs.OutputCall.{OutputCall}
+use Rattle.wit_print.specs.OutputCall.{OutputCall, is_one_line}
 use Rattle.wit_print.specs.Tree.{ItemTree, WorldMember}
-use Rattle.wit_print.specs.Printable.{is_printable_entry, is_printable_world, IsPrintableWorld, entry_calls, function_entry_calls, interface_entry_calls, line_between, world_body_calls, world_calls, is_printable_listed, listed_calls, listed_interface_calls, listed_package_calls, next_package_calls}
+use Rattle.wit_print.specs.Printable.{is_printable_entry, is_printable_interface, is_printable_world, IsPrintableWorld, entry_calls, function_entry_calls, interface_entry_calls, line_between, world_body_calls, world_calls, is_printable_listed, listed_calls, listed_interface_calls, listed_package_calls, next_package_calls}
 use Rattle.wit_print.specs.Shown.{Entry, is_interface_item, is_freestanding_item, imported_functions, listed_imports, shown_import, shown_export, shown_interface, shown_world, shown_world_in, shown_world_item, shown_interface_item, shown_docs, shown_gates, shown_head, shown_package, shown_package_of}
 use Rattle.wit_print.specs.Keyword.{escaped}
 use Rattle.wit_print.specs.Calls.{space, world_members_calls, package_item_calls, block_calls, doc_calls, gates_calls, more_nested_calls, nested_calls, package_outer_calls, package_start_calls, package_end_calls, package_calls}
 use Rattle.wit_print.specs.declared.type_kind.TypeKind.TheVariants.{WorldDeclaration}
-use Rattle.wit_print.specs.WellNamed.{is_well_gates}
+use Rattle.wit_print.specs.WellNamed.{is_well_gates, is_well_item, is_well_world_member}
 use Rattle.wit_print.proofs.Functions.{no_declarations, no_uses}
 
 -- ---- the calls for what a world without types has
 
 -- whether a block has printed something after these, too
-shown_after : Bool → List Entry → Bool
+abbrev shown_after : Bool → List Entry → Bool
 shown_after printed [] = printed
 shown_after printed (x ∷ xs) = true
 
@@ -66,33 +66,31 @@ module _ (emits : Bool) (r : Resolve) (here : PackageId) where
   one_of_both k (item.Interface id gates docs external_id) h = refl
   one_of_both (key.Name s) (item.Function f) h = first_true _ _ (second_true (key_in_range r (key.Name s) && item_in_range r (item.Function f)) _ h)
   one_of_both (key.Interface m) (item.Function f) h =
-      let wrong : false ≡ true = first_true false _ (second_true (key_in_range r (key.Interface m) && item_in_range r (item.Function f)) _ h) in absurd cc
+      let wrong : false ≡ true = first_true false (is_well_world_member (shown_import r here (key.Interface m, item.Function f))) (second_true (key_in_range r (key.Interface m) && item_in_range r (item.Function f)) _ h) in absurd cc
   one_of_both (key.Name s) (item.Type_ id) h =
-      let wrong : false ≡ true = first_true false _ (second_true (key_in_range r (key.Name s) && item_in_range r (item.Type_ id)) _ h) in absurd cc
+      let wrong : false ≡ true = first_true false (is_well_world_member (shown_import r here (key.Name s, item.Type_ id))) (second_true (key_in_range r (key.Name s) && item_in_range r (item.Type_ id)) _ h) in absurd cc
   one_of_both (key.Interface m) (item.Type_ id) h =
-      let wrong : false ≡ true = first_true false _ (second_true (key_in_range r (key.Interface m) && item_in_range r (item.Type_ id)) _ h) in absurd cc
+      let wrong : false ≡ true = first_true false (is_well_world_member (shown_import r here (key.Interface m, item.Type_ id))) (second_true (key_in_range r (key.Interface m) && item_in_range r (item.Type_ id)) _ h) in absurd cc
 
   -- those that pass a test make the runs of all, where the others make none
   kept_runs : (run : Entry → List OutputCall) (test : Entry → Bool) (xs : List Entry) → flat_map run (filter test xs) ≡ flat_map (λ e. if test e then run e else []) xs
   kept_runs run test [] = refl
-  kept_runs run test (x ∷ xs) = go (test x)
+  kept_runs run test (x ∷ xs) = go (test x) (kept_runs run test xs)
     where
-      go : (b : Bool) → flat_map run (cond b (x ∷ filter test xs) (filter test xs)) ≡ (if b then run x else []) ++ flat_map (λ e. if test e then run e else []) xs
-      go true = ap (λ calls. run x ++ calls) (kept_runs run test xs)
-      go false = kept_runs run test xs
+      go : (b : Bool) → flat_map run (filter test xs) ≡ flat_map (λ e. if test e then run e else []) xs → flat_map run (cond b (x ∷ filter test xs) (filter test xs)) ≡ (if b then run x else []) ++ flat_map (λ e. if test e then run e else []) xs
+      go true rest = ap (λ calls. run x ++ calls) rest
+      go false rest = rest
 
   other_runs : (xs : List Entry) → list_all (is_printable_entry r here) xs ≡ true → flat_map (entry_calls emits r here (codes "import")) (filter (λ e. is_freestanding_item e.1) xs) ≡ flat_map (function_entry_calls emits r here) xs
   other_runs [] h = refl
-  other_runs (x ∷ xs) h = go (is_interface_item x.1) (is_freestanding_item x.1) (one_of_both x.0 x.1 (first_true _ _ h))
+  other_runs (x ∷ xs) h = go (is_interface_item x.1) (is_freestanding_item x.1) (one_of_both x.0 x.1 (first_true _ _ h)) (other_runs xs (second_true (is_printable_entry r here x) _ h))
     where
-      rest : flat_map (entry_calls emits r here (codes "import")) (filter (λ e. is_freestanding_item e.1) xs) ≡ flat_map (function_entry_calls emits r here) xs
-      rest = other_runs xs (second_true (is_printable_entry r here x) _ h)
-
-      go : (a b : Bool) → b ≡ not a → flat_map (entry_calls emits r here (codes "import")) (cond b (x ∷ filter (λ e. is_freestanding_item e.1) xs) (filter (λ e. is_freestanding_item e.1) xs)) ≡ (if a then [] else entry_calls emits r here (codes "import") x) ++ flat_map (function_entry_calls emits r here) xs
-      go true true e = absurd cc
-      go true false e = rest
-      go false true e = ap (λ calls. entry_calls emits r here (codes "import") x ++ calls) rest
-      go false false e = absurd cc
+      go : (a b : Bool) → b ≡ not a → flat_map (entry_calls emits r here (codes "import")) (filter (λ e. is_freestanding_item e.1) xs) ≡ flat_map (function_entry_calls emits r here) xs
+          → flat_map (entry_calls emits r here (codes "import")) (cond b (x ∷ filter (λ e. is_freestanding_item e.1) xs) (filter (λ e. is_freestanding_item e.1) xs)) ≡ (if a then [] else entry_calls emits r here (codes "import") x) ++ flat_map (function_entry_calls emits r here) xs
+      go true true e rest = absurd cc
+      go true false e rest = rest
+      go false true e rest = ap (λ calls. entry_calls emits r here (codes "import") x ++ calls) rest
+      go false false e rest = absurd cc
 
   -- something is printed exactly where something is imported
   printed_where : (xs : List Entry) → list_all (is_printable_entry r here) xs ≡ true → shown_after (shown_after false (filter (λ e. is_interface_item e.1) xs)) (filter (λ e. is_freestanding_item e.1) xs) ≡ has_items xs
@@ -213,6 +211,14 @@ pub calls_at : (emits : Bool) (r : Resolve) (here : PackageId) (entry : String G
 calls_at emits r here entry w name none n e h =
     let at = listed_at r here entry w e h in
     ap (λ text. world_calls emits r here text w) n ∙ calls_listed emits r here entry w none at.0 at.1
+
+-- the gates and the name of an interface that can be printed
+pub listed_interface_well : (r : Resolve) (entry : String Global × InterfaceId) (i : Interface) → interface_at r entry.1.0 ≡ Some i → is_printable_interface r entry ≡ true → (is_well_gates (shown_gates i.stability) && is_label (text_of entry.0)) ≡ true
+listed_interface_well r entry i e h =
+    let item : is_well_item (ItemTree.InterfaceItem (shown_docs i.docs) (shown_gates i.stability) (text_of entry.0) (shown_interface r entry.1 i)) ≡ true =
+    subst (λ o. passes is_well_item (option_map (λ x. ItemTree.InterfaceItem (shown_docs x.docs) (shown_gates x.stability) (text_of entry.0) (shown_interface r entry.1 x)) o) ≡ true) e (second_true (in_list r.interfaces.items entry.1.0) _ h) in
+    let rest = second_true (list_all is_one_line (shown_docs i.docs)) _ item in
+    rw (first_true (is_well_gates (shown_gates i.stability)) _ rest, first_true (is_label (text_of entry.0)) _ (second_true (is_well_gates (shown_gates i.stability)) _ rest)) refl
 
 -- the calls for an interface of a package
 pub interface_calls_at : (emits main : Bool) (r : Resolve) (entry : String Global × InterfaceId) (i : Interface) (name : Text) → name ≡ text_of entry.0 → interface_at r entry.1.0 ≡ Some i

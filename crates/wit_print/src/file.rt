@@ -1,11 +1,11 @@
 //! The packages of a file, printed one after the other.
 
-ghost use Rattle.std.specs.Prelude.{◌≡◌, ◌<◌, [], true, length, map, OnOk, OnErr, IsOkUnless};
+ghost use Rattle.std.specs.Prelude.{◌≡◌, ◌<◌, ◌∷◌, [], true, length, map, OnOk, OnErr, IsOkUnless};
 ghost use Rattle.std.specs.List.{flat_map, list_all};
 ghost use Rattle.wit_model.specs.declared.error.Error.TheVariants.{Memory};
 ghost use Rattle.wit_model.specs.Rules.{in_list};
 ghost use Rattle.wit_model.specs.Valid.{IsValid};
-ghost use Rattle.wit_print.specs.OutputCall.{Moves, Begins};
+ghost use Rattle.wit_print.specs.OutputCall.{OutputCall, Moves, Begins};
 ghost use Rattle.wit_print.specs.Calls.{file_calls, nested_calls};
 ghost use Rattle.wit_print.specs.Printable.{next_package_calls};
 ghost use Rattle.wit_print.specs.Shown.{shown_file, shown_package};
@@ -15,8 +15,19 @@ use crate::package::print_whole_package;
 use std::alloc::Global;
 use wit_model::{Error, PackageId, Resolve};
 
-/// A nested package after two line ends.
+/// An empty line and the end of the one before it.
 #[tactic(auto, using(crate::proofs::Moves::moving))]
+fn print_two_line_ends<O: Output>(output: &mut O) -> Result<(), Error>
+    ensures ok { OnOk result (Moves O.keeps (O.view output.old) (OutputCall.Newline ∷ OutputCall.Newline ∷ []) (O.view output.new)) }
+    ensures err { OnErr result (Begins O.keeps (O.view output.old) (OutputCall.Newline ∷ OutputCall.Newline ∷ []) (O.view output.new)) }
+    ensures memory { IsOkUnless result Memory }
+{
+    output.newline()?;
+    output.newline()?;
+    Ok(())
+}
+
+/// A nested package after two line ends.
 fn print_next_package<'a, O: Output>(
     output: &mut O,
     alloc: Global,
@@ -31,8 +42,7 @@ fn print_next_package<'a, O: Output>(
     ensures err { OnErr result (Begins O.keeps (O.view output.old) (next_package_calls emits_docs resolve.now id) (O.view output.new)) }
     ensures memory { IsOkUnless result Memory }
 {
-    output.newline()?;
-    output.newline()?;
+    print_two_line_ends(output)?;
     print_whole_package(output, alloc, emits_docs, resolve, id, false)
 }
 
@@ -72,12 +82,11 @@ fn print_nested_packages<'a, O: Output>(
     ensures err { OnErr result (Begins O.keeps (O.view output.old) (nested_calls emits_docs (map (shown_package resolve.now) ids.now)) (O.view output.new)) }
     ensures memory { IsOkUnless result Memory }
 {
-    let (first, rest) = match ids.split_first() {
-        Some(parts) => parts,
-        None => return Ok(()),
-    };
-    print_whole_package(output, alloc, emits_docs, resolve, *first, false)?;
-    print_more_packages(output, alloc, emits_docs, resolve, rest)
+    if let Some((first, rest)) = ids.split_first() {
+        print_whole_package(output, alloc, emits_docs, resolve, *first, false)?;
+        print_more_packages(output, alloc, emits_docs, resolve, rest)?;
+    }
+    Ok(())
 }
 
 /// A main package, and nested ones.

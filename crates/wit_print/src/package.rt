@@ -167,18 +167,27 @@ fn print_interface_start<'a, O: Output>(
     draft.make(output)
 }
 
-/// The end of an interface's block, with an empty line after it in a main package.
+/// An empty line after an interface of a main package.
 #[tactic(auto, using(crate::proofs::Moves::moving))]
+fn print_line_after<O: Output>(output: &mut O, is_main: bool) -> Result<(), Error>
+    ensures ok { OnOk result (Moves O.keeps (O.view output.old) (line_after_calls is_main) (O.view output.new)) }
+    ensures err { OnErr result (Begins O.keeps (O.view output.old) (line_after_calls is_main) (O.view output.new)) }
+    ensures memory { IsOkUnless result Memory }
+{
+    if is_main {
+        output.newline()?;
+    }
+    Ok(())
+}
+
+/// The end of an interface's block, with an empty line after it in a main package.
 fn print_interface_end<O: Output>(output: &mut O, is_main: bool) -> Result<(), Error>
     ensures ok { OnOk result (Moves O.keeps (O.view output.old) (OutputCall.IndentEnd ∷ line_after_calls is_main) (O.view output.new)) }
     ensures err { OnErr result (Begins O.keeps (O.view output.old) (OutputCall.IndentEnd ∷ line_after_calls is_main) (O.view output.new)) }
     ensures memory { IsOkUnless result Memory }
 {
-    output.indent_end()?;
-    if is_main {
-        output.newline()?;
-    }
-    Ok(())
+    print_block_end(output)?;
+    print_line_after(output, is_main)
 }
 
 /// An interface, under a name.

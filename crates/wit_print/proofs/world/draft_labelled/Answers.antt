@@ -1,4 +1,4 @@
-use Rattle.std.proofs.Common.{[], ◌∷◌, append_assoc}
+use Rattle.std.proofs.Common.{[], ◌∷◌, append_assoc, true}
 use Rattle.wit_print.specs.OutputCall.OutputCall.{Keyword}
 use Rattle.wit_print.specs.Tree.ExternTree.{NamedPath}
 use Rattle.wit_print.specs.Shown.{shown_path, shown_prefix}
