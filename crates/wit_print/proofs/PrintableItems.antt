@@ -1,10 +1,11 @@
 -- What is known of an import or an export that can be printed.
-use Rattle.std.proofs.Common.{◌≡◌, refl, sym, ap, subst, ◌∙◌, Bool, true, false, ◌&&◌, Option}
-use Rattle.std.specs.Prelude.{String}
+use Rattle.std.proofs.Common.{◌≡◌, refl, sym, ap, subst, ◌∙◌, Bool, true, false, ◌&&◌, Option, Some}
+use Rattle.std.specs.Prelude.{String, is_some}
 use Rattle.std.specs.declared.alloc.Global.{Global}
 use Rattle.wit_model.specs.declared.model.Resolve.{Resolve}
 use Rattle.wit_model.specs.declared.model.Docs.{Docs}
 use Rattle.wit_model.specs.declared.model.Function.{Function}
+use Rattle.wit_model.specs.declared.model.Interface.{Interface}
 use Rattle.wit_model.specs.declared.model.InterfaceId.{InterfaceId}
 use Rattle.wit_model.specs.declared.model.PackageId.{PackageId}
 use Rattle.wit_model.specs.declared.model.Stability.{Stability}
@@ -12,15 +13,16 @@ use Rattle.wit_model.specs.declared.model.WorldKey.{WorldKey}
 use Rattle.wit_model.specs.declared.model.WorldKey.TheVariants as key
 use Rattle.wit_model.specs.declared.model.WorldItem.{WorldItem}
 use Rattle.wit_model.specs.declared.model.WorldItem.TheVariants as item
+use Rattle.wit_model.specs.Lookup.{interface_at}
 use Rattle.wit_model.specs.Text.{Text, text_of}
 use Rattle.wit_model.specs.Rules.{in_list, item_in_range, key_in_range}
 use Rattle.wit_print.specs.OutputCall.{OutputCall}
 use Rattle.wit_print.specs.Tree.{Prefix}
-use Rattle.wit_print.specs.Tree.ExternTree.{NamedFunction, Path}
+use Rattle.wit_print.specs.Tree.ExternTree.{NamedFunction, NamedInterface, NamedPath, Path}
 use Rattle.wit_print.specs.Calls.{world_extern_calls}
 use Rattle.wit_print.specs.ItemCalls.{labelled_tree}
 use Rattle.wit_print.specs.Printable.{entry_calls, is_printable_entry, is_shown_item}
-use Rattle.wit_print.specs.Shown.{extern_docs, extern_prefix, function_prefix, shown_docs, shown_external_id, shown_gates, shown_import, shown_path, shown_prefix, shown_signature}
+use Rattle.wit_print.specs.Shown.{extern_docs, extern_prefix, function_prefix, shown_docs, shown_external_id, shown_gates, shown_import, shown_interface, shown_path, shown_prefix, shown_signature}
 use Rattle.wit_print.specs.WellNamed.{is_well_extern, is_well_path, is_well_prefix, is_well_world_member}
 use Rattle.wit_print.proofs.ByteTests.{left_of, right_of}
 
@@ -75,12 +77,12 @@ module _ (r : Resolve) (here : PackageId) where
   function_parts : (k : WorldKey) (f : Function) → is_printable_entry r here (k, item.Function f) ≡ true → (is_well_prefix (function_prefix f) ≡ true) × (is_well_extern (NamedFunction (text_of f.name) (shown_signature r f)) ≡ true)
   function_parts (key.Name s) f h = let well = well_of (key.Name s) (item.Function f) h in (left_of _ _ well, right_of (is_well_prefix (function_prefix f)) _ well)
   function_parts (key.Interface m) f h =
-      let wrong : false ≡ true = left_of false _ (right_of (key_in_range r (key.Interface m) && item_in_range r (item.Function f)) _ h) in absurd cc
+      let wrong : false ≡ true = left_of false (is_well_world_member (shown_import r here (key.Interface m, item.Function f))) (right_of (key_in_range r (key.Interface m) && item_in_range r (item.Function f)) _ h) in absurd cc
 
   function_calls_by : (k : WorldKey) (f : Function) (emits : Bool) (word : Text) → is_printable_entry r here (k, item.Function f) ≡ true → world_extern_calls emits (function_prefix f) word (NamedFunction (text_of f.name) (shown_signature r f)) ≡ entry_calls emits r here word (k, item.Function f)
   function_calls_by (key.Name s) f emits word h = refl
   function_calls_by (key.Interface m) f emits word h =
-      let wrong : false ≡ true = left_of false _ (right_of (key_in_range r (key.Interface m) && item_in_range r (item.Function f)) _ h) in absurd cc
+      let wrong : false ≡ true = left_of false (is_well_world_member (shown_import r here (key.Interface m, item.Function f))) (right_of (key_in_range r (key.Interface m) && item_in_range r (item.Function f)) _ h) in absurd cc
 
   module _ (k : WorldKey) (i : WorldItem) (f : Function) (is : i ≡ item.Function f) (h : is_printable_entry r here (k, i) ≡ true) where
     pub function_known : (is_well_prefix (function_prefix f) ≡ true) × (is_well_extern (NamedFunction (text_of f.name) (shown_signature r f)) ≡ true)
@@ -89,10 +91,10 @@ module _ (r : Resolve) (here : PackageId) where
     pub function_entry : (emits : Bool) (word : Text) → world_extern_calls emits (function_prefix f) word (NamedFunction (text_of f.name) (shown_signature r f)) ≡ entry_calls emits r here word (k, i)
     function_entry emits word = function_calls_by k f emits word (subst (λ j. is_printable_entry r here (k, j) ≡ true) is h) ∙ sym (ap (λ j. entry_calls emits r here word (k, j)) is)
 
-  -- a type is none of a printable world
-  pub no_type : (k : WorldKey) (i : WorldItem) (id : _) → i ≡ item.Type_ id → is_printable_entry r here (k, i) ≡ true → ⊥
-  no_type k i id is h = go k (subst (λ j. is_printable_entry r here (k, j) ≡ true) is h)
-    where
-      go : (l : WorldKey) → is_printable_entry r here (l, item.Type_ id) ≡ true → ⊥
-      go (key.Name s) g = let wrong : false ≡ true = left_of false _ (right_of (key_in_range r (key.Name s) && item_in_range r (item.Type_ id)) _ g) in absurd cc
-      go (key.Interface m) g = let wrong : false ≡ true = left_of false _ (right_of (key_in_range r (key.Interface m) && item_in_range r (item.Type_ id)) _ g) in absurd cc
+  -- ---- interfaces under a label
+
+  pub named_tree : (label : Text) (id : InterfaceId) (i : Interface) → interface_at r id.0 ≡ Some i → is_some i.name ≡ true → labelled_tree r here label id ≡ NamedPath label (shown_path r here id)
+  named_tree label id i e h = rw (e, h) refl
+
+  pub inline_tree : (label : Text) (id : InterfaceId) (i : Interface) → interface_at r id.0 ≡ Some i → is_some i.name ≡ false → labelled_tree r here label id ≡ NamedInterface label (shown_interface r id i)
+  inline_tree label id i e h = rw (e, h, e) refl

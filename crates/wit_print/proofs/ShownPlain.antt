@@ -124,7 +124,7 @@ module _ (emits : Bool) (r : Resolve) (here : PackageId) where
 shown_members : (r : Resolve) (id : WorldId) (w : World) (here : PackageId) → r.types.items ≡ []
     → shown_world_in r id w here ≡ (map (shown_import r here) (filter (λ e. is_interface_item e.1) w.imports.entries) ++ map (shown_import r here) (filter (λ e. is_freestanding_item e.1) w.imports.entries)) ++ map (shown_export r here) w.exports.entries
 shown_members r id w here none =
-    rw (no_uses r none (owner.World id) (listed_imports w), no_declarations r none (owner.World id) (imported_functions w) (listed_imports w), append-nil) refl
+    rw (no_uses r none (owner.World id) (listed_imports w), no_declarations r none (owner.World id) (imported_functions w) (listed_imports w), append-nil, append-nil) refl
 
 in_package : (n : PackageId) (o : Option PackageId) → is_id n.0 (package_number o) ≡ true → o ≡ Some n
 in_package n None h = absurd cc

@@ -15,16 +15,24 @@ use crate::package::print_whole_package;
 use std::alloc::Global;
 use wit_model::{Error, PackageId, Resolve};
 
-/// An empty line and the end of the one before it.
+/// The end of a line.
 #[tactic(auto, using(crate::proofs::Moves::moving))]
+fn print_line_end<O: Output>(output: &mut O) -> Result<(), Error>
+    ensures ok { OnOk result (Moves O.keeps (O.view output.old) (OutputCall.Newline ∷ []) (O.view output.new)) }
+    ensures err { OnErr result (Begins O.keeps (O.view output.old) (OutputCall.Newline ∷ []) (O.view output.new)) }
+    ensures memory { IsOkUnless result Memory }
+{
+    output.newline()?;
+    Ok(())
+}
+
 fn print_two_line_ends<O: Output>(output: &mut O) -> Result<(), Error>
     ensures ok { OnOk result (Moves O.keeps (O.view output.old) (OutputCall.Newline ∷ OutputCall.Newline ∷ []) (O.view output.new)) }
     ensures err { OnErr result (Begins O.keeps (O.view output.old) (OutputCall.Newline ∷ OutputCall.Newline ∷ []) (O.view output.new)) }
     ensures memory { IsOkUnless result Memory }
 {
-    output.newline()?;
-    output.newline()?;
-    Ok(())
+    print_line_end(output)?;
+    print_line_end(output)
 }
 
 /// A nested package after two line ends.
@@ -33,17 +41,17 @@ fn print_next_package<'a, O: Output>(
     alloc: Global,
     emits_docs: bool,
     resolve: &'a Resolve,
-    id: PackageId,
+    id: &PackageId,
 ) -> Result<(), Error>
     requires valid { IsValid resolve.now }
     requires no_types { resolve.now.types.items ≡ [] }
-    requires in_range { id.0 < length resolve.now.packages.items }
-    ensures ok { OnOk result (Moves O.keeps (O.view output.old) (next_package_calls emits_docs resolve.now id) (O.view output.new)) }
-    ensures err { OnErr result (Begins O.keeps (O.view output.old) (next_package_calls emits_docs resolve.now id) (O.view output.new)) }
+    requires in_range { id.now.0 < length resolve.now.packages.items }
+    ensures ok { OnOk result (Moves O.keeps (O.view output.old) (next_package_calls emits_docs resolve.now id.now) (O.view output.new)) }
+    ensures err { OnErr result (Begins O.keeps (O.view output.old) (next_package_calls emits_docs resolve.now id.now) (O.view output.new)) }
     ensures memory { IsOkUnless result Memory }
 {
     print_two_line_ends(output)?;
-    print_whole_package(output, alloc, emits_docs, resolve, id, false)
+    print_whole_package(output, alloc, emits_docs, resolve, *id, false)
 }
 
 /// Nested packages, each after two line ends.
@@ -62,7 +70,7 @@ fn print_more_packages<'a, O: Output>(
     ensures memory { IsOkUnless result Memory }
 {
     for id in ids {
-        print_next_package(output, alloc, emits_docs, resolve, *id)?;
+        print_next_package(output, alloc, emits_docs, resolve, id)?;
     }
     Ok(())
 }

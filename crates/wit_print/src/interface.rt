@@ -145,7 +145,8 @@ fn print_functions<'a, O: Output>(
     ensures memory { IsOkUnless result Memory }
 {
     let mut has_printed = false;
-    for (_name, function) in functions {
+    for (key, function) in functions {
+        let _key = key;
         if is_freestanding(function) {
             print_function(output, alloc, emits_docs, has_printed, resolve, function)?;
             has_printed = true;

@@ -3,11 +3,10 @@ use Rattle.std.specs.List.{list_all, flat_map}
 use Rattle.std.proofs.lemmas.Bool.{ltb-true}
 use Rattle.wit_model.proofs.Lists.{first_true, second_true}
 use Rattle.wit_model.specs.Rules.{in_list}
-use Rattle.wit_print.specs.OutputCall.{Moves, Begins}
 use Rattle.wit_print.specs.Calls.{nested_calls}
 use Rattle.wit_print.specs.Printable.{next_package_calls}
 use Rattle.wit_print.specs.Shown.{shown_package}
-use Rattle.wit_print.proofs.Moves.{moved_on, begun_on, begun_first, at_err, at_ok}
+use Rattle.wit_print.proofs.Moves.{begun_on, begun_first, at_err}
 use Rattle.wit_print.proofs.ShownPlain.{nested_shown}
 use Rattle.wit_print.proofs.file.print_nested_packages.Goals as goal
 
@@ -30,9 +29,3 @@ returns-in_err-print_more_packages-clause-err g c =
     let r = c.args.resolve.now in
     let same = nested_shown c.args.emits_docs r c.in-Some.first.now c.in-Some.rest.now ∙ ap (λ ids. nested_calls c.args.emits_docs (map (shown_package r) ids)) (sym c.in-Some.ensures.cases.0) in
     at_err c.from_residual-in_err-print_more_packages.result (begun_on c.in_ok-print_whole_package.ensures.ok c.in_err-print_more_packages.ensures.err same)
-
-pub returns-in_ok-print_more_packages-clause-ok : goal.returns-in_ok-print_more_packages-clause-ok
-returns-in_ok-print_more_packages-clause-ok g c =
-    let r = c.args.resolve.now in
-    let same = nested_shown c.args.emits_docs r c.in-Some.first.now c.in-Some.rest.now ∙ ap (λ ids. nested_calls c.args.emits_docs (map (shown_package r) ids)) (sym c.in-Some.ensures.cases.0) in
-    moved_on c.in_ok-print_whole_package.ensures.ok c.in_ok-print_more_packages.ensures.ok same
