@@ -97,4 +97,4 @@ module _ (r : Resolve) (here : PackageId) where
   named_tree label id i e h = rw (e, h) refl
 
   pub inline_tree : (label : Text) (id : InterfaceId) (i : Interface) → interface_at r id.0 ≡ Some i → is_some i.name ≡ false → labelled_tree r here label id ≡ NamedInterface label (shown_interface r id i)
-  inline_tree label id i e h = rw (e, h, e) refl
+  inline_tree label id i e h = rw (e, h) refl
