@@ -54,20 +54,20 @@ use Rattle.wit_encode_types.proofs.Tables.{pairs-permuted}
 -- ---- what is learnt
 
 -- no number has been learnt twice
-learnt-apart : (m m' : TypeEncodingMaps) (learnt : List (ℕ × ℕ)) → IsOnce m' → IsPermutation (m.id_to_index.entries ++ learnt) m'.id_to_index.entries
+pub learnt-apart : (m m' : TypeEncodingMaps) (learnt : List (ℕ × ℕ)) → IsOnce m' → IsPermutation (m.id_to_index.entries ++ learnt) m'.id_to_index.entries
     → AllPairs (λ a b. nat_eq a.0 b.0 ≡ false) (m.id_to_index.entries ++ learnt)
 learnt-apart m m' learnt once p =
     pairs-permuted (λ (a b : ℕ × ℕ). nat_eq a.0 b.0 ≡ false) (λ a b e. nat_eq_equiv.symm b.0 a.0 ∙ e) m'.id_to_index.entries (m.id_to_index.entries ++ learnt)
     (IsPermutation-sym (m.id_to_index.entries ++ learnt) m'.id_to_index.entries p) once.numbers
 
 -- what is known was, or has been learnt
-was-or-learnt : (m m' : TypeEncodingMaps) (learnt : List (ℕ × ℕ)) → IsPermutation (m.id_to_index.entries ++ learnt) m'.id_to_index.entries → (x : ℕ × ℕ) → Contains m'.id_to_index.entries x
+pub was-or-learnt : (m m' : TypeEncodingMaps) (learnt : List (ℕ × ℕ)) → IsPermutation (m.id_to_index.entries ++ learnt) m'.id_to_index.entries → (x : ℕ × ℕ) → Contains m'.id_to_index.entries x
     → Contains m.id_to_index.entries x ⊎ Contains learnt x
 was-or-learnt m m' learnt p x c = Contains-append_cases m.id_to_index.entries learnt x (Contains-permutation m'.id_to_index.entries (m.id_to_index.entries ++ learnt) x
     (IsPermutation-sym (m.id_to_index.entries ++ learnt) m'.id_to_index.entries p) c)
 
 -- a number that has been learnt is one of these
-learnt-one : (P : ℕ → Type 0) (m m' : TypeEncodingMaps) (learnt : List (ℕ × ℕ)) → IsOnce m' → IsPermutation (m.id_to_index.entries ++ learnt) m'.id_to_index.entries
+pub learnt-one : (P : ℕ → Type 0) (m m' : TypeEncodingMaps) (learnt : List (ℕ × ℕ)) → IsOnce m' → IsPermutation (m.id_to_index.entries ++ learnt) m'.id_to_index.entries
     → LearnsOnly P m m' → (x : ℕ × ℕ) → Contains learnt x → P x.0
 learnt-one P m m' learnt once e l x c = elim (l.each x.0 x.1
     (Contains-permutation (m.id_to_index.entries ++ learnt) m'.id_to_index.entries x e (Contains-append_right m.id_to_index.entries learnt x c))) [

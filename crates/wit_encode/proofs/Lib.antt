@@ -39,6 +39,7 @@ pub mod WorldCalls
 pub mod WorldUses
 pub mod WorldShown
 pub mod WorldFunctions
+pub mod WorldTypes
 pub mod ImportsStand
 pub mod Imported
 pub mod UsedPaths

@@ -246,7 +246,7 @@ module _ (r : Resolve) (v : IsValid r) (o : TypeOwner) where
   abbrev Meets : ℕ → Type 0
   Meets n = Stay n ⊎ ((def : TypeDef) → type_at r n ≡ Some def → IsUse def)
 
-  use-foreign : (def : TypeDef) → IsUse def → foreign_owner (interface_of_owner o) def.owner ≡ None → ⊥
+  pub use-foreign : (def : TypeDef) → IsUse def → foreign_owner (interface_of_owner o) def.owner ≡ None → ⊥
   use-foreign def u f =
       let same : same_owner def.owner o ≡ true = own-interface o def.owner u.interface.0 (ap owner_interface u.owns) f in
       let wrong : true ≡ false = sym same ∙ u.other in

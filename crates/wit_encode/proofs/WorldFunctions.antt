@@ -75,15 +75,15 @@ starts r w e there packages outer instances known count ids agree = record {
 
 -- ---- the place of the next item
 
-at-length : {A : Type 0} (xs ys : List A) (y : A) → slice_get (xs ++ y ∷ ys) (length xs) ≡ Some y
+pub at-length : {A : Type 0} (xs ys : List A) (y : A) → slice_get (xs ++ y ∷ ys) (length xs) ≡ Some y
 at-length [] ys y = refl
 at-length (x ∷ xs) ys y = at-length xs ys y
 
-taken-front : {A : Type 0} (xs ys : List A) → take (length xs) (xs ++ ys) ≡ xs
+pub taken-front : {A : Type 0} (xs ys : List A) → take (length xs) (xs ++ ys) ≡ xs
 taken-front [] ys = refl
 taken-front (x ∷ xs) ys = ap (λ zs. x ∷ zs) (taken-front xs ys)
 
-abbrev second : Entry → WorldItem
+abbrev pub second : Entry → WorldItem
 second x = x.1
 
 abbrev pub done_items : Entries → List WorldItem
@@ -124,7 +124,7 @@ interfaces-given (e ∷ es) = by (item_interface e.1) ∙ ap (λ xs. option_to_l
     by None = refl
     by (Some n) = refl
 
-types-given : (es : List Entry) → filter_map item_type (map (λ x. x.1) es) ≡ types_among es
+pub types-given : (es : List Entry) → filter_map item_type (map (λ x. x.1) es) ≡ types_among es
 types-given [] = refl
 types-given (e ∷ es) = ap (λ xs. cons_option (item_type e.1) xs) (types-given es)
 

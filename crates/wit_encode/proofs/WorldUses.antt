@@ -6,7 +6,7 @@ use Rattle.std.specs.Option.{option_map_or}
 use Rattle.std.specs.Prelude.{option_and_then}
 use Rattle.std.proofs.lemmas.List.Elements.{Contains-append_cases}
 use Rattle.indexmap.specs.IndexMap.{values}
-use Rattle.wit_model.specs.Lookup.{interface_path, type_at, world_at}
+use Rattle.wit_model.specs.Lookup.{interface_path, key_text, type_at, world_at}
 use Rattle.wit_model.specs.Parts.{met_by, met_of, same_owner, function_types, function_numbers, has_owner, used_by_type, used_by_function}
 use Rattle.wit_model.specs.Text.{Text, text_of}
 use Rattle.wit_model.specs.Rules.{is_use, in_list, passes, package_number, text_is, key_in_range, item_in_range, entries_in_range, item_type, uses_stand_before, used_interfaces, used_types, used_by_number, import_stands, export_stands}
@@ -34,6 +34,7 @@ use Rattle.wit_shown.proofs.Zips.{given-contains}
 use Rattle.wit_encode_types.specs.Kinds.{parts_of}
 use Rattle.wit_encode_types.specs.Resources.{is_named_interface}
 use Rattle.wit_encode_types.specs.Plan.{foreign_owner, Reaches, itself, through}
+use Rattle.wit_encode_types.specs.KeyLaws.{text_same}
 use Rattle.wit_encode_types.specs.Scope.{Scope}
 use Rattle.wit_encode_types.proofs.Lists.{all-contained, contains-filter_map, contains-one, none-in, one-contained}
 use Rattle.wit_encode_types.proofs.Paths.{found-in, some-of, some-same}
@@ -45,7 +46,7 @@ use Rattle.wit_encode.proofs.Meeting.{named-meets, unnamed-meets, part-uses}
 use Rattle.wit_encode.proofs.Naming.{named-owner}
 use Rattle.wit_encode.proofs.Numbers.{after-at, contains-flat, contains-get, get-contains, has-contains}
 use Rattle.wit_encode.proofs.Owned.{part-met, same-owner, stays, valid-references}
-use Rattle.wit_encode.proofs.OwnerScope.{AllStay, IsUse, Stay, function-refers, given-some, named-stays, target-is, type-stays, types-stay, use-at, world_passes}
+use Rattle.wit_encode.proofs.OwnerScope.{AllStay, IsUse, Stay, function-refers, given-some, named-stays, target-is, type-stays, types-stay, use-at, use-foreign, world_passes}
 use Rattle.wit_encode.proofs.Validity.{valid-ownerless}
 
 -- ---- beginnings of lists
@@ -216,12 +217,12 @@ module _ (r : Resolve) (v : IsValid r) (id : WorldId) (w : World) (there : world
   unfolding numbers_in_range
   entries-range = second_true (passes (in_list r.packages.items) (package_number w.package)) _ (second_true (is_place id.0) _ (world_passes numbers_in_range r v.rules.numbers_in_range id.0 w there))
 
-  entries-stand : (list_all (λ e. import_stands r id.0 e.0 e.1) w.imports.entries && list_all (λ e. export_stands r e.0 e.1) w.exports.entries) ≡ true
+  pub entries-stand : (list_all (λ e. import_stands r id.0 e.0 e.1) w.imports.entries && list_all (λ e. export_stands r e.0 e.1) w.exports.entries) ≡ true
   unfolding world_items
   entries-stand = world_passes world_items r v.rules.world_items id.0 w there
 
   -- a type that is an item is one of the world
-  own-type : (k : ℕ) (id' : TypeId) → slice_get items k ≡ Some (item.Type_ id') → IsTypeOf r home id'
+  pub own-type : (k : ℕ) (id' : TypeId) → slice_get items k ≡ Some (item.Type_ id') → IsTypeOf r home id'
   own-type k id' at = elim (Contains-append_cases (values w.imports) (values w.exports) (item.Type_ id') (get-contains items k (item.Type_ id') at)) [
     | inl c ↦ (let e = contains-mapped (λ (e : WorldKey × WorldItem). e.1) w.imports.entries (item.Type_ id') c in
         let stands = all-contained (λ e. import_stands r id.0 e.0 e.1) w.imports.entries e.0 (first_true (list_all (λ e. import_stands r id.0 e.0 e.1) w.imports.entries) _ entries-stand) e.1 in
@@ -265,6 +266,32 @@ module _ (r : Resolve) (v : IsValid r) (id : WorldId) (w : World) (there : world
   function-listed f k at id' c x d =
       types-ready k (item.Function f) at x (contains-filter (has_owner r home) (used_by_function r f) x (all-contained (has_owner r home) (met_by (met_of r) id'.0) x (function-stays f k at id' c) d)
       (contains-flat (met_by (met_of r)) (function_numbers f) id'.0 x (function-refers r v f id' c) d))
+
+  -- the named types that the parts of a type meet stand before it, but for those of other interfaces
+  pub parts-listed : (k : ℕ) (t : TypeId) → slice_get items k ≡ Some (item.Type_ t) → (own : IsTypeOf r home t) → (id' : TypeId) → Contains (parts_of own.def.kind) (ty.Id id') → (def' : TypeDef) → type_at r id'.0 ≡ Some def' → foreign_owner None def'.owner ≡ None
+      → (x : ℕ) → Contains (met_by (met_of r) id'.0) x → Contains (types_before k) x
+  parts-listed k t at own id' c def' at' f x d = part-met r v home t.0 own.def own.there id' c (type-stays r v home t own t (contains-one (ty.Id t)))
+      (λ stay. types-ready k (item.Type_ t) at x (contains-filter (has_owner r home) (used_by_number r t.0) x (all-contained (has_owner r home) (met_by (met_of r) id'.0) x stay d)
+      (subst (λ (o : Option TypeDef). Contains (option_map_or (used_by_type r) o []) x) (sym own.there) (part-uses r (valid-references r v) own.def id' x c d))))
+      (λ named here uses. absurd (use-foreign r v home def' (use-at r v home t.0 own.def own.there id' c named here uses def' at') f))
+
+  -- no export is a type
+  pub no-type-exported : (k : WorldKey) (t : TypeId) → Contains w.exports.entries (k, item.Type_ t) → ⊥
+  no-type-exported k t c = wrong k (all-contained (λ e. export_stands r e.0 e.1) w.exports.entries (k, item.Type_ t) (second_true (list_all (λ e. import_stands r id.0 e.0 e.1) w.imports.entries) _ entries-stand) c)
+    where
+      wrong : (k : WorldKey) → export_stands r k (item.Type_ t) ≡ true → ⊥
+      wrong (key.Name name) h = let z : ⊥ = cc in z
+      wrong (key.Interface i) h = let z : ⊥ = cc in z
+
+  -- a type is imported under its name
+  pub type-key : (k : WorldKey) (t : TypeId) → Contains w.imports.entries (k, item.Type_ t) → (own : IsTypeOf r home t) (name : String Global) → own.def.name ≡ Some name → text_of name ≡ key_text r k
+  type-key k t c own name named = of k (all-contained (λ e. import_stands r id.0 e.0 e.1) w.imports.entries (k, item.Type_ t) (first_true (list_all (λ e. import_stands r id.0 e.0 e.1) w.imports.entries) _ entries-stand) c)
+    where
+      of : (k : WorldKey) → import_stands r id.0 k (item.Type_ t) ≡ true → text_of name ≡ key_text r k
+      of (key.Interface i) h = absurd (let z : ⊥ = cc in z)
+      of (key.Name n) h =
+          let test : (text_is own.def.name (text_of n) && same_owner own.def.owner home) ≡ true = subst (λ (o : Option TypeDef). passes (λ def. text_is def.name (text_of n) && same_owner def.owner home) o ≡ true) own.there h in
+          text_same (text_of name) (text_of n) (ap (λ o. text_is o (text_of n)) (sym named) ∙ first_true (text_is own.def.name (text_of n)) _ test)
 
   module _ (k : ℕ) (scope : Scope) (s : IsScopeOf r home scope) (stand : StandBefore r w k scope.instances) where
     type-stands : (id' : TypeId) → slice_get items k ≡ Some (item.Type_ id') → InstancesStand r scope (ty.Id id' ∷ [])

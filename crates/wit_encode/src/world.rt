@@ -21,8 +21,12 @@ use comp_bytes::{
     ComponentDefinedType, ComponentExternName, ComponentFuncType, ComponentType, ComponentTypeRef,
 };
 use std::alloc::Global;
-use wit_encode_types::{LendsMaps, TypeEncodingMaps, ValtypeEncoder, encode_func_type};
-use wit_model::{Error, Function, InterfaceId, Resolve, TypeId, WorldId, WorldItem, WorldKey};
+use wit_encode_types::{
+    LendsMaps, TypeEncodingMaps, ValtypeEncoder, encode_func_type, encode_valtype,
+};
+use wit_model::{
+    Error, Function, InterfaceId, Resolve, Type, TypeId, WorldId, WorldItem, WorldKey,
+};
 use world_names::item_name;
 
 /// Whether a declaration is an import or an export.
@@ -199,5 +203,23 @@ impl<'a> WorldEncoderOf<'a, TypeEncodingMaps<'a>> {
         let index = encode_func_type(alloc, self, resolve, func)?;
         let described = ComponentTypeRef::Func(index);
         declare(&mut self.outer, placed.direction, &name, described)
+    }
+
+    /// Imports a type of the world, behind what it needs of other interfaces.
+    fn encode_type(
+        &mut self,
+        alloc: Global,
+        resolve: &'a Resolve,
+        placed: Placed<'a>,
+        id: TypeId,
+    ) -> Result<(), Error>
+        requires valid { IsValid resolve.now }
+        requires next { AwaitsNext resolve.now self.old placed }
+        requires item { placed.item.now ≡ item_kinds.Type_ id }
+        ensures ok { OnOk result (Encodes resolve.now self.old self.new placed.entry) }
+        ensures refuses { IfErr result IsMemoryOrSize }
+    {
+        encode_valtype(alloc, self, resolve, &Type::Id(id))?;
+        Ok(())
     }
 }
