@@ -37,20 +37,21 @@ use Rattle.read_plan.proofs.NumberedRules.{no_name, shape_there}
 use Rattle.read_plan.proofs.ShapeLaws.{name_tree, part_behind, slice_take, slice_there, tree_at_number}
 use Rattle.read_plan.proofs.Words.{behind}
 
-numbered_there : {A : Type 0} (k : ℕ) (xs : List A) (n : ℕ) (x : A) → slice_get xs n ≡ Some x → slice_get (numbered_from k xs) n ≡ Some (k + n, x)
+pub numbered_there : {A : Type 0} (k : ℕ) (xs : List A) (n : ℕ) (x : A) → slice_get xs n ≡ Some x → slice_get (numbered_from k xs) n ≡ Some (k + n, x)
 numbered_there k [] n x e = absurd cc
 numbered_there k (y ∷ ys) zero x e = let same : y ≡ x = same-some y x e in let here : k ≡ k + 0 = omega arith in λ i. Some (here i, same i)
 numbered_there k (y ∷ ys) (suc n) x e = let next : (k + 1) + n ≡ k + suc n = omega arith in numbered_there (k + 1) ys n x e ∙ ap (λ m. Some (m, x)) next
 
+-- what is met at a type, by what is met at smaller numbers
+pub met_there : (p : Plan) (j : ℕ) (x : PlannedType) → slice_get p.types j ≡ Some x → met_by (met_in p) j ≡ met_at (take j (met_in p)) (j, x)
+unfolding met_in
+met_there p j x e =
+    let zero_more : 0 + j ≡ j = omega arith in
+    ap (λ o. unwrap_or o []) (grow_at met_at (numbered_from 0 p.types) j (j, x) (numbered_there 0 p.types j x e ∙ ap (λ m. Some (m, x)) zero_more))
+
 module _ (t : Tables) (tables : AreTables t) (kept : List ℕ) (p : Plan) (are : TypesAreKept t kept p) (owners : ℕ → TypeOwner) (owned : AreOwned t kept p owners) where
   abbrev all_met : List (List ℕ)
   all_met = met_in p
-
-  met_there : (j : ℕ) (x : PlannedType) → slice_get p.types j ≡ Some x → met_by all_met j ≡ met_at (take j all_met) (j, x)
-  unfolding met_in
-  met_there j x e =
-      let zero_more : 0 + j ≡ j = omega arith in
-      ap (λ o. unwrap_or o []) (grow_at met_at (numbered_from 0 p.types) j (j, x) (numbered_there 0 p.types j x e ∙ ap (λ m. Some (m, x)) zero_more))
 
   name_there : (n q : ℕ) (name : Text) → slice_get t.shapes n ≡ Some (named_shape q name) → tree_at t (14 + n) ≡ Tree.named (place_at t q) name
   name_there n q name e =
@@ -144,7 +145,7 @@ module _ (t : Tables) (tables : AreTables t) (kept : List ℕ) (p : Plan) (are :
         let found = slice_there p.types j low in
         let from = are.each j found.0 found.1 in
         let number : from.0 ≡ n = same-some from.0 n (sym from.1 ∙ stands) in
-        ap (list_all (has_owner p (owners q))) (met_there j found.0 found.1)
+        ap (list_all (has_owner p (owners q))) (met_there p j found.0 found.1)
         ∙ type_met j n (λ i m less range at here_m. all_own fuel i m (omega (arith, less, h)) range at here_m) found.0 found.1 stands (subst (λ k. IsKeptType t kept p k found.0) number from.2) here
 
     part_met : (old new : ℕ) → IsPartHere old → Becomes t kept p old new → IsMetAs all_met new
@@ -219,7 +220,7 @@ module _ (t : Tables) (tables : AreTables t) (kept : List ℕ) (p : Plan) (are :
 
         by : (b : Bool) → (s == r) ≡ b → IsFine x
         by true same =
-            let met : met_by all_met i ≡ i ∷ [] = met_there i u e ∙ ap (λ o. option_map_or (λ y. i ∷ []) o (flat_map (met_by (take i all_met)) (kind_numbers u.kind))) called in
+            let met : met_by all_met i ≡ i ∷ [] = met_there p i u e ∙ ap (λ o. option_map_or (λ y. i ∷ []) o (flat_map (met_by (take i all_met)) (kind_numbers u.kind))) called in
             let own : IsOwn r (met_by all_met i) = ap (list_all (has_owner p (owners r))) met ∙ both (has_owner p (owners r) i) true (named_here r i m u s other e stands at (eqb-true s r same)) refl in
             own_numbers (ap (λ k. list_all (has_owner p (owners r)) (flat_map (met_by all_met) (kind_numbers k))) k ∙ met_number r all_met new i to own [] refl)
         by false none = elim (owned.used j n x r name m s other planned_there kept_there there kind at) [

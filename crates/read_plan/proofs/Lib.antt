@@ -33,8 +33,19 @@ pub mod KeptResources
 pub mod KeptOwners
 pub mod ReadFunctions
 pub mod ReadInterfaces
+pub mod ReadLists
+pub mod ReadPlaces
+pub mod ReadWorlds
+pub mod ListedTypes
+pub mod UsedInterfaces
+pub mod MetTypes
+pub mod ReadOrder
+pub mod ReadPlans
+pub mod ReadWholes
 pub mod Renumbering
 pub mod Gathering
 mod WholePlan
 mod WholeBuilt
 mod OneWorldPlan
+mod WholeRead
+mod WholeGathered

@@ -70,16 +70,16 @@ module _ (t : Tables) (kept : List ℕ) (p : Plan) (are : TypesAreKept t kept p)
 
   -- ---- types
 
-  module _ (b : Beside) (owned : AreOwned t kept p b.owners) (m q : ℕ) (home : b.owners q ≡ as_interface m) where
-    bears_name : (n : ℕ) (name : Text) (u : PlannedType) → slice_get t.shapes n ≡ Some (named_shape q name) → IsKeptType t kept p n u → bears name u.name ≡ true
-    bears_name n name u there (declared r other d at called home_u kind before good obeys) =
-        let one : named_shape r other ≡ named_shape q name = same-some (named_shape r other) (named_shape q name) (sym at ∙ there) in
-        ap (λ o. option_map_or (λ x. text_eq x name) o false) called ∙ same_text other name (ap (λ (s : Shape). first_label s.labels) one)
-    bears_name n name u there (unnamed place form olds news at z none unowned kind part low) =
-        let one : node_shape form olds ≡ named_shape q name = same-some (node_shape form olds) (named_shape q name) (sym at ∙ there) in
-        let sort : (form_code form).sort ≡ 0 = ap (λ (s : Shape). s.sort) one in
-        no_true (sym (no_name form) ∙ eq-eqb (form_code form).sort 0 sort)
+  pub bears_name : (q n : ℕ) (name : Text) (u : PlannedType) → slice_get t.shapes n ≡ Some (named_shape q name) → IsKeptType t kept p n u → bears name u.name ≡ true
+  bears_name q n name u there (declared r other d at called home_u kind before good obeys) =
+      let one : named_shape r other ≡ named_shape q name = same-some (named_shape r other) (named_shape q name) (sym at ∙ there) in
+      ap (λ o. option_map_or (λ x. text_eq x name) o false) called ∙ same_text other name (ap (λ (s : Shape). first_label s.labels) one)
+  bears_name q n name u there (unnamed place form olds news at z none unowned kind part low) =
+      let one : node_shape form olds ≡ named_shape q name = same-some (node_shape form olds) (named_shape q name) (sym at ∙ there) in
+      let sort : (form_code form).sort ≡ 0 = ap (λ (s : Shape). s.sort) one in
+      no_true (sym (no_name form) ∙ eq-eqb (form_code form).sort 0 sort)
 
+  module _ (b : Beside) (owned : AreOwned t kept p b.owners) (m q : ℕ) (home : b.owners q ≡ as_interface m) where
     type_is : (x : NumberedType) (n : ℕ) (e : Text × ℕ) → IsNumberOf t q x n → IsKeptAs kept p n e → HasName x e → is_type_of p (as_interface m) e ≡ true
     type_is x n e there at name =
         let found = slice_there p.types e.1 at.1 in
@@ -88,7 +88,7 @@ module _ (t : Tables) (kept : List ℕ) (p : Plan) (are : TypesAreKept t kept p)
         let owner_is = owned.owned e.1 n found.0 q x.name found.1 at.0 there ∙ home in
         ap (λ o. option_map_or (λ y. bears e.0 y.name && same_owner y.owner (as_interface m)) o false) found.1
         ∙ both (bears e.0 found.0.name) (same_owner found.0.owner (as_interface m))
-        (ap (λ y. bears y found.0.name) name ∙ bears_name n x.name found.0 there (subst (λ k. IsKeptType t kept p k found.0) number is.2)) (ap (λ o. same_owner o (as_interface m)) owner_is ∙ owner_itself (as_interface m))
+        (ap (λ y. bears y found.0.name) name ∙ bears_name q n x.name found.0 there (subst (λ k. IsKeptType t kept p k found.0) number is.2)) (ap (λ o. same_owner o (as_interface m)) owner_is ∙ owner_itself (as_interface m))
 
     types_are : (xs : List NumberedType) (ns : List ℕ) (es : List (Text × ℕ)) → AllZip (IsNumberOf t q) xs ns → AllZip (IsKeptAs kept p) ns es → AllZip HasName xs es → list_all (is_type_of p (as_interface m)) es ≡ true
     types_are xs ns [] y z names = refl
@@ -107,7 +107,7 @@ module _ (t : Tables) (kept : List ℕ) (p : Plan) (are : TypesAreKept t kept p)
         && list_all (λ f. rules.is_function (place_at t is.place) (rules.resources_of (view_of t is.view).types) f.0 f.1.signature) (view_of t is.view).functions)
         (distinct (map (λ x. x.name) (view_of t is.view).types ++ map (λ f. f.0) (view_of t is.view).functions)) is.obeys
 
-    has_labels : interface_labels i ≡ true
+    pub has_labels : interface_labels i ≡ true
     has_labels =
         both (passes is_label i.name) (are_distinct (names_of i.types ++ names_of i.functions)) is.label
         (ap are_distinct (λ j. type_names is.view.types i.types is.names j ++ function_names is.view.functions i.functions is.functions j)

@@ -22,19 +22,19 @@ use Rattle.read_plan.proofs.Lists.{no_true}
 
 -- ---- types: those of s:r/j, s:r/k, a:b/i and a:b/s, the world's and the inline interface's, with unnamed ones between them
 
-abbrev of_interface : ℕ → TypeOwner
+abbrev pub of_interface : ℕ → TypeOwner
 of_interface n = owner.Interface (record { 0 = n })
 
-abbrev of_world : TypeOwner
+abbrev pub of_world : TypeOwner
 of_world = owner.World (record { 0 = 0 })
 
 abbrev named_type : Text → TypeOwner → PlannedKind → PlannedType
 named_type name o kind = record { name = Some name; owner = o; kind = kind; external_id = None }
 
-abbrev unnamed_type : Form → List ℕ → PlannedType
+abbrev pub unnamed_type : Form → List ℕ → PlannedType
 unnamed_type form ks = record { name = None; owner = owner.None; kind = formed form ks; external_id = None }
 
-abbrev planned_types : List PlannedType
+abbrev pub planned_types : List PlannedType
 planned_types =
     record { name = Some (codes "t"); owner = of_interface 0; kind = alias 3; external_id = Some (codes "pkg") }
     ∷ named_type (codes "t") (of_interface 1) (alias 14)
@@ -50,13 +50,13 @@ planned_types =
 
 -- ---- functions, interfaces and the world
 
-abbrev taking : Text → FunctionKind → Text → ℕ → Option ℕ → PlannedFunction
+abbrev pub taking : Text → FunctionKind → Text → ℕ → Option ℕ → PlannedFunction
 taking name kind param part result = record { name = name; kind = kind; params = (param, part) ∷ []; result = result; external_id = None }
 
-abbrev plain : Text → ℕ → PlannedFunction
+abbrev pub plain : Text → ℕ → PlannedFunction
 plain name part = taking name call.Freestanding (codes "x") part None
 
-abbrev planned_interfaces : List PlannedInterface
+abbrev pub planned_interfaces : List PlannedInterface
 planned_interfaces =
     record { name = Some (codes "j"); package_ = Some 0; types = (codes "t", 0) ∷ []; functions = (codes "f", plain (codes "f") 14) ∷ [] }
     ∷ record { name = Some (codes "k"); package_ = Some 0; types = (codes "t", 1) ∷ []; functions = [] }
@@ -70,7 +70,7 @@ planned_interfaces =
     }
     ∷ record { name = None; package_ = Some 1; types = (codes "t", 10) ∷ []; functions = (codes "f", taking (codes "f") call.AsyncFreestanding (codes "x") 24 None) ∷ [] } ∷ []
 
-abbrev planned_world : PlannedWorld
+abbrev pub planned_world : PlannedWorld
 planned_world = record {
   name = codes "w";
   package_ = Some 1;

@@ -10,6 +10,11 @@ pub mod KeptResources
 pub mod KeptOwners
 pub mod ReadFunctions
 pub mod ReadInterfaces
+pub mod ReadPlaces
+pub mod ReadWorlds
+pub mod ReadOrder
+pub mod ReadPlans
+pub mod ReadWholes
 pub mod Plan
 pub mod PlanMeaning
 pub mod PlanRules

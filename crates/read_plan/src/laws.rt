@@ -34,6 +34,11 @@ ghost use Rattle.read_plan.specs.PlanLaws.{
 };
 ghost use Rattle.read_plan.specs.ReadFunctions.{ReadFunctionsPass};
 ghost use Rattle.read_plan.specs.ReadInterfaces.{ReadInterfacesPass};
+ghost use Rattle.read_plan.specs.ReadOrder.{ReadOrderPasses};
+ghost use Rattle.read_plan.specs.ReadPlaces.{ReadPlacesPass};
+ghost use Rattle.read_plan.specs.ReadPlans.{ReadPlanStands};
+ghost use Rattle.read_plan.specs.ReadWholes.{ReadPackagePlanStands, ReadWorldPlanStands};
+ghost use Rattle.read_plan.specs.ReadWorlds.{ReadWorldsPass};
 ghost use Rattle.read_plan.specs.Renumbering.{TreesAreKept};
 ghost use Rattle.read_plan.specs.Shapes.{OneNumber, TreeAtNumber};
 
@@ -123,6 +128,35 @@ pub fn read_functions_pass()
 /// Where each interface of a plan is read in its own place, its names are labels that differ, and its types are its own, under rising numbers.
 pub fn read_interfaces_pass()
     ensures { ReadInterfacesPass }
+{}
+
+/// Where each package of a plan is that of a path, and each interface and each world stands where it was read, packages are apart and list what
+/// is theirs under names that differ, and interfaces and worlds stand in their places.
+pub fn read_places_pass()
+    ensures { ReadPlacesPass }
+{}
+
+/// Where each world of a plan is read in its own place, its imports and exports stand under keys that differ, and its types under rising numbers.
+pub fn read_worlds_pass()
+    ensures { ReadWorldsPass }
+{}
+
+/// Where each name was shown in its own place, and each interface uses what was seen before it, named types stand in their owners' lists,
+/// interfaces use smaller ones alone, and each item of a world stands behind what it uses.
+pub fn read_order_passes()
+    ensures { ReadOrderPasses }
+{}
+
+/// A plan that is read passes all tests of a plan, so that a `Resolve` that is built from it is valid.
+pub fn read_plans_stand()
+    ensures { ReadPlanStands }
+{}
+
+/// A plan that is read as a package is the plan of one, and a plan that is read as one world is the plan of one: nothing stands there without a
+/// reason.
+pub fn whole_plans_stand()
+    ensures package_ { ReadPackagePlanStands }
+    ensures world { ReadWorldPlanStands }
 {}
 
 /// A function of a plan whose types are those of shapes that are kept, where what was read obeys the rules, passes the tests of its numbers,
