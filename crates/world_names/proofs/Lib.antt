@@ -1,5 +1,6 @@
 pub mod Repeats
 pub mod Refusing
+pub mod Paths
 pub mod OneClash
 pub mod PathsRead
 pub mod NamesRead

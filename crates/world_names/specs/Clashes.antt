@@ -1,5 +1,5 @@
 -- When two imports, or two exports, of a world have one canonical name.
-use Rattle.std.specs.Prelude.{◌≡◌, Bool, true, List, ◌∷◌, ◌++◌, map, String}
+use Rattle.std.specs.Prelude.{◌≡◌, ℕ, Bool, true, List, ◌∷◌, ◌++◌, map, String}
 use Rattle.std.specs.List.{Contains, IsDistinct}
 use Rattle.std.specs.declared.alloc.Global.{Global}
 use Rattle.wit_model.specs.Text.{Text, text_eq, text_of}
@@ -9,11 +9,15 @@ use Rattle.wit_model.specs.declared.model.Resolve.{Resolve}
 use Rattle.wit_model.specs.declared.model.World.{World}
 use Rattle.wit_model.specs.declared.model.WorldKey.{WorldKey}
 use Rattle.wit_model.specs.declared.model.WorldItem.{WorldItem}
-use Rattle.world_names.specs.WorldNames.{written_key}
+use Rattle.world_names.specs.WorldNames.{written_key, written_path}
 
 -- the canonical names of imports, or of exports
 abbrev pub canonical_names_of : Resolve → List (WorldKey × WorldItem) → List Text
 canonical_names_of r items = map (λ e. written_key r true e.0) items
+
+-- the canonical paths of the interfaces of these numbers
+abbrev pub canonical_paths_of : Resolve → List ℕ → List Text
+canonical_paths_of r numbers = map (written_path r true) numbers
 
 -- no text stands twice
 abbrev pub AreDifferent : List Text → Type 0
@@ -31,6 +35,16 @@ pub record IsFirstRepeat (texts : List Text) (x : Text) : Type 0 where
 pub data RefusesItems (r : Resolve) (items : List (WorldKey × WorldItem)) (e : Error) : Type 0 where
   memory : e ≡ errors.Memory → RefusesItems r items e
   clash : (name : String Global) → IsFirstRepeat (canonical_names_of r items) (text_of name) → e ≡ errors.CanonicalClash name → RefusesItems r items e
+
+-- Want of memory, or this name where it is one of those before it.
+pub data RefusesText (before : List Text) (x : Text) (e : Error) : Type 0 where
+  memory : e ≡ errors.Memory → RefusesText before x e
+  clash : (name : String Global) → text_of name ≡ x → Contains before x → e ≡ errors.CanonicalClash name → RefusesText before x e
+
+-- Want of memory, or, where canonical names are asked for, the first canonical path of these interfaces that repeats an earlier one.
+pub data RefusesPaths (r : Resolve) (numbers : List ℕ) (canonical : Bool) (e : Error) : Type 0 where
+  memory : e ≡ errors.Memory → RefusesPaths r numbers canonical e
+  clash : canonical ≡ true → (name : String Global) → IsFirstRepeat (canonical_paths_of r numbers) (text_of name) → e ≡ errors.CanonicalClash name → RefusesPaths r numbers canonical e
 
 -- no two imports and no two exports have one canonical name
 pub record HasNoClash (r : Resolve) (w : World) : Type 0 where

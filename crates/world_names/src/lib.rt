@@ -5,5 +5,5 @@ mod clash;
 mod extern_names;
 pub mod laws;
 
-pub use clash::{refuse_clash, refuse_clashes};
+pub use clash::{refuse_clash, refuse_clashes, refuse_equal_paths};
 pub use extern_names::{interface_name, item_name};

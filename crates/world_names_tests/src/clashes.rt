@@ -2,13 +2,13 @@
 
 use super::packages::{
     Entry, LABEL_X, LABEL_Y, LABEL_Z, PATH_0, PATH_1, PATH_2, PATH_3, PATH_4, PATH_5, PATH_7,
-    PATH_8, with_world,
+    PATH_8, packages, with_world,
 };
 use std::alloc::Global;
 use std::process::Abort;
 use std::test::Fail;
-use wit_model::Error;
-use world_names::{refuse_clash, refuse_clashes};
+use wit_model::{Error, InterfaceId};
+use world_names::{refuse_clash, refuse_clashes, refuse_equal_paths};
 
 /// Imports, exports, and what comes of the imports alone, of the world without canonical names and of the world with them: the name at
 /// which they clash, or `-`.
@@ -86,6 +86,50 @@ fn clashes(rt: HostRuntime) -> Result<(), Fail> {
     ];
     for (index, case) in CASES.iter().enumerate() {
         assert_case(&rt, rt.alloc(), *case, index)?;
+    }
+    Ok(())
+}
+
+/// Interfaces, and the canonical path that repeats an earlier one, or `-`.
+type Paths = (&'static [InterfaceId], &'static str);
+
+// The same of interfaces, whatever world they stand in. An inline interface has the empty path.
+#[test]
+fn equal_paths(rt: HostRuntime) -> Result<(), Fail> {
+    static CASES: [Paths; 6] = [
+        (&[InterfaceId(1), InterfaceId(5)], "a:b/c@1"),
+        (
+            &[
+                InterfaceId(5),
+                InterfaceId(7),
+                InterfaceId(8),
+                InterfaceId(1),
+            ],
+            "a:b/d@1",
+        ),
+        (
+            &[
+                InterfaceId(0),
+                InterfaceId(1),
+                InterfaceId(2),
+                InterfaceId(3),
+                InterfaceId(4),
+                InterfaceId(7),
+            ],
+            "-",
+        ),
+        (&[InterfaceId(0), InterfaceId(1), InterfaceId(0)], "a:b/c"),
+        (&[InterfaceId(6), InterfaceId(1), InterfaceId(6)], ""),
+        (&[], "-"),
+    ];
+    let alloc = rt.alloc();
+    let resolve = packages(alloc)?;
+    for (index, case) in CASES.iter().enumerate() {
+        let (interfaces, expected) = *case;
+        let plain = refuse_equal_paths(alloc, &resolve, interfaces, false);
+        assert_answer(&rt, plain, "-", index)?;
+        let canonical = refuse_equal_paths(alloc, &resolve, interfaces, true);
+        assert_answer(&rt, canonical, expected, index)?;
     }
     Ok(())
 }
