@@ -33,7 +33,7 @@ use Rattle.comp_read.proofs.WholeLaws.{all_end}
 
 -- ---- slots of well-formed tables
 
-name_below : (shapes : List Shape) (part : ℕ) → IsNamePart shapes part → part < 14 + length shapes
+pub name_below : (shapes : List Shape) (part : ℕ) → IsNamePart shapes part → part < 14 + length shapes
 name_below shapes part named = let inside = found_below shapes named.number (named_shape named.place named.name) named.at in omega (arith, named.is, inside)
 
 -- a part that is a name stands for it
@@ -60,7 +60,7 @@ names_of place shapes fs (slots.Instance b n ∷ ss) table h = names_of place sh
 -- ---- tables that grow
 
 module _ (m : ℕ) (shapes more : List Shape) (fs more_fs : List FunctionShape) (tables : AreTables m shapes fs) (gs : Grows shapes more) (gf : Grows fs more_fs) where
-  wider_part : (k : ℕ) → k < 14 + length shapes → k < 14 + length more
+  pub wider_part : (k : ℕ) → k < 14 + length shapes → k < 14 + length more
   wider_part k h = let long = longer shapes more gs in omega (arith, h, long)
 
   wider_name : (part : ℕ) → IsNamePart shapes part → IsNamePart more part
@@ -72,7 +72,7 @@ module _ (m : ℕ) (shapes more : List Shape) (fs more_fs : List FunctionShape) 
     at = ap (λ (ss : List Shape). slice_get ss h.number) gs.is ∙ (slice_front shapes gs.more h.number (found_below shapes h.number (named_shape h.place h.name) h.at) ∙ h.at);
   }
 
-  wider_number : (n : ℕ) → n < length fs → n < length more_fs
+  pub wider_number : (n : ℕ) → n < length fs → n < length more_fs
   wider_number n h = let long = longer fs more_fs gf in omega (arith, h, long)
 
   pub wider_slot : (s : Slot) → IsSlotIn shapes fs s → IsSlotIn more more_fs s
@@ -81,7 +81,7 @@ module _ (m : ℕ) (shapes more : List Shape) (fs more_fs : List FunctionShape) 
   wider_slot (slots.Function n) h = wider_number n h
   wider_slot (slots.Instance b n) h = h
 
-  wider_declared : (o : Option ℕ) → IfSome o (λ k. k < 14 + length shapes) → IfSome o (λ k. k < 14 + length more)
+  pub wider_declared : (o : Option ℕ) → IfSome o (λ k. k < 14 + length shapes) → IfSome o (λ k. k < 14 + length more)
   wider_declared None h = tt
   wider_declared (Some k) h = wider_part k h
 
@@ -91,7 +91,7 @@ module _ (m : ℕ) (shapes more : List Shape) (fs more_fs : List FunctionShape) 
 
   pub wider_types : (ts : List ShownType) → AllByRecursion (IsShownIn shapes fs) ts → AllByRecursion (IsShownIn more more_fs) ts
   wider_types [] h = tt
-  wider_types (t ∷ ts) h = (record { slot = wider_slot t.slot h.0.slot; declared = wider_declared t.declared h.0.declared }, wider_types ts h.1)
+  wider_types (t ∷ ts) h = (record { slot = wider_slot t.slot h.0.slot; declared = wider_declared t.declared h.0.declared; kind = h.0.kind }, wider_types ts h.1)
 
   pub wider_functions : (ts : List ShownFunction) → AllByRecursion (IsShownFunctionIn fs) ts → AllByRecursion (IsShownFunctionIn more_fs) ts
   wider_functions [] h = tt
@@ -110,12 +110,12 @@ module _ (m : ℕ) (shapes more : List Shape) (fs more_fs : List FunctionShape) 
     signatures_split : functions_in U more_fs ≡ functions_in T fs ++ functions_in U gf.more
     signatures_split = ap (functions_in U) gf.is ∙ (map-append (signature_in U) fs gf.more ∙ ap (λ xs. xs ++ functions_in U gf.more) (functions_grown place shapes more gs fs tables.signatures))
 
-    signature_stays : (n : ℕ) → n < length fs → slice_get (functions_in U more_fs) n ≡ slice_get (functions_in T fs) n
+    pub signature_stays : (n : ℕ) → n < length fs → slice_get (functions_in U more_fs) n ≡ slice_get (functions_in T fs) n
     signature_stays n h =
         let long : length (functions_in T fs) ≡ length fs = length-map fs (signature_in T) in
         ap (λ xs. slice_get xs n) signatures_split ∙ slice_front (functions_in T fs) (functions_in U gf.more) n (omega (arith, h, long))
 
-    slot_stays : (s : Slot) → IsSlotIn shapes fs s → slot_in U (functions_in U more_fs) s ≡ slot_in T (functions_in T fs) s
+    pub slot_stays : (s : Slot) → IsSlotIn shapes fs s → slot_in U (functions_in U more_fs) s ≡ slot_in T (functions_in T fs) s
     slot_stays (slots.Value part) h = ap follow.value (part_stays part h)
     slot_stays (slots.Resource part) h = ap resource_slot (part_stays part (name_below shapes part h))
     slot_stays (slots.Function n) h = ap (λ o. follow.function (unwrap_or o no_signature)) (signature_stays n h)
@@ -132,11 +132,11 @@ module _ (m : ℕ) (shapes more : List Shape) (fs more_fs : List FunctionShape) 
     type_stays : (t : ShownType) → IsShownIn shapes fs t → shown_type U (functions_in U more_fs) t ≡ shown_type T (functions_in T fs) t
     type_stays t h = λ i. record { name = t.name.now; meaning = record { declaration = declared_stays t.declared h.declared i; external_id = option_map text_of t.external_id }; slot = slot_stays t.slot h.slot i }
 
-    types_stay : (ts : List ShownType) → AllByRecursion (IsShownIn shapes fs) ts → map (shown_type U (functions_in U more_fs)) ts ≡ map (shown_type T (functions_in T fs)) ts
+    pub types_stay : (ts : List ShownType) → AllByRecursion (IsShownIn shapes fs) ts → map (shown_type U (functions_in U more_fs)) ts ≡ map (shown_type T (functions_in T fs)) ts
     types_stay [] h = refl
     types_stay (t ∷ ts) h = λ i. type_stays t h.0 i ∷ types_stay ts h.1 i
 
-    functions_stay : (ts : List ShownFunction) → AllByRecursion (IsShownFunctionIn fs) ts → map (shown_function (functions_in U more_fs)) ts ≡ map (shown_function (functions_in T fs)) ts
+    pub functions_stay : (ts : List ShownFunction) → AllByRecursion (IsShownFunctionIn fs) ts → map (shown_function (functions_in U more_fs)) ts ≡ map (shown_function (functions_in T fs)) ts
     functions_stay [] h = refl
     functions_stay (f ∷ ts) h = λ i. (f.name.now, record { signature = unwrap_or (signature_stays f.function h.0 i) no_signature; external_id = option_map text_of f.external_id }) ∷ functions_stay ts h.1 i
 
@@ -152,11 +152,11 @@ functions_wider n m (f ∷ fs) le h = (record { params = params_wider f.params h
     outcome_wider None b = tt
     outcome_wider (Some k) b = omega (arith, b, le)
 
-joins_grow : {X : Type 0} (old new : List X) (x : X) → Joins old x new → Grows old new
+pub joins_grow : {X : Type 0} (old new : List X) (x : X) → Joins old x new → Grows old new
 joins_grow old new x stays = same_list old
 joins_grow old new x (comes fresh) = one_longer old x
 
-joins_all : {X : Type 0} (P : X → Type 0) (old new : List X) (x : X) → Joins old x new → AllByRecursion P old → P x → AllByRecursion P new
+pub joins_all : {X : Type 0} (P : X → Type 0) (old new : List X) (x : X) → Joins old x new → AllByRecursion P old → P x → AllByRecursion P new
 joins_all P old new x stays all one = all
 joins_all P old new x (comes fresh) all one = all_end P old x all one
 

@@ -47,3 +47,10 @@ module _ {K S : Type 0} (shape : K → S) (eq : K → K → Bool) (again : (a b 
     where
       differs : (n : ℕ) → slice_get (map shape ks) n ≡ Some (shape k) → ⊥
       differs n found = let is_there = seen ks k n found in cc
+
+  -- what none is equal to is new, and comes behind the others
+  pub fresh : (ks : List K) (k : K) → list_any (eq k) ks ≡ false → (n : ℕ) → slice_get (map shape ks) n ≡ Some (shape k) → ⊥
+  fresh ks k none n found = let is_there = seen ks k n found in cc
+
+  pub grown : (ks new : List K) (k : K) → list_any (eq k) ks ≡ false → new ≡ cond (list_any (eq k) ks) ks (ks ++ k ∷ []) → map shape new ≡ map shape ks ++ shape k ∷ []
+  grown ks new k none e = ap (map shape) (e ∙ ap (λ b. cond b ks (ks ++ k ∷ [])) none) ∙ map-append shape ks (k ∷ [])

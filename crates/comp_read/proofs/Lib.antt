@@ -1,6 +1,7 @@
 pub mod AddLaws
 pub mod AliasLaws
 pub mod BodyLaws
+pub mod ComponentLaws
 pub mod DeclarationLaws
 pub mod DefiningLaws
 pub mod DefinitionKeyLaws
@@ -14,13 +15,18 @@ pub mod JoinLaws
 pub mod KeyLaws
 pub mod LabelLaws
 pub mod PartTypeLaws
+pub mod PathLaws
+pub mod PlaceLaws
 pub mod Refusing
 pub mod RowLaws
+pub mod ScopeLaws
 pub mod SectionLaws
+pub mod SeeLaws
 pub mod ShowLaws
 pub mod SkipLaws
 pub mod SlotLaws
 pub mod StepLaws
 pub mod TableGrowth
+pub mod UsedLaws
 pub mod ValueLaws
 pub mod WholeLaws

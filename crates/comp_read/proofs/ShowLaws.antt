@@ -20,7 +20,7 @@ use Rattle.comp_read.specs.declared.slots.Slot.TheVariants as slots
 use Rattle.comp_read.specs.declared.views.ShownFunction.{ShownFunction}
 use Rattle.comp_read.specs.declared.views.ShownType.{ShownType}
 use Rattle.comp_read.specs.ExternNames.{raw_name}
-use Rattle.comp_read.specs.Following.{scope_at, shown_function, signatures_at, slots_at, trees_at, AreTables, Halts, IsShownFunctionIn, IsShownIn, IsSlotIn, IsState, State, Steps}
+use Rattle.comp_read.specs.Following.{scope_at, shown_function, signatures_at, slots_at, trees_at, AreTables, Halts, IsNoInstance, IsShownFunctionIn, IsShownIn, IsSlotIn, IsState, State, Steps}
 use Rattle.comp_read.specs.Found.{Refuses}
 use Rattle.comp_read.specs.Functions.{functions_in}
 use Rattle.comp_read.specs.InstanceScopes.{name_meant, name_slot, named_by}
@@ -125,20 +125,24 @@ module _ (marks : List Bool) (old : State) (st : IsState (length marks) old) (na
         (λ none. ap (with_named (scope_at place old)) none)
         (r (trees_at place old) (signatures_at place old) (place here) name.text.now (names_of place old.shapes old.signatures old.slots st.tables.table st.slots))
 
-    name_in : (b : Bool) (more : List Shape) (number : ℕ) → slice_get more number ≡ Some (named_shape here name.text.now) → IsSlotIn more old.signatures (name_slot b (14 + number))
+    name_kind : (b : Bool) (part : ℕ) → IsNoInstance (name_slot b part)
+    name_kind true part = tt
+    name_kind false part = tt
+
+    pub name_in : (b : Bool) (more : List Shape) (number : ℕ) → slice_get more number ≡ Some (named_shape here name.text.now) → IsSlotIn more old.signatures (name_slot b (14 + number))
     name_in true more number at = record { number = number; place = here; name = name.text.now; is = refl; at = at }
     name_in false more number at = let inside = found_below more number (named_shape here name.text.now) at in omega (arith, inside)
 
-    name_stands : (place : ℕ → Place) (b : Bool) (more : List Shape) (number : ℕ) → IsTable more → slice_get more number ≡ Some (named_shape here name.text.now)
+    pub name_stands : (place : ℕ → Place) (b : Bool) (more : List Shape) (number : ℕ) → IsTable more → slice_get more number ≡ Some (named_shape here name.text.now)
         → slot_in (shape_trees place more) (functions_in (shape_trees place more) old.signatures) (name_slot b (14 + number)) ≡ name_meant b (place here) name.text.now
     name_stands place true more number table at = ap resource_slot (name_part place more (14 + number) table (record { number = number; place = here; name = name.text.now; is = refl; at = at }))
     name_stands place false more number table at = ap follow.value (name_part place more (14 + number) table (record { number = number; place = here; name = name.text.now; is = refl; at = at }))
 
-    declared_range : (o : Option ℕ) (more : List Shape) → length old.shapes ≤ length more → IfSome o (λ k. (n : ℕ) → AreInRange n old.slots → k < 14 + n) → IfSome o (λ k. k < 14 + length more)
+    pub declared_range : (o : Option ℕ) (more : List Shape) → length old.shapes ≤ length more → IfSome o (λ k. (n : ℕ) → AreInRange n old.slots → k < 14 + n) → IfSome o (λ k. k < 14 + length more)
     declared_range None more le h = tt
     declared_range (Some k) more le h = let b = h (length old.shapes) (ranges_of old.shapes old.signatures old.slots st.slots) in omega (arith, b, le)
 
-    old_range : (o : Option ℕ) → IfSome o (λ k. (n : ℕ) → AreInRange n old.slots → k < 14 + n) → IfSome o (λ k. k < 14 + length old.shapes)
+    pub old_range : (o : Option ℕ) → IfSome o (λ k. (n : ℕ) → AreInRange n old.slots → k < 14 + n) → IfSome o (λ k. k < 14 + length old.shapes)
     old_range None h = tt
     old_range (Some k) h = h (length old.shapes) (ranges_of old.shapes old.signatures old.slots st.slots)
 
@@ -159,7 +163,11 @@ module _ (marks : List Bool) (old : State) (st : IsState (length marks) old) (na
           signatures = functions_wider (length old.shapes) (length more) old.signatures le st.tables.signatures;
         } in
         let inside : IsSlotIn more old.signatures s = subst (λ (x : Slot). IsSlotIn more old.signatures x) (sym is) (name_in made.is_resource more number at) in
-        let shown : IsShownIn more old.signatures t = record { slot = inside; declared = declared_range made.declared more le range } in
+        let shown : IsShownIn more old.signatures t = record {
+          slot = inside;
+          declared = declared_range made.declared more le range;
+          kind = subst (λ (x : Slot). IsNoInstance x) (sym is) (name_kind made.is_resource (14 + number));
+        } in
         record {
           state = shown_state (length marks) old st more old.signatures gs gf tables s inside ss next t shown ts last;
           shapes_grow = gs;

@@ -45,7 +45,7 @@ primitive_small primitives.Char n = omega arith
 primitive_small primitives.String n = omega arith
 primitive_small primitives.ErrorContext n = omega arith
 
-mapped_none : {A B : Type 0} (f : A → B) (xs : List A) (n : ℕ) → slice_get xs n ≡ None → slice_get (map f xs) n ≡ None
+pub mapped_none : {A B : Type 0} (f : A → B) (xs : List A) (n : ℕ) → slice_get xs n ≡ None → slice_get (map f xs) n ≡ None
 mapped_none f [] n e = refl
 mapped_none f (y ∷ ys) zero e = absurd cc
 mapped_none f (y ∷ ys) (suc n) e = mapped_none f ys n e

@@ -30,7 +30,7 @@ use Rattle.comp_read.proofs.SlotLaws.{at_slot, no_slot}
 
 -- ---- aliases
 
-guarded : {A B : Type 0} (b : Bool) (x : A) (g : A → B) → provided b (g x) ≡ (provided b x >>= λ y. Some (g y))
+pub guarded : {A B : Type 0} (b : Bool) (x : A) (g : A → B) → provided b (g x) ≡ (provided b x >>= λ y. Some (g y))
 guarded true x g = refl
 guarded false x g = refl
 
@@ -86,22 +86,22 @@ module _ (marks : List Bool) (old : State) (st : IsState (length marks) old) (he
       refused e (taken_by marks old.shapes outer a) (step_of here old.shapes old.signatures outer (Declaration.alias_of a) place (scope_at place old))
       (λ none. alias_meant place marked a (scope_at place old) ∙ ap (λ o. o >>= λ x. Some (in_instance (slot_in (trees_at place old) (signatures_at place old) x) (scope_at place old))) none) r
 
-grow_on : {X : Type 0} (a b c : List X) → Grows a b → Grows b c → Grows a c
+pub grow_on : {X : Type 0} (a b c : List X) → Grows a b → Grows b c → Grows a c
 grow_on a b c g h = record { more = g.more ++ h.more; is = h.is ∙ (ap (λ xs. xs ++ h.more) g.is ∙ append_assoc a g.more h.more) }
 
 -- ---- a sequence, one by one
 
-sequence_more : {A : Type 0} (reader : Reader A) (k : ℕ) (bytes : List ℕ) → sequence_at reader (suc k) bytes ≡ (reader bytes >>= λ x. sequence_at reader k x.1 >>= λ xs. Some (x.0 ∷ xs.0, xs.1))
+pub sequence_more : {A : Type 0} (reader : Reader A) (k : ℕ) (bytes : List ℕ) → sequence_at reader (suc k) bytes ≡ (reader bytes >>= λ x. sequence_at reader k x.1 >>= λ xs. Some (x.0 ∷ xs.0, xs.1))
 unfolding sequence_at
 sequence_more reader k bytes = refl
 
-abbrev headed : {A : Type 0} → A → Option (List A × List ℕ) → Option (List A × List ℕ)
+abbrev pub headed : {A : Type 0} → A → Option (List A × List ℕ) → Option (List A × List ℕ)
 headed x found = found >>= λ xs. Some (x ∷ xs.0, xs.1)
 
-abbrev after_first : {A : Type 0} → Reader A → ℕ → Option (A × List ℕ) → Option (List A × List ℕ)
+abbrev pub after_first : {A : Type 0} → Reader A → ℕ → Option (A × List ℕ) → Option (List A × List ℕ)
 after_first reader k o = o >>= λ x. headed x.0 (sequence_at reader k x.1)
 
-headed_is : {A : Type 0} (xs : List A) (x : A) (o : Option (List A × List ℕ)) → headed x o ≡ Some (xs, []) → (ys : List A) × (o ≡ Some (ys, [])) × (xs ≡ x ∷ ys)
+pub headed_is : {A : Type 0} (xs : List A) (x : A) (o : Option (List A × List ℕ)) → headed x o ≡ Some (xs, []) → (ys : List A) × (o ≡ Some (ys, [])) × (xs ≡ x ∷ ys)
 headed_is {A = A} xs x None h = absurd cc
 headed_is {A = A} xs x (Some ys) h =
     let whole : (x ∷ ys.0, ys.1) ≡ (xs, []) = cc in
@@ -110,32 +110,32 @@ headed_is {A = A} xs x (Some ys) h =
     (ys.0, (λ i. Some (ys.0, none i)), same)
 
 -- the first of those that are left, and those behind it
-peeled : {A : Type 0} (reader : Reader A) (k : ℕ) (bytes : List ℕ) (xs : List A) → sequence_at reader (suc k) bytes ≡ Some (xs, [])
+pub peeled : {A : Type 0} (reader : Reader A) (k : ℕ) (bytes : List ℕ) (xs : List A) → sequence_at reader (suc k) bytes ≡ Some (xs, [])
     → (x : A) (behind : List ℕ) → reader bytes ≡ Some (x, behind) → (ys : List A) × (sequence_at reader k behind ≡ Some (ys, [])) × (xs ≡ x ∷ ys)
 peeled reader k bytes xs all x behind at = headed_is xs x (sequence_at reader k behind) (ap (after_first reader k) (sym at) ∙ (sym (sequence_more reader k bytes) ∙ all))
 
 not_some : {X : Type 0} (x : X) → None ≡ Some x → ⊥
 not_some x e = cc
 
-unread : {A : Type 0} (reader : Reader A) (k : ℕ) (bytes : List ℕ) (xs : List A) → sequence_at reader (suc k) bytes ≡ Some (xs, []) → reader bytes ≡ None → ⊥
+pub unread : {A : Type 0} (reader : Reader A) (k : ℕ) (bytes : List ℕ) (xs : List A) → sequence_at reader (suc k) bytes ≡ Some (xs, []) → reader bytes ≡ None → ⊥
 unread reader k bytes xs all none = not_some (xs, []) (ap (after_first reader k) (sym none) ∙ (sym (sequence_more reader k bytes) ∙ all))
 
-none_less : (n : ℕ) → n - 0 ≡ n
+pub none_less : (n : ℕ) → n - 0 ≡ n
 none_less n = omega arith
 
-less : (n i : ℕ) → i < n → n - i ≡ suc (n - (i + 1))
+pub less : (n i : ℕ) → i < n → n - i ≡ suc (n - (i + 1))
 less n i h = omega (arith, h)
 
-some_same : {X : Type 0} (x y : X) → Some x ≡ Some y → x ≡ y
+pub some_same : {X : Type 0} (x y : X) → Some x ≡ Some y → x ≡ y
 some_same x y e = cc
 
-ended : {A : Type 0} (reader : Reader A) (rest : List ℕ) (ds : List A) → sequence_at reader 0 rest ≡ Some (ds, []) → (ds ≡ []) × (rest ≡ [])
+pub ended : {A : Type 0} (reader : Reader A) (rest : List ℕ) (ds : List A) → sequence_at reader 0 rest ≡ Some (ds, []) → (ds ≡ []) × (rest ≡ [])
 unfolding sequence_at
 ended {A = A} reader rest ds e =
     let whole : ([], rest) ≡ (ds, []) = some_same ([], rest) (ds, []) e in
     (ap (λ (p : List A × List ℕ). p.0) (sym whole), ap (λ (p : List A × List ℕ). p.1) whole)
 
-none_left : {A : Type 0} (reader : Reader A) (n : ℕ) (rest : List ℕ) (ds : List A) → n ≡ 0 → sequence_at reader n rest ≡ Some (ds, []) → (ds ≡ []) × (rest ≡ [])
+pub none_left : {A : Type 0} (reader : Reader A) (n : ℕ) (rest : List ℕ) (ds : List A) → n ≡ 0 → sequence_at reader n rest ≡ Some (ds, []) → (ds ≡ []) × (rest ≡ [])
 none_left reader n rest ds none e = ended reader rest ds (ap (λ k. sequence_at reader k rest) (sym none) ∙ e)
 
 -- ---- the declarations of a body

@@ -13,3 +13,5 @@ pub mod Functions
 pub mod Defining
 pub mod Following
 pub mod InstanceScopes
+pub mod Places
+pub mod Scopes

@@ -105,7 +105,7 @@ fn step<'a>(
 }
 
 /// A refusal that was seen where so many bytes were left.
-fn seen_at(refusal: Refusal, left: usize) -> Refusal
+pub(crate) fn seen_at(refusal: Refusal, left: usize) -> Refusal
     ensures { AreAlike refusal result }
 {
     match refusal {

@@ -86,7 +86,7 @@ pub(crate) fn name_number<'a>(
 }
 
 /// The slot of a name by its number.
-fn name_slot<'a>(is_resource: bool, number: usize) -> Slot<'a>
+pub(crate) fn name_slot<'a>(is_resource: bool, number: usize) -> Slot<'a>
     requires { number < 2 ^ 63 }
     ensures { result ≡ name_slot_lem is_resource (14 + number) }
 {
@@ -168,7 +168,7 @@ pub(crate) fn show<'a>(
     ensures absent { (marks : List Bool) (fs : List FunctionShape) → IsState (length marks) (state_of table.old fs scope.old) → IfErr result (Halts marks (λ place meant. when (is_simple_lem (raw_name name.entry)) (show_lem (place here) (raw_name name.entry) kind meant)) (state_of table.old fs scope.old)) }
 {
     if !is_simple(name) {
-        return Err(Refusal::Absent(Cause::NotWit, 0));
+        return Err(Refusal::Absent(Cause::BadName, 0));
     }
     match kind {
         ComponentTypeRef::Func(n) => show_function(scope, name, n),

@@ -1,0 +1,235 @@
+-- Scopes of component types as they are kept, what they stand for, and what each entry does to them.
+use Rattle.std.specs.Prelude.{◌≡◌, ◌<◌, ◌≤◌, ◌+◌, ◌-◌, ◌==◌, ◌&&◌, ℕ, suc, Bool, true, false, not, if◌then◌else◌, List, [], ◌∷◌, ◌++◌, length, map, take, option_map, slice_get, unwrap_or, IfSome, Option, Some, None}
+use Rattle.std.specs.Borrow.{Bor}
+use Rattle.std.specs.List.{AllByRecursion, list_any}
+use Rattle.wit_model.specs.Meaning.{Signature}
+use Rattle.wit_model.specs.Text.{Text, text_eq}
+use Rattle.wit_model.specs.Tree.{Place, Tree}
+use Rattle.comp_bytes.specs.Levels.{Entry as RawEntry, plain, holds, entry_at}
+use Rattle.comp_bytes.specs.Raw.{Alias}
+use Rattle.comp_bytes.specs.RawOf.{text_of}
+use Rattle.comp_bytes.specs.Reading.{◌>>=◌, sequence_at}
+use Rattle.comp_meaning.specs.ByLevels.{entry_scope, entry_step}
+use Rattle.comp_meaning.specs.Follow.{Scope as MeantScope, Seen as MeantSeen, Shown as MeantShown, Instance as MeantInstance, View as MeantView, Direction, key_text, provided, used_view, when, new_scope}
+use Rattle.comp_meaning.specs.Reads.{steps}
+use Rattle.comp_read.specs.declared.bodies.Body.{Body}
+use Rattle.comp_read.specs.declared.instance_keys.InstanceKey.{InstanceKey}
+use Rattle.comp_read.specs.declared.refusal.Refusal.{Refusal}
+use Rattle.comp_read.specs.declared.scopes.Instance.{Instance}
+use Rattle.comp_read.specs.declared.scopes.Scope.{Scope}
+use Rattle.comp_read.specs.declared.scopes.Seen.{Seen}
+use Rattle.comp_read.specs.declared.scopes.Shown.{Shown}
+use Rattle.comp_read.specs.declared.scopes.Shown.TheVariants as shown
+use Rattle.comp_read.specs.declared.slots.Slot.{Slot}
+use Rattle.comp_read.specs.declared.slots.Slot.TheVariants as slots
+use Rattle.comp_read.specs.declared.views.ShownType.{ShownType}
+use Rattle.comp_read.specs.declared.views.View.{View}
+use Rattle.comp_read.specs.Bodies.{items_in}
+use Rattle.comp_read.specs.Defining.{Grows}
+use Rattle.comp_read.specs.Following.{declared_in, shown_function, shown_type, slots_at, AreMarked, AreSlotsIn, AreTables, IsShownFunctionIn, IsShownIn, State}
+use Rattle.comp_read.specs.InstanceScopes.{IsViewOf}
+use Rattle.comp_read.specs.Found.{Refuses}
+use Rattle.comp_read.specs.Functions.{functions_in, FunctionShape}
+use Rattle.comp_read.specs.Places.{has_path, key_at, place_number, ArePlacesOf, IsKeyIn}
+use Rattle.comp_read.specs.Slots.{no_signature, slots_in}
+use Rattle.read_plan.specs.Shapes.{Shape, shape_trees}
+
+-- ---- what was kept, as what it stands for
+
+-- the path of a place, if it has one
+abbrev pub path_of : Place → Option Text
+path_of (Place.of_interface path) = Some path
+path_of Place.here = None
+
+abbrev pub view_in : List Tree → List Signature → View → MeantView
+view_in T F v = record { types = map (shown_type T F) v.types.items; functions = map (shown_function F) v.functions.items }
+
+abbrev pub instance_in : (ℕ → Place) → List Tree → List Signature → Instance → MeantInstance
+instance_in place T F i = record { interface = path_of (place i.place); view = view_in T F i.view }
+
+abbrev pub viewed : List Tree → List Signature → Option Instance → MeantView
+viewed T F None = record { types = []; functions = [] }
+viewed T F (Some i) = view_in T F i.view
+
+abbrev pub shown_text : (ℕ → Place) → Shown → Text
+shown_text place (shown.Instance key n) = key_text (key_at place key)
+shown_text place (shown.Function name f) = name.now
+shown_text place (shown.Type name part d) = name.now
+
+abbrev pub shown_in : (ℕ → Place) → List Tree → List Signature → List Instance → Shown → MeantShown
+shown_in place T F is (shown.Instance key n) = MeantShown.instance (key_at place key) (viewed T F (slice_get is n))
+shown_in place T F is (shown.Function name f) = MeantShown.function (unwrap_or (slice_get F f) no_signature)
+shown_in place T F is (shown.Type name part d) = MeantShown.declares (declared_in T d)
+
+abbrev pub seen_in : (ℕ → Place) → List Tree → List Signature → List Instance → Seen → MeantSeen
+seen_in place T F is s = record { key = shown_text place s.shown; shown = shown_in place T F is s.shown; external_id = option_map text_of s.external_id }
+
+-- The tables and the places of a whole input, and a scope over them.
+pub record World : Type 0 where
+  pub home : ℕ
+  pub shapes : List Shape
+  pub signatures : List FunctionShape
+  pub paths : List (Option Text)
+  pub slots : List Slot
+  pub instances : List Instance
+  pub imports : List Seen
+  pub exports : List Seen
+  pub used : List ℕ
+
+abbrev pub world_of : List Shape → List FunctionShape → List (Option Text) → Scope → World
+world_of shapes fs paths s = record { home = s.home; shapes = shapes; signatures = fs; paths = paths; slots = s.slots.items; instances = s.instances.items; imports = s.imports.items; exports = s.exports.items; used = s.used.keys }
+
+abbrev pub world_trees : (ℕ → Place) → World → List Tree
+world_trees place w = shape_trees place w.shapes
+
+abbrev pub world_signatures : (ℕ → Place) → World → List Signature
+world_signatures place w = functions_in (shape_trees place w.shapes) w.signatures
+
+-- what the scope stands for
+abbrev pub meant_at : (ℕ → Place) → World → MeantScope
+meant_at place w = record {
+  slots = slots_in (world_trees place w) (world_signatures place w) w.slots;
+  instances = map (instance_in place (world_trees place w) (world_signatures place w)) w.instances;
+  imports = map (seen_in place (world_trees place w) (world_signatures place w) w.instances) w.imports;
+  exports = map (seen_in place (world_trees place w) (world_signatures place w) w.instances) w.exports;
+  used = w.used;
+}
+
+-- ---- what is well-formed
+
+pub record IsInstanceIn (shapes : List Shape) (fs : List FunctionShape) (paths : List (Option Text)) (i : Instance) : Type 0 where
+  pub place : i.place < length paths
+  pub types : AllByRecursion (IsShownIn shapes fs) i.view.types.items
+  pub functions : AllByRecursion (IsShownFunctionIn fs) i.view.functions.items
+
+abbrev pub IsShownAs : List Shape → List FunctionShape → List (Option Text) → ℕ → Shown → Type 0
+IsShownAs shapes fs paths n (shown.Instance key m) = IsKeyIn paths key × (m < n)
+IsShownAs shapes fs paths n (shown.Function name f) = f < length fs
+IsShownAs shapes fs paths n (shown.Type name part d) = (part < 14 + length shapes) × IfSome d (λ k. k < 14 + length shapes)
+
+abbrev pub AreSeenIn : List Shape → List FunctionShape → List (Option Text) → ℕ → List Seen → Type 0
+AreSeenIn shapes fs paths n ss = AllByRecursion (λ (s : Seen). IsShownAs shapes fs paths n s.shown) ss
+
+-- the tables are well-formed, and the scope is one over them, whose own names have a place without a path
+pub record IsWorld (w : World) : Type 0 where
+  pub tables : AreTables (length w.paths) w.shapes w.signatures
+  pub own : slice_get w.paths w.home ≡ Some None
+  pub slots : AreSlotsIn w.shapes w.signatures w.slots
+  pub instances : AllByRecursion (IsInstanceIn w.shapes w.signatures w.paths) w.instances
+  pub imports : AreSeenIn w.shapes w.signatures w.paths (length w.instances) w.imports
+  pub exports : AreSeenIn w.shapes w.signatures w.paths (length w.instances) w.exports
+
+-- ---- counts
+
+-- how many declarations the instance types have that aren't used yet, where the first slot has the number n
+abbrev pub waiting : List ℕ → ℕ → List Slot → ℕ
+waiting used n [] = 0
+waiting used n (slots.Instance b around ∷ ss) = (if list_any (λ m. m == n) used then 0 else b.count) + waiting used (suc n) ss
+waiting used n (_ ∷ ss) = waiting used (suc n) ss
+
+-- how many types an entry makes at most, at once or where it is used
+abbrev pub weight : RawEntry → ℕ
+weight (plain d) = 1
+weight (holds ds) = length ds
+
+abbrev pub weights : List RawEntry → ℕ
+weights [] = 0
+weights (e ∷ es) = weight e + weights es
+
+-- ---- steps
+
+-- The tables grow, by this many types at most if all that waits is counted, and the scope becomes what the step of the definition makes of it.
+pub record Goes (few : ℕ) (step : MeantScope → Option MeantScope) (old new : World) : Type 0 where
+  pub world : IsWorld new
+  pub shapes_grow : Grows old.shapes new.shapes
+  pub signatures_grow : Grows old.signatures new.signatures
+  pub paths_grow : Grows old.paths new.paths
+  pub count : length new.shapes + waiting new.used 0 new.slots ≤ length old.shapes + waiting old.used 0 old.slots + few
+  pub follows : (place : ℕ → Place) → ArePlacesOf new.paths place → step (meant_at place old) ≡ Some (meant_at place new)
+
+-- the step of the definition makes nothing of it, unless memory ran out
+abbrev pub Stops : (MeantScope → Option MeantScope) → World → List (Option Text) → Refusal → Type 0
+Stops step old paths e = (place : ℕ → Place) → ArePlacesOf paths place → Refuses e (step (meant_at place old))
+
+-- ---- aliases
+
+-- the slot of the first type of this name
+abbrev pub find_slot : Text → List ShownType → Option Slot
+find_slot name [] = None
+find_slot name (t ∷ ts) = if text_eq name t.name.now then Some t.slot else find_slot name ts
+
+abbrev pub slot_of_instance : List (Option Text) → Text → Option Instance → Option Slot
+slot_of_instance paths name None = None
+slot_of_instance paths name (Some i) = find_slot name i.view.types.items >>= λ s. provided (has_path (unwrap_or (slice_get paths i.place) None)) s
+
+-- ---- all entries
+
+-- So many entries of a body have been followed. Those that are left decide what it shows.
+pub record IsFollowedTo (start : World) (b : Body) (i : ℕ) (rest : List ℕ) (now : World) : Type 0 where
+  pub world : IsWorld now
+  pub shapes_grow : Grows start.shapes now.shapes
+  pub signatures_grow : Grows start.signatures now.signatures
+  pub paths_grow : Grows start.paths now.paths
+  pub es : List RawEntry
+  pub left : sequence_at entry_at (b.count - i) rest ≡ Some (es, [])
+  pub count : length now.shapes + waiting now.used 0 now.slots + weights es ≤ length start.shapes + weights (items_in entry_at b)
+  pub follows : (place : ℕ → Place) → ArePlacesOf now.paths place → steps entry_step (meant_at place now) es ≡ steps entry_step new_scope (items_in entry_at b)
+
+-- ---- instances that are used
+
+abbrev pub direction : Bool → Direction
+direction true = Direction.import_
+direction false = Direction.export_
+
+-- The instance type of this index, that nothing has used, shows the view.
+pub record IsUsedView (marks : List Bool) (here : ℕ) (start : State) (ss : List Slot) (used : List ℕ) (n : ℕ) (v : View) (now : State) : Type 0 where
+  pub unused : list_any (λ m. m == n) used ≡ false
+  pub body : Body
+  pub around : ℕ
+  pub slot : slice_get ss n ≡ Some (slots.Instance body around)
+  pub view : IsViewOf marks here start (take around ss) body v now
+
+-- no instance type has this index, or it was used, or it shows nothing, unless memory ran out
+abbrev pub HasNoUsedView : List Bool → ℕ → State → List Slot → List ℕ → ℕ → Refusal → Type 0
+HasNoUsedView marks here start ss used n e = (place : ℕ → Place) → AreMarked marks place
+    → Refuses e (when (not (list_any (λ m. m == n) used)) (used_view (slots_at place start ss) (place here) (slice_get (slots_at place start ss) n)))
+
+-- The scope has one more instance, under its key, and what it uses.
+pub record IsInstanceAdded (old new : Scope) (is_import : Bool) (key : InstanceKey) (external_id : Option (Bor (List ℕ))) (n : ℕ) (view : View) : Type 0 where
+  pub home : new.home ≡ old.home
+  pub slots : new.slots ≡ old.slots
+  pub instances : new.instances.items ≡ old.instances.items ++ record { place = place_number key; view = view } ∷ []
+  pub used : new.used.keys ≡ old.used.keys ++ n ∷ []
+  pub imports : new.imports.items ≡ (if is_import then old.imports.items ++ record { shown = shown.Instance key (length old.instances.items); external_id = external_id } ∷ [] else old.imports.items)
+  pub exports : new.exports.items ≡ (if is_import then old.exports.items else old.exports.items ++ record { shown = shown.Instance key (length old.instances.items); external_id = external_id } ∷ [])
+
+-- the slot that an alias takes over
+abbrev pub taken_from : List (Option Text) → List Instance → Alias → Option Slot
+taken_from paths is (Alias.of_export m name) = slot_of_instance paths name (slice_get is m)
+taken_from paths is (Alias.of_outer scopes n) = None
+
+-- ---- the whole
+
+-- whether the slot of this number is no instance type, or one that is used
+abbrev pub is_settled : List ℕ → ℕ → Slot → Bool
+is_settled used n (slots.Value part) = true
+is_settled used n (slots.Resource part) = true
+is_settled used n (slots.Function f) = true
+is_settled used n (slots.Instance b around) = list_any (λ m. m == n) used
+
+abbrev pub are_settled : List ℕ → ℕ → List Slot → Bool
+are_settled used n [] = true
+are_settled used n (s ∷ ss) = is_settled used n s && are_settled used (suc n) ss
+
+-- what the tables hold, with nothing in scope
+abbrev pub start_of : ℕ → List Shape → List FunctionShape → List (Option Text) → World
+start_of home shapes fs paths = record { home = home; shapes = shapes; signatures = fs; paths = paths; slots = []; instances = []; imports = []; exports = []; used = [] }
+
+-- The tables grow, by no more types than the entries and the instance types among them declare, and the scope stands for what they show.
+pub record IsScopeOf (shapes : List Shape) (fs : List FunctionShape) (paths : List (Option Text)) (b : Body) (now : World) : Type 0 where
+  pub world : IsWorld now
+  pub shapes_grow : Grows shapes now.shapes
+  pub signatures_grow : Grows fs now.signatures
+  pub paths_grow : Grows paths now.paths
+  pub count : length now.shapes ≤ length shapes + weights (items_in entry_at b)
+  pub shows : (place : ℕ → Place) → ArePlacesOf now.paths place → entry_scope (items_in entry_at b) ≡ Some (meant_at place now)

@@ -1,0 +1,160 @@
+//! Component types of worlds, followed to what they show.
+
+use comp_read::{
+    Functions, InstanceKey, PartType, Places, Refusal, Scope, Shown, Table, follow_component,
+    part_type_of,
+};
+use std::alloc::Global;
+use wit_model::Cause;
+
+// The component type of a world with six entries: an instance type with an export `t` of a resource, an import of it under the path
+// `a:b/i`, an alias of its export `t`, `own<t>`, the function `(x: own<t>)`, and an import `f` of it. The index of the first import stands
+// at 20, the alias at 21, its instance at 24 and its name at 26, the type of the parameter at 35, and the last import's index at 43.
+static WORLD: [u8; 44] = [
+    0x41, 0x06, 0x01, 0x42, 0x01, 0x04, 0x00, 0x01, 0x74, 0x03, 0x01, 0x03, 0x00, 0x05, 0x61, 0x3a,
+    0x62, 0x2f, 0x69, 0x05, 0x00, 0x02, 0x03, 0x00, 0x00, 0x01, 0x74, 0x01, 0x69, 0x01, 0x01, 0x40,
+    0x01, 0x01, 0x78, 0x02, 0x01, 0x00, 0x03, 0x00, 0x01, 0x66, 0x01, 0x03,
+];
+
+// What a component type shows, with the places that it has.
+fn shown<'a>(
+    alloc: Global,
+    places: &mut Places,
+    bytes: &'a [u8],
+) -> Result<Option<Scope<'a>>, Refusal> {
+    match part_type_of(alloc, bytes) {
+        Ok((PartType::Shows(body), _)) => {
+            let mut table = Table::new(alloc);
+            let mut functions = Functions::new(alloc);
+            let scope = follow_component(alloc, &mut table, &mut functions, places, body)?;
+            Ok(Some(scope))
+        }
+        Ok(_) => Ok(None),
+        Err(refusal) => Err(refusal),
+    }
+}
+
+fn is_instance(shown: Shown<'_>) -> bool {
+    match shown {
+        Shown::Instance(InstanceKey::Path(place), number) => place == 1 && number == 0,
+        _ => false,
+    }
+}
+
+fn is_function(shown: Shown<'_>) -> bool {
+    match shown {
+        Shown::Function(name, number) => name == "f" && number == 0,
+        _ => false,
+    }
+}
+
+fn is_right(scope: &Scope<'_>) -> bool {
+    let imports = match scope.imports.as_slice() {
+        [first, second] => is_instance(first.shown) && is_function(second.shown),
+        _ => false,
+    };
+    let instances = match scope.instances.as_slice() {
+        [only] => only.place == 1 && only.view.types.len() == 1,
+        _ => false,
+    };
+    imports && instances && scope.exports.is_empty() && scope.home == 0
+}
+
+#[test]
+fn a_world(rt: HostRuntime) {
+    let alloc = rt.alloc();
+    let mut places = Places::new(alloc);
+    let is_shown = match shown(alloc, &mut places, &WORLD) {
+        Ok(Some(scope)) => is_right(&scope),
+        _ => false,
+    };
+    let is_path = match places.path(1) {
+        Some(path) => path == "a:b/i",
+        None => false,
+    };
+    assert!(rt; is_shown && is_path);
+}
+
+// A byte changed, and what refuses it.
+#[derive(Clone, Copy)]
+struct Change {
+    at: usize,
+    to: u8,
+    cause: Cause,
+    // How many bytes are left where that is seen.
+    left: usize,
+}
+
+static CHANGES: [Change; 8] = [
+    // An import of an instance type that isn't there, and of a slot that is a function.
+    Change {
+        at: 20,
+        to: 0x07,
+        cause: Cause::OutOfScope,
+        left: 24,
+    },
+    // A path without its first sign.
+    Change {
+        at: 15,
+        to: 0x2f,
+        cause: Cause::BadName,
+        left: 24,
+    },
+    // An alias of an export of an instance that isn't there.
+    Change {
+        at: 24,
+        to: 0x01,
+        cause: Cause::OutOfScope,
+        left: 23,
+    },
+    // An alias of a type that the instance doesn't show.
+    Change {
+        at: 26,
+        to: 0x75,
+        cause: Cause::NotWit,
+        left: 23,
+    },
+    // A handle of a slot that is an instance type.
+    Change {
+        at: 29,
+        to: 0x00,
+        cause: Cause::NotWit,
+        left: 17,
+    },
+    // A parameter that is a resource.
+    Change {
+        at: 35,
+        to: 0x01,
+        cause: Cause::NotWit,
+        left: 14,
+    },
+    // An instance whose type is a function.
+    Change {
+        at: 42,
+        to: 0x05,
+        cause: Cause::NotWit,
+        left: 1,
+    },
+    // A function that is a handle.
+    Change {
+        at: 43,
+        to: 0x02,
+        cause: Cause::NotWit,
+        left: 1,
+    },
+];
+
+#[test]
+fn changed_entries(rt: HostRuntime) {
+    let alloc = rt.alloc();
+    for change in &CHANGES {
+        let mut bytes = WORLD;
+        bytes[change.at % 44] = change.to;
+        let mut places = Places::new(alloc);
+        let is_right = match shown(alloc, &mut places, &bytes) {
+            Err(Refusal::Absent(cause, left)) => cause == change.cause && left == change.left,
+            _ => false,
+        };
+        assert!(rt; is_right, "{} {}", change.at, change.to);
+    }
+}
