@@ -99,7 +99,7 @@ aliases_leave_imports r around around' numbers h g = subst (λ (z : Around). Has
 
 -- ---- one entry more in an ordered map
 
-other-slot : (n t m : ℕ) (es : List (ℕ × ℕ)) → is_at (nat_cmp m) n ≡ false → known_slot es n ≡ None → known_slot (insert_entry nat_cmp es n t) m ≡ known_slot es m
+pub other-slot : (n t m : ℕ) (es : List (ℕ × ℕ)) → is_at (nat_cmp m) n ≡ false → known_slot es n ≡ None → known_slot (insert_entry nat_cmp es n t) m ≡ known_slot es m
 other-slot n t m [] other h = cond-false _ _ _ other
 other-slot n t m (e ∷ es) other h = by (λ q. other-slot n t m es other (sym (cond-false _ _ _ (ap is_eq q)) ∙ h)) (nat_cmp n e.0) refl
   where
@@ -108,7 +108,7 @@ other-slot n t m (e ∷ es) other h = by (λ q. other-slot n t m es other (sym (
     by more Equal q = let y : is_eq (nat_cmp n e.0) ≡ true = ap is_eq q in let s : Some e.1 ≡ None = sym (cond-true _ _ _ y) ∙ h in absurd (let z : ⊥ = cc in z)
     by more Greater q = ap (λ o. cond (is_at (nat_cmp m) e.0) (Some e.1) o) (more q)
 
-at-same : (n m : ℕ) → is_at (nat_cmp n) m ≡ true → n ≡ m
+pub at-same : (n m : ℕ) → is_at (nat_cmp n) m ≡ true → n ≡ m
 at-same n m h = nat_cmp-IsAntisymmetric n m (equal-is (nat_cmp n m) h)
 
 -- what stands behind a list, or in it

@@ -43,7 +43,7 @@ all-numbered p j (x ∷ xs) all =
     both (p (j, x)) _ (subst (λ (m : ℕ). p (m, x) ≡ true) here (all 0 x refl))
     (all-numbered p (j + 1) xs (λ k y e. let at : j + suc k ≡ (j + 1) + k = omega arith in subst (λ (m : ℕ). p (m, y) ≡ true) at (all (suc k) y e)))
 
-below-there : (m n : ℕ) → n < m → Contains (below m) n
+pub below-there : (m n : ℕ) → n < m → Contains (below m) n
 below-there zero n l = absurd (omega (arith, l))
 below-there (suc m) n l = go (below-there m n) (nat_lt n m) refl
   where
@@ -115,7 +115,7 @@ module _ (r : Resolve) (v : IsValid r) where
         ∙ ap (is_slot_for r k) (types_are_found r id there.0 k def name.0 with-functions v there.1 at name.1 owned whole-view)
         ∙ slot-known id w.0 shows.path k def name.0 at name.1 owned
 
-    instance-stands : is_standing r n (imported_instance w) ≡ true
+    pub instance-stands : is_standing r n (imported_instance w) ≡ true
     instance-stands =
         both (is_instance_of (interface_path r n) (imported_instance w)) _ (ap (λ o. is_instance_of o (imported_instance w)) shows.path ∙ nat_list_eq_equiv.refl w.0)
         (all-numbered (λ (e : ℕ × TypeDef). not (is_named_of n e.1) || shows_type r (imported_instance w) e) 0 r.types.items

@@ -371,7 +371,7 @@ module _ (r : Resolve) (v : IsValid r) where
       (λ i home e. interface_passes handles r v.rules.handles i.0 home e)
       (λ w home e. world_passes handles r v.rules.handles w.0 home e)
 
-  function-ranges : (o : TypeOwner) (f : Function) → Contains (functions_of r o) f → function_in_range r f ≡ true
+  pub function-ranges : (o : TypeOwner) (f : Function) → Contains (functions_of r o) f → function_in_range r f ≡ true
   unfolding numbers_in_range
   function-ranges = each-function r v (λ o. function_in_range r)
       (λ i home e. second_true (list_all (λ id. in_list r.types.items id.0) (values home.types)) _

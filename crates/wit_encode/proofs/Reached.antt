@@ -1,43 +1,54 @@
--- What is met from the types and functions of an interface is counted in its weight.
-use Rattle.std.proofs.Common.{inl, inr, ◌≡◌, refl, sym, subst, ap, ◌∙◌, ℕ, zero, suc, ◌+◌, ◌<◌, Bool, true, false, not, ◌&&◌, nat_lt, if◌then◌else◌, List, [], ◌∷◌, ◌++◌, map, filter_map, flat_map, take, length, slice_get, unwrap_or, Option, Some, None, option_to_list, is_some, String, arith}
+-- What is met from the types and functions of an interface, or of a world, is counted in its weight.
+use Rattle.std.proofs.Common.{inl, inr, ◌≡◌, refl, sym, subst, ap, ◌∙◌, ℕ, zero, suc, ◌+◌, ◌<◌, Bool, true, false, not, ◌&&◌, nat_lt, if◌then◌else◌, List, [], ◌∷◌, ◌++◌, map, flat_map, take, length, slice_get, unwrap_or, Option, Some, None, is_some, String, option_and_then, arith}
 use Rattle.std.specs.declared.alloc.Global.{Global}
 use Rattle.std.specs.List.{Contains, list_all}
+use Rattle.std.specs.HashMap.{get_by}
 use Rattle.std.specs.Option.{option_map_or}
 use Rattle.std.proofs.lemmas.Bool.{ltb-true}
 use Rattle.std.proofs.lemmas.List.Elements.{Contains-append_left, Contains-append_right, Contains-append_cases}
 use Rattle.indexmap.specs.IndexMap.{values}
-use Rattle.wit_model.specs.Lookup.{type_at, interface_at, resource_of}
-use Rattle.wit_model.specs.Types.{number_of}
-use Rattle.wit_model.specs.Uses.{owner_interface}
-use Rattle.wit_model.specs.Parts.{kind_numbers, function_types, function_numbers, numbered_from, met_by, met_of, same_owner, has_owner}
-use Rattle.wit_model.specs.Rules.{passes, in_list, is_use, package_number, function_in_range, function_stays, interface_type_numbers}
-use Rattle.wit_model.specs.Valid.{IsValid, as_interface, functions_of_interface, numbers_in_range, owners}
+use Rattle.wit_model.specs.Lookup.{type_at, interface_at, world_at}
+use Rattle.wit_model.specs.Text.{text_of}
+use Rattle.wit_model.specs.Uses.{owner_interface, items_of}
+use Rattle.wit_model.specs.Parts.{kind_numbers, function_types, function_numbers, numbered_from, met_by, same_owner}
+use Rattle.wit_model.specs.Rules.{passes, in_list, is_id, is_use, is_listed, is_listed_in_world, is_name_key, item_type, interface_type_numbers, world_type_numbers}
+use Rattle.wit_model.specs.Valid.{IsValid, functions_of_interface, functions_of_world}
 use Rattle.wit_model.specs.Weight.{inside_at, inside_of, inside_number, inside_kind}
 use Rattle.wit_model.specs.declared.model.Resolve.{Resolve}
 use Rattle.wit_model.specs.declared.model.Interface.{Interface}
+use Rattle.wit_model.specs.declared.model.World.{World}
+use Rattle.wit_model.specs.declared.model.WorldId.{WorldId}
+use Rattle.wit_model.specs.declared.model.WorldItem.{WorldItem}
+use Rattle.wit_model.specs.declared.model.WorldItem.TheVariants as item
 use Rattle.wit_model.specs.declared.model.Function.{Function}
 use Rattle.wit_model.specs.declared.model.TypeDef.{TypeDef}
 use Rattle.wit_model.specs.declared.model.TypeId.{TypeId}
 use Rattle.wit_model.specs.declared.model.InterfaceId.{InterfaceId}
 use Rattle.wit_model.specs.declared.model.TypeOwner.{TypeOwner}
+use Rattle.wit_model.specs.declared.model.TypeOwner.TheVariants as owner
 use Rattle.wit_model.specs.declared.model.«Type».{«Type» as ValueType}
 use Rattle.wit_model.specs.declared.model.«Type».TheVariants as ty
 use Rattle.wit_model.proofs.Lists.{first_true, second_true}
 use Rattle.wit_model.proofs.Tables.{grow_at}
 use Rattle.wit_model.proofs.Checks.{below_at}
-use Rattle.wit_model.proofs.Functions.{all_flat}
+use Rattle.wit_model.proofs.InOrder.{found_stands}
 use Rattle.wit_model.proofs.Owners.{named_met}
 use Rattle.wit_encode_types.specs.Kinds.{parts_of}
 use Rattle.wit_encode_types.specs.Plan.{foreign_owner, Reaches, itself, through}
 use Rattle.wit_encode_types.specs.MetKinds.{ReachedFrom, referred}
-use Rattle.wit_encode_types.proofs.Lists.{all-contained, contains-map, contains-filter_map, contains-one, one-contained, none-in}
+use Rattle.wit_encode_types.specs.Table.{interface_of_owner}
+use Rattle.wit_shown.proofs.Items.{typed-item}
+use Rattle.wit_shown.proofs.Zips.{given-contains}
+use Rattle.wit_encode.specs.OwnerScope.{IsTypeOf, functions_of}
+use Rattle.wit_encode_types.proofs.Lists.{all-contained, contains-one, one-contained, none-in}
 use Rattle.wit_encode.proofs.Counting.{from-map}
 use Rattle.wit_encode.proofs.Numbers.{contains-flat, contains-get, has-contains, same-some}
 use Rattle.wit_encode_types.proofs.Planning.{part-number}
 use Rattle.wit_encode_types.proofs.Paths.{found-in}
-use Rattle.wit_encode.proofs.Validity.{interface_passes}
-use Rattle.wit_encode.proofs.Owned.{same-owner, valid-references, stays, part-met, own-interface, alias-part, not-false}
-use Rattle.wit_encode.proofs.ListedTypes.{owned-listed, listed-type, IsListedType}
+use Rattle.wit_encode.proofs.Owned.{same-owner, valid-references, stays, part-met, own-interface, alias-part, named-listed, not-false}
+use Rattle.wit_encode.proofs.ListedTypes.{owned-listed, listed-type}
+use Rattle.wit_encode.proofs.OwnerScope.{function-ranges, function-refers, type-stays, types-stay}
+use Rattle.wit_encode.proofs.WorldUses.{own-type}
 
 -- ---- lists
 
@@ -133,16 +144,16 @@ module _ (r : Resolve) (v : IsValid r) where
 
   -- ---- the way down
 
-  module _ (i : InterfaceId) (interface : Interface) (home : interface_at r i.0 ≡ Some interface) where
-    abbrev o : TypeOwner
-    o = as_interface i.0
+  -- an interface or a world, with the numbers of its types and its functions
+  pub record IsOwner (o : TypeOwner) (ns : List ℕ) (fs : List Function) : Type 0 where
+    pub types : (n : ℕ) → Contains ns n → IsTypeOf r o (record { 0 = n })
+    pub listed : (n : ℕ) (def : TypeDef) → type_at r n ≡ Some def → is_some def.name ≡ true → same_owner def.owner o ≡ true → Contains ns n
+    pub functions : (f : Function) → Contains fs f → Contains (functions_of r o) f
 
-    abbrev ns : List ℕ
-    ns = interface_type_numbers interface
-
-    -- the numbers of the interface, some of them more than once
+  module _ (o : TypeOwner) (ns : List ℕ) (gs : List Function) (h : IsOwner o ns gs) where
+    -- the numbers of the owner, some of them more than once
     abbrev pub all-numbers : List ℕ
-    all-numbers = ns ++ (flat_map (inside_kind r) ns ++ flat_map (λ f. flat_map (inside_number r) (function_numbers f)) (functions_of_interface interface))
+    all-numbers = ns ++ (flat_map (inside_kind r) ns ++ flat_map (λ f. flat_map (inside_number r) (function_numbers f)) gs)
 
     -- a number inside one whose inside is counted
     pub record IsCounted (k : ℕ) : Type 0 where
@@ -155,14 +166,14 @@ module _ (r : Resolve) (v : IsValid r) where
       pub own_there : type_at r k ≡ Some own_def
 
     abbrev pub Stays : ℕ → Type 0
-    Stays k = (def : TypeDef) → type_at r k ≡ Some def → foreign_owner (Some i) def.owner ≡ None → stays r v o k ≡ true
+    Stays k = (def : TypeDef) → type_at r k ≡ Some def → foreign_owner (interface_of_owner o) def.owner ≡ None → stays r v o k ≡ true
 
     of-kind : (m : ℕ) → Contains ns m → (def : TypeDef) → type_at r m ≡ Some def → (n : ℕ) → Contains (kind_numbers def.kind) n → (j : ℕ) → Contains (inside_number r n) j → Contains all-numbers j
-    of-kind m listed def at n c j h = Contains-append_right ns _ j (Contains-append_left (flat_map (inside_kind r) ns) _ j
+    of-kind m listed def at n c j d = Contains-append_right ns _ j (Contains-append_left (flat_map (inside_kind r) ns) _ j
         (contains-flat (inside_kind r) ns m j listed (subst (λ (xs : List ℕ). Contains xs j)
-        (sym (ap (λ t. option_map_or (λ d. flat_map (inside_number r) (kind_numbers d.kind)) t []) at)) (contains-flat (inside_number r) (kind_numbers def.kind) n j c h))))
+        (sym (ap (λ t. option_map_or (λ d. flat_map (inside_number r) (kind_numbers d.kind)) t []) at)) (contains-flat (inside_number r) (kind_numbers def.kind) n j c d))))
 
-    use-foreign : (def : TypeDef) → same_owner def.owner o ≡ true → is_use r def ≡ true → (id : TypeId) → Contains (parts_of def.kind) (ty.Id id) → (d : TypeDef) → type_at r id.0 ≡ Some d → foreign_owner (Some i) d.owner ≡ None → ⊥
+    use-foreign : (def : TypeDef) → same_owner def.owner o ≡ true → is_use r def ≡ true → (id : TypeId) → Contains (parts_of def.kind) (ty.Id id) → (d : TypeDef) → type_at r id.0 ≡ Some d → foreign_owner (interface_of_owner o) d.owner ≡ None → ⊥
     use-foreign def owned u id c d is f =
         let at = alias-part _ def.kind id u c in
         let target = sym (ap (λ t. option_map_or (λ target. not (same_owner target.owner def.owner) && option_map_or
@@ -174,7 +185,7 @@ module _ (r : Resolve) (v : IsValid r) where
         belongs None q g = let wrong : ⊥ = cc in absurd wrong
         belongs (Some j) q g = own-interface o d.owner j q f
 
-    walk : (t : ValueType) (n : ℕ) → Reaches r (Some i) t n → ((id : TypeId) → t ≡ ty.Id id → IsCounted id.0 × Stays id.0) → IsCounted n × Stays n
+    walk : (t : ValueType) (n : ℕ) → Reaches r (interface_of_owner o) t n → ((id : TypeId) → t ≡ ty.Id id → IsCounted id.0 × Stays id.0) → IsCounted n × Stays n
     walk _ _ (itself id) p = p id refl
     walk _ _ (through id def t n at f c re) p = walk t n re (λ id' e. further id' (subst (λ (x : ValueType). Contains (parts_of def.kind) x) e c))
       where
@@ -202,67 +213,43 @@ module _ (r : Resolve) (v : IsValid r) where
             }
             go true named =
                 let owned : same_owner def.owner o ≡ true = named_met r (valid-references r v) id.0 def at o named ∙ stay in
-                let listed = has-contains ns id.0 (owned-listed r v i.0 interface home id.0 (ap (λ t. option_map_or (λ d. same_owner d.owner o) t false) at ∙ owned)) in
+                let listed = h.listed id.0 def at named owned in
                 let part = part-at id.0 def at id'.0 number in
                 record { root = id'.0; def = part.0; there = part.1; all = of-kind id.0 listed def at id'.0 number; inside = inside-itself id'.0 part.0 part.1; own_def = part.0; own_there = part.1 }
 
     -- ---- where it begins
 
-    from-entry : (e : String Global × TypeId) → Contains interface.types.entries e → IsCounted e.1.0 × Stays e.1.0
-    from-entry e c = (record { root = e.1.0; def = listed.def; there = listed.there; all = alone; inside = inside-itself e.1.0 listed.def listed.there; own_def = listed.def; own_there = listed.there }, λ d is f. stay)
+    from-type : (t : TypeId) → Contains ns t.0 → IsCounted t.0 × Stays t.0
+    from-type t c = (record { root = t.0; def = own.def; there = own.there; all = alone; inside = inside-itself t.0 own.def own.there; own_def = own.def; own_there = own.there }, λ d is f. type-stays r v o t own t (contains-one (ty.Id t)))
       where
-        place : (k : ℕ) × (slice_get interface.types.entries k ≡ Some e)
-        place = contains-get interface.types.entries e c
+        own : IsTypeOf r o t
+        own = h.types t.0 c
 
-        listed : IsListedType r i.0 e
-        listed = listed-type r v i.0 interface home place.0 e place.1
+        alone : (j : ℕ) → Contains (inside_number r t.0) j → Contains all-numbers j
+        alone j d = Contains-append_left ns _ j (subst (λ (m : ℕ). Contains ns m) (one-contained t.0 j (subst (λ (xs : List ℕ). Contains xs j) (named-inside t.0 own.def own.there own.named_) d)) c)
 
-        named : is_some listed.def.name ≡ true
-        named = ap is_some listed.named_
+    from-function : (f : Function) → Contains gs f → (id : TypeId) → Contains (function_types f) (ty.Id id) → IsCounted id.0 × Stays id.0
+    from-function f among id c =
+        let number = function-refers r v f id c in
+        let found = found-in r.types.items id.0 (all-contained (in_list r.types.items) (function_numbers f) id.0 (function-ranges r v o f (h.functions f among)) number) in (
+          record {
+            root = id.0;
+            def = found.0;
+            there = found.1;
+            all = λ j d. Contains-append_right ns _ j (Contains-append_right (flat_map (inside_kind r) ns) _ j
+                (contains-flat (λ g. flat_map (inside_number r) (function_numbers g)) gs f j among (contains-flat (inside_number r) (function_numbers f) id.0 j number d)));
+            inside = inside-itself id.0 found.0 found.1;
+            own_def = found.0;
+            own_there = found.1;
+          },
+          λ d is q. types-stay r v o f (h.functions f among) id c,
+        )
 
-        stay : stays r v o e.1.0 ≡ true
-        stay = sym (named_met r (valid-references r v) e.1.0 listed.def listed.there o named) ∙ listed.owned
-
-        alone : (j : ℕ) → Contains (inside_number r e.1.0) j → Contains all-numbers j
-        alone j h = Contains-append_left ns _ j (subst (λ (m : ℕ). Contains ns m) (one-contained e.1.0 j (subst (λ (xs : List ℕ). Contains xs j) (named-inside e.1.0 listed.def listed.there named) h))
-            (contains-map (λ (id : TypeId). id.0) (values interface.types) e.1 (contains-map (λ (x : String Global × TypeId). x.1) interface.types.entries e c)))
-
-    from-type : (t : TypeId) → Contains (values interface.types) t → IsCounted t.0 × Stays t.0
-    from-type t c = let x = from-map (λ (e : String Global × TypeId). e.1) interface.types.entries t c in subst (λ (u : TypeId). IsCounted u.0 × Stays u.0) x.2 (from-entry x.0 x.1)
-
-    module _ (f : Function) (in_map : Contains (functions_of_interface interface) f) where
-      stays-all : function_stays r o f ≡ true
-      unfolding owners
-      stays-all = all-contained (function_stays r o) (functions_of_interface interface) f (first_true (list_all (function_stays r o) (functions_of_interface interface)) _ (interface_passes owners r v.rules.owners i.0 interface home)) in_map
-
-      in-range : function_in_range r f ≡ true
-      unfolding numbers_in_range
-      in-range = all-contained (function_in_range r) (functions_of_interface interface) f
-          (second_true (list_all (λ (id : TypeId). in_list r.types.items id.0) (values interface.types)) _
-          (second_true (passes (in_list r.packages.items) (package_number interface.package)) _ (second_true _ _ (interface_passes numbers_in_range r v.rules.numbers_in_range i.0 interface home)))) in_map
-
-      from-function : (id : TypeId) → Contains (function_types f) (ty.Id id) → IsCounted id.0 × Stays id.0
-      from-function id c =
-          let value = contains-filter_map number_of (function_types f) (ty.Id id) id.0 c (contains-one id.0) in
-          let number = Contains-append_left (filter_map number_of (function_types f)) (option_to_list (resource_of f.kind)) id.0 value in
-          let found = found-in r.types.items id.0 (all-contained (in_list r.types.items) (function_numbers f) id.0 in-range number) in (
-            record {
-              root = id.0;
-              def = found.0;
-              there = found.1;
-              all = λ j h. Contains-append_right ns _ j (Contains-append_right (flat_map (inside_kind r) ns) _ j
-                  (contains-flat (λ g. flat_map (inside_number r) (function_numbers g)) (functions_of_interface interface) f j in_map (contains-flat (inside_number r) (function_numbers f) id.0 j number h)));
-              inside = inside-itself id.0 found.0 found.1;
-              own_def = found.0;
-              own_there = found.1;
-            },
-            λ d is q. all-contained (stays r v o) (filter_map number_of (function_types f)) id.0 (sym (all_flat (has_owner r o) (met_by (met_of r)) (filter_map number_of (function_types f))) ∙ stays-all) value,
-          )
-
-    -- what is met is one of the numbers of the interface
-    pub met-counted : (fs : List Function) → ((f : Function) → Contains fs f → Contains (functions_of_interface interface) f) → (n : ℕ) → ReachedFrom r (Some i) (referred (values interface.types) fs) n → IsCounted n × Stays n
-    met-counted fs among n x = walk x.0 n x.2 (λ id e. elim (Contains-append_cases (map (λ t. ty.Id t) (values interface.types)) (flat_map function_types fs) (ty.Id id) (subst (λ (t : ValueType). Contains (referred (values interface.types) fs) t) e x.1)) [
-      | inl a ↦ (let y = from-map (λ (t : TypeId). ty.Id t) (values interface.types) (ty.Id id) a in from-type id (subst (λ (t : TypeId). Contains (values interface.types) t) (same-id y.0 id y.2) y.1))
+    -- what is met from some types and functions of the owner is one of its numbers
+    pub met-counted : (ts : List TypeId) (fs : List Function) → ((t : TypeId) → Contains ts t → Contains ns t.0) → ((f : Function) → Contains fs f → Contains gs f)
+        → (n : ℕ) → ReachedFrom r (interface_of_owner o) (referred ts fs) n → IsCounted n × Stays n
+    met-counted ts fs listed among n x = walk x.0 n x.2 (λ id e. elim (Contains-append_cases (map (λ t. ty.Id t) ts) (flat_map function_types fs) (ty.Id id) (subst (λ (t : ValueType). Contains (referred ts fs) t) e x.1)) [
+      | inl a ↦ (let y = from-map (λ (t : TypeId). ty.Id t) ts (ty.Id id) a in from-type id (subst (λ (t : TypeId). Contains ns t.0) (same-id y.0 id y.2) (listed y.0 y.1)))
       | inr b ↦ (let y = from-flat function_types fs (ty.Id id) b in from-function y.0 (among y.0 y.1) id y.2)
     ])
       where
@@ -272,6 +259,45 @@ module _ (r : Resolve) (v : IsValid r) where
     pub counted-in : (n : ℕ) → IsCounted n → Contains all-numbers n
     counted-in n c = c.all n c.inside
 
-    -- a named type that is met and isn't foreign is of the interface
-    pub named-own : (n : ℕ) (def : TypeDef) → type_at r n ≡ Some def → Stays n → foreign_owner (Some i) def.owner ≡ None → is_some def.name ≡ true → same_owner def.owner (as_interface i.0) ≡ true
+    -- a named type that is met and isn't foreign is of the owner
+    pub named-own : (n : ℕ) (def : TypeDef) → type_at r n ≡ Some def → Stays n → foreign_owner (interface_of_owner o) def.owner ≡ None → is_some def.name ≡ true → same_owner def.owner o ≡ true
     named-own n def at stay f named = named_met r (valid-references r v) n def at o named ∙ stay def at f
+
+  -- ---- interfaces and worlds
+
+  pub interface-owner : (i : InterfaceId) (interface : Interface) → interface_at r i.0 ≡ Some interface → IsOwner (owner.Interface i) (interface_type_numbers interface) (functions_of_interface interface)
+  interface-owner i interface home = record {
+    types = λ n c.
+        let x = from-map (λ (id : TypeId). id.0) (values interface.types) n c in
+        let y = from-map (λ (e : String Global × TypeId). e.1) interface.types.entries x.0 x.1 in
+        subst (λ (m : ℕ). IsTypeOf r (owner.Interface i) (record { 0 = m })) (ap (λ (t : TypeId). t.0) y.2 ∙ x.2) (of-entry y.0 y.1);
+    listed = λ n def at named owned.
+        has-contains (interface_type_numbers interface) n (owned-listed r v i.0 interface home n (ap (λ t. option_map_or (λ d. same_owner d.owner (owner.Interface i)) t false) at ∙ owned));
+    functions = λ f c. subst (λ (x : Option Interface). Contains (option_map_or functions_of_interface x []) f) (sym home) c;
+  }
+    where
+      of-entry : (e : String Global × TypeId) → Contains interface.types.entries e → IsTypeOf r (owner.Interface i) e.1
+      of-entry e c =
+          let place = contains-get interface.types.entries e c in
+          let t = listed-type r v i.0 interface home place.0 e place.1 in
+          record { def = t.def; there = t.there; named_ = ap is_some t.named_; owned = same-owner t.def.owner (owner.Interface i) t.owned }
+
+  pub world-owner : (w : WorldId) (world : World) → world_at r w.0 ≡ Some world → IsOwner (owner.World w) (world_type_numbers world) (functions_of_world world)
+  world-owner w world home = record {
+    types = λ n c.
+        let x = given-contains item_type (values world.imports) n c in
+        let t = typed-item x.0 n x.2 in
+        let item_there = subst (λ (i : WorldItem). Contains (items_of world) i) t.1 (Contains-append_left (values world.imports) (values world.exports) x.0 x.1) in
+        let place = contains-get (items_of world) (item.Type_ t.0) item_there in
+        subst (λ (m : ℕ). IsTypeOf r (owner.World w) (record { 0 = m })) t.2 (own-type r v w world home place.0 t.0 place.1);
+    listed = λ n def at named owned. there n def at def.name refl named (subst (λ (a : TypeOwner). option_map_or (λ name. is_listed r n (text_of name) a) def.name (same_owner a owner.None) ≡ true) (same-owner def.owner (owner.World w) owned) (named-listed r v n def at));
+    functions = λ f c. subst (λ (x : Option World). Contains (option_map_or functions_of_world x []) f) (sym home) c;
+  }
+    where
+      there : (n : ℕ) (def : TypeDef) → type_at r n ≡ Some def → (x : Option (String Global)) → def.name ≡ x → is_some x ≡ true
+          → option_map_or (λ name. is_listed r n (text_of name) (owner.World w)) x false ≡ true → Contains (world_type_numbers world) n
+      there n def at None e named listed = absurd (let z : ⊥ = cc in z)
+      there n def at (Some name) e named listed =
+          has-contains (world_type_numbers world) n
+          (found_stands (is_name_key (text_of name)) item_type n world.imports.entries (first_true (is_id n (option_and_then item_type (get_by (is_name_key (text_of name)) world.imports))) _
+          (subst (λ (o : Option World). passes (is_listed_in_world n (text_of name)) o ≡ true) home listed)))

@@ -57,13 +57,13 @@ slots-few : (ds : List Declaration) → type_slots ds ≤ length ds
 slots-few [] = omega arith
 slots-few (d ∷ ds) = let a = slots-one d in let b = slots-few ds in omega arith
 
-outer-slots-few : (ds : Declarations) → type_slots_of ds ≤ declaration_count ds
+pub outer-slots-few : (ds : Declarations) → type_slots_of ds ≤ declaration_count ds
 outer-slots-few Declarations.no_more = omega arith
 outer-slots-few (Declarations.declares d rest) = let a = slots-one d in let b = outer-slots-few rest in omega arith
 outer-slots-few (Declarations.component inner rest) = let b = outer-slots-few rest in omega arith
 outer-slots-few (Declarations.instance inner rest) = let b = outer-slots-few rest in omega arith
 
-counts-refused : (held slots : ℕ) → slots ≤ held + 1 → fits_counts (held + 1) slots ≡ false → limit ≤ held
+pub counts-refused : (held slots : ℕ) → slots ≤ held + 1 → fits_counts (held + 1) slots ≡ false → limit ≤ held
 counts-refused held slots few e = by_order (nat_lt held 4294967295) refl
   where
     by_order : (b : Bool) → nat_lt held 4294967295 ≡ b → limit ≤ held

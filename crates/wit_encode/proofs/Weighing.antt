@@ -16,9 +16,9 @@ use Rattle.wit_model.specs.Types.{trees_of, tree_of, number_tree, declared_by, t
 use Rattle.wit_model.specs.Uses.{once, alias_target}
 use Rattle.wit_model.specs.Parts.{same_owner, kind_numbers}
 use Rattle.wit_model.specs.Meant.{signature_of}
-use Rattle.wit_model.specs.Rules.{passes, is_named_number, is_named_kind}
+use Rattle.wit_model.specs.Rules.{passes, is_named_number, is_named_kind, interface_type_numbers}
 use Rattle.wit_model.specs.Valid.{IsValid, as_interface, functions_of_interface, named_kinds}
-use Rattle.wit_model.specs.Weight.{unit_of, members_of, name_texts, definition_weight, is_brought, number_weight, function_weight, instance_numbers, instance_weight, whole_instance_weight}
+use Rattle.wit_model.specs.Weight.{unit_of, members_of, name_texts, definition_weight, is_brought, number_weight, function_weight, numbers_of, instance_numbers, instance_weight, whole_instance_weight}
 use Rattle.wit_model.specs.declared.model.Resolve.{Resolve}
 use Rattle.wit_model.specs.declared.model.Interface.{Interface}
 use Rattle.wit_model.specs.declared.model.Function.{Function}
@@ -39,12 +39,14 @@ use Rattle.wit_encode.specs.Encoders.{InterfaceLacksRoom}
 use Rattle.wit_model.specs.declared.model.Handle.TheVariants as handle
 use Rattle.std.proofs.lemmas.List.Sums.{get_or-le-sum_by}
 use Rattle.wit_model.specs.declared.model.TypeOwner.{TypeOwner}
+use Rattle.wit_model.specs.declared.model.TypeOwner.TheVariants as owner
 use Rattle.wit_model.specs.Text.{text_eq}
 use Rattle.wit_model.specs.Rules.{is_member}
 use Rattle.wit_model.specs.Valid.{function_names}
 use Rattle.std.proofs.lemmas.List.Filters.{sum_by-filter_both}
 use Rattle.wit_encode_types.specs.KeyLaws.{text_same}
 use Rattle.wit_encode_types.specs.Plan.{foreign_owner}
+use Rattle.wit_encode_types.specs.Table.{interface_of_owner}
 use Rattle.wit_encode_types.specs.MetKinds.{ReachedFrom, referred}
 use Rattle.wit_encode.specs.RoomLaws.{LackingInterfacesAreHeavy}
 use Rattle.wit_encode.proofs.Validity.{type_passes, interface_passes, valid-layered}
@@ -53,12 +55,12 @@ use Rattle.wit_encode.proofs.Counting.{contains-filter, from-filter, from-map}
 use Rattle.wit_encode_types.proofs.Lists.{all-contained, contains-map, contains-one, none-in}
 use Rattle.wit_encode.proofs.Numbers.{contains-later, same-number, equal}
 use Rattle.wit_encode.proofs.Refusing.{two-each, listed, map-twice}
-use Rattle.wit_encode.proofs.Reached.{from-flat, part-at, met-counted, counted-in, named-own, all-numbers}
+use Rattle.wit_encode.proofs.Reached.{from-flat, part-at, IsOwner, IsCounted, Stays, met-counted, counted-in, named-own, all-numbers, interface-owner}
 use Rattle.wit_encode_types.proofs.Pairs.{pairs-head, pairs-tail}
 
 -- ---- texts that don't fit are long
 
-abbrev named-unit : Text → ℕ
+abbrev pub named-unit : Text → ℕ
 named-unit t = unit_of (t ∷ [])
 
 one-text : (t : Text) → named-unit t ≡ 64 + length t
@@ -68,18 +70,18 @@ next-text : (t : Text) (ts : List Text) → sum_by named-unit (t ∷ ts) ≡ (64
 next-text t ts = sum_by-cons named-unit t ts ∙ ap (λ n. n + sum_by named-unit ts) (one-text t)
 
 -- what doesn't fit is larger than the limit
-over : (total : ℕ) (fits : Bool) → (total ≤ limit → fits ≡ true) → fits ≡ false → limit < total
+pub over : (total : ℕ) (fits : Bool) → (total ≤ limit → fits ≡ true) → fits ≡ false → limit < total
 over total fits h e = by-order (nat_lt limit total) refl
   where
     by-order : (b : Bool) → nat_lt limit total ≡ b → limit < total
     by-order true f = ltb-true limit total f
     by-order false f = let low : total ≤ limit = ltb-false limit total f in let is = h low in let wrong : ⊥ = cc in absurd wrong
 
-both-true : (a b : Bool) → a ≡ true → b ≡ true → (a && b) ≡ true
+pub both-true : (a b : Bool) → a ≡ true → b ≡ true → (a && b) ≡ true
 both-true true b p q = q
 both-true false b p q = p
 
-fits-text : {A : Type 0} (t : List A) → length t ≤ limit → fits_length t ≡ true
+pub fits-text : {A : Type 0} (t : List A) → length t ≤ limit → fits_length t ≡ true
 fits-text t h = let less : length t < 2 ^ 32 = omega arith in lt-ltb (length t) (2 ^ 32) less
 
 each-fits : (ts : List Text) → sum_by named-unit ts ≤ limit → list_all fits_length ts ≡ true
@@ -100,7 +102,7 @@ names-fit ts h = let many = as-many ts in let few : length ts ≤ limit = omega 
 names-heavy : (ts : List Text) → fits_names ts ≡ false → limit < sum_by named-unit ts
 names-heavy ts e = over (sum_by named-unit ts) (fits_names ts) (names-fit ts) e
 
-given-fits : (t : Option Text) → sum_by length (option_to_list t) ≤ limit → fits_given t ≡ true
+pub given-fits : (t : Option Text) → sum_by length (option_to_list t) ≤ limit → fits_given t ≡ true
 given-fits None h = refl
 given-fits (Some t) h = let e = sum_by-cons length t [] in let low : length t ≤ limit = omega arith in fits-text t low
 
@@ -164,10 +166,10 @@ split [] x c = none-in x c
 split (y ∷ ys) x (zero, l, e) = ([], ys, ap (λ z. z ∷ ys) e)
 split (y ∷ ys) x (suc i, l, e) = let s = split ys x (i, omega (arith, l), e) in (y ∷ s.0, s.1, ap (λ zs. y ∷ zs) s.2)
 
-abbrev Differ : ℕ → ℕ → Type 0
+abbrev pub Differ : ℕ → ℕ → Type 0
 Differ x y = nat_eq x y ≡ false
 
-sum-among : (g : ℕ → ℕ) (xs ys : List ℕ) → AllPairs Differ xs → ((n : ℕ) → Contains xs n → Contains ys n) → sum_by g xs ≤ sum_by g ys
+pub sum-among : (g : ℕ → ℕ) (xs ys : List ℕ) → AllPairs Differ xs → ((n : ℕ) → Contains xs n → Contains ys n) → sum_by g xs ≤ sum_by g ys
 sum-among g [] ys apart among = omega arith
 sum-among g (x ∷ xs) ys apart among =
     let s = split ys x (among x (0, omega arith, refl)) in
@@ -188,7 +190,7 @@ sum-among g (x ∷ xs) ys apart among =
         behind n d zs (zero, l, e) = let same : nat_eq x n ≡ true = subst (λ (m : ℕ). nat_eq x m ≡ true) e (same-number x) in absurd (let z : ⊥ = cc in z)
         behind n d zs (suc i, l, e) = (i, omega (arith, l), e)
 
-contains-once : (ns : List ℕ) (n : ℕ) → Contains ns n → Contains (once ns) n
+pub contains-once : (ns : List ℕ) (n : ℕ) → Contains ns n → Contains (once ns) n
 contains-once [] n c = none-in n c
 contains-once (m ∷ ns) n (zero, l, e) = (0, omega arith, e)
 contains-once (m ∷ ns) n (suc i, l, e) = go (n == m) refl (contains-once ns n (i, omega (arith, l), e))
@@ -197,7 +199,7 @@ contains-once (m ∷ ns) n (suc i, l, e) = go (n == m) refl (contains-once ns n 
     go true q c = (0, omega arith, sym (equal n m q))
     go false q c = contains-later m _ n (contains-filter (λ k. not (k == m)) (once ns) n (ap not q) c)
 
-at-least : {X : Type 0} (g : X → ℕ) (xs : List X) → ((x : X) → Contains xs x → 64 ≤ g x) → 64 * length xs ≤ sum_by g xs
+pub at-least : {X : Type 0} (g : X → ℕ) (xs : List X) → ((x : X) → Contains xs x → 64 ≤ g x) → 64 * length xs ≤ sum_by g xs
 at-least g [] h = omega arith
 at-least g (x ∷ xs) h =
     let rest = at-least g xs (λ y c. h y (later y c)) in
@@ -207,7 +209,7 @@ at-least g (x ∷ xs) h =
     later : (y : _) → Contains xs y → Contains (x ∷ xs) y
     later y (i, l, e) = (suc i, omega (arith, l), e)
 
-one-of : {X : Type 0} (g : X → ℕ) (xs : List X) (x : X) → Contains xs x → g x ≤ sum_by g xs
+pub one-of : {X : Type 0} (g : X → ℕ) (xs : List X) (x : X) → Contains xs x → g x ≤ sum_by g xs
 one-of g xs x (i, l, e) = subst (λ y. g y ≤ sum_by g xs) e (get_or-le-sum_by g xs i x l)
 
 -- ---- the functions of an interface, in any order
@@ -246,7 +248,7 @@ params-sum : (ps : List Param) → sum_by (λ p. unit_of (text_of p.name ∷ [])
 params-sum [] = refl
 params-sum (p ∷ ps) = sum_by-cons (λ p. unit_of (text_of p.name ∷ [])) p ps ∙ (ap (λ n. named-unit (text_of p.name) + n) (params-sum ps) ∙ sym (sum_by-cons named-unit (text_of p.name) (map (λ p. text_of p.name) ps)))
 
-type-heavy : (r : Resolve) (f : Function) → fits_request r (function_type (signature_of r f)) ≡ false → limit < function_weight f
+pub type-heavy : (r : Resolve) (f : Function) → fits_request r (function_type (signature_of r f)) ≡ false → limit < function_weight f
 type-heavy r f e =
     let names = names-heavy (map (λ p. text_of p.name) f.params.items) (ap fits_names (sym (map-twice (λ (p : Text × Tree). p.0) (λ p. (text_of p.name, tree_of (trees_of r) p.ty)) f.params.items)) ∙ e) in
     let same = params-sum f.params.items in
@@ -257,6 +259,70 @@ name-heavy f e =
     let long = over (length (text_of f.name) + sum_by length (option_to_list (optional_text f.external_id))) _ (export-fits (text_of f.name) (optional_text f.external_id)) e in
     let parts = sum_by-cons length (text_of f.name) (option_to_list (optional_text f.external_id)) in
     omega (arith, long, parts)
+
+-- ---- what is met from some types and functions of an interface or a world
+
+module _ (r : Resolve) (v : IsValid r) (o : TypeOwner) (ns : List ℕ) (all : List Function) (h : IsOwner r v o ns all) (ts : List TypeId) (fs : List Function)
+    (listed : (t : TypeId) → Contains ts t → Contains ns t.0) (among : (f : Function) → Contains fs f → Contains all f) where
+  abbrev weighs : ℕ → ℕ
+  weighs n = number_weight r o n
+
+  abbrev MetBy : ℕ → Type 0
+  MetBy n = ReachedFrom r (interface_of_owner o) (referred ts fs) n
+
+  counted : (n : ℕ) → MetBy n → IsCounted r v o ns all h n × Stays r v o ns all h n
+  counted n m = met-counted r v o ns all h ts fs listed among n m
+
+  pub counted-once : (n : ℕ) → MetBy n → Contains (numbers_of r ns all) n
+  counted-once n m = contains-once (all-numbers r v o ns all h) n (counted-in r v o ns all h n (counted n m).0)
+
+  -- a number of the owner itself weighs its definition
+  own-weight : (n : ℕ) (d : TypeDef) → MetBy n → type_at r n ≡ Some d → foreign_owner (interface_of_owner o) d.owner ≡ None → weighs n ≡ definition_weight d
+  own-weight n d m at f =
+      ap (λ t. option_map_or (λ d. if is_brought r o n then unit_of (name_texts d) else definition_weight d) t 0) at
+      ∙ ap (λ b. if b then unit_of (name_texts d) else definition_weight d) (ap (λ t. option_map_or (λ d. if is_some d.name then not (same_owner d.owner o) else false) t false) at ∙ go (is_some d.name) refl)
+    where
+      go : (b : Bool) → is_some d.name ≡ b → (if b then not (same_owner d.owner o) else false) ≡ false
+      go false e = refl
+      go true e = ap not (named-own r v o ns all h n d at (counted n m).1 f e)
+
+  pub counted-least : (n : ℕ) → MetBy n → 64 ≤ weighs n
+  counted-least n m =
+      let c = (counted n m).0 in
+      let at = ap (λ t. option_map_or (λ d. if is_brought r o n then unit_of (name_texts d) else definition_weight d) t 0) c.own_there in
+      let low : (b : Bool) → 64 ≤ (if b then unit_of (name_texts c.own_def) else definition_weight c.own_def) = (λ b. heavy-either b c.own_def) in
+      let here = low (is_brought r o n) in
+      omega (arith, at, here)
+    where
+      heavy-either : (b : Bool) (d : TypeDef) → 64 ≤ (if b then unit_of (name_texts d) else definition_weight d)
+      heavy-either true d = omega arith
+      heavy-either false d = omega arith
+
+  pub part-heavy-of : (n : ℕ) (d : TypeDef) → MetBy n → type_at r n ≡ Some d → LacksPart r (interface_of_owner o) (IsUnfit r) n d → limit < weighs n
+  part-heavy-of n d m at (its_definition f u) = let w = own-weight n d m at f in let h = kind-heavy r v n d at u in omega (arith, w, h)
+  part-heavy-of n d m at (its_name f name is u) =
+      let w = own-weight n d m at f in
+      let long = over (length (text_of name) + sum_by length (option_to_list (optional_text d.external_id))) _ (export-fits (text_of name) (optional_text d.external_id)) u in
+      let texts = sum_by-append length (name_texts d) (option_to_list (optional_text d.external_id)) in
+      let first : sum_by length (name_texts d) ≡ length (text_of name) = ap (λ x. sum_by length (option_to_list (optional_text x))) is ∙ (sum_by-cons length (text_of name) [] ∙ (let z : length (text_of name) + 0 ≡ length (text_of name) = omega arith in z)) in
+      omega (arith, w, long, texts, first)
+  part-heavy-of n d m at (its_import j f u) = long-name d.name refl (sym (ap (λ (o : Option TypeDef). option_map_or (λ x. fits_given (optional_text x.name)) o true) at) ∙ u)
+    where
+      weighs-is : weighs n ≡ (if is_brought r o n then unit_of (name_texts d) else definition_weight d)
+      weighs-is = ap (λ t. option_map_or (λ d. if is_brought r o n then unit_of (name_texts d) else definition_weight d) t 0) at
+
+      either : (b : Bool) → sum_by length (name_texts d) ≤ (if b then unit_of (name_texts d) else definition_weight d)
+      either true = omega arith
+      either false = let parts = sum_by-append length (name_texts d) (option_to_list (optional_text d.external_id)) in omega (arith, parts)
+
+      long-name : (name : Option (String Global)) → d.name ≡ name → fits_given (optional_text d.name) ≡ false → limit < weighs n
+      long-name None is e = let none : fits_given (optional_text d.name) ≡ true = ap (λ x. fits_given (optional_text x)) is in absurd (let z : ⊥ = cc in z)
+      long-name (Some name) is e =
+          let long = over (length (text_of name)) (fits_length (text_of name)) (fits-text (text_of name)) (sym (ap (λ x. fits_given (optional_text x)) is) ∙ e) in
+          let first : sum_by length (name_texts d) ≡ length (text_of name) = ap (λ x. sum_by length (option_to_list (optional_text x))) is ∙ (sum_by-cons length (text_of name) [] ∙ (let z : length (text_of name) + 0 ≡ length (text_of name) = omega arith in z)) in
+          let some = either (is_brought r o n) in
+          let w = weighs-is in
+          omega (arith, w, long, some, first)
 
 module _ (r : Resolve) (v : IsValid r) (i : InterfaceId) (def : Interface) (home : interface_at r i.0 ≡ Some def) where
   abbrev o : TypeOwner
@@ -300,59 +366,23 @@ module _ (r : Resolve) (v : IsValid r) (i : InterfaceId) (def : Interface) (home
   abbrev Met : ℕ → Type 0
   Met n = ReachedFrom r (Some i) (referred (values def.types) (map (λ f. f.1) fs)) n
 
+  listed-here : (t : TypeId) → Contains (values def.types) t → Contains (interface_type_numbers def) t.0
+  listed-here t c = contains-map (λ (id : TypeId). id.0) (values def.types) t c
+
+  home-owner : IsOwner r v (owner.Interface i) (interface_type_numbers def) (functions_of_interface def)
+  home-owner = interface-owner r v i def home
+
   in-numbers : (n : ℕ) → Met n → Contains (instance_numbers r def (functions_of_interface def)) n
-  in-numbers n m = contains-once (all-numbers r v i def home) n (counted-in r v i def home n (met-counted r v i def home (map (λ f. f.1) fs) in-map n m).0)
+  in-numbers n m = counted-once r v (owner.Interface i) (interface_type_numbers def) (functions_of_interface def) home-owner (values def.types) (map (λ f. f.1) fs) listed-here in-map n m
 
   number-within : (n : ℕ) → Met n → weigh n ≤ whole_instance_weight r i.0
   number-within n m = let one = one-of weigh (instance_numbers r def (functions_of_interface def)) n (in-numbers n m) in let w = weight-is in omega (arith, one, w)
 
-  -- a number of the interface itself weighs its definition
-  own-weight : (n : ℕ) (d : TypeDef) → Met n → type_at r n ≡ Some d → foreign_owner (Some i) d.owner ≡ None → weigh n ≡ definition_weight d
-  own-weight n d m at f =
-      ap (λ t. option_map_or (λ d. if is_brought r o n then unit_of (name_texts d) else definition_weight d) t 0) at
-      ∙ ap (λ b. if b then unit_of (name_texts d) else definition_weight d) (ap (λ t. option_map_or (λ d. if is_some d.name then not (same_owner d.owner o) else false) t false) at ∙ go (is_some d.name) refl)
-    where
-      go : (b : Bool) → is_some d.name ≡ b → (if b then not (same_owner d.owner o) else false) ≡ false
-      go false e = refl
-      go true e = ap not (named-own r v i def home n d at (met-counted r v i def home (map (λ f. f.1) fs) in-map n m).1 f e)
-
   at-least-one : (n : ℕ) → Met n → 64 ≤ weigh n
-  at-least-one n m =
-      let c = (met-counted r v i def home (map (λ f. f.1) fs) in-map n m).0 in
-      let at = ap (λ t. option_map_or (λ d. if is_brought r o n then unit_of (name_texts d) else definition_weight d) t 0) c.own_there in
-      let low : (b : Bool) → 64 ≤ (if b then unit_of (name_texts c.own_def) else definition_weight c.own_def) = (λ b. heavy-either b c.own_def) in
-      let here = low (is_brought r o n) in
-      omega (arith, at, here)
-    where
-      heavy-either : (b : Bool) (d : TypeDef) → 64 ≤ (if b then unit_of (name_texts d) else definition_weight d)
-      heavy-either true d = omega arith
-      heavy-either false d = omega arith
+  at-least-one n m = counted-least r v (owner.Interface i) (interface_type_numbers def) (functions_of_interface def) home-owner (values def.types) (map (λ f. f.1) fs) listed-here in-map n m
 
   part-heavy : (n : ℕ) (d : TypeDef) → Met n → type_at r n ≡ Some d → LacksPart r (Some i) (IsUnfit r) n d → limit < weigh n
-  part-heavy n d m at (its_definition f u) = let w = own-weight n d m at f in let h = kind-heavy r v n d at u in omega (arith, w, h)
-  part-heavy n d m at (its_name f name is u) =
-      let w = own-weight n d m at f in
-      let long = over (length (text_of name) + sum_by length (option_to_list (optional_text d.external_id))) _ (export-fits (text_of name) (optional_text d.external_id)) u in
-      let texts = sum_by-append length (name_texts d) (option_to_list (optional_text d.external_id)) in
-      let first : sum_by length (name_texts d) ≡ length (text_of name) = ap (λ x. sum_by length (option_to_list (optional_text x))) is ∙ (sum_by-cons length (text_of name) [] ∙ (let z : length (text_of name) + 0 ≡ length (text_of name) = omega arith in z)) in
-      omega (arith, w, long, texts, first)
-  part-heavy n d m at (its_import j f u) = long-name d.name refl (sym (ap (λ (o : Option TypeDef). option_map_or (λ x. fits_given (optional_text x.name)) o true) at) ∙ u)
-    where
-      weigh-is : weigh n ≡ (if is_brought r o n then unit_of (name_texts d) else definition_weight d)
-      weigh-is = ap (λ t. option_map_or (λ d. if is_brought r o n then unit_of (name_texts d) else definition_weight d) t 0) at
-
-      either : (b : Bool) → sum_by length (name_texts d) ≤ (if b then unit_of (name_texts d) else definition_weight d)
-      either true = omega arith
-      either false = let parts = sum_by-append length (name_texts d) (option_to_list (optional_text d.external_id)) in omega (arith, parts)
-
-      long-name : (name : Option (String Global)) → d.name ≡ name → fits_given (optional_text d.name) ≡ false → limit < weigh n
-      long-name None is e = let none : fits_given (optional_text d.name) ≡ true = ap (λ x. fits_given (optional_text x)) is in absurd (let z : ⊥ = cc in z)
-      long-name (Some name) is e =
-          let long = over (length (text_of name)) (fits_length (text_of name)) (fits-text (text_of name)) (sym (ap (λ x. fits_given (optional_text x)) is) ∙ e) in
-          let first : sum_by length (name_texts d) ≡ length (text_of name) = ap (λ x. sum_by length (option_to_list (optional_text x))) is ∙ (sum_by-cons length (text_of name) [] ∙ (let z : length (text_of name) + 0 ≡ length (text_of name) = omega arith in z)) in
-          let some = either (is_brought r o n) in
-          let w = weigh-is in
-          omega (arith, w, long, some, first)
+  part-heavy n d m at lacks = part-heavy-of r v (owner.Interface i) (interface_type_numbers def) (functions_of_interface def) home-owner (values def.types) (map (λ f. f.1) fs) listed-here in-map n d m at lacks
 
   request-heavy : (f : Named) → Contains fs f → (q : Request) → Contains (function_requests r f) q → IsUnfit r q → limit < function_weight f.1
   request-heavy f c q (zero, l, e) u = type-heavy r f.1 (ap (fits_request r) e ∙ u)

@@ -1,11 +1,10 @@
 -- What the calls of an encoder of a world do to its component type.
-use Rattle.std.proofs.Common.{◌≡◌, refl, sym, subst, ap, ◌∙◌, ℕ, ◌+◌, Bool, true, false, not, ◌&&◌, ◌||◌, cond, List, [], ◌∷◌, ◌++◌, append-nil, filter_map, Result, Ok, Err, IfOk, OnOk, OnErr, Option, Some, None, slice_get, length, arith}
+use Rattle.std.proofs.Common.{◌≡◌, refl, sym, subst, ap, ◌∙◌, ℕ, ◌+◌, Bool, true, false, not, ◌&&◌, ◌||◌, cond, List, [], ◌∷◌, ◌++◌, append-nil, filter_map, Result, Ok, Err, IfOk, OnErr, Option, Some, None, slice_get, length, arith}
 use Rattle.std.specs.List.{list_all, list_any}
-use Rattle.std.specs.Option.{option_map_or, is_some}
+use Rattle.std.specs.Option.{option_map_or}
 use Rattle.std.specs.Prelude.{◌≤◌}
 use Rattle.wit_model.specs.Text.{Text}
-use Rattle.wit_model.specs.Tree as tree_of_types
-use Rattle.wit_model.specs.Tree.{Tree, Place, here, of_interface, named, primitive, node}
+use Rattle.wit_model.specs.Tree.{Tree, here, of_interface, named, primitive, node}
 use Rattle.wit_model.specs.Types.{number_tree}
 use Rattle.wit_model.specs.Lookup.{place_of}
 use Rattle.wit_model.specs.Meaning.{Signature, TypeMeaning}
@@ -24,25 +23,25 @@ use Rattle.comp_bytes.specs.declared.forms.ComponentTypeRef.TheVariants as refs
 use Rattle.comp_bytes.specs.Raw.{Declaration, Declarations, ExternName, declaration_count}
 use Rattle.comp_bytes.specs.RawOf.{raw_defined, raw_function}
 use Rattle.comp_bytes.specs.Held.{type_slots_of}
-use Rattle.comp_bytes.specs.Reading.{◌>>=◌}
 use Rattle.comp_meaning.specs.Same.{same_place}
 use Rattle.comp_meaning.specs.Follow as follow
 use Rattle.comp_meaning.specs.Follow.{Direction, import_, Seen, Slot, component_step, declared_by, definition, function_signature, in_scope, instance_types, is_foreign_name, is_simple, named_like, named_type, new_scope, see}
 use Rattle.wit_encode_types.specs.declared.maps.TypeEncodingMaps.{TypeEncodingMaps}
 use Rattle.wit_encode_types.specs.Slots.{Standing, tree, Follows, FollowsFunction, Defines, DefinesFunction}
-use Rattle.wit_encode_types.specs.Resources.{Names, is_met_owner, is_named_interface, is_resource_tree, is_resource_declaration, named_resources, resource_names}
+use Rattle.wit_encode_types.specs.Resources.{is_met_owner, is_named_interface, named_resources}
 use Rattle.wit_encode_types.specs.Scope.{Scope, IsDeclared, DeclaresSlot, DeclaresResource, IsImportable, exported_name}
 use Rattle.wit_encode_types.specs.Formed.{IsFormed, IsFormedSignature}
-use Rattle.wit_encode_types.specs.Counts.{Definitions, one_type_more, one_function_more, ExportsOne}
+use Rattle.wit_encode_types.specs.Counts.{one_type_more, one_function_more, ExportsOne}
 use Rattle.wit_encode_types.specs.Distinct.{is_value_type, is_function_type}
-use Rattle.wit_encode_types.specs.Known.{Around, Aliased, IsAlias, IsSource, ReachesAround, as_before, aliased, alias_declared, are_right, is_known_as, is_slot_for, known_slot, outer_instances, outer_scope, outer_slots, standing_instances, with_alias}
+use Rattle.wit_encode_types.specs.Known.{Around, Aliased, IsAlias, IsSource, ReachesAround, as_before, aliased, alias_declared, are_right, is_slot_for, known_slot, outer_scope, outer_slots, standing_instances, with_alias}
 use Rattle.wit_encode_types.specs.Standing.{SlotsStand, is_slot_of, standing_at}
 use Rattle.wit_encode_types.specs.View.{View, Grows}
 use Rattle.wit_encode_types.proofs.Around.{around-same}
 use Rattle.world_names.specs.WorldSteps.{seen_type}
 use Rattle.world_names.proofs.WorldSteps.{named-slot as named-plain, type-step}
 use Rattle.wit_encode.specs.Encoders.{declared_after}
-use Rattle.wit_encode.specs.Worlds.{declared_type, is_sound_outside, seen_imports, world_definitions, world_resources, world_scope, world_view}
+use Rattle.wit_encode.specs.WrittenNames.{described_name, instance_declarations, instance_name}
+use Rattle.wit_encode.specs.Worlds.{declared_type, is_sound_outside, world_definitions, world_resources, world_scope, world_view}
 use Rattle.wit_encode.proofs.Calls.{defines-of, formed-value, function-of}
 use Rattle.wit_encode.proofs.Components.{count-more, steps-count, steps-more}
 use Rattle.wit_encode.proofs.Contents.{IsOf, slots-kept}
@@ -51,6 +50,7 @@ use Rattle.wit_encode.proofs.Importing.{Stands, cut-short, importable-sound, imp
 use Rattle.wit_encode.proofs.Refusing.{outer-pushed}
 use Rattle.wit_encode.proofs.Strict.{bind, definition-strict, function-strict}
 use Rattle.wit_encode.proofs.Wider.{alias-step}
+use Rattle.wit_encode.proofs.WrittenNames.{instances-left}
 use Rattle.wit_encode.proofs.WorldScope.{Extends, SoundOutside, Widens, WorldCalls, exports-more, scope-stays, slot-extends, slots-more, sound-outside, world-calls}
 
 -- a component type, after something has been declared in it
@@ -73,8 +73,8 @@ module _ (r : Resolve) (w : WorldId) (a : Around) (sound : SoundOutside r w a) w
 
   -- one declaration that adds a slot
   declared-widens : (outer : Declarations) (d : Declaration) (x : Slot) (types : List Seen) (next : follow.Scope) → component_step sound.scope d ≡ Some next → Extends sound.scope next x types
-      → is_slot_of (world_resources r w) x ≡ true → outer ≡ declared_after a.declared d → Widens r w a (after_declaring a outer) x types
-  declared-widens outer d x types next step extends kept e =
+      → instance_name d ≡ [] → is_slot_of (world_resources r w) x ≡ true → outer ≡ declared_after a.declared d → Widens r w a (after_declaring a outer) x types
+  declared-widens outer d x types next step extends plain kept e =
       let followed : outer_scope outer ≡ Some next = ap outer_scope e ∙ steps-more new_scope sound.scope next a.declared d sound.followed step in
       record {
         before = sound.scope;
@@ -85,6 +85,7 @@ module _ (r : Resolve) (w : WorldId) (a : Around) (sound : SoundOutside r w a) w
         listed = refl;
         right = ap (are_right r a.known) (ap (λ o. option_map_or (λ s. s.slots) o []) followed ∙ extends.slots) ∙ right-more r a.known sound.scope.slots x sound.right;
         kept = kept;
+        instances = ap instance_declarations e ∙ instances-left a.declared d plain;
       }
 
   -- what has been defined afterwards
@@ -124,11 +125,11 @@ module _ {E : Type 0} (res : Result ℕ E) (r : Resolve) (w : WorldId) (count : 
     sound = sound-outside r w a is_sound
 
     -- a call that declares something
-    declares : (d : Declaration) (x : Slot) (types : List Seen) (after : follow.Scope) (P : Standing → Type 0) (counts : Type 0) → component_step sound.scope d ≡ Some after → Extends sound.scope after x types
+    declares : (d : Declaration) (x : Slot) (types : List Seen) (after : follow.Scope) (P : Standing → Type 0) (counts : Type 0) → component_step sound.scope d ≡ Some after → Extends sound.scope after x types → instance_name d ≡ []
         → is_slot_of (world_resources r w) x ≡ true → IsOf x P → (Widens r w a next x types → outer ≡ declared_after a.declared d → counts) → Declared d → OnErr res (outer ≡ a.declared) → Leads P counts
-    declares d x types after P counts step extends kept is q ok err =
+    declares d x types after P counts step extends plain kept is q ok err =
         world-calls res r w count a next maps P counts x types is_sound is (each-ok res (λ k h.
-        let m = declared-widens r w a sound outer d x types after step extends kept h.1 in
+        let m = declared-widens r w a sound outer d x types after step extends plain kept h.1 in
         (h.0 ∙ index-next r w a sound, m, q m h.1)) ok) (same-around err)
       where
         each-ok : {E : Type 0} {P Q : ℕ → Type 0} (res : Result ℕ E) → ((k : ℕ) → P k → Q k) → IfOk res P → IfOk res Q
@@ -141,7 +142,7 @@ module _ {E : Type 0} (res : Result ℕ E) (r : Resolve) (w : WorldId) (count : 
         let strict : definition sound.scope.slots (raw_defined d) ≡ Some t = ap (λ zs. definition zs (raw_defined d)) (sym (same-slots r w a sound))
         ∙ definition-strict (world_resources r w) (outer_slots a.declared) (slots-sound r w a sound) d t h f.formed in
         declares (Declaration.defined (raw_defined d)) (Slot.value t) [] (in_scope (Slot.value t) sound.scope) _ _
-        (bind (definition sound.scope.slots (raw_defined d)) t (λ u. Some (in_scope (Slot.value u) sound.scope)) strict) (slot-extends sound.scope (Slot.value t) refl) (formed-value (world_resources r w) t f.formed)
+        (bind (definition sound.scope.slots (raw_defined d)) t (λ u. Some (in_scope (Slot.value u) sound.scope)) strict) (slot-extends sound.scope (Slot.value t) refl) refl (formed-value (world_resources r w) t f.formed)
         (defines-of (outer_slots a.declared) d t h)
         (λ m e. definitions-after r w a sound outer (Declaration.defined (raw_defined d)) (Slot.value t) [] m e ((world_definitions a.declared).types + 1) (world_definitions a.declared).functions refl (omega arith)
         ∙ (λ i. record { types = (world_definitions a.declared).types + 1; functions = (world_definitions a.declared).functions; exports = append-nil (world_definitions a.declared).exports i }))
@@ -153,7 +154,7 @@ module _ {E : Type 0} (res : Result ℕ E) (r : Resolve) (w : WorldId) (count : 
         let strict : function_signature sound.scope.slots (raw_function d) ≡ Some s = ap (λ zs. function_signature zs (raw_function d)) (sym (same-slots r w a sound))
         ∙ function-strict (world_resources r w) (outer_slots a.declared) (slots-sound r w a sound) d s h f.params f.result_ in
         declares (Declaration.function (raw_function d)) (Slot.function s) [] (in_scope (Slot.function s) sound.scope) _ _
-        (bind (function_signature sound.scope.slots (raw_function d)) s (λ u. Some (in_scope (Slot.function u) sound.scope)) strict) (slot-extends sound.scope (Slot.function s) refl) refl
+        (bind (function_signature sound.scope.slots (raw_function d)) s (λ u. Some (in_scope (Slot.function u) sound.scope)) strict) (slot-extends sound.scope (Slot.function s) refl) refl refl
         (function-of (outer_slots a.declared) d s h)
         (λ m e. definitions-after r w a sound outer (Declaration.function (raw_function d)) (Slot.function s) [] m e (world_definitions a.declared).types ((world_definitions a.declared).functions + 1) (omega arith) refl
         ∙ (λ i. record { types = (world_definitions a.declared).types; functions = (world_definitions a.declared).functions + 1; exports = append-nil (world_definitions a.declared).exports i }))
@@ -168,10 +169,10 @@ module _ {E : Type 0} (res : Result ℕ E) (r : Resolve) (w : WorldId) (count : 
     some-standing u m e = cc
 
     -- a declaration that is followed as it says
-    imports-declared : (described : ComponentTypeRef) (name : ExternName) (d : Text × TypeMeaning) (x : Slot) → IsDeclared scope d → name ≡ exported_name d → is_slot_of (world_resources r w) x ≡ true
+    imports-declared : (described : ComponentTypeRef) (name : ExternName) (d : Text × TypeMeaning) (x : Slot) → described_name name described ≡ [] → IsDeclared scope d → name ≡ exported_name d → is_slot_of (world_resources r w) x ≡ true
         → standing_at (Some x) ≡ Some (tree (named here name.text)) → named_type (outer_slots a.declared) here name.text described ≡ Some (d.1.declaration, x) → Declared (Declaration.imported name described)
         → OnErr res (outer ≡ a.declared) → Leads (λ m. m ≡ tree (named here name.text)) (ShownAs name)
-    imports-declared described name d x declared is kept stands found ok err =
+    imports-declared described name d x plain declared is kept stands found ok err =
         let there : named_type sound.scope.slots here name.text described ≡ Some (d.1.declaration, x) = ap (λ zs. named_type zs here name.text described) (sym (same-slots r w a sound)) ∙ found in
         let seen : Seen = seen_type name d.1.declaration in
         let after : follow.Scope = see import_ seen (in_scope x sound.scope) in
@@ -186,7 +187,7 @@ module _ {E : Type 0} (res : Result ℕ E) (r : Resolve) (w : WorldId) (count : 
         } in
         let meaning : TypeMeaning = record { declaration = d.1.declaration; external_id = name.external_id } in
         let meant : (name.text, meaning) ≡ d = λ j. (ap (λ (n : ExternName). n.text) is j, record { declaration = d.1.declaration; external_id = ap (λ (n : ExternName). n.external_id) is j }) in
-        declares (Declaration.imported name described) x (seen ∷ []) after _ _ (type-step name described sound.scope d.1.declaration x there (ap is_simple is)) extends kept
+        declares (Declaration.imported name described) x (seen ∷ []) after _ _ (type-step name described sound.scope d.1.declaration x there (ap is_simple is)) extends plain kept
         (record { gives = λ m e. stands ∙ ap Some (sym e); only = λ m e. some-standing _ m (sym stands ∙ e) })
         (λ m e. record {
           declaration = d;
@@ -201,13 +202,13 @@ module _ {E : Type 0} (res : Result ℕ E) (r : Resolve) (w : WorldId) (count : 
         → Leads (λ m. m ≡ tree (named here name.text)) (ShownAs name)
     imports-type k name s ok err =
         let its : DeclaredAs scope (outer_slots a.declared) name (refs.TypeEq k) s.declaration = declared-slot scope (outer_slots a.declared) (slots-sound r w a sound) name k s in
-        imports-declared (refs.TypeEq k) name s.declaration its.slot s.declared s.named_ its.kept its.stands its.found ok err
+        imports-declared (refs.TypeEq k) name s.declaration its.slot refl s.declared s.named_ its.kept its.stands its.found ok err
 
     pub imports-resource : (name : ExternName) → DeclaresResource scope name → Declared (Declaration.imported name refs.SubResource) → OnErr res (outer ≡ a.declared)
         → Leads (λ m. m ≡ tree (named here name.text)) (ShownAs name)
     imports-resource name s ok err =
         let its : DeclaredAs scope (outer_slots a.declared) name refs.SubResource s.declaration = declared-resource scope (outer_slots a.declared) (slots-sound r w a sound) name s in
-        imports-declared refs.SubResource name s.declaration its.slot s.declared s.named_ its.kept its.stands its.found ok err
+        imports-declared refs.SubResource name s.declaration its.slot refl s.declared s.named_ its.kept its.stands its.found ok err
 
 -- ---- types of other interfaces
 
@@ -304,6 +305,7 @@ module _ (r : Resolve) (w : WorldId) (count : ℕ) (a : Around) (maps : TypeEnco
         listed = refl;
         right = right;
         kept = foreign.kept;
+        instances = instances-left a.declared (alias_declared al) refl;
       } in
       let more : outer_slots (with_alias a al).declared ≡ outer_slots a.declared ++ x ∷ [] = slots-more r w a (with_alias a al) x [] wide s in
       record {
@@ -311,11 +313,11 @@ module _ (r : Resolve) (w : WorldId) (count : ℕ) (a : Around) (maps : TypeEnco
         grows = record {
           kept = λ i q h. subst (λ (zs : List Slot). SlotsStand zs i q) (sym more) (slots-kept x (outer_slots a.declared) i q h);
           more = (let l : length (outer_slots (with_alias a al).declared) ≡ length (outer_slots a.declared ++ x ∷ []) = ap length more in let n = longer (outer_slots a.declared) x in omega (arith, l, n));
-          around_ = around-same refl;
+          around_ = around-same (λ i. record { declared = wide.instances i; instances = []; known = [] });
         };
         scope_stays = scope-stays r w a (with_alias a al) x [] wide s count;
         counted = definitions-after r w a s (with_alias a al).declared (alias_declared al) x []
-            (declared-widens r w a s (with_alias a al).declared (alias_declared al) x [] (in_scope x s.scope) step (slot-extends s.scope x foreign.plain) foreign.kept refl) refl
+            (declared-widens r w a s (with_alias a al).declared (alias_declared al) x [] (in_scope x s.scope) step (slot-extends s.scope x foreign.plain) refl foreign.kept refl) refl
             (world_definitions a.declared).types (world_definitions a.declared).functions (omega arith) (omega arith)
             ∙ (λ i. record { types = (world_definitions a.declared).types; functions = (world_definitions a.declared).functions; exports = append-nil (world_definitions a.declared).exports i });
       }

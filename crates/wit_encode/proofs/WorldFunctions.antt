@@ -1,16 +1,16 @@
 -- A function of a world, imported or exported behind what has been.
-use Rattle.std.proofs.Common.{◌≡◌, refl, sym, subst, ap, ◌∙◌, append-nil, append_assoc, ℕ, zero, suc, ◌⊎◌, inl, inr, Bool, true, List, [], ◌∷◌, ◌++◌, map, filter_map, slice_get, take, Option, Some, None, option_to_list, length, arith}
-use Rattle.std.specs.List.{Contains, cons_option, filter, flat_map, list_all}
-use Rattle.std.specs.Option.{option_map_or, is_some}
+use Rattle.std.proofs.Common.{◌≡◌, refl, sym, subst, ap, ◌∙◌, append-nil, append_assoc, ℕ, zero, ◌≤◌, inl, inr, Bool, true, List, [], ◌∷◌, ◌++◌, map, filter_map, slice_get, take, Option, Some, None, option_to_list, length, arith}
+use Rattle.std.specs.List.{Contains, cons_option, filter, list_all}
+use Rattle.std.specs.Option.{option_map_or}
 use Rattle.std.specs.Prelude.{if◌then◌else◌}
 use Rattle.std.proofs.lemmas.List.{map-append}
 use Rattle.std.proofs.lemmas.List.Concat.{flat_map-append}
 use Rattle.std.proofs.lemmas.List.Elements.{Contains-append_left, Contains-append_right, filter_map-append}
 use Rattle.indexmap.specs.IndexMap.{values}
-use Rattle.wit_model.specs.Lookup.{interface_path, world_at}
+use Rattle.wit_model.specs.Lookup.{world_at}
 use Rattle.wit_model.specs.Meaning.{Signature}
 use Rattle.wit_model.specs.Meant.{signature_of}
-use Rattle.wit_model.specs.Parts.{function_types, met_by, met_of}
+use Rattle.wit_model.specs.Parts.{function_types}
 use Rattle.wit_model.specs.Rules.{item_type}
 use Rattle.wit_model.specs.Uses.{item_interface, items_of}
 use Rattle.wit_model.specs.Valid.{IsValid}
@@ -26,32 +26,30 @@ use Rattle.comp_bytes.specs.Raw.{Declarations}
 use Rattle.comp_bytes.specs.declared.forms.ComponentTypeRef.TheVariants as refs
 use Rattle.comp_meaning.specs.Follow as follow
 use Rattle.comp_meaning.specs.Follow.{Direction, import_, export_, Seen, Slot, function_in, new_scope, see}
-use Rattle.wit_encode_types.specs.declared.maps.TypeEncodingMaps.{TypeEncodingMaps}
 use Rattle.wit_encode_types.specs.Counts.{Shows, own_name}
 use Rattle.wit_encode_types.specs.Known.{Around, are_right, below, outer_instances, outer_scope, outer_slots, standing_instances, stands_around}
 use Rattle.wit_encode_types.specs.Leaves.{Leaves}
 use Rattle.wit_encode_types.specs.Maps.{IsKnown, LearnsOnly, MapsAgree, by_number}
 use Rattle.wit_encode_types.specs.Plan.{MetFrom}
-use Rattle.wit_encode_types.specs.Scope.{Scope}
 use Rattle.wit_encode_types.specs.Slots.{function}
 use Rattle.wit_encode_types.specs.Standing.{SlotsStand, standing_at}
 use Rattle.world_names.specs.WorldNames.{name_of_item}
-use Rattle.world_names.specs.WorldSteps.{Entry, Entries, IsEntryOf, StepsTo, declared_towards, interfaces_among, seen_function, with_entry}
+use Rattle.world_names.specs.WorldSteps.{Entry, Entries, IsEntryOf, declared_towards, interfaces_among, seen_function, with_entry}
 use Rattle.world_names.proofs.WorldSteps.{functions_are_shown, nothing_is_shown}
 use Rattle.wit_encode_types.proofs.Lists.{none-in}
 use Rattle.wit_encode_types.specs.View.{Agrees}
 use Rattle.wit_encode.specs.Encoders.{declared_after}
 use Rattle.wit_encode.specs.Instance.{CanEncodeFunction}
-use Rattle.wit_encode.specs.OwnerScope.{IsScopeOf, InstancesStand}
-use Rattle.wit_encode.specs.WorldItems.{HasShown, IsNext, all_done, done_towards, entries_of, types_among}
-use Rattle.wit_encode.specs.WorldUses.{StandBefore, interfaces_before}
+use Rattle.wit_encode.specs.OwnerScope.{IsScopeOf}
+use Rattle.wit_encode.specs.WorldItems.{HasShown, IsNext, all_done, types_among}
+use Rattle.wit_encode.specs.WorldUses.{StandBefore}
 use Rattle.wit_encode.specs.Worlds.{WorldEncoder, is_sound_outside, world_around, world_definitions, world_encoder_view, world_view_of}
 use Rattle.wit_encode.proofs.Components.{steps-more}
 use Rattle.wit_encode.proofs.Exporting.{shows-nothing}
 use Rattle.wit_encode.proofs.Meeting.{meets-unnamed}
 use Rattle.wit_encode.proofs.Owned.{valid-references}
 use Rattle.wit_encode.proofs.OwnerScope.{functions_encode, table_is_scope}
-use Rattle.wit_encode.proofs.WorldScope.{SoundOutside, sound-again, sound-outside}
+use Rattle.wit_encode.proofs.WorldScope.{sound-again, sound-outside}
 use Rattle.wit_encode.proofs.WorldShown.{types-shown}
 use Rattle.wit_encode.proofs.WorldUses.{function-listed, function-there, items_meet_standing}
 
@@ -69,6 +67,7 @@ starts r w e there packages outer instances known count ids agree = record {
   sound = λ i. is_sound_outside r e.world (record { declared = outer i; instances = instances i; known = known i });
   stand = λ i c p. none-in i c;
   count = count;
+  typed = (let none : e.instances ≡ 0 = count in omega (arith, none));
   known = λ n c. none-in n c;
   alone = λ n q. none-in (n, q.0) (subst (λ (xs : List (ℕ × ℕ)). Contains xs (n, q.0)) ids q.1);
 }
@@ -179,16 +178,16 @@ module _ (r : Resolve) (w : WorldId) (a a' : Around) (slots : outer_slots a'.dec
         right = (λ i. are_right r (known i) (same i)) ∙ s.right;
       })
 
-see-slots : (direction : Direction) (seen : Seen) (s : follow.Scope) → (see direction seen s).slots ≡ s.slots
+pub see-slots : (direction : Direction) (seen : Seen) (s : follow.Scope) → (see direction seen s).slots ≡ s.slots
 see-slots import_ seen s = refl
 see-slots export_ seen s = refl
 
-see-instances : (direction : Direction) (seen : Seen) (s : follow.Scope) → (see direction seen s).instances ≡ s.instances
+pub see-instances : (direction : Direction) (seen : Seen) (s : follow.Scope) → (see direction seen s).instances ≡ s.instances
 see-instances import_ seen s = refl
 see-instances export_ seen s = refl
 
 -- what a function brings
-nothing-brought : {A : Type 0} (given : List Entry → List A) → ((es gs : List Entry) → given (es ++ gs) ≡ given es ++ given gs) → (direction : Direction) (done : Entries) (x : Entry) → given (x ∷ []) ≡ []
+pub nothing-brought : {A : Type 0} (given : List Entry → List A) → ((es gs : List Entry) → given (es ++ gs) ≡ given es ++ given gs) → (direction : Direction) (done : Entries) (x : Entry) → given (x ∷ []) ≡ []
     → given (all_done (with_entry direction done x)) ≡ given (all_done done)
 nothing-brought given split import_ done x none =
     split (done.0 ++ x ∷ []) done.1 ∙ ap (λ xs. xs ++ given done.1) (split done.0 (x ∷ []) ∙ ap (λ xs. given done.0 ++ xs) none ∙ append-nil (given done.0)) ∙ sym (split done.0 done.1)
@@ -230,6 +229,7 @@ function-behind r v w e done h direction canonical k f n outer next stands is =
       sound = sound-left r e.world a a' slots instances refl refl after followed h.sound;
       stand = λ i c p. subst (λ (xs : List ℕ). Contains xs i) (sym (standing-left r e.world a a' slots instances refl refl)) (h.stand i (subst (λ (xs : List ℕ). Contains xs i) interfaces c) p);
       count = h.count ∙ ap length (sym interfaces);
+      typed = subst (λ (xs : List Slot). e.instances ≤ length xs) (sym (see-slots direction seen h.scope)) h.typed;
       known = λ m c. h.known m (subst (λ (xs : List ℕ). Contains xs m) types c);
       alone = λ m q. elim (h.alone m q) [ inl none ↦ inl none | inr c ↦ inr (subst (λ (xs : List ℕ). Contains xs m) (sym types) c) ];
     }

@@ -1,5 +1,5 @@
 -- What one declaration more leaves of the scope of a world's component type.
-use Rattle.std.proofs.Common.{◌≡◌, refl, sym, subst, ap, ◌∙◌, ℕ, ◌+◌, ◌≤◌, Bool, true, ◌&&◌, if◌then◌else◌, List, [], ◌∷◌, ◌++◌, append-nil, filter_map, Result, Ok, Err, IfOk, OnOk, OnErr, Option, Some, None, length, cond, arith}
+use Rattle.std.proofs.Common.{◌≡◌, refl, sym, subst, ap, ◌∙◌, ℕ, true, ◌&&◌, if◌then◌else◌, List, [], ◌∷◌, ◌++◌, append-nil, filter_map, Result, Ok, Err, IfOk, OnOk, OnErr, Some, length, arith}
 use Rattle.std.specs.List.{filter, list_all}
 use Rattle.std.proofs.lemmas.List.Elements.{filter_map-append}
 use Rattle.std.specs.Option.{option_map_or, is_some}
@@ -7,17 +7,12 @@ use Rattle.std.proofs.lemmas.List.Folds.{list_all-append}
 use Rattle.wit_model.specs.declared.model.Resolve.{Resolve}
 use Rattle.wit_model.specs.declared.model.WorldId.{WorldId}
 use Rattle.wit_model.proofs.Lists.{first_true, second_true}
-use Rattle.comp_bytes.specs.Raw.{Declaration, Declarations, append}
-use Rattle.comp_bytes.specs.Held.{type_slots_of}
 use Rattle.comp_meaning.specs.Follow as follow
 use Rattle.comp_meaning.specs.Follow.{Seen, Slot, component_step, in_scope, instance_types, new_scope}
 use Rattle.wit_encode_types.specs.declared.maps.TypeEncodingMaps.{TypeEncodingMaps}
 use Rattle.wit_encode_types.specs.Slots.{Standing}
-use Rattle.wit_encode_types.specs.Counts.{Definitions}
-use Rattle.wit_encode_types.specs.Distinct.{is_value_type, is_function_type}
 use Rattle.wit_encode_types.specs.Known.{Around, are_right, below, outer_instances, outer_scope, outer_slots, standing_instances, stands_around}
-use Rattle.wit_encode_types.specs.Scope.{Others, Scope}
-use Rattle.wit_encode_types.specs.Standing.{SlotsStand, is_slot_of}
+use Rattle.wit_encode_types.specs.Standing.{is_slot_of}
 use Rattle.wit_encode_types.specs.View.{View, AddsSlot, Grows}
 use Rattle.wit_encode_types.proofs.Around.{around-same}
 use Rattle.wit_encode_types.proofs.Lists.{both}
@@ -25,11 +20,10 @@ use Rattle.world_names.specs.Rebuilt.{is_type_shown, others_seen}
 use Rattle.world_names.proofs.Rebuilt.{others-before}
 use Rattle.world_names.proofs.WorldSteps.{types-appended}
 use Rattle.wit_encode.specs.Instance.{Contents, no_view}
-use Rattle.wit_encode.specs.Worlds.{declared_type, is_sound_outside, others_of, seen_imports, world_definitions, world_resources, world_scope, world_view}
+use Rattle.wit_encode.specs.WrittenNames.{instance_declarations, instances_around}
+use Rattle.wit_encode.specs.Worlds.{declared_type, is_sound_outside, others_of, seen_imports, world_resources, world_scope, world_view}
 use Rattle.wit_encode.proofs.Calls.{some-of}
-use Rattle.wit_encode.proofs.Components.{count-more, steps-count, steps-more}
 use Rattle.wit_encode.proofs.Contents.{IsOf, Grew, grew-adds, grew-grows}
-use Rattle.wit_encode.proofs.Importing.{right-more}
 
 -- ---- one slot more
 
@@ -57,6 +51,7 @@ pub record Widens (r : Resolve) (w : WorldId) (a a' : Around) (x : Slot) (types 
   pub listed : a'.instances ≡ a.instances
   pub right : are_right r a'.known (outer_slots a'.declared) ≡ true
   pub kept : is_slot_of (world_resources r w) x ≡ true
+  pub instances : instance_declarations a'.declared ≡ instance_declarations a.declared
 
 -- ---- what is sound
 
@@ -164,6 +159,7 @@ pub record WorldCalls {E : Type 0} (res : Result ℕ E) (v v' : View) (P : Stand
   pub ok : IfOk res (λ k. AddsSlot v v' k P)
   pub grows : Grows v v'
   pub scope_stays : v'.scope ≡ v.scope
+  pub around_stays : v'.around ≡ v.around
   pub counted : OnOk res counts
 
 pub world-calls : {E : Type 0} (res : Result ℕ E) (r : Resolve) (w : WorldId) (count : ℕ) (a a' : Around) (m : TypeEncodingMaps) (P : Standing → Type 0) (counts : Type 0) (x : Slot) (types : List Seen)
@@ -175,13 +171,15 @@ world-calls (Ok k) r w count a a' m P counts x types sound is h e =
     let q = grew-grows (slots_held a) (slots_held a') x g in
     record {
       ok = grew-adds (slots_held a) (slots_held a') x k P g h.0 is;
-      grows = record { kept = q.kept; more = q.more; around_ = around-same refl };
+      grows = record { kept = q.kept; more = q.more; around_ = around-same (λ j. record { declared = h.1.instances j; instances = []; known = [] }) };
       scope_stays = scope-stays r w a a' x types h.1 s count;
+      around_stays = λ j. record { declared = h.1.instances j; instances = []; known = [] };
       counted = h.2;
     }
 world-calls (Err q) r w count a a' m P counts x types sound is h e = record {
   ok = h;
   grows = subst (λ (z : Around). Grows (world_view r w count a m) (world_view r w count z m)) (sym e) (record { kept = λ i s k. k; more = omega arith; around_ = around-same refl });
   scope_stays = ap (world_scope r w count) e;
+  around_stays = ap (λ (z : Around). instances_around z.declared) e;
   counted = h;
 }

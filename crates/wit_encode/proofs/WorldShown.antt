@@ -1,32 +1,26 @@
 -- What an encoder of a world shows after a call that defines, imports and reaches types.
-use Rattle.std.proofs.Common.{◌≡◌, refl, sym, subst, ap, ◌∙◌, append-nil, ℕ, ◌≤◌, ◌⊎◌, true, if◌then◌else◌, List, [], ◌∷◌, ◌++◌, map, filter_map, Option, Some, None, length, arith}
-use Rattle.std.specs.List.{AllZip, Contains, flat_map}
-use Rattle.std.specs.Option.{option_map_or, is_some}
+use Rattle.std.proofs.Common.{◌≡◌, refl, sym, subst, ap, ◌∙◌, append-nil, ℕ, ◌⊎◌, true, if◌then◌else◌, List, [], ◌∷◌, ◌++◌, map, filter_map, Some, None, length, arith}
+use Rattle.std.specs.List.{AllZip, Contains}
+use Rattle.std.specs.Option.{option_map_or}
 use Rattle.std.proofs.lemmas.List.{map-append}
 use Rattle.std.proofs.lemmas.List.Concat.{flat_map-append}
 use Rattle.wit_model.specs.Text.{Text}
-use Rattle.wit_model.specs.Tree as tree
 use Rattle.wit_model.specs.Meaning.{TypeMeaning}
-use Rattle.wit_model.specs.Lookup.{interface_path, world_at}
-use Rattle.wit_model.specs.Valid.{IsValid}
+use Rattle.wit_model.specs.Lookup.{world_at}
 use Rattle.wit_model.specs.declared.model.Resolve.{Resolve}
 use Rattle.wit_model.specs.declared.model.World.{World}
-use Rattle.wit_model.specs.declared.model.WorldId.{WorldId}
-use Rattle.comp_meaning.specs.Follow as follow
 use Rattle.comp_meaning.specs.Follow.{Seen, Shown, instance_types}
 use Rattle.wit_shown.specs.Views.{ShowsItem}
-use Rattle.wit_encode_types.specs.declared.maps.TypeEncodingMaps.{TypeEncodingMaps}
 use Rattle.wit_encode_types.specs.Counts.{own_name}
-use Rattle.wit_encode_types.specs.Known.{Around, outer_instances, outer_scope, outer_slots, standing_instances}
+use Rattle.wit_encode_types.specs.Known.{outer_slots, standing_instances}
 use Rattle.wit_encode_types.specs.Maps.{IsKnown}
 use Rattle.wit_encode_types.specs.Scope.{Others, Scope}
-use Rattle.wit_encode_types.specs.View.{View, Agrees, Grows}
-use Rattle.world_names.specs.Rebuilt.{is_type_shown, others_seen, types_seen}
+use Rattle.wit_encode_types.specs.View.{Agrees, Grows}
+use Rattle.world_names.specs.Rebuilt.{others_seen, types_seen}
 use Rattle.world_names.specs.WorldSteps.{AddsTypes, Entry, Entries, interfaces_among}
 use Rattle.world_names.proofs.EntriesRebuilt.{entries_are_rebuilt}
-use Rattle.wit_encode.specs.Worlds.{WorldEncoder, declared_type, is_sound_outside, seen_exports, seen_imports, used_types, world_around, world_definitions, world_scope, world_view, world_view_of}
+use Rattle.wit_encode.specs.Worlds.{WorldEncoder, declared_type, is_sound_outside, seen_imports, world_around, world_definitions, world_view_of}
 use Rattle.wit_encode.specs.WorldItems.{HasShown, all_done, types_among}
-use Rattle.wit_encode.proofs.Calls.{some-of}
 use Rattle.wit_encode.proofs.WorldScope.{SoundOutside, sound-outside}
 
 -- ---- the types that have been imported are known from what has been exported
@@ -118,6 +112,7 @@ module _ (r : Resolve) (w : World) (e e' : WorldEncoder) (done : Entries) (h : H
         sound = sound-after;
         stand = λ i c p. subst (λ (xs : List ℕ). Contains xs i) (sym standing-same) (h.stand i (subst (λ (xs : List ℕ). Contains xs i) same-interfaces c) p);
         count = ap (λ (o : Others). o.instance_count) others-same ∙ h.count ∙ ap length (sym same-interfaces);
+        typed = (let same : e'.instances ≡ e.instances = ap (λ (o : Others). o.instance_count) others-same in let before = h.typed in let more = adds.more_slots in omega (arith, same, before, more));
         known = known;
         alone = λ n k. subst (λ (s : Scope). (own_name r s n ≡ None) ⊎ Contains (types_among (all_done (done.0 ++ more, done.1))) n) (sym scope-same) (alone n k);
       }

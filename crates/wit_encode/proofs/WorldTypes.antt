@@ -1,17 +1,15 @@
 -- A type of a world, imported behind what has been: nothing else that is named in the world is learnt with it.
-use Rattle.std.proofs.Common.{◌≡◌, refl, sym, subst, ap, ◌∙◌, append-nil, ℕ, ◌⊎◌, inl, inr, Bool, true, false, ◌&&◌, ◌==◌, cond, List, [], ◌∷◌, ◌++◌, map, filter_map, slice_get, take, option_map, option_and_then, Option, Some, None, String, count_by, length, nat_eq, arith}
-use Rattle.std.specs.Prelude.{AllPairs, is_none, is_some}
+use Rattle.std.proofs.Common.{◌≡◌, refl, sym, subst, ap, ◌∙◌, append-nil, ℕ, ◌⊎◌, inl, inr, Bool, true, false, ◌==◌, cond, List, [], ◌∷◌, ◌++◌, map, filter_map, slice_get, take, option_map, option_and_then, Option, Some, None, String, count_by, length, nat_eq, arith}
+use Rattle.std.specs.Prelude.{is_none}
 use Rattle.std.specs.declared.alloc.Global.{Global}
-use Rattle.std.specs.List.{AllZip, Contains, flat_map}
+use Rattle.std.specs.List.{Contains}
 use Rattle.std.specs.Option.{option_map_or}
-use Rattle.std.proofs.lemmas.Cmp.{nat_eq_equiv}
 use Rattle.std.proofs.lemmas.List.Elements.{Contains-append_left, Contains-append_right, Contains-append_cases, filter_map-append}
-use Rattle.indexmap.specs.IndexMap.{values}
 use Rattle.wit_model.specs.Text.{Text, text_of}
 use Rattle.wit_model.specs.Meaning.{TypeMeaning}
 use Rattle.wit_model.specs.Meant.{no_type, type_meaning, type_meaning_at}
-use Rattle.wit_model.specs.Lookup.{key_text, type_at, world_at}
-use Rattle.wit_model.specs.Parts.{met_by, met_of, same_owner}
+use Rattle.wit_model.specs.Lookup.{key_text, type_at}
+use Rattle.wit_model.specs.Parts.{same_owner}
 use Rattle.wit_model.specs.Rules.{is_id, is_listed, is_listed_in_world, item_type, passes, world_type_numbers}
 use Rattle.wit_model.specs.Uses.{items_of}
 use Rattle.wit_model.specs.Valid.{IsValid}
@@ -28,10 +26,8 @@ use Rattle.wit_model.specs.declared.model.«Type».{«Type» as ValueType}
 use Rattle.wit_model.specs.declared.model.«Type».TheVariants as ty
 use Rattle.wit_model.proofs.Lists.{first_true, second_true}
 use Rattle.comp_meaning.specs.Follow.{Direction, import_, export_, Shown, View}
-use Rattle.wit_shown.specs.Views.{ShowsItem}
 use Rattle.wit_shown.proofs.Used.{contains-flat-from}
-use Rattle.wit_encode_types.specs.declared.maps.TypeEncodingMaps.{TypeEncodingMaps}
-use Rattle.wit_encode_types.specs.Counts.{Definitions, Shows, own_name, name_of_own}
+use Rattle.wit_encode_types.specs.Counts.{Shows, own_name, name_of_own}
 use Rattle.wit_encode_types.specs.Kinds.{parts_of}
 use Rattle.wit_encode_types.specs.Leaves.{Leaves}
 use Rattle.wit_encode_types.specs.Maps.{IsKnown, IsReady, LearnsOnly, by_number}

@@ -1,16 +1,16 @@
 -- What an item of a world meets is of the world, and stands before it, or is of an interface that stands before it.
-use Rattle.std.proofs.Common.{◌≡◌, refl, sym, subst, ap, ◌∙◌, ℕ, zero, suc, ◌+◌, ◌<◌, ◌≤◌, ◌⊎◌, inl, inr, Bool, true, false, ◌&&◌, List, [], ◌∷◌, ◌++◌, map, filter_map, slice_get, take, option_to_list, Option, Some, None, String, is_some, arith}
+use Rattle.std.proofs.Common.{◌≡◌, refl, sym, subst, ap, ◌∙◌, ℕ, zero, suc, ◌<◌, ◌≤◌, ◌⊎◌, inl, inr, true, false, ◌&&◌, List, [], ◌∷◌, filter_map, slice_get, take, option_to_list, Option, Some, None, String, is_some, arith}
 use Rattle.std.specs.declared.alloc.Global.{Global}
-use Rattle.std.specs.List.{Contains, filter, list_all}
+use Rattle.std.specs.List.{Contains, list_all}
 use Rattle.std.specs.Option.{option_map_or}
 use Rattle.std.specs.Prelude.{option_and_then}
 use Rattle.std.proofs.lemmas.List.Elements.{Contains-append_cases}
 use Rattle.indexmap.specs.IndexMap.{values}
-use Rattle.wit_model.specs.Lookup.{interface_path, key_text, type_at, world_at}
+use Rattle.wit_model.specs.Lookup.{key_text, type_at, world_at}
 use Rattle.wit_model.specs.Parts.{met_by, met_of, same_owner, function_types, function_numbers, has_owner, used_by_type, used_by_function}
 use Rattle.wit_model.specs.Text.{Text, text_of}
 use Rattle.wit_model.specs.Rules.{is_use, in_list, passes, package_number, text_is, key_in_range, item_in_range, entries_in_range, item_type, uses_stand_before, used_interfaces, used_types, used_by_number, import_stands, export_stands}
-use Rattle.wit_model.specs.Uses.{alias_target, owner_interface, used_interface, interface_used_by, direct_deps, has, item_interface, items_of}
+use Rattle.wit_model.specs.Uses.{alias_target, owner_interface, used_interface, interface_used_by, has, item_interface, items_of}
 use Rattle.wit_model.specs.Valid.{IsValid, numbers_in_range, order_of_items, world_items, is_place, functions_of_world, item_function}
 use Rattle.wit_model.specs.declared.model.Resolve.{Resolve}
 use Rattle.wit_model.specs.declared.model.World.{World}
@@ -45,7 +45,7 @@ use Rattle.wit_encode.proofs.Exporting.{contains-mapped}
 use Rattle.wit_encode.proofs.Meeting.{named-meets, unnamed-meets, part-uses}
 use Rattle.wit_encode.proofs.Naming.{named-owner}
 use Rattle.wit_encode.proofs.Numbers.{after-at, contains-flat, contains-get, get-contains, has-contains}
-use Rattle.wit_encode.proofs.Owned.{part-met, same-owner, stays, valid-references}
+use Rattle.wit_encode.proofs.Owned.{part-met, same-owner, valid-references}
 use Rattle.wit_encode.proofs.OwnerScope.{AllStay, IsUse, Stay, function-refers, given-some, named-stays, target-is, type-stays, types-stay, use-at, use-foreign, world_passes}
 use Rattle.wit_encode.proofs.Validity.{valid-ownerless}
 
@@ -98,7 +98,7 @@ module _ (r : Resolve) (v : IsValid r) (id : WorldId) (w : World) (there : world
   ready k i at = after-at (uses_stand_before r id.0) [] items k i (world_passes order_of_items r v.rules.order_of_items id.0 w there) at
 
   -- the interfaces, and the types of the world, that an item uses
-  interfaces-ready : (k : ℕ) (i : WorldItem) → slice_get items k ≡ Some i → (j : ℕ) → Contains (used_interfaces r i) j → Contains (interfaces_before w k) j
+  pub interfaces-ready : (k : ℕ) (i : WorldItem) → slice_get items k ≡ Some i → (j : ℕ) → Contains (used_interfaces r i) j → Contains (interfaces_before w k) j
   interfaces-ready k i at j c = has-contains (interfaces_before w k) j (all-contained (has (interfaces_before w k)) (used_interfaces r i) j (first_true (list_all (has (interfaces_before w k)) (used_interfaces r i)) _ (ready k i at)) c)
 
   types-ready : (k : ℕ) (i : WorldItem) → slice_get items k ≡ Some i → (x : ℕ) → Contains (used_types r id.0 i) x → Contains (types_before k) x
@@ -213,7 +213,7 @@ module _ (r : Resolve) (v : IsValid r) (id : WorldId) (w : World) (there : world
   -- ---- items
 
   -- the entries are in range
-  entries-range : (entries_in_range r w.imports.entries && entries_in_range r w.exports.entries) ≡ true
+  pub entries-range : (entries_in_range r w.imports.entries && entries_in_range r w.exports.entries) ≡ true
   unfolding numbers_in_range
   entries-range = second_true (passes (in_list r.packages.items) (package_number w.package)) _ (second_true (is_place id.0) _ (world_passes numbers_in_range r v.rules.numbers_in_range id.0 w there))
 

@@ -6,7 +6,14 @@ pub mod RoomLaws
 pub mod Exports
 pub mod UsesAlone
 pub mod OwnerScope
+pub mod WrittenNames
 pub mod Worlds
 pub mod WorldUses
 pub mod Dependencies
+pub mod Scopes
+pub mod Packages
 pub mod WorldItems
+pub mod WholeWorlds
+pub mod WorldRoom
+pub mod WorldCounts
+pub mod WorldHolds

@@ -1,20 +1,25 @@
 -- What an encoder of a world has encoded: imports and exports of the world, in order, each seen as such when every index is followed.
-use Rattle.std.specs.Prelude.{ℕ, ◌≡◌, ◌⊎◌, true, List, [], ◌∷◌, ◌++◌, length, filter_map, is_some, Some, None}
+use Rattle.std.specs.Prelude.{ℕ, ◌≡◌, ◌≤◌, ◌⊎◌, ◌+◌, true, List, [], ◌∷◌, ◌++◌, length, filter_map, is_some, Some, None}
+use Rattle.std.specs.BTreeMap.{insert_entry}
 use Rattle.std.specs.List.{Contains}
-use Rattle.wit_model.specs.Lookup.{interface_path, world_at}
+use Rattle.std.specs.Ordering.{nat_cmp}
+use Rattle.wit_model.specs.Lookup.{interface_at, interface_path, world_at}
 use Rattle.wit_model.specs.Rules.{item_type}
 use Rattle.wit_model.specs.declared.model.Resolve.{Resolve}
 use Rattle.wit_model.specs.declared.model.World.{World}
+use Rattle.wit_model.specs.declared.model.Interface.{Interface}
+use Rattle.wit_model.specs.declared.model.InterfaceId.{InterfaceId}
 use Rattle.comp_meaning.specs.Follow as follow
 use Rattle.comp_meaning.specs.Follow.{Direction, import_, export_}
 use Rattle.wit_encode_types.specs.Counts.{own_name}
 use Rattle.wit_encode_types.specs.Known.{outer_scope, standing_instances}
 use Rattle.wit_encode_types.specs.Maps.{IsKnown}
 use Rattle.wit_encode_types.specs.View.{Agrees}
-use Rattle.world_names.specs.WorldSteps.{Entry, Entries, IsTurnOf, ShowsEntries, interfaces_among, with_entry}
+use Rattle.world_names.specs.WorldSteps.{Entry, Entries, ShowsEntries, interfaces_among, with_entry}
 use Rattle.wit_encode.specs.declared.world.Direction.{Direction as RustDirection}
 use Rattle.wit_encode.specs.declared.world.Direction.TheVariants as directions
 use Rattle.wit_encode.specs.declared.world.Placed.{Placed}
+use Rattle.wit_encode.specs.Instance.{EncodesInterface}
 use Rattle.wit_encode.specs.Worlds.{WorldEncoder, is_sound_outside, world_around, world_view_of}
 
 -- the numbers of the types among entries, in order
@@ -25,7 +30,8 @@ abbrev pub all_done : Entries → List Entry
 all_done done = done.0 ++ done.1
 
 -- What holds between two items: these imports and exports of the world are shown. Instances of the interfaces among them stand, each named
--- one for its number, and no other has been counted. The types of the world that are known are those that have been imported.
+-- one for its number, and no other has been counted; there are no more of them than types. The types of the world that are known are those
+-- that have been imported.
 pub record HasShown (r : Resolve) (w : World) (e : WorldEncoder) (done : Entries) : Type 0 where
   pub packages_ : e.resolve.now ≡ r
   pub world_ : world_at r e.world.0 ≡ Some w
@@ -36,6 +42,8 @@ pub record HasShown (r : Resolve) (w : World) (e : WorldEncoder) (done : Entries
   pub sound : is_sound_outside r e.world (world_around e) ≡ true
   pub stand : (i : ℕ) → Contains (interfaces_among (all_done done)) i → is_some (interface_path r i) ≡ true → Contains (standing_instances r (world_around e)) i
   pub count : e.instances ≡ length (interfaces_among (all_done done))
+  -- each instance has a type of its own
+  pub typed : e.instances ≤ length scope.slots
   pub known : (n : ℕ) → Contains (types_among (all_done done)) n → IsKnown e.maps n
   pub alone : (n : ℕ) → IsKnown e.maps n → (own_name r (world_view_of r e).scope n ≡ None) ⊎ Contains (types_among (all_done done)) n
 
@@ -76,3 +84,35 @@ pub record AwaitsNext (r : Resolve) (e : WorldEncoder) (x : Placed) : Type 0 whe
 -- Behind whatever had been encoded, the entry has been encoded.
 abbrev pub Encodes : Resolve → WorldEncoder → WorldEncoder → Placed → Type 0
 Encodes r e e' x = (w : World) (done : Entries) → HasShown r w e done → IsNext r w (towards x.direction) done (entry_of x) → HasShown r w e' (with_entry (towards x.direction) done (entry_of x))
+
+-- ---- interfaces
+
+-- Slot k of the component type is new: an instance type that shows the interface, behind aliases alone.
+abbrev pub DefinesInstance : WorldEncoder → WorldEncoder → InterfaceId → ℕ → Type 0
+DefinesInstance e e' i k = (def : Interface) → interface_at e.resolve.now i.0 ≡ Some def → EncodesInterface e.resolve.now (world_around e) (world_around e') i def k
+
+-- The latest instance is that of the interface, and has the next number. One more has been counted.
+pub record ListsInstance (e e' : WorldEncoder) (i : InterfaceId) : Type 0 where
+  pub listed : e'.foreign.instances.entries ≡ insert_entry nat_cmp e.foreign.instances.entries i.0 e.instances
+  pub rest : e' ≡ record e { foreign = record e.foreign { instances = e'.foreign.instances }; instances = e.instances + 1 }
+
+-- ---- all imports, or all exports
+
+-- what has been encoded before the imports, or the exports, and after them
+abbrev pub begun : Direction → World → Entries
+begun import_ w = ([], [])
+begun export_ w = (w.imports.entries, [])
+
+abbrev pub ended : Direction → World → Entries
+ended import_ w = (w.imports.entries, [])
+ended export_ w = (w.imports.entries, w.exports.entries)
+
+-- these imports of the world, or these exports, are next
+pub record AwaitsAll (r : Resolve) (e : WorldEncoder) (direction : Direction) (entries : List Entry) : Type 0 where
+  pub world : World
+  pub shown : HasShown r world e (begun direction world)
+  pub are : entries ≡ entries_of direction world
+
+-- they have been encoded
+abbrev pub EncodesAll : Resolve → WorldEncoder → WorldEncoder → Direction → Type 0
+EncodesAll r e e' direction = (w : World) → HasShown r w e (begun direction w) → HasShown r w e' (ended direction w)

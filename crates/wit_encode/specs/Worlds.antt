@@ -1,11 +1,14 @@
 -- What an encoder of a world holds: a component type, in whose scope the types of the world are imported.
-use Rattle.std.specs.Prelude.{ℕ, Bool, ◌&&◌, if◌then◌else◌, List, [], Option, Some, None, length, filter_map, is_some}
+use Rattle.std.specs.Prelude.{ℕ, ◌-◌, Bool, false, ◌&&◌, if◌then◌else◌, List, [], Option, Some, None, length, filter_map, is_some}
 use Rattle.std.specs.Option.{option_map_or}
-use Rattle.std.specs.List.{list_all}
+use Rattle.std.specs.List.{filter, list_all}
 use Rattle.wit_model.specs.Text.{Text}
 use Rattle.wit_model.specs.Tree.{Declaration}
+use Rattle.wit_model.specs.Lookup.{type_at}
 use Rattle.wit_model.specs.Meaning.{TypeMeaning}
+use Rattle.wit_model.specs.Uses.{owner_interface}
 use Rattle.wit_model.specs.declared.model.Resolve.{Resolve}
+use Rattle.wit_model.specs.declared.model.TypeDef.{TypeDef}
 use Rattle.wit_model.specs.declared.model.WorldId.{WorldId}
 use Rattle.wit_model.specs.declared.model.TypeOwner.TheVariants as owner
 use Rattle.comp_bytes.specs.Raw.{Declarations, declaration_count}
@@ -13,7 +16,7 @@ use Rattle.comp_meaning.specs.Follow.{Seen, Shown, instance_types}
 use Rattle.wit_encode_types.specs.declared.maps.TypeEncodingMaps.{TypeEncodingMaps}
 use Rattle.wit_encode_types.specs.Counts.{Definitions}
 use Rattle.wit_encode_types.specs.Distinct.{is_value_type, is_function_type}
-use Rattle.wit_encode_types.specs.Known.{Around, no_around, are_right, outer_instances, outer_scope, outer_slots, standing_instances}
+use Rattle.wit_encode_types.specs.Known.{Around, are_right, below, known_instance, known_slot, outer_instances, outer_scope, outer_slots, standing_instances}
 use Rattle.wit_encode_types.specs.Resources.{Names, resource_names, is_met_owner}
 use Rattle.wit_encode_types.specs.Room.{LacksRoomBehind}
 use Rattle.wit_encode_types.specs.Scope.{Others, Scope}
@@ -22,6 +25,7 @@ use Rattle.wit_encode_types.specs.Table.{table_scope}
 use Rattle.wit_encode_types.specs.View.{View}
 use Rattle.world_names.specs.Rebuilt.{others_seen}
 use Rattle.wit_encode.specs.Instance.{around_at, count_declared}
+use Rattle.wit_encode.specs.WrittenNames.{instances_around}
 use Rattle.wit_encode.specs.declared.world.WorldEncoderOf.{WorldEncoderOf}
 
 abbrev pub WorldEncoder : Type 0
@@ -89,16 +93,33 @@ world_definitions outer = record {
   exports = filter_map declared_type (seen_imports outer);
 }
 
--- a component type with so many instances, and the maps of its scope
+-- ---- what is held
+
+-- a named type of an interface that is listed with an instance
+abbrev pub is_of_listed : List (ℕ × ℕ) → TypeDef → Bool
+is_of_listed listed def = is_some def.name && option_map_or (λ i. is_some (known_instance listed i)) (owner_interface def.owner) false
+
+-- whether such a type has an alias
+abbrev pub is_brought : Resolve → Around → ℕ → Bool
+is_brought r component n = is_some (known_slot component.known n) && option_map_or (is_of_listed component.instances) (type_at r n) false
+
+abbrev pub brought_numbers : Resolve → Around → List ℕ
+brought_numbers r component = filter (is_brought r component) (below (length r.types.items))
+
+-- how many declarations there are beside one for each of these types
+abbrev pub held_beside : Resolve → Around → ℕ
+held_beside r component = declaration_count component.declared - length (brought_numbers r component)
+
+-- a component type with so many instances, and the maps of its scope; around, its instance types and what it imports and exports of instances
 abbrev pub world_view : Resolve → WorldId → ℕ → Around → TypeEncodingMaps → View
 world_view r w count component maps = record {
   scope = world_scope r w count component;
-  around = no_around;
+  around = instances_around component.declared;
   slot_count = length (outer_slots component.declared);
   stands = SlotsStand (outer_slots component.declared);
   definitions = world_definitions component.declared;
   maps = maps;
-  held = declaration_count component.declared;
+  held = held_beside r component;
   lacks_room = LacksRoomBehind r (declaration_count component.declared);
 }
 

@@ -9,13 +9,14 @@ ghost use Rattle.wit_model.specs.Text.{Text};
 ghost use Rattle.wit_model.specs.Valid.{IsValid};
 ghost use Rattle.wit_encode.specs.Encoders.{outside, UsedAround};
 ghost use Rattle.wit_encode.specs.Dependencies.{AreImportable, HasImported, ImportsTypes, ShowsComponent};
+ghost use Rattle.wit_encode.specs.Scopes.{HasNoEqualPaths, RefusesInterface};
 
 use crate::interface::{InterfaceEncoder, InterfaceEncoderOf};
 use comp_bytes::{ComponentType, ComponentTypeRef};
 use interface_reach::interfaces_reached;
 use std::alloc::Global;
 use wit_model::{Error, InterfaceId, Resolve};
-use world_names::interface_name;
+use world_names::{interface_name, refuse_equal_paths};
 
 // Imports the types of an interface by its path, as the instance of this number.
 fn import_dependency<'a>(
@@ -68,9 +69,10 @@ fn import_dependencies<'a>(
 
 /// The component type of an interface (Component Model WIT.md, "Package Format"): it imports the types of each interface that the interface
 /// reaches, each behind those that it uses itself and as an instance by its path, and then exports the interface by its own path. With
-/// canonical names each path has the canonical part of its version alone, and what completes it is an attribute.
+/// canonical names each path has the canonical part of its version alone, and what completes it is an attribute. Then `CanonicalClash` is
+/// answered where two of the imports have one canonical path, with the first that repeats an earlier one.
 ///
-/// Takes as long as encoding the types of these interfaces, and the functions of this one. Refuses `Memory` and `Size` alone.
+/// Takes as long as encoding the types of these interfaces, and the functions of this one. Refuses `Memory` and `Size` besides.
 pub fn interface_type(
     alloc: Global,
     resolve: &Resolve,
@@ -80,9 +82,11 @@ pub fn interface_type(
     requires valid { IsValid resolve.now }
     requires named { is_some (interface_path resolve.now interface.0) ≡ true }
     ensures shows { IfOk result (λ declared. (path : Text) → interface_path resolve.now interface.0 ≡ Some path → ShowsComponent resolve.now interface.0 path declared) }
-    ensures refuses { IfErr result IsMemoryOrSize }
+    ensures differ { canonical_names ≡ true → OnOk result (HasNoEqualPaths resolve.now interface.0) }
+    ensures refuses { IfErr result (RefusesInterface resolve.now interface.0 canonical_names) }
 {
     let reached = interfaces_reached(alloc, resolve, interface)?;
+    refuse_equal_paths(alloc, resolve, &reached, canonical_names)?;
     let mut encoder = InterfaceEncoderOf::new(alloc, resolve);
     import_dependencies(alloc, &mut encoder, &reached, canonical_names)?;
     let name = interface_name(alloc, resolve, interface, canonical_names)?;

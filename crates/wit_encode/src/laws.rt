@@ -4,6 +4,7 @@ ghost use Rattle.wit_encode_types.specs.MetKinds.{MetKindsAreHeld};
 ghost use Rattle.wit_encode.specs.RoomLaws.{LackingInterfacesAreHeavy};
 ghost use Rattle.wit_encode.specs.Dependencies.{AliasesLeaveImports, ExportsEnd, ImportsGrow, ImportsStand, NothingIsImported};
 ghost use Rattle.wit_encode.specs.OwnerScope.{FunctionsEncode, FunctionsUse, InterfaceUses, NamesEncode, TableScope, TypesEncode, TypesUse};
+ghost use Rattle.wit_encode.specs.WorldRoom.{LackingWorldsAreHeavy};
 ghost use Rattle.wit_encode.specs.WorldUses.{ItemsMeetStanding};
 
 pub use wit_encode_types::laws::equal_lists;
@@ -46,6 +47,13 @@ pub fn met_kinds_are_held()
 /// one, or where the component type, after aliases have been made, has no room for one more alias or instance type.
 pub fn lacking_interfaces_are_heavy()
     ensures { LackingInterfacesAreHeavy }
+{}
+
+/// A world that has no room in a component type weighs more than 4,294,967,295: something of it doesn't fit in 32 bits by itself, or there
+/// are too many declarations. Those are two for each type number that it meets, one for each named type of its interfaces, each once, and
+/// two for each function and interface.
+pub fn lacking_worlds_are_heavy()
+    ensures { LackingWorldsAreHeavy }
 {}
 
 /// Where an instance stands of each named interface before an item of a valid world, one stands of each other interface whose types the item

@@ -1,15 +1,17 @@
-//! Encodes interfaces as instance types, and their types and functions in any encoder.
+//! Encodes worlds as component types, interfaces as instance types, and their types and functions in any encoder.
 #![tactic(auto)]
 
 mod component_types;
 mod interface;
 pub mod laws;
 mod order;
+mod package;
 mod uses;
 mod world;
 
 pub use component_types::interface_type;
 pub use interface::{Foreign, InterfaceEncoder, InterfaceEncoderOf, OpenInterface};
+pub use package::{encode, encode_component};
 pub use uses::stands_alone;
 pub use wit_encode_types::{
     FunctionKey, LendsMaps, ParamSignatures, Slot, Table, TableOf, TypeEncodingMaps,
@@ -18,3 +20,4 @@ pub use wit_encode_types::{
     encode_tuple, encode_unit_future, encode_unit_stream, encode_valtype, encode_variant,
     extern_name, key_of, maybe_import_type,
 };
+pub use world::encode_world;

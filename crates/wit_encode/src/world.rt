@@ -1,33 +1,44 @@
 //! Encodes worlds as component types.
 
 ghost use Rattle.std.proofs.Common.{refl};
-ghost use Rattle.std.specs.Prelude.{◌≡◌, ◌≤◌, ◌+◌, ◌&&◌, [], false, Err, Some, IfOk, IfErr, OnOk, OnErr};
+ghost use Rattle.std.specs.Prelude.{◌≡◌, ◌<◌, ◌≤◌, ◌+◌, ◌&&◌, length, [], ◌∷◌, true, false, Err, Some, IfOk, IfErr, OnOk, OnErr};
 ghost use Rattle.wit_model.specs.declared.error.Error.TheVariants.{Size};
-ghost use Rattle.comp_bytes.specs.Raw.{Declaration, declaration_count};
+ghost use Rattle.comp_bytes.specs.Raw.{Declaration, Declarations, declaration_count};
 ghost use Rattle.comp_bytes.specs.RawOf.{raw_name};
-ghost use Rattle.comp_bytes.specs.Held.{fits_added};
+ghost use Rattle.comp_bytes.specs.Held.{fits_added, type_slots_of};
 ghost use Rattle.comp_bytes.specs.Fits.{fits_declaration};
 ghost use Rattle.comp_bytes.specs.Refusal.{IsMemoryOrSize};
 ghost use Rattle.wit_model.specs.Lookup.{world_at};
+ghost use Rattle.wit_model.specs.Uses.{item_interface};
 ghost use Rattle.wit_model.specs.Valid.{IsValid};
 ghost use Rattle.wit_model.specs.declared.model.World.{World as WorldValue};
 ghost use Rattle.wit_model.specs.declared.model.WorldItem.TheVariants as item_kinds;
 ghost use Rattle.world_names.specs.WorldSteps.{declared_towards};
+ghost use Rattle.world_names.specs.Clashes.{HasNoClash};
+ghost use Rattle.wit_encode_types.specs.Known.{standing_instances, UsedStand};
 ghost use Rattle.wit_encode.specs.Encoders.{declared_after, DeclaresOutside};
-ghost use Rattle.wit_encode.specs.WorldItems.{towards, AwaitsNext, Encodes, HasShown};
+ghost use Rattle.wit_encode.specs.WorldCounts.{Defines, HasDefined};
+ghost use Rattle.wit_encode.specs.WorldHolds.{HoldsFew, HoldsOn, LacksDeclaration, LacksWorldRoom};
+ghost use Rattle.wit_encode.specs.WholeWorlds.{RefusesWorld, ShowsWorldType};
+ghost use Rattle.wit_encode.specs.WorldItems.{entry_of, towards, AwaitsAll, AwaitsNext, DefinesInstance, Encodes, EncodesAll, HasShown, ListsInstance};
+ghost use Rattle.wit_encode.specs.Worlds.{world_around};
+ghost use Rattle.wit_encode.specs.WrittenNames.{NamesMore, WritesNames};
 
-use crate::interface::{Foreign, define_function_outside, define_outside, no_foreign, reach};
+use crate::interface::{
+    Foreign, InterfaceEncoderOf, define_function_outside, define_outside, no_foreign, reach,
+};
 use comp_bytes::{
     ComponentDefinedType, ComponentExternName, ComponentFuncType, ComponentType, ComponentTypeRef,
 };
 use std::alloc::Global;
+use std::mem;
 use wit_encode_types::{
     LendsMaps, TypeEncodingMaps, ValtypeEncoder, encode_func_type, encode_valtype,
 };
 use wit_model::{
-    Error, Function, InterfaceId, Resolve, Type, TypeId, WorldId, WorldItem, WorldKey,
+    Error, Function, InterfaceId, Map, Resolve, Type, TypeId, WorldId, WorldItem, WorldKey,
 };
-use world_names::item_name;
+use world_names::{item_name, refuse_clashes};
 
 /// Whether a declaration is an import or an export.
 #[derive(Clone, Copy)]
@@ -70,6 +81,7 @@ fn declare(
 ) -> Result<(), Error>
     ensures ok { OnOk result (outer.new ≡ declared_after outer.old (declared_towards (towards direction) (raw_name name.now) ty)) }
     ensures err { OnErr result (outer.new ≡ outer.old) }
+    ensures size { result ≡ Err Size → LacksDeclaration outer.old (declared_towards (towards direction) (raw_name name.now) ty) }
     ensures refuses { IfErr result IsMemoryOrSize }
 {
     match direction {
@@ -167,6 +179,9 @@ impl<'a> WorldEncoderOf<'a, TypeEncodingMaps<'a>> {
     fn new(alloc: Global, resolve: &'a Resolve, world: WorldId) -> WorldEncoder<'a>
         ensures starts { (w : WorldValue) → world_at resolve.now world.0 ≡ Some w → HasShown resolve.now w result ([], []) }
         ensures world { result.world ≡ world }
+        ensures defines { HasDefined resolve.now result [] }
+        ensures few { HoldsFew resolve.now result [] }
+        ensures empty { result.outer ≡ Declarations.no_more }
     {
         let maps = TypeEncodingMaps::new(alloc);
         WorldEncoderOf {
@@ -191,6 +206,10 @@ impl<'a> WorldEncoderOf<'a, TypeEncodingMaps<'a>> {
         requires next { AwaitsNext resolve.now self.old placed }
         requires item { placed.item.now ≡ item_kinds.Function func.now }
         ensures ok { OnOk result (Encodes resolve.now self.old self.new placed.entry) }
+        ensures once { OnOk result (Defines resolve.now self.old self.new placed.entry) }
+        ensures few { OnOk result (HoldsOn resolve.now self.old self.new placed.entry) }
+        ensures size { result ≡ Err Size → LacksWorldRoom resolve.now self.old placed.entry }
+        ensures names { OnOk result (NamesMore resolve.now placed.entry.canonical_names (entry_of placed.entry ∷ []) self.old.outer self.new.outer) }
         ensures refuses { IfErr result IsMemoryOrSize }
     {
         let name = item_name(
@@ -217,9 +236,184 @@ impl<'a> WorldEncoderOf<'a, TypeEncodingMaps<'a>> {
         requires next { AwaitsNext resolve.now self.old placed }
         requires item { placed.item.now ≡ item_kinds.Type_ id }
         ensures ok { OnOk result (Encodes resolve.now self.old self.new placed.entry) }
+        ensures once { OnOk result (Defines resolve.now self.old self.new placed.entry) }
+        ensures few { OnOk result (HoldsOn resolve.now self.old self.new placed.entry) }
+        ensures size { result ≡ Err Size → LacksWorldRoom resolve.now self.old placed.entry }
+        ensures names { OnOk result (NamesMore resolve.now placed.entry.canonical_names (entry_of placed.entry ∷ []) self.old.outer self.new.outer) }
         ensures refuses { IfErr result IsMemoryOrSize }
     {
         encode_valtype(alloc, self, resolve, &Type::Id(id))?;
         Ok(())
     }
+
+    /// Encodes an interface as an instance type of the component type, and answers its slot. What stands in the component type is lent to an
+    /// encoder of interfaces.
+    fn define_instance(&mut self, alloc: Global, interface: InterfaceId) -> Result<u32, Error>
+        requires valid { IsValid self.old.resolve.now }
+        requires in_range { interface.0 < length self.old.resolve.now.interfaces.items }
+        requires around { UsedStand self.old.resolve.now (standing_instances self.old.resolve.now (world_around self.old)) interface.0 }
+        ensures ok { IfOk result (DefinesInstance self.old self.new interface) }
+        ensures rest { self.new ≡ record self.old { outer = self.new.outer; foreign = self.new.foreign } }
+        ensures refuses { IfErr result IsMemoryOrSize }
+    {
+        let mut encoder = InterfaceEncoderOf {
+            resolve: self.resolve,
+            outer: mem::replace(&mut self.outer, ComponentType::new(alloc)),
+            inner: None,
+            maps: TypeEncodingMaps::new(alloc),
+            foreign: mem::replace(&mut self.foreign, no_foreign(alloc)),
+        };
+        let outcome = encoder.encode_instance(alloc, interface);
+        self.outer = encoder.outer;
+        self.foreign = encoder.foreign;
+        outcome
+    }
+
+    /// Lists the instance of an interface that has been imported or exported. It is the latest one.
+    fn list_instance(&mut self, interface: InterfaceId) -> Result<(), Error>
+        requires { self.old.instances < type_slots_of self.old.outer }
+        ensures ok { OnOk result (ListsInstance self.old self.new interface) }
+        ensures refuses { IfErr result IsMemoryOrSize }
+    {
+        // each instance has a type of its own
+        prove!(self.instances < self.outer.type_count());
+        self.foreign.instances.insert(interface.0, self.instances)?;
+        self.instances += 1;
+        Ok(())
+    }
+
+    /// Imports or exports an interface: its instance type takes the slot just before. From then on its instance stands.
+    fn encode_interface(
+        &mut self,
+        alloc: Global,
+        resolve: &'a Resolve,
+        placed: Placed<'a>,
+        interface: InterfaceId,
+    ) -> Result<(), Error>
+        requires valid { IsValid resolve.now }
+        requires next { AwaitsNext resolve.now self.old placed }
+        requires item { item_interface placed.item.now ≡ Some interface.0 }
+        ensures ok { OnOk result (Encodes resolve.now self.old self.new placed.entry) }
+        ensures names { OnOk result (NamesMore resolve.now placed.entry.canonical_names (entry_of placed.entry ∷ []) self.old.outer self.new.outer) }
+        ensures refuses { IfErr result IsMemoryOrSize }
+    {
+        let name = item_name(
+            alloc,
+            resolve,
+            placed.key,
+            placed.item,
+            placed.canonical_names,
+        )?;
+        let slot = self.define_instance(alloc, interface)?;
+        let described = ComponentTypeRef::Instance(slot);
+        declare(&mut self.outer, placed.direction, &name, described)?;
+        self.list_instance(interface)
+    }
+
+    /// Encodes the next import or export.
+    fn encode_item(
+        &mut self,
+        alloc: Global,
+        resolve: &'a Resolve,
+        placed: Placed<'a>,
+    ) -> Result<(), Error>
+        requires valid { IsValid resolve.now }
+        requires next { AwaitsNext resolve.now self.old placed }
+        ensures ok { OnOk result (Encodes resolve.now self.old self.new placed.entry) }
+        ensures names { OnOk result (NamesMore resolve.now placed.entry.canonical_names (entry_of placed.entry ∷ []) self.old.outer self.new.outer) }
+        ensures refuses { IfErr result IsMemoryOrSize }
+    {
+        match placed.item {
+            WorldItem::Interface { id, .. } => self.encode_interface(alloc, resolve, placed, *id),
+            WorldItem::Function(func) => self.encode_function(alloc, resolve, placed, func),
+            WorldItem::Type_ { id } => self.encode_type(alloc, resolve, placed, *id),
+        }
+    }
+
+    /// Encodes the imports, or behind them the exports, in order.
+    fn encode_items(
+        &mut self,
+        alloc: Global,
+        resolve: &'a Resolve,
+        direction: Direction,
+        items: &'a Map<WorldKey, WorldItem>,
+        canonical_names: bool,
+    ) -> Result<(), Error>
+        requires valid { IsValid resolve.now }
+        requires begins { AwaitsAll resolve.now self.old (towards direction) items.now.entries }
+        ensures ok { OnOk result (EncodesAll resolve.now self.old self.new (towards direction)) }
+        ensures names { OnOk result (NamesMore resolve.now canonical_names items.now.entries self.old.outer self.new.outer) }
+        ensures refuses { IfErr result IsMemoryOrSize }
+    {
+        for (key, item) in items {
+            let placed = Placed {
+                direction,
+                key,
+                item,
+                canonical_names,
+            };
+            self.encode_item(alloc, resolve, placed)?;
+        }
+        Ok(())
+    }
+}
+
+// Encodes a world without a look at its names.
+fn encode_entries(
+    alloc: Global,
+    resolve: &Resolve,
+    world: WorldId,
+    canonical_names: bool,
+) -> Result<ComponentType, Error>
+    requires valid { IsValid resolve.now }
+    requires in_range { world.0 < length resolve.now.worlds.items }
+    ensures shows { IfOk result (λ declared. (w : WorldValue) → world_at resolve.now world.0 ≡ Some w → ShowsWorldType resolve.now w declared) }
+    ensures names { IfOk result (λ declared. (w : WorldValue) → world_at resolve.now world.0 ≡ Some w → WritesNames resolve.now canonical_names w declared) }
+    ensures refuses { IfErr result IsMemoryOrSize }
+{
+    let def = &resolve.worlds[world.0 as usize];
+    let mut encoder = WorldEncoderOf::new(alloc, resolve, world);
+    encoder.encode_items(
+        alloc,
+        resolve,
+        Direction::Import,
+        &def.imports,
+        canonical_names,
+    )?;
+    encoder.encode_items(
+        alloc,
+        resolve,
+        Direction::Export,
+        &def.exports,
+        canonical_names,
+    )?;
+    Ok(encoder.outer)
+}
+
+/// The component type of a world (Component Model WIT.md, "Package Format"): its imports in order, and then its exports. An instance type
+/// takes the slot just before the import or the export of its interface. A type of the world is an import. A type of an interface that the
+/// world or another interface uses gets an alias in the component type when it is first met, of the latest instance by then that is the
+/// interface or implements it.
+///
+/// Paths are written with their whole version, or, with canonical names, with the canonical part of it and an attribute that completes it; the
+/// meaning is the same. Then `CanonicalClash` is answered where two imports, or two exports, have one canonical name, with the first name that
+/// repeats an earlier one, imports before exports. Otherwise `Memory` and `Size` alone are refused.
+///
+/// Takes as long as encoding its interfaces, types and functions, with a search in an ordered map for each.
+pub fn encode_world(
+    alloc: Global,
+    resolve: &Resolve,
+    world: WorldId,
+    canonical_names: bool,
+) -> Result<ComponentType, Error>
+    requires valid { IsValid resolve.now }
+    requires in_range { world.0 < length resolve.now.worlds.items }
+    ensures shows { IfOk result (λ declared. (w : WorldValue) → world_at resolve.now world.0 ≡ Some w → ShowsWorldType resolve.now w declared) }
+    ensures names { IfOk result (λ declared. (w : WorldValue) → world_at resolve.now world.0 ≡ Some w → WritesNames resolve.now canonical_names w declared) }
+    ensures clashes { (w : WorldValue) → world_at resolve.now world.0 ≡ Some w → canonical_names ≡ true → OnOk result (HasNoClash resolve.now w) }
+    ensures refuses { (w : WorldValue) → world_at resolve.now world.0 ≡ Some w → IfErr result (RefusesWorld resolve.now w canonical_names) }
+{
+    let def = &resolve.worlds[world.0 as usize];
+    refuse_clashes(alloc, resolve, def, canonical_names)?;
+    encode_entries(alloc, resolve, world, canonical_names)
 }

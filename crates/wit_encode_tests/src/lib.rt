@@ -3,6 +3,8 @@
 #![tactic(auto)]
 
 #[cfg(test)]
+mod clashes;
+#[cfg(test)]
 mod components;
 #[cfg(test)]
 mod encoded;
@@ -32,3 +34,9 @@ mod shown;
 mod steps;
 #[cfg(test)]
 mod units;
+#[cfg(test)]
+mod whole;
+#[cfg(test)]
+mod world_steps;
+#[cfg(test)]
+mod worlds;

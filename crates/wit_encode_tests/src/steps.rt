@@ -93,7 +93,7 @@ pub(super) enum Asked {
     UnitStream,
 }
 
-fn kind_of(alloc: Global, kind: Kind) -> Result<TypeDefKind, Error> {
+pub(super) fn kind_of(alloc: Global, kind: Kind) -> Result<TypeDefKind, Error> {
     let kind = match kind {
         Kind::Alias(ty) => TypeDefKind::Type_(ty),
         Kind::Resource => TypeDefKind::Resource,

@@ -1,9 +1,9 @@
 //! The example that the README begins with.
 
-use plain_encode::encode;
 use std::alloc::Global;
 use std::test::Fail;
 use wit_check::Check;
+use wit_encode::encode;
 use wit_model::*;
 use wit_print::{OutputToString, WitPrinter};
 

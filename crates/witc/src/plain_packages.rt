@@ -1,11 +1,11 @@
 //! The bytes of plain packages.
 
-use plain_encode::encode;
 use std::alloc::Global;
 use std::process::Abort;
 use std::test::Fail;
 use wit_check::Check;
-use wit_model::{Error, Function, FunctionKind, PackageId, Resolve, Type, WorldItem, is_plain};
+use wit_encode::encode;
+use wit_model::{Error, Function, FunctionKind, PackageId, Resolve, Type, WorldItem};
 use wit_samples::drafts::{add_package, add_world, empty, export, import, nullary, param};
 
 /// A function.
@@ -68,9 +68,9 @@ fn resolve_of(alloc: Global, foo: Option<Foo>) -> Result<Resolve, Error> {
     Ok(resolve)
 }
 
-// The bytes of a valid plain package.
+// The bytes of a valid package.
 fn bytes_of(rt: &impl Abort, alloc: Global, resolve: &Resolve) -> Result<Vec<u8>, Fail> {
-    assert!(rt; resolve.packages.len() > 0 && is_plain(resolve));
+    assert!(rt; resolve.packages.len() > 0);
     resolve.check(alloc)?;
     let bytes = encode(alloc, resolve, PackageId(0), false)?;
     Ok(bytes)

@@ -6,10 +6,10 @@ ghost use Rattle.witc.specs.Words.{is_command, is_word};
 
 use crate::demo;
 use crate::hex::hex_lines;
-use plain_encode::encode;
 use std::alloc::{AllocError, Global};
 use std::io::{Read, Write};
 use wit_check::Check;
+use wit_encode::encode;
 use wit_model::{Error, Fault, is_plain};
 use wit_print::{OutputToString, WitPrinter};
 

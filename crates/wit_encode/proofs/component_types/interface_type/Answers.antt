@@ -14,7 +14,13 @@ use Rattle.wit_encode.specs.Dependencies.{AreImportable, HasImported, ShowsCompo
 use Rattle.wit_encode.proofs.Imported.{nothing_is_imported, exports_end}
 use Rattle.wit_encode.proofs.ImportsStand.{imports_stand}
 use Rattle.wit_encode.proofs.ImportLoop.{few-importable, moved, path-in-range, reached-importable, reached-used}
+use Rattle.wit_encode.proofs.Scopes.{refused-by_paths}
 use Rattle.wit_encode.proofs.component_types.interface_type.Goals as goal
+
+pub returns-in_err-refuse_equal_paths-clause-refuses : goal.returns-in_err-refuse_equal_paths-clause-refuses
+returns-in_err-refuse_equal_paths-clause-refuses c =
+    refused-by_paths c.args.resolve.now c.args.interface.0 c.args.canonical_names c.in_ok-reached.reached.items c.deref.result.now c.in_err-refuse_equal_paths.field-0.0
+    c.from_residual-in_err-refuse_equal_paths.result c.deref.ensures.value c.in_ok-reached.ensures.order c.in_err-refuse_equal_paths.ensures.refuses c.from_residual-in_err-refuse_equal_paths.ensures.1
 
 pub import_dependencies-requires-clause-nothing : goal.import_dependencies-requires-clause-nothing
 import_dependencies-requires-clause-nothing c =
@@ -23,8 +29,8 @@ import_dependencies-requires-clause-nothing c =
 
 pub import_dependencies-requires-clause-importable : goal.import_dependencies-requires-clause-importable
 import_dependencies-requires-clause-importable c =
-    subst (λ (q : Resolve). AreImportable q (map (λ (id : InterfaceId). id.0) c.deref.result.now)) (sym c.new-encoder.ensures.resolve)
-    (subst (λ (xs : List InterfaceId). AreImportable c.args.resolve.now (map (λ (id : InterfaceId). id.0) xs)) (sym c.deref.ensures.value)
+    subst (λ (q : Resolve). AreImportable q (map (λ (id : InterfaceId). id.0) c.deref-2.result.now)) (sym c.new-encoder.ensures.resolve)
+    (subst (λ (xs : List InterfaceId). AreImportable c.args.resolve.now (map (λ (id : InterfaceId). id.0) xs)) (sym c.deref-2.ensures.value)
     (reached-importable c.args.resolve.now c.requires.valid c.args.interface.0 (map (λ (id : InterfaceId). id.0) c.in_ok-reached.reached.items) c.in_ok-reached.ensures.reached))
 
 pub import_dependencies-requires-clause-few : goal.import_dependencies-requires-clause-few
@@ -32,7 +38,7 @@ import_dependencies-requires-clause-few c =
     let ns = map (λ (id : InterfaceId). id.0) c.in_ok-reached.reached.items in
     let few : length ns ≤ 4294967295 = few-importable c.args.resolve.now c.requires.valid ns (reached-importable c.args.resolve.now c.requires.valid c.args.interface.0 ns c.in_ok-reached.ensures.reached) in
     let same : length ns ≡ length c.in_ok-reached.reached.items = length-map c.in_ok-reached.reached.items (λ (id : InterfaceId). id.0) in
-    let value : length c.deref.result.now ≡ length c.in_ok-reached.reached.items = ap length c.deref.ensures.value in
+    let value : length c.deref-2.result.now ≡ length c.in_ok-reached.reached.items = ap length c.deref-2.ensures.value in
     omega (arith, few, same, value)
 
 pub encode_instance-requires-clause-in_range : goal.encode_instance-requires-clause-in_range
@@ -42,7 +48,7 @@ encode_instance-requires-clause-in_range c =
 pub encode_instance-requires-clause-around : goal.encode_instance-requires-clause-around
 encode_instance-requires-clause-around c =
     let after = c.import_dependencies.new.encoder in
-    let imported = moved c.args.resolve.now c.new-encoder.result.resolve.now c.in_ok-reached.reached.items c.deref.result.now (outside after) c.new-encoder.ensures.resolve c.deref.ensures.value c.in_ok-import_dependencies.ensures.imported in
+    let imported = moved c.args.resolve.now c.new-encoder.result.resolve.now c.in_ok-reached.reached.items c.deref-2.result.now (outside after) c.new-encoder.ensures.resolve c.deref-2.ensures.value c.in_ok-import_dependencies.ensures.imported in
     subst (λ (q : Resolve). UsedStand q (standing_instances q (outside after)) c.args.interface.0) (sym (c.import_dependencies.ensures.resolve ∙ c.new-encoder.ensures.resolve))
     (imports_stand c.args.resolve.now (outside after) (map (λ (id : InterfaceId). id.0) c.in_ok-reached.reached.items) c.args.interface.0 c.requires.valid imported
     (reached-used c.args.resolve.now c.args.interface.0 (map (λ (id : InterfaceId). id.0) c.in_ok-reached.reached.items) c.in_ok-reached.ensures.reached))
@@ -54,7 +60,7 @@ returns-clause-shows c = λ path is.
     let after = c.encode_instance.new.self in
     let same = c.import_dependencies.ensures.resolve ∙ c.new-encoder.ensures.resolve in
     let found = found-in r.interfaces.items c.args.interface.0 (lt-ltb c.args.interface.0 (length r.interfaces.items) (path-in-range r c.args.interface.0 c.requires.named)) in
-    let imported = moved r c.new-encoder.result.resolve.now c.in_ok-reached.reached.items c.deref.result.now (outside before) c.new-encoder.ensures.resolve c.deref.ensures.value c.in_ok-import_dependencies.ensures.imported in
+    let imported = moved r c.new-encoder.result.resolve.now c.in_ok-reached.reached.items c.deref-2.result.now (outside before) c.new-encoder.ensures.resolve c.deref-2.ensures.value c.in_ok-import_dependencies.ensures.imported in
     let encodes = subst (λ (q : Resolve). EncodesInterface q (outside before) (outside after) c.args.interface found.0 c.in_ok-slot.slot) same (c.in_ok-slot.ensures.ok found.0 (ap (λ (q : Resolve). interface_at q c.args.interface.0) same ∙ found.1)) in
     subst (ShowsComponent r c.args.interface.0 path)
     (sym (c.in_ok-export.ensures.ok ∙ ap (λ n. append after.outer (Declarations.declares (Declaration.exported n (refs.Instance c.in_ok-slot.slot)) Declarations.no_more)) c.in_ok-name.ensures.ok))

@@ -1,5 +1,13 @@
-use Rattle.std.proofs.Common.{refl}
+use Rattle.std.proofs.Common.{◌≡◌, ◌∙◌, ap, refl, Result, Err, rules}
+use Rattle.wit_model.specs.declared.error.Error.{Error}
+use Rattle.wit_model.specs.declared.error.Error.TheVariants as errors
+use Rattle.comp_bytes.specs.declared.forms.ComponentValType.{ComponentValType}
+use Rattle.wit_encode_types.specs.Scope.{Scope}
 use Rattle.wit_encode.specs.WorldItems.{entry_of, towards}
+use Rattle.wit_encode.specs.Worlds.{world_encoder_view}
+use Rattle.wit_encode.proofs.WorldCounting.{none-made, type-defined}
+use Rattle.wit_encode.proofs.WorldHolding.{type-few, type-lacks}
+use Rattle.wit_encode.proofs.WrittenNames.{type-names}
 use Rattle.wit_encode.proofs.WorldTypes.{type-encodable, type-encoded}
 use Rattle.wit_encode.proofs.world.WorldEncoderOf+TypeEncodingMaps.encode_type.Goals as goal
 
@@ -12,3 +20,23 @@ encode_valtype-requires c =
 pub returns-clause-ok : goal.returns-clause-ok
 returns-clause-ok c = λ w done h next. type-encoded c.args.resolve.now c.requires.valid w c.args.self.now c.encode_valtype.new.enc done h c.args.placed.key.now c.args.id c.args.placed.item.now c.requires.item (towards c.args.placed.direction) next
     c.encode_valtype.ensures.leaves c.in_ok-encode_valtype.ensures.learns.only c.in_ok-encode_valtype.ensures.counts.shows c.in_ok-encode_valtype.ensures.knows
+
+pub returns-clause-once : goal.returns-clause-once
+returns-clause-once c = λ es h. type-defined c.args.resolve.now c.args.self.now c.encode_valtype.new.enc es (world_encoder_view c.args.self.now).scope refl c.args.placed.key.now c.args.placed.item.now c.args.id c.requires.item h
+    c.in_ok-encode_valtype.ensures.counts c.in_ok-encode_valtype.ensures.learns (none-made _ c.args.self.now.outer c.encode_valtype.new.enc.outer c.encode_valtype.ensures.leaves.grows.around_)
+
+pub returns-clause-few : goal.returns-clause-few
+returns-clause-few c = λ es h. type-few c.args.resolve.now c.args.self.now.resolve.now c.encode_valtype.new.enc.resolve.now c.args.self.now c.encode_valtype.new.enc es c.args.placed.key.now c.args.placed.item.now c.args.id c.requires.item
+    c.requires.next.shown.packages_ (ap (λ (s : Scope). s.packages) c.encode_valtype.ensures.leaves.scope_stays ∙ c.requires.next.shown.packages_)
+    (ap (λ (s : Scope). s.others.listed) c.encode_valtype.ensures.leaves.scope_stays) h c.in_ok-encode_valtype.ensures.held
+
+pub returns-in_err-encode_valtype-clause-size : goal.returns-in_err-encode_valtype-clause-size
+returns-in_err-encode_valtype-clause-size c = λ h.
+    let refused : ◌≡◌ {A = Result ComponentValType Error} c.encode_valtype.result (Err errors.Size) = search rules in
+    λ w done shown next d few. type-lacks c.args.resolve.now c.args.self.now.resolve.now c.encode_valtype.new.enc.resolve.now w c.args.self.now c.encode_valtype.new.enc done
+    (towards c.args.placed.direction) c.args.placed.key.now c.args.placed.item.now c.args.id c.requires.item next d few
+    (ap (λ (s : Scope). s.others.listed) c.encode_valtype.ensures.leaves.scope_stays) shown.agree.once shown.packages_
+    (ap (λ (s : Scope). s.packages) c.encode_valtype.ensures.leaves.scope_stays ∙ shown.packages_) (c.encode_valtype.ensures.size refused)
+
+pub returns-clause-names : goal.returns-clause-names
+returns-clause-names c = type-names c.args.resolve.now c.args.self.now.resolve.now c.args.placed.canonical_names (entry_of c.args.placed) c.args.id c.args.self.now.outer c.encode_valtype.new.enc.outer c.requires.item c.encode_valtype.ensures.leaves.grows.around_

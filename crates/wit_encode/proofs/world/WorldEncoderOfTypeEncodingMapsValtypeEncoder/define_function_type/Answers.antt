@@ -2,6 +2,7 @@ use Rattle.std.proofs.Common.{◌≡◌, refl, None}
 use Rattle.wit_encode_types.specs.Known.{outer_slots}
 use Rattle.wit_encode_types.specs.Standing.{SlotsStand}
 use Rattle.wit_encode.specs.Worlds.{world_around, world_definitions, world_encoder_view, world_view}
+use Rattle.wit_encode.proofs.WorldBrought.{beside-more}
 use Rattle.wit_encode.proofs.WorldScope.{WorldCalls}
 use Rattle.wit_encode_types.specs.Counts.{one_function_more}
 use Rattle.wit_encode_types.specs.Slots.{DefinesFunction}
@@ -30,3 +31,9 @@ returns-clause-counts c = (calls (goal.at.returns-clause-counts c).After-define_
 
 pub returns-clause-size : goal.returns-clause-size
 returns-clause-size c = λ h s f. function-outside c.args.self.now.resolve.now c.define_function_outside.result h c.define_function_outside.new.outer None refl (SlotsStand (outer_slots c.args.self.now.outer)) c.args.def c.define_function_outside.ensures.size s f
+
+pub returns-clause-around_stays : goal.returns-clause-around_stays
+returns-clause-around_stays c = (calls (goal.at.returns-clause-around_stays c).After-define_function_outside).around_stays
+
+pub returns-clause-held : goal.returns-clause-held
+returns-clause-held c = beside-more c.args.self.now.resolve.now (world_around c.args.self.now) c.define_function_outside.new.outer c.define_function_outside.ensures.held

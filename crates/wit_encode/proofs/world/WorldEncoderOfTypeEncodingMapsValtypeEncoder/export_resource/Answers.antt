@@ -7,6 +7,7 @@ use Rattle.wit_encode_types.specs.Slots.{tree}
 use Rattle.wit_encode.specs.Worlds.{world_around, world_definitions, world_encoder_view, world_scope, world_view}
 use Rattle.wit_encode.proofs.Refusing.{name-outside}
 use Rattle.wit_encode.proofs.WorldCalls.{after_declaring, imports-resource}
+use Rattle.wit_encode.proofs.WorldBrought.{beside-more}
 use Rattle.wit_encode.proofs.WorldScope.{WorldCalls}
 use Rattle.wit_encode.proofs.world.WorldEncoderOfTypeEncodingMapsValtypeEncoder.export_resource.Goals as goal
 use Rattle.wit_encode.proofs.world.WorldEncoderOfTypeEncodingMapsValtypeEncoder.export_resource.Goals.{After-import_type_outside}
@@ -31,3 +32,9 @@ returns-clause-counts c = (calls (goal.at.returns-clause-counts c).After-import_
 
 pub returns-clause-size : goal.returns-clause-size
 returns-clause-size c = λ h. name-outside c.args.self.now.resolve.now c.import_type_outside.new.outer (raw_name c.args.name) refs.SubResource (c.import_type_outside.ensures.size h)
+
+pub returns-clause-around_stays : goal.returns-clause-around_stays
+returns-clause-around_stays c = (calls (goal.at.returns-clause-around_stays c).After-import_type_outside).around_stays
+
+pub returns-clause-held : goal.returns-clause-held
+returns-clause-held c = beside-more c.args.self.now.resolve.now (world_around c.args.self.now) c.import_type_outside.new.outer c.import_type_outside.ensures.held

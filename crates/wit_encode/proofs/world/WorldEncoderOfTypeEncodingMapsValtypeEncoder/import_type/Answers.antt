@@ -1,9 +1,10 @@
-use Rattle.std.proofs.Common.{◌≡◌, ℕ, Result, Ok, Err, IfOk, OnOk}
+use Rattle.std.proofs.Common.{ℕ, Result, Ok, Err, IfOk, OnOk}
 use Rattle.std.proofs.lemmas.Option.{slice_get_within}
 use Rattle.wit_encode.specs.Instance.{around_at}
 use Rattle.wit_encode.specs.Worlds.{world_around, world_encoder_view, world_view}
 use Rattle.wit_encode.proofs.Refusing.{alias-behind}
-use Rattle.wit_encode.proofs.WorldCalls.{WorldImports, reached-held, world-imports, world-source}
+use Rattle.wit_encode.proofs.WorldBrought.{reached-beside}
+use Rattle.wit_encode.proofs.WorldCalls.{WorldImports, world-imports, world-source}
 use Rattle.wit_encode.proofs.world.WorldEncoderOfTypeEncodingMapsValtypeEncoder.import_type.Goals as goal
 use Rattle.wit_encode.proofs.world.WorldEncoderOfTypeEncodingMapsValtypeEncoder.import_type.Goals.{After-reach}
 
@@ -37,7 +38,7 @@ pub returns-clause-counts : goal.returns-clause-counts
 returns-clause-counts c = on-ok c.reach.result (imports (goal.at.returns-clause-counts c).After-reach).counted
 
 pub returns-clause-held : goal.returns-clause-held
-returns-clause-held c = reached-held c.reach.ensures.reaches
+returns-clause-held c = reached-beside c.reach.ensures.reaches
 
 pub returns-clause-size : goal.returns-clause-size
 returns-clause-size c = λ h. alias-behind c.args.self.now.resolve.now c.reach.new.outer c.args.id.0 (c.reach.ensures.size h)

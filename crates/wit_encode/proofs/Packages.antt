@@ -1,0 +1,163 @@
+-- Component types that are added one after the other.
+use Rattle.std.proofs.Common.{◌≡◌, refl, sym, ap, subst, ◌∙◌, ℕ, Bool, true, List, [], ◌∷◌, ◌++◌, append_assoc, append-nil, Some, String, Result, Ok, Err, IfErr, OnOk, ◌⊎◌, inl, inr}
+use Rattle.std.specs.Prelude.{IsErrAnd}
+use Rattle.std.specs.List.{AllZip, Contains}
+use Rattle.std.specs.declared.alloc.Global.{Global}
+use Rattle.std.proofs.lemmas.List.Elements.{Contains-append_cases, Contains-append_left, Contains-append_right}
+use Rattle.wit_model.specs.Text.{Text, text_of}
+use Rattle.wit_model.specs.Names.{PackageIdentity}
+use Rattle.wit_model.specs.Lookup.{interface_path, world_at}
+use Rattle.wit_model.specs.declared.model.World.{World}
+use Rattle.wit_model.specs.declared.error.Error.{Error}
+use Rattle.wit_model.specs.declared.model.Resolve.{Resolve}
+use Rattle.wit_model.proofs.Elements.{contains-one, none-in, one-contained, zip-push}
+use Rattle.comp_bytes.specs.Raw.{Declarations}
+use Rattle.comp_bytes.specs.Parts.{Part}
+use Rattle.comp_bytes.specs.Refusal.{IsMemoryOrSize}
+use Rattle.component_exports.specs.ExportedParts.{exporting}
+use Rattle.wit_encode.specs.Dependencies.{ShowsComponent}
+use Rattle.wit_encode.specs.Scopes.{HasNoEqualPaths, RefusesInterface}
+use Rattle.wit_encode.specs.WholeWorlds.{RefusesWorld}
+use Rattle.wit_encode.specs.Packages.{AddsInterface, AddsWorld, AddsWorlds, HasNoClashAt, HaveNoClash, HaveNoEqualPaths, HoldsInterfaces, IsTypeOf, IsWrapperOf, Listed, ListedWorld, RefusesInterfaces, RefusesWorldAt, RefusesWorlds, WrapsWorld}
+
+pub on-ok : {X E A B : Type 0} (given : Result X E) → OnOk given A → (A → B) → OnOk given B
+on-ok (Ok x) a f = f a
+on-ok (Err e) a f = tt
+
+pub type-added : (r : Resolve) (e : Listed) (declared : Declarations) (old new : List Part) → ((path : Text) → interface_path r e.1.0 ≡ Some path → ShowsComponent r e.1.0 path declared)
+    → ((types : List (Text × Declarations)) → old ≡ exporting types → new ≡ exporting (types ++ (text_of e.0, declared) ∷ [])) → AddsInterface r e old new
+type-added r e declared old new shows more = λ entries h. record {
+  types = h.types ++ (text_of e.0, declared) ∷ [];
+  are = zip-push (IsTypeOf r) entries h.types e (text_of e.0, declared) h.are (record { label = refl; shows = shows });
+  is = more h.types h.is;
+}
+
+pub paths-added : (r : Resolve) (entries : List Listed) (e : Listed) → HaveNoEqualPaths r entries → HasNoEqualPaths r e.1.0 → HaveNoEqualPaths r (entries ++ e ∷ [])
+paths-added r entries e h one = λ f c. go f (Contains-append_cases entries (e ∷ []) f c)
+  where
+    go : (f : Listed) → Contains entries f ⊎ Contains (e ∷ []) f → HasNoEqualPaths r f.1.0
+    go f (inl c) = h f c
+    go f (inr c) = subst (λ (g : Listed). HasNoEqualPaths r g.1.0) (one-contained e f c) one
+
+pub room-refused : {X : Type 0} (r : Resolve) (n : ℕ) (canonical : Bool) (given : Result X Error) → (canonical ≡ true → HasNoEqualPaths r n) → IfErr given IsMemoryOrSize → IfErr given (RefusesInterface r n canonical)
+room-refused r n canonical (Ok x) differ h = tt
+room-refused r n canonical (Err e) differ h = RefusesInterface.of_room differ h
+
+pub first-refused : {X : Type 0} (r : Resolve) (entries before after : List Listed) (f : Listed) (canonical : Bool) (e : Error) (given : Result X Error) → entries ≡ before ++ (f ∷ after)
+    → (canonical ≡ true → HaveNoEqualPaths r before) → RefusesInterface r f.1.0 canonical e → IsErrAnd given (λ d. d ≡ e) → IfErr given (RefusesInterfaces r entries canonical)
+first-refused r entries before after f canonical e (Ok x) are differ refuses h = tt
+first-refused r entries before after f canonical e (Err d) are differ refuses h =
+    subst (RefusesInterfaces r entries canonical) (sym h) (record { before = before; refused = f; after = after; are = are; differ = differ; refuses = refuses })
+
+-- ---- one interface after the other
+
+-- The component types of the first interfaces have been added, and these are left.
+pub record IsBegun (r : Resolve) (canonical : Bool) (entries left : List Listed) (parts : List Part) : Type 0 where
+  pub done : List Listed
+  pub split : entries ≡ done ++ left
+  pub holds : HoldsInterfaces r done parts
+  pub differ : canonical ≡ true → HaveNoEqualPaths r done
+
+pub nothing-done : (r : Resolve) (canonical : Bool) (entries : List Listed) (parts : List Part) → parts ≡ [] → IsBegun r canonical entries entries parts
+nothing-done r canonical entries parts none = record {
+  done = [];
+  split = refl;
+  holds = record { types = []; are = tt; is = none };
+  differ = λ is e c. absurd (none-in e c);
+}
+
+pub next-listed : (r : Resolve) (canonical : Bool) (entries left rest : List Listed) (parts : List Part) (e : Listed) → IsBegun r canonical entries left parts → left ≡ e ∷ rest → Contains entries e
+next-listed r canonical entries left rest parts e h is =
+    subst (λ (es : List Listed). Contains es e) (sym (h.split ∙ ap (λ (es : List Listed). h.done ++ es) is)) (Contains-append_right h.done (e ∷ rest) e (Contains-append_left (e ∷ []) rest e (contains-one e)))
+
+pub next-done : (r : Resolve) (canonical : Bool) (entries left rest : List Listed) (parts parts' : List Part) (e : Listed) → IsBegun r canonical entries left parts → left ≡ e ∷ rest
+    → AddsInterface r e parts parts' → (canonical ≡ true → HasNoEqualPaths r e.1.0) → IsBegun r canonical entries rest parts'
+next-done r canonical entries left rest parts parts' e h is adds one = record {
+  done = h.done ++ e ∷ [];
+  split = h.split ∙ ap (λ (es : List Listed). h.done ++ es) is ∙ sym (append_assoc h.done (e ∷ []) rest);
+  holds = adds h.done h.holds;
+  differ = λ asked. paths-added r h.done e (h.differ asked) (one asked);
+}
+
+pub next-refused : {X : Type 0} (r : Resolve) (canonical : Bool) (entries left rest : List Listed) (parts : List Part) (e : Listed) (error : Error) (given : Result X Error)
+    → IsBegun r canonical entries left parts → left ≡ e ∷ rest → RefusesInterface r e.1.0 canonical error → IsErrAnd given (λ d. d ≡ error) → IfErr given (RefusesInterfaces r entries canonical)
+next-refused r canonical entries left rest parts e error given h is refuses same =
+    first-refused r entries h.done rest e canonical error given (h.split ∙ ap (λ (es : List Listed). h.done ++ es) is) h.differ refuses same
+
+pub all-held : (r : Resolve) (canonical : Bool) (entries left : List Listed) (parts : List Part) → IsBegun r canonical entries left parts → left ≡ [] → HoldsInterfaces r entries parts
+all-held r canonical entries left parts h is = subst (λ (es : List Listed). HoldsInterfaces r es parts) (sym (h.split ∙ ap (λ (es : List Listed). h.done ++ es) is ∙ append-nil h.done)) h.holds
+
+pub all-differ : (r : Resolve) (canonical : Bool) (entries left : List Listed) (parts : List Part) → IsBegun r canonical entries left parts → left ≡ [] → canonical ≡ true → HaveNoEqualPaths r entries
+all-differ r canonical entries left parts h is asked = subst (HaveNoEqualPaths r) (sym (h.split ∙ ap (λ (es : List Listed). h.done ++ es) is ∙ append-nil h.done)) (h.differ asked)
+
+-- ---- worlds
+
+pub world-added : (r : Resolve) (p : PackageIdentity) (e : ListedWorld) (w : World) (declared : Declarations) (old new : List Part) → world_at r e.1.0 ≡ Some w → WrapsWorld r p w declared
+    → ((types : List (Text × Declarations)) → old ≡ exporting types → new ≡ exporting (types ++ (text_of e.0, declared) ∷ [])) → AddsWorld r p e old new
+world-added r p e w declared old new there wraps more = λ interfaces worlds h. record {
+  interface_types = h.interface_types;
+  world_types = h.world_types ++ (text_of e.0, declared) ∷ [];
+  interfaces_are = h.interfaces_are;
+  worlds_are = zip-push (IsWrapperOf r p) worlds h.world_types e (text_of e.0, declared) h.worlds_are (record { label = refl; world = w; there = there; wraps = wraps });
+  is = more (h.interface_types ++ h.world_types) h.is ∙ ap exporting (append_assoc h.interface_types h.world_types ((text_of e.0, declared) ∷ []));
+}
+
+pub world-room_refused : {X : Type 0} (r : Resolve) (n : ℕ) (canonical : Bool) (given : Result X Error) → (canonical ≡ true → HasNoClashAt r n) → IfErr given IsMemoryOrSize → IfErr given (RefusesWorldAt r n canonical)
+world-room_refused r n canonical (Ok x) differ h = tt
+world-room_refused r n canonical (Err e) differ h = λ w there. RefusesWorld.of_room (λ asked. differ asked w there) h
+
+pub world-passed : {X : Type 0} (r : Resolve) (n : ℕ) (canonical : Bool) (e : Error) (given : Result X Error) → RefusesWorldAt r n canonical e → IsErrAnd given (λ d. d ≡ e) → IfErr given (RefusesWorldAt r n canonical)
+world-passed r n canonical e (Ok x) h same = tt
+world-passed r n canonical e (Err d) h same = subst (RefusesWorldAt r n canonical) (sym same) h
+
+-- The wrappers of the first worlds have been added behind these parts, and these worlds are left.
+pub record WorldsBegun (r : Resolve) (p : PackageIdentity) (canonical : Bool) (entries left : List ListedWorld) (parts parts' : List Part) : Type 0 where
+  pub done : List ListedWorld
+  pub split : entries ≡ done ++ left
+  pub adds : AddsWorlds r p done parts parts'
+  pub differ : canonical ≡ true → HaveNoClash r done
+
+pub no-world_done : (r : Resolve) (p : PackageIdentity) (canonical : Bool) (entries : List ListedWorld) (parts : List Part) → WorldsBegun r p canonical entries entries parts parts
+no-world_done r p canonical entries parts = record {
+  done = [];
+  split = refl;
+  adds = λ interfaces h. h;
+  differ = λ asked e c. absurd (none-in e c);
+}
+
+pub next-world : (r : Resolve) (p : PackageIdentity) (canonical : Bool) (entries left rest : List ListedWorld) (parts parts' : List Part) (e : ListedWorld) → WorldsBegun r p canonical entries left parts parts'
+    → left ≡ e ∷ rest → Contains entries e
+next-world r p canonical entries left rest parts parts' e h is =
+    subst (λ (es : List ListedWorld). Contains es e) (sym (h.split ∙ ap (λ (es : List ListedWorld). h.done ++ es) is)) (Contains-append_right h.done (e ∷ rest) e (Contains-append_left (e ∷ []) rest e (contains-one e)))
+
+worlds-apart : (r : Resolve) (entries : List ListedWorld) (e : ListedWorld) → HaveNoClash r entries → HasNoClashAt r e.1.0 → HaveNoClash r (entries ++ e ∷ [])
+worlds-apart r entries e h one = λ f c. go f (Contains-append_cases entries (e ∷ []) f c)
+  where
+    go : (f : ListedWorld) → Contains entries f ⊎ Contains (e ∷ []) f → HasNoClashAt r f.1.0
+    go f (inl c) = h f c
+    go f (inr c) = subst (λ (g : ListedWorld). HasNoClashAt r g.1.0) (one-contained e f c) one
+
+pub world-done : (r : Resolve) (p : PackageIdentity) (canonical : Bool) (entries left rest : List ListedWorld) (parts middle parts' : List Part) (e : ListedWorld) → WorldsBegun r p canonical entries left parts middle
+    → left ≡ e ∷ rest → AddsWorld r p e middle parts' → (canonical ≡ true → HasNoClashAt r e.1.0) → WorldsBegun r p canonical entries rest parts parts'
+world-done r p canonical entries left rest parts middle parts' e h is adds one = record {
+  done = h.done ++ e ∷ [];
+  split = h.split ∙ ap (λ (es : List ListedWorld). h.done ++ es) is ∙ sym (append_assoc h.done (e ∷ []) rest);
+  adds = λ interfaces held. adds interfaces h.done (h.adds interfaces held);
+  differ = λ asked. worlds-apart r h.done e (h.differ asked) (one asked);
+}
+
+pub world-refused : {X : Type 0} (r : Resolve) (p : PackageIdentity) (canonical : Bool) (entries left rest : List ListedWorld) (parts middle : List Part) (e : ListedWorld) (error : Error) (given : Result X Error)
+    → WorldsBegun r p canonical entries left parts middle → left ≡ e ∷ rest → RefusesWorldAt r e.1.0 canonical error → IsErrAnd given (λ d. d ≡ error) → IfErr given (RefusesWorlds r entries canonical)
+world-refused r p canonical entries left rest parts middle e error (Ok x) h is refuses same = tt
+world-refused r p canonical entries left rest parts middle e error (Err d) h is refuses same =
+    subst (RefusesWorlds r entries canonical) (sym same)
+    (record { before = h.done; refused = e; after = rest; are = h.split ∙ ap (λ (es : List ListedWorld). h.done ++ es) is; differ = h.differ; refuses = refuses })
+
+pub all-added : (r : Resolve) (p : PackageIdentity) (canonical : Bool) (entries left : List ListedWorld) (parts parts' : List Part) → WorldsBegun r p canonical entries left parts parts' → left ≡ []
+    → AddsWorlds r p entries parts parts'
+all-added r p canonical entries left parts parts' h is =
+    subst (λ (es : List ListedWorld). AddsWorlds r p es parts parts') (sym (h.split ∙ ap (λ (es : List ListedWorld). h.done ++ es) is ∙ append-nil h.done)) h.adds
+
+pub all-worlds_apart : (r : Resolve) (p : PackageIdentity) (canonical : Bool) (entries left : List ListedWorld) (parts parts' : List Part) → WorldsBegun r p canonical entries left parts parts' → left ≡ []
+    → canonical ≡ true → HaveNoClash r entries
+all-worlds_apart r p canonical entries left parts parts' h is asked = subst (HaveNoClash r) (sym (h.split ∙ ap (λ (es : List ListedWorld). h.done ++ es) is ∙ append-nil h.done)) (h.differ asked)

@@ -1,0 +1,159 @@
+-- A component with the component types of a package means the package.
+use Rattle.std.proofs.Common.{◌≡◌, ◌<◌, ◌||◌, ◌&&◌, refl, sym, ap, subst, ◌∙◌, ℕ, zero, suc, Bool, true, false, List, [], ◌∷◌, ◌++◌, append-nil, arith, length, Some, String, Result, Ok, Err, IfErr, IfOk, is_some}
+use Rattle.std.specs.Prelude.{IsErrAnd}
+use Rattle.std.specs.List.{AllZip, Contains, list_all}
+use Rattle.std.specs.declared.alloc.Global.{Global}
+use Rattle.std.proofs.lemmas.Bool.{true≢false, ltb-true}
+use Rattle.std.proofs.lemmas.List.Elements.{Contains-append_left, Contains-append_right}
+use Rattle.wit_model.specs.Text.{Text, text_of}
+use Rattle.wit_model.specs.Lookup.{package_at, interface_path, world_at, identity_of}
+use Rattle.wit_model.specs.Rules.{in_list}
+use Rattle.wit_model.specs.Valid.{is_place, numbers_in_range}
+use Rattle.wit_model.proofs.OnePath.{package-passes}
+use Rattle.wit_model.specs.Valid.{IsValid}
+use Rattle.wit_model.specs.declared.error.Error.{Error}
+use Rattle.wit_model.specs.declared.model.Resolve.{Resolve}
+use Rattle.wit_model.specs.declared.model.Package.{Package}
+use Rattle.wit_model.specs.declared.model.InterfaceId.{InterfaceId}
+use Rattle.wit_model.specs.declared.model.WorldId.{WorldId}
+use Rattle.wit_model.proofs.Elements.{all-contained, contains-map, contains-one}
+use Rattle.wit_model.proofs.Lists.{second_true}
+use Rattle.indexmap.specs.IndexMap.{values}
+use Rattle.comp_bytes.specs.Raw.{Declarations}
+use Rattle.comp_bytes.specs.Parts.{Part, sections_of_parts}
+use Rattle.comp_bytes.specs.Spelling.{IsComponent, preamble}
+use Rattle.comp_bytes.specs.Refusal.{IsMemoryOrSize}
+use Rattle.comp_meaning.specs.Follow.{is_filled}
+use Rattle.component_exports.specs.ExportedParts.{exporting}
+use Rattle.component_exports.proofs.Exports.{all_exported}
+use Rattle.wit_shown.specs.PackageTypes.{ArePackageTypes, IsInterfaceType, IsListedWorldType}
+use Rattle.wit_shown.proofs.Owning.{own-path}
+use Rattle.wit_shown.proofs.PackageTypes as shown
+use Rattle.wit_encode.specs.Packages.{AddsWorlds, AreNamed, AreWorlds, HasMembers, HasNoClashes, HasNoMembers, HaveNoClash, HaveNoEqualPaths, HoldsInterfaces, HoldsMembers, HoldsPackage, IsTypeOf, IsWrapperOf, Listed, ListedWorld, MeansPackage, RefusesInterfaces, RefusesPackage, RefusesWorlds}
+
+-- ---- what stands in a package
+
+module _ (r : Resolve) (v : IsValid r) (n : ℕ) (p : Package) (at : package_at r n ≡ Some p) where
+  pub are-named : AreNamed r p.interfaces.entries
+  are-named e c = ap is_some (own-path r v n p at e c)
+
+  numbers-inside : (list_all (λ (id : InterfaceId). in_list r.interfaces.items id.0) (values p.interfaces) && list_all (λ (id : WorldId). in_list r.worlds.items id.0) (values p.worlds)) ≡ true
+  unfolding numbers_in_range
+  numbers-inside = second_true (is_place n) _ (package-passes numbers_in_range r v.rules.numbers_in_range n p at)
+
+  pub are-worlds : AreWorlds r p.worlds.entries
+  are-worlds e c =
+      ltb-true e.1.0 (length r.worlds.items)
+      (all-contained (λ (id : WorldId). in_list r.worlds.items id.0) (values p.worlds) e.1
+      (second_true (list_all (λ (id : InterfaceId). in_list r.interfaces.items id.0) (values p.interfaces)) _ numbers-inside) (contains-map (λ x. x.1) p.worlds.entries e c))
+
+  type-of : (e : Listed) → Contains p.interfaces.entries e → (x : Text × Declarations) → IsTypeOf r e x → IsInterfaceType r p e x
+  type-of e c x is =
+      let s = is.shows _ (own-path r v n p at e c) in
+      record { label = is.label; scope = s.scope; follows = s.follows; imports = s.imports; exported = s.exported; shows = s.shows }
+
+  types-of : (entries : List Listed) (types : List (Text × Declarations)) → ((e : Listed) → Contains entries e → Contains p.interfaces.entries e) → AllZip (IsTypeOf r) entries types → AllZip (IsInterfaceType r p) entries types
+  types-of [] [] own h = tt
+  types-of [] (x ∷ xs) own h = absurd h
+  types-of (e ∷ es) [] own h = absurd h
+  types-of (e ∷ es) (x ∷ xs) own h =
+      (type-of e (own e (Contains-append_left (e ∷ []) es e (contains-one e))) x h.0, types-of es xs (λ f c. own f (Contains-append_right (e ∷ []) es f c)) h.1)
+
+  wrapper-of : (e : ListedWorld) (x : Text × Declarations) → IsWrapperOf r (identity_of p.name) e x → IsListedWorldType r p e x
+  wrapper-of e x is = record {
+    world = is.world;
+    there = is.there;
+    inner = is.wraps.inner;
+    is = λ j. (is.label j, is.wraps.is j);
+    scope = is.wraps.shows.scope;
+    follows = is.wraps.shows.follows;
+    shows = is.wraps.shows.shows;
+  }
+
+  wrappers-of : (entries : List ListedWorld) (types : List (Text × Declarations)) → AllZip (IsWrapperOf r (identity_of p.name)) entries types → AllZip (IsListedWorldType r p) entries types
+  wrappers-of [] [] h = tt
+  wrappers-of [] (x ∷ xs) h = absurd h
+  wrappers-of (e ∷ es) [] h = absurd h
+  wrappers-of (e ∷ es) (x ∷ xs) h = (wrapper-of e x h.0, wrappers-of es xs h.1)
+
+  no-worlds_yet : (parts : List Part) → HoldsInterfaces r p.interfaces.entries parts → HoldsMembers r (identity_of p.name) p.interfaces.entries [] parts
+  no-worlds_yet parts h = record {
+    interface_types = h.types;
+    world_types = [];
+    interfaces_are = h.are;
+    worlds_are = tt;
+    is = h.is ∙ ap exporting (sym (append-nil h.types));
+  }
+
+  pub package-held : (before parts : List Part) → HoldsInterfaces r p.interfaces.entries before → AddsWorlds r (identity_of p.name) p.worlds.entries before parts → HoldsPackage r p parts
+  package-held before parts h adds =
+      let all = adds p.interfaces.entries (no-worlds_yet before h) in
+      record {
+        types = all.interface_types ++ all.world_types;
+        are = record {
+          interface_types = all.interface_types;
+          world_types = all.world_types;
+          interfaces = types-of p.interfaces.entries all.interface_types (λ e c. c) all.interfaces_are;
+          worlds = wrappers-of p.worlds.entries all.world_types all.worlds_are;
+          are = refl;
+        };
+        is = all.is;
+      }
+
+  -- ---- its bytes
+
+  as-filled : {A B : Type 0} (R : A → B → Type 0) (xs : List A) (ys : List B) → AllZip R xs ys → is_filled ys ≡ is_filled xs
+  as-filled R [] [] h = refl
+  as-filled R [] (y ∷ ys) h = absurd h
+  as-filled R (x ∷ xs) [] h = absurd h
+  as-filled R (x ∷ xs) (y ∷ ys) h = refl
+
+  filled-both : {A : Type 0} (xs ys : List A) → is_filled (xs ++ ys) ≡ (is_filled xs || is_filled ys)
+  filled-both [] ys = refl
+  filled-both (x ∷ xs) ys = refl
+
+  members-filled : (types : List (Text × Declarations)) → ArePackageTypes r p types → is_filled types ≡ (is_filled p.interfaces.entries || is_filled p.worlds.entries)
+  members-filled types are =
+      ap is_filled are.are ∙ filled-both are.interface_types are.world_types
+      ∙ ap (λ b. b || is_filled are.world_types) (as-filled (IsInterfaceType r p) p.interfaces.entries are.interface_types are.interfaces)
+      ∙ ap (λ b. is_filled p.interfaces.entries || b) (as-filled (IsListedWorldType r p) p.worlds.entries are.world_types are.worlds)
+
+  pub bytes-mean : (parts : List Part) (bytes : List ℕ) → HoldsPackage r p parts → IsComponent (sections_of_parts parts) bytes → HasMembers p → MeansPackage r n bytes
+  bytes-mean parts bytes h spelled some =
+      shown.bytes-mean r v n p at h.types (sections_of_parts (exporting h.types)) bytes h.are (members-filled h.types h.are ∙ some)
+      (all_exported h.types (shown.all-labels r v n p at h.types h.are) (shown.labels-apart r v n p at h.types h.are))
+      (subst (λ (ps : List Part). IsComponent (sections_of_parts ps) bytes) h.is spelled)
+
+  no-sections : (bytes : List ℕ) → IsComponent [] bytes → bytes ≡ preamble
+  no-sections bytes ((front, rest, split, first, second), short) = split ∙ ap (λ (x : List ℕ). x ++ rest) first ∙ ap (λ (x : List ℕ). preamble ++ x) second ∙ append-nil preamble
+
+  no-types : (types : List (Text × Declarations)) (bytes : List ℕ) → is_filled types ≡ false → IsComponent (sections_of_parts (exporting types)) bytes → bytes ≡ preamble
+  no-types [] bytes none spelled = no-sections bytes spelled
+  no-types (x ∷ xs) bytes none spelled = absurd (true≢false none)
+
+  pub bytes-empty : (parts : List Part) (bytes : List ℕ) → HoldsPackage r p parts → IsComponent (sections_of_parts parts) bytes → HasNoMembers p → bytes ≡ preamble
+  bytes-empty parts bytes h spelled none =
+      no-types h.types bytes (members-filled h.types h.are ∙ none) (subst (λ (ps : List Part). IsComponent (sections_of_parts ps) bytes) h.is spelled)
+
+-- ---- refusals
+
+module _ {X : Type 0} (r : Resolve) (p : Package) (canonical : Bool) (e : Error) (given : Result X Error) where
+  passed : RefusesPackage r p canonical e → IsErrAnd given (λ d. d ≡ e) → IfErr given (RefusesPackage r p canonical)
+  passed h same = go given same
+    where
+      go : (g : Result X Error) → IsErrAnd g (λ d. d ≡ e) → IfErr g (RefusesPackage r p canonical)
+      go (Ok x) s = tt
+      go (Err d) s = subst (RefusesPackage r p canonical) (sym s) h
+
+  pub interfaces-refused : RefusesInterfaces r p.interfaces.entries canonical e → IsErrAnd given (λ d. d ≡ e) → IfErr given (RefusesPackage r p canonical)
+  interfaces-refused h same = passed (RefusesPackage.of_interfaces h) same
+
+  pub worlds-refused : (canonical ≡ true → HaveNoEqualPaths r p.interfaces.entries) → RefusesWorlds r p.worlds.entries canonical e → IsErrAnd given (λ d. d ≡ e) → IfErr given (RefusesPackage r p canonical)
+  worlds-refused differ h same = passed (RefusesPackage.of_worlds differ h) same
+
+  pub component-refused : RefusesPackage r p canonical e → IsErrAnd given (λ d. d ≡ e) → IfErr given (RefusesPackage r p canonical)
+  component-refused = passed
+
+pub room-refused : {X : Type 0} (r : Resolve) (p : Package) (canonical : Bool) (given : Result X Error) → (canonical ≡ true → HasNoClashes r p) → IfErr given IsMemoryOrSize → IfErr given (RefusesPackage r p canonical)
+room-refused r p canonical (Ok x) differ h = tt
+room-refused r p canonical (Err e) differ h = RefusesPackage.of_room differ h

@@ -1,0 +1,43 @@
+-- A component type in which all imports and exports of a world are shown is that of the world.
+use Rattle.std.proofs.Common.{◌≡◌, sym, subst, Bool, true}
+use Rattle.std.specs.Prelude.{IfErr, IsErrAnd, OnOk, Result, Ok, Err}
+use Rattle.wit_model.specs.Valid.{IsValid}
+use Rattle.wit_model.specs.declared.error.Error.{Error}
+use Rattle.wit_model.specs.declared.model.Resolve.{Resolve}
+use Rattle.wit_model.specs.declared.model.World.{World}
+use Rattle.comp_bytes.specs.Refusal.{IsMemoryOrSize}
+use Rattle.comp_meaning.specs.Follow.{export_}
+use Rattle.wit_shown.proofs.Worlds.{world-obeys}
+use Rattle.wit_shown.proofs.WorldMeans.{world-means, world-package-means}
+use Rattle.world_names.specs.Clashes.{HasNoClash, RefusesNames}
+use Rattle.world_names.proofs.WorldSteps.{worlds_are_shown}
+use Rattle.wit_encode.specs.WholeWorlds.{RefusesWorld, ShowsWorldType}
+use Rattle.wit_encode.specs.WorldItems.{HasShown, ended}
+use Rattle.wit_encode.specs.Worlds.{WorldEncoder}
+
+pub world-shown : (r : Resolve) → IsValid r → (w : World) (e : WorldEncoder) → HasShown r w e (ended export_ w) → ShowsWorldType r w e.outer
+world-shown r v w e h =
+    let whole = worlds_are_shown r w e.outer h.scope h.shows h.followed in
+    record {
+      scope = h.scope;
+      follows = whole.0;
+      shows = whole.1;
+      obeys = world-obeys r v e.world.0 w h.world_ h.scope whole.1;
+      means = world-means r v e.world.0 w h.world_ h.scope whole.1;
+      alone = λ p home. world-package-means r v e.world.0 w h.world_ h.scope whole.1 p home;
+    }
+
+-- ---- what is refused
+
+module _ (r : Resolve) (w : World) (canonical : Bool) where
+  pub names-refused : {X : Type 0} (e : Error) (given : Result X Error) → RefusesNames r w canonical e → IsErrAnd given (λ f. f ≡ e) → IfErr given (RefusesWorld r w canonical)
+  names-refused e (Ok x) refuses h = tt
+  names-refused e (Err f) refuses h = subst (RefusesWorld r w canonical) (sym h) (RefusesWorld.of_names refuses)
+
+  pub room-refused : {X : Type 0} → (canonical ≡ true → HasNoClash r w) → (given : Result X Error) → IfErr given IsMemoryOrSize → IfErr given (RefusesWorld r w canonical)
+  room-refused none (Ok x) refuses = tt
+  room-refused none (Err e) refuses = RefusesWorld.of_room none refuses
+
+  pub none-clash : {X : Type 0} → HasNoClash r w → (given : Result X Error) → OnOk given (HasNoClash r w)
+  none-clash none (Ok x) = none
+  none-clash none (Err e) = tt

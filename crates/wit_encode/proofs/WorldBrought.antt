@@ -1,0 +1,59 @@
+-- Which types of listed interfaces have an alias in a component type, and how much it holds beside them.
+use Rattle.std.proofs.Common.{◌≡◌, refl, sym, subst, ap, ◌∙◌, ℕ, zero, suc, ◌+◌, ◌-◌, ◌<◌, ◌≤◌, ◌⊎◌, inl, inr, Bool, true, false, not, ◌&&◌, nat_lt, List, [], ◌∷◌, ◌++◌, length, Option, Some, None, is_some, cond, arith}
+use Rattle.std.specs.Prelude.{nat_eq, AllPairs}
+use Rattle.std.specs.List.{Contains, filter}
+use Rattle.std.specs.Option.{option_map_or}
+use Rattle.std.specs.BTreeMap.{is_at, insert_entry}
+use Rattle.std.specs.Ordering.{nat_cmp}
+use Rattle.std.proofs.lemmas.Bool.{cases_Bool, cond-true, cond-false}
+use Rattle.std.proofs.lemmas.List.Elements.{All-contains, filter_passes}
+use Rattle.wit_model.specs.Lookup.{type_at}
+use Rattle.wit_model.specs.declared.model.Resolve.{Resolve}
+use Rattle.wit_model.specs.declared.model.TypeId.{TypeId}
+use Rattle.wit_model.specs.declared.model.WorldId.{WorldId}
+use Rattle.wit_model.proofs.Lists.{first_true, second_true}
+use Rattle.comp_bytes.specs.Raw.{Declarations, declaration_count}
+use Rattle.comp_bytes.specs.Held.{type_slots_of}
+use Rattle.wit_encode_types.specs.Known.{Aliased, Around, IsAlias, ReachesAround, as_before, aliased, below, known_slot, with_alias}
+use Rattle.wit_encode_types.proofs.Lists.{both, none-in}
+use Rattle.wit_encode.specs.Worlds.{brought_numbers, held_beside, is_brought, is_of_listed}
+use Rattle.wit_encode.proofs.Imported.{at-same, other-slot}
+use Rattle.wit_encode.proofs.Importing.{new-slot}
+use Rattle.wit_encode.proofs.WorldCalls.{reached-held}
+
+-- what passes one test passes the other
+pub filters-more : {X : Type 0} (p q : X → Bool) → ((x : X) → p x ≡ true → q x ≡ true) → (xs : List X) → length (filter p xs) ≤ length (filter q xs)
+filters-more p q h [] = omega arith
+filters-more p q h (x ∷ xs) = elim (cases_Bool (p x)) [
+  | inl e ↦ (let rest = filters-more p q h xs in let a = ap length (cond-true (p x) (x ∷ filter p xs) (filter p xs) e) in let b = ap length (cond-true (q x) (x ∷ filter q xs) (filter q xs) (h x e)) in omega (arith, rest, a, b))
+  | inr e ↦ (let rest = filters-more p q h xs in let a = ap length (cond-false (p x) (x ∷ filter p xs) (filter p xs) e) in elim (cases_Bool (q x)) [
+    | inl f ↦ (let b = ap length (cond-true (q x) (x ∷ filter q xs) (filter q xs) f) in omega (arith, rest, a, b))
+    | inr f ↦ (let b = ap length (cond-false (q x) (x ∷ filter q xs) (filter q xs) f) in omega (arith, rest, a, b))
+  ])
+]
+
+-- a type that has an alias keeps one
+known-kept : (n t m : ℕ) (es : List (ℕ × ℕ)) → known_slot es n ≡ None → is_some (known_slot es m) ≡ true → is_some (known_slot (insert_entry nat_cmp es n t) m) ≡ true
+known-kept n t m es none there = elim (cases_Bool (is_at (nat_cmp m) n)) [
+  | inl same ↦ (let one : m ≡ n = at-same m n same in ap is_some (ap (known_slot (insert_entry nat_cmp es n t)) one ∙ new-slot n t es none))
+  | inr other ↦ ap is_some (other-slot n t m es other none) ∙ there
+]
+
+pub brought-kept : (r : Resolve) (a : Around) (x : Aliased) → IsAlias r a x → (m : ℕ) → is_brought r a m ≡ true → is_brought r (with_alias a x) m ≡ true
+brought-kept r a x is m h =
+    both (is_some (known_slot (with_alias a x).known m)) (option_map_or (is_of_listed a.instances) (type_at r m) false)
+    (known-kept x.number.0 (type_slots_of a.declared) m a.known is.first (first_true (is_some (known_slot a.known m)) _ h))
+    (second_true (is_some (known_slot a.known m)) _ h)
+
+-- a call that makes one alias at most
+pub reached-beside : {r : Resolve} {id : TypeId} {a a' : Around} → ReachesAround r id a a' → held_beside r a' ≤ held_beside r a + 1
+reached-beside {r} {id} {a} {a'} (as_before e) = let same = ap (held_beside r) e in omega (arith, same)
+reached-beside {r} {id} {a} {a'} (aliased x is n e) =
+    let held : declaration_count a'.declared ≤ declaration_count a.declared + 1 = reached-held (aliased x is n e) in
+    let more : length (brought_numbers r a) ≤ length (brought_numbers r (with_alias a x)) = filters-more (is_brought r a) (is_brought r (with_alias a x)) (brought-kept r a x is) (below (length r.types.items)) in
+    let same : length (brought_numbers r a') ≡ length (brought_numbers r (with_alias a x)) = ap (λ z. length (brought_numbers r z)) e in
+    omega (arith, held, more, same)
+
+-- one declaration more at most, and the same aliases
+pub beside-more : (r : Resolve) (a : Around) (outer : Declarations) → declaration_count outer ≤ declaration_count a.declared + 1 → held_beside r (record a { declared = outer }) ≤ held_beside r a + 1
+beside-more r a outer h = omega (arith, h)

@@ -1,0 +1,239 @@
+-- How much the component type of a world defines after each item.
+use Rattle.std.proofs.Common.{◌≡◌, refl, sym, subst, ap, ◌∙◌, ℕ, zero, suc, ◌+◌, ◌≤◌, ◌<◌, inl, inr, Bool, true, false, List, [], ◌∷◌, ◌++◌, map, filter_map, flat_map, length, append-nil, Option, Some, None, Vec, arith}
+use Rattle.std.specs.Prelude.{nat_eq, cond, count_by}
+use Rattle.std.specs.declared.alloc.Global.{Global}
+use Rattle.std.specs.List.{AllZip, Contains}
+use Rattle.std.specs.Set.{is_member, distinct_count}
+use Rattle.std.proofs.lemmas.List.{map-append, length-map}
+use Rattle.std.proofs.lemmas.List.Elements.{Contains-append_left, Contains-append_right, Contains-append_cases, filter_map-append}
+use Rattle.std.proofs.lemmas.List.Concat.{flat_map-append}
+use Rattle.wit_model.specs.Parts.{function_types}
+use Rattle.wit_model.specs.Valid.{IsValid}
+use Rattle.wit_model.specs.declared.model.Resolve.{Resolve}
+use Rattle.wit_model.specs.declared.model.World.{World}
+use Rattle.wit_model.specs.declared.model.WorldKey.{WorldKey}
+use Rattle.wit_model.specs.declared.model.WorldItem.{WorldItem}
+use Rattle.wit_model.specs.declared.model.WorldItem.TheVariants as item
+use Rattle.wit_model.specs.declared.model.Function.{Function}
+use Rattle.wit_model.specs.declared.model.TypeId.{TypeId}
+use Rattle.wit_model.specs.declared.model.TypeDefKind.{TypeDefKind}
+use Rattle.wit_model.specs.declared.model.«Type».{«Type» as ValueType}
+use Rattle.wit_model.specs.declared.model.«Type».TheVariants as ty
+use Rattle.comp_bytes.specs.Raw.{Declaration, Declarations, ExternName, append}
+use Rattle.comp_bytes.specs.declared.forms.ComponentTypeRef.{ComponentTypeRef}
+use Rattle.comp_bytes.specs.declared.forms.ComponentTypeRef.TheVariants as refs
+use Rattle.comp_meaning.specs.Follow.{Direction, import_, export_}
+use Rattle.wit_encode_types.specs.declared.key.FunctionKey.{FunctionKey}
+use Rattle.wit_encode_types.specs.declared.maps.TypeEncodingMaps.{TypeEncodingMaps}
+use Rattle.wit_encode_types.specs.Codes.{kind_code, lists_of}
+use Rattle.wit_encode_types.specs.Counts.{AddsTypes, AddsFunction, is_defined_by_name, names_defined}
+use Rattle.wit_encode_types.specs.Distinct.{Key, key_of, are_same, is_value_type, is_function_type, defined_under_names, AddsFunctions}
+use Rattle.wit_encode_types.specs.Key.{IsKeyOf}
+use Rattle.wit_encode_types.specs.Known.{Aliased, AreAliases, Around, GrowsAround, with_aliases}
+use Rattle.wit_encode_types.specs.Maps.{IsKnown, IsOnce}
+use Rattle.wit_encode_types.specs.MetKinds.{LearnsFrom, LearnsMet, ReachedFrom, referred}
+use Rattle.wit_encode_types.specs.Scope.{Scope}
+use Rattle.wit_encode_types.proofs.Lists.{contains-map, one-contained}
+use Rattle.wit_encode_types.proofs.Rooms.{only-more}
+use Rattle.world_names.specs.WorldSteps.{Entry, Entries, declared_towards, interfaces_among}
+use Rattle.wit_encode.specs.Encoders.{declared_after}
+use Rattle.wit_encode.specs.Instance.{count_declared}
+use Rattle.wit_encode.specs.WorldItems.{HasShown, all_done, types_among}
+use Rattle.wit_encode.specs.WorldCounts.{instances_declared, DefinesInterface, DefinesOnce, HasDefined, no_interface, nothing_defined}
+use Rattle.wit_encode.specs.WorldRoom.{functions_among, referred_among, type_ids_among}
+use Rattle.wit_encode.specs.WrittenNames.{if_named, instance_declarations, instance_name, instances_around}
+use Rattle.wit_encode.specs.Worlds.{WorldEncoder, world_definitions, world_view_of}
+use Rattle.wit_encode.proofs.Components.{count-more}
+use Rattle.wit_encode.proofs.Counting.{HeldKinds, adds-alike, adds-function, adds-nothing, adds-trans, adds-types, exact-names, from-map}
+use Rattle.wit_encode.proofs.HeldKeys.{Keyed, both-ways, keyed, knows-none}
+use Rattle.wit_encode.proofs.Referring.{from-met, from-none, from-then, interface-kinds}
+use Rattle.wit_encode.proofs.WrittenNames.{instances-left, no-function-name}
+
+-- ---- instance types
+
+-- where no interface is listed, no alias can be made
+pub none-made : (r : Resolve) (outer outer' : Declarations) → GrowsAround r (instances_around outer) (instances_around outer') → instance_declarations outer' ≡ instance_declarations outer
+none-made r outer outer' g = go g.made g.are g.is
+  where
+    go : (made : List Aliased) → AreAliases r (instances_around outer) made → instances_around outer' ≡ with_aliases (instances_around outer) made → instance_declarations outer' ≡ instance_declarations outer
+    go [] are is = ap (λ (z : Around). z.declared) is
+    go (x ∷ made) are is = let none = are.0.instance in absurd (let z : ⊥ = cc in z)
+
+declared-alone : (outer : Declarations) → instances_declared (instance_declarations outer) ≡ instances_declared outer
+declared-alone Declarations.no_more = refl
+declared-alone (Declarations.declares d rest) = by (instance_name d) (declared-alone rest)
+  where
+    by : (ns : List ExternName) → instances_declared (instance_declarations rest) ≡ instances_declared rest → instances_declared (if_named ns d (instance_declarations rest)) ≡ instances_declared rest
+    by [] more = more
+    by (n ∷ ns) more = more
+declared-alone (Declarations.component inner rest) = declared-alone rest
+declared-alone (Declarations.instance inner rest) = ap (λ xs. inner ∷ xs) (declared-alone rest)
+
+pub same-instances : (outer outer' : Declarations) → instance_declarations outer' ≡ instance_declarations outer → instances_declared outer' ≡ instances_declared outer
+same-instances outer outer' e = sym (declared-alone outer') ∙ (ap instances_declared e ∙ declared-alone outer)
+
+-- ---- entries
+
+functions-more : (es fs : List Entry) → functions_among (es ++ fs) ≡ functions_among es ++ functions_among fs
+functions-more es fs = filter_map-append _ es fs
+
+interfaces-more : (es fs : List Entry) → interfaces_among (es ++ fs) ≡ interfaces_among es ++ interfaces_among fs
+interfaces-more es fs = flat_map-append _ es fs
+
+types-more : (es fs : List Entry) → type_ids_among (es ++ fs) ≡ type_ids_among es ++ type_ids_among fs
+types-more es fs = ap (map _) (filter_map-append _ es fs) ∙ map-append _ (types_among es) (types_among fs)
+
+-- what some of them refer to
+pub referred-front : (es fs : List Entry) (t : ValueType) → Contains (referred_among es) t → Contains (referred_among (es ++ fs)) t
+referred-front es fs t c = elim (Contains-append_cases (map (λ x. ty.Id x) (type_ids_among es)) (flat_map function_types (functions_among es)) t c) [
+  | inl a ↦ Contains-append_left (map (λ x. ty.Id x) (type_ids_among (es ++ fs))) _ t (subst (λ xs. Contains xs t) (sym (ap (map (λ x. ty.Id x)) (types-more es fs) ∙ map-append (λ x. ty.Id x) (type_ids_among es) (type_ids_among fs)))
+      (Contains-append_left (map (λ x. ty.Id x) (type_ids_among es)) (map (λ x. ty.Id x) (type_ids_among fs)) t a))
+  | inr b ↦ Contains-append_right (map (λ x. ty.Id x) (type_ids_among (es ++ fs))) _ t (subst (λ xs. Contains xs t) (sym (ap (flat_map function_types) (functions-more es fs) ∙ flat_map-append function_types (functions_among es) (functions_among fs)))
+      (Contains-append_left (flat_map function_types (functions_among es)) (flat_map function_types (functions_among fs)) t b))
+]
+
+pub referred-behind : (es fs : List Entry) (t : ValueType) → Contains (referred_among fs) t → Contains (referred_among (es ++ fs)) t
+referred-behind es fs t c = elim (Contains-append_cases (map (λ x. ty.Id x) (type_ids_among fs)) (flat_map function_types (functions_among fs)) t c) [
+  | inl a ↦ Contains-append_left (map (λ x. ty.Id x) (type_ids_among (es ++ fs))) _ t (subst (λ xs. Contains xs t) (sym (ap (map (λ x. ty.Id x)) (types-more es fs) ∙ map-append (λ x. ty.Id x) (type_ids_among es) (type_ids_among fs)))
+      (Contains-append_right (map (λ x. ty.Id x) (type_ids_among es)) (map (λ x. ty.Id x) (type_ids_among fs)) t a))
+  | inr b ↦ Contains-append_right (map (λ x. ty.Id x) (type_ids_among (es ++ fs))) _ t (subst (λ xs. Contains xs t) (sym (ap (flat_map function_types) (functions-more es fs) ∙ flat_map-append function_types (functions_among es) (functions_among fs)))
+      (Contains-append_right (flat_map function_types (functions_among es)) (flat_map function_types (functions_among fs)) t b))
+]
+
+pub function-referred : (k : WorldKey) (f : Function) (t : ValueType) → Contains (function_types f) t → Contains (referred_among ((k, item.Function f) ∷ [])) t
+function-referred k f t c = Contains-append_left (function_types f) [] t c
+
+pub type-referred : (k : WorldKey) (id : TypeId) (t : ValueType) → Contains (ty.Id id ∷ []) t → Contains (referred_among ((k, item.Type_ id) ∷ [])) t
+type-referred k id t c = c
+
+from-wider : {r : Resolve} {ts us : List ValueType} {m m' : TypeEncodingMaps} → ((t : ValueType) → Contains ts t → Contains us t) → LearnsFrom r None ts m m' → LearnsFrom r None us m m'
+from-wider h l = record { only = only-more (λ n x. (x.0, h x.0 x.1, x.2)) l.only; learns = l.learns }
+
+-- ---- one item more
+
+module _ (r : Resolve) (e e' : WorldEncoder) (es : List Entry) (h : HasDefined r e es) (x : Entry) (fs : List Function) (ts : List ValueType)
+    (brings : functions_among (x ∷ []) ≡ fs) (refers : (t : ValueType) → Contains ts t → Contains (referred_among (x ∷ [])) t) where
+  learns-more : LearnsFrom r None ts e.maps e'.maps → LearnsFrom r None (referred_among (es ++ x ∷ [])) h.began e'.maps
+  learns-more l = from-wider (λ t c. elim (Contains-append_cases (referred_among es) ts t c) [ inl a ↦ referred-front es (x ∷ []) t a | inr b ↦ referred-behind es (x ∷ []) t (refers t b) ]) (from-then refl h.learns l)
+
+  -- an item without an interface
+  pub defines-more : AddsFunctions r (no_interface r) e.maps e'.maps (world_definitions e.outer) (world_definitions e'.outer) fs → LearnsFrom r None ts e.maps e'.maps
+      → interfaces_among (x ∷ []) ≡ [] → instance_declarations e'.outer ≡ instance_declarations e.outer → HasDefined r e' (es ++ x ∷ [])
+  defines-more a l none stays = record {
+    began = h.began;
+    no_numbers = h.no_numbers;
+    no_kinds = h.no_kinds;
+    no_keys = h.no_keys;
+    adds = subst (AddsFunctions r (no_interface r) h.began e'.maps nothing_defined (world_definitions e'.outer)) (sym (functions-more es (x ∷ []) ∙ ap (λ gs. functions_among es ++ gs) brings))
+        (adds-trans (functions_among es) fs refl h.adds a);
+    learns = learns-more l;
+    inside = subst (λ (is : List ℕ). AllZip (DefinesInterface r) is (instances_declared e'.outer)) (sym (interfaces-more es (x ∷ []) ∙ (ap (λ is. interfaces_among es ++ is) none ∙ append-nil (interfaces_among es))))
+        (subst (AllZip (DefinesInterface r) (interfaces_among es)) (sym (same-instances e.outer e'.outer stays)) h.inside);
+  }
+
+-- an import or an export of an item is no definition
+towards-value : (direction : Direction) (name : ExternName) (described : ComponentTypeRef) → is_value_type (declared_towards direction name described) ≡ false
+towards-value import_ name described = refl
+towards-value export_ name described = refl
+
+towards-function : (direction : Direction) (name : ExternName) (described : ComponentTypeRef) → is_function_type (declared_towards direction name described) ≡ false
+towards-function import_ name described = refl
+towards-function export_ name described = refl
+
+pub counts-declared : (test : Declaration → Bool) (outer : Declarations) (d : Declaration) → test d ≡ false → count_declared test (declared_after outer d) ≡ count_declared test outer
+counts-declared test outer d e = count-more test outer d ∙ none (count_declared test outer) (test d) e
+  where
+    none : (n : ℕ) (b : Bool) → b ≡ false → n + cond b 1 0 ≡ n
+    none n false q = omega arith
+    none n true q = absurd (let z : ⊥ = cc in z)
+
+-- ---- the calls
+
+-- a function: its type, and then its import or export
+pub function-defined : (r : Resolve) (e e' : WorldEncoder) (es : List Entry) (scope : Scope) → scope.own_interface ≡ None → (k : WorldKey) (i : WorldItem) (f : Function) → i ≡ item.Function f → (key : FunctionKey) (n : ℕ)
+    → (direction : Direction) (name : ExternName) (outer : Declarations) → HasDefined r e es → IsOnce e.maps → IsKeyOf key f
+    → AddsFunction r scope e.maps e'.maps (world_definitions e.outer) (world_definitions e'.outer) key n → LearnsMet r None (function_types f) e.maps e'.maps
+    → instance_declarations e'.outer ≡ instance_declarations e.outer → outer ≡ declared_after e'.outer (declared_towards direction name (refs.Func n)) → HasDefined r (record e' { outer = outer }) (es ++ (k, i) ∷ [])
+function-defined r e e' es scope own k i f is key n direction name outer h once is_key a learns stays made =
+    let x : Entry = (k, item.Function f) in
+    let next : WorldEncoder = record e' { outer = outer } in
+    let d = declared_towards direction name (refs.Func n) in
+    let values_ : count_declared is_value_type outer ≡ count_declared is_value_type e'.outer = ap (count_declared is_value_type) made ∙ counts-declared is_value_type e'.outer d (towards-value direction name (refs.Func n)) in
+    let functions_ : count_declared is_function_type outer ≡ count_declared is_function_type e'.outer = ap (count_declared is_function_type) made ∙ counts-declared is_function_type e'.outer d (towards-function direction name (refs.Func n)) in
+    subst (λ (j : WorldItem). HasDefined r next (es ++ (k, j) ∷ [])) (sym is)
+    (defines-more r e next es h x (f ∷ []) (function_types f) refl (function-referred k f)
+    (adds-alike (sym own) refl refl refl values_ functions_ (adds-function key n f is_key once a))
+    (from-met r None (function_types f) e.maps e'.maps learns) refl (ap instance_declarations made ∙ (instances-left e'.outer d (no-function-name direction name n) ∙ stays)))
+
+-- a type
+pub type-defined : (r : Resolve) (e e' : WorldEncoder) (es : List Entry) (scope : Scope) → scope.own_interface ≡ None → (k : WorldKey) (i : WorldItem) (id : TypeId) → i ≡ item.Type_ id → HasDefined r e es
+    → AddsTypes r scope e.maps e'.maps (world_definitions e.outer) (world_definitions e'.outer) → LearnsMet r None (ty.Id id ∷ []) e.maps e'.maps → instance_declarations e'.outer ≡ instance_declarations e.outer
+    → HasDefined r e' (es ++ (k, i) ∷ [])
+type-defined r e e' es scope own k i id is h a learns stays =
+    subst (λ (j : WorldItem). HasDefined r e' (es ++ (k, j) ∷ [])) (sym is)
+    (defines-more r e e' es h (k, item.Type_ id) [] (ty.Id id ∷ []) refl (type-referred k id) (adds-alike (sym own) refl refl refl refl refl (adds-types a)) (from-met r None (ty.Id id ∷ []) e.maps e'.maps learns) refl stays)
+
+-- nothing has been defined by a new encoder
+pub none-defined : (r : Resolve) (e : WorldEncoder) → e.outer ≡ Declarations.no_more → e.maps.id_to_index.entries ≡ [] → e.maps.def_to_index.entries ≡ [] → e.maps.func_type_map.entries ≡ [] → HasDefined r e []
+none-defined r e o a b c = record {
+  began = e.maps;
+  no_numbers = a;
+  no_kinds = b;
+  no_keys = c;
+  adds = adds-alike refl refl refl refl (ap (count_declared is_value_type) o) (ap (count_declared is_function_type) o) (adds-nothing r (no_interface r) e.maps nothing_defined);
+  learns = from-none r None [] e.maps;
+  inside = subst (λ (z : Declarations). AllZip (DefinesInterface r) [] (instances_declared z)) (sym o) tt;
+}
+
+-- ---- what has been defined in the end
+
+pub defines-once : (r : Resolve) → IsValid r → (w : World) (e : WorldEncoder) (done : Entries) → HasShown r w e done → HasDefined r e (all_done done) → DefinesOnce r e.outer (all_done done)
+defines-once r v w e done s h = record {
+  keys = k.keys;
+  function_types =
+      (let none : length h.began.func_type_map.entries ≡ 0 = ap length h.no_keys in
+      let x = h.adds.functions_ in
+      let y = k.count in
+      let z : length (lists_of e.maps.func_type_map) ≡ length e.maps.func_type_map.entries = length-map e.maps.func_type_map.entries (λ (e : Vec ℕ Global × ℕ). (e.0.items, e.1)) in
+      omega (arith, none, x, y, z));
+  different = k.different;
+  same = λ q. both-ways (is_member are_same k.keys q) (is_member are_same (map key_of (functions_among es)) q)
+      (λ m. elim (h.adds.known q (k.known q m)) [ inl c ↦ absurd (knows-none h.began q h.no_keys c) | inr c ↦ c ])
+      (λ m. k.all q (h.adds.learnt q m));
+  kinds = held.kinds;
+  value_types =
+      (let none : length h.began.def_to_index.entries ≡ 0 = ap length h.no_kinds in
+      let unnamed : names_defined r (no_interface r) h.began ≡ 0 = ap (count_by (λ (e : ℕ × ℕ). is_defined_by_name r (no_interface r) e.0)) h.no_numbers in
+      let x = h.adds.types in
+      let a : length (map kind_code held.kinds) ≡ length held.kinds = length-map held.kinds kind_code in
+      let b : length (map (λ (e : List ℕ × ℕ). e.0) (lists_of e.maps.def_to_index)) ≡ length (map kind_code held.kinds) = ap length held.lists in
+      let c : length (map (λ (e : List ℕ × ℕ). e.0) (lists_of e.maps.def_to_index)) ≡ length (lists_of e.maps.def_to_index) = length-map (lists_of e.maps.def_to_index) (λ (e : List ℕ × ℕ). e.0) in
+      let d : length (lists_of e.maps.def_to_index) ≡ length e.maps.def_to_index.entries = length-map e.maps.def_to_index.entries (λ (e : Vec ℕ Global × ℕ). (e.0.items, e.1)) in
+      let n = names in
+      omega (arith, none, unnamed, x, a, b, c, d, n));
+  met = held.met;
+  inside = h.inside;
+}
+  where
+    es : List Entry
+    es = all_done done
+
+    once : IsOnce e.maps
+    once = s.agree.once
+
+    k : Keyed e.maps
+    k = keyed e.maps once
+
+    number : ℕ → TypeId
+    number n = record { 0 = n }
+
+    known : (t : TypeId) → Contains (type_ids_among es) t → IsKnown e.maps t.0
+    known t c = let x = from-map number (types_among es) t c in subst (λ (m : ℕ). IsKnown e.maps m) (ap (λ (t : TypeId). t.0) x.2) (s.known x.0 x.1)
+
+    held : HeldKinds r None (referred_among es) e.maps
+    held = interface-kinds r (no_interface r) None h.began e.maps nothing_defined (world_definitions e.outer) (type_ids_among es) (functions_among es)
+        (record { numbers = h.no_numbers; kinds = h.no_kinds; keys = h.no_keys }) h.adds h.learns known once v
+
+    names : names_defined r (no_interface r) e.maps ≡ distinct_count nat_eq (defined_under_names r None (type_ids_among es))
+    names = exact-names r (world_view_of r e).scope e.maps (type_ids_among es) once known
+        (λ t i c. elim (s.alone t.0 (i, c)) [ inl none ↦ inl none | inr there ↦ inr (contains-map number (types_among es) t.0 there) ])

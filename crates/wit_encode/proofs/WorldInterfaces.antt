@@ -1,0 +1,338 @@
+-- An interface of a world, imported or exported behind what has been: its instance type shows it, and from then on its instance stands.
+use Rattle.std.proofs.Common.{◌≡◌, refl, sym, subst, ap, ◌∙◌, ℕ, zero, suc, ◌+◌, ◌<◌, ◌⊎◌, inl, inr, nat_cmp, Bool, true, false, ◌&&◌, List, [], ◌∷◌, ◌++◌, length, length-append, Option, Some, option_to_list, arith}
+use Rattle.std.specs.BTreeMap.{insert_entry, is_at}
+use Rattle.std.specs.Ordering.{is_eq}
+use Rattle.std.specs.List.{Contains, list_all}
+use Rattle.std.specs.Option.{option_map_or}
+use Rattle.std.proofs.lemmas.Cmp.{nat_cmp_total}
+use Rattle.std.proofs.lemmas.List.Concat.{flat_map-append}
+use Rattle.std.proofs.lemmas.List.Elements.{Contains-append_cases, Contains-append_left, Contains-append_right, filter_map-append}
+use Rattle.std.proofs.lemmas.Slice.Zip.{AllZip-long}
+use Rattle.wit_model.specs.Text.{Text}
+use Rattle.wit_model.specs.Lookup.{interface_at, interface_path}
+use Rattle.wit_model.specs.Rules.{entries_in_range, item_in_range, key_in_range, used_interfaces}
+use Rattle.wit_model.specs.Uses.{direct_deps, item_interface}
+use Rattle.wit_model.specs.Valid.{IsValid}
+use Rattle.wit_model.specs.declared.model.Resolve.{Resolve}
+use Rattle.wit_model.specs.declared.model.World.{World}
+use Rattle.wit_model.specs.declared.model.WorldKey.{WorldKey}
+use Rattle.wit_model.specs.declared.model.WorldKey.TheVariants as key
+use Rattle.wit_model.specs.declared.model.WorldItem.{WorldItem}
+use Rattle.wit_model.specs.declared.model.WorldItem.TheVariants as item
+use Rattle.wit_model.specs.declared.model.Interface.{Interface}
+use Rattle.wit_model.specs.declared.model.InterfaceId.{InterfaceId}
+use Rattle.wit_model.proofs.Lists.{first_true, second_true}
+use Rattle.comp_bytes.specs.Raw.{Declaration, Declarations, append, from_list}
+use Rattle.comp_bytes.specs.Held.{type_slots_of}
+use Rattle.comp_bytes.specs.declared.forms.ComponentTypeRef.TheVariants as refs
+use Rattle.comp_meaning.specs.Follow as follow
+use Rattle.comp_meaning.specs.Follow.{Direction, import_, export_, Instance, Key, Seen, Slot, View, in_scope, instance_view, interface_of, new_scope, see}
+use Rattle.wit_shown.specs.Views.{ShowsInterface, home_of, instance_key}
+use Rattle.wit_encode_types.specs.Known.{Around, GrowsAround, UsedStand, are_right, is_standing, outer_instances, outer_scope, outer_slots, standing_instances}
+use Rattle.wit_encode_types.specs.Maps.{standing_of}
+use Rattle.wit_encode_types.specs.Standing.{SlotsStand, is_slot_of}
+use Rattle.wit_encode_types.proofs.Lists.{all-contained, both}
+use Rattle.wit_encode_types.proofs.Paths.{found-in, some-of, some-same}
+use Rattle.wit_encode_types.proofs.Tables.{equal-self}
+use Rattle.world_names.specs.WorldNames.{name_of_item}
+use Rattle.world_names.specs.WorldSteps.{Entry, Entries, IsTurnOf, StandsAs, StepsTo, declared_towards, interfaces_among, seen_instance, with_entry, with_instance}
+use Rattle.world_names.proofs.InstancesStand.{instances_stand}
+use Rattle.world_names.proofs.WorldSteps.{interfaces_are_shown}
+use Rattle.wit_encode.specs.declared.interface.Foreign.{Foreign}
+use Rattle.wit_encode.specs.Encoders.{declared_after}
+use Rattle.wit_encode.specs.Instance.{EncodesInterface, around_at}
+use Rattle.wit_encode.specs.Worlds.{WorldEncoder, is_sound_outside, world_around, world_resources}
+use Rattle.wit_encode.specs.WorldItems.{DefinesInstance, HasShown, IsNext, ListsInstance, all_done, types_among}
+use Rattle.wit_encode.proofs.Components.{steps-count, steps-instance, steps-more}
+use Rattle.wit_encode.proofs.Contents.{slots-kept}
+use Rattle.wit_encode.proofs.Importing.{importable-stands, right-more}
+use Rattle.wit_encode.proofs.ImportLoop.{path-in-range}
+use Rattle.wit_encode.proofs.ImportsStand.{instance-stands}
+use Rattle.wit_encode.proofs.LatestInstances.{stands-then}
+use Rattle.wit_encode.proofs.UsedPaths.{used-path}
+use Rattle.wit_encode.proofs.WorldAliases.{aliases-shown, with_outer}
+use Rattle.wit_encode.proofs.WorldFunctions.{done_items, next-entry, next-place, nothing-brought, see-instances, see-slots, stand-before}
+use Rattle.wit_encode.proofs.WorldScope.{SoundOutside, sound-again, sound-outside}
+use Rattle.wit_encode.proofs.WorldUses.{entries-range, interfaces-ready}
+
+-- ---- the interface of an item
+
+interface-range : (r : Resolve) (i : WorldItem) (n : ℕ) → item_interface i ≡ Some n → item_in_range r i ≡ true → (def : Interface) × (interface_at r n ≡ Some def)
+interface-range r (item.Interface id stability docs external_id) n e h = subst (λ (m : ℕ). (def : Interface) × (interface_at r m ≡ Some def)) (some-same id.0 n e) (found-in r.interfaces.items id.0 h)
+interface-range r (item.Function f) n e h = absurd (let z : ⊥ = cc in z)
+interface-range r (item.Type_ id) n e h = absurd (let z : ⊥ = cc in z)
+
+uses-of : (r : Resolve) (i : WorldItem) (n j : ℕ) → item_interface i ≡ Some n → Contains (direct_deps r n) j → Contains (used_interfaces r i) j
+uses-of r (item.Interface id stability docs external_id) n j e c = subst (λ (m : ℕ). Contains (direct_deps r m) j) (sym (some-same id.0 n e)) c
+uses-of r (item.Function f) n j e c = absurd (let z : ⊥ = cc in z)
+uses-of r (item.Type_ id) n j e c = absurd (let z : ⊥ = cc in z)
+
+no-type : (x : Entry) (n : ℕ) → item_interface x.1 ≡ Some n → types_among (x ∷ []) ≡ []
+no-type (k, item.Interface id stability docs external_id) n e = refl
+no-type (k, item.Function f) n e = absurd (let z : ⊥ = cc in z)
+no-type (k, item.Type_ id) n e = absurd (let z : ⊥ = cc in z)
+
+key-path : (k : WorldKey) (path : Text) → interface_of (instance_key k (Some path)) ≡ Some path
+key-path (key.Name name) path = refl
+key-path (key.Interface id) path = refl
+
+-- ---- entries
+
+one-more : {A : Type 0} (given : List Entry → List A) → ((es gs : List Entry) → given (es ++ gs) ≡ given es ++ given gs) → (direction : Direction) (done : Entries) (x : Entry) (y : A) → given (x ∷ []) ≡ y ∷ []
+    → length (given (all_done (with_entry direction done x))) ≡ length (given (all_done done)) + 1
+one-more given split import_ done x y one =
+    let a = ap length (split (done.0 ++ x ∷ []) done.1) ∙ length-append (given (done.0 ++ x ∷ [])) (given done.1) in
+    let b = ap length (split done.0 (x ∷ [])) ∙ length-append (given done.0) (given (x ∷ [])) in
+    let c : length (given (x ∷ [])) ≡ 1 = ap length one in
+    let d = ap length (split done.0 done.1) ∙ length-append (given done.0) (given done.1) in
+    omega (arith, a, b, c, d)
+one-more given split export_ done x y one =
+    let a = ap length (split done.0 (done.1 ++ x ∷ [])) ∙ length-append (given done.0) (given (done.1 ++ x ∷ [])) in
+    let b = ap length (split done.1 (x ∷ [])) ∙ length-append (given done.1) (given (x ∷ [])) in
+    let c : length (given (x ∷ [])) ≡ 1 = ap length one in
+    let d = ap length (split done.0 done.1) ∙ length-append (given done.0) (given done.1) in
+    omega (arith, a, b, c, d)
+
+-- an entry that is done is an old one or the new one
+done-cases : (direction : Direction) (done : Entries) (x : Entry) (j : ℕ) → Contains (interfaces_among (all_done (with_entry direction done x))) j → Contains (interfaces_among (all_done done)) j ⊎ Contains (interfaces_among (x ∷ [])) j
+done-cases direction done x j c = by direction c
+  where
+    split : (es gs : List Entry) → interfaces_among (es ++ gs) ≡ interfaces_among es ++ interfaces_among gs
+    split es gs = flat_map-append _ es gs
+
+    left : Contains (interfaces_among done.0) j → Contains (interfaces_among (all_done done)) j
+    left d = subst (λ (ns : List ℕ). Contains ns j) (sym (split done.0 done.1)) (Contains-append_left (interfaces_among done.0) (interfaces_among done.1) j d)
+
+    right : Contains (interfaces_among done.1) j → Contains (interfaces_among (all_done done)) j
+    right d = subst (λ (ns : List ℕ). Contains ns j) (sym (split done.0 done.1)) (Contains-append_right (interfaces_among done.0) (interfaces_among done.1) j d)
+
+    by : (direction : Direction) → Contains (interfaces_among (all_done (with_entry direction done x))) j → Contains (interfaces_among (all_done done)) j ⊎ Contains (interfaces_among (x ∷ [])) j
+    by import_ c = elim (Contains-append_cases (interfaces_among (done.0 ++ x ∷ [])) (interfaces_among done.1) j (subst (λ (ns : List ℕ). Contains ns j) (split (done.0 ++ x ∷ []) done.1) c)) [
+      | inl d ↦ elim (Contains-append_cases (interfaces_among done.0) (interfaces_among (x ∷ [])) j (subst (λ (ns : List ℕ). Contains ns j) (split done.0 (x ∷ [])) d)) [ inl old ↦ inl (left old) | inr new ↦ inr new ]
+      | inr d ↦ inl (right d)
+    ]
+    by export_ c = elim (Contains-append_cases (interfaces_among done.0) (interfaces_among (done.1 ++ x ∷ [])) j (subst (λ (ns : List ℕ). Contains ns j) (split done.0 (done.1 ++ x ∷ [])) c)) [
+      | inl d ↦ inl (left d)
+      | inr d ↦ elim (Contains-append_cases (interfaces_among done.1) (interfaces_among (x ∷ [])) j (subst (λ (ns : List ℕ). Contains ns j) (split done.1 (x ∷ [])) d)) [ inl old ↦ inl (right old) | inr new ↦ inr new ]
+    ]
+
+-- the interface among one entry
+among-one : (x : Entry) (n : ℕ) → item_interface x.1 ≡ Some n → interfaces_among (x ∷ []) ≡ n ∷ []
+among-one x n e = ap (λ o. option_to_list o ++ []) e
+
+only-one : (n j : ℕ) → Contains (n ∷ []) j → j ≡ n
+only-one n j (zero, l, e) = sym e
+only-one n j (suc k, l, e) = absurd (omega (arith, l))
+
+turn : (r : Resolve) (w : World) (direction : Direction) (done : Entries) (x : Entry) → IsNext r w direction done x → IsTurnOf direction done
+turn r w import_ done x n = n.begun
+turn r w export_ done x n = tt
+
+-- what has been done is of the world
+done-entry : (r : Resolve) (w : World) (direction : Direction) (done : Entries) (x : Entry) → IsNext r w direction done x → (y : Entry) → Contains (all_done done) y → Contains (w.imports.entries ++ w.exports.entries) y
+done-entry r w direction done x n y c = by direction n (Contains-append_cases done.0 done.1 y c)
+  where
+    front : (es : List Entry) (ds : List Entry) (rest : List Entry) → es ≡ ds ++ x ∷ rest → Contains ds y → Contains es y
+    front es ds rest e d = subst (λ (zs : List Entry). Contains zs y) (sym e) (Contains-append_left ds (x ∷ rest) y d)
+
+    empty : (es : List Entry) → es ≡ [] → Contains es y → ⊥
+    empty es e (k, l, q) = let none : length es ≡ 0 = ap length e in omega (arith, l, none)
+
+    by : (direction : Direction) → IsNext r w direction done x → Contains done.0 y ⊎ Contains done.1 y → Contains (w.imports.entries ++ w.exports.entries) y
+    by import_ n (inl d) = Contains-append_left w.imports.entries w.exports.entries y (front w.imports.entries done.0 n.rest n.next d)
+    by import_ n (inr d) = absurd (empty done.1 n.begun d)
+    by export_ n (inl d) = Contains-append_left w.imports.entries w.exports.entries y (subst (λ (es : List Entry). Contains es y) n.begun d)
+    by export_ n (inr d) = Contains-append_right w.imports.entries w.exports.entries y (front w.exports.entries done.1 n.rest n.next d)
+
+-- ---- the instance type, and the import or export behind it
+
+module _ (r : Resolve) (v : IsValid r) (w : World) (e : WorldEncoder) (done : Entries) (h : HasShown r w e done) (direction : Direction) (x : Entry) (n : IsNext r w direction done x) (i : InterfaceId) (is : item_interface x.1 ≡ Some i.0) where
+  abbrev place : ℕ
+  place = length (done_items done)
+
+  -- the interface is there
+  pub interface-there : (def : Interface) × (interface_at r i.0 ≡ Some def)
+  interface-there =
+      let each : (es : List Entry) → entries_in_range r es ≡ true → Contains es x → (def : Interface) × (interface_at r i.0 ≡ Some def) =
+      λ es all c. interface-range r x.1 i.0 is (second_true (key_in_range r x.0) _ (all-contained (λ (y : Entry). key_in_range r y.0 && item_in_range r y.1) es x all c)) in
+      let range = entries-range r v e.world w h.world_ in
+      elim (Contains-append_cases w.imports.entries w.exports.entries x (next-entry r w direction done x n)) [
+        | inl c ↦ each w.imports.entries (first_true (entries_in_range r w.imports.entries) _ range) c
+        | inr c ↦ each w.exports.entries (second_true (entries_in_range r w.imports.entries) _ range) c
+      ]
+
+  -- instances of the interfaces that it uses stand
+  pub used-stand : UsedStand r (standing_instances r (world_around e)) i.0
+  used-stand j c =
+      importable-stands (is_sound_outside r e.world (world_around e)) (standing_instances r (world_around e)) j
+      (stand-before r v w e done h direction x n j (interfaces-ready r v e.world w h.world_ place x.1 (next-place r w direction done x n) j (uses-of r x.1 i.0 j is c)) (used-path r v i.0 j c))
+
+  module _ (canonical : Bool) (ds : List Declaration) (view : View) (k : ℕ) (outer : Declarations) (followed : instance_view (home_of r i.0) (outer_slots e.outer) ds ≡ Some view) (shows : ShowsInterface r i.0 view)
+      (index : k ≡ type_slots_of e.outer)
+      (declared : outer ≡ declared_after (append e.outer (Declarations.instance (from_list ds) Declarations.no_more)) (declared_towards direction (name_of_item r canonical x) (refs.Instance k))) where
+    abbrev s : follow.Scope
+    s = h.scope
+
+    abbrev slot : Slot
+    slot = Slot.instance ds (length s.slots)
+
+    abbrev path_key : Key
+    path_key = instance_key x.0 (interface_path r i.0)
+
+    abbrev new_instance : Instance
+    new_instance = record { interface = interface_of path_key; view = view }
+
+    abbrev inside : follow.Scope
+    inside = with_instance path_key view (length s.slots) (in_scope slot s)
+
+    abbrev seen : Seen
+    seen = seen_instance (name_of_item r canonical x) path_key view
+
+    abbrev after : follow.Scope
+    after = see direction seen inside
+
+    slots-there : outer_slots e.outer ≡ s.slots
+    slots-there = ap (λ o. option_map_or (λ z. z.slots) o []) h.followed
+
+    instances-there : outer_instances e.outer ≡ s.instances
+    instances-there = ap (λ o. option_map_or (λ z. z.instances) o []) h.followed
+
+    number : k ≡ length s.slots
+    number =
+        let count : length s.slots ≡ length new_scope.slots + type_slots_of e.outer = steps-count new_scope s e.outer h.followed in
+        index ∙ (let same : type_slots_of e.outer ≡ length s.slots = omega (arith, count) in same)
+
+    steps : StepsTo r (with_entry direction done x) (in_scope slot s) after (declared_towards direction (name_of_item r canonical x) (refs.Instance (length s.slots)))
+    steps = interfaces_are_shown r canonical direction done s x i.0 ds view v (record { number = e.world.0; world = w; there = h.world_; listed = next-entry r w direction done x n }) is h.shows (turn r w direction done x n)
+        (subst (λ (zs : List Slot). instance_view (home_of r i.0) zs ds ≡ Some view) slots-there followed) shows
+
+    next : outer_scope outer ≡ Some after
+    next =
+        ap outer_scope (declared ∙ ap (λ m. declared_after (append e.outer (Declarations.instance (from_list ds) Declarations.no_more)) (declared_towards direction (name_of_item r canonical x) (refs.Instance m))) number)
+        ∙ steps-more new_scope (in_scope slot s) after (append e.outer (Declarations.instance (from_list ds) Declarations.no_more)) (declared_towards direction (name_of_item r canonical x) (refs.Instance (length s.slots)))
+        (steps-instance new_scope s e.outer ds h.followed) steps.step
+
+    after-slots : after.slots ≡ s.slots ++ slot ∷ []
+    after-slots = see-slots direction seen inside
+
+    slots-more : outer_slots outer ≡ outer_slots e.outer ++ slot ∷ []
+    slots-more = ap (λ o. option_map_or (λ z. z.slots) o []) next ∙ after-slots ∙ ap (λ zs. zs ++ slot ∷ []) (sym slots-there)
+
+    instances-more : outer_instances outer ≡ outer_instances e.outer ++ new_instance ∷ []
+    instances-more = ap (λ o. option_map_or (λ z. z.instances) o []) next ∙ see-instances direction seen inside ∙ ap (λ zs. zs ++ new_instance ∷ []) (sym instances-there)
+
+    -- there is room for one instance more
+    pub room-behind : e.instances < type_slots_of outer
+    room-behind =
+        let count : length after.slots ≡ length new_scope.slots + type_slots_of outer = steps-count new_scope after outer next in
+        let l : length after.slots ≡ length s.slots + 1 = ap length after-slots ∙ length-append s.slots (slot ∷ []) in
+        let before = h.typed in
+        omega (arith, count, l, before)
+
+    module _ (foreign : Foreign) (known : foreign.known ≡ e.foreign.known) (listed : foreign.instances.entries ≡ insert_entry nat_cmp e.foreign.instances.entries i.0 e.instances) where
+      abbrev e' : WorldEncoder
+      e' = record e { outer = outer; foreign = foreign; instances = e.instances + 1 }
+
+      sound-before : SoundOutside r e.world (world_around e)
+      sound-before = sound-outside r e.world (world_around e) h.sound
+
+      same-slots : sound-before.scope.slots ≡ outer_slots e.outer
+      same-slots = sym (ap (λ o. option_map_or (λ z. z.slots) o []) sound-before.followed)
+
+      right-before : are_right r (world_around e).known (outer_slots e.outer) ≡ true
+      right-before = ap (are_right r (world_around e).known) (sym same-slots) ∙ sound-before.right
+
+      right-after : are_right r (world_around e').known (outer_slots outer) ≡ true
+      right-after = (λ j. are_right r (known j).entries (slots-more j)) ∙ right-more r (world_around e).known (outer_slots e.outer) slot right-before
+
+      sound-then : is_sound_outside r e.world (world_around e') ≡ true
+      sound-then = sound-again r e.world (world_around e') (record {
+        scope = after;
+        followed = next;
+        slots = ap (list_all (is_slot_of (world_resources r e.world))) (sym (ap (λ o. option_map_or (λ z. z.slots) o []) next) ∙ slots-more) ∙ all-more (outer_slots e.outer) (ap (list_all (is_slot_of (world_resources r e.world))) (sym same-slots) ∙ sound-before.slots);
+        right = ap (are_right r (world_around e').known) (sym (ap (λ o. option_map_or (λ z. z.slots) o []) next)) ∙ right-after;
+      })
+        where
+          all-more : (zs : List Slot) → list_all (is_slot_of (world_resources r e.world)) zs ≡ true → list_all (is_slot_of (world_resources r e.world)) (zs ++ slot ∷ []) ≡ true
+          all-more [] all = refl
+          all-more (z ∷ zs) all = both (is_slot_of (world_resources r e.world) z) _ (first_true (is_slot_of (world_resources r e.world) z) _ all) (all-more zs (second_true (is_slot_of (world_resources r e.world) z) _ all))
+
+      -- the instances that were there are those of the interfaces among what has been done
+      counted : e.instances ≡ length (outer_instances e.outer)
+      counted =
+          h.count ∙ sym (AllZip-long (StandsAs r) (interfaces_among (all_done done)) s.instances (instances_stand r done s v
+          (λ y c. record { number = e.world.0; world = w; there = h.world_; listed = done-entry r w direction done x n y c }) h.shows))
+          ∙ ap length (sym instances-there)
+
+      stands-itself : (path : Text) → interface_path r i.0 ≡ Some path → is_standing r i.0 new_instance ≡ true
+      stands-itself path p =
+          ap (λ (o : Option Text). is_standing r i.0 (record { interface = o; view = view })) (ap (λ (o : Option Text). interface_of (instance_key x.0 o)) p ∙ key-path x.0 path)
+          ∙ instance-stands r v i.0 (path, record { types = view.types; functions = [] }) (record { path = p; shows = record { types = shows.types; functions = refl } })
+
+      types-same : types_among (all_done (with_entry direction done x)) ≡ types_among (all_done done)
+      types-same = nothing-brought types_among (filter_map-append _) direction done x (no-type x i.0 is)
+
+      old-key : (j : ℕ) → is_at (nat_cmp j) i.0 ≡ false → j ≡ i.0 → ⊥
+      old-key j other same =
+          let wrong : true ≡ false = sym (ap is_eq (equal-self nat_cmp_total i.0)) ∙ subst (λ (m : ℕ). is_at (nat_cmp m) i.0 ≡ false) same other in
+          let z : ⊥ = cc in z
+
+      pub interface-behind : HasShown r w e' (with_entry direction done x)
+      interface-behind = record {
+        packages_ = h.packages_;
+        world_ = h.world_;
+        scope = after;
+        followed = next;
+        shows = steps.shows;
+        agree = record { says = λ q m holds. subst (λ (zs : List Slot). SlotsStand zs m (standing_of r q)) (sym slots-more) (slots-kept slot (outer_slots e.outer) m (standing_of r q) (h.agree.says q m holds)); once = h.agree.once };
+        sound = sound-then;
+        stand = λ j c p. stands-then r (world_around e) (world_around e') new_instance i.0 instances-more (listed ∙ ap (insert_entry nat_cmp e.foreign.instances.entries i.0) counted) right-before right-after j (path-in-range r j p)
+            (λ same. let path = some-of (interface_path r j) p in stands-itself path.0 (ap (interface_path r) (sym same) ∙ path.1))
+            (λ other. elim (done-cases direction done x j c) [
+              | inl old ↦ h.stand j old p
+              | inr new ↦ absurd (old-key j other (only-one i.0 j (subst (λ (ns : List ℕ). Contains ns j) (among-one x i.0 is) new)))
+            ]);
+        count = (let c : e.instances ≡ length (interfaces_among (all_done done)) = h.count in let more = one-more interfaces_among (flat_map-append _) direction done x i.0 (among-one x i.0 is) in let same : e.instances + 1 ≡ length (interfaces_among (all_done (with_entry direction done x))) = omega (arith, c, more) in same);
+        typed = (let before = h.typed in let l : length after.slots ≡ length s.slots + 1 = ap length after-slots ∙ length-append s.slots (slot ∷ []) in omega (arith, before, l));
+        known = λ m c. h.known m (subst (λ (ns : List ℕ). Contains ns m) types-same c);
+        alone = λ m q. elim (h.alone m q) [ inl none ↦ inl none | inr c ↦ inr (subst (λ (ns : List ℕ). Contains ns m) (sym types-same) c) ];
+      }
+
+-- ---- the call
+
+module _ (r : Resolve) (v : IsValid r) (w : World) (e e' : WorldEncoder) (done : Entries) (h : HasShown r w e done) (direction : Direction) (canonical : Bool) (x : Entry) (n : IsNext r w direction done x) (i : InterfaceId) (is : item_interface x.1 ≡ Some i.0) (k : ℕ)
+    (rest : e' ≡ record e { outer = e'.outer; foreign = e'.foreign }) (defines : DefinesInstance e e' i k) (outer : Declarations)
+    (declared : outer ≡ declared_after e'.outer (declared_towards direction (name_of_item r canonical x) (refs.Instance k))) where
+  there : (def : Interface) × (interface_at r i.0 ≡ Some def)
+  there = interface-there r v w e done h direction x n i is
+
+  encodes : EncodesInterface r (world_around e) (world_around e') i there.0 k
+  encodes = subst (λ (q : Resolve). EncodesInterface q (world_around e) (world_around e') i there.0 k) h.packages_ (defines there.0 (ap (λ (q : Resolve). interface_at q i.0) h.packages_ ∙ there.1))
+
+  abbrev before : Around
+  before = encodes.part.before
+
+  same-around : around_at before.declared e'.foreign ≡ before
+  same-around = λ j. record { declared = before.declared; instances = (encodes.part.one_more j).instances; known = (encodes.part.one_more j).known }
+
+  abbrev between : WorldEncoder
+  between = with_outer e before.declared e'.foreign
+
+  shown-between : HasShown r w between done
+  shown-between = aliases-shown r w e done h before.declared e'.foreign (subst (λ (q : Resolve). GrowsAround q (world_around e) (around_at before.declared e'.foreign)) (sym h.packages_) (subst (GrowsAround r (world_around e)) (sym same-around) encodes.part.aliases))
+
+  declared-then : outer ≡ declared_after (append before.declared (Declarations.instance (from_list encodes.part.declared) Declarations.no_more)) (declared_towards direction (name_of_item r canonical x) (refs.Instance k))
+  declared-then = declared ∙ ap (λ (z : Around). declared_after z.declared (declared_towards direction (name_of_item r canonical x) (refs.Instance k))) encodes.part.one_more
+
+  pub room : e'.instances < type_slots_of outer
+  room = subst (λ (c : ℕ). c < type_slots_of outer) (sym (ap (λ (z : WorldEncoder). z.instances) rest)) (room-behind r v w between done shown-between direction x n i is canonical encodes.part.declared encodes.part.is_instance.view k outer
+      encodes.part.is_instance.followed encodes.shows encodes.part.index declared-then)
+
+  pub interface-encoded : (e'' : WorldEncoder) → ListsInstance (record e' { outer = outer }) e'' i → HasShown r w e'' (with_entry direction done x)
+  interface-encoded e'' lists =
+      let same : e'.instances ≡ e.instances = ap (λ (z : WorldEncoder). z.instances) rest in
+      let all : e'' ≡ record between { outer = outer; foreign = record e'.foreign { instances = e''.foreign.instances }; instances = e.instances + 1 } = lists.rest
+      ∙ (λ j. record (rest j) { outer = outer; foreign = record e'.foreign { instances = e''.foreign.instances }; instances = (rest j).instances + 1 }) in
+      subst (λ (z : WorldEncoder). HasShown r w z (with_entry direction done x)) (sym all)
+      (interface-behind r v w between done shown-between direction x n i is canonical encodes.part.declared encodes.part.is_instance.view k outer
+      encodes.part.is_instance.followed encodes.shows encodes.part.index declared-then (record e'.foreign { instances = e''.foreign.instances }) refl (lists.listed ∙ ap (insert_entry nat_cmp e'.foreign.instances.entries i.0) same))

@@ -1,0 +1,5 @@
+use Rattle.wit_encode.proofs.WorldWeighing as lemmas
+use Rattle.wit_encode.proofs.laws.lacking_worlds_are_heavy.Goals as goal
+
+pub returns : goal.returns
+returns c = lemmas.lacking-worlds-heavy

@@ -1,0 +1,25 @@
+use Rattle.std.proofs.Common.{◌≡◌, Some}
+use Rattle.std.proofs.lemmas.Result.{IfOk-weaker}
+use Rattle.wit_model.specs.Lookup.{package_at}
+use Rattle.wit_model.specs.declared.model.Package.{Package}
+use Rattle.comp_bytes.specs.Parts.{sections_of_parts}
+use Rattle.comp_bytes.specs.Spelling.{IsComponent, preamble}
+use Rattle.wit_encode.specs.Packages.{HasMembers, HasNoMembers, MeansPackage}
+use Rattle.wit_encode.proofs.WholePackages.{bytes-empty, bytes-mean}
+use Rattle.wit_encode.proofs.package.encode.Goals as goal
+
+pub returns-clause-means : goal.returns-clause-means
+returns-clause-means c =
+    let r = c.args.resolve.now in
+    let n = c.args.package.0 in
+    let parts = c.in_ok-encode_component.field-0 in
+    IfOk-weaker c.finish.result (λ bytes. IsComponent (sections_of_parts parts) bytes.items) (λ bytes. (p : Package) → package_at r n ≡ Some p → HasMembers p → MeansPackage r n bytes.items)
+    (λ bytes spelled p is some. bytes-mean r c.requires.valid n p is parts bytes.items (c.in_ok-encode_component.ensures.holds p is) spelled some) c.finish.ensures.spelled
+
+pub returns-clause-empty : goal.returns-clause-empty
+returns-clause-empty c =
+    let r = c.args.resolve.now in
+    let n = c.args.package.0 in
+    let parts = c.in_ok-encode_component.field-0 in
+    IfOk-weaker c.finish.result (λ bytes. IsComponent (sections_of_parts parts) bytes.items) (λ bytes. (p : Package) → package_at r n ≡ Some p → HasNoMembers p → bytes.items ≡ preamble)
+    (λ bytes spelled p is none. bytes-empty r c.requires.valid n p is parts bytes.items (c.in_ok-encode_component.ensures.holds p is) spelled none) c.finish.ensures.spelled

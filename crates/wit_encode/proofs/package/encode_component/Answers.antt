@@ -1,0 +1,51 @@
+use Rattle.std.proofs.Common.{◌≡◌, ◌∙◌, sym, subst, refl, Some}
+use Rattle.std.proofs.lemmas.Option.{slice_get_read}
+use Rattle.wit_model.specs.Lookup.{package_at}
+use Rattle.wit_model.specs.declared.model.Package.{Package}
+use Rattle.wit_model.proofs.OnePath.{some-same}
+use Rattle.wit_encode.specs.Packages.{HasNoClashes, HaveNoEqualPaths, HoldsPackage, RefusesInterfaces, RefusesWorlds}
+use Rattle.wit_encode.proofs.WholePackages.{are-named, are-worlds, interfaces-refused, package-held, worlds-refused}
+use Rattle.wit_encode.proofs.package.encode_component.Goals as goal
+
+pub interfaces_component-requires-clause-named : goal.interfaces_component-requires-clause-named
+interfaces_component-requires-clause-named c =
+    are-named c.args.resolve.now c.requires.valid c.args.package.0 c.index-own.result.now (slice_get_read _ _ _ _ refl c.requires.in_range c.index-own.ensures)
+
+pub add_worlds-requires-clause-in_range : goal.add_worlds-requires-clause-in_range
+add_worlds-requires-clause-in_range c =
+    are-worlds c.args.resolve.now c.requires.valid c.args.package.0 c.index-own.result.now (slice_get_read _ _ _ _ refl c.requires.in_range c.index-own.ensures)
+
+pub returns-in_err-builder-clause-refuses : goal.returns-in_err-builder-clause-refuses
+returns-in_err-builder-clause-refuses c = λ p is.
+    let r = c.args.resolve.now in
+    let own = c.index-own.result.now in
+    let at : package_at r c.args.package.0 ≡ Some own = slice_get_read _ _ _ _ refl c.requires.in_range c.index-own.ensures in
+    let same = some-same own p (sym at ∙ is) in
+    interfaces-refused r p c.args.canonical_names c.in_err-builder.field-0.0 c.from_residual.result
+    (subst (λ (q : Package). RefusesInterfaces r q.interfaces.entries c.args.canonical_names c.in_err-builder.field-0.0) same c.in_err-builder.ensures.refuses) c.from_residual.ensures.1
+
+pub returns-in_err-add_worlds-clause-refuses : goal.returns-in_err-add_worlds-clause-refuses
+returns-in_err-add_worlds-clause-refuses c = λ p is.
+    let r = c.args.resolve.now in
+    let own = c.index-own.result.now in
+    let at : package_at r c.args.package.0 ≡ Some own = slice_get_read _ _ _ _ refl c.requires.in_range c.index-own.ensures in
+    let same = some-same own p (sym at ∙ is) in
+    worlds-refused r p c.args.canonical_names c.in_err-add_worlds.field-0.0 c.from_residual-in_err-add_worlds.result
+    (λ asked. subst (λ (q : Package). HaveNoEqualPaths r q.interfaces.entries) same (c.in_ok-builder.ensures.differ asked))
+    (subst (λ (q : Package). RefusesWorlds r q.worlds.entries c.args.canonical_names c.in_err-add_worlds.field-0.0) same c.in_err-add_worlds.ensures.refuses)
+    c.from_residual-in_err-add_worlds.ensures.1
+
+pub returns-clause-holds : goal.returns-clause-holds
+returns-clause-holds c = λ p is.
+    let r = c.args.resolve.now in
+    let own = c.index-own.result.now in
+    let at : package_at r c.args.package.0 ≡ Some own = slice_get_read _ _ _ _ refl c.requires.in_range c.index-own.ensures in
+    subst (λ (q : Package). HoldsPackage r q c.add_worlds.new.builder) (some-same own p (sym at ∙ is))
+    (package-held r c.requires.valid c.args.package.0 own at c.in_ok-builder.builder c.add_worlds.new.builder c.in_ok-builder.ensures.holds c.in_ok-add_worlds.ensures.adds)
+
+pub returns-clause-differ : goal.returns-clause-differ
+returns-clause-differ c = λ p is asked.
+    let r = c.args.resolve.now in
+    let own = c.index-own.result.now in
+    let at : package_at r c.args.package.0 ≡ Some own = slice_get_read _ _ _ _ refl c.requires.in_range c.index-own.ensures in
+    subst (HasNoClashes r) (some-same own p (sym at ∙ is)) (record { interfaces = c.in_ok-builder.ensures.differ asked; worlds = c.in_ok-add_worlds.ensures.differ asked })

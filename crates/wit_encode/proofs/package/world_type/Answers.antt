@@ -1,0 +1,30 @@
+use Rattle.std.proofs.Common.{◌≡◌, ◌∙◌, sym, ap, refl, Some}
+use Rattle.std.proofs.lemmas.Option.{slice_get_read}
+use Rattle.std.proofs.lemmas.Result.{IfOk-weaker}
+use Rattle.wit_model.specs.Text.{text_of}
+use Rattle.wit_model.specs.Names.{path_in}
+use Rattle.wit_model.specs.Lookup.{identity_of, world_at}
+use Rattle.wit_model.specs.declared.model.World.{World}
+use Rattle.wit_model.proofs.OnePath.{some-same}
+use Rattle.wit_shown.specs.PackageTypes.{wrapper}
+use Rattle.wit_encode.specs.Packages.{WrapsWorld}
+use Rattle.wit_encode.proofs.Packages.{world-passed}
+use Rattle.wit_encode.proofs.package.world_type.Goals as goal
+
+pub returns-in_err-component-clause-refuses : goal.returns-in_err-component-clause-refuses
+returns-in_err-component-clause-refuses c =
+    world-passed c.args.resolve.now c.args.world.0 c.args.canonical_names c.in_err-component.field-0.0 c.from_residual.result c.in_err-component.ensures.refuses c.from_residual.ensures.1
+
+pub returns-clause-wraps : goal.returns-clause-wraps
+returns-clause-wraps c =
+    let r = c.args.resolve.now in
+    let p = identity_of c.args.package.now in
+    let inner = c.in_ok-component.component in
+    let at : world_at r c.args.world.0 ≡ Some c.index.result.now = slice_get_read _ _ _ _ refl c.requires.in_range c.index.ensures in
+    IfOk-weaker c.wrapper_of.result (λ wrapped. wrapped ≡ wrapper (path_in p c.deref.result.now) inner) (λ declared. (w : World) → world_at r c.args.world.0 ≡ Some w → WrapsWorld r p w declared)
+    (λ declared is w there. record {
+      inner = inner;
+      is = is ∙ ap (λ t. wrapper (path_in p t) inner) (c.deref.ensures ∙ ap (λ (z : World). text_of z.name) (some-same c.index.result.now w (sym at ∙ there)));
+      shows = c.in_ok-component.ensures.shows w there;
+    })
+    c.wrapper_of.ensures.wraps

@@ -1,0 +1,19 @@
+use Rattle.std.proofs.Common.{◌≡◌, sym, subst, Some}
+use Rattle.std.specs.Prelude.{IfOk}
+use Rattle.wit_model.specs.Lookup.{interface_at}
+use Rattle.wit_model.specs.declared.model.Interface.{Interface}
+use Rattle.wit_encode_types.specs.Known.{Around, UsedStand, standing_instances}
+use Rattle.wit_encode.specs.Instance.{EncodesInterface, around_at}
+use Rattle.wit_encode.proofs.world.WorldEncoderOf+TypeEncodingMaps.define_instance.Goals as goal
+
+pub encode_instance-outcome-requires-clause-around : goal.encode_instance-outcome-requires-clause-around
+encode_instance-outcome-requires-clause-around c =
+    let q = c.args.self.now.resolve.now in
+    subst (λ (z : Around). UsedStand q (standing_instances q z) c.args.interface.0) (λ j. record { declared = sym c.replace.ensures.value j; instances = (sym c.replace-2.ensures.value j).instances.entries; known = (sym c.replace-2.ensures.value j).known.entries }) c.requires.around
+
+pub returns-clause-ok : goal.returns-clause-ok
+returns-clause-ok c =
+    let q = c.args.self.now.resolve.now in
+    let after = c.encode_instance-outcome.new.self in
+    subst (λ (z : Around). IfOk c.encode_instance-outcome.result (λ k. (def : Interface) → interface_at q c.args.interface.0 ≡ Some def → EncodesInterface q z (around_at after.outer after.foreign) c.args.interface def k))
+    (λ j. record { declared = c.replace.ensures.value j; instances = (c.replace-2.ensures.value j).instances.entries; known = (c.replace-2.ensures.value j).known.entries }) c.encode_instance-outcome.ensures.ok

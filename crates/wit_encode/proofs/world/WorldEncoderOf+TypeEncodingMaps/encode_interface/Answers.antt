@@ -1,0 +1,53 @@
+use Rattle.std.proofs.Common.{◌∙◌, ◌<◌, ap, sym, subst, length, [], ◌∷◌, Result, Ok, Err, OnOk}
+use Rattle.std.proofs.lemmas.Option.{slice_get_within}
+use Rattle.wit_model.specs.declared.model.Resolve.{Resolve}
+use Rattle.comp_bytes.specs.declared.forms.ComponentTypeRef.TheVariants as refs
+use Rattle.world_names.specs.WorldSteps.{declared_towards}
+use Rattle.wit_encode_types.specs.Known.{UsedStand, standing_instances}
+use Rattle.wit_encode.specs.Encoders.{declared_after}
+use Rattle.wit_encode.specs.WorldItems.{entry_of, towards}
+use Rattle.wit_encode.specs.Worlds.{WorldEncoder, world_around}
+use Rattle.wit_encode.specs.WrittenNames.{NamesMore}
+use Rattle.wit_encode.proofs.WrittenNames.{interface-names}
+use Rattle.wit_model.specs.Lookup.{interface_at}
+use Rattle.wit_encode.proofs.WorldInterfaces.{interface-encoded, interface-there, room, used-stand}
+use Rattle.wit_encode.proofs.world.WorldEncoderOf+TypeEncodingMaps.encode_interface.Goals as goal
+
+pub define_instance-requires-clause-in_range : goal.define_instance-requires-clause-in_range
+define_instance-requires-clause-in_range c =
+    let next = c.requires.next in
+    let there = interface-there c.args.resolve.now c.requires.valid next.world c.args.self.now next.done next.shown (towards c.args.placed.direction) (entry_of c.args.placed) next.next c.args.interface c.requires.item in
+    subst (λ (q : Resolve). c.args.interface.0 < length q.interfaces.items) (sym next.shown.packages_) (slice_get_within c.args.resolve.now.interfaces.items c.args.interface.0 there.0 there.1)
+
+pub define_instance-requires-clause-around : goal.define_instance-requires-clause-around
+define_instance-requires-clause-around c =
+    let next = c.requires.next in
+    subst (λ (q : Resolve). UsedStand q (standing_instances q (world_around c.args.self.now)) c.args.interface.0) (sym next.shown.packages_)
+    (used-stand c.args.resolve.now c.requires.valid next.world c.args.self.now next.done next.shown (towards c.args.placed.direction) (entry_of c.args.placed) next.next c.args.interface c.requires.item)
+
+pub list_instance-requires : goal.list_instance-requires
+list_instance-requires c =
+    let next = c.requires.next in
+    room c.args.resolve.now c.requires.valid next.world c.args.self.now c.define_instance.new.self next.done next.shown (towards c.args.placed.direction) c.args.placed.canonical_names (entry_of c.args.placed) next.next c.args.interface
+    c.requires.item c.in_ok-slot.slot c.define_instance.ensures.rest c.in_ok-slot.ensures.ok c.declare.new.outer
+    (c.in_ok-declare.ensures.ok ∙ ap (λ n. declared_after c.define_instance.new.self.outer (declared_towards (towards c.args.placed.direction) n (refs.Instance c.in_ok-slot.slot))) c.in_ok-name.ensures.ok)
+
+on-each : {A E : Type 0} {P Q : Type 0} (res : Result A E) → (P → Q) → OnOk res P → OnOk res Q
+on-each (Ok x) f p = f p
+on-each (Err e) f p = p
+
+pub returns-clause-ok : goal.returns-clause-ok
+returns-clause-ok c = on-each c.list_instance.result (λ lists w done h next.
+    interface-encoded c.args.resolve.now c.requires.valid w c.args.self.now c.define_instance.new.self done h (towards c.args.placed.direction) c.args.placed.canonical_names (entry_of c.args.placed) next c.args.interface
+    c.requires.item c.in_ok-slot.slot c.define_instance.ensures.rest c.in_ok-slot.ensures.ok c.declare.new.outer
+    (c.in_ok-declare.ensures.ok ∙ ap (λ n. declared_after c.define_instance.new.self.outer (declared_towards (towards c.args.placed.direction) n (refs.Instance c.in_ok-slot.slot))) c.in_ok-name.ensures.ok)
+    c.list_instance.new.self lists) c.list_instance.ensures.ok
+
+pub returns-clause-names : goal.returns-clause-names
+returns-clause-names c = on-each c.list_instance.result (λ lists.
+    let next = c.requires.next in
+    let q = c.args.self.now.resolve.now in
+    let there = interface-there c.args.resolve.now c.requires.valid next.world c.args.self.now next.done next.shown (towards c.args.placed.direction) (entry_of c.args.placed) next.next c.args.interface c.requires.item in
+    let named = interface-names c.args.resolve.now q c.args.placed.canonical_names (entry_of c.args.placed) c.args.interface (world_around c.args.self.now) (world_around c.define_instance.new.self) there.0 c.declare.new.outer
+    (towards c.args.placed.direction) _ c.in_ok-slot.slot c.requires.item (c.in_ok-slot.ensures.ok there.0 (ap (λ (z : Resolve). interface_at z c.args.interface.0) next.shown.packages_ ∙ there.1)) c.in_ok-declare.ensures.ok c.in_ok-name.ensures.ok in
+    subst (λ (z : WorldEncoder). NamesMore c.args.resolve.now c.args.placed.canonical_names (entry_of c.args.placed ∷ []) c.args.self.now.outer z.outer) (sym lists.rest) named) c.list_instance.ensures.ok

@@ -1,0 +1,31 @@
+use Rattle.std.proofs.Common.{rules}
+use Rattle.std.specs.Map.Iter.{deref_pair}
+use Rattle.std.proofs.lemmas.Map.Iter.{rest_all, rest_more}
+use Rattle.wit_encode.specs.WorldItems.{towards}
+use Rattle.wit_encode.proofs.WorldLists.{goes-first, goes-next, goes-on, goes-whole, names-whole}
+use Rattle.wit_encode.proofs.world.WorldEncoderOf+TypeEncodingMaps.encode_items.Goals as goal
+
+pub loop-key-init : goal.loop-key-init
+loop-key-init c = record { going = goes-first c.args.resolve.now c.args.canonical_names c.args.self.now (towards c.args.direction) c.args.items.now.entries _ (search rules) }
+
+pub encode_item-requires-clause-next : goal.encode_item-requires-clause-next
+encode_item-requires-clause-next c =
+    let is = rest_more deref_pair c.loop-key.key-iterator c.next.new.self c.next.result (c.in-Some.key, c.in-Some.item) c.in-Some.is c.next.ensures.steps in
+    let n = goes-next c.args.resolve.now c.args.canonical_names c.args.self.now c.loop-key.self (towards c.args.direction) c.args.items.now.entries c.loop-key.key-iterator c.next.new.self (c.in-Some.key.now, c.in-Some.item.now) c.requires.begins c.loop-key.invariant.going is in
+    record { world = n.world; done = n.done; shown = n.shown; next = n.next }
+
+pub loop-key-preserved : goal.loop-key-preserved
+loop-key-preserved c =
+    let is = rest_more deref_pair c.loop-key.key-iterator c.next.new.self c.next.result (c.in-Some.key, c.in-Some.item) c.in-Some.is c.next.ensures.steps in
+    record {
+      going = goes-on c.args.resolve.now c.args.canonical_names c.args.self.now c.loop-key.self c.encode_item.new.self (towards c.args.direction) c.args.items.now.entries c.loop-key.key-iterator c.next.new.self (c.in-Some.key.now, c.in-Some.item.now)
+          c.requires.begins c.loop-key.invariant.going is c.in_ok-encode_item.ensures.ok c.in_ok-encode_item.ensures.names;
+    }
+
+pub returns-clause-ok : goal.returns-clause-ok
+returns-clause-ok c = goes-whole c.args.resolve.now c.args.canonical_names c.args.self.now c.loop-key.self (towards c.args.direction) c.args.items.now.entries c.loop-key.key-iterator c.requires.begins c.loop-key.invariant.going
+    (rest_all deref_pair c.loop-key.key-iterator c.next.new.self c.next.result c.in-None.is c.next.ensures.steps)
+
+pub returns-clause-names : goal.returns-clause-names
+returns-clause-names c = names-whole c.args.resolve.now c.args.canonical_names c.args.self.now c.loop-key.self (towards c.args.direction) c.args.items.now.entries c.loop-key.key-iterator c.loop-key.invariant.going
+    (rest_all deref_pair c.loop-key.key-iterator c.next.new.self c.next.result c.in-None.is c.next.ensures.steps)

@@ -1,0 +1,153 @@
+-- The component of a package: a component type for each interface, and then one for each world in its wrapper, each exported under its name
+-- (Component Model WIT.md, "Package Format").
+use Rattle.std.specs.Prelude.{◌≡◌, ◌<◌, ◌↔◌, ◌||◌, ℕ, Bool, false, true, is_some, List, [], ◌∷◌, ◌++◌, length, Some, String}
+use Rattle.std.specs.List.{AllZip, Contains}
+use Rattle.std.specs.declared.alloc.Global.{Global}
+use Rattle.wit_model.specs.Text.{Text, text_of}
+use Rattle.wit_model.specs.Names.{PackageIdentity, path_in}
+use Rattle.wit_model.specs.Lookup.{interface_path, world_at}
+use Rattle.wit_model.specs.declared.error.Error.{Error}
+use Rattle.wit_model.specs.declared.model.Resolve.{Resolve}
+use Rattle.wit_model.specs.declared.model.InterfaceId.{InterfaceId}
+use Rattle.wit_model.specs.declared.model.Package.{Package}
+use Rattle.wit_model.specs.declared.model.World.{World}
+use Rattle.wit_model.specs.declared.model.WorldId.{WorldId}
+use Rattle.comp_bytes.specs.Raw.{Declarations}
+use Rattle.comp_bytes.specs.Refusal.{IsMemoryOrSize}
+use Rattle.comp_bytes.specs.Parts.{Part}
+use Rattle.wit_model.specs.Meant.{Meant}
+use Rattle.wit_model.specs.Meaning.{PackageMeaning}
+use Rattle.comp_meaning.specs.Follow.{is_filled}
+use Rattle.comp_meaning.specs.Reads.{Reads}
+use Rattle.wit_shown.specs.PackageTypes.{ArePackageTypes, wrapper}
+use Rattle.world_names.specs.Clashes.{HasNoClash}
+use Rattle.component_exports.specs.ExportedParts.{exporting}
+use Rattle.wit_encode.specs.Dependencies.{ShowsComponent}
+use Rattle.wit_encode.specs.Scopes.{HasNoEqualPaths, RefusesInterface}
+use Rattle.wit_encode.specs.WholeWorlds.{RefusesWorld, ShowsWorldType}
+
+-- an interface of a package, by its name
+abbrev pub Listed : Type 0
+Listed = String Global × InterfaceId
+
+-- each of these interfaces has a path
+abbrev pub AreNamed : Resolve → List Listed → Type 0
+AreNamed r entries = (e : Listed) → Contains entries e → is_some (interface_path r e.1.0) ≡ true
+
+-- in the component type of none of these interfaces two imports have one canonical path
+abbrev pub HaveNoEqualPaths : Resolve → List Listed → Type 0
+HaveNoEqualPaths r entries = (e : Listed) → Contains entries e → HasNoEqualPaths r e.1.0
+
+-- What these interfaces, one after the other, are refused for: what the first one is that is refused.
+pub record RefusesInterfaces (r : Resolve) (entries : List Listed) (canonical : Bool) (e : Error) : Type 0 where
+  pub before : List Listed
+  pub refused : Listed
+  pub after : List Listed
+  pub are : entries ≡ before ++ (refused ∷ after)
+  pub differ : canonical ≡ true → HaveNoEqualPaths r before
+  pub refuses : RefusesInterface r refused.1.0 canonical e
+
+-- the component type of an interface, under its name
+pub record IsTypeOf (r : Resolve) (e : Listed) (x : Text × Declarations) : Type 0 where
+  pub label : x.0 ≡ text_of e.0
+  pub shows : (path : Text) → interface_path r e.1.0 ≡ Some path → ShowsComponent r e.1.0 path x.1
+
+-- a component that exports the component types of these interfaces, in order, and nothing else
+pub record HoldsInterfaces (r : Resolve) (entries : List Listed) (parts : List Part) : Type 0 where
+  pub types : List (Text × Declarations)
+  pub are : AllZip (IsTypeOf r) entries types
+  pub is : parts ≡ exporting types
+
+-- behind what is exported already, the component type of an interface, exported under its name
+abbrev pub AddsInterface : Resolve → Listed → List Part → List Part → Type 0
+AddsInterface r e old new = (entries : List Listed) → HoldsInterfaces r entries old → HoldsInterfaces r (entries ++ e ∷ []) new
+
+-- ---- worlds
+
+-- a world of a package, by its name
+abbrev pub ListedWorld : Type 0
+ListedWorld = String Global × WorldId
+
+-- the wrapper of a world of a package of this name and version: it defines a component type that shows the world, and exports it under the
+-- world's path, whole
+pub record WrapsWorld (r : Resolve) (p : PackageIdentity) (w : World) (declared : Declarations) : Type 0 where
+  pub inner : Declarations
+  pub is : declared ≡ wrapper (path_in p (text_of w.name)) inner
+  pub shows : ShowsWorldType r w inner
+
+-- the wrapper of a world, under its name
+pub record IsWrapperOf (r : Resolve) (p : PackageIdentity) (e : ListedWorld) (x : Text × Declarations) : Type 0 where
+  pub label : x.0 ≡ text_of e.0
+  pub world : World
+  pub there : world_at r e.1.0 ≡ Some world
+  pub wraps : WrapsWorld r p world x.1
+
+-- a component that exports the component types of these interfaces, in order, then the wrappers of these worlds, in order, and nothing else
+pub record HoldsMembers (r : Resolve) (p : PackageIdentity) (interfaces : List Listed) (worlds : List ListedWorld) (parts : List Part) : Type 0 where
+  pub interface_types : List (Text × Declarations)
+  pub world_types : List (Text × Declarations)
+  pub interfaces_are : AllZip (IsTypeOf r) interfaces interface_types
+  pub worlds_are : AllZip (IsWrapperOf r p) worlds world_types
+  pub is : parts ≡ exporting (interface_types ++ world_types)
+
+-- behind what is exported already, the wrapper of a world, exported under its name
+abbrev pub AddsWorld : Resolve → PackageIdentity → ListedWorld → List Part → List Part → Type 0
+AddsWorld r p e old new = (interfaces : List Listed) (worlds : List ListedWorld) → HoldsMembers r p interfaces worlds old → HoldsMembers r p interfaces (worlds ++ e ∷ []) new
+
+-- behind the component types of some interfaces, the wrappers of these worlds
+abbrev pub AddsWorlds : Resolve → PackageIdentity → List ListedWorld → List Part → List Part → Type 0
+AddsWorlds r p worlds old new = (interfaces : List Listed) → HoldsMembers r p interfaces [] old → HoldsMembers r p interfaces worlds new
+
+-- each of these worlds is in range
+abbrev pub AreWorlds : Resolve → List ListedWorld → Type 0
+AreWorlds r entries = (e : ListedWorld) → Contains entries e → e.1.0 < length r.worlds.items
+
+-- no two imports and no two exports of world n have one canonical name
+abbrev pub HasNoClashAt : Resolve → ℕ → Type 0
+HasNoClashAt r n = (w : World) → world_at r n ≡ Some w → HasNoClash r w
+
+abbrev pub HaveNoClash : Resolve → List ListedWorld → Type 0
+HaveNoClash r entries = (e : ListedWorld) → Contains entries e → HasNoClashAt r e.1.0
+
+-- what world n is refused for
+abbrev pub RefusesWorldAt : Resolve → ℕ → Bool → Error → Type 0
+RefusesWorldAt r n canonical e = (w : World) → world_at r n ≡ Some w → RefusesWorld r w canonical e
+
+-- What these worlds, one after the other, are refused for: what the first one is that is refused.
+pub record RefusesWorlds (r : Resolve) (entries : List ListedWorld) (canonical : Bool) (e : Error) : Type 0 where
+  pub before : List ListedWorld
+  pub refused : ListedWorld
+  pub after : List ListedWorld
+  pub are : entries ≡ before ++ (refused ∷ after)
+  pub differ : canonical ≡ true → HaveNoClash r before
+  pub refuses : RefusesWorldAt r refused.1.0 canonical e
+
+-- ---- packages
+
+-- a component that exports the component types of the package, in order, and nothing else
+pub record HoldsPackage (r : Resolve) (p : Package) (parts : List Part) : Type 0 where
+  pub types : List (Text × Declarations)
+  pub are : ArePackageTypes r p types
+  pub is : parts ≡ exporting types
+
+-- In no component type of the package two imports, or two exports, have one canonical name.
+pub record HasNoClashes (r : Resolve) (p : Package) : Type 0 where
+  pub interfaces : HaveNoEqualPaths r p.interfaces.entries
+  pub worlds : HaveNoClash r p.worlds.entries
+
+-- What a package is refused for: what the first of its interfaces is, then of its worlds; and where none clashes, want of memory or of room.
+pub data RefusesPackage (r : Resolve) (p : Package) (canonical : Bool) (e : Error) : Type 0 where
+  of_interfaces : RefusesInterfaces r p.interfaces.entries canonical e → RefusesPackage r p canonical e
+  of_worlds : (canonical ≡ true → HaveNoEqualPaths r p.interfaces.entries) → RefusesWorlds r p.worlds.entries canonical e → RefusesPackage r p canonical e
+  of_room : (canonical ≡ true → HasNoClashes r p) → IsMemoryOrSize e → RefusesPackage r p canonical e
+
+-- an interface or a world stands in the package
+abbrev pub HasMembers : Package → Type 0
+HasMembers p = (is_filled p.interfaces.entries || is_filled p.worlds.entries) ≡ true
+
+abbrev pub HasNoMembers : Package → Type 0
+HasNoMembers p = (is_filled p.interfaces.entries || is_filled p.worlds.entries) ≡ false
+
+-- The bytes are read as exactly what package n means.
+abbrev pub MeansPackage : Resolve → ℕ → List ℕ → Type 0
+MeansPackage r n bytes = (m : PackageMeaning) → Meant r n m ↔ Reads bytes m

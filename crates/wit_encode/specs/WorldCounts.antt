@@ -1,0 +1,79 @@
+-- How much the component type of a world defines: each key of a function and each unnamed kind once, and the same in each instance type.
+use Rattle.std.specs.Prelude.{ℕ, ◌≡◌, ◌+◌, List, [], ◌∷◌, ◌++◌, map, length, Option, Some, None, nat_eq}
+use Rattle.std.specs.List.{AllZip, IsDistinct}
+use Rattle.std.specs.Set.{is_member, distinct_count}
+use Rattle.indexmap.specs.IndexMap.{values}
+use Rattle.wit_model.specs.Lookup.{interface_at}
+use Rattle.wit_model.specs.Valid.{functions_of_interface}
+use Rattle.wit_model.specs.declared.model.Resolve.{Resolve}
+use Rattle.wit_model.specs.declared.model.Interface.{Interface}
+use Rattle.wit_model.specs.declared.model.TypeDefKind.{TypeDefKind}
+use Rattle.wit_model.specs.declared.model.TypeOwner.TheVariants as owner
+use Rattle.comp_bytes.specs.Raw.{Declaration, Declarations, from_list}
+use Rattle.wit_encode_types.specs.declared.maps.TypeEncodingMaps.{TypeEncodingMaps}
+use Rattle.wit_encode_types.specs.Counts.{Definitions}
+use Rattle.wit_encode_types.specs.Distinct.{Key, key_of, are_same, is_value_type, is_function_type, defined_under_names, AddsFunctions, DefinesKeys, DefinesTypes}
+use Rattle.wit_encode_types.specs.MetKinds.{AreMetKinds, LearnsFrom}
+use Rattle.wit_encode_types.specs.Scope.{Scope}
+use Rattle.wit_encode_types.specs.Table.{table_scope}
+use Rattle.world_names.specs.WorldSteps.{Entry, interfaces_among}
+use Rattle.wit_encode.specs.declared.world.Placed.{Placed}
+use Rattle.wit_encode.specs.Instance.{count_declared}
+use Rattle.wit_encode.specs.WorldItems.{entry_of}
+use Rattle.wit_encode.specs.WorldRoom.{functions_among, referred_among, type_ids_among}
+use Rattle.wit_encode.specs.Worlds.{WorldEncoder, world_definitions}
+
+-- ---- what is defined
+
+-- the instance types in a component type, in order
+abbrev pub instances_declared : Declarations → List Declarations
+instances_declared Declarations.no_more = []
+instances_declared (Declarations.declares d rest) = instances_declared rest
+instances_declared (Declarations.component inner rest) = instances_declared rest
+instances_declared (Declarations.instance inner rest) = inner ∷ instances_declared rest
+
+-- An instance type defines what the types and functions of its interface ask for, each once.
+pub record DefinesInterface (r : Resolve) (i : ℕ) (declared : Declarations) : Type 0 where
+  pub def : Interface
+  pub there : interface_at r i ≡ Some def
+  pub declarations : List Declaration
+  pub is : declared ≡ from_list declarations
+  pub function_types : DefinesKeys (functions_of_interface def) declarations
+  pub value_types : DefinesTypes r (record { 0 = i }) (values def.types) (functions_of_interface def) declarations
+
+-- The component type defines one function type for each key of these functions, and one value type for each unnamed kind that these types
+-- and functions meet and for each of the types that has a definition of its own. It has an instance type for each interface, in order, which
+-- does the same for it.
+pub record DefinesOnce (r : Resolve) (outer : Declarations) (es : List Entry) : Type 0 where
+  pub keys : List Key
+  pub function_types : count_declared is_function_type outer ≡ length keys
+  pub different : IsDistinct are_same keys
+  pub same : (key : Key) → is_member are_same keys key ≡ is_member are_same (map key_of (functions_among es)) key
+  pub kinds : List TypeDefKind
+  pub value_types : count_declared is_value_type outer ≡ length kinds + distinct_count nat_eq (defined_under_names r None (type_ids_among es))
+  pub met : AreMetKinds r None (referred_among es) kinds
+  pub inside : AllZip (DefinesInterface r) (interfaces_among es) (instances_declared outer)
+
+-- ---- between two items
+
+abbrev pub nothing_defined : Definitions
+nothing_defined = record { types = 0; functions = 0; exports = [] }
+
+-- a scope that is that of no interface
+abbrev pub no_interface : Resolve → Scope
+no_interface r = table_scope r owner.None
+
+-- What has been defined is what the maps have learnt since they were empty: what these imports and exports meet, and nothing else, and the keys
+-- of their functions. Each interface has its instance type.
+pub record HasDefined (r : Resolve) (e : WorldEncoder) (es : List Entry) : Type 0 where
+  pub began : TypeEncodingMaps
+  pub no_numbers : began.id_to_index.entries ≡ []
+  pub no_kinds : began.def_to_index.entries ≡ []
+  pub no_keys : began.func_type_map.entries ≡ []
+  pub adds : AddsFunctions r (no_interface r) began e.maps nothing_defined (world_definitions e.outer) (functions_among es)
+  pub learns : LearnsFrom r None (referred_among es) began e.maps
+  pub inside : AllZip (DefinesInterface r) (interfaces_among es) (instances_declared e.outer)
+
+-- Behind whatever had been defined, so is what the entry asks for.
+abbrev pub Defines : Resolve → WorldEncoder → WorldEncoder → Placed → Type 0
+Defines r e e' x = (es : List Entry) → HasDefined r e es → HasDefined r e' (es ++ entry_of x ∷ [])

@@ -1,0 +1,34 @@
+-- How much an encoder of a world holds between two items, and which calls have no room.
+use Rattle.std.specs.Prelude.{ℕ, ◌≡◌, ◌≤◌, ◌+◌, ◌*◌, ◌&&◌, true, false, List, [], ◌∷◌, ◌++◌, length, is_some}
+use Rattle.std.specs.List.{Contains}
+use Rattle.wit_model.specs.declared.model.Resolve.{Resolve}
+use Rattle.wit_model.specs.declared.model.World.{World}
+use Rattle.comp_bytes.specs.Fits.{fits_declaration}
+use Rattle.comp_bytes.specs.Held.{declaration_slots, fits_added}
+use Rattle.comp_bytes.specs.Raw.{Declaration, Declarations, declaration_count}
+use Rattle.wit_encode_types.specs.Known.{known_instance}
+use Rattle.world_names.specs.WorldSteps.{Entry, Entries, interfaces_among}
+use Rattle.wit_encode.specs.declared.world.Placed.{Placed}
+use Rattle.wit_encode.specs.WorldCounts.{HasDefined}
+use Rattle.wit_encode.specs.WorldItems.{HasShown, IsNext, all_done, entry_of, towards}
+use Rattle.wit_encode.specs.WorldRoom.{WorldLacksRoom, count_among}
+use Rattle.wit_encode.specs.Worlds.{WorldEncoder, brought_numbers, world_around}
+
+-- There are at most two declarations for each type number that is known in the component type, one for each named type of a listed interface
+-- that has an alias there, and two for each function and interface of these imports and exports. Only their interfaces are listed.
+pub record HoldsFew (r : Resolve) (e : WorldEncoder) (es : List Entry) : Type 0 where
+  pub listed : (i : ℕ) → is_some (known_instance e.foreign.instances.entries i) ≡ true → Contains (interfaces_among es) i
+  pub held : declaration_count e.outer ≤ 2 * length e.maps.id_to_index.entries + (length (brought_numbers r (world_around e)) + 2 * count_among es)
+
+-- It goes on so behind the entry.
+abbrev pub HoldsOn : Resolve → WorldEncoder → WorldEncoder → Placed → Type 0
+HoldsOn r e e' x = (es : List Entry) → HoldsFew r e es → HoldsFew r e' (es ++ entry_of x ∷ [])
+
+-- The world of which the entry is next has no room in a component type.
+abbrev pub LacksWorldRoom : Resolve → WorldEncoder → Placed → Type 0
+LacksWorldRoom r e x = (w : World) (done : Entries) → HasShown r w e done → IsNext r w (towards x.direction) done (entry_of x) → HasDefined r e (all_done done) → HoldsFew r e (all_done done)
+    → WorldLacksRoom r w
+
+-- The declaration doesn't fit behind those of a component type, or a count doesn't with it.
+abbrev pub LacksDeclaration : Declarations → Declaration → Type 0
+LacksDeclaration outer d = (fits_declaration d && fits_added outer (declaration_slots d)) ≡ false

@@ -1,0 +1,213 @@
+//! The components of packages.
+
+ghost use Rattle.std.specs.Prelude.{◌≡◌, ◌<◌, true, Some, Err, IfErr, IfOk, OnOk, is_some, length};
+ghost use Rattle.comp_bytes.specs.Refusal.{IsMemoryOrSize};
+ghost use Rattle.wit_model.specs.Lookup.{identity_of, interface_path, package_at, world_at};
+ghost use Rattle.wit_model.specs.Names.{path_in};
+ghost use Rattle.wit_model.specs.Valid.{IsValid};
+ghost use Rattle.wit_model.specs.declared.model.Package.{Package as PackageValue};
+ghost use Rattle.wit_model.specs.declared.model.World.{World as WorldValue};
+ghost use Rattle.comp_bytes.specs.Spelling.{preamble};
+ghost use Rattle.wit_model.specs.declared.error.Error.TheVariants.{Size};
+ghost use Rattle.wit_shown.specs.PackageTypes.{wrapper};
+ghost use Rattle.wit_encode.specs.Scopes.{HasNoEqualPaths, RefusesInterface};
+ghost use Rattle.wit_encode.specs.Packages.{AddsInterface, AddsWorld, AddsWorlds, AreNamed, AreWorlds, HasMembers, HasNoClashAt, HasNoClashes, HasNoMembers, HaveNoClash, HaveNoEqualPaths, HoldsInterfaces, HoldsPackage, MeansPackage, RefusesInterfaces, RefusesPackage, RefusesWorldAt, RefusesWorlds, WrapsWorld};
+
+use crate::component_types::interface_type;
+use crate::world::encode_world;
+use comp_bytes::{ComponentBuilder, ComponentExternName, ComponentType, ComponentTypeRef};
+use component_exports::export_component_type;
+use std::alloc::Global;
+use std::borrow::CowStr;
+use wit_model::{Error, InterfaceId, Map, PackageId, PackageName, Resolve, WorldId};
+
+// A component type in which this one is defined and exported, under the path of a world by its name.
+fn wrapper_of(
+    alloc: Global,
+    package: &PackageName,
+    world: &str,
+    component: &ComponentType,
+) -> Result<ComponentType, Error>
+    ensures wraps { IfOk result (λ wrapped. wrapped ≡ wrapper (path_in (identity_of «package».now) world.now) component.now) }
+    ensures size { result ≡ Err Size → 4294967295 < length (path_in (identity_of «package».now) world.now) }
+    ensures refuses { IfErr result IsMemoryOrSize }
+{
+    let path = package.interface_id(alloc, world)?;
+    let name = ComponentExternName {
+        name: CowStr::Borrowed(path.as_str()),
+        implements: None,
+        version_suffix: None,
+        external_id: None,
+    };
+    let mut wrapper = ComponentType::new(alloc);
+    wrapper.component(component)?;
+    wrapper.export(&name, ComponentTypeRef::Component(0))?;
+    Ok(wrapper)
+}
+
+// Adds the component type of an interface, and its export under its name.
+fn add_interface(
+    alloc: Global,
+    builder: &mut ComponentBuilder,
+    resolve: &Resolve,
+    name: &String,
+    interface: InterfaceId,
+    canonical_names: bool,
+) -> Result<(), Error>
+    requires valid { IsValid resolve.now }
+    requires named { is_some (interface_path resolve.now interface.0) ≡ true }
+    ensures adds { OnOk result (AddsInterface resolve.now (name.now, interface) builder.old builder.new) }
+    ensures differ { canonical_names ≡ true → OnOk result (HasNoEqualPaths resolve.now interface.0) }
+    ensures refuses { IfErr result (RefusesInterface resolve.now interface.0 canonical_names) }
+{
+    let component = interface_type(alloc, resolve, interface, canonical_names)?;
+    export_component_type(builder, name, &component)
+}
+
+// A component with the component types of these interfaces in order, each exported under its name.
+fn interfaces_component(
+    alloc: Global,
+    resolve: &Resolve,
+    interfaces: &Map<String, InterfaceId>,
+    canonical_names: bool,
+) -> Result<ComponentBuilder, Error>
+    requires valid { IsValid resolve.now }
+    requires named { AreNamed resolve.now interfaces.now.entries }
+    ensures holds { IfOk result (HoldsInterfaces resolve.now interfaces.now.entries) }
+    ensures differ { canonical_names ≡ true → OnOk result (HaveNoEqualPaths resolve.now interfaces.now.entries) }
+    ensures refuses { IfErr result (RefusesInterfaces resolve.now interfaces.now.entries canonical_names) }
+{
+    let mut builder = ComponentBuilder::new(alloc);
+    for (name, interface) in interfaces {
+        add_interface(
+            alloc,
+            &mut builder,
+            resolve,
+            name,
+            *interface,
+            canonical_names,
+        )?;
+    }
+    Ok(builder)
+}
+
+// The wrapper of a world of the package of this name: its component type, exported under the world's path, which is never canonical.
+fn world_type(
+    alloc: Global,
+    resolve: &Resolve,
+    package: &PackageName,
+    world: WorldId,
+    canonical_names: bool,
+) -> Result<ComponentType, Error>
+    requires valid { IsValid resolve.now }
+    requires in_range { world.0 < length resolve.now.worlds.items }
+    ensures wraps { IfOk result (λ declared. (w : WorldValue) → world_at resolve.now world.0 ≡ Some w → WrapsWorld resolve.now (identity_of «package».now) w declared) }
+    ensures differ { canonical_names ≡ true → OnOk result (HasNoClashAt resolve.now world.0) }
+    ensures refuses { IfErr result (RefusesWorldAt resolve.now world.0 canonical_names) }
+{
+    let component = encode_world(alloc, resolve, world, canonical_names)?;
+    let name = &resolve.worlds[world.0 as usize].name;
+    wrapper_of(alloc, package, name, &component)
+}
+
+// Adds the wrapper of a world, and its export under its name.
+fn add_world(
+    alloc: Global,
+    builder: &mut ComponentBuilder,
+    resolve: &Resolve,
+    package: &PackageName,
+    name: &String,
+    world: WorldId,
+    canonical_names: bool,
+) -> Result<(), Error>
+    requires valid { IsValid resolve.now }
+    requires in_range { world.0 < length resolve.now.worlds.items }
+    ensures adds { OnOk result (AddsWorld resolve.now (identity_of «package».now) (name.now, world) builder.old builder.new) }
+    ensures differ { canonical_names ≡ true → OnOk result (HasNoClashAt resolve.now world.0) }
+    ensures refuses { IfErr result (RefusesWorldAt resolve.now world.0 canonical_names) }
+{
+    let component = world_type(alloc, resolve, package, world, canonical_names)?;
+    export_component_type(builder, name, &component)
+}
+
+// Adds the wrappers of these worlds in order, each exported under its name.
+fn add_worlds(
+    alloc: Global,
+    builder: &mut ComponentBuilder,
+    resolve: &Resolve,
+    package: &PackageName,
+    worlds: &Map<String, WorldId>,
+    canonical_names: bool,
+) -> Result<(), Error>
+    requires valid { IsValid resolve.now }
+    requires in_range { AreWorlds resolve.now worlds.now.entries }
+    ensures adds { OnOk result (AddsWorlds resolve.now (identity_of «package».now) worlds.now.entries builder.old builder.new) }
+    ensures differ { canonical_names ≡ true → OnOk result (HaveNoClash resolve.now worlds.now.entries) }
+    ensures refuses { IfErr result (RefusesWorlds resolve.now worlds.now.entries canonical_names) }
+{
+    for (name, world) in worlds {
+        add_world(
+            alloc,
+            builder,
+            resolve,
+            package,
+            name,
+            *world,
+            canonical_names,
+        )?;
+    }
+    Ok(())
+}
+
+/// The component of a package (Component Model WIT.md, "Package Format"): a component type for each interface, and then one for each world in
+/// its wrapper, each followed by its export under its name.
+///
+/// Paths are written with their whole version, or, with canonical names, with the canonical part of it and an attribute that completes it; the
+/// meaning is the same. Then `CanonicalClash` is answered where two imports, or two exports, of one component type have one canonical name,
+/// with the first name that repeats an earlier one, interfaces before worlds, each in order. Otherwise `Memory` and `Size` alone are refused.
+///
+/// Takes as long as encoding the interfaces, each with what it reaches, and the worlds.
+pub fn encode_component(
+    alloc: Global,
+    resolve: &Resolve,
+    package: PackageId,
+    canonical_names: bool,
+) -> Result<ComponentBuilder, Error>
+    requires valid { IsValid resolve.now }
+    requires in_range { «package».0 < length resolve.now.packages.items }
+    ensures holds { IfOk result (λ parts. (p : PackageValue) → package_at resolve.now «package».0 ≡ Some p → HoldsPackage resolve.now p parts) }
+    ensures differ { (p : PackageValue) → package_at resolve.now «package».0 ≡ Some p → canonical_names ≡ true → OnOk result (HasNoClashes resolve.now p) }
+    ensures refuses { (p : PackageValue) → package_at resolve.now «package».0 ≡ Some p → IfErr result (RefusesPackage resolve.now p canonical_names) }
+{
+    let own = &resolve.packages[package.0 as usize];
+    let mut builder = interfaces_component(alloc, resolve, &own.interfaces, canonical_names)?;
+    add_worlds(
+        alloc,
+        &mut builder,
+        resolve,
+        &own.name,
+        &own.worlds,
+        canonical_names,
+    )?;
+    Ok(builder)
+}
+
+/// The bytes of a package: of one with an interface or a world, bytes that are read as exactly what the package means, with canonical names
+/// and without; of one without, the preamble alone.
+///
+/// Takes as long as `encode_component`, and refuses what it does.
+pub fn encode(
+    alloc: Global,
+    resolve: &Resolve,
+    package: PackageId,
+    canonical_names: bool,
+) -> Result<Vec<u8>, Error>
+    requires valid { IsValid resolve.now }
+    requires in_range { «package».0 < length resolve.now.packages.items }
+    ensures means { IfOk result (λ bytes. (p : PackageValue) → package_at resolve.now «package».0 ≡ Some p → HasMembers p → MeansPackage resolve.now «package».0 bytes.items) }
+    ensures empty { IfOk result (λ bytes. (p : PackageValue) → package_at resolve.now «package».0 ≡ Some p → HasNoMembers p → bytes.items ≡ preamble) }
+    ensures differ { (p : PackageValue) → package_at resolve.now «package».0 ≡ Some p → canonical_names ≡ true → OnOk result (HasNoClashes resolve.now p) }
+    ensures refuses { (p : PackageValue) → package_at resolve.now «package».0 ≡ Some p → IfErr result (RefusesPackage resolve.now p canonical_names) }
+{
+    encode_component(alloc, resolve, package, canonical_names)?.finish()
+}
