@@ -112,3 +112,37 @@ module _ {Kept X : Type 0} {keeps : View Kept → OutputCall → Kept} {run : X 
   pub runs_made : {all left : List X} {old now : View Kept} → Underway keeps run all left old now → left ≡ [] → Moves keeps old (flat_map run all) now
   runs_made {old = old} {now = now} u e =
       subst (λ calls. Moves keeps old calls now) (sym (append-nil u.made) ∙ ap (λ xs. u.made ++ flat_map run xs) (sym e) ∙ u.whole) u.moved
+
+-- ---- calls after calls
+
+-- Some calls are made, and with those that are left they are these.
+pub record Going {Kept : Type 0} (keeps : View Kept → OutputCall → Kept) (left all : List OutputCall) (old now : View Kept) : Type 0 where
+  pub made : List OutputCall
+  pub moved : Moves keeps old made now
+  pub whole : made ++ left ≡ all
+
+module _ {Kept : Type 0} {keeps : View Kept → OutputCall → Kept} where
+  pub going : (left all : List OutputCall) (old : View Kept) → left ≡ all → Going keeps left all old old
+  going left all old e = record { made = []; moved = nothing_moved refl; whole = e }
+
+  -- some of the calls that were left are made
+  pub made_on : (run rest : List OutputCall) {left all : List OutputCall} {old now new : View Kept} → Going keeps left all old now → left ≡ run ++ rest → Moves keeps now run new → Going keeps rest all old new
+  made_on run rest g e m = record { made = g.made ++ run; moved = Moves-append keeps g.moved m; whole = append_assoc g.made run rest ∙ ap (λ x. g.made ++ x) (sym e) ∙ g.whole }
+
+  -- a refusal in those that were left
+  pub refused_in : (run rest : List OutputCall) {left all : List OutputCall} {old now new : View Kept} → Going keeps left all old now → left ≡ run ++ rest → Begins keeps now run new → Begins keeps old all new
+  refused_in run rest {old = old} {new = new} g e b =
+      subst (λ calls. Begins keeps old calls new) (ap (λ x. g.made ++ x) (sym e) ∙ g.whole) (Begins-append keeps g.moved (Begins-more keeps rest b))
+
+  -- none was left
+  pub made_all : {left all : List OutputCall} {old now : View Kept} → Going keeps left all old now → left ≡ [] → Moves keeps old all now
+  made_all {old = old} {now = now} g e =
+      subst (λ calls. Moves keeps old calls now) (sym (append-nil g.made) ∙ ap (λ x. g.made ++ x) (sym e) ∙ g.whole) g.moved
+
+  -- the last of them are made
+  pub made_last : (run : List OutputCall) {all : List OutputCall} {old now new : View Kept} → Going keeps run all old now → Moves keeps now run new → Moves keeps old all new
+  made_last run {old = old} {new = new} g m = subst (λ calls. Moves keeps old calls new) g.whole (Moves-append keeps g.moved m)
+
+  -- a refusal in the last of them
+  pub refused_last : (run : List OutputCall) {all : List OutputCall} {old now new : View Kept} → Going keeps run all old now → Begins keeps now run new → Begins keeps old all new
+  refused_last run {old = old} {new = new} g b = subst (λ calls. Begins keeps old calls new) g.whole (Begins-append keeps g.moved b)

@@ -45,7 +45,7 @@ module _ (r : Resolve) (valid : IsValid r) where
 
   -- ---- items
 
-  interface_item_well : (e : String Global × InterfaceId) → passes (λ i. text_is i.name (text_of e.0)) (interface_at r e.1.0) ≡ true → passes is_well_item (shown_interface_item r e) ≡ true
+  pub interface_item_well : (e : String Global × InterfaceId) → passes (λ i. text_is i.name (text_of e.0)) (interface_at r e.1.0) ≡ true → passes is_well_item (shown_interface_item r e) ≡ true
   unfolding labels
   interface_item_well e h = go (interface_at r e.1.0) refl h
     where

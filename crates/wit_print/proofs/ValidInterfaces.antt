@@ -1,8 +1,9 @@
 -- What is shown of a valid `Resolve`'s interfaces is well named.
-use Rattle.std.proofs.Common.{◌≡◌, refl, true, ◌&&◌, List, [], ◌∷◌, ◌++◌, map, filter, Some, ℕ}
+use Rattle.std.proofs.Common.{◌≡◌, refl, sym, ◌∙◌, true, ◌&&◌, List, [], ◌∷◌, ◌++◌, map, filter, Some, ℕ}
 use Rattle.std.specs.Prelude.{String, is_some}
 use Rattle.std.specs.List.{list_all}
 use Rattle.std.specs.Map.{values_of}
+use Rattle.std.proofs.lemmas.List.Folds.{list_all-map}
 use Rattle.std.specs.declared.alloc.Global.{Global}
 use Rattle.indexmap.specs.IndexMap.{values}
 use Rattle.wit_model.specs.declared.model.Resolve.{Resolve}
@@ -34,7 +35,7 @@ module _ (r : Resolve) (valid : IsValid r) where
   pub freestanding_label : (f : Function) → function_labels f ≡ true → is_freestanding f.kind ≡ true → is_label (text_of f.name) ≡ true
   freestanding_label f named free = implied (is_freestanding f.kind) (is_label (text_of f.name)) free (left_of _ _ named)
 
-  function_well : (o : TypeOwner) (f : Function) → is_known_function r o f ≡ true → is_freestanding f.kind ≡ true → is_well_member (shown_function r f) ≡ true
+  pub function_well : (o : TypeOwner) (f : Function) → is_known_function r o f ≡ true → is_freestanding f.kind ≡ true → is_well_member (shown_function r f) ≡ true
   function_well o f known free =
       let named : function_labels f ≡ true = left_of _ _ (right_of (function_in_range r f) _ known) in
       both (is_well_prefix (function_prefix f)) _ (function_prefix_well f named)
@@ -52,7 +53,7 @@ module _ (r : Resolve) (valid : IsValid r) where
 
   -- ---- what validity says
 
-  interface_functions : (n : ℕ) (i : Interface) → interface_at r n ≡ Some i → list_all (is_known_function r (owner.Interface (record { 0 = n }))) (listed_functions i) ≡ true
+  pub interface_functions : (n : ℕ) (i : Interface) → interface_at r n ≡ Some i → list_all (is_known_function r (owner.Interface (record { 0 = n }))) (listed_functions i) ≡ true
   unfolding numbers_in_range labels function_names
   interface_functions n i e =
       let range = right_of (passes (in_list r.packages.items) (package_number i.«package»)) _ (right_of (is_place n) _ (interface-passes numbers_in_range r valid.rules.numbers_in_range n i e)) in
@@ -62,7 +63,13 @@ module _ (r : Resolve) (valid : IsValid r) where
       (left_of _ _ named)
       (interface-passes function_names r valid.rules.function_names n i e)
 
-  interface_types : (n : ℕ) (i : Interface) → interface_at r n ≡ Some i → list_all (is_known_listed r (owner.Interface (record { 0 = n }))) (listed_types i) ≡ true
+  pub interface_range : (n : ℕ) (i : Interface) → interface_at r n ≡ Some i → list_all (λ e. in_list r.types.items e.1.0) i.types.entries ≡ true
+  unfolding numbers_in_range
+  interface_range n i e =
+      let range = right_of (passes (in_list r.packages.items) (package_number i.«package»)) _ (right_of (is_place n) _ (interface-passes numbers_in_range r valid.rules.numbers_in_range n i e)) in
+      sym (list_all-map (λ id. in_list r.types.items id.0) (λ e. e.1) i.types.entries) ∙ left_of _ _ range
+
+  pub interface_types : (n : ℕ) (i : Interface) → interface_at r n ≡ Some i → list_all (is_known_listed r (owner.Interface (record { 0 = n }))) (listed_types i) ≡ true
   unfolding numbers_in_range order_of_types
   interface_types n i e =
       let range = right_of (passes (in_list r.packages.items) (package_number i.«package»)) _ (right_of (is_place n) _ (interface-passes numbers_in_range r valid.rules.numbers_in_range n i e)) in

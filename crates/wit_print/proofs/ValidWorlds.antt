@@ -7,6 +7,8 @@ use Rattle.std.specs.Map.{values_of}
 use Rattle.std.specs.declared.alloc.Global.{Global}
 use Rattle.std.proofs.lemmas.Bool.{ltb-true}
 use Rattle.std.proofs.lemmas.List.Folds.{list_all-append}
+use Rattle.wit_model.specs.declared.model.Function.{Function}
+use Rattle.wit_model.specs.declared.model.TypeId.{TypeId}
 use Rattle.wit_model.specs.declared.model.Resolve.{Resolve}
 use Rattle.wit_model.specs.declared.model.Interface.{Interface}
 use Rattle.wit_model.specs.declared.model.InterfaceId.{InterfaceId}
@@ -52,8 +54,23 @@ abbrev is_own_entry : Resolve → ℕ → Entry → Bool
 is_own_entry r n e = passes (λ f. is_name_key (text_of f.name) e.0 && is_member r (owner.World (record { 0 = n })) f) (item_function e.1)
 
 -- an entry of the world of this number, in range, under a label or an interface
-abbrev is_known_entry : Resolve → ℕ → Entry → Bool
+abbrev pub is_known_entry : Resolve → ℕ → Entry → Bool
 is_known_entry r n e = (key_in_range r e.0 && item_in_range r e.1) && ((key_label e.0 e.1 && item_labels e.1) && (is_own_entry r n e && stands_under r e.0 e.1))
+
+-- a function of such an entry belongs to a resource of the world, or to none
+pub entry_member : (r : Resolve) (n : ℕ) (k : WorldKey) (f : Function) → is_known_entry r n (k, item.Function f) ≡ true → is_member r (owner.World (record { 0 = n })) f ≡ true
+entry_member r n k f h =
+    right_of (is_name_key (text_of f.name) k) _
+    (left_of (is_own_entry r n (k, item.Function f)) _
+    (right_of (key_label k (item.Function f) && item_labels (item.Function f)) _ (right_of (key_in_range r k && item_in_range r (item.Function f)) _ h)))
+
+-- a type doesn't stand under an interface
+pub keyed_type : (r : Resolve) (n : ℕ) (m : InterfaceId) (id : TypeId) → is_known_entry r n (key.Interface m, item.Type_ id) ≡ true → ⊥
+keyed_type r n m id h =
+    let under = right_of (is_own_entry r n (key.Interface m, item.Type_ id)) _
+    (right_of (key_label (key.Interface m) (item.Type_ id) && item_labels (item.Type_ id)) _ (right_of (key_in_range r (key.Interface m) && item_in_range r (item.Type_ id)) _ h)) in
+    let wrong : false ≡ true = left_of false (passes (λ other. is_some other.name) (interface_at r m.0)) under in
+    cc
 
 import_under : (r : Resolve) (n : ℕ) (k : WorldKey) (i : Item) → import_stands r n k i ≡ true → stands_under r k i ≡ true
 import_under r n (key.Interface id) i h = h
@@ -109,7 +126,7 @@ module _ (r : Resolve) (valid : IsValid r) where
       go None e = refl
       go (Some i) e = interface_well r valid id i e
 
-  extern_well : (here : PackageId) (n : ℕ) (k : WorldKey) (i : Item) → is_known_entry r n (k, i) ≡ true → is_export_item i ≡ true → (is_well_prefix (extern_prefix r k i) && is_well_extern (shown_extern r here k i)) ≡ true
+  pub extern_well : (here : PackageId) (n : ℕ) (k : WorldKey) (i : Item) → is_known_entry r n (k, i) ≡ true → is_export_item i ≡ true → (is_well_prefix (extern_prefix r k i) && is_well_extern (shown_extern r here k i)) ≡ true
   extern_well here n (key.Interface m) (item.Interface id gates docs external_id) known shown =
       let stable : is_stability gates ≡ true = left_of _ _ (right_of (in_list r.interfaces.items m.0 && in_list r.interfaces.items id.0) _ known) in
       let stands = right_of (is_stability gates) _ (right_of (in_list r.interfaces.items m.0 && in_list r.interfaces.items id.0) _ known) in
@@ -159,10 +176,10 @@ module _ (r : Resolve) (valid : IsValid r) where
   -- ---- what validity says
 
   -- What is known of a world that is shown.
-  record IsShownWorld (n : ℕ) (w : World) : Type 0 where
-    imports : list_all (is_known_entry r n) w.imports.entries ≡ true
-    exports : list_all (λ e. is_known_entry r n e && is_export_item e.1) w.exports.entries ≡ true
-    types : list_all (is_known_listed r (owner.World (record { 0 = n }))) (listed_imports w) ≡ true
+  pub record IsShownWorld (n : ℕ) (w : World) : Type 0 where
+    pub imports : list_all (is_known_entry r n) w.imports.entries ≡ true
+    pub exports : list_all (λ e. is_known_entry r n e && is_export_item e.1) w.exports.entries ≡ true
+    pub types : list_all (is_known_listed r (owner.World (record { 0 = n }))) (listed_imports w) ≡ true
 
   entries_known : (n : ℕ) (es : List Entry) → entries_in_range r es ≡ true → entries_labels es ≡ true → list_all (is_own_entry r n) es ≡ true → list_all (λ e. stands_under r e.0 e.1) es ≡ true → list_all (is_known_entry r n) es ≡ true
   entries_known n es range named own under =
@@ -170,7 +187,7 @@ module _ (r : Resolve) (valid : IsValid r) where
       (all_both (λ e. key_label e.0 e.1 && item_labels e.1) (λ e. is_own_entry r n e && stands_under r e.0 e.1) es named
       (all_both (is_own_entry r n) (λ e. stands_under r e.0 e.1) es own under))
 
-  world_is_shown : (n : ℕ) (w : World) → world_at r n ≡ Some w → IsShownWorld n w
+  pub world_is_shown : (n : ℕ) (w : World) → world_at r n ≡ Some w → IsShownWorld n w
   unfolding numbers_in_range labels order_of_types function_names world_items
   world_is_shown n w e =
       let range = right_of (passes (in_list r.packages.items) (package_number w.«package»)) _ (right_of (is_place n) _ (world_rule r valid numbers_in_range valid.rules.numbers_in_range n w e)) in

@@ -1,5 +1,5 @@
 -- The calls for a feature, and for what stands before the block of an interface.
-use Rattle.std.specs.Prelude.{Bool, List, [], ◌∷◌, codes}
+use Rattle.std.specs.Prelude.{Bool, false, List, [], ◌∷◌, codes}
 use Rattle.std.specs.Option.{option_map_or}
 use Rattle.wit_model.specs.declared.model.Resolve.{Resolve}
 use Rattle.wit_model.specs.declared.model.Interface.{Interface}
@@ -9,8 +9,8 @@ use Rattle.wit_model.specs.Text.{Text}
 use Rattle.wit_print.specs.Keyword.{escaped}
 use Rattle.wit_print.specs.OutputCall.{OutputCall}
 use Rattle.wit_print.specs.OutputCall.OutputCall.{Keyword, Newline, Str}
-use Rattle.wit_print.specs.Shown.{shown_docs, shown_gates}
-use Rattle.wit_print.specs.Calls.{interface_outer_calls}
+use Rattle.wit_print.specs.Shown.{shown_docs, shown_gates, shown_interface}
+use Rattle.wit_print.specs.Calls.{interface_outer_calls, members_calls}
 
 -- the feature under which an item is unstable, in a line of its own
 abbrev pub feature_calls : Text → List OutputCall
@@ -24,3 +24,7 @@ head_calls emits_docs interface name = interface_outer_calls emits_docs (shown_d
 -- the same of an interface's number
 abbrev pub interface_head_calls : Bool → Resolve → InterfaceId → Text → List OutputCall
 interface_head_calls emits_docs r id name = option_map_or (λ interface. head_calls emits_docs interface name) (interface_at r id.0) []
+
+-- what an interface has, by its number: a block of its own
+abbrev pub interface_body_calls : Bool → Resolve → InterfaceId → List OutputCall
+interface_body_calls emits_docs r id = option_map_or (λ interface. members_calls emits_docs false (shown_interface r id interface)) (interface_at r id.0) []

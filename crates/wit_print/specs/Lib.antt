@@ -14,6 +14,7 @@ pub mod Documentation
 pub mod TypeParts
 pub mod Heads
 pub mod ItemCalls
+pub mod DeclaredCalls
 pub mod Drafted
 pub mod Printable
 pub mod Printer

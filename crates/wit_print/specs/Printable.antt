@@ -1,11 +1,12 @@
--- What a package has to be to be printed: its names are labels and its versions versions. Worlds of functions, so far.
-use Rattle.std.specs.Prelude.{◌≡◌, ◌++◌, ◌∷◌, [], List, codes, Bool, true, false, ◌&&◌, Some, String}
+-- What a package has to be to be printed: its names are labels and its versions versions. Its worlds have no types, so far, and no type is used from another interface.
+use Rattle.std.specs.Prelude.{◌≡◌, ◌++◌, ◌∷◌, [], List, codes, Bool, true, false, ◌&&◌, ◌||◌, is_none, not, Some, String, map, filter, if◌then◌else◌}
 use Rattle.std.specs.List.{list_all, flat_map}
 use Rattle.std.specs.Option.{option_map_or}
 use Rattle.std.specs.declared.alloc.Global.{Global}
 use Rattle.wit_model.specs.declared.model.Resolve.{Resolve}
 use Rattle.wit_model.specs.declared.model.Package.{Package}
 use Rattle.wit_model.specs.declared.model.PackageId.{PackageId}
+use Rattle.wit_model.specs.declared.model.InterfaceId.{InterfaceId}
 use Rattle.wit_model.specs.declared.model.World.{World}
 use Rattle.wit_model.specs.declared.model.WorldId.{WorldId}
 use Rattle.wit_model.specs.declared.model.WorldKey.{WorldKey}
@@ -13,40 +14,63 @@ use Rattle.wit_model.specs.declared.model.WorldKey.TheVariants as key
 use Rattle.wit_model.specs.declared.model.WorldItem.{WorldItem}
 use Rattle.wit_model.specs.declared.model.WorldItem.TheVariants as item
 use Rattle.wit_model.specs.declared.model.Function.{Function}
+use Rattle.wit_model.specs.declared.model.TypeDef.{TypeDef}
+use Rattle.wit_model.specs.declared.model.TypeId.{TypeId}
+use Rattle.wit_model.specs.declared.model.TypeOwner.{TypeOwner}
+use Rattle.wit_model.specs.declared.model.TypeOwner.TheVariants as owner
 use Rattle.wit_model.specs.declared.model.«Type».{«Type» as ValueType}
 use Rattle.wit_model.specs.declared.model.«Type».TheVariants as value
 use Rattle.wit_model.specs.Text.{Text, text_of}
 use Rattle.wit_model.specs.Names.{is_label}
-use Rattle.wit_model.specs.Lookup.{world_at}
-use Rattle.wit_model.specs.Rules.{is_freestanding, has_items, is_id, package_number}
+use Rattle.wit_model.specs.Lookup.{type_at, world_at}
+use Rattle.wit_model.specs.Rules.{in_list, is_freestanding, has_items, is_id, item_in_range, key_in_range, package_number, passes}
 use Rattle.wit_print.specs.declared.type_kind.TypeKind.TheVariants.{WorldDeclaration}
 use Rattle.wit_print.specs.OutputCall.{OutputCall}
 use Rattle.wit_print.specs.OutputCall.OutputCall.{IndentStart, IndentEnd, Keyword, Newline, Ty}
 use Rattle.wit_print.specs.Keyword.{escaped}
-use Rattle.wit_print.specs.Shown.{extern_prefix, function_prefix, shown_docs, shown_gates, shown_head, shown_extern, shown_signature, shown_world_item}
-use Rattle.wit_print.specs.WellNamed.{is_well_gates, is_well_prefix, is_well_signature}
-use Rattle.wit_print.specs.Calls.{space, doc_calls, gates_calls, world_extern_calls, package_item_calls, package_outer_calls, package_start_calls, package_end_calls}
+use Rattle.wit_print.specs.Tree.{MemberTree}
+use Rattle.wit_print.specs.Tree.MemberTree.{TypeMember}
+use Rattle.wit_print.specs.Shown.{extern_prefix, is_interface_item, shown_docs, shown_gates, shown_head, shown_extern, shown_function, shown_import, shown_interface_item, shown_declared, shown_package, shown_prefix, shown_world_item, used_of}
+use Rattle.wit_print.specs.WellNamed.{is_well_declared, is_well_gates, is_well_item, is_well_member, is_well_prefix, is_well_world_member}
+use Rattle.wit_print.specs.Calls.{space, doc_calls, gates_calls, world_extern_calls, package_item_calls, package_outer_calls, package_start_calls, package_end_calls, package_calls}
+
+-- whether an owner is a world
+abbrev pub is_of_world : TypeOwner → Bool
+is_of_world (owner.World id) = true
+is_of_world other = false
+
+-- a type that is no world's, and isn't used from another owner
+abbrev pub is_declared_alone : Resolve → TypeDef → Bool
+is_declared_alone r def = not (is_of_world def.owner) && is_none (used_of r def.owner [] def)
+
+-- a type of an owner, in range, whose declaration is well named with the functions among which a resource's stand
+abbrev pub is_printable_type : Resolve → List Function → TypeId → Bool
+is_printable_type r functions id =
+    in_list r.types.items id.0
+    && option_map_or (λ def. is_well_prefix (shown_prefix def.docs def.stability def.external_id) && is_well_declared (shown_declared r functions id def)) (type_at r id.0) false
+
+-- the declaration of a type
+abbrev pub declaration_of : Resolve → List Function → TypeId → List MemberTree
+declaration_of r functions id =
+    option_map_or (λ def. TypeMember (shown_prefix def.docs def.stability def.external_id) (shown_declared r functions id def) ∷ []) (type_at r id.0) []
+
+-- the declarations of types in an owner's list
+abbrev pub declarations_of : Resolve → List Function → List (String Global × TypeId) → List MemberTree
+declarations_of r functions entries = flat_map (λ entry. declaration_of r functions entry.1) entries
 
 abbrev pub is_primitive : ValueType → Bool
 is_primitive (value.Id id) = false
 is_primitive ty = true
 
-abbrev pub is_printable_function : Resolve → Function → Bool
-is_printable_function r f =
-    is_label (text_of f.name) && (is_freestanding f.kind && (is_well_prefix (function_prefix f) && is_well_signature (shown_signature r f)))
+-- an import or an export under what it may stand under, and no type
+abbrev pub is_shown_item : WorldKey → WorldItem → Bool
+is_shown_item k (item.Interface id gates docs external_id) = true
+is_shown_item (key.Name name) (item.Function f) = is_freestanding f.kind
+is_shown_item k other = false
 
--- what is known of such a function
-pub record IsPrintableFunction (r : Resolve) (f : Function) : Type 0 where
-  pub name : is_label (text_of f.name) ≡ true
-  pub prefix : is_well_prefix (function_prefix f) ≡ true
-  pub signature : is_well_signature (shown_signature r f) ≡ true
-
-abbrev pub is_printable_entry : Resolve → WorldKey × WorldItem → Bool
-is_printable_entry r entry = by entry.0 entry.1
-  where
-    by : WorldKey → WorldItem → Bool
-    by (key.Name name) (item.Function f) = is_printable_function r f
-    by k other = false
+-- one of a world of the package `here`, in range and well named
+abbrev pub is_printable_entry : Resolve → PackageId → WorldKey × WorldItem → Bool
+is_printable_entry r here entry = (key_in_range r entry.0 && item_in_range r entry.1) && (is_shown_item entry.0 entry.1 && is_well_world_member (shown_import r here entry))
 
 -- the calls for an import or an export
 abbrev pub entry_calls : Bool → Resolve → PackageId → Text → WorldKey × WorldItem → List OutputCall
@@ -57,11 +81,19 @@ abbrev pub line_between : Bool → List OutputCall
 line_between true = Newline ∷ []
 line_between false = []
 
+-- the calls for an import, if it is an interface, and if it isn't
+abbrev pub interface_entry_calls : Bool → Resolve → PackageId → WorldKey × WorldItem → List OutputCall
+interface_entry_calls emits_docs r here entry = if is_interface_item entry.1 then entry_calls emits_docs r here (codes "import") entry else []
+
+abbrev pub function_entry_calls : Bool → Resolve → PackageId → WorldKey × WorldItem → List OutputCall
+function_entry_calls emits_docs r here entry = if is_interface_item entry.1 then [] else entry_calls emits_docs r here (codes "import") entry
+
 -- the calls for what such a world has
 abbrev pub world_body_calls : Bool → Resolve → PackageId → World → List OutputCall
 world_body_calls emits_docs r here w =
-    flat_map (entry_calls emits_docs r here (codes "import")) w.imports.entries
-    ++ (line_between (has_items w.imports.entries && has_items w.exports.entries) ++ flat_map (entry_calls emits_docs r here (codes "export")) w.exports.entries)
+    flat_map (interface_entry_calls emits_docs r here) w.imports.entries
+    ++ (flat_map (function_entry_calls emits_docs r here) w.imports.entries
+    ++ (line_between (has_items w.imports.entries && has_items w.exports.entries) ++ flat_map (entry_calls emits_docs r here (codes "export")) w.exports.entries))
 
 -- the calls for a world's documentation, gates and name, and the start of its block
 abbrev pub world_start_calls : Bool → Text → World → List OutputCall
@@ -77,14 +109,14 @@ abbrev pub is_printable_world : Resolve → PackageId → World → Bool
 is_printable_world r here w =
     is_well_gates (shown_gates w.stability)
     && (is_id here.0 (package_number w.«package»)
-    && (list_all (is_printable_entry r) w.imports.entries && list_all (is_printable_entry r) w.exports.entries))
+    && (list_all (is_printable_entry r here) w.imports.entries && list_all (is_printable_entry r here) w.exports.entries))
 
 -- what is known of such a world
 pub record IsPrintableWorld (r : Resolve) (here : PackageId) (w : World) : Type 0 where
   pub gates : is_well_gates (shown_gates w.stability) ≡ true
   pub package_ : w.«package» ≡ Some here
-  pub imports : list_all (is_printable_entry r) w.imports.entries ≡ true
-  pub exports : list_all (is_printable_entry r) w.exports.entries ≡ true
+  pub imports : list_all (is_printable_entry r here) w.imports.entries ≡ true
+  pub exports : list_all (is_printable_entry r here) w.exports.entries ≡ true
 
 -- a world of the package `here`, under its name there
 abbrev pub is_printable_listed : Resolve → PackageId → String Global × WorldId → Bool
@@ -94,8 +126,29 @@ is_printable_listed r here entry = is_label (text_of entry.0) && option_map_or (
 abbrev pub listed_calls : Bool → Resolve → String Global × WorldId → List OutputCall
 listed_calls emits_docs r entry = option_map_or (package_item_calls emits_docs false) (shown_world_item r entry) []
 
--- the calls for a package without interfaces
-abbrev pub plain_package_calls : Bool → Bool → Resolve → Package → List OutputCall
-plain_package_calls emits_docs is_main r p =
+-- an interface in a package's list
+abbrev pub is_printable_interface : Resolve → String Global × InterfaceId → Bool
+is_printable_interface r entry = in_list r.interfaces.items entry.1.0 && passes is_well_item (shown_interface_item r entry)
+
+-- the calls for an interface of a package, under its name
+abbrev pub listed_interface_calls : Bool → Bool → Resolve → String Global × InterfaceId → List OutputCall
+listed_interface_calls emits_docs is_main r entry = option_map_or (package_item_calls emits_docs is_main) (shown_interface_item r entry) []
+
+-- the calls for a package
+abbrev pub listed_package_calls : Bool → Bool → Resolve → Package → List OutputCall
+listed_package_calls emits_docs is_main r p =
     (package_outer_calls emits_docs (shown_head p) ++ package_start_calls is_main)
-    ++ (flat_map (listed_calls emits_docs r) p.worlds.entries ++ package_end_calls is_main)
+    ++ (flat_map (listed_interface_calls emits_docs is_main r) p.interfaces.entries
+    ++ (flat_map (listed_calls emits_docs r) p.worlds.entries ++ package_end_calls is_main))
+
+-- a function of an interface, if it is freestanding
+abbrev pub is_printable_function : Resolve → Function → Bool
+is_printable_function r f = not (is_freestanding f.kind) || is_well_member (shown_function r f)
+
+-- the functions of an interface's list that are shown as its own
+abbrev pub shown_functions : Resolve → List (String Global × Function) → List MemberTree
+shown_functions r entries = map (shown_function r) (filter (λ f. is_freestanding f.kind) (map (λ entry. entry.1) entries))
+
+-- a package after two line ends
+abbrev pub next_package_calls : Bool → Resolve → PackageId → List OutputCall
+next_package_calls emits_docs r id = Newline ∷ Newline ∷ package_calls emits_docs false (shown_package r id)

@@ -1,5 +1,5 @@
 -- What is shown of packages: their trees, with documentation.
-use Rattle.std.specs.Prelude.{Bool, true, false, List, [], ◌∷◌, ◌++◌, ◌==◌, ◌&&◌, ℕ, Option, None, Some, map, drop, option_map, option_and_then, unwrap_or, slice_get, is_some, is_none, if◌then◌else◌, filter, String}
+use Rattle.std.specs.Prelude.{Bool, true, false, List, [], ◌∷◌, ◌++◌, ◌==◌, ◌&&◌, ℕ, Option, None, Some, map, drop, option_map, option_and_then, unwrap_or, slice_get, is_some, if◌then◌else◌, filter, String}
 use Rattle.std.specs.List.{filter_map}
 use Rattle.std.specs.Option.{option_map_or, option_eq}
 use Rattle.std.specs.Str.{chars}
@@ -25,6 +25,7 @@ use Rattle.wit_model.specs.declared.model.PackageId.{PackageId}
 use Rattle.wit_model.specs.declared.model.WorldId.{WorldId}
 use Rattle.wit_model.specs.declared.model.«Type».{«Type» as ValueType}
 use Rattle.wit_model.specs.declared.model.«Type».TheVariants as value
+use Rattle.wit_model.specs.declared.model.Handle.{Handle as HandleKind}
 use Rattle.wit_model.specs.declared.model.Handle.TheVariants as handle
 use Rattle.wit_model.specs.declared.model.Function.{Function}
 use Rattle.wit_model.specs.declared.model.FunctionKind.{FunctionKind}
@@ -205,21 +206,29 @@ shown_resource_member resolve f = by_kind f.kind
 
 -- ---- declarations and uses
 
--- A declared type, with the functions among which a resource's stand. A handle declared by a name keeps `own`.
-abbrev pub shown_declared : Resolve → List Function → TypeId → TypeDef → Declared
-shown_declared resolve functions id def = by_kind def.kind
-  where
-    name : Text
-    name = present_name def.name
+-- a handle with a name of its own keeps `own`
+abbrev pub named_handle : Resolve → HandleKind → TypeTree
+named_handle resolve (handle.Own id) = Own (type_name resolve id)
+named_handle resolve (handle.Borrow id) = Borrow (type_name resolve id)
 
-    by_kind : TypeDefKind → Declared
-    by_kind (defined.Record r) = RecordOf name (map (shown_field resolve) r.fields.items)
-    by_kind defined.Resource = ResourceOf name (map (shown_resource_member resolve) (filter (belongs_to id) functions))
-    by_kind (defined.Flags f) = FlagsOf name (map shown_flag f.flags.items)
-    by_kind (defined.Variant v) = VariantOf name (map (shown_case resolve) v.cases.items)
-    by_kind (defined.Enum e) = EnumOf name (map shown_enum_case e.cases.items)
-    by_kind (defined.Handle (handle.Own r)) = AliasOf name (Own (type_name resolve r))
-    by_kind kind = AliasOf name (kind_tree resolve (type_trees resolve) kind)
+-- what `type` declares
+abbrev pub alias_tree : Resolve → TypeDefKind → TypeTree
+alias_tree resolve (defined.Handle h) = named_handle resolve h
+alias_tree resolve kind = kind_tree resolve (type_trees resolve) kind
+
+-- a kind that is declared under a name, with functions if it is a resource
+abbrev pub declared_of : Resolve → Text → List ResourceMember → TypeDefKind → Declared
+declared_of resolve name members (defined.Record r) = RecordOf name (map (shown_field resolve) r.fields.items)
+declared_of resolve name members defined.Resource = ResourceOf name members
+declared_of resolve name members (defined.Flags f) = FlagsOf name (map shown_flag f.flags.items)
+declared_of resolve name members (defined.Variant v) = VariantOf name (map (shown_case resolve) v.cases.items)
+declared_of resolve name members (defined.Enum e) = EnumOf name (map shown_enum_case e.cases.items)
+declared_of resolve name members kind = AliasOf name (alias_tree resolve kind)
+
+-- A declared type, with the functions among which a resource's stand.
+abbrev pub shown_declared : Resolve → List Function → TypeId → TypeDef → Declared
+shown_declared resolve functions id def =
+    declared_of resolve (present_name def.name) (map (shown_resource_member resolve) (filter (belongs_to id) functions)) def.kind
 
 -- a path to a name in a package
 abbrev pub full_path : Text → Package → PathTree

@@ -87,7 +87,7 @@ fn draft_result<'a>(
 }
 
 /// Parameters in parentheses, and a result.
-fn draft_params_and_result<'a>(
+pub(crate) fn draft_params_and_result<'a>(
     draft: &mut Draft<'a>,
     resolve: &'a Resolve,
     params: &'a [Param],

@@ -1,23 +1,31 @@
-//! Interfaces, printed.
+//! Interfaces, printed item by item.
 
-ghost use Rattle.std.specs.Prelude.{◌≡◌, ◌++◌, true, false, OnOk, OnErr, IsOkUnless};
+ghost use Rattle.std.specs.Prelude.{◌≡◌, ◌++◌, ◌∷◌, [], true, false, Some, OnOk, OnErr, IsOkUnless};
+ghost use Rattle.std.specs.List.{list_all};
 ghost use Rattle.wit_model.specs.declared.error.Error.TheVariants.{Memory};
+ghost use Rattle.wit_model.specs.Lookup.{interface_at};
 ghost use Rattle.wit_model.specs.Names.{is_label};
+ghost use Rattle.wit_model.specs.Rules.{has_items, is_freestanding as is_freestanding_lem};
+ghost use Rattle.wit_model.specs.Valid.{IsValid};
 ghost use Rattle.wit_print.specs.OutputCall.{Moves, Begins};
+ghost use Rattle.wit_print.specs.Calls.{members_calls};
 ghost use Rattle.wit_print.specs.Heads.{head_calls};
-ghost use Rattle.wit_print.specs.Shown.{shown_gates};
-ghost use Rattle.wit_print.specs.WellNamed.{is_well_gates};
+ghost use Rattle.wit_print.specs.Printable.{is_declared_alone, is_printable_function, line_between, shown_functions};
+ghost use Rattle.wit_print.specs.Shown.{shown_function, shown_gates, shown_interface};
+ghost use Rattle.wit_print.specs.WellNamed.{is_well_gates, is_well_member};
 
+use crate::declaration::print_declarations;
 use crate::draft::Draft;
+use crate::function::draft_named;
 use crate::gates::draft_gates;
 use crate::output::Output;
-use crate::prefix::draft_docs;
+use crate::prefix::{draft_docs, draft_prefix};
 use crate::type_kind::TypeKind;
 use std::alloc::{AllocError, Global};
-use wit_model::{Error, Interface};
+use wit_model::{Error, Function, Interface, InterfaceId, Map, Resolve, TypeId};
 
 /// An interface's documentation, gates and name.
-fn draft_head<'a>(
+pub(crate) fn draft_head<'a>(
     draft: &mut Draft<'a>,
     emits_docs: bool,
     interface: &'a Interface,
@@ -53,4 +61,143 @@ pub(crate) fn print_head<'a, O: Output>(
     let mut draft = Draft::new(alloc);
     draft_head(&mut draft, emits_docs, interface, name)?;
     draft.make(output)
+}
+
+/// An empty line, where the block has printed something.
+pub(crate) fn draft_line_before<'a>(
+    draft: &mut Draft<'a>,
+    has_printed: bool,
+) -> Result<(), AllocError>
+    requires { draft.old.line_begun ≡ true }
+    ensures { OnOk result (draft.new ≡ record { line_begun = true; kept = draft.old.kept ++ line_between has_printed }) }
+{
+    if has_printed {
+        draft.newline()?;
+    }
+    Ok(())
+}
+
+/// A freestanding function, an item of its block.
+fn draft_function<'a>(
+    draft: &mut Draft<'a>,
+    emits_docs: bool,
+    has_printed: bool,
+    resolve: &'a Resolve,
+    function: &'a Function,
+) -> Result<(), AllocError>
+    requires begun { draft.old.line_begun ≡ true }
+    requires valid { IsValid resolve.now }
+    requires well { is_well_member (shown_function resolve.now function.now) ≡ true }
+    ensures { OnOk result (draft.new ≡ record { line_begun = true; kept = draft.old.kept ++ members_calls emits_docs has_printed (shown_function resolve.now function.now ∷ []) }) }
+{
+    draft_line_before(draft, has_printed)?;
+    draft_prefix(
+        draft,
+        emits_docs,
+        &function.docs,
+        &function.stability,
+        &function.external_id,
+    )?;
+    draft_named(
+        draft,
+        resolve,
+        function,
+        &function.name,
+        TypeKind::FunctionFreestanding,
+    )
+}
+
+#[tactic(auto, using(crate::proofs::Moves::moving))]
+fn print_function<'a, O: Output>(
+    output: &mut O,
+    alloc: Global,
+    emits_docs: bool,
+    has_printed: bool,
+    resolve: &'a Resolve,
+    function: &'a Function,
+) -> Result<(), Error>
+    requires valid { IsValid resolve.now }
+    requires well { is_well_member (shown_function resolve.now function.now) ≡ true }
+    ensures ok { OnOk result (Moves O.keeps (O.view output.old) (members_calls emits_docs has_printed (shown_function resolve.now function.now ∷ [])) (O.view output.new)) }
+    ensures err { OnErr result (Begins O.keeps (O.view output.old) (members_calls emits_docs has_printed (shown_function resolve.now function.now ∷ [])) (O.view output.new)) }
+    ensures memory { IsOkUnless result Memory }
+{
+    let mut draft = Draft::new(alloc);
+    draft_function(&mut draft, emits_docs, has_printed, resolve, function)?;
+    draft.make(output)
+}
+
+/// Whether a function belongs to no resource.
+fn is_freestanding(function: &Function) -> bool
+    ensures { result ≡ is_freestanding_lem function.now.kind }
+{
+    function.kind.resource().is_none()
+}
+
+/// The functions that belong to no resource, each an item of its block. One is drafted at a time.
+fn print_functions<'a, O: Output>(
+    output: &mut O,
+    alloc: Global,
+    emits_docs: bool,
+    has_printed: bool,
+    resolve: &'a Resolve,
+    functions: &'a Map<String, Function>,
+) -> Result<(), Error>
+    requires valid { IsValid resolve.now }
+    requires printable { list_all (λ entry. is_printable_function resolve.now entry.1) functions.now.entries ≡ true }
+    ensures ok { OnOk result (Moves O.keeps (O.view output.old) (members_calls emits_docs has_printed (shown_functions resolve.now functions.now.entries)) (O.view output.new)) }
+    ensures err { OnErr result (Begins O.keeps (O.view output.old) (members_calls emits_docs has_printed (shown_functions resolve.now functions.now.entries)) (O.view output.new)) }
+    ensures memory { IsOkUnless result Memory }
+{
+    let mut has_printed = has_printed;
+    for (key, function) in functions {
+        let _key = key;
+        if is_freestanding(function) {
+            print_function(output, alloc, emits_docs, has_printed, resolve, function)?;
+            has_printed = true;
+        }
+    }
+    Ok(())
+}
+
+fn has_types(types: &Map<String, TypeId>) -> bool
+    ensures { result ≡ has_items types.now.entries }
+{
+    !types.is_empty()
+}
+
+/// What an interface has, a block of its own.
+pub(crate) fn print_interface_body<'a, O: Output>(
+    output: &mut O,
+    alloc: Global,
+    emits_docs: bool,
+    resolve: &'a Resolve,
+    id: InterfaceId,
+    interface: &'a Interface,
+) -> Result<(), Error>
+    requires valid { IsValid resolve.now }
+    requires declared { list_all (is_declared_alone resolve.now) resolve.now.types.items ≡ true }
+    requires at { interface_at resolve.now id.0 ≡ Some interface.now }
+    ensures ok { OnOk result (Moves O.keeps (O.view output.old) (members_calls emits_docs false (shown_interface resolve.now id interface.now)) (O.view output.new)) }
+    ensures err { OnErr result (Begins O.keeps (O.view output.old) (members_calls emits_docs false (shown_interface resolve.now id interface.now)) (O.view output.new)) }
+    ensures memory { IsOkUnless result Memory }
+{
+    let _id = id;
+    print_declarations(
+        output,
+        alloc,
+        emits_docs,
+        resolve,
+        &interface.types,
+        &interface.functions,
+    )?;
+    let has_printed = has_types(&interface.types);
+    print_functions(
+        output,
+        alloc,
+        emits_docs,
+        has_printed,
+        resolve,
+        &interface.functions,
+    )
 }

@@ -1,21 +1,49 @@
 //! The imports and exports of a world, printed.
 
-ghost use Rattle.std.specs.Prelude.{◌≡◌, ◌&&◌, true, IsTrue, OnOk, OnErr, IsOkUnless};
+ghost use Rattle.std.specs.Prelude.{◌≡◌, ◌&&◌, true, false, [], codes, IsTrue, OnOk, OnErr, IsOkUnless};
 ghost use Rattle.std.specs.List.{flat_map, list_all};
 ghost use Rattle.wit_model.specs.declared.error.Error.TheVariants.{Memory};
+ghost use Rattle.wit_model.specs.Rules.{has_items as has_items_lem};
 ghost use Rattle.wit_model.specs.Valid.{IsValid};
 ghost use Rattle.wit_print.specs.OutputCall.{Moves, Begins, is_one_line, has_no_space_first};
-ghost use Rattle.wit_print.specs.Printable.{is_printable_entry, entry_calls, line_between, world_body_calls};
-ghost use Rattle.wit_model.specs.Rules.{has_items as has_items_lem};
+ghost use Rattle.wit_print.specs.Calls.{world_extern_calls};
+ghost use Rattle.wit_print.specs.Printable.{is_declared_alone, entry_calls, function_entry_calls, interface_entry_calls, is_printable_entry, line_between, world_body_calls};
+ghost use Rattle.wit_print.specs.Shown.{function_prefix, is_interface_item, shown_signature};
+ghost use Rattle.wit_print.specs.Tree.ExternTree.{NamedFunction};
+ghost use Rattle.wit_print.specs.WellNamed.{is_well_extern, is_well_prefix};
+ghost use Rattle.wit_model.specs.Text.{text_of};
 
 use crate::draft::Draft;
+use crate::extern_item::{docs_of, print_keyed, print_labelled};
 use crate::output::Output;
-use crate::world::draft_world_item;
+use crate::world::draft_world_function;
 use std::alloc::Global;
-use wit_model::{Error, Map, PackageId, Resolve, World, WorldItem, WorldKey};
+use wit_model::{Error, Function, Map, PackageId, Resolve, World, WorldItem, WorldKey};
 
-/// An import or an export.
 #[tactic(auto, using(crate::proofs::Moves::moving))]
+fn print_world_function<'a, O: Output>(
+    output: &mut O,
+    alloc: Global,
+    emits_docs: bool,
+    resolve: &'a Resolve,
+    word: &'a str,
+    function: &'a Function,
+) -> Result<(), Error>
+    requires one_line { IsTrue (is_one_line word.now) }
+    requires front { IsTrue (has_no_space_first word.now) }
+    requires valid { IsValid resolve.now }
+    requires prefix { is_well_prefix (function_prefix function.now) ≡ true }
+    requires well { is_well_extern (NamedFunction (text_of function.now.name) (shown_signature resolve.now function.now)) ≡ true }
+    ensures ok { OnOk result (Moves O.keeps (O.view output.old) (world_extern_calls emits_docs (function_prefix function.now) word.now (NamedFunction (text_of function.now.name) (shown_signature resolve.now function.now))) (O.view output.new)) }
+    ensures err { OnErr result (Begins O.keeps (O.view output.old) (world_extern_calls emits_docs (function_prefix function.now) word.now (NamedFunction (text_of function.now.name) (shown_signature resolve.now function.now))) (O.view output.new)) }
+    ensures memory { IsOkUnless result Memory }
+{
+    let mut draft = Draft::new(alloc);
+    draft_world_function(&mut draft, emits_docs, resolve, word, function)?;
+    draft.make(output)
+}
+
+/// An import or an export of a world of the package `here`.
 fn print_item<'a, O: Output>(
     output: &mut O,
     alloc: Global,
@@ -29,36 +57,179 @@ fn print_item<'a, O: Output>(
     requires one_line { IsTrue (is_one_line word.now) }
     requires front { IsTrue (has_no_space_first word.now) }
     requires valid { IsValid resolve.now }
-    requires printable { is_printable_entry resolve.now (key.now, item.now) ≡ true }
+    requires declared { list_all (is_declared_alone resolve.now) resolve.now.types.items ≡ true }
+    requires printable { is_printable_entry resolve.now here (key.now, item.now) ≡ true }
     ensures ok { OnOk result (Moves O.keeps (O.view output.old) (entry_calls emits_docs resolve.now here word.now (key.now, item.now)) (O.view output.new)) }
     ensures err { OnErr result (Begins O.keeps (O.view output.old) (entry_calls emits_docs resolve.now here word.now (key.now, item.now)) (O.view output.new)) }
     ensures memory { IsOkUnless result Memory }
 {
-    let mut draft = Draft::new(alloc);
-    draft_world_item(&mut draft, emits_docs, resolve, here, word, key, item)?;
-    draft.make(output)
+    match item {
+        WorldItem::Interface {
+            id,
+            stability,
+            docs,
+            external_id,
+        } => {
+            let docs = docs_of(resolve, key, *id, docs);
+            match key {
+                WorldKey::Interface(other) => print_keyed(
+                    output,
+                    alloc,
+                    emits_docs,
+                    docs,
+                    stability,
+                    external_id,
+                    word,
+                    resolve,
+                    here,
+                    *other,
+                ),
+                WorldKey::Name(label) => print_labelled(
+                    output,
+                    alloc,
+                    emits_docs,
+                    docs,
+                    stability,
+                    external_id,
+                    word,
+                    resolve,
+                    here,
+                    label,
+                    *id,
+                ),
+            }
+        }
+        WorldItem::Function(function) => print_world_function(
+            output, alloc, emits_docs, resolve, word, function,
+        ),
+        WorldItem::Type_ { .. } => Ok(()),
+    }
 }
 
-/// Imports or exports, of a world of the package `here`. One is drafted at a time.
-pub(crate) fn print_items<'a, O: Output>(
+fn is_interface(item: &WorldItem) -> bool
+    ensures { result ≡ is_interface_item item.now }
+{
+    match item {
+        WorldItem::Interface { .. } => true,
+        WorldItem::Function(_) => false,
+        WorldItem::Type_ { .. } => false,
+    }
+}
+
+/// An import, if it is an interface.
+fn print_imported_interface<'a, O: Output>(
     output: &mut O,
     alloc: Global,
     emits_docs: bool,
     resolve: &'a Resolve,
     here: PackageId,
-    word: &'a str,
+    key: &'a WorldKey,
+    item: &'a WorldItem,
+) -> Result<(), Error>
+    requires valid { IsValid resolve.now }
+    requires declared { list_all (is_declared_alone resolve.now) resolve.now.types.items ≡ true }
+    requires printable { is_printable_entry resolve.now here (key.now, item.now) ≡ true }
+    ensures ok { OnOk result (Moves O.keeps (O.view output.old) (interface_entry_calls emits_docs resolve.now here (key.now, item.now)) (O.view output.new)) }
+    ensures err { OnErr result (Begins O.keeps (O.view output.old) (interface_entry_calls emits_docs resolve.now here (key.now, item.now)) (O.view output.new)) }
+    ensures memory { IsOkUnless result Memory }
+{
+    if !is_interface(item) {
+        return Ok(());
+    }
+    print_item(
+        output, alloc, emits_docs, resolve, here, "import", key, item,
+    )
+}
+
+/// An import, if it is no interface.
+fn print_imported_function<'a, O: Output>(
+    output: &mut O,
+    alloc: Global,
+    emits_docs: bool,
+    resolve: &'a Resolve,
+    here: PackageId,
+    key: &'a WorldKey,
+    item: &'a WorldItem,
+) -> Result<(), Error>
+    requires valid { IsValid resolve.now }
+    requires declared { list_all (is_declared_alone resolve.now) resolve.now.types.items ≡ true }
+    requires printable { is_printable_entry resolve.now here (key.now, item.now) ≡ true }
+    ensures ok { OnOk result (Moves O.keeps (O.view output.old) (function_entry_calls emits_docs resolve.now here (key.now, item.now)) (O.view output.new)) }
+    ensures err { OnErr result (Begins O.keeps (O.view output.old) (function_entry_calls emits_docs resolve.now here (key.now, item.now)) (O.view output.new)) }
+    ensures memory { IsOkUnless result Memory }
+{
+    if is_interface(item) {
+        return Ok(());
+    }
+    print_item(
+        output, alloc, emits_docs, resolve, here, "import", key, item,
+    )
+}
+
+/// The imported interfaces. One is printed at a time.
+fn print_imported_interfaces<'a, O: Output>(
+    output: &mut O,
+    alloc: Global,
+    emits_docs: bool,
+    resolve: &'a Resolve,
+    here: PackageId,
     items: &'a Map<WorldKey, WorldItem>,
 ) -> Result<(), Error>
-    requires one_line { IsTrue (is_one_line word.now) }
-    requires front { IsTrue (has_no_space_first word.now) }
     requires valid { IsValid resolve.now }
-    requires printable { list_all (is_printable_entry resolve.now) items.now.entries ≡ true }
-    ensures ok { OnOk result (Moves O.keeps (O.view output.old) (flat_map (entry_calls emits_docs resolve.now here word.now) items.now.entries) (O.view output.new)) }
-    ensures err { OnErr result (Begins O.keeps (O.view output.old) (flat_map (entry_calls emits_docs resolve.now here word.now) items.now.entries) (O.view output.new)) }
+    requires declared { list_all (is_declared_alone resolve.now) resolve.now.types.items ≡ true }
+    requires printable { list_all (is_printable_entry resolve.now here) items.now.entries ≡ true }
+    ensures ok { OnOk result (Moves O.keeps (O.view output.old) (flat_map (interface_entry_calls emits_docs resolve.now here) items.now.entries) (O.view output.new)) }
+    ensures err { OnErr result (Begins O.keeps (O.view output.old) (flat_map (interface_entry_calls emits_docs resolve.now here) items.now.entries) (O.view output.new)) }
     ensures memory { IsOkUnless result Memory }
 {
     for (key, item) in items {
-        print_item(output, alloc, emits_docs, resolve, here, word, key, item)?;
+        print_imported_interface(output, alloc, emits_docs, resolve, here, key, item)?;
+    }
+    Ok(())
+}
+
+/// The other imports. One is printed at a time.
+fn print_imported_functions<'a, O: Output>(
+    output: &mut O,
+    alloc: Global,
+    emits_docs: bool,
+    resolve: &'a Resolve,
+    here: PackageId,
+    items: &'a Map<WorldKey, WorldItem>,
+) -> Result<(), Error>
+    requires valid { IsValid resolve.now }
+    requires declared { list_all (is_declared_alone resolve.now) resolve.now.types.items ≡ true }
+    requires printable { list_all (is_printable_entry resolve.now here) items.now.entries ≡ true }
+    ensures ok { OnOk result (Moves O.keeps (O.view output.old) (flat_map (function_entry_calls emits_docs resolve.now here) items.now.entries) (O.view output.new)) }
+    ensures err { OnErr result (Begins O.keeps (O.view output.old) (flat_map (function_entry_calls emits_docs resolve.now here) items.now.entries) (O.view output.new)) }
+    ensures memory { IsOkUnless result Memory }
+{
+    for (key, item) in items {
+        print_imported_function(output, alloc, emits_docs, resolve, here, key, item)?;
+    }
+    Ok(())
+}
+
+/// The exports. One is printed at a time.
+fn print_exports<'a, O: Output>(
+    output: &mut O,
+    alloc: Global,
+    emits_docs: bool,
+    resolve: &'a Resolve,
+    here: PackageId,
+    items: &'a Map<WorldKey, WorldItem>,
+) -> Result<(), Error>
+    requires valid { IsValid resolve.now }
+    requires declared { list_all (is_declared_alone resolve.now) resolve.now.types.items ≡ true }
+    requires printable { list_all (is_printable_entry resolve.now here) items.now.entries ≡ true }
+    ensures ok { OnOk result (Moves O.keeps (O.view output.old) (flat_map (entry_calls emits_docs resolve.now here (codes "export")) items.now.entries) (O.view output.new)) }
+    ensures err { OnErr result (Begins O.keeps (O.view output.old) (flat_map (entry_calls emits_docs resolve.now here (codes "export")) items.now.entries) (O.view output.new)) }
+    ensures memory { IsOkUnless result Memory }
+{
+    for (key, item) in items {
+        print_item(
+            output, alloc, emits_docs, resolve, here, "export", key, item,
+        )?;
     }
     Ok(())
 }
@@ -98,29 +269,15 @@ pub(crate) fn print_world_body<'a, O: Output>(
     world: &'a World,
 ) -> Result<(), Error>
     requires valid { IsValid resolve.now }
-    requires imports { list_all (is_printable_entry resolve.now) world.now.imports.entries ≡ true }
-    requires exports { list_all (is_printable_entry resolve.now) world.now.exports.entries ≡ true }
+    requires declared { list_all (is_declared_alone resolve.now) resolve.now.types.items ≡ true }
+    requires imports { list_all (is_printable_entry resolve.now here) world.now.imports.entries ≡ true }
+    requires exports { list_all (is_printable_entry resolve.now here) world.now.exports.entries ≡ true }
     ensures ok { OnOk result (Moves O.keeps (O.view output.old) (world_body_calls emits_docs resolve.now here world.now) (O.view output.new)) }
     ensures err { OnErr result (Begins O.keeps (O.view output.old) (world_body_calls emits_docs resolve.now here world.now) (O.view output.new)) }
     ensures memory { IsOkUnless result Memory }
 {
-    print_items(
-        output,
-        alloc,
-        emits_docs,
-        resolve,
-        here,
-        "import",
-        &world.imports,
-    )?;
+    print_imported_interfaces(output, alloc, emits_docs, resolve, here, &world.imports)?;
+    print_imported_functions(output, alloc, emits_docs, resolve, here, &world.imports)?;
     print_line_between(output, world)?;
-    print_items(
-        output,
-        alloc,
-        emits_docs,
-        resolve,
-        here,
-        "export",
-        &world.exports,
-    )
+    print_exports(output, alloc, emits_docs, resolve, here, &world.exports)
 }

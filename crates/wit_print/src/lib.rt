@@ -1,23 +1,33 @@
 //! Prints WIT packages as text.
 #![tactic(auto)]
 
+mod alias;
+mod block;
+mod declaration;
 mod draft;
 mod escape;
+mod extern_item;
+mod file;
 mod function;
 mod gates;
 mod interface;
 mod items;
+mod labels;
 pub mod laws;
 mod make;
 mod output;
 mod output_to_string;
 mod package;
 mod parts;
+mod path;
 mod piece;
 mod prefix;
 mod printer;
+mod record;
+mod resource;
 mod type_kind;
 mod type_name;
+mod variant;
 mod world;
 
 pub use output::Output;

@@ -1,27 +1,31 @@
 //! Packages, printed item by item.
 
-ghost use Rattle.std.specs.Prelude.{◌≡◌, ◌++◌, ◌∷◌, [], true, false, IsTrue, OnOk, OnErr, IsOkUnless};
+ghost use Rattle.std.specs.Prelude.{◌≡◌, ◌<◌, ◌++◌, ◌∷◌, [], true, false, length, Some, OnOk, OnErr, IsOkUnless};
 ghost use Rattle.std.specs.List.{flat_map, list_all};
 ghost use Rattle.wit_model.specs.declared.error.Error.TheVariants.{Memory};
 ghost use Rattle.wit_model.specs.Text.{text_of};
 ghost use Rattle.wit_model.specs.Names.{is_label, is_version_text};
-ghost use Rattle.wit_model.specs.Lookup.{optional_version_text};
+ghost use Rattle.wit_model.specs.Lookup.{interface_at, optional_version_text};
 ghost use Rattle.wit_model.specs.Valid.{IsValid};
 ghost use Rattle.wit_print.specs.OutputCall.{OutputCall, Moves, Begins};
-ghost use Rattle.wit_print.specs.Printable.{IsPrintableWorld, is_printable_listed, listed_calls, plain_package_calls, world_start_calls, world_calls};
-ghost use Rattle.wit_print.specs.Shown.{shown_gates, shown_head};
-ghost use Rattle.wit_print.specs.Calls.{package_outer_calls, package_start_calls, package_end_calls};
+ghost use Rattle.wit_print.specs.Printable.{is_declared_alone, IsPrintableWorld, is_printable_interface, is_printable_listed, listed_calls, listed_interface_calls, listed_package_calls, world_start_calls, world_calls};
+ghost use Rattle.wit_print.specs.Shown.{shown_docs, shown_gates, shown_head, shown_interface, shown_package};
+ghost use Rattle.wit_print.specs.Calls.{line_after_calls, package_calls, package_item_calls, package_outer_calls, package_start_calls, package_end_calls};
+ghost use Rattle.wit_print.specs.Heads.{head_calls};
+ghost use Rattle.wit_print.specs.Tree.{ItemTree};
 ghost use Rattle.wit_print.specs.WellNamed.{is_well_gates, is_well_optional};
 
 use crate::draft::Draft;
+use crate::extern_item::print_block_end;
 use crate::gates::draft_gates;
+use crate::interface::{draft_head, print_interface_body};
 use crate::items::print_world_body;
 use crate::output::Output;
 use crate::parts::draft_package_outer;
 use crate::prefix::draft_docs;
 use crate::type_kind::TypeKind;
 use std::alloc::{AllocError, Global};
-use wit_model::{Error, Map, Package, PackageId, Resolve, World, WorldId};
+use wit_model::{Error, Interface, InterfaceId, Map, Package, PackageId, Resolve, World, WorldId};
 
 /// A world's documentation, gates and name, and the start of its block.
 fn draft_world_start<'a>(
@@ -62,17 +66,6 @@ fn print_world_start<'a, O: Output>(
     draft.make(output)
 }
 
-/// The end of a block.
-#[tactic(auto, using(crate::proofs::Moves::moving))]
-fn print_block_end<O: Output>(output: &mut O) -> Result<(), Error>
-    ensures ok { OnOk result (Moves O.keeps (O.view output.old) (OutputCall.IndentEnd ∷ []) (O.view output.new)) }
-    ensures err { OnErr result (Begins O.keeps (O.view output.old) (OutputCall.IndentEnd ∷ []) (O.view output.new)) }
-    ensures memory { IsOkUnless result Memory }
-{
-    output.indent_end()?;
-    Ok(())
-}
-
 /// A world of the package `here`, under a name.
 fn print_world<'a, O: Output>(
     output: &mut O,
@@ -84,6 +77,7 @@ fn print_world<'a, O: Output>(
     world: &'a World,
 ) -> Result<(), Error>
     requires valid { IsValid resolve.now }
+    requires declared { list_all (is_declared_alone resolve.now) resolve.now.types.items ≡ true }
     requires name { is_label name.now ≡ true }
     requires world { IsPrintableWorld resolve.now here world.now }
     ensures ok { OnOk result (Moves O.keeps (O.view output.old) (world_calls emits_docs resolve.now here name.now world.now) (O.view output.new)) }
@@ -106,6 +100,7 @@ fn print_listed<'a, O: Output>(
     id: &'a WorldId,
 ) -> Result<(), Error>
     requires valid { IsValid resolve.now }
+    requires declared { list_all (is_declared_alone resolve.now) resolve.now.types.items ≡ true }
     requires printable { is_printable_listed resolve.now here (name.now, id.now) ≡ true }
     ensures ok { OnOk result (Moves O.keeps (O.view output.old) (listed_calls emits_docs resolve.now (name.now, id.now)) (O.view output.new)) }
     ensures err { OnErr result (Begins O.keeps (O.view output.old) (listed_calls emits_docs resolve.now (name.now, id.now)) (O.view output.new)) }
@@ -125,6 +120,7 @@ fn print_worlds<'a, O: Output>(
     worlds: &'a Map<String, WorldId>,
 ) -> Result<(), Error>
     requires valid { IsValid resolve.now }
+    requires declared { list_all (is_declared_alone resolve.now) resolve.now.types.items ≡ true }
     requires printable { list_all (is_printable_listed resolve.now here) worlds.now.entries ≡ true }
     ensures ok { OnOk result (Moves O.keeps (O.view output.old) (flat_map (listed_calls emits_docs resolve.now) worlds.now.entries) (O.view output.new)) }
     ensures err { OnErr result (Begins O.keeps (O.view output.old) (flat_map (listed_calls emits_docs resolve.now) worlds.now.entries) (O.view output.new)) }
@@ -132,6 +128,134 @@ fn print_worlds<'a, O: Output>(
 {
     for (name, id) in worlds {
         print_listed(output, alloc, emits_docs, resolve, here, name, id)?;
+    }
+    Ok(())
+}
+
+/// An interface's documentation, gates and name, and the start of its block.
+fn draft_interface_start<'a>(
+    draft: &mut Draft<'a>,
+    emits_docs: bool,
+    name: &'a str,
+    interface: &'a Interface,
+) -> Result<(), AllocError>
+    requires begun { draft.old.line_begun ≡ true }
+    requires gates { is_well_gates (shown_gates interface.now.stability) ≡ true }
+    requires name { is_label name.now ≡ true }
+    ensures { OnOk result (draft.new ≡ record { line_begun = true; kept = draft.old.kept ++ (head_calls emits_docs interface.now name.now ++ OutputCall.IndentStart ∷ []) }) }
+{
+    draft_head(draft, emits_docs, interface, name)?;
+    draft.indent_start()
+}
+
+#[tactic(auto, using(crate::proofs::Moves::moving))]
+fn print_interface_start<'a, O: Output>(
+    output: &mut O,
+    alloc: Global,
+    emits_docs: bool,
+    name: &'a str,
+    interface: &'a Interface,
+) -> Result<(), Error>
+    requires gates { is_well_gates (shown_gates interface.now.stability) ≡ true }
+    requires name { is_label name.now ≡ true }
+    ensures ok { OnOk result (Moves O.keeps (O.view output.old) (head_calls emits_docs interface.now name.now ++ OutputCall.IndentStart ∷ []) (O.view output.new)) }
+    ensures err { OnErr result (Begins O.keeps (O.view output.old) (head_calls emits_docs interface.now name.now ++ OutputCall.IndentStart ∷ []) (O.view output.new)) }
+    ensures memory { IsOkUnless result Memory }
+{
+    let mut draft = Draft::new(alloc);
+    draft_interface_start(&mut draft, emits_docs, name, interface)?;
+    draft.make(output)
+}
+
+/// An empty line after an interface of a main package.
+#[tactic(auto, using(crate::proofs::Moves::moving))]
+fn print_line_after<O: Output>(output: &mut O, is_main: bool) -> Result<(), Error>
+    ensures ok { OnOk result (Moves O.keeps (O.view output.old) (line_after_calls is_main) (O.view output.new)) }
+    ensures err { OnErr result (Begins O.keeps (O.view output.old) (line_after_calls is_main) (O.view output.new)) }
+    ensures memory { IsOkUnless result Memory }
+{
+    if is_main {
+        output.newline()?;
+    }
+    Ok(())
+}
+
+/// The end of an interface's block, with an empty line after it in a main package.
+fn print_interface_end<O: Output>(output: &mut O, is_main: bool) -> Result<(), Error>
+    ensures ok { OnOk result (Moves O.keeps (O.view output.old) (OutputCall.IndentEnd ∷ line_after_calls is_main) (O.view output.new)) }
+    ensures err { OnErr result (Begins O.keeps (O.view output.old) (OutputCall.IndentEnd ∷ line_after_calls is_main) (O.view output.new)) }
+    ensures memory { IsOkUnless result Memory }
+{
+    print_block_end(output)?;
+    print_line_after(output, is_main)
+}
+
+/// An interface, under a name.
+fn print_interface<'a, O: Output>(
+    output: &mut O,
+    alloc: Global,
+    emits_docs: bool,
+    is_main: bool,
+    resolve: &'a Resolve,
+    name: &'a str,
+    id: InterfaceId,
+    interface: &'a Interface,
+) -> Result<(), Error>
+    requires valid { IsValid resolve.now }
+    requires declared { list_all (is_declared_alone resolve.now) resolve.now.types.items ≡ true }
+    requires at { interface_at resolve.now id.0 ≡ Some interface.now }
+    requires gates { is_well_gates (shown_gates interface.now.stability) ≡ true }
+    requires name { is_label name.now ≡ true }
+    ensures ok { OnOk result (Moves O.keeps (O.view output.old) (package_item_calls emits_docs is_main (ItemTree.InterfaceItem (shown_docs interface.now.docs) (shown_gates interface.now.stability) name.now (shown_interface resolve.now id interface.now))) (O.view output.new)) }
+    ensures err { OnErr result (Begins O.keeps (O.view output.old) (package_item_calls emits_docs is_main (ItemTree.InterfaceItem (shown_docs interface.now.docs) (shown_gates interface.now.stability) name.now (shown_interface resolve.now id interface.now))) (O.view output.new)) }
+    ensures memory { IsOkUnless result Memory }
+{
+    print_interface_start(output, alloc, emits_docs, name, interface)?;
+    print_interface_body(output, alloc, emits_docs, resolve, id, interface)?;
+    print_interface_end(output, is_main)
+}
+
+/// An interface of a package's list.
+fn print_listed_interface<'a, O: Output>(
+    output: &mut O,
+    alloc: Global,
+    emits_docs: bool,
+    is_main: bool,
+    resolve: &'a Resolve,
+    name: &'a String,
+    id: &'a InterfaceId,
+) -> Result<(), Error>
+    requires valid { IsValid resolve.now }
+    requires declared { list_all (is_declared_alone resolve.now) resolve.now.types.items ≡ true }
+    requires printable { is_printable_interface resolve.now (name.now, id.now) ≡ true }
+    ensures ok { OnOk result (Moves O.keeps (O.view output.old) (listed_interface_calls emits_docs is_main resolve.now (name.now, id.now)) (O.view output.new)) }
+    ensures err { OnErr result (Begins O.keeps (O.view output.old) (listed_interface_calls emits_docs is_main resolve.now (name.now, id.now)) (O.view output.new)) }
+    ensures memory { IsOkUnless result Memory }
+{
+    let interface = &resolve.interfaces[id.0 as usize];
+    print_interface(
+        output, alloc, emits_docs, is_main, resolve, name, *id, interface,
+    )
+}
+
+/// The interfaces of a package.
+fn print_interfaces<'a, O: Output>(
+    output: &mut O,
+    alloc: Global,
+    emits_docs: bool,
+    is_main: bool,
+    resolve: &'a Resolve,
+    interfaces: &'a Map<String, InterfaceId>,
+) -> Result<(), Error>
+    requires valid { IsValid resolve.now }
+    requires declared { list_all (is_declared_alone resolve.now) resolve.now.types.items ≡ true }
+    requires printable { list_all (is_printable_interface resolve.now) interfaces.now.entries ≡ true }
+    ensures ok { OnOk result (Moves O.keeps (O.view output.old) (flat_map (listed_interface_calls emits_docs is_main resolve.now) interfaces.now.entries) (O.view output.new)) }
+    ensures err { OnErr result (Begins O.keeps (O.view output.old) (flat_map (listed_interface_calls emits_docs is_main resolve.now) interfaces.now.entries) (O.view output.new)) }
+    ensures memory { IsOkUnless result Memory }
+{
+    for (name, id) in interfaces {
+        print_listed_interface(output, alloc, emits_docs, is_main, resolve, name, id)?;
     }
     Ok(())
 }
@@ -199,8 +323,8 @@ fn print_package_end<O: Output>(output: &mut O, is_main: bool) -> Result<(), Err
     Ok(())
 }
 
-/// A package without interfaces, whose number is `here`.
-pub(crate) fn print_plain_package<'a, O: Output>(
+/// A package whose number is `here`.
+fn print_listed_package<'a, O: Output>(
     output: &mut O,
     alloc: Global,
     emits_docs: bool,
@@ -213,12 +337,42 @@ pub(crate) fn print_plain_package<'a, O: Output>(
     requires name { is_label (text_of «package».now.name.name) ≡ true }
     requires version { is_well_optional is_version_text (optional_version_text «package».now.name.version) ≡ true }
     requires valid { IsValid resolve.now }
+    requires declared { list_all (is_declared_alone resolve.now) resolve.now.types.items ≡ true }
+    requires interfaces { list_all (is_printable_interface resolve.now) «package».now.interfaces.entries ≡ true }
     requires worlds { list_all (is_printable_listed resolve.now here) «package».now.worlds.entries ≡ true }
-    ensures ok { OnOk result (Moves O.keeps (O.view output.old) (plain_package_calls emits_docs is_main resolve.now «package».now) (O.view output.new)) }
-    ensures err { OnErr result (Begins O.keeps (O.view output.old) (plain_package_calls emits_docs is_main resolve.now «package».now) (O.view output.new)) }
+    ensures ok { OnOk result (Moves O.keeps (O.view output.old) (listed_package_calls emits_docs is_main resolve.now «package».now) (O.view output.new)) }
+    ensures err { OnErr result (Begins O.keeps (O.view output.old) (listed_package_calls emits_docs is_main resolve.now «package».now) (O.view output.new)) }
     ensures memory { IsOkUnless result Memory }
 {
     print_package_start(output, alloc, emits_docs, package, is_main)?;
+    print_interfaces(
+        output,
+        alloc,
+        emits_docs,
+        is_main,
+        resolve,
+        &package.interfaces,
+    )?;
     print_worlds(output, alloc, emits_docs, resolve, here, &package.worlds)?;
     print_package_end(output, is_main)
+}
+
+/// The package of this number.
+pub(crate) fn print_whole_package<'a, O: Output>(
+    output: &mut O,
+    alloc: Global,
+    emits_docs: bool,
+    resolve: &'a Resolve,
+    here: PackageId,
+    is_main: bool,
+) -> Result<(), Error>
+    requires valid { IsValid resolve.now }
+    requires declared { list_all (is_declared_alone resolve.now) resolve.now.types.items ≡ true }
+    requires in_range { here.0 < length resolve.now.packages.items }
+    ensures ok { OnOk result (Moves O.keeps (O.view output.old) (package_calls emits_docs is_main (shown_package resolve.now here)) (O.view output.new)) }
+    ensures err { OnErr result (Begins O.keeps (O.view output.old) (package_calls emits_docs is_main (shown_package resolve.now here)) (O.view output.new)) }
+    ensures memory { IsOkUnless result Memory }
+{
+    let package = &resolve.packages[here.0 as usize];
+    print_listed_package(output, alloc, emits_docs, resolve, here, package, is_main)
 }

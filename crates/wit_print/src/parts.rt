@@ -16,7 +16,7 @@ use std::alloc::AllocError;
 use wit_model::{Package, PackageName};
 
 /// A version after its mark, if there is one.
-fn draft_version<'a>(
+pub(crate) fn draft_version<'a>(
     draft: &mut Draft<'a>,
     version: &Option<Version>,
     kind: TypeKind,

@@ -1,6 +1,7 @@
 //! The printer.
 
 ghost use Rattle.std.specs.Prelude.{◌≡◌, ◌<◌, [], true, length, OnOk, OnErr, IsOkUnless};
+ghost use Rattle.std.specs.List.{list_all};
 ghost use Rattle.wit_model.specs.declared.error.Error.TheVariants.{Memory};
 ghost use Rattle.wit_model.specs.Text.{text_of};
 ghost use Rattle.wit_model.specs.Names.{is_label, is_version};
@@ -12,14 +13,16 @@ ghost use Rattle.wit_print.specs.AsRead.{file_as_read};
 ghost use Rattle.wit_print.specs.Reading.{IsOnlyReading};
 ghost use Rattle.wit_print.specs.Render.{render};
 ghost use Rattle.wit_print.specs.Shown.{shown_file, shown_head, shown_package, shown_type};
+ghost use Rattle.wit_print.specs.Printable.{is_declared_alone};
 ghost use Rattle.wit_print.specs.Calls.{file_calls, package_calls, package_outer_calls, type_calls};
-ghost use Rattle.wit_print.specs.Heads.{interface_head_calls};
+ghost use Rattle.wit_print.specs.Heads.{interface_body_calls, interface_head_calls};
 
 use crate::draft::Draft;
-use crate::interface::print_head;
+use crate::file::print_file;
+use crate::interface::{print_head, print_interface_body};
 use crate::output::Output;
 use crate::output_to_string::OutputToString;
-use crate::package::print_plain_package;
+use crate::package::print_whole_package;
 use crate::parts::draft_package_outer;
 use crate::type_name::draft_type_name;
 use std::alloc::Global;
@@ -57,7 +60,7 @@ impl<O: Output> WitPrinter<O> {
         self
     }
 
-    /// Prints a package as a file. Nested packages, interfaces and types aren't printed yet.
+    /// Prints a package as a file, with others nested in it. Types of worlds aren't printed yet, nor are uses.
     ///
     /// What the calls of the file render to, which is what a fresh `OutputToString` holds after a completed print, has one
     /// reading in the grammar of WIT text: what is shown of the package.
@@ -72,18 +75,16 @@ impl<O: Output> WitPrinter<O> {
         nested: &[PackageId],
     ) -> Result<(), Error>
         requires valid { IsValid resolve.now }
-        requires no_interfaces { resolve.now.interfaces.items ≡ [] }
-        requires no_types { resolve.now.types.items ≡ [] }
+        requires declared { list_all (is_declared_alone resolve.now) resolve.now.types.items ≡ true }
         requires in_range { id.0 < length resolve.now.packages.items }
-        requires nested { nested.now ≡ [] }
+        requires nested { list_all (λ other. in_list resolve.now.packages.items other.0) nested.now ≡ true }
         ensures ok { OnOk result (Moves O.keeps (O.view self.old.output) (file_calls (emits_docs self.old) (shown_file resolve.now id nested.now)) (O.view self.new.output)) }
         ensures err { OnErr result (Begins O.keeps (O.view self.old.output) (file_calls (emits_docs self.old) (shown_file resolve.now id nested.now)) (O.view self.new.output)) }
         ensures reads { IsOnlyReading (render (file_calls (emits_docs self.old) (shown_file resolve.now id nested.now))) (file_as_read (shown_file resolve.now id nested.now)) }
         ensures memory { IsOkUnless result Memory }
         ensures docs { emits_docs self.new ≡ emits_docs self.old }
     {
-        let _nested = nested;
-        self.print_package(alloc, resolve, id, true)
+        print_file(&mut self.output, alloc, self.emit_docs, resolve, id, nested)
     }
 
     /// Prints a package: the main one of a file, or one that is nested in it.
@@ -98,22 +99,19 @@ impl<O: Output> WitPrinter<O> {
         is_main: bool,
     ) -> Result<(), Error>
         requires valid { IsValid resolve.now }
-        requires no_interfaces { resolve.now.interfaces.items ≡ [] }
-        requires no_types { resolve.now.types.items ≡ [] }
+        requires declared { list_all (is_declared_alone resolve.now) resolve.now.types.items ≡ true }
         requires in_range { id.0 < length resolve.now.packages.items }
         ensures ok { OnOk result (Moves O.keeps (O.view self.old.output) (package_calls (emits_docs self.old) is_main (shown_package resolve.now id)) (O.view self.new.output)) }
         ensures err { OnErr result (Begins O.keeps (O.view self.old.output) (package_calls (emits_docs self.old) is_main (shown_package resolve.now id)) (O.view self.new.output)) }
         ensures memory { IsOkUnless result Memory }
         ensures docs { emits_docs self.new ≡ emits_docs self.old }
     {
-        let package = &resolve.packages[id.0 as usize];
-        print_plain_package(
+        print_whole_package(
             &mut self.output,
             alloc,
             self.emit_docs,
             resolve,
             id,
-            package,
             is_main,
         )
     }
@@ -154,6 +152,35 @@ impl<O: Output> WitPrinter<O> {
     {
         let interface = &resolve.interfaces[id.0 as usize];
         print_head(&mut self.output, alloc, self.emit_docs, interface, name)
+    }
+
+    /// Prints what an interface has, a block of its own: neither what stands before the block nor its end. Uses aren't printed yet.
+    ///
+    /// What the printer keeps meanwhile is bounded by the largest item. After a refusal the output has a beginning of
+    /// the calls.
+    pub fn print_interface(
+        &mut self,
+        alloc: Global,
+        resolve: &Resolve,
+        id: InterfaceId,
+    ) -> Result<(), Error>
+        requires valid { IsValid resolve.now }
+        requires declared { list_all (is_declared_alone resolve.now) resolve.now.types.items ≡ true }
+        requires in_range { id.0 < length resolve.now.interfaces.items }
+        ensures ok { OnOk result (Moves O.keeps (O.view self.old.output) (interface_body_calls (emits_docs self.old) resolve.now id) (O.view self.new.output)) }
+        ensures err { OnErr result (Begins O.keeps (O.view self.old.output) (interface_body_calls (emits_docs self.old) resolve.now id) (O.view self.new.output)) }
+        ensures memory { IsOkUnless result Memory }
+        ensures docs { emits_docs self.new ≡ emits_docs self.old }
+    {
+        let interface = &resolve.interfaces[id.0 as usize];
+        print_interface_body(
+            &mut self.output,
+            alloc,
+            self.emit_docs,
+            resolve,
+            id,
+            interface,
+        )
     }
 
     /// Prints a type as it stands where it is used: by its name, or else by its kind. A handle that owns a resource and has no

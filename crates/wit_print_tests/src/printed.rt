@@ -18,7 +18,7 @@ fn print_to<O: Output>(
     is_main: bool,
 ) -> Result<(), Fail> {
     assert!(rt; resolve.packages.len() > 0);
-    assert!(rt; resolve.interfaces.as_slice().is_empty() && resolve.types.as_slice().is_empty());
+    assert!(rt; resolve.types.as_slice().is_empty());
     resolve.check(alloc)?;
     printer.print_package(alloc, resolve, PackageId(0), is_main)?;
     Ok(())

@@ -1,7 +1,7 @@
 use Rattle.std.proofs.Common.{subst}
 use Rattle.wit_print.specs.OutputCall.{Moves, Begins}
 use Rattle.wit_print.proofs.Moves.{on_ok, on_err}
-use Rattle.wit_print.proofs.ShownPlain.{listed_at, calls_at}
+use Rattle.wit_print.proofs.PackageCalls.{listed_at, calls_at}
 use Rattle.wit_print.proofs.package.print_listed.Goals as goal
 
 pub print_world-requires-clause-world : goal.print_world-requires-clause-world

@@ -1,4 +1,4 @@
-use Rattle.std.proofs.Common.{◌++◌, refl, ap, ◌∙◌}
+use Rattle.std.proofs.Common.{ap, ◌∙◌}
 use Rattle.wit_print.specs.OutputCall.{lines_begun_after}
 use Rattle.wit_print.specs.Shown.{shown_type}
 use Rattle.wit_print.specs.Calls.{type_calls}

@@ -1,10 +1,10 @@
-use Rattle.std.proofs.Common.{[], ◌∷◌, ◌++◌, ◌∙◌, ap, append_assoc}
+use Rattle.std.proofs.Common.{◌∷◌, ◌++◌, ◌∙◌, ap, append_assoc, []}
 use Rattle.wit_model.specs.Text.{text_of}
 use Rattle.wit_print.specs.OutputCall.OutputCall.{Keyword}
 use Rattle.wit_print.specs.Tree.ExternTree.{NamedFunction}
 use Rattle.wit_print.specs.Shown.{function_prefix, shown_signature}
 use Rattle.wit_print.specs.Calls.{space, prefix_calls, world_extern_calls}
-use Rattle.wit_print.specs.ItemCalls.{named_calls}
+use Rattle.wit_print.specs.ItemCalls.{front_calls, named_calls}
 use Rattle.wit_print.specs.declared.type_kind.TypeKind.TheVariants.{Other}
 use Rattle.wit_print.proofs.Runs.{started, add, whole}
 use Rattle.wit_print.proofs.Moves.{on_ok}
@@ -15,11 +15,10 @@ returns c =
     let f = c.args.function.now in
     let signature = shown_signature c.args.resolve.now f in
     let word = c.args.word.now in
-    let front = prefix_calls c.args.emits_docs (function_prefix f) in
+    let prefix = prefix_calls c.args.emits_docs (function_prefix f) in
     let called = named_calls c.deref.result.now Other signature in
-    let first = add front (started c.args.draft.now.kept) c.in_ok-draft_prefix.ensures in
-    let third = add (space ∷ []) (add (Keyword word ∷ []) first c.in_ok-keyword.ensures) c.in_ok-str.ensures in
+    let first = add (front_calls c.args.emits_docs (function_prefix f) word) (started c.args.draft.now.kept) c.in_ok-draft_front.ensures in
     on_ok c.draft_named.result
-    (λ e. whole called (world_extern_calls c.args.emits_docs (function_prefix f) word (NamedFunction (text_of f.name) signature)) third e
-    (append_assoc (front ++ Keyword word ∷ []) (space ∷ []) called ∙ append_assoc front (Keyword word ∷ []) (space ∷ called) ∙ ap (λ name. front ++ (Keyword word ∷ space ∷ named_calls name Other signature)) c.deref.ensures))
+    (λ e. whole called (world_extern_calls c.args.emits_docs (function_prefix f) word (NamedFunction (text_of f.name) signature)) first e
+    (append_assoc prefix (Keyword word ∷ space ∷ []) called ∙ ap (λ name. prefix ++ (Keyword word ∷ space ∷ named_calls name Other signature)) c.deref.ensures))
     c.draft_named.ensures
