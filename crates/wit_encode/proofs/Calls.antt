@@ -21,7 +21,7 @@ use Rattle.comp_bytes.specs.Reading.{◌>>=◌}
 use Rattle.comp_meaning.specs.Follow as follow
 use Rattle.comp_meaning.specs.Follow.{Slot, InstanceScope, ShownType, new_instance, new_scope, definition, function_signature, named_type, named_like, declared_by, is_foreign_name, is_simple, show_type, instance_step, component_step, in_instance, in_scope}
 use Rattle.wit_encode_types.specs.Slots.{Standing, tree, function, SlotAdded, SlotsGrow, Follows, FollowsFunction, Defines, DefinesFunction}
-use Rattle.wit_encode_types.specs.Resources.{Names, is_resource_tree, is_resource_declaration}
+use Rattle.wit_encode_types.specs.Resources.{Names, is_resource_tree}
 use Rattle.wit_encode_types.specs.Scope.{Scope, IsDeclared, DeclaresSlot, DeclaresResource, exported_name}
 use Rattle.wit_encode_types.specs.Formed.{IsFormed, IsFormedSignature, is_formed}
 use Rattle.wit_encode_types.specs.Counts.{one_type_more, one_function_more, ExportsOne}

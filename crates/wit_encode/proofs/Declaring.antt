@@ -1,5 +1,5 @@
 -- What a declaration of a place is followed as, where its name is exported or imported.
-use Rattle.std.proofs.Common.{◌≡◌, refl, sym, ap, ◌∙◌, ℕ, Bool, true, not, List, Option, Some, None, slice_get}
+use Rattle.std.proofs.Common.{◌≡◌, refl, sym, ap, ◌∙◌, ℕ, true, not, List, Option, Some, None, slice_get}
 use Rattle.std.specs.List.{list_all}
 use Rattle.wit_model.specs.Text.{Text}
 use Rattle.wit_model.specs.Tree as tree_of_types
@@ -12,7 +12,7 @@ use Rattle.comp_bytes.specs.declared.forms.ComponentTypeRef.TheVariants as refs
 use Rattle.comp_meaning.specs.Follow.{Slot, declared_by, named_like, named_type}
 use Rattle.wit_encode_types.specs.Slots.{tree}
 use Rattle.wit_encode_types.specs.Resources.{is_resource_tree, is_resource_declaration}
-use Rattle.wit_encode_types.specs.Scope.{Scope, IsDeclared, DeclaresSlot, DeclaresResource}
+use Rattle.wit_encode_types.specs.Scope.{Scope, DeclaresSlot, DeclaresResource}
 use Rattle.wit_encode_types.specs.Standing.{SlotsStand, is_slot_of, standing_at}
 use Rattle.wit_encode.proofs.Strict.{bind, slot-at}
 

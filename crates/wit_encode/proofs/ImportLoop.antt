@@ -1,7 +1,7 @@
 -- Interfaces imported one after the other, in the order in which they are reached.
 use Rattle.std.proofs.Common.{◌≡◌, refl, sym, subst, ap, ◌∙◌, ℕ, zero, suc, ◌+◌, ◌<◌, ◌≤◌, ◌==◌, nat_lt, Bool, true, false, not, map, get_or, option_map, List, [], ◌∷◌, ◌++◌, length, take, append_assoc, Option, Some, None, slice_get, is_some, option_and_then, arith}
 use Rattle.std.specs.List.{AllByRecursion, Contains, IsDistinct, list_any}
-use Rattle.std.proofs.lemmas.List.Elements.{Contains-append_left, Contains-append_right}
+use Rattle.std.proofs.lemmas.List.Elements.{Contains-append_left}
 use Rattle.std.proofs.lemmas.Option.{slice_get_within, slice_get-map, slice_get-get_or}
 use Rattle.std.proofs.Math.ListN.{length-map}
 use Rattle.std.proofs.lemmas.List.{take_all}
@@ -20,7 +20,11 @@ use Rattle.wit_model.proofs.Elements.{equal, none-in, same-number, same-some}
 use Rattle.wit_shown.specs.Views.{AreReached, AreUsed, UseEarlier}
 use Rattle.wit_encode_types.specs.Known.{Around, UsedStand, known_instance, standing_instances}
 use Rattle.wit_encode_types.proofs.Paths.{found-in, some-of}
+use Rattle.comp_bytes.specs.Raw.{Declarations}
 use Rattle.wit_encode.specs.Dependencies.{AreImportable, HasImported, ImportsTypes, with_import}
+use Rattle.wit_encode.specs.DependencyCounts.{DefinesImports}
+use Rattle.wit_encode.specs.DependencyRoom.{HoldsImports, ImportsLackRoom, LacksImport}
+use Rattle.wit_encode.proofs.DependencyHolding.{import-defines, import-few, next-lacks}
 use Rattle.wit_encode.proofs.Imported.{imports_grow}
 use Rattle.wit_encode.proofs.ImportsStand.{imports_stand}
 use Rattle.wit_encode.proofs.UsedPaths.{used-path}
@@ -37,7 +41,7 @@ earlier-front : (r : Resolve) (earlier ns ms : List ℕ) → UseEarlier r earlie
 earlier-front r earlier [] ms u = tt
 earlier-front r earlier (x ∷ ns) ms u = (u.0, earlier-front r (earlier ++ x ∷ []) ns ms u.1)
 
-distinct-front : (xs ys : List ℕ) → IsDistinct (λ a b. a == b) (xs ++ ys) → IsDistinct (λ a b. a == b) xs
+pub distinct-front : (xs ys : List ℕ) → IsDistinct (λ a b. a == b) (xs ++ ys) → IsDistinct (λ a b. a == b) xs
 unfolding IsDistinct
 distinct-front [] ys d = tt
 distinct-front (x ∷ xs) ys d = (front xs d.0, distinct-front xs ys d.1)
@@ -164,6 +168,9 @@ few-importable r v ns h =
 pub moved : (r r' : Resolve) (xs ys : List InterfaceId) (a : Around) → r' ≡ r → ys ≡ xs → HasImported r' a (map (λ (id : InterfaceId). id.0) ys) → HasImported r a (map (λ (id : InterfaceId). id.0) xs)
 moved r r' xs ys a e l h = subst (λ (q : Resolve). HasImported q a (map (λ (id : InterfaceId). id.0) xs)) e (subst (λ (zs : List InterfaceId). HasImported r' a (map (λ (id : InterfaceId). id.0) zs)) l h)
 
+pub moved-held : (r r' : Resolve) (xs ys : List InterfaceId) (a : Around) → r' ≡ r → ys ≡ xs → HoldsImports r' a (map (λ (id : InterfaceId). id.0) ys) → HoldsImports r a (map (λ (id : InterfaceId). id.0) xs)
+moved-held r r' xs ys a e l h = subst (λ (q : Resolve). HoldsImports q a (map (λ (id : InterfaceId). id.0) xs)) e (subst (λ (zs : List InterfaceId). HoldsImports r' a (map (λ (id : InterfaceId). id.0) zs)) l h)
+
 abbrev item : List InterfaceId → ℕ → InterfaceId
 item xs k = get_or xs k (record { 0 = 0 })
 
@@ -196,3 +203,49 @@ pub all-imported : (r r' : Resolve) (xs : List InterfaceId) (k : ℕ) (a : Aroun
 all-imported r r' xs k a e l h =
     let same : length (numbers xs) ≡ length xs = length-map xs (λ (id : InterfaceId). id.0) in
     subst (λ (q : Resolve). HasImported q a (numbers xs)) e (subst (HasImported r' a) (take_all k (numbers xs) (omega (arith, same, l))) h)
+
+-- ---- how much is held and defined
+
+numbers-next : (xs : List InterfaceId) (k : ℕ) → k < length xs → take k (numbers xs) ++ (item xs k).0 ∷ [] ≡ take (k + 1) (numbers xs)
+numbers-next xs k l = take-next (numbers xs) k (item xs k).0 (number-at xs k l) ∙ (let more : suc k ≡ k + 1 = omega arith in ap (λ (j : ℕ). take j (numbers xs)) more)
+
+pub defines-next : (r r' : Resolve) (canonical : Bool) (xs : List InterfaceId) (k : ℕ) (a a' : Around) → r' ≡ r → k < length xs → ImportsTypes r' canonical a a' (item xs k) k → DefinesImports r a.declared (take k (numbers xs)) → DefinesImports r a'.declared (take (k + 1) (numbers xs))
+defines-next r r' canonical xs k a a' e l t h =
+    let u : ImportsTypes r canonical a a' (item xs k) k = subst (λ (q : Resolve). ImportsTypes q canonical a a' (item xs k) k) e t in
+    subst (DefinesImports r a'.declared) (numbers-next xs k l) (import-defines r canonical a a' (item xs k) k u (take k (numbers xs)) h)
+
+pub held-next : (r r' : Resolve) (canonical : Bool) (xs : List InterfaceId) (k : ℕ) (a a' : Around) → r' ≡ r → k < length xs → ImportsTypes r' canonical a a' (item xs k) k → HoldsImports r a (take k (numbers xs)) → HoldsImports r a' (take (k + 1) (numbers xs))
+held-next r r' canonical xs k a a' e l t h =
+    subst (HoldsImports r a') (numbers-next xs k l) (import-few r canonical a a' (item xs k) k (subst (λ (q : Resolve). ImportsTypes q canonical a a' (item xs k) k) e t) (take k (numbers xs)) h)
+
+-- the next one has no room
+pub next-refused : (r r' : Resolve) (canonical : Bool) (xs : List InterfaceId) (k : ℕ) (a : Around) → r' ≡ r → k < length xs → HasImported r' a (take k (numbers xs)) → HoldsImports r a (take k (numbers xs)) → LacksImport r' canonical a (item xs k)
+    → ImportsLackRoom r (numbers xs)
+next-refused r r' canonical xs k a e l h held lacks =
+    let at = number-at xs k l in
+    let few : length (take k (numbers xs)) ≡ k = length-taken (numbers xs) k (item xs k).0 at in
+    let all : length (numbers xs) ≡ length xs = length-map xs (λ (id : InterfaceId). id.0) in
+    next-lacks r (numbers xs) (take k (numbers xs)) (taken (numbers xs) k) (omega (arith, few, all, l)) a (subst (λ (q : Resolve). HasImported q a (take k (numbers xs))) e h) held
+    canonical (item xs k) (there (numbers xs) k (item xs k).0 at) (subst (λ (q : Resolve). LacksImport q canonical a (item xs k)) e lacks)
+  where
+    taken : (ns : List ℕ) (k n : ℕ) → Contains (take k ns) n → Contains ns n
+    taken [] zero n c = none-in n c
+    taken [] (suc k) n c = none-in n c
+    taken (x ∷ ns) zero n c = none-in n c
+    taken (x ∷ ns) (suc k) n (zero, l, q) = (0, omega arith, q)
+    taken (x ∷ ns) (suc k) n (suc j, l, q) = let rest = taken ns k n (j, omega (arith, l), q) in (suc rest.0, (let m = rest.1 in omega arith), rest.2)
+
+    there : (ns : List ℕ) (k n : ℕ) → slice_get ns k ≡ Some n → Contains ns n
+    there [] k n q = let wrong : ⊥ = cc in absurd wrong
+    there (x ∷ ns) zero n q = (0, omega arith, same-some x n q)
+    there (x ∷ ns) (suc k) n q = let rest = there ns k n q in (suc rest.0, (let m = rest.1 in omega arith), rest.2)
+
+pub all-defined : (r : Resolve) (xs : List InterfaceId) (k : ℕ) (declared : Declarations) → length xs ≤ k → DefinesImports r declared (take k (numbers xs)) → DefinesImports r declared (numbers xs)
+all-defined r xs k declared l h =
+    let same : length (numbers xs) ≡ length xs = length-map xs (λ (id : InterfaceId). id.0) in
+    subst (DefinesImports r declared) (take_all k (numbers xs) (omega (arith, same, l))) h
+
+pub all-held : (r : Resolve) (xs : List InterfaceId) (k : ℕ) (a : Around) → length xs ≤ k → HoldsImports r a (take k (numbers xs)) → HoldsImports r a (numbers xs)
+all-held r xs k a l h =
+    let same : length (numbers xs) ≡ length xs = length-map xs (λ (id : InterfaceId). id.0) in
+    subst (HoldsImports r a) (take_all k (numbers xs) (omega (arith, same, l))) h

@@ -1,7 +1,6 @@
 -- What a component type has imported, after aliases, and after one instance type more and the import or export that uses it.
-use Rattle.std.proofs.Common.{◌≡◌, ◌⊎◌, inl, inr, refl, sym, subst, ap, ◌∙◌, ℕ, zero, suc, ◌+◌, ◌<◌, ◌≤◌, ◌==◌, nat_lt, nat_cmp, Ordering, Bool, true, false, cond, List, [], ◌∷◌, ◌++◌, length, length-append, map, take, Option, Some, None, slice_get, arith}
-use Rattle.std.specs.Prelude.{◌&&◌}
-use Rattle.std.specs.List.{AllZip, Contains, list_all}
+use Rattle.std.proofs.Common.{◌≡◌, ◌⊎◌, inl, inr, refl, sym, subst, ap, ◌∙◌, ℕ, zero, suc, ◌+◌, ◌<◌, ◌==◌, nat_lt, nat_cmp, Ordering, Bool, true, false, cond, List, [], ◌∷◌, ◌++◌, length, length-append, Some, None, slice_get, arith}
+use Rattle.std.specs.List.{Contains, list_all}
 use Rattle.std.specs.Option.{option_map_or}
 use Rattle.std.specs.BTreeMap.{insert_entry, is_at}
 use Rattle.std.specs.FinMap.{nat_cmp-IsAntisymmetric}
@@ -13,32 +12,31 @@ use Rattle.std.proofs.lemmas.List.{map-append}
 use Rattle.std.proofs.lemmas.List.Elements.{Contains-append_left, Contains-append_right}
 use Rattle.std.proofs.lemmas.List.Folds.{list_all-append}
 use Rattle.wit_model.specs.Text.{Text}
-use Rattle.wit_model.specs.Lookup.{interface_path, place_of, place_of_path}
+use Rattle.wit_model.specs.Lookup.{interface_path, place_of_path}
 use Rattle.wit_model.specs.Valid.{IsValid}
 use Rattle.wit_model.specs.declared.model.Resolve.{Resolve}
 use Rattle.wit_model.specs.declared.model.Interface.{Interface}
 use Rattle.wit_model.specs.declared.model.InterfaceId.{InterfaceId}
 use Rattle.wit_model.specs.declared.model.Function.{Function}
-use Rattle.wit_model.specs.declared.model.TypeOwner.TheVariants as owner
 use Rattle.wit_model.proofs.Elements.{contains-one, same-number, same-some, zip-push}
 use Rattle.wit_model.proofs.Lists.{first_true}
-use Rattle.comp_bytes.specs.Raw.{Declaration, Declarations, append}
+use Rattle.comp_bytes.specs.Raw.{Declarations, append}
 use Rattle.comp_bytes.specs.Held.{type_slots_of}
 use Rattle.comp_bytes.specs.Reading.{◌>>=◌}
 use Rattle.comp_bytes.specs.declared.forms.ComponentTypeRef.TheVariants as refs
 use Rattle.comp_meaning.specs.Follow as follow
 use Rattle.comp_meaning.specs.Follow.{Direction, import_, export_, Instance, Key, Scope, Seen, Slot, View, component_scope, component_step, in_scope, instance_types, instance_view, is_foreign_name, new_scope, provided, see, used_view}
 use Rattle.comp_bytes.specs.Raw.{ExternName}
-use Rattle.wit_shown.specs.Views.{AreReached, ShowsImport}
+use Rattle.wit_shown.specs.Views.{ShowsImport}
 use Rattle.world_names.specs.WorldNames.{name_of_interface}
 use Rattle.world_names.specs.WorldSteps.{declared_towards, seen_instance, with_instance}
 use Rattle.world_names.proofs.PathsRead.{path-key}
 use Rattle.world_names.proofs.WorldSteps.{below-more, instance-step, slot-behind, types-appended, unused}
-use Rattle.wit_encode_types.specs.Known.{Aliased, AreAliases, Around, GrowsAround, IsAlias, are_right, is_slot_for, known_instance, known_slot, no_around, outer_scope, outer_slots, with_alias, with_aliases}
+use Rattle.wit_encode_types.specs.Known.{Aliased, AreAliases, Around, IsAlias, are_right, known_instance, known_slot, outer_scope, outer_slots, with_alias, with_aliases}
 use Rattle.wit_encode_types.proofs.Lists.{both}
 use Rattle.wit_encode_types.proofs.Tables.{equal-is}
-use Rattle.wit_encode.specs.Instance.{EncodesDependency, EncodesInterface, EncodesPart}
-use Rattle.wit_encode.specs.Dependencies.{AliasesLeaveImports, ExportsEnd, HasImported, ImportsGrow, NothingIsImported, ShowsComponent, imported_instance, seen_import, with_export, with_import}
+use Rattle.wit_encode.specs.Instance.{EncodesPart}
+use Rattle.wit_encode.specs.Dependencies.{AliasesLeaveImports, ExportsEnd, HasImported, ImportsGrow, NothingIsImported, imported_instance, seen_import, with_export, with_import}
 use Rattle.wit_encode.proofs.Components.{steps-count, steps-instance, steps-more}
 use Rattle.wit_encode.proofs.Importing.{new-slot, right-more, stands, still-right, wide}
 

@@ -1,5 +1,5 @@
 -- Instances of the interfaces that have been imported stand.
-use Rattle.std.proofs.Common.{◌≡◌, refl, sym, subst, ap, ◌∙◌, ℕ, zero, suc, ◌+◌, ◌<◌, nat_lt, Bool, true, false, not, ◌&&◌, ◌||◌, if◌then◌else◌, List, [], ◌∷◌, length, Option, Some, None, String, slice_get, is_some, map, option_map, option_and_then, arith}
+use Rattle.std.proofs.Common.{◌≡◌, refl, sym, subst, ap, ◌∙◌, ℕ, zero, suc, ◌+◌, ◌<◌, nat_lt, Bool, true, false, not, ◌||◌, if◌then◌else◌, List, [], ◌∷◌, length, Option, Some, None, String, slice_get, is_some, map, option_map, option_and_then, arith}
 use Rattle.std.specs.List.{AllZip, Contains, filter, list_all}
 use Rattle.std.specs.Option.{option_map_or}
 use Rattle.std.specs.declared.alloc.Global.{Global}
@@ -7,8 +7,8 @@ use Rattle.std.proofs.lemmas.Bool.{ltb-true, ltb-false}
 use Rattle.std.proofs.lemmas.Cmp.{nat_list_eq_equiv}
 use Rattle.std.proofs.lemmas.List.Sorted.{IsPermutation-refl}
 use Rattle.std.proofs.lemmas.Option.{slice_get-map, slice_get_within}
-use Rattle.wit_model.specs.Text.{Text, text_eq, text_of}
-use Rattle.wit_model.specs.Tree.{Tree, named, of_interface}
+use Rattle.wit_model.specs.Text.{Text, text_of}
+use Rattle.wit_model.specs.Tree.{named, of_interface}
 use Rattle.wit_model.specs.Types.{number_tree}
 use Rattle.wit_model.specs.Lookup.{interface_at, interface_path, path_of_interface, place_of, place_of_path, type_at}
 use Rattle.wit_model.specs.Parts.{is_resource, numbered_from, same_owner}
@@ -21,13 +21,13 @@ use Rattle.wit_model.specs.declared.model.TypeOwner.{TypeOwner}
 use Rattle.wit_model.specs.declared.model.TypeOwner.TheVariants as owner
 use Rattle.wit_model.proofs.Elements.{contains-get, same-some}
 use Rattle.wit_model.proofs.Lists.{first_true, second_true}
-use Rattle.comp_meaning.specs.Follow.{Instance, Slot, View, find_type}
-use Rattle.wit_shown.specs.Views.{ShowsImport, ShowsInterface, ShowsTypes, functions_of, home_of, name_slot}
+use Rattle.comp_meaning.specs.Follow.{View, find_type}
+use Rattle.wit_shown.specs.Views.{ShowsImport, ShowsInterface, functions_of, home_of, name_slot}
 use Rattle.wit_shown.proofs.Parts.{named-tree}
 use Rattle.wit_shown.proofs.Zips.{contains-filter}
 use Rattle.world_names.proofs.TypesFound.{types_are_found}
-use Rattle.wit_encode_types.specs.Resources.{Names, is_named_interface, named_resources}
-use Rattle.wit_encode_types.specs.Known.{Around, are_right, below, is_instance_of, is_known_as, is_named_of, is_slot_for, is_standing, known_instance, outer_instances, outer_slots, shows_type, standing_instances, stands_around}
+use Rattle.wit_encode_types.specs.Resources.{is_named_interface, named_resources}
+use Rattle.wit_encode_types.specs.Known.{Around, below, is_instance_of, is_known_as, is_named_of, is_slot_for, is_standing, outer_instances, shows_type, standing_instances, stands_around}
 use Rattle.wit_encode_types.proofs.Lists.{both}
 use Rattle.wit_encode_types.proofs.Paths.{some-of}
 use Rattle.wit_encode.proofs.Naming.{HaveHomes, names-agree, one-home, or-second, place-alike}

@@ -23,7 +23,7 @@ module _ (i number : ℕ) where
   own-key : is_at (nat_cmp i) i ≡ true
   own-key = ap is_eq (equal-self nat_cmp_total i)
 
-  found-new : (es : List (ℕ × ℕ)) → known_instance (insert_entry nat_cmp es i number) i ≡ Some number
+  pub found-new : (es : List (ℕ × ℕ)) → known_instance (insert_entry nat_cmp es i number) i ≡ Some number
   found-new [] = cond-true _ _ _ own-key
   found-new (e ∷ es) = by (nat_cmp i e.0) refl (found-new es)
     where
@@ -33,7 +33,7 @@ module _ (i number : ℕ) where
       by Equal q more = let here : is_eq (nat_cmp i e.0) ≡ true = ap is_eq q in cond-true _ _ _ here
       by Greater q more = let other : is_eq (nat_cmp i e.0) ≡ false = ap is_eq q in cond-false _ _ _ other ∙ more
 
-  found-other : (m : ℕ) (es : List (ℕ × ℕ)) → is_at (nat_cmp m) i ≡ false → known_instance (insert_entry nat_cmp es i number) m ≡ known_instance es m
+  pub found-other : (m : ℕ) (es : List (ℕ × ℕ)) → is_at (nat_cmp m) i ≡ false → known_instance (insert_entry nat_cmp es i number) m ≡ known_instance es m
   found-other m [] other = cond-false _ _ _ other
   found-other m (e ∷ es) other = by (nat_cmp i e.0) refl (found-other m es other)
     where

@@ -57,3 +57,7 @@ pub mod WorldWeighing
 pub mod WorldBrought
 pub mod WorldCounting
 pub mod WorldHolding
+pub mod PlacedInstances
+pub mod WorldInstances
+pub mod DependencyHolding
+pub mod DependencyWeighing

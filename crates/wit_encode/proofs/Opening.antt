@@ -11,7 +11,6 @@ use Rattle.wit_model.specs.declared.model.Interface.{Interface}
 use Rattle.wit_model.specs.declared.model.Function.{Function}
 use Rattle.comp_bytes.specs.Held.{type_slots_of}
 use Rattle.std.specs.List.{list_all}
-use Rattle.std.specs.FinMap.{from_entries}
 use Rattle.std.specs.Option.{option_map_or}
 use Rattle.wit_model.specs.Text.{Text}
 use Rattle.wit_model.specs.Tree.{Place}
@@ -41,7 +40,7 @@ use Rattle.wit_encode.specs.Exports.{AreTypesOf}
 use Rattle.wit_encode_types.proofs.Paths.{some-same}
 use Rattle.indexmap.specs.IndexMap.{values}
 use Rattle.wit_encode.proofs.ShownSlots.{interface-shown}
-use Rattle.wit_encode.specs.Instance.{is_slot_of, no_view, outer_slots, inner_contents, outer_contents, stands_in, SlotsStand, own_of, around_at, around_of, standing_instances, resources_in, contents_of, encoder_scope, opened, keyed, placed_function, meaning_of, is_sound_in, IsInstance, Continues, definitions_with}
+use Rattle.wit_encode.specs.Instance.{is_slot_of, no_view, outer_slots, inner_contents, outer_contents, stands_in, SlotsStand, own_of, around_at, around_of, standing_instances, resources_in, contents_of, encoder_scope, opened, keyed, placed_function, is_sound_in, IsInstance, Continues, definitions_with}
 use Rattle.wit_encode_types.specs.Slots.{Keeps}
 use Rattle.wit_encode.proofs.Calls.{InnerAt, inner-at}
 use Rattle.wit_encode.proofs.Outside.{instance-keeps}

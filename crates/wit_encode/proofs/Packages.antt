@@ -1,8 +1,7 @@
 -- Component types that are added one after the other.
-use Rattle.std.proofs.Common.{◌≡◌, refl, sym, ap, subst, ◌∙◌, ℕ, Bool, true, List, [], ◌∷◌, ◌++◌, append_assoc, append-nil, Some, String, Result, Ok, Err, IfErr, OnOk, ◌⊎◌, inl, inr}
+use Rattle.std.proofs.Common.{◌≡◌, refl, sym, ap, subst, ◌∙◌, ℕ, Bool, true, List, [], ◌∷◌, ◌++◌, append_assoc, append-nil, Some, Result, Ok, Err, IfErr, OnOk, ◌⊎◌, inl, inr}
 use Rattle.std.specs.Prelude.{IsErrAnd}
-use Rattle.std.specs.List.{AllZip, Contains}
-use Rattle.std.specs.declared.alloc.Global.{Global}
+use Rattle.std.specs.List.{Contains}
 use Rattle.std.proofs.lemmas.List.Elements.{Contains-append_cases, Contains-append_left, Contains-append_right}
 use Rattle.wit_model.specs.Text.{Text, text_of}
 use Rattle.wit_model.specs.Names.{PackageIdentity}
@@ -16,6 +15,7 @@ use Rattle.comp_bytes.specs.Parts.{Part}
 use Rattle.comp_bytes.specs.Refusal.{IsMemoryOrSize}
 use Rattle.component_exports.specs.ExportedParts.{exporting}
 use Rattle.wit_encode.specs.Dependencies.{ShowsComponent}
+use Rattle.wit_encode.specs.DependencyCounts.{DefinesComponent}
 use Rattle.wit_encode.specs.Scopes.{HasNoEqualPaths, RefusesInterface}
 use Rattle.wit_encode.specs.WholeWorlds.{RefusesWorld}
 use Rattle.wit_encode.specs.Packages.{AddsInterface, AddsWorld, AddsWorlds, HasNoClashAt, HaveNoClash, HaveNoEqualPaths, HoldsInterfaces, IsTypeOf, IsWrapperOf, Listed, ListedWorld, RefusesInterfaces, RefusesWorldAt, RefusesWorlds, WrapsWorld}
@@ -24,11 +24,11 @@ pub on-ok : {X E A B : Type 0} (given : Result X E) → OnOk given A → (A → 
 on-ok (Ok x) a f = f a
 on-ok (Err e) a f = tt
 
-pub type-added : (r : Resolve) (e : Listed) (declared : Declarations) (old new : List Part) → ((path : Text) → interface_path r e.1.0 ≡ Some path → ShowsComponent r e.1.0 path declared)
+pub type-added : (r : Resolve) (e : Listed) (declared : Declarations) (old new : List Part) → ((path : Text) → interface_path r e.1.0 ≡ Some path → ShowsComponent r e.1.0 path declared) → DefinesComponent r e.1.0 declared
     → ((types : List (Text × Declarations)) → old ≡ exporting types → new ≡ exporting (types ++ (text_of e.0, declared) ∷ [])) → AddsInterface r e old new
-type-added r e declared old new shows more = λ entries h. record {
+type-added r e declared old new shows once more = λ entries h. record {
   types = h.types ++ (text_of e.0, declared) ∷ [];
-  are = zip-push (IsTypeOf r) entries h.types e (text_of e.0, declared) h.are (record { label = refl; shows = shows });
+  are = zip-push (IsTypeOf r) entries h.types e (text_of e.0, declared) h.are (record { label = refl; shows = shows; once = once });
   is = more h.types h.is;
 }
 

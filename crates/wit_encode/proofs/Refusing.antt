@@ -1,5 +1,5 @@
 -- What has no room in an encoder of interfaces, where a call has refused it.
-use Rattle.std.proofs.Common.{◌≡◌, refl, sym, subst, ap, ◌∙◌, ◌&&◌, ℕ, ◌+◌, ◌*◌, ◌<◌, ◌≤◌, ◌^◌, ◌⊎◌, inl, inr, suc, Bool, true, false, nat_lt, arith, List, [], ◌∷◌, ◌++◌, map, length, length-append, Result, Ok, Err, OnOk, OnErr, Option, Some, None, String}
+use Rattle.std.proofs.Common.{◌≡◌, refl, sym, subst, ap, ◌∙◌, ◌&&◌, ℕ, ◌+◌, ◌*◌, ◌<◌, ◌≤◌, ◌^◌, ◌⊎◌, inl, inr, suc, Bool, true, false, nat_lt, arith, List, [], ◌∷◌, ◌++◌, map, length, length-append, Result, Ok, Err, OnOk, OnErr, IfErr, Option, Some, None, String}
 use Rattle.std.specs.List.{list_all, AllZip, flat_map}
 use Rattle.std.specs.Borrow.{Bor}
 use Rattle.std.specs.declared.alloc.Global.{Global}
@@ -36,6 +36,10 @@ use Rattle.wit_encode.specs.Instance.{held_in, lacks_room_in, placed_function}
 pub on-size : {A : Type 0} (res : Result A Error) (P : Type 0) → OnErr res P → res ≡ Err errors.Size → P
 on-size (Ok x) P p h = absurd (let z : ⊥ = cc in z)
 on-size (Err e) P p h = p
+
+pub never-size : {A Q : Type 0} (res : Result A Error) → IfErr res (λ e. e ≡ errors.Memory) → res ≡ Err errors.Size → Q
+never-size (Ok x) h refused = absurd (let z : ⊥ = cc in z)
+never-size (Err e) h refused = absurd (let z : ⊥ = cc in z)
 
 -- ---- what doesn't fit, or isn't the last
 
@@ -248,7 +252,7 @@ pub one-pushed : {A E : Type 0} (res : Result A E) (ds ds' : List Declaration) (
 one-pushed (Ok x) ds ds' d ok err = let e : length ds' ≡ length (ds ++ d ∷ []) = ap length ok in let l = length-append ds (d ∷ []) in omega arith
 one-pushed (Err x) ds ds' d ok err = let e : length ds' ≡ length ds = ap length err in omega arith
 
-one-appended : (ds : Declarations) (d : Declaration) → declaration_count (append ds (Declarations.declares d Declarations.no_more)) ≡ declaration_count ds + 1
+pub one-appended : (ds : Declarations) (d : Declaration) → declaration_count (append ds (Declarations.declares d Declarations.no_more)) ≡ declaration_count ds + 1
 one-appended Declarations.no_more d = omega arith
 one-appended (Declarations.declares e rest) d = let h = one-appended rest d in omega arith
 one-appended (Declarations.component inner rest) d = let h = one-appended rest d in omega arith

@@ -2,6 +2,7 @@
 use Rattle.std.proofs.Common.{◌≡◌, sym, ap, subst, ◌∙◌, ℕ, Bool, List, map, Result, Ok, Err, IfErr}
 use Rattle.std.specs.Prelude.{IsErrAnd}
 use Rattle.wit_model.specs.declared.error.Error.{Error}
+use Rattle.wit_model.specs.declared.error.Error.TheVariants as errors
 use Rattle.wit_model.specs.declared.model.Resolve.{Resolve}
 use Rattle.wit_model.specs.declared.model.InterfaceId.{InterfaceId}
 use Rattle.interface_reach.specs.Reach.{reached_in_order}
@@ -16,3 +17,9 @@ pub refused-by_paths : {X : Type 0} (r : Resolve) (n : ℕ) (canonical : Bool) (
 refused-by_paths r n canonical found xs e (Ok x) same order refuses h = tt
 refused-by_paths r n canonical found xs e (Err f) same order refuses h =
     subst (RefusesInterface r n canonical) (sym h) (RefusesInterface.of_paths (subst (λ (ns : List ℕ). RefusesPaths r ns canonical e) (ap numbers same ∙ order) refuses))
+
+-- paths that clash aren't too large
+pub paths-fit : {X Q : Type 0} (r : Resolve) (ns : List ℕ) (canonical : Bool) (e : Error) (given : Result X Error) → RefusesPaths r ns canonical e → IsErrAnd given (λ f. f ≡ e) → given ≡ Err errors.Size → Q
+paths-fit r ns canonical e (Ok x) refuses h refused = absurd (let z : ⊥ = cc in z)
+paths-fit r ns canonical e (Err f) (RefusesPaths.memory is) h refused = absurd (let z : ⊥ = cc in z)
+paths-fit r ns canonical e (Err f) (RefusesPaths.clash asked name at is) h refused = absurd (let z : ⊥ = cc in z)

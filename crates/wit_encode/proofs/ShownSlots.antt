@@ -1,6 +1,6 @@
 -- What the slots of the types stand for that an instance type shows: each for the name of its type, and for that of a resource exactly where the
 -- name is one.
-use Rattle.std.proofs.Common.{◌≡◌, ◌⊎◌, inl, inr, refl, sym, subst, ap, ◌∙◌, Bool, true, false, not, List, [], ◌∷◌, ◌++◌, map, Option, Some, None, String, slice_get}
+use Rattle.std.proofs.Common.{◌≡◌, ◌⊎◌, inl, inr, refl, sym, subst, ap, ◌∙◌, Bool, true, false, not, List, [], ◌∷◌, ◌++◌, map, Option, Some, String, slice_get}
 use Rattle.std.specs.List.{Contains, list_all}
 use Rattle.std.specs.Option.{option_map_or}
 use Rattle.std.specs.declared.alloc.Global.{Global}
@@ -23,8 +23,7 @@ use Rattle.wit_model.proofs.Elements.{none-in, one-contained, contains-one, cont
 use Rattle.comp_bytes.specs.declared.forms.ComponentTypeRef.{ComponentTypeRef}
 use Rattle.comp_bytes.specs.declared.forms.ComponentTypeRef.TheVariants as refs
 use Rattle.comp_bytes.specs.Raw.{Declaration, Alias, ExternName}
-use Rattle.comp_bytes.specs.Reading.{◌>>=◌}
-use Rattle.comp_meaning.specs.Follow.{Slot, ShownType, InstanceScope, when, provided, is_simple, is_foreign_name, in_instance, definition, function_signature, function_in, declared_by, named_like, named_type, show, show_type, show_function, instance_step, instance_steps, new_instance}
+use Rattle.comp_meaning.specs.Follow.{Slot, ShownType, InstanceScope, is_simple, in_instance, definition, function_signature, function_in, declared_by, named_like, named_type, show_type, show_function, instance_step, instance_steps, new_instance}
 use Rattle.wit_shown.specs.Views.{name_slot, shown_type, types_of}
 use Rattle.wit_encode_types.specs.Resources.{Names, is_met_owner, resource_names}
 use Rattle.wit_encode_types.specs.Standing.{is_slot_of}

@@ -1,7 +1,7 @@
 -- An interface that another uses has a path.
-use Rattle.std.proofs.Common.{◌≡◌, refl, sym, subst, ap, ◌∙◌, ℕ, ◌==◌, Bool, true, false, not, ◌&&◌, ◌||◌, List, [], ◌∷◌, Option, Some, None, String, is_some, option_and_then}
+use Rattle.std.proofs.Common.{◌≡◌, refl, sym, subst, ap, ◌∙◌, ℕ, ◌==◌, Bool, true, false, not, ◌&&◌, ◌||◌, [], ◌∷◌, Option, Some, None, String, is_some, option_and_then}
 use Rattle.std.specs.declared.alloc.Global.{Global}
-use Rattle.std.specs.Prelude.{is_none, filter_map}
+use Rattle.std.specs.Prelude.{is_none}
 use Rattle.std.specs.List.{Contains, list_all}
 use Rattle.std.specs.Option.{option_map_or}
 use Rattle.indexmap.specs.IndexMap.{values}
@@ -12,22 +12,20 @@ use Rattle.wit_model.specs.Rules.{is_named_kind, is_named_number, is_use, passes
 use Rattle.wit_model.specs.Valid.{IsValid, named_kinds}
 use Rattle.wit_model.specs.declared.model.Resolve.{Resolve}
 use Rattle.wit_model.specs.declared.model.Interface.{Interface}
-use Rattle.wit_model.specs.declared.model.InterfaceId.{InterfaceId}
 use Rattle.wit_model.specs.declared.model.TypeDef.{TypeDef}
 use Rattle.wit_model.specs.declared.model.TypeDefKind.{TypeDefKind}
 use Rattle.wit_model.specs.declared.model.TypeDefKind.TheVariants as kind
 use Rattle.wit_model.specs.declared.model.TypeId.{TypeId}
 use Rattle.wit_model.specs.declared.model.«Type».TheVariants as ty
-use Rattle.wit_model.specs.declared.model.TypeOwner.{TypeOwner}
 use Rattle.wit_model.specs.declared.model.TypeOwner.TheVariants as owner
 use Rattle.wit_model.proofs.Elements.{all-contained, contains-flat, contains-get, contains-one, none-in, same-number}
-use Rattle.wit_model.proofs.Lists.{first_true, second_true}
+use Rattle.wit_model.proofs.Lists.{second_true}
 use Rattle.wit_shown.proofs.Basics.{type-passes, valid-references}
 use Rattle.wit_shown.proofs.Interfaces.{contains-mapped}
 use Rattle.wit_shown.proofs.Reach.{once_from}
 use Rattle.wit_shown.proofs.Zips.{filter-contains, given-contains}
 use Rattle.wit_encode_types.proofs.Paths.{named-path, some-of, some-same}
-use Rattle.wit_encode.proofs.ListedTypes.{IsListedType, listed-type}
+use Rattle.wit_encode.proofs.ListedTypes.{listed-type}
 use Rattle.wit_encode.proofs.Meeting.{named-meets}
 use Rattle.wit_encode.proofs.Owned.{owner-kept, same-owner, or-cases}
 

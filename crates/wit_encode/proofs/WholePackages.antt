@@ -1,12 +1,11 @@
 -- A component with the component types of a package means the package.
-use Rattle.std.proofs.Common.{◌≡◌, ◌<◌, ◌||◌, ◌&&◌, refl, sym, ap, subst, ◌∙◌, ℕ, zero, suc, Bool, true, false, List, [], ◌∷◌, ◌++◌, append-nil, arith, length, Some, String, Result, Ok, Err, IfErr, IfOk, is_some}
+use Rattle.std.proofs.Common.{◌≡◌, ◌||◌, ◌&&◌, refl, sym, ap, subst, ◌∙◌, ℕ, Bool, true, false, List, [], ◌∷◌, ◌++◌, append-nil, length, Some, Result, Ok, Err, IfErr, is_some}
 use Rattle.std.specs.Prelude.{IsErrAnd}
 use Rattle.std.specs.List.{AllZip, Contains, list_all}
-use Rattle.std.specs.declared.alloc.Global.{Global}
 use Rattle.std.proofs.lemmas.Bool.{true≢false, ltb-true}
 use Rattle.std.proofs.lemmas.List.Elements.{Contains-append_left, Contains-append_right}
-use Rattle.wit_model.specs.Text.{Text, text_of}
-use Rattle.wit_model.specs.Lookup.{package_at, interface_path, world_at, identity_of}
+use Rattle.wit_model.specs.Text.{Text}
+use Rattle.wit_model.specs.Lookup.{package_at, identity_of}
 use Rattle.wit_model.specs.Rules.{in_list}
 use Rattle.wit_model.specs.Valid.{is_place, numbers_in_range}
 use Rattle.wit_model.proofs.OnePath.{package-passes}
@@ -29,7 +28,7 @@ use Rattle.component_exports.proofs.Exports.{all_exported}
 use Rattle.wit_shown.specs.PackageTypes.{ArePackageTypes, IsInterfaceType, IsListedWorldType}
 use Rattle.wit_shown.proofs.Owning.{own-path}
 use Rattle.wit_shown.proofs.PackageTypes as shown
-use Rattle.wit_encode.specs.Packages.{AddsWorlds, AreNamed, AreWorlds, HasMembers, HasNoClashes, HasNoMembers, HaveNoClash, HaveNoEqualPaths, HoldsInterfaces, HoldsMembers, HoldsPackage, IsTypeOf, IsWrapperOf, Listed, ListedWorld, MeansPackage, RefusesInterfaces, RefusesPackage, RefusesWorlds}
+use Rattle.wit_encode.specs.Packages.{AddsWorlds, AreNamed, AreWorlds, HasMembers, HasNoClashes, HasNoMembers, HaveNoEqualPaths, HoldsInterfaces, HoldsMembers, HoldsPackage, IsTypeOf, IsWrapperOf, Listed, ListedWorld, MeansPackage, RefusesInterfaces, RefusesPackage, RefusesWorlds}
 
 -- ---- what stands in a package
 
@@ -98,6 +97,7 @@ module _ (r : Resolve) (v : IsValid r) (n : ℕ) (p : Package) (at : package_at 
           are = refl;
         };
         is = all.is;
+        members = all;
       }
 
   -- ---- its bytes

@@ -3,6 +3,7 @@ use Rattle.std.proofs.Common.{◌≡◌, sym, subst, Bool, true}
 use Rattle.std.specs.Prelude.{IfErr, IsErrAnd, OnOk, Result, Ok, Err}
 use Rattle.wit_model.specs.Valid.{IsValid}
 use Rattle.wit_model.specs.declared.error.Error.{Error}
+use Rattle.wit_model.specs.declared.error.Error.TheVariants as errors
 use Rattle.wit_model.specs.declared.model.Resolve.{Resolve}
 use Rattle.wit_model.specs.declared.model.World.{World}
 use Rattle.comp_bytes.specs.Refusal.{IsMemoryOrSize}
@@ -41,3 +42,9 @@ module _ (r : Resolve) (w : World) (canonical : Bool) where
   pub none-clash : {X : Type 0} → HasNoClash r w → (given : Result X Error) → OnOk given (HasNoClash r w)
   none-clash none (Ok x) = none
   none-clash none (Err e) = tt
+
+  -- names that clash aren't too large
+  pub clash-fits : {X Q : Type 0} (e : Error) (given : Result X Error) → RefusesNames r w canonical e → IsErrAnd given (λ f. f ≡ e) → given ≡ Err errors.Size → Q
+  clash-fits e (Ok x) refuses h refused = absurd (let z : ⊥ = cc in z)
+  clash-fits e (Err f) (RefusesNames.memory is) h refused = absurd (let z : ⊥ = cc in z)
+  clash-fits e (Err f) (RefusesNames.clash asked name at is) h refused = absurd (let z : ⊥ = cc in z)

@@ -1,21 +1,18 @@
 -- Which types of listed interfaces have an alias in a component type, and how much it holds beside them.
-use Rattle.std.proofs.Common.{◌≡◌, refl, sym, subst, ap, ◌∙◌, ℕ, zero, suc, ◌+◌, ◌-◌, ◌<◌, ◌≤◌, ◌⊎◌, inl, inr, Bool, true, false, not, ◌&&◌, nat_lt, List, [], ◌∷◌, ◌++◌, length, Option, Some, None, is_some, cond, arith}
-use Rattle.std.specs.Prelude.{nat_eq, AllPairs}
-use Rattle.std.specs.List.{Contains, filter}
+use Rattle.std.proofs.Common.{◌≡◌, ap, ◌∙◌, ℕ, ◌+◌, ◌≤◌, inl, inr, Bool, true, false, List, [], ◌∷◌, length, None, is_some, arith}
+use Rattle.std.specs.List.{filter}
 use Rattle.std.specs.Option.{option_map_or}
 use Rattle.std.specs.BTreeMap.{is_at, insert_entry}
 use Rattle.std.specs.Ordering.{nat_cmp}
 use Rattle.std.proofs.lemmas.Bool.{cases_Bool, cond-true, cond-false}
-use Rattle.std.proofs.lemmas.List.Elements.{All-contains, filter_passes}
 use Rattle.wit_model.specs.Lookup.{type_at}
 use Rattle.wit_model.specs.declared.model.Resolve.{Resolve}
 use Rattle.wit_model.specs.declared.model.TypeId.{TypeId}
-use Rattle.wit_model.specs.declared.model.WorldId.{WorldId}
 use Rattle.wit_model.proofs.Lists.{first_true, second_true}
 use Rattle.comp_bytes.specs.Raw.{Declarations, declaration_count}
 use Rattle.comp_bytes.specs.Held.{type_slots_of}
 use Rattle.wit_encode_types.specs.Known.{Aliased, Around, IsAlias, ReachesAround, as_before, aliased, below, known_slot, with_alias}
-use Rattle.wit_encode_types.proofs.Lists.{both, none-in}
+use Rattle.wit_encode_types.proofs.Lists.{both}
 use Rattle.wit_encode.specs.Worlds.{brought_numbers, held_beside, is_brought, is_of_listed}
 use Rattle.wit_encode.proofs.Imported.{at-same, other-slot}
 use Rattle.wit_encode.proofs.Importing.{new-slot}

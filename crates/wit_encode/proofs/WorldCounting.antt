@@ -1,5 +1,5 @@
 -- How much the component type of a world defines after each item.
-use Rattle.std.proofs.Common.{◌≡◌, refl, sym, subst, ap, ◌∙◌, ℕ, zero, suc, ◌+◌, ◌≤◌, ◌<◌, inl, inr, Bool, true, false, List, [], ◌∷◌, ◌++◌, map, filter_map, flat_map, length, append-nil, Option, Some, None, Vec, arith}
+use Rattle.std.proofs.Common.{◌≡◌, refl, sym, subst, ap, ◌∙◌, ℕ, ◌+◌, inl, inr, Bool, true, false, List, [], ◌∷◌, ◌++◌, map, flat_map, length, append-nil, None, Vec, arith}
 use Rattle.std.specs.Prelude.{nat_eq, cond, count_by}
 use Rattle.std.specs.declared.alloc.Global.{Global}
 use Rattle.std.specs.List.{AllZip, Contains}
@@ -16,10 +16,9 @@ use Rattle.wit_model.specs.declared.model.WorldItem.{WorldItem}
 use Rattle.wit_model.specs.declared.model.WorldItem.TheVariants as item
 use Rattle.wit_model.specs.declared.model.Function.{Function}
 use Rattle.wit_model.specs.declared.model.TypeId.{TypeId}
-use Rattle.wit_model.specs.declared.model.TypeDefKind.{TypeDefKind}
 use Rattle.wit_model.specs.declared.model.«Type».{«Type» as ValueType}
 use Rattle.wit_model.specs.declared.model.«Type».TheVariants as ty
-use Rattle.comp_bytes.specs.Raw.{Declaration, Declarations, ExternName, append}
+use Rattle.comp_bytes.specs.Raw.{Declaration, Declarations, ExternName}
 use Rattle.comp_bytes.specs.declared.forms.ComponentTypeRef.{ComponentTypeRef}
 use Rattle.comp_bytes.specs.declared.forms.ComponentTypeRef.TheVariants as refs
 use Rattle.comp_meaning.specs.Follow.{Direction, import_, export_}
@@ -27,13 +26,13 @@ use Rattle.wit_encode_types.specs.declared.key.FunctionKey.{FunctionKey}
 use Rattle.wit_encode_types.specs.declared.maps.TypeEncodingMaps.{TypeEncodingMaps}
 use Rattle.wit_encode_types.specs.Codes.{kind_code, lists_of}
 use Rattle.wit_encode_types.specs.Counts.{AddsTypes, AddsFunction, is_defined_by_name, names_defined}
-use Rattle.wit_encode_types.specs.Distinct.{Key, key_of, are_same, is_value_type, is_function_type, defined_under_names, AddsFunctions}
+use Rattle.wit_encode_types.specs.Distinct.{key_of, are_same, is_value_type, is_function_type, defined_under_names, AddsFunctions}
 use Rattle.wit_encode_types.specs.Key.{IsKeyOf}
 use Rattle.wit_encode_types.specs.Known.{Aliased, AreAliases, Around, GrowsAround, with_aliases}
 use Rattle.wit_encode_types.specs.Maps.{IsKnown, IsOnce}
-use Rattle.wit_encode_types.specs.MetKinds.{LearnsFrom, LearnsMet, ReachedFrom, referred}
+use Rattle.wit_encode_types.specs.MetKinds.{LearnsFrom, LearnsMet}
 use Rattle.wit_encode_types.specs.Scope.{Scope}
-use Rattle.wit_encode_types.proofs.Lists.{contains-map, one-contained}
+use Rattle.wit_encode_types.proofs.Lists.{contains-map}
 use Rattle.wit_encode_types.proofs.Rooms.{only-more}
 use Rattle.world_names.specs.WorldSteps.{Entry, Entries, declared_towards, interfaces_among}
 use Rattle.wit_encode.specs.Encoders.{declared_after}
@@ -77,7 +76,7 @@ same-instances outer outer' e = sym (declared-alone outer') ∙ (ap instances_de
 functions-more : (es fs : List Entry) → functions_among (es ++ fs) ≡ functions_among es ++ functions_among fs
 functions-more es fs = filter_map-append _ es fs
 
-interfaces-more : (es fs : List Entry) → interfaces_among (es ++ fs) ≡ interfaces_among es ++ interfaces_among fs
+pub interfaces-more : (es fs : List Entry) → interfaces_among (es ++ fs) ≡ interfaces_among es ++ interfaces_among fs
 interfaces-more es fs = flat_map-append _ es fs
 
 types-more : (es fs : List Entry) → type_ids_among (es ++ fs) ≡ type_ids_among es ++ type_ids_among fs
@@ -116,10 +115,10 @@ module _ (r : Resolve) (e e' : WorldEncoder) (es : List Entry) (h : HasDefined r
   learns-more : LearnsFrom r None ts e.maps e'.maps → LearnsFrom r None (referred_among (es ++ x ∷ [])) h.began e'.maps
   learns-more l = from-wider (λ t c. elim (Contains-append_cases (referred_among es) ts t c) [ inl a ↦ referred-front es (x ∷ []) t a | inr b ↦ referred-behind es (x ∷ []) t (refers t b) ]) (from-then refl h.learns l)
 
-  -- an item without an interface
-  pub defines-more : AddsFunctions r (no_interface r) e.maps e'.maps (world_definitions e.outer) (world_definitions e'.outer) fs → LearnsFrom r None ts e.maps e'.maps
-      → interfaces_among (x ∷ []) ≡ [] → instance_declarations e'.outer ≡ instance_declarations e.outer → HasDefined r e' (es ++ x ∷ [])
-  defines-more a l none stays = record {
+  -- an item, with the instance type of its interface, if it is one
+  pub defines-behind : AddsFunctions r (no_interface r) e.maps e'.maps (world_definitions e.outer) (world_definitions e'.outer) fs → LearnsFrom r None ts e.maps e'.maps
+      → AllZip (DefinesInterface r) (interfaces_among (es ++ x ∷ [])) (instances_declared e'.outer) → HasDefined r e' (es ++ x ∷ [])
+  defines-behind a l inside = record {
     began = h.began;
     no_numbers = h.no_numbers;
     no_kinds = h.no_kinds;
@@ -127,16 +126,22 @@ module _ (r : Resolve) (e e' : WorldEncoder) (es : List Entry) (h : HasDefined r
     adds = subst (AddsFunctions r (no_interface r) h.began e'.maps nothing_defined (world_definitions e'.outer)) (sym (functions-more es (x ∷ []) ∙ ap (λ gs. functions_among es ++ gs) brings))
         (adds-trans (functions_among es) fs refl h.adds a);
     learns = learns-more l;
-    inside = subst (λ (is : List ℕ). AllZip (DefinesInterface r) is (instances_declared e'.outer)) (sym (interfaces-more es (x ∷ []) ∙ (ap (λ is. interfaces_among es ++ is) none ∙ append-nil (interfaces_among es))))
-        (subst (AllZip (DefinesInterface r) (interfaces_among es)) (sym (same-instances e.outer e'.outer stays)) h.inside);
+    inside = inside;
   }
 
+  -- an item without an interface
+  pub defines-more : AddsFunctions r (no_interface r) e.maps e'.maps (world_definitions e.outer) (world_definitions e'.outer) fs → LearnsFrom r None ts e.maps e'.maps
+      → interfaces_among (x ∷ []) ≡ [] → instance_declarations e'.outer ≡ instance_declarations e.outer → HasDefined r e' (es ++ x ∷ [])
+  defines-more a l none stays = defines-behind a l
+      (subst (λ (is : List ℕ). AllZip (DefinesInterface r) is (instances_declared e'.outer)) (sym (interfaces-more es (x ∷ []) ∙ (ap (λ is. interfaces_among es ++ is) none ∙ append-nil (interfaces_among es))))
+      (subst (AllZip (DefinesInterface r) (interfaces_among es)) (sym (same-instances e.outer e'.outer stays)) h.inside))
+
 -- an import or an export of an item is no definition
-towards-value : (direction : Direction) (name : ExternName) (described : ComponentTypeRef) → is_value_type (declared_towards direction name described) ≡ false
+pub towards-value : (direction : Direction) (name : ExternName) (described : ComponentTypeRef) → is_value_type (declared_towards direction name described) ≡ false
 towards-value import_ name described = refl
 towards-value export_ name described = refl
 
-towards-function : (direction : Direction) (name : ExternName) (described : ComponentTypeRef) → is_function_type (declared_towards direction name described) ≡ false
+pub towards-function : (direction : Direction) (name : ExternName) (described : ComponentTypeRef) → is_function_type (declared_towards direction name described) ≡ false
 towards-function import_ name described = refl
 towards-function export_ name described = refl
 

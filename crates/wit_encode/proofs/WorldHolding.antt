@@ -1,7 +1,7 @@
 -- How much an encoder of a world holds after each item, and why a call has no room.
-use Rattle.std.proofs.Common.{◌≡◌, refl, sym, subst, ap, ◌∙◌, ℕ, zero, suc, ◌+◌, ◌-◌, ◌*◌, ◌<◌, ◌≤◌, ◌⊎◌, inl, inr, Bool, true, false, ◌&&◌, List, [], ◌∷◌, ◌++◌, map, filter_map, length, length-append, append_assoc, append-nil, Option, Some, None, is_some, arith}
-use Rattle.std.specs.Prelude.{nat_eq, All, AllPairs, IsPermutation}
-use Rattle.std.specs.List.{Contains, filter}
+use Rattle.std.proofs.Common.{◌≡◌, refl, sym, subst, ap, ◌∙◌, ℕ, zero, suc, ◌+◌, ◌*◌, ◌≤◌, inl, inr, Bool, true, false, ◌&&◌, List, [], ◌∷◌, ◌++◌, map, length, length-append, append_assoc, append-nil, Option, Some, None, is_some, arith}
+use Rattle.std.specs.Prelude.{nat_eq, All, AllPairs}
+use Rattle.std.specs.List.{Contains}
 use Rattle.std.specs.Option.{option_map_or}
 use Rattle.std.proofs.lemmas.Bool.{eqb-true}
 use Rattle.std.proofs.lemmas.List.{length-map}
@@ -27,18 +27,17 @@ use Rattle.wit_model.specs.declared.model.TypeOwner.TheVariants as owner
 use Rattle.wit_model.specs.declared.model.«Type».{«Type» as ValueType}
 use Rattle.wit_model.specs.declared.model.«Type».TheVariants as ty
 use Rattle.wit_model.proofs.Lists.{first_true, second_true}
-use Rattle.comp_bytes.specs.Raw.{Declaration, Declarations, ExternName, declaration_count}
+use Rattle.comp_bytes.specs.Raw.{Declarations, ExternName, declaration_count}
 use Rattle.comp_bytes.specs.Held.{declaration_slots, fits_added, fits_counts, type_slots_of}
 use Rattle.comp_bytes.specs.Fits.{fits_declaration, fits_name}
 use Rattle.comp_bytes.specs.declared.forms.ComponentTypeRef.{ComponentTypeRef}
 use Rattle.comp_bytes.specs.declared.forms.ComponentTypeRef.TheVariants as refs
 use Rattle.comp_meaning.specs.Follow.{Direction, import_, export_}
 use Rattle.wit_encode_types.specs.declared.maps.TypeEncodingMaps.{TypeEncodingMaps}
-use Rattle.wit_encode_types.specs.Known.{below, known_instance}
-use Rattle.wit_encode_types.specs.Maps.{IsKnown, IsOnce, LearnsOnly}
+use Rattle.wit_encode_types.specs.Known.{Around, below, known_instance}
+use Rattle.wit_encode_types.specs.Maps.{IsKnown, IsOnce}
 use Rattle.wit_encode_types.specs.MetKinds.{LearnsMet, ReachedFrom}
-use Rattle.wit_encode_types.specs.Plan.{MetFrom}
-use Rattle.wit_encode_types.specs.Room.{Request, Refusals, IsUnfit, LacksPart, its_definition, its_name, its_import, LacksOne, a_type, a_request, FindsNoRoom, HoldsFor, LacksRoomBehind, value_type, export_name, import_of, function_type, limit}
+use Rattle.wit_encode_types.specs.Room.{Request, IsUnfit, LacksPart, its_definition, its_name, its_import, LacksOne, a_type, a_request, FindsNoRoom, HoldsFor, LacksRoomBehind, value_type, export_name, import_of, function_type, limit}
 use Rattle.wit_encode_types.specs.Kinds.{kind_tree}
 use Rattle.wit_encode_types.specs.Scope.{exported_name}
 use Rattle.wit_encode_types.proofs.Lists.{none-in, one-contained}
@@ -49,8 +48,8 @@ use Rattle.world_names.specs.WorldSteps.{Entry, Entries, declared_towards, inter
 use Rattle.wit_encode.specs.Encoders.{declared_after}
 use Rattle.wit_encode.specs.WorldCounts.{HasDefined}
 use Rattle.wit_encode.specs.WorldHolds.{HoldsFew}
-use Rattle.wit_encode.specs.WorldItems.{HasShown, IsNext, all_done}
-use Rattle.wit_encode.specs.WorldRoom.{functions_among, referred_among, IsMetAmong, IsTypeAmong, AreSome, AreMany, count_among, entries_in, WorldLacksRoom, a_name, a_type as a_met_type, a_function, too_many}
+use Rattle.wit_encode.specs.WorldItems.{IsNext, all_done}
+use Rattle.wit_encode.specs.WorldRoom.{functions_among, referred_among, IsMetAmong, IsNamedTypeOf, IsTypeAmong, AreSome, count_among, entries_in, WorldLacksRoom, a_name, a_type as a_met_type, a_function, too_many}
 use Rattle.wit_encode.specs.Worlds.{WorldEncoder, brought_numbers, held_beside, is_brought, is_of_listed, world_around}
 use Rattle.wit_encode.proofs.Counting.{from-map}
 use Rattle.wit_encode.proofs.Refusing.{counts-refused, outer-pushed, outer-slots-few}
@@ -65,7 +64,7 @@ count-both es fs =
     omega (arith, a, b)
 
 -- the entries of the world are those that have been encoded, the next one, and others
-next-among : (r : Resolve) (w : World) (direction : Direction) (done : Entries) (x : Entry) → IsNext r w direction done x → (rest : List Entry) × (entries_in w ≡ all_done done ++ x ∷ rest)
+pub next-among : (r : Resolve) (w : World) (direction : Direction) (done : Entries) (x : Entry) → IsNext r w direction done x → (rest : List Entry) × (entries_in w ≡ all_done done ++ x ∷ rest)
 next-among r w import_ done x n =
     let same : done.0 ≡ all_done done = sym (append-nil done.0) ∙ ap (λ es. done.0 ++ es) (sym n.begun) in
     (n.rest ++ w.exports.entries, ap (λ es. es ++ w.exports.entries) n.next ∙ (append_assoc done.0 (x ∷ n.rest) w.exports.entries ∙ ap (λ es. es ++ (x ∷ (n.rest ++ w.exports.entries))) same))
@@ -109,12 +108,12 @@ module _ (m : TypeEncodingMaps) where
   abbrev pub known-numbers : List ℕ
   known-numbers = map (λ (e : ℕ × ℕ). e.0) m.id_to_index.entries
 
-  known-number : (n : ℕ) → Contains known-numbers n → IsKnown m n
+  pub known-number : (n : ℕ) → Contains known-numbers n → IsKnown m n
   known-number n c =
       let x = from-map (λ (e : ℕ × ℕ). e.0) m.id_to_index.entries n c in
       (x.0.1, subst (λ (k : ℕ). Contains m.id_to_index.entries (k, x.0.1)) x.2 x.1)
 
-  known-once : IsOnce m → AllPairs (λ x y. nat_eq x y ≡ false) known-numbers
+  pub known-once : IsOnce m → AllPairs (λ x y. nat_eq x y ≡ false) known-numbers
   known-once once = pairs-map (λ (e : ℕ × ℕ). e.0) (λ x y. nat_eq x y ≡ false) m.id_to_index.entries once.numbers
 
   unknown-apart : (x y : ℕ) → IsKnown m x → (IsKnown m y → ⊥) → nat_eq x y ≡ false
@@ -126,23 +125,23 @@ module _ (m : TypeEncodingMaps) where
 
 -- ---- types of interfaces that are listed
 
-module _ (r : Resolve) (e : WorldEncoder) (es : List Entry) (listed : (i : ℕ) → is_some (known_instance e.foreign.instances.entries i) ≡ true → Contains (interfaces_among es) i) where
-  brought-type : (n : ℕ) → is_brought r (world_around e) n ≡ true → IsTypeAmong r es n
+module _ (r : Resolve) (a : Around) (interfaces : List ℕ) (listed : (i : ℕ) → is_some (known_instance a.instances i) ≡ true → Contains interfaces i) where
+  brought-type : (n : ℕ) → is_brought r a n ≡ true → IsNamedTypeOf r interfaces n
   brought-type n h = go (type_at r n) refl (second_true _ _ h)
     where
-      of-owner : (d : TypeDef) → type_at r n ≡ Some d → is_some d.name ≡ true → (o : TypeOwner) → d.owner ≡ o → option_map_or (λ i. is_some (known_instance e.foreign.instances.entries i)) (owner_interface o) false ≡ true → IsTypeAmong r es n
+      of-owner : (d : TypeDef) → type_at r n ≡ Some d → is_some d.name ≡ true → (o : TypeOwner) → d.owner ≡ o → option_map_or (λ i. is_some (known_instance a.instances i)) (owner_interface o) false ≡ true → IsNamedTypeOf r interfaces n
       of-owner d at named (owner.Interface i) q f = record { interface = i; among = listed i.0 f; def = d; there = at; named_ = named; owned = q }
       of-owner d at named (owner.World w) q f = absurd (let z : ⊥ = cc in z)
       of-owner d at named owner.None q f = absurd (let z : ⊥ = cc in z)
 
-      go : (o : Option TypeDef) → type_at r n ≡ o → option_map_or (is_of_listed e.foreign.instances.entries) o false ≡ true → IsTypeAmong r es n
+      go : (o : Option TypeDef) → type_at r n ≡ o → option_map_or (is_of_listed a.instances) o false ≡ true → IsNamedTypeOf r interfaces n
       go None at f = absurd (let z : ⊥ = cc in z)
       go (Some d) at f = of-owner d at (first_true (is_some d.name) _ f) d.owner refl (second_true (is_some d.name) _ f)
 
-  brought-some : AreSome (IsTypeAmong r es) (brought_numbers r (world_around e))
+  pub brought-some : AreSome (IsNamedTypeOf r interfaces) (brought_numbers r a)
   brought-some = record {
-    different = AllPairs-filter (λ x y. nat_eq x y ≡ false) (is_brought r (world_around e)) (below (length r.types.items)) (below-once (length r.types.items));
-    all = λ n c. brought-type n (All-contains (λ m. is_brought r (world_around e) m ≡ true) (brought_numbers r (world_around e)) n (filter_passes (is_brought r (world_around e)) (below (length r.types.items))) c);
+    different = AllPairs-filter (λ x y. nat_eq x y ≡ false) (is_brought r a) (below (length r.types.items)) (below-once (length r.types.items));
+    all = λ n c. brought-type n (All-contains (λ m. is_brought r a m ≡ true) (brought_numbers r a) n (filter_passes (is_brought r a) (below (length r.types.items))) c);
   }
 
 -- ---- what is met
@@ -224,8 +223,7 @@ none-held r e o none = record {
 
 -- ---- a call that has no room
 
-module _ (r : Resolve) (w : World) (e e' : WorldEncoder) (done : Entries) (direction : Direction) (x : Entry) (n : IsNext r w direction done x) (d : HasDefined r e (all_done done)) (h : HoldsFew r e (all_done done))
-    (same : e'.foreign.instances.entries ≡ e.foreign.instances.entries) where
+module _ (r : Resolve) (w : World) (e : WorldEncoder) (done : Entries) (direction : Direction) (x : Entry) (n : IsNext r w direction done x) (d : HasDefined r e (all_done done)) (h : HoldsFew r e (all_done done)) where
   abbrev es : List Entry
   es = all_done done
 
@@ -235,16 +233,16 @@ module _ (r : Resolve) (w : World) (e e' : WorldEncoder) (done : Entries) (direc
   among : (rest : List Entry) × (all ≡ es ++ x ∷ rest)
   among = next-among r w direction done x n
 
-  met-before : (m : ℕ) → IsKnown e.maps m → IsMetAmong r all m
+  pub met-before : (m : ℕ) → IsKnown e.maps m → IsMetAmong r all m
   met-before m known = subst (λ (ys : List Entry). IsMetAmong r ys m) (sym among.1) (met-front r es (x ∷ among.0) m (known-met r e es d m known))
 
   met-here : (ts : List ValueType) → ((t : ValueType) → Contains ts t → Contains (referred_among (x ∷ [])) t) → (m : ℕ) → ReachedFrom r None ts m → IsMetAmong r all m
   met-here ts refers m reached = subst (λ (ys : List Entry). IsMetAmong r ys m) (sym among.1)
       (reached.0, referred-behind es (x ∷ among.0) reached.0 (referred-front (x ∷ []) among.0 reached.0 (refers reached.0 reached.1)), reached.2)
 
-  brought-all : AreSome (IsTypeAmong r all) (brought_numbers r (world_around e'))
-  brought-all =
-      let b = brought-some r e' es (same-listed e e' es same h.listed) in
+  brought-all : (a : Around) → a.instances ≡ e.foreign.instances.entries → AreSome (IsTypeAmong r all) (brought_numbers r a)
+  brought-all a same =
+      let b = brought-some r a (interfaces_among es) (λ i f. h.listed i (ap (λ xs. is_some (known_instance xs i)) (sym same) ∙ f)) in
       record { different = b.different; all = λ m c. subst (λ (ys : List Entry). IsTypeAmong r ys m) (sym among.1) (type-front r es (x ∷ among.0) m (b.all m c)) }
 
   counted : count_among es + count_among (x ∷ []) ≤ count_among all
@@ -255,73 +253,74 @@ module _ (r : Resolve) (w : World) (e e' : WorldEncoder) (done : Entries) (direc
       omega (arith, a, b, c)
 
   -- the component type is full
-  pub full : (met : List ℕ) → AllPairs (λ x y. nat_eq x y ≡ false) met → ((m : ℕ) → Contains met m → IsMetAmong r all m)
-      → declaration_count e'.outer ≤ 2 * length met + (length (brought_numbers r (world_around e')) + 2 * (count_among es + count_among (x ∷ []))) → limit ≤ declaration_count e'.outer → WorldLacksRoom r w
-  full met apart are held over = too_many (record {
+  pub full : (a : Around) → a.instances ≡ e.foreign.instances.entries → (met : List ℕ) → AllPairs (λ x y. nat_eq x y ≡ false) met → ((m : ℕ) → Contains met m → IsMetAmong r all m)
+      → declaration_count a.declared ≤ 2 * length met + (length (brought_numbers r a) + 2 * (count_among es + count_among (x ∷ []))) → limit ≤ declaration_count a.declared → WorldLacksRoom r w
+  full a same met apart are held over = too_many (record {
     met = met;
-    brought = brought_numbers r (world_around e');
+    brought = brought_numbers r a;
     are_met = record { different = apart; all = are };
-    are_brought = brought-all;
+    are_brought = brought-all a same;
     many = (let c = counted in omega (arith, held, over, c));
   })
 
-  -- what is asked for doesn't fit, or the component type is full
-  module _ (once : IsOnce e.maps) (p p' : Resolve) (q : p ≡ r) (q' : p' ≡ r) (ts : List ValueType) (refers : (t : ValueType) → Contains ts t → Contains (referred_among (x ∷ [])) t)
-      (requests : List Request) (fits : length requests ≤ 2 * count_among (x ∷ [])) (unfit : (a : Request) → Contains requests a → IsUnfit r a → WorldLacksRoom r w) where
-    pub call-lacks : FindsNoRoom r None ts requests e.maps (held_beside p (world_around e)) (held_beside p' (world_around e')) (LacksRoomBehind p' (declaration_count e'.outer)) → WorldLacksRoom r w
-    call-lacks f = by f.lacks
+  module _ (e' : WorldEncoder) (same : e'.foreign.instances.entries ≡ e.foreign.instances.entries) where
+    -- what is asked for doesn't fit, or the component type is full
+    module _ (once : IsOnce e.maps) (p p' : Resolve) (q : p ≡ r) (q' : p' ≡ r) (ts : List ValueType) (refers : (t : ValueType) → Contains ts t → Contains (referred_among (x ∷ [])) t)
+        (requests : List Request) (fits : length requests ≤ 2 * count_among (x ∷ [])) (unfit : (a : Request) → Contains requests a → IsUnfit r a → WorldLacksRoom r w) where
+      pub call-lacks : FindsNoRoom r None ts requests e.maps (held_beside p (world_around e)) (held_beside p' (world_around e')) (LacksRoomBehind p' (declaration_count e'.outer)) → WorldLacksRoom r w
+      call-lacks f = by f.lacks
+        where
+          overfull : limit ≤ declaration_count e'.outer → WorldLacksRoom r w
+          overfull over = full (world_around e') same (known-numbers e.maps ++ f.numbers)
+              (pairs-both (λ x y. nat_eq x y ≡ false) (known-numbers e.maps) f.numbers (known-once e.maps once) f.different (λ a b c g. unknown-apart e.maps a b (known-number e.maps a c) (f.unknown b g)))
+              (λ m c. elim (Contains-append_cases (known-numbers e.maps) f.numbers m c) [
+                | inl a ↦ met-before m (known-number e.maps m a)
+                | inr b ↦ met-here ts refers m (f.met m b)
+              ])
+              (let before : held_beside p (world_around e) ≡ held_beside r (world_around e) = ap (λ z. held_beside z (world_around e)) q in
+              let after : held_beside p' (world_around e') ≡ held_beside r (world_around e') = ap (λ z. held_beside z (world_around e')) q' in
+              let few = h.held in
+              let more = f.held in
+              let a = length-append (known-numbers e.maps) f.numbers in
+              let b = length-map e.maps.id_to_index.entries (λ (y : ℕ × ℕ). y.0) in
+              omega (arith, before, after, few, more, a, b, fits))
+              over
+
+          either : (a : Request) → (IsUnfit r a → WorldLacksRoom r w) → LacksRoomBehind p' (declaration_count e'.outer) a → WorldLacksRoom r w
+          either a g (inl u) = g (subst (λ (z : Resolve). IsUnfit z a) q' u)
+          either a g (inr over) = overfull over
+
+          part : (m : ℕ) (def : TypeDef) → IsMetAmong r all m → type_at r m ≡ Some def → LacksPart r None (LacksRoomBehind p' (declaration_count e'.outer)) m def → WorldLacksRoom r w
+          part m def met at (its_definition own l) = either (value_type (kind_tree r def.kind)) (λ u. a_met_type m def met at (its_definition own u)) l
+          part m def met at (its_name own name named l) = either (export_name (exported_name (text_of name, type_meaning r def))) (λ u. a_met_type m def met at (its_name own name named u)) l
+          part m def met at (its_import i foreign l) = either (import_of m) (λ u. a_met_type m def met at (its_import i foreign u)) l
+
+          by : LacksOne r None (LacksRoomBehind p' (declaration_count e'.outer)) f.numbers requests → WorldLacksRoom r w
+          by (a_type m def c at l) = part m def (met-here ts refers m (f.met m c)) at l
+          by (a_request a c l) = either a (unfit a c) l
+
+    -- a name doesn't fit, or the component type is full behind what a call has left
+    pub name-lacks : (p p' : Resolve) → p ≡ r → p' ≡ r → (ts : List ValueType) → ((t : ValueType) → Contains ts t → Contains (referred_among (x ∷ [])) t) → (k : ℕ) → k ≤ 2 * count_among (x ∷ []) → IsOnce e'.maps
+        → LearnsMet r None ts e.maps e'.maps → HoldsFor e.maps e'.maps (held_beside p (world_around e)) (held_beside p' (world_around e')) k → (fits : Bool) (slots : ℕ) → slots ≤ declaration_count e'.outer + 1
+        → (fits ≡ false → WorldLacksRoom r w) → (fits && fits_counts (declaration_count e'.outer + 1) slots) ≡ false → WorldLacksRoom r w
+    name-lacks p p' q q' ts refers k few once learns held fits slots low unfit refused = by fits refl refused
       where
+        met-after : (m : ℕ) → IsKnown e'.maps m → IsMetAmong r all m
+        met-after m known = elim ((only-reached r None ts learns.only).each m known.0 known.1) [
+          | inl c ↦ met-before m (known.0, c)
+          | inr reached ↦ met-here ts refers m reached
+        ]
+
         overfull : limit ≤ declaration_count e'.outer → WorldLacksRoom r w
-        overfull over = full (known-numbers e.maps ++ f.numbers)
-            (pairs-both (λ x y. nat_eq x y ≡ false) (known-numbers e.maps) f.numbers (known-once e.maps once) f.different (λ a b c g. unknown-apart e.maps a b (known-number e.maps a c) (f.unknown b g)))
-            (λ m c. elim (Contains-append_cases (known-numbers e.maps) f.numbers m c) [
-              | inl a ↦ met-before m (known-number e.maps m a)
-              | inr b ↦ met-here ts refers m (f.met m b)
-            ])
-            (let before : held_beside p (world_around e) ≡ held_beside r (world_around e) = ap (λ z. held_beside z (world_around e)) q in
-            let after : held_beside p' (world_around e') ≡ held_beside r (world_around e') = ap (λ z. held_beside z (world_around e')) q' in
-            let few = h.held in
-            let more = f.held in
-            let a = length-append (known-numbers e.maps) f.numbers in
-            let b = length-map e.maps.id_to_index.entries (λ (y : ℕ × ℕ). y.0) in
-            omega (arith, before, after, few, more, a, b, fits))
+        overfull over = full (world_around e') same (known-numbers e'.maps) (known-once e'.maps once) (λ m c. met-after m (known-number e'.maps m c))
+            (let a = held-after r p p' e e' es k q q' h held in
+            let b = length-map e'.maps.id_to_index.entries (λ (y : ℕ × ℕ). y.0) in
+            omega (arith, a, b, few))
             over
 
-        either : (a : Request) → (IsUnfit r a → WorldLacksRoom r w) → LacksRoomBehind p' (declaration_count e'.outer) a → WorldLacksRoom r w
-        either a g (inl u) = g (subst (λ (z : Resolve). IsUnfit z a) q' u)
-        either a g (inr over) = overfull over
-
-        part : (m : ℕ) (def : TypeDef) → IsMetAmong r all m → type_at r m ≡ Some def → LacksPart r None (LacksRoomBehind p' (declaration_count e'.outer)) m def → WorldLacksRoom r w
-        part m def met at (its_definition own l) = either (value_type (kind_tree r def.kind)) (λ u. a_met_type m def met at (its_definition own u)) l
-        part m def met at (its_name own name named l) = either (export_name (exported_name (text_of name, type_meaning r def))) (λ u. a_met_type m def met at (its_name own name named u)) l
-        part m def met at (its_import i foreign l) = either (import_of m) (λ u. a_met_type m def met at (its_import i foreign u)) l
-
-        by : LacksOne r None (LacksRoomBehind p' (declaration_count e'.outer)) f.numbers requests → WorldLacksRoom r w
-        by (a_type m def c at l) = part m def (met-here ts refers m (f.met m c)) at l
-        by (a_request a c l) = either a (unfit a c) l
-
-  -- a name doesn't fit, or the component type is full behind what a call has left
-  pub name-lacks : (p p' : Resolve) → p ≡ r → p' ≡ r → (ts : List ValueType) → ((t : ValueType) → Contains ts t → Contains (referred_among (x ∷ [])) t) → (k : ℕ) → k ≤ 2 * count_among (x ∷ []) → IsOnce e'.maps
-      → LearnsMet r None ts e.maps e'.maps → HoldsFor e.maps e'.maps (held_beside p (world_around e)) (held_beside p' (world_around e')) k → (fits : Bool) (slots : ℕ) → slots ≤ declaration_count e'.outer + 1
-      → (fits ≡ false → WorldLacksRoom r w) → (fits && fits_counts (declaration_count e'.outer + 1) slots) ≡ false → WorldLacksRoom r w
-  name-lacks p p' q q' ts refers k few once learns held fits slots low unfit refused = by fits refl refused
-    where
-      met-after : (m : ℕ) → IsKnown e'.maps m → IsMetAmong r all m
-      met-after m known = elim ((only-reached r None ts learns.only).each m known.0 known.1) [
-        | inl c ↦ met-before m (known.0, c)
-        | inr reached ↦ met-here ts refers m reached
-      ]
-
-      overfull : limit ≤ declaration_count e'.outer → WorldLacksRoom r w
-      overfull over = full (known-numbers e'.maps) (known-once e'.maps once) (λ m c. met-after m (known-number e'.maps m c))
-          (let a = held-after r p p' e e' es k q q' h held in
-          let b = length-map e'.maps.id_to_index.entries (λ (y : ℕ × ℕ). y.0) in
-          omega (arith, a, b, few))
-          over
-
-      by : (b : Bool) → fits ≡ b → (b && fits_counts (declaration_count e'.outer + 1) slots) ≡ false → WorldLacksRoom r w
-      by false e g = unfit e
-      by true e g = overfull (counts-refused (declaration_count e'.outer) slots low g)
+        by : (b : Bool) → fits ≡ b → (b && fits_counts (declaration_count e'.outer + 1) slots) ≡ false → WorldLacksRoom r w
+        by false e g = unfit e
+        by true e g = overfull (counts-refused (declaration_count e'.outer) slots low g)
 
 -- ---- the calls
 
@@ -331,7 +330,7 @@ pub function-lacks : (r p p' : Resolve) (w : World) (e e' : WorldEncoder) (done 
 function-lacks r p p' w e e' done direction k i f is n d h same once q q' lacks =
     let m : IsNext r w direction done (k, item.Function f) = subst (λ (j : WorldItem). IsNext r w direction done (k, j)) is n in
     let among = next-among r w direction done (k, item.Function f) m in
-    call-lacks r w e e' done direction (k, item.Function f) m d h same once p p' q q' (function_types f) (function-referred k f) (function_type (signature_of r f) ∷ []) (omega arith)
+    call-lacks r w e done direction (k, item.Function f) m d h e' same once p p' q q' (function_types f) (function-referred k f) (function_type (signature_of r f) ∷ []) (omega arith)
     (λ a c u. a_function f (subst (λ (ys : List Entry). Contains (functions_among ys) f) (sym among.1) (functions-there (all_done done) among.0)) (subst (IsUnfit r) (sym (one-contained (function_type (signature_of r f)) a c)) u))
     lacks
   where
@@ -347,7 +346,7 @@ function-name-lacks r p p' w e e' done direction canonical k i f name index is n
     let m : IsNext r w direction done (k, item.Function f) = subst (λ (j : WorldItem). IsNext r w direction done (k, j)) is n in
     let among = next-among r w direction done (k, item.Function f) m in
     let few = outer-slots-few e'.outer in
-    name-lacks r w e e' done direction (k, item.Function f) m d h same p p' q q' (function_types f) (function-referred k f) 1 (omega arith) once learns held (fits_name name) (type_slots_of e'.outer + 0) (omega (arith, few))
+    name-lacks r w e done direction (k, item.Function f) m d h e' same p p' q q' (function_types f) (function-referred k f) 1 (omega arith) once learns held (fits_name name) (type_slots_of e'.outer + 0) (omega (arith, few))
     (λ u. a_name canonical (k, item.Function f) (subst (λ (ys : List Entry). Contains ys (k, item.Function f)) (sym among.1) (there (all_done done) among.0)) refl
     (ap fits_name (sym (named ∙ ap (λ (j : WorldItem). name_of_item r canonical (k, j)) is)) ∙ u)) (towards direction refused)
   where
@@ -364,4 +363,4 @@ pub type-lacks : (r p p' : Resolve) (w : World) (e e' : WorldEncoder) (done : En
     → FindsNoRoom r None (ty.Id id ∷ []) [] e.maps (held_beside p (world_around e)) (held_beside p' (world_around e')) (LacksRoomBehind p' (declaration_count e'.outer)) → WorldLacksRoom r w
 type-lacks r p p' w e e' done direction k i id is n d h same once q q' lacks =
     let m : IsNext r w direction done (k, item.Type_ id) = subst (λ (j : WorldItem). IsNext r w direction done (k, j)) is n in
-    call-lacks r w e e' done direction (k, item.Type_ id) m d h same once p p' q q' (ty.Id id ∷ []) (type-referred k id) [] (omega arith) (λ a c u. none-in a c) lacks
+    call-lacks r w e done direction (k, item.Type_ id) m d h e' same once p p' q q' (ty.Id id ∷ []) (type-referred k id) [] (omega arith) (λ a c u. none-in a c) lacks

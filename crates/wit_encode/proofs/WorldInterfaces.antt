@@ -117,7 +117,7 @@ done-cases direction done x j c = by direction c
     ]
 
 -- the interface among one entry
-among-one : (x : Entry) (n : ℕ) → item_interface x.1 ≡ Some n → interfaces_among (x ∷ []) ≡ n ∷ []
+pub among-one : (x : Entry) (n : ℕ) → item_interface x.1 ≡ Some n → interfaces_among (x ∷ []) ≡ n ∷ []
 among-one x n e = ap (λ o. option_to_list o ++ []) e
 
 only-one : (n j : ℕ) → Contains (n ∷ []) j → j ≡ n

@@ -6,7 +6,10 @@ use Rattle.comp_meaning.specs.Follow.{Direction, import_, export_}
 use Rattle.world_names.specs.WorldSteps.{Entry, Entries, with_entry}
 use Rattle.wit_encode.specs.Worlds.{WorldEncoder}
 use Rattle.wit_encode.specs.WrittenNames.{NamesMore}
-use Rattle.wit_encode.specs.WorldItems.{AwaitsAll, EncodesAll, HasShown, IsNext, begun, ended, entries_of}
+use Rattle.wit_encode.specs.WorldCounts.{DefinesAll, HasDefined}
+use Rattle.wit_encode.specs.WorldHolds.{HoldsAll, HoldsFew, LacksRoomTowards}
+use Rattle.wit_encode.specs.WorldItems.{AwaitsAll, EncodesAll, HasShown, IsNext, all_done, begun, ended, entries_of}
+use Rattle.wit_encode.specs.WorldRoom.{WorldLacksRoom}
 use Rattle.wit_encode.proofs.WrittenNames.{names-nothing, names-then}
 
 -- where these are done
@@ -20,9 +23,18 @@ pub record Goes (r : Resolve) (canonical : Bool) (e e' : WorldEncoder) (directio
   pub split : entries ≡ front ++ rest
   pub shown : (w : World) → HasShown r w e (begun direction w) → HasShown r w e' (so_far direction w front)
   pub names : NamesMore r canonical front e.outer e'.outer
+  pub defines : DefinesAll r e e' front
+  pub holds : HoldsAll r e e' front
 
 pub goes-first : (r : Resolve) (canonical : Bool) (e : WorldEncoder) (direction : Direction) (entries rest : List Entry) → rest ≡ entries → Goes r canonical e e direction entries rest
-goes-first r canonical e direction entries rest same = record { front = []; split = sym same; shown = begins direction; names = names-nothing r canonical e.outer }
+goes-first r canonical e direction entries rest same = record {
+  front = [];
+  split = sym same;
+  shown = begins direction;
+  names = names-nothing r canonical e.outer;
+  defines = λ es h. subst (HasDefined r e) (sym (append-nil es)) h;
+  holds = λ es h. subst (HoldsFew r e) (sym (append-nil es)) h;
+}
   where
     begins : (direction : Direction) (w : World) → HasShown r w e (begun direction w) → HasShown r w e (so_far direction w [])
     begins import_ w h = h
@@ -49,12 +61,15 @@ world-of r e w v d d' h k = some-same (sym k.world_ ∙ h.world_)
     some-same e = cc
 
 pub goes-on : (r : Resolve) (canonical : Bool) (e e' e'' : WorldEncoder) (direction : Direction) (entries rest more : List Entry) (x : Entry) → AwaitsAll r e direction entries → Goes r canonical e e' direction entries rest → rest ≡ x ∷ more
-    → ((w : World) (done : Entries) → HasShown r w e' done → IsNext r w direction done x → HasShown r w e'' (with_entry direction done x)) → NamesMore r canonical (x ∷ []) e'.outer e''.outer → Goes r canonical e e'' direction entries more
-goes-on r canonical e e' e'' direction entries rest more x a g is encodes named = record {
+    → ((w : World) (done : Entries) → HasShown r w e' done → IsNext r w direction done x → HasShown r w e'' (with_entry direction done x)) → NamesMore r canonical (x ∷ []) e'.outer e''.outer
+    → DefinesAll r e' e'' (x ∷ []) → HoldsAll r e' e'' (x ∷ []) → Goes r canonical e e'' direction entries more
+goes-on r canonical e e' e'' direction entries rest more x a g is encodes named defines holds = record {
   front = g.front ++ x ∷ [];
   split = g.split ∙ ap (λ (xs : List Entry). g.front ++ xs) is ∙ sym (append_assoc g.front (x ∷ []) more);
   shown = λ w h. by direction w (g.shown w h) (sym (a.are ∙ ap (entries_of direction) (sym (world-of r e a.world w _ _ a.shown h))) ∙ g.split ∙ ap (λ (xs : List Entry). g.front ++ xs) is) encodes;
   names = names-then r canonical g.front (x ∷ []) e.outer e'.outer e''.outer g.names named;
+  defines = λ es h. subst (HasDefined r e'') (append_assoc es g.front (x ∷ [])) (defines (es ++ g.front) (g.defines es h));
+  holds = λ es h. subst (HoldsFew r e'') (append_assoc es g.front (x ∷ [])) (holds (es ++ g.front) (g.holds es h));
 }
   where
     by : (direction : Direction) (w : World) → HasShown r w e' (so_far direction w g.front) → entries_of direction w ≡ g.front ++ x ∷ more
@@ -71,6 +86,25 @@ goes-whole r canonical e e' direction entries rest a g none w h =
     by import_ h q = subst (λ (es : List Entry). HasShown r w e' (es, [])) (sym q) h
     by export_ h q = subst (λ (es : List Entry). HasShown r w e' (w.imports.entries, es)) (sym q) h
 
+-- the next one has no room
+pub goes-lacks : (r : Resolve) (canonical : Bool) (e e' : WorldEncoder) (direction : Direction) (entries rest more : List Entry) (x : Entry) → AwaitsAll r e direction entries → Goes r canonical e e' direction entries rest → rest ≡ x ∷ more
+    → ((w : World) (done : Entries) → HasShown r w e' done → IsNext r w direction done x → HasDefined r e' (all_done done) → HoldsFew r e' (all_done done) → WorldLacksRoom r w) → LacksRoomTowards r e direction
+goes-lacks r canonical e e' direction entries rest more x a g is lacks = λ w h d few.
+    by direction w (g.shown w h) (sym (a.are ∙ ap (entries_of direction) (sym (world-of r e a.world w _ _ a.shown h))) ∙ g.split ∙ ap (λ (xs : List Entry). g.front ++ xs) is)
+    (g.defines (all_done (begun direction w)) d) (g.holds (all_done (begun direction w)) few) lacks
+  where
+    by : (direction : Direction) (w : World) → HasShown r w e' (so_far direction w g.front) → entries_of direction w ≡ g.front ++ x ∷ more → HasDefined r e' (all_done (begun direction w) ++ g.front) → HoldsFew r e' (all_done (begun direction w) ++ g.front)
+        → ((w : World) (done : Entries) → HasShown r w e' done → IsNext r w direction done x → HasDefined r e' (all_done done) → HoldsFew r e' (all_done done) → WorldLacksRoom r w) → WorldLacksRoom r w
+    by import_ w h q d few lacks = lacks w (g.front, []) h (record { rest = more; next = q; begun = refl }) (subst (HasDefined r e') (sym (append-nil g.front)) d) (subst (HoldsFew r e') (sym (append-nil g.front)) few)
+    by export_ w h q d few lacks = lacks w (w.imports.entries, g.front) h (record { rest = more; next = q; begun = refl })
+        (subst (λ (es : List Entry). HasDefined r e' (es ++ g.front)) (append-nil w.imports.entries) d) (subst (λ (es : List Entry). HoldsFew r e' (es ++ g.front)) (append-nil w.imports.entries) few)
+
 pub names-whole : (r : Resolve) (canonical : Bool) (e e' : WorldEncoder) (direction : Direction) (entries rest : List Entry) → Goes r canonical e e' direction entries rest → rest ≡ [] → NamesMore r canonical entries e.outer e'.outer
 names-whole r canonical e e' direction entries rest g none =
     subst (λ (es : List Entry). NamesMore r canonical es e.outer e'.outer) (sym (g.split ∙ ap (λ (xs : List Entry). g.front ++ xs) none ∙ append-nil g.front)) g.names
+
+pub defines-whole : (r : Resolve) (canonical : Bool) (e e' : WorldEncoder) (direction : Direction) (entries rest : List Entry) → Goes r canonical e e' direction entries rest → rest ≡ [] → DefinesAll r e e' entries
+defines-whole r canonical e e' direction entries rest g none = subst (DefinesAll r e e') (sym (g.split ∙ ap (λ (xs : List Entry). g.front ++ xs) none ∙ append-nil g.front)) g.defines
+
+pub holds-whole : (r : Resolve) (canonical : Bool) (e e' : WorldEncoder) (direction : Direction) (entries rest : List Entry) → Goes r canonical e e' direction entries rest → rest ≡ [] → HoldsAll r e e' entries
+holds-whole r canonical e e' direction entries rest g none = subst (HoldsAll r e e') (sym (g.split ∙ ap (λ (xs : List Entry). g.front ++ xs) none ∙ append-nil g.front)) g.holds

@@ -59,13 +59,13 @@ use Rattle.wit_encode.proofs.WorldUses.{no-type-exported}
 
 -- ---- names that don't fit are long
 
-abbrev long : Option Text → ℕ
+abbrev pub long : Option Text → ℕ
 long t = sum_by length (option_to_list t)
 
 some-long : (t : Text) → long (Some t) ≡ length t
 some-long t = sum_by-cons length t [] ∙ (let z : length t + 0 ≡ length t = omega arith in z)
 
-name-fits : (name : ExternName) (total : ℕ) → length name.text ≤ total → long name.implements ≤ total → long name.version_suffix ≤ total → long name.external_id ≤ total → total ≤ limit → fits_name name ≡ true
+pub name-fits : (name : ExternName) (total : ℕ) → length name.text ≤ total → long name.implements ≤ total → long name.version_suffix ≤ total → long name.external_id ≤ total → total ≤ limit → fits_name name ≡ true
 name-fits name total a b c d l =
     both-true _ _ (fits-text name.text (omega (arith, a, l))) (both-true _ _ (given-fits name.implements (omega (arith, b, l)))
     (both-true _ _ (given-fits name.version_suffix (omega (arith, c, l))) (given-fits name.external_id (omega (arith, d, l)))))
@@ -101,7 +101,7 @@ module _ (r : Resolve) (n : ℕ) where
           let end = suffix s in
           (omega (arith, whole), omega (arith, whole, end))
 
-  written-long : (canonical : Bool) → length (written_path r canonical n) ≤ long (interface_path r n)
+  pub written-long : (canonical : Bool) → length (written_path r canonical n) ≤ long (interface_path r n)
   written-long true = path-long.0
   written-long false = go (interface_path r n)
     where
@@ -109,7 +109,7 @@ module _ (r : Resolve) (n : ℕ) where
       go None = omega arith
       go (Some t) = let z = some-long t in omega (arith, z)
 
-  suffix-long : (canonical : Bool) → long (written_suffix r canonical (Some n)) ≤ long (interface_path r n)
+  pub suffix-long : (canonical : Bool) → long (written_suffix r canonical (Some n)) ≤ long (interface_path r n)
   suffix-long true = path-long.1
   suffix-long false = omega arith
 
@@ -167,7 +167,7 @@ numbers-of-interface r j = option_map_or (λ d. instance_numbers r d (functions_
 abbrev StandsAmong : Resolve → List Entry → ℕ → Type 0
 StandsAmong r es n = (d : TypeDef) × (type_at r n ≡ Some d) × (j : ℕ) × Contains (interfaces_among es) j × Contains (numbers-of-interface r j) n
 
-number-least : (r : Resolve) (o : TypeOwner) (n : ℕ) (d : TypeDef) → type_at r n ≡ Some d → 64 ≤ number_weight r o n
+pub number-least : (r : Resolve) (o : TypeOwner) (n : ℕ) (d : TypeDef) → type_at r n ≡ Some d → 64 ≤ number_weight r o n
 number-least r o n d at =
     let is = ap (λ t. option_map_or (λ d. if is_brought r o n then unit_of (name_texts d) else definition_weight d) t 0) at in
     let low = either (is_brought r o n) in
@@ -184,11 +184,11 @@ whole-least r j = go (interface_at r j)
     go None = omega arith
     go (Some d) = omega arith
 
-abbrev each : List ℕ → ℕ
+abbrev pub each : List ℕ → ℕ
 each ns = sum_by (λ n. 64) ns
 
 -- each number of these weighs 64 at least
-each-least : (g : ℕ → ℕ) (ns : List ℕ) → ((n : ℕ) → Contains ns n → 64 ≤ g n) → each ns ≤ sum_by g ns
+pub each-least : (g : ℕ → ℕ) (ns : List ℕ) → ((n : ℕ) → Contains ns n → 64 ≤ g n) → each ns ≤ sum_by g ns
 each-least g [] h = omega arith
 each-least g (n ∷ ns) h =
     let rest = each-least g ns (λ m c. h m (contains-later n ns m c)) in

@@ -56,6 +56,7 @@ with_export r canonical i k declared = append declared (Declarations.declares (D
 -- the types of an interface have been encoded, and imported as the instance of this number
 pub record ImportsTypes (r : Resolve) (canonical : Bool) (around around' : Around) (i : InterfaceId) (number : ℕ) : Type 0 where
   pub def : Interface
+  pub there : interface_at r i.0 ≡ Some def
   pub slot : ℕ
   pub encoded : Around
   pub encodes : EncodesDependency r around encoded i def slot

@@ -17,3 +17,5 @@ pub mod WholeWorlds
 pub mod WorldRoom
 pub mod WorldCounts
 pub mod WorldHolds
+pub mod DependencyRoom
+pub mod DependencyCounts

@@ -5,7 +5,7 @@ use Rattle.std.specs.List.{AllZip, Contains}
 use Rattle.std.specs.declared.alloc.Global.{Global}
 use Rattle.wit_model.specs.Text.{Text, text_of}
 use Rattle.wit_model.specs.Names.{PackageIdentity, path_in}
-use Rattle.wit_model.specs.Lookup.{interface_path, world_at}
+use Rattle.wit_model.specs.Lookup.{identity_of, interface_path, world_at}
 use Rattle.wit_model.specs.declared.error.Error.{Error}
 use Rattle.wit_model.specs.declared.model.Resolve.{Resolve}
 use Rattle.wit_model.specs.declared.model.InterfaceId.{InterfaceId}
@@ -14,7 +14,8 @@ use Rattle.wit_model.specs.declared.model.World.{World}
 use Rattle.wit_model.specs.declared.model.WorldId.{WorldId}
 use Rattle.comp_bytes.specs.Raw.{Declarations}
 use Rattle.comp_bytes.specs.Refusal.{IsMemoryOrSize}
-use Rattle.comp_bytes.specs.Parts.{Part}
+use Rattle.comp_bytes.specs.Parts.{Part, sections_of_parts}
+use Rattle.comp_bytes.specs.Spelling.{IsComponent}
 use Rattle.wit_model.specs.Meant.{Meant}
 use Rattle.wit_model.specs.Meaning.{PackageMeaning}
 use Rattle.comp_meaning.specs.Follow.{is_filled}
@@ -23,8 +24,11 @@ use Rattle.wit_shown.specs.PackageTypes.{ArePackageTypes, wrapper}
 use Rattle.world_names.specs.Clashes.{HasNoClash}
 use Rattle.component_exports.specs.ExportedParts.{exporting}
 use Rattle.wit_encode.specs.Dependencies.{ShowsComponent}
+use Rattle.wit_encode.specs.DependencyCounts.{DefinesComponent}
 use Rattle.wit_encode.specs.Scopes.{HasNoEqualPaths, RefusesInterface}
 use Rattle.wit_encode.specs.WholeWorlds.{RefusesWorld, ShowsWorldType}
+use Rattle.wit_encode.specs.WorldCounts.{DefinesOnce}
+use Rattle.wit_encode.specs.WorldRoom.{entries_in}
 
 -- an interface of a package, by its name
 abbrev pub Listed : Type 0
@@ -47,10 +51,11 @@ pub record RefusesInterfaces (r : Resolve) (entries : List Listed) (canonical : 
   pub differ : canonical ≡ true → HaveNoEqualPaths r before
   pub refuses : RefusesInterface r refused.1.0 canonical e
 
--- the component type of an interface, under its name
+-- the component type of an interface, under its name, with each definition once
 pub record IsTypeOf (r : Resolve) (e : Listed) (x : Text × Declarations) : Type 0 where
   pub label : x.0 ≡ text_of e.0
   pub shows : (path : Text) → interface_path r e.1.0 ≡ Some path → ShowsComponent r e.1.0 path x.1
+  pub once : DefinesComponent r e.1.0 x.1
 
 -- a component that exports the component types of these interfaces, in order, and nothing else
 pub record HoldsInterfaces (r : Resolve) (entries : List Listed) (parts : List Part) : Type 0 where
@@ -68,12 +73,13 @@ AddsInterface r e old new = (entries : List Listed) → HoldsInterfaces r entrie
 abbrev pub ListedWorld : Type 0
 ListedWorld = String Global × WorldId
 
--- the wrapper of a world of a package of this name and version: it defines a component type that shows the world, and exports it under the
--- world's path, whole
+-- the wrapper of a world of a package of this name and version: it defines a component type that shows the world, with each definition once, and
+-- exports it under the world's path, whole
 pub record WrapsWorld (r : Resolve) (p : PackageIdentity) (w : World) (declared : Declarations) : Type 0 where
   pub inner : Declarations
   pub is : declared ≡ wrapper (path_in p (text_of w.name)) inner
   pub shows : ShowsWorldType r w inner
+  pub once : DefinesOnce r inner (entries_in w)
 
 -- the wrapper of a world, under its name
 pub record IsWrapperOf (r : Resolve) (p : PackageIdentity) (e : ListedWorld) (x : Text × Declarations) : Type 0 where
@@ -129,6 +135,13 @@ pub record HoldsPackage (r : Resolve) (p : Package) (parts : List Part) : Type 0
   pub types : List (Text × Declarations)
   pub are : ArePackageTypes r p types
   pub is : parts ≡ exporting types
+  pub members : HoldsMembers r (identity_of p.name) p.interfaces.entries p.worlds.entries parts
+
+-- The bytes spell such a component.
+pub record SpellsPackage (r : Resolve) (p : Package) (bytes : List ℕ) : Type 0 where
+  pub parts : List Part
+  pub holds : HoldsPackage r p parts
+  pub spells : IsComponent (sections_of_parts parts) bytes
 
 -- In no component type of the package two imports, or two exports, have one canonical name.
 pub record HasNoClashes (r : Resolve) (p : Package) : Type 0 where

@@ -1,5 +1,5 @@
 -- How much the component type of a world defines: each key of a function and each unnamed kind once, and the same in each instance type.
-use Rattle.std.specs.Prelude.{ℕ, ◌≡◌, ◌+◌, List, [], ◌∷◌, ◌++◌, map, length, Option, Some, None, nat_eq}
+use Rattle.std.specs.Prelude.{ℕ, ◌≡◌, ◌+◌, List, [], ◌∷◌, ◌++◌, map, length, Some, None, nat_eq}
 use Rattle.std.specs.List.{AllZip, IsDistinct}
 use Rattle.std.specs.Set.{is_member, distinct_count}
 use Rattle.indexmap.specs.IndexMap.{values}
@@ -74,6 +74,9 @@ pub record HasDefined (r : Resolve) (e : WorldEncoder) (es : List Entry) : Type 
   pub learns : LearnsFrom r None (referred_among es) began e.maps
   pub inside : AllZip (DefinesInterface r) (interfaces_among es) (instances_declared e.outer)
 
--- Behind whatever had been defined, so is what the entry asks for.
+-- Behind whatever had been defined, so is what these entries ask for, or one.
+abbrev pub DefinesAll : Resolve → WorldEncoder → WorldEncoder → List Entry → Type 0
+DefinesAll r e e' entries = (es : List Entry) → HasDefined r e es → HasDefined r e' (es ++ entries)
+
 abbrev pub Defines : Resolve → WorldEncoder → WorldEncoder → Placed → Type 0
-Defines r e e' x = (es : List Entry) → HasDefined r e es → HasDefined r e' (es ++ entry_of x ∷ [])
+Defines r e e' x = DefinesAll r e e' (entry_of x ∷ [])

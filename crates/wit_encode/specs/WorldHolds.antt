@@ -1,16 +1,22 @@
 -- How much an encoder of a world holds between two items, and which calls have no room.
-use Rattle.std.specs.Prelude.{ℕ, ◌≡◌, ◌≤◌, ◌+◌, ◌*◌, ◌&&◌, true, false, List, [], ◌∷◌, ◌++◌, length, is_some}
+use Rattle.std.specs.Prelude.{ℕ, ◌≡◌, ◌≤◌, ◌+◌, ◌*◌, ◌&&◌, true, false, ◌⊎◌, List, [], ◌∷◌, ◌++◌, length, Some, is_some}
 use Rattle.std.specs.List.{Contains}
+use Rattle.wit_model.specs.Lookup.{interface_at}
 use Rattle.wit_model.specs.declared.model.Resolve.{Resolve}
+use Rattle.wit_model.specs.declared.model.Interface.{Interface}
+use Rattle.wit_model.specs.declared.model.InterfaceId.{InterfaceId}
 use Rattle.wit_model.specs.declared.model.World.{World}
 use Rattle.comp_bytes.specs.Fits.{fits_declaration}
 use Rattle.comp_bytes.specs.Held.{declaration_slots, fits_added}
 use Rattle.comp_bytes.specs.Raw.{Declaration, Declarations, declaration_count}
+use Rattle.comp_meaning.specs.Follow.{Direction}
 use Rattle.wit_encode_types.specs.Known.{known_instance}
 use Rattle.world_names.specs.WorldSteps.{Entry, Entries, interfaces_among}
 use Rattle.wit_encode.specs.declared.world.Placed.{Placed}
+use Rattle.wit_encode.specs.Encoders.{InterfaceLacksRoom}
+use Rattle.wit_encode.specs.Instance.{LacksInstanceRoom}
 use Rattle.wit_encode.specs.WorldCounts.{HasDefined}
-use Rattle.wit_encode.specs.WorldItems.{HasShown, IsNext, all_done, entry_of, towards}
+use Rattle.wit_encode.specs.WorldItems.{HasShown, IsNext, all_done, begun, entry_of, towards}
 use Rattle.wit_encode.specs.WorldRoom.{WorldLacksRoom, count_among}
 use Rattle.wit_encode.specs.Worlds.{WorldEncoder, brought_numbers, world_around}
 
@@ -20,14 +26,26 @@ pub record HoldsFew (r : Resolve) (e : WorldEncoder) (es : List Entry) : Type 0 
   pub listed : (i : ℕ) → is_some (known_instance e.foreign.instances.entries i) ≡ true → Contains (interfaces_among es) i
   pub held : declaration_count e.outer ≤ 2 * length e.maps.id_to_index.entries + (length (brought_numbers r (world_around e)) + 2 * count_among es)
 
--- It goes on so behind the entry.
+-- It goes on so behind these entries, or behind one.
+abbrev pub HoldsAll : Resolve → WorldEncoder → WorldEncoder → List Entry → Type 0
+HoldsAll r e e' entries = (es : List Entry) → HoldsFew r e es → HoldsFew r e' (es ++ entries)
+
 abbrev pub HoldsOn : Resolve → WorldEncoder → WorldEncoder → Placed → Type 0
-HoldsOn r e e' x = (es : List Entry) → HoldsFew r e es → HoldsFew r e' (es ++ entry_of x ∷ [])
+HoldsOn r e e' x = HoldsAll r e e' (entry_of x ∷ [])
 
 -- The world of which the entry is next has no room in a component type.
 abbrev pub LacksWorldRoom : Resolve → WorldEncoder → Placed → Type 0
 LacksWorldRoom r e x = (w : World) (done : Entries) → HasShown r w e done → IsNext r w (towards x.direction) done (entry_of x) → HasDefined r e (all_done done) → HoldsFew r e (all_done done)
     → WorldLacksRoom r w
+
+-- The same of the world whose imports, or whose exports, are next.
+abbrev pub LacksRoomTowards : Resolve → WorldEncoder → Direction → Type 0
+LacksRoomTowards r e direction = (w : World) → HasShown r w e (begun direction w) → HasDefined r e (all_done (begun direction w)) → HoldsFew r e (all_done (begun direction w)) → WorldLacksRoom r w
+
+-- An instance type has no room for the interface. Or the component type, after aliases have been made, has none for one more alias or instance
+-- type.
+abbrev pub LacksInstanceHere : WorldEncoder → InterfaceId → Type 0
+LacksInstanceHere e i = (def : Interface) → interface_at e.resolve.now i.0 ≡ Some def → InterfaceLacksRoom e.resolve.now i def ⊎ LacksInstanceRoom e.resolve.now (world_around e)
 
 -- The declaration doesn't fit behind those of a component type, or a count doesn't with it.
 abbrev pub LacksDeclaration : Declarations → Declaration → Type 0

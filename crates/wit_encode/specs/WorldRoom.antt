@@ -41,14 +41,17 @@ referred_among es = referred (type_ids_among es) (functions_among es)
 abbrev pub IsMetAmong : Resolve → List Entry → ℕ → Type 0
 IsMetAmong r es n = ReachedFrom r None (referred_among es) n
 
--- a named type of an interface among these: an alias may bring it
-pub record IsTypeAmong (r : Resolve) (es : List Entry) (n : ℕ) : Type 0 where
+-- a named type of one of these interfaces: an alias may bring it
+pub record IsNamedTypeOf (r : Resolve) (interfaces : List ℕ) (n : ℕ) : Type 0 where
   pub interface : InterfaceId
-  pub among : Contains (interfaces_among es) interface.0
+  pub among : Contains interfaces interface.0
   pub def : TypeDef
   pub there : type_at r n ≡ Some def
   pub named_ : is_some def.name ≡ true
   pub owned : def.owner ≡ owner.Interface interface
+
+abbrev pub IsTypeAmong : Resolve → List Entry → ℕ → Type 0
+IsTypeAmong r es n = IsNamedTypeOf r (interfaces_among es) n
 
 -- numbers of which this holds, each once
 pub record AreSome (P : ℕ → Type 0) (numbers : List ℕ) : Type 0 where

@@ -6,9 +6,13 @@ ghost use Rattle.comp_bytes.specs.RawOf.{raw_name};
 ghost use Rattle.comp_bytes.specs.Refusal.{IsMemoryOrSize};
 ghost use Rattle.wit_model.specs.Lookup.{interface_path};
 ghost use Rattle.wit_model.specs.Text.{Text};
+ghost use Rattle.wit_model.specs.declared.error.Error.TheVariants.{Size};
 ghost use Rattle.wit_model.specs.Valid.{IsValid};
+ghost use Rattle.wit_model.specs.Weight.{interface_weight};
 ghost use Rattle.wit_encode.specs.Encoders.{outside, UsedAround};
 ghost use Rattle.wit_encode.specs.Dependencies.{AreImportable, HasImported, ImportsTypes, ShowsComponent};
+ghost use Rattle.wit_encode.specs.DependencyCounts.{DefinesComponent, DefinesImports};
+ghost use Rattle.wit_encode.specs.DependencyRoom.{HoldsImports, ImportsLackRoom, LacksImport};
 ghost use Rattle.wit_encode.specs.Scopes.{HasNoEqualPaths, RefusesInterface};
 
 use crate::interface::{InterfaceEncoder, InterfaceEncoderOf};
@@ -33,6 +37,7 @@ fn import_dependency<'a>(
     ensures closed { encoder.new.inner ≡ None }
     ensures resolve { encoder.new.resolve.now ≡ encoder.old.resolve.now }
     ensures imports { OnOk result (ImportsTypes encoder.old.resolve.now canonical_names (outside encoder.old) (outside encoder.new) interface number) }
+    ensures size { result ≡ Err Size → LacksImport encoder.old.resolve.now canonical_names (outside encoder.old) interface }
     ensures refuses { IfErr result IsMemoryOrSize }
 {
     let name = interface_name(alloc, encoder.resolve, interface, canonical_names)?;
@@ -59,6 +64,9 @@ fn import_dependencies<'a>(
     ensures closed { encoder.new.inner ≡ None }
     ensures resolve { encoder.new.resolve.now ≡ encoder.old.resolve.now }
     ensures imported { OnOk result (HasImported encoder.old.resolve.now (outside encoder.new) (map (λ id. id.0) interfaces.now)) }
+    ensures held { HoldsImports encoder.old.resolve.now (outside encoder.old) [] → OnOk result (HoldsImports encoder.old.resolve.now (outside encoder.new) (map (λ id. id.0) interfaces.now)) }
+    ensures once { DefinesImports encoder.old.resolve.now encoder.old.outer [] → OnOk result (DefinesImports encoder.old.resolve.now encoder.new.outer (map (λ id. id.0) interfaces.now)) }
+    ensures size { result ≡ Err Size → HoldsImports encoder.old.resolve.now (outside encoder.old) [] → ImportsLackRoom encoder.old.resolve.now (map (λ id. id.0) interfaces.now) }
     ensures refuses { IfErr result IsMemoryOrSize }
 {
     for (number, interface) in interfaces.iter().enumerate() {
@@ -72,7 +80,12 @@ fn import_dependencies<'a>(
 /// canonical names each path has the canonical part of its version alone, and what completes it is an attribute. Then `CanonicalClash` is
 /// answered where two of the imports have one canonical path, with the first that repeats an earlier one.
 ///
-/// Takes as long as encoding the types of these interfaces, and the functions of this one. Refuses `Memory` and `Size` besides.
+/// Nothing is defined beside instance types, and in each of them each unnamed kind that is met is defined once, as is each named type that has
+/// a definition of its own; in that of the interface itself there are as many types of functions as its functions have keys, and in the others
+/// none.
+///
+/// Takes as long as encoding the types of these interfaces, and the functions of this one. Refuses `Memory` besides, and `Size` only where the
+/// interface, with what it reaches, weighs more than 4,294,967,295.
 pub fn interface_type(
     alloc: Global,
     resolve: &Resolve,
@@ -82,7 +95,9 @@ pub fn interface_type(
     requires valid { IsValid resolve.now }
     requires named { is_some (interface_path resolve.now interface.0) ≡ true }
     ensures shows { IfOk result (λ declared. (path : Text) → interface_path resolve.now interface.0 ≡ Some path → ShowsComponent resolve.now interface.0 path declared) }
+    ensures once { IfOk result (DefinesComponent resolve.now interface.0) }
     ensures differ { canonical_names ≡ true → OnOk result (HasNoEqualPaths resolve.now interface.0) }
+    ensures size { result ≡ Err Size → 4294967295 < interface_weight resolve.now interface.0 }
     ensures refuses { IfErr result (RefusesInterface resolve.now interface.0 canonical_names) }
 {
     let reached = interfaces_reached(alloc, resolve, interface)?;

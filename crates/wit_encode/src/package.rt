@@ -11,7 +11,7 @@ ghost use Rattle.comp_bytes.specs.Spelling.{preamble};
 ghost use Rattle.wit_model.specs.declared.error.Error.TheVariants.{Size};
 ghost use Rattle.wit_shown.specs.PackageTypes.{wrapper};
 ghost use Rattle.wit_encode.specs.Scopes.{HasNoEqualPaths, RefusesInterface};
-ghost use Rattle.wit_encode.specs.Packages.{AddsInterface, AddsWorld, AddsWorlds, AreNamed, AreWorlds, HasMembers, HasNoClashAt, HasNoClashes, HasNoMembers, HaveNoClash, HaveNoEqualPaths, HoldsInterfaces, HoldsPackage, MeansPackage, RefusesInterfaces, RefusesPackage, RefusesWorldAt, RefusesWorlds, WrapsWorld};
+ghost use Rattle.wit_encode.specs.Packages.{AddsInterface, AddsWorld, AddsWorlds, AreNamed, AreWorlds, HasMembers, HasNoClashAt, HasNoClashes, HasNoMembers, HaveNoClash, HaveNoEqualPaths, HoldsInterfaces, HoldsPackage, MeansPackage, RefusesInterfaces, RefusesPackage, RefusesWorldAt, RefusesWorlds, SpellsPackage, WrapsWorld};
 
 use crate::component_types::interface_type;
 use crate::world::encode_world;
@@ -166,6 +166,9 @@ fn add_worlds(
 /// meaning is the same. Then `CanonicalClash` is answered where two imports, or two exports, of one component type have one canonical name,
 /// with the first name that repeats an earlier one, interfaces before worlds, each in order. Otherwise `Memory` and `Size` alone are refused.
 ///
+/// In each component type, and in each instance type in one, as many types of functions are defined as the functions there have keys, and each
+/// unnamed kind that is met is defined once, as is each named type that has a definition of its own.
+///
 /// Takes as long as encoding the interfaces, each with what it reaches, and the worlds.
 pub fn encode_component(
     alloc: Global,
@@ -193,7 +196,7 @@ pub fn encode_component(
 }
 
 /// The bytes of a package: of one with an interface or a world, bytes that are read as exactly what the package means, with canonical names
-/// and without; of one without, the preamble alone.
+/// and without; of one without, the preamble alone. They spell what `encode_component` answers.
 ///
 /// Takes as long as `encode_component`, and refuses what it does.
 pub fn encode(
@@ -205,6 +208,7 @@ pub fn encode(
     requires valid { IsValid resolve.now }
     requires in_range { «package».0 < length resolve.now.packages.items }
     ensures means { IfOk result (λ bytes. (p : PackageValue) → package_at resolve.now «package».0 ≡ Some p → HasMembers p → MeansPackage resolve.now «package».0 bytes.items) }
+    ensures holds { IfOk result (λ bytes. (p : PackageValue) → package_at resolve.now «package».0 ≡ Some p → SpellsPackage resolve.now p bytes.items) }
     ensures empty { IfOk result (λ bytes. (p : PackageValue) → package_at resolve.now «package».0 ≡ Some p → HasNoMembers p → bytes.items ≡ preamble) }
     ensures differ { (p : PackageValue) → package_at resolve.now «package».0 ≡ Some p → canonical_names ≡ true → OnOk result (HasNoClashes resolve.now p) }
     ensures refuses { (p : PackageValue) → package_at resolve.now «package».0 ≡ Some p → IfErr result (RefusesPackage resolve.now p canonical_names) }

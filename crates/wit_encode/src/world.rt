@@ -2,7 +2,7 @@
 
 ghost use Rattle.std.proofs.Common.{refl};
 ghost use Rattle.std.specs.Prelude.{◌≡◌, ◌<◌, ◌≤◌, ◌+◌, ◌&&◌, length, [], ◌∷◌, true, false, Err, Some, IfOk, IfErr, OnOk, OnErr};
-ghost use Rattle.wit_model.specs.declared.error.Error.TheVariants.{Size};
+ghost use Rattle.wit_model.specs.declared.error.Error.TheVariants.{Memory, Size};
 ghost use Rattle.comp_bytes.specs.Raw.{Declaration, Declarations, declaration_count};
 ghost use Rattle.comp_bytes.specs.RawOf.{raw_name};
 ghost use Rattle.comp_bytes.specs.Held.{fits_added, type_slots_of};
@@ -11,16 +11,18 @@ ghost use Rattle.comp_bytes.specs.Refusal.{IsMemoryOrSize};
 ghost use Rattle.wit_model.specs.Lookup.{world_at};
 ghost use Rattle.wit_model.specs.Uses.{item_interface};
 ghost use Rattle.wit_model.specs.Valid.{IsValid};
+ghost use Rattle.wit_model.specs.Weight.{world_weight};
 ghost use Rattle.wit_model.specs.declared.model.World.{World as WorldValue};
 ghost use Rattle.wit_model.specs.declared.model.WorldItem.TheVariants as item_kinds;
 ghost use Rattle.world_names.specs.WorldSteps.{declared_towards};
 ghost use Rattle.world_names.specs.Clashes.{HasNoClash};
 ghost use Rattle.wit_encode_types.specs.Known.{standing_instances, UsedStand};
 ghost use Rattle.wit_encode.specs.Encoders.{declared_after, DeclaresOutside};
-ghost use Rattle.wit_encode.specs.WorldCounts.{Defines, HasDefined};
-ghost use Rattle.wit_encode.specs.WorldHolds.{HoldsFew, HoldsOn, LacksDeclaration, LacksWorldRoom};
+ghost use Rattle.wit_encode.specs.WorldCounts.{Defines, DefinesAll, DefinesOnce, HasDefined};
+ghost use Rattle.wit_encode.specs.WorldHolds.{HoldsAll, HoldsFew, HoldsOn, LacksDeclaration, LacksInstanceHere, LacksRoomTowards, LacksWorldRoom};
 ghost use Rattle.wit_encode.specs.WholeWorlds.{RefusesWorld, ShowsWorldType};
 ghost use Rattle.wit_encode.specs.WorldItems.{entry_of, towards, AwaitsAll, AwaitsNext, DefinesInstance, Encodes, EncodesAll, HasShown, ListsInstance};
+ghost use Rattle.wit_encode.specs.WorldRoom.{entries_in};
 ghost use Rattle.wit_encode.specs.Worlds.{world_around};
 ghost use Rattle.wit_encode.specs.WrittenNames.{NamesMore, WritesNames};
 
@@ -253,6 +255,7 @@ impl<'a> WorldEncoderOf<'a, TypeEncodingMaps<'a>> {
         requires in_range { interface.0 < length self.old.resolve.now.interfaces.items }
         requires around { UsedStand self.old.resolve.now (standing_instances self.old.resolve.now (world_around self.old)) interface.0 }
         ensures ok { IfOk result (DefinesInstance self.old self.new interface) }
+        ensures size { result ≡ Err Size → LacksInstanceHere self.old interface }
         ensures rest { self.new ≡ record self.old { outer = self.new.outer; foreign = self.new.foreign } }
         ensures refuses { IfErr result IsMemoryOrSize }
     {
@@ -273,6 +276,7 @@ impl<'a> WorldEncoderOf<'a, TypeEncodingMaps<'a>> {
     fn list_instance(&mut self, interface: InterfaceId) -> Result<(), Error>
         requires { self.old.instances < type_slots_of self.old.outer }
         ensures ok { OnOk result (ListsInstance self.old self.new interface) }
+        ensures memory { IfErr result (λ e. e ≡ Memory) }
         ensures refuses { IfErr result IsMemoryOrSize }
     {
         // each instance has a type of its own
@@ -294,6 +298,9 @@ impl<'a> WorldEncoderOf<'a, TypeEncodingMaps<'a>> {
         requires next { AwaitsNext resolve.now self.old placed }
         requires item { item_interface placed.item.now ≡ Some interface.0 }
         ensures ok { OnOk result (Encodes resolve.now self.old self.new placed.entry) }
+        ensures once { OnOk result (Defines resolve.now self.old self.new placed.entry) }
+        ensures few { OnOk result (HoldsOn resolve.now self.old self.new placed.entry) }
+        ensures size { result ≡ Err Size → LacksWorldRoom resolve.now self.old placed.entry }
         ensures names { OnOk result (NamesMore resolve.now placed.entry.canonical_names (entry_of placed.entry ∷ []) self.old.outer self.new.outer) }
         ensures refuses { IfErr result IsMemoryOrSize }
     {
@@ -320,6 +327,9 @@ impl<'a> WorldEncoderOf<'a, TypeEncodingMaps<'a>> {
         requires valid { IsValid resolve.now }
         requires next { AwaitsNext resolve.now self.old placed }
         ensures ok { OnOk result (Encodes resolve.now self.old self.new placed.entry) }
+        ensures once { OnOk result (Defines resolve.now self.old self.new placed.entry) }
+        ensures few { OnOk result (HoldsOn resolve.now self.old self.new placed.entry) }
+        ensures size { result ≡ Err Size → LacksWorldRoom resolve.now self.old placed.entry }
         ensures names { OnOk result (NamesMore resolve.now placed.entry.canonical_names (entry_of placed.entry ∷ []) self.old.outer self.new.outer) }
         ensures refuses { IfErr result IsMemoryOrSize }
     {
@@ -342,6 +352,9 @@ impl<'a> WorldEncoderOf<'a, TypeEncodingMaps<'a>> {
         requires valid { IsValid resolve.now }
         requires begins { AwaitsAll resolve.now self.old (towards direction) items.now.entries }
         ensures ok { OnOk result (EncodesAll resolve.now self.old self.new (towards direction)) }
+        ensures once { OnOk result (DefinesAll resolve.now self.old self.new items.now.entries) }
+        ensures few { OnOk result (HoldsAll resolve.now self.old self.new items.now.entries) }
+        ensures size { result ≡ Err Size → LacksRoomTowards resolve.now self.old (towards direction) }
         ensures names { OnOk result (NamesMore resolve.now canonical_names items.now.entries self.old.outer self.new.outer) }
         ensures refuses { IfErr result IsMemoryOrSize }
     {
@@ -368,6 +381,8 @@ fn encode_entries(
     requires valid { IsValid resolve.now }
     requires in_range { world.0 < length resolve.now.worlds.items }
     ensures shows { IfOk result (λ declared. (w : WorldValue) → world_at resolve.now world.0 ≡ Some w → ShowsWorldType resolve.now w declared) }
+    ensures once { IfOk result (λ declared. (w : WorldValue) → world_at resolve.now world.0 ≡ Some w → DefinesOnce resolve.now declared (entries_in w)) }
+    ensures size { result ≡ Err Size → 4294967295 < world_weight resolve.now world.0 }
     ensures names { IfOk result (λ declared. (w : WorldValue) → world_at resolve.now world.0 ≡ Some w → WritesNames resolve.now canonical_names w declared) }
     ensures refuses { IfErr result IsMemoryOrSize }
 {
@@ -397,7 +412,11 @@ fn encode_entries(
 ///
 /// Paths are written with their whole version, or, with canonical names, with the canonical part of it and an attribute that completes it; the
 /// meaning is the same. Then `CanonicalClash` is answered where two imports, or two exports, have one canonical name, with the first name that
-/// repeats an earlier one, imports before exports. Otherwise `Memory` and `Size` alone are refused.
+/// repeats an earlier one, imports before exports. Otherwise `Memory` and `Size` alone are refused, and `Size` only where the world weighs more
+/// than 4,294,967,295.
+///
+/// In the component type as many types of functions are defined as the world's functions have keys, and each unnamed kind that its types and
+/// functions meet is defined once, as is each of its named types that has a definition of its own. In each instance type it is the same.
 ///
 /// Takes as long as encoding its interfaces, types and functions, with a search in an ordered map for each.
 pub fn encode_world(
@@ -409,6 +428,8 @@ pub fn encode_world(
     requires valid { IsValid resolve.now }
     requires in_range { world.0 < length resolve.now.worlds.items }
     ensures shows { IfOk result (λ declared. (w : WorldValue) → world_at resolve.now world.0 ≡ Some w → ShowsWorldType resolve.now w declared) }
+    ensures once { IfOk result (λ declared. (w : WorldValue) → world_at resolve.now world.0 ≡ Some w → DefinesOnce resolve.now declared (entries_in w)) }
+    ensures size { result ≡ Err Size → 4294967295 < world_weight resolve.now world.0 }
     ensures names { IfOk result (λ declared. (w : WorldValue) → world_at resolve.now world.0 ≡ Some w → WritesNames resolve.now canonical_names w declared) }
     ensures clashes { (w : WorldValue) → world_at resolve.now world.0 ≡ Some w → canonical_names ≡ true → OnOk result (HasNoClash resolve.now w) }
     ensures refuses { (w : WorldValue) → world_at resolve.now world.0 ≡ Some w → IfErr result (RefusesWorld resolve.now w canonical_names) }

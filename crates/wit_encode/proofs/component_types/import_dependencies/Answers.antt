@@ -1,13 +1,13 @@
-use Rattle.std.proofs.Common.{◌≡◌, refl, sym, subst, ◌∙◌, ◌+◌, map, take}
+use Rattle.std.proofs.Common.{refl, sym, subst, ◌∙◌, ◌+◌, map, take, rules}
 use Rattle.wit_model.specs.declared.model.Resolve.{Resolve}
 use Rattle.wit_model.specs.declared.model.InterfaceId.{InterfaceId}
 use Rattle.wit_encode.specs.Encoders.{outside}
 use Rattle.wit_encode.specs.Dependencies.{HasImported}
-use Rattle.wit_encode.proofs.ImportLoop.{is-next, all-imported}
+use Rattle.wit_encode.proofs.ImportLoop.{all-defined, all-held, all-imported, defines-next, held-next, is-next, next-refused}
 use Rattle.wit_encode.proofs.component_types.import_dependencies.Goals as goal
 
 pub loop-number-init : goal.loop-number-init
-loop-number-init c = record { closed = c.requires.closed; packages_ = refl; imported = c.requires.nothing }
+loop-number-init c = record { closed = c.requires.closed; packages_ = refl; imported = c.requires.nothing; held = λ h. h; defines = λ h. h }
 
 pub import_dependency-requires-clause-closed : goal.import_dependency-requires-clause-closed
 import_dependency-requires-clause-closed c = c.loop-number.invariant.closed
@@ -32,6 +32,10 @@ loop-number-preserved c = record {
       let here = is-next c.args.encoder.now.resolve.now c.loop-number.encoder.resolve.now c.args.interfaces.now c.loop-number.number (outside c.loop-number.encoder) c.loop-number.invariant.packages_ c.requires.valid c.requires.importable c.loop-number-test.true c.loop-number.invariant.imported in
       subst (λ (q : Resolve). HasImported q (outside c.import_dependency.new.encoder) (take (c.loop-number.number + 1) (map (λ (id : InterfaceId). id.0) c.args.interfaces.now))) (sym c.import_dependency.ensures.resolve)
       (here.then c.args.canonical_names (outside c.import_dependency.new.encoder) c.in_ok-import_dependency.ensures.imports);
+  held = λ h. held-next c.args.encoder.now.resolve.now c.loop-number.encoder.resolve.now c.args.canonical_names c.args.interfaces.now c.loop-number.number (outside c.loop-number.encoder) (outside c.import_dependency.new.encoder)
+      c.loop-number.invariant.packages_ c.loop-number-test.true c.in_ok-import_dependency.ensures.imports (c.loop-number.invariant.held h);
+  defines = λ h. defines-next c.args.encoder.now.resolve.now c.loop-number.encoder.resolve.now c.args.canonical_names c.args.interfaces.now c.loop-number.number (outside c.loop-number.encoder) (outside c.import_dependency.new.encoder)
+      c.loop-number.invariant.packages_ c.loop-number-test.true c.in_ok-import_dependency.ensures.imports (c.loop-number.invariant.defines h);
 }
 
 pub returns-clause-closed : goal.returns-clause-closed
@@ -42,3 +46,15 @@ returns-clause-resolve c = c.loop-number.invariant.packages_
 
 pub returns-clause-imported : goal.returns-clause-imported
 returns-clause-imported c = all-imported c.args.encoder.now.resolve.now c.loop-number.encoder.resolve.now c.args.interfaces.now c.loop-number.number (outside c.loop-number.encoder) c.loop-number.invariant.packages_ c.loop-number-test.false c.loop-number.invariant.imported
+
+pub returns-clause-held : goal.returns-clause-held
+returns-clause-held c = λ h. all-held c.args.encoder.now.resolve.now c.args.interfaces.now c.loop-number.number (outside c.loop-number.encoder) c.loop-number-test.false (c.loop-number.invariant.held h)
+
+pub returns-clause-once : goal.returns-clause-once
+returns-clause-once c = λ h. all-defined c.args.encoder.now.resolve.now c.args.interfaces.now c.loop-number.number c.loop-number.encoder.outer c.loop-number-test.false (c.loop-number.invariant.defines h)
+
+pub returns-in_err-import_dependency-clause-size : goal.returns-in_err-import_dependency-clause-size
+returns-in_err-import_dependency-clause-size c = λ h.
+    let refused = c.import_dependency.ensures.size (search rules) in
+    λ held. next-refused c.args.encoder.now.resolve.now c.loop-number.encoder.resolve.now c.args.canonical_names c.args.interfaces.now c.loop-number.number (outside c.loop-number.encoder) c.loop-number.invariant.packages_
+    c.loop-number-test.true c.loop-number.invariant.imported (c.loop-number.invariant.held held) refused

@@ -1,6 +1,8 @@
-use Rattle.std.proofs.Common.{◌≡◌, None, map, take}
+use Rattle.std.proofs.Common.{◌≡◌, None, [], map, take}
 use Rattle.wit_encode.specs.Encoders.{outside}
 use Rattle.wit_encode.specs.Dependencies.{HasImported}
+use Rattle.wit_encode.specs.DependencyCounts.{DefinesImports}
+use Rattle.wit_encode.specs.DependencyRoom.{HoldsImports}
 use Rattle.wit_encode.proofs.component_types.import_dependencies.Given as goal
 
 abbrev pub invariant-loop-number : goal.invariant-loop-number
@@ -8,4 +10,6 @@ invariant-loop-number l = record {
   closed : l.encoder.inner ≡ None;
   packages_ : l.encoder.resolve.now ≡ l.fn.encoder.resolve.now;
   imported : HasImported l.encoder.resolve.now (outside l.encoder) (take l.number (map (λ id. id.0) l.interfaces));
+  held : HoldsImports l.fn.encoder.resolve.now (outside l.fn.encoder) [] → HoldsImports l.fn.encoder.resolve.now (outside l.encoder) (take l.number (map (λ id. id.0) l.interfaces));
+  defines : DefinesImports l.fn.encoder.resolve.now l.fn.encoder.outer [] → DefinesImports l.fn.encoder.resolve.now l.encoder.outer (take l.number (map (λ id. id.0) l.interfaces));
 }

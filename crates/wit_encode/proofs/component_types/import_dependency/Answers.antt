@@ -1,9 +1,12 @@
-use Rattle.std.proofs.Common.{◌≡◌, ap, ◌∙◌, length}
+use Rattle.std.proofs.Common.{◌≡◌, ap, ◌∙◌, ℕ, length, [], Result, Err, rules}
 use Rattle.std.proofs.lemmas.Bool.{lt-ltb}
+use Rattle.wit_model.specs.declared.error.Error.{Error}
+use Rattle.wit_model.specs.declared.error.Error.TheVariants as errors
 use Rattle.comp_bytes.specs.Raw.{Declaration, Declarations, append}
 use Rattle.comp_bytes.specs.declared.forms.ComponentTypeRef.TheVariants as refs
 use Rattle.wit_encode_types.proofs.Paths.{found-in}
 use Rattle.wit_encode.specs.Encoders.{outside}
+use Rattle.wit_encode.proofs.DependencyHolding.{import-lacks, slot-lacks}
 use Rattle.wit_encode.proofs.component_types.import_dependency.Goals as goal
 
 pub returns-clause-imports : goal.returns-clause-imports
@@ -12,6 +15,7 @@ returns-clause-imports c =
     let found = found-in c.args.encoder.now.resolve.now.interfaces.items c.args.interface.0 (lt-ltb c.args.interface.0 (length c.args.encoder.now.resolve.now.interfaces.items) c.requires.in_range) in
     record {
       def = found.0;
+      there = found.1;
       slot = c.in_ok-slot.slot;
       encoded = outside after;
       encodes = c.in_ok-slot.ensures.ok found.0 found.1;
@@ -21,3 +25,18 @@ returns-clause-imports c =
         known = after.foreign.known.entries;
       };
     }
+
+pub returns-in_err-slot-clause-size : goal.returns-in_err-slot-clause-size
+returns-in_err-slot-clause-size c = λ h.
+    let refused : ◌≡◌ {A = Result ℕ Error} c.encode_dependency.result (Err errors.Size) = search rules in
+    let r = c.args.encoder.now.resolve.now in
+    let found = found-in r.interfaces.items c.args.interface.0 (lt-ltb c.args.interface.0 (length r.interfaces.items) c.requires.in_range) in
+    slot-lacks r c.args.canonical_names (outside c.args.encoder.now) c.args.interface found.0 found.1 (c.encode_dependency.ensures.size refused found.0 found.1)
+
+pub returns-in_err-import-clause-size : goal.returns-in_err-import-clause-size
+returns-in_err-import-clause-size c = λ h.
+    let refused = c.import.ensures.size (search rules) in
+    let r = c.args.encoder.now.resolve.now in
+    let found = found-in r.interfaces.items c.args.interface.0 (lt-ltb c.args.interface.0 (length r.interfaces.items) c.requires.in_range) in
+    let encodes = c.in_ok-slot.ensures.ok found.0 found.1 in
+    import-lacks r c.args.canonical_names (outside c.args.encoder.now) (outside c.encode_dependency.new.self) c.args.interface found.0 [] [] c.in_ok-slot.slot encodes.part _ c.in_ok-name.ensures.ok refused

@@ -1,20 +1,26 @@
-use Rattle.std.proofs.Common.{◌≡◌, ◌≤◌, ◌<◌, sym, subst, ap, ◌∙◌, length, map, List, Some, [], arith}
+use Rattle.std.proofs.Common.{◌≡◌, ◌≤◌, ◌<◌, ◌⊎◌, ℕ, sym, subst, ap, ◌∙◌, length, map, List, [], Result, Err, arith, rules}
 use Rattle.std.proofs.Math.ListN.{length-map}
 use Rattle.std.proofs.lemmas.Bool.{lt-ltb}
 use Rattle.wit_model.specs.Lookup.{interface_at}
+use Rattle.wit_model.specs.declared.error.Error.{Error}
+use Rattle.wit_model.specs.declared.error.Error.TheVariants as errors
 use Rattle.wit_model.specs.declared.model.Resolve.{Resolve}
 use Rattle.wit_model.specs.declared.model.InterfaceId.{InterfaceId}
 use Rattle.comp_bytes.specs.Raw.{Declaration, Declarations, append}
 use Rattle.comp_bytes.specs.declared.forms.ComponentTypeRef.TheVariants as refs
 use Rattle.wit_encode_types.specs.Known.{Around, UsedStand, standing_instances}
 use Rattle.wit_encode_types.proofs.Paths.{found-in}
-use Rattle.wit_encode.specs.Encoders.{outside}
-use Rattle.wit_encode.specs.Instance.{EncodesInterface}
+use Rattle.wit_encode.specs.DependencyCounts.{DefinesImports}
+use Rattle.wit_encode.specs.DependencyRoom.{ImportsLackRoom, of_imports}
+use Rattle.wit_encode.specs.Encoders.{InterfaceLacksRoom, outside}
+use Rattle.wit_encode.specs.Instance.{EncodesInterface, LacksInstanceRoom}
 use Rattle.wit_encode.specs.Dependencies.{AreImportable, HasImported, ShowsComponent}
+use Rattle.wit_encode.proofs.DependencyHolding.{export-defines, export-lacks, nothing-defined, nothing-held, own-lacks}
+use Rattle.wit_encode.proofs.DependencyWeighing.{lacking-components-heavy}
 use Rattle.wit_encode.proofs.Imported.{nothing_is_imported, exports_end}
 use Rattle.wit_encode.proofs.ImportsStand.{imports_stand}
-use Rattle.wit_encode.proofs.ImportLoop.{few-importable, moved, path-in-range, reached-importable, reached-used}
-use Rattle.wit_encode.proofs.Scopes.{refused-by_paths}
+use Rattle.wit_encode.proofs.ImportLoop.{few-importable, moved, moved-held, path-in-range, reached-importable, reached-used}
+use Rattle.wit_encode.proofs.Scopes.{paths-fit, refused-by_paths}
 use Rattle.wit_encode.proofs.component_types.interface_type.Goals as goal
 
 pub returns-in_err-refuse_equal_paths-clause-refuses : goal.returns-in_err-refuse_equal_paths-clause-refuses
@@ -65,3 +71,66 @@ returns-clause-shows c = λ path is.
     subst (ShowsComponent r c.args.interface.0 path)
     (sym (c.in_ok-export.ensures.ok ∙ ap (λ n. append after.outer (Declarations.declares (Declaration.exported n (refs.Instance c.in_ok-slot.slot)) Declarations.no_more)) c.in_ok-name.ensures.ok))
     (exports_end r c.args.canonical_names (outside before) (outside after) (map (λ (id : InterfaceId). id.0) c.in_ok-reached.reached.items) c.args.interface found.0 path c.in_ok-slot.slot c.requires.valid is imported c.in_ok-reached.ensures.reached encodes)
+
+pub returns-clause-once : goal.returns-clause-once
+returns-clause-once c =
+    let r = c.args.resolve.now in
+    let q = c.new-encoder.result.resolve.now in
+    let before = c.import_dependencies.new.encoder in
+    let after = c.encode_instance.new.self in
+    let same = c.import_dependencies.ensures.resolve ∙ c.new-encoder.ensures.resolve in
+    let found = found-in r.interfaces.items c.args.interface.0 (lt-ltb c.args.interface.0 (length r.interfaces.items) (path-in-range r c.args.interface.0 c.requires.named)) in
+    let encodes = subst (λ (q : Resolve). EncodesInterface q (outside before) (outside after) c.args.interface found.0 c.in_ok-slot.slot) same (c.in_ok-slot.ensures.ok found.0 (ap (λ (q : Resolve). interface_at q c.args.interface.0) same ∙ found.1)) in
+    let defined = subst (λ (q : Resolve). DefinesImports q before.outer (map (λ (id : InterfaceId). id.0) c.deref-2.result.now)) c.new-encoder.ensures.resolve
+    (c.in_ok-import_dependencies.ensures.once (nothing-defined q c.new-encoder.result.outer c.new-encoder.ensures.outer)) in
+    export-defines r c.args.canonical_names (outside before) (outside after) c.args.interface found.0 c.in_ok-slot.slot c.export.new.self encodes
+    (c.in_ok-export.ensures.ok ∙ ap (λ n. append after.outer (Declarations.declares (Declaration.exported n (refs.Instance c.in_ok-slot.slot)) Declarations.no_more)) c.in_ok-name.ensures.ok)
+    (map (λ (id : InterfaceId). id.0) c.deref-2.result.now) found.1 (ap (map (λ (id : InterfaceId). id.0)) c.deref-2.ensures.value ∙ c.in_ok-reached.ensures.order) defined
+
+pub returns-in_err-refuse_equal_paths-clause-size : goal.returns-in_err-refuse_equal_paths-clause-size
+returns-in_err-refuse_equal_paths-clause-size c = λ refused. paths-fit c.args.resolve.now (map (λ (id : InterfaceId). id.0) c.deref.result.now) c.args.canonical_names c.in_err-refuse_equal_paths.field-0.0
+    c.from_residual-in_err-refuse_equal_paths.result c.in_err-refuse_equal_paths.ensures.refuses c.from_residual-in_err-refuse_equal_paths.ensures.1 refused
+
+pub returns-in_err-import_dependencies-clause-size : goal.returns-in_err-import_dependencies-clause-size
+returns-in_err-import_dependencies-clause-size c = λ h.
+    let refused = c.import_dependencies.ensures.size (search rules) in
+    let r = c.args.resolve.now in
+    let q = c.new-encoder.result.resolve.now in
+    let lacks = refused (nothing-held q (outside c.new-encoder.result) c.new-encoder.ensures.outer) in
+    lacking-components-heavy r c.args.interface (map (λ (id : InterfaceId). id.0) c.in_ok-reached.reached.items) c.requires.valid c.requires.named c.in_ok-reached.ensures.reached
+    (of_imports (subst (λ (xs : List InterfaceId). ImportsLackRoom r (map (λ (id : InterfaceId). id.0) xs)) c.deref-2.ensures.value
+    (subst (λ (q : Resolve). ImportsLackRoom q (map (λ (id : InterfaceId). id.0) c.deref-2.result.now)) c.new-encoder.ensures.resolve lacks)))
+
+pub returns-in_err-slot-clause-size : goal.returns-in_err-slot-clause-size
+returns-in_err-slot-clause-size c = λ h.
+    let refused : ◌≡◌ {A = Result ℕ Error} c.encode_instance.result (Err errors.Size) = search rules in
+    let r = c.args.resolve.now in
+    let q = c.new-encoder.result.resolve.now in
+    let ns = map (λ (id : InterfaceId). id.0) c.in_ok-reached.reached.items in
+    let before = c.import_dependencies.new.encoder in
+    let same = c.import_dependencies.ensures.resolve ∙ c.new-encoder.ensures.resolve in
+    let found = found-in r.interfaces.items c.args.interface.0 (lt-ltb c.args.interface.0 (length r.interfaces.items) (path-in-range r c.args.interface.0 c.requires.named)) in
+    let imported = moved r q c.in_ok-reached.reached.items c.deref-2.result.now (outside before) c.new-encoder.ensures.resolve c.deref-2.ensures.value c.in_ok-import_dependencies.ensures.imported in
+    let held = moved-held r q c.in_ok-reached.reached.items c.deref-2.result.now (outside before) c.new-encoder.ensures.resolve c.deref-2.ensures.value
+    (c.in_ok-import_dependencies.ensures.held (nothing-held q (outside c.new-encoder.result) c.new-encoder.ensures.outer)) in
+    lacking-components-heavy r c.args.interface ns c.requires.valid c.requires.named c.in_ok-reached.ensures.reached
+    (own-lacks r ns (outside before) imported held c.args.interface found.0 found.1
+    (subst (λ (q : Resolve). InterfaceLacksRoom q c.args.interface found.0 ⊎ LacksInstanceRoom q (outside before)) same
+    (c.encode_instance.ensures.size refused found.0 (ap (λ (q : Resolve). interface_at q c.args.interface.0) same ∙ found.1))))
+
+pub returns-in_err-export-clause-size : goal.returns-in_err-export-clause-size
+returns-in_err-export-clause-size c = λ h.
+    let refused = c.export.ensures.size (search rules) in
+    let r = c.args.resolve.now in
+    let q = c.new-encoder.result.resolve.now in
+    let ns = map (λ (id : InterfaceId). id.0) c.in_ok-reached.reached.items in
+    let before = c.import_dependencies.new.encoder in
+    let after = c.encode_instance.new.self in
+    let same = c.import_dependencies.ensures.resolve ∙ c.new-encoder.ensures.resolve in
+    let found = found-in r.interfaces.items c.args.interface.0 (lt-ltb c.args.interface.0 (length r.interfaces.items) (path-in-range r c.args.interface.0 c.requires.named)) in
+    let imported = moved r q c.in_ok-reached.reached.items c.deref-2.result.now (outside before) c.new-encoder.ensures.resolve c.deref-2.ensures.value c.in_ok-import_dependencies.ensures.imported in
+    let held = moved-held r q c.in_ok-reached.reached.items c.deref-2.result.now (outside before) c.new-encoder.ensures.resolve c.deref-2.ensures.value
+    (c.in_ok-import_dependencies.ensures.held (nothing-held q (outside c.new-encoder.result) c.new-encoder.ensures.outer)) in
+    let encodes = subst (λ (q : Resolve). EncodesInterface q (outside before) (outside after) c.args.interface found.0 c.in_ok-slot.slot) same (c.in_ok-slot.ensures.ok found.0 (ap (λ (q : Resolve). interface_at q c.args.interface.0) same ∙ found.1)) in
+    lacking-components-heavy r c.args.interface ns c.requires.valid c.requires.named c.in_ok-reached.ensures.reached
+    (export-lacks r ns (outside before) imported held c.args.interface found.0 c.args.canonical_names (outside after) c.in_ok-slot.slot encodes _ c.in_ok-name.ensures.ok refused)

@@ -4,7 +4,7 @@ use Rattle.wit_model.specs.Lookup.{package_at}
 use Rattle.wit_model.specs.declared.model.Package.{Package}
 use Rattle.comp_bytes.specs.Parts.{sections_of_parts}
 use Rattle.comp_bytes.specs.Spelling.{IsComponent, preamble}
-use Rattle.wit_encode.specs.Packages.{HasMembers, HasNoMembers, MeansPackage}
+use Rattle.wit_encode.specs.Packages.{HasMembers, HasNoMembers, MeansPackage, SpellsPackage}
 use Rattle.wit_encode.proofs.WholePackages.{bytes-empty, bytes-mean}
 use Rattle.wit_encode.proofs.package.encode.Goals as goal
 
@@ -15,6 +15,14 @@ returns-clause-means c =
     let parts = c.in_ok-encode_component.field-0 in
     IfOk-weaker c.finish.result (λ bytes. IsComponent (sections_of_parts parts) bytes.items) (λ bytes. (p : Package) → package_at r n ≡ Some p → HasMembers p → MeansPackage r n bytes.items)
     (λ bytes spelled p is some. bytes-mean r c.requires.valid n p is parts bytes.items (c.in_ok-encode_component.ensures.holds p is) spelled some) c.finish.ensures.spelled
+
+pub returns-clause-holds : goal.returns-clause-holds
+returns-clause-holds c =
+    let r = c.args.resolve.now in
+    let n = c.args.package.0 in
+    let parts = c.in_ok-encode_component.field-0 in
+    IfOk-weaker c.finish.result (λ bytes. IsComponent (sections_of_parts parts) bytes.items) (λ bytes. (p : Package) → package_at r n ≡ Some p → SpellsPackage r p bytes.items)
+    (λ bytes spelled p is. record { parts = parts; holds = c.in_ok-encode_component.ensures.holds p is; spells = spelled }) c.finish.ensures.spelled
 
 pub returns-clause-empty : goal.returns-clause-empty
 returns-clause-empty c =

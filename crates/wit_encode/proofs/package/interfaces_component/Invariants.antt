@@ -1,5 +1,3 @@
-use Rattle.std.proofs.Common.{◌≡◌, ◌++◌, List, true}
-use Rattle.wit_encode.specs.Packages.{HaveNoEqualPaths, HoldsInterfaces, Listed}
 use Rattle.wit_encode.proofs.Packages.{IsBegun}
 use Rattle.wit_encode.proofs.package.interfaces_component.Given as goal
 

@@ -26,5 +26,6 @@ returns-clause-wraps c =
       inner = inner;
       is = is ∙ ap (λ t. wrapper (path_in p t) inner) (c.deref.ensures ∙ ap (λ (z : World). text_of z.name) (some-same c.index.result.now w (sym at ∙ there)));
       shows = c.in_ok-component.ensures.shows w there;
+      once = c.in_ok-component.ensures.once w there;
     })
     c.wrapper_of.ensures.wraps

@@ -1,10 +1,16 @@
-use Rattle.std.proofs.Common.{◌≡◌, ◌∙◌, ◌++◌, refl, subst, sym, Some}
+use Rattle.std.proofs.Common.{◌≡◌, ◌∙◌, ◌++◌, append-nil, refl, subst, sym, Some, [], rules}
 use Rattle.std.proofs.lemmas.Option.{slice_get_read}
 use Rattle.wit_model.specs.Lookup.{world_at}
 use Rattle.wit_model.specs.declared.model.World.{World}
 use Rattle.comp_bytes.specs.Raw.{Declarations}
+use Rattle.comp_meaning.specs.Follow.{export_}
 use Rattle.wit_encode_types.proofs.Paths.{some-same}
+use Rattle.wit_encode.specs.WorldCounts.{HasDefined}
+use Rattle.wit_encode.specs.WorldHolds.{HoldsFew}
+use Rattle.wit_encode.specs.WorldItems.{ended}
 use Rattle.wit_encode.specs.WrittenNames.{NamesMore, WritesNames}
+use Rattle.wit_encode.proofs.WorldCounting.{defines-once}
+use Rattle.wit_encode.proofs.WorldWeighing.{lacking-worlds-heavy}
 use Rattle.wit_encode.proofs.WrittenNames.{names-then}
 use Rattle.wit_encode.proofs.WholeWorlds.{world-shown}
 use Rattle.wit_encode.proofs.world.encode_entries.Goals as goal
@@ -36,3 +42,29 @@ returns-clause-names c = λ w is.
     subst (λ (z : World). WritesNames c.args.resolve.now c.args.canonical_names z c.encode_items-2.new.self.outer) same
     (subst (λ (ds : Declarations). NamesMore c.args.resolve.now c.args.canonical_names (c.index-def.result.now.imports.entries ++ c.index-def.result.now.exports.entries) ds c.encode_items-2.new.self.outer) c.new-encoder.ensures.empty
     (names-then c.args.resolve.now c.args.canonical_names c.index-def.result.now.imports.entries c.index-def.result.now.exports.entries c.new-encoder.result.outer c.encode_items.new.self.outer c.encode_items-2.new.self.outer c.in_ok-encode_items.ensures.names c.in_ok-encode_items-2.ensures.names))
+
+pub returns-clause-once : goal.returns-clause-once
+returns-clause-once c = λ w is.
+    let r = c.args.resolve.now in
+    let same : c.index-def.result.now ≡ w = some-same c.index-def.result.now w (sym (there (goal.at.returns-clause-once c).After-index-def) ∙ is) in
+    let imported = subst (λ (z : World). HasDefined r c.encode_items.new.self z.imports.entries) same (c.in_ok-encode_items.ensures.once [] c.new-encoder.ensures.defines) in
+    let exported = subst (λ (z : World). HasDefined r c.encode_items-2.new.self (w.imports.entries ++ z.exports.entries)) same (c.in_ok-encode_items-2.ensures.once w.imports.entries imported) in
+    defines-once r c.requires.valid w c.encode_items-2.new.self (ended export_ w) (c.in_ok-encode_items-2.ensures.ok w (c.in_ok-encode_items.ensures.ok w (c.new-encoder.ensures.starts w is))) exported
+
+pub returns-in_err-encode_items-clause-size : goal.returns-in_err-encode_items-clause-size
+returns-in_err-encode_items-clause-size c = λ h.
+    let refused = c.encode_items.ensures.size (search rules) in
+    let at = there (goal.at.returns-in_err-encode_items-clause-size c).After-index-def in
+    lacking-worlds-heavy c.args.resolve.now c.args.world c.index-def.result.now c.requires.valid at
+    (refused c.index-def.result.now (c.new-encoder.ensures.starts c.index-def.result.now at) c.new-encoder.ensures.defines c.new-encoder.ensures.few)
+
+pub returns-in_err-encode_items-2-clause-size : goal.returns-in_err-encode_items-2-clause-size
+returns-in_err-encode_items-2-clause-size c = λ h.
+    let refused = c.encode_items-2.ensures.size (search rules) in
+    let r = c.args.resolve.now in
+    let w = c.index-def.result.now in
+    let at = there (goal.at.returns-in_err-encode_items-2-clause-size c).After-index-def in
+    lacking-worlds-heavy r c.args.world w c.requires.valid at
+    (refused w (c.in_ok-encode_items.ensures.ok w (c.new-encoder.ensures.starts w at))
+    (subst (HasDefined r c.encode_items.new.self) (sym (append-nil w.imports.entries)) (c.in_ok-encode_items.ensures.once [] c.new-encoder.ensures.defines))
+    (subst (HoldsFew r c.encode_items.new.self) (sym (append-nil w.imports.entries)) (c.in_ok-encode_items.ensures.few [] c.new-encoder.ensures.few)))

@@ -4,7 +4,7 @@ use Rattle.wit_model.specs.Lookup.{world_at}
 use Rattle.wit_model.specs.declared.model.World.{World}
 use Rattle.world_names.specs.Clashes.{HasNoClash, RefusesNames}
 use Rattle.wit_encode_types.proofs.Paths.{some-same}
-use Rattle.wit_encode.proofs.WholeWorlds.{names-refused, none-clash, room-refused}
+use Rattle.wit_encode.proofs.WholeWorlds.{clash-fits, names-refused, none-clash, room-refused}
 use Rattle.wit_encode.proofs.world.encode_world.Goals as goal
 use Rattle.wit_encode.proofs.world.encode_world.Goals.{After-index-def}
 
@@ -23,3 +23,7 @@ pub returns-in_err-refuse_clashes-clause-refuses : goal.returns-in_err-refuse_cl
 returns-in_err-refuse_clashes-clause-refuses c = λ w is. names-refused c.args.resolve.now w c.args.canonical_names c.in_err-refuse_clashes.field-0.0 c.from_residual.result
     (subst (λ (z : World). RefusesNames c.args.resolve.now z c.args.canonical_names c.in_err-refuse_clashes.field-0.0) (there (goal.at.returns-in_err-refuse_clashes-clause-refuses c).After-index-def w is) c.in_err-refuse_clashes.ensures.refuses)
     c.from_residual.ensures.1
+
+pub returns-in_err-refuse_clashes-clause-size : goal.returns-in_err-refuse_clashes-clause-size
+returns-in_err-refuse_clashes-clause-size c = λ refused. clash-fits c.args.resolve.now c.index-def.result.now c.args.canonical_names c.in_err-refuse_clashes.field-0.0 c.from_residual.result
+    c.in_err-refuse_clashes.ensures.refuses c.from_residual.ensures.1 refused

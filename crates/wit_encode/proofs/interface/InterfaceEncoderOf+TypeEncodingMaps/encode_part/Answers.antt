@@ -1,4 +1,4 @@
-use Rattle.std.proofs.Common.{◌≡◌, sym, ap, ◌∙◌, inr, rules, Some, map}
+use Rattle.std.proofs.Common.{◌≡◌, sym, ap, ◌∙◌, inr, Some, map}
 use Rattle.wit_model.specs.Lookup.{interface_at}
 use Rattle.wit_model.specs.declared.model.Interface.{Interface}
 use Rattle.indexmap.specs.IndexMap.{values}

@@ -1,9 +1,10 @@
-use Rattle.std.proofs.Common.{◌≡◌, sym, subst, Some}
+use Rattle.std.proofs.Common.{◌≡◌, ◌⊎◌, sym, subst, Some}
 use Rattle.std.specs.Prelude.{IfOk}
 use Rattle.wit_model.specs.Lookup.{interface_at}
 use Rattle.wit_model.specs.declared.model.Interface.{Interface}
 use Rattle.wit_encode_types.specs.Known.{Around, UsedStand, standing_instances}
-use Rattle.wit_encode.specs.Instance.{EncodesInterface, around_at}
+use Rattle.wit_encode.specs.Encoders.{InterfaceLacksRoom}
+use Rattle.wit_encode.specs.Instance.{EncodesInterface, LacksInstanceRoom, around_at}
 use Rattle.wit_encode.proofs.world.WorldEncoderOf+TypeEncodingMaps.define_instance.Goals as goal
 
 pub encode_instance-outcome-requires-clause-around : goal.encode_instance-outcome-requires-clause-around
@@ -17,3 +18,9 @@ returns-clause-ok c =
     let after = c.encode_instance-outcome.new.self in
     subst (λ (z : Around). IfOk c.encode_instance-outcome.result (λ k. (def : Interface) → interface_at q c.args.interface.0 ≡ Some def → EncodesInterface q z (around_at after.outer after.foreign) c.args.interface def k))
     (λ j. record { declared = c.replace.ensures.value j; instances = (c.replace-2.ensures.value j).instances.entries; known = (c.replace-2.ensures.value j).known.entries }) c.encode_instance-outcome.ensures.ok
+
+pub returns-clause-size : goal.returns-clause-size
+returns-clause-size c = λ refused.
+    let q = c.args.self.now.resolve.now in
+    subst (λ (z : Around). (def : Interface) → interface_at q c.args.interface.0 ≡ Some def → InterfaceLacksRoom q c.args.interface def ⊎ LacksInstanceRoom q z)
+    (λ j. record { declared = c.replace.ensures.value j; instances = (c.replace-2.ensures.value j).instances.entries; known = (c.replace-2.ensures.value j).known.entries }) (c.encode_instance-outcome.ensures.size refused)

@@ -1,15 +1,20 @@
-use Rattle.std.proofs.Common.{◌∙◌, ◌<◌, ap, sym, subst, length, [], ◌∷◌, Result, Ok, Err, OnOk}
+use Rattle.std.proofs.Common.{◌≡◌, ◌∙◌, ◌<◌, ◌⊎◌, ℕ, ap, sym, subst, length, [], ◌∷◌, Result, Ok, Err, OnOk, rules}
 use Rattle.std.proofs.lemmas.Option.{slice_get_within}
+use Rattle.wit_model.specs.declared.error.Error.{Error}
+use Rattle.wit_model.specs.declared.error.Error.TheVariants as errors
 use Rattle.wit_model.specs.declared.model.Resolve.{Resolve}
 use Rattle.comp_bytes.specs.declared.forms.ComponentTypeRef.TheVariants as refs
 use Rattle.world_names.specs.WorldSteps.{declared_towards}
 use Rattle.wit_encode_types.specs.Known.{UsedStand, standing_instances}
-use Rattle.wit_encode.specs.Encoders.{declared_after}
+use Rattle.wit_encode.specs.Encoders.{InterfaceLacksRoom, declared_after}
+use Rattle.wit_encode.specs.Instance.{EncodesInterface, LacksInstanceRoom}
 use Rattle.wit_encode.specs.WorldItems.{entry_of, towards}
 use Rattle.wit_encode.specs.Worlds.{WorldEncoder, world_around}
 use Rattle.wit_encode.specs.WrittenNames.{NamesMore}
 use Rattle.wit_encode.proofs.WrittenNames.{interface-names}
 use Rattle.wit_model.specs.Lookup.{interface_at}
+use Rattle.wit_encode.proofs.Refusing.{never-size}
+use Rattle.wit_encode.proofs.WorldInstances.{instance-lacks, interface-defined, interface-few, placed-lacks}
 use Rattle.wit_encode.proofs.WorldInterfaces.{interface-encoded, interface-there, room, used-stand}
 use Rattle.wit_encode.proofs.world.WorldEncoderOf+TypeEncodingMaps.encode_interface.Goals as goal
 
@@ -51,3 +56,43 @@ returns-clause-names c = on-each c.list_instance.result (λ lists.
     let named = interface-names c.args.resolve.now q c.args.placed.canonical_names (entry_of c.args.placed) c.args.interface (world_around c.args.self.now) (world_around c.define_instance.new.self) there.0 c.declare.new.outer
     (towards c.args.placed.direction) _ c.in_ok-slot.slot c.requires.item (c.in_ok-slot.ensures.ok there.0 (ap (λ (z : Resolve). interface_at z c.args.interface.0) next.shown.packages_ ∙ there.1)) c.in_ok-declare.ensures.ok c.in_ok-name.ensures.ok in
     subst (λ (z : WorldEncoder). NamesMore c.args.resolve.now c.args.placed.canonical_names (entry_of c.args.placed ∷ []) c.args.self.now.outer z.outer) (sym lists.rest) named) c.list_instance.ensures.ok
+
+pub returns-clause-once : goal.returns-clause-once
+returns-clause-once c = on-each c.list_instance.result (λ lists es h.
+    let next = c.requires.next in
+    let there = interface-there c.args.resolve.now c.requires.valid next.world c.args.self.now next.done next.shown (towards c.args.placed.direction) (entry_of c.args.placed) next.next c.args.interface c.requires.item in
+    let encodes = subst (λ (q : Resolve). EncodesInterface q (world_around c.args.self.now) (world_around c.define_instance.new.self) c.args.interface there.0 c.in_ok-slot.slot) next.shown.packages_
+    (c.in_ok-slot.ensures.ok there.0 (ap (λ (q : Resolve). interface_at q c.args.interface.0) next.shown.packages_ ∙ there.1)) in
+    interface-defined c.args.resolve.now c.args.self.now c.define_instance.new.self c.list_instance.new.self (entry_of c.args.placed) c.args.interface there.0 c.in_ok-slot.slot (towards c.args.placed.direction) _ c.declare.new.outer
+    c.requires.item there.1 c.define_instance.ensures.rest encodes c.in_ok-declare.ensures.ok lists es h) c.list_instance.ensures.ok
+
+pub returns-clause-few : goal.returns-clause-few
+returns-clause-few c = on-each c.list_instance.result (λ lists es h.
+    let next = c.requires.next in
+    let there = interface-there c.args.resolve.now c.requires.valid next.world c.args.self.now next.done next.shown (towards c.args.placed.direction) (entry_of c.args.placed) next.next c.args.interface c.requires.item in
+    let encodes = subst (λ (q : Resolve). EncodesInterface q (world_around c.args.self.now) (world_around c.define_instance.new.self) c.args.interface there.0 c.in_ok-slot.slot) next.shown.packages_
+    (c.in_ok-slot.ensures.ok there.0 (ap (λ (q : Resolve). interface_at q c.args.interface.0) next.shown.packages_ ∙ there.1)) in
+    interface-few c.args.resolve.now c.args.self.now c.define_instance.new.self c.list_instance.new.self (entry_of c.args.placed) c.args.interface there.0 c.in_ok-slot.slot (towards c.args.placed.direction) _ c.declare.new.outer
+    c.requires.item there.1 c.define_instance.ensures.rest encodes c.in_ok-declare.ensures.ok lists es h) c.list_instance.ensures.ok
+
+pub returns-clause-size : goal.returns-clause-size
+returns-clause-size c = λ refused. never-size c.list_instance.result c.list_instance.ensures.memory refused
+
+pub returns-in_err-slot-clause-size : goal.returns-in_err-slot-clause-size
+returns-in_err-slot-clause-size c = λ h.
+    let refused : ◌≡◌ {A = Result ℕ Error} c.define_instance.result (Err errors.Size) = search rules in
+    λ w done shown next d few.
+    let there = interface-there c.args.resolve.now c.requires.valid w c.args.self.now done shown (towards c.args.placed.direction) (entry_of c.args.placed) next c.args.interface c.requires.item in
+    instance-lacks c.args.resolve.now w c.args.self.now done (towards c.args.placed.direction) (entry_of c.args.placed) next d few shown.agree.once c.args.interface c.requires.item there.0 there.1
+    (subst (λ (q : Resolve). InterfaceLacksRoom q c.args.interface there.0 ⊎ LacksInstanceRoom q (world_around c.args.self.now)) shown.packages_
+    (c.define_instance.ensures.size refused there.0 (ap (λ (q : Resolve). interface_at q c.args.interface.0) shown.packages_ ∙ there.1)))
+
+pub returns-in_err-declare-clause-size : goal.returns-in_err-declare-clause-size
+returns-in_err-declare-clause-size c = λ h.
+    let refused = c.declare.ensures.size (search rules) in
+    λ w done shown next d few.
+    let there = interface-there c.args.resolve.now c.requires.valid w c.args.self.now done shown (towards c.args.placed.direction) (entry_of c.args.placed) next c.args.interface c.requires.item in
+    let encodes = subst (λ (q : Resolve). EncodesInterface q (world_around c.args.self.now) (world_around c.define_instance.new.self) c.args.interface there.0 c.in_ok-slot.slot) shown.packages_
+    (c.in_ok-slot.ensures.ok there.0 (ap (λ (q : Resolve). interface_at q c.args.interface.0) shown.packages_ ∙ there.1)) in
+    placed-lacks c.args.resolve.now w c.args.self.now done (towards c.args.placed.direction) (entry_of c.args.placed) next d few shown.agree.once c.args.interface c.requires.item c.args.placed.canonical_names _ c.in_ok-slot.slot
+    (world_around c.define_instance.new.self) there.0 encodes c.in_ok-name.ensures.ok refused

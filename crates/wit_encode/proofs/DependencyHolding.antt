@@ -1,0 +1,155 @@
+-- The component type of an interface: how much is held and defined after each import, and why a call has no room.
+use Rattle.std.proofs.Common.{◌≡◌, refl, sym, subst, ap, ◌∙◌, ℕ, ◌+◌, ◌≤◌, ◌⊎◌, inl, inr, nat_cmp, Bool, true, false, ◌&&◌, List, [], ◌∷◌, ◌++◌, length, length-append, Some, is_some, arith}
+use Rattle.std.specs.BTreeMap.{insert_entry}
+use Rattle.std.specs.List.{AllZip, Contains}
+use Rattle.wit_model.specs.Lookup.{interface_at}
+use Rattle.wit_model.specs.declared.model.Resolve.{Resolve}
+use Rattle.wit_model.specs.declared.model.Interface.{Interface}
+use Rattle.wit_model.specs.declared.model.InterfaceId.{InterfaceId}
+use Rattle.wit_model.specs.declared.model.Function.{Function}
+use Rattle.wit_model.specs.Text.{Text}
+use Rattle.comp_bytes.specs.Raw.{Declaration, Declarations, ExternName, append, declaration_count, from_list}
+use Rattle.comp_bytes.specs.Held.{fits_counts, type_slots_of}
+use Rattle.comp_bytes.specs.Fits.{fits_name}
+use Rattle.comp_bytes.specs.declared.forms.ComponentTypeRef.TheVariants as refs
+use Rattle.interface_reach.specs.Reach.{reached_in_order}
+use Rattle.wit_shown.proofs.Zips.{zip-append}
+use Rattle.wit_encode_types.specs.Distinct.{is_value_type, is_function_type}
+use Rattle.wit_encode_types.specs.Known.{Around, GrowsAround, known_instance}
+use Rattle.wit_encode_types.specs.Room.{limit}
+use Rattle.wit_encode_types.proofs.Paths.{some-of}
+use Rattle.world_names.specs.WorldNames.{name_of_interface}
+use Rattle.wit_encode.specs.Dependencies.{HasImported, ImportsTypes, with_export}
+use Rattle.wit_encode.specs.DependencyCounts.{DefinesComponent, DefinesImports, DefinesTypesOf}
+use Rattle.wit_encode.specs.DependencyRoom.{HoldsImports, LacksImport, its_types, its_path, a_place, ImportsLackRoom, an_interface, a_path, too_many, ComponentLacksRoom, of_imports, of_interface, of_path, TypesLackRoom}
+use Rattle.wit_encode.specs.Encoders.{InterfaceLacksRoom}
+use Rattle.wit_encode.specs.Instance.{EncodesInterface, EncodesPart, LacksInstanceRoom}
+use Rattle.wit_encode.specs.WorldCounts.{instances_declared}
+use Rattle.wit_encode.specs.Worlds.{brought_numbers}
+use Rattle.wit_encode.proofs.PlacedInstances.{grown-few, grown-listed, one-behind, placed-counted, placed-few, placed-instances}
+use Rattle.wit_encode.proofs.Refusing.{counts-refused, outer-slots-few}
+use Rattle.wit_encode.proofs.WorldHolding.{brought-some}
+
+-- ---- one import more
+
+module _ (r : Resolve) (canonical : Bool) (a a' : Around) (i : InterfaceId) (number : ℕ) (t : ImportsTypes r canonical a a' i number) where
+  abbrev before : Around
+  before = t.encodes.part.before
+
+  abbrev inner : Declarations
+  inner = from_list t.encodes.part.declared
+
+  abbrev described : Declaration
+  described = Declaration.imported (name_of_interface r canonical i.0) (refs.Instance t.slot)
+
+  made : a'.declared ≡ append (append before.declared (Declarations.instance inner Declarations.no_more)) (Declarations.declares described Declarations.no_more)
+  made = ap (λ (z : Around). z.declared) t.imports ∙ ap (λ (z : Around). append z.declared (Declarations.declares described Declarations.no_more)) t.encodes.part.one_more
+
+  pub import-few : (ns : List ℕ) → HoldsImports r a ns → HoldsImports r a' (ns ++ i.0 ∷ [])
+  import-few ns h =
+      let f : declaration_count a'.declared + length (brought_numbers r a) ≤ declaration_count a.declared + (length (brought_numbers r a') + 2) =
+      placed-few r a before t.encodes.part.aliases inner described a'.declared made i.0 number a'.instances a'.known
+      (ap (λ (z : Around). z.instances) t.imports ∙ ap (λ (z : Around). insert_entry nat_cmp z.instances i.0 number) t.encodes.part.one_more
+      ∙ ap (λ (es : List (ℕ × ℕ)). insert_entry nat_cmp es i.0 number) (grown-listed r a before t.encodes.part.aliases))
+      (ap (λ (z : Around). z.known) t.imports ∙ ap (λ (z : Around). z.known) t.encodes.part.one_more) in
+      let l = length-append ns (i.0 ∷ []) in
+      omega (arith, f, h, l)
+
+  pub import-defines : (ns : List ℕ) → DefinesImports r a.declared ns → DefinesImports r a'.declared (ns ++ i.0 ∷ [])
+  import-defines ns h = record {
+    beside = record {
+      value_types = placed-counted r a before t.encodes.part.aliases inner described a'.declared made is_value_type (λ x. refl) refl ∙ h.beside.value_types;
+      function_types = placed-counted r a before t.encodes.part.aliases inner described a'.declared made is_function_type (λ x. refl) refl ∙ h.beside.function_types;
+    };
+    inside = subst (AllZip (DefinesTypesOf r) (ns ++ i.0 ∷ [])) (sym (placed-instances r a before t.encodes.part.aliases inner described a'.declared made))
+        (zip-append (DefinesTypesOf r) ns (instances_declared a.declared) (i.0 ∷ []) (inner ∷ []) h.inside (one, tt));
+  }
+    where
+      one : DefinesTypesOf r i.0 inner
+      one = record { def = t.def; there = t.there; declarations = t.encodes.part.declared; is = refl; function_types = t.encodes.function_types; value_types = t.encodes.part.value_types }
+
+-- nothing is defined, and nothing is held, where nothing is declared
+pub nothing-held : (r : Resolve) (a : Around) → a.declared ≡ Declarations.no_more → HoldsImports r a []
+nothing-held r a none = let z : declaration_count a.declared ≡ 0 = ap declaration_count none in omega (arith, z)
+
+pub nothing-defined : (r : Resolve) (outer : Declarations) → outer ≡ Declarations.no_more → DefinesImports r outer []
+nothing-defined r outer none = subst (λ (z : Declarations). DefinesImports r z []) (sym none) (record { beside = record { value_types = refl; function_types = refl }; inside = tt })
+
+-- behind the imports the interface itself
+module _ (r : Resolve) (canonical : Bool) (a a' : Around) (i : InterfaceId) (def : Interface) (k : ℕ) (outer : Declarations) (encodes : EncodesInterface r a a' i def k) (is : outer ≡ with_export r canonical i k a'.declared) where
+  abbrev own : Declarations
+  own = from_list encodes.part.declared
+
+  abbrev exported_by : Declaration
+  exported_by = Declaration.exported (name_of_interface r canonical i.0) (refs.Instance k)
+
+  made_last : outer ≡ append (append encodes.part.before.declared (Declarations.instance own Declarations.no_more)) (Declarations.declares exported_by Declarations.no_more)
+  made_last = is ∙ ap (λ (z : Around). append z.declared (Declarations.declares exported_by Declarations.no_more)) encodes.part.one_more
+
+  pub export-defines : (ns : List ℕ) → interface_at r i.0 ≡ Some def → ns ≡ reached_in_order r i.0 → DefinesImports r a.declared ns → DefinesComponent r i.0 outer
+  export-defines ns there order h = record {
+    beside = record {
+      value_types = placed-counted r a encodes.part.before encodes.part.aliases own exported_by outer made_last is_value_type (λ x. refl) refl ∙ h.beside.value_types;
+      function_types = placed-counted r a encodes.part.before encodes.part.aliases own exported_by outer made_last is_function_type (λ x. refl) refl ∙ h.beside.function_types;
+    };
+    imports = instances_declared a.declared;
+    own = own;
+    are = placed-instances r a encodes.part.before encodes.part.aliases own exported_by outer made_last;
+    reached = subst (λ (xs : List ℕ). AllZip (DefinesTypesOf r) xs (instances_declared a.declared)) order h.inside;
+    exported = record { def = def; there = there; declarations = encodes.part.declared; is = refl; function_types = encodes.part.function_types; value_types = encodes.part.value_types };
+  }
+
+-- ---- a call that has no room
+
+-- a name doesn't fit, or the component type is full
+by-name : {Q : Type 0} (name : ExternName) (declared : Declarations) → (fits_name name ≡ false → Q) → (limit ≤ declaration_count declared → Q) → (fits_name name && fits_counts (declaration_count declared + 1) (type_slots_of declared + 0)) ≡ false → Q
+by-name {Q} name declared unfit over = go (fits_name name) refl
+  where
+    go : (b : Bool) → fits_name name ≡ b → (b && fits_counts (declaration_count declared + 1) (type_slots_of declared + 0)) ≡ false → Q
+    go false u g = unfit u
+    go true u g = let few = outer-slots-few declared in over (counts-refused (declaration_count declared) (type_slots_of declared + 0) (omega (arith, few)) g)
+
+full-after : (r : Resolve) (a : Around) → (l : LacksInstanceRoom r a) → limit ≤ declaration_count l.after.declared + 1
+full-after r a l =
+    let few = outer-slots-few l.after.declared in
+    let over = counts-refused (declaration_count l.after.declared) (type_slots_of l.after.declared + 1) (omega (arith, few)) l.full in
+    omega (arith, over)
+
+module _ (r : Resolve) (canonical : Bool) (a : Around) (i : InterfaceId) (def : Interface) where
+  pub slot-lacks : interface_at r i.0 ≡ Some def → TypesLackRoom r i def ⊎ LacksInstanceRoom r a → LacksImport r canonical a i
+  slot-lacks there (inl l) = its_types def there l
+  slot-lacks there (inr l) = a_place l.after l.grown (full-after r a l)
+
+pub import-lacks : (r : Resolve) (canonical : Bool) (a a' : Around) (i : InterfaceId) (def : Interface) (written : List (Text × Function)) (fs : List Function) (k : ℕ) (part : EncodesPart r a a' i def written fs k) (name : ExternName)
+    → name ≡ name_of_interface r canonical i.0 → (fits_name name && fits_counts (declaration_count a'.declared + 1) (type_slots_of a'.declared + 0)) ≡ false → LacksImport r canonical a i
+import-lacks r canonical a a' i def written fs k part name named =
+    by-name name a'.declared (λ u. its_path (ap fits_name (sym named) ∙ u))
+    (λ over. let one = one-behind part.before (from_list part.declared) a'.declared (ap (λ (z : Around). z.declared) part.one_more) in a_place part.before part.aliases (omega (arith, over, one)))
+
+-- ---- all of them
+
+-- the component type is full, where some of the interfaces have been imported
+module _ (r : Resolve) (interfaces front : List ℕ) (among : (n : ℕ) → Contains front n → Contains interfaces n) (few : length front ≤ length interfaces) (a : Around) (h : HasImported r a front) (held : HoldsImports r a front) where
+  pub place-lacks : (after : Around) → GrowsAround r a after → limit ≤ declaration_count after.declared + 1 → ImportsLackRoom r interfaces
+  place-lacks after g over = too_many (brought_numbers r after)
+      (brought-some r after interfaces (λ m f. let x = some-of (known_instance a.instances m) (ap (λ xs. is_some (known_instance xs m)) (sym (grown-listed r a after g)) ∙ f) in among m (h.alone m x.0 x.1)))
+      (let c = grown-few r a after g in omega (arith, c, over, held, few))
+
+  pub next-lacks : (canonical : Bool) (i : InterfaceId) → Contains interfaces i.0 → LacksImport r canonical a i → ImportsLackRoom r interfaces
+  next-lacks canonical i c (its_types def there l) = an_interface i def c there l
+  next-lacks canonical i c (its_path u) = a_path canonical i.0 c u
+  next-lacks canonical i c (a_place after g over) = place-lacks after g over
+
+-- the interface itself, behind all imports
+module _ (r : Resolve) (ns : List ℕ) (a : Around) (h : HasImported r a ns) (held : HoldsImports r a ns) (i : InterfaceId) (def : Interface) where
+  pub own-lacks : interface_at r i.0 ≡ Some def → InterfaceLacksRoom r i def ⊎ LacksInstanceRoom r a → ComponentLacksRoom r i ns
+  own-lacks there (inl l) = of_interface def there l
+  own-lacks there (inr l) = of_imports (place-lacks r ns ns (λ n c. c) (omega arith) a h held l.after l.grown (full-after r a l))
+
+  pub export-lacks : (canonical : Bool) (a' : Around) (k : ℕ) → EncodesInterface r a a' i def k → (name : ExternName) → name ≡ name_of_interface r canonical i.0
+      → (fits_name name && fits_counts (declaration_count a'.declared + 1) (type_slots_of a'.declared + 0)) ≡ false → ComponentLacksRoom r i ns
+  export-lacks canonical a' k encodes name named =
+      let part = encodes.part in
+      by-name name a'.declared (λ u. of_path canonical (ap fits_name (sym named) ∙ u))
+      (λ over. let one = one-behind part.before (from_list part.declared) a'.declared (ap (λ (z : Around). z.declared) part.one_more) in
+      of_imports (place-lacks r ns ns (λ n c. c) (omega arith) a h held part.before part.aliases (omega (arith, over, one))))

@@ -1,0 +1,249 @@
+-- An interface that has no room in a component type of its own weighs more than the largest number of 32 bits.
+use Rattle.std.proofs.Common.{◌≡◌, refl, sym, subst, ap, ℕ, zero, suc, ◌+◌, ◌<◌, ◌≤◌, ◌==◌, inl, inr, Bool, true, false, not, nat_lt, List, [], ◌∷◌, Option, Some, None, is_some, arith}
+use Rattle.std.specs.Prelude.{sum_by, AllPairs, flat_map}
+use Rattle.std.specs.List.{AllByRecursion, Contains, IsDistinct, filter}
+use Rattle.std.specs.Option.{option_map_or}
+use Rattle.std.proofs.lemmas.Bool.{ltb-true, ltb-false}
+use Rattle.std.proofs.lemmas.List.Elements.{Contains-append_left, Contains-get_or, All-contains, filter_passes}
+use Rattle.std.proofs.lemmas.List.Filters.{sum_by-filter_both}
+use Rattle.std.proofs.lemmas.List.Kept.{AllPairs-cons, AllPairs-filter}
+use Rattle.std.proofs.lemmas.List.Sums.{sum_by-cons}
+use Rattle.indexmap.specs.IndexMap.{values}
+use Rattle.wit_model.specs.Lookup.{interface_at, interface_path, type_at}
+use Rattle.wit_model.specs.Parts.{same_owner}
+use Rattle.wit_model.specs.Rules.{interface_type_numbers, owner_in_range}
+use Rattle.wit_model.specs.Uses.{has, direct_deps, once}
+use Rattle.wit_model.specs.Valid.{IsValid, as_interface, numbers_in_range}
+use Rattle.wit_model.specs.Weight.{unit_of, number_weight, function_weight, instance_numbers, instance_weight, types_instance_weight, whole_instance_weight, brought_into, path_texts, imports_of_interface, interface_weight}
+use Rattle.wit_model.specs.declared.model.Resolve.{Resolve}
+use Rattle.wit_model.specs.declared.model.Interface.{Interface}
+use Rattle.wit_model.specs.declared.model.InterfaceId.{InterfaceId}
+use Rattle.wit_model.specs.declared.model.TypeDef.{TypeDef}
+use Rattle.wit_model.specs.declared.model.TypeId.{TypeId}
+use Rattle.wit_model.specs.declared.model.TypeOwner.{TypeOwner}
+use Rattle.wit_model.specs.declared.model.TypeOwner.TheVariants as owner
+use Rattle.wit_model.proofs.Lists.{second_true}
+use Rattle.comp_bytes.specs.Fits.{fits_name}
+use Rattle.wit_shown.specs.Views.{AreReached, AreUsed}
+use Rattle.wit_shown.proofs.Reach.{Chain, chain-reached, further, used-chain}
+use Rattle.wit_encode_types.specs.MetKinds.{ReachedFrom, referred}
+use Rattle.wit_encode_types.specs.Room.{IsUnfit, LacksOne, a_type, a_request, limit}
+use Rattle.wit_encode_types.proofs.Lists.{contains-map, none-in}
+use Rattle.wit_encode_types.proofs.Paths.{found-in}
+use Rattle.world_names.specs.WorldNames.{name_of_interface}
+use Rattle.wit_encode.specs.DependencyRoom.{TypesLackRoom, ImportsLackRoom, an_interface, a_path, too_many, ComponentLacksRoom, of_imports, of_interface, of_path, LackingComponentsAreHeavy}
+use Rattle.wit_encode.specs.WorldRoom.{IsNamedTypeOf}
+use Rattle.wit_encode.proofs.Counting.{from-filter}
+use Rattle.wit_encode.proofs.ImportLoop.{distinct-front, path-in-range}
+use Rattle.wit_encode.proofs.Numbers.{contains-has, has-contains, same-number}
+use Rattle.wit_encode.proofs.Reached.{IsOwner, interface-owner}
+use Rattle.wit_encode.proofs.UsedPaths.{used-path}
+use Rattle.wit_encode.proofs.Validity.{type_passes}
+use Rattle.wit_encode.proofs.Weighing.{Differ, at-least, contains-once, counted-least, counted-once, lacking-heavy, one-of, part-heavy-of, sum-among}
+use Rattle.wit_encode.proofs.WorldWeighing.{each, each-least, long, name-fits, number-least, suffix-long, written-long}
+
+-- ---- what is reached
+
+-- a use, and then a chain of so many more
+record Beyond (r : Resolve) (n m : ℕ) : Type 0 where
+  pub steps : ℕ
+  pub next : ℕ
+  pub uses : has (direct_deps r n) next ≡ true
+  pub chain : Chain r steps next m
+
+beyond : (r : Resolve) (k n m : ℕ) → Chain r (suc k) n m → Beyond r n m
+beyond r k n m c = record { steps = k; next = c.0; uses = c.1; chain = c.2 }
+
+-- such a chain from the last leads to each of the others
+used-beyond : (r : Resolve) (ns : List ℕ) (last : ℕ) → AreUsed r ns last → (m : ℕ) → Contains ns m → Beyond r last m
+used-beyond r [] last used m c = none-in m c
+used-beyond r (n ∷ ns) last used m (zero, l, e) =
+    let before = used-chain r ns last used.1 used.0.0 used.0.1 in
+    beyond r before.0 last m (further r before.0 last used.0.0 m before.1 (subst (λ (j : ℕ). has (direct_deps r used.0.0) j ≡ true) e (contains-has (direct_deps r used.0.0) n used.0.2)))
+used-beyond r (n ∷ ns) last used m (suc k, l, e) = used-beyond r ns last used.1 m (k, omega (arith, l), e)
+
+-- so they are among those that weigh
+among-imports : (r : Resolve) → IsValid r → (n : ℕ) (ns : List ℕ) → AreUsed r ns n → (m : ℕ) → Contains ns m → Contains (imports_of_interface r n) m
+among-imports r v n ns used m c =
+    let b = used-beyond r ns n used m c in
+    let first = has-contains (direct_deps r n) b.next b.uses in
+    chain-reached r v (direct_deps r n) b.next b.steps m first (path-in-range r b.next (used-path r v n b.next first)) b.chain
+
+-- each stands once
+distinct-pairs : (xs : List ℕ) → IsDistinct (λ a b. a == b) xs → AllPairs Differ xs
+unfolding IsDistinct
+distinct-pairs [] d = λ i j d l m. absurd (omega (arith, m))
+distinct-pairs (x ∷ xs) d = AllPairs-cons Differ x xs (λ i d' l. others xs d.0 _ (Contains-get_or xs i d' l)) (distinct-pairs xs d.1)
+  where
+    others : (zs : List ℕ) → AllByRecursion (λ y. (x == y) ≡ false) zs → (y : ℕ) → Contains zs y → Differ x y
+    others [] a y c = none-in y c
+    others (z ∷ zs) a y (zero, l, e) = subst (λ (k : ℕ). Differ x k) e a.0
+    others (z ∷ zs) a y (suc k, l, e) = others zs a.1 y (k, omega (arith, l), e)
+
+-- ---- the types of an interface alone
+
+module _ (r : Resolve) (v : IsValid r) (i : InterfaceId) (def : Interface) (home : interface_at r i.0 ≡ Some def) where
+  abbrev weigh : ℕ → ℕ
+  weigh n = number_weight r (as_interface i.0) n
+
+  abbrev own-numbers : List ℕ
+  own-numbers = instance_numbers r def []
+
+  types-owner : IsOwner r v (owner.Interface i) (interface_type_numbers def) []
+  types-owner = let o = interface-owner r v i def home in record { types = o.types; listed = o.listed; functions = λ f c. none-in f c }
+
+  listed-here : (t : TypeId) → Contains (values def.types) t → Contains (interface_type_numbers def) t.0
+  listed-here t c = contains-map (λ (id : TypeId). id.0) (values def.types) t c
+
+  abbrev Met : ℕ → Type 0
+  Met n = ReachedFrom r (Some i) (referred (values def.types) []) n
+
+  in-numbers : (n : ℕ) → Met n → Contains own-numbers n
+  in-numbers n m = counted-once r v (owner.Interface i) (interface_type_numbers def) [] types-owner (values def.types) [] listed-here (λ f c. c) n m
+
+  types-weigh : types_instance_weight r i.0 ≡ 64 + (sum_by weigh own-numbers + sum_by function_weight [])
+  types-weigh = ap (λ t. option_map_or (λ x. instance_weight r i.0 x []) t 0) home
+
+  types-fit : types_instance_weight r i.0 ≤ limit → TypesLackRoom r i def → ⊥
+  types-fit light h = elim h.lacks [
+    | inl one ↦ lacks one
+    | inr many ↦ (
+        let numbers = sum-among weigh h.numbers own-numbers h.different (λ n c. in-numbers n (h.met n c)) in
+        let one = at-least weigh h.numbers (λ n c. counted-least r v (owner.Interface i) (interface_type_numbers def) [] types-owner (values def.types) [] listed-here (λ f c. c) n (h.met n c)) in
+        let w = types-weigh in
+        omega (arith, numbers, one, w, many, light)
+        )
+  ]
+    where
+      lacks : LacksOne r (Some i) (IsUnfit r) h.numbers [] → ⊥
+      lacks (a_type n d c at part) =
+          let a = part-heavy-of r v (owner.Interface i) (interface_type_numbers def) [] types-owner (values def.types) [] listed-here (λ f c. c) n d (h.met n c) at part in
+          let b = one-of weigh own-numbers n (in-numbers n (h.met n c)) in
+          let w = types-weigh in
+          absurd (omega (arith, a, b, w, light))
+      lacks (a_request q c u) = none-in q c
+
+-- ---- named types of these interfaces
+
+-- the numbers of an interface's types
+abbrev type-numbers : Resolve → ℕ → List ℕ
+type-numbers r j = option_map_or (λ d. instance_numbers r d []) (interface_at r j) []
+
+-- the number is that of a type, and stands in the instance type of one of these interfaces
+abbrev StandsIn : Resolve → List ℕ → ℕ → Type 0
+StandsIn r js n = (d : TypeDef) × (type_at r n ≡ Some d) × (j : ℕ) × Contains js j × Contains (type-numbers r j) n
+
+types-least : (r : Resolve) (j : ℕ) → sum_by (number_weight r (as_interface j)) (type-numbers r j) ≤ types_instance_weight r j
+types-least r j = go (interface_at r j)
+  where
+    go : (o : Option Interface) → sum_by (number_weight r (as_interface j)) (option_map_or (λ d. instance_numbers r d []) o []) ≤ option_map_or (λ i. instance_weight r j i []) o 0
+    go None = omega arith
+    go (Some d) = omega arith
+
+numbers-weigh : (r : Resolve) (js ns : List ℕ) → AllPairs Differ ns → ((n : ℕ) → Contains ns n → StandsIn r js n) → each ns ≤ sum_by (types_instance_weight r) js
+numbers-weigh r [] [] apart h = omega arith
+numbers-weigh r [] (n ∷ ns) apart h = none-in (h n (0, omega arith, refl)).2 (h n (0, omega arith, refl)).3
+numbers-weigh r (j ∷ js) ns apart h =
+    let own = type-numbers r j in
+    let first = filter (has own) ns in
+    let others = filter (λ n. not (has own n)) ns in
+    let rest = numbers-weigh r js others (AllPairs-filter Differ (λ n. not (has own n)) ns apart) (λ n c. later n c (h n (from-filter (λ n. not (has own n)) ns n c))) in
+    let heavy = each-least (number_weight r (as_interface j)) first (λ n c. let x = h n (from-filter (has own) ns n c) in number-least r (as_interface j) n x.0 x.1) in
+    let inside = sum-among (number_weight r (as_interface j)) first own (AllPairs-filter Differ (has own) ns apart)
+    (λ n c. has-contains own n (All-contains (λ n. has own n ≡ true) first n (filter_passes (has own) ns) c)) in
+    let whole = types-least r j in
+    let both = sum_by-filter_both (has own) (λ n. not (has own n)) (λ n. refl) (λ n. 64) ns in
+    let next = sum_by-cons (types_instance_weight r) j js in
+    omega (arith, rest, heavy, inside, whole, both, next)
+  where
+    later : (n : ℕ) → Contains (filter (λ n. not (has (type-numbers r j) n)) ns) n → StandsIn r (j ∷ js) n → StandsIn r js n
+    later n c (d, at, k, (zero, l, e), there) =
+        let out = All-contains (λ n. not (has (type-numbers r j) n) ≡ true) (filter (λ n. not (has (type-numbers r j) n)) ns) n (filter_passes (λ n. not (has (type-numbers r j) n)) ns) c in
+        let in_ = contains-has (type-numbers r j) n (subst (λ (m : ℕ). Contains (type-numbers r m) n) (sym e) there) in
+        absurd (let z : ⊥ = cc in z)
+    later n c (d, at, k, (suc p, l, e), there) = (d, at, k, (p, omega (arith, l), e), there)
+
+-- ---- the whole
+
+module _ (r : Resolve) (v : IsValid r) (i : InterfaceId) (named : is_some (interface_path r i.0) ≡ true) (ns : List ℕ) (reaches : AreReached r i.0 ns) where
+  abbrev deps : List ℕ
+  deps = imports_of_interface r i.0
+
+  abbrev path-weight : ℕ → ℕ
+  path-weight m = unit_of (path_texts r m)
+
+  abbrev total : ℕ
+  total = 64 + (sum_by (number_weight r owner.None) (once (flat_map (brought_into r) (i.0 ∷ deps)))
+      + (sum_by path-weight (i.0 ∷ deps) + (sum_by (types_instance_weight r) deps + whole_instance_weight r i.0)))
+
+  weight-is : interface_weight r i.0 ≡ total
+  unfolding interface_weight
+  weight-is = refl
+
+  apart : AllPairs Differ ns
+  apart = distinct-pairs ns (distinct-front ns (i.0 ∷ []) reaches.once)
+
+  types-within : sum_by (types_instance_weight r) ns ≤ sum_by (types_instance_weight r) deps
+  types-within = sum-among (types_instance_weight r) ns deps apart (λ m c. among-imports r v i.0 ns reaches.used m c)
+
+  paths-within : path-weight i.0 + sum_by path-weight ns ≤ sum_by path-weight (i.0 ∷ deps)
+  paths-within =
+      let a = sum-among path-weight ns deps apart (λ m c. among-imports r v i.0 ns reaches.used m c) in
+      let b = sum_by-cons path-weight i.0 deps in
+      omega (arith, a, b)
+
+  -- a path that is heavy doesn't fit
+  path-fits : (canonical : Bool) (n : ℕ) → path-weight n ≤ limit → fits_name (name_of_interface r canonical n) ≡ true
+  path-fits canonical n low =
+      let is : path-weight n ≡ 64 + long (interface_path r n) = refl in
+      name-fits (name_of_interface r canonical n) (long (interface_path r n))
+      (written-long r n canonical) (omega arith) (suffix-long r n canonical) (omega arith) (omega (arith, low, is))
+
+  owner-there : (n : ℕ) (d : TypeDef) → type_at r n ≡ Some d → owner_in_range r d.owner ≡ true
+  unfolding numbers_in_range
+  owner-there n d at = second_true _ _ (second_true _ _ (type_passes numbers_in_range r v.rules.numbers_in_range n d at))
+
+  stands-in : (n : ℕ) → IsNamedTypeOf r ns n → StandsIn r ns n
+  stands-in n t = (t.def, t.there, t.interface.0, t.among, subst (λ (o : Option Interface). Contains (option_map_or (λ d. instance_numbers r d []) o []) n) (sym found.1) inside)
+    where
+      found : (d : Interface) × (interface_at r t.interface.0 ≡ Some d)
+      found = found-in r.interfaces.items t.interface.0 (subst (λ (o : TypeOwner). owner_in_range r o ≡ true) t.owned (owner-there n t.def t.there))
+
+      owned : same_owner t.def.owner (owner.Interface t.interface) ≡ true
+      owned = subst (λ (o : TypeOwner). same_owner o (owner.Interface t.interface) ≡ true) (sym t.owned) (same-number t.interface.0)
+
+      inside : Contains (instance_numbers r found.0 []) n
+      inside = contains-once _ n (Contains-append_left (interface_type_numbers found.0) _ n ((interface-owner r v t.interface found.0 found.1).listed n t.def t.there t.named_ owned))
+
+  imports-fit : total ≤ limit → ImportsLackRoom r ns → ⊥
+  imports-fit light (an_interface m def c at lacks) =
+      let one = one-of (types_instance_weight r) ns m.0 c in
+      let within = types-within in
+      types-fit r v m def at (omega (arith, one, within, light)) lacks
+  imports-fit light (a_path canonical n c unfit) =
+      let one = one-of path-weight ns n c in
+      let within = paths-within in
+      let fits = path-fits canonical n (omega (arith, one, within, light)) in
+      absurd (let z : ⊥ = cc in z)
+  imports-fit light (too_many brought are many) =
+      let types = numbers-weigh r ns brought are.different (λ n c. stands-in n (are.all n c)) in
+      let within = types-within in
+      let each-one = at-least (λ (n : ℕ). 64) brought (λ n c. omega arith) in
+      let paths = paths-within in
+      let path-each = at-least path-weight ns (λ n c. omega arith) in
+      absurd (omega (arith, types, within, each-one, paths, path-each, many, light))
+
+  component-fits : total ≤ limit → ComponentLacksRoom r i ns → ⊥
+  component-fits light (of_imports lacks) = imports-fit light lacks
+  component-fits light (of_interface def at lacks) = let heavy = lacking-heavy r i def v at lacks in absurd (omega (arith, heavy, light))
+  component-fits light (of_path canonical unfit) =
+      let within = paths-within in
+      let fits = path-fits canonical i.0 (omega (arith, within, light)) in
+      absurd (let z : ⊥ = cc in z)
+
+pub lacking-components-heavy : LackingComponentsAreHeavy
+lacking-components-heavy r i ns v named reaches lacks = by-order (nat_lt limit (interface_weight r i.0)) refl
+  where
+    by-order : (b : Bool) → nat_lt limit (interface_weight r i.0) ≡ b → limit < interface_weight r i.0
+    by-order true f = ltb-true limit (interface_weight r i.0) f
+    by-order false f = let light = ltb-false limit (interface_weight r i.0) f in let is = weight-is r v i named ns reaches in absurd (component-fits r v i named ns reaches (omega (arith, light, is)) lacks)

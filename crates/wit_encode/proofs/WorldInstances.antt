@@ -1,0 +1,181 @@
+-- An interface of a world, imported or exported: what its instance type defines, how much is held behind it, and why there is no room for it.
+use Rattle.std.proofs.Common.{◌≡◌, refl, sym, subst, ap, ◌∙◌, ℕ, ◌+◌, ◌≤◌, ◌⊎◌, inl, inr, nat_cmp, Bool, true, false, ◌&&◌, List, [], ◌∷◌, ◌++◌, length, Some, None, is_some, arith}
+use Rattle.std.specs.BTreeMap.{insert_entry}
+use Rattle.std.specs.List.{AllZip, Contains}
+use Rattle.std.proofs.lemmas.List.{length-map}
+use Rattle.std.proofs.lemmas.List.Elements.{Contains-append_left, Contains-append_right}
+use Rattle.wit_model.specs.Lookup.{interface_at}
+use Rattle.wit_model.specs.Rules.{item_type}
+use Rattle.wit_model.specs.Uses.{item_interface}
+use Rattle.wit_model.specs.declared.model.Resolve.{Resolve}
+use Rattle.wit_model.specs.declared.model.World.{World}
+use Rattle.wit_model.specs.declared.model.WorldItem.TheVariants as item
+use Rattle.wit_model.specs.declared.model.Interface.{Interface}
+use Rattle.wit_model.specs.declared.model.InterfaceId.{InterfaceId}
+use Rattle.comp_bytes.specs.Raw.{Declaration, Declarations, ExternName, append, declaration_count, from_list}
+use Rattle.comp_bytes.specs.Held.{fits_counts, type_slots_of}
+use Rattle.comp_bytes.specs.Fits.{fits_name}
+use Rattle.comp_bytes.specs.declared.forms.ComponentTypeRef.TheVariants as refs
+use Rattle.comp_meaning.specs.Follow.{Direction, import_, export_}
+use Rattle.wit_shown.proofs.Zips.{zip-append}
+use Rattle.wit_encode_types.specs.declared.maps.TypeEncodingMaps.{TypeEncodingMaps}
+use Rattle.wit_encode_types.specs.Distinct.{is_value_type, is_function_type}
+use Rattle.wit_encode_types.specs.Known.{Aliased, Around, GrowsAround, alias_declared, known_instance}
+use Rattle.wit_encode_types.specs.Maps.{IsOnce}
+use Rattle.wit_encode_types.specs.MetKinds.{LearnsFrom}
+use Rattle.wit_encode_types.specs.Room.{limit}
+use Rattle.wit_encode_types.proofs.Lists.{none-in}
+use Rattle.world_names.specs.WorldNames.{name_of_item}
+use Rattle.world_names.specs.WorldSteps.{Entry, Entries, declared_towards, interfaces_among}
+use Rattle.wit_encode.specs.Encoders.{InterfaceLacksRoom, declared_after}
+use Rattle.wit_encode.specs.Instance.{EncodesInterface, LacksInstanceRoom, count_declared}
+use Rattle.wit_encode.specs.WorldCounts.{instances_declared, DefinesInterface, HasDefined, no_interface}
+use Rattle.wit_encode.specs.WorldHolds.{HoldsFew, LacksDeclaration}
+use Rattle.wit_encode.specs.WorldItems.{IsNext, ListsInstance, all_done}
+use Rattle.wit_encode.specs.WorldRoom.{functions_among, count_among, entries_in, WorldLacksRoom, an_interface, a_name}
+use Rattle.wit_encode.specs.Worlds.{WorldEncoder, brought_numbers, world_around, world_definitions}
+use Rattle.wit_encode.proofs.Counting.{adds-alike, adds-nothing}
+use Rattle.wit_encode.proofs.PlacedInstances.{grown-few, grown-listed, listed-cases, one-behind, placed-counted, placed-few, placed-instances}
+use Rattle.wit_encode.proofs.Referring.{from-none}
+use Rattle.wit_encode.proofs.Refusing.{counts-refused, outer-slots-few}
+use Rattle.wit_encode.proofs.WorldCounting.{defines-behind, interfaces-more, towards-function, towards-value}
+use Rattle.wit_encode.proofs.WorldHolding.{count-both, full, known-number, known-numbers, known-once, met-before, next-among}
+use Rattle.wit_encode.proofs.WorldInterfaces.{among-one}
+
+-- ---- one interface among the entries
+
+no-function : (x : Entry) (n : ℕ) → item_interface x.1 ≡ Some n → functions_among (x ∷ []) ≡ []
+no-function (k, item.Interface id stability docs external_id) n e = refl
+no-function (k, item.Function f) n e = absurd (let z : ⊥ = cc in z)
+no-function (k, item.Type_ id) n e = absurd (let z : ⊥ = cc in z)
+
+no-type : (x : Entry) (n : ℕ) → item_interface x.1 ≡ Some n → item_type x.1 ≡ None
+no-type (k, item.Interface id stability docs external_id) n e = refl
+no-type (k, item.Function f) n e = absurd (let z : ⊥ = cc in z)
+no-type (k, item.Type_ id) n e = absurd (let z : ⊥ = cc in z)
+
+count-one : (x : Entry) (n : ℕ) → item_interface x.1 ≡ Some n → count_among (x ∷ []) ≡ 1
+count-one x n e =
+    let a : length (functions_among (x ∷ [])) ≡ 0 = ap length (no-function x n e) in
+    let b : length (interfaces_among (x ∷ [])) ≡ 1 = ap length (among-one x n e) in
+    omega (arith, a, b)
+
+-- ---- the instance type and its import or export, listed
+
+module _ (r : Resolve) (e e' e'' : WorldEncoder) (x : Entry) (i : InterfaceId) (def : Interface) (k : ℕ) (direction : Direction) (name : ExternName) (outer : Declarations) (is : item_interface x.1 ≡ Some i.0) (there : interface_at r i.0 ≡ Some def)
+    (rest : e' ≡ record e { outer = e'.outer; foreign = e'.foreign }) (encodes : EncodesInterface r (world_around e) (world_around e') i def k)
+    (made : outer ≡ declared_after e'.outer (declared_towards direction name (refs.Instance k))) (lists : ListsInstance (record e' { outer = outer }) e'' i) where
+  abbrev before : Around
+  before = encodes.part.before
+
+  abbrev inner : Declarations
+  inner = from_list encodes.part.declared
+
+  abbrev described : Declaration
+  described = declared_towards direction name (refs.Instance k)
+
+  same-maps : e''.maps ≡ e.maps
+  same-maps = ap (λ (z : WorldEncoder). z.maps) lists.rest ∙ ap (λ (z : WorldEncoder). z.maps) rest
+
+  outer-then : e''.outer ≡ declared_after (append before.declared (Declarations.instance inner Declarations.no_more)) described
+  outer-then = ap (λ (z : WorldEncoder). z.outer) lists.rest ∙ made ∙ ap (λ (z : Around). declared_after z.declared described) encodes.part.one_more
+
+  known-then : e''.foreign.known.entries ≡ before.known
+  known-then = ap (λ (z : WorldEncoder). z.foreign.known.entries) lists.rest ∙ ap (λ (z : Around). z.known) encodes.part.one_more
+
+  listed-then : e''.foreign.instances.entries ≡ insert_entry nat_cmp e.foreign.instances.entries i.0 e'.instances
+  listed-then = lists.listed ∙ ap (λ (es : List (ℕ × ℕ)). insert_entry nat_cmp es i.0 e'.instances) (ap (λ (z : Around). z.instances) encodes.part.one_more ∙ grown-listed r (world_around e) before encodes.part.aliases)
+
+  instances-then : instances_declared e''.outer ≡ instances_declared e.outer ++ inner ∷ []
+  instances-then = placed-instances r (world_around e) before encodes.part.aliases inner described e''.outer outer-then
+
+  counted-then : (test : Declaration → Bool) → ((a : Aliased) → test (alias_declared a) ≡ false) → test described ≡ false → count_declared test e''.outer ≡ count_declared test e.outer
+  counted-then = placed-counted r (world_around e) before encodes.part.aliases inner described e''.outer outer-then
+
+  -- nothing is defined beside the instance type
+  pub interface-defined : (es : List Entry) → HasDefined r e es → HasDefined r e'' (es ++ x ∷ [])
+  interface-defined es h = defines-behind r e e'' es h x [] [] (no-function x i.0 is) (λ t c. none-in t c)
+      (adds-alike refl same-maps refl refl (counted-then is_value_type (λ a. refl) (towards-value direction name (refs.Instance k))) (counted-then is_function_type (λ a. refl) (towards-function direction name (refs.Instance k)))
+      (adds-nothing r (no_interface r) e.maps (world_definitions e.outer)))
+      (subst (λ (m : TypeEncodingMaps). LearnsFrom r None [] e.maps m) (sym same-maps) (from-none r None [] e.maps))
+      (subst (λ (ns : List ℕ). AllZip (DefinesInterface r) ns (instances_declared e''.outer)) (sym (interfaces-more es (x ∷ []) ∙ ap (λ (ns : List ℕ). interfaces_among es ++ ns) (among-one x i.0 is)))
+      (subst (AllZip (DefinesInterface r) (interfaces_among es ++ i.0 ∷ [])) (sym instances-then)
+      (zip-append (DefinesInterface r) (interfaces_among es) (instances_declared e.outer) (i.0 ∷ []) (inner ∷ []) h.inside (one, tt))))
+    where
+      one : DefinesInterface r i.0 inner
+      one = record { def = def; there = there; declarations = encodes.part.declared; is = refl; function_types = encodes.part.function_types; value_types = encodes.part.value_types }
+
+  pub interface-few : (es : List Entry) → HoldsFew r e es → HoldsFew r e'' (es ++ x ∷ [])
+  interface-few es h = record {
+    listed = λ j f. elim (listed-cases i.0 e'.instances e.foreign.instances.entries j (ap (λ xs. is_some (known_instance xs j)) (sym listed-then) ∙ f)) [
+      | inl same ↦ subst (λ (m : ℕ). Contains (interfaces_among (es ++ x ∷ [])) m) (sym same) here
+      | inr old ↦ subst (λ (ns : List ℕ). Contains ns j) (sym (interfaces-more es (x ∷ []))) (Contains-append_left (interfaces_among es) (interfaces_among (x ∷ [])) j (h.listed j old))
+    ];
+    held =
+        (let few = h.held in
+        let a : declaration_count e''.outer + length (brought_numbers r (world_around e)) ≤ declaration_count e.outer + (length (brought_numbers r (world_around e'')) + 2) =
+        placed-few r (world_around e) before encodes.part.aliases inner described e''.outer outer-then i.0 e'.instances e''.foreign.instances.entries e''.foreign.known.entries listed-then known-then in
+        let o : length e''.maps.id_to_index.entries ≡ length e.maps.id_to_index.entries = ap (λ (z : TypeEncodingMaps). length z.id_to_index.entries) same-maps in
+        let p = count-both es (x ∷ []) in
+        let q = count-one x i.0 is in
+        omega (arith, few, a, o, p, q));
+  }
+    where
+      here : Contains (interfaces_among (es ++ x ∷ [])) i.0
+      here = subst (λ (ns : List ℕ). Contains ns i.0) (sym (interfaces-more es (x ∷ []))) (Contains-append_right (interfaces_among es) (interfaces_among (x ∷ [])) i.0
+          (subst (λ (ns : List ℕ). Contains ns i.0) (sym (among-one x i.0 is)) (0, omega arith, refl)))
+
+-- ---- no room
+
+module _ (r : Resolve) (w : World) (e : WorldEncoder) (done : Entries) (direction : Direction) (x : Entry) (n : IsNext r w direction done x) (d : HasDefined r e (all_done done)) (h : HoldsFew r e (all_done done))
+    (once : IsOnce e.maps) (i : InterfaceId) (is : item_interface x.1 ≡ Some i.0) where
+  abbrev known : List ℕ
+  known = known-numbers e.maps
+
+  -- behind aliases, and one declaration more, the component type is full
+  over-behind : (a : Around) → GrowsAround r (world_around e) a → (more : Declarations) → declaration_count more ≤ declaration_count a.declared + 1 → limit ≤ declaration_count more → WorldLacksRoom r w
+  over-behind a g more one over =
+      full r w e done direction x n d h (record a { declared = more }) (grown-listed r (world_around e) a g) known (known-once e.maps once)
+      (λ m c. met-before r w e done direction x n d h m (known-number e.maps m c))
+      (let few = h.held in
+      let f = grown-few r (world_around e) a g in
+      let o : length known ≡ length e.maps.id_to_index.entries = length-map e.maps.id_to_index.entries (λ (y : ℕ × ℕ). y.0) in
+      let q = count-one x i.0 is in
+      let same : length (brought_numbers r (record a { declared = more })) ≡ length (brought_numbers r a) = refl in
+      omega (arith, few, f, o, q, one, same))
+      over
+
+  among : (rest : List Entry) × (entries_in w ≡ all_done done ++ x ∷ rest)
+  among = next-among r w direction done x n
+
+  -- the instance type has none, or there is none for it
+  pub instance-lacks : (def : Interface) → interface_at r i.0 ≡ Some def → InterfaceLacksRoom r i def ⊎ LacksInstanceRoom r (world_around e) → WorldLacksRoom r w
+  instance-lacks def there (inl l) = an_interface i def (subst (λ (es : List Entry). Contains (interfaces_among es) i.0) (sym among.1) (here (all_done done) among.0)) there l
+    where
+      here : (es rest : List Entry) → Contains (interfaces_among (es ++ x ∷ rest)) i.0
+      here es rest = subst (λ (ns : List ℕ). Contains ns i.0) (sym (interfaces-more es (x ∷ rest))) (Contains-append_right (interfaces_among es) (interfaces_among (x ∷ rest)) i.0
+          (subst (λ (ns : List ℕ). Contains ns i.0) (sym (interfaces-more (x ∷ []) rest)) (Contains-append_left (interfaces_among (x ∷ [])) (interfaces_among rest) i.0
+          (subst (λ (ns : List ℕ). Contains ns i.0) (sym (among-one x i.0 is)) (0, omega arith, refl)))))
+  instance-lacks def there (inr l) =
+      let few = outer-slots-few l.after.declared in
+      over-behind l.after l.grown l.after.declared (omega arith) (counts-refused (declaration_count l.after.declared) (type_slots_of l.after.declared + 1) (omega (arith, few)) l.full)
+
+  -- its import or export has none
+  pub placed-lacks : (canonical : Bool) (name : ExternName) (k : ℕ) (a : Around) (def : Interface) → EncodesInterface r (world_around e) a i def k → name ≡ name_of_item r canonical x
+      → LacksDeclaration a.declared (declared_towards direction name (refs.Instance k)) → WorldLacksRoom r w
+  placed-lacks canonical name k a def encodes named refused = by (fits_name name) refl (towards direction refused)
+    where
+      there : (es rest : List Entry) → Contains (es ++ x ∷ rest) x
+      there es rest = Contains-append_right es (x ∷ rest) x (0, omega arith, refl)
+
+      towards : (direction : Direction) → LacksDeclaration a.declared (declared_towards direction name (refs.Instance k)) → (fits_name name && fits_counts (declaration_count a.declared + 1) (type_slots_of a.declared + 0)) ≡ false
+      towards import_ g = g
+      towards export_ g = g
+
+      by : (b : Bool) → fits_name name ≡ b → (b && fits_counts (declaration_count a.declared + 1) (type_slots_of a.declared + 0)) ≡ false → WorldLacksRoom r w
+      by false u g = a_name canonical x (subst (λ (es : List Entry). Contains es x) (sym among.1) (there (all_done done) among.0)) (no-type x i.0 is) (ap fits_name (sym named) ∙ u)
+      by true u g =
+          let few = outer-slots-few a.declared in
+          over-behind encodes.part.before encodes.part.aliases a.declared
+          (one-behind encodes.part.before (from_list encodes.part.declared) a.declared (ap (λ (z : Around). z.declared) encodes.part.one_more))
+          (counts-refused (declaration_count a.declared) (type_slots_of a.declared + 0) (omega (arith, few)) g)
