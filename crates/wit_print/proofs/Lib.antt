@@ -52,3 +52,7 @@ pub mod AlikeFiles
 pub mod Constructors
 pub mod Declared
 pub mod Declarations
+pub mod UseGroups
+pub mod ListedTypes
+pub mod SameVersions
+pub mod ListedSteps

@@ -75,7 +75,7 @@ module _ (r : Resolve) (valid : IsValid r) where
       let range = right_of (passes (in_list r.packages.items) (package_number i.«package»)) _ (right_of (is_place n) _ (interface-passes numbers_in_range r valid.rules.numbers_in_range n i e)) in
       listed_known r valid (owner.Interface (record { 0 = n })) i.types.entries (left_of _ _ range) (own_names r valid n i e) (left_of _ _ (interface-passes order_of_types r valid.rules.order_of_types n i e))
 
-  in_package : (n : ℕ) (i : Interface) → interface_at r n ≡ Some i → is_some i.«package» ≡ true
+  pub in_package : (n : ℕ) (i : Interface) → interface_at r n ≡ Some i → is_some i.«package» ≡ true
   unfolding places
   in_package n i e = left_of _ _ (interface-passes places r valid.rules.places n i e)
 

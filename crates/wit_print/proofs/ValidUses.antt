@@ -94,7 +94,7 @@ module _ (r : Resolve) (valid : IsValid r) where
   -- ---- uses
 
   module _ (o : TypeOwner) (placed : same_owner o owner.None ≡ false) where
-    use_known : (own : Text) (n : ℕ) (def : TypeDef) → type_at r n ≡ Some def → same_owner def.owner o ≡ true → is_label own ≡ true → passes (is_known_use r) (used_of r o own def) ≡ true
+    pub use_known : (own : Text) (n : ℕ) (def : TypeDef) → type_at r n ≡ Some def → same_owner def.owner o ≡ true → is_label own ≡ true → passes (is_known_use r) (used_of r o own def) ≡ true
     unfolding labels named_kinds
     use_known own n def at home label = go def.kind refl
       where

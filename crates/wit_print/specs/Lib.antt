@@ -15,6 +15,7 @@ pub mod TypeParts
 pub mod Heads
 pub mod ItemCalls
 pub mod DeclaredCalls
+pub mod UseGroups
 pub mod Drafted
 pub mod Printable
 pub mod Printer

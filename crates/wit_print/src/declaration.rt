@@ -1,6 +1,6 @@
 //! Declared types, drafted and printed.
 
-ghost use Rattle.std.specs.Prelude.{◌≡◌, ◌++◌, ◌∷◌, [], false, true, filter, map, Some, IfOk, IsOkUnless, OnErr, OnOk};
+ghost use Rattle.std.specs.Prelude.{◌≡◌, ◌++◌, ◌∷◌, [], true, filter, map, Some, IfOk, IsOkUnless, OnErr, OnOk};
 ghost use Rattle.std.specs.List.{list_all};
 ghost use Rattle.wit_model.specs.declared.error.Error.TheVariants.{Memory};
 ghost use Rattle.wit_model.specs.Lookup.{type_at};
@@ -8,8 +8,9 @@ ghost use Rattle.wit_model.specs.Valid.{IsValid};
 ghost use Rattle.wit_print.specs.OutputCall.{Moves, Begins};
 ghost use Rattle.wit_print.specs.Shown.{belongs_to as belongs_to_lem, declared_of, present_name, shown_prefix, shown_resource_member};
 ghost use Rattle.wit_print.specs.Tree.MemberTree.{TypeMember};
-ghost use Rattle.wit_print.specs.Calls.{declared_calls, members_calls};
-ghost use Rattle.wit_print.specs.Printable.{declaration_of, declarations_of, is_printable_type};
+ghost use Rattle.wit_print.specs.Calls.{declared_calls, members_calls, printed_after};
+ghost use Rattle.wit_print.specs.Printable.{declaration_of, is_printable_type};
+ghost use Rattle.wit_print.specs.UseGroups.{declared_members, is_listed_function, is_listed_type, listed_declaration, listed_of};
 ghost use Rattle.wit_print.specs.WellNamed.{is_well_declared, is_well_prefix};
 
 use crate::alias::{
@@ -25,9 +26,10 @@ use crate::record::draft_record;
 use crate::resource::draft_resource;
 use crate::type_kind::TypeKind;
 use crate::type_name::present;
+use crate::use_group::use_of;
 use crate::variant::draft_variant;
 use std::alloc::{AllocError, Global};
-use wit_model::{Error, Function, Map, Resolve, TypeDef, TypeDefKind, TypeId};
+use wit_model::{Error, Function, Resolve, TypeDef, TypeDefKind, TypeId, TypeOwner};
 
 /// A declared type under a name, with its functions if it is a resource.
 fn draft_declared<'a>(
@@ -140,17 +142,17 @@ fn belongs_to(resource: TypeId, function: &Function) -> bool
     }
 }
 
-/// The functions of a resource, in their order.
+/// The functions of a resource among these, in their order.
 fn functions_of<'a>(
     alloc: Global,
     resource: TypeId,
-    functions: &'a Map<String, Function>,
+    functions: &[&'a Function],
 ) -> Result<Vec<&'a Function>, AllocError>
-    ensures { IfOk result (λ found. map (λ f. f.now) found.items ≡ filter (belongs_to_lem resource) (map (λ entry. entry.1) functions.now.entries)) }
+    ensures { IfOk result (λ found. map (λ f. f.now) found.items ≡ filter (belongs_to_lem resource) (map (λ f. f.now) functions.now)) }
 {
     let mut found = Vec::new(alloc);
-    for (key, function) in functions {
-        let _key = key;
+    for function in functions {
+        let function = *function;
         if belongs_to(resource, function) {
             found.push(function)?;
         }
@@ -166,12 +168,12 @@ fn print_owned<'a, O: Output>(
     has_printed: bool,
     resolve: &'a Resolve,
     id: TypeId,
-    functions: &'a Map<String, Function>,
+    functions: &[&'a Function],
 ) -> Result<(), Error>
     requires valid { IsValid resolve.now }
-    requires printable { is_printable_type resolve.now (map (λ entry. entry.1) functions.now.entries) id ≡ true }
-    ensures ok { OnOk result (Moves O.keeps (O.view output.old) (members_calls emits_docs has_printed (declaration_of resolve.now (map (λ entry. entry.1) functions.now.entries) id)) (O.view output.new)) }
-    ensures err { OnErr result (Begins O.keeps (O.view output.old) (members_calls emits_docs has_printed (declaration_of resolve.now (map (λ entry. entry.1) functions.now.entries) id)) (O.view output.new)) }
+    requires printable { is_printable_type resolve.now (map (λ f. f.now) functions.now) id ≡ true }
+    ensures ok { OnOk result (Moves O.keeps (O.view output.old) (members_calls emits_docs has_printed (declaration_of resolve.now (map (λ f. f.now) functions.now) id)) (O.view output.new)) }
+    ensures err { OnErr result (Begins O.keeps (O.view output.old) (members_calls emits_docs has_printed (declaration_of resolve.now (map (λ f. f.now) functions.now) id)) (O.view output.new)) }
     ensures memory { IsOkUnless result Memory }
 {
     let def = &resolve.types[id.0 as usize];
@@ -188,34 +190,74 @@ fn print_owned<'a, O: Output>(
     )
 }
 
-/// The types of an owner, each an item of its block. One is drafted at a time.
+/// A type of an owner, if it is no use. Answers whether the block has printed something then.
+fn print_listed_type<'a, O: Output>(
+    output: &mut O,
+    alloc: Global,
+    emits_docs: bool,
+    has_printed: bool,
+    resolve: &'a Resolve,
+    owner: TypeOwner,
+    listed: (&'a str, TypeId),
+    functions: &[&'a Function],
+) -> Result<bool, Error>
+    requires valid { IsValid resolve.now }
+    requires known { is_listed_type resolve.now owner (record { name = listed.0.now; id = listed.1 }) ≡ true }
+    requires functions { list_all (is_listed_function resolve.now owner) (map (λ f. f.now) functions.now) ≡ true }
+    ensures ok { OnOk result (Moves O.keeps (O.view output.old) (members_calls emits_docs has_printed (listed_declaration resolve.now owner (map (λ f. f.now) functions.now) (record { name = listed.entry.0.now; id = listed.entry.1 }))) (O.view output.new)) }
+    ensures err { OnErr result (Begins O.keeps (O.view output.old) (members_calls emits_docs has_printed (listed_declaration resolve.now owner (map (λ f. f.now) functions.now) (record { name = listed.entry.0.now; id = listed.entry.1 }))) (O.view output.new)) }
+    ensures printed { IfOk result (λ b. b ≡ printed_after has_printed (listed_declaration resolve.now owner (map (λ f. f.now) functions.now) (record { name = listed.entry.0.now; id = listed.entry.1 }))) }
+    ensures memory { IsOkUnless result Memory }
+{
+    let def = &resolve.types[listed.1.0 as usize];
+    if use_of(resolve, owner, listed.0, def).is_some() {
+        return Ok(has_printed);
+    }
+    print_owned(
+        output,
+        alloc,
+        emits_docs,
+        has_printed,
+        resolve,
+        listed.1,
+        functions,
+    )?;
+    Ok(true)
+}
+
+/// The types of an owner that are no uses, each an item of its block. One is drafted at a time. Answers whether the block has
+/// printed something then.
 pub(crate) fn print_declarations<'a, O: Output>(
     output: &mut O,
     alloc: Global,
     emits_docs: bool,
+    has_printed: bool,
     resolve: &'a Resolve,
-    types: &'a Map<String, TypeId>,
-    functions: &'a Map<String, Function>,
-) -> Result<(), Error>
+    owner: TypeOwner,
+    types: &[(&'a str, TypeId)],
+    functions: &[&'a Function],
+) -> Result<bool, Error>
     requires valid { IsValid resolve.now }
-    requires printable { list_all (λ entry. is_printable_type resolve.now (map (λ f. f.1) functions.now.entries) entry.1) types.now.entries ≡ true }
-    ensures ok { OnOk result (Moves O.keeps (O.view output.old) (members_calls emits_docs false (declarations_of resolve.now (map (λ f. f.1) functions.now.entries) types.now.entries)) (O.view output.new)) }
-    ensures err { OnErr result (Begins O.keeps (O.view output.old) (members_calls emits_docs false (declarations_of resolve.now (map (λ f. f.1) functions.now.entries) types.now.entries)) (O.view output.new)) }
+    requires known { list_all (is_listed_type resolve.now owner) (listed_of types.now) ≡ true }
+    requires functions { list_all (is_listed_function resolve.now owner) (map (λ f. f.now) functions.now) ≡ true }
+    ensures ok { OnOk result (Moves O.keeps (O.view output.old) (members_calls emits_docs has_printed (declared_members resolve.now owner (map (λ f. f.now) functions.now) (listed_of types.now))) (O.view output.new)) }
+    ensures err { OnErr result (Begins O.keeps (O.view output.old) (members_calls emits_docs has_printed (declared_members resolve.now owner (map (λ f. f.now) functions.now) (listed_of types.now))) (O.view output.new)) }
+    ensures printed { IfOk result (λ b. b ≡ printed_after has_printed (declared_members resolve.now owner (map (λ f. f.now) functions.now) (listed_of types.now))) }
     ensures memory { IsOkUnless result Memory }
 {
-    let mut has_printed = false;
-    for (key, id) in types {
-        let _key = key;
-        print_owned(
+    let mut has_printed = has_printed;
+    for listed in types {
+        let printed = print_listed_type(
             output,
             alloc,
             emits_docs,
             has_printed,
             resolve,
-            *id,
+            owner,
+            *listed,
             functions,
         )?;
-        has_printed = true;
+        has_printed = printed;
     }
-    Ok(())
+    Ok(has_printed)
 }

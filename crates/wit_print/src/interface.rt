@@ -5,24 +5,24 @@ ghost use Rattle.std.specs.List.{list_all};
 ghost use Rattle.wit_model.specs.declared.error.Error.TheVariants.{Memory};
 ghost use Rattle.wit_model.specs.Lookup.{interface_at};
 ghost use Rattle.wit_model.specs.Names.{is_label};
-ghost use Rattle.wit_model.specs.Rules.{has_items, is_freestanding as is_freestanding_lem};
+ghost use Rattle.wit_model.specs.Rules.{is_freestanding as is_freestanding_lem};
 ghost use Rattle.wit_model.specs.Valid.{IsValid};
 ghost use Rattle.wit_print.specs.OutputCall.{Moves, Begins};
 ghost use Rattle.wit_print.specs.Calls.{members_calls};
 ghost use Rattle.wit_print.specs.Heads.{head_calls};
-ghost use Rattle.wit_print.specs.Printable.{is_declared_alone, is_printable_function, line_between, shown_functions};
+ghost use Rattle.wit_print.specs.Printable.{is_printable_function, line_between, shown_functions};
 ghost use Rattle.wit_print.specs.Shown.{shown_function, shown_gates, shown_interface};
 ghost use Rattle.wit_print.specs.WellNamed.{is_well_gates, is_well_member};
 
-use crate::declaration::print_declarations;
 use crate::draft::Draft;
 use crate::function::draft_named;
 use crate::gates::draft_gates;
 use crate::output::Output;
 use crate::prefix::{draft_docs, draft_prefix};
 use crate::type_kind::TypeKind;
+use crate::types::print_interface_types;
 use std::alloc::{AllocError, Global};
-use wit_model::{Error, Function, Interface, InterfaceId, Map, Resolve, TypeId};
+use wit_model::{Error, Function, Interface, InterfaceId, Map, Resolve};
 
 /// An interface's documentation, gates and name.
 pub(crate) fn draft_head<'a>(
@@ -160,12 +160,6 @@ fn print_functions<'a, O: Output>(
     Ok(())
 }
 
-fn has_types(types: &Map<String, TypeId>) -> bool
-    ensures { result ≡ has_items types.now.entries }
-{
-    !types.is_empty()
-}
-
 /// What an interface has, a block of its own.
 pub(crate) fn print_interface_body<'a, O: Output>(
     output: &mut O,
@@ -176,22 +170,18 @@ pub(crate) fn print_interface_body<'a, O: Output>(
     interface: &'a Interface,
 ) -> Result<(), Error>
     requires valid { IsValid resolve.now }
-    requires declared { list_all (is_declared_alone resolve.now) resolve.now.types.items ≡ true }
     requires at { interface_at resolve.now id.0 ≡ Some interface.now }
     ensures ok { OnOk result (Moves O.keeps (O.view output.old) (members_calls emits_docs false (shown_interface resolve.now id interface.now)) (O.view output.new)) }
     ensures err { OnErr result (Begins O.keeps (O.view output.old) (members_calls emits_docs false (shown_interface resolve.now id interface.now)) (O.view output.new)) }
     ensures memory { IsOkUnless result Memory }
 {
-    let _id = id;
-    print_declarations(
-        output,
-        alloc,
-        emits_docs,
-        resolve,
-        &interface.types,
-        &interface.functions,
+    let here = match interface.package {
+        Some(here) => here,
+        None => return Ok(()),
+    };
+    let has_printed = print_interface_types(
+        output, alloc, emits_docs, resolve, here, id, interface,
     )?;
-    let has_printed = has_types(&interface.types);
     print_functions(
         output,
         alloc,

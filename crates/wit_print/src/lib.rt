@@ -27,6 +27,8 @@ mod record;
 mod resource;
 mod type_kind;
 mod type_name;
+mod types;
+mod use_group;
 mod variant;
 mod world;
 

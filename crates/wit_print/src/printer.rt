@@ -154,10 +154,10 @@ impl<O: Output> WitPrinter<O> {
         print_head(&mut self.output, alloc, self.emit_docs, interface, name)
     }
 
-    /// Prints what an interface has, a block of its own: neither what stands before the block nor its end. Uses aren't printed yet.
+    /// Prints what an interface has, a block of its own: neither what stands before the block nor its end.
     ///
-    /// What the printer keeps meanwhile is bounded by the largest item. After a refusal the output has a beginning of
-    /// the calls.
+    /// What the printer keeps meanwhile is bounded by the largest item, and by lists of the interface's types and functions. After
+    /// a refusal the output has a beginning of the calls.
     pub fn print_interface(
         &mut self,
         alloc: Global,
@@ -165,7 +165,6 @@ impl<O: Output> WitPrinter<O> {
         id: InterfaceId,
     ) -> Result<(), Error>
         requires valid { IsValid resolve.now }
-        requires declared { list_all (is_declared_alone resolve.now) resolve.now.types.items ≡ true }
         requires in_range { id.0 < length resolve.now.interfaces.items }
         ensures ok { OnOk result (Moves O.keeps (O.view self.old.output) (interface_body_calls (emits_docs self.old) resolve.now id) (O.view self.new.output)) }
         ensures err { OnErr result (Begins O.keeps (O.view self.old.output) (interface_body_calls (emits_docs self.old) resolve.now id) (O.view self.new.output)) }

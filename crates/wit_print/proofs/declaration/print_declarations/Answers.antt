@@ -1,53 +1,38 @@
-use Rattle.std.proofs.Common.{◌≡◌, ◌∙◌, ap, map, false, sym, subst, true}
-use Rattle.std.specs.List.{list_all}
-use Rattle.std.specs.Map.Iter.{deref_pair}
-use Rattle.std.proofs.lemmas.Map.Iter.{rest_more}
-use Rattle.wit_model.proofs.Lists.{first_true, second_true}
-use Rattle.wit_print.specs.Calls.{members_calls}
-use Rattle.wit_print.specs.Printable.{declaration_of, declarations_of, is_printable_type}
-use Rattle.wit_print.proofs.Declarations.{next_declared}
-use Rattle.wit_print.proofs.Moves.{going, made_on, refused_in, at_err}
+use Rattle.std.proofs.Common.{◌≡◌, ◌∙◌, ap, map, refl, sym}
+use Rattle.std.proofs.lemmas.List.{drop_all}
+use Rattle.wit_print.specs.Calls.{members_calls, printed_after}
+use Rattle.wit_print.specs.UseGroups.{declared_members, listed_of}
+use Rattle.wit_print.proofs.ListedSteps.{declaration_made, declaration_refused, declaration_some, known_after, known_here}
+use Rattle.wit_print.proofs.Moves.{going, made_all, at_err}
 use Rattle.wit_print.proofs.declaration.print_declarations.Goals as goal
 
-pub loop-key-init : goal.loop-key-init
-loop-key-init g c =
-    let fs = map (λ f. f.1) c.args.functions.now.entries in
-    let all : c.into_iter-key-iterator.result ≡ c.args.types.now.entries = c.into_iter-key-iterator.ensures.into_iter_gives.0 in
-    record {
-      going = going _ _ _ (ap (λ es. members_calls c.args.emits_docs false (declarations_of c.args.resolve.now fs es)) all);
-      printable = subst (λ es. list_all (λ e. is_printable_type c.args.resolve.now fs e.1) es ≡ true) (sym all) c.requires.printable;
-    }
+pub loop-listed-init : goal.loop-listed-init
+loop-listed-init g c = record { going = going _ _ _ refl; printed = refl; known = c.requires.known }
 
-pub print_owned-requires-clause-printable : goal.print_owned-requires-clause-printable
-print_owned-requires-clause-printable g c =
-    let fs = map (λ f. f.1) c.args.functions.now.entries in
-    let next = rest_more deref_pair c.loop-key.key-iterator c.next.new.self c.next.result (c.in-Some.key, c.in-Some.id) c.in-Some.is c.next.ensures.steps in
-    first_true (is_printable_type c.args.resolve.now fs c.in-Some.id.now) _ (subst (λ es. list_all (λ e. is_printable_type c.args.resolve.now fs e.1) es ≡ true) next c.loop-key.invariant.printable)
+pub print_listed_type-requires-clause-known : goal.print_listed_type-requires-clause-known
+print_listed_type-requires-clause-known g c = known_here c.args.types.now c.loop-listed.listed-index _ c.loop-listed-test.true c.args.resolve.now c.args.owner c.loop-listed.invariant.known
 
-pub returns-in_err-print_owned-clause-err : goal.returns-in_err-print_owned-clause-err
-returns-in_err-print_owned-clause-err g c =
-    let r = c.args.resolve.now in
-    let fs = map (λ f. f.1) c.args.functions.now.entries in
-    let next = rest_more deref_pair c.loop-key.key-iterator c.next.new.self c.next.result (c.in-Some.key, c.in-Some.id) c.in-Some.is c.next.ensures.steps in
-    let known = first_true (is_printable_type r fs c.in-Some.id.now) _ (subst (λ es. list_all (λ e. is_printable_type r fs e.1) es ≡ true) next c.loop-key.invariant.printable) in
-    let run = members_calls c.args.emits_docs c.loop-key.has_printed (declaration_of r fs c.in-Some.id.now) in
-    let rest = members_calls c.args.emits_docs true (declarations_of r fs c.next.new.self) in
+pub returns-in_err-printed-clause-err : goal.returns-in_err-printed-clause-err
+returns-in_err-printed-clause-err g c =
     at_err c.from_residual.result
-    (refused_in run rest c.loop-key.invariant.going
-    (ap (λ es. members_calls c.args.emits_docs c.loop-key.has_printed (declarations_of r fs es)) next ∙ next_declared r fs c.args.emits_docs c.loop-key.has_printed (c.in-Some.key.now, c.in-Some.id.now) c.next.new.self known)
-    c.in_err-print_owned.ensures.err)
+    (declaration_refused c.args.types.now c.loop-listed.listed-index _ c.loop-listed-test.true c.args.resolve.now c.args.owner (map (λ f. f.now) c.args.functions.now) c.loop-listed.has_printed c.args.emits_docs c.loop-listed.invariant.going c.in_err-printed.ensures.err)
 
-pub loop-key-preserved : goal.loop-key-preserved
-loop-key-preserved g c =
+pub loop-listed-preserved : goal.loop-listed-preserved
+loop-listed-preserved g c =
     let r = c.args.resolve.now in
-    let fs = map (λ f. f.1) c.args.functions.now.entries in
-    let next = rest_more deref_pair c.loop-key.key-iterator c.next.new.self c.next.result (c.in-Some.key, c.in-Some.id) c.in-Some.is c.next.ensures.steps in
-    let all = subst (λ es. list_all (λ e. is_printable_type r fs e.1) es ≡ true) next c.loop-key.invariant.printable in
-    let run = members_calls c.args.emits_docs c.loop-key.has_printed (declaration_of r fs c.in-Some.id.now) in
-    let rest = members_calls c.args.emits_docs true (declarations_of r fs c.next.new.self) in
+    let fs = map (λ f. f.now) c.args.functions.now in
     record {
-      going = made_on run rest c.loop-key.invariant.going
-          (ap (λ es. members_calls c.args.emits_docs c.loop-key.has_printed (declarations_of r fs es)) next ∙ next_declared r fs c.args.emits_docs c.loop-key.has_printed (c.in-Some.key.now, c.in-Some.id.now) c.next.new.self (first_true _ _ all))
-          c.in_ok-print_owned.ensures.ok;
-      printable = second_true (is_printable_type r fs c.in-Some.id.now) _ all;
+      going = declaration_made c.args.types.now c.loop-listed.listed-index _ c.loop-listed-test.true r c.args.owner fs c.loop-listed.has_printed c.args.emits_docs c.in_ok-printed.printed c.loop-listed.invariant.going c.in_ok-printed.ensures.printed c.in_ok-printed.ensures.ok;
+      printed = declaration_some c.args.types.now c.loop-listed.listed-index _ c.loop-listed-test.true r c.args.owner fs c.loop-listed.has_printed c.in_ok-printed.printed _ c.loop-listed.invariant.printed c.in_ok-printed.ensures.printed;
+      known = known_after c.args.types.now c.loop-listed.listed-index c.loop-listed-test.true r c.args.owner c.loop-listed.invariant.known;
     }
+
+pub returns-clause-ok : goal.returns-clause-ok
+returns-clause-ok g c =
+    let none = drop_all c.loop-listed.listed-index c.args.types.now c.loop-listed-test.false in
+    made_all c.loop-listed.invariant.going (ap (λ ts. members_calls c.args.emits_docs c.loop-listed.has_printed (declared_members c.args.resolve.now c.args.owner (map (λ f. f.now) c.args.functions.now) (listed_of ts))) none)
+
+pub returns-clause-printed : goal.returns-clause-printed
+returns-clause-printed g c =
+    let none = drop_all c.loop-listed.listed-index c.args.types.now c.loop-listed-test.false in
+    sym (ap (λ ts. printed_after c.loop-listed.has_printed (declared_members c.args.resolve.now c.args.owner (map (λ f. f.now) c.args.functions.now) (listed_of ts))) none) ∙ c.loop-listed.invariant.printed

@@ -26,7 +26,7 @@ pub print_declaration-requires-clause-prefix : goal.print_declaration-requires-c
 print_declaration-requires-clause-prefix g c =
     let r = c.args.resolve.now in
     let def = c.index-def.result.now in
-    let fs = map (λ entry. entry.1) c.args.functions.now.entries in
+    let fs = map (λ f. f.now) c.args.functions.now in
     let at : type_at r c.args.id.0 ≡ Some def = slice_get_read _ _ _ _ refl (ltb-true _ _ (left_of (in_list r.types.items c.args.id.0) _ c.requires.printable)) c.index-def.ensures in
     left_of _ _ (printable_at r fs c.args.id def at c.requires.printable)
 
@@ -34,7 +34,7 @@ pub print_declaration-requires-clause-well : goal.print_declaration-requires-cla
 print_declaration-requires-clause-well g c =
     let r = c.args.resolve.now in
     let def = c.index-def.result.now in
-    let fs = map (λ entry. entry.1) c.args.functions.now.entries in
+    let fs = map (λ f. f.now) c.args.functions.now in
     let at : type_at r c.args.id.0 ≡ Some def = slice_get_read _ _ _ _ refl (ltb-true _ _ (left_of (in_list r.types.items c.args.id.0) _ c.requires.printable)) c.index-def.ensures in
     let members = members_shown r c.deref.result.now (filter (belongs_to c.args.id) fs) (ap (map (λ f. f.now)) c.deref.ensures.value ∙ c.in_ok-members.ensures) in
     subst (λ ms. is_well_declared (declared_of r (present_name def.name) ms def.kind) ≡ true) (sym members) (right_of (is_well_prefix (shown_prefix def.docs def.stability def.external_id)) (is_well_declared (shown_declared r fs c.args.id def)) (printable_at r fs c.args.id def at c.requires.printable))
@@ -43,7 +43,7 @@ pub returns-clause-ok : goal.returns-clause-ok
 returns-clause-ok g c =
     let r = c.args.resolve.now in
     let def = c.index-def.result.now in
-    let fs = map (λ entry. entry.1) c.args.functions.now.entries in
+    let fs = map (λ f. f.now) c.args.functions.now in
     let at : type_at r c.args.id.0 ≡ Some def = slice_get_read _ _ _ _ refl (ltb-true _ _ (left_of (in_list r.types.items c.args.id.0) _ c.requires.printable)) c.index-def.ensures in
     let members = members_shown r c.deref.result.now (filter (belongs_to c.args.id) fs) (ap (map (λ f. f.now)) c.deref.ensures.value ∙ c.in_ok-members.ensures) in
     let same : members_calls c.args.emits_docs c.args.has_printed (TypeMember (shown_prefix def.docs def.stability def.external_id) (declared_of r (present_name def.name) (map (λ f. shown_resource_member r f.now) c.deref.result.now) def.kind) ∷ []) ≡ members_calls c.args.emits_docs c.args.has_printed (declaration_of r fs c.args.id) =
@@ -55,7 +55,7 @@ pub returns-clause-err : goal.returns-clause-err
 returns-clause-err g c =
     let r = c.args.resolve.now in
     let def = c.index-def.result.now in
-    let fs = map (λ entry. entry.1) c.args.functions.now.entries in
+    let fs = map (λ f. f.now) c.args.functions.now in
     let at : type_at r c.args.id.0 ≡ Some def = slice_get_read _ _ _ _ refl (ltb-true _ _ (left_of (in_list r.types.items c.args.id.0) _ c.requires.printable)) c.index-def.ensures in
     let members = members_shown r c.deref.result.now (filter (belongs_to c.args.id) fs) (ap (map (λ f. f.now)) c.deref.ensures.value ∙ c.in_ok-members.ensures) in
     let same : members_calls c.args.emits_docs c.args.has_printed (TypeMember (shown_prefix def.docs def.stability def.external_id) (declared_of r (present_name def.name) (map (λ f. shown_resource_member r f.now) c.deref.result.now) def.kind) ∷ []) ≡ members_calls c.args.emits_docs c.args.has_printed (declaration_of r fs c.args.id) =
