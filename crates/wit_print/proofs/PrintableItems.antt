@@ -1,5 +1,5 @@
 -- What is known of an import or an export that can be printed.
-use Rattle.std.proofs.Common.{◌≡◌, refl, sym, ap, subst, ◌∙◌, Bool, true, false, ◌&&◌, Option, Some}
+use Rattle.std.proofs.Common.{◌≡◌, refl, sym, ap, subst, ◌∙◌, Bool, true, false, ◌&&◌, ◌||◌, not, Option, Some}
 use Rattle.std.specs.Prelude.{String, is_some}
 use Rattle.std.specs.declared.alloc.Global.{Global}
 use Rattle.wit_model.specs.declared.model.Resolve.{Resolve}
@@ -15,17 +15,21 @@ use Rattle.wit_model.specs.declared.model.WorldItem.{WorldItem}
 use Rattle.wit_model.specs.declared.model.WorldItem.TheVariants as item
 use Rattle.wit_model.specs.Lookup.{interface_at}
 use Rattle.wit_model.specs.Text.{Text, text_of}
-use Rattle.wit_model.specs.Rules.{in_list, item_in_range, key_in_range}
+use Rattle.wit_model.specs.Rules.{in_list, is_export_item, item_in_range, key_in_range}
 use Rattle.wit_print.specs.Tree.{Prefix}
 use Rattle.wit_print.specs.Tree.ExternTree.{NamedFunction, NamedInterface, NamedPath, Path}
 use Rattle.wit_print.specs.Calls.{world_extern_calls}
 use Rattle.wit_print.specs.ItemCalls.{labelled_tree}
-use Rattle.wit_print.specs.Printable.{entry_calls, is_printable_entry, is_shown_item}
+use Rattle.wit_print.specs.Printable.{entry_calls, is_printable_entry, is_printable_import, is_shown_item}
 use Rattle.wit_print.specs.Shown.{extern_docs, extern_prefix, function_prefix, shown_docs, shown_external_id, shown_gates, shown_import, shown_interface, shown_path, shown_prefix, shown_signature}
 use Rattle.wit_print.specs.WellNamed.{is_well_extern, is_well_path, is_well_prefix, is_well_world_member}
 use Rattle.wit_print.proofs.ByteTests.{left_of, right_of}
 
 module _ (r : Resolve) (here : PackageId) where
+  -- what is shown as an import can be printed as one
+  pub import_shown : (k : WorldKey) (i : WorldItem) → is_printable_import r here (k, i) ≡ true → is_export_item i ≡ true → is_printable_entry r here (k, i) ≡ true
+  import_shown k i h e = subst (λ b. (not b || is_printable_entry r here (k, i)) ≡ true) e h
+
   well_of : (k : WorldKey) (i : WorldItem) → is_printable_entry r here (k, i) ≡ true → is_well_world_member (shown_import r here (k, i)) ≡ true
   well_of k i h = right_of (is_shown_item k i) _ (right_of (key_in_range r k && item_in_range r i) _ h)
 

@@ -1,5 +1,5 @@
--- What validity says of a `Resolve` whose worlds have no types: its worlds and interfaces can be printed.
-use Rattle.std.proofs.Common.{◌≡◌, refl, sym, subst, ◌∙◌, ℕ, zero, suc, ◌<◌, ◌+◌, Bool, true, false, ◌&&◌, not, List, [], ◌∷◌, length, Option, Some, None, filter_map, option_and_then, slice_get, option_to_list, arith}
+-- What validity says of a `Resolve`: its worlds and interfaces can be printed.
+use Rattle.std.proofs.Common.{◌≡◌, refl, sym, subst, ◌∙◌, ℕ, zero, suc, ◌<◌, ◌+◌, Bool, true, false, ◌&&◌, ◌||◌, not, List, [], ◌∷◌, length, Option, Some, None, filter_map, option_and_then, slice_get, option_to_list, arith}
 use Rattle.std.specs.Prelude.{String, is_none, is_some, if◌then◌else◌}
 use Rattle.std.specs.List.{list_all, cons_option}
 use Rattle.std.specs.Option.{option_map_or}
@@ -29,14 +29,15 @@ use Rattle.wit_model.specs.Rules.{in_list, passes, is_freestanding, is_member, i
 use Rattle.wit_model.specs.Valid.{IsValid, names_in_packages, numbers_in_range, package_names, places, labels, is_place}
 use Rattle.wit_model.proofs.Lists.{first_true, second_true}
 use Rattle.wit_model.proofs.Entries.{each_from_at, lists_pass}
-use Rattle.wit_print.specs.Printable.{is_declared_alone, is_of_world, is_shown_item, is_printable_interface, is_printable_entry, is_printable_world, is_printable_listed}
+use Rattle.wit_print.specs.Printable.{is_printable_import, is_shown_item, is_printable_interface, is_printable_entry, is_printable_world, is_printable_listed}
 use Rattle.wit_print.specs.WellNamed.{is_well_optional}
 use Rattle.wit_print.specs.WellNamed.{is_well_item}
-use Rattle.wit_print.specs.Shown.{Listed, shown_interface_item, type_of_entry}
+use Rattle.wit_print.specs.Shown.{Listed, function_of_item, imported_functions, listed_imports, shown_interface_item, type_of_entry}
 use Rattle.wit_model.proofs.OnePath.{package-passes}
 use Rattle.wit_print.proofs.ByteTests.{weaker_all}
-use Rattle.wit_print.proofs.WellLists.{all_both}
-use Rattle.wit_print.proofs.ValidWorlds.{is_known_entry, entry_member, extern_well, keyed_type, world_is_shown}
+use Rattle.wit_print.proofs.WellLists.{all_both, given_well}
+use Rattle.wit_print.specs.UseGroups.{is_listed_function, is_listed_type}
+use Rattle.wit_print.proofs.ValidWorlds.{is_known_entry, entry_function_known, extern_well, world_is_shown}
 use Rattle.wit_print.proofs.ValidOwners.{is_known_listed}
 use Rattle.wit_print.proofs.ByPlace.{all_get, one_there}
 use Rattle.wit_print.proofs.ValidFiles.{interface_item_well}
@@ -74,67 +75,38 @@ is_printable r valid here n k i known exported =
     shown (key.Name s) (item.Type_ id) h x = absurd cc
     shown (key.Interface m) (item.Type_ id) h x = absurd cc
 
-module _ (r : Resolve) (valid : IsValid r) (declared : list_all (is_declared_alone r) r.types.items ≡ true) (here : PackageId) (n : ℕ) where
-  abbrev this : TypeOwner
-  this = owner.World (record { 0 = n })
-
-  -- no type is this world's
-  not_here : (m : ℕ) (def : TypeDef) → type_at r m ≡ Some def → same_owner def.owner this ≡ false
-  not_here m def e = go def.owner (first_true _ _ (all_get (is_declared_alone r) r.types.items m def declared e))
+module _ (r : Resolve) (valid : IsValid r) (here : PackageId) (n : ℕ) where
+  import_printable : (e : WorldKey × WorldItem) → is_known_entry r n e ≡ true → is_printable_import r here e ≡ true
+  import_printable e known = go (is_export_item e.1) refl
     where
-      go : (w : TypeOwner) → not (is_of_world w) ≡ true → same_owner w this ≡ false
-      go (owner.World id) h = absurd cc
-      go (owner.Interface id) h = refl
-      go owner.None h = refl
+      go : (b : Bool) → is_export_item e.1 ≡ b → (not b || is_printable_entry r here e) ≡ true
+      go true shown = is_printable r valid here n e.0 e.1 known shown
+      go false shown = refl
 
-  -- so that a function of the world is freestanding
-  freestanding_here : (f : Function) → is_member r this f ≡ true → is_freestanding f.kind ≡ true
-  freestanding_here f h = go (resource_of f.kind) h
-    where
-      nothing : (m : ℕ) (d : Option TypeDef) → type_at r m ≡ d → option_and_then (λ def. if is_resource_itself def.kind && same_owner def.owner this then optional_text def.name else None) d ≡ None
-      nothing m None e = refl
-      nothing m (Some def) e = rw (not_here m def e) (neither (is_resource_itself def.kind) (optional_text def.name))
-        where
-          neither : (b : Bool) (name : Option Text) → (if b && false then name else None) ≡ None
-          neither true name = refl
-          neither false name = refl
-
-      go : (o : Option ℕ) → passes (λ m. option_map_or (λ name. is_member_of r m name f f.kind) (resource_name r this m) false) o ≡ true → is_none o ≡ true
-      go None k = refl
-      go (Some m) k =
-          let wrong : false ≡ true = subst (λ name. option_map_or (λ x. is_member_of r m x f f.kind) name false ≡ true) (nothing m (type_at r m) refl) k in absurd cc
-
-  -- what the world imports is no type
-  no_type_imported : (k : WorldKey) (i : WorldItem) → is_known_entry r n (k, i) ≡ true → list_all (is_known_listed r this) (option_to_list (type_of_entry k i)) ≡ true → is_export_item i ≡ true
-  no_type_imported k (item.Interface id gates docs external_id) known listed = refl
-  no_type_imported k (item.Function f) known listed = freestanding_here f (entry_member r n k f known)
-  no_type_imported (key.Interface m) (item.Type_ id) known listed = absurd (keyed_type r n m id known)
-  no_type_imported (key.Name s) (item.Type_ id) known listed =
-      let inside : in_list r.types.items id.0 ≡ true = second_true (key_in_range r (key.Name s)) _ (first_true _ _ known) in
-      let there = one_there r.types.items id.0 (ltb-true _ _ inside) in
-      let named : is_named_of r this id.0 ≡ true = second_true (is_label (text_of s)) _ (first_true _ _ listed) in
-      let its : (is_some there.0.name && same_owner there.0.owner this) ≡ true = subst (λ d. passes (λ x. is_some x.name && same_owner x.owner this) d ≡ true) there.1 named in
-      let wrong : true ≡ false = sym (second_true (is_some there.0.name) _ its) ∙ not_here id.0 there.0 there.1 in
-      absurd cc
-
-  listed_first : (k : WorldKey) (i : WorldItem) (rest : List Listed) → list_all (is_known_listed r this) (cons_option (type_of_entry k i) rest) ≡ true → (list_all (is_known_listed r this) (option_to_list (type_of_entry k i)) ≡ true) × (list_all (is_known_listed r this) rest ≡ true)
-  listed_first k i rest h = go (type_of_entry k i) h
-    where
-      go : (o : Option Listed) → list_all (is_known_listed r this) (cons_option o rest) ≡ true → (list_all (is_known_listed r this) (option_to_list o) ≡ true) × (list_all (is_known_listed r this) rest ≡ true)
-      go None g = (refl, g)
-      go (Some t) g = (both_true (is_known_listed r this t) true (first_true _ _ g) refl, second_true (is_known_listed r this t) _ g)
-
-  imports_printable : (es : List (WorldKey × WorldItem)) → list_all (is_known_entry r n) es ≡ true → list_all (is_known_listed r this) (filter_map (λ e. type_of_entry e.0 e.1) es) ≡ true → list_all (is_printable_entry r here) es ≡ true
-  imports_printable [] known listed = refl
-  imports_printable (e ∷ es) known listed =
-      let both_listed = listed_first e.0 e.1 (filter_map (λ x. type_of_entry x.0 x.1) es) listed in
-      let first_known = first_true (is_known_entry r n e) _ known in
-      both_true (is_printable_entry r here e) _ (is_printable r valid here n e.0 e.1 first_known (no_type_imported e.0 e.1 first_known both_listed.0))
-      (imports_printable es (second_true (is_known_entry r n e) _ known) both_listed.1)
+  imports_printable : (es : List (WorldKey × WorldItem)) → list_all (is_known_entry r n) es ≡ true → list_all (is_printable_import r here) es ≡ true
+  imports_printable = weaker_all (is_known_entry r n) (is_printable_import r here) import_printable
 
   exports_printable : (es : List (WorldKey × WorldItem)) → list_all (λ e. is_known_entry r n e && is_export_item e.1) es ≡ true → list_all (is_printable_entry r here) es ≡ true
   exports_printable = weaker_all (λ e. is_known_entry r n e && is_export_item e.1) (is_printable_entry r here)
       (λ e known. is_printable r valid here n e.0 e.1 (first_true _ _ known) (second_true (is_known_entry r n e) _ known))
+
+  -- types of a world are in range
+  entry_in_range : (e : WorldKey × WorldItem) → is_known_entry r n e ≡ true → passes (λ (t : Listed). in_list r.types.items t.id.0) (type_of_entry e.0 e.1) ≡ true
+  entry_in_range e known = go e.0 e.1 known
+    where
+      go : (k : WorldKey) (i : WorldItem) → is_known_entry r n (k, i) ≡ true → passes (λ (t : Listed). in_list r.types.items t.id.0) (type_of_entry k i) ≡ true
+      go (key.Name s) (item.Type_ id) h = second_true (key_in_range r (key.Name s)) _ (first_true _ _ h)
+      go (key.Name s) (item.Function f) h = refl
+      go (key.Name s) (item.Interface id gates docs external_id) h = refl
+      go (key.Interface m) i h = refl
+
+  types_listed : (w : World) → list_all (is_known_entry r n) w.imports.entries ≡ true → list_all (is_known_listed r (owner.World (record { 0 = n }))) (listed_imports w) ≡ true → list_all (is_listed_type r (owner.World (record { 0 = n }))) (listed_imports w) ≡ true
+  types_listed w known types =
+      all_both (λ (t : Listed). in_list r.types.items t.id.0) (is_known_listed r (owner.World (record { 0 = n }))) (listed_imports w)
+      (given_well (is_known_entry r n) (λ e. type_of_entry e.0 e.1) (λ (t : Listed). in_list r.types.items t.id.0) entry_in_range w.imports.entries known) types
+
+  functions_listed : (w : World) → list_all (is_known_entry r n) w.imports.entries ≡ true → list_all (is_listed_function r (owner.World (record { 0 = n }))) (imported_functions w) ≡ true
+  functions_listed w known = given_well (is_known_entry r n) (λ e. function_of_item e.1) (is_listed_function r (owner.World (record { 0 = n }))) (λ e k. entry_function_known r valid n e.0 e.1 k) w.imports.entries known
 
 -- ---- worlds
 
@@ -152,34 +124,35 @@ world_labels r n w v e =
     let rest = last_three (is_label (text_of w.name)) (is_stability w.stability) (entries_labels w.imports.entries) (entries_labels w.exports.entries) here in
     (first_true _ _ here, rest.0, rest.1, rest.2)
 
-valid_world : (r : Resolve) (here : PackageId) (n : ℕ) (w : World) → IsValid r → list_all (is_declared_alone r) r.types.items ≡ true → world_at r n ≡ Some w → is_id here.0 (package_number w.«package») ≡ true → is_printable_world r here w ≡ true
-valid_world r here n w v types e belongs =
+valid_world : (r : Resolve) (here : PackageId) (n : ℕ) (w : World) → IsValid r → world_at r n ≡ Some w → is_id here.0 (package_number w.«package») ≡ true → is_printable_world r here (record { 0 = n }) w ≡ true
+valid_world r here n w v e belongs =
     let names = world_labels r n w v e in
     let known = world_is_shown r v n w e in
     both_true _ _ (gates_well w.stability names.1)
     (both_true _ _ belongs
-    (both_true _ _ (imports_printable r v types here n w.imports.entries known.imports known.types) (exports_printable r v types here n w.exports.entries known.exports)))
+    (both_true _ _ (both_true _ _ (imports_printable r v here n w.imports.entries known.imports) (exports_printable r v here n w.exports.entries known.exports))
+    (both_true _ _ (types_listed r v here n w known.imports known.types) (functions_listed r v here n w known.imports))))
 
 -- ---- packages
 
 given : {X : Type 0} (test : X → Bool) (o : Option X) (x : X) → o ≡ Some x → passes test o ≡ true → test x ≡ true
 given test o x e h = subst (λ p. passes test p ≡ true) e h
 
-valid_listed : (r : Resolve) (here : PackageId) (x : String Global × WorldId) → IsValid r → list_all (is_declared_alone r) r.types.items ≡ true → in_list r.worlds.items x.1.0 ≡ true → world_belongs r here.0 x ≡ true → is_printable_listed r here x ≡ true
-valid_listed r here x v types range belongs =
+valid_listed : (r : Resolve) (here : PackageId) (x : String Global × WorldId) → IsValid r → in_list r.worlds.items x.1.0 ≡ true → world_belongs r here.0 x ≡ true → is_printable_listed r here x ≡ true
+valid_listed r here x v range belongs =
     let world = found r.worlds.items x.1.0 (ltb-true x.1.0 (length r.worlds.items) range) in
     let w = world.0 in
     let listed = given (λ w. is_id here.0 (package_number w.«package») && text_eq (text_of w.name) (text_of x.0)) (world_at r x.1.0) w world.1 belongs in
     let name : text_of w.name ≡ text_of x.0 = same_text (text_of w.name) (text_of x.0) (sym (second_true (is_id here.0 (package_number w.«package»)) (text_eq (text_of w.name) (text_of x.0)) listed)) in
-    let inside : option_map_or (is_printable_world r here) (world_at r x.1.0) false ≡ true =
-    subst (λ o. option_map_or (is_printable_world r here) o false ≡ true) (sym world.1) (valid_world r here x.1.0 w v types world.1 (first_true _ _ listed)) in
+    let inside : option_map_or (is_printable_world r here x.1) (world_at r x.1.0) false ≡ true =
+    subst (λ o. option_map_or (is_printable_world r here x.1) o false ≡ true) (sym world.1) (valid_world r here x.1.0 w v world.1 (first_true _ _ listed)) in
     both_true _ _ (subst (λ t. is_label t ≡ true) name (world_labels r x.1.0 w v world.1).0) inside
 
-all_listed : (r : Resolve) (here : PackageId) → IsValid r → list_all (is_declared_alone r) r.types.items ≡ true → (xs : List (String Global × WorldId)) → list_all (λ x. in_list r.worlds.items x.1.0) xs ≡ true → list_all (world_belongs r here.0) xs ≡ true → list_all (is_printable_listed r here) xs ≡ true
-all_listed r here v types [] range belongs = refl
-all_listed r here v types (x ∷ xs) range belongs =
-    both_true _ _ (valid_listed r here x v types (first_true _ _ range) (first_true _ _ belongs))
-    (all_listed r here v types xs (second_true (in_list r.worlds.items x.1.0) _ range) (second_true (world_belongs r here.0 x) _ belongs))
+all_listed : (r : Resolve) (here : PackageId) → IsValid r → (xs : List (String Global × WorldId)) → list_all (λ x. in_list r.worlds.items x.1.0) xs ≡ true → list_all (world_belongs r here.0) xs ≡ true → list_all (is_printable_listed r here) xs ≡ true
+all_listed r here v [] range belongs = refl
+all_listed r here v (x ∷ xs) range belongs =
+    both_true _ _ (valid_listed r here x v (first_true _ _ range) (first_true _ _ belongs))
+    (all_listed r here v xs (second_true (in_list r.worlds.items x.1.0) _ range) (second_true (world_belongs r here.0 x) _ belongs))
 
 package_range : (r : Resolve) (n : ℕ) (p : Package) → IsValid r → package_at r n ≡ Some p → list_all (λ x. in_list r.worlds.items x.1.0) p.worlds.entries ≡ true
 unfolding numbers_in_range
@@ -197,8 +170,8 @@ package_worlds r n p v e =
     first_true _ _ (second_true (list_all (interface_belongs r n) p.interfaces.entries) _ kept)
 
 -- the worlds of a package can be printed
-pub valid_worlds : (r : Resolve) (here : PackageId) (p : Package) → IsValid r → list_all (is_declared_alone r) r.types.items ≡ true → package_at r here.0 ≡ Some p → list_all (is_printable_listed r here) p.worlds.entries ≡ true
-valid_worlds r here p v types e = all_listed r here v types p.worlds.entries (package_range r here.0 p v e) (package_worlds r here.0 p v e)
+pub valid_worlds : (r : Resolve) (here : PackageId) (p : Package) → IsValid r → package_at r here.0 ≡ Some p → list_all (is_printable_listed r here) p.worlds.entries ≡ true
+valid_worlds r here p v e = all_listed r here v p.worlds.entries (package_range r here.0 p v e) (package_worlds r here.0 p v e)
 
 -- a package's name is one
 pub valid_name : (r : Resolve) (n : ℕ) (p : Package) → IsValid r → package_at r n ≡ Some p → (is_label (text_of p.name.namespace) ≡ true) × (is_label (text_of p.name.name) ≡ true) × (is_well_optional is_version_text (optional_version_text p.name.version) ≡ true)

@@ -86,12 +86,12 @@ export_item r (key.Interface n) (item.Interface id gates docs external_id) h = r
 export_item r (key.Interface n) (item.Function f) h = absurd cc
 export_item r (key.Interface n) (item.Type_ id) h = absurd cc
 
-interface_import : (i : Item) → is_interface_item i ≡ true → is_export_item i ≡ true
+pub interface_import : (i : Item) → is_interface_item i ≡ true → is_export_item i ≡ true
 interface_import (item.Interface id gates docs external_id) h = refl
 interface_import (item.Function f) h = absurd cc
 interface_import (item.Type_ id) h = absurd cc
 
-function_import : (i : Item) → is_freestanding_item i ≡ true → is_export_item i ≡ true
+pub function_import : (i : Item) → is_freestanding_item i ≡ true → is_export_item i ≡ true
 function_import (item.Interface id gates docs external_id) h = absurd cc
 function_import (item.Function f) h = h
 function_import (item.Type_ id) h = absurd cc
@@ -149,7 +149,7 @@ module _ (r : Resolve) (valid : IsValid r) where
 
   -- ---- types and functions of a world
 
-  entry_function_known : (n : ℕ) (k : WorldKey) (i : Item) → is_known_entry r n (k, i) ≡ true → passes (is_known_function r (owner.World (record { 0 = n }))) (function_of_item i) ≡ true
+  pub entry_function_known : (n : ℕ) (k : WorldKey) (i : Item) → is_known_entry r n (k, i) ≡ true → passes (is_known_function r (owner.World (record { 0 = n }))) (function_of_item i) ≡ true
   entry_function_known n k (item.Interface id gates docs external_id) known = refl
   entry_function_known n k (item.Type_ id) known = refl
   entry_function_known n k (item.Function f) known =

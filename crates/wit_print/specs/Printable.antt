@@ -1,5 +1,5 @@
--- What a package has to be to be printed: its names are labels and its versions versions. Its worlds have no types, so far, and no type is used from another interface.
-use Rattle.std.specs.Prelude.{◌≡◌, ◌++◌, ◌∷◌, [], List, codes, Bool, true, false, ◌&&◌, ◌||◌, is_none, not, Some, String, map, filter, if◌then◌else◌}
+-- What a package has to be to be printed: its names are labels and its versions versions.
+use Rattle.std.specs.Prelude.{◌≡◌, ◌++◌, ◌∷◌, [], List, codes, Bool, true, false, ◌&&◌, ◌||◌, not, Some, String, map, filter, if◌then◌else◌}
 use Rattle.std.specs.List.{list_all, flat_map}
 use Rattle.std.specs.Option.{option_map_or}
 use Rattle.std.specs.declared.alloc.Global.{Global}
@@ -14,34 +14,24 @@ use Rattle.wit_model.specs.declared.model.WorldKey.TheVariants as key
 use Rattle.wit_model.specs.declared.model.WorldItem.{WorldItem}
 use Rattle.wit_model.specs.declared.model.WorldItem.TheVariants as item
 use Rattle.wit_model.specs.declared.model.Function.{Function}
-use Rattle.wit_model.specs.declared.model.TypeDef.{TypeDef}
 use Rattle.wit_model.specs.declared.model.TypeId.{TypeId}
-use Rattle.wit_model.specs.declared.model.TypeOwner.{TypeOwner}
 use Rattle.wit_model.specs.declared.model.TypeOwner.TheVariants as owner
 use Rattle.wit_model.specs.declared.model.«Type».{«Type» as ValueType}
 use Rattle.wit_model.specs.declared.model.«Type».TheVariants as value
 use Rattle.wit_model.specs.Text.{Text, text_of}
 use Rattle.wit_model.specs.Names.{is_label}
 use Rattle.wit_model.specs.Lookup.{type_at, world_at}
-use Rattle.wit_model.specs.Rules.{in_list, is_freestanding, has_items, is_id, item_in_range, key_in_range, package_number, passes}
+use Rattle.wit_model.specs.Rules.{in_list, is_export_item, is_freestanding, has_items, is_id, item_in_range, key_in_range, package_number, passes}
 use Rattle.wit_print.specs.declared.type_kind.TypeKind.TheVariants.{WorldDeclaration}
 use Rattle.wit_print.specs.OutputCall.{OutputCall}
 use Rattle.wit_print.specs.OutputCall.OutputCall.{IndentStart, IndentEnd, Keyword, Newline, Ty}
 use Rattle.wit_print.specs.Keyword.{escaped}
 use Rattle.wit_print.specs.Tree.{MemberTree}
 use Rattle.wit_print.specs.Tree.MemberTree.{TypeMember}
-use Rattle.wit_print.specs.Shown.{extern_prefix, is_interface_item, shown_docs, shown_gates, shown_head, shown_extern, shown_function, shown_import, shown_interface_item, shown_declared, shown_package, shown_prefix, shown_world_item, used_of}
+use Rattle.wit_print.specs.Shown.{extern_prefix, imported_functions, is_freestanding_item, is_interface_item, listed_imports, shown_docs, shown_gates, shown_head, shown_extern, shown_function, shown_import, shown_interface_item, shown_declared, shown_package, shown_prefix, shown_world_item}
+use Rattle.wit_print.specs.UseGroups.{is_listed_function, is_listed_type, type_members}
 use Rattle.wit_print.specs.WellNamed.{is_well_declared, is_well_gates, is_well_item, is_well_member, is_well_prefix, is_well_world_member}
-use Rattle.wit_print.specs.Calls.{space, doc_calls, gates_calls, world_extern_calls, package_item_calls, package_outer_calls, package_start_calls, package_end_calls, package_calls}
-
--- whether an owner is a world
-abbrev pub is_of_world : TypeOwner → Bool
-is_of_world (owner.World id) = true
-is_of_world other = false
-
--- a type that is no world's, and isn't used from another owner
-abbrev pub is_declared_alone : Resolve → TypeDef → Bool
-is_declared_alone r def = not (is_of_world def.owner) && is_none (used_of r def.owner [] def)
+use Rattle.wit_print.specs.Calls.{members_calls, printed_after, space, doc_calls, gates_calls, world_extern_calls, package_item_calls, package_outer_calls, package_start_calls, package_end_calls, package_calls}
 
 -- a type of an owner, in range, whose declaration is well named with the functions among which a resource's stand
 abbrev pub is_printable_type : Resolve → List Function → TypeId → Bool
@@ -53,10 +43,6 @@ is_printable_type r functions id =
 abbrev pub declaration_of : Resolve → List Function → TypeId → List MemberTree
 declaration_of r functions id =
     option_map_or (λ def. TypeMember (shown_prefix def.docs def.stability def.external_id) (shown_declared r functions id def) ∷ []) (type_at r id.0) []
-
--- the declarations of types in an owner's list
-abbrev pub declarations_of : Resolve → List Function → List (String Global × TypeId) → List MemberTree
-declarations_of r functions entries = flat_map (λ entry. declaration_of r functions entry.1) entries
 
 abbrev pub is_primitive : ValueType → Bool
 is_primitive (value.Id id) = false
@@ -81,46 +67,77 @@ abbrev pub line_between : Bool → List OutputCall
 line_between true = Newline ∷ []
 line_between false = []
 
--- the calls for an import, if it is an interface, and if it isn't
+-- the calls for an import, if it is an interface, and if it is a function that belongs to no resource
 abbrev pub interface_entry_calls : Bool → Resolve → PackageId → WorldKey × WorldItem → List OutputCall
 interface_entry_calls emits_docs r here entry = if is_interface_item entry.1 then entry_calls emits_docs r here (codes "import") entry else []
 
 abbrev pub function_entry_calls : Bool → Resolve → PackageId → WorldKey × WorldItem → List OutputCall
-function_entry_calls emits_docs r here entry = if is_interface_item entry.1 then [] else entry_calls emits_docs r here (codes "import") entry
+function_entry_calls emits_docs r here entry = if is_freestanding_item entry.1 then entry_calls emits_docs r here (codes "import") entry else []
 
--- the calls for what such a world has
-abbrev pub world_body_calls : Bool → Resolve → PackageId → World → List OutputCall
-world_body_calls emits_docs r here w =
+-- whether a world imports interfaces, and functions that belong to no resource
+abbrev pub imports_interfaces : List (WorldKey × WorldItem) → Bool
+imports_interfaces entries = has_items (filter (λ entry. is_interface_item entry.1) entries)
+
+abbrev pub imports_functions : List (WorldKey × WorldItem) → Bool
+imports_functions entries = has_items (filter (λ entry. is_freestanding_item entry.1) entries)
+
+-- the types of a world of the package `here`
+abbrev pub world_type_members : Resolve → PackageId → WorldId → World → List MemberTree
+world_type_members r here id w = type_members r here (owner.World id) (imported_functions w) (listed_imports w)
+
+-- whether a world's block has printed something after its types, and after all its imports
+abbrev pub printed_types : Resolve → PackageId → WorldId → World → Bool
+printed_types r here id w = printed_after (imports_interfaces w.imports.entries) (world_type_members r here id w)
+
+abbrev pub printed_imports : Resolve → PackageId → WorldId → World → Bool
+printed_imports r here id w = printed_types r here id w || imports_functions w.imports.entries
+
+-- the calls for what a world imports: interfaces, types and functions
+abbrev pub imports_calls : Bool → Resolve → PackageId → WorldId → World → List OutputCall
+imports_calls emits_docs r here id w =
     flat_map (interface_entry_calls emits_docs r here) w.imports.entries
-    ++ (flat_map (function_entry_calls emits_docs r here) w.imports.entries
-    ++ (line_between (has_items w.imports.entries && has_items w.exports.entries) ++ flat_map (entry_calls emits_docs r here (codes "export")) w.exports.entries))
+    ++ (members_calls emits_docs (imports_interfaces w.imports.entries) (world_type_members r here id w)
+    ++ flat_map (function_entry_calls emits_docs r here) w.imports.entries)
+
+-- the calls for what a world has
+abbrev pub world_body_calls : Bool → Resolve → PackageId → WorldId → World → List OutputCall
+world_body_calls emits_docs r here id w =
+    imports_calls emits_docs r here id w
+    ++ (line_between (printed_imports r here id w && has_items w.exports.entries) ++ flat_map (entry_calls emits_docs r here (codes "export")) w.exports.entries)
 
 -- the calls for a world's documentation, gates and name, and the start of its block
 abbrev pub world_start_calls : Bool → Text → World → List OutputCall
 world_start_calls emits_docs name w =
     doc_calls emits_docs (shown_docs w.docs) ++ gates_calls (shown_gates w.stability) ++ (Keyword (codes "world") ∷ space ∷ Ty (escaped name) WorldDeclaration ∷ IndentStart ∷ [])
 
--- the calls for such a world under a name
-abbrev pub world_calls : Bool → Resolve → PackageId → Text → World → List OutputCall
-world_calls emits_docs r here name w = world_start_calls emits_docs name w ++ (world_body_calls emits_docs r here w ++ (IndentEnd ∷ []))
+-- the calls for a world under a name
+abbrev pub world_calls : Bool → Resolve → PackageId → Text → WorldId → World → List OutputCall
+world_calls emits_docs r here name id w = world_start_calls emits_docs name w ++ (world_body_calls emits_docs r here id w ++ (IndentEnd ∷ []))
+
+-- an import that can be printed, if it is shown as one
+abbrev pub is_printable_import : Resolve → PackageId → WorldKey × WorldItem → Bool
+is_printable_import r here entry = not (is_export_item entry.1) || is_printable_entry r here entry
 
 -- a world of the package `here`
-abbrev pub is_printable_world : Resolve → PackageId → World → Bool
-is_printable_world r here w =
+abbrev pub is_printable_world : Resolve → PackageId → WorldId → World → Bool
+is_printable_world r here id w =
     is_well_gates (shown_gates w.stability)
     && (is_id here.0 (package_number w.«package»)
-    && (list_all (is_printable_entry r here) w.imports.entries && list_all (is_printable_entry r here) w.exports.entries))
+    && ((list_all (is_printable_import r here) w.imports.entries && list_all (is_printable_entry r here) w.exports.entries)
+    && (list_all (is_listed_type r (owner.World id)) (listed_imports w) && list_all (is_listed_function r (owner.World id)) (imported_functions w))))
 
 -- what is known of such a world
-pub record IsPrintableWorld (r : Resolve) (here : PackageId) (w : World) : Type 0 where
+pub record IsPrintableWorld (r : Resolve) (here : PackageId) (id : WorldId) (w : World) : Type 0 where
   pub gates : is_well_gates (shown_gates w.stability) ≡ true
   pub package_ : w.«package» ≡ Some here
-  pub imports : list_all (is_printable_entry r here) w.imports.entries ≡ true
+  pub imports : list_all (is_printable_import r here) w.imports.entries ≡ true
   pub exports : list_all (is_printable_entry r here) w.exports.entries ≡ true
+  pub types : list_all (is_listed_type r (owner.World id)) (listed_imports w) ≡ true
+  pub functions : list_all (is_listed_function r (owner.World id)) (imported_functions w) ≡ true
 
 -- a world of the package `here`, under its name there
 abbrev pub is_printable_listed : Resolve → PackageId → String Global × WorldId → Bool
-is_printable_listed r here entry = is_label (text_of entry.0) && option_map_or (is_printable_world r here) (world_at r entry.1.0) false
+is_printable_listed r here entry = is_label (text_of entry.0) && option_map_or (is_printable_world r here entry.1) (world_at r entry.1.0) false
 
 -- the calls for a world of a package, under its name
 abbrev pub listed_calls : Bool → Resolve → String Global × WorldId → List OutputCall

@@ -2,14 +2,12 @@
 
 ghost use Rattle.std.specs.Prelude.{◌≡◌, ◌++◌, ◌∷◌, [], true, Some, IsTrue, OnOk, OnErr, IsOkUnless};
 ghost use Rattle.std.specs.Option.{option_map_or};
-ghost use Rattle.std.specs.List.{list_all};
 ghost use Rattle.wit_model.specs.declared.error.Error.TheVariants.{Memory};
 ghost use Rattle.wit_model.specs.Lookup.{interface_at};
 ghost use Rattle.wit_model.specs.Names.{is_label};
 ghost use Rattle.wit_model.specs.Rules.{in_list};
 ghost use Rattle.wit_model.specs.Valid.{IsValid};
 ghost use Rattle.wit_print.specs.OutputCall.{OutputCall, Moves, Begins, is_one_line, has_no_space_first};
-ghost use Rattle.wit_print.specs.Printable.{is_declared_alone};
 ghost use Rattle.wit_print.specs.Calls.{world_extern_calls};
 ghost use Rattle.wit_print.specs.ItemCalls.{front_calls, inline_start_calls, labelled_tree};
 ghost use Rattle.wit_print.specs.Shown.{extern_docs, shown_docs, shown_interface, shown_path, shown_prefix};
@@ -187,7 +185,6 @@ fn print_inline<'a, O: Output>(
     requires front { IsTrue (has_no_space_first word.now) }
     requires prefix { is_well_prefix (shown_prefix docs.now stability.now external_id.now) ≡ true }
     requires valid { IsValid resolve.now }
-    requires declared { list_all (is_declared_alone resolve.now) resolve.now.types.items ≡ true }
     requires at { interface_at resolve.now id.0 ≡ Some interface.now }
     requires label { is_label label.now ≡ true }
     ensures ok { OnOk result (Moves O.keeps (O.view output.old) (world_extern_calls emits_docs (shown_prefix docs.now stability.now external_id.now) word.now (NamedInterface label.now (shown_interface resolve.now id interface.now))) (O.view output.new)) }
@@ -226,7 +223,6 @@ pub(crate) fn print_labelled<'a, O: Output>(
     requires front { IsTrue (has_no_space_first word.now) }
     requires prefix { is_well_prefix (shown_prefix docs.now stability.now external_id.now) ≡ true }
     requires valid { IsValid resolve.now }
-    requires declared { list_all (is_declared_alone resolve.now) resolve.now.types.items ≡ true }
     requires in_range { in_list resolve.now.interfaces.items id.0 ≡ true }
     requires well { is_well_extern (labelled_tree resolve.now here label.now id) ≡ true }
     ensures ok { OnOk result (Moves O.keeps (O.view output.old) (world_extern_calls emits_docs (shown_prefix docs.now stability.now external_id.now) word.now (labelled_tree resolve.now here label.now id)) (O.view output.new)) }

@@ -7,7 +7,7 @@ ghost use Rattle.wit_model.specs.Rules.{in_list};
 ghost use Rattle.wit_model.specs.Valid.{IsValid};
 ghost use Rattle.wit_print.specs.OutputCall.{OutputCall, Moves, Begins};
 ghost use Rattle.wit_print.specs.Calls.{file_calls, nested_calls};
-ghost use Rattle.wit_print.specs.Printable.{is_declared_alone, next_package_calls};
+ghost use Rattle.wit_print.specs.Printable.{next_package_calls};
 ghost use Rattle.wit_print.specs.Shown.{shown_file, shown_package};
 
 use crate::output::Output;
@@ -44,7 +44,6 @@ fn print_next_package<'a, O: Output>(
     id: PackageId,
 ) -> Result<(), Error>
     requires valid { IsValid resolve.now }
-    requires declared { list_all (is_declared_alone resolve.now) resolve.now.types.items ≡ true }
     requires in_range { id.0 < length resolve.now.packages.items }
     ensures ok { OnOk result (Moves O.keeps (O.view output.old) (next_package_calls emits_docs resolve.now id) (O.view output.new)) }
     ensures err { OnErr result (Begins O.keeps (O.view output.old) (next_package_calls emits_docs resolve.now id) (O.view output.new)) }
@@ -63,7 +62,6 @@ fn print_more_packages<'a, O: Output>(
     ids: &[PackageId],
 ) -> Result<(), Error>
     requires valid { IsValid resolve.now }
-    requires declared { list_all (is_declared_alone resolve.now) resolve.now.types.items ≡ true }
     requires in_range { list_all (λ id. in_list resolve.now.packages.items id.0) ids.now ≡ true }
     ensures ok { OnOk result (Moves O.keeps (O.view output.old) (flat_map (next_package_calls emits_docs resolve.now) ids.now) (O.view output.new)) }
     ensures err { OnErr result (Begins O.keeps (O.view output.old) (flat_map (next_package_calls emits_docs resolve.now) ids.now) (O.view output.new)) }
@@ -84,7 +82,6 @@ fn print_nested_packages<'a, O: Output>(
     ids: &[PackageId],
 ) -> Result<(), Error>
     requires valid { IsValid resolve.now }
-    requires declared { list_all (is_declared_alone resolve.now) resolve.now.types.items ≡ true }
     requires in_range { list_all (λ id. in_list resolve.now.packages.items id.0) ids.now ≡ true }
     ensures ok { OnOk result (Moves O.keeps (O.view output.old) (nested_calls emits_docs (map (shown_package resolve.now) ids.now)) (O.view output.new)) }
     ensures err { OnErr result (Begins O.keeps (O.view output.old) (nested_calls emits_docs (map (shown_package resolve.now) ids.now)) (O.view output.new)) }
@@ -107,7 +104,6 @@ pub(crate) fn print_file<'a, O: Output>(
     nested: &[PackageId],
 ) -> Result<(), Error>
     requires valid { IsValid resolve.now }
-    requires declared { list_all (is_declared_alone resolve.now) resolve.now.types.items ≡ true }
     requires in_range { id.0 < length resolve.now.packages.items }
     requires nested { list_all (λ other. in_list resolve.now.packages.items other.0) nested.now ≡ true }
     ensures ok { OnOk result (Moves O.keeps (O.view output.old) (file_calls emits_docs (shown_file resolve.now id nested.now)) (O.view output.new)) }

@@ -1,14 +1,14 @@
 //! The imports and exports of a world, printed.
 
-ghost use Rattle.std.specs.Prelude.{◌≡◌, ◌&&◌, true, false, [], codes, IsTrue, OnOk, OnErr, IsOkUnless};
+ghost use Rattle.std.specs.Prelude.{◌≡◌, ◌&&◌, true, codes, IsTrue, IfOk, OnOk, OnErr, IsOkUnless};
 ghost use Rattle.std.specs.List.{flat_map, list_all};
 ghost use Rattle.wit_model.specs.declared.error.Error.TheVariants.{Memory};
 ghost use Rattle.wit_model.specs.Rules.{has_items as has_items_lem};
 ghost use Rattle.wit_model.specs.Valid.{IsValid};
 ghost use Rattle.wit_print.specs.OutputCall.{Moves, Begins, is_one_line, has_no_space_first};
 ghost use Rattle.wit_print.specs.Calls.{world_extern_calls};
-ghost use Rattle.wit_print.specs.Printable.{is_declared_alone, entry_calls, function_entry_calls, interface_entry_calls, is_printable_entry, line_between, world_body_calls};
-ghost use Rattle.wit_print.specs.Shown.{function_prefix, is_interface_item, shown_signature};
+ghost use Rattle.wit_print.specs.Printable.{entry_calls, function_entry_calls, imports_calls, imports_functions, imports_interfaces, interface_entry_calls, is_printable_entry, is_printable_import, IsPrintableWorld, line_between, printed_imports, world_body_calls};
+ghost use Rattle.wit_print.specs.Shown.{function_prefix, is_freestanding_item, is_interface_item, shown_signature};
 ghost use Rattle.wit_print.specs.Tree.ExternTree.{NamedFunction};
 ghost use Rattle.wit_print.specs.WellNamed.{is_well_extern, is_well_prefix};
 ghost use Rattle.wit_model.specs.Text.{text_of};
@@ -16,9 +16,11 @@ ghost use Rattle.wit_model.specs.Text.{text_of};
 use crate::draft::Draft;
 use crate::extern_item::{docs_of, print_keyed, print_labelled};
 use crate::output::Output;
+use crate::types::print_world_types;
+use crate::use_group::either;
 use crate::world::draft_world_function;
 use std::alloc::Global;
-use wit_model::{Error, Function, Map, PackageId, Resolve, World, WorldItem, WorldKey};
+use wit_model::{Error, Function, Map, PackageId, Resolve, World, WorldId, WorldItem, WorldKey};
 
 #[tactic(auto, using(crate::proofs::Moves::moving))]
 fn print_world_function<'a, O: Output>(
@@ -57,7 +59,6 @@ fn print_item<'a, O: Output>(
     requires one_line { IsTrue (is_one_line word.now) }
     requires front { IsTrue (has_no_space_first word.now) }
     requires valid { IsValid resolve.now }
-    requires declared { list_all (is_declared_alone resolve.now) resolve.now.types.items ≡ true }
     requires printable { is_printable_entry resolve.now here (key.now, item.now) ≡ true }
     ensures ok { OnOk result (Moves O.keeps (O.view output.old) (entry_calls emits_docs resolve.now here word.now (key.now, item.now)) (O.view output.new)) }
     ensures err { OnErr result (Begins O.keeps (O.view output.old) (entry_calls emits_docs resolve.now here word.now (key.now, item.now)) (O.view output.new)) }
@@ -116,6 +117,17 @@ fn is_interface(item: &WorldItem) -> bool
     }
 }
 
+/// Whether an item is a function that belongs to no resource.
+fn is_freestanding(item: &WorldItem) -> bool
+    ensures { result ≡ is_freestanding_item item.now }
+{
+    match item {
+        WorldItem::Function(function) => function.kind.resource().is_none(),
+        WorldItem::Interface { .. } => false,
+        WorldItem::Type_ { .. } => false,
+    }
+}
+
 /// An import, if it is an interface.
 fn print_imported_interface<'a, O: Output>(
     output: &mut O,
@@ -127,8 +139,7 @@ fn print_imported_interface<'a, O: Output>(
     item: &'a WorldItem,
 ) -> Result<(), Error>
     requires valid { IsValid resolve.now }
-    requires declared { list_all (is_declared_alone resolve.now) resolve.now.types.items ≡ true }
-    requires printable { is_printable_entry resolve.now here (key.now, item.now) ≡ true }
+    requires printable { is_printable_import resolve.now here (key.now, item.now) ≡ true }
     ensures ok { OnOk result (Moves O.keeps (O.view output.old) (interface_entry_calls emits_docs resolve.now here (key.now, item.now)) (O.view output.new)) }
     ensures err { OnErr result (Begins O.keeps (O.view output.old) (interface_entry_calls emits_docs resolve.now here (key.now, item.now)) (O.view output.new)) }
     ensures memory { IsOkUnless result Memory }
@@ -141,7 +152,7 @@ fn print_imported_interface<'a, O: Output>(
     )
 }
 
-/// An import, if it is no interface.
+/// An import, if it is a function that belongs to no resource.
 fn print_imported_function<'a, O: Output>(
     output: &mut O,
     alloc: Global,
@@ -152,13 +163,12 @@ fn print_imported_function<'a, O: Output>(
     item: &'a WorldItem,
 ) -> Result<(), Error>
     requires valid { IsValid resolve.now }
-    requires declared { list_all (is_declared_alone resolve.now) resolve.now.types.items ≡ true }
-    requires printable { is_printable_entry resolve.now here (key.now, item.now) ≡ true }
+    requires printable { is_printable_import resolve.now here (key.now, item.now) ≡ true }
     ensures ok { OnOk result (Moves O.keeps (O.view output.old) (function_entry_calls emits_docs resolve.now here (key.now, item.now)) (O.view output.new)) }
     ensures err { OnErr result (Begins O.keeps (O.view output.old) (function_entry_calls emits_docs resolve.now here (key.now, item.now)) (O.view output.new)) }
     ensures memory { IsOkUnless result Memory }
 {
-    if is_interface(item) {
+    if !is_freestanding(item) {
         return Ok(());
     }
     print_item(
@@ -176,8 +186,7 @@ fn print_imported_interfaces<'a, O: Output>(
     items: &'a Map<WorldKey, WorldItem>,
 ) -> Result<(), Error>
     requires valid { IsValid resolve.now }
-    requires declared { list_all (is_declared_alone resolve.now) resolve.now.types.items ≡ true }
-    requires printable { list_all (is_printable_entry resolve.now here) items.now.entries ≡ true }
+    requires printable { list_all (is_printable_import resolve.now here) items.now.entries ≡ true }
     ensures ok { OnOk result (Moves O.keeps (O.view output.old) (flat_map (interface_entry_calls emits_docs resolve.now here) items.now.entries) (O.view output.new)) }
     ensures err { OnErr result (Begins O.keeps (O.view output.old) (flat_map (interface_entry_calls emits_docs resolve.now here) items.now.entries) (O.view output.new)) }
     ensures memory { IsOkUnless result Memory }
@@ -188,7 +197,7 @@ fn print_imported_interfaces<'a, O: Output>(
     Ok(())
 }
 
-/// The other imports. One is printed at a time.
+/// The imported functions that belong to no resource. One is printed at a time.
 fn print_imported_functions<'a, O: Output>(
     output: &mut O,
     alloc: Global,
@@ -198,8 +207,7 @@ fn print_imported_functions<'a, O: Output>(
     items: &'a Map<WorldKey, WorldItem>,
 ) -> Result<(), Error>
     requires valid { IsValid resolve.now }
-    requires declared { list_all (is_declared_alone resolve.now) resolve.now.types.items ≡ true }
-    requires printable { list_all (is_printable_entry resolve.now here) items.now.entries ≡ true }
+    requires printable { list_all (is_printable_import resolve.now here) items.now.entries ≡ true }
     ensures ok { OnOk result (Moves O.keeps (O.view output.old) (flat_map (function_entry_calls emits_docs resolve.now here) items.now.entries) (O.view output.new)) }
     ensures err { OnErr result (Begins O.keeps (O.view output.old) (flat_map (function_entry_calls emits_docs resolve.now here) items.now.entries) (O.view output.new)) }
     ensures memory { IsOkUnless result Memory }
@@ -220,7 +228,6 @@ fn print_exports<'a, O: Output>(
     items: &'a Map<WorldKey, WorldItem>,
 ) -> Result<(), Error>
     requires valid { IsValid resolve.now }
-    requires declared { list_all (is_declared_alone resolve.now) resolve.now.types.items ≡ true }
     requires printable { list_all (is_printable_entry resolve.now here) items.now.entries ≡ true }
     ensures ok { OnOk result (Moves O.keeps (O.view output.old) (flat_map (entry_calls emits_docs resolve.now here (codes "export")) items.now.entries) (O.view output.new)) }
     ensures err { OnErr result (Begins O.keeps (O.view output.old) (flat_map (entry_calls emits_docs resolve.now here (codes "export")) items.now.entries) (O.view output.new)) }
@@ -234,26 +241,79 @@ fn print_exports<'a, O: Output>(
     Ok(())
 }
 
+/// Whether any of these is an interface.
+fn has_interfaces(items: &Map<WorldKey, WorldItem>) -> bool
+    ensures { result ≡ imports_interfaces items.now.entries }
+{
+    for (key, item) in items {
+        let _key = key;
+        if is_interface(item) {
+            return true;
+        }
+    }
+    false
+}
+
+/// Whether any of these is a function that belongs to no resource.
+fn has_functions(items: &Map<WorldKey, WorldItem>) -> bool
+    ensures { result ≡ imports_functions items.now.entries }
+{
+    for (key, item) in items {
+        let _key = key;
+        if is_freestanding(item) {
+            return true;
+        }
+    }
+    false
+}
+
+/// What a world of the package `here` imports: interfaces, types and functions. Answers whether its block has printed something then.
+fn print_imports<'a, O: Output>(
+    output: &mut O,
+    alloc: Global,
+    emits_docs: bool,
+    resolve: &'a Resolve,
+    here: PackageId,
+    id: WorldId,
+    world: &'a World,
+) -> Result<bool, Error>
+    requires valid { IsValid resolve.now }
+    requires world { IsPrintableWorld resolve.now here id world.now }
+    ensures ok { OnOk result (Moves O.keeps (O.view output.old) (imports_calls emits_docs resolve.now here id world.now) (O.view output.new)) }
+    ensures err { OnErr result (Begins O.keeps (O.view output.old) (imports_calls emits_docs resolve.now here id world.now) (O.view output.new)) }
+    ensures printed { IfOk result (λ b. b ≡ printed_imports resolve.now here id world.now) }
+    ensures memory { IsOkUnless result Memory }
+{
+    print_imported_interfaces(output, alloc, emits_docs, resolve, here, &world.imports)?;
+    let is_begun = has_interfaces(&world.imports);
+    let has_types = print_world_types(
+        output, alloc, emits_docs, is_begun, resolve, here, id, world,
+    )?;
+    print_imported_functions(output, alloc, emits_docs, resolve, here, &world.imports)?;
+    let has_called = has_functions(&world.imports);
+    Ok(either(has_types, has_called))
+}
+
 fn has_items(items: &Map<WorldKey, WorldItem>) -> bool
     ensures { result ≡ has_items_lem items.now.entries }
 {
     !items.is_empty()
 }
 
-fn has_both(world: &World) -> bool
-    ensures { result ≡ (has_items_lem world.now.imports.entries && has_items_lem world.now.exports.entries) }
+fn both(a: bool, b: bool) -> bool
+    ensures { result ≡ (a && b) }
 {
-    has_items(&world.imports) && has_items(&world.exports)
+    a && b
 }
 
 /// An empty line before the first export, where something is imported.
 #[tactic(auto, using(crate::proofs::Moves::moving))]
-fn print_line_between<O: Output>(output: &mut O, world: &World) -> Result<(), Error>
-    ensures ok { OnOk result (Moves O.keeps (O.view output.old) (line_between (has_items_lem world.now.imports.entries && has_items_lem world.now.exports.entries)) (O.view output.new)) }
-    ensures err { OnErr result (Begins O.keeps (O.view output.old) (line_between (has_items_lem world.now.imports.entries && has_items_lem world.now.exports.entries)) (O.view output.new)) }
+fn print_line_between<O: Output>(output: &mut O, is_between: bool) -> Result<(), Error>
+    ensures ok { OnOk result (Moves O.keeps (O.view output.old) (line_between is_between) (O.view output.new)) }
+    ensures err { OnErr result (Begins O.keeps (O.view output.old) (line_between is_between) (O.view output.new)) }
     ensures memory { IsOkUnless result Memory }
 {
-    if has_both(world) {
+    if is_between {
         output.newline()?;
     }
     Ok(())
@@ -266,18 +326,17 @@ pub(crate) fn print_world_body<'a, O: Output>(
     emits_docs: bool,
     resolve: &'a Resolve,
     here: PackageId,
+    id: WorldId,
     world: &'a World,
 ) -> Result<(), Error>
     requires valid { IsValid resolve.now }
-    requires declared { list_all (is_declared_alone resolve.now) resolve.now.types.items ≡ true }
-    requires imports { list_all (is_printable_entry resolve.now here) world.now.imports.entries ≡ true }
-    requires exports { list_all (is_printable_entry resolve.now here) world.now.exports.entries ≡ true }
-    ensures ok { OnOk result (Moves O.keeps (O.view output.old) (world_body_calls emits_docs resolve.now here world.now) (O.view output.new)) }
-    ensures err { OnErr result (Begins O.keeps (O.view output.old) (world_body_calls emits_docs resolve.now here world.now) (O.view output.new)) }
+    requires world { IsPrintableWorld resolve.now here id world.now }
+    ensures ok { OnOk result (Moves O.keeps (O.view output.old) (world_body_calls emits_docs resolve.now here id world.now) (O.view output.new)) }
+    ensures err { OnErr result (Begins O.keeps (O.view output.old) (world_body_calls emits_docs resolve.now here id world.now) (O.view output.new)) }
     ensures memory { IsOkUnless result Memory }
 {
-    print_imported_interfaces(output, alloc, emits_docs, resolve, here, &world.imports)?;
-    print_imported_functions(output, alloc, emits_docs, resolve, here, &world.imports)?;
-    print_line_between(output, world)?;
+    let has_imports = print_imports(output, alloc, emits_docs, resolve, here, id, world)?;
+    let is_between = both(has_imports, has_items(&world.exports));
+    print_line_between(output, is_between)?;
     print_exports(output, alloc, emits_docs, resolve, here, &world.exports)
 }

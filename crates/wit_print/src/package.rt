@@ -8,7 +8,7 @@ ghost use Rattle.wit_model.specs.Names.{is_label, is_version_text};
 ghost use Rattle.wit_model.specs.Lookup.{interface_at, optional_version_text};
 ghost use Rattle.wit_model.specs.Valid.{IsValid};
 ghost use Rattle.wit_print.specs.OutputCall.{OutputCall, Moves, Begins};
-ghost use Rattle.wit_print.specs.Printable.{is_declared_alone, IsPrintableWorld, is_printable_interface, is_printable_listed, listed_calls, listed_interface_calls, listed_package_calls, world_start_calls, world_calls};
+ghost use Rattle.wit_print.specs.Printable.{IsPrintableWorld, is_printable_interface, is_printable_listed, listed_calls, listed_interface_calls, listed_package_calls, world_start_calls, world_calls};
 ghost use Rattle.wit_print.specs.Shown.{shown_docs, shown_gates, shown_head, shown_interface, shown_package};
 ghost use Rattle.wit_print.specs.Calls.{line_after_calls, package_calls, package_item_calls, package_outer_calls, package_start_calls, package_end_calls};
 ghost use Rattle.wit_print.specs.Heads.{head_calls};
@@ -74,18 +74,18 @@ fn print_world<'a, O: Output>(
     resolve: &'a Resolve,
     here: PackageId,
     name: &'a str,
+    id: WorldId,
     world: &'a World,
 ) -> Result<(), Error>
     requires valid { IsValid resolve.now }
-    requires declared { list_all (is_declared_alone resolve.now) resolve.now.types.items ≡ true }
     requires name { is_label name.now ≡ true }
-    requires world { IsPrintableWorld resolve.now here world.now }
-    ensures ok { OnOk result (Moves O.keeps (O.view output.old) (world_calls emits_docs resolve.now here name.now world.now) (O.view output.new)) }
-    ensures err { OnErr result (Begins O.keeps (O.view output.old) (world_calls emits_docs resolve.now here name.now world.now) (O.view output.new)) }
+    requires world { IsPrintableWorld resolve.now here id world.now }
+    ensures ok { OnOk result (Moves O.keeps (O.view output.old) (world_calls emits_docs resolve.now here name.now id world.now) (O.view output.new)) }
+    ensures err { OnErr result (Begins O.keeps (O.view output.old) (world_calls emits_docs resolve.now here name.now id world.now) (O.view output.new)) }
     ensures memory { IsOkUnless result Memory }
 {
     print_world_start(output, alloc, emits_docs, name, world)?;
-    print_world_body(output, alloc, emits_docs, resolve, here, world)?;
+    print_world_body(output, alloc, emits_docs, resolve, here, id, world)?;
     print_block_end(output)
 }
 
@@ -100,14 +100,13 @@ fn print_listed<'a, O: Output>(
     id: &'a WorldId,
 ) -> Result<(), Error>
     requires valid { IsValid resolve.now }
-    requires declared { list_all (is_declared_alone resolve.now) resolve.now.types.items ≡ true }
     requires printable { is_printable_listed resolve.now here (name.now, id.now) ≡ true }
     ensures ok { OnOk result (Moves O.keeps (O.view output.old) (listed_calls emits_docs resolve.now (name.now, id.now)) (O.view output.new)) }
     ensures err { OnErr result (Begins O.keeps (O.view output.old) (listed_calls emits_docs resolve.now (name.now, id.now)) (O.view output.new)) }
     ensures memory { IsOkUnless result Memory }
 {
     let world = &resolve.worlds[id.0 as usize];
-    print_world(output, alloc, emits_docs, resolve, here, name, world)
+    print_world(output, alloc, emits_docs, resolve, here, name, *id, world)
 }
 
 /// The worlds of the package `here`.
@@ -120,7 +119,6 @@ fn print_worlds<'a, O: Output>(
     worlds: &'a Map<String, WorldId>,
 ) -> Result<(), Error>
     requires valid { IsValid resolve.now }
-    requires declared { list_all (is_declared_alone resolve.now) resolve.now.types.items ≡ true }
     requires printable { list_all (is_printable_listed resolve.now here) worlds.now.entries ≡ true }
     ensures ok { OnOk result (Moves O.keeps (O.view output.old) (flat_map (listed_calls emits_docs resolve.now) worlds.now.entries) (O.view output.new)) }
     ensures err { OnErr result (Begins O.keeps (O.view output.old) (flat_map (listed_calls emits_docs resolve.now) worlds.now.entries) (O.view output.new)) }
@@ -202,7 +200,6 @@ fn print_interface<'a, O: Output>(
     interface: &'a Interface,
 ) -> Result<(), Error>
     requires valid { IsValid resolve.now }
-    requires declared { list_all (is_declared_alone resolve.now) resolve.now.types.items ≡ true }
     requires at { interface_at resolve.now id.0 ≡ Some interface.now }
     requires gates { is_well_gates (shown_gates interface.now.stability) ≡ true }
     requires name { is_label name.now ≡ true }
@@ -226,7 +223,6 @@ fn print_listed_interface<'a, O: Output>(
     id: &'a InterfaceId,
 ) -> Result<(), Error>
     requires valid { IsValid resolve.now }
-    requires declared { list_all (is_declared_alone resolve.now) resolve.now.types.items ≡ true }
     requires printable { is_printable_interface resolve.now (name.now, id.now) ≡ true }
     ensures ok { OnOk result (Moves O.keeps (O.view output.old) (listed_interface_calls emits_docs is_main resolve.now (name.now, id.now)) (O.view output.new)) }
     ensures err { OnErr result (Begins O.keeps (O.view output.old) (listed_interface_calls emits_docs is_main resolve.now (name.now, id.now)) (O.view output.new)) }
@@ -248,7 +244,6 @@ fn print_interfaces<'a, O: Output>(
     interfaces: &'a Map<String, InterfaceId>,
 ) -> Result<(), Error>
     requires valid { IsValid resolve.now }
-    requires declared { list_all (is_declared_alone resolve.now) resolve.now.types.items ≡ true }
     requires printable { list_all (is_printable_interface resolve.now) interfaces.now.entries ≡ true }
     ensures ok { OnOk result (Moves O.keeps (O.view output.old) (flat_map (listed_interface_calls emits_docs is_main resolve.now) interfaces.now.entries) (O.view output.new)) }
     ensures err { OnErr result (Begins O.keeps (O.view output.old) (flat_map (listed_interface_calls emits_docs is_main resolve.now) interfaces.now.entries) (O.view output.new)) }
@@ -337,7 +332,6 @@ fn print_listed_package<'a, O: Output>(
     requires name { is_label (text_of «package».now.name.name) ≡ true }
     requires version { is_well_optional is_version_text (optional_version_text «package».now.name.version) ≡ true }
     requires valid { IsValid resolve.now }
-    requires declared { list_all (is_declared_alone resolve.now) resolve.now.types.items ≡ true }
     requires interfaces { list_all (is_printable_interface resolve.now) «package».now.interfaces.entries ≡ true }
     requires worlds { list_all (is_printable_listed resolve.now here) «package».now.worlds.entries ≡ true }
     ensures ok { OnOk result (Moves O.keeps (O.view output.old) (listed_package_calls emits_docs is_main resolve.now «package».now) (O.view output.new)) }
@@ -367,7 +361,6 @@ pub(crate) fn print_whole_package<'a, O: Output>(
     is_main: bool,
 ) -> Result<(), Error>
     requires valid { IsValid resolve.now }
-    requires declared { list_all (is_declared_alone resolve.now) resolve.now.types.items ≡ true }
     requires in_range { here.0 < length resolve.now.packages.items }
     ensures ok { OnOk result (Moves O.keeps (O.view output.old) (package_calls emits_docs is_main (shown_package resolve.now here)) (O.view output.new)) }
     ensures err { OnErr result (Begins O.keeps (O.view output.old) (package_calls emits_docs is_main (shown_package resolve.now here)) (O.view output.new)) }

@@ -13,7 +13,6 @@ ghost use Rattle.wit_print.specs.AsRead.{file_as_read};
 ghost use Rattle.wit_print.specs.Reading.{IsOnlyReading};
 ghost use Rattle.wit_print.specs.Render.{render};
 ghost use Rattle.wit_print.specs.Shown.{shown_file, shown_head, shown_package, shown_type};
-ghost use Rattle.wit_print.specs.Printable.{is_declared_alone};
 ghost use Rattle.wit_print.specs.Calls.{file_calls, package_calls, package_outer_calls, type_calls};
 ghost use Rattle.wit_print.specs.Heads.{interface_body_calls, interface_head_calls};
 
@@ -60,13 +59,13 @@ impl<O: Output> WitPrinter<O> {
         self
     }
 
-    /// Prints a package as a file, with others nested in it. Types of worlds aren't printed yet, nor are uses.
+    /// Prints a package as a file, with others nested in it.
     ///
     /// What the calls of the file render to, which is what a fresh `OutputToString` holds after a completed print, has one
     /// reading in the grammar of WIT text: what is shown of the package.
     ///
-    /// What the printer keeps meanwhile is bounded by the largest item. After a refusal the output has a beginning of
-    /// the calls.
+    /// What the printer keeps meanwhile is bounded by the largest item, and by lists of one owner's types and functions. After a
+    /// refusal the output has a beginning of the calls.
     pub fn print(
         &mut self,
         alloc: Global,
@@ -75,7 +74,6 @@ impl<O: Output> WitPrinter<O> {
         nested: &[PackageId],
     ) -> Result<(), Error>
         requires valid { IsValid resolve.now }
-        requires declared { list_all (is_declared_alone resolve.now) resolve.now.types.items ≡ true }
         requires in_range { id.0 < length resolve.now.packages.items }
         requires nested { list_all (λ other. in_list resolve.now.packages.items other.0) nested.now ≡ true }
         ensures ok { OnOk result (Moves O.keeps (O.view self.old.output) (file_calls (emits_docs self.old) (shown_file resolve.now id nested.now)) (O.view self.new.output)) }
@@ -89,8 +87,8 @@ impl<O: Output> WitPrinter<O> {
 
     /// Prints a package: the main one of a file, or one that is nested in it.
     ///
-    /// What the printer keeps meanwhile is bounded by the largest item. After a refusal the output has a beginning of
-    /// the calls.
+    /// What the printer keeps meanwhile is bounded by the largest item, and by lists of one owner's types and functions. After a
+    /// refusal the output has a beginning of the calls.
     pub fn print_package(
         &mut self,
         alloc: Global,
@@ -99,7 +97,6 @@ impl<O: Output> WitPrinter<O> {
         is_main: bool,
     ) -> Result<(), Error>
         requires valid { IsValid resolve.now }
-        requires declared { list_all (is_declared_alone resolve.now) resolve.now.types.items ≡ true }
         requires in_range { id.0 < length resolve.now.packages.items }
         ensures ok { OnOk result (Moves O.keeps (O.view self.old.output) (package_calls (emits_docs self.old) is_main (shown_package resolve.now id)) (O.view self.new.output)) }
         ensures err { OnErr result (Begins O.keeps (O.view self.old.output) (package_calls (emits_docs self.old) is_main (shown_package resolve.now id)) (O.view self.new.output)) }

@@ -1,7 +1,7 @@
 //! The types of an owner, printed: uses in groups, and then declared types.
 
-ghost use Rattle.std.specs.Prelude.{◌≡◌, true, false, map, Some, IfOk, IsOkUnless, OnErr, OnOk};
-ghost use Rattle.std.specs.List.{list_all};
+ghost use Rattle.std.specs.Prelude.{◌≡◌, true, false, map, option_map, Some, IfOk, IsOkUnless, OnErr, OnOk};
+ghost use Rattle.std.specs.List.{filter_map, list_all};
 ghost use Rattle.wit_model.specs.declared.error.Error.TheVariants.{Memory};
 ghost use Rattle.wit_model.specs.Lookup.{interface_at};
 ghost use Rattle.wit_model.specs.Parts.{same_owner};
@@ -9,7 +9,7 @@ ghost use Rattle.wit_model.specs.Text.{text_of};
 ghost use Rattle.wit_model.specs.Valid.{IsValid};
 ghost use Rattle.wit_print.specs.OutputCall.{Moves, Begins};
 ghost use Rattle.wit_print.specs.Calls.{members_calls, printed_after};
-ghost use Rattle.wit_print.specs.Shown.{listed_functions as listed_functions_lem, listed_types as listed_types_lem};
+ghost use Rattle.wit_print.specs.Shown.{function_of_item as function_of_item_lem, imported_functions as imported_functions_lem, listed_imports, type_of_entry as type_of_entry_lem, listed_functions as listed_functions_lem, listed_types as listed_types_lem};
 ghost use Rattle.wit_print.specs.UseGroups.{is_listed_function, is_listed_type, listed_of, type_members};
 
 use crate::declaration::print_declarations;
@@ -17,7 +17,8 @@ use crate::output::Output;
 use crate::use_group::print_uses;
 use std::alloc::{AllocError, Global};
 use wit_model::{
-    Error, Function, Interface, InterfaceId, Map, PackageId, Resolve, TypeId, TypeOwner,
+    Error, Function, Interface, InterfaceId, Map, PackageId, Resolve, TypeId, TypeOwner, World,
+    WorldId, WorldItem, WorldKey,
 };
 
 /// The types of an owner in the package `here`, under their names, with the functions among which a resource's stand. Answers
@@ -115,6 +116,100 @@ pub(crate) fn print_interface_types<'a, O: Output>(
         resolve,
         here,
         TypeOwner::Interface(id),
+        &types,
+        &functions,
+    )
+}
+
+// ---- worlds
+
+/// The type that an import of a world is, under its name, if it is one.
+fn type_of_entry<'a>(key: &'a WorldKey, item: &WorldItem) -> Option<(&'a str, TypeId)>
+    ensures { option_map (λ t. record { name = t.0.now; id = t.1 }) result ≡ type_of_entry_lem key.now item.now }
+{
+    let name = match key {
+        WorldKey::Name(name) => name.as_str(),
+        WorldKey::Interface(_) => return None,
+    };
+    match item {
+        WorldItem::Type_ { id } => Some((name, *id)),
+        WorldItem::Interface { .. } => None,
+        WorldItem::Function(_) => None,
+    }
+}
+
+/// The types of a world, under their names.
+fn imported_types<'a>(
+    alloc: Global,
+    items: &'a Map<WorldKey, WorldItem>,
+) -> Result<Vec<(&'a str, TypeId)>, AllocError>
+    ensures { IfOk result (λ listed. listed_of listed.items ≡ filter_map (λ entry. type_of_entry_lem entry.0 entry.1) items.now.entries) }
+{
+    let mut listed = Vec::new(alloc);
+    for (key, item) in items {
+        if let Some(entry) = type_of_entry(key, item) {
+            listed.push(entry)?;
+        }
+    }
+    Ok(listed)
+}
+
+fn function_of_item<'a>(item: &'a WorldItem) -> Option<&'a Function>
+    ensures { option_map (λ f. f.now) result ≡ function_of_item_lem item.now }
+{
+    match item {
+        WorldItem::Function(function) => Some(function),
+        WorldItem::Interface { .. } => None,
+        WorldItem::Type_ { .. } => None,
+    }
+}
+
+/// The functions that a world imports.
+fn imported_functions<'a>(
+    alloc: Global,
+    items: &'a Map<WorldKey, WorldItem>,
+) -> Result<Vec<&'a Function>, AllocError>
+    ensures { IfOk result (λ listed. map (λ f. f.now) listed.items ≡ filter_map (λ entry. function_of_item_lem entry.1) items.now.entries) }
+{
+    let mut listed = Vec::new(alloc);
+    for (key, item) in items {
+        let _key = key;
+        if let Some(function) = function_of_item(item) {
+            listed.push(function)?;
+        }
+    }
+    Ok(listed)
+}
+
+/// The types of a world of the package `here`. Answers whether the block has printed something then.
+pub(crate) fn print_world_types<'a, O: Output>(
+    output: &mut O,
+    alloc: Global,
+    emits_docs: bool,
+    has_printed: bool,
+    resolve: &'a Resolve,
+    here: PackageId,
+    id: WorldId,
+    world: &'a World,
+) -> Result<bool, Error>
+    requires valid { IsValid resolve.now }
+    requires known { list_all (is_listed_type resolve.now (TypeOwner.World id)) (listed_imports world.now) ≡ true }
+    requires functions { list_all (is_listed_function resolve.now (TypeOwner.World id)) (imported_functions_lem world.now) ≡ true }
+    ensures ok { OnOk result (Moves O.keeps (O.view output.old) (members_calls emits_docs has_printed (type_members resolve.now here (TypeOwner.World id) (imported_functions_lem world.now) (listed_imports world.now))) (O.view output.new)) }
+    ensures err { OnErr result (Begins O.keeps (O.view output.old) (members_calls emits_docs has_printed (type_members resolve.now here (TypeOwner.World id) (imported_functions_lem world.now) (listed_imports world.now))) (O.view output.new)) }
+    ensures printed { IfOk result (λ b. b ≡ printed_after has_printed (type_members resolve.now here (TypeOwner.World id) (imported_functions_lem world.now) (listed_imports world.now))) }
+    ensures memory { IsOkUnless result Memory }
+{
+    let types = imported_types(alloc, &world.imports)?;
+    let functions = imported_functions(alloc, &world.imports)?;
+    print_owned_types(
+        output,
+        alloc,
+        emits_docs,
+        has_printed,
+        resolve,
+        here,
+        TypeOwner::World(id),
         &types,
         &functions,
     )

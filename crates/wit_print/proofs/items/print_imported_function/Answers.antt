@@ -3,9 +3,15 @@ use Rattle.std.specs.Prelude.{codes, if◌then◌else◌}
 use Rattle.wit_print.specs.OutputCall.{Moves}
 use Rattle.wit_print.specs.OutputCall.Moves.{nothing_moved}
 use Rattle.wit_print.specs.Printable.{entry_calls}
+use Rattle.wit_print.proofs.PrintableItems.{import_shown}
+use Rattle.wit_print.proofs.ValidWorlds.{function_import}
 use Rattle.wit_print.proofs.items.print_imported_function.Goals as goal
 
-pub returns-then-is_interface-clause-ok : goal.returns-then-is_interface-clause-ok
-returns-then-is_interface-clause-ok g c =
+pub returns-then-not-is_freestanding-clause-ok : goal.returns-then-not-is_freestanding-clause-ok
+returns-then-not-is_freestanding-clause-ok g c =
     let view = g.O.Output.view c.args.output.now in
-    subst (λ b. Moves g.O.Output.keeps view (if b then [] else entry_calls c.args.emits_docs c.args.resolve.now c.args.here (codes "import") (c.args.key.now, c.args.item.now)) view) (sym (sym c.is_interface.ensures ∙ c.if-is_interface.true)) (nothing_moved refl)
+    subst (λ b. Moves g.O.Output.keeps view (if b then entry_calls c.args.emits_docs c.args.resolve.now c.args.here (codes "import") (c.args.key.now, c.args.item.now) else []) view) (sym (sym c.is_freestanding.ensures ∙ c.if-not-is_freestanding.true)) (nothing_moved refl)
+
+pub print_item-requires-clause-printable : goal.print_item-requires-clause-printable
+print_item-requires-clause-printable g c =
+    import_shown c.args.resolve.now c.args.here c.args.key.now c.args.item.now c.requires.printable (function_import c.args.item.now (sym c.is_freestanding.ensures ∙ c.if-not-is_freestanding.false))

@@ -25,7 +25,7 @@ print_listed_package-requires-clause-version g c =
 pub print_listed_package-requires-clause-worlds : goal.print_listed_package-requires-clause-worlds
 print_listed_package-requires-clause-worlds g c =
     let at : package_at c.args.resolve.now c.args.here.0 ≡ Some c.index-package.result.now = slice_get_read _ _ _ _ refl c.requires.in_range c.index-package.ensures in
-    valid_worlds c.args.resolve.now c.args.here c.index-package.result.now c.requires.valid c.requires.declared at
+    valid_worlds c.args.resolve.now c.args.here c.index-package.result.now c.requires.valid at
 
 pub returns-clause-ok : goal.returns-clause-ok
 returns-clause-ok g c =

@@ -6,7 +6,7 @@ use Rattle.wit_print.proofs.package.print_world.Goals as goal
 
 pub returns-in_err-print_world_start-clause-err : goal.returns-in_err-print_world_start-clause-err
 returns-in_err-print_world_start-clause-err g c =
-    at_err c.from_residual.result (Begins-more g.O.Output.keeps (world_body_calls c.args.emits_docs c.args.resolve.now c.args.here c.args.world.now ++ (IndentEnd ∷ [])) c.in_err-print_world_start.ensures.err)
+    at_err c.from_residual.result (Begins-more g.O.Output.keeps (world_body_calls c.args.emits_docs c.args.resolve.now c.args.here c.args.id c.args.world.now ++ (IndentEnd ∷ [])) c.in_err-print_world_start.ensures.err)
 
 pub returns-in_err-print_world_body-clause-err : goal.returns-in_err-print_world_body-clause-err
 returns-in_err-print_world_body-clause-err g c =
