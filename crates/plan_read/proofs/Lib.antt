@@ -1,1 +1,10 @@
+pub mod AllLaws
+pub mod FunctionLaws
+pub mod InterfaceLaws
+pub mod LastDots
+pub mod MemberNames
 pub mod PlaceLaws
+pub mod ReachedLaws
+pub mod ResourceLaws
+pub mod TextLaws
+pub mod WorldLaws

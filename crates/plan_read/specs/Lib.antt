@@ -1,1 +1,10 @@
+pub mod FunctionNames
+pub mod Interfaces
 pub mod Places
+pub mod Reached
+pub mod Resources
+pub mod Scopes
+pub mod Tables
+pub mod Uses
+pub mod Views
+pub mod Worlds

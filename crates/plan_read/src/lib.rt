@@ -1,6 +1,28 @@
 //! The rules of reading over numbers.
 #![tactic(auto)]
 
+mod distinct;
+mod functions;
+mod interfaces;
+mod items;
+mod parts;
 mod places;
+mod reached;
+mod resources;
+mod scopes;
+mod tables;
+mod uses;
+mod views;
+mod worlds;
 
-pub use places::{SeenItem, are_once, stand_earlier};
+pub use functions::is_function;
+pub use interfaces::is_interface;
+pub use items::{are_exports, are_imports};
+pub use parts::{is_declared, is_signature};
+pub use places::are_once;
+pub use reached::{ImportedView, are_reached};
+pub use scopes::{Instance, InstanceKey, Scope, Seen, Shown};
+pub use tables::{Fact, FunctionType, Names, Tables, TypeShape};
+pub use uses::stand_earlier;
+pub use views::{TypeSlot, View, ViewFunction, ViewType};
+pub use worlds::is_world;

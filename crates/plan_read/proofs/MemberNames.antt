@@ -1,0 +1,145 @@
+-- The names of functions of resources, cut at their last dot: a label has none.
+use Rattle.std.proofs.Common.{◌≡◌, refl, sym, ap, subst, ◌∙◌, ℕ, arith, Bool, true, false, not, ◌&&◌, ◌==◌, cond, [], ◌∷◌, ◌++◌, length, take, drop, Option, Some, None, option_and_then, append_assoc, eq-eqb, eqb-true}
+use Rattle.std.specs.List.{list_all}
+use Rattle.std.specs.Option.{option_map_or}
+use Rattle.std.specs.Cmp.Lexicographic.{pointwise}
+use Rattle.std.specs.Prelude.{nat_eq}
+use Rattle.std.proofs.lemmas.Slice.Eq.{bytes_eq-Decides}
+use Rattle.wit_model.specs.Text.{Text, text_eq}
+use Rattle.wit_model.specs.Names.{is_label}
+use Rattle.wit_model.specs.Rules.{after_prefix}
+use Rattle.wit_model.proofs.Distinct.{either_way}
+use Rattle.wit_model.proofs.Lists.{first_true, second_true}
+use Rattle.wit_model.proofs.NameLaws.{label_lacks}
+use Rattle.comp_meaning.specs.Rules.{is_label_behind}
+
+-- ---- what stands after a prefix
+
+-- a prefix of two parts is one after the other
+pub after_both : (ps qs bs : Text) → after_prefix (ps ++ qs) bs ≡ option_and_then (after_prefix qs) (after_prefix ps bs)
+after_both [] qs bs = refl
+after_both (p ∷ ps) qs [] = refl
+after_both (p ∷ ps) qs (b ∷ bs) = go (after_both ps qs bs) (p == b)
+  where
+    go : after_prefix (ps ++ qs) bs ≡ option_and_then (after_prefix qs) (after_prefix ps bs) → (v : Bool) → cond v (after_prefix (ps ++ qs) bs) None ≡ option_and_then (after_prefix qs) (cond v (after_prefix ps bs) None)
+    go again true = again
+    go again false = refl
+
+turned : (a c : ℕ) → (a == c) ≡ (c == a)
+turned a c = grind arith
+
+-- a text is a prefix and a rest where what follows the prefix is the rest
+pub is_joined : (ps qs bs : Text) → text_eq bs (ps ++ qs) ≡ option_map_or (λ rest. text_eq rest qs) (after_prefix ps bs) false
+is_joined [] qs bs = refl
+is_joined (p ∷ ps) qs [] = refl
+is_joined (p ∷ ps) qs (b ∷ bs) = ap (λ v. v && text_eq bs (ps ++ qs)) (turned b p) ∙ go (is_joined ps qs bs) (p == b)
+  where
+    go : text_eq bs (ps ++ qs) ≡ option_map_or (λ rest. text_eq rest qs) (after_prefix ps bs) false → (v : Bool) → (v && text_eq bs (ps ++ qs)) ≡ option_map_or (λ rest. text_eq rest qs) (cond v (after_prefix ps bs) None) false
+    go again true = again
+    go again false = refl
+
+prefix_back : (ps bs q : Text) → after_prefix ps bs ≡ Some q → bs ≡ ps ++ q
+prefix_back [] bs q e = cc
+prefix_back (p ∷ ps) [] q e = absurd (cc)
+prefix_back (p ∷ ps) (b ∷ bs) q e = go (prefix_back ps bs q) (p == b) refl
+  where
+    go : (after_prefix ps bs ≡ Some q → bs ≡ ps ++ q) → (v : Bool) → (p == b) ≡ v → b ∷ bs ≡ p ∷ (ps ++ q)
+    go again true h =
+        let same : p ≡ b = eqb-true p b h in
+        let rest : bs ≡ ps ++ q = again (sym (ap (λ v. cond v (after_prefix ps bs) None) h) ∙ e) in
+        cc
+    go again false h =
+        let wrong : None ≡ Some q = sym (ap (λ v. cond v (after_prefix ps bs) None) h) ∙ e in
+        absurd (cc)
+
+prefix_on : (ps q : Text) → after_prefix ps (ps ++ q) ≡ Some q
+prefix_on [] q = refl
+prefix_on (p ∷ ps) q = ap (λ v. cond v (after_prefix ps (ps ++ q)) None) (eq-eqb p p refl) ∙ prefix_on ps q
+
+one_byte : (fits labelled : Bool) (o : Option Text) → (fits && labelled) ≡ option_map_or is_label o false → (v : Bool) → ((v && fits) && labelled) ≡ option_map_or is_label (cond v o None) false
+one_byte fits labelled o again true = again
+one_byte fits labelled o again false = refl
+
+-- a label behind a front is what follows it
+behind : (front name : Text) → is_label_behind front name ≡ option_map_or is_label (after_prefix front name) false
+behind [] name = refl
+behind (p ∷ ps) [] = refl
+behind (p ∷ ps) (b ∷ bs) = one_byte (pointwise nat_eq ps (take (length ps) bs)) (is_label (drop (length ps) bs)) (after_prefix ps bs) (behind ps bs) (p == b)
+
+-- ---- the last dot
+
+abbrev Lacks : Text → Type 0
+Lacks text = list_all (λ b. not (b == 46)) text ≡ true
+
+label_no_dot : (f : Text) → is_label f ≡ true → Lacks f
+label_no_dot f h = label_lacks 46 refl f h
+
+has_dot : (b g : Text) → Lacks (b ++ (46 ∷ g)) → ⊥
+has_dot [] g lacks = absurd (cc)
+has_dot (x ∷ b) g lacks = has_dot b g (second_true (not (x == 46)) _ lacks)
+
+unique_last : (a b f g : Text) → a ++ (46 ∷ f) ≡ b ++ (46 ∷ g) → Lacks f → Lacks g → (a ≡ b) × (f ≡ g)
+unique_last [] [] f g e lf lg = (refl, cc)
+unique_last [] (y ∷ b) f g e lf lg =
+    let tail : f ≡ b ++ (46 ∷ g) = cc in
+    absurd (has_dot b g (subst Lacks tail lf))
+unique_last (x ∷ a) [] f g e lf lg =
+    let tail : g ≡ a ++ (46 ∷ f) = cc in
+    absurd (has_dot a f (subst Lacks tail lg))
+unique_last (x ∷ a) (y ∷ b) f g e lf lg =
+    let head : x ≡ y = cc in
+    let tail : a ++ (46 ∷ f) ≡ b ++ (46 ∷ g) = cc in
+    let both = unique_last a b f g tail lf lg in
+    (ap (λ z. z ∷ a) head ∙ ap (λ t. y ∷ t) both.0, both.1)
+
+both_true : (a b : Bool) → a ≡ true → b ≡ true → (a && b) ≡ true
+both_true a b p q = rw p q
+
+-- what follows a resource and a dot is a label where the last dot stands behind the resource, with a label behind it
+forward : (R rest : Text) (o : Option Text) → after_prefix (R ++ (46 ∷ [])) rest ≡ o → (s : Text × Text) → rest ≡ s.0 ++ (46 ∷ s.1) → Lacks s.1 → option_map_or is_label o false ≡ true → (text_eq s.0 R && is_label s.1) ≡ true
+forward R rest None e s cut lacks h = absurd (cc)
+forward R rest (Some f) e s cut lacks h =
+    let joined : rest ≡ R ++ (46 ∷ f) = prefix_back (R ++ (46 ∷ [])) rest f e ∙ append_assoc R (46 ∷ []) f in
+    let both = unique_last s.0 R s.1 f (sym cut ∙ joined) lacks (label_no_dot f h) in
+    both_true _ _ ((bytes_eq-Decides s.0 R).1 both.0) (ap is_label both.1 ∙ h)
+
+backward : (R rest : Text) (s : Text × Text) → rest ≡ s.0 ++ (46 ∷ s.1) → (text_eq s.0 R && is_label s.1) ≡ true → option_map_or is_label (after_prefix (R ++ (46 ∷ [])) rest) false ≡ true
+backward R rest s cut h =
+    let same : s.0 ≡ R = (bytes_eq-Decides s.0 R).0 (first_true (text_eq s.0 R) (is_label s.1) h) in
+    let joined : rest ≡ (R ++ (46 ∷ [])) ++ s.1 = cut ∙ (ap (λ t. t ++ (46 ∷ s.1)) same ∙ sym (append_assoc R (46 ∷ []) s.1)) in
+    ap (λ t. option_map_or is_label (after_prefix (R ++ (46 ∷ [])) t) false) joined
+    ∙ (ap (λ o. option_map_or is_label o false) (prefix_on (R ++ (46 ∷ [])) s.1) ∙ second_true (text_eq s.0 R) (is_label s.1) h)
+
+no_member : (R rest : Text) (o : Option Text) → after_prefix (R ++ (46 ∷ [])) rest ≡ o → Lacks rest → o ≡ None
+no_member R rest None e lacks = refl
+no_member R rest (Some f) e lacks =
+    let joined : rest ≡ R ++ (46 ∷ f) = prefix_back (R ++ (46 ∷ [])) rest f e ∙ append_assoc R (46 ∷ []) f in
+    absurd (has_dot R f (subst Lacks joined lacks))
+
+module _ (mark name : Text) (r : Text) where
+  -- a member's name, cut behind the mark
+  at_mark : is_label_behind (mark ++ (r ++ (46 ∷ []))) name ≡ option_map_or is_label (option_and_then (after_prefix (r ++ (46 ∷ []))) (after_prefix mark name)) false
+  at_mark = behind (mark ++ (r ++ (46 ∷ []))) name ∙ ap (λ o. option_map_or is_label o false) (after_both mark (r ++ (46 ∷ [])) name)
+
+  pub no_mark : None ≡ after_prefix mark name → is_label_behind (mark ++ (r ++ (46 ∷ []))) name ≡ false
+  no_mark none = at_mark ∙ ap (λ o. option_map_or is_label (option_and_then (after_prefix (r ++ (46 ∷ []))) o) false) (sym none)
+
+  module _ (rest : Text) (found : Some rest ≡ after_prefix mark name) where
+    at_rest : is_label_behind (mark ++ (r ++ (46 ∷ []))) name ≡ option_map_or is_label (after_prefix (r ++ (46 ∷ [])) rest) false
+    at_rest = at_mark ∙ ap (λ o. option_map_or is_label (option_and_then (after_prefix (r ++ (46 ∷ []))) o) false) (sym found)
+
+    pub no_last_dot : Lacks rest → is_label_behind (mark ++ (r ++ (46 ∷ []))) name ≡ false
+    no_last_dot lacks = at_rest ∙ ap (λ o. option_map_or is_label o false) (no_member r rest (after_prefix (r ++ (46 ∷ [])) rest) refl lacks)
+
+    -- the name of a member says its resource up to the last dot
+    pub last_dot : (s : Text × Text) → rest ≡ s.0 ++ (46 ∷ s.1) → Lacks s.1 → is_label_behind (mark ++ (r ++ (46 ∷ []))) name ≡ (text_eq s.0 r && is_label s.1)
+    last_dot s cut lacks =
+        at_rest ∙ either_way _ _ (forward r rest (after_prefix (r ++ (46 ∷ [])) rest) refl s cut lacks) (backward r rest s cut)
+
+pub and_true : (a b : Bool) → b ≡ true → (a && b) ≡ a
+and_true true b e = e
+and_true false b e = refl
+
+pub and_false : (a b : Bool) → b ≡ false → (a && b) ≡ false
+and_false true b e = e
+and_false false b e = refl
