@@ -1,3 +1,4 @@
+pub mod FunctionLaws
 pub mod KeptLaws
 pub mod MarkLaws
 pub mod ViewLaws

@@ -1,3 +1,4 @@
+pub mod Functions
 pub mod Kept
 pub mod Marks
 pub mod Views

@@ -1,10 +1,13 @@
 //! What was followed, gathered into a plan.
 #![tactic(auto)]
 
+mod functions;
 mod kept;
+pub mod laws;
 mod marks;
 mod views;
 
+pub use functions::{function_of, kind_of};
 pub use kept::Kept;
 pub use marks::{close, mark_parts};
 pub use views::{Sighted, first_views};

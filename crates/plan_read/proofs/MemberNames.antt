@@ -38,7 +38,7 @@ is_joined (p ∷ ps) qs (b ∷ bs) = ap (λ v. v && text_eq bs (ps ++ qs)) (turn
     go again true = again
     go again false = refl
 
-prefix_back : (ps bs q : Text) → after_prefix ps bs ≡ Some q → bs ≡ ps ++ q
+pub prefix_back : (ps bs q : Text) → after_prefix ps bs ≡ Some q → bs ≡ ps ++ q
 prefix_back [] bs q e = cc
 prefix_back (p ∷ ps) [] q e = absurd (cc)
 prefix_back (p ∷ ps) (b ∷ bs) q e = go (prefix_back ps bs q) (p == b) refl
@@ -61,7 +61,7 @@ one_byte fits labelled o again true = again
 one_byte fits labelled o again false = refl
 
 -- a label behind a front is what follows it
-behind : (front name : Text) → is_label_behind front name ≡ option_map_or is_label (after_prefix front name) false
+pub behind : (front name : Text) → is_label_behind front name ≡ option_map_or is_label (after_prefix front name) false
 behind [] name = refl
 behind (p ∷ ps) [] = refl
 behind (p ∷ ps) (b ∷ bs) = one_byte (pointwise nat_eq ps (take (length ps) bs)) (is_label (drop (length ps) bs)) (after_prefix ps bs) (behind ps bs) (p == b)
@@ -71,14 +71,14 @@ behind (p ∷ ps) (b ∷ bs) = one_byte (pointwise nat_eq ps (take (length ps) b
 abbrev Lacks : Text → Type 0
 Lacks text = list_all (λ b. not (b == 46)) text ≡ true
 
-label_no_dot : (f : Text) → is_label f ≡ true → Lacks f
+pub label_no_dot : (f : Text) → is_label f ≡ true → Lacks f
 label_no_dot f h = label_lacks 46 refl f h
 
 has_dot : (b g : Text) → Lacks (b ++ (46 ∷ g)) → ⊥
 has_dot [] g lacks = absurd (cc)
 has_dot (x ∷ b) g lacks = has_dot b g (second_true (not (x == 46)) _ lacks)
 
-unique_last : (a b f g : Text) → a ++ (46 ∷ f) ≡ b ++ (46 ∷ g) → Lacks f → Lacks g → (a ≡ b) × (f ≡ g)
+pub unique_last : (a b f g : Text) → a ++ (46 ∷ f) ≡ b ++ (46 ∷ g) → Lacks f → Lacks g → (a ≡ b) × (f ≡ g)
 unique_last [] [] f g e lf lg = (refl, cc)
 unique_last [] (y ∷ b) f g e lf lg =
     let tail : f ≡ b ++ (46 ∷ g) = cc in

@@ -127,8 +127,9 @@ fn at_last_dot<'a>(text: &'a str) -> Option<(&'a str, &'a str)>
     text.rsplit_once('.')
 }
 
-/// The resource of a member whose name begins with the mark, up to the last dot, if a label follows it.
-fn resource_in<'a>(mark: &str, name: &'a str) -> Option<&'a str>
+/// The resource of a member whose name begins with the mark, up to the last dot, if a label follows it (Component Model Explainer.md, "Import and
+/// Export Definitions"). Takes time linear in the name, and no memory.
+pub fn resource_in<'a>(mark: &str, name: &'a str) -> Option<&'a str>
     ensures { (r : Text) → is_label_behind (mark.now ++ (r ++ (46 ∷ []))) name.now ≡ is_cut result r }
 {
     match after_prefix(mark, name) {

@@ -15,7 +15,7 @@ mod uses;
 mod views;
 mod worlds;
 
-pub use functions::is_function;
+pub use functions::{is_function, resource_in};
 pub use interfaces::is_interface;
 pub use items::{are_exports, are_imports};
 pub use parts::{is_declared, is_signature};
