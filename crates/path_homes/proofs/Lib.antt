@@ -1,0 +1,3 @@
+pub mod CutLaws
+pub mod HomeLaws
+pub mod PackageLaws
