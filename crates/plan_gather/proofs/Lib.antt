@@ -1,4 +1,5 @@
 pub mod FunctionLaws
+pub mod InterfaceLaws
 pub mod KeptLaws
 pub mod MarkLaws
 pub mod ViewLaws

@@ -1,4 +1,5 @@
 pub mod Functions
+pub mod Interfaces
 pub mod Kept
 pub mod Marks
 pub mod Views

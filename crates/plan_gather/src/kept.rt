@@ -1,6 +1,6 @@
 //! The types of a table that are kept, and their new numbers.
 
-ghost use Rattle.std.specs.Prelude.{◌≡◌, ◌<◌, IfOk};
+ghost use Rattle.std.specs.Prelude.{◌≡◌, ◌<◌, ◌≤◌, ◌+◌, IfOk};
 ghost use Rattle.read_plan.specs.Built.{part_of};
 ghost use Rattle.read_plan.specs.Renumbering.{IsPart};
 ghost use Rattle.plan_gather.specs.Kept.{counted_from, marked_from, AreMarked, IsKeptPart};
@@ -95,6 +95,15 @@ impl Kept {
         if part < 14 {
             return primitive(part);
         }
-        Type::Id(TypeId(self.numbers[part - 14]))
+        Type::Id(self.number(part))
+    }
+
+    /// The number that a type which is kept gets. Takes constant time.
+    pub fn number(&self, part: usize) -> TypeId
+        requires type_ { 14 ≤ part }
+        requires kept { IsKeptPart self.now part }
+        ensures { IsPart self.now part (14 + result.0) }
+    {
+        TypeId(self.numbers[part - 14])
     }
 }

@@ -22,7 +22,7 @@ pub use parts::{is_declared, is_signature};
 pub use places::are_once;
 pub use reached::{ImportedView, are_reached};
 pub use scopes::{Instance, InstanceKey, Scope, Seen, Shown};
-pub use tables::{Fact, FunctionType, Names, Tables, TypeShape};
+pub use tables::{Fact, FunctionType, Names, Tables, TypeShape, function_at};
 pub use uses::stand_earlier;
 pub use views::{TypeSlot, View, ViewFunction, ViewType};
 pub use worlds::is_world;

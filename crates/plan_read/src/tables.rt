@@ -121,8 +121,8 @@ pub(crate) fn name_at<'a>(tables: &Tables<'a>, part: usize) -> Option<(u32, &'a 
     }
 }
 
-/// The type of a function, by its number.
-pub(crate) fn function_at<'a>(tables: &Tables<'a>, number: usize) -> FunctionType<'a>
+/// The type of a function, by its number: one without parameters, where there is none of this number. Takes constant time.
+pub fn function_at<'a>(tables: &Tables<'a>, number: usize) -> FunctionType<'a>
     ensures { numbered_function_type result ≡ function_at_lem (numbered_tables tables.now) number }
 {
     match tables.functions.get(number) {
