@@ -1,5 +1,6 @@
 pub mod FunctionLaws
 pub mod InterfaceLaws
 pub mod KeptLaws
+pub mod ListedFunctions
 pub mod MarkLaws
 pub mod ViewLaws

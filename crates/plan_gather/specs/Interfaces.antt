@@ -1,10 +1,14 @@
 -- Interfaces of a plan, over the types that are kept (WIT.md, "Interfaces").
-use Rattle.std.specs.Prelude.{◌≡◌, ◌≤◌, ◌+◌, ◌&&◌, ℕ, true, List, cond, Option, Some, slice_get}
+use Rattle.std.specs.Prelude.{◌≡◌, ◌≤◌, ◌+◌, ◌&&◌, ℕ, true, List, length, cond, Option, Some, slice_get}
+use Rattle.std.specs.List.{AllZip}
 use Rattle.wit_model.specs.declared.model.TypeId.{TypeId}
+use Rattle.wit_model.specs.declared.model.TypeOwner.{TypeOwner}
 use Rattle.wit_model.specs.Text.{Text, text_eq}
-use Rattle.read_plan.specs.NumberedRules.{is_no_part}
-use Rattle.read_plan.specs.NumberedViews.{NumberedFunction, NumberedSlot, NumberedType, Tables, function_at, value, resource, PartsOf}
-use Rattle.read_plan.specs.Plan.{PlannedFunction}
+use Rattle.read_plan.specs.GatheredPlan.{FunctionListed}
+use Rattle.read_plan.specs.KeptFunctions.{IsKindOf, IsResource}
+use Rattle.read_plan.specs.NumberedRules.{Fact, is_interface, is_no_part}
+use Rattle.read_plan.specs.NumberedViews.{NumberedFunction, NumberedSlot, NumberedType, NumberedView, Tables, function_at, value, resource, PartsOf}
+use Rattle.read_plan.specs.Plan.{Plan, PlannedFunction}
 use Rattle.read_plan.specs.Renumbering.{IsPart}
 use Rattle.plan_gather.specs.Functions.{NamesKind, TakesAndGives}
 use Rattle.plan_gather.specs.Kept.{IsKeptPart}
@@ -42,3 +46,14 @@ pub record IsPlannedFunction (t : Tables) (kept : List ℕ) (find : Text → Opt
   pub kind : NamesKind find f.0 (function_at t f.1.signature).is_async e.1.kind
   pub parts : TakesAndGives kept (function_at t f.1.signature) e.1
   pub same_id : e.1.external_id ≡ f.1.external_id
+
+-- ---- laws
+
+-- The functions of an interface that obeys the rules become what they are in the plan, each of the kind that its name says, where the plan has a
+-- type for each that is kept, and each resource that is shown is the type of its number.
+abbrev pub FunctionsAreListed : Type 0
+FunctionsAreListed = (t : Tables) (known : ℕ → Fact) (kept : List ℕ) (p : Plan) → length p.types ≡ length kept → (o : TypeOwner) (q : ℕ) (v : NumberedView) → is_interface t known q v ≡ true
+    → (find : Text → Option TypeId) → AreResources kept v.types find
+    → ((n : ℕ) (x : NumberedType) (id : TypeId) → slice_get v.types n ≡ Some x → is_no_part x.declared ≡ true → IsPart kept (slot_part x.slot) (14 + id.0) → IsResource t known kept p o q x.name id.0)
+    → (es : List (Text × PlannedFunction)) → AllZip (IsPlannedFunction t kept find) v.functions es
+    → AllZip (FunctionListed t kept p) v.functions es × AllZip (λ f e. IsKindOf t known kept p o q f.0 (function_at t f.1.signature) e.1.kind) v.functions es

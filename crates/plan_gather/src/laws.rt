@@ -1,6 +1,7 @@
 //! Laws over definitions alone.
 
 ghost use Rattle.plan_gather.specs.Functions.{FunctionsBecome, KindsAreNamed};
+ghost use Rattle.plan_gather.specs.Interfaces.{FunctionsAreListed};
 
 /// A function that may stand behind some resources is of the kind that its name says.
 pub fn kinds_are_named()
@@ -10,4 +11,9 @@ pub fn kinds_are_named()
 /// A function over the types that are kept becomes what it is in the plan.
 pub fn functions_become()
     ensures { FunctionsBecome }
+{}
+
+/// The functions of an interface that obeys the rules become what they are in the plan.
+pub fn functions_are_listed()
+    ensures { FunctionsAreListed }
 {}
