@@ -1,5 +1,5 @@
 -- The functions of an interface that obeys the rules, as those of a plan.
-use Rattle.std.proofs.Common.{◌≡◌, refl, sym, ap, subst, ◌∙◌, ℕ, zero, suc, ◌+◌, Bool, true, false, ◌&&◌, ◌||◌, cond, List, [], ◌∷◌, ◌++◌, length, map, Option, Some, slice_get}
+use Rattle.std.proofs.Common.{◌≡◌, refl, ap, subst, ◌∙◌, ℕ, zero, suc, ◌+◌, Bool, true, false, ◌&&◌, ◌||◌, cond, List, [], ◌∷◌, ◌++◌, length, map, Option, Some, slice_get}
 use Rattle.std.specs.List.{AllZip, list_all, list_any}
 use Rattle.std.proofs.lemmas.Slice.Eq.{bytes_eq-Decides}
 use Rattle.wit_model.specs.declared.model.TypeId.{TypeId}
@@ -9,8 +9,8 @@ use Rattle.wit_model.proofs.Lists.{first_true, second_true}
 use Rattle.comp_meaning.specs.Rules.{distinct}
 use Rattle.read_plan.specs.GatheredPlan.{FunctionListed}
 use Rattle.read_plan.specs.KeptFunctions.{IsKindOf, IsResource}
-use Rattle.read_plan.specs.NumberedRules.{Fact, is_function, is_interface, is_no_part, is_type, resources_of}
-use Rattle.read_plan.specs.NumberedViews.{NumberedFunction, NumberedType, NumberedView, Tables, function_at}
+use Rattle.read_plan.specs.NumberedRules.{Fact, is_function, is_no_part, is_type, resources_of}
+use Rattle.read_plan.specs.NumberedViews.{NumberedFunction, NumberedType, Tables, function_at}
 use Rattle.read_plan.specs.Plan.{Plan, PlannedFunction}
 use Rattle.read_plan.specs.Renumbering.{IsPart}
 use Rattle.plan_gather.specs.Interfaces.{slot_part, AreResources, IsPlannedFunction, FunctionsAreListed}
