@@ -4,6 +4,7 @@ pub mod Places
 pub mod Reached
 pub mod Resources
 pub mod Scopes
+pub mod Sights
 pub mod Tables
 pub mod Uses
 pub mod Views
