@@ -1,3 +1,4 @@
+pub mod AgreementLaws
 pub mod FunctionLaws
 pub mod InterfaceLaws
 pub mod KeptLaws

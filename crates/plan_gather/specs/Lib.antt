@@ -1,3 +1,4 @@
+pub mod Agreement
 pub mod Functions
 pub mod Interfaces
 pub mod Kept

@@ -1,6 +1,7 @@
 //! What was followed, gathered into a plan.
 #![tactic(auto)]
 
+mod agreement;
 mod functions;
 mod interfaces;
 mod kept;
@@ -8,6 +9,7 @@ pub mod laws;
 mod marks;
 mod views;
 
+pub use agreement::{same_functions, same_types};
 pub use functions::{function_of, kind_of};
 pub use interfaces::{functions_of, types_of};
 pub use kept::Kept;
