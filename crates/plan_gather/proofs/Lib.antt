@@ -4,4 +4,5 @@ pub mod InterfaceLaws
 pub mod KeptLaws
 pub mod ListedFunctions
 pub mod MarkLaws
+pub mod SightLaws
 pub mod ViewLaws

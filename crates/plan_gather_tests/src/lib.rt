@@ -1,0 +1,5 @@
+//! The tests of what makes a plan of what was followed.
+#![tactic(auto)]
+
+#[cfg(test)]
+mod agreement;
