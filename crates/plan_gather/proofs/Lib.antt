@@ -1,4 +1,5 @@
 pub mod AgreementLaws
+pub mod FirstAgreement
 pub mod FunctionLaws
 pub mod InterfaceLaws
 pub mod KeptLaws

@@ -1,5 +1,5 @@
 -- Views that are each compared with the first of their place.
-use Rattle.std.proofs.Common.{◌≡◌, refl, sym, ap, ◌∙◌, ℕ, zero, suc, ◌+◌, ◌<◌, arith, Bool, true, false, not, ◌&&◌, ◌||◌, ◌==◌, cond, List, [], ◌∷◌, ◌++◌, map, take, length, get_or, Option, Some, None, Result, Ok, Err, IfOk, eq-eqb, append_assoc}
+use Rattle.std.proofs.Common.{◌≡◌, refl, sym, ap, subst, ◌∙◌, ℕ, zero, suc, ◌+◌, ◌<◌, arith, Bool, true, false, not, ◌&&◌, ◌||◌, ◌==◌, cond, List, [], ◌∷◌, ◌++◌, map, take, length, get_or, Option, Some, None, Result, Ok, Err, IfOk, eq-eqb, append_assoc, ◌≤◌}
 use Rattle.std.proofs.lemmas.List.{map-append, take_more}
 use Rattle.std.proofs.lemmas.Slice.Eq.{bytes_eq-Decides}
 use Rattle.std.specs.Cmp.Lexicographic.{pointwise}
@@ -118,6 +118,20 @@ all_alike before [] = refl
 all_alike before (s ∷ rest) =
     let later = all_alike (before ++ s ∷ []) rest ∙ ap (λ l. list_all (agrees_with_first l) rest) (append_assoc before (s ∷ []) rest) in
     λ i. one_alike before s rest i && later i
+
+-- ---- so many places
+
+within : (n m : ℕ) → n ≤ m → (xs : List Sight) → AllByRecursion (λ (s : Sight). s.place < n) xs → AllByRecursion (λ (s : Sight). s.place < m) xs
+within n m le [] h = tt
+within n m le (x ∷ xs) h = (omega (arith, le, h.0), within n m le xs h.1)
+
+and_last : (m : ℕ) (xs : List Sight) (x : Sight) → AllByRecursion (λ (s : Sight). s.place < m) xs → x.place < m → AllByRecursion (λ (s : Sight). s.place < m) (xs ++ x ∷ [])
+and_last m [] x h less = (less, tt)
+and_last m (y ∷ xs) x h less = (h.0, and_last m xs x h.1 less)
+
+pub place_more : (n m : ℕ) (xs : List Sight) (i : ℕ) (d : Sight) → i < length xs → n ≤ m → (get_or xs i d).place < m → AllByRecursion (λ (s : Sight). s.place < n) (take i xs) → AllByRecursion (λ (s : Sight). s.place < m) (take (i + 1) xs)
+place_more n m xs i d inside le less h =
+    subst (λ (l : List Sight). AllByRecursion (λ (s : Sight). s.place < m) l) (sym (take_more xs i d inside)) (and_last m (take i xs) (get_or xs i d) (within n m le (take i xs) h) less)
 
 -- ---- all views
 

@@ -1,5 +1,6 @@
 //! Laws over definitions alone.
 
+ghost use Rattle.plan_gather.specs.Agreement.{FirstViewsTell};
 ghost use Rattle.plan_gather.specs.Functions.{FunctionsBecome, KindsAreNamed};
 ghost use Rattle.plan_gather.specs.Interfaces.{FunctionsAreListed};
 
@@ -16,4 +17,9 @@ pub fn functions_become()
 /// The functions of an interface that obeys the rules become what they are in the plan.
 pub fn functions_are_listed()
     ensures { FunctionsAreListed }
+{}
+
+/// Views of interfaces agree where each agrees with the first of its place.
+pub fn first_views_tell()
+    ensures { FirstViewsTell }
 {}

@@ -106,14 +106,27 @@ fn all_sighted(alloc: Global, sights: &[Sight<'_>]) -> Result<Vec<Sighted>, Allo
     Ok(all)
 }
 
-/// Whether views of interfaces, whose places are among so many, agree (Component Model WIT.md, "Package Format"): each shows the types of the
-/// first view of its place, and each that shows functions tells the same of them as the first that does.
+/// So many places that those of the views are among them.
+fn places_of(sights: &[Sight<'_>]) -> usize
+    ensures { AllByRecursion (λ s. s.place < result) sights.now }
+{
+    let mut places = 0usize;
+    for sight in sights {
+        if sight.place as usize >= places {
+            places = sight.place as usize + 1;
+        }
+    }
+    places
+}
+
+/// Whether views of interfaces agree (Component Model WIT.md, "Package Format"): each shows the types of the first view of its place, and each
+/// that shows functions tells the same of them as the first that does.
 ///
-/// Takes time linear in the views, expected, and in the places, and as much memory. Refuses for want of memory alone.
-pub fn agree(alloc: Global, places: usize, sights: &[Sight<'_>]) -> Result<bool, AllocError>
-    requires { AllByRecursion (λ s. s.place < places) sights.now }
+/// Takes time linear in the views, expected, and in the largest number of a place, and as much memory. Refuses for want of memory alone.
+pub fn agree(alloc: Global, sights: &[Sight<'_>]) -> Result<bool, AllocError>
     ensures { IfOk result (λ b. b ≡ agree_with_first_in_numbers [] (map numbered_sight sights.now)) }
 {
+    let places = places_of(sights);
     let all = all_sighted(alloc, sights)?;
     let firsts = first_views(alloc, places, &all, false)?;
     let wholes = first_views(alloc, places, &all, true)?;

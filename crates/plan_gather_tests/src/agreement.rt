@@ -131,17 +131,9 @@ fn sights_of(alloc: Global, shown: &[Shown]) -> Result<Vec<Sight<'static>>, Allo
     Ok(sights)
 }
 
-/// Whether these views, of two places, agree.
 fn do_agree(alloc: Global, shown: &[Shown]) -> Result<bool, AllocError> {
     let sights = sights_of(alloc, shown)?;
-    let mut are_placed = true;
-    for sight in &sights {
-        are_placed = are_placed && sight.place < 2;
-    }
-    if !are_placed {
-        return Ok(false);
-    }
-    agree(alloc, 2, &sights)
+    agree(alloc, &sights)
 }
 
 #[test]
