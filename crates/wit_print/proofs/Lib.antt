@@ -56,3 +56,4 @@ pub mod UseGroups
 pub mod ListedTypes
 pub mod SameVersions
 pub mod ListedSteps
+pub mod GivenSteps

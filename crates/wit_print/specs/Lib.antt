@@ -19,3 +19,4 @@ pub mod UseGroups
 pub mod Drafted
 pub mod Printable
 pub mod Printer
+pub mod GivenTypes

@@ -191,7 +191,7 @@ fn print_owned<'a, O: Output>(
 }
 
 /// A type of an owner, if it is no use. Answers whether the block has printed something then.
-fn print_listed_type<'a, O: Output>(
+pub(crate) fn print_listed_type<'a, O: Output>(
     output: &mut O,
     alloc: Global,
     emits_docs: bool,

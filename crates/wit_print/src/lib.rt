@@ -10,6 +10,7 @@ mod extern_item;
 mod file;
 mod function;
 mod gates;
+mod given_types;
 mod interface;
 mod items;
 mod labels;

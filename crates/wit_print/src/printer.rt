@@ -1,10 +1,13 @@
 //! The printer.
 
-ghost use Rattle.std.specs.Prelude.{◌≡◌, ◌<◌, [], true, length, OnOk, OnErr, IsOkUnless};
+ghost use Rattle.std.specs.Prelude.{◌≡◌, ◌<◌, ◌⊎◌, List, [], true, false, length, OnOk, OnErr, IsOkUnless};
+ghost use Rattle.std.specs.Borrow.{Bor};
+ghost use Rattle.std.specs.Iterator.{Drains, IsFinite};
 ghost use Rattle.std.specs.List.{list_all};
 ghost use Rattle.wit_model.specs.declared.error.Error.TheVariants.{Memory};
-ghost use Rattle.wit_model.specs.Text.{text_of};
+ghost use Rattle.wit_model.specs.Text.{Text, text_of};
 ghost use Rattle.wit_model.specs.Names.{is_label, is_version};
+ghost use Rattle.wit_model.specs.Parts.{same_owner};
 ghost use Rattle.wit_model.specs.Rules.{in_list, passes};
 ghost use Rattle.wit_model.specs.Types.{number_of};
 ghost use Rattle.wit_model.specs.Valid.{IsValid};
@@ -13,11 +16,14 @@ ghost use Rattle.wit_print.specs.AsRead.{file_as_read};
 ghost use Rattle.wit_print.specs.Reading.{IsOnlyReading};
 ghost use Rattle.wit_print.specs.Render.{render};
 ghost use Rattle.wit_print.specs.Shown.{shown_file, shown_head, shown_package, shown_type};
-ghost use Rattle.wit_print.specs.Calls.{file_calls, package_calls, package_outer_calls, type_calls};
+ghost use Rattle.wit_print.specs.Calls.{file_calls, members_calls, package_calls, package_outer_calls, printed_after, type_calls};
+ghost use Rattle.wit_print.specs.GivenTypes.{are_functions_of, given_members};
+ghost use Rattle.wit_print.specs.UseGroups.{is_listed_type, listed_of};
 ghost use Rattle.wit_print.specs.Heads.{interface_body_calls, interface_head_calls};
 
 use crate::draft::Draft;
 use crate::file::print_file;
+use crate::given_types::{collect_types, print_given_types};
 use crate::interface::{print_head, print_interface_body};
 use crate::output::Output;
 use crate::output_to_string::OutputToString;
@@ -25,7 +31,10 @@ use crate::package::print_whole_package;
 use crate::parts::draft_package_outer;
 use crate::type_name::draft_type_name;
 use std::alloc::Global;
-use wit_model::{Error, InterfaceId, Package, PackageId, Resolve, Type};
+use std::collections::HashMap;
+use wit_model::{
+    Error, Function, InterfaceId, Package, PackageId, Resolve, Type, TypeId, TypeOwner,
+};
 
 /// Prints packages to an output.
 #[derive(Drop)]
@@ -33,19 +42,22 @@ pub struct WitPrinter<O: Output = OutputToString> {
     /// What the printer drives.
     pub output: O,
     emit_docs: bool,
+    has_printed: bool,
 }
 
 impl<O: Output> WitPrinter<O> {
-    ghost use Rattle.wit_print.specs.Printer.{emits_docs};
+    ghost use Rattle.wit_print.specs.Printer.{block_has_printed, emits_docs};
 
     /// A printer to an output. Documentation is printed.
     pub fn new(output: O) -> WitPrinter<O>
         ensures output { result.output ≡ output }
         ensures docs { emits_docs result ≡ true }
+        ensures nothing_yet { block_has_printed result ≡ false }
     {
         WitPrinter {
             output,
             emit_docs: true,
+            has_printed: false,
         }
     }
 
@@ -54,6 +66,7 @@ impl<O: Output> WitPrinter<O> {
         ensures same { result.ghost_name ≡ self.entry.ghost_name }
         ensures docs { emits_docs result.now ≡ enabled }
         ensures output { result.now.output ≡ self.old.output }
+        ensures mark { block_has_printed result.now ≡ block_has_printed self.old }
     {
         self.emit_docs = enabled;
         self
@@ -81,6 +94,7 @@ impl<O: Output> WitPrinter<O> {
         ensures reads { IsOnlyReading (render (file_calls (emits_docs self.old) (shown_file resolve.now id nested.now))) (file_as_read (shown_file resolve.now id nested.now)) }
         ensures memory { IsOkUnless result Memory }
         ensures docs { emits_docs self.new ≡ emits_docs self.old }
+        ensures mark { block_has_printed self.new ≡ block_has_printed self.old }
     {
         print_file(&mut self.output, alloc, self.emit_docs, resolve, id, nested)
     }
@@ -102,6 +116,7 @@ impl<O: Output> WitPrinter<O> {
         ensures err { OnErr result (Begins O.keeps (O.view self.old.output) (package_calls (emits_docs self.old) is_main (shown_package resolve.now id)) (O.view self.new.output)) }
         ensures memory { IsOkUnless result Memory }
         ensures docs { emits_docs self.new ≡ emits_docs self.old }
+        ensures mark { block_has_printed self.new ≡ block_has_printed self.old }
     {
         print_whole_package(
             &mut self.output,
@@ -123,11 +138,13 @@ impl<O: Output> WitPrinter<O> {
         ensures err { OnErr result (Begins O.keeps (O.view self.old.output) (package_outer_calls (emits_docs self.old) (shown_head «package».now)) (O.view self.new.output)) }
         ensures memory { IsOkUnless result Memory }
         ensures docs { emits_docs self.new ≡ emits_docs self.old }
+        ensures mark { block_has_printed self.new ≡ block_has_printed self.old }
     {
         let mut draft = Draft::new(alloc);
         draft_package_outer(&mut draft, self.emit_docs, package)?;
         draft.make(&mut self.output)
     }
+
     /// Prints an interface's documentation, gates and name, under the name that is handed in, as they are declared.
     /// Neither the start of its block nor what it has.
     ///
@@ -146,6 +163,7 @@ impl<O: Output> WitPrinter<O> {
         ensures err { OnErr result (Begins O.keeps (O.view self.old.output) (interface_head_calls (emits_docs self.old) resolve.now id name.now) (O.view self.new.output)) }
         ensures memory { IsOkUnless result Memory }
         ensures docs { emits_docs self.new ≡ emits_docs self.old }
+        ensures mark { block_has_printed self.new ≡ block_has_printed self.old }
     {
         let interface = &resolve.interfaces[id.0 as usize];
         print_head(&mut self.output, alloc, self.emit_docs, interface, name)
@@ -167,6 +185,7 @@ impl<O: Output> WitPrinter<O> {
         ensures err { OnErr result (Begins O.keeps (O.view self.old.output) (interface_body_calls (emits_docs self.old) resolve.now id) (O.view self.new.output)) }
         ensures memory { IsOkUnless result Memory }
         ensures docs { emits_docs self.new ≡ emits_docs self.old }
+        ensures mark { block_has_printed self.new ≡ block_has_printed self.old }
     {
         let interface = &resolve.interfaces[id.0 as usize];
         print_interface_body(
@@ -177,6 +196,48 @@ impl<O: Output> WitPrinter<O> {
             id,
             interface,
         )
+    }
+
+    /// Prints types of an owner under their names, in the order in which the iterator gives them: uses in groups, then each other
+    /// type, a resource with the functions under its number that belong to it. An owner that no package has is printed as of a
+    /// package of its own.
+    ///
+    /// Goes on in the printer's outer block, in which a new printer has printed nothing: a declaration behind another comes
+    /// after an empty line. Keeps a list of the types meanwhile, and otherwise no more than the largest item. The time is
+    /// linear in what is printed and in the functions handed in. After a refusal the output has a beginning of the calls, and
+    /// is all that is of use.
+    pub fn print_types<'a, I: Iterator<Item = (&'a str, TypeId)> + Drop>(
+        &mut self,
+        alloc: Global,
+        resolve: &'a Resolve,
+        owner: TypeOwner,
+        types: I,
+        functions: &HashMap<TypeId, Vec<&'a Function>>,
+    ) -> Result<(), Error>
+        requires valid { IsValid resolve.now }
+        requires placed { same_owner owner TypeOwner.None ≡ false }
+        requires can { I.can_next types }
+        requires ends { IsFinite (I.remaining types) }
+        requires known { (xs : List (Bor Text × TypeId)) → Drains I.next_gives types xs → list_all (is_listed_type resolve.now owner) (listed_of xs) ≡ true }
+        requires functions { are_functions_of resolve.now owner functions.now.entries ≡ true }
+        ensures ok { OnOk result ((xs : List (Bor Text × TypeId)) × Drains I.next_gives types xs × Moves O.keeps (O.view self.old.output) (members_calls (emits_docs self.old) (block_has_printed self.old) (given_members resolve.now owner functions.now.entries (listed_of xs))) (O.view self.new.output) × (block_has_printed self.new ≡ printed_after (block_has_printed self.old) (given_members resolve.now owner functions.now.entries (listed_of xs)))) }
+        ensures err { OnErr result ((O.view self.new.output ≡ O.view self.old.output) ⊎ ((xs : List (Bor Text × TypeId)) × Drains I.next_gives types xs × Begins O.keeps (O.view self.old.output) (members_calls (emits_docs self.old) (block_has_printed self.old) (given_members resolve.now owner functions.now.entries (listed_of xs))) (O.view self.new.output))) }
+        ensures memory { IsOkUnless result Memory }
+        ensures docs { emits_docs self.new ≡ emits_docs self.old }
+    {
+        let types = collect_types(alloc, types)?;
+        let printed = print_given_types(
+            &mut self.output,
+            alloc,
+            self.emit_docs,
+            self.has_printed,
+            resolve,
+            owner,
+            &types,
+            functions,
+        )?;
+        self.has_printed = printed;
+        Ok(())
     }
 
     /// Prints a type as it stands where it is used: by its name, or else by its kind. A handle that owns a resource and has no
@@ -196,6 +257,7 @@ impl<O: Output> WitPrinter<O> {
         ensures err { OnErr result (Begins O.keeps (O.view self.old.output) (type_calls (shown_type resolve.now ty.now)) (O.view self.new.output)) }
         ensures memory { IsOkUnless result Memory }
         ensures docs { emits_docs self.new ≡ emits_docs self.old }
+        ensures mark { block_has_printed self.new ≡ block_has_printed self.old }
     {
         let mut draft = Draft::new(alloc);
         draft_type_name(&mut draft, resolve, ty)?;
