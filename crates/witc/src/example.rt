@@ -58,7 +58,7 @@ fn package(alloc: Global) -> Result<Resolve, Error> {
 fn checked_encoded_and_printed(rt: HostRuntime) -> Result<(), Fail> {
     let alloc = rt.alloc();
     let resolve = package(alloc)?;
-    assert!(rt; resolve.packages.len() > 0 && is_plain(&resolve));
+    assert!(rt; resolve.packages.len() > 0);
     resolve.check(alloc)?;
 
     let bytes = encode(alloc, &resolve, PackageId(0), false)?;
