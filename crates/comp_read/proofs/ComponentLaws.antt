@@ -21,7 +21,7 @@ use Rattle.comp_read.specs.declared.slots.Slot.TheVariants as slots
 use Rattle.comp_read.specs.declared.views.ShownType.{ShownType}
 use Rattle.comp_read.specs.Bodies.{held_declaration_at, items_in, IsBody}
 use Rattle.comp_read.specs.Defining.{Grows, IsDefined, IsDefinedFunction, IsUndefined}
-use Rattle.comp_read.specs.Following.{shown_type, AreTables, IsNoInstance, IsShownIn, IsSlotIn}
+use Rattle.comp_read.specs.Following.{shown_type, AreTables, IsShownIn, IsSlotIn, IsTypeSlot}
 use Rattle.comp_read.specs.Found.{Refuses}
 use Rattle.comp_read.specs.Functions.{functions_in, signature_in, FunctionShape, IsFunctionIn}
 use Rattle.comp_read.specs.Places.{has_path, ArePlacesOf}
@@ -193,15 +193,15 @@ module _ (old : World) (st : IsWorld old) where
         by None = refl
         by (Some s) = refl
 
-  found_in : (name : Text) (ts : List ShownType) → AllByRecursion (IsShownIn old.shapes old.signatures) ts → (s : Slot) → find_slot name ts ≡ Some s → IsSlotIn old.shapes old.signatures s × IsNoInstance s
+  found_in : (name : Text) (ts : List ShownType) → AllByRecursion (IsShownIn old.shapes old.signatures) ts → (s : Slot) → find_slot name ts ≡ Some s → IsSlotIn old.shapes old.signatures s × IsTypeSlot s
   found_in name [] h s e = absurd cc
   found_in name (t ∷ ts) h s e = by (text_eq name t.name.now) e (found_in name ts h.1 s)
     where
-      by : (b : Bool) → cond b (Some t.slot) (find_slot name ts) ≡ Some s → (find_slot name ts ≡ Some s → IsSlotIn old.shapes old.signatures s × IsNoInstance s) → IsSlotIn old.shapes old.signatures s × IsNoInstance s
-      by true f rest = let same : t.slot ≡ s = cc in (subst (λ (x : Slot). IsSlotIn old.shapes old.signatures x) same h.0.slot, subst (λ (x : Slot). IsNoInstance x) same h.0.kind)
+      by : (b : Bool) → cond b (Some t.slot) (find_slot name ts) ≡ Some s → (find_slot name ts ≡ Some s → IsSlotIn old.shapes old.signatures s × IsTypeSlot s) → IsSlotIn old.shapes old.signatures s × IsTypeSlot s
+      by true f rest = let same : t.slot ≡ s = cc in (subst (λ (x : Slot). IsSlotIn old.shapes old.signatures x) same h.0.slot, subst (λ (x : Slot). IsTypeSlot x) same h.0.kind)
       by false f rest = rest f
 
-  taken_in : (a : Alias) (s : Slot) → taken_from old.paths old.instances a ≡ Some s → IsSlotIn old.shapes old.signatures s × IsNoInstance s
+  taken_in : (a : Alias) (s : Slot) → taken_from old.paths old.instances a ≡ Some s → IsSlotIn old.shapes old.signatures s × IsTypeSlot s
   taken_in (Alias.of_outer scopes n) s e = absurd cc
   taken_in (Alias.of_export m name) s e = by (slice_get old.instances m) refl e
     where
@@ -210,16 +210,16 @@ module _ (old : World) (st : IsWorld old) where
       kept true (Some x) e = e
       kept false (Some x) e = absurd cc
 
-      by : (o : Option Instance) → slice_get old.instances m ≡ o → slot_of_instance old.paths name o ≡ Some s → IsSlotIn old.shapes old.signatures s × IsNoInstance s
+      by : (o : Option Instance) → slice_get old.instances m ≡ o → slot_of_instance old.paths name o ≡ Some s → IsSlotIn old.shapes old.signatures s × IsTypeSlot s
       by None at f = absurd cc
       by (Some x) at f =
           let inside = all_at (IsInstanceIn old.shapes old.signatures old.paths) old.instances m x st.instances at in
           found_in name x.view.types.items inside.types s (kept (has_path (unwrap_or (slice_get old.paths x.place) None)) (find_slot name x.view.types.items) f)
 
-  no_wait : (s : Slot) → IsNoInstance s → waits s ≡ 0
+  no_wait : (s : Slot) → IsTypeSlot s → waits s ≡ 0
   no_wait (slots.Value part) h = refl
   no_wait (slots.Resource part) h = refl
-  no_wait (slots.Function f) h = refl
+  no_wait (slots.Function f) h = absurd h
   no_wait (slots.Instance b n) h = absurd h
 
   pub alias_goes : (a : Alias) (s : Slot) (ss : List Slot) → taken_from old.paths old.instances a ≡ Some s → ss ≡ old.slots ++ s ∷ []

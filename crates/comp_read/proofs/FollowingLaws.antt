@@ -28,7 +28,7 @@ use Rattle.read_plan.proofs.ShapeLaws.{name_tree, part_behind, slice_front, tree
 use Rattle.comp_read.proofs.AddLaws.{mapped_get}
 use Rattle.comp_read.proofs.DefiningLaws.{functions_grown, longer, one_longer, part_grown, same_list}
 use Rattle.comp_read.proofs.Refusing.{refused}
-use Rattle.comp_read.proofs.TableGrowth.{found_below}
+use Rattle.comp_read.proofs.TableGrowth.{found_below, no_types}
 use Rattle.comp_read.proofs.WholeLaws.{all_end}
 
 -- ---- slots of well-formed tables
@@ -56,6 +56,12 @@ names_of place shapes fs (slots.Value part ∷ ss) table h = names_of place shap
 names_of place shapes fs (slots.Resource part ∷ ss) table h = (subst IsName (sym (name_part place shapes part table h.0)) tt, names_of place shapes fs ss table h.1)
 names_of place shapes fs (slots.Function n ∷ ss) table h = names_of place shapes fs ss table h.1
 names_of place shapes fs (slots.Instance b n ∷ ss) table h = names_of place shapes fs ss table h.1
+
+-- ---- empty tables
+
+pub no_tables : (m : ℕ) (shapes : List Shape) (fs : List FunctionShape) → shapes ≡ [] → fs ≡ [] → AreTables m shapes fs
+no_tables m shapes fs es ef =
+    subst (λ (ss : List Shape). AreTables m ss fs) (sym es) (subst (λ (gs : List FunctionShape). AreTables m [] gs) (sym ef) (record { table = no_types.table; placed = tt; signatures = tt }))
 
 -- ---- tables that grow
 

@@ -14,6 +14,7 @@ pub mod HeldLaws
 pub mod JoinLaws
 pub mod KeyLaws
 pub mod LabelLaws
+pub mod LookUpLaws
 pub mod PartTypeLaws
 pub mod PathLaws
 pub mod PlaceLaws

@@ -20,7 +20,7 @@ use Rattle.comp_read.specs.declared.slots.Slot.TheVariants as slots
 use Rattle.comp_read.specs.declared.views.ShownFunction.{ShownFunction}
 use Rattle.comp_read.specs.declared.views.ShownType.{ShownType}
 use Rattle.comp_read.specs.ExternNames.{raw_name}
-use Rattle.comp_read.specs.Following.{scope_at, shown_function, signatures_at, slots_at, trees_at, AreTables, Halts, IsNoInstance, IsShownFunctionIn, IsShownIn, IsSlotIn, IsState, State, Steps}
+use Rattle.comp_read.specs.Following.{scope_at, shown_function, signatures_at, slots_at, trees_at, AreTables, Halts, IsShownFunctionIn, IsShownIn, IsSlotIn, IsState, IsTypeSlot, State, Steps}
 use Rattle.comp_read.specs.Found.{Refuses}
 use Rattle.comp_read.specs.Functions.{functions_in}
 use Rattle.comp_read.specs.InstanceScopes.{name_meant, name_slot, named_by}
@@ -125,7 +125,7 @@ module _ (marks : List Bool) (old : State) (st : IsState (length marks) old) (na
         (λ none. ap (with_named (scope_at place old)) none)
         (r (trees_at place old) (signatures_at place old) (place here) name.text.now (names_of place old.shapes old.signatures old.slots st.tables.table st.slots))
 
-    name_kind : (b : Bool) (part : ℕ) → IsNoInstance (name_slot b part)
+    name_kind : (b : Bool) (part : ℕ) → IsTypeSlot (name_slot b part)
     name_kind true part = tt
     name_kind false part = tt
 
@@ -166,7 +166,7 @@ module _ (marks : List Bool) (old : State) (st : IsState (length marks) old) (na
         let shown : IsShownIn more old.signatures t = record {
           slot = inside;
           declared = declared_range made.declared more le range;
-          kind = subst (λ (x : Slot). IsNoInstance x) (sym is) (name_kind made.is_resource (14 + number));
+          kind = subst (λ (x : Slot). IsTypeSlot x) (sym is) (name_kind made.is_resource (14 + number));
         } in
         record {
           state = shown_state (length marks) old st more old.signatures gs gf tables s inside ss next t shown ts last;

@@ -81,15 +81,17 @@ IsSlotIn shapes fs (slots.Instance b n) = IsBody held_declaration_at b
 abbrev pub AreSlotsIn : List Shape → List FunctionShape → List Slot → Type 0
 AreSlotsIn shapes fs ss = AllByRecursion (IsSlotIn shapes fs) ss
 
--- the slot is no instance type
-abbrev pub IsNoInstance : Slot → Type 0
-IsNoInstance (slots.Instance b n) = ⊥
-IsNoInstance _ = Unit {0}
+-- the slot is the type of a value, or a resource
+abbrev pub IsTypeSlot : Slot → Type 0
+IsTypeSlot (slots.Value part) = Unit {0}
+IsTypeSlot (slots.Resource part) = Unit {0}
+IsTypeSlot (slots.Function n) = ⊥
+IsTypeSlot (slots.Instance b n) = ⊥
 
 pub record IsShownIn (shapes : List Shape) (fs : List FunctionShape) (s : ShownType) : Type 0 where
   pub slot : IsSlotIn shapes fs s.slot
   pub declared : IfSome s.declared (λ k. k < 14 + length shapes)
-  pub kind : IsNoInstance s.slot
+  pub kind : IsTypeSlot s.slot
 
 abbrev pub IsShownFunctionIn : List FunctionShape → ShownFunction → Type 0
 IsShownFunctionIn fs f = f.function < length fs

@@ -265,7 +265,7 @@ pub fn follow_component<'a>(
             if are_settled(&scope.used, &scope.slots) {
                 Ok(scope)
             } else {
-                Err(Refusal::Absent(Cause::NotWit, body.behind))
+                Err(Refusal::Absent(Cause::NotWit, 0))
             }
         }
         Err(refusal) => Err(refusal),

@@ -1,6 +1,6 @@
 //! Types of functions, each kept once.
 
-ghost use Rattle.std.specs.Prelude.{◌≡◌, ◌<◌, ◌^◌, [], map, slice_get, IfOk, OnOk, OnErr, IsOkUnless, Some};
+ghost use Rattle.std.specs.Prelude.{◌≡◌, ◌<◌, ◌^◌, ◌==◌, [], length, map, option_map, slice_get, IfOk, OnOk, OnErr, IsOkUnless, Some};
 ghost use Rattle.comp_read.specs.Functions.{function_shape, AreApart, Joins};
 ghost use Rattle.comp_read.specs.declared.refusal.Refusal.TheVariants as refusals;
 
@@ -50,6 +50,35 @@ impl<'a> Functions<'a> {
         Functions {
             keys: IndexSet::new(alloc),
         }
+    }
+
+    /// How many types of functions there are. Takes constant time.
+    pub fn len(&self) -> usize
+        ensures many { result ≡ length self.now }
+        ensures small { result < 2 ^ 63 }
+    {
+        self.keys.len()
+    }
+
+    /// Whether there are no types of functions. Takes constant time.
+    pub fn is_empty(&self) -> bool
+        ensures { result ≡ (length self.now == 0) }
+    {
+        self.len() == 0
+    }
+
+    /// What the type of this number is, if there is one. Takes constant time.
+    pub fn key(&self, number: usize) -> Option<&FunctionKey<'a>>
+        ensures { option_map (λ key. function_shape key.now) result ≡ slice_get self.now number }
+    {
+        self.keys.get_index(number)
+    }
+
+    /// No type stands twice. Does nothing.
+    pub fn are_apart(&self)
+        ensures { AreApart self.now }
+    {
+        let _count = self.keys.len();
     }
 
     /// The number that the type has from now on: its own, if it stands in the table, or the next.

@@ -43,6 +43,7 @@ pub use instances::follow_instance;
 pub use keys::{FunctionKey, Key};
 pub use names::ExternName;
 pub use part_types::{PartType, part_type_of};
+pub use paths::complete_path;
 pub use places::Places;
 pub use refusal::Refusal;
 pub use scopes::{Instance, Scope, Seen, Shown};

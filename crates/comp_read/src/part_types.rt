@@ -19,7 +19,7 @@ use std::alloc::Global;
 use wit_model::Cause;
 
 /// A component type at the top. Its entries are kept as a part of the input, and the texts of a name are parts of it.
-#[derive(Drop)]
+#[derive(Clone, Copy)]
 pub enum PartType<'a> {
     /// The wrapper of a world: the entries of the world, and the name of its export.
     Wraps(Body<'a>, ExternName<'a>),

@@ -128,11 +128,7 @@ fn completed(alloc: Global, text: &str, suffix: Option<&str>) -> Result<String, 
 /// The path, its version completed by the suffix, if there is one. Takes time and memory linear in the text.
 ///
 /// Refuses with `Absent` exactly where it is no path, or where a suffix stands behind no text of a version; else with `Memory`.
-pub(crate) fn complete_path(
-    alloc: Global,
-    text: &str,
-    suffix: Option<&str>,
-) -> Result<String, Refusal>
+pub fn complete_path(alloc: Global, text: &str, suffix: Option<&str>) -> Result<String, Refusal>
     ensures { Gives text_of result (complete_path_lem text.now (option_map borrowed_text suffix.entry)) }
 {
     match completed(alloc, text, suffix) {

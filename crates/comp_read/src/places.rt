@@ -1,6 +1,6 @@
 //! The places of names, by number: each path once, and the scopes that have none.
 
-ghost use Rattle.std.specs.Prelude.{◌≡◌, ◌≤◌, ◌+◌, ◌∷◌, ◌++◌, [], None, Some, length, map, option_map, slice_get, unwrap_or, IfOk, IsOkUnless, OnErr, OnOk};
+ghost use Rattle.std.specs.Prelude.{◌≡◌, ◌<◌, ◌≤◌, ◌+◌, ◌^◌, ◌==◌, ◌∷◌, ◌++◌, [], None, Some, length, map, option_map, slice_get, unwrap_or, IfOk, IsOkUnless, OnErr, OnOk};
 ghost use Rattle.wit_model.specs.Text.{text_of};
 ghost use Rattle.comp_read.specs.Defining.{Grows};
 ghost use Rattle.comp_read.specs.Functions.{Joins};
@@ -83,6 +83,28 @@ impl Places {
             keys: IndexSet::new(alloc),
             marks: Vec::new(alloc),
         }
+    }
+
+    /// How many places there are. Takes constant time.
+    pub fn len(&self) -> usize
+        ensures many { result ≡ length self.now }
+        ensures small { result < 2 ^ 63 }
+    {
+        self.keys.len()
+    }
+
+    /// Whether there are no places. Takes constant time.
+    pub fn is_empty(&self) -> bool
+        ensures { result ≡ (length self.now == 0) }
+    {
+        self.len() == 0
+    }
+
+    /// No path stands twice. Does nothing.
+    pub fn are_apart(&self)
+        ensures { ArePathsApart self.now }
+    {
+        let _count = self.keys.len();
     }
 
     /// The number that the place of a path has from now on: its own, if it has one, or the next.

@@ -18,7 +18,7 @@ use std::alloc::Global;
 use wit_model::Cause;
 
 /// An export at the top of a component. Texts are parts of the input.
-#[derive(Drop)]
+#[derive(Clone, Copy)]
 pub struct TopExport<'a> {
     pub name: ExternName<'a>,
     /// The index of a type.

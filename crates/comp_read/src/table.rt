@@ -1,6 +1,6 @@
 //! Types, each kept once.
 
-ghost use Rattle.std.specs.Prelude.{◌≡◌, ◌<◌, ◌+◌, ◌^◌, [], length, map, slice_get, IfOk, OnOk, OnErr, IsOkUnless, Some};
+ghost use Rattle.std.specs.Prelude.{◌≡◌, ◌<◌, ◌+◌, ◌^◌, ◌==◌, [], length, map, option_map, slice_get, IfOk, OnOk, OnErr, IsOkUnless, Some};
 ghost use Rattle.comp_read.specs.Facts.{IsKept, Tells};
 ghost use Rattle.read_plan.specs.Shapes.{part_tree, shape_tree, shape_trees, Adds, IsShape, IsTable};
 ghost use Rattle.comp_read.specs.InstanceScopes.{place_in};
@@ -88,8 +88,30 @@ impl<'a> Table<'a> {
         put(&mut self.keys, &mut self.facts, key, fact)
     }
 
-    /// Each type stands behind its parts, and none stands twice.
-    pub(crate) fn is_well_formed(&self)
+    /// How many types there are. Takes constant time.
+    pub fn len(&self) -> usize
+        ensures many { result ≡ length self.now }
+        ensures small { result < 2 ^ 63 }
+    {
+        self.keys.len()
+    }
+
+    /// Whether there are no types. Takes constant time.
+    pub fn is_empty(&self) -> bool
+        ensures { result ≡ (length self.now == 0) }
+    {
+        self.len() == 0
+    }
+
+    /// What the type of this number is, if there is one. Takes constant time.
+    pub fn key(&self, number: usize) -> Option<&Key<'a>>
+        ensures { option_map (λ key. shape_of key.now) result ≡ slice_get self.now number }
+    {
+        self.keys.get_index(number)
+    }
+
+    /// Each type stands behind its parts, and none stands twice. Does nothing.
+    pub fn is_well_formed(&self)
         ensures { IsTable self.now }
     {
         let _count = self.facts.len();
@@ -102,6 +124,7 @@ impl<'a> Table<'a> {
     {
         fact_at(&self.facts, part)
     }
+
     /// The number of the place of a part that is a name. Takes constant time.
     pub fn place_of(&self, part: usize) -> Option<u32>
         ensures { result ≡ place_in self.now part }

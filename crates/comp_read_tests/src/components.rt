@@ -158,3 +158,63 @@ fn changed_entries(rt: HostRuntime) {
         assert!(rt; is_right, "{} {}", change.at, change.to);
     }
 }
+
+// A component type with one entry, an instance type that nothing uses. Behind it stand two bytes, which are no part of its body.
+static UNUSED: [u8; 7] = [0x41, 0x01, 0x01, 0x42, 0x00, 0x00, 0x00];
+
+// What is left unused is seen at the end of the body, with no byte left in it.
+#[test]
+fn an_instance_type_left_unused(rt: HostRuntime) {
+    let alloc = rt.alloc();
+    let mut places = Places::new(alloc);
+    let is_right = match shown(alloc, &mut places, &UNUSED) {
+        Err(Refusal::Absent(cause, left)) => cause == Cause::NotWit && left == 0,
+        _ => false,
+    };
+    assert!(rt; is_right);
+}
+
+// The world's tables: the name `t` in the place of `a:b/i` and `own<t>`, the type of `f`, and the places of the world and of `a:b/i`.
+fn are_tables(table: &Table<'_>, functions: &Functions<'_>, places: &Places) -> bool {
+    let is_name = match table.key(0) {
+        Some(key) => key.sort == 0 && key.number == 1,
+        None => false,
+    };
+    let is_handle = match table.key(1) {
+        Some(key) => key.sort == 6 && key.parts.len() == 1,
+        None => false,
+    };
+    let is_typed = match functions.key(0) {
+        Some(key) => key.params.len() == 1 && key.result.is_none(),
+        None => false,
+    };
+    is_name
+        && is_handle
+        && is_typed
+        && table.key(2).is_none()
+        && functions.key(1).is_none()
+        && table.len() == 2
+        && functions.len() == 1
+        && places.len() == 2
+}
+
+fn are_kept(alloc: Global) -> Result<bool, Refusal> {
+    let mut table = Table::new(alloc);
+    let mut functions = Functions::new(alloc);
+    let mut places = Places::new(alloc);
+    let were_empty = table.is_empty() && functions.is_empty() && places.is_empty();
+    match part_type_of(alloc, &WORLD) {
+        Ok((PartType::Shows(body), _)) => {
+            let _scope = follow_component(alloc, &mut table, &mut functions, &mut places, body)?;
+            Ok(were_empty && are_tables(&table, &functions, &places))
+        }
+        Ok(_) => Ok(false),
+        Err(refusal) => Err(refusal),
+    }
+}
+
+#[test]
+fn tables_of_a_world(rt: HostRuntime) {
+    let alloc = rt.alloc();
+    assert!(rt; are_kept(alloc) == Ok(true));
+}

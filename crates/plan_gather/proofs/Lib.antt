@@ -1,8 +1,10 @@
 pub mod AgreementLaws
+pub mod DeclaredKinds
 pub mod FirstAgreement
 pub mod FunctionLaws
 pub mod InterfaceLaws
 pub mod KeptLaws
+pub mod KindLaws
 pub mod ListedFunctions
 pub mod MarkLaws
 pub mod SightLaws

@@ -3,6 +3,7 @@
 ghost use Rattle.plan_gather.specs.Agreement.{FirstViewsTell};
 ghost use Rattle.plan_gather.specs.Functions.{FunctionsBecome, KindsAreNamed};
 ghost use Rattle.plan_gather.specs.Interfaces.{FunctionsAreListed};
+ghost use Rattle.plan_gather.specs.Kinds.{KindsAreDeclared};
 
 /// A function that may stand behind some resources is of the kind that its name says.
 pub fn kinds_are_named()
@@ -22,4 +23,9 @@ pub fn functions_are_listed()
 /// Views of interfaces agree where each agrees with the first of its place.
 pub fn first_views_tell()
     ensures { FirstViewsTell }
+{}
+
+/// A type of the kind that was made for what it declares is what the plan's type of it says.
+pub fn kinds_are_declared()
+    ensures { KindsAreDeclared }
 {}

@@ -12,8 +12,8 @@ use crate::views::{Sighted, first_views};
 use plan_read::Sight;
 use std::alloc::{AllocError, Global};
 
-/// The first view of a place, by the number that each place has for it.
-fn first_at<'a>(sights: &[Sight<'a>], firsts: &[Option<usize>], place: u32) -> Option<Sight<'a>>
+/// The first view of a place, by the number that a table of first views has for it. Takes constant time.
+pub fn first_at<'a>(sights: &[Sight<'a>], firsts: &[Option<usize>], place: u32) -> Option<Sight<'a>>
     ensures { option_map numbered_sight result ≡ option_and_then (slice_get (map numbered_sight sights.now)) (slice_index_or firsts.now place None) }
 {
     let place = place as usize;
@@ -119,6 +119,25 @@ fn places_of(sights: &[Sight<'_>]) -> usize
     places
 }
 
+/// For each place up to the largest one, the number of its first view, and that of the first that shows functions, if there is one.
+///
+/// Takes time linear in the views and in the largest number of a place, and as much memory. Refuses for want of memory alone.
+pub fn first_tables(
+    alloc: Global,
+    sights: &[Sight<'_>],
+) -> Result<(Vec<Option<usize>>, Vec<Option<usize>>), AllocError>
+    ensures firsts { IfOk result (λ x. TellsFirst false (length x.0.items) (map numbered_sight sights.now) x.0.items) }
+    ensures wholes { IfOk result (λ x. TellsFirst true (length x.1.items) (map numbered_sight sights.now) x.1.items) }
+    ensures places { IfOk result (λ x. AllByRecursion (λ s. s.place < length x.0.items) sights.now) }
+    ensures many { IfOk result (λ x. length x.1.items ≡ length x.0.items) }
+{
+    let places = places_of(sights);
+    let all = all_sighted(alloc, sights)?;
+    let firsts = first_views(alloc, places, &all, false)?;
+    let wholes = first_views(alloc, places, &all, true)?;
+    Ok((firsts, wholes))
+}
+
 /// Whether views of interfaces agree (Component Model WIT.md, "Package Format"): each shows the types of the first view of its place, and each
 /// that shows functions tells the same of them as the first that does.
 ///
@@ -126,9 +145,6 @@ fn places_of(sights: &[Sight<'_>]) -> usize
 pub fn agree(alloc: Global, sights: &[Sight<'_>]) -> Result<bool, AllocError>
     ensures { IfOk result (λ b. b ≡ agree_with_first_in_numbers [] (map numbered_sight sights.now)) }
 {
-    let places = places_of(sights);
-    let all = all_sighted(alloc, sights)?;
-    let firsts = first_views(alloc, places, &all, false)?;
-    let wholes = first_views(alloc, places, &all, true)?;
+    let (firsts, wholes) = first_tables(alloc, sights)?;
     each_agrees(alloc, sights, &firsts, &wholes)
 }

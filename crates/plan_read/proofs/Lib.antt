@@ -6,6 +6,6 @@ pub mod MemberNames
 pub mod PlaceLaws
 pub mod ReachedLaws
 pub mod ResourceLaws
-mod SightLaws
+pub mod SightLaws
 pub mod TextLaws
 pub mod WorldLaws

@@ -206,6 +206,6 @@ module _ (t : Tables) (home : ℕ) (rs : List Text) (key : Text) (s : Shown) {E 
       h ∙ (ap (is_function (numbered_tables t) (known_in t) home rs key) at ∙ ap (λ x. is_item (numbered_tables t) (known_in t) home rs key (numbered_shown x)) (sym is))
   function_item n is shape at (Err e) h = tt
 
-pub declared_item : (t : Tables) (home : ℕ) (rs : List Text) (key : Text) (s : Shown) (d : Option ℕ) → s ≡ variants.Declares d → (b : Bool) → b ≡ (is_label key && is_declared (numbered_tables t) (known_in t) home d)
+pub declared_item : (t : Tables) (home : ℕ) (rs : List Text) (key : Text) (s : Shown) (part : ℕ) (d : Option ℕ) → s ≡ variants.Declares part d → (b : Bool) → b ≡ (is_label key && is_declared (numbered_tables t) (known_in t) home d)
     → b ≡ is_item (numbered_tables t) (known_in t) home rs key (numbered_shown s)
-declared_item t home rs key s d is b h = h ∙ ap (λ x. is_item (numbered_tables t) (known_in t) home rs key (numbered_shown x)) (sym is)
+declared_item t home rs key s part d is b h = h ∙ ap (λ x. is_item (numbered_tables t) (known_in t) home rs key (numbered_shown x)) (sym is)

@@ -20,7 +20,7 @@ numbered_key (keys.Implementing l p) = worlds.implementing l.now p
 abbrev pub numbered_shown : Shown → NumberedShown
 numbered_shown (shown.Instance key v) = worlds.instance (numbered_key key) (numbered_view v)
 numbered_shown (shown.Function n) = worlds.function n
-numbered_shown (shown.Declares d) = worlds.declares d
+numbered_shown (shown.Declares part d) = worlds.declares d
 
 abbrev pub numbered_seen : Seen → NumberedSeen
 numbered_seen s = record { key = s.key.now; shown = numbered_shown s.shown; external_id = given_text s.external_id }

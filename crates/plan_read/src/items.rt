@@ -50,7 +50,7 @@ fn is_item(
                 function_at(tables, number),
             )
         }
-        Shown::Declares(declared) => Ok(may_be_declared(tables, home, key, declared)),
+        Shown::Declares(_, declared) => Ok(may_be_declared(tables, home, key, declared)),
     }
 }
 

@@ -22,8 +22,8 @@ pub enum Shown<'a> {
     Instance(InstanceKey<'a>, View<'a>),
     /// The number of the type of a function.
     Function(usize),
-    /// The part that a type is another name for, if it is no resource.
-    Declares(Option<usize>),
+    /// A type of the world: the part that its name is, and the part that it is another name for, if it is no resource.
+    Declares(usize, Option<usize>),
 }
 
 /// An import or an export. Texts are parts of the input.
@@ -72,7 +72,7 @@ pub(crate) fn place_seen(shown: Shown<'_>) -> Option<u32>
             InstanceKey::Implementing(_, place) => Some(place),
         },
         Shown::Function(_) => None,
-        Shown::Declares(_) => None,
+        Shown::Declares(_, _) => None,
     }
 }
 
@@ -81,7 +81,7 @@ pub(crate) fn shows_resource(shown: Shown<'_>) -> bool
     ensures { result ≡ is_resource_seen (numbered_shown shown.entry) }
 {
     match shown {
-        Shown::Declares(declared) => is_resource(declared),
+        Shown::Declares(_, declared) => is_resource(declared),
         Shown::Instance(_, _) => false,
         Shown::Function(_) => false,
     }

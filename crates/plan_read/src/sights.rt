@@ -65,8 +65,9 @@ fn add_instance<'a>(
     Ok(())
 }
 
-/// Adds the views that the instances of a component type give.
-pub(crate) fn add_scope<'a>(
+/// Adds the views of interfaces with a path that the instances of a component type give, in order. Takes time linear in the instances, and as
+/// much memory.
+pub fn add_sights<'a>(
     sights: &mut Vec<Sight<'a>>,
     tables: &Tables<'_>,
     instances: &[Instance<'a>],
@@ -90,6 +91,6 @@ pub fn sights_of_scope<'a>(
     ensures { IfOk result (λ sights. map numbered_sight sights.items ≡ sights_of_scope_lem (numbered_tables tables.now) (numbered_scope scope.entry)) }
 {
     let mut sights = Vec::new(alloc);
-    add_scope(&mut sights, tables, scope.instances)?;
+    add_sights(&mut sights, tables, scope.instances)?;
     Ok(sights)
 }

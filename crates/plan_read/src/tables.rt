@@ -81,8 +81,8 @@ pub(crate) fn fact_at(tables: &Tables<'_>, part: usize) -> Fact
     }
 }
 
-/// The shape of a part, if it is no primitive.
-pub(crate) fn shape_at<'a>(tables: &Tables<'a>, part: usize) -> Option<TypeShape<'a>>
+/// The shape of a part, if it is no primitive. Takes constant time.
+pub fn shape_at<'a>(tables: &Tables<'a>, part: usize) -> Option<TypeShape<'a>>
     ensures { option_map numbered_shape result ≡ shape_at_lem (numbered_tables tables.now) part }
 {
     if part < 14 {
@@ -100,8 +100,8 @@ fn first_label<'a>(labels: &[(&'a str, bool)]) -> &'a str
     }
 }
 
-/// The place and the name of a shape that is a name.
-fn name_in<'a>(shape: TypeShape<'a>) -> Option<(u32, &'a str)>
+/// The place and the name of a shape that is a name. Takes constant time.
+pub fn name_in<'a>(shape: TypeShape<'a>) -> Option<(u32, &'a str)>
     ensures { option_map name_of result ≡ name_in_lem (numbered_shape shape.entry) }
 {
     if shape.sort == 0 {

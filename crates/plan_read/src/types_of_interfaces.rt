@@ -27,7 +27,7 @@ pub fn imported_view<'a>(import: Seen<'a>) -> Option<ImportedView<'a>>
             InstanceKey::Implementing(_, _) => None,
         },
         Shown::Function(_) => None,
-        Shown::Declares(_) => None,
+        Shown::Declares(_, _) => None,
     }
 }
 
@@ -48,7 +48,7 @@ fn export_of<'a>(export: Seen<'a>) -> Option<Instance<'a>>
             InstanceKey::Implementing(_, _) => None,
         },
         Shown::Function(_) => None,
-        Shown::Declares(_) => None,
+        Shown::Declares(_, _) => None,
     }
 }
 

@@ -90,7 +90,7 @@ fn uses_stand(tables: &Tables<'_>, earlier: &IndexSet<u32>, shown: Shown<'_>) ->
     match shown {
         Shown::Instance(key, view) => types_stand(tables, earlier, place_of(key), view.types),
         Shown::Function(_) => true,
-        Shown::Declares(declared) => stands(earlier, used_by(tables, declared)),
+        Shown::Declares(_, declared) => stands(earlier, used_by(tables, declared)),
     }
 }
 

@@ -42,7 +42,7 @@ const I: Seen<'static> = Seen {
 
 const USE_T: Seen<'static> = Seen {
     key: "v",
-    shown: Shown::Declares(Some(T)),
+    shown: Shown::Declares(19, Some(T)),
     external_id: None,
 };
 
@@ -60,7 +60,7 @@ const STATIC: Seen<'static> = Seen {
 
 const Q: Seen<'static> = Seen {
     key: "q",
-    shown: Shown::Declares(None),
+    shown: Shown::Declares(20, None),
     external_id: None,
 };
 

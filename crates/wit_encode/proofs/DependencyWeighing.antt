@@ -89,19 +89,19 @@ module _ (r : Resolve) (v : IsValid r) (i : InterfaceId) (def : Interface) (home
   abbrev own-numbers : List ℕ
   own-numbers = instance_numbers r def []
 
-  types-owner : IsOwner r v (owner.Interface i) (interface_type_numbers def) []
+  pub types-owner : IsOwner r v (owner.Interface i) (interface_type_numbers def) []
   types-owner = let o = interface-owner r v i def home in record { types = o.types; listed = o.listed; functions = λ f c. none-in f c }
 
-  listed-here : (t : TypeId) → Contains (values def.types) t → Contains (interface_type_numbers def) t.0
+  pub listed-here : (t : TypeId) → Contains (values def.types) t → Contains (interface_type_numbers def) t.0
   listed-here t c = contains-map (λ (id : TypeId). id.0) (values def.types) t c
 
   abbrev Met : ℕ → Type 0
   Met n = ReachedFrom r (Some i) (referred (values def.types) []) n
 
-  in-numbers : (n : ℕ) → Met n → Contains own-numbers n
+  pub in-numbers : (n : ℕ) → Met n → Contains own-numbers n
   in-numbers n m = counted-once r v (owner.Interface i) (interface_type_numbers def) [] types-owner (values def.types) [] listed-here (λ f c. c) n m
 
-  types-weigh : types_instance_weight r i.0 ≡ 64 + (sum_by weigh own-numbers + sum_by function_weight [])
+  pub types-weigh : types_instance_weight r i.0 ≡ 64 + (sum_by weigh own-numbers + sum_by function_weight [])
   types-weigh = ap (λ t. option_map_or (λ x. instance_weight r i.0 x []) t 0) home
 
   types-fit : types_instance_weight r i.0 ≤ limit → TypesLackRoom r i def → ⊥
@@ -176,17 +176,17 @@ module _ (r : Resolve) (v : IsValid r) (i : InterfaceId) (named : is_some (inter
   total = 64 + (sum_by (number_weight r owner.None) (once (flat_map (brought_into r) (i.0 ∷ deps)))
       + (sum_by path-weight (i.0 ∷ deps) + (sum_by (types_instance_weight r) deps + whole_instance_weight r i.0)))
 
-  weight-is : interface_weight r i.0 ≡ total
+  pub weight-is : interface_weight r i.0 ≡ total
   unfolding interface_weight
   weight-is = refl
 
   apart : AllPairs Differ ns
   apart = distinct-pairs ns (distinct-front ns (i.0 ∷ []) reaches.once)
 
-  types-within : sum_by (types_instance_weight r) ns ≤ sum_by (types_instance_weight r) deps
+  pub types-within : sum_by (types_instance_weight r) ns ≤ sum_by (types_instance_weight r) deps
   types-within = sum-among (types_instance_weight r) ns deps apart (λ m c. among-imports r v i.0 ns reaches.used m c)
 
-  paths-within : path-weight i.0 + sum_by path-weight ns ≤ sum_by path-weight (i.0 ∷ deps)
+  pub paths-within : path-weight i.0 + sum_by path-weight ns ≤ sum_by path-weight (i.0 ∷ deps)
   paths-within =
       let a = sum-among path-weight ns deps apart (λ m c. among-imports r v i.0 ns reaches.used m c) in
       let b = sum_by-cons path-weight i.0 deps in

@@ -61,3 +61,9 @@ pub mod PlacedInstances
 pub mod WorldInstances
 pub mod DependencyHolding
 pub mod DependencyWeighing
+pub mod Lengths
+pub mod PackageHolding
+pub mod Extents
+pub mod ExtentWeighing
+pub mod PackageWeighing
+pub mod ComponentExtents

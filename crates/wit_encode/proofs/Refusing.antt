@@ -101,7 +101,7 @@ all-fit f g [] (y ∷ ys) h = absurd h
 all-fit f g (x ∷ xs) [] h = absurd h
 all-fit f g (x ∷ xs) (y ∷ ys) h = λ i. h.0 i && all-fit f g xs ys h.1 i
 
-zip-length : {A B : Type 0} (R : A → B → Type 0) (xs : List A) (ys : List B) → AllZip R xs ys → length xs ≡ length ys
+pub zip-length : {A B : Type 0} (R : A → B → Type 0) (xs : List A) (ys : List B) → AllZip R xs ys → length xs ≡ length ys
 zip-length R [] [] h = refl
 zip-length R [] (y ∷ ys) h = absurd h
 zip-length R (x ∷ xs) [] h = absurd h

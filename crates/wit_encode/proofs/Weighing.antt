@@ -214,10 +214,10 @@ one-of g xs x (i, l, e) = subst (λ y. g y ≤ sum_by g xs) e (get_or-le-sum_by 
 
 -- ---- the functions of an interface, in any order
 
-abbrev Named : Type 0
+abbrev pub Named : Type 0
 Named = Text × Function
 
-abbrev keyed-weight : Named → ℕ
+abbrev pub keyed-weight : Named → ℕ
 keyed-weight f = function_weight f.1
 
 ordered-sum : (ts : List TypeId) (fs : List Named) → sum_by keyed-weight (by_resource ts fs) ≡ sum_by keyed-weight fs
@@ -270,14 +270,14 @@ module _ (r : Resolve) (v : IsValid r) (o : TypeOwner) (ns : List ℕ) (all : Li
   abbrev MetBy : ℕ → Type 0
   MetBy n = ReachedFrom r (interface_of_owner o) (referred ts fs) n
 
-  counted : (n : ℕ) → MetBy n → IsCounted r v o ns all h n × Stays r v o ns all h n
+  pub counted : (n : ℕ) → MetBy n → IsCounted r v o ns all h n × Stays r v o ns all h n
   counted n m = met-counted r v o ns all h ts fs listed among n m
 
   pub counted-once : (n : ℕ) → MetBy n → Contains (numbers_of r ns all) n
   counted-once n m = contains-once (all-numbers r v o ns all h) n (counted-in r v o ns all h n (counted n m).0)
 
   -- a number of the owner itself weighs its definition
-  own-weight : (n : ℕ) (d : TypeDef) → MetBy n → type_at r n ≡ Some d → foreign_owner (interface_of_owner o) d.owner ≡ None → weighs n ≡ definition_weight d
+  pub own-weight : (n : ℕ) (d : TypeDef) → MetBy n → type_at r n ≡ Some d → foreign_owner (interface_of_owner o) d.owner ≡ None → weighs n ≡ definition_weight d
   own-weight n d m at f =
       ap (λ t. option_map_or (λ d. if is_brought r o n then unit_of (name_texts d) else definition_weight d) t 0) at
       ∙ ap (λ b. if b then unit_of (name_texts d) else definition_weight d) (ap (λ t. option_map_or (λ d. if is_some d.name then not (same_owner d.owner o) else false) t false) at ∙ go (is_some d.name) refl)
@@ -338,7 +338,7 @@ module _ (r : Resolve) (v : IsValid r) (i : InterfaceId) (def : Interface) (home
   entry-of : (f : Named) → Contains fs f → (e : String Global × Function) × Contains def.functions.entries e × (with-key e ≡ f)
   entry-of f c = from-map with-key def.functions.entries f (ordered-among (values def.types) (map with-key def.functions.entries) f c)
 
-  in-map : (f : Function) → Contains (map (λ f. f.1) fs) f → Contains (functions_of_interface def) f
+  pub in-map : (f : Function) → Contains (map (λ f. f.1) fs) f → Contains (functions_of_interface def) f
   in-map f c =
       let g = from-map (λ (f : Named). f.1) fs f c in
       let e = entry-of g.0 g.1 in
@@ -349,15 +349,15 @@ module _ (r : Resolve) (v : IsValid r) (i : InterfaceId) (def : Interface) (home
   key-is e c = text_same (text_of e.0) (text_of e.1.name) (first_true (text_eq (text_of e.0) (text_of e.1.name)) _
       (all-contained (λ (e : String Global × Function). text_eq (text_of e.0) (text_of e.1.name) && is_member r (as_interface i.0) e.1) def.functions.entries e (interface_passes function_names r v.rules.function_names i.0 def home) c))
 
-  named-so : (f : Named) → Contains fs f → f.0 ≡ text_of f.1.name
+  pub named-so : (f : Named) → Contains fs f → f.0 ≡ text_of f.1.name
   named-so f c = let e = entry-of f c in subst (λ (x : Named). x.0 ≡ text_of x.1.name) e.2 (key-is e.0 e.1)
 
   -- ---- the whole
 
-  functions-sum : sum_by keyed-weight fs ≡ sum_by function_weight (functions_of_interface def)
+  pub functions-sum : sum_by keyed-weight fs ≡ sum_by function_weight (functions_of_interface def)
   functions-sum = ordered-sum (values def.types) (map with-key def.functions.entries) ∙ entries-sum def.functions.entries
 
-  weight-is : whole_instance_weight r i.0 ≡ 64 + (sum_by weigh (instance_numbers r def (functions_of_interface def)) + sum_by function_weight (functions_of_interface def))
+  pub weight-is : whole_instance_weight r i.0 ≡ 64 + (sum_by weigh (instance_numbers r def (functions_of_interface def)) + sum_by function_weight (functions_of_interface def))
   weight-is = ap (λ t. option_map_or (λ x. instance_weight r i.0 x (functions_of_interface x)) t 0) home
 
   function-within : (f : Named) → Contains fs f → function_weight f.1 ≤ whole_instance_weight r i.0
@@ -366,13 +366,13 @@ module _ (r : Resolve) (v : IsValid r) (i : InterfaceId) (def : Interface) (home
   abbrev Met : ℕ → Type 0
   Met n = ReachedFrom r (Some i) (referred (values def.types) (map (λ f. f.1) fs)) n
 
-  listed-here : (t : TypeId) → Contains (values def.types) t → Contains (interface_type_numbers def) t.0
+  pub listed-here : (t : TypeId) → Contains (values def.types) t → Contains (interface_type_numbers def) t.0
   listed-here t c = contains-map (λ (id : TypeId). id.0) (values def.types) t c
 
-  home-owner : IsOwner r v (owner.Interface i) (interface_type_numbers def) (functions_of_interface def)
+  pub home-owner : IsOwner r v (owner.Interface i) (interface_type_numbers def) (functions_of_interface def)
   home-owner = interface-owner r v i def home
 
-  in-numbers : (n : ℕ) → Met n → Contains (instance_numbers r def (functions_of_interface def)) n
+  pub in-numbers : (n : ℕ) → Met n → Contains (instance_numbers r def (functions_of_interface def)) n
   in-numbers n m = counted-once r v (owner.Interface i) (interface_type_numbers def) (functions_of_interface def) home-owner (values def.types) (map (λ f. f.1) fs) listed-here in-map n m
 
   number-within : (n : ℕ) → Met n → weigh n ≤ whole_instance_weight r i.0

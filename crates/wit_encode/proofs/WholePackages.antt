@@ -75,8 +75,8 @@ module _ (r : Resolve) (v : IsValid r) (n : ℕ) (p : Package) (at : package_at 
   wrappers-of (e ∷ es) [] h = absurd h
   wrappers-of (e ∷ es) (x ∷ xs) h = (wrapper-of e x h.0, wrappers-of es xs h.1)
 
-  no-worlds_yet : (parts : List Part) → HoldsInterfaces r p.interfaces.entries parts → HoldsMembers r (identity_of p.name) p.interfaces.entries [] parts
-  no-worlds_yet parts h = record {
+  pub no-worlds_yet : (entries : List Listed) (parts : List Part) → HoldsInterfaces r entries parts → HoldsMembers r (identity_of p.name) entries [] parts
+  no-worlds_yet entries parts h = record {
     interface_types = h.types;
     world_types = [];
     interfaces_are = h.are;
@@ -86,7 +86,7 @@ module _ (r : Resolve) (v : IsValid r) (n : ℕ) (p : Package) (at : package_at 
 
   pub package-held : (before parts : List Part) → HoldsInterfaces r p.interfaces.entries before → AddsWorlds r (identity_of p.name) p.worlds.entries before parts → HoldsPackage r p parts
   package-held before parts h adds =
-      let all = adds p.interfaces.entries (no-worlds_yet before h) in
+      let all = adds p.interfaces.entries (no-worlds_yet p.interfaces.entries before h) in
       record {
         types = all.interface_types ++ all.world_types;
         are = record {

@@ -101,6 +101,21 @@ module _ (r : Resolve) (n : ℕ) where
           let end = suffix s in
           (omega (arith, whole), omega (arith, whole, end))
 
+  -- both together
+  path-both : length (unwrap_or (canonical_path r n) []) + long (canonical_suffix r n) ≤ long (interface_path r n)
+  path-both = go (canonical_path r n) (canonical_suffix r n) refl (canonical_paths_join r n) no-suffix
+    where
+      suffix : (s : Option Text) → long s ≡ length (unwrap_or s [])
+      suffix None = refl
+      suffix (Some t) = some-long t
+
+      go : (c s : Option Text) → canonical_path r n ≡ c → interface_path r n ≡ option_map (λ path. path ++ unwrap_or s []) c → (c ≡ None → s ≡ None) → length (unwrap_or c []) + long s ≤ long (interface_path r n)
+      go None s is e none = let z = ap long (none refl) in omega (arith, z)
+      go (Some p) s is e none =
+          let whole = ap long e ∙ (some-long (p ++ unwrap_or s []) ∙ length-append p (unwrap_or s [])) in
+          let end = suffix s in
+          omega (arith, whole, end)
+
   pub written-long : (canonical : Bool) → length (written_path r canonical n) ≤ long (interface_path r n)
   written-long true = path-long.0
   written-long false = go (interface_path r n)
@@ -113,7 +128,11 @@ module _ (r : Resolve) (n : ℕ) where
   suffix-long true = path-long.1
   suffix-long false = omega arith
 
-no-suffix-written : (r : Resolve) (canonical : Bool) → written_suffix r canonical None ≡ None
+  pub written-both : (canonical : Bool) → length (written_path r canonical n) + long (written_suffix r canonical (Some n)) ≤ long (interface_path r n)
+  written-both true = path-both
+  written-both false = let path = written-long false in omega (arith, path)
+
+pub no-suffix-written : (r : Resolve) (canonical : Bool) → written_suffix r canonical None ≡ None
 no-suffix-written r true = refl
 no-suffix-written r false = refl
 
@@ -242,13 +261,13 @@ module _ (r : Resolve) (v : IsValid r) (w : WorldId) (def : World) (home : world
   abbrev weigh : ℕ → ℕ
   weigh n = number_weight r (as_world w.0) n
 
-  abbrev numbers : List ℕ
+  abbrev pub numbers : List ℕ
   numbers = once (world_numbers r def ++ flat_map (brought_into r) (filter_map item_interface (items_of def)))
 
   abbrev total : ℕ
   total = 64 + (sum_by weigh numbers + sum_by (entry-weight r) es)
 
-  weight-is : world_weight r w.0 ≡ total
+  pub weight-is : world_weight r w.0 ≡ total
   unfolding world_weight
   weight-is = ap (λ t. option_map_or (λ x. 64 + (sum_by weigh (once (world_numbers r x ++ flat_map (brought_into r) (filter_map item_interface (items_of x)))) + sum_by (entry-weight r) (entries_in x))) t 0) home
 
@@ -258,7 +277,7 @@ module _ (r : Resolve) (v : IsValid r) (w : WorldId) (def : World) (home : world
     | inr b ↦ Contains-append_right (values def.imports) (values def.exports) e.1 (contains-map (λ (x : Entry). x.1) def.exports.entries e b)
   ]
 
-  listed : (t : TypeId) → Contains (type_ids_among es) t → Contains (world_type_numbers def) t.0
+  pub listed : (t : TypeId) → Contains (type_ids_among es) t → Contains (world_type_numbers def) t.0
   listed t c =
       let x = from-map (λ (n : ℕ). number n) (types_among es) t c in
       let e = given-contains (λ (e : Entry). item_type e.1) es x.0 x.1 in
@@ -273,15 +292,15 @@ module _ (r : Resolve) (v : IsValid r) (w : WorldId) (def : World) (home : world
         | inr b ↦ (let t = typed-item e.1 n is in absurd (no-type-exported r v w def home e.0 t.0 (subst (λ (i : WorldItem). Contains def.exports.entries (e.0, i)) t.1 b)))
       ]
 
-  among : (f : Function) → Contains (functions_among es) f → Contains (functions_of_world def) f
+  pub among : (f : Function) → Contains (functions_among es) f → Contains (functions_of_world def) f
   among f c =
       let e = given-contains (λ (e : Entry). item_function e.1) es f c in
       contains-filter_map item_function (items_of def) e.0.1 f (item-of e.0 e.1) (subst (λ (o : Option Function). Contains (option_to_list o) f) (sym e.2) (contains-one f))
 
-  own : IsOwner r v (owner.World w) (world_type_numbers def) (functions_of_world def)
+  pub own : IsOwner r v (owner.World w) (world_type_numbers def) (functions_of_world def)
   own = world-owner r v w def home
 
-  counted : (n : ℕ) → IsMetAmong r es n → Contains numbers n
+  pub counted : (n : ℕ) → IsMetAmong r es n → Contains numbers n
   counted n m = contains-once _ n (Contains-append_left (world_numbers r def) _ n (counted-once r v (owner.World w) (world_type_numbers def) (functions_of_world def) own (type_ids_among es) (functions_among es) listed among n m))
 
   entry-within : (e : Entry) → Contains es e → entry-weight r e ≤ total
@@ -292,7 +311,7 @@ module _ (r : Resolve) (v : IsValid r) (w : WorldId) (def : World) (home : world
   abbrev is-keyed : Entry → Bool
   is-keyed e = passes (λ f. is_name_key (text_of f.name) e.0 && is_member r (as_world w.0) f) (item_function e.1)
 
-  keyed : (e : Entry) → Contains es e → is-keyed e ≡ true
+  pub keyed : (e : Entry) → Contains es e → is-keyed e ≡ true
   unfolding function_names
   keyed e c = all-contained is-keyed es e (world_passes function_names r v.rules.function_names w.0 def home) c
 

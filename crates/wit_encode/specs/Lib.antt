@@ -19,3 +19,5 @@ pub mod WorldCounts
 pub mod WorldHolds
 pub mod DependencyRoom
 pub mod DependencyCounts
+pub mod PackageRoom
+pub mod Extents

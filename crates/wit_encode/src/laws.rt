@@ -3,6 +3,7 @@
 ghost use Rattle.wit_encode_types.specs.MetKinds.{MetKindsAreHeld};
 ghost use Rattle.wit_encode.specs.RoomLaws.{LackingInterfacesAreHeavy};
 ghost use Rattle.wit_encode.specs.Dependencies.{AliasesLeaveImports, ExportsEnd, ImportsGrow, ImportsStand, NothingIsImported};
+ghost use Rattle.wit_encode.specs.Extents.{BytesAreFew, ComponentsAreLight, DependenciesAreLight, FunctionsAreLight, InstancesAreLight, TypesAreLight, WorldsAreLight};
 ghost use Rattle.wit_encode.specs.OwnerScope.{FunctionsEncode, FunctionsUse, InterfaceUses, NamesEncode, TableScope, TypesEncode, TypesUse};
 ghost use Rattle.wit_encode.specs.WorldRoom.{LackingWorldsAreHeavy};
 ghost use Rattle.wit_encode.specs.WorldUses.{ItemsMeetStanding};
@@ -54,6 +55,20 @@ pub fn lacking_interfaces_are_heavy()
 /// two for each function and interface.
 pub fn lacking_worlds_are_heavy()
     ensures { LackingWorldsAreHeavy }
+{}
+
+/// What is written of a type, and what is written of a function, each with its export, takes no more bytes than it weighs: a definition takes no
+/// more than its tree says, the type of a function no more than its signature, and an import or an export no more than its name. So do, in sum,
+/// the parts of an instance type, of the component type of an interface, and of that of a world, where each type number that is met is written
+/// once.
+pub fn types_and_functions_are_light()
+    ensures bytes { BytesAreFew }
+    ensures types { TypesAreLight }
+    ensures functions { FunctionsAreLight }
+    ensures instances { InstancesAreLight }
+    ensures dependencies { DependenciesAreLight }
+    ensures components { ComponentsAreLight }
+    ensures worlds { WorldsAreLight }
 {}
 
 /// Where an instance stands of each named interface before an item of a valid world, one stands of each other interface whose types the item

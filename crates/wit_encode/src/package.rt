@@ -1,6 +1,6 @@
 //! The components of packages.
 
-ghost use Rattle.std.specs.Prelude.{◌≡◌, ◌<◌, true, Some, Err, IfErr, IfOk, OnOk, is_some, length};
+ghost use Rattle.std.specs.Prelude.{◌≡◌, ◌<◌, [], List, true, Some, Err, IfErr, IfOk, OnOk, is_some, length};
 ghost use Rattle.comp_bytes.specs.Refusal.{IsMemoryOrSize};
 ghost use Rattle.wit_model.specs.Lookup.{identity_of, interface_path, package_at, world_at};
 ghost use Rattle.wit_model.specs.Names.{path_in};
@@ -11,7 +11,8 @@ ghost use Rattle.comp_bytes.specs.Spelling.{preamble};
 ghost use Rattle.wit_model.specs.declared.error.Error.TheVariants.{Size};
 ghost use Rattle.wit_shown.specs.PackageTypes.{wrapper};
 ghost use Rattle.wit_encode.specs.Scopes.{HasNoEqualPaths, RefusesInterface};
-ghost use Rattle.wit_encode.specs.Packages.{AddsInterface, AddsWorld, AddsWorlds, AreNamed, AreWorlds, HasMembers, HasNoClashAt, HasNoClashes, HasNoMembers, HaveNoClash, HaveNoEqualPaths, HoldsInterfaces, HoldsPackage, MeansPackage, RefusesInterfaces, RefusesPackage, RefusesWorldAt, RefusesWorlds, SpellsPackage, WrapsWorld};
+ghost use Rattle.wit_encode.specs.PackageRoom.{InterfacesLackRoom, IsHeavyWorld, LacksInterface, LacksWorld, PackageLacksRoom, WorldsLackRoom};
+ghost use Rattle.wit_encode.specs.Packages.{AddsInterface, AddsWorld, AddsWorlds, AreNamed, AreWorlds, HasMembers, HasNoClashAt, HasNoClashes, HasNoMembers, HoldsMembers, Listed, HaveNoClash, HaveNoEqualPaths, HoldsInterfaces, HoldsPackage, MeansPackage, RefusesInterfaces, RefusesPackage, RefusesWorldAt, RefusesWorlds, SpellsPackage, WrapsWorld};
 
 use crate::component_types::interface_type;
 use crate::world::encode_world;
@@ -58,6 +59,7 @@ fn add_interface(
     requires named { is_some (interface_path resolve.now interface.0) ≡ true }
     ensures adds { OnOk result (AddsInterface resolve.now (name.now, interface) builder.old builder.new) }
     ensures differ { canonical_names ≡ true → OnOk result (HasNoEqualPaths resolve.now interface.0) }
+    ensures size { result ≡ Err Size → LacksInterface resolve.now (name.now, interface) builder.old }
     ensures refuses { IfErr result (RefusesInterface resolve.now interface.0 canonical_names) }
 {
     let component = interface_type(alloc, resolve, interface, canonical_names)?;
@@ -75,6 +77,7 @@ fn interfaces_component(
     requires named { AreNamed resolve.now interfaces.now.entries }
     ensures holds { IfOk result (HoldsInterfaces resolve.now interfaces.now.entries) }
     ensures differ { canonical_names ≡ true → OnOk result (HaveNoEqualPaths resolve.now interfaces.now.entries) }
+    ensures size { result ≡ Err Size → InterfacesLackRoom resolve.now interfaces.now.entries }
     ensures refuses { IfErr result (RefusesInterfaces resolve.now interfaces.now.entries canonical_names) }
 {
     let mut builder = ComponentBuilder::new(alloc);
@@ -103,6 +106,7 @@ fn world_type(
     requires in_range { world.0 < length resolve.now.worlds.items }
     ensures wraps { IfOk result (λ declared. (w : WorldValue) → world_at resolve.now world.0 ≡ Some w → WrapsWorld resolve.now (identity_of «package».now) w declared) }
     ensures differ { canonical_names ≡ true → OnOk result (HasNoClashAt resolve.now world.0) }
+    ensures size { result ≡ Err Size → IsHeavyWorld resolve.now (identity_of «package».now) world.0 }
     ensures refuses { IfErr result (RefusesWorldAt resolve.now world.0 canonical_names) }
 {
     let component = encode_world(alloc, resolve, world, canonical_names)?;
@@ -124,6 +128,7 @@ fn add_world(
     requires in_range { world.0 < length resolve.now.worlds.items }
     ensures adds { OnOk result (AddsWorld resolve.now (identity_of «package».now) (name.now, world) builder.old builder.new) }
     ensures differ { canonical_names ≡ true → OnOk result (HasNoClashAt resolve.now world.0) }
+    ensures size { result ≡ Err Size → LacksWorld resolve.now (identity_of «package».now) (name.now, world) builder.old }
     ensures refuses { IfErr result (RefusesWorldAt resolve.now world.0 canonical_names) }
 {
     let component = world_type(alloc, resolve, package, world, canonical_names)?;
@@ -143,6 +148,7 @@ fn add_worlds(
     requires in_range { AreWorlds resolve.now worlds.now.entries }
     ensures adds { OnOk result (AddsWorlds resolve.now (identity_of «package».now) worlds.now.entries builder.old builder.new) }
     ensures differ { canonical_names ≡ true → OnOk result (HaveNoClash resolve.now worlds.now.entries) }
+    ensures size { result ≡ Err Size → (interfaces : List Listed) → HoldsMembers resolve.now (identity_of «package».now) interfaces [] builder.old → WorldsLackRoom resolve.now (identity_of «package».now) interfaces worlds.now.entries }
     ensures refuses { IfErr result (RefusesWorlds resolve.now worlds.now.entries canonical_names) }
 {
     for (name, world) in worlds {
@@ -164,7 +170,9 @@ fn add_worlds(
 ///
 /// Paths are written with their whole version, or, with canonical names, with the canonical part of it and an attribute that completes it; the
 /// meaning is the same. Then `CanonicalClash` is answered where two imports, or two exports, of one component type have one canonical name,
-/// with the first name that repeats an earlier one, interfaces before worlds, each in order. Otherwise `Memory` and `Size` alone are refused.
+/// with the first name that repeats an earlier one, interfaces before worlds, each in order. Otherwise `Memory` and `Size` alone are refused,
+/// and `Size` only where the package weighs more than 4,294,967,295, or where a component type of one of its interfaces or worlds takes more
+/// bytes than the interface, with what it reaches, or the world weighs.
 ///
 /// In each component type, and in each instance type in one, as many types of functions are defined as the functions there have keys, and each
 /// unnamed kind that is met is defined once, as is each named type that has a definition of its own.
@@ -180,6 +188,7 @@ pub fn encode_component(
     requires in_range { «package».0 < length resolve.now.packages.items }
     ensures holds { IfOk result (λ parts. (p : PackageValue) → package_at resolve.now «package».0 ≡ Some p → HoldsPackage resolve.now p parts) }
     ensures differ { (p : PackageValue) → package_at resolve.now «package».0 ≡ Some p → canonical_names ≡ true → OnOk result (HasNoClashes resolve.now p) }
+    ensures size { result ≡ Err Size → (p : PackageValue) → package_at resolve.now «package».0 ≡ Some p → PackageLacksRoom resolve.now «package».0 p }
     ensures refuses { (p : PackageValue) → package_at resolve.now «package».0 ≡ Some p → IfErr result (RefusesPackage resolve.now p canonical_names) }
 {
     let own = &resolve.packages[package.0 as usize];
@@ -211,6 +220,7 @@ pub fn encode(
     ensures holds { IfOk result (λ bytes. (p : PackageValue) → package_at resolve.now «package».0 ≡ Some p → SpellsPackage resolve.now p bytes.items) }
     ensures empty { IfOk result (λ bytes. (p : PackageValue) → package_at resolve.now «package».0 ≡ Some p → HasNoMembers p → bytes.items ≡ preamble) }
     ensures differ { (p : PackageValue) → package_at resolve.now «package».0 ≡ Some p → canonical_names ≡ true → OnOk result (HasNoClashes resolve.now p) }
+    ensures size { result ≡ Err Size → (p : PackageValue) → package_at resolve.now «package».0 ≡ Some p → PackageLacksRoom resolve.now «package».0 p }
     ensures refuses { (p : PackageValue) → package_at resolve.now «package».0 ≡ Some p → IfErr result (RefusesPackage resolve.now p canonical_names) }
 {
     encode_component(alloc, resolve, package, canonical_names)?.finish()

@@ -10,8 +10,8 @@ use std::process::Abort;
 use std::test::Fail;
 use wit_encode::encode;
 use wit_model::{
-    Error, Function, FunctionKind, InterfaceId, PackageId, Resolve, Type, TypeDefKind, TypeId,
-    WorldItem, WorldKey,
+    Error, Function, FunctionKind, InterfaceId, PackageId, Param, Resolve, Type, TypeDefKind,
+    TypeId, WorldItem, WorldKey,
 };
 use wit_samples::drafts::{
     add_package, add_type_of, add_unlisted_interface, add_world, empty, export, import,
@@ -79,6 +79,26 @@ fn a_world_of_functions(rt: HostRuntime) -> Result<(), Fail> {
         "00 61 73 6d 0d 00 01 00 07 2e 01 41 02 01 41 03 01 40 00 01 00 03 02 04 68 6f 73 74 01 02 01 78 01 00 04 00 05 67 75 65 73 74 01 00 04 00 07 61 3a 62 2f 66 6f 6f 04 00 0b 09 01 00 03 66 6f 6f 03 00 00";
     let resolve = host_and_guest(alloc, Some("x"))?;
     assert_written(&rt, alloc, &resolve, false, attributed)
+}
+
+// `go: async func(n: u64) -> string`
+#[test]
+fn an_asynchronous_function(rt: HostRuntime) -> Result<(), Fail> {
+    let alloc = rt.alloc();
+    let mut resolve = empty(alloc);
+    add_package(alloc, &mut resolve, "a", "b")?;
+    add_world(alloc, &mut resolve, "foo")?;
+    let kind = FunctionKind::AsyncFreestanding;
+    let mut go = nullary(alloc, "go", kind, Some(Type::String))?;
+    let name = String::from_str(alloc, "n")?;
+    go.params.push(Param {
+        name,
+        ty: Type::U64,
+    })?;
+    export(alloc, &mut resolve, "go", WorldItem::Function(go))?;
+    let expected =
+        "00 61 73 6d 0d 00 01 00 07 21 01 41 02 01 41 02 01 43 01 01 6e 77 00 73 04 00 02 67 6f 01 00 04 00 07 61 3a 62 2f 66 6f 6f 04 00 0b 09 01 00 03 66 6f 6f 03 00 00";
+    assert_written(&rt, alloc, &resolve, false, expected)
 }
 
 #[test]

@@ -57,3 +57,4 @@ pub mod ListedTypes
 pub mod SameVersions
 pub mod ListedSteps
 pub mod GivenSteps
+pub mod ByResource

@@ -1,12 +1,11 @@
 -- One type of an owner's list after the other is printed.
-use Rattle.std.proofs.Common.{◌≡◌, refl, sym, ap, subst, ◌∙◌, ℕ, ◌+◌, ◌<◌, Bool, true, ◌||◌, List, [], ◌∷◌, ◌++◌, Option, map, filter_map, length, drop, get_or}
+use Rattle.std.proofs.Common.{◌≡◌, sym, ap, subst, ◌∙◌, ℕ, ◌+◌, ◌<◌, Bool, true, ◌||◌, List, ◌∷◌, ◌++◌, Option, filter_map, length, drop, get_or}
 use Rattle.std.specs.Prelude.{is_some}
 use Rattle.std.specs.Borrow.{Bor}
 use Rattle.std.specs.List.{list_all}
 use Rattle.std.proofs.lemmas.List.{drop_more}
 use Rattle.wit_model.specs.declared.model.Resolve.{Resolve}
 use Rattle.wit_model.specs.declared.model.InterfaceId.{InterfaceId}
-use Rattle.wit_model.specs.declared.model.Function.{Function}
 use Rattle.wit_model.specs.declared.model.TypeId.{TypeId}
 use Rattle.wit_model.specs.declared.model.TypeOwner.{TypeOwner}
 use Rattle.wit_model.specs.Rules.{has_items}
@@ -14,12 +13,10 @@ use Rattle.wit_model.specs.Text.{Text}
 use Rattle.wit_print.specs.OutputCall.{OutputCall, View, Moves, Begins}
 use Rattle.wit_print.specs.Tree.{PathTree}
 use Rattle.wit_print.specs.Shown.{Listed, Used}
-use Rattle.wit_print.specs.Calls.{members_calls, printed_after}
-use Rattle.wit_print.specs.UseGroups.{declared_members, is_listed_type, listed_declaration, listed_of, listed_use, listed_use_calls, use_after, uses_calls}
+use Rattle.wit_print.specs.UseGroups.{is_listed_type, listed_of, listed_use, listed_use_calls, use_after, uses_calls}
 use Rattle.wit_print.proofs.ByPlace.{one_there}
 use Rattle.wit_print.proofs.ByteTests.{left_of, right_of}
-use Rattle.wit_print.proofs.Declarations.{members_append, printed_append}
-use Rattle.wit_print.proofs.ListedTypes.{next_declarations, next_listed_some, next_listed_use}
+use Rattle.wit_print.proofs.ListedTypes.{next_listed_some, next_listed_use}
 use Rattle.wit_print.proofs.Moves.{Going, made_on, refused_in}
 
 -- a type under its name
@@ -67,40 +64,6 @@ module _ (ts : List (Bor Text × TypeId)) (i : ℕ) (d : Bor Text × TypeId) (wi
         ∙ sym (next_listed_some r o before (entry (get_or ts i d)) (listed_of (drop (i + 1) ts)))
         ∙ ap (λ ls. is_some before || has_items (filter_map (listed_use r o) ls)) (sym at_place)
         ∙ h
-
-    -- ---- declarations
-
-    module _ (fs : List Function) (has : Bool) where
-      declared_next : declared_members r o fs (listed_of (drop i ts)) ≡ listed_declaration r o fs (entry (get_or ts i d)) ++ declared_members r o fs (listed_of (drop (i + 1) ts))
-      declared_next = ap (declared_members r o fs) at_place ∙ next_declarations r o fs (entry (get_or ts i d)) (listed_of (drop (i + 1) ts))
-
-      calls_next : (emits : Bool) → members_calls emits has (declared_members r o fs (listed_of (drop i ts)))
-          ≡ members_calls emits has (listed_declaration r o fs (entry (get_or ts i d))) ++ members_calls emits (printed_after has (listed_declaration r o fs (entry (get_or ts i d)))) (declared_members r o fs (listed_of (drop (i + 1) ts)))
-      calls_next emits = ap (members_calls emits has) declared_next ∙ members_append emits has (listed_declaration r o fs (entry (get_or ts i d))) (declared_members r o fs (listed_of (drop (i + 1) ts)))
-
-      pub declaration_made : {Kept : Type 0} {keeps : View Kept → OutputCall → Kept} {all : List OutputCall} {old now new : View Kept} (emits printed : Bool)
-          → Going keeps (members_calls emits has (declared_members r o fs (listed_of (drop i ts)))) all old now
-          → printed ≡ printed_after has (listed_declaration r o fs (entry (get_or ts i d)))
-          → Moves keeps now (members_calls emits has (listed_declaration r o fs (entry (get_or ts i d)))) new
-          → Going keeps (members_calls emits printed (declared_members r o fs (listed_of (drop (i + 1) ts)))) all old new
-      declaration_made emits printed g e m =
-          made_on (members_calls emits has (listed_declaration r o fs (entry (get_or ts i d)))) (members_calls emits printed (declared_members r o fs (listed_of (drop (i + 1) ts)))) g
-          (calls_next emits ∙ ap (λ b. members_calls emits has (listed_declaration r o fs (entry (get_or ts i d))) ++ members_calls emits b (declared_members r o fs (listed_of (drop (i + 1) ts)))) (sym e)) m
-
-      pub declaration_refused : {Kept : Type 0} {keeps : View Kept → OutputCall → Kept} {all : List OutputCall} {old now new : View Kept} (emits : Bool)
-          → Going keeps (members_calls emits has (declared_members r o fs (listed_of (drop i ts)))) all old now
-          → Begins keeps now (members_calls emits has (listed_declaration r o fs (entry (get_or ts i d)))) new
-          → Begins keeps old all new
-      declaration_refused emits g b =
-          refused_in (members_calls emits has (listed_declaration r o fs (entry (get_or ts i d)))) (members_calls emits (printed_after has (listed_declaration r o fs (entry (get_or ts i d)))) (declared_members r o fs (listed_of (drop (i + 1) ts)))) g (calls_next emits) b
-
-      pub declaration_some : (printed all : Bool) → printed_after has (declared_members r o fs (listed_of (drop i ts))) ≡ all
-          → printed ≡ printed_after has (listed_declaration r o fs (entry (get_or ts i d))) → printed_after printed (declared_members r o fs (listed_of (drop (i + 1) ts))) ≡ all
-      declaration_some printed all h e =
-          ap (λ b. printed_after b (declared_members r o fs (listed_of (drop (i + 1) ts)))) e
-          ∙ sym (printed_append has (listed_declaration r o fs (entry (get_or ts i d))) (declared_members r o fs (listed_of (drop (i + 1) ts))))
-          ∙ ap (printed_after has) (sym declared_next)
-          ∙ h
 
 pub known_after : (ts : List (Bor Text × TypeId)) (i : ℕ) → i < length ts → (r : Resolve) (o : TypeOwner) → list_all (is_listed_type r o) (listed_of (drop i ts)) ≡ true → list_all (is_listed_type r o) (listed_of (drop (i + 1) ts)) ≡ true
 known_after ts i within r o h = let there = one_there ts i within in known_then ts i there.0 within r o h

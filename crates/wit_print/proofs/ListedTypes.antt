@@ -1,10 +1,9 @@
 -- The types that stand in an owner's list, as uses and as declarations.
 use Rattle.std.proofs.Common.{◌≡◌, refl, sym, ap, subst, ◌∙◌, ℕ, Bool, true, false, ◌&&◌, ◌||◌, List, [], ◌∷◌, ◌++◌, map, filter_map, Option, Some, None, option_and_then, if◌then◌else◌}
 use Rattle.std.specs.Prelude.{is_some, option_map}
-use Rattle.std.specs.Borrow.{Bor}
 use Rattle.std.specs.Option.{option_map_or}
-use Rattle.std.specs.List.{list_all, cons_option, flat_map}
-use Rattle.std.proofs.lemmas.Bool.{ltb-true, lt-ltb}
+use Rattle.std.specs.List.{list_all, cons_option}
+use Rattle.std.proofs.lemmas.Bool.{lt-ltb}
 use Rattle.std.proofs.lemmas.Option.{slice_get_within}
 use Rattle.wit_model.specs.declared.model.Resolve.{Resolve}
 use Rattle.wit_model.specs.declared.model.Interface.{Interface}
@@ -18,7 +17,7 @@ use Rattle.wit_model.specs.declared.model.TypeOwner.TheVariants as owner
 use Rattle.wit_model.specs.Names.{is_label}
 use Rattle.wit_model.specs.Lookup.{interface_at, type_at}
 use Rattle.wit_model.specs.Parts.{same_owner}
-use Rattle.wit_model.specs.Rules.{has_items, in_list, is_named_of, is_stability, passes}
+use Rattle.wit_model.specs.Rules.{has_items, in_list, is_stability, passes}
 use Rattle.wit_model.specs.Text.{Text, text_of}
 use Rattle.wit_model.specs.Valid.{IsValid, labels}
 use Rattle.wit_print.specs.OutputCall.{OutputCall}
@@ -27,15 +26,14 @@ use Rattle.wit_print.specs.Tree.MemberTree.{TypeMember}
 use Rattle.wit_print.specs.Shown.{DeclaredWith, Listed, Used, declared_with, shown_declarations, shown_declared, shown_gates, shown_path, shown_prefix, used_of}
 use Rattle.wit_print.specs.Calls.{members_calls, printed_after}
 use Rattle.wit_print.specs.Printable.{declaration_of, is_printable_type}
-use Rattle.wit_print.specs.UseGroups.{declared_members, is_listed_type, is_printable_use, listed_declaration, listed_of, listed_use, listed_use_calls, shown_use, use_after, use_members, uses_calls}
+use Rattle.wit_print.specs.UseGroups.{declared_members, is_listed_type, is_printable_use, listed_declaration, listed_use, listed_use_calls, shown_use, use_after, use_members, uses_calls}
 use Rattle.wit_print.specs.declared.use_group.Use.{Use}
 use Rattle.wit_print.specs.WellNamed.{are_well_some, is_well_declared, is_well_gates, is_well_prefix, is_well_used}
-use Rattle.wit_print.proofs.ByPlace.{one_there}
 use Rattle.wit_print.proofs.ByteTests.{both, left_of, right_of}
-use Rattle.wit_print.proofs.Declarations.{declaration_at, members_append}
+use Rattle.wit_print.proofs.Declarations.{declaration_at}
 use Rattle.wit_print.proofs.ShownWell.{shown_prefix_well}
 use Rattle.wit_print.proofs.TypesWell.{name_well, type_rule}
-use Rattle.wit_print.proofs.UseGroups.{listed_plain, next_some, next_use, or_false, uses_grouped, uses_printed}
+use Rattle.wit_print.proofs.UseGroups.{listed_plain, next_some, next_use, uses_grouped, uses_printed}
 use Rattle.wit_print.proofs.ValidDeclared.{declared_well, is_known_function}
 use Rattle.wit_print.proofs.ValidOwners.{is_named_interface}
 use Rattle.wit_print.proofs.ValidUses.{is_known_use, path_well, use_known}

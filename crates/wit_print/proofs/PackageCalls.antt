@@ -1,5 +1,5 @@
 -- What is shown of worlds and packages, and its calls.
-use Rattle.std.proofs.Common.{◌≡◌, cond, refl, sym, ap, subst, ◌∙◌, ℕ, Bool, true, false, ◌&&◌, ◌||◌, List, [], ◌∷◌, ◌++◌, append-nil, append_assoc, Option, Some, None, map, filter, T, eqb→eq, slice_get, get_or, zero, suc, length}
+use Rattle.std.proofs.Common.{◌≡◌, cond, refl, sym, ap, subst, ◌∙◌, ℕ, Bool, true, false, ◌&&◌, ◌||◌, List, [], ◌∷◌, ◌++◌, append_assoc, Option, Some, None, map, filter, T, eqb→eq, slice_get, get_or, zero, suc, length}
 use Rattle.std.specs.Prelude.{codes, String, option_map, if◌then◌else◌}
 use Rattle.std.specs.List.{list_all, flat_map, filter_map, cons_option}
 use Rattle.std.specs.Option.{option_map_or}
@@ -13,14 +13,10 @@ use Rattle.wit_model.specs.declared.model.InterfaceId.{InterfaceId}
 use Rattle.wit_model.specs.declared.model.World.{World}
 use Rattle.wit_model.specs.declared.model.WorldId.{WorldId}
 use Rattle.wit_model.specs.declared.model.PackageId.{PackageId}
-use Rattle.wit_model.specs.declared.model.WorldKey.{WorldKey}
-use Rattle.wit_model.specs.declared.model.WorldKey.TheVariants as key
-use Rattle.wit_model.specs.declared.model.WorldItem.{WorldItem}
-use Rattle.wit_model.specs.declared.model.WorldItem.TheVariants as item
 use Rattle.wit_model.specs.Text.{Text, text_of}
 use Rattle.wit_model.specs.Names.{is_label}
 use Rattle.wit_model.specs.Lookup.{package_at, world_at, interface_at}
-use Rattle.wit_model.specs.Rules.{has_items, in_list, is_id, item_in_range, key_in_range, package_number, passes}
+use Rattle.wit_model.specs.Rules.{has_items, in_list, is_id, package_number, passes}
 use Rattle.wit_model.proofs.Lists.{first_true, second_true}
 use Rattle.wit_print.specs.OutputCall.{OutputCall, is_one_line}
 use Rattle.wit_print.specs.Tree.{ItemTree, WorldMember}
@@ -29,12 +25,12 @@ use Rattle.wit_print.specs.Tree.MemberTree.{TypeMember, UseMember}
 use Rattle.wit_print.specs.UseGroups.{declared_members, is_listed_type, use_members}
 use Rattle.wit_print.proofs.Declarations.{after_printed, members_append, printed_append}
 use Rattle.wit_print.proofs.UseGroups.{or_false, or_true}
-use Rattle.wit_print.specs.Printable.{imports_interfaces, is_printable_entry, is_printable_import, printed_imports, is_printable_interface, is_printable_world, IsPrintableWorld, entry_calls, function_entry_calls, interface_entry_calls, line_between, world_body_calls, world_calls, is_printable_listed, listed_calls, listed_interface_calls, listed_package_calls, next_package_calls}
+use Rattle.wit_print.specs.Printable.{imports_interfaces, is_printable_entry, is_printable_import, printed_imports, is_printable_interface, is_printable_world, IsPrintableWorld, entry_calls, interface_entry_calls, line_between, world_body_calls, world_calls, is_printable_listed, listed_calls, listed_interface_calls, listed_package_calls, next_package_calls}
 use Rattle.wit_print.specs.Shown.{DeclaredWith, Entry, Used, listed_imports, shown_declarations, shown_path, shown_uses, is_interface_item, is_freestanding_item, imported_functions, shown_import, shown_export, shown_interface, shown_world, shown_world_in, shown_world_item, shown_interface_item, shown_docs, shown_gates, shown_head, shown_package, shown_package_of}
 use Rattle.wit_print.specs.Keyword.{escaped}
 use Rattle.wit_print.specs.Calls.{declared_calls, item_calls, members_calls, prefix_calls, printed_after, space, use_calls, world_members_calls, package_item_calls, block_calls, doc_calls, gates_calls, more_nested_calls, nested_calls, package_outer_calls, package_start_calls, package_end_calls, package_calls}
 use Rattle.wit_print.specs.declared.type_kind.TypeKind.TheVariants.{WorldDeclaration}
-use Rattle.wit_print.specs.WellNamed.{is_well_gates, is_well_item, is_well_world_member}
+use Rattle.wit_print.specs.WellNamed.{is_well_gates, is_well_item}
 
 -- ---- the calls for what a world without types has
 

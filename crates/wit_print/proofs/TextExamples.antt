@@ -2,7 +2,7 @@
 use Rattle.std.proofs.Common.{◌≡◌, [], ◌∷◌, ◌++◌, List, ℕ, refl, codes, None, Some, false, true}
 use Rattle.std.specs.Fmt.{digits}
 use Rattle.wit_model.specs.Names.{cut}
-use Rattle.wit_print.specs.Keyword.Keyword.{PrimitiveWord, Package, Interface, Func, Record, Tuple, Option_, List_, Map, Underscore}
+use Rattle.wit_print.specs.Keyword.Keyword.{PrimitiveWord, Package, Interface, World, Func, Record, Tuple, Option_, List_, Map, Underscore}
 use Rattle.wit_print.specs.Keyword.{Keyword}
 use Rattle.wit_print.specs.Keyword.Primitive.{Bool_, U8, U16, U32, U64, S8, S16, S32, S64, F32, F64, Char, String, ErrorContext}
 use Rattle.wit_print.specs.Render.{render}
@@ -18,7 +18,7 @@ use Rattle.wit_print.specs.Tree.Gates.{Ungated, Unstable}
 use Rattle.wit_print.specs.Tree.Declared.{RecordOf}
 use Rattle.wit_print.specs.Tree.MemberTree.{TypeMember, FunctionMember}
 use Rattle.wit_print.specs.Tree.ItemTree.{InterfaceItem}
-use Rattle.wit_print.specs.Grammar.{ReadsType, ReadsSignature}
+use Rattle.wit_print.specs.Grammar.{ReadsFile, ReadsType, ReadsSignature}
 use Rattle.wit_print.specs.Grammar.IsId.{plain, with_percent}
 use Rattle.wit_print.specs.Grammar.Repeated.{closed, again}
 use Rattle.wit_print.specs.Grammar.Listed.{last_with_comma, next}
@@ -242,3 +242,16 @@ joined-no-function s after r = elim r [ ]
 
 pub use-joined : Tokens (codes "usej.{t};") (Word (codes "usej") ∷ Punctuation Dot ∷ Punctuation OpenBrace ∷ Word (codes "t") ∷ Punctuation CloseBrace ∷ Punctuation Semi ∷ [])
 use-joined = token refl (token refl (token refl (token refl (token refl (token refl (no_tokens refl))))))
+
+-- ---- documentation
+
+-- a line of documentation is no token
+pub lines-skipped : Tokens (codes "/// one" ++ (10 ∷ (codes "/// two" ++ (10 ∷ codes "world")))) (Key World ∷ [])
+lines-skipped = skip refl (skip refl (skip refl (skip refl (token refl (no_tokens refl)))))
+
+-- without its slashes the second line is a word, and the text no file
+pub second-line-bare : Tokens (codes "/// one" ++ (10 ∷ (codes "two" ++ (10 ∷ codes "world")))) (Word (codes "two") ∷ Key World ∷ [])
+second-line-bare = skip refl (skip refl (token refl (skip refl (token refl (no_tokens refl)))))
+
+pub bare-no-file : (tokens : List Token) (t : FileTree) → ReadsFile (Word (codes "two") ∷ tokens) t → ⊥
+bare-no-file tokens t r = elim r [ ]

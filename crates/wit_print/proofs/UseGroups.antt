@@ -1,11 +1,10 @@
 -- Uses one after the other are the groups that are shown.
 use Rattle.std.proofs.Common.{◌≡◌, refl, sym, ap, subst, ◌∙◌, Bool, true, false, ℕ, ◌&&◌, ◌||◌, ◌==◌, nat_lt, length, List, [], ◌∷◌, ◌++◌, append-nil, append_assoc, map, filter_map, Option, Some, None, option_and_then, if◌then◌else◌}
-use Rattle.std.specs.Prelude.{codes, is_some, option_map, String}
+use Rattle.std.specs.Prelude.{codes, is_some, String}
 use Rattle.std.specs.declared.alloc.Global.{Global}
 use Rattle.std.specs.Str.{chars}
 use Rattle.std.proofs.Math.Utf8.{encodes}
 use Rattle.std.proofs.lemmas.Str.{encodes-chars, IsUtf8-string_bytes}
-use Rattle.std.specs.Option.{option_map_or}
 use Rattle.std.specs.List.{list_all, cons_option, flat_map}
 use Rattle.std.proofs.lemmas.Grind.{flat_map-append}
 use Rattle.std.proofs.lemmas.Bool.{eqb-true}
@@ -16,10 +15,8 @@ use Rattle.wit_model.specs.declared.model.PackageId.{PackageId}
 use Rattle.wit_model.specs.declared.model.TypeDef.{TypeDef}
 use Rattle.wit_model.specs.declared.model.TypeDefKind.{TypeDefKind}
 use Rattle.wit_model.specs.declared.model.TypeDefKind.TheVariants as defined
-use Rattle.wit_model.specs.declared.model.TypeId.{TypeId}
 use Rattle.wit_model.specs.declared.model.TypeOwner.{TypeOwner}
 use Rattle.wit_model.specs.declared.model.TypeOwner.TheVariants as owner
-use Rattle.wit_model.specs.declared.model.«Type».{«Type» as ValueType}
 use Rattle.wit_model.specs.declared.model.«Type».TheVariants as value
 use Rattle.wit_model.specs.Lookup.{type_at}
 use Rattle.wit_model.specs.Names.{is_label}
@@ -29,12 +26,12 @@ use Rattle.wit_model.specs.Text.{Text, text_eq, text_of}
 use Rattle.wit_model.specs.Uses.{alias_target}
 use Rattle.wit_model.proofs.VersionLaws.{same_text, text_same}
 use Rattle.wit_print.specs.OutputCall.{OutputCall}
-use Rattle.wit_print.specs.OutputCall.OutputCall.{Keyword, Semicolon, Str}
-use Rattle.wit_print.specs.Tree.{MemberTree, PathTree, Prefix, UsedName}
+use Rattle.wit_print.specs.OutputCall.OutputCall.{Keyword, Str}
+use Rattle.wit_print.specs.Tree.{MemberTree, PathTree, UsedName}
 use Rattle.wit_print.specs.Tree.MemberTree.{UseMember}
-use Rattle.wit_print.specs.Shown.{Listed, Used, grouped, grouped_with, same_group, shown_external_id, shown_gates, shown_path, used_of}
-use Rattle.wit_print.specs.Calls.{doc_calls, external_id_calls, gates_calls, members_calls, path_calls, prefix_calls, printed_after, separated, space, use_calls, used_name_calls}
-use Rattle.wit_print.specs.UseGroups.{group_end_calls, group_start_calls, is_printable_use, joins, listed_use, listed_use_calls, more_names_calls, names_calls, new_group_calls, open_end_calls, use_after, use_from, use_run_calls, uses_calls}
+use Rattle.wit_print.specs.Shown.{Listed, Used, grouped, grouped_with, same_group, shown_gates, shown_path, used_of}
+use Rattle.wit_print.specs.Calls.{doc_calls, external_id_calls, gates_calls, members_calls, path_calls, printed_after, space, use_calls, used_name_calls}
+use Rattle.wit_print.specs.UseGroups.{group_end_calls, is_printable_use, joins, listed_use, listed_use_calls, more_names_calls, names_calls, new_group_calls, open_end_calls, use_after, use_from, use_run_calls, uses_calls}
 use Rattle.wit_print.specs.WellNamed.{is_well_gates, is_well_path}
 use Rattle.wit_print.specs.declared.use_group.Use.{Use}
 use Rattle.wit_print.proofs.ByteTests.{both, left_of, right_of}

@@ -1,7 +1,7 @@
 -- What validity says of a `Resolve`: its worlds and interfaces can be printed.
-use Rattle.std.proofs.Common.{◌≡◌, refl, sym, subst, ◌∙◌, ℕ, zero, suc, ◌<◌, ◌+◌, Bool, true, false, ◌&&◌, ◌||◌, not, List, [], ◌∷◌, length, Option, Some, None, filter_map, option_and_then, slice_get, option_to_list, arith}
-use Rattle.std.specs.Prelude.{String, is_none, is_some, if◌then◌else◌}
-use Rattle.std.specs.List.{list_all, cons_option}
+use Rattle.std.proofs.Common.{◌≡◌, refl, sym, subst, ◌∙◌, ℕ, zero, suc, ◌<◌, ◌+◌, Bool, true, false, ◌&&◌, ◌||◌, not, List, [], ◌∷◌, length, Option, Some, slice_get, arith}
+use Rattle.std.specs.Prelude.{String}
+use Rattle.std.specs.List.{list_all}
 use Rattle.std.specs.Option.{option_map_or}
 use Rattle.std.specs.Cmp.Lexicographic.{same_text}
 use Rattle.std.specs.declared.alloc.Global.{Global}
@@ -17,15 +17,11 @@ use Rattle.wit_model.specs.declared.model.WorldKey.{WorldKey}
 use Rattle.wit_model.specs.declared.model.WorldKey.TheVariants as key
 use Rattle.wit_model.specs.declared.model.WorldItem.{WorldItem}
 use Rattle.wit_model.specs.declared.model.WorldItem.TheVariants as item
-use Rattle.wit_model.specs.declared.model.Function.{Function}
-use Rattle.wit_model.specs.Text.{Text, text_of, text_eq, optional_text}
+use Rattle.wit_model.specs.Text.{text_of, text_eq}
 use Rattle.wit_model.specs.Names.{is_label, is_version, is_version_text}
-use Rattle.wit_model.specs.Lookup.{interface_at, package_at, type_at, world_at, resource_of, optional_version_text}
-use Rattle.wit_model.specs.declared.model.TypeDef.{TypeDef}
-use Rattle.wit_model.specs.declared.model.TypeOwner.{TypeOwner}
+use Rattle.wit_model.specs.Lookup.{interface_at, package_at, world_at, optional_version_text}
 use Rattle.wit_model.specs.declared.model.TypeOwner.TheVariants as owner
-use Rattle.wit_model.specs.Parts.{same_owner}
-use Rattle.wit_model.specs.Rules.{in_list, passes, is_freestanding, is_member, is_member_of, is_named_of, is_resource_itself, resource_name, key_in_range, item_in_range, key_label, item_labels, entries_labels, is_stability, interface_belongs, world_belongs, is_id, package_number, is_export_item, text_is}
+use Rattle.wit_model.specs.Rules.{in_list, passes, key_in_range, item_in_range, key_label, item_labels, entries_labels, is_stability, interface_belongs, world_belongs, is_id, package_number, is_export_item, text_is}
 use Rattle.wit_model.specs.Valid.{IsValid, names_in_packages, numbers_in_range, package_names, places, labels, is_place}
 use Rattle.wit_model.proofs.Lists.{first_true, second_true}
 use Rattle.wit_model.proofs.Entries.{each_from_at, lists_pass}
@@ -39,7 +35,6 @@ use Rattle.wit_print.proofs.WellLists.{all_both, given_well}
 use Rattle.wit_print.specs.UseGroups.{is_listed_function, is_listed_type}
 use Rattle.wit_print.proofs.ValidWorlds.{is_known_entry, entry_function_known, extern_well, world_is_shown}
 use Rattle.wit_print.proofs.ValidOwners.{is_known_listed}
-use Rattle.wit_print.proofs.ByPlace.{all_get, one_there}
 use Rattle.wit_print.proofs.ValidFiles.{interface_item_well}
 use Rattle.wit_print.proofs.ShownWell.{gates_well, optional_version}
 

@@ -1,6 +1,6 @@
 -- The calls for uses, one after the other: a use joins the group of the use before it, or begins the next group.
-use Rattle.std.specs.Prelude.{Bool, true, false, List, [], ◌∷◌, ◌++◌, ◌&&◌, codes, map, Option, Some, None, option_and_then, if◌then◌else◌}
-use Rattle.std.specs.List.{flat_map, filter_map}
+use Rattle.std.specs.Prelude.{Bool, false, List, [], ◌∷◌, ◌++◌, ◌&&◌, codes, map, Option, Some, None, option_and_then, if◌then◌else◌}
+use Rattle.std.specs.List.{flat_map}
 use Rattle.std.specs.Option.{option_map_or}
 use Rattle.std.specs.Borrow.{Bor}
 use Rattle.wit_model.specs.declared.model.Resolve.{Resolve}

@@ -29,8 +29,7 @@ fn draft_alias_start<'a>(
     requires { is_label name.now ≡ true }
     ensures { OnOk result (draft.new ≡ record { line_begun = false; kept = draft.old.kept ++ alias_start_calls name.now kind }) }
 {
-    draft.keyword("type")?;
-    draft.str(" ")?;
+    draft.keyword_and_blank("type")?;
     draft.name(name, kind)?;
     draft.str(" = ")
 }

@@ -21,8 +21,7 @@ pub(crate) fn draft_block_start<'a>(
     requires label { is_label name.now ≡ true }
     ensures { OnOk result (draft.new ≡ record { line_begun = true; kept = draft.old.kept ++ block_start_calls word.now name.now kind }) }
 {
-    draft.keyword(word)?;
-    draft.str(" ")?;
+    draft.keyword_and_blank(word)?;
     draft.name(name, kind)?;
     draft.indent_start()
 }

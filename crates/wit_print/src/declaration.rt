@@ -10,7 +10,8 @@ ghost use Rattle.wit_print.specs.Shown.{belongs_to as belongs_to_lem, declared_o
 ghost use Rattle.wit_print.specs.Tree.MemberTree.{TypeMember};
 ghost use Rattle.wit_print.specs.Calls.{declared_calls, members_calls, printed_after};
 ghost use Rattle.wit_print.specs.Printable.{declaration_of, is_printable_type};
-ghost use Rattle.wit_print.specs.UseGroups.{declared_members, is_listed_function, is_listed_type, listed_declaration, listed_of};
+ghost use Rattle.wit_print.specs.GivenTypes.{functions_under, given_declarations};
+ghost use Rattle.wit_print.specs.UseGroups.{is_listed_function, is_listed_type, listed_declaration, listed_of};
 ghost use Rattle.wit_print.specs.WellNamed.{is_well_declared, is_well_prefix};
 
 use crate::alias::{
@@ -29,6 +30,7 @@ use crate::type_name::present;
 use crate::use_group::use_of;
 use crate::variant::draft_variant;
 use std::alloc::{AllocError, Global};
+use std::collections::HashMap;
 use wit_model::{Error, Function, Resolve, TypeDef, TypeDefKind, TypeId, TypeOwner};
 
 /// A declared type under a name, with its functions if it is a resource.
@@ -191,7 +193,7 @@ fn print_owned<'a, O: Output>(
 }
 
 /// A type of an owner, if it is no use. Answers whether the block has printed something then.
-pub(crate) fn print_listed_type<'a, O: Output>(
+fn print_listed_type<'a, O: Output>(
     output: &mut O,
     alloc: Global,
     emits_docs: bool,
@@ -225,8 +227,55 @@ pub(crate) fn print_listed_type<'a, O: Output>(
     Ok(true)
 }
 
-/// The types of an owner that are no uses, each an item of its block. One is drafted at a time. Answers whether the block has
-/// printed something then.
+/// A type of an owner, if it is no use, with the functions under it if it is a resource. Answers whether the block has printed
+/// something then.
+fn print_type_with_functions<'a, O: Output>(
+    output: &mut O,
+    alloc: Global,
+    emits_docs: bool,
+    has_printed: bool,
+    resolve: &'a Resolve,
+    owner: TypeOwner,
+    listed: (&'a str, TypeId),
+    functions: &HashMap<TypeId, Vec<&'a Function>>,
+) -> Result<bool, Error>
+    requires valid { IsValid resolve.now }
+    requires known { is_listed_type resolve.now owner (record { name = listed.0.now; id = listed.1 }) ≡ true }
+    requires functions { list_all (is_listed_function resolve.now owner) (functions_under functions.now.entries listed.1) ≡ true }
+    ensures ok { OnOk result (Moves O.keeps (O.view output.old) (members_calls emits_docs has_printed (listed_declaration resolve.now owner (functions_under functions.now.entries listed.entry.1) (record { name = listed.entry.0.now; id = listed.entry.1 }))) (O.view output.new)) }
+    ensures err { OnErr result (Begins O.keeps (O.view output.old) (members_calls emits_docs has_printed (listed_declaration resolve.now owner (functions_under functions.now.entries listed.entry.1) (record { name = listed.entry.0.now; id = listed.entry.1 }))) (O.view output.new)) }
+    ensures printed { IfOk result (λ b. b ≡ printed_after has_printed (listed_declaration resolve.now owner (functions_under functions.now.entries listed.entry.1) (record { name = listed.entry.0.now; id = listed.entry.1 }))) }
+    ensures memory { IsOkUnless result Memory }
+{
+    let found = match functions.get(&listed.1) {
+        Some(found) => found,
+        None => {
+            return print_listed_type(
+                output,
+                alloc,
+                emits_docs,
+                has_printed,
+                resolve,
+                owner,
+                listed,
+                &[],
+            );
+        }
+    };
+    print_listed_type(
+        output,
+        alloc,
+        emits_docs,
+        has_printed,
+        resolve,
+        owner,
+        listed,
+        found,
+    )
+}
+
+/// The types of an owner that are no uses, each an item of its block, a resource with the functions under it. One is drafted at a
+/// time. Answers whether the block has printed something then.
 pub(crate) fn print_declarations<'a, O: Output>(
     output: &mut O,
     alloc: Global,
@@ -235,19 +284,19 @@ pub(crate) fn print_declarations<'a, O: Output>(
     resolve: &'a Resolve,
     owner: TypeOwner,
     types: &[(&'a str, TypeId)],
-    functions: &[&'a Function],
+    functions: &HashMap<TypeId, Vec<&'a Function>>,
 ) -> Result<bool, Error>
     requires valid { IsValid resolve.now }
     requires known { list_all (is_listed_type resolve.now owner) (listed_of types.now) ≡ true }
-    requires functions { list_all (is_listed_function resolve.now owner) (map (λ f. f.now) functions.now) ≡ true }
-    ensures ok { OnOk result (Moves O.keeps (O.view output.old) (members_calls emits_docs has_printed (declared_members resolve.now owner (map (λ f. f.now) functions.now) (listed_of types.now))) (O.view output.new)) }
-    ensures err { OnErr result (Begins O.keeps (O.view output.old) (members_calls emits_docs has_printed (declared_members resolve.now owner (map (λ f. f.now) functions.now) (listed_of types.now))) (O.view output.new)) }
-    ensures printed { IfOk result (λ b. b ≡ printed_after has_printed (declared_members resolve.now owner (map (λ f. f.now) functions.now) (listed_of types.now))) }
+    requires functions { (id : TypeId) → list_all (is_listed_function resolve.now owner) (functions_under functions.now.entries id) ≡ true }
+    ensures ok { OnOk result (Moves O.keeps (O.view output.old) (members_calls emits_docs has_printed (given_declarations resolve.now owner functions.now.entries (listed_of types.now))) (O.view output.new)) }
+    ensures err { OnErr result (Begins O.keeps (O.view output.old) (members_calls emits_docs has_printed (given_declarations resolve.now owner functions.now.entries (listed_of types.now))) (O.view output.new)) }
+    ensures printed { IfOk result (λ b. b ≡ printed_after has_printed (given_declarations resolve.now owner functions.now.entries (listed_of types.now))) }
     ensures memory { IsOkUnless result Memory }
 {
     let mut has_printed = has_printed;
     for listed in types {
-        let printed = print_listed_type(
+        let printed = print_type_with_functions(
             output,
             alloc,
             emits_docs,

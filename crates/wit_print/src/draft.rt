@@ -8,7 +8,7 @@ ghost use Rattle.wit_model.specs.declared.error.Error.TheVariants.{Memory};
 ghost use Rattle.wit_model.specs.Names.{is_label, is_version_text};
 ghost use Rattle.wit_print.specs.OutputCall.{OutputCall, Moves, Begins, is_one_line, has_no_space_first, may_begin, may_stand, line_begun_after};
 ghost use Rattle.wit_print.specs.Drafted.{piece_call};
-ghost use Rattle.wit_print.specs.Calls.{character_call};
+ghost use Rattle.wit_print.specs.Calls.{character_call, space};
 ghost use Rattle.wit_print.specs.Keyword.{escaped};
 
 use crate::escape::{escape, escape_character};
@@ -84,6 +84,16 @@ impl<'a> Draft<'a> {
         ensures { OnOk result (self.new ≡ record { line_begun = false; kept = self.old.kept ++ OutputCall.Keyword text.now ∷ [] }) }
     {
         self.push(Piece::Keyword(text), false)
+    }
+
+    /// A keyword, and a blank behind it.
+    pub(crate) fn keyword_and_blank(&mut self, text: &'a str) -> Result<(), AllocError>
+        requires one_line { IsTrue (is_one_line text.now) }
+        requires front { IsTrue (has_no_space_first text.now) }
+        ensures { OnOk result (self.new ≡ record { line_begun = false; kept = self.old.kept ++ OutputCall.Keyword text.now ∷ space ∷ [] }) }
+    {
+        self.keyword(text)?;
+        self.str(" ")
     }
 
     pub(crate) fn str(&mut self, text: &'a str) -> Result<(), AllocError>

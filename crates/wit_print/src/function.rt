@@ -110,8 +110,7 @@ fn draft_async<'a>(draft: &mut Draft<'a>, kind: FunctionKind) -> Result<(), Allo
     ensures { OnOk result (draft.new ≡ record { line_begun = false; kept = draft.old.kept ++ async_calls (is_async_lem kind) }) }
 {
     if kind.is_async() {
-        draft.keyword("async")?;
-        draft.str(" ")?;
+        draft.keyword_and_blank("async")?;
     }
     Ok(())
 }

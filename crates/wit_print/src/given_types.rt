@@ -12,96 +12,12 @@ ghost use Rattle.wit_print.specs.GivenTypes.{are_functions_of, functions_under, 
 ghost use Rattle.wit_print.specs.Shown.{owner_package as owner_package_lem};
 ghost use Rattle.wit_print.specs.UseGroups.{is_listed_type, listed_declaration, listed_of};
 
-use crate::declaration::print_listed_type;
+use crate::declaration::print_declarations;
 use crate::output::Output;
 use crate::use_group::print_uses;
 use std::alloc::{AllocError, Global};
 use std::collections::HashMap;
 use wit_model::{Error, Function, PackageId, Resolve, TypeId, TypeOwner};
-
-/// A type of an owner, if it is no use, with the functions under it if it is a resource. Answers whether the block has printed
-/// something then.
-fn print_given_type<'a, O: Output>(
-    output: &mut O,
-    alloc: Global,
-    emits_docs: bool,
-    has_printed: bool,
-    resolve: &'a Resolve,
-    owner: TypeOwner,
-    listed: (&'a str, TypeId),
-    functions: &HashMap<TypeId, Vec<&'a Function>>,
-) -> Result<bool, Error>
-    requires valid { IsValid resolve.now }
-    requires known { is_listed_type resolve.now owner (record { name = listed.0.now; id = listed.1 }) ≡ true }
-    requires functions { are_functions_of resolve.now owner functions.now.entries ≡ true }
-    ensures ok { OnOk result (Moves O.keeps (O.view output.old) (members_calls emits_docs has_printed (listed_declaration resolve.now owner (functions_under functions.now.entries listed.entry.1) (record { name = listed.entry.0.now; id = listed.entry.1 }))) (O.view output.new)) }
-    ensures err { OnErr result (Begins O.keeps (O.view output.old) (members_calls emits_docs has_printed (listed_declaration resolve.now owner (functions_under functions.now.entries listed.entry.1) (record { name = listed.entry.0.now; id = listed.entry.1 }))) (O.view output.new)) }
-    ensures printed { IfOk result (λ b. b ≡ printed_after has_printed (listed_declaration resolve.now owner (functions_under functions.now.entries listed.entry.1) (record { name = listed.entry.0.now; id = listed.entry.1 }))) }
-    ensures memory { IsOkUnless result Memory }
-{
-    let found = match functions.get(&listed.1) {
-        Some(found) => found,
-        None => {
-            return print_listed_type(
-                output,
-                alloc,
-                emits_docs,
-                has_printed,
-                resolve,
-                owner,
-                listed,
-                &[],
-            );
-        }
-    };
-    print_listed_type(
-        output,
-        alloc,
-        emits_docs,
-        has_printed,
-        resolve,
-        owner,
-        listed,
-        found,
-    )
-}
-
-/// The types that are no uses, each an item of its block, a resource with the functions under it. Answers whether the block has
-/// printed something then.
-fn print_given_declarations<'a, O: Output>(
-    output: &mut O,
-    alloc: Global,
-    emits_docs: bool,
-    has_printed: bool,
-    resolve: &'a Resolve,
-    owner: TypeOwner,
-    types: &[(&'a str, TypeId)],
-    functions: &HashMap<TypeId, Vec<&'a Function>>,
-) -> Result<bool, Error>
-    requires valid { IsValid resolve.now }
-    requires known { list_all (is_listed_type resolve.now owner) (listed_of types.now) ≡ true }
-    requires functions { are_functions_of resolve.now owner functions.now.entries ≡ true }
-    ensures ok { OnOk result (Moves O.keeps (O.view output.old) (members_calls emits_docs has_printed (given_declarations resolve.now owner functions.now.entries (listed_of types.now))) (O.view output.new)) }
-    ensures err { OnErr result (Begins O.keeps (O.view output.old) (members_calls emits_docs has_printed (given_declarations resolve.now owner functions.now.entries (listed_of types.now))) (O.view output.new)) }
-    ensures printed { IfOk result (λ b. b ≡ printed_after has_printed (given_declarations resolve.now owner functions.now.entries (listed_of types.now))) }
-    ensures memory { IsOkUnless result Memory }
-{
-    let mut has_printed = has_printed;
-    for listed in types {
-        let printed = print_given_type(
-            output,
-            alloc,
-            emits_docs,
-            has_printed,
-            resolve,
-            owner,
-            *listed,
-            functions,
-        )?;
-        has_printed = printed;
-    }
-    Ok(has_printed)
-}
 
 fn owner_package(resolve: &Resolve, owner: TypeOwner) -> Option<PackageId>
     ensures { result ≡ owner_package_lem resolve.now owner }
@@ -160,7 +76,7 @@ pub(crate) fn print_given_types<'a, O: Output>(
         owner,
         types,
     )?;
-    print_given_declarations(
+    print_declarations(
         output, alloc, emits_docs, has_used, resolve, owner, types, functions,
     )
 }

@@ -38,8 +38,7 @@ pub(crate) fn draft_head<'a>(
 {
     draft_docs(draft, emits_docs, &interface.docs)?;
     draft_gates(draft, &interface.stability)?;
-    draft.keyword("interface")?;
-    draft.str(" ")?;
+    draft.keyword_and_blank("interface")?;
     draft.name(name, TypeKind::InterfaceDeclaration)
 }
 

@@ -3,6 +3,7 @@
 
 mod alias;
 mod block;
+mod by_resource;
 mod declaration;
 mod draft;
 mod escape;

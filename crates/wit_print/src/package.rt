@@ -41,8 +41,7 @@ fn draft_world_start<'a>(
 {
     draft_docs(draft, emits_docs, &world.docs)?;
     draft_gates(draft, &world.stability)?;
-    draft.keyword("world")?;
-    draft.str(" ")?;
+    draft.keyword_and_blank("world")?;
     draft.name(name, TypeKind::WorldDeclaration)?;
     draft.indent_start()
 }

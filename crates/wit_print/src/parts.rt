@@ -38,8 +38,7 @@ fn draft_package_name<'a>(draft: &mut Draft<'a>, name: &'a PackageName) -> Resul
     requires version { is_well_optional is_version_text (optional_version_text name.now.version) ≡ true }
     ensures { OnOk result (draft.new ≡ record { line_begun = false; kept = draft.old.kept ++ package_name_calls (text_of name.now.namespace) (text_of name.now.name) (optional_version_text name.now.version) }) }
 {
-    draft.keyword("package")?;
-    draft.str(" ")?;
+    draft.keyword_and_blank("package")?;
     draft.name(&name.namespace, TypeKind::NamespaceDeclaration)?;
     draft.str(":")?;
     draft.name(&name.name, TypeKind::PackageNameDeclaration)?;

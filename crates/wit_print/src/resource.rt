@@ -27,8 +27,7 @@ fn draft_static_start<'a>(draft: &mut Draft<'a>, name: &'a str) -> Result<(), Al
 {
     draft.name(name, TypeKind::FunctionStatic)?;
     draft.str(": ")?;
-    draft.keyword("static")?;
-    draft.str(" ")
+    draft.keyword_and_blank("static")
 }
 
 /// A static function of a resource.

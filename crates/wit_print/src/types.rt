@@ -12,6 +12,7 @@ ghost use Rattle.wit_print.specs.Calls.{members_calls, printed_after};
 ghost use Rattle.wit_print.specs.Shown.{function_of_item as function_of_item_lem, imported_functions as imported_functions_lem, listed_imports, type_of_entry as type_of_entry_lem, listed_functions as listed_functions_lem, listed_types as listed_types_lem};
 ghost use Rattle.wit_print.specs.UseGroups.{is_listed_function, is_listed_type, listed_of, type_members};
 
+use crate::by_resource::by_resource;
 use crate::declaration::print_declarations;
 use crate::output::Output;
 use crate::use_group::print_uses;
@@ -43,6 +44,7 @@ pub(crate) fn print_owned_types<'a, O: Output>(
     ensures printed { IfOk result (λ b. b ≡ printed_after has_printed (type_members resolve.now here owner (map (λ f. f.now) functions.now) (listed_of types.now))) }
     ensures memory { IsOkUnless result Memory }
 {
+    let grouped = by_resource(alloc, functions)?;
     let has_used = print_uses(
         output,
         alloc,
@@ -54,7 +56,7 @@ pub(crate) fn print_owned_types<'a, O: Output>(
         types,
     )?;
     print_declarations(
-        output, alloc, emits_docs, has_used, resolve, owner, types, functions,
+        output, alloc, emits_docs, has_used, resolve, owner, types, &grouped,
     )
 }
 

@@ -274,8 +274,7 @@ fn draft_own_name<'a>(draft: &mut Draft<'a>, own: &'a str) -> Result<(), AllocEr
     ensures { OnOk result (draft.new ≡ record { line_begun = false; kept = draft.old.kept ++ space ∷ OutputCall.Keyword (codes "as") ∷ space ∷ OutputCall.Ty (escaped own.now) TypeKind.TypeAlias ∷ [] }) }
 {
     draft.str(" ")?;
-    draft.keyword("as")?;
-    draft.str(" ")?;
+    draft.keyword_and_blank("as")?;
     draft.name(own, TypeKind::TypeAlias)
 }
 
@@ -308,8 +307,7 @@ fn draft_use_path<'a>(
     requires well { is_well_path (shown_path resolve.now here interface) ≡ true }
     ensures { OnOk result (draft.new ≡ record { line_begun = false; kept = draft.old.kept ++ OutputCall.Keyword (codes "use") ∷ space ∷ (path_calls (shown_path resolve.now here interface) ++ (OutputCall.Str (codes ".{") ∷ [])) }) }
 {
-    draft.keyword("use")?;
-    draft.str(" ")?;
+    draft.keyword_and_blank("use")?;
     draft_path(draft, resolve, here, interface)?;
     draft.str(".{")
 }

@@ -36,8 +36,7 @@ pub(crate) fn draft_front<'a>(
     ensures { OnOk result (draft.new ≡ record { line_begun = false; kept = draft.old.kept ++ front_calls emits_docs (shown_prefix docs.now stability.now external_id.now) word.now }) }
 {
     draft_prefix(draft, emits_docs, docs, stability, external_id)?;
-    draft.keyword(word)?;
-    draft.str(" ")
+    draft.keyword_and_blank(word)
 }
 
 /// An imported or exported function.

@@ -45,7 +45,6 @@ fn text_of(
     emits_docs: bool,
 ) -> Result<String, Fail> {
     assert!(rt; resolve.packages.len() > 0);
-    assert!(rt; resolve.types.as_slice().is_empty());
     resolve.check(alloc)?;
     let mut printer = WitPrinter::new(OutputToString::new(alloc));
     printer.emit_docs(emits_docs);

@@ -4,14 +4,20 @@
 #[cfg(test)]
 mod functions;
 #[cfg(test)]
+mod given_types;
+#[cfg(test)]
 mod interfaces;
 #[cfg(test)]
-mod outputs;
+mod kinds;
 #[cfg(test)]
-mod packages;
+mod outputs;
 #[cfg(test)]
 mod printed;
 #[cfg(test)]
 mod recording;
+#[cfg(test)]
+mod steps;
+#[cfg(test)]
+mod texts;
 #[cfg(test)]
 mod type_names;

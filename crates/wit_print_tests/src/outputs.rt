@@ -4,12 +4,11 @@ ghost use Rattle.std.specs.Prelude.{◌≡◌, true, IsTrue};
 ghost use Rattle.wit_model.specs.Names.{is_version as is_version_lem};
 ghost use Rattle.wit_model.specs.Rules.{passes};
 
-use crate::packages::package_name;
 use semver::Version;
 use std::alloc::Global;
 use std::process::Abort;
 use std::test::Fail;
-use wit_model::{Docs, Error, Map, Package, is_label, is_version};
+use wit_model::{Docs, Error, Map, Package, PackageName, is_label, is_version};
 use wit_print::{Output, OutputToString, TypeKind, WitPrinter};
 
 /// Whether there is a version, and it is one.
@@ -24,8 +23,11 @@ fn has_version(version: &Option<Version>) -> bool
 
 // Package `a:b@1.0.0-rc.1` with documentation.
 fn documented(alloc: Global) -> Result<Package, Fail> {
-    let mut name = package_name(alloc, "a", "b")?;
-    name.version = Some(Version::parse(alloc, "1.0.0-rc.1")?);
+    let name = PackageName {
+        namespace: String::from_str(alloc, "a")?,
+        name: String::from_str(alloc, "b")?,
+        version: Some(Version::parse(alloc, "1.0.0-rc.1")?),
+    };
     let contents = Some(String::from_str(alloc, "one\n\nthree")?);
     Ok(Package {
         name,

@@ -1,49 +1,24 @@
 //! Types where they are used.
 
+use crate::kinds::{Kind, kind_of};
 use std::alloc::{AllocError, Global};
 use std::process::Abort;
 use std::test::Fail;
 use wit_check::Check;
-use wit_model::{Resolve, Type, TypeDefKind, TypeId};
+use wit_model::{Resolve, Type, TypeId};
 use wit_print::{Output, OutputToString, WitPrinter};
 use wit_samples::drafts::{add_type, add_unnamed, draft};
-use wit_samples::kinds::{borrow_of, own_of, result_of, tuple_of};
-
-/// A kind, with types by number.
-#[derive(Clone, Copy)]
-enum Kind {
-    Own(u32),
-    Borrow(u32),
-    Tuple(Type, Type),
-    Option(Type),
-    List(Type),
-    FixedList(Type, u32),
-    Map(Type, Type),
-    Result(Option<Type>, Option<Type>),
-    Future(Option<Type>),
-    Stream(Option<Type>),
-}
-
-fn kind_of(alloc: Global, kind: Kind) -> Result<TypeDefKind, AllocError> {
-    Ok(match kind {
-        Kind::Own(number) => own_of(number),
-        Kind::Borrow(number) => borrow_of(number),
-        Kind::Tuple(first, second) => tuple_of(alloc, &[first, second])?,
-        Kind::Option(ty) => TypeDefKind::Option(ty),
-        Kind::List(ty) => TypeDefKind::List(ty),
-        Kind::FixedList(ty, length) => TypeDefKind::FixedLengthList(ty, length),
-        Kind::Map(key, value) => TypeDefKind::Map(key, value),
-        Kind::Result(ok, err) => result_of(ok, err),
-        Kind::Future(ty) => TypeDefKind::Future(ty),
-        Kind::Stream(ty) => TypeDefKind::Stream(ty),
-    })
-}
 
 // Resource `r`, a name for `u8` that is a keyword, and an unnamed type of this kind, which is number 2.
 fn types_of(alloc: Global, kind: Kind) -> Result<Resolve, AllocError> {
     let mut resolve = draft(alloc)?;
-    add_type(alloc, &mut resolve, "r", TypeDefKind::Resource)?;
-    add_type(alloc, &mut resolve, "list", TypeDefKind::Type_(Type::U8))?;
+    add_type(alloc, &mut resolve, "r", kind_of(alloc, Kind::Resource)?)?;
+    add_type(
+        alloc,
+        &mut resolve,
+        "list",
+        kind_of(alloc, Kind::Alias(Type::U8))?,
+    )?;
     add_unnamed(&mut resolve, kind_of(alloc, kind)?)?;
     Ok(resolve)
 }

@@ -1,28 +1,16 @@
-use Rattle.std.proofs.Common.{◌<◌, ◌∙◌, ap, sym, subst, ℕ, List, length, map}
+use Rattle.std.proofs.Common.{◌<◌, ◌∙◌, ap, sym, subst, ℕ, length, map}
 use Rattle.std.specs.List.{AllByRecursion}
 use Rattle.plan_read.specs.declared.sights.Sight.{Sight}
 use Rattle.plan_read.specs.Sights.{numbered_sight}
-use Rattle.plan_gather.specs.declared.views.Sighted.{Sighted}
-use Rattle.plan_gather.proofs.SightLaws.{by_first, places_kept}
+use Rattle.plan_gather.proofs.SightLaws.{by_first}
 use Rattle.plan_gather.proofs.sights.agree.Goals as goal
 
-pub first_views-requires : goal.first_views-requires
-first_views-requires c =
-    subst (λ (all : List Sighted). AllByRecursion (λ (s : Sighted). s.place < c.places_of-places.result) all) (sym c.deref.ensures.value)
-    (places_kept c.places_of-places.result c.in_ok-all.all.items c.args.sights.now c.in_ok-all.ensures c.places_of-places.ensures)
-
-pub first_views-requires-2 : goal.first_views-requires-2
-first_views-requires-2 c =
-    subst (λ (all : List Sighted). AllByRecursion (λ (s : Sighted). s.place < c.places_of-places.result) all) (sym c.deref-2.ensures.value)
-    (places_kept c.places_of-places.result c.in_ok-all.all.items c.args.sights.now c.in_ok-all.ensures c.places_of-places.ensures)
-
 pub each_agrees-requires-clause-places : goal.each_agrees-requires-clause-places
-each_agrees-requires-clause-places c =
-    subst (λ (n : ℕ). AllByRecursion (λ (s : Sight). s.place < n) c.args.sights.now) (sym (ap length c.deref-3.ensures.value ∙ c.in_ok-firsts.ensures.len)) c.places_of-places.ensures
+each_agrees-requires-clause-places c = subst (λ (n : ℕ). AllByRecursion (λ (s : Sight). s.place < n) c.args.sights.now) (sym (ap length c.deref.ensures.value)) c.in_ok-firsts.ensures.places
 
 pub each_agrees-requires-clause-places_too : goal.each_agrees-requires-clause-places_too
 each_agrees-requires-clause-places_too c =
-    subst (λ (n : ℕ). AllByRecursion (λ (s : Sight). s.place < n) c.args.sights.now) (sym (ap length c.deref-4.ensures.value ∙ c.in_ok-wholes.ensures.len)) c.places_of-places.ensures
+    subst (λ (n : ℕ). AllByRecursion (λ (s : Sight). s.place < n) c.args.sights.now) (sym (ap length c.deref-2.ensures.value ∙ c.in_ok-firsts.ensures.many)) c.in_ok-firsts.ensures.places
 
 pub returns : goal.returns
 returns c = by_first c.each_agrees.result (map numbered_sight c.args.sights.now) c.each_agrees.ensures

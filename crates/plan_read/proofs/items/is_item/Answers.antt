@@ -13,4 +13,4 @@ returns-in-Function c =
 
 pub returns-in-Declares : goal.returns-in-Declares
 returns-in-Declares c =
-    declared_item c.args.tables.now c.args.home (map now_of c.args.resources.now.keys) c.args.key.now c.args.shown c.in-Declares.declared c.in-Declares.is c.may_be_declared.result c.may_be_declared.ensures
+    declared_item c.args.tables.now c.args.home (map now_of c.args.resources.now.keys) c.args.key.now c.args.shown _ c.in-Declares.declared c.in-Declares.is c.may_be_declared.result c.may_be_declared.ensures

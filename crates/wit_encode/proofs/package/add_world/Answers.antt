@@ -1,11 +1,13 @@
-use Rattle.std.proofs.Common.{◌≡◌, ◌++◌, ◌∷◌, [], subst, List, length}
+use Rattle.std.proofs.Common.{◌≡◌, ◌++◌, ◌∷◌, [], subst, List, length, false, ◌&&◌, inl, rules}
 use Rattle.std.proofs.lemmas.Bool.{lt-ltb}
 use Rattle.wit_model.specs.Text.{Text}
 use Rattle.wit_model.specs.Lookup.{identity_of}
 use Rattle.wit_model.proofs.OnePath.{found-in}
-use Rattle.comp_bytes.specs.Raw.{Declarations}
-use Rattle.component_exports.specs.ExportedParts.{exporting}
+use Rattle.comp_bytes.specs.Raw.{Declarations, TopType}
+use Rattle.component_exports.specs.ExportedParts.{exporting, one_exported}
 use Rattle.wit_encode.proofs.Packages.{on-ok, world-added}
+use Rattle.comp_bytes.specs.Parts.{Part, fits_component, top_slots}
+use Rattle.wit_encode.proofs.PackageHolding.{world-long}
 use Rattle.wit_encode.proofs.package.add_world.Goals as goal
 
 pub returns-clause-adds : goal.returns-clause-adds
@@ -17,3 +19,16 @@ returns-clause-adds c =
     (c.in_ok-component.ensures.wraps found.0 found.1)
     (subst (λ (label : Text). (types : List (Text × Declarations)) → c.args.builder.now ≡ exporting types → c.export_component_type.new.builder ≡ exporting (types ++ (label, c.in_ok-component.component) ∷ []))
     c.deref.ensures more))
+
+pub returns-in_err-component-clause-size : goal.returns-in_err-component-clause-size
+returns-in_err-component-clause-size c = λ h. inl (c.world_type.ensures.size (search rules))
+
+pub returns-clause-size : goal.returns-clause-size
+returns-clause-size c = λ h.
+    let r = c.args.resolve.now in
+    let found = found-in r.worlds.items c.args.world.0 (lt-ltb c.args.world.0 (length r.worlds.items) c.requires.in_range) in
+    let old = c.args.builder.now in
+    let declared = c.in_ok-component.component in
+    world-long r (identity_of c.args.package.now) (c.args.name.now, c.args.world) found.0 declared old found.1 (c.in_ok-component.ensures.wraps found.0 found.1)
+    (subst (λ (label : Text). (fits_component (old ++ Part.top_type (TopType.component declared) ∷ []) && fits_component (old ++ one_exported (top_slots old) (label, declared))) ≡ false) c.deref.ensures
+    (c.export_component_type.ensures.size h))

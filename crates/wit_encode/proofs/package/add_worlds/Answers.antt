@@ -3,6 +3,7 @@ use Rattle.std.specs.Map.Iter.{deref_pair}
 use Rattle.std.proofs.lemmas.Map.Iter.{rest_more}
 use Rattle.wit_model.specs.Lookup.{identity_of}
 use Rattle.wit_encode.proofs.Packages.{all-worlds_apart, next-world, world-done, world-refused}
+use Rattle.wit_encode.proofs.PackageHolding.{next-world_lacks}
 use Rattle.wit_encode.proofs.package.add_worlds.Goals as goal
 
 pub add_world-requires-clause-in_range : goal.add_world-requires-clause-in_range
@@ -28,3 +29,9 @@ pub returns-clause-differ : goal.returns-clause-differ
 returns-clause-differ c =
     all-worlds_apart c.args.resolve.now (identity_of c.args.package.now) c.args.canonical_names c.args.worlds.now.entries c.loop-name.name-iterator c.args.builder.now c.loop-name.builder
     c.loop-name.invariant (search rules)
+
+pub returns-in_err-add_world-clause-size : goal.returns-in_err-add_world-clause-size
+returns-in_err-add_world-clause-size c = λ h.
+    let next = rest_more deref_pair c.loop-name.name-iterator c.next.new.self c.next.result (c.in-Some.name, c.in-Some.world) c.in-Some.is c.next.ensures.steps in
+    next-world_lacks c.args.resolve.now (identity_of c.args.package.now) c.args.canonical_names c.args.worlds.now.entries c.loop-name.name-iterator c.next.new.self c.args.builder.now c.loop-name.builder
+    (c.in-Some.name.now, c.in-Some.world.now) c.loop-name.invariant next (c.add_world.ensures.size (search rules))

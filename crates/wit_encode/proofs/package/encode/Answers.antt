@@ -1,4 +1,4 @@
-use Rattle.std.proofs.Common.{◌≡◌, Some}
+use Rattle.std.proofs.Common.{◌≡◌, Some, rules}
 use Rattle.std.proofs.lemmas.Result.{IfOk-weaker}
 use Rattle.wit_model.specs.Lookup.{package_at}
 use Rattle.wit_model.specs.declared.model.Package.{Package}
@@ -6,6 +6,7 @@ use Rattle.comp_bytes.specs.Parts.{sections_of_parts}
 use Rattle.comp_bytes.specs.Spelling.{IsComponent, preamble}
 use Rattle.wit_encode.specs.Packages.{HasMembers, HasNoMembers, MeansPackage, SpellsPackage}
 use Rattle.wit_encode.proofs.WholePackages.{bytes-empty, bytes-mean}
+use Rattle.wit_encode.proofs.PackageWeighing.{all-lack}
 use Rattle.wit_encode.proofs.package.encode.Goals as goal
 
 pub returns-clause-means : goal.returns-clause-means
@@ -31,3 +32,10 @@ returns-clause-empty c =
     let parts = c.in_ok-encode_component.field-0 in
     IfOk-weaker c.finish.result (λ bytes. IsComponent (sections_of_parts parts) bytes.items) (λ bytes. (p : Package) → package_at r n ≡ Some p → HasNoMembers p → bytes.items ≡ preamble)
     (λ bytes spelled p is none. bytes-empty r c.requires.valid n p is parts bytes.items (c.in_ok-encode_component.ensures.holds p is) spelled none) c.finish.ensures.spelled
+
+pub returns-in_err-encode_component-clause-size : goal.returns-in_err-encode_component-clause-size
+returns-in_err-encode_component-clause-size c = λ h p is. c.encode_component.ensures.size (search rules) p is
+
+pub returns-clause-size : goal.returns-clause-size
+returns-clause-size c = λ h p is.
+    all-lack c.args.resolve.now c.requires.valid c.args.package.0 p is c.in_ok-encode_component.field-0 (c.in_ok-encode_component.ensures.holds p is) (c.finish.ensures.size h)

@@ -1,10 +1,12 @@
-use Rattle.std.proofs.Common.{◌≡◌, ◌∙◌, sym, subst, refl, Some}
+use Rattle.std.proofs.Common.{◌≡◌, ◌∙◌, sym, subst, refl, Some, rules}
 use Rattle.std.proofs.lemmas.Option.{slice_get_read}
 use Rattle.wit_model.specs.Lookup.{package_at}
 use Rattle.wit_model.specs.declared.model.Package.{Package}
 use Rattle.wit_model.proofs.OnePath.{some-same}
 use Rattle.wit_encode.specs.Packages.{HasNoClashes, HaveNoEqualPaths, HoldsPackage, RefusesInterfaces, RefusesWorlds}
 use Rattle.wit_encode.proofs.WholePackages.{are-named, are-worlds, interfaces-refused, package-held, worlds-refused}
+use Rattle.wit_encode.specs.PackageRoom.{PackageLacksRoom}
+use Rattle.wit_encode.proofs.PackageWeighing.{interfaces-lack, worlds-lack}
 use Rattle.wit_encode.proofs.package.encode_component.Goals as goal
 
 pub interfaces_component-requires-clause-named : goal.interfaces_component-requires-clause-named
@@ -49,3 +51,18 @@ returns-clause-differ c = λ p is asked.
     let own = c.index-own.result.now in
     let at : package_at r c.args.package.0 ≡ Some own = slice_get_read _ _ _ _ refl c.requires.in_range c.index-own.ensures in
     subst (HasNoClashes r) (some-same own p (sym at ∙ is)) (record { interfaces = c.in_ok-builder.ensures.differ asked; worlds = c.in_ok-add_worlds.ensures.differ asked })
+
+pub returns-in_err-builder-clause-size : goal.returns-in_err-builder-clause-size
+returns-in_err-builder-clause-size c = λ h p is.
+    let r = c.args.resolve.now in
+    let own = c.index-own.result.now in
+    let at : package_at r c.args.package.0 ≡ Some own = slice_get_read _ _ _ _ refl c.requires.in_range c.index-own.ensures in
+    subst (PackageLacksRoom r c.args.package.0) (some-same own p (sym at ∙ is)) (interfaces-lack r c.requires.valid c.args.package.0 own at (c.interfaces_component.ensures.size (search rules)))
+
+pub returns-in_err-add_worlds-clause-size : goal.returns-in_err-add_worlds-clause-size
+returns-in_err-add_worlds-clause-size c = λ h p is.
+    let r = c.args.resolve.now in
+    let own = c.index-own.result.now in
+    let at : package_at r c.args.package.0 ≡ Some own = slice_get_read _ _ _ _ refl c.requires.in_range c.index-own.ensures in
+    subst (PackageLacksRoom r c.args.package.0) (some-same own p (sym at ∙ is))
+    (worlds-lack r c.requires.valid c.args.package.0 own at c.in_ok-builder.builder c.in_ok-builder.ensures.holds (c.add_worlds.ensures.size (search rules) own.interfaces.entries))

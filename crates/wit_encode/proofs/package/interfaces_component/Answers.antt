@@ -1,6 +1,8 @@
 use Rattle.std.specs.Map.Iter.{deref_pair}
 use Rattle.std.proofs.lemmas.Map.Iter.{rest_more}
 use Rattle.wit_encode.proofs.Packages.{next-done, next-refused}
+use Rattle.wit_encode.proofs.PackageHolding.{next-lacks}
+use Rattle.std.proofs.Common.{rules}
 use Rattle.wit_encode.proofs.package.interfaces_component.Goals as goal
 
 pub loop-name-preserved : goal.loop-name-preserved
@@ -14,3 +16,9 @@ returns-in_err-add_interface-clause-refuses c =
     let next = rest_more deref_pair c.loop-name.name-iterator c.next.new.self c.next.result (c.in-Some.name, c.in-Some.interface) c.in-Some.is c.next.ensures.steps in
     next-refused c.args.resolve.now c.args.canonical_names c.args.interfaces.now.entries c.loop-name.name-iterator c.next.new.self c.loop-name.builder (c.in-Some.name.now, c.in-Some.interface.now)
     c.in_err-add_interface.field-0.0 c.from_residual.result c.loop-name.invariant next c.in_err-add_interface.ensures.refuses c.from_residual.ensures.1
+
+pub returns-in_err-add_interface-clause-size : goal.returns-in_err-add_interface-clause-size
+returns-in_err-add_interface-clause-size c = λ h.
+    let next = rest_more deref_pair c.loop-name.name-iterator c.next.new.self c.next.result (c.in-Some.name, c.in-Some.interface) c.in-Some.is c.next.ensures.steps in
+    next-lacks c.args.resolve.now c.args.canonical_names c.args.interfaces.now.entries c.loop-name.name-iterator c.next.new.self c.loop-name.builder (c.in-Some.name.now, c.in-Some.interface.now)
+    c.loop-name.invariant next (c.add_interface.ensures.size (search rules))

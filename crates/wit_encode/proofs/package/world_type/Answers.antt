@@ -1,7 +1,7 @@
-use Rattle.std.proofs.Common.{◌≡◌, ◌∙◌, sym, ap, refl, Some}
+use Rattle.std.proofs.Common.{◌≡◌, ◌∙◌, sym, ap, refl, Some, ◌<◌, length, subst, arith, rules}
 use Rattle.std.proofs.lemmas.Option.{slice_get_read}
 use Rattle.std.proofs.lemmas.Result.{IfOk-weaker}
-use Rattle.wit_model.specs.Text.{text_of}
+use Rattle.wit_model.specs.Text.{text_of, Text}
 use Rattle.wit_model.specs.Names.{path_in}
 use Rattle.wit_model.specs.Lookup.{identity_of, world_at}
 use Rattle.wit_model.specs.declared.model.World.{World}
@@ -9,6 +9,7 @@ use Rattle.wit_model.proofs.OnePath.{some-same}
 use Rattle.wit_shown.specs.PackageTypes.{wrapper}
 use Rattle.wit_encode.specs.Packages.{WrapsWorld}
 use Rattle.wit_encode.proofs.Packages.{world-passed}
+use Rattle.wit_model.specs.Weight.{world_weight}
 use Rattle.wit_encode.proofs.package.world_type.Goals as goal
 
 pub returns-in_err-component-clause-refuses : goal.returns-in_err-component-clause-refuses
@@ -29,3 +30,17 @@ returns-clause-wraps c =
       once = c.in_ok-component.ensures.once w there;
     })
     c.wrapper_of.ensures.wraps
+
+pub returns-in_err-component-clause-size : goal.returns-in_err-component-clause-size
+returns-in_err-component-clause-size c = λ h w there.
+    let heavy : 4294967295 < world_weight c.args.resolve.now c.args.world.0 = c.encode_world.ensures.size (search rules) in
+    omega arith
+
+pub returns-clause-size : goal.returns-clause-size
+returns-clause-size c = λ h w there.
+    let r = c.args.resolve.now in
+    let p = identity_of c.args.package.now in
+    let at : world_at r c.args.world.0 ≡ Some c.index.result.now = slice_get_read _ _ _ _ refl c.requires.in_range c.index.ensures in
+    let long : 4294967295 < length (path_in p (text_of w.name)) =
+    subst (λ (t : Text). 4294967295 < length (path_in p t)) (c.deref.ensures ∙ ap (λ (z : World). text_of z.name) (some-same c.index.result.now w (sym at ∙ there))) (c.wrapper_of.ensures.size h) in
+    omega arith

@@ -1,4 +1,4 @@
-use Rattle.std.proofs.Common.{[], ◌∷◌, ◌++◌, ◌∙◌, append_assoc}
+use Rattle.std.proofs.Common.{[], ◌∷◌, ◌++◌, append_assoc}
 use Rattle.std.specs.Prelude.{codes}
 use Rattle.wit_print.specs.Keyword.{escaped}
 use Rattle.wit_print.specs.OutputCall.OutputCall.{Keyword, Ty}
@@ -14,12 +14,11 @@ pub returns : goal.returns
 returns c =
     let docs = doc_calls c.args.emits_docs (shown_docs c.args.interface.now.docs) in
     let gates = gates_calls (shown_gates c.args.interface.now.stability) in
-    let word = Keyword (codes "interface") in
+    let word = Keyword (codes "interface") ∷ space ∷ [] in
     let name = Ty (escaped c.args.name.now) InterfaceDeclaration in
     let first = add docs (started c.args.draft.now.kept) c.in_ok-draft_docs.ensures in
     let second = add gates first c.in_ok-draft_gates.ensures in
-    let fourth = add (space ∷ []) (add (word ∷ []) second c.in_ok-keyword.ensures) c.in_ok-str.ensures in
+    let third = add word second c.in_ok-keyword_and_blank.ensures in
     on_ok c.name.result
-    (λ e. whole (name ∷ []) (head_calls c.args.emits_docs c.args.interface.now c.args.name.now) fourth e
-    (append_assoc ((docs ++ gates) ++ word ∷ []) (space ∷ []) (name ∷ []) ∙ append_assoc (docs ++ gates) (word ∷ []) (space ∷ name ∷ [])))
+    (λ e. whole (name ∷ []) (head_calls c.args.emits_docs c.args.interface.now c.args.name.now) third e (append_assoc (docs ++ gates) word (name ∷ [])))
     c.name.ensures

@@ -1,8 +1,8 @@
-use Rattle.std.proofs.Common.{◌≡◌, ◌++◌, ◌∙◌, Some, ap, false}
+use Rattle.std.proofs.Common.{◌++◌, ◌∙◌, ap, false}
 use Rattle.wit_model.specs.declared.model.TypeOwner.TheVariants as owner
 use Rattle.wit_print.specs.Calls.{members_calls, printed_after}
 use Rattle.wit_print.specs.Printable.{shown_functions}
-use Rattle.wit_print.specs.Shown.{listed_functions, listed_types, shown_interface}
+use Rattle.wit_print.specs.Shown.{listed_functions, listed_types}
 use Rattle.wit_print.specs.UseGroups.{type_members}
 use Rattle.wit_print.proofs.Moves.{begun_first, begun_on, moved_on, on_ok, on_err, at_err}
 use Rattle.wit_print.proofs.Declarations.{interface_calls, placed_here}

@@ -4,7 +4,7 @@ use Rattle.wit_model.specs.declared.model.TypeOwner.TheVariants as owner
 use Rattle.wit_print.specs.OutputCall.{Moves, Begins}
 use Rattle.wit_print.specs.OutputCall.Begins.{nothing_begun}
 use Rattle.wit_print.specs.Calls.{members_calls, printed_after}
-use Rattle.wit_print.specs.Shown.{listed_functions, listed_types}
+use Rattle.wit_print.specs.Shown.{listed_types}
 use Rattle.wit_print.specs.UseGroups.{is_listed_function, is_listed_type, listed_of, type_members}
 use Rattle.wit_print.proofs.Declarations.{types_listed}
 use Rattle.wit_print.proofs.Moves.{on_ok, on_err, at_err}

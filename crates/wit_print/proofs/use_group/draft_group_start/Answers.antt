@@ -1,7 +1,7 @@
 use Rattle.wit_model.specs.Rules.{in_list, is_stability}
 use Rattle.std.proofs.Common.{◌&&◌}
-use Rattle.wit_print.specs.Shown.{shown_gates, shown_path}
-use Rattle.wit_print.specs.WellNamed.{is_well_gates, is_well_path}
+use Rattle.wit_print.specs.Shown.{shown_gates}
+use Rattle.wit_print.specs.WellNamed.{is_well_gates}
 use Rattle.wit_print.proofs.ByteTests.{left_of, right_of}
 use Rattle.wit_print.proofs.use_group.draft_group_start.Goals as goal
 

@@ -1,4 +1,4 @@
-use Rattle.std.proofs.Common.{◌≡◌, ◌∙◌, List, [], Some, None, ap, refl, sym, subst, true}
+use Rattle.std.proofs.Common.{◌≡◌, ◌∙◌, Some, ap, refl, sym, subst}
 use Rattle.std.specs.Prelude.{option_map, IfSome}
 use Rattle.std.proofs.lemmas.Bool.{ltb-true}
 use Rattle.std.proofs.lemmas.Option.{slice_get_read}
@@ -6,8 +6,8 @@ use Rattle.wit_model.specs.Lookup.{type_at}
 use Rattle.wit_model.specs.Rules.{in_list}
 use Rattle.wit_print.specs.OutputCall.{Moves, Begins}
 use Rattle.wit_print.specs.OutputCall.Moves.{nothing_moved}
-use Rattle.wit_print.specs.Shown.{shown_path, used_of}
-use Rattle.wit_print.specs.UseGroups.{listed_use, listed_use_calls, shown_use, use_after}
+use Rattle.wit_print.specs.Shown.{shown_path}
+use Rattle.wit_print.specs.UseGroups.{listed_use_calls, shown_use, use_after}
 use Rattle.wit_print.proofs.ByteTests.{left_of}
 use Rattle.wit_print.proofs.ListedTypes.{listed_use_at, use_printable}
 use Rattle.wit_print.proofs.Moves.{at_err}

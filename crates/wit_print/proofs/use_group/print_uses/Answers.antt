@@ -1,8 +1,8 @@
-use Rattle.std.proofs.Common.{◌≡◌, ◌||◌, ◌++◌, ◌∙◌, ◌+◌, [], None, append-nil, ap, drop, filter_map, refl, subst, sym, true}
+use Rattle.std.proofs.Common.{◌||◌, ◌∙◌, [], append-nil, ap, filter_map, refl, subst, sym}
 use Rattle.std.specs.Prelude.{is_some, option_map}
 use Rattle.wit_model.specs.Rules.{has_items}
 use Rattle.wit_print.specs.Shown.{shown_path}
-use Rattle.wit_print.specs.UseGroups.{is_listed_type, listed_of, listed_use, listed_use_calls, open_end_calls, shown_use, use_after, uses_calls}
+use Rattle.wit_print.specs.UseGroups.{listed_of, listed_use, open_end_calls, shown_use, uses_calls}
 use Rattle.std.proofs.lemmas.List.{drop_all}
 use Rattle.wit_print.specs.OutputCall.{Moves, Begins}
 use Rattle.wit_print.proofs.UseGroups.{or_false}

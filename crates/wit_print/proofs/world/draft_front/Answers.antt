@@ -1,4 +1,4 @@
-use Rattle.std.proofs.Common.{[], ◌∷◌, append_assoc}
+use Rattle.std.proofs.Common.{[], ◌∷◌, refl}
 use Rattle.wit_print.specs.OutputCall.OutputCall.{Keyword}
 use Rattle.wit_print.specs.Shown.{shown_prefix}
 use Rattle.wit_print.specs.Calls.{space, prefix_calls}
@@ -11,6 +11,7 @@ pub returns : goal.returns
 returns c =
     let prefix = shown_prefix c.args.docs.now c.args.stability.now c.args.external_id.now in
     let front = prefix_calls c.args.emits_docs prefix in
-    let word = Keyword c.args.word.now in
-    let second = add (word ∷ []) (add front (started c.args.draft.now.kept) c.in_ok-draft_prefix.ensures) c.in_ok-keyword.ensures in
-    on_ok c.str.result (λ e. whole (space ∷ []) (front_calls c.args.emits_docs prefix c.args.word.now) second e (append_assoc front (word ∷ []) (space ∷ []))) c.str.ensures
+    let first = add front (started c.args.draft.now.kept) c.in_ok-draft_prefix.ensures in
+    on_ok c.keyword_and_blank.result
+    (λ e. whole (Keyword c.args.word.now ∷ space ∷ []) (front_calls c.args.emits_docs prefix c.args.word.now) first e refl)
+    c.keyword_and_blank.ensures

@@ -1,0 +1,7 @@
+pub mod CountLaws
+pub mod ExportLaws
+pub mod InputLaws
+pub mod LabelLaws
+pub mod MemberLaws
+pub mod ScopeMeaning
+pub mod TopLaws

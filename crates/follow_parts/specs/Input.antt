@@ -1,0 +1,28 @@
+-- All parts of an input, followed into one set of tables.
+use Rattle.std.specs.Prelude.{◌≡◌, ◌≤◌, ℕ, List, length, map, Some}
+use Rattle.wit_model.specs.Text.{Text}
+use Rattle.wit_model.specs.Tree.{Place}
+use Rattle.comp_bytes.specs.Levels.{PartType, Piece}
+use Rattle.comp_meaning.specs.ByLevels.{exported_parts}
+use Rattle.comp_read.specs.Following.{AreTables}
+use Rattle.comp_read.specs.Functions.{AreApart}
+use Rattle.comp_read.specs.Places.{ArePathsApart, ArePlacesOf}
+use Rattle.follow_parts.specs.declared.following.Followed.{Followed}
+use Rattle.follow_parts.specs.Followed.{scopes_in, scopes_of}
+use Rattle.follow_parts.specs.Members.{member_meant, parts_weight, MembersStand}
+
+-- The tables are well-formed, and the members stand in them for what the parts do, over no more types than the parts' entries make.
+pub record ArePartsFollowed (parts : List (Text × PartType)) (x : Followed) : Type 0 where
+  pub tables : AreTables (length x.places) x.table x.functions
+  pub functions_apart : AreApart x.functions
+  pub paths_apart : ArePathsApart x.places
+  pub stand : MembersStand x.table x.functions x.places x.members.items
+  pub count : length x.table ≤ parts_weight parts
+  pub shows : (place : ℕ → Place) → ArePlacesOf x.places place → scopes_in parts ≡ Some (map (member_meant x.table x.functions x.places place) x.members.items)
+
+-- The parts are those that are exported at the top, and the members stand for what is followed of all.
+pub record IsFollowed (pieces : List Piece) (x : Followed) : Type 0 where
+  pub parts : List (Text × PartType)
+  pub exported : exported_parts pieces ≡ Some parts
+  pub followed : ArePartsFollowed parts x
+  pub shows : (place : ℕ → Place) → ArePlacesOf x.places place → scopes_of pieces ≡ Some (map (member_meant x.table x.functions x.places place) x.members.items)

@@ -1,0 +1,77 @@
+-- The parts at the top as they are followed, over the tables and the places of a whole input.
+use Rattle.std.specs.Prelude.{◌≡◌, ◌≤◌, ℕ, ◌+◌, List, [], ◌∷◌, ◌++◌, length, map, Option, Some}
+use Rattle.std.specs.List.{AllByRecursion}
+use Rattle.wit_model.specs.Text.{Text, text_of}
+use Rattle.wit_model.specs.Tree.{Place}
+use Rattle.comp_bytes.specs.Levels.{PartType, wraps, shows}
+use Rattle.comp_bytes.specs.Reading.{◌>>=◌}
+use Rattle.comp_meaning.specs.Follow.{each}
+use Rattle.comp_read.specs.declared.scopes.Scope.{Scope}
+use Rattle.comp_read.specs.Defining.{Grows}
+use Rattle.comp_read.specs.Following.{AreTables}
+use Rattle.comp_read.specs.Functions.{FunctionShape}
+use Rattle.comp_read.specs.Places.{ArePlacesOf}
+use Rattle.comp_read.specs.Scopes.{meant_at, weights, world_of, IsWorld}
+use Rattle.read_plan.specs.Shapes.{Shape}
+use Rattle.follow_parts.specs.declared.members.FollowedPart.{FollowedPart}
+use Rattle.follow_parts.specs.declared.members.FollowedPart.TheVariants as followed
+use Rattle.follow_parts.specs.declared.members.Member.{Member}
+use Rattle.follow_parts.specs.Followed.{PartScope, world, interface, labelled_scope, part_scope}
+
+abbrev pub scope_of : FollowedPart → Scope
+scope_of (followed.World path scope) = scope
+scope_of (followed.Interface scope) = scope
+
+-- how many types a part makes at most
+abbrev pub part_weight : PartType → ℕ
+part_weight (wraps es name) = weights es
+part_weight (shows es) = weights es
+
+abbrev pub parts_weight : List (Text × PartType) → ℕ
+parts_weight [] = 0
+parts_weight (x ∷ xs) = part_weight x.1 + parts_weight xs
+
+module _ (shapes : List Shape) (fs : List FunctionShape) (paths : List (Option Text)) where
+  -- the scope of the part is one over the tables
+  abbrev pub StandsIn : FollowedPart → Type 0
+  StandsIn p = IsWorld (world_of shapes fs paths (scope_of p))
+
+  -- what the part stands for
+  abbrev pub part_meant : (ℕ → Place) → FollowedPart → PartScope
+  part_meant place (followed.World path scope) = world (text_of path) (meant_at place (world_of shapes fs paths scope))
+  part_meant place (followed.Interface scope) = interface (meant_at place (world_of shapes fs paths scope))
+
+  abbrev pub member_meant : (ℕ → Place) → Member → Text × PartScope
+  member_meant place m = (m.label.now, part_meant place m.part)
+
+  abbrev pub MembersStand : List Member → Type 0
+  MembersStand ms = AllByRecursion (λ (m : Member). StandsIn m.part) ms
+
+-- ---- one part
+
+-- The tables and the places grow, by no more types than its entries make, and the part stands for what its type at the top does.
+pub record IsPartFollowed (shapes : List Shape) (fs : List FunctionShape) (paths : List (Option Text)) (raw : PartType)
+    (more : List Shape) (more_fs : List FunctionShape) (more_paths : List (Option Text)) (p : FollowedPart) : Type 0 where
+  pub stands : StandsIn more more_fs more_paths p
+  pub shapes_grow : Grows shapes more
+  pub signatures_grow : Grows fs more_fs
+  pub paths_grow : Grows paths more_paths
+  pub count : length more ≤ length shapes + part_weight raw
+  pub shows : (place : ℕ → Place) → ArePlacesOf more_paths place → part_scope raw ≡ Some (part_meant more more_fs more_paths place p)
+
+-- ---- all parts
+
+-- what was found, with these in front
+abbrev pub with_front : {A : Type 0} → List A → Option (List A) → Option (List A)
+with_front front found = found >>= λ rest. Some (front ++ rest)
+
+-- Some parts have been followed, over so many types that were there before. Those that are left decide what all stand for.
+pub record AreFollowedTo (before : ℕ) (raws left : List (Text × PartType)) (shapes : List Shape) (fs : List FunctionShape) (paths : List (Option Text)) (ms : List Member) : Type 0 where
+  pub tables : AreTables (length paths) shapes fs
+  pub stand : MembersStand shapes fs paths ms
+  pub count : length shapes + parts_weight left ≤ before + parts_weight raws
+  pub shows : (place : ℕ → Place) → ArePlacesOf paths place → with_front (map (member_meant shapes fs paths place) ms) (each labelled_scope left) ≡ each labelled_scope raws
+
+-- All parts are followed.
+abbrev pub AreFollowed : ℕ → List (Text × PartType) → List Shape → List FunctionShape → List (Option Text) → List Member → Type 0
+AreFollowed before raws shapes fs paths ms = AreFollowedTo before raws [] shapes fs paths ms

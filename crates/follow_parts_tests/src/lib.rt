@@ -1,0 +1,5 @@
+//! The tests of following all parts of a component.
+#![tactic(auto)]
+
+#[cfg(test)]
+mod parts;

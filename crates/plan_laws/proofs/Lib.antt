@@ -1,0 +1,2 @@
+pub mod PlanTypes
+pub mod UsedParts

@@ -1,0 +1,8 @@
+//! Laws over definitions alone.
+
+ghost use Rattle.plan_members.specs.Interfaces.{InterfacesInNumbers};
+
+/// A component type that was followed is that of an interface, under a label, exactly where its numbers are.
+pub fn interfaces_in_numbers()
+    ensures { InterfacesInNumbers }
+{}

@@ -1,0 +1,5 @@
+pub mod MarkLaws
+pub mod OrderLaws
+pub mod ShownLaws
+pub mod SignatureLaws
+pub mod TypeLaws

@@ -1,0 +1,67 @@
+-- Marks that are set one after the other.
+use Rattle.std.proofs.Common.{◌≡◌, refl, sym, ap, subst, ◌∙◌, ℕ, ◌+◌, ◌<◌, ◌≤◌, arith, Bool, true, false, ◌||◌, ◌==◌, List, [], ◌∷◌, ◌++◌, length, map, take, get_or}
+use Rattle.std.proofs.lemmas.List.{map-append, take_all, take_more}
+use Rattle.std.proofs.lemmas.List.Folds.{list_any-append}
+use Rattle.std.specs.List.{flat_map}
+use Rattle.wit_model.specs.Uses.{has}
+use Rattle.plan_gather.specs.Marks.{is_marked}
+use Rattle.plan_types.specs.Used.{Marks}
+
+or_line : (a b c : Bool) → ((a || b) || c) ≡ (a || (b || c))
+or_line true b c = refl
+or_line false b c = refl
+
+or_none : (a : Bool) → a ≡ (a || false)
+or_none true = refl
+or_none false = refl
+
+pub marks_none : (old : List Bool) → Marks [] old old
+marks_none old = record { many = refl; each = λ n within. or_none (is_marked old n) }
+
+pub marks_both : (ps qs : List ℕ) (a b c : List Bool) → Marks ps a b → Marks qs b c → Marks (ps ++ qs) a c
+marks_both ps qs a b c first second = record {
+  many = second.many ∙ first.many;
+  each = λ n within.
+      second.each n (omega (arith, within, first.many)) ∙ (ap (λ m. m || has qs (14 + n)) (first.each n within)
+      ∙ (or_line (is_marked a n) (has ps (14 + n)) (has qs (14 + n)) ∙ ap (λ m. is_marked a n || m) (sym (list_any-append (λ m. m == 14 + n) ps qs))));
+}
+
+flat_append : {A B : Type 0} (f : A → List B) (xs : List A) (x : A) → flat_map f (xs ++ x ∷ []) ≡ flat_map f xs ++ f x
+flat_append f [] x = append_none (f x)
+  where
+    append_none : {B : Type 0} (ys : List B) → ys ++ [] ≡ ys
+    append_none [] = refl
+    append_none (y ∷ ys) = ap (λ l. y ∷ l) (append_none ys)
+flat_append f (y ∷ xs) x = ap (λ l. f y ++ l) (flat_append f xs x) ∙ sym (append_line (f y) (flat_map f xs) (f x))
+  where
+    append_line : {B : Type 0} (ws bs cs : List B) → (ws ++ bs) ++ cs ≡ ws ++ (bs ++ cs)
+    append_line [] bs cs = refl
+    append_line (a ∷ ws) bs cs = ap (λ l. a ∷ l) (append_line ws bs cs)
+
+-- the marks of so many items, and of one more
+pub marks_next : {A : Type 0} (f : A → List ℕ) (xs : List A) (i : ℕ) (d : A) (a b c : List Bool) → i < length xs → Marks (flat_map f (take i xs)) a b → Marks (f (get_or xs i d)) b c → Marks (flat_map f (take (i + 1) xs)) a c
+marks_next f xs i d a b c within before now =
+    subst (λ ps. Marks ps a c) (sym (ap (flat_map f) (take_more xs i d within) ∙ flat_append f (take i xs) (get_or xs i d))) (marks_both (flat_map f (take i xs)) (f (get_or xs i d)) a b c before now)
+
+pub marks_all : {A : Type 0} (f : A → List ℕ) (xs : List A) (i : ℕ) (a b : List Bool) → length xs ≤ i → Marks (flat_map f (take i xs)) a b → Marks (flat_map f xs) a b
+marks_all f xs i a b past all = subst (λ l. Marks (flat_map f l) a b) (take_all i xs past) all
+
+-- the same, where each item is a part
+pub part_next : {A : Type 0} (f : A → ℕ) (xs : List A) (i : ℕ) (d : A) (a b c : List Bool) → i < length xs → Marks (map f (take i xs)) a b → Marks (f (get_or xs i d) ∷ []) b c → Marks (map f (take (i + 1) xs)) a c
+part_next f xs i d a b c within before now =
+    subst (λ ps. Marks ps a c) (sym (ap (map f) (take_more xs i d within) ∙ map-append f (take i xs) (get_or xs i d ∷ []))) (marks_both (map f (take i xs)) (f (get_or xs i d) ∷ []) a b c before now)
+
+pub part_all : {A : Type 0} (f : A → ℕ) (xs : List A) (i : ℕ) (a b : List Bool) → length xs ≤ i → Marks (map f (take i xs)) a b → Marks (map f xs) a b
+part_all f xs i a b past all = subst (λ l. Marks (map f l) a b) (take_all i xs past) all
+
+pub itself_mapped : (xs : List ℕ) → map (λ x. x) xs ≡ xs
+itself_mapped [] = refl
+itself_mapped (x ∷ xs) = ap (λ l. x ∷ l) (itself_mapped xs)
+
+pub twice_mapped : {A B C : Type 0} (f : B → C) (g : A → B) (xs : List A) → map (λ x. f (g x)) xs ≡ map f (map g xs)
+twice_mapped f g [] = refl
+twice_mapped f g (x ∷ xs) = ap (λ l. f (g x) ∷ l) (twice_mapped f g xs)
+
+pub flat_mapped : {A B C : Type 0} (f : B → List C) (g : A → B) (xs : List A) → flat_map (λ x. f (g x)) xs ≡ flat_map f (map g xs)
+flat_mapped f g [] = refl
+flat_mapped f g (x ∷ xs) = ap (λ l. f (g x) ++ l) (flat_mapped f g xs)

@@ -1,0 +1,3 @@
+pub mod InterfaceLaws
+pub mod PackageLaws
+pub mod WorldLaws

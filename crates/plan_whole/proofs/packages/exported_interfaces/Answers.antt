@@ -1,0 +1,9 @@
+use Rattle.std.proofs.Common.{◌∙◌, ℕ, IfOk, List, ap, map, subst}
+use Rattle.std.specs.List.{AllZip}
+use Rattle.wit_model.specs.Text.{Text}
+use Rattle.plan_whole.specs.WholePackages.{labelled_place, numbered_interface, ListsPlace}
+use Rattle.plan_whole.proofs.packages.exported_interfaces.Goals as goal
+
+pub returns : goal.returns
+returns c =
+    subst (λ (xs : List (Text × ℕ)). IfOk c.by_number.result (λ all. AllZip (ListsPlace c.args.places.now.keys) xs (map numbered_interface all.items))) (ap (map labelled_place) c.deref.ensures.value ∙ c.in_ok-interfaces.ensures) c.by_number.ensures

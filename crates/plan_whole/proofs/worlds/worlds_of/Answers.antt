@@ -1,0 +1,17 @@
+use Rattle.std.proofs.Common.{◌∙◌, ℕ, IfOk, List, ap, map, subst, sym}
+use Rattle.std.specs.List.{AllByRecursion, AllZip}
+use Rattle.wit_model.specs.Text.{Text}
+use Rattle.plan_build.specs.PlanOf.{stated_world}
+use Rattle.plan_read.specs.declared.scopes.Scope.{Scope}
+use Rattle.plan_read.specs.Tables.{numbered_tables}
+use Rattle.plan_whole.specs.WholeWorlds.{labelled, PlansWorld, WorldIsKept}
+use Rattle.plan_whole.proofs.worlds.worlds_of.Goals as goal
+
+pub all_worlds-requires : goal.all_worlds-requires
+all_worlds-requires c =
+    subst (AllByRecursion (λ (w : Text × Scope). WorldIsKept (numbered_tables c.args.tables.now) c.args.kept.now w.1)) (sym (ap (map labelled) c.deref.ensures.value ∙ c.in_ok-worlds.ensures)) c.requires
+
+pub returns : goal.returns
+returns c =
+    subst (λ (ws : List (Text × Scope)). IfOk c.all_worlds.result (λ all. AllZip (PlansWorld (numbered_tables c.args.tables.now) c.args.kept.now c.args.places.now.keys c.args.main) ws (map stated_world all.items))) (ap (map labelled) c.deref.ensures.value ∙ c.in_ok-worlds.ensures)
+    (subst (λ (m : ℕ). IfOk c.all_worlds.result (λ all. AllZip (PlansWorld (numbered_tables c.args.tables.now) c.args.kept.now c.args.places.now.keys m) (map labelled c.deref.result.now) (map stated_world all.items))) c.in_ok-main.ensures c.all_worlds.ensures)

@@ -1,0 +1,4 @@
+pub mod Views
+pub mod WholeInterfaces
+pub mod WholePackages
+pub mod WholeWorlds

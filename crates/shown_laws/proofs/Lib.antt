@@ -1,0 +1,16 @@
+pub mod Lists
+pub mod Definitions
+pub mod Wider
+pub mod Views
+pub mod ScopeWider
+pub mod Scopes
+pub mod Instances
+pub mod Uses
+pub mod Parts
+pub mod ByLevels
+pub mod Agreement
+pub mod OneKind
+pub mod FoundKinds
+pub mod WorldKinds
+pub mod MemberKinds
+pub mod MeaningKinds

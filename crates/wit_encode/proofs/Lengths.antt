@@ -1,0 +1,117 @@
+-- How long the bytes of parts of a component are at most.
+use Rattle.std.proofs.Common.{◌≡◌, ℕ, zero, suc, ◌+◌, ◌/◌, ◌%◌, ◌<◌, ◌≤◌, ◌^◌, nat_lt, Bool, true, false, ◌&&◌, if◌then◌else◌, List, [], ◌∷◌, ◌++◌, length, refl, ap, arith, length-append, append-nil, subst}
+use Rattle.std.specs.List.{flat_map}
+use Rattle.std.proofs.lemmas.List.Sums.{sum_by-cons, sum_by-append}
+use Rattle.std.proofs.lemmas.Bool.{lt-ltb, ltb-true, ltb-false, true≢false}
+use Rattle.comp_bytes.specs.Raw.{Section}
+use Rattle.comp_bytes.specs.Writing.{u32_bytes, unsigned_bytes, name_bytes, vector_bytes, top_type_bytes, top_export_bytes, framed, section_bytes, component_bytes}
+use Rattle.comp_bytes.specs.Parts.{Part, with_part, sections_of_parts, fits_component}
+use Rattle.wit_encode_types.specs.Room.{limit}
+use Rattle.wit_encode.specs.PackageRoom.{part_extent, parts_extent}
+
+-- ---- numbers and names
+
+unsigned-short : (room n : ℕ) → length (unsigned_bytes room n) ≤ room
+unsigned-short zero n = omega arith
+unsigned-short (suc room) n = by-test (nat_lt n 128) (unsigned-short room (n / 128))
+  where
+    by-test : (b : Bool) → length (unsigned_bytes room (n / 128)) ≤ room → length (if b then n ∷ [] else (n % 128 + 128) ∷ unsigned_bytes room (n / 128)) ≤ suc room
+    by-test true h = omega arith
+    by-test false h = omega arith
+
+pub u32-short : (n : ℕ) → length (u32_bytes n) ≤ 5
+unfolding u32_bytes
+u32-short n = unsigned-short 5 n
+
+pub name-short : (t : List ℕ) → length (name_bytes t) ≤ 5 + length t
+name-short t = let h = u32-short (length t) in let e = length-append (u32_bytes (length t)) t in omega arith
+
+-- ---- sections
+
+framed-short : (id : ℕ) (contents : List ℕ) → length (framed id contents) ≤ 6 + length contents
+framed-short id contents = let h = u32-short (length contents) in let e = length-append (u32_bytes (length contents)) contents in omega arith
+
+framed-long : (id : ℕ) (contents : List ℕ) → length contents ≤ length (framed id contents)
+framed-long id contents = let e = length-append (u32_bytes (length contents)) contents in omega arith
+
+vector-short : {A : Type 0} (bytes : A → List ℕ) (xs : List A) → length (vector_bytes bytes xs) ≤ 5 + length (flat_map bytes xs)
+vector-short bytes xs = let h = u32-short (length xs) in let e = length-append (u32_bytes (length xs)) (flat_map bytes xs) in omega arith
+
+vector-long : {A : Type 0} (bytes : A → List ℕ) (xs : List A) → length (flat_map bytes xs) ≤ length (vector_bytes bytes xs)
+vector-long bytes xs = let e = length-append (u32_bytes (length xs)) (flat_map bytes xs) in omega arith
+
+-- a section of items with one more in front
+one-more_item : {A : Type 0} (id : ℕ) (bytes : A → List ℕ) (x : A) (xs : List A) → length (framed id (vector_bytes bytes (x ∷ xs))) ≤ (11 + length (bytes x)) + length (framed id (vector_bytes bytes xs))
+one-more_item id bytes x xs =
+    let new = framed-short id (vector_bytes bytes (x ∷ xs)) in
+    let inner = vector-short bytes (x ∷ xs) in
+    let both = length-append (bytes x) (flat_map bytes xs) in
+    let old = vector-long bytes xs in
+    let outer = framed-long id (vector_bytes bytes xs) in
+    omega arith
+
+-- a section of one item
+first-item : {A : Type 0} (id : ℕ) (bytes : A → List ℕ) (x : A) → length (framed id (vector_bytes bytes (x ∷ []))) ≤ 11 + length (bytes x)
+first-item id bytes x =
+    let new = framed-short id (vector_bytes bytes (x ∷ [])) in
+    let inner = vector-short bytes (x ∷ []) in
+    let both = ap length (append-nil (bytes x)) in
+    omega arith
+
+custom-short : (name contents : List ℕ) → length (framed 0 (name_bytes name ++ contents)) ≤ 11 + (length name + length contents)
+custom-short name contents = let h = framed-short 0 (name_bytes name ++ contents) in let n = name-short name in let e = length-append (name_bytes name) contents in omega arith
+
+behind : (xs ys : List ℕ) (n m : ℕ) → length xs ≤ n → length ys ≤ m → length (xs ++ ys) ≤ n + m
+behind xs ys n m h k = let e = length-append xs ys in omega arith
+
+in-place : (new old rest : List ℕ) (n : ℕ) → length new ≤ n + length old → length (new ++ rest) ≤ n + length (old ++ rest)
+in-place new old rest n h = let e = length-append new rest in let f = length-append old rest in omega arith
+
+same : (n : ℕ) → n ≤ n
+same n = omega arith
+
+part-short : (p : Part) (ss : List Section) → length (flat_map section_bytes (with_part p ss)) ≤ part_extent p + length (flat_map section_bytes ss)
+part-short (Part.top_type t) [] = behind (section_bytes (Section.types (t ∷ []))) [] _ 0 (first-item 7 top_type_bytes t) (same 0)
+part-short (Part.top_type t) (Section.types ts ∷ rest) = in-place (section_bytes (Section.types (t ∷ ts))) (section_bytes (Section.types ts)) (flat_map section_bytes rest) _ (one-more_item 7 top_type_bytes t ts)
+part-short (Part.top_type t) (Section.exports es ∷ rest) = behind (section_bytes (Section.types (t ∷ []))) (flat_map section_bytes (Section.exports es ∷ rest)) _ _ (first-item 7 top_type_bytes t) (same _)
+part-short (Part.top_type t) (Section.custom name contents ∷ rest) = behind (section_bytes (Section.types (t ∷ []))) (flat_map section_bytes (Section.custom name contents ∷ rest)) _ _ (first-item 7 top_type_bytes t) (same _)
+part-short (Part.top_export e) [] = behind (section_bytes (Section.exports (e ∷ []))) [] _ 0 (first-item 0x0b top_export_bytes e) (same 0)
+part-short (Part.top_export e) (Section.types ts ∷ rest) = behind (section_bytes (Section.exports (e ∷ []))) (flat_map section_bytes (Section.types ts ∷ rest)) _ _ (first-item 0x0b top_export_bytes e) (same _)
+part-short (Part.top_export e) (Section.exports es ∷ rest) = in-place (section_bytes (Section.exports (e ∷ es))) (section_bytes (Section.exports es)) (flat_map section_bytes rest) _ (one-more_item 0x0b top_export_bytes e es)
+part-short (Part.top_export e) (Section.custom name contents ∷ rest) = behind (section_bytes (Section.exports (e ∷ []))) (flat_map section_bytes (Section.custom name contents ∷ rest)) _ _ (first-item 0x0b top_export_bytes e) (same _)
+part-short (Part.custom name contents) ss = behind (section_bytes (Section.custom name contents)) (flat_map section_bytes ss) _ _ (custom-short name contents) (same _)
+
+parts-short : (parts : List Part) → length (flat_map section_bytes (sections_of_parts parts)) ≤ parts_extent parts
+parts-short [] = same 0
+parts-short (p ∷ parts) = chained _ _ _ _ _ (part-short p (sections_of_parts parts)) (parts-short parts) (sum_by-cons part_extent p parts)
+  where
+    chained : (m n a b c : ℕ) → m ≤ n + a → a ≤ b → c ≡ n + b → m ≤ c
+    chained m n a b c h k e = omega arith
+
+-- ---- components
+
+-- parts that take no more than the limit fit
+parts-fit : (parts : List Part) → 8 + parts_extent parts ≤ limit → fits_component parts ≡ true
+unfolding fits_component
+parts-fit parts h =
+    let short = parts-short parts in
+    let less : length (component_bytes (sections_of_parts parts)) < 2 ^ 32 = omega arith in
+    lt-ltb (length (component_bytes (sections_of_parts parts))) (2 ^ 32) less
+
+-- parts that don't fit are long, and so are they with others behind them
+pub long-parts : (parts more : List Part) → (fits_component parts && fits_component (parts ++ more)) ≡ false → limit < 8 + parts_extent (parts ++ more)
+long-parts parts more e = by-order (nat_lt limit (8 + parts_extent (parts ++ more))) refl
+  where
+    wrong : 8 + parts_extent (parts ++ more) ≤ limit → ⊥
+    wrong low =
+        let both = sum_by-append part_extent parts more in
+        let first = parts-fit parts (omega (arith, low, both)) in
+        let second = parts-fit (parts ++ more) low in
+        true≢false (let z : true ≡ false = cc in z)
+
+    by-order : (b : Bool) → nat_lt limit (8 + parts_extent (parts ++ more)) ≡ b → limit < 8 + parts_extent (parts ++ more)
+    by-order true f = ltb-true limit _ f
+    by-order false f = absurd (wrong (ltb-false limit _ f))
+
+pub long-component : (parts : List Part) → fits_component parts ≡ false → limit < 8 + parts_extent parts
+long-component parts e = subst (λ (ps : List Part). limit < 8 + parts_extent ps) (append-nil parts) (long-parts parts [] (rw (append-nil parts) (let z : (fits_component parts && fits_component parts) ≡ false = rw e refl in z)))

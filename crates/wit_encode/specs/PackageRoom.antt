@@ -1,0 +1,72 @@
+-- Which packages have no room in a component, where every length is a number of 32 bits, that of the component too (Component Model Binary.md,
+-- "Component Definitions" and the numbers of "Core WebAssembly").
+use Rattle.std.specs.Prelude.{ℕ, ◌≡◌, ◌<◌, ◌+◌, ◌⊎◌, List, [], ◌∷◌, ◌++◌, length, sum_by, Some}
+use Rattle.std.specs.List.{Contains}
+use Rattle.wit_model.specs.Text.{Text, text_of}
+use Rattle.wit_model.specs.Names.{PackageIdentity, path_in}
+use Rattle.wit_model.specs.Lookup.{world_at}
+use Rattle.wit_model.specs.Weight.{interface_weight, world_weight, package_weight}
+use Rattle.wit_model.specs.declared.model.Resolve.{Resolve}
+use Rattle.wit_model.specs.declared.model.Package.{Package}
+use Rattle.wit_model.specs.declared.model.World.{World}
+use Rattle.comp_bytes.specs.Parts.{Part}
+use Rattle.comp_bytes.specs.Raw.{Declarations}
+use Rattle.comp_bytes.specs.Writing.{declarations_bytes, top_type_bytes, top_export_bytes}
+use Rattle.wit_encode_types.specs.Room.{limit}
+use Rattle.wit_encode.specs.Packages.{HoldsInterfaces, HoldsMembers, IsTypeOf, Listed, ListedWorld}
+use Rattle.wit_encode.specs.WholeWorlds.{ShowsWorldType}
+use Rattle.wit_encode.specs.WorldCounts.{DefinesOnce}
+use Rattle.wit_encode.specs.WorldRoom.{entries_in}
+
+-- ---- how long parts are
+
+-- the bytes of a part, and what its section takes at most: an id, a length and a count
+abbrev pub part_extent : Part → ℕ
+part_extent (Part.top_type t) = 11 + length (top_type_bytes t)
+part_extent (Part.top_export e) = 11 + length (top_export_bytes e)
+part_extent (Part.custom name contents) = 11 + (length name + length contents)
+
+abbrev pub parts_extent : List Part → ℕ
+parts_extent parts = sum_by part_extent parts
+
+-- parts of which this holds, and that take, with what stands in front of them, more than the largest number of 32 bits
+pub record AreLong (P : List Part → Type 0) : Type 0 where
+  pub parts : List Part
+  pub hold : P parts
+  pub long : limit < 8 + parts_extent parts
+
+-- ---- interfaces
+
+-- Behind the component types of other interfaces, the interface has no room: it is too heavy by itself, or too long behind them.
+abbrev pub LacksInterface : Resolve → Listed → List Part → Type 0
+LacksInterface r e old = (limit < interface_weight r e.1.0) ⊎ ((entries : List Listed) → HoldsInterfaces r entries old → AreLong (HoldsInterfaces r (entries ++ e ∷ [])))
+
+-- One of these interfaces is too heavy, or the component types of the first of them are too long together.
+pub data InterfacesLackRoom (r : Resolve) (entries : List Listed) : Type 0 where
+  too_heavy : (e : Listed) → Contains entries e → limit < interface_weight r e.1.0 → InterfacesLackRoom r entries
+  too_long : (first rest : List Listed) → entries ≡ first ++ rest → AreLong (HoldsInterfaces r first) → InterfacesLackRoom r entries
+
+-- ---- worlds
+
+-- world n of a package of this name and version is too heavy, with its path
+abbrev pub IsHeavyWorld : Resolve → PackageIdentity → ℕ → Type 0
+IsHeavyWorld r p n = (w : World) → world_at r n ≡ Some w → limit < length (path_in p (text_of w.name)) + world_weight r n
+
+abbrev pub LacksWorld : Resolve → PackageIdentity → ListedWorld → List Part → Type 0
+LacksWorld r p e old =
+    IsHeavyWorld r p e.1.0 ⊎ ((interfaces : List Listed) (worlds : List ListedWorld) → HoldsMembers r p interfaces worlds old → AreLong (HoldsMembers r p interfaces (worlds ++ e ∷ [])))
+
+-- One of these worlds is too heavy, or the component types of the interfaces and of the first of these worlds are too long together.
+pub data WorldsLackRoom (r : Resolve) (p : PackageIdentity) (interfaces : List Listed) (entries : List ListedWorld) : Type 0 where
+  too_heavy : (e : ListedWorld) → Contains entries e → IsHeavyWorld r p e.1.0 → WorldsLackRoom r p interfaces entries
+  too_long : (first rest : List ListedWorld) → entries ≡ first ++ rest → AreLong (HoldsMembers r p interfaces first) → WorldsLackRoom r p interfaces entries
+
+-- ---- packages
+
+-- Package n weighs more than the largest number of 32 bits. Or a component type of one of its interfaces takes more bytes than the interface
+-- weighs with what it reaches, or one of a world more than the world weighs.
+pub data PackageLacksRoom (r : Resolve) (n : ℕ) (p : Package) : Type 0 where
+  too_heavy : limit < package_weight r n → PackageLacksRoom r n p
+  a_long_interface : (e : Listed) (x : Text × Declarations) → Contains p.interfaces.entries e → IsTypeOf r e x → interface_weight r e.1.0 < length (declarations_bytes x.1) → PackageLacksRoom r n p
+  a_long_world : (e : ListedWorld) (w : World) (inner : Declarations) → Contains p.worlds.entries e → world_at r e.1.0 ≡ Some w → ShowsWorldType r w inner → DefinesOnce r inner (entries_in w)
+      → world_weight r e.1.0 < length (declarations_bytes inner) → PackageLacksRoom r n p

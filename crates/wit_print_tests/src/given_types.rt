@@ -1,0 +1,136 @@
+//! Types that an iterator of the caller's gives, printed.
+
+ghost use Rattle.std.specs.Prelude.{◌≡◌, ◌&&◌, true, is_some};
+ghost use Rattle.std.specs.List.{list_all};
+ghost use Rattle.wit_model.specs.Parts.{same_owner};
+ghost use Rattle.wit_model.specs.Valid.{IsValid};
+ghost use Rattle.wit_print.specs.UseGroups.{is_listed_type};
+
+use crate::kinds::Kind;
+use crate::steps::{Step, made};
+use std::alloc::Global;
+use std::collections::HashMap;
+use std::process::Abort;
+use std::test::Fail;
+use wit_check::Check;
+use wit_model::{Error, InterfaceId, Resolve, Type, TypeDef, TypeId, TypeOwner, is_label};
+use wit_print::{Output, OutputToString, WitPrinter};
+
+/// Types under their names, one after the other.
+#[derive(Drop)]
+struct Given<'a> {
+    all: &'a [(&'a str, TypeId)],
+    given: usize,
+}
+
+impl<'a> Iterator for Given<'a> {
+    ghost use Rattle.std.specs.Prelude.{drop};
+    ghost use Rattle.std.specs.Iterator.{YieldsFirst, item_count};
+
+    type Item = (&'a str, TypeId);
+
+    ghost next_gives = { YieldsFirst (λ it. drop it.given it.all.now) };
+
+    ghost remaining = { item_count (λ it. drop it.given it.all.now) };
+
+    fn next(&mut self) -> Option<(&'a str, TypeId)> {
+        if self.given >= self.all.len() {
+            return None;
+        }
+        let entry = self.all[self.given];
+        self.given += 1;
+        Some(entry)
+    }
+}
+
+fn is_named_of(def: &TypeDef, interface: InterfaceId) -> bool
+    ensures { result ≡ (is_some def.now.name && same_owner def.now.owner (TypeOwner.Interface interface)) }
+{
+    match def.owner {
+        TypeOwner::Interface(owner) => def.name.is_some() && owner.0 == interface.0,
+        _ => false,
+    }
+}
+
+/// Whether a type is one of an interface, and stands under a label.
+fn is_listed(resolve: &Resolve, interface: InterfaceId, name: &str, id: TypeId) -> bool
+    ensures { result ≡ is_listed_type resolve.now (TypeOwner.Interface interface) (record { name = name.now; id = id }) }
+{
+    match resolve.types.get(id.0 as usize) {
+        Some(def) => is_label(name) && is_named_of(def, interface),
+        None => false,
+    }
+}
+
+fn are_listed(resolve: &Resolve, interface: InterfaceId, types: &[(&str, TypeId)]) -> bool
+    ensures { result ≡ list_all (λ listed. is_listed_type resolve.now (TypeOwner.Interface interface) (record { name = listed.0.now; id = listed.1 })) types.now }
+{
+    types
+        .iter()
+        .all(|listed| is_listed(resolve, interface, listed.0, listed.1))
+}
+
+// Prints types of an interface that are listed.
+fn print_listed<O: Output>(
+    alloc: Global,
+    printer: &mut WitPrinter<O>,
+    resolve: &Resolve,
+    interface: InterfaceId,
+    types: &[(&str, TypeId)],
+) -> Result<(), Error>
+    requires valid { IsValid resolve.now }
+    requires listed { list_all (λ listed. is_listed_type resolve.now (TypeOwner.Interface interface) (record { name = listed.0.now; id = listed.1 })) types.now ≡ true }
+{
+    let functions = HashMap::new(alloc);
+    let given = Given {
+        all: types,
+        given: 0,
+    };
+    printer.print_types(
+        alloc,
+        resolve,
+        TypeOwner::Interface(interface),
+        given,
+        &functions,
+    )
+}
+
+// Prints types of interface 1.
+fn print_given<O: Output>(
+    rt: &impl Abort,
+    alloc: Global,
+    printer: &mut WitPrinter<O>,
+    resolve: &Resolve,
+    types: &[(&str, TypeId)],
+) -> Result<(), Fail> {
+    resolve.check(alloc)?;
+    assert!(rt; are_listed(resolve, InterfaceId(1), types));
+    print_listed(alloc, printer, resolve, InterfaceId(1), types)?;
+    Ok(())
+}
+
+/// Interface `k` uses a type of `j`, and has a name for it and a resource.
+const TYPES: &[Step] = &[
+    Step::Package("a", "b"),
+    Step::Interface(0, "j", 0),
+    Step::Interface(0, "k", 1),
+    Step::Type(0, "t", Kind::Alias(Type::U8)),
+    Step::Type(1, "t", Kind::Alias(Type::Id(TypeId(0)))),
+    Step::Type(1, "x", Kind::Alias(Type::Id(TypeId(1)))),
+    Step::Type(1, "r", Kind::Resource),
+];
+
+// The second call goes on in the block of the first.
+#[test]
+fn two_calls_of_one_printer(rt: HostRuntime) -> Result<(), Fail> {
+    let alloc = rt.alloc();
+    let resolve = made(alloc, TYPES)?;
+    let mut printer = WitPrinter::new(OutputToString::new(alloc));
+    let first = [("x", TypeId(2)), ("t", TypeId(1))];
+    print_given(&rt, alloc, &mut printer, &resolve, &first)?;
+    let second = [("r", TypeId(3))];
+    print_given(&rt, alloc, &mut printer, &resolve, &second)?;
+    let text = String::from(printer.output);
+    assert_eq!(rt; text.as_str(), "use j.{t};\n\ntype x = t;\n\nresource r;\n");
+    Ok(())
+}
