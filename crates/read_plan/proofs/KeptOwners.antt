@@ -28,7 +28,7 @@ use Rattle.read_plan.specs.NumberedRules.{IsSeenFrom}
 use Rattle.read_plan.specs.GatheredPlan as gathered
 use Rattle.read_plan.specs.GatheredPlan.{Becomes, BecomesIfGiven, DeclaresKind, a_resource, a_form, FunctionBecomes, ParamBecomes}
 use Rattle.read_plan.specs.KeptTypes.{IsKeptType, unnamed, declared, TypesAreKept}
-use Rattle.read_plan.specs.KeptOwners.{IsNamedInterface, AreOwned, OwnersStand, KeptOwnersStand}
+use Rattle.read_plan.specs.KeptOwners.{IsNamedInterface, AreOwned, OwnersStand, KeptOwnersStand, of_name}
 use Rattle.read_plan.proofs.GatheredPlan.{all_at, form_tree}
 use Rattle.read_plan.proofs.KeptFunctions.{owner_itself}
 use Rattle.read_plan.proofs.KeptTypes.{all_by_number, form_obeys, keeps, parts_before}
@@ -227,7 +227,7 @@ module _ (t : Tables) (tables : AreTables t) (kept : List ℕ) (p : Plan) (are :
           | inl same ↦ no_true (sym none ∙ eq-eqb s r same)
           | inr path ↦
               or_right (list_all (has_owner p x.owner) (flat_map (met_by all_met) (kind_numbers x.kind))) (is_some x.name && is_use p x)
-              (both (is_some x.name) (is_use p x) (ap is_some named) (a_use none (owned.outside s path)))
+              (both (is_some x.name) (is_use p x) (ap is_some named) (a_use none (owned.outside s path (of_name i m u other e stands at))))
         ]
 
     kind_fine : (d : Option ℕ) → rules.is_declared (place_at t r) (declaration_of t d) ≡ true → DeclaresKind t kept p d x.kind → IsFine x

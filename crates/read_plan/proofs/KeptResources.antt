@@ -11,12 +11,13 @@ use Rattle.wit_model.proofs.Tables.{grow_at}
 use Rattle.read_plan.specs.Plan.{Plan, PlannedKind, resource, alias, formed, PlannedType, part_number, marked_at, resource_marks, is_resource}
 use Rattle.read_plan.specs.PlanRules.{handles_resources, is_handle_form}
 use Rattle.read_plan.specs.Renumbering.{IsPart, a_primitive, a_shape}
+use Rattle.read_plan.specs.Shapes.{named_shape}
 use Rattle.read_plan.specs.NumberedViews.{Tables, AreTables, AllOf}
 use Rattle.read_plan.specs.GatheredPlan as gathered
 use Rattle.read_plan.specs.GatheredPlan.{Becomes, BecomesIfGiven, DeclaresKind, a_resource, a_form, FunctionBecomes, ParamBecomes}
-use Rattle.read_plan.specs.KeptTypes.{IsKeptType, unnamed, declared, TypesAreKept}
+use Rattle.read_plan.specs.KeptTypes.{IsKeptForm, alone, of_name, IsKeptType, unnamed, declared, TypesAreKept}
 use Rattle.read_plan.specs.KeptResources.{MarkedBy, FormIsMarked, AreMarked, ResourcesStand, KeptResourcesStand}
-use Rattle.read_plan.proofs.KeptTypes.{all_by_number}
+use Rattle.read_plan.proofs.KeptTypes.{all_by_number, form_of_name}
 use Rattle.read_plan.proofs.Lists.{both}
 use Rattle.read_plan.proofs.ShapeLaws.{slice_take, slice_there}
 use Rattle.read_plan.proofs.Words.{behind}
@@ -63,7 +64,7 @@ module _ (t : Tables) (tables : AreTables t) (kept : List ℕ) (p : Plan) (are :
 
     type_mark : IsKeptType t kept p n x → marked_kind (take j all_marks) x.kind ≡ marks (14 + n)
     unfolding marked_kind
-    type_mark (unnamed place form olds news there z name owner kind part low) = ap (marked_kind (take j all_marks)) kind ∙ sym (marked.forms n form olds there).0
+    type_mark (unnamed place form olds news there z name owner kind part low) = ap (marked_kind (take j all_marks)) kind ∙ sym (marked.forms n form olds (alone j x e stands) there).0
     type_mark (declared q name d there named home kind before good obeys) = kind_mark d before kind (marked.names j n x q name e stands there)
 
   marks_are : (fuel j n : ℕ) → j < fuel → j < length p.types → slice_get kept j ≡ Some n → is_resource p j ≡ marks (14 + n)
@@ -104,14 +105,19 @@ module _ (t : Tables) (tables : AreTables t) (kept : List ℕ) (p : Plan) (are :
       by false e =
           ap (λ b. cond b (list_all (is_resource p) (filter_map part_number news)) (list_all (λ m. not (is_resource p m)) (filter_map part_number news))) e ∙ parts_tested not olds news z (is.other e)
 
-  type_handles : (n : ℕ) (x : PlannedType) → IsKeptType t kept p n x → handles_resources p x.kind ≡ true
-  type_handles n x (unnamed place form olds news there z name owner kind part low) = ap (handles_resources p) kind ∙ form_handles form olds news z (marked.forms n form olds there).1
-  type_handles n x (declared q name d there named home kind before good obeys) = by kind
-    where
-      by : DeclaresKind t kept p d x.kind → handles_resources p x.kind ≡ true
-      by (a_resource none k) = ap (handles_resources p) k
-      by (gathered.a_name old new some no_form b k) = ap (handles_resources p) k
-      by (a_form old m form olds news some from there_form z k) = ap (handles_resources p) k ∙ form_handles form olds news z (marked.forms m form olds there_form).1
+  module _ (j n : ℕ) (x : PlannedType) (e : slice_get p.types j ≡ Some x) (stands : slice_get kept j ≡ Some n) where
+    kind_handles : (q : ℕ) (name : Text) → slice_get t.shapes n ≡ Some (named_shape q name) → (d : Option ℕ) → DeclaresKind t kept p d x.kind → handles_resources p x.kind ≡ true
+    kind_handles q name there d kind = by kind
+      where
+        by : DeclaresKind t kept p d x.kind → handles_resources p x.kind ≡ true
+        by (a_resource none k) = ap (handles_resources p) k
+        by (gathered.a_name old new some no_form b k) = ap (handles_resources p) k
+        by (a_form old m form olds news some from there_form z k) =
+            ap (handles_resources p) k ∙ form_handles form olds news z (marked.forms m form olds (form_of_name t tables kept p are j n x e stands q name there d kind old m some from) there_form).1
+
+    type_handles : IsKeptType t kept p n x → handles_resources p x.kind ≡ true
+    type_handles (unnamed place form olds news there z name owner kind part low) = ap (handles_resources p) kind ∙ form_handles form olds news z (marked.forms n form olds (alone j x e stands) there).1
+    type_handles (declared q name d there named home kind before good obeys) = kind_handles q name there d kind
 
   -- ---- functions
 
@@ -130,7 +136,7 @@ module _ (t : Tables) (tables : AreTables t) (kept : List ℕ) (p : Plan) (are :
 
   stand : ResourcesStand t kept p marks
   stand = record {
-    handles = all_by_number (λ x. handles_resources p x.kind) p.types (λ j x e. let is = are.each j x e in type_handles is.0 x is.2);
+    handles = all_by_number (λ x. handles_resources p x.kind) p.types (λ j x e. let is = are.each j x e in type_handles j is.0 x e is.1 is.2);
     functions = λ f id g b v. params_values f.params g.params b.params v.0 (option_to_list g.result) (result_values f.result g.result b.result v.1);
   }
 

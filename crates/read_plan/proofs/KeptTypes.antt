@@ -22,7 +22,7 @@ use Rattle.read_plan.specs.NumberedViews.{Tables, place_at, tree_at, declaration
 use Rattle.read_plan.specs.NumberedRules as numbered
 use Rattle.read_plan.specs.GatheredPlan as gathered
 use Rattle.read_plan.specs.GatheredPlan.{Becomes, DeclaresKind, a_resource, a_form, Keeps}
-use Rattle.read_plan.specs.KeptTypes.{IsKeptType, unnamed, declared, TypesAreKept, TypesPass, KeptTypesPass}
+use Rattle.read_plan.specs.KeptTypes.{IsKeptForm, alone, of_name, IsKeptType, unnamed, declared, TypesAreKept, TypesPass, KeptTypesPass}
 use Rattle.read_plan.proofs.Lists.{both, each_by_number, no_true}
 use Rattle.read_plan.proofs.GatheredPlan.{parts_kept, form_tree}
 use Rattle.read_plan.proofs.NumberedRules.{no_name, shape_there}
@@ -192,14 +192,22 @@ module _ (t : Tables) (tables : AreTables t) (kept : List ℕ) (p : Plan) (are :
 
   -- ---- shapes
 
-  kind_shaped : (d : Option ℕ) (kind : PlannedKind) → DeclaresKind t kept p d kind → has_shape kind ≡ true
-  kind_shaped d kind (a_resource e k) = ap has_shape k
-  kind_shaped d kind (gathered.a_name old new e no_form b k) = ap has_shape k
-  kind_shaped d kind (a_form old m form olds news e is there z k) = ap has_shape k ∙ form_same t kept p form olds news z (are.forms m form olds there)
+  module _ (j n : ℕ) (x : PlannedType) (e : slice_get p.types j ≡ Some x) (stands : slice_get kept j ≡ Some n) where
+    -- what the name is declared as
+    pub form_of_name : (q : ℕ) (name : Text) → slice_get t.shapes n ≡ Some (named_shape q name) → (d : Option ℕ) → DeclaresKind t kept p d x.kind → (old m : ℕ) → d ≡ Some old → old ≡ 14 + m → IsKeptForm t kept p m
+    form_of_name q name there d kind old m some is = of_name j n x q name e stands there (subst (λ o. DeclaresKind t kept p o x.kind) (some ∙ ap Some is) kind)
 
-  type_shaped : (n : ℕ) (x : PlannedType) → IsKeptType t kept p n x → has_shape x.kind ≡ true
-  type_shaped n x (unnamed place form olds news there z name owner kind part low) = ap has_shape kind ∙ form_same t kept p form olds news z (are.forms n form olds there)
-  type_shaped n x (declared q name d there named home kind before good obeys) = kind_shaped d x.kind kind
+    kind_shaped : (q : ℕ) (name : Text) → slice_get t.shapes n ≡ Some (named_shape q name) → (d : Option ℕ) → DeclaresKind t kept p d x.kind → has_shape x.kind ≡ true
+    kind_shaped q name there d kind = by kind
+      where
+        by : DeclaresKind t kept p d x.kind → has_shape x.kind ≡ true
+        by (a_resource none k) = ap has_shape k
+        by (gathered.a_name old new some no_form b k) = ap has_shape k
+        by (a_form old m form olds news some is form_there z k) = ap has_shape k ∙ form_same t kept p form olds news z (are.forms m form olds (form_of_name q name there d kind old m some is) form_there)
+
+    type_shaped : IsKeptType t kept p n x → has_shape x.kind ≡ true
+    type_shaped (unnamed place form olds news there z name owner kind part low) = ap has_shape kind ∙ form_same t kept p form olds news z (are.forms n form olds (alone j x e stands) there)
+    type_shaped (declared q name d there named home kind before good obeys) = kind_shaped q name there d kind
 
   -- ---- labels
 
@@ -269,7 +277,7 @@ module _ (t : Tables) (tables : AreTables t) (kept : List ℕ) (p : Plan) (are :
   pass = record {
     types_fall = fall;
     type_labels = all_by_number type_labels p.types (λ j x e. let is = are.each j x e in type_has_labels is.0 x is.2);
-    types_shaped = all_by_number (λ x. has_shape x.kind) p.types (λ j x e. let is = are.each j x e in type_shaped is.0 x is.2);
+    types_shaped = all_by_number (λ x. has_shape x.kind) p.types (λ j x e. let is = are.each j x e in type_shaped j is.0 x e is.1 is.2);
     kinds_named = all_by_number (kind_is_named p) p.types (λ j x e. let is = are.each j x e in type_is_named is.0 x is.2);
     depths = all_by_number (λ x. parts_are_shallow p x.kind) p.types (λ j x e. let is = are.each j x e in type_is_shallow is.0 x is.2);
   }

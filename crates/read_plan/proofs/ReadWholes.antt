@@ -294,7 +294,7 @@ module _ (t : Tables) (tables : AreTables t) (h : Homes) (homes : HomesStand t h
     wanted : (n : ℕ) (i : PlannedInterface) → interface_in p n ≡ Some i → is_foreign p i ≡ true → IsWanted p n
     wanted n i e foreign =
         let at = place_of n i e (first_true (is_some i.name) (not (is_id p.main i.package_)) foreign) in
-        wanted_for at.place n at.owned (foreign_read.reasons at.place n at.path at.owned (not_main n i at foreign))
+        wanted_for at.place n at.owned (foreign_read.reasons at.place n i at.path at.owned e (not_main n i at foreign))
 
     bare : (n : ℕ) (i : PlannedInterface) → interface_in p n ≡ Some i → is_foreign p i ≡ true → list_any (λ w. is_shown_in w n) p.worlds ≡ false → i.functions ≡ []
     bare n i e foreign hidden =
@@ -321,7 +321,7 @@ module _ (t : Tables) (tables : AreTables t) (h : Homes) (homes : HomesStand t h
   shows : (n : ℕ) (i : PlannedInterface) → interface_in p n ≡ Some i → is_some i.name ≡ true → is_shown_in is.world n ≡ true
   shows n i e named =
       let at = place_of t tables h homes kept p b views is.read n i e named in
-      let by_world = is.shown at.place n at.path at.owned in
+      let by_world = is.shown at.place n i at.path at.owned e in
       let there : Contains (is.world ∷ []) by_world.world = subst (λ ws. Contains ws by_world.world) is.alone (get-contains p.worlds by_world.number by_world.world by_world.there) in
       ap (λ w. is_shown_in w n) (one-contained is.world by_world.world there) ∙ world_shows t tables h homes kept p b views is.read at.place n at.owned by_world
 

@@ -26,7 +26,7 @@ use Rattle.read_plan.specs.NumberedRules.{Fact, is_signature}
 use Rattle.read_plan.specs.NumberedWorlds.{HasPath, NumberedSeen, are_imports, is_item, stand_earlier}
 use Rattle.read_plan.specs.KeptTypes.{IsKeptType, unnamed, declared, TypesAreKept}
 use Rattle.read_plan.specs.KeptFunctions.{IsKindOf, of_none, a_constructor, a_method, an_async_method, a_static, an_async_static}
-use Rattle.read_plan.specs.KeptOwners.{AreOwned}
+use Rattle.read_plan.specs.KeptOwners.{AreOwned, of_interface}
 use Rattle.read_plan.specs.ReadFunctions.{Beside}
 use Rattle.read_plan.specs.ReadWorlds.{ReadItem, is_type_seen, types_follow, IsInterfaceOf, IsReadUnder, IsTypeUnder, IsReadItem, by_path, by_label, implementing_path, a_function, a_type, IsReadWorld, ReadWorldsPass}
 use Rattle.read_plan.proofs.KeptFunctions.{owner_itself, kept_functions_pass}
@@ -63,9 +63,9 @@ module _ (t : Tables) (known : ℕ → Fact) (kept : List ℕ) (p : Plan) (o : T
 
 module _ (t : Tables) (tables : AreTables t) (kept : List ℕ) (p : Plan) (are : TypesAreKept t kept p) (b : Beside) (owned : AreOwned t kept p b.owners) (views : ℕ → NumberedView) where
   -- the interface of a place with a path has a name
-  named_there : (q m : ℕ) → HasPath t q → b.owners q ≡ as_interface m → has_name p m ≡ true
-  named_there q m path is =
-      let named = owned.outside q path in
+  named_there : (q m : ℕ) → HasPath t q → b.owners q ≡ as_interface m → (i : PlannedInterface) → interface_in p m ≡ Some i → has_name p m ≡ true
+  named_there q m path is i standing =
+      let named = owned.outside q path (of_interface m i is standing) in
       let one : m ≡ named.id.0 = same-some m named.id.0 (ap owner_interface (sym is ∙ named.is)) in
       ap (has_name p) one ∙ named.named
 
@@ -105,7 +105,7 @@ module _ (t : Tables) (tables : AreTables t) (kept : List ℕ) (p : Plan) (are :
             no_true (sym (no_name form) ∙ eq-eqb (form_code form).sort 0 (ap (λ (s : Shape). s.sort) one))
 
     imports_itself : (x : ReadItem) → Item x → import_stands p m x.entry ≡ true
-    imports_itself x (by_path q n v id path shown key entry is) = ap (import_stands p m) entry ∙ both (n == n) (has_name p n) (same-number n) (named_there q n path is.owned)
+    imports_itself x (by_path q n v id path shown key entry is) = ap (import_stands p m) entry ∙ both (n == n) (has_name p n) (same-number n) (named_there q n path is.owned is.interface is.there)
     imports_itself x (by_label q n v id shown good entry is) = ap (import_stands p m) entry ∙ both (is_label x.seen.key) (in_list p.interfaces n) good (there q n v is)
     imports_itself x (implementing_path q n v id path shown good entry is) = ap (import_stands p m) entry ∙ both (is_label x.seen.key) (in_list p.interfaces n) good (there q n v is)
     imports_itself x (a_function f g shown entry is) = ap (import_stands p m) entry ∙ function_stands x.seen.key x.count g is
@@ -117,7 +117,7 @@ module _ (t : Tables) (tables : AreTables t) (kept : List ℕ) (p : Plan) (are :
     all_imports (x ∷ xs) a = both (import_stands p m x.entry) (list_all (import_stands p m) (map (λ (y : ReadItem). y.entry) xs)) (imports_itself x a.0) (all_imports xs a.1)
 
     exports_itself : (x : ReadItem) → Item x → is_item t b.known home [] x.seen.key x.seen.shown ≡ true → not (is_type_seen x.seen.shown) ≡ true → export_stands p x.entry ≡ true
-    exports_itself x (by_path q n v id path shown key entry is) obeys none = ap (export_stands p) entry ∙ both (n == n) (has_name p n) (same-number n) (named_there q n path is.owned)
+    exports_itself x (by_path q n v id path shown key entry is) obeys none = ap (export_stands p) entry ∙ both (n == n) (has_name p n) (same-number n) (named_there q n path is.owned is.interface is.there)
     exports_itself x (by_label q n v id shown good entry is) obeys none = ap (export_stands p) entry ∙ both (is_label x.seen.key) (in_list p.interfaces n) good (there q n v is)
     exports_itself x (implementing_path q n v id path shown good entry is) obeys none = ap (export_stands p) entry ∙ both (is_label x.seen.key) (in_list p.interfaces n) good (there q n v is)
     exports_itself x (a_function f g shown entry is) obeys none =

@@ -714,7 +714,7 @@ is_read_package = record {
   worlds = world_homes;
   seen = seen;
   foreign = record {
-    reasons = seen_for;
+    reasons = λ q n i path owned there other. seen_for q n path owned other;
     functions = λ n q i e owned foreign. subst (λ k. AllZip (FunctionListed tables kept whole_plan) (functions_seen k seen) i.functions) (sym (place_number q n owned)) (foreign_functions n i e foreign);
     whole = λ s c h. all_at (λ (x : NumberedSight). x.whole ≡ true → IsShownByWorld tables homes kept whole_plan beside views is_read x.place ⊎ (is_of_package homes 1 x.place ≡ true)) seen whole_seen s c h;
   };

@@ -380,7 +380,7 @@ each_kept = by_number KeptAt planned_types (
 
 pub types_are_kept : TypesAreKept tables kept whole_plan
 unfolding form_of
-types_are_kept = record { forms = form_passes rules.is_form refl; rise = kept_rise; once = kept_once; each = each_kept }
+types_are_kept = record { forms = λ n form parts met. form_passes rules.is_form refl n form parts; rise = kept_rise; once = kept_once; each = each_kept }
 
 -- ---- parts
 
@@ -449,7 +449,7 @@ pub are_marked : AreMarked tables kept whole_plan marks
 unfolding form_of
 are_marked = record {
   primitives = λ k low. let other : (k == 19) ≡ false = grind (arith, nat_tests, low) in other;
-  forms = λ n form parts e. (
+  forms = λ n form parts met e. (
     not_true (marks (14 + n)) (sym (ap (λ v. v || not (marks (14 + n))) (no_name form)) ∙ each_at (λ m (s : Shape). (s.sort == 0) || not (marks (14 + m))) shapes n (node_shape form parts) refl e),
     record {
       handle = λ h. sym (ap (λ v. cond v (list_all marks parts) (list_all (λ k. not (marks k)) parts)) h) ∙ form_passes handles_marked refl n form parts e;
@@ -671,7 +671,7 @@ names_used = by_number UsedAt planned_types (
 pub are_owned : AreOwned tables kept whole_plan owners
 are_owned = record {
   apart = owners_apart;
-  outside = named_outside;
+  outside = λ a path of. named_outside a path;
   owned = λ j n x q name e at there. all_owned j x e n q name at there;
   seen = λ j n x q name d e at there declares. names_seen j x e n q name d at there declares;
   used = λ j n x q name m r other e at there declares named. names_used j x e n q name m r other at there declares named;

@@ -7,9 +7,10 @@ use Rattle.wit_model.specs.declared.model.TypeOwner.TheVariants as owner
 use Rattle.wit_model.specs.declared.model.InterfaceId.{InterfaceId}
 use Rattle.wit_model.specs.Text.{Text}
 use Rattle.wit_model.specs.Parts.{same_owner}
+use Rattle.wit_model.specs.Valid.{as_interface}
 use Rattle.comp_meaning.specs.Rules as rules
 use Rattle.read_plan.specs.Shapes.{named_shape}
-use Rattle.read_plan.specs.Plan.{Plan, PlannedType, PlannedFunction}
+use Rattle.read_plan.specs.Plan.{Plan, PlannedType, PlannedFunction, PlannedInterface, interface_in}
 use Rattle.read_plan.specs.PlanRules.{function_stays, has_name, type_stays}
 use Rattle.read_plan.specs.NumberedViews.{FunctionShape, Tables, place_at, tree_at, signature_over, AllOf, PartsOf, AreTables}
 use Rattle.read_plan.specs.NumberedRules.{IsSeenFrom}
@@ -23,11 +24,16 @@ pub record IsNamedInterface (p : Plan) (o : TypeOwner) : Type 0 where
   pub is : o ≡ owner.Interface id
   pub named : has_name p id.0 ≡ true
 
--- The owner of each place, another for each: that of a place with a path is an interface with a name. A named type is the owner's of its place,
--- and is seen from there; it is another name of its own place, or of one with a path.
+-- A place of the plan: that of a name that is kept, or of one of its interfaces.
+pub data IsPlaceOf (t : Tables) (kept : List ℕ) (p : Plan) (owners : ℕ → TypeOwner) (a : ℕ) : Type 0 where
+  of_name : (j n : ℕ) (x : PlannedType) (name : Text) → slice_get p.types j ≡ Some x → slice_get kept j ≡ Some n → slice_get t.shapes n ≡ Some (named_shape a name) → IsPlaceOf t kept p owners a
+  of_interface : (m : ℕ) (i : PlannedInterface) → owners a ≡ as_interface m → interface_in p m ≡ Some i → IsPlaceOf t kept p owners a
+
+-- The owner of each place, another for each: that of a place of the plan with a path is an interface with a name. A named type is the owner's of
+-- its place, and is seen from there; it is another name of its own place, or of one with a path.
 pub record AreOwned (t : Tables) (kept : List ℕ) (p : Plan) (owners : ℕ → TypeOwner) : Type 0 where
   pub apart : (a b : ℕ) → same_owner (owners a) (owners b) ≡ true → a ≡ b
-  pub outside : (a : ℕ) → HasPath t a → IsNamedInterface p (owners a)
+  pub outside : (a : ℕ) → HasPath t a → IsPlaceOf t kept p owners a → IsNamedInterface p (owners a)
   pub owned : (j n : ℕ) (x : PlannedType) (q : ℕ) (name : Text) → slice_get p.types j ≡ Some x → slice_get kept j ≡ Some n → slice_get t.shapes n ≡ Some (named_shape q name) → x.owner ≡ owners q
   pub seen : (j n : ℕ) (x : PlannedType) (q : ℕ) (name : Text) (d : Option ℕ) → slice_get p.types j ≡ Some x → slice_get kept j ≡ Some n → slice_get t.shapes n ≡ Some (named_shape q name) → DeclaresKind t kept p d x.kind → AllOf (IsSeenFrom t q) d
   pub used : (j n : ℕ) (x : PlannedType) (q : ℕ) (name : Text) (m r : ℕ) (other : Text) → slice_get p.types j ≡ Some x → slice_get kept j ≡ Some n → slice_get t.shapes n ≡ Some (named_shape q name) → DeclaresKind t kept p (Some (14 + m)) x.kind

@@ -9,7 +9,7 @@ use Rattle.read_plan.specs.Plan.{Plan, PlannedKind, resource, alias, formed, Pla
 use Rattle.read_plan.specs.PlanRules.{handles_resources, is_handle_form, takes_values}
 use Rattle.read_plan.specs.NumberedViews.{FunctionShape, Tables, AreTables, PartsOf}
 use Rattle.read_plan.specs.GatheredPlan.{Becomes, FunctionBecomes}
-use Rattle.read_plan.specs.KeptTypes.{TypesAreKept}
+use Rattle.read_plan.specs.KeptTypes.{IsKeptForm, TypesAreKept}
 
 -- the mark of a type by its kind: a resource has one, another name has that of what it names, and a form has none
 abbrev pub MarkedBy : Tables → List ℕ → Plan → (ℕ → Bool) → PlannedKind → Bool → Type 0
@@ -25,7 +25,7 @@ pub record FormIsMarked (marks : ℕ → Bool) (form : Form) (parts : List ℕ) 
 -- The marks tell the parts that are resources, by name or by another name.
 pub record AreMarked (t : Tables) (kept : List ℕ) (p : Plan) (marks : ℕ → Bool) : Type 0 where
   pub primitives : (k : ℕ) → k < 14 → marks k ≡ false
-  pub forms : (n : ℕ) (form : Form) (parts : List ℕ) → slice_get t.shapes n ≡ Some (node_shape form parts) → (marks (14 + n) ≡ false) × FormIsMarked marks form parts
+  pub forms : (n : ℕ) (form : Form) (parts : List ℕ) → IsKeptForm t kept p n → slice_get t.shapes n ≡ Some (node_shape form parts) → (marks (14 + n) ≡ false) × FormIsMarked marks form parts
   pub names : (j n : ℕ) (x : PlannedType) (q : ℕ) (name : Text) → slice_get p.types j ≡ Some x → slice_get kept j ≡ Some n → slice_get t.shapes n ≡ Some (named_shape q name) → MarkedBy t kept p marks x.kind (marks (14 + n))
 
 -- So handles are of resources, and no other type has one as a part, nor has a function that takes and gives none.

@@ -23,10 +23,15 @@ pub data IsKeptType (t : Tables) (kept : List ℕ) (p : Plan) (n : ℕ) (x : Pla
   declared : (q : ℕ) (name : Text) (d : Option ℕ) → slice_get t.shapes n ≡ Some (named_shape q name) → x.name ≡ Some name → place_in p x.owner ≡ place_at t q → DeclaresKind t kept p d x.kind
       → AllOf (λ k. k < 14 + n) d → is_label name ≡ true → rules.is_declared (place_at t q) (declaration_of t d) ≡ true → IsKeptType t kept p n x
 
--- Forms are as a definition has them, the numbers that are kept are in the order of the table, each once, and each type is that of the shape
--- kept there.
+-- A form of the plan: one that is kept as an unnamed type, or what a name that is kept is declared as.
+pub data IsKeptForm (t : Tables) (kept : List ℕ) (p : Plan) (m : ℕ) : Type 0 where
+  alone : (j : ℕ) (x : PlannedType) → slice_get p.types j ≡ Some x → slice_get kept j ≡ Some m → IsKeptForm t kept p m
+  of_name : (j n : ℕ) (x : PlannedType) (q : ℕ) (name : Text) → slice_get p.types j ≡ Some x → slice_get kept j ≡ Some n → slice_get t.shapes n ≡ Some (named_shape q name) → DeclaresKind t kept p (Some (14 + m)) x.kind → IsKeptForm t kept p m
+
+-- The forms of the plan are as a definition has them, the numbers that are kept are in the order of the table, each once, and each type is that
+-- of the shape kept there.
 pub record TypesAreKept (t : Tables) (kept : List ℕ) (p : Plan) : Type 0 where
-  pub forms : (n : ℕ) (form : Form) (parts : List ℕ) → slice_get t.shapes n ≡ Some (node_shape form parts) → is_form form parts ≡ true
+  pub forms : (n : ℕ) (form : Form) (parts : List ℕ) → IsKeptForm t kept p n → slice_get t.shapes n ≡ Some (node_shape form parts) → is_form form parts ≡ true
   pub rise : (i j m n : ℕ) → slice_get kept i ≡ Some m → slice_get kept j ≡ Some n → m < n → i < j
   pub once : (i j m : ℕ) → slice_get kept i ≡ Some m → slice_get kept j ≡ Some m → i ≡ j
   pub each : (j : ℕ) (x : PlannedType) → slice_get p.types j ≡ Some x → (n : ℕ) × (slice_get kept j ≡ Some n) × IsKeptType t kept p n x

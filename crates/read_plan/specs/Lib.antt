@@ -3,6 +3,7 @@ pub mod NumberedViews
 pub mod NumberedRules
 pub mod NumberedWorlds
 pub mod NumberedMembers
+pub mod FollowedNumbers
 pub mod GatheredPlan
 pub mod KeptTypes
 pub mod KeptFunctions

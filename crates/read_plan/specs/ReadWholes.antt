@@ -81,7 +81,7 @@ module _ (t : Tables) (h : Homes) (kept : List ℕ) (p : Plan) (b : Beside) (vie
   -- An interface of another package is there for a reason. It has the functions of the first view that shows some, which is one of a world, or the
   -- package's own.
   pub record ForeignIsRead (seen : List NumberedSight) : Type 0 where
-    pub reasons : (q n : ℕ) → HasPath t q → b.owners q ≡ as_interface n → is_of_package h p.main q ≡ false → IsSeenFor q
+    pub reasons : (q n : ℕ) (i : PlannedInterface) → HasPath t q → b.owners q ≡ as_interface n → interface_in p n ≡ Some i → is_of_package h p.main q ≡ false → IsSeenFor q
     pub functions : (n q : ℕ) (i : PlannedInterface) → interface_in p n ≡ Some i → b.owners q ≡ as_interface n → is_foreign p i ≡ true → AllZip (FunctionListed t kept p) (functions_seen q seen) i.functions
     pub whole : (s : NumberedSight) → Contains seen s → s.whole ≡ true → IsShownByWorld s.place ⊎ (is_of_package h p.main s.place ≡ true)
 
@@ -104,7 +104,7 @@ pub record IsReadWorldPlan (t : Tables) (h : Homes) (kept : List ℕ) (p : Plan)
   pub world : PlannedWorld
   pub alone : p.worlds ≡ world ∷ []
   pub home : world.package_ ≡ Some p.main
-  pub shown : (q n : ℕ) → HasPath t q → b.owners q ≡ as_interface n → IsShownByWorld t h kept p b views read q
+  pub shown : (q n : ℕ) (i : PlannedInterface) → HasPath t q → b.owners q ≡ as_interface n → interface_in p n ≡ Some i → IsShownByWorld t h kept p b views read q
 
 abbrev pub ReadPackagePlanStands : Type 0
 ReadPackagePlanStands = (t : Tables) → AreTables t → (h : Homes) → HomesStand t h → (kept : List ℕ) (p : Plan) (b : Beside) (views : ℕ → NumberedView) → IsReadPackagePlan t h kept p b views → IsPackagePlan p
