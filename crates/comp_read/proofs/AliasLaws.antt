@@ -1,6 +1,6 @@
 -- Which slots are names of interfaces with a path.
-use Rattle.std.proofs.Common.{◌≡◌, refl, sym, ap, ◌∙◌, ℕ, ◌+◌, ◌-◌, ◌<◌, arith, inl, inr, Bool, false, ◌==◌, cond, List, length, Some, None, slice_get, unwrap_or}
-use Rattle.std.proofs.lemmas.Bool.{lt-ltb, le-ltb}
+use Rattle.std.proofs.Common.{◌≡◌, refl, sym, ap, ◌∙◌, subst, ℕ, ◌+◌, ◌-◌, ◌<◌, arith, inl, inr, Bool, true, false, ◌==◌, cond, List, length, Option, Some, None, slice_get, unwrap_or}
+use Rattle.std.proofs.lemmas.Bool.{lt-ltb, le-ltb, false≢true}
 use Rattle.wit_model.specs.Meaning.{Signature}
 use Rattle.wit_model.specs.Text.{Text}
 use Rattle.wit_model.specs.Tree.{Form, Place, Tree}
@@ -13,12 +13,14 @@ use Rattle.comp_read.specs.Defining.{ArePlacedBelow}
 use Rattle.comp_read.specs.Following.{is_path, AreMarked, IsNamePart, IsSlotIn}
 use Rattle.comp_read.specs.Functions.{FunctionShape}
 use Rattle.comp_read.specs.InstanceScopes.{foreign_part, foreign_slot, is_marked, name_place, place_in}
+use Rattle.comp_read.specs.Placed.{apart, MayMeet, SlotOver, TreeOver}
 use Rattle.comp_read.specs.Slots.{resource_slot, slot_in}
 use Rattle.read_plan.specs.Shapes.{Shape, form_code, named_shape, part_tree, primitives, shape_tree, shape_trees, IsShape, a_name, a_node, IsTable}
 use Rattle.read_plan.proofs.ShapeLaws.{name_tree, node_tree, part_behind, part_front, slice_there, split_part, tree_at_number}
 use Rattle.comp_read.proofs.AddLaws.{mapped_get}
 use Rattle.comp_read.proofs.DefiningLaws.{all_at}
 use Rattle.comp_read.proofs.FollowingLaws.{name_part}
+use Rattle.comp_read.proofs.OverLaws.{name_over}
 
 no_sort : (f : Form) → ((form_code f).sort == 0) ≡ false
 no_sort (Form.record_of names) = refl
@@ -100,3 +102,46 @@ module _ (marks : List Bool) (place : ℕ → Place) (marked : AreMarked marks p
     slot_foreign fs F (slots.Resource k) h = resource_foreign k h
     slot_foreign fs F (slots.Function n) h = refl
     slot_foreign fs F (slots.Instance b n) h = refl
+
+-- ---- a slot that is marked is over a place that is
+
+marked_true : (o : Option Bool) → unwrap_or o false ≡ true → o ≡ Some true
+marked_true None e = absurd (false≢true e)
+marked_true (Some b) e = ap Some e
+
+module _ (marks : List Bool) (here : ℕ) (shapes : List Shape) (table : IsTable shapes) where
+  abbrev U : List Tree
+  U = shape_trees apart shapes
+
+  place_met : (p : ℕ) → is_marked marks (Some p) ≡ true → MayMeet marks here (apart p)
+  place_met p e q same = let one : p ≡ q = cc in inr (subst (λ n. slice_get marks n ≡ Some true) one (marked_true (slice_get marks p) e))
+
+  shape_over : (n : ℕ) (s : Shape) → IsShape n s → is_marked marks (name_place (Some s)) ≡ true → TreeOver (MayMeet marks here) (shape_tree apart U s)
+  shape_over n s (a_name p x is) e =
+      subst (λ t. TreeOver (MayMeet marks here) t) (sym (ap (shape_tree apart U) is ∙ name_tree apart U p x))
+      (name_over (MayMeet marks here) (apart p) x (place_met p (ap (λ (t : Shape). is_marked marks (name_place (Some t))) (sym is) ∙ e)))
+  shape_over n s (a_node f ks is below) e =
+      absurd (false≢true (sym (ap (λ (t : Shape). is_marked marks (name_place (Some t))) is ∙ ap (λ b. is_marked marks (cond b (Some (form_code f).number) None)) (no_sort f)) ∙ e))
+
+  value_met : (k : ℕ) → k < 14 + length shapes → foreign_part marks shapes k ≡ true → TreeOver (MayMeet marks here) (part_tree U k)
+  value_met k h e = elim (split_part k) [
+    | inl small ↦ absurd (false≢true (sym (ap (is_marked marks) (place_front shapes k small)) ∙ e))
+    | inr n ↦
+        let inside : n.0 < length shapes = omega (arith, h, n.1) in
+        let found = slice_there shapes n.0 inside in
+        subst (λ t. TreeOver (MayMeet marks here) t) (sym (ap (part_tree U) n.1 ∙ (part_behind U n.0 ∙ ap (λ o. unwrap_or o no_tree) (tree_at_number apart shapes table n.0 found.0 found.1))))
+        (shape_over n.0 found.0 (table.each n.0 found.0 found.1)
+        (sym (ap (foreign_part marks shapes) n.1 ∙ (ap (is_marked marks) (place_behind shapes n.0) ∙ ap (λ o. is_marked marks (name_place o)) found.1)) ∙ e))
+  ]
+
+  resource_met : (k : ℕ) → IsNamePart shapes k → foreign_part marks shapes k ≡ true → SlotOver (MayMeet marks here) (resource_slot (part_tree U k))
+  resource_met k named e =
+      subst (λ t. SlotOver (MayMeet marks here) (resource_slot t)) (sym (name_part apart shapes k table named))
+      (place_met named.place
+      (sym (ap (foreign_part marks shapes) named.is ∙ (ap (is_marked marks) (place_behind shapes named.number) ∙ ap (λ o. is_marked marks (name_place o)) named.at)) ∙ e))
+
+  pub foreign_over : (fs : List FunctionShape) (F : List Signature) (s : Slot) → IsSlotIn shapes fs s → foreign_slot marks shapes s ≡ true → SlotOver (MayMeet marks here) (slot_in U F s)
+  foreign_over fs F (slots.Value k) h e = value_met k h e
+  foreign_over fs F (slots.Resource k) h e = resource_met k h e
+  foreign_over fs F (slots.Function n) h e = absurd (false≢true e)
+  foreign_over fs F (slots.Instance b n) h e = absurd (false≢true e)

@@ -1,5 +1,5 @@
 -- One entry of a component type after the other.
-use Rattle.std.proofs.Common.{◌≡◌, refl, sym, ap, ◌∙◌, subst, ℕ, zero, suc, ◌+◌, ◌-◌, ◌<◌, ◌≤◌, ◌==◌, ◌&&◌, arith, Bool, true, false, cond, List, [], ◌∷◌, ◌++◌, map, length, Option, Some, None, slice_get, unwrap_or}
+use Rattle.std.proofs.Common.{◌≡◌, inl, refl, sym, ap, ◌∙◌, subst, ℕ, zero, suc, ◌+◌, ◌-◌, ◌<◌, ◌≤◌, ◌==◌, ◌&&◌, arith, Bool, true, false, cond, List, [], ◌∷◌, ◌++◌, map, length, Option, Some, None, slice_get, unwrap_or}
 use Rattle.std.specs.List.{AllByRecursion, list_any}
 use Rattle.std.proofs.Math.ListN.{length-map}
 use Rattle.std.proofs.lemmas.List.{append-nil}
@@ -20,18 +20,21 @@ use Rattle.comp_read.specs.declared.slots.Slot.{Slot}
 use Rattle.comp_read.specs.declared.slots.Slot.TheVariants as slots
 use Rattle.comp_read.specs.declared.views.ShownType.{ShownType}
 use Rattle.comp_read.specs.Bodies.{held_declaration_at, items_in, IsBody}
-use Rattle.comp_read.specs.Defining.{Grows, IsDefined, IsDefinedFunction, IsUndefined}
+use Rattle.comp_read.specs.Defining.{AddsForms, Grows, IsDefined, IsDefinedFunction, IsUndefined}
 use Rattle.comp_read.specs.Following.{shown_type, AreTables, IsShownIn, IsSlotIn, IsTypeSlot}
 use Rattle.comp_read.specs.Found.{Refuses}
 use Rattle.comp_read.specs.Functions.{functions_in, signature_in, FunctionShape, IsFunctionIn}
+use Rattle.comp_read.specs.Placed.{apart, HasNoNames, MayMeet, SignatureOver, SlotOver}
 use Rattle.comp_read.specs.Places.{has_path, ArePlacesOf}
-use Rattle.comp_read.specs.Scopes.{are_settled, find_slot, instance_in, meant_at, path_of, slot_of_instance, start_of, taken_from, waiting, weight, weights, world_signatures, world_trees, Goes, IsFollowedTo, IsInstanceIn, IsScopeOf, IsWorld, Stops, World}
+use Rattle.comp_read.specs.Scopes.{are_settled, find_slot, instance_in, meant_at, path_of, slot_of_instance, start_of, taken_from, waiting, weight, weights, world_signatures, world_trees, Goes, IsFollowedTo, IsInstanceIn, IsPlacedWorld, IsScopeOf, IsWorld, Stops, World}
 use Rattle.comp_read.specs.Slots.{no_signature, resource_slot, slot_in, slots_in, AreNames, IsName}
-use Rattle.read_plan.specs.Shapes.{Shape, part_tree, shape_trees, IsTable}
+use Rattle.read_plan.specs.Shapes.{Shape, named_shape, node_shape, part_tree, shape_trees, IsTable}
 use Rattle.read_plan.proofs.ShapeLaws.{slice_front}
 use Rattle.comp_read.proofs.AddLaws.{mapped_get}
-use Rattle.comp_read.proofs.DefiningLaws.{all_at, longer, same_list}
+use Rattle.comp_read.proofs.DefiningLaws.{all_at, longer, no_shapes, same_list}
 use Rattle.comp_read.proofs.FollowingLaws.{functions_wider, joins_all, joins_grow, names_of, ranges_of}
+use Rattle.comp_read.proofs.OverLaws.{definition_over, signature_over}
+use Rattle.comp_read.proofs.PlacedScopes.{extended_placed, found_over, none_past, path_marked, path_met}
 use Rattle.comp_read.proofs.Refusing.{refused}
 use Rattle.comp_read.proofs.ScopeLaws.{extended_world, goes_on, plus_slot, waiting_push, waits}
 use Rattle.comp_read.proofs.SlotLaws.{mapped_none}
@@ -47,6 +50,7 @@ goes_as few f g old new same s = record {
   signatures_grow = s.signatures_grow;
   paths_grow = s.paths_grow;
   count = s.count;
+  placed = s.placed;
   follows = λ place of. same (meant_at place old) ∙ s.follows place of;
 }
 
@@ -78,10 +82,12 @@ module _ (old : World) (st : IsWorld old) where
   with_slots more more_fs ss = record old { shapes = more; signatures = more_fs; slots = ss }
 
   pushed : (more : List Shape) (more_fs : List FunctionShape) (gs : Grows old.shapes more) (gf : Grows old.signatures more_fs) (tables : AreTables (length old.paths) more more_fs)
-      → (s : Slot) → IsSlotIn more more_fs s → (few : ℕ) (step : MeantScope → Option MeantScope) (ss : List Slot) → ss ≡ old.slots ++ s ∷ [] → length more + waits s ≤ length old.shapes + few
+      → (s : Slot) → IsSlotIn more more_fs s
+      → ((base : List Shape) (places : ℕ) → IsPlacedWorld base places old → SlotOver (MayMeet (map has_path old.paths) old.home) (slot_in (shape_trees apart more) (functions_in (shape_trees apart more) more_fs) s))
+      → AddsForms old.shapes more → (few : ℕ) (step : MeantScope → Option MeantScope) (ss : List Slot) → ss ≡ old.slots ++ s ∷ [] → length more + waits s ≤ length old.shapes + few
       → ((place : ℕ → Place) → ArePlacesOf old.paths place → step (meant_at place old) ≡ Some (in_scope (slot_in (shape_trees place more) (functions_in (shape_trees place more) more_fs) s) (meant_at place old)))
       → Goes few step old (with_slots more more_fs ss)
-  pushed more more_fs gs gf tables s is few step ss next count follows =
+  pushed more more_fs gs gf tables s is over forms few step ss next count follows =
       goes_on old st more more_fs old.paths gs gf (same_list old.paths) tables (s ∷ []) [] [] [] [] few step (with_slots more more_fs ss)
       (λ i. record {
         home = old.home;
@@ -95,6 +101,9 @@ module _ (old : World) (st : IsWorld old) where
         used = sym (append-nil old.used) i;
       })
       (extended_world old st more more_fs old.paths gs gf (same_list old.paths) tables (s ∷ []) [] [] [] [] (is, tt) tt tt tt)
+      (λ base places p.
+      extended_placed old st more more_fs old.paths gs gf (same_list old.paths) tables (s ∷ []) [] [] [] [] base places (length old.shapes) p [] (length more) (omega arith) (over base places p, tt) (λ j x at past. absurd (none_past old.instances j x at past)) tt tt tt (tt, tt)
+      (λ n q name low at. inl (forms.names n q name at)) (λ n form parts low at. forms.formed n form parts at) refl (λ j x c at here past. absurd (none_past old.imports j x at past)))
       (let same = ap (λ us. waiting us 0 (old.slots ++ s ∷ [])) (append-nil old.used) in
       let push = waiting_push old.used 0 old.slots s in
       omega (arith, same, push, count))
@@ -111,7 +120,9 @@ module _ (old : World) (st : IsWorld old) where
         placed = is.placed (length old.paths) st.tables.placed;
         signatures = functions_wider (length old.shapes) (length more) old.signatures (longer old.shapes more is.grown) st.tables.signatures;
       } in
-      pushed more old.signatures is.grown (same_list old.signatures) tables (slots.Value is.part) is.range 1 (λ m. component_step m (Declaration.defined d)) ss is.next
+      pushed more old.signatures is.grown (same_list old.signatures) tables (slots.Value is.part) is.range
+      (λ base places p. definition_over (MayMeet (map has_path old.paths) old.home) (meant_at apart old).slots p.slots d (part_tree (shape_trees apart more) is.part) (is.found apart (world_signatures apart old) (names_at apart)))
+      is.forms 1 (λ m. component_step m (Declaration.defined d)) ss is.next
       (let count = is.count in omega (arith, count))
       (λ place of. ap (λ o. o >>= λ t. Some (in_scope (follow.value t) (meant_at place old))) (is.found place (world_signatures place old) (names_at place)))
 
@@ -129,7 +140,11 @@ module _ (old : World) (st : IsWorld old) where
         placed = st.tables.placed;
         signatures = joins_all (IsFunctionIn (length old.shapes)) old.signatures more_fs is.shape is.joins st.tables.signatures (is.ranges (length old.shapes) (ranges_of old.shapes old.signatures old.slots st.slots));
       } in
-      pushed old.shapes more_fs (same_list old.shapes) grows tables (slots.Function is.number) inside 1 (λ m. component_step m (Declaration.function f)) ss is.next (omega arith)
+      pushed old.shapes more_fs (same_list old.shapes) grows tables (slots.Function is.number) inside
+      (λ base places p.
+      subst (λ (s : Signature). SignatureOver (MayMeet (map has_path old.paths) old.home) s) (sym (ap (λ o. unwrap_or o no_signature) (mapped_get (signature_in (world_trees apart old)) more_fs is.number is.shape is.at)))
+      (signature_over (MayMeet (map has_path old.paths) old.home) (meant_at apart old).slots p.slots f (signature_in (world_trees apart old) is.shape) (is.found (world_trees apart old) (world_signatures apart old))))
+      (no_shapes old.shapes) 1 (λ m. component_step m (Declaration.function f)) ss is.next (omega arith)
       (λ place of.
       ap (λ o. o >>= λ s. Some (in_scope (follow.function s) (meant_at place old))) (is.found (world_trees place old) (world_signatures place old))
       ∙ ap (λ s. Some (in_scope (follow.function s) (meant_at place old)))
@@ -216,6 +231,25 @@ module _ (old : World) (st : IsWorld old) where
           let inside = all_at (IsInstanceIn old.shapes old.signatures old.paths) old.instances m x st.instances at in
           found_in name x.view.types.items inside.types s (kept (has_path (unwrap_or (slice_get old.paths x.place) None)) (find_slot name x.view.types.items) f)
 
+  -- what an alias takes over is a name of a place with a path
+  taken_over : (base : List Shape) (places : ℕ) → IsPlacedWorld base places old → (a : Alias) (s : Slot) → taken_from old.paths old.instances a ≡ Some s
+      → SlotOver (MayMeet (map has_path old.paths) old.home) (slot_in (world_trees apart old) (world_signatures apart old) s)
+  taken_over base places p (Alias.of_outer scopes n) s e = absurd cc
+  taken_over base places p (Alias.of_export m name) s e = by (slice_get old.instances m) refl e
+    where
+      kept : (b : Bool) (o : Option Slot) → (o >>= λ x. provided b x) ≡ Some s → (b ≡ true) × (o ≡ Some s)
+      kept b None e = absurd cc
+      kept true (Some x) e = (refl, e)
+      kept false (Some x) e = absurd cc
+
+      by : (o : Option Instance) → slice_get old.instances m ≡ o → slot_of_instance old.paths name o ≡ Some s → SlotOver (MayMeet (map has_path old.paths) old.home) (slot_in (world_trees apart old) (world_signatures apart old) s)
+      by None at f = absurd cc
+      by (Some x) at f =
+          let inside = all_at (IsInstanceIn old.shapes old.signatures old.paths) old.instances m x st.instances at in
+          let k = kept (has_path (unwrap_or (slice_get old.paths x.place) None)) (find_slot name x.view.types.items) f in
+          found_over old.shapes st.tables.table old.signatures (MayMeet (map has_path old.paths) old.home) x.place (path_met old.paths old.home x.place (path_marked old.paths x.place k.0))
+          name x.view.types.items inside.types (p.instances m x at).named s k.1
+
   no_wait : (s : Slot) → IsTypeSlot s → waits s ≡ 0
   no_wait (slots.Value part) h = refl
   no_wait (slots.Resource part) h = refl
@@ -227,7 +261,8 @@ module _ (old : World) (st : IsWorld old) where
   alias_goes a s ss taken next =
       let h = taken_in a s taken in
       let none = no_wait s h.1 in
-      pushed old.shapes old.signatures (same_list old.shapes) (same_list old.signatures) st.tables s h.0 1 (λ m. component_step m (Declaration.alias_of a)) ss next (omega (arith, none))
+      pushed old.shapes old.signatures (same_list old.shapes) (same_list old.signatures) st.tables s h.0 (λ base places p. taken_over base places p a s taken) (no_shapes old.shapes)
+      1 (λ m. component_step m (Declaration.alias_of a)) ss next (omega (arith, none))
       (λ place of. alias_meant place of a ∙ ap (λ o. o >>= λ x. Some (in_scope (slot_in (world_trees place old) (world_signatures place old) x) (meant_at place old))) taken)
 
   pub alias_stops : (a : Alias) (e : Refusal) → Refuses e (taken_from old.paths old.instances a) → Stops (λ m. component_step m (Declaration.alias_of a)) old old.paths e
@@ -240,7 +275,7 @@ module _ (old : World) (st : IsWorld old) where
       → Goes (weight (holds (items_in held_declaration_at b))) (λ m. entry_step m (holds (items_in held_declaration_at b))) old (with_slots old.shapes old.signatures ss)
   held_goes b around ss whole behind next =
       let many = sequence_length held_declaration_at b.count b.bytes.now (items_in held_declaration_at b, []) whole in
-      pushed old.shapes old.signatures (same_list old.shapes) (same_list old.signatures) st.tables (slots.Instance b around) whole (length (items_in held_declaration_at b))
+      pushed old.shapes old.signatures (same_list old.shapes) (same_list old.signatures) st.tables (slots.Instance b around) whole (λ base places p. tt) (no_shapes old.shapes) (length (items_in held_declaration_at b))
       (λ m. entry_step m (holds (items_in held_declaration_at b))) ss next (omega (arith, many))
       (λ place of. ap (λ n. Some (in_scope (follow.instance (items_in held_declaration_at b) n) (meant_at place old))) (length-map old.slots (slot_in (world_trees place old) (world_signatures place old)) ∙ sym behind))
 
@@ -286,6 +321,7 @@ module _ (start : World) (b : Body) where
             shapes_grow = grow_on start.shapes now.shapes next.shapes f.shapes_grow g.shapes_grow;
             signatures_grow = grow_on start.signatures now.signatures next.signatures f.signatures_grow g.signatures_grow;
             paths_grow = grow_on start.paths now.paths next.paths f.paths_grow g.paths_grow;
+            placed = g.placed start.shapes start.home f.placed;
             es = p.0;
             left = p.1;
             count = omega (arith, before, step, split);
@@ -306,13 +342,31 @@ module _ (start : World) (b : Body) where
       subst (λ (n : ℕ). IsFollowedTo start b n [] now) same (subst (λ (bytes : List ℕ). IsFollowedTo start b i bytes now) none.1 f)
 
 -- nothing has been followed
-pub followed_none : (home : ℕ) (shapes : List Shape) (fs : List FunctionShape) (paths : List (Option Text)) (b : Body) → AreTables (length paths) shapes fs → slice_get paths home ≡ Some None → IsBody entry_at b
+pub followed_none : (home : ℕ) (shapes : List Shape) (fs : List FunctionShape) (paths : List (Option Text)) (b : Body) → AreTables (length paths) shapes fs → slice_get paths home ≡ Some None → HasNoNames home shapes → IsBody entry_at b
     → (new : World) → new ≡ start_of home shapes fs paths → IsFollowedTo (start_of home shapes fs paths) b 0 b.bytes.now new
-followed_none home shapes fs paths b tables own whole new e = subst (λ (w : World). IsFollowedTo (start_of home shapes fs paths) b 0 b.bytes.now w) (sym e) (record {
+followed_none home shapes fs paths b tables own fresh whole new e = subst (λ (w : World). IsFollowedTo (start_of home shapes fs paths) b 0 b.bytes.now w) (sym e) (record {
   world = record { tables = tables; own = own; slots = tt; instances = tt; imports = tt; exports = tt };
   shapes_grow = same_list shapes;
   signatures_grow = same_list fs;
   paths_grow = same_list paths;
+  placed = record {
+    grows = same_list shapes;
+    within = omega arith;
+    home = omega arith;
+    fresh = fresh;
+    slots = tt;
+    imports = tt;
+    exports = tt;
+    named = tt;
+    imports_keyed = tt;
+    exports_keyed = tt;
+    formed = λ n form parts low at. inl (found_below shapes n (node_shape form parts) at);
+    instances = λ j x at. absurd cc;
+    names = λ n q name low at. inl (found_below shapes n (named_shape q name) at);
+    counts = [];
+    many = refl;
+    counted = λ j s c at here. absurd cc;
+  };
   es = items_in entry_at b;
   left = ap (λ n. sequence_at entry_at n b.bytes.now) (none_less b.count) ∙ whole;
   count = omega arith;
@@ -333,7 +387,7 @@ settled_meant T F used n (slots.Resource part ∷ ss) h = by (part_tree T part) 
 settled_meant T F used n (slots.Function f ∷ ss) h = settled_meant T F used (suc n) ss h
 settled_meant T F used n (slots.Instance b around ∷ ss) h = ap (λ v. list_any (λ m. m == n) used && v) (settled_meant T F used (suc n) ss h)
 
-module _ (home : ℕ) (shapes : List Shape) (fs : List FunctionShape) (before paths : List (Option Text)) (grows : Grows before paths) (b : Body) (now : World) (f : IsFollowedTo (start_of home shapes fs paths) b b.count [] now) where
+module _ (home : ℕ) (shapes : List Shape) (fs : List FunctionShape) (before paths : List (Option Text)) (grows : Grows before paths) (new_home : home ≡ length before) (b : Body) (now : World) (f : IsFollowedTo (start_of home shapes fs paths) b b.count [] now) where
   steps_end : (place : ℕ → Place) → ArePlacesOf now.paths place → steps entry_step new_scope (items_in entry_at b) ≡ Some (meant_at place now)
   steps_end place of =
       let none = none_left entry_at (b.count - b.count) [] f.es (omega arith) f.left in
@@ -352,6 +406,7 @@ module _ (home : ℕ) (shapes : List Shape) (fs : List FunctionShape) (before pa
     signatures_grow = f.signatures_grow;
     paths_grow = grow_on before paths now.paths grows f.paths_grow;
     count = (let count = f.count in omega (arith, count));
+    placed = subst (λ (n : ℕ). IsPlacedWorld shapes n now) new_home f.placed;
     shows = λ place of. scope_is place of true e;
   }
 

@@ -1,5 +1,5 @@
 -- Types of values and of functions in tables that grow.
-use Rattle.std.proofs.Common.{◌≡◌, refl, sym, ap, ◌∙◌, subst, ℕ, zero, suc, ◌+◌, ◌<◌, ◌≤◌, arith, inl, inr, false, List, [], ◌∷◌, ◌++◌, map, length, Option, Some, None, option_map, IfSome, slice_get, unwrap_or, append_assoc, append-nil, length-append}
+use Rattle.std.proofs.Common.{◌≡◌, ◌⊎◌, refl, sym, ap, ◌∙◌, subst, ℕ, zero, suc, ◌+◌, ◌<◌, ◌≤◌, arith, inl, inr, true, false, List, [], ◌∷◌, ◌++◌, map, length, Option, Some, None, option_map, IfSome, slice_get, unwrap_or, append_assoc, append-nil, length-append}
 use Rattle.std.specs.List.{AllByRecursion}
 use Rattle.std.proofs.lemmas.Bool.{cases_lt}
 use Rattle.std.proofs.lemmas.Option.{slice_get_past}
@@ -12,15 +12,16 @@ use Rattle.comp_meaning.specs.Follow.{definition, is_key}
 use Rattle.comp_read.specs.declared.refusal.Refusal.{Refusal}
 use Rattle.comp_read.specs.declared.slots.Slot.{Slot}
 use Rattle.comp_read.specs.declared.slots.Slot.TheVariants as slots
-use Rattle.comp_read.specs.Defining.{ArePlacedBelow, Grows, IsDefined, IsPlacedBelow, IsUndefined}
+use Rattle.comp_read.specs.Defining.{AddsForms, ArePlacedBelow, Grows, IsDefined, IsPlacedBelow, IsUndefined}
 use Rattle.comp_read.specs.DefinitionKeys.{HasNoKeys, IsNodeOf}
 use Rattle.comp_read.specs.Found.{Refuses}
 use Rattle.comp_read.specs.Functions.{functions_in, param_tree, signature_in, AreApart, AreFunctionsIn, FunctionShape, IsFunctionIn}
 use Rattle.comp_read.specs.Slots.{slots_in, AreInRange, AreNames}
-use Rattle.read_plan.specs.Shapes.{Shape, form_code, part_tree, shape_tree, shape_trees, Adds, stays, comes, IsShape, a_name, a_node, IsTable}
-use Rattle.read_plan.proofs.ShapeLaws.{name_tree, node_tree, one_number, part_behind, slice_there, tree_at_number}
+use Rattle.read_plan.specs.PlanRules.{is_form}
+use Rattle.read_plan.specs.Shapes.{Shape, code, form_code, form_of, named_shape, node_shape, part_tree, shape_tree, shape_trees, Adds, stays, comes, IsShape, a_name, a_node, IsTable}
+use Rattle.read_plan.proofs.ShapeLaws.{form_back, name_tree, node_tree, one_number, part_behind, slice_there, tree_at_number}
 use Rattle.comp_read.proofs.WholeLaws.{all_end}
-use Rattle.comp_read.proofs.TableGrowth.{found_below, part_kept, trees_length, trees_more}
+use Rattle.comp_read.proofs.TableGrowth.{found_below, last_or, part_kept, trees_length, trees_more}
 
 -- ---- lists that grow
 
@@ -42,6 +43,19 @@ pub adds_placed : (m : ℕ) (old new : List Shape) (s : Shape) → Adds old s ne
 adds_placed m old new s stays placed one = placed
 adds_placed m old new s (comes fresh) placed one = all_end (IsPlacedBelow m) old s placed one
 
+-- where no name comes into a table, each stood there
+adds_no_name : (old new : List Shape) (s : Shape) → Adds old s new → (s.sort ≡ 0 → ⊥) → (k q : ℕ) (name : Text) → slice_get new k ≡ Some (named_shape q name) → k < length old
+adds_no_name old new s stays formed k q name e = found_below old k (named_shape q name) e
+adds_no_name old new s (comes fresh) formed k q name e = elim (last_or old s k (named_shape q name) e) [
+  | inl h ↦ h.0
+  | inr h ↦ absurd (formed (ap (λ (x : Shape). x.sort) h.1))
+]
+
+-- either nothing came, or the shape is the last
+pub adds_cases : (old new : List Shape) (s : Shape) → Adds old s new → (new ≡ old) ⊎ (new ≡ old ++ s ∷ [])
+adds_cases old new s stays = inl refl
+adds_cases old new s (comes fresh) = inr refl
+
 -- no form has the number of a name
 no_name : (f : Form) → (form_code f).sort ≡ 0 → ⊥
 no_name (Form.record_of names) e = cc
@@ -58,6 +72,36 @@ no_name (Form.enum_of names) e = cc
 no_name (Form.result_of ok err) e = cc
 no_name (Form.future_of some) e = cc
 no_name (Form.stream_of some) e = cc
+
+-- where nothing comes into it
+pub no_shapes : (ss : List Shape) → AddsForms ss ss
+no_shapes ss = record { names = λ n q name e. found_below ss n (named_shape q name) e; formed = λ n form parts e. inl (found_below ss n (node_shape form parts) e) }
+
+-- a shape is of one form
+form_same : (f g : Form) (ks js : List ℕ) → node_shape f ks ≡ node_shape g js → f ≡ g
+form_same f g ks js e = sym (form_back f) ∙ (ap (λ (s : Shape). form_of (code s.sort s.number s.labels)) e ∙ form_back g)
+
+-- each form that comes into a table is one that may
+adds_formed : (old new : List Shape) (s : Shape) → Adds old s new → (f : Form) (ks : List ℕ) → s ≡ node_shape f ks → is_form f ks ≡ true
+    → (n : ℕ) (form : Form) (parts : List ℕ) → slice_get new n ≡ Some (node_shape form parts) → (n < length old) ⊎ (is_form form parts ≡ true)
+adds_formed old new s stays f ks is formed n form parts e = inl (found_below old n (node_shape form parts) e)
+adds_formed old new s (comes fresh) f ks is formed n form parts e = elim (last_or old s n (node_shape form parts) e) [
+  | inl h ↦ inl h.0
+  | inr h ↦
+      let same : node_shape f ks ≡ node_shape form parts = sym is ∙ h.1 in
+      inr (sym (λ i. is_form (form_same f form ks parts same i) (ap (λ (x : Shape). x.parts) same i)) ∙ formed)
+]
+
+-- where a name comes into it
+pub adds_name : (old new : List Shape) (p : ℕ) (name : Text) → Adds old (named_shape p name) new
+    → (n : ℕ) (form : Form) (parts : List ℕ) → slice_get new n ≡ Some (node_shape form parts) → (n < length old) ⊎ (is_form form parts ≡ true)
+adds_name old new p name adds n form parts e = elim (adds_cases old new (named_shape p name) adds) [
+  | inl same ↦ inl (found_below old n (node_shape form parts) (ap (λ (zs : List Shape). slice_get zs n) (sym same) ∙ e))
+  | inr came ↦ elim (last_or old (named_shape p name) n (node_shape form parts) (ap (λ (zs : List Shape). slice_get zs n) (sym came) ∙ e)) [
+    | inl h ↦ inl h.0
+    | inr h ↦ absurd (no_name form (ap (λ (x : Shape). x.sort) (sym h.1)))
+  ]
+]
 
 pub longer : {X : Type 0} (old new : List X) → Grows old new → length old ≤ length new
 longer old new g = let long : length new ≡ length old + length g.more = ap length g.is ∙ length-append old g.more in omega (arith, long)
@@ -135,6 +179,7 @@ part_defined ss old new d k small is found = record {
   grown = same_list ss;
   count = omega arith;
   placed = λ m placed. placed;
+  forms = no_shapes ss;
   found = λ place F named. found (shape_trees place ss) F;
 }
 
@@ -151,6 +196,10 @@ key_defined ss more old new d s n table wider ranges node at adds is =
       grown = grown;
       count = adds_one ss more s adds;
       placed = λ m placed. adds_placed m ss more s adds placed (λ none. absurd (no_name node.form (sym (ap (λ (x : Shape). x.sort) node.shape) ∙ none)));
+      forms = record {
+        names = adds_no_name ss more s adds (λ none. absurd (no_name node.form (sym (ap (λ (x : Shape). x.sort) node.shape) ∙ none)));
+        formed = adds_formed ss more s adds node.form node.parts node.shape node.formed;
+      };
       found = λ place F named.
           let T = shape_trees place ss in
           let U = shape_trees place more in

@@ -1,11 +1,12 @@
 -- The key of each form, from the parts that its indexes stand for.
-use Rattle.std.proofs.Common.{◌≡◌, refl, sym, ap, ◌∙◌, subst, ℕ, ◌+◌, ◌<◌, ◌≤◌, arith, inl, inr, Bool, true, false, List, [], ◌∷◌, ◌++◌, map, length, Option, Some, None, Result, Ok, Err, IfOk, IfSome, IsOkUnless, is_some, option_map, option_to_list, unwrap_or, slice_get}
+use Rattle.std.proofs.Common.{◌≡◌, refl, sym, ap, ◌∙◌, subst, ℕ, zero, suc, ◌&&◌, ◌+◌, ◌<◌, ◌≤◌, arith, inl, inr, Bool, true, false, List, [], ◌∷◌, ◌++◌, map, length, Option, Some, None, Result, Ok, Err, IfOk, IfSome, IsOkUnless, is_some, option_map, option_to_list, unwrap_or, slice_get}
 use Rattle.std.specs.Prelude.{nat_le}
+use Rattle.std.specs.Option.{option_map_or}
 use Rattle.std.specs.List.{AllByRecursion}
-use Rattle.std.proofs.lemmas.Bool.{le-leb, lt-leb}
+use Rattle.std.proofs.lemmas.Bool.{le-leb, lt-leb, lt-ltb}
 use Rattle.std.proofs.lemmas.Option.{slice_get_past}
 use Rattle.wit_model.specs.Meaning.{Signature}
-use Rattle.wit_model.specs.Tree.{Form, Tree, children, fixed_list_tree, future_tree, map_tree, result_tree, stream_tree}
+use Rattle.wit_model.specs.Tree.{Form, Primitive, Tree, children, fixed_list_tree, future_tree, map_tree, result_tree, stream_tree}
 use Rattle.wit_model.specs.Types.{no_tree}
 use Rattle.comp_bytes.specs.declared.forms.ComponentDefinedType.{ComponentDefinedType}
 use Rattle.comp_bytes.specs.declared.forms.ComponentDefinedType.TheVariants as forms
@@ -19,6 +20,7 @@ use Rattle.comp_read.specs.declared.refusal.Refusal.{Refusal}
 use Rattle.comp_read.specs.declared.refusal.Refusal.TheVariants as refusals
 use Rattle.comp_read.specs.declared.slots.Slot.{Slot}
 use Rattle.comp_read.specs.Found.{Refuses}
+use Rattle.read_plan.specs.PlanRules.{is_form as formed_by, is_key_part}
 use Rattle.read_plan.specs.Shapes.{node_shape, part_tree, primitives, one_mark, two_marks}
 use Rattle.comp_read.specs.KeyShapes.{shape_of}
 use Rattle.comp_read.specs.Slots.{slots_in, AreInRange, AreNames}
@@ -66,22 +68,31 @@ key_part T apart k = elim (split_part k) [
       ap (λ m. is_key (part_tree T m)) n.1 ∙ (apart n.0 ∙ sym (ap (λ o. unwrap_or o false) (slice_get_past key_marks k past)))
 ]
 
+-- whether it may be the key of a map, by its number
+key_begins : (k : ℕ) → is_key_part k ≡ unwrap_or (slice_get key_marks k) false
+key_begins k = by primitives k
+  where
+    by : (ps : List Primitive) (n : ℕ) → option_map_or is_key_primitive (slice_get ps n) false ≡ unwrap_or (slice_get (map is_key_primitive ps) n) false
+    by [] n = refl
+    by (p ∷ ps) zero = refl
+    by (p ∷ ps) (suc n) = by ps n
+
 module _ (ss : List Slot) where
   -- what a key over such parts was made of
   pub passed : (d : DefinedType) (r : Result Key Refusal) (f : Form) (ks : List ℕ) → IfOk r (λ k. shape_of k ≡ node_shape f ks) → IsOkUnless r refusals.Memory
-      → ((n : ℕ) → AreInRange n ss → AllByRecursion (λ k. k < 14 + n) ks)
+      → ((n : ℕ) → AreInRange n ss → AllByRecursion (λ k. k < 14 + n) ks) → formed_by f ks ≡ true
       → ((T : List Tree) (F : List Signature) → AreNames T ss → HasNoKeys T → definition (slots_in T F ss) d ≡ Some (Tree.node f (children (map (part_tree T) ks)))) → IsKeyOf ss d r
-  passed d (Ok k) f ks shape memory ranges found = record { form = f; parts = ks; shape = shape; ranges = ranges; found = found }
-  passed d (Err refusals.Memory) f ks shape memory ranges found = λ T F named apart. tt
-  passed d (Err (refusals.Absent cause left)) f ks shape memory ranges found = absurd (let wrong : refusals.Absent cause left ≡ refusals.Memory = memory in cc)
+  passed d (Ok k) f ks shape memory ranges formed found = record { form = f; parts = ks; shape = shape; ranges = ranges; formed = formed; found = found }
+  passed d (Err refusals.Memory) f ks shape memory ranges formed found = λ T F named apart. tt
+  passed d (Err (refusals.Absent cause left)) f ks shape memory ranges formed found = absurd (let wrong : refusals.Absent cause left ≡ refusals.Memory = memory in cc)
 
   module _ (d : DefinedType) (f : Form) (source : List Tree → List Signature → Option Tree)
       (is : (T : List Tree) (F : List Signature) → definition (slots_in T F ss) d ≡ (source T F >>= λ t. Some (Tree.node f (children (t ∷ []))))) where
     -- a form over one part
-    pub one_key : (part : ℕ) (r : Result Key Refusal) → IfOk r (λ k. shape_of k ≡ node_shape f (part ∷ [])) → IsOkUnless r refusals.Memory → ((n : ℕ) → AreInRange n ss → part < 14 + n)
+    pub one_key : (part : ℕ) (r : Result Key Refusal) → IfOk r (λ k. shape_of k ≡ node_shape f (part ∷ [])) → IsOkUnless r refusals.Memory → ((n : ℕ) → AreInRange n ss → part < 14 + n) → formed_by f (part ∷ []) ≡ true
         → ((T : List Tree) (F : List Signature) → AreNames T ss → source T F ≡ Some (part_tree T part)) → IsKeyOf ss d r
-    one_key part r shape memory range found =
-        passed d r f (part ∷ []) shape memory (λ n ranges. (range n ranges, tt)) (λ T F named apart. is T F ∙ ap (λ o. o >>= λ t. Some (Tree.node f (children (t ∷ [])))) (found T F named))
+    one_key part r shape memory range formed found =
+        passed d r f (part ∷ []) shape memory (λ n ranges. (range n ranges, tt)) formed (λ T F named apart. is T F ∙ ap (λ o. o >>= λ t. Some (Tree.node f (children (t ∷ [])))) (found T F named))
 
     pub one_refused : (e : Refusal) → ((T : List Tree) (F : List Signature) → AreNames T ss → Refuses e (source T F)) → IsKeyOf ss d (Err e)
     one_refused e r = λ T F named apart.
@@ -95,6 +106,9 @@ module _ (ss : List Slot) where
   pub no_fixed_list : (v : ComponentValType) (n : ℕ) → n ≡ 0 → (T : List Tree) (F : List Signature) → definition (slots_in T F ss) (DefinedType.fixed_length_list_of v n) ≡ None
   no_fixed_list v n none T F = or_none (value_type (slots_in T F ss) v) (λ t. provided (nat_le 1 n) (fixed_list_tree t n)) (λ t. ap (λ b. provided b (fixed_list_tree t n)) (lt-leb 1 n (omega (arith, none))))
 
+  pub fixed_formed : (n part : ℕ) → (n ≡ 0 → ⊥) → n < 4294967296 → formed_by (Form.fixed_list_of n) (part ∷ []) ≡ true
+  fixed_formed n part some small = λ i. le-leb 1 n (omega (arith, some)) i && lt-ltb n 4294967296 small i
+
   module _ (v w : Option ComponentValType) where
     abbrev both : List Tree → List Signature → Option (Option Tree) → Option (Option Tree) → Option Tree
     both T F o e = o >>= λ x. e >>= λ y. Some (result_tree x y)
@@ -106,7 +120,7 @@ module _ (ss : List Slot) where
     result_key_is p q number r marks shape memory hp hq fp fq =
         passed (DefinedType.result_of v w) r (Form.result_of (is_some p) (is_some q)) (option_to_list p ++ option_to_list q)
         (subst (λ (m : ℕ). IfOk r (λ k. shape_of k ≡ record { sort = 12; number = m; labels = []; parts = option_to_list p ++ option_to_list q })) marks shape)
-        memory (two_in ss p q hp hq) (λ T F named apart. (λ i. both T F (fp T F i) (fq T F i)) ∙ ap Some (two_tree T p q))
+        memory (two_in ss p q hp hq) refl (λ T F named apart. (λ i. both T F (fp T F i) (fq T F i)) ∙ ap Some (two_tree T p q))
 
     pub no_ok : (e : Refusal) → ((T : List Tree) (F : List Signature) → Refuses e (given (value_type (slots_in T F ss)) v)) → IsKeyOf ss (DefinedType.result_of v w) (Err e)
     no_ok e r = λ T F named apart.
@@ -124,7 +138,7 @@ module _ (ss : List Slot) where
     future_key_is p number r mark shape memory hp fp =
         passed (DefinedType.future_of v) r (Form.future_of (is_some p)) (option_to_list p ++ [])
         (subst (λ (m : ℕ). IfOk r (λ k. shape_of k ≡ record { sort = 13; number = m; labels = []; parts = option_to_list p ++ [] })) mark shape)
-        memory (two_in ss p None hp tt) (λ T F named apart. ap (λ o. o >>= λ t. Some (future_tree t)) (fp T F) ∙ ap Some (future_part T p))
+        memory (two_in ss p None hp tt) refl (λ T F named apart. ap (λ o. o >>= λ t. Some (future_tree t)) (fp T F) ∙ ap Some (future_part T p))
 
     pub stream_key_is : (p : Option ℕ) (number : ℕ) (r : Result Key Refusal) → number ≡ one_mark (is_some p)
         → IfOk r (λ k. shape_of k ≡ record { sort = 14; number = number; labels = []; parts = option_to_list p ++ [] }) → IsOkUnless r refusals.Memory → IsIn ss p
@@ -132,7 +146,7 @@ module _ (ss : List Slot) where
     stream_key_is p number r mark shape memory hp fp =
         passed (DefinedType.stream_of v) r (Form.stream_of (is_some p)) (option_to_list p ++ [])
         (subst (λ (m : ℕ). IfOk r (λ k. shape_of k ≡ record { sort = 14; number = m; labels = []; parts = option_to_list p ++ [] })) mark shape)
-        memory (two_in ss p None hp tt) (λ T F named apart. ap (λ o. o >>= λ t. Some (stream_tree t)) (fp T F) ∙ ap Some (stream_part T p))
+        memory (two_in ss p None hp tt) refl (λ T F named apart. ap (λ o. o >>= λ t. Some (stream_tree t)) (fp T F) ∙ ap Some (stream_part T p))
 
     pub no_future : (e : Refusal) → ((T : List Tree) (F : List Signature) → Refuses e (given (value_type (slots_in T F ss)) v)) → IsKeyOf ss (DefinedType.future_of v) (Err e)
     no_future e r = λ T F named apart.
@@ -155,7 +169,7 @@ module _ (ss : List Slot) where
       pub map_key_is : b ≡ true → (r : Result Key Refusal) → IfOk r (λ x. shape_of x ≡ node_shape Form.map_of (p ∷ q ∷ [])) → IsOkUnless r refusals.Memory
           → ((n : ℕ) → AreInRange n ss → p < 14 + n) → ((n : ℕ) → AreInRange n ss → q < 14 + n) → IsKeyOf ss (DefinedType.map_of k v) r
       map_key_is may r shape memory hp hq =
-          passed (DefinedType.map_of k v) r Form.map_of (p ∷ q ∷ []) shape memory (λ n ranges. (hp n ranges, (hq n ranges, tt)))
+          passed (DefinedType.map_of k v) r Form.map_of (p ∷ q ∷ []) shape memory (λ n ranges. (hp n ranges, (hq n ranges, tt))) (key_begins p ∙ (sym test ∙ may))
           (λ T F named apart. mapped T F p q true (fp T F) (fq T F) (key_part T apart p ∙ (sym test ∙ may)))
 
       pub no_key : b ≡ false → (T : List Tree) (F : List Signature) → HasNoKeys T → definition (slots_in T F ss) (DefinedType.map_of k v) ≡ None

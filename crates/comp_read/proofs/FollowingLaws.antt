@@ -18,15 +18,18 @@ use Rattle.comp_read.specs.declared.slots.Slot.{Slot}
 use Rattle.comp_read.specs.declared.slots.Slot.TheVariants as slots
 use Rattle.comp_read.specs.declared.views.ShownFunction.{ShownFunction}
 use Rattle.comp_read.specs.declared.views.ShownType.{ShownType}
-use Rattle.comp_read.specs.Defining.{Grows, IsDefined, IsDefinedFunction, IsUndefined}
-use Rattle.comp_read.specs.Following.{declared_in, scope_at, shown_function, shown_type, signatures_at, slots_at, trees_at, view_at, AreSlotsIn, AreTables, Halts, IsNamePart, IsShownFunctionIn, IsShownIn, IsSlotIn, IsState, State, Steps}
+use Rattle.comp_read.specs.Defining.{AddsForms, Grows, IsDefined, IsDefinedFunction, IsUndefined}
+use Rattle.comp_read.specs.Following.{declared_in, scope_at, shown_function, shown_type, signatures_at, slots_at, trees_at, view_at, AreSlotsIn, AreTables, Halts, IsNamePart, IsPlacedState, IsShownFunctionIn, IsShownIn, IsSlotIn, IsState, State, Steps}
 use Rattle.comp_read.specs.Found.{Refuses}
 use Rattle.comp_read.specs.Functions.{functions_in, signature_in, AreFunctionsIn, FunctionShape, IsFunctionIn, Joins, stays, comes}
+use Rattle.comp_read.specs.Placed.{apart, MayMeet, SignatureOver, SlotOver, ViewOver}
 use Rattle.comp_read.specs.Slots.{no_signature, resource_slot, slot_in, slots_in, AreInRange, AreNames, IsName}
 use Rattle.read_plan.specs.Shapes.{Shape, named_shape, part_tree, shape_trees, IsTable}
 use Rattle.read_plan.proofs.ShapeLaws.{name_tree, part_behind, slice_front, tree_at_number}
 use Rattle.comp_read.proofs.AddLaws.{mapped_get}
-use Rattle.comp_read.proofs.DefiningLaws.{functions_grown, longer, one_longer, part_grown, same_list}
+use Rattle.comp_read.proofs.DefiningLaws.{functions_grown, longer, no_shapes, one_longer, part_grown, same_list}
+use Rattle.comp_read.proofs.OverLaws.{definition_over, signature_over}
+use Rattle.comp_read.proofs.PlacedLaws.{same_types}
 use Rattle.comp_read.proofs.Refusing.{refused}
 use Rattle.comp_read.proofs.TableGrowth.{found_below, no_types}
 use Rattle.comp_read.proofs.WholeLaws.{all_end}
@@ -201,6 +204,14 @@ module _ (m : ℕ) (old : State) (st : IsState m old) (more : List Shape) (more_
         (λ i. record { slots = slot_last place i; shown = view_at place (with_slots ss) old.types old.functions })
         ∙ ap (in_instance (slot_in (shape_trees place more) (functions_in (shape_trees place more) more_fs) s)) (scope_stays place)
 
+    pub pushed_placed : (marks : List Bool) (before : List Shape) (here : ℕ) → IsPlacedState marks before here old → SlotOver (MayMeet marks here) (slot_in (shape_trees apart more) (functions_in (shape_trees apart more) more_fs) s)
+        → AddsForms old.shapes more → IsPlacedState marks before here (with_slots ss)
+    pushed_placed marks before here p one forms =
+        let meant = pushed_scope apart in
+        same_types marks before here old (with_slots ss) p gs
+        (subst (λ (xs : List Meant). AllByRecursion (SlotOver (MayMeet marks here)) xs) (sym (ap (λ (x : MeantScope). x.slots) meant)) (all_end (SlotOver (MayMeet marks here)) (scope_at apart old).slots (slot_in (shape_trees apart more) (functions_in (shape_trees apart more) more_fs) s) p.slots one))
+        (subst (λ (v : follow.View). ViewOver (MayMeet marks here) v) (sym (ap (λ (x : MeantScope). x.shown) meant)) p.shown) refl forms
+
     -- a type that is shown with it
     module _ (t : ShownType) (shown : IsShownIn more more_fs t) (ts : List ShownType) (last : ts ≡ old.types ++ t ∷ []) where
       abbrev with_type : State
@@ -238,7 +249,7 @@ module _ (marks : List Bool) (old : State) (st : IsState (length marks) old) (he
   step_of d place scope = instance_step (place here) (outer place) scope d
 
   pub defined_step : (d : DefinedType) (more : List Shape) (ss : List Slot) → IsTable more → IsDefined old.shapes old.slots d more ss
-      → Steps marks 1 (step_of (Declaration.defined d)) old (record { shapes = more; signatures = old.signatures; slots = ss; types = old.types; functions = old.functions })
+      → Steps marks here 1 (step_of (Declaration.defined d)) old (record { shapes = more; signatures = old.signatures; slots = ss; types = old.types; functions = old.functions })
   defined_step d more ss table is =
       let tables : AreTables (length marks) more old.signatures = record {
         table = table;
@@ -250,6 +261,10 @@ module _ (marks : List Bool) (old : State) (st : IsState (length marks) old) (he
         shapes_grow = is.grown;
         signatures_grow = same_list old.signatures;
         count = is.count;
+        placed = λ before p.
+            pushed_placed (length marks) old st more old.signatures is.grown (same_list old.signatures) tables (slots.Value is.part) is.range ss is.next marks before here p
+            (definition_over (MayMeet marks here) (slots_at apart old old.slots) p.slots d (part_tree (shape_trees apart more) is.part) (is.found apart (signatures_at apart old) (names_of apart old.shapes old.signatures old.slots st.tables.table st.slots)))
+            is.forms;
         follows = λ place marked.
             ap (λ o. o >>= λ t. Some (in_instance (follow.value t) (scope_at place old))) (is.found place (signatures_at place old) (names_of place old.shapes old.signatures old.slots st.tables.table st.slots))
             ∙ ap Some (sym (pushed_scope (length marks) old st more old.signatures is.grown (same_list old.signatures) tables (slots.Value is.part) is.range ss is.next place));
@@ -262,7 +277,7 @@ module _ (marks : List Bool) (old : State) (st : IsState (length marks) old) (he
       (r place (signatures_at place old) (names_of place old.shapes old.signatures old.slots st.tables.table st.slots))
 
   pub function_step : (f : FunctionType) (more_fs : List FunctionShape) (ss : List Slot) → IsDefinedFunction old.signatures old.slots f more_fs ss
-      → Steps marks 1 (step_of (Declaration.function f)) old (record { shapes = old.shapes; signatures = more_fs; slots = ss; types = old.types; functions = old.functions })
+      → Steps marks here 1 (step_of (Declaration.function f)) old (record { shapes = old.shapes; signatures = more_fs; slots = ss; types = old.types; functions = old.functions })
   function_step f more_fs ss is =
       let inside : is.number < length more_fs = found_below more_fs is.number is.shape is.at in
       let grows = joins_grow old.signatures more_fs is.shape is.joins in
@@ -276,6 +291,11 @@ module _ (marks : List Bool) (old : State) (st : IsState (length marks) old) (he
         shapes_grow = same_list old.shapes;
         signatures_grow = grows;
         count = omega arith;
+        placed = λ before p.
+            pushed_placed (length marks) old st old.shapes more_fs (same_list old.shapes) grows tables (slots.Function is.number) inside ss is.next marks before here p
+            (subst (λ (s : Signature). SignatureOver (MayMeet marks here) s) (sym (ap (λ o. unwrap_or o no_signature) (mapped_get (signature_in (trees_at apart old)) more_fs is.number is.shape is.at)))
+            (signature_over (MayMeet marks here) (slots_at apart old old.slots) p.slots f (signature_in (trees_at apart old) is.shape) (is.found (trees_at apart old) (signatures_at apart old))))
+            (no_shapes old.shapes);
         follows = λ place marked.
             ap (λ o. o >>= λ s. Some (in_instance (follow.function s) (scope_at place old))) (is.found (trees_at place old) (signatures_at place old))
             ∙ (ap (λ s. Some (in_instance (follow.function s) (scope_at place old)))
@@ -291,12 +311,13 @@ module _ (marks : List Bool) (old : State) (st : IsState (length marks) old) (he
 
 -- ---- the same step in other words
 
-pub steps_as : (marks : List Bool) (few : ℕ) (f g : (ℕ → Place) → MeantScope → Option MeantScope) (old new : State) → ((place : ℕ → Place) (scope : MeantScope) → g place scope ≡ f place scope) → Steps marks few f old new → Steps marks few g old new
-steps_as marks few f g old new same s = record {
+pub steps_as : (marks : List Bool) (here few : ℕ) (f g : (ℕ → Place) → MeantScope → Option MeantScope) (old new : State) → ((place : ℕ → Place) (scope : MeantScope) → g place scope ≡ f place scope) → Steps marks here few f old new → Steps marks here few g old new
+steps_as marks here few f g old new same s = record {
   state = s.state;
   shapes_grow = s.shapes_grow;
   signatures_grow = s.signatures_grow;
   count = s.count;
+  placed = s.placed;
   follows = λ place marked. same place (scope_at place old) ∙ s.follows place marked;
 }
 

@@ -15,7 +15,10 @@ pub mod JoinLaws
 pub mod KeyLaws
 pub mod LabelLaws
 pub mod LookUpLaws
+pub mod OverLaws
 pub mod PartTypeLaws
+pub mod PlacedLaws
+pub mod PlacedScopes
 pub mod PathLaws
 pub mod PlaceLaws
 pub mod Refusing

@@ -7,6 +7,7 @@ use Rattle.std.proofs.lemmas.Bool.{false≢true}
 use Rattle.std.proofs.lemmas.Grind.{flat_map-append}
 use Rattle.std.proofs.lemmas.List.{drop-map, drop_more, map-append}
 use Rattle.std.proofs.lemmas.List.Concat.{flat_map_single}
+use Rattle.wit_model.specs.Rules.{has_items}
 use Rattle.wit_model.specs.Text.{Text}
 use Rattle.wit_model.specs.Meaning.{Signature}
 use Rattle.wit_model.specs.Tree.{Form, Tree, child, children, given, is_given, record_tree, tuple_tree, variant_tree}
@@ -14,6 +15,8 @@ use Rattle.comp_bytes.specs.declared.forms.ComponentValType.{ComponentValType}
 use Rattle.comp_bytes.specs.Raw.{DefinedType, Labeled}
 use Rattle.comp_bytes.specs.RawOf.{labeled}
 use Rattle.comp_bytes.specs.Reading.{◌>>=◌}
+use Rattle.comp_bytes.proofs.PartLaws.{some_is}
+use Rattle.comp_bytes.proofs.Readers.{bind_some}
 use Rattle.comp_meaning.specs.Follow.{given as payload}
 use Rattle.comp_meaning.specs.Follow.{case_type, definition, each, field_type, is_filled, provided, value_type}
 use Rattle.comp_read.specs.declared.refusal.Refusal.{Refusal}
@@ -81,6 +84,26 @@ value_list : (ts : List Tree) → flat_map value_trees ts ≡ ts
 value_list [] = refl
 value_list (t ∷ ts) = ap (λ rest. t ∷ rest) (value_list ts)
 
+pub items_there : {A : Type 0} (xs : List A) → is_filled xs ≡ true → has_items xs ≡ true
+items_there [] e = e
+items_there (x ∷ xs) e = refl
+
+-- what is found for some rows is some
+rows_filled : {A Y : Type 0} (f : A → Option Y) (rows : List A) (ys : List Y) → each f rows ≡ Some ys → is_filled rows ≡ true → is_filled ys ≡ true
+rows_filled f [] ys e h = absurd (false≢true h)
+rows_filled f (x ∷ xs) ys e h =
+    let first = bind_some (f x) (λ y. each f xs >>= λ zs. Some (y ∷ zs)) ys e in
+    let more = bind_some (each f xs) (λ zs. Some (first.0 ∷ zs)) ys first.2 in
+    ap is_filled (sym (some_is (first.0 ∷ more.0) ys more.2))
+
+flat_items : {X Y : Type 0} (f : X → Y) (xs : List X) → is_filled xs ≡ true → has_items (flat_map (λ x. f x ∷ []) xs) ≡ true
+flat_items f [] h = h
+flat_items f (x ∷ xs) h = refl
+
+mapped_items : {X Y : Type 0} (f : X → Y) (xs : List X) → has_items (map f xs) ≡ has_items xs
+mapped_items f [] = refl
+mapped_items f (x ∷ xs) = refl
+
 module _ (ss : List Slot) (ks : List ℕ) (ranges : (n : ℕ) → AreInRange n ss → AllByRecursion (λ k. k < 14 + n) ks) where
   pub record_is : (fields : List (Labeled ComponentValType)) (labels : List (Text × Bool)) → is_filled fields ≡ true
       → ((T : List Tree) (F : List Signature) → RowsOf (field_type (slots_in T F ss)) field_labels field_trees fields labels (map (part_tree T) ks))
@@ -93,6 +116,7 @@ module _ (ss : List Slot) (ks : List ℕ) (ranges : (n : ℕ) → AreInRange n s
         parts = ks;
         shape = λ i. record { sort = 1; number = 0; labels = marks i; parts = ks };
         ranges = ranges;
+        formed = mapped_items (λ (l : Text × Bool). l.0) labels ∙ (ap has_items (sym first.labels_are) ∙ flat_items (λ (f : Text × Tree). (f.0, true)) first.ys (rows_filled (field_type (slots_in [] [] ss)) fields first.ys first.found filled));
         found = λ T F named apart.
             let r = rows T F in
             let names : map (λ f. f.0) r.ys ≡ map (λ l. l.0) labels = field_names r.ys ∙ ap (map (λ l. l.0)) r.labels_are in
@@ -109,6 +133,7 @@ module _ (ss : List Slot) (ks : List ℕ) (ranges : (n : ℕ) → AreInRange n s
     parts = ks;
     shape = refl;
     ranges = ranges;
+    formed = (let first = rows [] [] in ap has_items (sym first.labels_are) ∙ flat_items (λ (c : Text × Option Tree). (c.0, is_given c.1)) first.ys (rows_filled (case_type (slots_in [] [] ss)) cases first.ys first.found filled));
     found = λ T F named apart.
         let r = rows T F in
         let names : map (λ c. (c.0, is_given c.1)) r.ys ≡ labels = sym (flat_map_single (λ c. (c.0, is_given c.1)) r.ys) ∙ r.labels_are in
@@ -125,6 +150,7 @@ module _ (ss : List Slot) (ks : List ℕ) (ranges : (n : ℕ) → AreInRange n s
     parts = ks;
     shape = λ i. record { sort = 9; number = 0; labels = none i; parts = ks };
     ranges = ranges;
+    formed = (let first = rows [] [] in sym (mapped_items (part_tree []) ks) ∙ (ap has_items (sym first.trees_are) ∙ flat_items (λ (t : Tree). t) first.ys (rows_filled (value_type (slots_in [] [] ss)) vs first.ys first.found filled)));
     found = λ T F named apart.
         let r = rows T F in
         let ts : r.ys ≡ map (part_tree T) ks = sym (value_list r.ys) ∙ r.trees_are in

@@ -20,7 +20,7 @@ use Rattle.comp_read.specs.Defining.{Grows}
 use Rattle.comp_read.specs.Following.{AreSlotsIn, AreTables, IsShownFunctionIn, IsShownIn, IsSlotIn}
 use Rattle.comp_read.specs.Functions.{functions_in, FunctionShape}
 use Rattle.comp_read.specs.Places.{key_at, ArePlacesOf, IsKeyIn}
-use Rattle.comp_read.specs.Scopes.{direction, instance_in, meant_at, seen_in, shown_in, view_in, viewed, waiting, AreSeenIn, Goes, IsInstanceIn, IsShownAs, IsWorld, World}
+use Rattle.comp_read.specs.Scopes.{direction, instance_in, meant_at, seen_in, shown_in, view_in, viewed, waiting, AreSeenIn, Goes, IsInstanceIn, IsPlacedWorld, IsShownAs, IsWorld, World}
 use Rattle.comp_read.specs.Slots.{no_signature, slot_in, slots_in}
 use Rattle.read_plan.specs.Shapes.{Shape, shape_trees}
 use Rattle.read_plan.proofs.ShapeLaws.{slice_front}
@@ -41,7 +41,7 @@ key_wider paths more g k h = by k h
     by (keys.Label l p) h = stays p None h
     by (keys.Implementing l p) h = (h.0, stays p (Some h.0) h.1)
 
-all_both : {A : Type 0} (P : A → Type 0) (xs ys : List A) → AllByRecursion P xs → AllByRecursion P ys → AllByRecursion P (xs ++ ys)
+pub all_both : {A : Type 0} (P : A → Type 0) (xs ys : List A) → AllByRecursion P xs → AllByRecursion P ys → AllByRecursion P (xs ++ ys)
 all_both P [] ys h g = g
 all_both P (x ∷ xs) ys h g = (h.0, all_both P xs ys h.1 g)
 
@@ -141,7 +141,7 @@ module _ (old : World) (st : IsWorld old) (more : List Shape) (more_fs : List Fu
     abbrev pub G : List Signature
     G = functions_in (shape_trees place more) more_fs
 
-    view_stays : (v : View) → AllByRecursion (IsShownIn old.shapes old.signatures) v.types.items → AllByRecursion (IsShownFunctionIn old.signatures) v.functions.items → view_in U G v ≡ view_in T F v
+    pub view_stays : (v : View) → AllByRecursion (IsShownIn old.shapes old.signatures) v.types.items → AllByRecursion (IsShownFunctionIn old.signatures) v.functions.items → view_in U G v ≡ view_in T F v
     view_stays v ht hf = λ i. record {
       types = types_stay m old.shapes more old.signatures more_fs st.tables gs gf place v.types.items ht i;
       functions = functions_stay m old.shapes more old.signatures more_fs st.tables gs gf place v.functions.items hf i;
@@ -188,18 +188,19 @@ module _ (old : World) (st : IsWorld old) (more : List Shape) (more_fs : List Fu
     }
 
   -- the step of the definition makes the scope that stands for it
-  pub goes_on : (few : ℕ) (step : MeantScope → Option MeantScope) (new : World) → new ≡ extended → IsWorld extended
+  pub goes_on : (few : ℕ) (step : MeantScope → Option MeantScope) (new : World) → new ≡ extended → IsWorld extended → ((base : List Shape) (places : ℕ) → IsPlacedWorld base places old → IsPlacedWorld base places extended)
       → length more + waiting (old.used ++ us) 0 (old.slots ++ ss) ≤ length old.shapes + waiting old.used 0 old.slots + few
       → ((place : ℕ → Place) → ArePlacesOf more_paths place
       → step (meant_at place old) ≡ Some (plus (meant_at place old) (slots_in (U place) (G place) ss) (map (instance_in place (U place) (G place)) xs)
       (map (seen_in place (U place) (G place) (old.instances ++ xs)) im) (map (seen_in place (U place) (G place) (old.instances ++ xs)) ex) us))
       → Goes few step old new
-  goes_on few step new e world count follows = subst (λ (w : World). Goes few step old w) (sym e) (record {
+  goes_on few step new e world placed count follows = subst (λ (w : World). Goes few step old w) (sym e) (record {
     world = world;
     shapes_grow = gs;
     signatures_grow = gf;
     paths_grow = gp;
     count = count;
+    placed = placed;
     follows = λ place of. follows place of ∙ ap Some (sym (extended_meant place));
   })
 

@@ -1,7 +1,8 @@
 -- What imports, exports and aliases of a component type show.
-use Rattle.std.proofs.Common.{◌≡◌, refl, sym, ap, ◌∙◌, subst, ℕ, ◌+◌, ◌<◌, arith, Bool, true, false, cond, List, [], ◌∷◌, ◌++◌, map, length, Option, Some, None, IfSome, slice_get, unwrap_or, Result, Ok, Err, OnOk}
+use Rattle.std.proofs.Common.{◌≡◌, ◌⊎◌, inl, inr, refl, sym, ap, ◌∙◌, subst, ℕ, ◌+◌, ◌<◌, ◌≤◌, arith, Bool, true, false, cond, List, [], ◌∷◌, ◌++◌, map, length, Option, Some, None, IfSome, slice_get, unwrap_or, Result, Ok, Err, OnOk}
 use Rattle.std.specs.List.{AllByRecursion}
 use Rattle.std.proofs.Math.ListN.{length-map}
+use Rattle.std.proofs.lemmas.Bool.{cases_lt}
 use Rattle.std.proofs.lemmas.List.{append-nil}
 use Rattle.wit_model.specs.Meaning.{Signature}
 use Rattle.wit_model.specs.Text.{Text}
@@ -13,26 +14,33 @@ use Rattle.comp_meaning.specs.Follow as follow
 use Rattle.comp_meaning.specs.Follow.{Scope as MeantScope, Seen as MeantSeen, Instance as MeantInstance, Key, Slot as Meant, View as MeantView, function_in, in_scope, interface_of, is_simple, key_text, named_type, provided, see, see_function, see_instance, see_type, used_view, when}
 use Rattle.comp_read.specs.declared.names.ExternName.{ExternName}
 use Rattle.comp_read.specs.declared.refusal.Refusal.{Refusal}
+use Rattle.comp_read.specs.declared.scopes.Instance.{Instance}
 use Rattle.comp_read.specs.declared.scopes.Seen.{Seen}
 use Rattle.comp_read.specs.declared.scopes.Shown.TheVariants as shown
 use Rattle.comp_read.specs.declared.shows.NewName.{NewName}
 use Rattle.comp_read.specs.declared.slots.Slot.{Slot}
 use Rattle.comp_read.specs.declared.slots.Slot.TheVariants as slots
+use Rattle.comp_read.specs.Defining.{Grows}
 use Rattle.comp_read.specs.ExternNames.{raw_name}
-use Rattle.comp_read.specs.Following.{AreTables, IsSlotIn, IsState, State}
+use Rattle.comp_read.specs.Following.{declared_in, AreTables, IsSlotIn, IsState, State}
 use Rattle.comp_read.specs.Found.{Refuses}
-use Rattle.comp_read.specs.Functions.{functions_in}
+use Rattle.comp_read.specs.Functions.{functions_in, IsFunctionIn}
 use Rattle.comp_read.specs.InstanceScopes.{name_meant, name_slot, named_by}
+use Rattle.comp_read.specs.Placed.{apart, DeclarationOver, MayMeet, SignatureOver, SlotOver}
 use Rattle.comp_read.specs.Places.{has_path}
-use Rattle.comp_read.specs.Scopes.{direction, meant_at, seen_in, waiting, world_signatures, world_trees, Goes, IsShownAs, IsWorld, Stops, World}
+use Rattle.comp_read.specs.Scopes.{direction, meant_at, seen_in, waiting, world_signatures, world_trees, Goes, IsCountedAs, IsImportNamed, IsImportRepeated, IsKeyPlaced, IsLastName, IsPlacedWorld, IsShownAs, IsShownBy, by_instance, by_import, IsWorld, ShownOver, Stops, World}
 use Rattle.comp_read.specs.Slots.{no_signature, slot_in, slots_in, AreInRange, AreNames}
-use Rattle.read_plan.specs.Shapes.{Shape, named_shape, shape_trees, Adds, IsTable}
-use Rattle.comp_read.proofs.DefiningLaws.{adds_grow, adds_one, adds_placed, all_at, longer, same_list}
+use Rattle.read_plan.specs.Shapes.{Shape, first_label, named_shape, node_shape, shape_trees, Adds, IsTable}
+use Rattle.comp_read.proofs.DefiningLaws.{adds_cases, adds_grow, adds_name, adds_one, adds_placed, all_at, longer, same_list}
 use Rattle.comp_read.proofs.FollowingLaws.{declared_stays, functions_wider, names_of}
+use Rattle.comp_read.proofs.OverLaws.{named_over}
+use Rattle.comp_read.proofs.PlacedLaws.{at_last, stands_on, stood}
+use Rattle.comp_read.proofs.PlacedScopes.{both_pass, counts_below, extended_placed, import_passes, imported_many, none_past, one_counted, seen_passes}
 use Rattle.comp_read.proofs.Refusing.{refused}
-use Rattle.comp_read.proofs.ScopeLaws.{exported, extended_world, goes_on, imported, plus, plus_seen, plus_type, waiting_push, waits}
-use Rattle.comp_read.proofs.ShowLaws.{declared_range, name_in, name_stands, old_range}
-use Rattle.comp_read.proofs.TableGrowth.{found_below}
+use Rattle.comp_read.proofs.ScopeLaws.{exported, extended, extended_world, goes_on, imported, plus, plus_seen, plus_type, waiting_push, waits}
+use Rattle.comp_read.proofs.ShowLaws.{declared_range, name_in, name_stands, old_range, own_over}
+use Rattle.comp_read.proofs.SlotLaws.{at_slot}
+use Rattle.comp_read.proofs.TableGrowth.{found_below, last_or}
 
 -- ---- results
 
@@ -107,6 +115,17 @@ module _ (old : World) (st : IsWorld old) (b : Bool) (name : ExternName) (n : �
         used = sym (append-nil old.used) i;
       }))
       (extended_world old st old.shapes old.signatures old.paths gs gf gp st.tables [] [] (imported b s) (exported b s) [] tt tt (all_imported (λ (x : Seen). IsShownAs old.shapes old.signatures old.paths (length (old.instances ++ [])) x.shown) b s inside) (all_exported (λ (x : Seen). IsShownAs old.shapes old.signatures old.paths (length (old.instances ++ [])) x.shown) b s inside))
+      (λ base places p.
+      let P = MayMeet (map has_path old.paths) old.home in
+      let T = world_trees apart old in
+      let F = world_signatures apart old in
+      let over : SignatureOver P (unwrap_or (slice_get F k) no_signature) = all_at (SlotOver P) (meant_at apart old).slots n (slot_in T F (slots.Function k)) p.slots (at_slot old.slots n T F (slots.Function k) at) in
+      let seen = seen_passes (λ (x : MeantSeen). ShownOver P x.shown) (seen_in apart T F (old.instances ++ [])) b s over in
+      let c = length old.shapes in
+      extended_placed old st old.shapes old.signatures old.paths gs gf gp st.tables [] [] (imported b s) (exported b s) [] base places (length old.shapes) p (imported b c) (length old.shapes) (omega arith) tt (λ j x at past. absurd (none_past old.instances j x at past))
+      seen.0 seen.1 (import_passes (λ (x : Seen). IsImportNamed old.shapes old.home x.shown) b s tt) (both_pass (λ (x : Seen). IsKeyPlaced (old.instances ++ []) x.shown) b s tt) (λ j q x low e. inl (found_below old.shapes j (named_shape q x) e)) (λ j form parts low e. inl (found_below old.shapes j (node_shape form parts) e)) (imported_many b c s)
+      (one_counted base places (length old.shapes) old p (extended old st old.shapes old.signatures old.paths gs gf gp st.tables [] [] (imported b s) (exported b s) []) b s c refl (omega arith) (omega arith)
+      (λ g here. all_at (IsFunctionIn (length old.shapes)) old.signatures k g st.tables.signatures here)))
       (let same : waiting (old.used ++ []) 0 (old.slots ++ []) ≡ waiting old.used 0 old.slots = (λ i. waiting (append-nil old.used i) 0 (append-nil old.slots i)) in omega (arith, same))
       (λ place of.
       let T = world_trees place old in
@@ -137,6 +156,73 @@ module _ (old : World) (st : IsWorld old) (name : ExternName) (kind : ComponentT
   type_stops paths e r place of = refused e (named_type (meant_at place old).slots Place.here name.text.now kind) (see_type (raw_name name) kind (meant_at place old))
       (λ none. ap (type_found (meant_at place old)) none)
       (r (world_trees place old) (world_signatures place old) Place.here name.text.now (names_of place old.shapes old.signatures old.slots st.tables.table st.slots))
+
+  -- the name that is imported, and how many types there are then
+  module _ (first : List Shape) (places : ℕ) (p : IsPlacedWorld first places old) (more : List Shape) (number : ℕ) (at : slice_get more number ≡ Some (named_shape old.home name.text.now)) where
+    module _ (new : World) (s : Seen) (d : Option ℕ) (last : new.imports ≡ old.imports ++ s ∷ []) where
+      type_names : new.home ≡ old.home → s.shown ≡ shown.Type name.text (14 + number) d → Adds old.shapes (named_shape old.home name.text.now) more → IsTable more
+          → (n q : ℕ) (x : Text) → n < length more → slice_get more n ≡ Some (named_shape q x) → (n < length old.shapes) ⊎ IsShownBy new q x (14 + n)
+      type_names own is adds table n q x low e = elim (adds_cases old.shapes more (named_shape old.home name.text.now) adds) [
+        | inl same ↦ inl (found_below old.shapes n (named_shape q x) (ap (λ (zs : List Shape). slice_get zs n) (sym same) ∙ e))
+        | inr came ↦ elim (last_or old.shapes (named_shape old.home name.text.now) n (named_shape q x) (ap (λ (zs : List Shape). slice_get zs n) (sym came) ∙ e)) [
+          | inl h ↦ inl h.0
+          | inr h ↦
+              let one : number ≡ n = table.apart number n (named_shape q x) (at ∙ ap Some h.1) e in
+              inr (by_import (length old.imports) s name.text d (ap (λ (zs : List Seen). slice_get zs (length old.imports)) last ∙ at_last old.imports s)
+              (is ∙ ap (λ m. shown.Type name.text (14 + m) d) one) (ap (λ (y : Shape). first_label y.labels) h.1) (ap (λ (y : Shape). y.number) (sym h.1) ∙ sym own))
+        ]
+      ]
+
+      type_counted : Grows old.shapes more → length more ≤ length old.shapes + 1 → IfSome d (λ k. k < 14 + length old.shapes)
+          → IsCountedAs new (p.counts ++ length more ∷ []) (length old.imports) (length more) (shown.Type name.text (14 + number) d)
+      type_counted gs one range = elim (cases_lt number (length old.shapes)) [ inl below ↦ inl (repeated below) | inr past ↦ inr (behind past) ]
+        where
+          no_path : (o : Option (Option Text)) (path : Text) → o ≡ Some None → o ≡ Some (Some path) → ⊥
+          no_path o path e f = cc
+
+          not_home : (j : ℕ) (x : Instance) → slice_get old.instances j ≡ Some x → x.place ≡ old.home → ⊥
+          not_home j x there is = elim (p.instances j x there).own [
+            | inl path ↦ no_path (slice_get old.paths old.home) path.0 st.own (ap (slice_get old.paths) (sym is) ∙ path.1)
+            | inr inline ↦ inline.not_home is
+          ]
+
+          from_shown : IsShownBy old old.home name.text.now (14 + number) → IsImportRepeated new.imports (length old.imports) name.text.now
+          from_shown (by_instance j x there is among) = absurd (not_home j x there is)
+          from_shown (by_import j y label o there is named own) = record {
+            number = j;
+            earlier = found_below old.imports j y there;
+            seen = y;
+            at = subst (λ (zs : List Seen). slice_get zs j ≡ Some y) (sym last) (stands_on old.imports (old.imports ++ s ∷ []) (record { more = s ∷ []; is = refl }) j y there);
+            label = label;
+            part = 14 + number;
+            declared = o;
+            is = is;
+            same = named;
+          }
+
+          repeated : number < length old.shapes → IsImportRepeated new.imports (length old.imports) name.text.now
+          repeated below =
+              let before = stood old.shapes more gs number (named_shape old.home name.text.now) below at in
+              elim (p.names number old.home name.text.now below before) [
+                | inl h ↦ absurd (p.fresh number name.text.now (stood first old.shapes p.grows number (named_shape old.home name.text.now) h before))
+                | inr by ↦ from_shown by
+              ]
+
+          declared_below : (o : Option ℕ) → length old.shapes ≤ number → IfSome o (λ k. k < 14 + length old.shapes) → IfSome o (λ k. k < 14 + number)
+          declared_below None past h = tt
+          declared_below (Some k) past h = omega (arith, h, past)
+
+          behind : length old.shapes ≤ number → IsLastName (p.counts ++ length more ∷ []) (length old.imports) (length more) (14 + number) d
+          behind past =
+              let inside = found_below more number (named_shape old.home name.text.now) at in
+              record {
+                last = omega (arith, inside, past, one);
+                declared = declared_below d past range;
+                others = λ i b e less.
+                    let was = p.many in
+                    let low = counts_below first places (length old.shapes) old p i b (stood p.counts (p.counts ++ length more ∷ []) (record { more = length more ∷ []; is = refl }) i b (omega (arith, less, was)) e) in
+                    omega (arith, low, inside, past);
+              }
 
   pub type_goes : (made : NewName) → IfSome made.declared (λ k. (n : ℕ) → AreInRange n old.slots → k < 14 + n)
       → ((T : List Tree) (F : List Signature) (place : Place) (x : Text) → AreNames T old.slots → named_type (slots_in T F old.slots) place x kind ≡ Some (named_by T place x made))
@@ -175,6 +261,23 @@ module _ (old : World) (st : IsWorld old) (name : ExternName) (kind : ComponentT
         used = sym (append-nil old.used) i;
       }))
       (extended_world old st more old.signatures old.paths gs gf gp tables (s ∷ []) [] (seen ∷ []) [] [] (inside, tt) tt (fits, tt) tt)
+      (λ first places p.
+      let P = MayMeet (map has_path old.paths) old.home in
+      let U = shape_trees apart more in
+      let G = functions_in U old.signatures in
+      let stands : slot_in U G s ≡ name_meant made.is_resource (apart old.home) name.text.now = ap (slot_in U G) is ∙ name_stands marks (base old) bs name old.home kind apart made.is_resource more number table at in
+      let same = declared_stays (length old.paths) old.shapes more old.signatures old.signatures st.tables gs gf apart made.declared (old_range marks (base old) bs name old.home kind made.declared range) in
+      let over : DeclarationOver P (declared_in U made.declared) = subst (λ d. DeclarationOver P d) (sym same)
+      (named_over P (meant_at apart old).slots p.slots (apart old.home) name.text.now kind (named_by (world_trees apart old) (apart old.home) name.text.now made)
+      (found (world_trees apart old) (world_signatures apart old) (apart old.home) name.text.now (names_of apart old.shapes old.signatures old.slots st.tables.table st.slots))) in
+      let c = length more in
+      let new = extended old st more old.signatures old.paths gs gf gp tables (s ∷ []) [] (seen ∷ []) [] [] in
+      extended_placed old st more old.signatures old.paths gs gf gp tables (s ∷ []) [] (seen ∷ []) [] [] first places (length old.shapes) p (c ∷ []) (length more) (omega arith)
+      (subst (λ x. SlotOver P x) (sym stands) (own_over marks (base old) bs name old.home kind made.is_resource), tt)
+      (λ j x e past. absurd (none_past old.instances j x e past)) (over, tt) tt (record { number = number; is = refl; at = at }, tt) ((tt, tt), tt)
+      (type_names first places p more number at new seen made.declared refl refl refl adds table) (λ n form parts low e. adds_name old.shapes more old.home name.text.now adds n form parts e) refl
+      (one_counted first places (length old.shapes) old p new true seen c refl le (omega arith)
+      (type_counted first places p more number at new seen made.declared refl gs (adds_one old.shapes more (named_shape old.home name.text.now) adds) (old_range marks (base old) bs name old.home kind made.declared range))))
       (let same = ap (λ us. waiting us 0 (old.slots ++ s ∷ [])) (append-nil old.used) in
       let push = waiting_push old.used 0 old.slots s in
       let light : waits s ≡ 0 = ap waits is ∙ no_wait made.is_resource (14 + number) in

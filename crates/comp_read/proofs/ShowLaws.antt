@@ -2,7 +2,7 @@
 use Rattle.std.proofs.Common.{◌≡◌, refl, sym, ap, ◌∙◌, subst, ℕ, ◌+◌, ◌<◌, ◌≤◌, arith, Bool, true, false, List, [], ◌∷◌, ◌++◌, map, length, Option, Some, None, IfSome, slice_get, unwrap_or}
 use Rattle.std.specs.List.{AllByRecursion}
 use Rattle.std.proofs.lemmas.List.{map-append}
-use Rattle.wit_model.specs.Meaning.{Signature}
+use Rattle.wit_model.specs.Meaning.{FunctionMeaning, Signature}
 use Rattle.wit_model.specs.Text.{Text}
 use Rattle.wit_model.specs.Tree as tree
 use Rattle.wit_model.specs.Tree.{Place, Tree}
@@ -20,14 +20,17 @@ use Rattle.comp_read.specs.declared.slots.Slot.TheVariants as slots
 use Rattle.comp_read.specs.declared.views.ShownFunction.{ShownFunction}
 use Rattle.comp_read.specs.declared.views.ShownType.{ShownType}
 use Rattle.comp_read.specs.ExternNames.{raw_name}
-use Rattle.comp_read.specs.Following.{scope_at, shown_function, signatures_at, slots_at, trees_at, AreTables, Halts, IsShownFunctionIn, IsShownIn, IsSlotIn, IsState, IsTypeSlot, State, Steps}
+use Rattle.comp_read.specs.Following.{declared_in, scope_at, shown_function, shown_type, signatures_at, slots_at, trees_at, AreTables, Halts, IsShownFunctionIn, IsShownIn, IsSlotIn, IsState, IsTypeSlot, State, Steps}
 use Rattle.comp_read.specs.Found.{Refuses}
 use Rattle.comp_read.specs.Functions.{functions_in}
 use Rattle.comp_read.specs.InstanceScopes.{name_meant, name_slot, named_by}
+use Rattle.comp_read.specs.Placed.{apart, slot_part, DeclarationOver, MayMeet, SlotOver, ViewOver}
 use Rattle.comp_read.specs.Slots.{no_signature, resource_slot, slot_in, slots_in, AreInRange, AreNames, IsName}
 use Rattle.read_plan.specs.Shapes.{Shape, named_shape, part_tree, shape_trees, Adds, IsTable}
-use Rattle.comp_read.proofs.DefiningLaws.{adds_grow, adds_one, adds_placed, all_at, longer, same_list}
+use Rattle.comp_read.proofs.DefiningLaws.{adds_grow, adds_one, adds_placed, all_at, longer, no_shapes, same_list}
 use Rattle.comp_read.proofs.FollowingLaws.{declared_stays, functions_wider, name_part, names_of, ranges_of, shown_scope, shown_state}
+use Rattle.comp_read.proofs.OverLaws.{name_over, named_over}
+use Rattle.comp_read.proofs.PlacedLaws.{function_over_more, own_met, same_types, type_more, type_over_more}
 use Rattle.comp_read.proofs.Refusing.{refused}
 use Rattle.comp_read.proofs.SlotLaws.{at_slot, name_at, no_slot}
 use Rattle.comp_read.proofs.TableGrowth.{found_below}
@@ -61,11 +64,11 @@ module _ (ss : List Slot) (n : ℕ) (T : List Tree) (F : List Signature) (place 
 
 module _ (marks : List Bool) (old : State) (st : IsState (length marks) old) (name : ExternName) where
   module _ (n : ℕ) where
-    pub function_shown : (k : ℕ) (fs : List ShownFunction) → slice_get old.slots n ≡ Some (slots.Function k)
+    pub function_shown : (here k : ℕ) (fs : List ShownFunction) → slice_get old.slots n ≡ Some (slots.Function k)
         → ((T : List Tree) (F : List Signature) → function_in (slice_get (slots_in T F old.slots) n) ≡ Some (unwrap_or (slice_get F k) no_signature))
         → fs ≡ old.functions ++ record { name = name.text; function = k; external_id = name.external_id } ∷ []
-        → Steps marks 1 (λ place. show_function (raw_name name) n) old (record { shapes = old.shapes; signatures = old.signatures; slots = old.slots; types = old.types; functions = fs })
-    function_shown k fs at found last =
+        → Steps marks here 1 (λ place. show_function (raw_name name) n) old (record { shapes = old.shapes; signatures = old.signatures; slots = old.slots; types = old.types; functions = fs })
+    function_shown here k fs at found last =
         let f : ShownFunction = record { name = name.text; function = k; external_id = name.external_id } in
         let inside : k < length old.signatures = all_at (IsSlotIn old.shapes old.signatures) old.slots n (slots.Function k) st.slots at in
         record {
@@ -78,6 +81,14 @@ module _ (marks : List Bool) (old : State) (st : IsState (length marks) old) (na
           shapes_grow = same_list old.shapes;
           signatures_grow = same_list old.signatures;
           count = omega arith;
+          placed = λ before p.
+              let P = MayMeet marks here in
+              let T = trees_at apart old in
+              let F = signatures_at apart old in
+              same_types marks before here old (record { shapes = old.shapes; signatures = old.signatures; slots = old.slots; types = old.types; functions = fs }) p (same_list old.shapes) p.slots
+              (subst (λ (gs : List (Text × FunctionMeaning)). ViewOver P (record { types = (scope_at apart old).shown.types; functions = gs })) (sym (ap (map (shown_function F)) last ∙ map-append (shown_function F) old.functions (f ∷ [])))
+              (function_over_more P (scope_at apart old).shown p.shown (shown_function F f) (all_at (SlotOver P) (slots_at apart old old.slots) n (slot_in T F (slots.Function k)) p.slots (at_slot old.slots n T F (slots.Function k) at))))
+              refl (no_shapes old.shapes);
           follows = λ place marked.
               ap (λ o. o >>= λ g. Some (record {
                 slots = slots_at place old old.slots;
@@ -138,6 +149,14 @@ module _ (marks : List Bool) (old : State) (st : IsState (length marks) old) (na
     name_stands place true more number table at = ap resource_slot (name_part place more (14 + number) table (record { number = number; place = here; name = name.text.now; is = refl; at = at }))
     name_stands place false more number table at = ap follow.value (name_part place more (14 + number) table (record { number = number; place = here; name = name.text.now; is = refl; at = at }))
 
+    pub own_over : (b : Bool) → SlotOver (MayMeet marks here) (name_meant b (apart here) name.text.now)
+    own_over true = own_met marks here
+    own_over false = name_over (MayMeet marks here) (apart here) name.text.now (own_met marks here)
+
+    part_of_name : (b : Bool) (part : ℕ) → slot_part (name_slot b part) ≡ part
+    part_of_name true part = refl
+    part_of_name false part = refl
+
     pub declared_range : (o : Option ℕ) (more : List Shape) → length old.shapes ≤ length more → IfSome o (λ k. (n : ℕ) → AreInRange n old.slots → k < 14 + n) → IfSome o (λ k. k < 14 + length more)
     declared_range None more le h = tt
     declared_range (Some k) more le h = let b = h (length old.shapes) (ranges_of old.shapes old.signatures old.slots st.slots) in omega (arith, b, le)
@@ -151,7 +170,7 @@ module _ (marks : List Bool) (old : State) (st : IsState (length marks) old) (na
         → (more : List Shape) (number : ℕ) → slice_get more number ≡ Some (named_shape here name.text.now) → Adds old.shapes (named_shape here name.text.now) more → IsTable more
         → (s : Slot) → s ≡ name_slot made.is_resource (14 + number) → (ss : List Slot) → ss ≡ old.slots ++ s ∷ [] → (ts : List ShownType)
         → ts ≡ old.types ++ record { name = name.text; slot = s; declared = made.declared; external_id = name.external_id } ∷ []
-        → Steps marks 1 (λ place. show_type (place here) (raw_name name) kind) old (record { shapes = more; signatures = old.signatures; slots = ss; types = ts; functions = old.functions })
+        → Steps marks here 1 (λ place. show_type (place here) (raw_name name) kind) old (record { shapes = more; signatures = old.signatures; slots = ss; types = ts; functions = old.functions })
     type_shown below made range found more number at adds table s is ss next ts last =
         let t : ShownType = record { name = name.text; slot = s; declared = made.declared; external_id = name.external_id } in
         let gs = adds_grow old.shapes more (named_shape here name.text.now) adds in
@@ -173,6 +192,21 @@ module _ (marks : List Bool) (old : State) (st : IsState (length marks) old) (na
           shapes_grow = gs;
           signatures_grow = gf;
           count = adds_one old.shapes more (named_shape here name.text.now) adds;
+          placed = λ before p.
+              let P = MayMeet marks here in
+              let U = shape_trees apart more in
+              let G = functions_in U old.signatures in
+              let new : State = record { shapes = more; signatures = old.signatures; slots = ss; types = ts; functions = old.functions } in
+              let meant = shown_scope (length marks) old st more old.signatures gs gf tables s inside ss next t shown ts last apart in
+              let stands : slot_in U G s ≡ name_meant made.is_resource (apart here) name.text.now = ap (slot_in U G) is ∙ name_stands apart made.is_resource more number table at in
+              let over : DeclarationOver P (declared_in U made.declared) = subst (λ d. DeclarationOver P d) (sym (declared_stays (length marks) old.shapes more old.signatures old.signatures st.tables gs gf apart made.declared (old_range made.declared range)))
+              (named_over P (slots_at apart old old.slots) p.slots (apart here) name.text.now kind (named_by (trees_at apart old) (apart here) name.text.now made)
+              (found (trees_at apart old) (signatures_at apart old) (apart here) name.text.now (names_of apart old.shapes old.signatures old.slots st.tables.table st.slots))) in
+              type_more marks before here old new p gs
+              (subst (λ (xs : List Meant). AllByRecursion (SlotOver P) xs) (sym (ap (λ (x : MeantScope). x.slots) meant))
+              (all_end (SlotOver P) (scope_at apart old).slots (slot_in U G s) p.slots (subst (λ x. SlotOver P x) (sym stands) (own_over made.is_resource))))
+              t number (ap slot_part is ∙ part_of_name made.is_resource (14 + number)) at adds table (old_range made.declared range) last
+              (subst (λ (v : follow.View). ViewOver P v) (sym (ap (λ (x : MeantScope). x.shown) meant)) (type_over_more P (scope_at apart old).shown p.shown (shown_type U G t) over));
           follows = λ place marked.
               let U = shape_trees place more in
               let stands : slot_in U (functions_in U old.signatures) s ≡ name_meant made.is_resource (place here) name.text.now =

@@ -1,5 +1,5 @@
 -- One declaration of an instance type after the other.
-use Rattle.std.proofs.Common.{◌≡◌, refl, sym, ap, ◌∙◌, subst, ℕ, suc, ◌+◌, ◌-◌, ◌<◌, ◌≤◌, arith, Bool, true, false, ◌&&◌, ◌==◌, List, [], ◌∷◌, ◌++◌, length, Option, Some, None, slice_get, append_assoc}
+use Rattle.std.proofs.Common.{◌≡◌, inl, refl, sym, ap, ◌∙◌, subst, ℕ, suc, ◌+◌, ◌-◌, ◌<◌, ◌≤◌, arith, Bool, true, false, ◌&&◌, ◌==◌, List, [], ◌∷◌, ◌++◌, length, Option, Some, None, slice_get, append_assoc}
 use Rattle.std.specs.List.{AllByRecursion}
 use Rattle.wit_model.specs.Tree.{Place, Tree}
 use Rattle.comp_bytes.specs.Raw.{Alias, Declaration}
@@ -15,20 +15,25 @@ use Rattle.comp_read.specs.declared.views.ShownType.{ShownType}
 use Rattle.comp_read.specs.declared.views.View.{View}
 use Rattle.comp_read.specs.Bodies.{held_declaration_at, items_in, IsBody}
 use Rattle.comp_read.specs.Defining.{Grows}
-use Rattle.comp_read.specs.Following.{scope_at, signatures_at, slots_at, trees_at, view_at, AreMarked, AreSlotsIn, AreTables, Halts, IsShownFunctionIn, IsShownIn, IsSlotIn, IsState, State, Steps}
+use Rattle.comp_read.specs.Following.{scope_at, signatures_at, slots_at, trees_at, view_at, AreMarked, AreSlotsIn, AreTables, Halts, IsPlacedState, IsShownFunctionIn, IsShownIn, IsSlotIn, IsState, State, Steps}
 use Rattle.comp_read.specs.Found.{Refuses}
 use Rattle.comp_read.specs.Functions.{functions_in, FunctionShape}
 use Rattle.comp_read.specs.InstanceScopes.{foreign_slot, state_of, step_of, tables_of, taken_by, IsFollowed, IsViewOf, ShowsNothing}
 use Rattle.comp_read.specs.Pieces.{AreAlike}
+use Rattle.comp_read.specs.Placed.{apart, MayMeet, SlotOver}
 use Rattle.comp_read.specs.Slots.{slot_in, slots_in}
-use Rattle.read_plan.specs.Shapes.{Shape, shape_trees}
-use Rattle.comp_read.proofs.AliasLaws.{slot_foreign}
-use Rattle.comp_read.proofs.DefiningLaws.{all_at, same_list}
-use Rattle.comp_read.proofs.FollowingLaws.{pushed_scope, pushed_state, slots_stay, wider_slots}
+use Rattle.read_plan.specs.Shapes.{Shape, named_shape, node_shape, shape_trees}
+use Rattle.comp_read.proofs.AliasLaws.{foreign_over, slot_foreign}
+use Rattle.comp_read.proofs.DefiningLaws.{all_at, no_shapes, same_list}
+use Rattle.comp_read.proofs.FollowingLaws.{pushed_placed, pushed_scope, pushed_state, slots_stay, wider_slots}
 use Rattle.comp_read.proofs.Refusing.{refused}
 use Rattle.comp_read.proofs.SlotLaws.{at_slot, no_slot}
+use Rattle.comp_read.proofs.TableGrowth.{found_below}
 
 -- ---- aliases
+
+pub some_same : {X : Type 0} (x y : X) → Some x ≡ Some y → x ≡ y
+some_same x y e = cc
 
 pub guarded : {A B : Type 0} (b : Bool) (x : A) (g : A → B) → provided b (g x) ≡ (provided b x >>= λ y. Some (g y))
 guarded true x g = refl
@@ -66,8 +71,25 @@ module _ (marks : List Bool) (old : State) (st : IsState (length marks) old) (he
           let same = kept (scopes == 1 && foreign_slot marks old.shapes x) x h in
           subst (λ (y : Slot). AreSlotsIn old.shapes old.signatures (y ∷ [])) same (all_at (IsSlotIn old.shapes old.signatures) outer n x inside at, tt)
 
+  -- and it is over a place that is marked
+  taken_over : (a : Alias) (s : Slot) → taken_by marks old.shapes outer a ≡ Some s → SlotOver (MayMeet marks here) (slot_in (trees_at apart old) (signatures_at apart old) s)
+  taken_over (Alias.of_export m name) s e = absurd cc
+  taken_over (Alias.of_outer scopes n) s e = by (slice_get outer n) refl e
+    where
+      foreign : (b c : Bool) (x : Slot) → provided (b && c) x ≡ Some s → (x ≡ s) × (c ≡ true)
+      foreign true true x h = (some_same x s h, refl)
+      foreign true false x h = absurd cc
+      foreign false c x h = absurd cc
+
+      by : (o : Option Slot) → slice_get outer n ≡ o → (o >>= λ x. provided (scopes == 1 && foreign_slot marks old.shapes x) x) ≡ Some s → SlotOver (MayMeet marks here) (slot_in (trees_at apart old) (signatures_at apart old) s)
+      by None at h = absurd cc
+      by (Some x) at h =
+          let f = foreign (scopes == 1) (foreign_slot marks old.shapes x) x h in
+          subst (λ (y : Slot). SlotOver (MayMeet marks here) (slot_in (trees_at apart old) (signatures_at apart old) y)) f.0
+          (foreign_over marks here old.shapes st.tables.table old.signatures (signatures_at apart old) x (all_at (IsSlotIn old.shapes old.signatures) outer n x inside at) f.1)
+
   pub alias_step : (a : Alias) (s : Slot) (ss : List Slot) → taken_by marks old.shapes outer a ≡ Some s → ss ≡ old.slots ++ s ∷ []
-      → Steps marks 1 (step_of here old.shapes old.signatures outer (Declaration.alias_of a)) old (record { shapes = old.shapes; signatures = old.signatures; slots = ss; types = old.types; functions = old.functions })
+      → Steps marks here 1 (step_of here old.shapes old.signatures outer (Declaration.alias_of a)) old (record { shapes = old.shapes; signatures = old.signatures; slots = ss; types = old.types; functions = old.functions })
   alias_step a s ss taken next =
       let is = (taken_in a s taken).0 in
       record {
@@ -75,6 +97,9 @@ module _ (marks : List Bool) (old : State) (st : IsState (length marks) old) (he
         shapes_grow = same_list old.shapes;
         signatures_grow = same_list old.signatures;
         count = omega arith;
+        placed = λ before p.
+            pushed_placed (length marks) old st old.shapes old.signatures (same_list old.shapes) (same_list old.signatures) st.tables s is ss next marks before here p (taken_over a s taken)
+            (no_shapes old.shapes);
         follows = λ place marked.
             alias_meant place marked a (scope_at place old)
             ∙ (ap (λ o. o >>= λ x. Some (in_instance (slot_in (trees_at place old) (signatures_at place old) x) (scope_at place old))) taken
@@ -126,9 +151,6 @@ none_less n = omega arith
 pub less : (n i : ℕ) → i < n → n - i ≡ suc (n - (i + 1))
 less n i h = omega (arith, h)
 
-pub some_same : {X : Type 0} (x y : X) → Some x ≡ Some y → x ≡ y
-some_same x y e = cc
-
 pub ended : {A : Type 0} (reader : Reader A) (rest : List ℕ) (ds : List A) → sequence_at reader 0 rest ≡ Some (ds, []) → (ds ≡ []) × (rest ≡ [])
 unfolding sequence_at
 ended {A = A} reader rest ds e =
@@ -139,6 +161,15 @@ pub none_left : {A : Type 0} (reader : Reader A) (n : ℕ) (rest : List ℕ) (ds
 none_left reader n rest ds none e = ended reader rest ds (ap (λ k. sequence_at reader k rest) (sym none) ∙ e)
 
 -- ---- the declarations of a body
+
+-- a view of what was followed
+same_view : (marks : List Bool) (before : List Shape) (here : ℕ) (shapes : List Shape) (fs : List FunctionShape) (ss : List Slot) (ts us : List ShownType) → us ≡ ts → (gs hs : List ShownFunction) → hs ≡ gs
+    → IsPlacedState marks before here (record { shapes = shapes; signatures = fs; slots = ss; types = ts; functions = gs })
+    → IsPlacedState marks before here (record { shapes = shapes; signatures = fs; slots = []; types = us; functions = hs })
+same_view marks before here shapes fs ss ts us et gs hs ef p =
+    subst (λ (xs : List ShownType). IsPlacedState marks before here (record { shapes = shapes; signatures = fs; slots = []; types = xs; functions = hs })) (sym et)
+    (subst (λ (xs : List ShownFunction). IsPlacedState marks before here (record { shapes = shapes; signatures = fs; slots = []; types = ts; functions = xs })) (sym ef)
+    (record { grows = p.grows; slots = tt; shown = p.shown; named = p.named; names = p.names; rise = p.rise; formed = p.formed }))
 
 module _ (marks : List Bool) (here : ℕ) (start : State) (tables : AreTables (length marks) start.shapes start.signatures) (outer : List Slot) (inside : AreSlotsIn start.shapes start.signatures outer) (b : Body) where
   pub followed_none : (ss : List Slot) (ts : List ShownType) (fs : List ShownFunction) → ss ≡ [] → ts ≡ [] → fs ≡ [] → IsBody held_declaration_at b
@@ -152,6 +183,7 @@ module _ (marks : List Bool) (here : ℕ) (start : State) (tables : AreTables (l
         shapes_grow = same_list start.shapes;
         signatures_grow = same_list start.signatures;
         count = omega arith;
+        placed = record { grows = same_list start.shapes; slots = tt; shown = record { types = tt; functions = tt }; named = tt; names = λ n q name e. inl (found_below start.shapes n (named_shape q name) e); rise = λ none j t e. absurd cc; formed = λ n form parts e. inl (found_below start.shapes n (node_shape form parts) e) };
         ds = items_in held_declaration_at b;
         left = ap (λ n. sequence_at held_declaration_at n b.bytes.now) (none_less b.count) ∙ whole;
         follows = λ place marked. refl;
@@ -184,7 +216,7 @@ module _ (marks : List Bool) (here : ℕ) (start : State) (tables : AreTables (l
             ∙ ap (λ p. p >>= λ next. instance_steps (place here) (slots_at place start outer) next ys)
             (ap (λ ss. instance_step (place here) ss (scope_at place now) d) (sym (around_stays place)) ∙ e))
 
-        pub followed_more : (next : State) → Steps marks 1 (step_of here now.shapes now.signatures outer d) now next → IsFollowed marks here start outer b (i + 1) behind next
+        pub followed_more : (next : State) → Steps marks here 1 (step_of here now.shapes now.signatures outer d) now next → IsFollowed marks here start outer b (i + 1) behind next
         followed_more next s =
             let p = peeled held_declaration_at (b.count - (i + 1)) rest f.ds left_here d behind at in
             let c = f.count in
@@ -194,6 +226,7 @@ module _ (marks : List Bool) (here : ℕ) (start : State) (tables : AreTables (l
               shapes_grow = grow_on start.shapes now.shapes next.shapes f.shapes_grow s.shapes_grow;
               signatures_grow = grow_on start.signatures now.signatures next.signatures f.signatures_grow s.signatures_grow;
               count = omega (arith, c, k);
+              placed = s.placed start.shapes f.placed;
               ds = p.0;
               left = p.1;
               follows = λ place marked. sym (steps_on place marked (Some (scope_at place next)) (s.follows place marked) p.0 p.2);
@@ -223,6 +256,7 @@ module _ (marks : List Bool) (here : ℕ) (start : State) (tables : AreTables (l
         shapes_grow = f.shapes_grow;
         signatures_grow = f.signatures_grow;
         count = f.count;
+        placed = same_view marks start.shapes here shapes fs scope.slots.items scope.types.items v.types.items et scope.functions.items v.functions.items ef f.placed;
         shows = λ place marked.
             ap (λ o. o >>= λ s. Some s.shown) (sym (f.follows place marked) ∙ ap (instance_steps (place here) (slots_at place start outer) (scope_at place now)) none.0)
             ∙ (λ i. Some (view_at place now (sym et i) (sym ef i)));

@@ -1,5 +1,5 @@
 -- What instances of a component type show, and what they use.
-use Rattle.std.proofs.Common.{◌≡◌, refl, sym, ap, ◌∙◌, subst, ℕ, zero, suc, ◌+◌, ◌<◌, ◌≤◌, ◌==◌, arith, Bool, true, false, not, ◌||◌, eqb, List, [], ◌∷◌, ◌++◌, map, length, length-append, take, Option, Some, None, slice_get, Result, Ok, Err, IfOk, IfErr}
+use Rattle.std.proofs.Common.{◌≡◌, ◌⊎◌, inl, inr, refl, sym, ap, ◌∙◌, subst, ℕ, zero, suc, ◌+◌, ◌<◌, ◌≤◌, ◌==◌, arith, Bool, true, false, not, ◌||◌, eqb, List, [], ◌∷◌, ◌++◌, map, length, length-append, take, Option, Some, None, slice_get, Result, Ok, Err, IfOk, IfErr}
 use Rattle.std.specs.List.{list_any}
 use Rattle.std.proofs.Math.ListN.{length-map}
 use Rattle.std.proofs.lemmas.Bool.{eqb-true, eq-eqb}
@@ -27,13 +27,16 @@ use Rattle.comp_read.specs.ExternNames.{raw_name}
 use Rattle.comp_read.specs.Following.{is_path, slots_at, AreMarked, AreSlotsIn, AreTables, IsSlotIn, State}
 use Rattle.comp_read.specs.Functions.{functions_in, FunctionShape}
 use Rattle.comp_read.specs.InstanceScopes.{tables_of, IsViewOf, ShowsNothing}
-use Rattle.comp_read.specs.Places.{has_path, key_at, path_text, place_number, ArePlacesOf, IsKeyIn, IsKeyOf}
-use Rattle.comp_read.specs.Scopes.{direction, instance_in, meant_at, path_of, seen_in, view_in, viewed, waiting, Goes, HasNoUsedView, IsShownAs, IsUsedView, IsWorld, Stops, World}
+use Rattle.comp_read.specs.Placed.{apart, MayMeet}
+use Rattle.comp_read.specs.Places.{has_path, key_at, path_text, place_number, ArePlacesOf, IsFreshKey, IsKeyIn, IsKeyOf}
+use Rattle.comp_read.specs.Scopes.{direction, instance_in, meant_at, path_of, seen_in, view_in, viewed, waiting, Goes, HasNoUsedView, IsFirstOf, IsImportNamed, IsInstanceIn, IsKeyPlaced, IsPlacedInstance, IsPlacedWorld, IsShownAs, IsShownBy, by_instance, by_import, IsUsedView, IsWorld, ShownOver, Stops, World}
 use Rattle.comp_read.specs.Slots.{resource_slot, slot_in}
-use Rattle.read_plan.specs.Shapes.{Shape, shape_trees, IsTable}
-use Rattle.comp_read.proofs.DefiningLaws.{all_at}
+use Rattle.read_plan.specs.Shapes.{Shape, named_shape, shape_trees, IsTable}
+use Rattle.comp_read.proofs.DefiningLaws.{all_at, longer}
+use Rattle.comp_read.proofs.PlacedLaws.{at_last, stands_on, stood}
+use Rattle.comp_read.proofs.PlacedScopes.{both_pass, extended_placed, import_passes, imported_many, one_counted, only_last, seen_passes}
 use Rattle.comp_read.proofs.Refusing.{refused}
-use Rattle.comp_read.proofs.ScopeLaws.{exported, extended_world, goes_on, imported, plus, plus_instance, waiting_used}
+use Rattle.comp_read.proofs.ScopeLaws.{exported, extended, extended_world, goes_on, imported, plus, plus_instance, waiting_used}
 use Rattle.comp_read.proofs.SlotLaws.{at_slot, no_slot}
 use Rattle.comp_read.proofs.TableGrowth.{found_below}
 use Rattle.comp_read.proofs.SeeLaws.{added_exports, added_imports, all_exported, all_imported, exports_are, imports_are, seen_plus}
@@ -176,7 +179,72 @@ module _ (old : World) (st : IsWorld old) (b : Bool) (name : ExternName) (n : �
       (see_instance (direction b) (raw_name name) n (meant_at place old))
       (λ none. keyed place of ∙ ap (under_key (meant_at place old) (key_at place key)) none) (r place (marked_paths paths place of))
 
-  pub instance_goes : Grows old.paths paths → (v : View) (more : List Shape) (more_fs : List FunctionShape)
+  key_own : IsFreshKey old.paths key → ((path : Text) × (slice_get paths (place_number key) ≡ Some (Some path))) ⊎ ((slice_get paths (place_number key) ≡ Some None) × (length old.paths ≤ place_number key))
+  key_own fresh = by key is_key.stands fresh
+    where
+      by : (k : InstanceKey) → IsKeyIn paths k → IsFreshKey old.paths k → ((path : Text) × (slice_get paths (place_number k) ≡ Some (Some path))) ⊎ ((slice_get paths (place_number k) ≡ Some None) × (length old.paths ≤ place_number k))
+      by (keys.Path q) h f = inl h
+      by (keys.Label l q) h f = inr (h, f)
+      by (keys.Implementing l q) h f = inl h
+
+  -- a name that neither an instance nor an import shows
+  not_shown : (q : ℕ) (label : Text) (part : ℕ) → ((i : ℕ) (y : Instance) → slice_get old.instances i ≡ Some y → y.place ≡ q → ⊥) → (q ≡ old.home → ⊥) → IsShownBy old q label part → ⊥
+  not_shown q label part none not_home (by_instance i y at is among) = none i y at is
+  not_shown q label part none not_home (by_import i y l d at is named own) = not_home own
+
+  -- the instance that is added
+  module _ (gp : Grows old.paths paths) (fresh : IsFreshKey old.paths key) (v : View) (more : List Shape) (more_fs : List FunctionShape)
+      (u : IsUsedView (map has_path paths) (place_number key) (tables_of old.shapes old.signatures) old.slots old.used n v (tables_of more more_fs))
+      (base : List Shape) (places : ℕ) (p : IsPlacedWorld base places old) (ss : List Slot) (im ex : List Seen) (us : List ℕ) where
+    abbrev here : ℕ
+    here = place_number key
+
+    abbrev x : Instance
+    x = record { place = here; view = v }
+
+    abbrev world : World
+    world = record { home = old.home; shapes = more; signatures = more_fs; paths = paths; slots = ss; instances = old.instances ++ x ∷ []; imports = im; exports = ex; used = us }
+
+    instances_front : Grows old.instances (old.instances ++ x ∷ [])
+    instances_front = record { more = x ∷ []; is = refl }
+
+    no_path : (o : Option (Option Text)) (path : Text) → o ≡ Some None → o ≡ Some (Some path) → ⊥
+    no_path o path e f = cc
+
+    home_below : old.home < length old.paths
+    home_below = found_below old.paths old.home None st.own
+
+    not_home : here ≡ old.home → ⊥
+    not_home same = elim (key_own fresh) [
+      | inl path ↦ no_path (slice_get paths old.home) path.0 (stands_on old.paths paths gp old.home None st.own) (ap (slice_get paths) (sym same) ∙ path.1)
+      | inr inline ↦ (let past = inline.1 in let below = home_below in absurd (omega (arith, past, below, same)))
+    ]
+
+    first_of_all : length old.paths ≤ here → IsFirstOf (old.instances ++ x ∷ []) (length old.instances) x
+    first_of_all past i y e less same =
+        let there = (all_at (IsInstanceIn old.shapes old.signatures old.paths) old.instances i y st.instances (stood old.instances (old.instances ++ x ∷ []) instances_front i y less e)).place in
+        omega (arith, there, past, same)
+
+    instance_placed : IsPlacedInstance base places world (length old.instances) x
+    instance_placed = record {
+      shown = u.view.placed.shown;
+      named = u.view.placed.named;
+      own = elim (key_own fresh) [
+        | inl path ↦ inl path
+        | inr inline ↦ inr (record {
+          none = inline.0;
+          new = (let past = inline.1 in let below = home_below in let after = p.home in omega (arith, past, below, after));
+          not_home = not_home;
+          first = first_of_all inline.1;
+        })
+      ];
+      rise = λ none first. u.view.placed.rise (λ m label at. elim (p.names m here label (found_below old.shapes m (named_shape here label) at) at) [
+        | inl below ↦ none m label (stood base old.shapes p.grows m (named_shape here label) below at)
+        | inr by ↦ not_shown here label (14 + m) (λ i y e is. first i y (stands_on old.instances (old.instances ++ x ∷ []) instances_front i y e) (found_below old.instances i y e) is) not_home by
+      ]);
+    }
+
+  pub instance_goes : Grows old.paths paths → IsFreshKey old.paths key → (v : View) (more : List Shape) (more_fs : List FunctionShape)
       → IsUsedView (map has_path paths) (place_number key) (tables_of old.shapes old.signatures) old.slots old.used n v (tables_of more more_fs)
       → (new : World) → new ≡ record {
         home = old.home;
@@ -190,7 +258,7 @@ module _ (old : World) (st : IsWorld old) (b : Bool) (name : ExternName) (n : �
         used = old.used ++ n ∷ [];
       }
       → Goes 0 (see_instance (direction b) (raw_name name) n) old new
-  instance_goes gp v more more_fs u new e =
+  instance_goes gp fresh v more more_fs u new e =
       let x : Instance = record { place = place_number key; view = v } in
       let s : Seen = record { shown = shown.Instance key (length old.instances); external_id = name.external_id } in
       let gs = u.view.shapes_grow in
@@ -213,6 +281,25 @@ module _ (old : World) (st : IsWorld old) (b : Bool) (name : ExternName) (n : �
       (extended_world old st more more_fs paths gs gf gp tables [] (x ∷ []) (imported b s) (exported b s) (n ∷ []) tt
       (record { place = key_below paths key is_key.stands; types = u.view.types; functions = u.view.functions }, tt)
       (all_imported (λ (y : Seen). IsShownAs more more_fs paths (length (old.instances ++ x ∷ [])) y.shown) b s fits) (all_exported (λ (y : Seen). IsShownAs more more_fs paths (length (old.instances ++ x ∷ [])) y.shown) b s fits))
+      (λ base places p.
+      let seen = seen_passes (λ (y : MeantSeen). ShownOver (MayMeet (map has_path paths) old.home) y.shown) (seen_in apart (shape_trees apart more) (functions_in (shape_trees apart more) more_fs) (old.instances ++ x ∷ [])) b s tt in
+      let c = length more in
+      let longer_table = longer old.shapes more gs in
+      let world = extended old st more more_fs paths gs gf gp tables [] (x ∷ []) (imported b s) (exported b s) (n ∷ []) in
+      extended_placed old st more more_fs paths gs gf gp tables [] (x ∷ []) (imported b s) (exported b s) (n ∷ []) base places (length old.shapes) p (imported b c) (length more) (omega arith) tt
+      (λ j y at past.
+      let last = only_last old.instances x j y at past in
+      subst (λ (z : Instance). IsPlacedInstance base places world j z) last.1
+      (subst (λ (m : ℕ). IsPlacedInstance base places world m x) (sym last.0) (instance_placed gp fresh v more more_fs u base places p (old.slots ++ []) (old.imports ++ imported b s) (old.exports ++ exported b s) (old.used ++ n ∷ []))))
+      seen.0 seen.1 (import_passes (λ (y : Seen). IsImportNamed more old.home y.shown) b s tt)
+      (both_pass (λ (y : Seen). IsKeyPlaced (old.instances ++ x ∷ []) y.shown) b s (x, at_last old.instances x, refl))
+      (λ j q label low at. elim (u.view.placed.names j q label at) [
+        | inl below ↦ inl below
+        | inr h ↦ inr (by_instance (length old.instances) x (at_last old.instances x) (sym h.0) h.1)
+      ])
+      (λ j form parts low at. u.view.placed.formed j form parts at)
+      (imported_many b c s)
+      (one_counted base places (length old.shapes) old p world b s c refl longer_table (omega arith) tt))
       (let same = ap (λ zs. waiting (old.used ++ n ∷ []) 0 zs) (append-nil old.slots) in
       let few = subst (λ k. waiting (old.used ++ k ∷ []) 0 old.slots + u.body.count ≤ waiting old.used 0 old.slots) (none_before n) (waiting_used old.used n 0 old.slots (slots.Instance u.body u.around) u.slot (ap (λ k. list_any (λ m. m == k) old.used) (none_before n) ∙ u.unused)) in
       let count = u.view.count in

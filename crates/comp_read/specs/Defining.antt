@@ -1,8 +1,9 @@
 -- A definition takes the next slot of a scope.
-use Rattle.std.specs.Prelude.{◌≡◌, ◌<◌, ◌≤◌, ◌+◌, ℕ, List, [], ◌∷◌, ◌++◌, length, Some, slice_get}
+use Rattle.std.specs.Prelude.{◌≡◌, ◌⊎◌, ◌<◌, ◌≤◌, ◌+◌, ℕ, true, List, [], ◌∷◌, ◌++◌, length, Some, slice_get}
 use Rattle.std.specs.List.{AllByRecursion}
 use Rattle.wit_model.specs.Meaning.{Signature}
-use Rattle.wit_model.specs.Tree.{Place, Tree}
+use Rattle.wit_model.specs.Text.{Text}
+use Rattle.wit_model.specs.Tree.{Form, Place, Tree}
 use Rattle.comp_bytes.specs.Raw.{DefinedType, FunctionType}
 use Rattle.comp_meaning.specs.Follow.{definition, function_signature}
 use Rattle.comp_read.specs.declared.refusal.Refusal.{Refusal}
@@ -11,7 +12,8 @@ use Rattle.comp_read.specs.declared.slots.Slot.TheVariants as slots
 use Rattle.comp_read.specs.Found.{Refuses}
 use Rattle.comp_read.specs.Functions.{FunctionShape, IsFunctionIn, Joins, signature_in}
 use Rattle.comp_read.specs.Slots.{slots_in, AreInRange, AreNames}
-use Rattle.read_plan.specs.Shapes.{Shape, part_tree, shape_trees}
+use Rattle.read_plan.specs.PlanRules.{is_form}
+use Rattle.read_plan.specs.Shapes.{Shape, named_shape, node_shape, part_tree, shape_trees}
 
 -- The list has what it had, and perhaps more behind it.
 pub record Grows {X : Type 0} (old new : List X) : Type 0 where
@@ -25,7 +27,12 @@ IsPlacedBelow m s = s.sort ≡ 0 → s.number < m
 abbrev pub ArePlacedBelow : ℕ → List Shape → Type 0
 ArePlacedBelow m shapes = AllByRecursion (IsPlacedBelow m) shapes
 
--- The next slot is a part, and it stands for what the definition stands for.
+-- No name comes into a table, and each form that does is one that a definition may have.
+pub record AddsForms (shapes more : List Shape) : Type 0 where
+  pub names : (n q : ℕ) (name : Text) → slice_get more n ≡ Some (named_shape q name) → n < length shapes
+  pub formed : (n : ℕ) (form : Form) (parts : List ℕ) → slice_get more n ≡ Some (node_shape form parts) → (n < length shapes) ⊎ (is_form form parts ≡ true)
+
+-- The next slot is a part, and it stands for what the definition stands for. No name comes into the table.
 pub record IsDefined (shapes : List Shape) (old : List Slot) (d : DefinedType) (more : List Shape) (new : List Slot) : Type 0 where
   pub part : ℕ
   pub next : new ≡ old ++ slots.Value part ∷ []
@@ -33,6 +40,7 @@ pub record IsDefined (shapes : List Shape) (old : List Slot) (d : DefinedType) (
   pub grown : Grows shapes more
   pub count : length more ≤ length shapes + 1
   pub placed : (m : ℕ) → ArePlacedBelow m shapes → ArePlacedBelow m more
+  pub forms : AddsForms shapes more
   pub found : (place : ℕ → Place) (F : List Signature) → AreNames (shape_trees place shapes) old
       → definition (slots_in (shape_trees place shapes) F old) d ≡ Some (part_tree (shape_trees place more) part)
 

@@ -1,5 +1,5 @@
 -- The key of a definition: its form, over the parts that its indexes stand for.
-use Rattle.std.specs.Prelude.{◌≡◌, ◌<◌, ◌+◌, ℕ, Bool, false, List, map, Some, Result, Ok, Err}
+use Rattle.std.specs.Prelude.{◌≡◌, ◌<◌, ◌+◌, ℕ, Bool, true, false, List, map, Some, Result, Ok, Err}
 use Rattle.std.specs.List.{AllByRecursion}
 use Rattle.wit_model.specs.Meaning.{Signature}
 use Rattle.wit_model.specs.Tree.{Form, Tree, children}
@@ -13,6 +13,7 @@ use Rattle.comp_read.specs.declared.keys.Key.{Key}
 use Rattle.comp_read.specs.declared.refusal.Refusal.{Refusal}
 use Rattle.comp_read.specs.declared.slots.Slot.{Slot}
 use Rattle.comp_read.specs.Found.{Refuses}
+use Rattle.read_plan.specs.PlanRules.{is_form}
 use Rattle.read_plan.specs.Shapes.{Shape, node_shape, part_tree, primitives}
 use Rattle.comp_read.specs.KeyShapes.{shape_of}
 use Rattle.comp_read.specs.Slots.{slots_in, AreInRange, AreNames}
@@ -25,12 +26,14 @@ key_marks = map is_key_primitive primitives
 abbrev pub HasNoKeys : List Tree → Type 0
 HasNoKeys T = (n : ℕ) → is_key (part_tree T (14 + n)) ≡ false
 
--- The shape is a form over parts, and that form over what the parts stand for is what the definition stands for, whatever the table.
+-- The shape is a form over parts, one that a definition may have, and that form over what the parts stand for is what the definition stands for,
+-- whatever the table.
 pub record IsNodeOf (s : Shape) (ss : List Slot) (d : DefinedType) : Type 0 where
   pub form : Form
   pub parts : List ℕ
   pub shape : s ≡ node_shape form parts
   pub ranges : (n : ℕ) → AreInRange n ss → AllByRecursion (λ k. k < 14 + n) parts
+  pub formed : is_form form parts ≡ true
   pub found : (T : List Tree) (F : List Signature) → AreNames T ss → HasNoKeys T → definition (slots_in T F ss) d ≡ Some (Tree.node form (children (map (part_tree T) parts)))
 
 -- The key is of what the definition stands for; or it stands for nothing, unless memory ran out.

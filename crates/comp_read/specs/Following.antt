@@ -1,10 +1,10 @@
 -- Declarations of an instance type that are followed one after the other: what their scope stands for, and what each of them does to it.
-use Rattle.std.specs.Prelude.{◌≡◌, ◌<◌, ◌≤◌, ◌+◌, ℕ, Bool, false, true, List, length, map, option_map, slice_get, unwrap_or, IfSome, Option, Some, None}
+use Rattle.std.specs.Prelude.{◌≡◌, ◌⊎◌, ◌<◌, ◌≤◌, ◌+◌, ℕ, Bool, false, true, List, length, map, option_map, slice_get, unwrap_or, IfSome, Option, Some, None}
 use Rattle.std.specs.List.{AllByRecursion}
 use Rattle.wit_model.specs.Meaning.{FunctionMeaning, Signature}
 use Rattle.wit_model.specs.Text.{Text}
 use Rattle.wit_model.specs.Tree as tree
-use Rattle.wit_model.specs.Tree.{Place, Tree}
+use Rattle.wit_model.specs.Tree.{Form, Place, Tree}
 use Rattle.comp_bytes.specs.RawOf.{text_of}
 use Rattle.comp_meaning.specs.Follow.{InstanceScope as MeantScope, ShownType as MeantType, View as MeantView, Slot as Meant}
 use Rattle.comp_read.specs.declared.refusal.Refusal.{Refusal}
@@ -16,8 +16,10 @@ use Rattle.comp_read.specs.Bodies.{held_declaration_at, IsBody}
 use Rattle.comp_read.specs.Defining.{ArePlacedBelow, Grows}
 use Rattle.comp_read.specs.Found.{Refuses}
 use Rattle.comp_read.specs.Functions.{functions_in, AreFunctionsIn, FunctionShape}
+use Rattle.comp_read.specs.Placed.{apart, HasNoNames, IsShownAmong, IsTypeNamed, MayMeet, Rise, SlotOver, ViewOver}
 use Rattle.comp_read.specs.Slots.{slot_in, slots_in, no_signature}
-use Rattle.read_plan.specs.Shapes.{Shape, named_shape, part_tree, shape_trees, IsTable}
+use Rattle.read_plan.specs.PlanRules.{is_form}
+use Rattle.read_plan.specs.Shapes.{Shape, named_shape, node_shape, part_tree, shape_trees, IsTable}
 
 -- ---- what was kept, as what it stands for
 
@@ -119,14 +121,29 @@ is_path Place.here = false
 abbrev pub AreMarked : List Bool → (ℕ → Place) → Type 0
 AreMarked marks place = (n : ℕ) (b : Bool) → slice_get marks n ≡ Some b → is_path (place n) ≡ b
 
+-- ---- names in their places
+
+-- Slots and what is shown are over names of the own place and of those that are marked, and what is shown stands for its name. The names that came
+-- into the table behind these shapes are shown, each in the own place; and if that had none before, they came behind what they are over. The forms that
+-- came into it are those that definitions may have.
+pub record IsPlacedState (marks : List Bool) (before : List Shape) (here : ℕ) (s : State) : Type 0 where
+  pub grows : Grows before s.shapes
+  pub slots : AllByRecursion (SlotOver (MayMeet marks here)) (slots_at apart s s.slots)
+  pub shown : ViewOver (MayMeet marks here) (view_at apart s s.types s.functions)
+  pub named : AllByRecursion (IsTypeNamed s.shapes here) s.types
+  pub names : (n q : ℕ) (name : Text) → slice_get s.shapes n ≡ Some (named_shape q name) → (n < length before) ⊎ ((q ≡ here) × IsShownAmong s.types name (14 + n))
+  pub rise : HasNoNames here before → Rise s.types
+  pub formed : (n : ℕ) (form : Form) (parts : List ℕ) → slice_get s.shapes n ≡ Some (node_shape form parts) → (n < length before) ⊎ (is_form form parts ≡ true)
+
 -- ---- steps
 
--- The tables grow by this many types at most, and the scope becomes what the step of the definition makes of it.
-pub record Steps (marks : List Bool) (few : ℕ) (step : (ℕ → Place) → MeantScope → Option MeantScope) (old new : State) : Type 0 where
+-- The tables grow by this many types at most, names stay in their places, and the scope becomes what the step of the definition makes of it.
+pub record Steps (marks : List Bool) (here few : ℕ) (step : (ℕ → Place) → MeantScope → Option MeantScope) (old new : State) : Type 0 where
   pub state : IsState (length marks) new
   pub shapes_grow : Grows old.shapes new.shapes
   pub signatures_grow : Grows old.signatures new.signatures
   pub count : length new.shapes ≤ length old.shapes + few
+  pub placed : (before : List Shape) → IsPlacedState marks before here old → IsPlacedState marks before here new
   pub follows : (place : ℕ → Place) → AreMarked marks place → step place (scope_at place old) ≡ Some (scope_at place new)
 
 -- the step of the definition makes nothing of it, unless memory ran out

@@ -17,7 +17,7 @@ use Rattle.comp_read.specs.declared.views.InstanceScope.{InstanceScope}
 use Rattle.comp_read.specs.declared.views.View.{View}
 use Rattle.comp_read.specs.Bodies.{held_declaration_at, items_in}
 use Rattle.comp_read.specs.Defining.{Grows}
-use Rattle.comp_read.specs.Following.{declared_in, scope_at, slots_at, view_at, AreMarked, AreTables, IsShownFunctionIn, IsShownIn, IsState, State}
+use Rattle.comp_read.specs.Following.{declared_in, scope_at, slots_at, view_at, AreMarked, AreTables, IsPlacedState, IsShownFunctionIn, IsShownIn, IsState, State}
 use Rattle.comp_read.specs.Found.{Refuses}
 use Rattle.comp_read.specs.Functions.{functions_in, FunctionShape}
 use Rattle.comp_read.specs.Slots.{slots_in}
@@ -84,6 +84,7 @@ pub record IsFollowed (marks : List Bool) (here : ℕ) (start : State) (outer : 
   pub shapes_grow : Grows start.shapes now.shapes
   pub signatures_grow : Grows start.signatures now.signatures
   pub count : length now.shapes ≤ length start.shapes + i
+  pub placed : IsPlacedState marks start.shapes here now
   pub ds : List Declaration
   pub left : sequence_at held_declaration_at (b.count - i) rest ≡ Some (ds, [])
   pub follows : (place : ℕ → Place) → AreMarked marks place
@@ -93,7 +94,11 @@ pub record IsFollowed (marks : List Bool) (here : ℕ) (start : State) (outer : 
 abbrev pub tables_of : List Shape → List FunctionShape → State
 tables_of shapes fs = record { shapes = shapes; signatures = fs; slots = []; types = []; functions = [] }
 
--- The tables grow by a type for each declaration at most, and the view stands for what the body shows.
+-- the view over the tables
+abbrev pub viewed_over : List Shape → List FunctionShape → View → State
+viewed_over shapes fs v = record { shapes = shapes; signatures = fs; slots = []; types = v.types.items; functions = v.functions.items }
+
+-- The tables grow by a type for each declaration at most, names stand in their places, and the view stands for what the body shows.
 pub record IsViewOf (marks : List Bool) (here : ℕ) (start : State) (outer : List Slot) (b : Body) (v : View) (now : State) : Type 0 where
   pub tables : AreTables (length marks) now.shapes now.signatures
   pub types : AllByRecursion (IsShownIn now.shapes now.signatures) v.types.items
@@ -101,6 +106,7 @@ pub record IsViewOf (marks : List Bool) (here : ℕ) (start : State) (outer : Li
   pub shapes_grow : Grows start.shapes now.shapes
   pub signatures_grow : Grows start.signatures now.signatures
   pub count : length now.shapes ≤ length start.shapes + b.count
+  pub placed : IsPlacedState marks start.shapes here (viewed_over now.shapes now.signatures v)
   pub shows : (place : ℕ → Place) → AreMarked marks place
       → instance_view (place here) (slots_at place start outer) (items_in held_declaration_at b) ≡ Some (view_at place now v.types.items v.functions.items)
 

@@ -1,5 +1,5 @@
 -- The places of names, by number, and the keys of instances, whose paths are places (Binary.md, "Import and Export Definitions").
-use Rattle.std.specs.Prelude.{◌≡◌, ◌≤◌, ℕ, ◌+◌, ◌==◌, ◌&&◌, not, if◌then◌else◌, Bool, false, List, [], map, Option, Some, None, option_map, is_some, slice_get}
+use Rattle.std.specs.Prelude.{◌≡◌, ◌≤◌, ℕ, ◌+◌, ◌==◌, ◌&&◌, not, if◌then◌else◌, Bool, false, List, [], length, map, Option, Some, None, option_map, is_some, slice_get}
 use Rattle.std.specs.Borrow.{Bor}
 use Rattle.wit_model.specs.Text.{Text, text_of}
 use Rattle.wit_model.specs.Names.{is_label, known_path, versioned}
@@ -67,6 +67,12 @@ abbrev pub IsKeyIn : List (Option Text) → InstanceKey → Type 0
 IsKeyIn paths (keys.Path p) = (path : Text) × (slice_get paths p ≡ Some (Some path))
 IsKeyIn paths (keys.Label l p) = slice_get paths p ≡ Some None
 IsKeyIn paths (keys.Implementing l p) = (path : Text) × (slice_get paths p ≡ Some (Some path))
+
+-- an inline interface has a place of its own, behind those that were there before
+abbrev pub IsFreshKey : List (Option Text) → InstanceKey → Type 0
+IsFreshKey before (keys.Path p) = Unit {0}
+IsFreshKey before (keys.Label l p) = length before ≤ p
+IsFreshKey before (keys.Implementing l p) = Unit {0}
 
 -- a label and the path of what it implements, completed
 abbrev pub implementing_key : Text → Text → Option Text → Option Key

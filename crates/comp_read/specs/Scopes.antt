@@ -1,10 +1,10 @@
 -- Scopes of component types as they are kept, what they stand for, and what each entry does to them.
-use Rattle.std.specs.Prelude.{◌≡◌, ◌<◌, ◌≤◌, ◌+◌, ◌-◌, ◌==◌, ◌&&◌, ℕ, suc, Bool, true, false, not, if◌then◌else◌, List, [], ◌∷◌, ◌++◌, length, map, take, option_map, slice_get, unwrap_or, IfSome, Option, Some, None}
+use Rattle.std.specs.Prelude.{◌≡◌, ◌⊎◌, ◌<◌, ◌≤◌, ◌+◌, ◌-◌, ◌==◌, ◌&&◌, ℕ, suc, Bool, true, false, not, if◌then◌else◌, List, [], ◌∷◌, ◌++◌, length, map, take, option_map, slice_get, unwrap_or, IfSome, Option, Some, None}
 use Rattle.std.specs.Borrow.{Bor}
 use Rattle.std.specs.List.{AllByRecursion, list_any}
 use Rattle.wit_model.specs.Meaning.{Signature}
 use Rattle.wit_model.specs.Text.{Text, text_eq}
-use Rattle.wit_model.specs.Tree.{Place, Tree}
+use Rattle.wit_model.specs.Tree.{Form, Place, Tree}
 use Rattle.comp_bytes.specs.Levels.{Entry as RawEntry, plain, holds, entry_at}
 use Rattle.comp_bytes.specs.Raw.{Alias}
 use Rattle.comp_bytes.specs.RawOf.{text_of}
@@ -29,10 +29,12 @@ use Rattle.comp_read.specs.Defining.{Grows}
 use Rattle.comp_read.specs.Following.{declared_in, shown_function, shown_type, slots_at, AreMarked, AreSlotsIn, AreTables, IsShownFunctionIn, IsShownIn, State}
 use Rattle.comp_read.specs.InstanceScopes.{IsViewOf}
 use Rattle.comp_read.specs.Found.{Refuses}
-use Rattle.comp_read.specs.Functions.{functions_in, FunctionShape}
+use Rattle.comp_read.specs.Functions.{functions_in, FunctionShape, IsFunctionIn}
+use Rattle.comp_read.specs.Placed.{apart, DeclarationOver, HasNoNames, IsNameAs, IsShownAmong, IsTypeNamed, MayMeet, Rise, SignatureOver, SlotOver, ViewOver}
 use Rattle.comp_read.specs.Places.{has_path, key_at, place_number, ArePlacesOf, IsKeyIn}
 use Rattle.comp_read.specs.Slots.{no_signature, slots_in}
-use Rattle.read_plan.specs.Shapes.{Shape, shape_trees}
+use Rattle.read_plan.specs.PlanRules.{is_form}
+use Rattle.read_plan.specs.Shapes.{Shape, named_shape, node_shape, shape_trees}
 
 -- ---- what was kept, as what it stands for
 
@@ -119,6 +121,103 @@ pub record IsWorld (w : World) : Type 0 where
   pub imports : AreSeenIn w.shapes w.signatures w.paths (length w.instances) w.imports
   pub exports : AreSeenIn w.shapes w.signatures w.paths (length w.instances) w.exports
 
+-- ---- names in their places
+
+abbrev pub ShownOver : (Place → Type 0) → MeantShown → Type 0
+ShownOver P (MeantShown.instance key view) = Unit {0}
+ShownOver P (MeantShown.function f) = SignatureOver P f
+ShownOver P (MeantShown.declares d) = DeclarationOver P d
+
+-- a type that is imported stands for its name
+abbrev pub IsImportNamed : List Shape → ℕ → Shown → Type 0
+IsImportNamed shapes home (shown.Instance key n) = Unit {0}
+IsImportNamed shapes home (shown.Function name f) = Unit {0}
+IsImportNamed shapes home (shown.Type name part d) = IsNameAs shapes home name.now part
+
+-- an instance has the place of its key
+abbrev pub IsKeyPlaced : List Instance → Shown → Type 0
+IsKeyPlaced is (shown.Instance key n) = (x : Instance) × (slice_get is n ≡ Some x) × (x.place ≡ place_number key)
+IsKeyPlaced is (shown.Function name f) = Unit {0}
+IsKeyPlaced is (shown.Type name part d) = Unit {0}
+
+-- The name of this place, which is this part, is shown: by an instance of the place, or as an import of the scope itself.
+pub data IsShownBy (w : World) (q : ℕ) (name : Text) (part : ℕ) : Type 0 where
+  by_instance : (j : ℕ) (x : Instance) → slice_get w.instances j ≡ Some x → x.place ≡ q → IsShownAmong x.view.types.items name part → IsShownBy w q name part
+  by_import : (j : ℕ) (s : Seen) (label : Bor (List ℕ)) (d : Option ℕ) → slice_get w.imports j ≡ Some s → s.shown ≡ shown.Type label part d → label.now ≡ name → q ≡ w.home → IsShownBy w q name part
+
+-- no instance before it is of its place
+abbrev pub IsFirstOf : List Instance → ℕ → Instance → Type 0
+IsFirstOf is j x = (i : ℕ) (y : Instance) → slice_get is i ≡ Some y → i < j → y.place ≡ x.place → ⊥
+
+-- the place of an inline interface is its own, and there were so many places before the scope
+pub record IsInlinePlace (count : ℕ) (w : World) (j : ℕ) (x : Instance) : Type 0 where
+  pub none : slice_get w.paths x.place ≡ Some None
+  pub new : count ≤ x.place
+  pub not_home : x.place ≡ w.home → ⊥
+  pub first : IsFirstOf w.instances j x
+
+-- An instance of the scope: what it shows is over its own place and those with a path, and stands for its name. If its place had no names before
+-- the scope, and it is the first of it, then its names came behind what they are over.
+pub record IsPlacedInstance (base : List Shape) (count : ℕ) (w : World) (j : ℕ) (x : Instance) : Type 0 where
+  pub shown : ViewOver (MayMeet (map has_path w.paths) x.place) (view_in (world_trees apart w) (world_signatures apart w) x.view)
+  pub named : AllByRecursion (IsTypeNamed w.shapes x.place) x.view.types.items
+  pub own : ((path : Text) × (slice_get w.paths x.place ≡ Some (Some path))) ⊎ IsInlinePlace count w j x
+  pub rise : HasNoNames x.place base → IsFirstOf w.instances j x → Rise x.view.types.items
+
+-- an earlier import of a type has the name
+pub record IsImportRepeated (imports : List Seen) (j : ℕ) (name : Text) : Type 0 where
+  pub number : ℕ
+  pub earlier : number < j
+  pub seen : Seen
+  pub at : slice_get imports number ≡ Some seen
+  pub label : Bor (List ℕ)
+  pub part : ℕ
+  pub declared : Option ℕ
+  pub is : seen.shown ≡ shown.Type label part declared
+  pub same : label.now ≡ name
+
+-- the name is the last of so many types, behind what it is declared as and behind all that was there before
+pub record IsLastName (counts : List ℕ) (j c part : ℕ) (d : Option ℕ) : Type 0 where
+  pub last : part + 1 ≡ 14 + c
+  pub declared : IfSome d (λ k. k < part)
+  pub others : (i b : ℕ) → slice_get counts i ≡ Some b → i < j → b < c
+
+abbrev pub IsCountedAs : World → List ℕ → ℕ → ℕ → Shown → Type 0
+IsCountedAs w counts j c (shown.Instance key n) = Unit {0}
+IsCountedAs w counts j c (shown.Function name f) = (g : FunctionShape) → slice_get w.signatures f ≡ Some g → IsFunctionIn c g
+IsCountedAs w counts j c (shown.Type name part d) = IsImportRepeated w.imports j name.now ⊎ IsLastName counts j c part d
+
+-- How many types there were once this import was followed: no fewer than before it, and what it is over is among them.
+pub record IsCounted (w : World) (counts : List ℕ) (j : ℕ) (s : Seen) (c : ℕ) : Type 0 where
+  pub below : c ≤ length w.shapes
+  pub rising : (i b : ℕ) → slice_get counts i ≡ Some b → i < j → b ≤ c
+  pub kind : IsCountedAs w counts j c s.shown
+
+-- Slots and what is shown are over names of the scope's own place and of those with a path, what is imported stands for its name, and an instance has
+-- the place of its key. Each name that came into the table behind these shapes, among the first so many, is shown, each form is one that a definition may
+-- have, and imports came into it in their order. There were so many places before the scope, and no name of its own.
+pub record IsPlacedAmong (base : List Shape) (count till : ℕ) (w : World) : Type 0 where
+  pub grows : Grows base w.shapes
+  pub within : till ≤ length w.shapes
+  pub home : count ≤ w.home
+  pub fresh : HasNoNames w.home base
+  pub slots : AllByRecursion (SlotOver (MayMeet (map has_path w.paths) w.home)) (meant_at apart w).slots
+  pub imports : AllByRecursion (λ (s : MeantSeen). ShownOver (MayMeet (map has_path w.paths) w.home) s.shown) (meant_at apart w).imports
+  pub exports : AllByRecursion (λ (s : MeantSeen). ShownOver (MayMeet (map has_path w.paths) w.home) s.shown) (meant_at apart w).exports
+  pub named : AllByRecursion (λ (s : Seen). IsImportNamed w.shapes w.home s.shown) w.imports
+  pub imports_keyed : AllByRecursion (λ (s : Seen). IsKeyPlaced w.instances s.shown) w.imports
+  pub exports_keyed : AllByRecursion (λ (s : Seen). IsKeyPlaced w.instances s.shown) w.exports
+  pub instances : (j : ℕ) (x : Instance) → slice_get w.instances j ≡ Some x → IsPlacedInstance base count w j x
+  pub names : (n q : ℕ) (name : Text) → n < till → slice_get w.shapes n ≡ Some (named_shape q name) → (n < length base) ⊎ IsShownBy w q name (14 + n)
+  pub formed : (n : ℕ) (form : Form) (parts : List ℕ) → n < till → slice_get w.shapes n ≡ Some (node_shape form parts) → (n < length base) ⊎ (is_form form parts ≡ true)
+  pub counts : List ℕ
+  pub many : length counts ≡ length w.imports
+  pub counted : (j : ℕ) (s : Seen) (c : ℕ) → slice_get w.imports j ≡ Some s → slice_get counts j ≡ Some c → IsCounted w counts j s c
+
+-- all names that came into the table are
+abbrev pub IsPlacedWorld : List Shape → ℕ → World → Type 0
+IsPlacedWorld base count w = IsPlacedAmong base count (length w.shapes) w
+
 -- ---- counts
 
 -- how many declarations the instance types have that aren't used yet, where the first slot has the number n
@@ -138,13 +237,15 @@ weights (e ∷ es) = weight e + weights es
 
 -- ---- steps
 
--- The tables grow, by this many types at most if all that waits is counted, and the scope becomes what the step of the definition makes of it.
+-- The tables grow, by this many types at most if all that waits is counted, names stay in their places, and the scope becomes what the step of the
+-- definition makes of it.
 pub record Goes (few : ℕ) (step : MeantScope → Option MeantScope) (old new : World) : Type 0 where
   pub world : IsWorld new
   pub shapes_grow : Grows old.shapes new.shapes
   pub signatures_grow : Grows old.signatures new.signatures
   pub paths_grow : Grows old.paths new.paths
   pub count : length new.shapes + waiting new.used 0 new.slots ≤ length old.shapes + waiting old.used 0 old.slots + few
+  pub placed : (base : List Shape) (places : ℕ) → IsPlacedWorld base places old → IsPlacedWorld base places new
   pub follows : (place : ℕ → Place) → ArePlacesOf new.paths place → step (meant_at place old) ≡ Some (meant_at place new)
 
 -- the step of the definition makes nothing of it, unless memory ran out
@@ -170,6 +271,7 @@ pub record IsFollowedTo (start : World) (b : Body) (i : ℕ) (rest : List ℕ) (
   pub shapes_grow : Grows start.shapes now.shapes
   pub signatures_grow : Grows start.signatures now.signatures
   pub paths_grow : Grows start.paths now.paths
+  pub placed : IsPlacedWorld start.shapes start.home now
   pub es : List RawEntry
   pub left : sequence_at entry_at (b.count - i) rest ≡ Some (es, [])
   pub count : length now.shapes + waiting now.used 0 now.slots + weights es ≤ length start.shapes + weights (items_in entry_at b)
@@ -225,11 +327,13 @@ are_settled used n (s ∷ ss) = is_settled used n s && are_settled used (suc n) 
 abbrev pub start_of : ℕ → List Shape → List FunctionShape → List (Option Text) → World
 start_of home shapes fs paths = record { home = home; shapes = shapes; signatures = fs; paths = paths; slots = []; instances = []; imports = []; exports = []; used = [] }
 
--- The tables grow, by no more types than the entries and the instance types among them declare, and the scope stands for what they show.
+-- The tables grow, by no more types than the entries and the instance types among them declare, names stand in their places, and the scope stands for
+-- what they show.
 pub record IsScopeOf (shapes : List Shape) (fs : List FunctionShape) (paths : List (Option Text)) (b : Body) (now : World) : Type 0 where
   pub world : IsWorld now
   pub shapes_grow : Grows shapes now.shapes
   pub signatures_grow : Grows fs now.signatures
   pub paths_grow : Grows paths now.paths
   pub count : length now.shapes ≤ length shapes + weights (items_in entry_at b)
+  pub placed : IsPlacedWorld shapes (length paths) now
   pub shows : (place : ℕ → Place) → ArePlacesOf now.paths place → entry_scope (items_in entry_at b) ≡ Some (meant_at place now)

@@ -11,6 +11,7 @@ ghost use Rattle.comp_read.specs.Defining.{Grows};
 ghost use Rattle.comp_read.specs.ExternNames.{raw_name};
 ghost use Rattle.comp_read.specs.Following.{AreTables};
 ghost use Rattle.comp_read.specs.Found.{Gives, Refuses};
+ghost use Rattle.comp_read.specs.Placed.{HasNoNames};
 ghost use Rattle.comp_read.specs.Scopes.{are_settled as are_settled_lem, direction, is_settled as is_settled_lem, start_of, taken_from, weight, world_of, Goes, IsFollowedTo, IsScopeOf, IsWorld, Stops};
 
 use crate::bodies::{Body, Entry, entry_of};
@@ -193,6 +194,7 @@ fn follow_entries<'a>(
 ) -> Result<Scope<'a>, Refusal>
     requires tables { AreTables (length places.old) table.old functions.old }
     requires home { slice_get places.old home ≡ Some None }
+    requires fresh { HasNoNames home table.old }
     requires body { IsBody entry_at body }
     ensures followed { IfOk result (λ scope. IsFollowedTo (start_of home table.old functions.old places.old) body.entry body.entry.count [] (world_of table.new functions.new places.new scope)) }
     ensures absent { IfErr result (λ e. Refuses e (entry_scope (items_in entry_at body.entry))) }

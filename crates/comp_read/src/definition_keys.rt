@@ -45,6 +45,7 @@ fn key_over<'a>(
 ) -> Result<Key<'a>, Refusal>
     ensures shape { IfOk result (λ k. shape_of k ≡ record { sort = sort; number = number; labels = []; parts = option_to_list first ++ option_to_list second }) }
     ensures memory { IsOkUnless result refusals.Memory }
+    ensures small { number < 4294967296 }
 {
     let mut parts = Vec::new(alloc);
     push_given(&mut parts, first)?;

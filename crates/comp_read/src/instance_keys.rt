@@ -7,7 +7,7 @@ ghost use Rattle.comp_meaning.specs.Follow.{complete_path as complete_path_lem, 
 ghost use Rattle.comp_read.specs.Defining.{Grows};
 ghost use Rattle.comp_read.specs.ExternNames.{raw_name};
 ghost use Rattle.comp_read.specs.Found.{Refuses};
-ghost use Rattle.comp_read.specs.Places.{implementing_key as implementing_key_lem, IsKeyOf, IsNoLabel, IsPathNumber};
+ghost use Rattle.comp_read.specs.Places.{implementing_key as implementing_key_lem, IsFreshKey, IsKeyOf, IsNoLabel, IsPathNumber};
 ghost use Rattle.comp_read.specs.declared.refusal.Refusal.TheVariants as refusals;
 
 use crate::names::ExternName;
@@ -53,6 +53,7 @@ fn label_key<'a>(
 ) -> Result<InstanceKey<'a>, Refusal>
     requires { is_label_lem label.now ≡ true }
     ensures key { IfOk result (IsKeyOf (plain_key_lem label.now None) places.new) }
+    ensures fresh { IfOk result (IsFreshKey places.old) }
     ensures grows { Grows places.old places.new }
     ensures memory { IsOkUnless result refusals.Memory }
 {
@@ -69,6 +70,7 @@ fn path_key<'a>(
 ) -> Result<InstanceKey<'a>, Refusal>
     requires { IsNoLabel text.now (option_map borrowed_text suffix) }
     ensures key { IfOk result (IsKeyOf (plain_key_lem text.now (option_map borrowed_text suffix.entry)) places.new) }
+    ensures fresh { IfOk result (IsFreshKey places.old) }
     ensures grows { Grows places.old places.new }
     ensures absent { IfErr result (λ e. Refuses e (plain_key_lem text.now (option_map borrowed_text suffix.entry))) }
 {
@@ -86,6 +88,7 @@ fn plain_key<'a>(
     suffix: Option<&str>,
 ) -> Result<InstanceKey<'a>, Refusal>
     ensures key { IfOk result (IsKeyOf (plain_key_lem text.now (option_map borrowed_text suffix.entry)) places.new) }
+    ensures fresh { IfOk result (IsFreshKey places.old) }
     ensures grows { Grows places.old places.new }
     ensures absent { IfErr result (λ e. Refuses e (plain_key_lem text.now (option_map borrowed_text suffix.entry))) }
 {
@@ -110,6 +113,7 @@ fn implementing_key<'a>(
     suffix: Option<&str>,
 ) -> Result<InstanceKey<'a>, Refusal>
     ensures key { IfOk result (IsKeyOf (implementing_key_lem label.now target.now (option_map borrowed_text suffix.entry)) places.new) }
+    ensures fresh { IfOk result (IsFreshKey places.old) }
     ensures grows { Grows places.old places.new }
     ensures absent { IfErr result (λ e. Refuses e (implementing_key_lem label.now target.now (option_map borrowed_text suffix.entry))) }
 {
@@ -132,6 +136,7 @@ pub fn key_of<'a>(
     name: ExternName<'a>,
 ) -> Result<InstanceKey<'a>, Refusal>
     ensures key { IfOk result (IsKeyOf (key_of_lem (raw_name name.entry)) places.new) }
+    ensures fresh { IfOk result (IsFreshKey places.old) }
     ensures grows { Grows places.old places.new }
     ensures absent { IfErr result (λ e. Refuses e (key_of_lem (raw_name name.entry))) }
 {

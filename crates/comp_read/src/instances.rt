@@ -82,7 +82,7 @@ fn step<'a>(
     requires state { IsState (length marks.now) (state_of table.old functions.old scope.old) }
     requires outer { AreSlotsIn table.old functions.old outer.now }
     requires here { here < length marks.now }
-    ensures followed { OnOk result (Steps marks.now 1 (step_of here table.old functions.old outer.now (raw_declared declared.now)) (state_of table.old functions.old scope.old) (state_of table.new functions.new scope.new)) }
+    ensures followed { OnOk result (Steps marks.now here 1 (step_of here table.old functions.old outer.now (raw_declared declared.now)) (state_of table.old functions.old scope.old) (state_of table.new functions.new scope.new)) }
     ensures absent { IfErr result (Halts marks.now (step_of here table.old functions.old outer.now (raw_declared declared.now)) (state_of table.old functions.old scope.old)) }
 {
     match declared {

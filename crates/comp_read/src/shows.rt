@@ -106,7 +106,7 @@ fn show_type<'a>(
     name: ExternName<'a>,
     kind: ComponentTypeRef,
 ) -> Result<(), Refusal>
-    ensures shown { (marks : List Bool) (fs : List FunctionShape) → IsState (length marks) (state_of table.old fs scope.old) → here < length marks → OnOk result (Steps marks 1 (λ place. show_type_lem (place here) (raw_name name.entry) kind) (state_of table.old fs scope.old) (state_of table.new fs scope.new)) }
+    ensures shown { (marks : List Bool) (fs : List FunctionShape) → IsState (length marks) (state_of table.old fs scope.old) → here < length marks → OnOk result (Steps marks here 1 (λ place. show_type_lem (place here) (raw_name name.entry) kind) (state_of table.old fs scope.old) (state_of table.new fs scope.new)) }
     ensures absent { (marks : List Bool) (fs : List FunctionShape) → IsState (length marks) (state_of table.old fs scope.old) → IfErr result (Halts marks (λ place. show_type_lem (place here) (raw_name name.entry) kind) (state_of table.old fs scope.old)) }
 {
     match declared_by(&scope.slots, kind) {
@@ -132,7 +132,7 @@ fn show_function<'a>(
     name: ExternName<'a>,
     n: u32,
 ) -> Result<(), Refusal>
-    ensures shown { (marks : List Bool) (shapes : List Shape) (fs : List FunctionShape) → IsState (length marks) (state_of shapes fs scope.old) → OnOk result (Steps marks 1 (λ place. show_function_lem (raw_name name.entry) n) (state_of shapes fs scope.old) (state_of shapes fs scope.new)) }
+    ensures shown { (marks : List Bool) (here : ℕ) (shapes : List Shape) (fs : List FunctionShape) → IsState (length marks) (state_of shapes fs scope.old) → OnOk result (Steps marks here 1 (λ place. show_function_lem (raw_name name.entry) n) (state_of shapes fs scope.old) (state_of shapes fs scope.new)) }
     ensures absent { (marks : List Bool) (shapes : List Shape) (fs : List FunctionShape) → IsState (length marks) (state_of shapes fs scope.old) → IfErr result (Halts marks (λ place. show_function_lem (raw_name name.entry) n) (state_of shapes fs scope.old)) }
 {
     match function_in(&scope.slots, n) {
@@ -164,7 +164,7 @@ pub(crate) fn show<'a>(
     name: ExternName<'a>,
     kind: ComponentTypeRef,
 ) -> Result<(), Refusal>
-    ensures shown { (marks : List Bool) (fs : List FunctionShape) → IsState (length marks) (state_of table.old fs scope.old) → here < length marks → OnOk result (Steps marks 1 (λ place meant. when (is_simple_lem (raw_name name.entry)) (show_lem (place here) (raw_name name.entry) kind meant)) (state_of table.old fs scope.old) (state_of table.new fs scope.new)) }
+    ensures shown { (marks : List Bool) (fs : List FunctionShape) → IsState (length marks) (state_of table.old fs scope.old) → here < length marks → OnOk result (Steps marks here 1 (λ place meant. when (is_simple_lem (raw_name name.entry)) (show_lem (place here) (raw_name name.entry) kind meant)) (state_of table.old fs scope.old) (state_of table.new fs scope.new)) }
     ensures absent { (marks : List Bool) (fs : List FunctionShape) → IsState (length marks) (state_of table.old fs scope.old) → IfErr result (Halts marks (λ place meant. when (is_simple_lem (raw_name name.entry)) (show_lem (place here) (raw_name name.entry) kind meant)) (state_of table.old fs scope.old)) }
 {
     if !is_simple(name) {

@@ -9,15 +9,19 @@ use Rattle.comp_read.specs.Functions.{AreApart}
 use Rattle.comp_read.specs.Places.{ArePathsApart, ArePlacesOf}
 use Rattle.follow_parts.specs.declared.following.Followed.{Followed}
 use Rattle.follow_parts.specs.Followed.{scopes_in, scopes_of}
-use Rattle.follow_parts.specs.Members.{member_meant, parts_weight, MembersStand}
+use Rattle.follow_parts.specs.Members.{member_meant, parts_weight, AreFormed, AreMembersPlaced, AreNamesShown, MembersStand}
 
--- The tables are well-formed, and the members stand in them for what the parts do, over no more types than the parts' entries make.
+-- The tables are well-formed, with forms as definitions have them, names stand in their places and each is shown, and the members stand in the tables
+-- for what the parts do, over no more types than the parts' entries make.
 pub record ArePartsFollowed (parts : List (Text × PartType)) (x : Followed) : Type 0 where
   pub tables : AreTables (length x.places) x.table x.functions
   pub functions_apart : AreApart x.functions
   pub paths_apart : ArePathsApart x.places
   pub stand : MembersStand x.table x.functions x.places x.members.items
   pub count : length x.table ≤ parts_weight parts
+  pub placed : AreMembersPlaced x.table x.functions x.places x.members.items
+  pub names : AreNamesShown x.table x.functions x.places x.members.items
+  pub formed : AreFormed x.table
   pub shows : (place : ℕ → Place) → ArePlacesOf x.places place → scopes_in parts ≡ Some (map (member_meant x.table x.functions x.places place) x.members.items)
 
 -- The parts are those that are exported at the top, and the members stand for what is followed of all.

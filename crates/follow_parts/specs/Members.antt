@@ -1,18 +1,20 @@
 -- The parts at the top as they are followed, over the tables and the places of a whole input.
-use Rattle.std.specs.Prelude.{◌≡◌, ◌≤◌, ℕ, ◌+◌, List, [], ◌∷◌, ◌++◌, length, map, Option, Some}
+use Rattle.std.specs.Prelude.{◌≡◌, ◌<◌, ◌≤◌, ℕ, ◌+◌, true, List, [], ◌∷◌, ◌++◌, length, map, slice_get, Option, Some}
 use Rattle.std.specs.List.{AllByRecursion}
 use Rattle.wit_model.specs.Text.{Text, text_of}
-use Rattle.wit_model.specs.Tree.{Place}
+use Rattle.wit_model.specs.Tree.{Form, Place}
 use Rattle.comp_bytes.specs.Levels.{PartType, wraps, shows}
 use Rattle.comp_bytes.specs.Reading.{◌>>=◌}
 use Rattle.comp_meaning.specs.Follow.{each}
+use Rattle.comp_read.specs.declared.scopes.Instance.{Instance}
 use Rattle.comp_read.specs.declared.scopes.Scope.{Scope}
 use Rattle.comp_read.specs.Defining.{Grows}
 use Rattle.comp_read.specs.Following.{AreTables}
 use Rattle.comp_read.specs.Functions.{FunctionShape}
 use Rattle.comp_read.specs.Places.{ArePlacesOf}
-use Rattle.comp_read.specs.Scopes.{meant_at, weights, world_of, IsWorld}
-use Rattle.read_plan.specs.Shapes.{Shape}
+use Rattle.comp_read.specs.Scopes.{meant_at, weights, world_of, IsPlacedAmong, IsPlacedWorld, IsShownBy, IsWorld}
+use Rattle.read_plan.specs.PlanRules.{is_form}
+use Rattle.read_plan.specs.Shapes.{Shape, named_shape, node_shape}
 use Rattle.follow_parts.specs.declared.members.FollowedPart.{FollowedPart}
 use Rattle.follow_parts.specs.declared.members.FollowedPart.TheVariants as followed
 use Rattle.follow_parts.specs.declared.members.Member.{Member}
@@ -21,6 +23,15 @@ use Rattle.follow_parts.specs.Followed.{PartScope, world, interface, labelled_sc
 abbrev pub scope_of : FollowedPart → Scope
 scope_of (followed.World path scope) = scope
 scope_of (followed.Interface scope) = scope
+
+-- its places are among the first so many
+pub record ArePlacesBelow (count : ℕ) (p : FollowedPart) : Type 0 where
+  pub home : (scope_of p).home < count
+  pub instances : (j : ℕ) (x : Instance) → slice_get (scope_of p).instances.items j ≡ Some x → x.place < count
+
+-- each form of the table is one that a definition may have
+abbrev pub AreFormed : List Shape → Type 0
+AreFormed shapes = (n : ℕ) (form : Form) (parts : List ℕ) → slice_get shapes n ≡ Some (node_shape form parts) → is_form form parts ≡ true
 
 -- how many types a part makes at most
 abbrev pub part_weight : PartType → ℕ
@@ -47,9 +58,37 @@ module _ (shapes : List Shape) (fs : List FunctionShape) (paths : List (Option T
   abbrev pub MembersStand : List Member → Type 0
   MembersStand ms = AllByRecursion (λ (m : Member). StandsIn m.part) ms
 
+  -- ---- names in their places
+
+  -- one of the first so many parts shows the name, which is this part
+  pub record IsShownBySome (ms : List Member) (upto q : ℕ) (name : Text) (part : ℕ) : Type 0 where
+    pub number : ℕ
+    pub below : number < upto
+    pub member : Member
+    pub at : slice_get ms number ≡ Some member
+    pub by : IsShownBy (world_of shapes fs paths (scope_of member.part)) q name part
+
+  -- A member behind so many others. Names stand in their places; those that stood in the table before it, in its first types, are shown by the others,
+  -- and the places of these are among the first so many.
+  pub record IsPlacedMember (ms : List Member) (i : ℕ) (m : Member) : Type 0 where
+    pub base : List Shape
+    pub count : ℕ
+    pub till : ℕ
+    pub placed : IsPlacedAmong base count till (world_of shapes fs paths (scope_of m.part))
+    pub names : (n q : ℕ) (name : Text) → slice_get base n ≡ Some (named_shape q name) → IsShownBySome ms i q name (14 + n)
+    pub earlier : (k : ℕ) (x : Member) → slice_get ms k ≡ Some x → k < i → ArePlacesBelow count x.part
+
+  abbrev pub AreMembersPlaced : List Member → Type 0
+  AreMembersPlaced ms = (i : ℕ) (m : Member) → slice_get ms i ≡ Some m → IsPlacedMember ms i m
+
+  -- each name of the table is shown
+  abbrev pub AreNamesShown : List Member → Type 0
+  AreNamesShown ms = (n q : ℕ) (name : Text) → slice_get shapes n ≡ Some (named_shape q name) → IsShownBySome ms (length ms) q name (14 + n)
+
 -- ---- one part
 
--- The tables and the places grow, by no more types than its entries make, and the part stands for what its type at the top does.
+-- The tables and the places grow, by no more types than its entries make, names stand in their places, and the part stands for what its type at the
+-- top does.
 pub record IsPartFollowed (shapes : List Shape) (fs : List FunctionShape) (paths : List (Option Text)) (raw : PartType)
     (more : List Shape) (more_fs : List FunctionShape) (more_paths : List (Option Text)) (p : FollowedPart) : Type 0 where
   pub stands : StandsIn more more_fs more_paths p
@@ -57,6 +96,7 @@ pub record IsPartFollowed (shapes : List Shape) (fs : List FunctionShape) (paths
   pub signatures_grow : Grows fs more_fs
   pub paths_grow : Grows paths more_paths
   pub count : length more ≤ length shapes + part_weight raw
+  pub placed : IsPlacedWorld shapes (length paths) (world_of more more_fs more_paths (scope_of p))
   pub shows : (place : ℕ → Place) → ArePlacesOf more_paths place → part_scope raw ≡ Some (part_meant more more_fs more_paths place p)
 
 -- ---- all parts
@@ -65,11 +105,15 @@ pub record IsPartFollowed (shapes : List Shape) (fs : List FunctionShape) (paths
 abbrev pub with_front : {A : Type 0} → List A → Option (List A) → Option (List A)
 with_front front found = found >>= λ rest. Some (front ++ rest)
 
--- Some parts have been followed, over so many types that were there before. Those that are left decide what all stand for.
+-- Some parts have been followed, over so many types that were there before. Names stand in their places, and each is shown; forms are as definitions
+-- have them. Those that are left decide what all stand for.
 pub record AreFollowedTo (before : ℕ) (raws left : List (Text × PartType)) (shapes : List Shape) (fs : List FunctionShape) (paths : List (Option Text)) (ms : List Member) : Type 0 where
   pub tables : AreTables (length paths) shapes fs
   pub stand : MembersStand shapes fs paths ms
   pub count : length shapes + parts_weight left ≤ before + parts_weight raws
+  pub placed : AreMembersPlaced shapes fs paths ms
+  pub names : AreNamesShown shapes fs paths ms
+  pub formed : AreFormed shapes
   pub shows : (place : ℕ → Place) → ArePlacesOf paths place → with_front (map (member_meant shapes fs paths place) ms) (each labelled_scope left) ≡ each labelled_scope raws
 
 -- All parts are followed.

@@ -1,7 +1,7 @@
 //! All parts at the top, followed one after the other.
 
 ghost use Rattle.std.specs.List.{AllByRecursion};
-ghost use Rattle.std.specs.Prelude.{length, map, IfErr, IfOk};
+ghost use Rattle.std.specs.Prelude.{◌≡◌, [], length, map, IfErr, IfOk};
 ghost use Rattle.comp_meaning.specs.Follow.{each};
 ghost use Rattle.comp_read.specs.Following.{AreTables};
 ghost use Rattle.comp_read.specs.Found.{Refuses};
@@ -38,6 +38,7 @@ fn follow_each<'a>(
     parts: &[ExportedPart<'a>],
 ) -> Result<Vec<Member<'a>>, Refusal>
     requires tables { AreTables (length places.old) table.old functions.old }
+    requires empty { table.old ≡ [] }
     requires whole { AllByRecursion (λ x. IsWholePart x.part) parts.now }
     ensures followed { IfOk result (λ ms. AreFollowed (length table.old) (map raw_exported parts.now) table.new functions.new places.new ms.items) }
     ensures absent { IfErr result (λ e. Refuses e (each labelled_scope (map raw_exported parts.now))) }

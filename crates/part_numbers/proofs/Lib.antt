@@ -1,8 +1,14 @@
 pub mod FactNumbers
+pub mod ImportOrder
+pub mod ImportParts
 pub mod InputNumbers
 pub mod KnownNumbers
+pub mod KnownScopes
 pub mod LoopLaws
+pub mod MetNumbers
 pub mod NameNumbers
 pub mod PlaceNumbers
+pub mod PlacedMembers
+pub mod PlacedViews
 pub mod ScopeNumbers
 pub mod TableNumbers

@@ -11,7 +11,7 @@ use Rattle.part_numbers.specs.NumberedParts.{numbered_function, tables_in}
 use Rattle.part_numbers.specs.NumberLaws.{PlacesInNumbers, TablesInNumbers}
 
 -- what stands in a mapped list was made of what stands there
-at_mapped : {A B : Type 0} (f : A → B) (xs : List A) (n : ℕ) (y : B) → slice_get (map f xs) n ≡ Some y → (x : A) × (slice_get xs n ≡ Some x) × (f x ≡ y)
+pub at_mapped : {A B : Type 0} (f : A → B) (xs : List A) (n : ℕ) (y : B) → slice_get (map f xs) n ≡ Some y → (x : A) × (slice_get xs n ≡ Some x) × (f x ≡ y)
 at_mapped f [] n y e = absurd cc
 at_mapped f (x ∷ xs) zero y e = (x, refl, (let same : f x ≡ y = cc in same))
 at_mapped f (x ∷ xs) (suc n) y e = at_mapped f xs n y e

@@ -4,6 +4,7 @@ ghost use Rattle.std.specs.Prelude.{◌≡◌, None, map, slice_get, unwrap_or, 
 ghost use Rattle.plan_read.specs.Scopes.{numbered_instance, numbered_key, numbered_seen, numbered_shown};
 ghost use Rattle.plan_read.specs.Views.{numbered_view};
 ghost use Rattle.part_numbers.specs.NumberedParts.{instance_view, name_in, no_view, numbered_instance as followed_instance, numbered_key as followed_key, numbered_seen as followed_seen, numbered_shown as followed_shown, path_in};
+ghost use Rattle.part_numbers.specs.ImportParts.{followed_part, part_followed, part_seen, type_part};
 ghost use Rattle.part_numbers.specs.OwnedViews.{owned_view};
 
 use crate::views::OwnedView;
@@ -49,7 +50,8 @@ fn view_at<'a>(views: &'a [OwnedView<'a>], number: usize) -> View<'a>
 
 /// What an import or an export is.
 fn shown_of<'a>(views: &'a [OwnedView<'a>], shown: FollowedShown<'a>) -> Shown<'a>
-    ensures { numbered_shown result ≡ followed_shown (map owned_view views.entry.now) shown.entry }
+    ensures shown { numbered_shown result ≡ followed_shown (map owned_view views.entry.now) shown.entry }
+    ensures part { type_part result ≡ followed_part shown.entry }
 {
     match shown {
         FollowedShown::Instance(key, number) => {
@@ -86,7 +88,8 @@ fn name_of<'a>(places: &'a Places, shown: FollowedShown<'a>) -> &'a str
 }
 
 fn one_seen<'a>(places: &'a Places, views: &'a [OwnedView<'a>], seen: FollowedSeen<'a>) -> Seen<'a>
-    ensures { numbered_seen result ≡ followed_seen places.entry.now (map owned_view views.entry.now) seen.entry }
+    ensures seen { numbered_seen result ≡ followed_seen places.entry.now (map owned_view views.entry.now) seen.entry }
+    ensures part { part_seen result ≡ part_followed seen.entry }
 {
     Seen {
         key: name_of(places, seen.shown),
@@ -95,14 +98,15 @@ fn one_seen<'a>(places: &'a Places, views: &'a [OwnedView<'a>], seen: FollowedSe
     }
 }
 
-/// Imports or exports, where the instances of their scope have these views. Takes time linear in their number, and as much memory as there are.
+/// Imports or exports, where the instances of their scope have these views; a type is the part that it was. Takes time linear in their number, and as much memory as there are.
 pub fn seen_of<'a>(
     alloc: Global,
     places: &'a Places,
     views: &'a [OwnedView<'a>],
     seen: &[FollowedSeen<'a>],
 ) -> Result<Vec<Seen<'a>>, AllocError>
-    ensures { IfOk result (λ all. map numbered_seen all.items ≡ map (followed_seen places.entry.now (map owned_view views.entry.now)) seen.now) }
+    ensures seen { IfOk result (λ all. map numbered_seen all.items ≡ map (followed_seen places.entry.now (map owned_view views.entry.now)) seen.now) }
+    ensures parts { IfOk result (λ all. map part_seen all.items ≡ map part_followed seen.now) }
 {
     let mut all = Vec::new(alloc);
     for one in seen {

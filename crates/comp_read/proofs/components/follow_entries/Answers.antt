@@ -9,7 +9,7 @@ use Rattle.comp_read.proofs.components.follow_entries.Goals as goal
 pub loop-init : goal.loop-init
 loop-init c =
     let s = c.new_scope-scope.ensures in
-    followed_none c.args.home c.args.table.now c.args.functions.now c.args.places.now c.args.body c.requires.tables c.requires.home c.requires.body
+    followed_none c.args.home c.args.table.now c.args.functions.now c.args.places.now c.args.body c.requires.tables c.requires.home c.requires.fresh c.requires.body
     (world_of c.args.table.now c.args.functions.now c.args.places.now c.new_scope-scope.result)
     (λ i. record {
       home = s.home i;

@@ -4,10 +4,10 @@ use Rattle.comp_bytes.specs.Raw.{DefinedType}
 use Rattle.comp_bytes.specs.RawOf.{text_of}
 use Rattle.comp_meaning.specs.Follow.{provided}
 use Rattle.comp_read.proofs.DefinitionKeyLaws.{passed}
-use Rattle.comp_read.proofs.RowLaws.{all_filled}
+use Rattle.comp_read.proofs.RowLaws.{all_filled, items_there}
 use Rattle.comp_read.proofs.definition_keys.enum_key.Goals as goal
 
 pub returns : goal.returns
 returns c =
-    passed c.args.slots.now (DefinedType.enum_of (map text_of c.args.names.now)) c.labels_key.result (Form.enum_of (map text_of c.args.names.now)) [] c.labels_key.ensures.shape c.labels_key.ensures.memory (λ n ranges. tt)
+    passed c.args.slots.now (DefinedType.enum_of (map text_of c.args.names.now)) c.labels_key.result (Form.enum_of (map text_of c.args.names.now)) [] c.labels_key.ensures.shape c.labels_key.ensures.memory (λ n ranges. tt) (items_there (map text_of c.args.names.now) (all_filled text_of c.args.names.now c.if-is_empty.ensures))
     (λ T F named apart. ap (λ b. provided b (enum_tree (map text_of c.args.names.now))) (all_filled text_of c.args.names.now c.if-is_empty.ensures))

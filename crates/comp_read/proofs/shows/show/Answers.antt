@@ -24,10 +24,10 @@ pub returns-in-Func-clause-shown : goal.returns-in-Func-clause-shown
 returns-in-Func-clause-shown c = λ marks fs st below.
     let old = state_of c.args.table.now fs c.args.scope.now in
     let new = state_of c.args.table.now fs c.show_function.new.scope in
-    on_ok (Steps marks 1 (shows_function c.args.name c.in-Func.n) old new) (Steps marks 1 (shows c.args.name c.args.kind c.args.here) old new) c.show_function.result
-    (steps_as marks 1 (shows_function c.args.name c.in-Func.n) (shows c.args.name c.args.kind c.args.here) old new
+    on_ok (Steps marks c.args.here 1 (shows_function c.args.name c.in-Func.n) old new) (Steps marks c.args.here 1 (shows c.args.name c.args.kind c.args.here) old new) c.show_function.result
+    (steps_as marks c.args.here 1 (shows_function c.args.name c.in-Func.n) (shows c.args.name c.args.kind c.args.here) old new
     (λ place meant. ap (λ b. when b (show (place c.args.here) (raw_name c.args.name) c.args.kind meant)) (sym c.if-not-is_simple.ensures) ∙ ap (λ k. show (place c.args.here) (raw_name c.args.name) k meant) c.in-Func.is))
-    (c.show_function.ensures.shown marks c.args.table.now fs st)
+    (c.show_function.ensures.shown marks c.args.here c.args.table.now fs st)
 
 pub returns-in-Func-clause-absent : goal.returns-in-Func-clause-absent
 returns-in-Func-clause-absent c = λ marks fs st.
@@ -41,8 +41,8 @@ pub returns-in_default-clause-shown : goal.returns-in_default-clause-shown
 returns-in_default-clause-shown c = λ marks fs st below.
     let old = state_of c.args.table.now fs c.args.scope.now in
     let new = state_of c.show_type.new.table fs c.show_type.new.scope in
-    on_ok (Steps marks 1 (shows_type_of c.args.name c.args.kind c.args.here) old new) (Steps marks 1 (shows c.args.name c.args.kind c.args.here) old new) c.show_type.result
-    (steps_as marks 1 (shows_type_of c.args.name c.args.kind c.args.here) (shows c.args.name c.args.kind c.args.here) old new
+    on_ok (Steps marks c.args.here 1 (shows_type_of c.args.name c.args.kind c.args.here) old new) (Steps marks c.args.here 1 (shows c.args.name c.args.kind c.args.here) old new) c.show_type.result
+    (steps_as marks c.args.here 1 (shows_type_of c.args.name c.args.kind c.args.here) (shows c.args.name c.args.kind c.args.here) old new
     (λ place meant. as_type c.args.kind c.args.kind c.in_default.not-Func refl (place c.args.here) (raw_name c.args.name) meant (sym c.if-not-is_simple.ensures)))
     (c.show_type.ensures.shown marks fs st below)
 
