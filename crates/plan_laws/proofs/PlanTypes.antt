@@ -1,5 +1,5 @@
 -- The types of a plan that were made of those that are used.
-use Rattle.std.proofs.Common.{◌≡◌, refl, sym, ap, subst, ◌∙◌, ℕ, zero, suc, Bool, true, List, [], ◌∷◌, length, Option, Some, None, slice_get}
+use Rattle.std.proofs.Common.{◌≡◌, sym, ap, subst, ◌∙◌, ℕ, Bool, true, List, length, Option, Some, None, slice_get}
 use Rattle.std.specs.List.{AllByRecursion, AllZip}
 use Rattle.wit_model.specs.declared.model.TypeOwner.{TypeOwner}
 use Rattle.wit_model.specs.Text.{Text}
@@ -7,7 +7,7 @@ use Rattle.wit_model.proofs.Elements.{same-some}
 use Rattle.read_plan.proofs.ShapeLaws.{form_back}
 use Rattle.read_plan.specs.GatheredPlan.{Becomes}
 use Rattle.read_plan.specs.KeptTypes.{IsKeptType, declared, unnamed as kept_unnamed}
-use Rattle.read_plan.specs.NumberedRules.{name_in}
+use Rattle.read_plan.specs.NumberedRules.{name_at, name_in}
 use Rattle.read_plan.specs.NumberedViews.{AreTables, Tables}
 use Rattle.read_plan.specs.Plan.{Plan, PlannedType, formed, place_in}
 use Rattle.read_plan.specs.Shapes.{Shape, IsShape, a_name, a_node, named_shape}
@@ -18,30 +18,17 @@ use Rattle.plan_gather.specs.Marks.{is_marked}
 use Rattle.plan_types.specs.PlannedTypes.{PlansType, named, unnamed}
 use Rattle.plan_types.specs.Showings.{NumberedShowing}
 use Rattle.plan_types.specs.Used.{used_parts, AreUsed}
+use Rattle.read_plan.specs.PlanRules.{is_form}
+use Rattle.shown_laws.proofs.Lists.{recursion_weaker}
+use Rattle.plan_laws.proofs.KeptKinds.{zip_get, zip_length}
+use Rattle.plan_laws.proofs.ShownForms.{kept_forms, mark_there}
+use Rattle.plan_laws.proofs.UsedWalk.{unnamed_node}
 use Rattle.plan_laws.specs.PlanTypes.{NamesObey, PlannedTypesAreKept}
 use Rattle.plan_laws.specs.UsedParts.{ShowingObeys, SignatureObeys}
-use Rattle.plan_laws.proofs.UsedParts.{unnamed_node, used_are_fine}
+use Rattle.plan_laws.proofs.UsedParts.{used_are_fine}
 
 no_some : {A : Type 0} {B : Type 0} (x : A) → None ≡ Some x → B
 no_some x e = let wrong : ⊥ = cc in absurd wrong
-
-zip_length : {A B : Type 0} (P : A → B → Type 0) (xs : List A) (ys : List B) → AllZip P xs ys → length ys ≡ length xs
-zip_length P [] [] all = refl
-zip_length P [] (y ∷ ys) all = absurd all
-zip_length P (x ∷ xs) [] all = absurd all
-zip_length P (x ∷ xs) (y ∷ ys) all = ap suc (zip_length P xs ys all.1)
-
-zip_get : {A B : Type 0} (P : A → B → Type 0) (xs : List A) (ys : List B) → AllZip P xs ys → (j : ℕ) (y : B) → slice_get ys j ≡ Some y → (x : A) × (slice_get xs j ≡ Some x) × P x y
-zip_get P [] [] all j y e = let wrong : None ≡ Some y = e in absurd cc
-zip_get P [] (z ∷ ys) all j y e = absurd all
-zip_get P (x ∷ xs) [] all j y e = absurd all
-zip_get P (x ∷ xs) (z ∷ ys) all zero y e = (x, refl, subst (P x) (same-some z y e) all.0)
-zip_get P (x ∷ xs) (z ∷ ys) all (suc j) y e = zip_get P xs ys all.1 j y e
-
-mark_there : (marks : List Bool) (n : ℕ) → slice_get marks n ≡ Some true → is_marked marks n ≡ true
-mark_there [] n e = let wrong : None ≡ Some true = e in absurd cc
-mark_there (m ∷ marks) zero e = same-some m true e
-mark_there (m ∷ marks) (suc n) e = mark_there marks n e
 
 module _ (t : Tables) (tables : AreTables t) (showings : List NumberedShowing) (shown : AllByRecursion (ShowingObeys t) showings) (signatures : List ℕ) (called : AllByRecursion (SignatureObeys t) signatures) (marks : List Bool)
     (used : AreUsed t (used_parts t showings signatures) marks) (kept : List ℕ) (are : AreMarked marks kept) (p : Plan) (owners : ℕ → TypeOwner) (find : ℕ → Option NumberedShowing) (many : length p.types ≡ length kept) (names : NamesObey t p owners find marks) where
@@ -64,9 +51,12 @@ module _ (t : Tables) (tables : AreTables t) (showings : List NumberedShowing) (
           let obeys = names n q name y mark there first in
           declared q name y.declared there a (ap (place_in p) b ∙ obeys.home) (kinds_declared t tables kept p many y.declared x.kind kind) obeys.behind obeys.label obeys.obeys
 
+name_shown : (t : Tables) (xs : List NumberedShowing) → AllByRecursion (ShowingObeys t) xs → AllByRecursion (λ (s : NumberedShowing). (x : ℕ × Text) × (name_at t s.part ≡ Some x)) xs
+name_shown t xs all = recursion_weaker (ShowingObeys t) (λ (s : NumberedShowing). (x : ℕ × Text) × (name_at t s.part ≡ Some x)) (λ x obeys. (obeys.name, obeys.is)) xs all
+
 pub types_are_kept : PlannedTypesAreKept
-types_are_kept t tables forms showings shown signatures called marks used kept are p owners find types names = record {
-  forms = forms;
+types_are_kept t tables showings shown signatures called obey marks used kept are p owners find finds types names = record {
+  forms = λ n form parts is at. kept_forms t tables (λ f ps. is_form f ps ≡ true) showings (name_shown t showings shown) signatures obey marks used kept are p owners find finds types n form parts is at;
   rise = are.rise;
   once = are.once;
   each = λ j x e.

@@ -1,26 +1,24 @@
 -- Types that are used, where what is shown obeys the rules.
-use Rattle.std.proofs.Common.{◌≡◌, refl, sym, ap, subst, ◌∙◌, ℕ, ◌+◌, ◌-◌, ◌<◌, ◌≤◌, ◌⊎◌, inl, inr, arith, Bool, true, false, not, ◌&&◌, ◌||◌, ◌==◌, nat_le, if◌then◌else◌, List, [], ◌∷◌, map, Option, Some, None, option_and_then, option_map, option_to_list, slice_get}
+use Rattle.std.proofs.Common.{◌≡◌, refl, sym, ap, subst, ◌∙◌, ℕ, ◌+◌, ◌-◌, ◌<◌, ◌≤◌, arith, Bool, true, false, not, ◌&&◌, ◌||◌, ◌==◌, nat_le, if◌then◌else◌, List, [], ◌∷◌, map, Option, Some, None, option_and_then, option_map, option_to_list, slice_get}
 use Rattle.std.proofs.lemmas.Bool.{eqb-true, le-leb, le-ltb, leb-true, lt-ltb}
 use Rattle.std.proofs.lemmas.Option.{slice_get_within}
-use Rattle.std.proofs.lemmas.List.Folds.{list_any-append}
-use Rattle.std.specs.List.{AllByRecursion, Contains, flat_map, list_all}
+use Rattle.std.specs.List.{AllByRecursion, flat_map, list_all}
 use Rattle.std.specs.Option.{option_map_or}
 use Rattle.wit_model.specs.Text.{Text}
 use Rattle.wit_model.specs.Tree.{Declaration, Form, Place, Tree, children, deepest, levels}
 use Rattle.wit_model.specs.Uses.{has}
-use Rattle.wit_model.proofs.Elements.{contains-has, same-some}
+use Rattle.wit_model.proofs.Elements.{same-some}
 use Rattle.wit_model.proofs.Lists.{first_true, second_true}
 use Rattle.comp_meaning.specs.Rules as rules
 use Rattle.comp_meaning.specs.Rules.{are_labels, are_parts, form_labels, is_named_form, most_levels}
-use Rattle.read_plan.proofs.Lists.{get_of_map}
 use Rattle.read_plan.proofs.ShapeLaws.{PartView, is_name, is_node, is_primitive, viewed}
 use Rattle.read_plan.specs.Plan.{part_number}
 use Rattle.read_plan.specs.NumberedRules.{is_form, name_at, name_in, shape_at}
 use Rattle.read_plan.specs.NumberedViews.{AllOf, AreTables, IsPart, Tables, declaration_of, function_at, place_at, signature_at, tree_at}
-use Rattle.read_plan.specs.Shapes.{Shape, IsShape, a_name, a_node, first_label, named_shape, node_shape, part_tree, shape_trees}
-use Rattle.plan_gather.specs.Marks.{IsUsed, marked, part}
+use Rattle.read_plan.specs.Shapes.{Shape, first_label, named_shape, node_shape, part_tree, shape_trees}
 use Rattle.plan_types.specs.Showings.{NumberedShowing}
-use Rattle.plan_types.specs.Used.{declared_parts, form_parts, function_parts, showing_parts, used_parts, AreUsed}
+use Rattle.plan_types.specs.Used.{declared_parts, form_parts, function_parts, showing_parts}
+use Rattle.plan_laws.proofs.UsedWalk.{in_both, in_flat, one_there, used_fine}
 use Rattle.plan_laws.specs.UsedParts.{IsFinePart, ShowingObeys, SignatureObeys, UsedPartsAreFine}
 
 -- ---- numbers and shapes
@@ -34,38 +32,7 @@ shape_here t n s at = ap (option_and_then (slice_get t.shapes)) (part_number_of 
 low_form : (t : Tables) (k : ℕ) → k < 14 → is_form t k ≡ false
 low_form t k small = ap (λ b. option_map_or (λ (s : Shape). not (s.sort == 0)) (option_and_then (slice_get t.shapes) (if b then None else Some (k - 14))) false) (lt-ltb k 14 small)
 
-one_there : (k j : ℕ) → has (k ∷ []) j ≡ true → k ≡ j
-one_there k j there = by (k == j) refl there
-  where
-    by : (b : Bool) → (k == j) ≡ b → (b || false) ≡ true → k ≡ j
-    by true e h = eqb-true k j e
-    by false e h = let wrong : false ≡ true = h in absurd cc
-
-pub unnamed_node : (f : Form) (ks : List ℕ) → name_in (node_shape f ks) ≡ None
-unnamed_node (Form.record_of names) ks = refl
-unnamed_node (Form.variant_of cases) ks = refl
-unnamed_node Form.list_of ks = refl
-unnamed_node (Form.fixed_list_of n) ks = refl
-unnamed_node Form.option_of ks = refl
-unnamed_node Form.own_of ks = refl
-unnamed_node Form.borrow_of ks = refl
-unnamed_node Form.map_of ks = refl
-unnamed_node Form.tuple_of ks = refl
-unnamed_node (Form.flags_of names) ks = refl
-unnamed_node (Form.enum_of names) ks = refl
-unnamed_node (Form.result_of ok err) ks = refl
-unnamed_node (Form.future_of some) ks = refl
-unnamed_node (Form.stream_of some) ks = refl
-
-no_parts : (n : ℕ) (s : Shape) (x : ℕ × Text) → name_in s ≡ Some x → IsShape n s → s.parts ≡ []
-no_parts n s x is (a_name q name e) = ap (λ (s : Shape). s.parts) e
-no_parts n s x is (a_node f ks e below) = let wrong : None ≡ Some x = sym (unnamed_node f ks) ∙ (sym (ap name_in e) ∙ is) in absurd cc
-
 -- ---- trees
-
-or_cases : (a b : Bool) → (a || b) ≡ true → (a ≡ true) ⊎ (b ≡ true)
-or_cases true b h = inl refl
-or_cases false b h = inr h
 
 module _ (t : Tables) (tables : AreTables t) where
   -- a part among the parts of a form that stand in a place, and aren't too deep
@@ -90,7 +57,7 @@ module _ (t : Tables) (tables : AreTables t) where
       by (is_primitive p small stands number) = absurd (omega (arith, small))
       by (is_name m q x is there stands) =
           let same : n ≡ m = omega (arith, is) in
-          let wrong : None ≡ Some (q, x) = sym no_name ∙ ap name_in (same-some s (named_shape q x) (sym at ∙ (ap (slice_get t.shapes) same ∙ there))) in absurd cc
+          let wrong : ◌≡◌ {A = Option (ℕ × Text)} None (Some (q, x)) = sym no_name ∙ ap name_in (same-some s (named_shape q x) (sym at ∙ (ap (slice_get t.shapes) same ∙ there))) in absurd cc
       by (is_node m f ks is there stands range) =
           let same : n ≡ m = omega (arith, is) in
           let shape : s ≡ node_shape f ks = same-some s (node_shape f ks) (sym at ∙ (ap (slice_get t.shapes) same ∙ there)) in
@@ -108,7 +75,7 @@ module _ (t : Tables) (tables : AreTables t) where
 
   module _ (n : ℕ) (s : Shape) (at : slice_get t.shapes n ≡ Some s) (no_name : name_in s ≡ None) where
     sort_named : (b : Bool) → (s.sort == 0) ≡ b → not b ≡ true
-    sort_named true e = let wrong : None ≡ Some (s.number, first_label s.labels) = sym no_name ∙ ap (λ b. if b then Some (s.number, first_label s.labels) else None) e in absurd cc
+    sort_named true e = let wrong : ◌≡◌ {A = Option (ℕ × Text)} None (Some (s.number, first_label s.labels)) = sym no_name ∙ ap (λ b. if b then Some (s.number, first_label s.labels) else None) e in absurd cc
     sort_named false e = refl
 
     has_form : (k : ℕ) → k ≡ 14 + n → is_form t k ≡ true
@@ -149,13 +116,7 @@ module _ (t : Tables) (tables : AreTables t) where
         by false e there = declared_fine obeys.place x.declared obeys.range obeys.obeys there
 
     showings_fine : (xs : List NumberedShowing) → AllByRecursion (ShowingObeys t) xs → has (flat_map (showing_parts t) xs) (14 + n) ≡ true → IsFinePart t (14 + n)
-    showings_fine [] all there = let wrong : false ≡ true = there in absurd cc
-    showings_fine (x ∷ xs) all there =
-        by (or_cases (has (showing_parts t x) (14 + n)) (has (flat_map (showing_parts t) xs) (14 + n)) (sym (list_any-append (λ m. m == 14 + n) (showing_parts t x) (flat_map (showing_parts t) xs)) ∙ there)) (showings_fine xs all.1)
-      where
-        by : (has (showing_parts t x) (14 + n) ≡ true) ⊎ (has (flat_map (showing_parts t) xs) (14 + n) ≡ true) → (has (flat_map (showing_parts t) xs) (14 + n) ≡ true → IsFinePart t (14 + n)) → IsFinePart t (14 + n)
-        by (inl h) later = showing_fine x all.0 h
-        by (inr h) later = later h
+    showings_fine xs all there = in_flat (showing_parts t) (ShowingObeys t) (14 + n) showing_fine xs all there
 
     -- functions
     parameter_fine : (place : Place) (k : ℕ) → rules.is_parameter_type place (tree_at t k) ≡ true → k ≡ 14 + n → IsFinePart t (14 + n)
@@ -184,50 +145,14 @@ module _ (t : Tables) (tables : AreTables t) where
         let labels = rules.are_labels (map (λ p. p.0) (signature_at t m).params) in
         let params = list_all (λ (p : Text × Tree). rules.is_parameter_type obeys.place p.1) (signature_at t m).params in
         let result = rules.is_result_type obeys.place (signature_at t m).result in
-        by (or_cases (has (map (λ (x : Text × ℕ). x.1) f.params) (14 + n)) (has (option_to_list f.result) (14 + n)) (sym (list_any-append (λ m. m == 14 + n) (map (λ (x : Text × ℕ). x.1) f.params) (option_to_list f.result)) ∙ there))
-        (second_true labels params (first_true (labels && params) result obeys.obeys)) (second_true (labels && params) result obeys.obeys)
-      where
-        by : (has (map (λ (x : Text × ℕ). x.1) (function_at t m).params) (14 + n) ≡ true) ⊎ (has (option_to_list (function_at t m).result) (14 + n) ≡ true)
-            → list_all (λ (p : Text × Tree). rules.is_parameter_type obeys.place p.1) (signature_at t m).params ≡ true → rules.is_result_type obeys.place (signature_at t m).result ≡ true → IsFinePart t (14 + n)
-        by (inl h) params result = params_fine obeys.place (function_at t m).params params h
-        by (inr h) params result = result_fine obeys.place (function_at t m).result result h
+        in_both (map (λ (x : Text × ℕ). x.1) f.params) (option_to_list f.result) (14 + n)
+        (params_fine obeys.place f.params (second_true labels params (first_true (labels && params) result obeys.obeys)))
+        (result_fine obeys.place f.result (second_true (labels && params) result obeys.obeys)) there
 
     functions_fine : (ms : List ℕ) → AllByRecursion (SignatureObeys t) ms → has (flat_map (function_parts t) ms) (14 + n) ≡ true → IsFinePart t (14 + n)
-    functions_fine [] all there = let wrong : false ≡ true = there in absurd cc
-    functions_fine (m ∷ ms) all there =
-        by (or_cases (has (function_parts t m) (14 + n)) (has (flat_map (function_parts t) ms) (14 + n)) (sym (list_any-append (λ m. m == 14 + n) (function_parts t m) (flat_map (function_parts t) ms)) ∙ there)) (functions_fine ms all.1)
-      where
-        by : (has (function_parts t m) (14 + n) ≡ true) ⊎ (has (flat_map (function_parts t) ms) (14 + n) ≡ true) → (has (flat_map (function_parts t) ms) (14 + n) ≡ true → IsFinePart t (14 + n)) → IsFinePart t (14 + n)
-        by (inl h) later = function_fine m all.0 h
-        by (inr h) later = later h
-
-  -- ---- what is used
-
-  module _ (showings : List NumberedShowing) (shown : AllByRecursion (ShowingObeys t) showings) (signatures : List ℕ) (called : AllByRecursion (SignatureObeys t) signatures) where
-    root_fine : (n : ℕ) (s : Shape) → slice_get t.shapes n ≡ Some s → name_in s ≡ None → has (used_parts t showings signatures) (14 + n) ≡ true → IsFinePart t (14 + n)
-    root_fine n s at no_name there =
-        by (or_cases (has (flat_map (showing_parts t) showings) (14 + n)) (has (flat_map (function_parts t) signatures) (14 + n))
-        (sym (list_any-append (λ m. m == 14 + n) (flat_map (showing_parts t) showings) (flat_map (function_parts t) signatures)) ∙ there))
-      where
-        by : (has (flat_map (showing_parts t) showings) (14 + n) ≡ true) ⊎ (has (flat_map (function_parts t) signatures) (14 + n) ≡ true) → IsFinePart t (14 + n)
-        by (inl h) = showings_fine n s at no_name showings shown h
-        by (inr h) = functions_fine n s at no_name signatures called h
-
-    module _ (marks : List Bool) (used : AreUsed t (used_parts t showings signatures) marks) where
-      part_fine : (m k : ℕ) (ks : List ℕ) → ((r : Shape) → slice_get t.shapes m ≡ Some r → name_in r ≡ None → IsFinePart t (14 + m)) → slice_get (map (λ (s : Shape). s.parts) t.shapes) m ≡ Some ks → Contains ks (14 + k) → IsFinePart t (14 + k)
-      part_fine m k ks whole parts there = by (slice_get t.shapes m) refl (sym (get_of_map (λ (s : Shape). s.parts) t.shapes m) ∙ parts)
-        where
-          later : (r : Shape) → slice_get t.shapes m ≡ Some r → has r.parts (14 + k) ≡ true → (o : Option (ℕ × Text)) → name_in r ≡ o → IsFinePart t (14 + k)
-          later r r_at there None nameless = parts_of_fine m r r_at nameless (whole r r_at nameless) (14 + k) there
-          later r r_at there (Some x) is = let wrong : false ≡ true = sym (ap (λ l. has l (14 + k)) (no_parts m r x is (tables.shapes.each m r r_at))) ∙ there in absurd cc
-
-          by : (o : Option Shape) → slice_get t.shapes m ≡ o → option_map (λ (s : Shape). s.parts) o ≡ Some ks → IsFinePart t (14 + k)
-          by None e f = let wrong : None ≡ Some ks = f in absurd cc
-          by (Some r) e f = later r e (ap (λ l. has l (14 + k)) (same-some r.parts ks f) ∙ contains-has ks (14 + k) there) (name_in r) refl
-
-      used_fine : (n : ℕ) → IsUsed (map (λ (s : Shape). s.parts) t.shapes) used.roots n → (s : Shape) → slice_get t.shapes n ≡ Some s → name_in s ≡ None → IsFinePart t (14 + n)
-      used_fine n (marked m is) s at no_name = root_fine m s at no_name (sym (used.shown m (slice_get_within t.shapes m s at)) ∙ is)
-      used_fine n (part m k ks before parts there) s at no_name = part_fine m k ks (used_fine m before) parts there
+    functions_fine ms all there = in_flat (function_parts t) (SignatureObeys t) (14 + n) function_fine ms all there
 
 pub used_are_fine : UsedPartsAreFine
-used_are_fine t tables showings shown signatures called marks used n s is at no_name = used_fine t tables showings shown signatures called marks used n ((used.marked n).0 is) s at no_name
+used_are_fine t tables showings shown signatures called marks used n s is at no_name =
+    used_fine t tables (IsFinePart t) (parts_of_fine t tables) showings signatures (λ m r r_at none. showings_fine t tables m r r_at none showings shown) (λ m r r_at none. functions_fine t tables m r r_at none signatures called)
+    marks used n s is at no_name

@@ -4,23 +4,18 @@ use Rattle.std.specs.List.{AllByRecursion, AllZip}
 use Rattle.wit_model.specs.declared.model.TypeOwner.{TypeOwner}
 use Rattle.wit_model.specs.Names.{is_label}
 use Rattle.wit_model.specs.Text.{Text}
-use Rattle.wit_model.specs.Tree.{Form}
 use Rattle.comp_meaning.specs.Rules as rules
 use Rattle.read_plan.specs.KeptTypes.{TypesAreKept}
 use Rattle.read_plan.specs.NumberedViews.{AllOf, AreTables, Tables, declaration_of, place_at}
 use Rattle.read_plan.specs.Plan.{Plan, place_in}
-use Rattle.read_plan.specs.PlanRules.{is_form}
-use Rattle.read_plan.specs.Shapes.{named_shape, node_shape}
+use Rattle.read_plan.specs.Shapes.{named_shape}
 use Rattle.plan_gather.specs.Kept.{AreMarked}
 use Rattle.plan_gather.specs.Marks.{is_marked}
 use Rattle.plan_types.specs.PlannedTypes.{PlansType}
 use Rattle.plan_types.specs.Showings.{NumberedShowing}
 use Rattle.plan_types.specs.Used.{used_parts, AreUsed}
+use Rattle.plan_laws.specs.ShownForms.{FindsShown, FormsObey}
 use Rattle.plan_laws.specs.UsedParts.{ShowingObeys, SignatureObeys}
-
--- each form of the table is one that a definition may have
-abbrev pub FormsStand : Tables → Type 0
-FormsStand t = (n : ℕ) (form : Form) (parts : List ℕ) → slice_get t.shapes n ≡ Some (node_shape form parts) → is_form form parts ≡ true
 
 -- A name is a label. It is shown as what may be declared in its place, which is its owner's, and stands behind that.
 pub record NameObeys (t : Tables) (p : Plan) (owners : ℕ → TypeOwner) (n q : ℕ) (name : Text) (s : NumberedShowing) : Type 0 where
@@ -35,6 +30,6 @@ NamesObey t p owners find marks = (n q : ℕ) (name : Text) (s : NumberedShowing
 
 -- Types that are made so of the types that are used are those of a plan that was read.
 abbrev pub PlannedTypesAreKept : Type 0
-PlannedTypesAreKept = (t : Tables) → AreTables t → FormsStand t → (showings : List NumberedShowing) → AllByRecursion (ShowingObeys t) showings → (signatures : List ℕ) → AllByRecursion (SignatureObeys t) signatures
-    → (marks : List Bool) → AreUsed t (used_parts t showings signatures) marks → (kept : List ℕ) → AreMarked marks kept → (p : Plan) (owners : ℕ → TypeOwner) (find : ℕ → Option NumberedShowing)
+PlannedTypesAreKept = (t : Tables) → AreTables t → (showings : List NumberedShowing) → AllByRecursion (ShowingObeys t) showings → (signatures : List ℕ) → AllByRecursion (SignatureObeys t) signatures → FormsObey t showings signatures
+    → (marks : List Bool) → AreUsed t (used_parts t showings signatures) marks → (kept : List ℕ) → AreMarked marks kept → (p : Plan) (owners : ℕ → TypeOwner) (find : ℕ → Option NumberedShowing) → FindsShown showings find
     → AllZip (PlansType t kept find owners) kept p.types → NamesObey t p owners find marks → TypesAreKept t kept p
