@@ -3,3 +3,5 @@
 
 #[cfg(test)]
 mod agreement;
+#[cfg(test)]
+mod kinds;

@@ -5,7 +5,6 @@
 mod packages;
 #[cfg(test)]
 mod shown;
-#[cfg(test)]
-mod tables;
+pub mod tables;
 #[cfg(test)]
 mod used;

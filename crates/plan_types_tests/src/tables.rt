@@ -16,41 +16,41 @@ use plan_read::{
 // ---- tables
 
 // The parts: 1 is `u8`, and 3 is `u32`.
-pub(crate) const T: usize = 14;
+pub const T: usize = 14;
 
-pub(crate) const U: usize = 15;
+pub const U: usize = 15;
 
 const LIST: usize = 16;
 
-pub(crate) const RECORD: usize = 17;
+pub const RECORD: usize = 17;
 
-pub(crate) const P: usize = 18;
+pub const P: usize = 18;
 
-pub(crate) const R: usize = 19;
+pub const R: usize = 19;
 
 const OWN: usize = 20;
 
-pub(crate) const V: usize = 22;
+pub const V: usize = 22;
 
-pub(crate) const ENUM: usize = 23;
+pub const ENUM: usize = 23;
 
-pub(crate) const E: usize = 24;
+pub const E: usize = 24;
 
 // The numbers of the types of functions.
-pub(crate) const MAKE: usize = 0;
+pub const MAKE: usize = 0;
 
-pub(crate) const PLAIN: usize = 1;
+pub const PLAIN: usize = 1;
 
 // The places of `a:b/i`, `c:d/j`, the world's own names, and the inline interface.
-pub(crate) const I: u32 = 0;
+pub const I: u32 = 0;
 
-pub(crate) const J: u32 = 1;
+pub const J: u32 = 1;
 
-pub(crate) const W: u32 = 2;
+pub const W: u32 = 2;
 
-pub(crate) const K: u32 = 3;
+pub const K: u32 = 3;
 
-pub(crate) static TABLES: Tables<'static> = Tables {
+pub static TABLES: Tables<'static> = Tables {
     shapes: &[
         TypeShape {
             sort: 0,
@@ -215,23 +215,18 @@ pub(crate) static TABLES: Tables<'static> = Tables {
 };
 
 /// Package 0 is `a:b`, and package 1 is `c:d`.
-pub(crate) static HOMES: [Option<(usize, &'static str)>; 4] = [
-    Some((0, "i")),
-    Some((1, "j")),
-    None,
-    None,
-];
+pub static HOMES: [Option<(usize, &'static str)>; 4] = [Some((0, "i")), Some((1, "j")), None, None];
 
 // ---- what is shown
 
-pub(crate) const T_TYPE: ViewType<'static> = ViewType {
+pub const T_TYPE: ViewType<'static> = ViewType {
     name: "t",
     declared: Some(3),
     external_id: Some("id"),
     slot: TypeSlot::Value(T),
 };
 
-pub(crate) const U_TYPE: ViewType<'static> = ViewType {
+pub const U_TYPE: ViewType<'static> = ViewType {
     name: "u",
     declared: Some(T),
     external_id: None,
@@ -265,12 +260,12 @@ const MAKE_R: ViewFunction<'static> = ViewFunction {
     external_id: None,
 };
 
-pub(crate) const J_VIEW: View<'static> = View {
+pub const J_VIEW: View<'static> = View {
     types: &[T_TYPE],
     functions: &[],
 };
 
-pub(crate) const I_VIEW: View<'static> = View {
+pub const I_VIEW: View<'static> = View {
     types: &[U_TYPE, P_TYPE, R_TYPE],
     functions: &[MAKE_R],
 };
@@ -280,13 +275,13 @@ const K_VIEW: View<'static> = View {
     functions: &[],
 };
 
-pub(crate) const J_SEEN: Seen<'static> = Seen {
+pub const J_SEEN: Seen<'static> = Seen {
     key: "c:d/j",
     shown: Shown::Instance(InstanceKey::Path(J), J_VIEW),
     external_id: None,
 };
 
-pub(crate) const I_SEEN: Seen<'static> = Seen {
+pub const I_SEEN: Seen<'static> = Seen {
     key: "a:b/i",
     shown: Shown::Instance(InstanceKey::Path(I), I_VIEW),
     external_id: None,
@@ -316,12 +311,12 @@ const G_SEEN: Seen<'static> = Seen {
     external_id: None,
 };
 
-pub(crate) const J_INSTANCE: Instance<'static> = Instance {
+pub const J_INSTANCE: Instance<'static> = Instance {
     place: J,
     view: J_VIEW,
 };
 
-pub(crate) const I_INSTANCE: Instance<'static> = Instance {
+pub const I_INSTANCE: Instance<'static> = Instance {
     place: I,
     view: I_VIEW,
 };
@@ -331,7 +326,7 @@ const K_INSTANCE: Instance<'static> = Instance {
     view: K_VIEW,
 };
 
-pub(crate) const W_SCOPE: Scope<'static> = Scope {
+pub const W_SCOPE: Scope<'static> = Scope {
     home: W,
     imports: &[J_SEEN, I_SEEN, V_SEEN, F_SEEN],
     exports: &[K_SEEN, G_SEEN],
@@ -345,18 +340,18 @@ const J_IMPORT: ImportedView<'static> = ImportedView {
     view: J_VIEW,
 };
 
-pub(crate) const I_PART: Part<'static> = Part::Interface(I, I_VIEW, &[J_IMPORT]);
+pub const I_PART: Part<'static> = Part::Interface(I, I_VIEW, &[J_IMPORT]);
 
-pub(crate) const I_MEMBER: Member<'static> = Member {
+pub const I_MEMBER: Member<'static> = Member {
     label: "i",
     package_number: 0,
     part: I_PART,
 };
 
-pub(crate) const W_MEMBER: Member<'static> = Member {
+pub const W_MEMBER: Member<'static> = Member {
     label: "w",
     package_number: 0,
     part: Part::World(W_SCOPE),
 };
 
-pub(crate) static MEMBERS: [Member<'static>; 2] = [I_MEMBER, W_MEMBER];
+pub static MEMBERS: [Member<'static>; 2] = [I_MEMBER, W_MEMBER];

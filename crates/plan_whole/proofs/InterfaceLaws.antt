@@ -25,7 +25,7 @@ numbers_listed kept (x ∷ xs) (e ∷ es) all = ((all.0.0, all.0.1), numbers_lis
 
 -- ---- the first views of a place
 
-flip : (a b : ℕ) → (a == b) ≡ (b == a)
+pub flip : (a b : ℕ) → (a == b) ≡ (b == a)
 flip a b = either_way (a == b) (b == a) (λ e. eq-eqb b a (sym (eqb-true a b e))) (λ e. eq-eqb a b (sym (eqb-true b a e)))
 
 functions_of_first : (p : ℕ) (seen : List NumberedSight) → option_map_or (λ (s : NumberedSight). s.view.functions) (first_whole_at p seen) [] ≡ functions_seen p seen

@@ -1,3 +1,6 @@
+pub mod Listed
+pub mod PlanWhole
+pub mod ReadPackages
 pub mod Views
 pub mod WholeInterfaces
 pub mod WholePackages

@@ -1,9 +1,10 @@
 -- The worlds of a plan, each by what its component type shows (WIT.md, "Worlds"; Binary.md, "Import and Export Definitions").
-use Rattle.std.specs.Prelude.{◌≡◌, ◌≤◌, ◌+◌, ℕ, List, [], ◌∷◌, Option, Some}
+use Rattle.std.specs.Prelude.{◌≡◌, ◌≤◌, ◌+◌, ℕ, true, List, [], ◌∷◌, Option, Some}
 use Rattle.std.specs.Borrow.{Bor}
 use Rattle.std.specs.List.{AllByRecursion, AllZip, flat_map}
 use Rattle.wit_model.specs.declared.model.TypeId.{TypeId}
 use Rattle.wit_model.specs.Text.{Text}
+use Rattle.wit_model.specs.Uses.{has}
 use Rattle.read_plan.specs.NumberedViews.{NumberedType, PartsOf, Tables, function_at, value}
 use Rattle.read_plan.specs.NumberedWorlds as worlds
 use Rattle.read_plan.specs.NumberedWorlds.{NumberedKey, place_of_key}
@@ -69,12 +70,30 @@ ShownIsKept t kept (shown.Declares part d) = (14 ≤ part) × IsKeptPart kept pa
 abbrev pub SeenIsKept : Tables → List ℕ → Seen → Type 0
 SeenIsKept t kept s = ShownIsKept t kept s.shown
 
+-- the place is among these
+abbrev pub IsAmong : List ℕ → ℕ → Type 0
+IsAmong places p = has places p ≡ true
+
+-- the place of an instance is
+abbrev pub ShownIsPlaced : List ℕ → Shown → Type 0
+ShownIsPlaced places (shown.Instance key v) = IsAmong places (place_of_key (numbered_key key))
+ShownIsPlaced places (shown.Function n) = Unit {0}
+ShownIsPlaced places (shown.Declares part d) = Unit {0}
+
+abbrev pub SeenIsPlaced : List ℕ → Seen → Type 0
+SeenIsPlaced places s = ShownIsPlaced places s.shown
+
 -- ---- worlds
 
 -- All that is imported and exported is over what is kept.
 pub record WorldIsKept (t : Tables) (kept : List ℕ) (w : Scope) : Type 0 where
   pub imports : AllByRecursion (SeenIsKept t kept) w.imports.now
   pub exports : AllByRecursion (SeenIsKept t kept) w.exports.now
+
+-- The places of all instances are among these.
+pub record WorldIsPlaced (places : List ℕ) (w : Scope) : Type 0 where
+  pub imports : AllByRecursion (SeenIsPlaced places) w.imports.now
+  pub exports : AllByRecursion (SeenIsPlaced places) w.exports.now
 
 -- Under its label in the main package: its imports and its exports in order, beside the resources that it imports.
 pub record PlansWorld (t : Tables) (kept : List ℕ) (places : List ℕ) (main : ℕ) (w : Text × Scope) (x : PlannedWorld) : Type 0 where

@@ -17,22 +17,13 @@ ghost use Rattle.plan_read.specs.Tables.{numbered_tables};
 ghost use Rattle.plan_read.specs.Views.{numbered_function, numbered_view};
 ghost use Rattle.plan_whole.specs.WholeInterfaces.{AreSeen, Home, PlansInterface, PlansPlace, ViewIsKept};
 
+use crate::numbers::package_id;
 use indexmap::IndexSet;
 use plan_build::PlannedInterface;
 use plan_gather::{Kept, first_at, first_tables, functions_of, types_of};
 use plan_read::{Sight, Tables, View, ViewFunction};
 use std::alloc::{AllocError, Global};
 use wit_model::PackageId;
-
-/// The package of this number.
-fn package_id(number: usize) -> Result<PackageId, AllocError>
-    ensures { IfOk result (λ id. id.0 ≡ number) }
-{
-    match u32::try_from(number) {
-        Ok(number) => Ok(PackageId(number)),
-        Err(_) => Err(AllocError),
-    }
-}
 
 /// The package of an interface: that of its home, or the main one of an inline interface.
 fn package_of(home: Option<(usize, &str)>, main: usize) -> Result<PackageId, AllocError>
@@ -55,7 +46,7 @@ fn name_of<'a>(home: Option<(usize, &'a str)>) -> Option<&'a str>
 }
 
 /// An interface with the types of a view and these functions.
-pub fn interface_of<'a>(
+fn interface_of<'a>(
     alloc: Global,
     tables: &Tables<'a>,
     kept: &Kept,
@@ -167,7 +158,7 @@ fn all_interfaces<'a>(
 }
 
 /// The places of a set, in order.
-fn listed(alloc: Global, places: &IndexSet<u32>) -> Result<Vec<u32>, AllocError>
+pub(crate) fn listed(alloc: Global, places: &IndexSet<u32>) -> Result<Vec<u32>, AllocError>
     ensures { IfOk result (λ all. all.items ≡ places.now.keys) }
 {
     places.iter().copied().collect(alloc)
@@ -178,7 +169,7 @@ fn listed(alloc: Global, places: &IndexSet<u32>) -> Result<Vec<u32>, AllocError>
 /// `homes` has for each place the package by its number, and the name of the interface, if the place has a path. Takes time and memory linear
 /// in what the views show, expected, and in the largest number of a place. Refuses for want of memory alone, also where there are more than
 /// 2^32 packages.
-pub fn interfaces_of<'a>(
+pub(crate) fn interfaces_of<'a>(
     alloc: Global,
     tables: &Tables<'a>,
     kept: &Kept,

@@ -2,11 +2,13 @@
 #![tactic(auto)]
 
 mod interfaces;
+pub mod laws;
+mod numbers;
 mod packages;
+mod plan;
 mod views;
 mod worlds;
 
-pub use interfaces::{interface_of, interfaces_of};
-pub use packages::{exported_interfaces, exported_worlds, list_interfaces};
+pub use packages::packages_of;
+pub use plan::plan_of;
 pub use views::views_of_members;
-pub use worlds::worlds_of;

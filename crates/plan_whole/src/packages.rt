@@ -1,20 +1,24 @@
 //! The packages of a plan.
 
-ghost use Rattle.std.specs.List.{AllZip, flat_map};
-ghost use Rattle.std.specs.Prelude.{◌≡◌, ◌++◌, ℕ, [], length, map, IfOk, Some};
+ghost use Rattle.std.specs.List.{AllByRecursion, AllZip};
+ghost use Rattle.std.specs.Prelude.{◌≡◌, ◌<◌, ◌++◌, ℕ, [], length, map, IfOk};
 ghost use Rattle.read_plan.specs.NumberedMembers.{home_at as home_at_lem};
-ghost use Rattle.path_homes.specs.Homes.{given_home};
+ghost use Rattle.path_homes.specs.Homes.{given_home, identity_of};
+ghost use Rattle.plan_build.specs.PlanOf.{stated_package};
 ghost use Rattle.plan_members.specs.Members.{homes_alone};
-ghost use Rattle.plan_types.specs.PlannedTypes.{number_in};
-ghost use Rattle.plan_whole.specs.WholePackages.{interface_in_part, interfaces_in, labelled_place, listed_at, numbered_labels, numbered_interface, numbered_world, AreListed, ListsEntry, ListsPlace};
+ghost use Rattle.plan_whole.specs.WholePackages.{interface_in_part, interfaces_in, labelled_place, listed_at, numbered_labels, numbered_interface, numbered_world, AreListed, ArePlanned, IsForeignPackage, IsMainPackage, IsPlaced, ListsEntry, ListsPlace, PlansPackage, PlansPackages};
 ghost use Rattle.plan_whole.specs.WholeWorlds.{labelled, worlds_in};
 
-use crate::interfaces::home_of;
-use crate::worlds::{number_of, worlds_among};
+use crate::interfaces::{home_of, listed};
+use crate::numbers::{interface_id, number_of, world_id};
+use crate::worlds::worlds_among;
 use indexmap::IndexSet;
+use path_homes::{PackageTexts, Packages};
+use plan_build::PlannedPackage;
 use plan_members::{Member, Part};
 use plan_read::Scope;
 use std::alloc::{AllocError, Global};
+use std::mem::replace;
 use wit_model::{InterfaceId, WorldId};
 
 // ---- the main package
@@ -55,6 +59,7 @@ fn by_number<'a>(
     places: &IndexSet<u32>,
     interfaces: &[(&'a str, u32)],
 ) -> Result<Vec<(&'a str, InterfaceId)>, AllocError>
+    requires { AllByRecursion (IsPlaced places.now.keys) (map labelled_place interfaces.now) }
     ensures { IfOk result (λ all. AllZip (ListsPlace places.now.keys) (map labelled_place interfaces.now) (map numbered_interface all.items)) }
 {
     let mut all = Vec::new(alloc);
@@ -64,30 +69,17 @@ fn by_number<'a>(
     Ok(all)
 }
 
-/// The interfaces that are exported, in order, under their labels: each has the number of its place among `places`. A place that isn't among
-/// them is refused as want of memory.
-///
-/// Takes time linear in the members, expected, and as much memory. Refuses for want of memory alone, also where there are more than 2^32
-/// places.
-pub fn exported_interfaces<'a>(
+/// The interfaces that are exported, in order, under their labels: each has the number of its place among `places`.
+fn exported_interfaces<'a>(
     alloc: Global,
     places: &IndexSet<u32>,
     members: &[Member<'a>],
 ) -> Result<Vec<(&'a str, InterfaceId)>, AllocError>
+    requires { AllByRecursion (IsPlaced places.now.keys) (interfaces_in members.now) }
     ensures { IfOk result (λ all. AllZip (ListsPlace places.now.keys) (interfaces_in members.now) (map numbered_interface all.items)) }
 {
     let interfaces = interfaces_among(alloc, members)?;
     by_number(alloc, places, &interfaces)
-}
-
-/// The world of this number.
-fn world_id(number: usize) -> Result<WorldId, AllocError>
-    ensures { IfOk result (λ id. id.0 ≡ number) }
-{
-    match u32::try_from(number) {
-        Ok(number) => Ok(WorldId(number)),
-        Err(_) => Err(AllocError),
-    }
 }
 
 /// The labels of worlds, each with the number of its world.
@@ -105,9 +97,7 @@ fn by_order<'a>(
 }
 
 /// The worlds that are exported, in order, under their labels: their numbers are their order.
-///
-/// Takes time and memory linear in the members. Refuses for want of memory alone, also where there are more than 2^32 worlds.
-pub fn exported_worlds<'a>(
+fn exported_worlds<'a>(
     alloc: Global,
     members: &[Member<'a>],
 ) -> Result<Vec<(&'a str, WorldId)>, AllocError>
@@ -118,16 +108,6 @@ pub fn exported_worlds<'a>(
 }
 
 // ---- other packages
-
-/// The interface of this number.
-fn interface_id(number: usize) -> Result<InterfaceId, AllocError>
-    ensures { IfOk result (λ id. id.0 ≡ number) }
-{
-    match u32::try_from(number) {
-        Ok(number) => Ok(InterfaceId(number)),
-        Err(_) => Err(AllocError),
-    }
-}
 
 /// Lists the interface of this number for the package of its home.
 fn list_interface<'a>(
@@ -149,9 +129,7 @@ fn list_interface<'a>(
 
 /// Lists the interfaces of places, whose numbers are their order, for the packages of their homes, under their names, in a table that has an
 /// empty list for each package.
-///
-/// Takes time linear in the places, and as much memory. Refuses for want of memory alone, also where there are more than 2^32 places.
-pub fn list_interfaces<'a>(
+fn list_interfaces<'a>(
     table: &mut [Vec<(&'a str, InterfaceId)>],
     homes: &[Option<(usize, &'a str)>],
     places: &[u32],
@@ -164,4 +142,150 @@ pub fn list_interfaces<'a>(
         list_interface(table, home_of(homes, *place), number)?;
     }
     Ok(())
+}
+
+/// So many lists, all of them empty.
+fn no_lists<'a>(alloc: Global, count: usize) -> Result<Vec<Vec<(&'a str, InterfaceId)>>, AllocError>
+    ensures many { IfOk result (λ table. length table.items ≡ count) }
+    ensures none { IfOk result (λ table. (q : ℕ) → listed_at table.items q ≡ []) }
+{
+    let mut table = Vec::new(alloc);
+    for _ in 0..count {
+        table.push(Vec::new(alloc))?;
+    }
+    Ok(table)
+}
+
+/// For each of so many packages the interfaces whose homes are there, under their names, in the order of their numbers.
+fn lists_of<'a>(
+    alloc: Global,
+    count: usize,
+    homes: &[Option<(usize, &'a str)>],
+    places: &IndexSet<u32>,
+) -> Result<Vec<Vec<(&'a str, InterfaceId)>>, AllocError>
+    ensures many { IfOk result (λ table. length table.items ≡ count) }
+    ensures listed { IfOk result (λ table. AreListed (home_at_lem (homes_alone homes.now)) places.now.keys table.items) }
+{
+    let mut table = no_lists(alloc, count)?;
+    let places = listed(alloc, places)?;
+    list_interfaces(&mut table, homes, &places)?;
+    Ok(table)
+}
+
+// ---- all packages
+
+/// The list of this number, for which an empty one is left.
+fn take_list<'a>(
+    alloc: Global,
+    lists: &mut [Vec<(&'a str, InterfaceId)>],
+    number: usize,
+) -> Vec<(&'a str, InterfaceId)>
+    requires { number < length lists.old }
+    ensures list { map numbered_interface result.items ≡ listed_at lists.old number }
+    ensures others { (q : ℕ) → number < q → listed_at lists.new q ≡ listed_at lists.old q }
+{
+    replace(&mut lists[number], Vec::new(alloc))
+}
+
+/// The main package, with what is exported.
+fn main_package<'a>(
+    alloc: Global,
+    texts: PackageTexts<'a>,
+    places: &IndexSet<u32>,
+    members: &[Member<'a>],
+) -> Result<PlannedPackage<'a>, AllocError>
+    requires { AllByRecursion (IsPlaced places.now.keys) (interfaces_in members.now) }
+    ensures { IfOk result (λ k. IsMainPackage (identity_of texts.entry) places.now.keys members.now (stated_package k)) }
+{
+    let interfaces = exported_interfaces(alloc, places, members)?;
+    let worlds = exported_worlds(alloc, members)?;
+    Ok(PlannedPackage {
+        namespace: texts.namespace,
+        name: texts.name,
+        version: texts.version,
+        interfaces,
+        worlds,
+    })
+}
+
+/// A package with these interfaces, and no world.
+fn foreign_package<'a>(
+    alloc: Global,
+    texts: PackageTexts<'a>,
+    interfaces: Vec<(&'a str, InterfaceId)>,
+) -> PlannedPackage<'a>
+    ensures { IsForeignPackage (identity_of texts.entry) (map numbered_interface interfaces.entry.items) (stated_package result) }
+{
+    PlannedPackage {
+        namespace: texts.namespace,
+        name: texts.name,
+        version: texts.version,
+        interfaces,
+        worlds: Vec::new(alloc),
+    }
+}
+
+/// The package of this number, with these interfaces if it isn't the main one.
+fn package_at<'a>(
+    alloc: Global,
+    packages: &Packages<'a>,
+    main: usize,
+    places: &IndexSet<u32>,
+    members: &[Member<'a>],
+    number: usize,
+    interfaces: Vec<(&'a str, InterfaceId)>,
+) -> Result<PlannedPackage<'a>, AllocError>
+    requires { AllByRecursion (IsPlaced places.now.keys) (interfaces_in members.now) }
+    ensures { IfOk result (λ k. PlansPackage packages.now main places.now.keys members.now (map numbered_interface interfaces.entry.items) number (stated_package k)) }
+{
+    let Some(texts) = packages.texts(number) else {
+        return Err(AllocError);
+    };
+    if number == main {
+        main_package(alloc, texts, places, members)
+    } else {
+        Ok(foreign_package(alloc, texts, interfaces))
+    }
+}
+
+/// The packages, each with its list if it isn't the main one.
+fn all_packages<'a>(
+    alloc: Global,
+    packages: &Packages<'a>,
+    main: usize,
+    places: &IndexSet<u32>,
+    members: &[Member<'a>],
+    lists: &mut [Vec<(&'a str, InterfaceId)>],
+) -> Result<Vec<PlannedPackage<'a>>, AllocError>
+    requires { AllByRecursion (IsPlaced places.now.keys) (interfaces_in members.now) }
+    ensures { IfOk result (λ all. ArePlanned packages.now main places.now.keys members.now (listed_at lists.old) (length lists.old) (map stated_package all.items)) }
+{
+    let mut all = Vec::new(alloc);
+    for number in 0..lists.len() {
+        let interfaces = take_list(alloc, lists, number);
+        all.push(package_at(alloc, packages, main, places, members, number, interfaces)?)?;
+    }
+    Ok(all)
+}
+
+/// The packages of the plan, in the order of their numbers (WIT.md, "Package declaration"; Component Model WIT.md, "Package Format"), each with
+/// its own name and version. The main one lists the interfaces and the worlds that are exported, in order, under their labels; another one
+/// lists the interfaces whose homes are there, under their names, in the order of their numbers, and no world.
+///
+/// `homes` has for each place the package by its number, and the name of the interface, if the place has a path. The number of an interface
+/// is that of its place among `places`, and the number of a world its order. Takes time and memory linear in the packages, the places and the
+/// members, expected. Refuses for want of memory alone, also where there are more than 2^32 places or worlds.
+pub fn packages_of<'a>(
+    alloc: Global,
+    packages: &Packages<'a>,
+    homes: &[Option<(usize, &'a str)>],
+    main: usize,
+    places: &IndexSet<u32>,
+    members: &[Member<'a>],
+) -> Result<Vec<PlannedPackage<'a>>, AllocError>
+    requires { AllByRecursion (IsPlaced places.now.keys) (interfaces_in members.now) }
+    ensures { IfOk result (λ all. PlansPackages packages.now (home_at_lem (homes_alone homes.now)) main places.now.keys members.now (map stated_package all.items)) }
+{
+    let mut lists = lists_of(alloc, packages.count(), homes, places)?;
+    all_packages(alloc, packages, main, places, members, &mut lists)
 }

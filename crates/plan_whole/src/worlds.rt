@@ -1,7 +1,7 @@
 //! The worlds of a plan.
 
 ghost use Rattle.std.specs.List.{AllByRecursion, AllZip, flat_map};
-ghost use Rattle.std.specs.Prelude.{◌≡◌, ◌++◌, map, IfOk, Some};
+ghost use Rattle.std.specs.Prelude.{◌≡◌, ◌++◌, map, IfOk};
 ghost use Rattle.read_plan.specs.NumberedViews.{function_at as function_at_lem, PartsOf};
 ghost use Rattle.read_plan.specs.NumberedWorlds.{place_of_key};
 ghost use Rattle.plan_build.specs.PlanOf.{stated_entry, stated_item, stated_key, stated_world};
@@ -11,9 +11,9 @@ ghost use Rattle.plan_gather.specs.Kept.{IsKeptPart};
 ghost use Rattle.plan_read.specs.Scopes.{numbered_key};
 ghost use Rattle.plan_read.specs.Tables.{given_text, numbered_tables};
 ghost use Rattle.plan_read.specs.Views.{numbered_type};
-ghost use Rattle.plan_types.specs.PlannedTypes.{number_in};
-ghost use Rattle.plan_whole.specs.WholeWorlds.{labelled, planned_key, types_seen, world_in_part, worlds_in, PlansFunction, PlansInstance, PlansItem, PlansWorld, SeenIsKept, WorldIsKept};
+ghost use Rattle.plan_whole.specs.WholeWorlds.{labelled, planned_key, types_seen, world_in_part, worlds_in, PlansFunction, PlansInstance, IsAmong, PlansItem, PlansWorld, SeenIsKept, SeenIsPlaced, WorldIsKept, WorldIsPlaced};
 
+use crate::numbers::{number_of, package_id};
 use indexmap::{IndexMap, IndexSet};
 use plan_build::{PlannedItem, PlannedKey, PlannedWorld};
 use plan_gather::{Kept, function_of, types_of};
@@ -23,19 +23,6 @@ use std::alloc::{AllocError, Global};
 use wit_model::{InterfaceId, PackageId, TypeId};
 
 // ---- instances
-
-/// The number of the interface of a place among some.
-pub(crate) fn number_of(places: &IndexSet<u32>, place: u32) -> Result<InterfaceId, AllocError>
-    ensures { IfOk result (λ id. number_in places.now.keys place ≡ Some id.0) }
-{
-    let Some(index) = places.get_index_of(&place) else {
-        return Err(AllocError);
-    };
-    match u32::try_from(index) {
-        Ok(number) => Ok(InterfaceId(number)),
-        Err(_) => Err(AllocError),
-    }
-}
 
 /// The place of an instance's names.
 fn place_of(key: InstanceKey<'_>) -> u32
@@ -65,6 +52,7 @@ fn instance_of<'a>(
     key: InstanceKey<'a>,
     external_id: Option<&'a str>,
 ) -> Result<(PlannedKey<'a>, PlannedItem<'a>), AllocError>
+    requires { IsAmong places.now.keys (place_of_key (numbered_key key)) }
     ensures { IfOk result (λ e. PlansInstance places.now.keys (numbered_key key.entry) (given_text external_id.entry) (stated_entry e)) }
 {
     let id = number_of(places, place_of(key))?;
@@ -100,7 +88,8 @@ fn item_of<'a>(
     resources: &IndexMap<&str, TypeId>,
     seen: Seen<'a>,
 ) -> Result<(PlannedKey<'a>, PlannedItem<'a>), AllocError>
-    requires { SeenIsKept (numbered_tables tables.now) kept.now seen }
+    requires kept { SeenIsKept (numbered_tables tables.now) kept.now seen }
+    requires placed { SeenIsPlaced places.now.keys seen }
     ensures { IfOk result (λ e. PlansItem (numbered_tables tables.now) kept.now places.now.keys (found_under resources.now.entries) seen.entry (stated_entry e)) }
 {
     let label = PlannedKey::Label(seen.key);
@@ -131,7 +120,8 @@ fn items_of<'a>(
     resources: &IndexMap<&str, TypeId>,
     all_seen: &[Seen<'a>],
 ) -> Result<Vec<(PlannedKey<'a>, PlannedItem<'a>)>, AllocError>
-    requires { AllByRecursion (SeenIsKept (numbered_tables tables.now) kept.now) all_seen.now }
+    requires kept { AllByRecursion (SeenIsKept (numbered_tables tables.now) kept.now) all_seen.now }
+    requires placed { AllByRecursion (SeenIsPlaced places.now.keys) all_seen.now }
     ensures { IfOk result (λ items. AllZip (PlansItem (numbered_tables tables.now) kept.now places.now.keys (found_under resources.now.entries)) all_seen.now (map stated_entry items.items)) }
 {
     let mut items = Vec::new(alloc);
@@ -198,7 +188,8 @@ fn world_of<'a>(
     name: &'a str,
     scope: Scope<'a>,
 ) -> Result<PlannedWorld<'a>, AllocError>
-    requires { WorldIsKept (numbered_tables tables.now) kept.now scope }
+    requires kept { WorldIsKept (numbered_tables tables.now) kept.now scope }
+    requires placed { WorldIsPlaced places.now.keys scope }
     ensures { IfOk result (λ w. PlansWorld (numbered_tables tables.now) kept.now places.now.keys main.0 (name.entry.now, scope.entry) (stated_world w)) }
 {
     let resources = resources_of(alloc, tables, kept, scope.imports)?;
@@ -251,7 +242,8 @@ fn all_worlds<'a>(
     places: &IndexSet<u32>,
     worlds: &[(&'a str, Scope<'a>)],
 ) -> Result<Vec<PlannedWorld<'a>>, AllocError>
-    requires { AllByRecursion (λ w. WorldIsKept (numbered_tables tables.now) kept.now w.1) (map labelled worlds.now) }
+    requires kept { AllByRecursion (λ w. WorldIsKept (numbered_tables tables.now) kept.now w.1) (map labelled worlds.now) }
+    requires placed { AllByRecursion (λ w. WorldIsPlaced places.now.keys w.1) (map labelled worlds.now) }
     ensures { IfOk result (λ all. AllZip (PlansWorld (numbered_tables tables.now) kept.now places.now.keys main.0) (map labelled worlds.now) (map stated_world all.items)) }
 {
     let mut all = Vec::new(alloc);
@@ -261,23 +253,12 @@ fn all_worlds<'a>(
     Ok(all)
 }
 
-/// The package of this number.
-fn package_id(number: usize) -> Result<PackageId, AllocError>
-    ensures { IfOk result (λ id. id.0 ≡ number) }
-{
-    match u32::try_from(number) {
-        Ok(number) => Ok(PackageId(number)),
-        Err(_) => Err(AllocError),
-    }
-}
-
 /// The worlds that are exported, in order, each of the main package under its label (Component Model WIT.md, "Worlds"): of its imports and
-/// exports in order, an interface has the number of its place among `places`, and a type the number that it gets. A place that isn't among
-/// them is refused as want of memory.
+/// exports in order, an interface has the number of its place among `places`, and a type the number that it gets.
 ///
 /// Takes time and memory linear in the imports and exports and in what the functions take, expected. Refuses for want of memory alone, also
 /// where there are more than 2^32 packages or places.
-pub fn worlds_of<'a>(
+pub(crate) fn worlds_of<'a>(
     alloc: Global,
     tables: &Tables<'a>,
     kept: &Kept,
@@ -285,7 +266,8 @@ pub fn worlds_of<'a>(
     places: &IndexSet<u32>,
     members: &[Member<'a>],
 ) -> Result<Vec<PlannedWorld<'a>>, AllocError>
-    requires { AllByRecursion (λ w. WorldIsKept (numbered_tables tables.now) kept.now w.1) (worlds_in members.now) }
+    requires kept { AllByRecursion (λ w. WorldIsKept (numbered_tables tables.now) kept.now w.1) (worlds_in members.now) }
+    requires placed { AllByRecursion (λ w. WorldIsPlaced places.now.keys w.1) (worlds_in members.now) }
     ensures { IfOk result (λ all. AllZip (PlansWorld (numbered_tables tables.now) kept.now places.now.keys main) (worlds_in members.now) (map stated_world all.items)) }
 {
     let main = package_id(main)?;

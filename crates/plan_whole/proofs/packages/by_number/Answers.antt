@@ -1,7 +1,10 @@
 use Rattle.std.proofs.Common.{refl}
-use Rattle.plan_gather.proofs.InterfaceLaws.{zip_next}
-use Rattle.plan_whole.specs.WholePackages.{labelled_place, numbered_interface, ListsPlace}
+use Rattle.plan_gather.proofs.InterfaceLaws.{mapped_at, zip_next}
+use Rattle.plan_whole.specs.WholePackages.{labelled_place, numbered_interface, IsPlaced, ListsPlace}
 use Rattle.plan_whole.proofs.packages.by_number.Goals as goal
+
+pub number_of-requires : goal.number_of-requires
+number_of-requires c = mapped_at (IsPlaced c.args.places.now.keys) labelled_place c.args.interfaces.now c.loop-interface.interface-index _ c.loop-interface-test.true c.requires
 
 pub loop-interface-preserved : goal.loop-interface-preserved
 loop-interface-preserved c =

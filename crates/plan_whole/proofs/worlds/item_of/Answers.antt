@@ -2,14 +2,17 @@ use Rattle.std.proofs.Common.{◌≤◌, refl, subst}
 use Rattle.plan_gather.specs.Functions.{found_under}
 use Rattle.plan_gather.specs.Kept.{IsKeptPart}
 use Rattle.plan_read.specs.Tables.{numbered_tables}
-use Rattle.plan_whole.specs.WholeWorlds.{ShownIsKept, a_function, a_type}
+use Rattle.plan_whole.specs.WholeWorlds.{ShownIsKept, ShownIsPlaced, a_function, a_type}
 use Rattle.plan_whole.proofs.WorldLaws.{instance_planned}
 use Rattle.plan_whole.proofs.worlds.item_of.Goals as goal
 
 pub number-requires-clause-kept : goal.number-requires-clause-kept
 number-requires-clause-kept c =
-    let have : (14 ≤ c.in-Declares.part) × IsKeptPart c.args.kept.now c.in-Declares.part = subst (ShownIsKept (numbered_tables c.args.tables.now) c.args.kept.now) c.in-Declares.is c.requires in
+    let have : (14 ≤ c.in-Declares.part) × IsKeptPart c.args.kept.now c.in-Declares.part = subst (ShownIsKept (numbered_tables c.args.tables.now) c.args.kept.now) c.in-Declares.is c.requires.kept in
     have.1
+
+pub instance_of-requires : goal.instance_of-requires
+instance_of-requires c = subst (ShownIsPlaced c.args.places.now.keys) c.in-Instance.is c.requires.placed
 
 pub returns-in-Instance : goal.returns-in-Instance
 returns-in-Instance c =

@@ -2,12 +2,15 @@ use Rattle.plan_build.specs.PlanOf.{stated_entry}
 use Rattle.plan_gather.proofs.SightLaws.{each_at}
 use Rattle.plan_gather.specs.Functions.{found_under}
 use Rattle.plan_read.specs.Tables.{numbered_tables}
-use Rattle.plan_whole.specs.WholeWorlds.{PlansItem, SeenIsKept}
+use Rattle.plan_whole.specs.WholeWorlds.{PlansItem, SeenIsKept, SeenIsPlaced}
 use Rattle.plan_whole.proofs.InterfaceLaws.{zip_more}
 use Rattle.plan_whole.proofs.worlds.items_of.Goals as goal
 
-pub item_of-requires : goal.item_of-requires
-item_of-requires c = each_at (SeenIsKept (numbered_tables c.args.tables.now) c.args.kept.now) c.args.all_seen.now c.loop-seen.seen-index _ c.loop-seen-test.true c.requires
+pub item_of-requires-clause-kept : goal.item_of-requires-clause-kept
+item_of-requires-clause-kept c = each_at (SeenIsKept (numbered_tables c.args.tables.now) c.args.kept.now) c.args.all_seen.now c.loop-seen.seen-index _ c.loop-seen-test.true c.requires.kept
+
+pub item_of-requires-clause-placed : goal.item_of-requires-clause-placed
+item_of-requires-clause-placed c = each_at (SeenIsPlaced c.args.places.now.keys) c.args.all_seen.now c.loop-seen.seen-index _ c.loop-seen-test.true c.requires.placed
 
 pub loop-seen-preserved : goal.loop-seen-preserved
 loop-seen-preserved c =

@@ -4,12 +4,16 @@ use Rattle.wit_model.specs.Text.{Text}
 use Rattle.plan_build.specs.PlanOf.{stated_world}
 use Rattle.plan_read.specs.declared.scopes.Scope.{Scope}
 use Rattle.plan_read.specs.Tables.{numbered_tables}
-use Rattle.plan_whole.specs.WholeWorlds.{labelled, PlansWorld, WorldIsKept}
+use Rattle.plan_whole.specs.WholeWorlds.{labelled, PlansWorld, WorldIsKept, WorldIsPlaced}
 use Rattle.plan_whole.proofs.worlds.worlds_of.Goals as goal
 
-pub all_worlds-requires : goal.all_worlds-requires
-all_worlds-requires c =
-    subst (AllByRecursion (λ (w : Text × Scope). WorldIsKept (numbered_tables c.args.tables.now) c.args.kept.now w.1)) (sym (ap (map labelled) c.deref.ensures.value ∙ c.in_ok-worlds.ensures)) c.requires
+pub all_worlds-requires-clause-kept : goal.all_worlds-requires-clause-kept
+all_worlds-requires-clause-kept c =
+    subst (AllByRecursion (λ (w : Text × Scope). WorldIsKept (numbered_tables c.args.tables.now) c.args.kept.now w.1)) (sym (ap (map labelled) c.deref.ensures.value ∙ c.in_ok-worlds.ensures)) c.requires.kept
+
+pub all_worlds-requires-clause-placed : goal.all_worlds-requires-clause-placed
+all_worlds-requires-clause-placed c =
+    subst (AllByRecursion (λ (w : Text × Scope). WorldIsPlaced c.args.places.now.keys w.1)) (sym (ap (map labelled) c.deref.ensures.value ∙ c.in_ok-worlds.ensures)) c.requires.placed
 
 pub returns : goal.returns
 returns c =
