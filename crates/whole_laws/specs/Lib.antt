@@ -1,0 +1,12 @@
+pub mod FirstViews
+pub mod Owners
+pub mod ShownNames
+pub mod ShownRules
+pub mod Whole
+pub mod WorldItems
+pub mod ViewedInterfaces
+pub mod WholePlaces
+pub mod WholeReasons
+pub mod WholeTypes
+pub mod WholeReasonsForeign
+pub mod WholeFunctions
