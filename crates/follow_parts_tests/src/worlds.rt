@@ -56,6 +56,19 @@ fn numbers_of_one_byte_and_of_five(rt: HostRuntime) {
     assert!(rt; is_world(alloc, &LONG) == Ok(true));
 }
 
+// The last byte of the first length has a bit that no number of 32 bits has.
+#[test]
+fn a_number_of_more_bits(rt: HostRuntime) {
+    let alloc = rt.alloc();
+    let mut bytes = LONG;
+    bytes[13] = 0x10;
+    let is_right = match is_world(alloc, &bytes) {
+        Err(Refusal::Absent(cause, _)) => cause == Cause::BadNumber,
+        _ => false,
+    };
+    assert!(rt; is_right);
+}
+
 // A byte changed, what refuses it, and at which offset.
 #[derive(Clone, Copy)]
 struct Change {
