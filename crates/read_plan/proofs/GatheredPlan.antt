@@ -3,6 +3,7 @@ use Rattle.std.proofs.Common.{◌≡◌, refl, sym, ap, subst, ◌∙◌, ℕ, z
 use Rattle.std.specs.Prelude.{option_and_then}
 use Rattle.std.specs.List.{AllByRecursion, AllZip, Contains, cons_option, filter, flat_map, list_all, list_any}
 use Rattle.std.specs.Option.{option_map_or}
+use Rattle.std.proofs.lemmas.List.Elements.{Contains-append_right}
 use Rattle.std.specs.FinMap.{from_entries}
 use Rattle.wit_model.specs.Text.{Text, TextMap, text_eq}
 use Rattle.wit_model.specs.Tree.{Form, Tree, Declaration, children}
@@ -10,7 +11,7 @@ use Rattle.wit_model.specs.Types.{no_tree}
 use Rattle.wit_model.specs.Rules.{is_id}
 use Rattle.wit_model.specs.Meaning.{FunctionMeaning, TypeMeaning, InterfaceMeaning, WorldMeaning, Item}
 use Rattle.wit_model.specs.Meant.{no_type, no_interface, no_world}
-use Rattle.wit_model.proofs.Elements.{contains-later, contains-map}
+use Rattle.wit_model.proofs.Elements.{contains-flat, contains-later, contains-map, contains-one}
 use Rattle.wit_model.proofs.Lists.{first_true, second_true}
 use Rattle.comp_meaning.specs.Follow.{Scope, View, provided}
 use Rattle.comp_meaning.specs.SameLaws.{named_meaning}
@@ -25,11 +26,11 @@ use Rattle.read_plan.specs.Gathering.{AreEnough}
 use Rattle.read_plan.specs.NumberedViews.{FunctionShape, Tables, path_text, place_at, tree_at, signature_over, function_at, AreTables, NumberedType, NumberedFunction, NumberedView, view_of, declaration_of, shown_type, shown_function, NumberedSight, sight_of, IsSight, agree_in_numbers}
 use Rattle.read_plan.specs.NumberedRules.{Fact}
 use Rattle.read_plan.specs.NumberedWorlds.{path, label, implementing, NumberedShown, instance, function, declares, NumberedSeen, shown_of, seen_of, NumberedScope, Shows, sights_of_scope, HasPath}
-use Rattle.read_plan.specs.NumberedMembers.{Homes, HomesStand, is_of_package, NumberedPart, world, interface, NumberedMember, sights_of_members, ShowsPart, IsMember, stands_at_top, are_interfaces, are_package, is_named_in, package_shown, world_shown, IsKnownSight}
+use Rattle.read_plan.specs.NumberedMembers.{Homes, HomesStand, is_of_package, NumberedPart, world, interface, NumberedMember, sights_of_members, sights_of_part, ShowsPart, IsMember, stands_at_top, are_interfaces, are_package, is_named_in, package_shown, world_shown, IsKnownSight}
 use Rattle.read_plan.specs.GatheredPlan.{functions_seen, interfaces_listed, worlds_listed, Becomes, BecomesIfGiven, DeclaresKind, a_resource, a_name, a_form, TypeBecomes, TypeListed, ParamBecomes, FunctionBecomes, FunctionListed, InterfaceBecomes, InterfaceAt, ItemBecomes, SeenBecomes, WorldBecomes, SightBecomes, Keeps, InterfacesListed, WorldsListed, under_path, foreign_interface, AreChosen, is_foreign, IsGathered, GatheredPackageIsMeant, GatheredWorldIsMeant}
-use Rattle.read_plan.proofs.Gathering.{one_view_is_enough}
+use Rattle.read_plan.proofs.Gathering.{functions_mean_one, one_view_is_enough}
 use Rattle.read_plan.proofs.Lists.{map_from}
-use Rattle.read_plan.proofs.NumberedMembers.{only_sights, of_package, all_sights, agree_same, packages_in_numbers, one_world_in_numbers}
+use Rattle.read_plan.proofs.NumberedMembers.{only_sights, of_package, all_sights, agree_same, interfaces_same, packages_in_numbers, one_world_in_numbers}
 use Rattle.read_plan.proofs.NumberedWorlds.{path_number, sights_in_numbers}
 use Rattle.read_plan.proofs.Renumbering.{trees_are_kept}
 use Rattle.read_plan.proofs.ShapeLaws.{node_tree, part_behind, tree_at_number}
@@ -184,6 +185,29 @@ module _ (t : Tables) (tables : AreTables t) (kept : List ℕ) (p : Plan) (keeps
         exports = (entries_kept w.exports x.exports b.exports ∙ ap (map reads.entry) (sym shows.exports)) i;
       }
 
+  -- ---- interfaces that are seen
+
+  functions_alike : (q : ℕ) → HasPath t q → (seen : List NumberedSight) → AllByRecursion (IsSight t) seen → reads.functions_of (path_text t q) (map (sight_of t) seen) ≡ map (shown_function t) (functions_seen q seen)
+  functions_alike q at [] all = refl
+  functions_alike q at (s ∷ seen) all =
+      by (text_eq (path_text t q) (path_text t s.place) && s.whole) (s.place == q && s.whole) (ap (λ b. b && s.whole) (path_number t tables q s.place at (all.0.path, all.0.home))) (functions_alike q at seen all.1)
+    where
+      by : (a b : Bool) → a ≡ b → reads.functions_of (path_text t q) (map (sight_of t) seen) ≡ map (shown_function t) (functions_seen q seen)
+          → cond a (map (shown_function t) s.view.functions) (reads.functions_of (path_text t q) (map (sight_of t) seen)) ≡ map (shown_function t) (cond b s.view.functions (functions_seen q seen))
+      by true true e more = refl
+      by true false e more = absurd cc
+      by false true e more = absurd cc
+      by false false e more = more
+
+  -- the interface of a view that shows functions
+  whole_kept : (seen : List NumberedSight) → AllByRecursion (IsSight t) seen → reads.all_agree (map (sight_of t) seen) ≡ true → reads.are_interfaces (map (sight_of t) seen) ≡ true → (s : NumberedSight) → Contains seen s → s.whole ≡ true
+      → (n : ℕ) → InterfaceAt t kept p s.view (functions_seen s.place seen) n → interface_meaning_in p n ≡ reads.interface_meaning (view_of t s.view) (view_of t s.view).functions
+  whole_kept seen all agrees obey s c whole n b =
+      let is = all_at (IsSight t) seen all s c in
+      let functions : ◌≡◌ {A = TextMap FunctionMeaning} (from_entries (map (shown_function t) (functions_seen s.place seen))) (from_entries (view_of t s.view).functions) =
+      ap from_entries (sym (functions_alike s.place (is.path, is.home) seen all)) ∙ functions_mean_one (map (sight_of t) seen) agrees obey (sight_of t s) (contains-map (sight_of t) seen s c) whole in
+      interface_there s.view (functions_seen s.place seen) n b ∙ λ i. record { types = map named_meaning (view_of t s.view).types; functions = functions i }
+
   -- ---- interfaces and worlds at the top
 
   module _ (h : Homes) where
@@ -193,24 +217,30 @@ module _ (t : Tables) (tables : AreTables t) (kept : List ℕ) (p : Plan) (keeps
     abbrev world_entry : Text × ℕ → Text × WorldMeaning
     world_entry e = (e.0, world_meaning_in p e.1)
 
-    interfaces_kept : (ms : List NumberedMember) (members : List Member) → AllZip (IsMember t h) ms members → (es : List (Text × ℕ)) → AllZip (InterfacesListed t kept p) (interfaces_listed ms) es
-        → map interface_entry es ≡ flat_map reads.interfaces_of members
-    interfaces_kept [] [] z [] listed = refl
-    interfaces_kept [] [] z (e ∷ es) listed = absurd listed
-    interfaces_kept [] (x ∷ members) z es listed = absurd z
-    interfaces_kept (m ∷ ms) [] z es listed = absurd z
-    interfaces_kept (m ∷ ms) (x ∷ members) z es listed = by m.part x.part z.0.part es listed (interfaces_kept ms members z.1)
-      where
-        by : (a : NumberedPart) (b : Part) → ShowsPart t h m a b → (es : List (Text × ℕ)) → AllZip (InterfacesListed t kept p) (interfaces_listed (record { label = m.label; package_ = m.package_; part = a } ∷ ms)) es
-            → ((fs : List (Text × ℕ)) → AllZip (InterfacesListed t kept p) (interfaces_listed ms) fs → map interface_entry fs ≡ flat_map reads.interfaces_of members)
-            → map interface_entry es ≡ reads.interfaces_of (record { label = x.label; package_ = x.package_; part = b }) ++ flat_map reads.interfaces_of members
-        by (world w) (Part.world scope) is es listed more = more es listed
-        by (interface q v imports) (Part.interface view views) is [] listed more = absurd listed
-        by (interface q v imports) (Part.interface view views) is (e ∷ es) listed more =
-            let one : interface_meaning_in p e.1 ≡ reads.interface_meaning view view.functions = interface_there v v.functions e.1 listed.0.there ∙ ap (λ (y : View). reads.interface_meaning y y.functions) (sym is.shown) in
-            λ i. ((listed.0.name ∙ sym z.0.label) i, one i) ∷ more es listed.1 i
-        by (world w) (Part.interface view views) is es listed more = absurd is
-        by (interface q v imports) (Part.world scope) is es listed more = absurd is
+    module _ (seen : List NumberedSight) (sights : AllByRecursion (IsSight t) seen) (agrees : reads.all_agree (map (sight_of t) seen) ≡ true) (obey : reads.are_interfaces (map (sight_of t) seen) ≡ true) where
+      interfaces_kept : (ms : List NumberedMember) → ((m : NumberedMember) → Contains ms m → (s : NumberedSight) → Contains (sights_of_part t m.part) s → Contains seen s) → (members : List Member) → AllZip (IsMember t h) ms members
+          → (es : List (Text × ℕ)) → AllZip (InterfacesListed t kept p seen) (interfaces_listed ms) es → map interface_entry es ≡ flat_map reads.interfaces_of members
+      interfaces_kept [] among [] z [] listed = refl
+      interfaces_kept [] among [] z (e ∷ es) listed = absurd listed
+      interfaces_kept [] among (x ∷ members) z es listed = absurd z
+      interfaces_kept (m ∷ ms) among [] z es listed = absurd z
+      interfaces_kept (m ∷ ms) among (x ∷ members) z es listed =
+          by m.part x.part z.0.part (λ s c. among m (0, omega arith, refl) s c) es listed (interfaces_kept ms (λ r c. among r (contains-later m ms r c)) members z.1)
+        where
+          by : (a : NumberedPart) (b : Part) → ShowsPart t h m a b → ((s : NumberedSight) → Contains (sights_of_part t a) s → Contains seen s)
+              → (es : List (Text × ℕ)) → AllZip (InterfacesListed t kept p seen) (interfaces_listed (record { label = m.label; package_ = m.package_; part = a } ∷ ms)) es
+              → ((fs : List (Text × ℕ)) → AllZip (InterfacesListed t kept p seen) (interfaces_listed ms) fs → map interface_entry fs ≡ flat_map reads.interfaces_of members)
+              → map interface_entry es ≡ reads.interfaces_of (record { label = x.label; package_ = x.package_; part = b }) ++ flat_map reads.interfaces_of members
+          by (world w) (Part.world scope) is own es listed more = more es listed
+          by (interface q v imports) (Part.interface view views) is own [] listed more = absurd listed
+          by (interface q v imports) (Part.interface view views) is own (e ∷ es) listed more =
+              let s : NumberedSight = record { place = q; view = v; whole = true } in
+              let there = own s (Contains-append_right (map (λ (i : ℕ × NumberedView). record { place = i.0; view = i.1; whole = false }) imports) (s ∷ []) s (contains-one s)) in
+              let one : interface_meaning_in p e.1 ≡ reads.interface_meaning view view.functions =
+              whole_kept seen sights agrees obey s there refl e.1 listed.0.there ∙ ap (λ (y : View). reads.interface_meaning y y.functions) (sym is.shown) in
+              λ i. ((listed.0.name ∙ sym z.0.label) i, one i) ∷ more es listed.1 i
+          by (world w) (Part.interface view views) is own es listed more = absurd is
+          by (interface q v imports) (Part.world scope) is own es listed more = absurd is
 
     worlds_kept : (ms : List NumberedMember) (members : List Member) → AllZip (IsMember t h) ms members → (es : List (Text × ℕ)) → AllZip (WorldsListed t kept p) (worlds_listed ms) es
         → map world_entry es ≡ flat_map reads.worlds_of members
@@ -231,20 +261,6 @@ module _ (t : Tables) (tables : AreTables t) (kept : List ℕ) (p : Plan) (keeps
             λ i. ((listed.0.name ∙ sym z.0.label) i, one i) ∷ more es listed.1 i
         by (world w) (Part.interface view views) is es listed more = absurd is
         by (interface q v imports) (Part.world scope) is es listed more = absurd is
-
-  -- ---- interfaces that are seen
-
-  functions_alike : (q : ℕ) → HasPath t q → (seen : List NumberedSight) → AllByRecursion (IsSight t) seen → reads.functions_of (path_text t q) (map (sight_of t) seen) ≡ map (shown_function t) (functions_seen q seen)
-  functions_alike q at [] all = refl
-  functions_alike q at (s ∷ seen) all =
-      by (text_eq (path_text t q) (path_text t s.place) && s.whole) (s.place == q && s.whole) (ap (λ b. b && s.whole) (path_number t tables q s.place at (all.0.path, all.0.home))) (functions_alike q at seen all.1)
-    where
-      by : (a b : Bool) → a ≡ b → reads.functions_of (path_text t q) (map (sight_of t) seen) ≡ map (shown_function t) (functions_seen q seen)
-          → cond a (map (shown_function t) s.view.functions) (reads.functions_of (path_text t q) (map (sight_of t) seen)) ≡ map (shown_function t) (cond b s.view.functions (functions_seen q seen))
-      by true true e more = refl
-      by true false e more = absurd cc
-      by false true e more = absurd cc
-      by false false e more = more
 
   -- an interface of the plan, under its path
   abbrev entry_of : Text × PlannedInterface → Text × InterfaceMeaning
@@ -327,11 +343,16 @@ module _ (t : Tables) (tables : AreTables t) (h : Homes) (stand : HomesStand t h
   sights : AllByRecursion (IsSight t) seen
   sights = only_sights t known seen all
 
+  both_hold : (agree_in_numbers seen && are_interfaces t known seen) ≡ true
+  both_hold =
+      second_true (list_all (stands_at_top h n ms) seen) (agree_in_numbers seen && are_interfaces t known seen)
+      (second_true (list_all (λ m. n == m.package_) ms) (list_all (stands_at_top h n ms) seen && (agree_in_numbers seen && are_interfaces t known seen)) are)
+
   agree : reads.all_agree (map (sight_of t) seen) ≡ true
-  agree =
-      let rest = second_true (list_all (λ m. n == m.package_) ms) (list_all (stands_at_top h n ms) seen && (agree_in_numbers seen && are_interfaces t known seen)) are in
-      let more = second_true (list_all (stands_at_top h n ms) seen) (agree_in_numbers seen && are_interfaces t known seen) rest in
-      agree_same t tables h stand known seen all ∙ first_true (agree_in_numbers seen) (are_interfaces t known seen) more
+  agree = agree_same t tables h stand known seen all ∙ first_true (agree_in_numbers seen) (are_interfaces t known seen) both_hold
+
+  obey : reads.are_interfaces (map (sight_of t) seen) ≡ true
+  obey = interfaces_same t tables h stand known seen all ∙ second_true (agree_in_numbers seen) (are_interfaces t known seen) both_hold
 
   foreign_same : (s : NumberedSight) → Contains seen s → not (is_of g.main.identity (path_text t s.place)) ≡ is_foreign h n s
   foreign_same s c =
@@ -363,7 +384,7 @@ module _ (t : Tables) (tables : AreTables t) (h : Homes) (stand : HomesStand t h
   package_means : planned.package_meaning p g.main ≡ package_shown g.main.identity members
   package_means = λ i. record {
     identity = g.main.identity;
-    interfaces = interfaces_kept t tables g.kept p g.keeps h ms members z g.main.interfaces g.interfaces i;
+    interfaces = interfaces_kept t tables g.kept p g.keeps h seen sights agree obey ms (λ m c s among. contains-flat (λ (x : NumberedMember). sights_of_part t x.part) ms m s c among) members z g.main.interfaces g.interfaces i;
     worlds = worlds_kept t tables g.kept p g.keeps h ms members z g.main.worlds g.worlds i;
     foreign = foreign_means i;
   }

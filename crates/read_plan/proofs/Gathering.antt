@@ -1,16 +1,21 @@
 -- One view of each path is enough.
-use Rattle.std.proofs.Common.{◌≡◌, sym, ap, subst, ◌∙◌, zero, suc, true, ◌&&◌, ◌||◌, not, List, [], ◌∷◌, map, arith}
-use Rattle.std.specs.List.{Contains, list_all}
+use Rattle.std.proofs.Common.{◌≡◌, refl, sym, ap, subst, ◌∙◌, zero, suc, Bool, true, false, ◌&&◌, ◌||◌, not, cond, List, [], ◌∷◌, ◌++◌, map, arith}
+use Rattle.std.specs.List.{Contains, list_all, list_any}
 use Rattle.std.specs.Cmp.Lexicographic.{pointwise}
 use Rattle.std.specs.FinMap.{from_entries}
+use Rattle.std.proofs.lemmas.Bool.{and_from}
 use Rattle.std.proofs.lemmas.Slice.Eq.{bytes_eq-Decides}
-use Rattle.wit_model.specs.Text.{Text, text_eq}
-use Rattle.wit_model.specs.Meaning.{TypeMeaning, InterfaceMeaning}
+use Rattle.wit_model.specs.Text.{Text, TextMap, text_eq}
+use Rattle.wit_model.specs.Meaning.{FunctionMeaning, TypeMeaning, InterfaceMeaning}
+use Rattle.wit_model.specs.Tree.{Place}
 use Rattle.wit_model.proofs.Lists.{first_true, second_true}
 use Rattle.wit_model.proofs.Elements.{all-contained, contains-map}
 use Rattle.wit_model.proofs.Maps.{one_map}
-use Rattle.comp_meaning.specs.SameLaws.{named_meaning}
-use Rattle.comp_meaning.specs.Reads.{Sight, same_shown, same_functions, agree, all_agree, functions_of, seen_meaning}
+use Rattle.comp_meaning.specs.Follow.{ShownType}
+use Rattle.comp_meaning.specs.Rules.{distinct, is_interface}
+use Rattle.comp_meaning.specs.SameLaws.{HaveDistinctNames, named_meaning}
+use Rattle.comp_meaning.specs.Reads.{Sight, same_shown, same_functions, agree, all_agree, are_interfaces, functions_of, seen_meaning}
+use Rattle.comp_meaning.proofs.FunctionLists.{functions_make_one_map}
 use Rattle.comp_meaning.proofs.SameLaws.{shown_types_decide}
 use Rattle.read_plan.specs.Gathering.{ViewsMeanOne, OneViewIsEnough}
 use Rattle.read_plan.proofs.Lists.{map_from}
@@ -34,6 +39,59 @@ one_types (x ∷ xs) h s t (suc i, l, e) (zero, k, f) p =
     sym (alike t s (ap (λ y. agree y s) (sym f) ∙ all-contained (agree x) xs s (first_true (list_all (agree x) xs) _ h) (i, omega (arith, l), e)) (sym p))
 one_types (x ∷ xs) h s t (suc i, l, e) (suc j, k, f) p =
     one_types xs (second_true (list_all (agree x) xs) _ h) s t (i, omega (arith, l), e) (j, omega (arith, k), f) p
+
+-- ---- functions
+
+pub distinct_behind : (xs ys : List Text) → distinct (xs ++ ys) ≡ true → distinct ys ≡ true
+distinct_behind [] ys e = e
+distinct_behind (x ∷ xs) ys e = distinct_behind xs ys (second_true (not (list_any (text_eq x) (xs ++ ys))) (distinct (xs ++ ys)) e)
+
+-- no function stands twice in a view of an interface
+functions_once : (all : List Sight) → are_interfaces all ≡ true → (s : Sight) → Contains all s → HaveDistinctNames s.view.functions
+functions_once all h s c =
+    distinct_behind (map (λ (t : ShownType). t.name) s.view.types) (map (λ (f : Text × FunctionMeaning). f.0) s.view.functions)
+    (second_true _ (distinct (map (λ (t : ShownType). t.name) s.view.types ++ map (λ (f : Text × FunctionMeaning). f.0) s.view.functions))
+    (all-contained (λ (x : Sight). is_interface (Place.of_interface x.path) x.view) all s h c))
+
+-- the functions of two views of one path that show them make one map
+same_whole : (s t : Sight) → agree s t ≡ true → s.path ≡ t.path → s.whole ≡ true → t.whole ≡ true → same_functions s.view.functions t.view.functions ≡ true
+same_whole s t h e p q =
+    let same : text_eq s.path t.path ≡ true = (bytes_eq-Decides s.path t.path).1 e in
+    let both = sym (ap (λ b. not b || (pointwise same_shown s.view.types t.view.types && (not (s.whole && t.whole) || same_functions s.view.functions t.view.functions))) same) ∙ h in
+    let rest = second_true (pointwise same_shown s.view.types t.view.types) (not (s.whole && t.whole) || same_functions s.view.functions t.view.functions) both in
+    sym (ap (λ b. not b || same_functions s.view.functions t.view.functions) (and_from s.whole t.whole p q)) ∙ rest
+
+-- these make the map of the view's functions
+abbrev MeanThose : Sight → List (Text × FunctionMeaning) → Type 0
+MeanThose s fs = ◌≡◌ {A = TextMap FunctionMeaning} (from_entries fs) (from_entries s.view.functions)
+
+-- Where all views agree, a view that shows functions shows those that the first of its path does.
+pub functions_mean_one : (all : List Sight) → all_agree all ≡ true → are_interfaces all ≡ true → (s : Sight) → Contains all s → s.whole ≡ true
+    → MeanThose s (functions_of s.path all)
+functions_mean_one [] h i s (k, l, e) whole = absurd (omega (arith, l))
+functions_mean_one (x ∷ xs) h i s c whole =
+    by (text_eq s.path x.path && x.whole) refl c
+    (λ d. functions_mean_one xs (second_true (list_all (agree x) xs) (all_agree xs) h) (second_true (is_interface (Place.of_interface x.path) x.view) (are_interfaces xs) i) s d whole)
+  where
+    once : (y : Sight) → Contains (x ∷ xs) y → HaveDistinctNames y.view.functions
+    once y d = functions_once (x ∷ xs) i y d
+
+    this : (text_eq s.path x.path && x.whole) ≡ true → Contains (x ∷ xs) s → MeanThose s x.view.functions
+    this first (zero, l, e) = ap (λ (y : Sight). from_entries y.view.functions) e
+    this first (suc j, l, e) =
+        let path : x.path ≡ s.path = sym ((bytes_eq-Decides s.path x.path).0 (first_true (text_eq s.path x.path) x.whole first)) in
+        (functions_make_one_map x.view.functions s.view.functions (once x (0, omega arith, refl)) (once s (suc j, l, e))).0
+        (same_whole x s (all-contained (agree x) xs s (first_true (list_all (agree x) xs) (all_agree xs) h) (j, omega (arith, l), e)) path (second_true (text_eq s.path x.path) x.whole first) whole)
+
+    by : (b : Bool) → (text_eq s.path x.path && x.whole) ≡ b → Contains (x ∷ xs) s → (Contains xs s → MeanThose s (functions_of s.path xs)) → MeanThose s (cond b x.view.functions (functions_of s.path xs))
+    by true first d later = this first d
+    by false first (zero, l, e) later =
+        let own : text_eq s.path x.path ≡ true = (bytes_eq-Decides s.path x.path).1 (ap (λ (y : Sight). y.path) (sym e)) in
+        let shows : x.whole ≡ true = ap (λ (y : Sight). y.whole) e ∙ whole in
+        let wrong : false ≡ true = sym first ∙ and_from (text_eq s.path x.path) x.whole own shows in absurd cc
+    by false first (suc j, l, e) later = later (j, omega (arith, l), e)
+
+-- ---- views
 
 pub views_mean_one : ViewsMeanOne
 views_mean_one all h s t c d p =

@@ -119,7 +119,7 @@ module _ (t : Tables) (tables : AreTables t) (h : Homes) (stand : HomesStand t h
     sight_place : (s : NumberedSight) → IsSight t s → Place.of_interface (path_text t s.place) ≡ place_at t s.place
     sight_place s x = ap Place.of_interface (path_is t s.place (x.path, x.home)) ∙ sym (ap place_of x.home)
 
-    interfaces_same : (seen : List NumberedSight) → AllByRecursion (IsKnownSight t known) seen → reads.are_interfaces (map (sight_of t) seen) ≡ are_interfaces t known seen
+    pub interfaces_same : (seen : List NumberedSight) → AllByRecursion (IsKnownSight t known) seen → reads.are_interfaces (map (sight_of t) seen) ≡ are_interfaces t known seen
     interfaces_same [] all = refl
     interfaces_same (s ∷ seen) all =
         let one = ap (λ place. rules.is_interface place (view_of t s.view)) (sight_place s all.0.0) ∙ interface_same t tables.shapes known s.place s.view all.0.1 in

@@ -24,14 +24,14 @@ abbrev pub functions_seen : ℕ → List NumberedSight → List (Text × Numbere
 functions_seen p [] = []
 functions_seen p (s ∷ rest) = if s.place == p && s.whole then s.view.functions else functions_seen p rest
 
--- the interfaces at the top, and the worlds, by their labels
-abbrev pub interfaces_listed : List NumberedMember → List (Text × NumberedView)
+-- the interfaces at the top, each with its place and its view, and the worlds, by their labels
+abbrev pub interfaces_listed : List NumberedMember → List (Text × (ℕ × NumberedView))
 interfaces_listed [] = []
 interfaces_listed (m ∷ ms) = listed m.part (interfaces_listed ms)
   where
-    listed : NumberedPart → List (Text × NumberedView) → List (Text × NumberedView)
+    listed : NumberedPart → List (Text × (ℕ × NumberedView)) → List (Text × (ℕ × NumberedView))
     listed (world w) rest = rest
-    listed (interface p v imports) rest = (m.label, v) ∷ rest
+    listed (interface p v imports) rest = (m.label, (p, v)) ∷ rest
 
 abbrev pub worlds_listed : List NumberedMember → List (Text × NumberedScope)
 worlds_listed [] = []
@@ -133,9 +133,10 @@ module _ (t : Tables) (kept : List ℕ) (p : Plan) where
     pub types : AreKept (place_at t) t.shapes kept p
     pub fall : each_from (λ j x. list_all (λ k. nat_lt k j) (kind_numbers x.kind)) 0 p.types ≡ true
 
-  pub record InterfacesListed (x : Text × NumberedView) (e : Text × ℕ) : Type 0 where
+  -- an interface at the top by its view, with the functions of the first view that shows some
+  pub record InterfacesListed (seen : List NumberedSight) (x : Text × (ℕ × NumberedView)) (e : Text × ℕ) : Type 0 where
     pub name : e.0 ≡ x.0
-    pub there : InterfaceAt x.1 x.1.functions e.1
+    pub there : InterfaceAt x.1.1 (functions_seen x.1.0 seen) e.1
 
   pub record WorldsListed (x : Text × NumberedScope) (e : Text × ℕ) : Type 0 where
     pub name : e.0 ≡ x.0
@@ -166,7 +167,7 @@ pub record IsGathered (t : Tables) (h : Homes) (n : ℕ) (ms : List NumberedMemb
   pub main : PlannedPackage
   pub stands : package_in p p.main ≡ Some main
   pub identity : slice_get h.packages n ≡ Some main.identity
-  pub interfaces : AllZip (InterfacesListed t kept p) (interfaces_listed ms) main.interfaces
+  pub interfaces : AllZip (InterfacesListed t kept p (sights_of_members t ms)) (interfaces_listed ms) main.interfaces
   pub worlds : AllZip (WorldsListed t kept p) (worlds_listed ms) main.worlds
   pub chosen : List NumberedSight
   pub chosen_are : AreChosen (is_foreign h n) (sights_of_members t ms) chosen
