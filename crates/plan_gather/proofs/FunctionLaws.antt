@@ -22,7 +22,7 @@ use Rattle.read_plan.specs.Built.{part_of}
 use Rattle.read_plan.specs.GatheredPlan.{Becomes, BecomesIfGiven, ParamBecomes}
 use Rattle.read_plan.specs.KeptFunctions.{IsKindOf, IsResource}
 use Rattle.read_plan.specs.KeptFunctions as kinds
-use Rattle.read_plan.specs.NumberedRules.{Fact, begins_with_self, constructs, is_function_of, is_signature}
+use Rattle.read_plan.specs.NumberedRules.{Fact, begins_with_self, constructs, is_function, is_function_of, is_signature}
 use Rattle.read_plan.specs.NumberedViews.{FunctionShape, Tables}
 use Rattle.read_plan.specs.Plan.{Plan}
 use Rattle.read_plan.specs.Renumbering.{IsPart, a_primitive, a_shape}
@@ -129,6 +129,42 @@ module _ (t : Tables) (known : ℕ → Fact) (q : ℕ) (name : Text) (f : Functi
       by false b c true false false a1 a2 a3 a4 a5 a6 h = absurd cc
       by false b c false e false a1 a2 a3 a4 a5 a6 h = absurd cc
 
+either_true : (a b : Bool) → (a || b) ≡ true → (a ≡ true) ⊎ (b ≡ true)
+either_true true b h = inl refl
+either_true false b h = inr h
+
+-- the name is that of the resource's constructor, or of a member of it
+pub data IsNamedAfter (name r : Text) : Type 0 where
+  constructor_after : is_constructor_named name r → IsNamedAfter name r
+  method_after : is_behind method_mark name r → IsNamedAfter name r
+  static_after : is_behind static_mark name r → IsNamedAfter name r
+
+-- A function that may stand behind some resources and is named after one is named after one of them.
+pub resource_among : (t : Tables) (known : ℕ → Fact) (q : ℕ) (name : Text) (f : FunctionShape) (resources : List Text) → is_function t known q resources name f ≡ true → (r : Text) → IsNamedAfter name r → list_any (text_eq r) resources ≡ true
+resource_among t known q name f resources h r after = by (either_true (is_label name) (list_any (is_function_of t known q name f) resources) (second_true (is_signature t known q f) _ h))
+  where
+    no_label : is_label name ≡ true → IsNamedAfter name r → ⊥
+    no_label label (constructor_after named) = label_no_constructor name r label named
+    no_label label (method_after k) = label_no_method name r label k
+    no_label label (static_after k) = label_no_static name r label k
+
+    same : (s : Text) → IsOf t known q name f s → IsNamedAfter name r → r ≡ s
+    same s (constructor_of named sync made) (constructor_after other) = one_constructed name r s other named
+    same s (constructor_of named sync made) (method_after k) = absurd (constructor_no_method name s r named k)
+    same s (constructor_of named sync made) (static_after k) = absurd (constructor_no_static name s r named k)
+    same s (method_of k self) (constructor_after other) = absurd (constructor_no_method name r s other k)
+    same s (method_of k self) (method_after other) = one_resource method_mark name r s other k
+    same s (method_of k self) (static_after other) = absurd (method_no_static name s r k other)
+    same s (static_of k) (constructor_after other) = absurd (constructor_no_static name r s other k)
+    same s (static_of k) (method_after other) = absurd (method_no_static name r s other k)
+    same s (static_of k) (static_after other) = one_resource static_mark name r s other k
+
+    by : (is_label name ≡ true) ⊎ (list_any (is_function_of t known q name f) resources ≡ true) → list_any (text_eq r) resources ≡ true
+    by (inl label) = absurd (no_label label after)
+    by (inr any) =
+        let at = any_get (is_function_of t known q name f) resources any in
+        get_any (text_eq r) resources at.0 at.1 at.2 ((bytes_eq-Decides r at.1).1 (same at.1 (is_of t known q name f at.1 at.3) after))
+
 free_of_none : (b : Bool) → resource_of (free_kind b) ≡ None
 free_of_none true = refl
 free_of_none false = refl
@@ -144,10 +180,6 @@ method_waits id false = refl
 static_waits : (id : TypeId) (b : Bool) → is_async (static_kind id b) ≡ b
 static_waits id true = refl
 static_waits id false = refl
-
-either_true : (a b : Bool) → (a || b) ≡ true → (a ≡ true) ⊎ (b ≡ true)
-either_true true b h = inl refl
-either_true false b h = inr h
 
 nothing_found : {A : Type 0} (o : Option A) (x : A) → o ≡ None → o ≡ Some x → ⊥
 nothing_found o x e f = let wrong : None ≡ Some x = sym e ∙ f in absurd cc
