@@ -1,24 +1,23 @@
 -- The component type of an interface, in numbers.
-use Rattle.std.proofs.Common.{◌≡◌, refl, sym, ap, subst, ◌∙◌, ℕ, Bool, true, false, not, ◌&&◌, List, [], ◌∷◌, map, Option, Some, None, option_map, is_none, slice_get}
+use Rattle.std.proofs.Common.{◌≡◌, refl, sym, ap, subst, ◌∙◌, ℕ, Bool, true, false, not, ◌&&◌, List, [], ◌∷◌, map, Option, Some, None, option_map, is_none}
 use Rattle.std.specs.List.{AllByRecursion}
-use Rattle.wit_model.specs.Names.{PackageIdentity, read_path}
+use Rattle.wit_model.specs.Names.{PackageIdentity}
 use Rattle.wit_model.specs.Text.{Text, text_eq}
 use Rattle.wit_model.proofs.Elements.{same-some}
 use Rattle.wit_model.proofs.VersionLaws.{same_text, text_same}
-use Rattle.comp_bytes.specs.Raw.{Declarations}
 use Rattle.comp_bytes.specs.Reading.{◌>>=◌}
-use Rattle.comp_meaning.specs.Follow.{Scope, View, component_scope, each, is_filled, provided}
+use Rattle.comp_meaning.specs.Follow.{View, each, is_filled, provided}
 use Rattle.comp_meaning.specs.Rules.{distinct}
 use Rattle.comp_meaning.specs.Reads as reads
 use Rattle.comp_meaning.specs.Reads.{Part, interface_part, labelled_path}
-use Rattle.read_plan.specs.NumberedMembers.{Homes, IsHomeOf, HomesStand, exported_view, home_at, imported_view, shown_view}
+use Rattle.read_plan.specs.NumberedMembers.{Homes, IsHomeOf, HomesStand, exported_view, imported_view, shown_view}
 use Rattle.read_plan.specs.NumberedRules.{Fact, IsKnown}
-use Rattle.read_plan.specs.NumberedViews.{AllOf, AreTables, IsPart, NumberedType, NumberedView, Tables, path_at, path_text, view_of}
-use Rattle.read_plan.specs.NumberedWorlds.{DeclaresParts, HasPath, ItemStands, NumberedScope, NumberedSeen, NumberedShown, ScopeStands, Shows, are_once, are_reached, declares, function, implementing, instance, label, path}
+use Rattle.read_plan.specs.NumberedViews.{AllOf, AreTables, IsPart, NumberedType, Tables, path_text, view_of}
+use Rattle.read_plan.specs.NumberedWorlds.{DeclaresParts, HasPath, ItemStands, NumberedScope, NumberedSeen, NumberedShown, ScopeStands, are_once, are_reached, declares, function, implementing, instance, label, path}
 use Rattle.read_plan.proofs.Lists.{map_of_map}
 use Rattle.read_plan.proofs.NumberedMembers.{export_in_numbers, imports_in_numbers}
 use Rattle.read_plan.proofs.NumberedWorlds.{path_is, paths_in_numbers, reached_in_numbers}
-use Rattle.plan_members.specs.Interfaces.{IsInterfacePart, IsPartOf, InterfacesInNumbers, Placed, at_home, elsewhere, shown_interface}
+use Rattle.plan_members.specs.Interfaces.{IsInterfacePart, IsPartOf, InterfacesInNumbers, Placed, InterfaceScopesInNumbers, at_home, elsewhere, interface_of_scope, shown_interface}
 
 no_some : {A B : Type 0} (x : A) → None ≡ Some x → B
 no_some x e = let wrong : ⊥ = cc in absurd wrong
@@ -61,7 +60,7 @@ module _ (t : Tables) (known : ℕ → Fact) (home : ℕ) where
       by (Some y) f None rest e = no_some is e
       by (Some y) f (Some ys) rest e = subst (AllByRecursion (PlacedStands t)) (same-some (y ∷ ys) is e) (import_stands s h.0 y f, rest ys refl)
 
-  export_stands : (ss : List NumberedSeen) → AllByRecursion (λ (s : NumberedSeen). ItemStands t known home s.shown) ss → (i : Placed) → exported_view ss ≡ Some i → PlacedStands t i
+  pub export_stands : (ss : List NumberedSeen) → AllByRecursion (λ (s : NumberedSeen). ItemStands t known home s.shown) ss → (i : Placed) → exported_view ss ≡ Some i → PlacedStands t i
   export_stands [] h i e = no_some i e
   export_stands (s ∷ r ∷ ss) h i e = no_some i e
   export_stands (s ∷ []) h i e = by s.shown h.0 i e
@@ -144,9 +143,12 @@ module _ (t : Tables) (tables : AreTables t) (h : Homes) (stand : HomesStand t h
     by_views (Some e) f (Some is) g =
         followed e (export_stands t known w.home w.exports stands.exports e f) is (imports_stand t known w.home w.imports stands.imports is g) (are_once (e.0 ∷ map (λ i. i.0) is) && are_reached t is e.1) refl
 
+pub scopes_are_parts : InterfaceScopesInNumbers
+scopes_are_parts t tables h stand known w stands scope shows wanted =
+    subst (IsInterfacePart t h wanted (shown_interface t w))
+    (sym (λ i. export_in_numbers t w scope shows i >>= λ exported. imports_in_numbers t w scope shows i >>= λ imports. found_of t tables h stand wanted exported imports))
+    (by_views t tables h stand wanted known w stands (exported_view w.exports) refl (each imported_view w.imports) refl)
+
 pub interfaces_are_parts : InterfacesInNumbers
 interfaces_are_parts t tables h stand known w stands ds scope is shows wanted =
-    subst (IsInterfacePart t h wanted (shown_interface t w))
-    (sym (ap (λ o. o >>= λ (scope : Scope). reads.exported_view scope.exports >>= λ exported. each reads.imported_view scope.imports >>= λ imports. found_of t tables h stand wanted exported imports) is
-    ∙ λ i. export_in_numbers t w scope shows i >>= λ exported. imports_in_numbers t w scope shows i >>= λ imports. found_of t tables h stand wanted exported imports))
-    (by_views t tables h stand wanted known w stands (exported_view w.exports) refl (each imported_view w.imports) refl)
+    subst (IsInterfacePart t h wanted (shown_interface t w)) (sym (ap (λ o. o >>= interface_of_scope wanted) is)) (scopes_are_parts t tables h stand known w stands scope shows wanted)

@@ -1,8 +1,7 @@
 -- The rules on a package and on one world, put together.
-use Rattle.std.proofs.Common.{◌≡◌, refl, sym, ap, subst, ◌∙◌, ℕ, Bool, true, false, not, ◌&&◌, ◌||◌, ◌==◌, List, [], ◌∷◌, map}
+use Rattle.std.proofs.Common.{◌≡◌, refl, sym, ap, ◌∙◌, ℕ, Bool, true, false, not, ◌&&◌, ◌||◌, ◌==◌, List, [], ◌∷◌}
 use Rattle.std.specs.List.{list_all, list_any}
 use Rattle.wit_model.specs.Text.{Text}
-use Rattle.wit_model.specs.Uses.{has}
 use Rattle.read_plan.specs.NumberedMembers.{Homes, NumberedMember, are_interfaces, are_package, is_named_in, is_of_package, is_one_world, sights_of_members, stands_at_top}
 use Rattle.read_plan.specs.NumberedRules.{Fact}
 use Rattle.read_plan.specs.NumberedViews.{NumberedSight, Tables, agree_in_numbers, agree_with_first_in_numbers}

@@ -5,7 +5,9 @@ use Rattle.wit_model.specs.Text.{Text}
 use Rattle.comp_bytes.specs.Raw.{Declarations}
 use Rattle.comp_bytes.specs.Reading.{◌>>=◌}
 use Rattle.comp_meaning.specs.Follow.{Scope, component_scope, each, provided}
-use Rattle.comp_meaning.specs.Reads.{Part, interface, interface_part}
+use Rattle.comp_meaning.specs.Reads as reads
+use Rattle.comp_meaning.specs.Reads.{Part, interface, interface_part, labelled_path}
+use Rattle.comp_meaning.specs.Rules.{distinct}
 use Rattle.read_plan.specs.NumberedMembers.{Homes, HomesStand, exported_view, home_at, imported_view, shown_view}
 use Rattle.read_plan.specs.NumberedRules.{Fact}
 use Rattle.read_plan.specs.NumberedViews.{AreTables, NumberedView, Tables, view_of}
@@ -32,9 +34,22 @@ abbrev pub IsInterfacePart : Tables → Homes → Text → Option (Placed × Lis
 IsInterfacePart t h label None found = found ≡ None
 IsInterfacePart t h label (Some x) found = IsPartOf t h label x.0 x.1 found
 
+-- what the rules of reading make of a scope, as that of the component type of an interface under a label
+abbrev pub interface_of_scope : Text → Scope → Option (PackageIdentity × Part)
+interface_of_scope label scope =
+    reads.exported_view scope.exports >>= λ exported.
+    each reads.imported_view scope.imports >>= λ imports.
+    labelled_path label exported.0 >>= λ package_.
+    provided (distinct (exported.0 ∷ map (λ i. i.0) imports) && reads.are_reached imports exported.1) (package_, interface exported.1 imports)
+
 -- ---- laws
 
 -- A component type that was followed is that of an interface, under a label, exactly where its numbers are.
 abbrev pub InterfacesInNumbers : Type 0
 InterfacesInNumbers = (t : Tables) → AreTables t → (h : Homes) → HomesStand t h → (known : ℕ → Fact) (w : NumberedScope) → ScopeStands t known w → (ds : Declarations) (scope : Scope) → component_scope ds ≡ Some scope → Shows t w scope
     → (label : Text) → IsInterfacePart t h label (shown_interface t w) (interface_part label ds)
+
+-- The same of a scope alone, whichever component type it was followed of.
+abbrev pub InterfaceScopesInNumbers : Type 0
+InterfaceScopesInNumbers = (t : Tables) → AreTables t → (h : Homes) → HomesStand t h → (known : ℕ → Fact) (w : NumberedScope) → ScopeStands t known w → (scope : Scope) → Shows t w scope
+    → (label : Text) → IsInterfacePart t h label (shown_interface t w) (interface_of_scope label scope)

@@ -12,5 +12,6 @@ mod worlds;
 pub use interfaces::interface_of;
 pub use members::{Member, Part};
 pub use packages::are_package;
+pub use places::home_at;
 pub use sights::sights_of_members;
 pub use worlds::is_one_world;

@@ -34,8 +34,8 @@ pub(crate) fn places_of(alloc: Global, members: &[Member<'_>]) -> Result<IndexSe
     Ok(places)
 }
 
-/// The package of a place and the name of its interface, if it has a path.
-fn home_at<'a>(homes: &[Option<(usize, &'a str)>], place: u32) -> Option<(usize, &'a str)>
+/// The package of a place by its number, and the name of its interface, if the place has a path. Takes constant time.
+pub fn home_at<'a>(homes: &[Option<(usize, &'a str)>], place: u32) -> Option<(usize, &'a str)>
     ensures { given_home result ≡ home_at_lem (homes_alone homes.now) place }
 {
     homes.get(place as usize).copied().unwrap_or(None)

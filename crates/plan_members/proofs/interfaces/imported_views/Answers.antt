@@ -1,4 +1,4 @@
-use Rattle.std.proofs.Common.{map, sym}
+use Rattle.std.proofs.Common.{map}
 use Rattle.comp_meaning.specs.Follow.{each}
 use Rattle.read_plan.specs.NumberedMembers.{imported_view}
 use Rattle.plan_read.specs.Reached.{numbered_import}

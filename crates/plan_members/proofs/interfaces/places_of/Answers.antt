@@ -1,4 +1,4 @@
-use Rattle.std.proofs.Common.{refl, map}
+use Rattle.std.proofs.Common.{refl}
 use Rattle.plan_read.specs.Reached.{numbered_import}
 use Rattle.plan_members.proofs.WalkLaws.{one_pushed}
 use Rattle.plan_members.proofs.interfaces.places_of.Goals as goal
