@@ -39,14 +39,11 @@ use Rattle.plan_members.specs.declared.members.Member.{Member}
 use Rattle.plan_members.specs.declared.members.Part.{Part}
 use Rattle.plan_members.specs.declared.members.Part.TheVariants as parts
 use Rattle.plan_members.specs.Members.{numbered_member, numbered_members, numbered_part}
-use Rattle.plan_types.specs.Showings.{NumberedShowing, showing_of, showings_of_import, showings_of_part, showings_of_seen, showings_of_shown, showings_of_view, signatures_of_part, signatures_of_seen, signatures_of_shown, signatures_of_view}
+use Rattle.plan_types.specs.Showings.{NumberedShowing, showing_of, showings_of_import, showings_of_members, showings_of_part, showings_of_seen, showings_of_shown, showings_of_view, signatures_of_members, signatures_of_part, signatures_of_seen, signatures_of_shown, signatures_of_view}
 use Rattle.plan_laws.proofs.InnerForms.{child_list_back, form_range, inner_stands, signature_parts_hold, view_part}
 use Rattle.plan_laws.proofs.Walks.{all_any, all_flat, all_mapped, at_each}
 use Rattle.plan_laws.specs.FormsObeyed.{FormsAreObeyed, LengthsFit}
-use Rattle.plan_laws.specs.ShownForms.{EachForm}
-
-abbrev Obeys : Form → List ℕ → Type 0
-Obeys form parts = is_form form parts ≡ true
+use Rattle.plan_laws.specs.ShownForms.{EachForm, FormsHold}
 
 module _ (t : Tables) (tables : AreTables t) (fit : LengthsFit t) where
   -- ---- forms
@@ -91,6 +88,8 @@ module _ (t : Tables) (tables : AreTables t) (fit : LengthsFit t) where
   form_obeys (Form.future_of some) parts n at h = refl
   form_obeys (Form.stream_of some) parts n at h = refl
 
+-- What holds of each form with its parts holds of each form that is shown.
+module _ (t : Tables) (tables : AreTables t) (Obeys : Form → List ℕ → Type 0) (form_obeys : (form : Form) (parts : List ℕ) (n : ℕ) → slice_get t.shapes n ≡ Some (node_shape form parts) → is_formed form (map (tree_at t) parts) ≡ true → Obeys form parts) where
   -- ---- parts
 
   part_obeys : (Met : Place → Text → Bool → Type 0) (k : ℕ) → TreeStands Met (tree_at t k) → EachForm t Obeys k
@@ -200,12 +199,15 @@ module _ (t : Tables) (tables : AreTables t) (fit : LengthsFit t) where
   members_obey h (m ∷ ms) [] zip stand = absurd zip
   members_obey h (m ∷ ms) (x ∷ members) zip stand = (part_obeys_all h m x.label x.package_ m.part x.part zip.0.part stand.0, members_obey h ms members zip.1 stand.1)
 
+  pub forms_hold : (h : Homes) (ms : List Member) (members : List reads.Member) → AllZip (IsMember t h) (numbered_members ms) members → AllByRecursion MemberStands members → FormsHold t Obeys (showings_of_members ms) (signatures_of_members ms)
+  forms_hold h ms members zip stand =
+      let each = members_obey h ms members zip stand in
+      record {
+        declared = all_flat ShowingStands (λ (m : Member). showings_of_part m.part) ms
+            (recursion_weaker (λ (m : Member). AreHeld (showings_of_part m.part) (signatures_of_part m.part)) (λ (m : Member). AllByRecursion ShowingStands (showings_of_part m.part)) (λ m held. held.0) ms each);
+        called = all_flat FunctionStands (λ (m : Member). signatures_of_part m.part) ms
+            (recursion_weaker (λ (m : Member). AreHeld (showings_of_part m.part) (signatures_of_part m.part)) (λ (m : Member). AllByRecursion FunctionStands (signatures_of_part m.part)) (λ m held. held.1) ms each);
+      }
+
 pub forms_obeyed : FormsAreObeyed
-forms_obeyed t tables fit h ms members zip stand =
-    let each = members_obey t tables fit h ms members zip stand in
-    record {
-      declared = all_flat (ShowingStands t tables fit) (λ (m : Member). showings_of_part m.part) ms
-          (recursion_weaker (λ (m : Member). AreHeld t tables fit (showings_of_part m.part) (signatures_of_part m.part)) (λ (m : Member). AllByRecursion (ShowingStands t tables fit) (showings_of_part m.part)) (λ m held. held.0) ms each);
-      called = all_flat (FunctionStands t tables fit) (λ (m : Member). signatures_of_part m.part) ms
-          (recursion_weaker (λ (m : Member). AreHeld t tables fit (showings_of_part m.part) (signatures_of_part m.part)) (λ (m : Member). AllByRecursion (FunctionStands t tables fit) (signatures_of_part m.part)) (λ m held. held.1) ms each);
-    }
+forms_obeyed t tables fit h ms members zip stand = forms_hold t tables (λ form parts. is_form form parts ≡ true) (form_obeys t tables fit) h ms members zip stand

@@ -105,7 +105,8 @@ module _ (t : Tables) (tables : AreTables t) (P : Form → List ℕ → Type 0) 
     called_form n s at no_name there =
         in_flat (function_parts t) (λ m. PartsOf (EachForm t P) (function_at t m)) (14 + n) (λ m all h. function_part (EachForm t P) (function_at t m) all (14 + n) h) signatures hold.called there
 
-    used_form : (n : ℕ) (s : Shape) → is_marked marks n ≡ true → slice_get t.shapes n ≡ Some s → name_in s ≡ None → EachForm t P (14 + n)
+    -- a form that is used
+    pub used_form : (n : ℕ) (s : Shape) → is_marked marks n ≡ true → slice_get t.shapes n ≡ Some s → name_in s ≡ None → EachForm t P (14 + n)
     used_form n s is at no_name = used_fine t tables (EachForm t P) inner_form showings signatures shown_form called_form marks used n s is at no_name
 
     module _ (kept : List ℕ) (are : AreMarked marks kept) (p : Plan) (owners : ℕ → TypeOwner) (find : ℕ → Option NumberedShowing) (finds : FindsShown showings find) (types : AllZip (PlansType t kept find owners) kept p.types) where
