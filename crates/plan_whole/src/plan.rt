@@ -1,8 +1,9 @@
 //! The plan of all that is exported.
 
 ghost use Rattle.std.specs.List.{AllByRecursion, AllZip};
-ghost use Rattle.std.specs.Prelude.{◌≡◌, length, map, IfOk};
+ghost use Rattle.std.specs.Prelude.{◌≡◌, length, map, true, IfOk};
 ghost use Rattle.read_plan.specs.NumberedMembers.{home_at as home_at_lem};
+ghost use Rattle.read_plan.specs.ReadPlans.{FitsInput};
 ghost use Rattle.plan_build.specs.PlanOf.{stated_interface, stated_plan, stated_type};
 ghost use Rattle.plan_members.specs.Members.{homes_alone, numbered_members};
 ghost use Rattle.plan_read.specs.Tables.{numbered_tables};
@@ -85,15 +86,8 @@ fn seen_interfaces<'a>(
     interfaces_of(alloc, tables, kept, main, homes, &views, places)
 }
 
-/// The plan of all that is exported (Component Model WIT.md, "Package Format"): the types that are used, in the table's order; the interface of
-/// each place that is met, in the order in which they are met first; the worlds, in order; and the packages, by their numbers.
-///
-/// A named type is what it is shown as first, of the interface or the world of its place. An interface has the types of the first view of its
-/// place, and the functions of the first that shows some. `homes` has for each place the package by its number, and the name of the interface, if
-/// the place has a path; an interface without is one of the package `main`, which also lists what is exported. Takes time and memory linear in
-/// what is shown, in the parts of all types, in the packages, and in the largest number of a place, expected. Refuses for want of memory alone,
-/// also where there are more than 2^32 types, places, worlds or packages.
-pub fn plan_of<'a>(
+/// The plan of all that is exported, however many there are of each.
+fn whole_plan<'a>(
     alloc: Global,
     tables: &Tables<'a>,
     packages: &Packages<'a>,
@@ -117,4 +111,45 @@ pub fn plan_of<'a>(
         types,
         main: package_id(main)?,
     })
+}
+
+/// Whether there are less than 2^32 packages, interfaces, worlds and types.
+fn fits(plan: &Plan) -> bool
+    ensures { result ≡ true → FitsInput (stated_plan plan.now) }
+{
+    let longest = plan
+        .packages
+        .len()
+        .max(plan.interfaces.len())
+        .max(plan.worlds.len())
+        .max(plan.types.len());
+    longest <= 0xffff_ffff
+}
+
+/// The plan of all that is exported (Component Model WIT.md, "Package Format"): the types that are used, in the table's order; the interface of
+/// each place that is met, in the order in which they are met first; the worlds, in order; and the packages, by their numbers.
+///
+/// A named type is what it is shown as first, of the interface or the world of its place. An interface has the types of the first view of its
+/// place, and the functions of the first that shows some. `homes` has for each place the package by its number, and the name of the interface, if
+/// the place has a path; an interface without is one of the package `main`, which also lists what is exported. Takes time and memory linear in
+/// what is shown, in the parts of all types, in the packages, and in the largest number of a place, expected. Refuses for want of memory alone,
+/// also where there are 2^32 types, interfaces, worlds or packages, or more.
+pub fn plan_of<'a>(
+    alloc: Global,
+    tables: &Tables<'a>,
+    packages: &Packages<'a>,
+    homes: &[Option<(usize, &'a str)>],
+    main: usize,
+    members: &[Member<'a>],
+) -> Result<Plan<'a>, AllocError>
+    requires { MayBeWhole (numbered_tables tables.now) members.now }
+    ensures planned { IfOk result (λ p. PlansWhole (numbered_tables tables.now) packages.now (home_at_lem (homes_alone homes.now)) main members.now (stated_plan p)) }
+    ensures fits { IfOk result (λ p. FitsInput (stated_plan p)) }
+{
+    let plan = whole_plan(alloc, tables, packages, homes, main, members)?;
+    if fits(&plan) {
+        Ok(plan)
+    } else {
+        Err(AllocError)
+    }
 }

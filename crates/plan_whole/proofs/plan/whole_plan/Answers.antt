@@ -16,7 +16,7 @@ use Rattle.plan_whole.specs.WholePackages.{interfaces_in, IsPlaced}
 use Rattle.plan_whole.specs.WholeWorlds.{worlds_in, WorldIsPlaced}
 use Rattle.plan_whole.proofs.PlacedLaws.{exported_are_placed, met_are_seen}
 use Rattle.plan_whole.proofs.WholeLaws.{all_may, all_planned, plans_whole}
-use Rattle.plan_whole.proofs.plan.plan_of.Goals as goal
+use Rattle.plan_whole.proofs.plan.whole_plan.Goals as goal
 
 pub types_of-requires : goal.types_of-requires
 types_of-requires c =
