@@ -1,20 +1,18 @@
 -- What stands before the first view of a place has a smaller number.
-use Rattle.std.proofs.Common.{◌≡◌, refl, sym, ap, subst, ◌∙◌, ℕ, zero, suc, ◌+◌, ◌<◌, ◌⊎◌, inl, inr, arith, Bool, true, false, ◌==◌, cond, List, [], ◌∷◌, ◌++◌, length, map, Option, Some, None, slice_get}
+use Rattle.std.proofs.Common.{◌≡◌, refl, sym, ap, subst, ◌∙◌, ℕ, zero, suc, ◌<◌, ◌⊎◌, inl, inr, arith, Bool, true, false, ◌==◌, cond, List, [], ◌∷◌, ◌++◌, length, Some, None, slice_get}
 use Rattle.std.specs.List.{Contains, find, flat_map}
 use Rattle.std.proofs.lemmas.Bool.{eq-eqb, eqb-true}
 use Rattle.std.proofs.lemmas.List.{append-nil, append_assoc}
-use Rattle.std.proofs.lemmas.List.Elements.{Contains-append_left, Contains-append_right}
+use Rattle.std.proofs.lemmas.List.Elements.{Contains-append_right}
 use Rattle.std.proofs.lemmas.Option.{slice_get_within}
 use Rattle.wit_model.specs.Uses.{has}
-use Rattle.wit_model.proofs.Elements.{contains-get, contains-has, contains-map, get-contains, has-contains, none-in, same-some}
+use Rattle.wit_model.proofs.Elements.{contains-get, has-contains, none-in, same-some}
 use Rattle.shown_laws.proofs.Lists.{at_front, middle_get}
 use Rattle.read_plan.specs.NumberedViews.{NumberedSight, first_at}
-use Rattle.read_plan.proofs.Lists.{append_of_map}
 use Rattle.plan_types.specs.Orders.{joined, joined_all}
 use Rattle.plan_types.specs.PlannedTypes.{number_in}
 use Rattle.plan_types.proofs.OrderLaws.{joined_both}
-use Rattle.whole_laws.proofs.PartNames.{from_map}
-use Rattle.whole_laws.proofs.PlaceNumbers.{IsOnce, all_joined, all_once, from_joined, none_twice, number_there}
+use Rattle.whole_laws.proofs.PlaceNumbers.{all_joined, all_once, from_joined, none_twice, number_there}
 
 -- ---- lists that are split
 

@@ -1,8 +1,8 @@
 -- The types of the first view of a place are shown first as it shows them.
-use Rattle.std.proofs.Common.{◌≡◌, refl, sym, ap, subst, ◌∙◌, ℕ, zero, suc, ◌+◌, ◌<◌, ◌⊎◌, inl, inr, arith, Bool, true, List, [], ◌∷◌, ◌++◌, map, Option, Some, None, slice_get}
+use Rattle.std.proofs.Common.{◌≡◌, refl, sym, ap, subst, ◌∙◌, ℕ, ◌+◌, arith, Bool, true, List, [], ◌∷◌, map, Option, Some, None, slice_get}
 use Rattle.std.specs.List.{AllByRecursion, Contains}
 use Rattle.wit_model.specs.Text.{Text}
-use Rattle.wit_model.proofs.Elements.{contains-get, contains-map, get-contains, same-some}
+use Rattle.wit_model.proofs.Elements.{contains-get, same-some}
 use Rattle.comp_meaning.specs.Reads as reads
 use Rattle.comp_meaning.specs.Rules.{distinct}
 use Rattle.comp_meaning.specs.Follow.{ShownType}
@@ -10,12 +10,11 @@ use Rattle.shown_laws.proofs.Agreement as agreement
 use Rattle.shown_laws.proofs.Lists.{mapped_get, one_place, unmapped_get}
 use Rattle.read_plan.specs.FollowedNumbers.{IsPartIn, IsShownIn, IsViewIn}
 use Rattle.read_plan.specs.NumberedMembers.{Homes, NumberedMember, sights_of_members}
-use Rattle.read_plan.specs.NumberedViews.{NumberedSight, NumberedType, NumberedView, Tables, agree_in_numbers, first_at, path_at, place_at, shown_type, view_of}
-use Rattle.read_plan.specs.NumberedWorlds.{HasPath}
+use Rattle.read_plan.specs.NumberedViews.{NumberedSight, NumberedType, Tables, agree_in_numbers, first_at, path_at, place_at, shown_type, view_of}
 use Rattle.read_plan.specs.Shapes.{Shape, named_shape}
 use Rattle.read_plan.proofs.GatheredPlan.{all_at}
 use Rattle.read_plan.proofs.Lists.{map_of_map}
-use Rattle.plan_members.specs.Members.{numbered_member, numbered_members, numbered_part}
+use Rattle.plan_members.specs.Members.{numbered_members}
 use Rattle.plan_members.specs.declared.members.Member.{Member}
 use Rattle.plan_members.specs.declared.members.Part.TheVariants as parts
 use Rattle.plan_read.specs.declared.scopes.Scope.{Scope}

@@ -1,36 +1,35 @@
 -- All views of one place tell the same of types.
-use Rattle.std.proofs.Common.{◌≡◌, refl, sym, ap, subst, ◌∙◌, ℕ, zero, suc, ◌<◌, ◌⊎◌, inl, inr, arith, Bool, true, false, not, ◌&&◌, ◌||◌, ◌==◌, cond, List, [], ◌∷◌, ◌++◌, map, Option, Some, None, slice_get}
-use Rattle.std.specs.List.{AllByRecursion, Contains, find, flat_map, list_all}
+use Rattle.std.proofs.Common.{◌≡◌, refl, sym, ap, subst, ◌∙◌, ℕ, zero, suc, arith, Bool, true, false, not, ◌&&◌, ◌||◌, ◌==◌, cond, List, [], ◌∷◌, map, Option, Some, None}
+use Rattle.std.specs.List.{Contains, find, flat_map, list_all}
 use Rattle.std.specs.Option.{option_map_or}
 use Rattle.std.specs.Cmp.Lexicographic.{pointwise}
 use Rattle.std.proofs.lemmas.Bool.{eq-eqb, eqb-true}
-use Rattle.std.proofs.lemmas.List.Elements.{Contains-append_cases, Contains-append_left, Contains-append_right}
 use Rattle.std.proofs.lemmas.Slice.Eq.{bytes_eq-Decides}
 use Rattle.wit_model.specs.Text.{Text, text_eq}
-use Rattle.wit_model.proofs.Elements.{all-contained, contains-flat, contains-get, contains-map, contains-one, get-contains, none-in, one-contained, same-number, same-some}
+use Rattle.wit_model.proofs.Elements.{all-contained, contains-flat, contains-one, none-in, same-number, same-some}
 use Rattle.wit_model.proofs.Lists.{first_true, second_true}
 use Rattle.comp_meaning.specs.Same.{same_option}
 use Rattle.read_plan.specs.NumberedMembers.{NumberedMember, NumberedPart, interface, sights_of_members, sights_of_part, world}
-use Rattle.read_plan.specs.NumberedViews.{NumberedSight, NumberedType, NumberedView, Tables, agree, agree_in_numbers, first_at, path_at, same_functions, same_id, same_number, same_shown}
+use Rattle.read_plan.specs.NumberedViews.{NumberedSight, NumberedType, Tables, agree, agree_in_numbers, first_at, same_functions, same_id, same_number, same_shown}
 use Rattle.read_plan.specs.NumberedWorlds.{HasPath, NumberedInstance, sights_of_instance}
 use Rattle.read_plan.proofs.Lists.{both}
-use Rattle.plan_whole.specs.Views.{types_alone, views_of_part, whole_view}
+use Rattle.plan_whole.specs.Views.{views_of_part, whole_view}
 use Rattle.whole_laws.specs.FirstViews.{told}
 use Rattle.whole_laws.proofs.Inside.{flat_cases}
 use Rattle.whole_laws.proofs.PartNames.{from_map}
 
 -- ---- what is told of a type
 
-text_same : (a b : Text) → text_eq a b ≡ true → a ≡ b
+pub text_same : (a b : Text) → text_eq a b ≡ true → a ≡ b
 text_same a b h = (bytes_eq-Decides a b).0 h
 
-option_same : {A : Type 0} (eq : A → A → Bool) → ((a b : A) → eq a b ≡ true → a ≡ b) → (a b : Option A) → same_option eq a b ≡ true → a ≡ b
+pub option_same : {A : Type 0} (eq : A → A → Bool) → ((a b : A) → eq a b ≡ true → a ≡ b) → (a b : Option A) → same_option eq a b ≡ true → a ≡ b
 option_same eq decides None None h = refl
 option_same eq decides (Some a) (Some b) h = ap Some (decides a b h)
 option_same eq decides None (Some b) h = let wrong : false ≡ true = h in absurd cc
 option_same eq decides (Some a) None h = let wrong : false ≡ true = h in absurd cc
 
-same_of_option : {A : Type 0} (eq : A → A → Bool) → ((a : A) → eq a a ≡ true) → (a : Option A) → same_option eq a a ≡ true
+pub same_of_option : {A : Type 0} (eq : A → A → Bool) → ((a : A) → eq a a ≡ true) → (a : Option A) → same_option eq a a ≡ true
 same_of_option eq itself None = refl
 same_of_option eq itself (Some a) = itself a
 

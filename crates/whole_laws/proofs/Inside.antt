@@ -1,13 +1,13 @@
 -- Which types stand inside a part: what is used is inside a part that is used to begin with.
-use Rattle.std.proofs.Common.{◌≡◌, refl, sym, ap, subst, ◌∙◌, ℕ, zero, suc, ◌+◌, ◌<◌, ◌⊎◌, inl, inr, arith, Bool, true, false, List, [], ◌∷◌, ◌++◌, length, map, Option, Some, None, slice_get}
-use Rattle.std.specs.List.{AllByRecursion, Contains, flat_map}
+use Rattle.std.proofs.Common.{◌≡◌, refl, sym, ap, subst, ◌∙◌, ℕ, zero, suc, ◌+◌, ◌<◌, ◌⊎◌, inl, inr, arith, Bool, true, false, List, [], ◌∷◌, length, map, Some, slice_get}
+use Rattle.std.specs.List.{Contains, flat_map}
 use Rattle.std.proofs.lemmas.List.Elements.{Contains-append_cases}
 use Rattle.wit_model.specs.Text.{Text}
 use Rattle.wit_model.proofs.Elements.{has-contains, none-in, same-some}
 use Rattle.shown_laws.proofs.Lists.{unmapped_get}
 use Rattle.read_plan.specs.NumberedViews.{HasNameIn, Tables}
 use Rattle.read_plan.specs.NumberedViews as views
-use Rattle.read_plan.specs.Shapes.{IsShape, IsTable, Shape, a_name, a_node, named_shape, node_shape}
+use Rattle.read_plan.specs.Shapes.{IsShape, IsTable, Shape, a_name, a_node, named_shape}
 use Rattle.plan_gather.specs.Marks.{is_marked, IsUsed, marked, part}
 use Rattle.plan_types.specs.Used.{AreUsed}
 
@@ -52,7 +52,7 @@ flat_cases {A = A} f (x ∷ xs) y c = by (λ later. flat_cases f xs y later) (Co
     by deeper_in (inl here) = (x, (0, omega arith, refl), here)
     by deeper_in (inr later) = let found = deeper_in later in (found.0, (let at = found.1 in (suc at.0, (let low = at.1 in omega (arith, low)), at.2)), found.2)
 
-within : (marks : List Bool) (n : ℕ) → is_marked marks n ≡ true → n < length marks
+pub within : (marks : List Bool) (n : ℕ) → is_marked marks n ≡ true → n < length marks
 within [] n is = let wrong : false ≡ true = is in absurd cc
 within (b ∷ marks) zero is = omega arith
 within (b ∷ marks) (suc n) is = let low = within marks n is in omega (arith, low)

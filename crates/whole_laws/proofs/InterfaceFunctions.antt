@@ -8,7 +8,8 @@ use Rattle.wit_model.proofs.Elements.{contains-get, contains-later, contains-map
 use Rattle.comp_meaning.specs.Reads as reads
 use Rattle.comp_meaning.specs.Rules as rules
 use Rattle.comp_meaning.specs.Rules.{distinct}
-use Rattle.read_plan.specs.FollowedNumbers.{IsCalledIn, IsShownIn, IsViewIn}
+use Rattle.read_plan.specs.FollowedNumbers.{IsCalledIn, IsMetFrom, IsShownIn, IsViewIn}
+use Rattle.read_plan.specs.GatheredPlan.{FunctionBecomes}
 use Rattle.read_plan.specs.KeptFunctions.{IsResource}
 use Rattle.read_plan.specs.NumberedMembers.{Homes, home_at}
 use Rattle.read_plan.specs.NumberedRules.{is_no_part}
@@ -29,7 +30,7 @@ use Rattle.whole_laws.specs.WholeTypes.{IsRuledInput}
 use Rattle.whole_laws.specs.ShownRules.{ViewObeys}
 use Rattle.whole_laws.proofs.FirstDeclared.{shown_alike}
 use Rattle.whole_laws.proofs.PartNames.{from_map}
-use Rattle.whole_laws.proofs.ReadFunction.{read_function, resource_at, told as told_of}
+use Rattle.whole_laws.proofs.ReadFunction.{function_becomes, read_function, resource_at, told as told_of}
 use Rattle.whole_laws.proofs.ShownRules.{function_obeys}
 use Rattle.whole_laws.proofs.Showings.{slot_is}
 use Rattle.whole_laws.proofs.ViewsAgree.{told, views_tell}
@@ -62,21 +63,31 @@ module _ (t : Tables) (h : Homes) (ms : List Member) (members : List reads.Membe
       (λ y shown. let is_first = (firsts_found (showings_of_members ms)).0 is.number y shown in
       shown_alike t h ms members ruled.input ruled.placed.apart ruled.agree first first_in names at.1 in_types is.number is.name.named y is_first.0 is_first.1 ∙ nothing_declared at.1.declared at.3)
 
+  -- a resource of another view of the place is found
+  resource_found : (s : NumberedSight) → Contains (views_of_members (numbered_members ms)) s → s.place ≡ first.place → (r : Text) → list_any (text_eq r) (rules.resources_of (view_of t s.view).types) ≡ true → (id : TypeId) × (find r ≡ Some id)
+  resource_found s s_in same r any =
+      let listed = resource_listed t s.view.types r any in
+      let tells = views_tell t h ms members ruled.input ruled.placed.apart ruled.agree s first s_in first_in same in
+      let from = from_map told first.view.types (told listed.0) (subst (λ (es : List (Text × Option ℕ)). Contains es (told listed.0)) tells (contains-map told s.view.types listed.0 listed.1)) in
+      let at = contains-get first.view.types from.0 from.1 in
+      let none : is_no_part from.0.declared ≡ true = ap is_no_part (ap (λ (z : Text × Option ℕ). z.1) from.2 ∙ listed.2) in
+      let found = have.found at.0 from.0 at.1 none in
+      (found.0, ap find (listed.3 ∙ sym (ap (λ (z : Text × Option ℕ). z.0) from.2)) ∙ found.1)
+
   -- a function of another view of the place
-  pub view_function : (b : Beside) (s : NumberedSight) → Contains (views_of_members (numbered_members ms)) s → (same : s.place ≡ first.place) → IsViewIn t s.place s.view → ViewObeys t s → b.owners first.place ≡ owners_of ms first.place
-      → (f : Text × NumberedFunction) → Contains s.view.functions f → PartsOf (λ k. b.marks k ≡ false) (function_at t f.1.signature) → (e : Text × PlannedFunction) → IsPlannedFunction t planned.kept find f e → IsReadFunction t planned.kept p b (b.owners first.place) e.1
-  view_function b s s_in same s_good obeys owned f f_in values e made =
-      let called = all_at (λ (g : Text × NumberedFunction). IsCalledIn t s.place g.1.signature) s.view.functions s_good.functions f f_in in
-      read_function t h ms members ruled.input main p planned b first.place find (rules.resources_of (view_of t s.view).types) resource_found
-      (λ r id found. subst (λ o. IsResource t (told_of t first.place) planned.kept p o first.place r id.0) (sym owned) (view_resource r id found)) f e made (subst (λ q. IsCalledIn t q f.1.signature) same called).parts
-      (subst (λ q. rules.is_function (place_at t q) (rules.resources_of (view_of t s.view).types) f.0 (signature_at t f.1.signature) ≡ true) same (function_obeys t ruled.input.tables s s_good obeys f f_in)) values
-    where
-      resource_found : (r : Text) → list_any (text_eq r) (rules.resources_of (view_of t s.view).types) ≡ true → (id : TypeId) × (find r ≡ Some id)
-      resource_found r any =
-          let listed = resource_listed t s.view.types r any in
-          let tells = views_tell t h ms members ruled.input ruled.placed.apart ruled.agree s first s_in first_in same in
-          let from = from_map told first.view.types (told listed.0) (subst (λ (es : List (Text × Option ℕ)). Contains es (told listed.0)) tells (contains-map told s.view.types listed.0 listed.1)) in
-          let at = contains-get first.view.types from.0 from.1 in
-          let none : is_no_part from.0.declared ≡ true = ap is_no_part (ap (λ (z : Text × Option ℕ). z.1) from.2 ∙ listed.2) in
-          let found = have.found at.0 from.0 at.1 none in
-          (found.0, ap find (listed.3 ∙ sym (ap (λ (z : Text × Option ℕ). z.0) from.2)) ∙ found.1)
+  module _ (b : Beside) (s : NumberedSight) (s_in : Contains (views_of_members (numbered_members ms)) s) (same : s.place ≡ first.place) (s_good : IsViewIn t s.place s.view) (obeys : ViewObeys t s) (owned : b.owners first.place ≡ owners_of ms first.place)
+      (f : Text × NumberedFunction) (f_in : Contains s.view.functions f) where
+    met : PartsOf (IsMetFrom t first.place) (function_at t f.1.signature)
+    met = (subst (λ q. IsCalledIn t q f.1.signature) same (all_at (λ (g : Text × NumberedFunction). IsCalledIn t s.place g.1.signature) s.view.functions s_good.functions f f_in)).parts
+
+    rule : rules.is_function (place_at t first.place) (rules.resources_of (view_of t s.view).types) f.0 (signature_at t f.1.signature) ≡ true
+    rule = subst (λ q. rules.is_function (place_at t q) (rules.resources_of (view_of t s.view).types) f.0 (signature_at t f.1.signature) ≡ true) same (function_obeys t ruled.input.tables s s_good obeys f f_in)
+
+    resource_is : (r : Text) (id : TypeId) → find r ≡ Some id → IsResource t (told_of t first.place) planned.kept p (b.owners first.place) first.place r id.0
+    resource_is r id found = subst (λ o. IsResource t (told_of t first.place) planned.kept p o first.place r id.0) (sym owned) (view_resource r id found)
+
+    pub view_function : PartsOf (λ k. b.marks k ≡ false) (function_at t f.1.signature) → (e : Text × PlannedFunction) → IsPlannedFunction t planned.kept find f e → IsReadFunction t planned.kept p b (b.owners first.place) e.1
+    view_function values e made = read_function t h ms members ruled.input main p planned b first.place find (rules.resources_of (view_of t s.view).types) (resource_found s s_in same) resource_is f e made met rule values
+
+    pub view_becomes : (e : Text × PlannedFunction) → IsPlannedFunction t planned.kept find f e → FunctionBecomes t planned.kept p (function_at t f.1.signature) f.1.external_id e.1
+    view_becomes e made = function_becomes t h ms members ruled.input main p planned b first.place find (rules.resources_of (view_of t s.view).types) (resource_found s s_in same) resource_is f e made met rule

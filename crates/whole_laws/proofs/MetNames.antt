@@ -1,5 +1,5 @@
 -- A name that stands inside a part is one of those that are met in its tree.
-use Rattle.std.proofs.Common.{◌≡◌, refl, sym, ap, subst, ◌∙◌, ℕ, zero, suc, ◌+◌, ◌<◌, ◌⊎◌, inl, inr, arith, Bool, true, false, List, [], ◌∷◌, map, Option, Some, None, IfSome, option_map, option_to_list, slice_get}
+use Rattle.std.proofs.Common.{◌≡◌, sym, ap, subst, ◌∙◌, ℕ, zero, suc, ◌+◌, ◌<◌, ◌⊎◌, inl, inr, arith, Bool, true, false, List, [], ◌∷◌, map, Option, Some, None, IfSome, option_map, option_to_list, slice_get}
 use Rattle.std.specs.List.{AllByRecursion, Contains}
 use Rattle.wit_model.specs.Text.{Text}
 use Rattle.wit_model.specs.Tree as tree
@@ -8,7 +8,7 @@ use Rattle.std.proofs.lemmas.List.Elements.{Contains-append_cases}
 use Rattle.wit_model.proofs.Elements.{none-in, one-contained, same-some}
 use Rattle.shown_laws.specs.Trees.{DeclarationStands, HandleStands, PartsStand, SignatureStands, TreeStands, is_handle}
 use Rattle.read_plan.specs.NumberedViews.{AllOf, AreTables, FunctionShape, IsPart, PartsOf, Tables, declaration_of, place_at, signature_over, tree_at}
-use Rattle.read_plan.specs.Shapes.{Shape, form_code, named_shape, node_shape, part_tree, shape_trees}
+use Rattle.read_plan.specs.Shapes.{Shape, form_code, named_shape, node_shape}
 use Rattle.read_plan.proofs.ShapeLaws.{PartView, is_name, is_node, is_primitive, viewed}
 use Rattle.plan_types.specs.Used.{signature_parts}
 use Rattle.whole_laws.proofs.Inside.{IsIn, inside, itself, name_alone}

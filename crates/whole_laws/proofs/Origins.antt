@@ -1,6 +1,6 @@
 -- Where what is shown of a type stands: in a view, or as an import of a world.
-use Rattle.std.proofs.Common.{◌≡◌, refl, sym, ap, subst, ◌∙◌, ℕ, ◌+◌, ◌⊎◌, inl, inr, Bool, true, false, List, [], ◌∷◌, ◌++◌, map, Option, Some, None, slice_get}
-use Rattle.std.specs.List.{AllByRecursion, Contains, flat_map}
+use Rattle.std.proofs.Common.{◌≡◌, refl, ℕ, ◌⊎◌, inl, inr, true, false, List, [], ◌∷◌, map, Option}
+use Rattle.std.specs.List.{Contains, flat_map}
 use Rattle.std.proofs.lemmas.List.Elements.{Contains-append_cases, Contains-append_left, Contains-append_right}
 use Rattle.wit_model.specs.Text.{Text}
 use Rattle.wit_model.proofs.Elements.{contains-flat, contains-map, contains-one, none-in, one-contained}
@@ -8,11 +8,10 @@ use Rattle.comp_meaning.specs.Reads as reads
 use Rattle.shown_laws.specs.Parts.{MemberStands}
 use Rattle.read_plan.specs.FollowedNumbers.{IsOneOf, IsPartIn}
 use Rattle.read_plan.specs.NumberedMembers.{Homes, IsMember, NumberedMember}
-use Rattle.read_plan.specs.NumberedViews.{AreTables, NumberedSight, NumberedType, NumberedView, Tables}
+use Rattle.read_plan.specs.NumberedViews.{AreTables, NumberedSight, NumberedType, Tables}
 use Rattle.read_plan.specs.NumberedWorlds.{NumberedInstance, NumberedSeen, place_of_key}
 use Rattle.read_plan.specs.ReadWorlds.{is_type_seen}
 use Rattle.read_plan.proofs.GatheredPlan.{all_at}
-use Rattle.plan_read.specs.declared.reached.ImportedView.{ImportedView}
 use Rattle.plan_read.specs.declared.scopes.InstanceKey.{InstanceKey}
 use Rattle.plan_read.specs.declared.scopes.Scope.{Scope}
 use Rattle.plan_read.specs.declared.scopes.Seen.{Seen}

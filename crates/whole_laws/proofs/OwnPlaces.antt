@@ -154,11 +154,11 @@ one_owned t ms apart q none x y c d =
 -- ---- the instances of a world
 
 module _ (t : Tables) where
-  abbrev no_path : NumberedInstance → Bool
+  abbrev pub no_path : NumberedInstance → Bool
   no_path i = is_none (path_at t i.place)
 
   -- instances that have no path
-  abbrev nones : List Instance → ℕ
+  abbrev pub nones : List Instance → ℕ
   nones xs = length (filter (λ (x : Instance). is_none x.interface) xs)
 
   -- the inline interfaces among imports and exports
@@ -179,7 +179,7 @@ module _ (t : Tables) where
       by true = omega arith
       by false = omega arith
 
-  both_ways : (seen : List (Direction × Instance)) → nones (map (λ (y : Direction × Instance). y.1) seen) ≡ nones (going import_ seen) + nones (going export_ seen)
+  pub both_ways : (seen : List (Direction × Instance)) → nones (map (λ (y : Direction × Instance). y.1) seen) ≡ nones (going import_ seen) + nones (going export_ seen)
   both_ways [] = refl
   both_ways ((import_, x) ∷ seen) =
       let all = nones_cons x (map (λ (y : Direction × Instance). y.1) seen) in
@@ -192,7 +192,7 @@ module _ (t : Tables) where
       let rest = both_ways seen in
       omega (arith, all, more, rest)
 
-  seen_nones : (ss : List NumberedSeen) → nones (instances_in (map (seen_of t) ss)) ≡ length (inlines ss)
+  pub seen_nones : (ss : List NumberedSeen) → nones (instances_in (map (seen_of t) ss)) ≡ length (inlines ss)
   seen_nones [] = refl
   seen_nones (s ∷ ss) = by s.shown (seen_nones ss)
     where
@@ -203,7 +203,7 @@ module _ (t : Tables) where
       by (function n) rest = rest
       by (declares d) rest = rest
 
-  kept_nones : (is : List NumberedInstance) → nones (map (instance_of t) is) ≡ length (filter no_path is)
+  pub kept_nones : (is : List NumberedInstance) → nones (map (instance_of t) is) ≡ length (filter no_path is)
   kept_nones [] = refl
   kept_nones (i ∷ is) = by (no_path i) (kept_nones is)
     where
@@ -246,7 +246,7 @@ different : {A : Type 0} (f : A → ℕ) (xs : List A) → are_once (map f xs) �
 different f [] once = tt
 different f (x ∷ xs) once = ((λ c. not_among (f x) (map f xs) once (contains-map f xs x c)), different f xs (once_behind (f x) (map f xs) once))
 
-in_filter : {A : Type 0} (test : A → Bool) (xs : List A) (x : A) → Contains xs x → test x ≡ true → Contains (filter test xs) x
+pub in_filter : {A : Type 0} (test : A → Bool) (xs : List A) (x : A) → Contains xs x → test x ≡ true → Contains (filter test xs) x
 in_filter test [] x c h = none-in x c
 in_filter test (y ∷ xs) x c h = by (test y) refl c (λ later. in_filter test xs x later h)
   where
@@ -261,7 +261,7 @@ module _ (t : Tables) (w : NumberedScope) (good : IsScopeIn t w) where
   Keyed s = IsSeenIn t w.home s
 
   -- the places of inline interfaces
-  inline_places : (ss : List NumberedSeen) → AllByRecursion Keyed ss → map (λ (i : NumberedInstance). i.place) (inlines t ss) ≡ filter (has_no_path t) (places_of_seen ss)
+  pub inline_places : (ss : List NumberedSeen) → AllByRecursion Keyed ss → map (λ (i : NumberedInstance). i.place) (inlines t ss) ≡ filter (has_no_path t) (places_of_seen ss)
   inline_places [] all = refl
   inline_places (s ∷ ss) all = by s.key s.external_id s.shown all.0 (inline_places ss all.1)
     where

@@ -1,11 +1,8 @@
 -- Types that are planned are their owners', and are seen from there.
-use Rattle.std.proofs.Common.{◌≡◌, refl, sym, ap, subst, ◌∙◌, ℕ, zero, suc, ◌+◌, ◌<◌, ◌⊎◌, inl, inr, arith, Bool, true, false, ◌==◌, List, [], ◌∷◌, length, map, Option, Some, None, slice_get}
-use Rattle.std.specs.List.{AllByRecursion, AllZip, Contains}
+use Rattle.std.proofs.Common.{◌≡◌, refl, sym, ap, subst, ◌∙◌, ℕ, ◌+◌, ◌<◌, ◌⊎◌, inl, inr, arith, true, List, length, Option, Some, None, slice_get}
+use Rattle.std.specs.List.{Contains}
 use Rattle.std.specs.Option.{option_map_or}
-use Rattle.std.proofs.lemmas.Bool.{eqb-true}
 use Rattle.std.proofs.lemmas.Option.{slice_get_within}
-use Rattle.wit_model.specs.declared.model.TypeOwner.{TypeOwner}
-use Rattle.wit_model.specs.declared.model.TypeOwner.TheVariants as owner
 use Rattle.wit_model.specs.Text.{Text}
 use Rattle.wit_model.specs.Valid.{as_interface, as_world}
 use Rattle.wit_model.specs.Parts.{same_owner}
@@ -17,10 +14,9 @@ use Rattle.read_plan.specs.GatheredPlan.{DeclaresKind}
 use Rattle.read_plan.specs.KeptOwners.{AreOwned, IsNamedInterface, IsPlaceOf, of_interface, of_name}
 use Rattle.read_plan.specs.NumberedMembers.{Homes, home_at}
 use Rattle.read_plan.specs.NumberedRules.{IsSeenFrom, name_in}
-use Rattle.read_plan.specs.NumberedViews.{AllOf, AreTables, HasNameIn, Tables, itself, path_at}
+use Rattle.read_plan.specs.NumberedViews.{AllOf, Tables, itself}
 use Rattle.read_plan.specs.NumberedWorlds.{HasPath}
 use Rattle.read_plan.specs.Plan.{Plan, PlannedInterface, PlannedType, interface_in}
-use Rattle.read_plan.specs.PlanRules.{has_name}
 use Rattle.read_plan.specs.Shapes.{Shape, named_shape}
 use Rattle.plan_members.specs.Members.{numbered_members}
 use Rattle.plan_members.specs.declared.members.Member.{Member}
@@ -31,10 +27,10 @@ use Rattle.plan_whole.specs.Views.{views_of_members}
 use Rattle.plan_whole.specs.WholeInterfaces.{PlansPlace}
 use Rattle.plan_laws.proofs.FirstFound.{firsts_found}
 use Rattle.plan_laws.proofs.KeptKinds.{kinds_tell, zip_get, zip_length}
-use Rattle.plan_whole.specs.PlanWhole.{PlansWhole, owners_in, places_in, shown_first}
+use Rattle.plan_whole.specs.PlanWhole.{PlansWhole, places_in, shown_first}
 use Rattle.whole_laws.specs.Owners.{PlannedTypesAreOwned, homes_in, owners_of}
 use Rattle.whole_laws.specs.ShownNames.{IsInput}
-use Rattle.whole_laws.proofs.PlaceNumbers.{all_once, none_twice, number_given, number_there, owner_met, owners_apart}
+use Rattle.whole_laws.proofs.PlaceNumbers.{number_given, number_there, owner_met, owners_apart}
 use Rattle.whole_laws.proofs.Planned.{home_alone, name_met, named_there}
 use Rattle.whole_laws.proofs.Showings.{showings_named}
 use Rattle.whole_laws.proofs.ViewNames.{same_place}

@@ -1,5 +1,5 @@
 -- A name that is used by what a part shows is shown by the part in its own place.
-use Rattle.std.proofs.Common.{◌≡◌, refl, sym, ap, subst, ◌∙◌, ℕ, zero, suc, ◌+◌, ◌<◌, ◌⊎◌, inl, inr, arith, Bool, true, false, List, [], ◌∷◌, ◌++◌, length, map, Option, Some, None, slice_get}
+use Rattle.std.proofs.Common.{◌≡◌, refl, sym, ap, subst, ◌∙◌, ℕ, zero, suc, ◌+◌, ◌⊎◌, inl, inr, arith, Bool, true, false, List, [], ◌∷◌, ◌++◌, length, map, Option, Some, slice_get}
 use Rattle.std.specs.Borrow.{Bor}
 use Rattle.std.specs.List.{AllByRecursion, Contains, flat_map}
 use Rattle.std.proofs.lemmas.List.Elements.{Contains-append_cases, Contains-append_left, Contains-append_right}
@@ -12,7 +12,7 @@ use Rattle.comp_meaning.specs.Follow as follow
 use Rattle.comp_meaning.specs.Follow.{Instance, place_of}
 use Rattle.comp_meaning.specs.Reads as reads
 use Rattle.comp_meaning.specs.Reads.{Part as MeantPart}
-use Rattle.shown_laws.specs.Parts.{MemberStands, instances_of, named_instance}
+use Rattle.shown_laws.specs.Parts.{instances_of, named_instance}
 use Rattle.shown_laws.specs.Scopes as scopes
 use Rattle.shown_laws.specs.Scopes.{IsDeclared, IsImported, IsMetInScope, IsShownBefore, ScopeStands, a_resource, a_value, name_of_instance, own_name}
 use Rattle.shown_laws.specs.Trees.{SignatureStands}
@@ -20,9 +20,8 @@ use Rattle.shown_laws.specs.Views.{ViewStands}
 use Rattle.shown_laws.proofs.Lists.{mapped_get, unmapped_get}
 use Rattle.read_plan.specs.FollowedNumbers.{IsCalledIn, IsMetFrom, IsNameOf, IsOneOf, IsPartIn, IsScopeIn, IsSeenIn, IsViewIn}
 use Rattle.read_plan.specs.NumberedMembers.{Homes, HomesStand, IsMember, NumberedMember, NumberedPart, ShowsInterface, ShowsPart, interface, world}
-use Rattle.read_plan.specs.NumberedViews.{AllOf, AreTables, IsPart, NumberedFunction, NumberedSight, NumberedType, NumberedView, Tables, declaration_of, function_at, path_at, path_text, place_at, signature_at, view_of}
-use Rattle.read_plan.specs.NumberedWorlds as worlds
-use Rattle.read_plan.specs.NumberedWorlds.{HasPath, NumberedInstance, NumberedSeen, Shows, instance_of, place_of_key, seen_of, shown_of}
+use Rattle.read_plan.specs.NumberedViews.{AllOf, AreTables, IsPart, NumberedFunction, NumberedSight, NumberedView, Tables, function_at, path_at, path_text, place_at, signature_at, view_of}
+use Rattle.read_plan.specs.NumberedWorlds.{HasPath, NumberedInstance, NumberedSeen, Shows, place_of_key, seen_of, shown_of}
 use Rattle.read_plan.specs.Shapes.{Shape, named_shape}
 use Rattle.read_plan.proofs.GatheredPlan.{all_at}
 use Rattle.read_plan.proofs.Lists.{append_of_map, map_of_map}
@@ -44,7 +43,7 @@ use Rattle.plan_members.specs.declared.members.Part.TheVariants as parts
 use Rattle.plan_types.specs.Showings.{NumberedShowing, showing_of, showings_of_import, showings_of_part, showings_of_seen, showings_of_shown, showings_of_view, signatures_of_part, signatures_of_seen, signatures_of_shown, signatures_of_view}
 use Rattle.plan_types.specs.Used.{declared_parts, function_parts, showing_parts}
 use Rattle.plan_whole.specs.Views.{types_alone, views_of_part, whole_view}
-use Rattle.whole_laws.specs.ShownNames.{DeclaresName, ImportsNumber, IsShownByPart, PartDeclaresNames, ShowsNumber, by_import, by_view}
+use Rattle.whole_laws.specs.ShownNames.{DeclaresName, IsShownByPart, by_import, by_view}
 use Rattle.whole_laws.proofs.Inside.{IsIn, flat_cases, name_alone, name_in}
 use Rattle.whole_laws.proofs.MetNames.{in_declared, in_signature}
 use Rattle.whole_laws.proofs.ViewNames.{declared_inside, function_shows, instance_tree, outside_shows, part_of_function, part_shows, parts_weaker}

@@ -1,8 +1,8 @@
 -- Places by their numbers, and the owner of each.
-use Rattle.std.proofs.Common.{◌≡◌, refl, sym, ap, subst, ◌∙◌, ℕ, zero, suc, ◌+◌, ◌<◌, ◌≤◌, ◌⊎◌, inl, inr, arith, Bool, true, false, ◌==◌, nat_lt, cond, List, [], ◌∷◌, ◌++◌, length, map, Option, Some, None, slice_get, get_or}
-use Rattle.std.specs.List.{Contains, position_or_len}
+use Rattle.std.proofs.Common.{◌≡◌, refl, sym, ap, subst, ◌∙◌, ℕ, zero, suc, ◌+◌, ◌<◌, ◌≤◌, ◌⊎◌, inl, inr, arith, Bool, true, false, ◌==◌, nat_lt, cond, List, [], ◌∷◌, ◌++◌, length, Option, Some, None, slice_get, get_or}
+use Rattle.std.specs.List.{Contains, flat_map, position_or_len}
 use Rattle.std.specs.Option.{option_map_or}
-use Rattle.std.proofs.lemmas.Bool.{eqb-true, lt-ltb, ltb-false, ltb-true}
+use Rattle.std.proofs.lemmas.Bool.{eqb-true, ltb-false, ltb-true}
 use Rattle.std.proofs.lemmas.List.Elements.{Contains-append_cases, Contains-append_left, Contains-append_right}
 use Rattle.std.proofs.lemmas.List.Sums.{fails_before_first, passes_at_first}
 use Rattle.std.proofs.lemmas.Option.{slice_get-get_or, slice_get_within}
@@ -13,9 +13,15 @@ use Rattle.wit_model.specs.Uses.{has}
 use Rattle.wit_model.specs.Valid.{as_interface, as_world}
 use Rattle.wit_model.proofs.Elements.{contains-has, contains-one, get-contains, has-contains, none-in, one-contained, same-number, same-some}
 use Rattle.shown_laws.proofs.Lists.{at_end}
-use Rattle.plan_types.specs.Orders.{joined, joined_all}
+use Rattle.read_plan.specs.NumberedMembers.{NumberedMember}
+use Rattle.read_plan.specs.ReadFunctions.{Beside}
+use Rattle.read_plan.proofs.KeptFunctions.{owner_itself}
+use Rattle.plan_members.specs.Members.{numbered_members}
+use Rattle.plan_members.specs.declared.members.Member.{Member}
+use Rattle.plan_types.specs.Orders.{joined, joined_all, places_of_part}
 use Rattle.plan_types.specs.PlannedTypes.{number_in, owner_in}
-use Rattle.whole_laws.specs.Owners.{owner_of}
+use Rattle.plan_whole.specs.PlanWhole.{places_in}
+use Rattle.whole_laws.specs.Owners.{homes_in, owner_of, owners_of}
 
 -- ---- numbers
 
@@ -123,6 +129,13 @@ all_once met (p ∷ ps) once = all_once (joined met p) ps (joined_once met p onc
 pub none_twice : IsOnce []
 none_twice i j q at_i at_j = let wrong : None ≡ Some q = at_i in absurd cc
 
+-- a place that is met has its own number
+pub place_number : (ms : List Member) (m q : ℕ) → slice_get (places_in ms) m ≡ Some q → number_in (places_in ms) q ≡ Some m
+place_number ms m q e =
+    let given = number_given (places_in ms) q (get-contains (places_in ms) m q e) in
+    let once : IsOnce (places_in ms) = all_once [] (flat_map (λ (x : NumberedMember). places_of_part x.part) (numbered_members ms)) none_twice in
+    given.1 ∙ ap Some (once given.0 m q (number_there (places_in ms) q given.0 given.1) e)
+
 -- ---- owners
 
 module _ (places homes : List ℕ) where
@@ -158,3 +171,15 @@ module _ (places homes : List ℕ) where
   owner_met q (inr among) =
       let given = number_given homes q among in
       ap (λ o. option_map_or as_interface (number_in places q) (option_map_or as_world o owner.None)) given.1 ∙ sym (ap (λ o. owner_by (number_in places q) o q) given.1)
+
+-- ---- owners of places that are met
+
+-- the owner of a place of this number
+pub owner_numbered : (ms : List Member) (q m : ℕ) → number_in (places_in ms) q ≡ Some m → owners_of ms q ≡ as_interface m
+owner_numbered ms q m e = ap (λ o. option_map_or as_interface o (option_map_or as_world (number_in (homes_in ms) q) (as_interface (length (places_in ms) + q)))) e
+
+-- one place has an owner
+pub one_owner : (ms : List Member) (b : Beside) → b.owners ≡ owners_of ms → (a c : ℕ) (o : TypeOwner) → b.owners a ≡ o → b.owners c ≡ o → a ≡ c
+one_owner ms b is a c o at_a at_c =
+    let owner : (q : ℕ) → b.owners q ≡ o → owners_of ms q ≡ o = λ q at. sym (ap (λ (f : ℕ → TypeOwner). f q) is) ∙ at in
+    owners_apart (places_in ms) (homes_in ms) a c ((λ i. same_owner (owner a at_a i) (owner c at_c i)) ∙ owner_itself o)

@@ -1,28 +1,25 @@
 -- What is known of a plan that was made of what was followed: where names are shown, and the interface of each place.
-use Rattle.std.proofs.Common.{◌≡◌, refl, sym, ap, subst, ◌∙◌, ℕ, zero, suc, ◌+◌, ◌<◌, ◌⊎◌, inl, inr, arith, Bool, true, false, ◌==◌, cond, List, [], ◌∷◌, ◌++◌, map, Option, Some, None, option_map, is_some, slice_get}
-use Rattle.std.specs.List.{AllByRecursion, AllZip, Contains, find, flat_map}
+use Rattle.std.proofs.Common.{◌≡◌, refl, sym, ap, subst, ◌∙◌, ℕ, zero, suc, ◌⊎◌, inl, inr, arith, Bool, true, false, ◌==◌, cond, List, [], ◌∷◌, ◌++◌, map, Some, None, option_map, is_some, slice_get}
+use Rattle.std.specs.List.{AllZip, Contains, find, flat_map}
 use Rattle.std.specs.Option.{option_map_or}
-use Rattle.std.proofs.lemmas.Bool.{eqb-true}
 use Rattle.wit_model.specs.Text.{Text}
-use Rattle.wit_model.proofs.Elements.{contains-flat, contains-get, contains-map, get-contains, none-in, one-contained, same-number, same-some}
+use Rattle.wit_model.proofs.Elements.{contains-flat, contains-map, get-contains, none-in, one-contained, same-number, same-some}
 use Rattle.comp_meaning.specs.Reads as reads
 use Rattle.read_plan.specs.FollowedNumbers.{IsPartIn}
 use Rattle.read_plan.specs.NumberedMembers.{Homes, NumberedMember, NumberedPart, home_at, interface, world}
-use Rattle.read_plan.specs.NumberedViews.{NumberedSight, NumberedView, Tables, first_at, path_at}
-use Rattle.read_plan.specs.NumberedWorlds.{HasPath, NumberedInstance}
-use Rattle.read_plan.specs.Plan.{Plan, PlannedInterface, PlannedType, interface_in}
+use Rattle.read_plan.specs.NumberedViews.{NumberedSight, Tables, first_at, path_at}
+use Rattle.read_plan.specs.NumberedWorlds.{HasPath}
+use Rattle.read_plan.specs.Plan.{Plan, PlannedInterface, interface_in}
 use Rattle.read_plan.specs.PlanRules.{has_name}
 use Rattle.read_plan.specs.Shapes.{named_shape}
 use Rattle.read_plan.proofs.GatheredPlan.{all_at}
 use Rattle.read_plan.proofs.Lists.{append_of_map, map_of_map}
-use Rattle.plan_gather.specs.Marks.{is_marked}
 use Rattle.plan_members.specs.Members.{numbered_member, numbered_members, numbered_part}
 use Rattle.plan_members.specs.declared.members.Member.{Member}
-use Rattle.plan_members.specs.declared.members.Part.{Part}
 use Rattle.plan_members.specs.declared.members.Part.TheVariants as parts
 use Rattle.plan_types.specs.Orders.{home_of_part, places_of_part}
 use Rattle.plan_whole.specs.Views.{types_alone, views_of_members, views_of_part, whole_view}
-use Rattle.plan_whole.specs.WholeInterfaces.{PlansInterface, PlansPlace}
+use Rattle.plan_whole.specs.WholeInterfaces.{PlansPlace}
 use Rattle.plan_read.specs.declared.scopes.Scope.{Scope}
 use Rattle.plan_laws.proofs.ShownForms.{mark_there}
 use Rattle.plan_whole.specs.PlanWhole.{PlansWhole, places_in}
@@ -30,7 +27,7 @@ use Rattle.whole_laws.specs.Owners.{homes_in}
 use Rattle.whole_laws.specs.ShownNames.{IsInput, IsShownByPart, by_import, by_view}
 use Rattle.whole_laws.proofs.Inside.{flat_cases}
 use Rattle.whole_laws.proofs.PartNames.{from_map}
-use Rattle.whole_laws.proofs.PlaceNumbers.{all_joined, from_joined, number_given, number_there}
+use Rattle.whole_laws.proofs.PlaceNumbers.{all_joined, from_joined}
 use Rattle.whole_laws.proofs.ShownNames.{names_are_shown}
 
 -- ---- lists

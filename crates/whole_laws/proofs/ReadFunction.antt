@@ -5,13 +5,14 @@ use Rattle.std.proofs.lemmas.Option.{slice_get_within}
 use Rattle.wit_model.specs.declared.model.FunctionKind.{FunctionKind}
 use Rattle.wit_model.specs.declared.model.TypeId.{TypeId}
 use Rattle.wit_model.specs.declared.model.TypeOwner.{TypeOwner}
+use Rattle.wit_model.specs.Lookup.{is_async}
 use Rattle.wit_model.specs.Text.{Text, text_eq}
 use Rattle.wit_model.specs.Tree.{Tree, levels}
 use Rattle.comp_meaning.specs.Reads as reads
 use Rattle.comp_meaning.specs.Rules as rules
 use Rattle.comp_meaning.specs.Rules.{are_labels, are_parts, form_labels}
 use Rattle.read_plan.specs.FollowedNumbers.{IsMetFrom}
-use Rattle.read_plan.specs.GatheredPlan.{DeclaresKind, a_form, a_name, a_resource}
+use Rattle.read_plan.specs.GatheredPlan.{DeclaresKind, FunctionBecomes, a_form, a_name, a_resource}
 use Rattle.read_plan.specs.KeptFunctions.{IsKindOf, IsResource, a_constructor, a_method, a_static, an_async_method, an_async_static, of_none}
 use Rattle.read_plan.specs.NumberedMembers.{Homes, home_at}
 use Rattle.read_plan.specs.NumberedRules.{Fact, IsKnown, IsSeenFrom, begins_with_self, constructs, most_counted, nowhere}
@@ -121,30 +122,37 @@ module _ (t : Tables) (h : Homes) (ms : List Member) (members : List reads.Membe
       resource_kind d kind e (a_form old m form olds news is at_m there zip k) = let wrong : None ≡ Some old = sym e ∙ is in absurd cc
 
   -- the function of a place, which may stand there behind these resources
-  pub read_function : (b : Beside) (q : ℕ) (find : Text → Option TypeId) (resources : List Text) → ((r : Text) → list_any (text_eq r) resources ≡ true → (id : TypeId) × (find r ≡ Some id))
-      → ((r : Text) (id : TypeId) → find r ≡ Some id → IsResource t (told t q) planned.kept p (b.owners q) q r id.0)
-      → (f : Text × NumberedFunction) (e : Text × PlannedFunction) → IsPlannedFunction t planned.kept find f e → PartsOf (IsMetFrom t q) (function_at t f.1.signature)
-      → rules.is_function (place_at t q) resources f.0 (signature_at t f.1.signature) ≡ true → PartsOf (λ k. b.marks k ≡ false) (function_at t f.1.signature) → IsReadFunction t planned.kept p b (b.owners q) e.1
-  read_function b q find resources found are f e made met obeys values =
-      let shape = function_at t f.1.signature in
-      let seen : PartsOf (IsSeenFrom t q) shape = parts_weaker (IsMetFrom t q) (IsSeenFrom t q) (λ k m. seen_from t h ms members input main p planned q k m) shape met in
-      let known : PartsOf (IsKnown t (told t q) q) shape = parts_weaker (IsMetFrom t q) (IsKnown t (told t q) q) (λ k m. is_told t q k m.range (seen_from t h ms members input main p planned q k m)) shape met in
-      let kinds = kinds_are_named t (told t q) planned.kept p (b.owners q) q find resources found are f.0 shape e.1.kind (sym (function_same t input.tables.shapes (told t q) q resources f.0 shape known) ∙ obeys) made.kind in
-      let signature = signature_of (place_at t q) resources f.0 (signature_at t f.1.signature) obeys in
-      record {
-        place = q;
-        name = f.0;
-        shape = shape;
-        external_id = f.1.external_id;
-        owned = refl;
-        kept_function = record {
-          becomes = functions_become t planned.kept p as_many shape f.1.external_id e.1 made.parts kinds.1 made.same_id;
-          named = made.named;
-          kind = same_kind t (told t q) b.known planned.kept p (b.owners q) q f.0 shape e.1.kind kinds.0;
-          place = place_at t q;
+  module _ (b : Beside) (q : ℕ) (find : Text → Option TypeId) (resources : List Text) (found : (r : Text) → list_any (text_eq r) resources ≡ true → (id : TypeId) × (find r ≡ Some id))
+      (are : (r : Text) (id : TypeId) → find r ≡ Some id → IsResource t (told t q) planned.kept p (b.owners q) q r id.0) (f : Text × NumberedFunction) (e : Text × PlannedFunction) (made : IsPlannedFunction t planned.kept find f e)
+      (met : PartsOf (IsMetFrom t q) (function_at t f.1.signature)) (obeys : rules.is_function (place_at t q) resources f.0 (signature_at t f.1.signature) ≡ true) where
+    abbrev shape : FunctionShape
+    shape = function_at t f.1.signature
+
+    kind_is : IsKindOf t (told t q) planned.kept p (b.owners q) q f.0 shape e.1.kind × (is_async e.1.kind ≡ shape.is_async)
+    kind_is =
+        let known : PartsOf (IsKnown t (told t q) q) shape = parts_weaker (IsMetFrom t q) (IsKnown t (told t q) q) (λ k m. is_told t q k m.range (seen_from t h ms members input main p planned q k m)) shape met in
+        kinds_are_named t (told t q) planned.kept p (b.owners q) q find resources found are f.0 shape e.1.kind (sym (function_same t input.tables.shapes (told t q) q resources f.0 shape known) ∙ obeys) made.kind
+
+    pub function_becomes : FunctionBecomes t planned.kept p shape f.1.external_id e.1
+    function_becomes = functions_become t planned.kept p as_many shape f.1.external_id e.1 made.parts kind_is.1 made.same_id
+
+    pub read_function : PartsOf (λ k. b.marks k ≡ false) shape → IsReadFunction t planned.kept p b (b.owners q) e.1
+    read_function values =
+        let signature = signature_of (place_at t q) resources f.0 (signature_at t f.1.signature) obeys in
+        record {
+          place = q;
+          name = f.0;
+          shape = shape;
+          external_id = f.1.external_id;
+          owned = refl;
+          kept_function = record {
+            becomes = function_becomes;
+            named = made.named;
+            kind = same_kind t (told t q) b.known planned.kept p (b.owners q) q f.0 shape e.1.kind kind_is.0;
+            place = place_at t q;
+            obeys = signature;
+          };
+          seen = parts_weaker (IsMetFrom t q) (IsSeenFrom t q) (λ k m. seen_from t h ms members input main p planned q k m) shape met;
           obeys = signature;
-        };
-        seen = seen;
-        obeys = signature;
-        values = values;
-      }
+          values = values;
+        }

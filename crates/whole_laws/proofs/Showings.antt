@@ -1,5 +1,5 @@
 -- Each type that is shown is a name of the table, behind what it is declared as.
-use Rattle.std.proofs.Common.{◌≡◌, refl, sym, ap, subst, ◌∙◌, ℕ, suc, ◌+◌, ◌⊎◌, inl, inr, Bool, true, false, List, [], ◌∷◌, ◌++◌, map, Option, Some, slice_get}
+use Rattle.std.proofs.Common.{◌≡◌, refl, sym, subst, ℕ, suc, ◌+◌, ◌⊎◌, inl, inr, true, false, List, [], ◌∷◌, map, Option, Some, slice_get}
 use Rattle.std.specs.Borrow.{Bor}
 use Rattle.std.specs.List.{AllByRecursion, Contains, flat_map}
 use Rattle.std.proofs.lemmas.List.Elements.{Contains-append_cases}
@@ -12,14 +12,11 @@ use Rattle.shown_laws.specs.Scopes as scopes
 use Rattle.shown_laws.proofs.Lists.{mapped_get}
 use Rattle.read_plan.specs.NumberedMembers.{Homes, IsMember, NumberedMember, ShowsPart}
 use Rattle.read_plan.specs.ReadWorlds.{is_type_seen}
-use Rattle.read_plan.specs.NumberedViews.{AreTables, NumberedSlot, NumberedType, NumberedView, Tables, resource, value}
+use Rattle.read_plan.specs.NumberedViews.{AreTables, NumberedSlot, NumberedView, Tables, resource, value}
 use Rattle.read_plan.specs.NumberedWorlds.{HasPath, NumberedSeen, place_of_key, seen_of, shown_of}
 use Rattle.read_plan.specs.Shapes.{named_shape}
 use Rattle.read_plan.proofs.GatheredPlan.{all_at}
 use Rattle.plan_gather.specs.Interfaces.{slot_part}
-use Rattle.plan_read.specs.declared.reached.ImportedView.{ImportedView}
-use Rattle.plan_read.specs.declared.scopes.InstanceKey.{InstanceKey}
-use Rattle.plan_read.specs.declared.scopes.Scope.{Scope}
 use Rattle.plan_read.specs.declared.scopes.Seen.{Seen}
 use Rattle.plan_read.specs.declared.scopes.Shown.{Shown}
 use Rattle.plan_read.specs.declared.scopes.Shown.TheVariants as shown

@@ -1,6 +1,6 @@
 -- Each name that the types of a plan use is shown in its own place.
-use Rattle.std.proofs.Common.{◌≡◌, refl, sym, ap, subst, ◌∙◌, ℕ, zero, suc, ◌+◌, ◌<◌, ◌⊎◌, inl, inr, arith, Bool, true, List, [], ◌∷◌, ◌++◌, map, Option, Some, None, slice_get}
-use Rattle.std.specs.List.{AllByRecursion, AllZip, Contains, flat_map}
+use Rattle.std.proofs.Common.{◌≡◌, refl, sym, subst, ℕ, zero, suc, ◌⊎◌, inl, inr, arith, List, [], ◌∷◌, map, Some, slice_get}
+use Rattle.std.specs.List.{AllZip, Contains, flat_map}
 use Rattle.std.proofs.lemmas.List.Elements.{Contains-append_cases}
 use Rattle.wit_model.specs.Text.{Text}
 use Rattle.wit_model.proofs.Elements.{contains-map, none-in}
@@ -16,13 +16,12 @@ use Rattle.read_plan.specs.NumberedMembers.{Homes, IsMember, NumberedMember, Sho
 use Rattle.read_plan.specs.NumberedViews.{NumberedSight, Tables, place_at, view_of}
 use Rattle.read_plan.specs.Shapes.{named_shape}
 use Rattle.read_plan.proofs.GatheredPlan.{all_at}
-use Rattle.plan_gather.specs.Marks.{is_marked}
 use Rattle.plan_members.specs.Members.{numbered_member, numbered_members, numbered_part}
 use Rattle.plan_members.specs.declared.members.Member.{Member}
 use Rattle.plan_members.specs.declared.members.Part.{Part}
 use Rattle.plan_members.specs.declared.members.Part.TheVariants as parts
 use Rattle.plan_types.specs.Showings.{NumberedShowing, showings_of_members, showings_of_part, signatures_of_members, signatures_of_part}
-use Rattle.plan_types.specs.Used.{function_parts, showing_parts, used_parts, AreUsed}
+use Rattle.plan_types.specs.Used.{function_parts, showing_parts, used_parts}
 use Rattle.plan_whole.specs.Views.{views_of_part}
 use Rattle.whole_laws.specs.ShownNames.{IsInput, IsShownByPart, PartDeclaresNames, UsedNamesAreShown}
 use Rattle.whole_laws.proofs.Inside.{IsIn, flat_cases, used_inside}

@@ -75,7 +75,7 @@ pub exports_are_items : (ss : List follow.Seen) → list_all (λ (s : follow.See
 exports_are_items ss h = all_of SeenIsItem ss (λ s c. record { resources = []; is = all-contained (λ (x : follow.Seen). rules.is_item [] x.key x.shown) ss s h c })
 
 -- the view of the instance is what an interface may have
-abbrev InstanceObeys : Instance → Type 0
+abbrev pub InstanceObeys : Instance → Type 0
 InstanceObeys x = rules.is_interface (place_of x.interface) x.view ≡ true
 
 instance_obeys : (ss : List follow.Seen) → AllByRecursion SeenIsItem ss → (x : Instance) → Contains (instances_in ss) x → InstanceObeys x
@@ -114,7 +114,7 @@ world_obeys scope h =
     (rules.stand_earlier [] (scope.imports ++ scope.exports)) h in
     record { imports = both.0; exports = both.1 }
 
-instances_obey : (scope : follow.Scope) → WorldStands scope → (x : Instance) → Contains scope.instances x → InstanceObeys x
+pub instances_obey : (scope : follow.Scope) → WorldStands scope → (x : Instance) → Contains scope.instances x → InstanceObeys x
 instances_obey scope stands x c = by (one_way stands.seen.seen x (subst (λ xs. Contains xs x) (sym stands.seen.all) c))
   where
     by : Contains (going import_ stands.seen.seen) x ⊎ Contains (going export_ stands.seen.seen) x → InstanceObeys x

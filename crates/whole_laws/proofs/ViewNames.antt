@@ -1,5 +1,5 @@
 -- A name that is met in a view was shown in its own place.
-use Rattle.std.proofs.Common.{◌≡◌, refl, sym, ap, subst, ◌∙◌, ℕ, suc, zero, ◌+◌, ◌-◌, ◌<◌, ◌⊎◌, inl, inr, arith, Bool, true, false, if◌then◌else◌, List, [], ◌∷◌, ◌++◌, length, map, Option, Some, None, option_and_then, option_to_list, slice_get}
+use Rattle.std.proofs.Common.{◌≡◌, refl, sym, ap, subst, ◌∙◌, ℕ, suc, zero, ◌+◌, ◌-◌, ◌<◌, ◌⊎◌, inl, inr, arith, Bool, true, false, if◌then◌else◌, List, [], ◌∷◌, length, map, Option, Some, None, option_and_then, option_to_list, slice_get}
 use Rattle.std.specs.List.{AllByRecursion, Contains}
 use Rattle.std.specs.Option.{option_map_or}
 use Rattle.std.proofs.lemmas.Bool.{le-ltb, lt-ltb}
@@ -9,12 +9,12 @@ use Rattle.wit_model.specs.Tree.{Place}
 use Rattle.wit_model.proofs.Elements.{contains-get, get-contains, none-in, one-contained, same-some}
 use Rattle.comp_meaning.specs.Follow.{Instance, ShownType, place_of}
 use Rattle.shown_laws.specs.Scopes.{IsShownBefore}
-use Rattle.shown_laws.specs.Trees.{DeclarationStands, SignatureStands}
+use Rattle.shown_laws.specs.Trees.{DeclarationStands}
 use Rattle.shown_laws.specs.Views.{IsMetInView, ShowsName, ViewStands, inside as met_inside, outside as met_outside}
 use Rattle.shown_laws.proofs.Lists.{mapped_get, unmapped_get}
 use Rattle.read_plan.specs.FollowedNumbers.{IsCalledIn, IsMetFrom, IsNameOf, IsShownIn, IsSlotOf, IsViewIn}
-use Rattle.read_plan.specs.NumberedRules.{is_form, shape_at}
-use Rattle.read_plan.specs.NumberedViews.{AllOf, AreTables, FunctionShape, IsPart, NumberedFunction, NumberedSight, NumberedSlot, NumberedType, PartsOf, Tables, declaration_of, function_at, path_at, place_at, resource, shown_function, shown_type, signature_at, value, view_of}
+use Rattle.read_plan.specs.NumberedRules.{is_form}
+use Rattle.read_plan.specs.NumberedViews.{AllOf, AreTables, FunctionShape, IsPart, NumberedFunction, NumberedSight, NumberedSlot, NumberedType, PartsOf, Tables, declaration_of, function_at, path_at, place_at, resource, shown_function, shown_type, value, view_of}
 use Rattle.read_plan.specs.NumberedWorlds.{HasPath}
 use Rattle.read_plan.specs.Plan.{part_number}
 use Rattle.read_plan.specs.Shapes.{Shape, named_shape}

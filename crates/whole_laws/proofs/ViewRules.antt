@@ -1,5 +1,5 @@
 -- What a place is read by obeys the rules on interfaces.
-use Rattle.std.proofs.Common.{◌≡◌, refl, sym, ap, subst, ◌∙◌, ℕ, zero, suc, ◌<◌, arith, Bool, true, false, ◌&&◌, ◌==◌, if◌then◌else◌, List, [], ◌∷◌, ◌++◌, map, Option, Some, None, slice_get}
+use Rattle.std.proofs.Common.{◌≡◌, refl, ap, subst, ◌∙◌, ℕ, suc, arith, Bool, true, false, ◌&&◌, ◌==◌, if◌then◌else◌, List, [], ◌∷◌, ◌++◌, map, Option}
 use Rattle.std.specs.List.{Contains, list_all}
 use Rattle.std.proofs.lemmas.Bool.{eqb-true}
 use Rattle.std.proofs.lemmas.List.{append-nil}
@@ -7,15 +7,13 @@ use Rattle.wit_model.specs.Text.{Text}
 use Rattle.wit_model.specs.Tree.{Place}
 use Rattle.wit_model.specs.Meaning.{FunctionMeaning}
 use Rattle.wit_model.specs.Names.{is_label}
-use Rattle.wit_model.proofs.Elements.{none-in, same-some}
-use Rattle.wit_model.proofs.Lists.{first_true, second_true}
+use Rattle.wit_model.proofs.Lists.{first_true}
 use Rattle.comp_meaning.specs.Follow.{ShownType}
 use Rattle.comp_meaning.specs.Rules as rules
 use Rattle.comp_meaning.specs.Rules.{distinct, is_declared, is_function, is_resource, resources_of}
 use Rattle.shown_laws.proofs.Agreement as agreement
 use Rattle.read_plan.specs.GatheredPlan.{functions_seen}
-use Rattle.read_plan.specs.NumberedViews.{NumberedFunction, NumberedSight, NumberedType, NumberedView, Tables, declaration_of, place_at, shown_function, shown_type, view_of}
-use Rattle.read_plan.proofs.Lists.{both}
+use Rattle.read_plan.specs.NumberedViews.{NumberedFunction, NumberedSight, NumberedType, Tables, declaration_of, place_at, shown_function, shown_type, view_of}
 use Rattle.whole_laws.specs.FirstViews.{told}
 
 -- ---- the rules look at what is told alone

@@ -1,6 +1,6 @@
 -- Each interface of the plan is read by the first view of its place.
-use Rattle.std.proofs.Common.{◌≡◌, refl, sym, ap, subst, ◌∙◌, ℕ, zero, suc, ◌+◌, ◌<◌, ◌⊎◌, inl, inr, arith, Bool, true, false, List, [], ◌∷◌, ◌++◌, length, map, Option, Some, None, option_map, slice_get}
-use Rattle.std.specs.List.{AllByRecursion, AllZip, Contains, flat_map}
+use Rattle.std.proofs.Common.{◌≡◌, refl, sym, ap, subst, ◌∙◌, ℕ, suc, ◌+◌, ◌<◌, ◌⊎◌, inl, inr, arith, true, List, [], ◌∷◌, ◌++◌, length, map, Option, Some, None, option_map, slice_get}
+use Rattle.std.specs.List.{AllZip, Contains, flat_map}
 use Rattle.std.specs.Option.{option_map_or}
 use Rattle.std.proofs.lemmas.List.Elements.{Contains-append_left}
 use Rattle.std.proofs.lemmas.Option.{slice_get_within}
@@ -8,23 +8,22 @@ use Rattle.wit_model.specs.Text.{Text}
 use Rattle.wit_model.specs.Names.{is_label}
 use Rattle.wit_model.specs.Rules.{passes}
 use Rattle.wit_model.specs.declared.model.TypeOwner.{TypeOwner}
-use Rattle.wit_model.specs.Valid.{as_interface, as_world}
-use Rattle.wit_model.proofs.Elements.{contains-get, contains-map, get-contains, same-some, zip-weaker}
+use Rattle.wit_model.specs.Valid.{as_interface}
+use Rattle.wit_model.proofs.Elements.{contains-map, get-contains, zip-weaker}
 use Rattle.wit_model.proofs.NameLaws.{read_path_is_spelled}
 use Rattle.comp_meaning.specs.Reads as reads
 use Rattle.comp_meaning.specs.Rules as rules
 use Rattle.comp_meaning.specs.Follow.{Instance}
 use Rattle.shown_laws.specs.Parts.{MemberStands, instances_of}
-use Rattle.shown_laws.specs.Scopes.{IsInstanceBefore, IsShownBefore}
-use Rattle.shown_laws.specs.Views.{ViewStands}
+use Rattle.shown_laws.specs.Scopes.{IsInstanceBefore}
 use Rattle.shown_laws.proofs.Lists.{front_get, mapped_get, middle_get, recursion_weaker, unmapped_get}
 use Rattle.shown_laws.proofs.Uses.{use_stands_before}
-use Rattle.read_plan.specs.FollowedNumbers.{IsMetFrom, IsPartIn, IsShownIn, IsViewIn}
+use Rattle.read_plan.specs.FollowedNumbers.{IsMetFrom, IsPartIn, IsShownIn}
 use Rattle.read_plan.specs.GatheredPlan.{DeclaresKind, TypeListed, functions_seen}
 use Rattle.read_plan.specs.NumberedMembers.{Homes, IsMember, NumberedMember, home_at, sights_of_members}
-use Rattle.read_plan.specs.NumberedViews.{AllOf, IsPart, NumberedFunction, NumberedSight, NumberedType, NumberedView, Tables, agree_in_numbers, first_at, path_at, path_text, place_at, view_of}
+use Rattle.read_plan.specs.NumberedViews.{AllOf, IsPart, NumberedSight, NumberedType, Tables, agree_in_numbers, first_at, path_at, path_text, place_at, view_of}
 use Rattle.read_plan.specs.NumberedWorlds.{DeclaresParts, HasPath, used_by_view}
-use Rattle.read_plan.specs.Plan.{Plan, PlannedFunction, PlannedInterface, PlannedType, interface_in}
+use Rattle.read_plan.specs.Plan.{Plan, PlannedInterface, interface_in}
 use Rattle.read_plan.specs.ReadFunctions.{Beside}
 use Rattle.read_plan.specs.ReadInterfaces.{HasName, IsKeptAs, IsNamed, IsNumberOf, IsReadInterface}
 use Rattle.read_plan.specs.ReadOrder.{InterfacesAreViewed, IsUsedPlace, IsViewedInterface, itself, smaller}
@@ -43,17 +42,17 @@ use Rattle.plan_whole.specs.PlanWhole.{PlansWhole, owners_in, places_in, shown_f
 use Rattle.plan_whole.specs.Views.{views_of_members, views_of_part}
 use Rattle.plan_whole.specs.WholeInterfaces.{ListsNumber, PlansInterface, PlansPlace}
 use Rattle.plan_laws.proofs.KeptKinds.{zip_get, zip_length}
-use Rattle.whole_laws.specs.FirstViews.{IsRisingView, ViewsAreOrdered, told}
-use Rattle.whole_laws.specs.Owners.{homes_in, owners_of}
+use Rattle.whole_laws.specs.FirstViews.{IsRisingView, ViewsAreOrdered}
+use Rattle.whole_laws.specs.Owners.{owners_of}
 use Rattle.whole_laws.specs.ShownNames.{IsInput}
-use Rattle.whole_laws.specs.ViewedInterfaces.{PlannedInterfacesAreViewed, view_read, views_read}
+use Rattle.whole_laws.specs.ViewedInterfaces.{PlannedInterfacesAreViewed, views_read}
 use Rattle.whole_laws.proofs.FirstPlaces.{first_split, flat_split, number_before}
 use Rattle.whole_laws.proofs.FirstTypes.{first_told, view_good, views_told}
 use Rattle.whole_laws.proofs.FirstViews.{first_is}
 use Rattle.whole_laws.proofs.Owned.{planned_name}
 use Rattle.whole_laws.proofs.PartNames.{from_map, trees_of_part}
-use Rattle.whole_laws.proofs.PlaceNumbers.{all_joined, all_once, none_twice, number_given, number_there}
-use Rattle.whole_laws.proofs.Planned.{first_there, interface_there, place_seen, places_of_views, view_met, zip_at}
+use Rattle.whole_laws.proofs.PlaceNumbers.{all_joined, number_given, number_there, owner_numbered, place_number}
+use Rattle.whole_laws.proofs.Planned.{first_there, places_of_views}
 use Rattle.whole_laws.proofs.Showings.{slot_is}
 use Rattle.whole_laws.proofs.ShownNames.{beside}
 use Rattle.whole_laws.proofs.ViewNames.{instance_tree}
@@ -68,7 +67,7 @@ zip_beside P Q R (x ∷ xs) each [] cs p q = absurd p
 zip_beside P Q R (x ∷ xs) each (b ∷ bs) [] p q = absurd q
 zip_beside P Q R (x ∷ xs) each (b ∷ bs) (c ∷ cs) p q = (each x (0, omega arith, refl) b c p.0 q.0, zip_beside P Q R xs (λ y at. each y (suc at.0, (let low = at.1 in omega (arith, low)), at.2)) bs cs p.1 q.1)
 
-zip_within : {A B : Type 0} (P Q : A → B → Type 0) (xs : List A) → ((x : A) → Contains xs x → (b : B) → P x b → Q x b) → (bs : List B) → AllZip P xs bs → AllZip Q xs bs
+pub zip_within : {A B : Type 0} (P Q : A → B → Type 0) (xs : List A) → ((x : A) → Contains xs x → (b : B) → P x b → Q x b) → (bs : List B) → AllZip P xs bs → AllZip Q xs bs
 zip_within P Q [] each [] p = tt
 zip_within P Q [] each (b ∷ bs) p = absurd p
 zip_within P Q (x ∷ xs) each [] p = absurd p
@@ -82,16 +81,8 @@ module _ (t : Tables) (h : Homes) (ms : List Member) (members : List reads.Membe
   abbrev places : List ℕ
   places = places_in ms
 
-  places_once : (i j q : ℕ) → slice_get places i ≡ Some q → slice_get places j ≡ Some q → i ≡ j
-  places_once = all_once [] (flat_map (λ (m : NumberedMember). places_of_part m.part) (numbered_members ms)) none_twice
-
-  number_at : (m q : ℕ) → slice_get places m ≡ Some q → number_in places q ≡ Some m
-  number_at m q e =
-      let given = number_given places q (get-contains places m q e) in
-      given.1 ∙ ap Some (places_once given.0 m q (number_there places q given.0 given.1) e)
-
   owner_at : (m q : ℕ) → slice_get places m ≡ Some q → b.owners q ≡ as_interface m
-  owner_at m q e = ap (λ (o : ℕ → TypeOwner). o q) beside_owners ∙ ap (λ o. option_map_or as_interface o (option_map_or as_world (number_in (homes_in ms) q) (as_interface (length places + q)))) (number_at m q e)
+  owner_at m q e = ap (λ (o : ℕ → TypeOwner). o q) beside_owners ∙ owner_numbered ms q m (place_number ms m q e)
 
   beside_member : (m : NumberedMember) → Contains (numbered_members ms) m → (x : reads.Member) × Contains members x × IsMember t h m x
   beside_member m c =
@@ -216,7 +207,7 @@ module _ (t : Tables) (h : Homes) (ms : List Member) (members : List reads.Membe
           let fresh : Contains (map (λ (s : NumberedSight). s.place) front) q → ⊥ = λ d. (let s = from_map (λ (x : NumberedSight). x.place) front q d in new s.0 s.1 s.2) in
           let all : places ≡ joined_all [] (map (λ (s : NumberedSight). s.place) front ++ q ∷ map (λ (s : NumberedSight). s.place) back) = ap (joined_all []) flat in
           let given = number_given places r (subst (λ ps. Contains ps r) (sym all) (all_joined [] (map (λ (s : NumberedSight). s.place) front ++ q ∷ map (λ (s : NumberedSight). s.place) back) r (inr (Contains-append_left (map (λ (s : NumberedSight). s.place) front) (q ∷ map (λ (s : NumberedSight). s.place) back) r r_there)))) in
-          let low = number_before (map (λ (s : NumberedSight). s.place) front) (map (λ (s : NumberedSight). s.place) back) q fresh r given.0 m r_there (subst (λ ps. number_in ps r ≡ Some given.0) all given.1) (subst (λ ps. number_in ps q ≡ Some m) all (number_at m q at)) in
+          let low = number_before (map (λ (s : NumberedSight). s.place) front) (map (λ (s : NumberedSight). s.place) back) q fresh r given.0 m r_there (subst (λ ps. number_in ps r ≡ Some given.0) all given.1) (subst (λ ps. number_in ps q ≡ Some m) all (place_number ms m q at)) in
           smaller given.0 (owner_at given.0 r (number_there places r given.0 given.1)) low
 
       uses : IsUsedPlace b.owners m q r

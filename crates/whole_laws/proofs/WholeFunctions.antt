@@ -1,6 +1,6 @@
 -- The functions of a whole plan are those that were read.
-use Rattle.std.proofs.Common.{◌≡◌, refl, sym, ap, subst, ◌∙◌, ℕ, zero, ◌+◌, ◌⊎◌, inl, inr, arith, Bool, true, false, ◌&&◌, ◌||◌, filter_map, List, [], ◌∷◌, ◌++◌, map, Option, Some, None, slice_get}
-use Rattle.std.specs.List.{AllByRecursion, AllZip, Contains, cons_option, flat_map, list_all, list_any}
+use Rattle.std.proofs.Common.{◌≡◌, refl, sym, ap, subst, ◌∙◌, ℕ, zero, ◌+◌, ◌⊎◌, inl, inr, arith, Bool, true, false, ◌||◌, filter_map, List, [], ◌∷◌, ◌++◌, map, Option, Some, None, slice_get}
+use Rattle.std.specs.List.{AllByRecursion, AllZip, Contains, cons_option, flat_map, list_any}
 use Rattle.std.proofs.lemmas.List.Elements.{Contains-append_cases, Contains-append_left, Contains-append_right}
 use Rattle.std.proofs.lemmas.Slice.Eq.{bytes_eq-Decides}
 use Rattle.wit_model.specs.declared.model.TypeId.{TypeId}
@@ -14,12 +14,12 @@ use Rattle.comp_meaning.specs.Follow.{place_of}
 use Rattle.comp_meaning.specs.Reads as reads
 use Rattle.comp_meaning.specs.Rules as rules
 use Rattle.comp_meaning.specs.Rules.{distinct}
-use Rattle.shown_laws.proofs.Lists.{mapped_get, one_place}
 use Rattle.read_plan.specs.FollowedNumbers.{IsCalledIn, IsSeenIn, IsShownIn}
+use Rattle.read_plan.specs.GatheredPlan.{FunctionBecomes}
 use Rattle.read_plan.specs.KeptFunctions.{IsResource}
 use Rattle.read_plan.specs.NumberedMembers.{Homes, NumberedMember, home_at}
 use Rattle.read_plan.specs.NumberedRules.{Fact, is_no_part}
-use Rattle.read_plan.specs.NumberedViews.{NumberedType, PartsOf, Tables, value, function_at, path_at, signature_at}
+use Rattle.read_plan.specs.NumberedViews.{NumberedType, PartsOf, Tables, value, function_at, path_at, place_at, signature_at}
 use Rattle.read_plan.specs.NumberedWorlds as worlds
 use Rattle.read_plan.specs.NumberedWorlds.{NumberedScope, NumberedSeen, NumberedShown, seen_of, shown_of}
 use Rattle.read_plan.specs.Plan.{Plan, PlannedFunction, PlannedItem, PlannedKey, PlannedWorld, item_function, items_of}
@@ -28,7 +28,6 @@ use Rattle.read_plan.specs.ReadFunctions.{Beside, IsReadFunction}
 use Rattle.read_plan.specs.Renumbering.{IsPart, a_primitive, a_shape}
 use Rattle.read_plan.specs.Shapes.{Shape, first_label, named_shape}
 use Rattle.read_plan.proofs.GatheredPlan.{all_at}
-use Rattle.read_plan.proofs.Lists.{map_of_map}
 use Rattle.plan_gather.specs.Interfaces.{AreResources, IsPlannedFunction, slot_part}
 use Rattle.plan_members.specs.Members.{numbered_members}
 use Rattle.plan_members.specs.declared.members.Member.{Member}
@@ -53,9 +52,10 @@ use Rattle.whole_laws.specs.WholeTypes.{IsRuledInput, TypesAreWhole}
 use Rattle.whole_laws.proofs.Inside.{flat_cases}
 use Rattle.whole_laws.proofs.OwnPlaces.{Owned, a_view, a_world, frames, one_owned}
 use Rattle.whole_laws.proofs.PartNames.{from_map}
-use Rattle.whole_laws.proofs.ReadFunction.{read_function, resource_at, told}
+use Rattle.whole_laws.proofs.ReadFunction.{function_becomes, read_function, resource_at, told}
 use Rattle.whole_laws.proofs.Showings.{slot_is}
 use Rattle.whole_laws.proofs.ShownFrom.{IsFrom, IsWorldOf, home_frame, of_import, of_view, shown_from, view_frame, world_of}
+use Rattle.whole_laws.proofs.WorldKeys.{declared_in, is_world_owned, keys_apart, one_key, one_world}
 
 -- ---- lists
 
@@ -69,12 +69,6 @@ all_filtered {X = X} {Y = Y} P f (x ∷ xs) each = by (f x) refl (all_filtered P
     by : (o : Option Y) → f x ≡ o → AllByRecursion P (filter_map f xs) → AllByRecursion P (filter_map f (x ∷ xs))
     by None e rest = subst (AllByRecursion P) (ap (λ o. cons_option o (filter_map f xs)) (sym e)) rest
     by (Some y) e rest = subst (AllByRecursion P) (ap (λ o. cons_option o (filter_map f xs)) (sym e)) (each x (zero, omega arith, refl) y e, rest)
-
-third_of : (a b c d e : Bool) → (a && b && c && d && e) ≡ true → c ≡ true
-third_of true true true d e h = refl
-third_of true true false d e h = absurd cc
-third_of true false c d e h = absurd cc
-third_of false b c d e h = absurd cc
 
 -- ---- resources among imports
 
@@ -124,14 +118,6 @@ import_items all earlier (s ∷ ss) ok before behind =
     either z (inl c) = before z c
     either z (inr c) = behind z (subst (Contains (s ∷ ss)) (one-contained s z c) (zero, omega arith, refl))
 
--- the import of a key is one
-one_key : (ss : List NumberedSeen) → distinct (map (λ (s : NumberedSeen). s.key) ss) ≡ true → (a b : NumberedSeen) → Contains ss a → Contains ss b → a.key ≡ b.key → a ≡ b
-one_key ss apart a b c d e =
-    let i = contains-get ss a c in
-    let j = contains-get ss b d in
-    let same : i.0 ≡ j.0 = one_place (map (λ (s : NumberedSeen). s.key) ss) apart i.0 j.0 b.key (mapped_get (λ (s : NumberedSeen). s.key) ss i.0 a i.1 ∙ ap Some e) (mapped_get (λ (s : NumberedSeen). s.key) ss j.0 b j.1) in
-    same-some a b (sym i.1 ∙ (ap (slice_get ss) same ∙ j.1))
-
 -- a part that is kept has its number
 pub kept_number : (kept : List ℕ) (k n j : ℕ) → k ≡ 14 + n → IsPart kept k (14 + j) → slice_get kept j ≡ Some n
 kept_number kept k n j is (a_primitive low e) = absurd (omega (arith, is, low))
@@ -140,22 +126,9 @@ kept_number kept k n j is (a_shape m i at stands e) =
     let place : i ≡ j = omega (arith, e) in
     ap (slice_get kept) (sym place) ∙ (stands ∙ ap Some number)
 
-abbrev declared_in : Option ℕ → NumberedShown → Option ℕ
-declared_in default (worlds.declares d) = d
-declared_in default (worlds.function n) = default
-declared_in default (worlds.instance key v) = default
-
 pub nothing_declared : (d : Option ℕ) → is_no_part d ≡ true → d ≡ None
 nothing_declared None h = refl
 nothing_declared (Some k) h = absurd cc
-
-abbrev is_world_owned : Owned → Bool
-is_world_owned (a_world w) = true
-is_world_owned (a_view v) = false
-
-abbrev world_owned : NumberedScope → Owned → NumberedScope
-world_owned default (a_world w) = w
-world_owned default (a_view v) = default
 
 module _ (t : Tables) (h : Homes) (ms : List Member) (members : List reads.Member) (ruled : IsRuledInput t h ms members) (main : ℕ) (p : Plan) (planned : PlansWhole t h.packages (home_at h) main ms p) (whole : TypesAreWhole t planned.kept ms p) (known : ℕ → Fact) where
   abbrev input : IsInput t h ms members
@@ -176,13 +149,6 @@ module _ (t : Tables) (h : Homes) (ms : List Member) (members : List reads.Membe
   module _ (m : Member) (c : Contains ms m) (w : Scope) (is_world : m.part ≡ parts.World w) where
     abbrev is : IsWorldOf t h ms members input ruled.placed.apart w
     is = world_of t h ms members input ruled.placed.apart m c w is_world
-
-    keys_apart : distinct (map (λ (s : NumberedSeen). s.key) (map numbered_seen w.imports.now)) ≡ true
-    keys_apart =
-        let scope = is.scope in
-        let tree = third_of (rules.are_imports [] scope.imports) (list_all (λ (s : follow.Seen). rules.is_item [] s.key s.shown) scope.exports) (distinct (map (λ (s : follow.Seen). s.key) scope.imports)) (distinct (map (λ (s : follow.Seen). s.key) scope.exports))
-        (rules.stand_earlier [] (scope.imports ++ scope.exports)) is.stands.obeys in
-        ap distinct (sym (ap (map (λ (s : follow.Seen). s.key)) is.shows.imports ∙ map_of_map (λ (s : follow.Seen). s.key) (seen_of t) (map numbered_seen w.imports.now))) ∙ tree
 
     -- the name of an import in the table
     import_number : (s : Seen) → Contains w.imports.now s → (part : ℕ) (d : Option ℕ) → s.shown ≡ shown.Declares part d → (n : ℕ) × (part ≡ 14 + n) × (slice_get t.shapes n ≡ Some (named_shape w.home s.key.now))
@@ -218,10 +184,9 @@ module _ (t : Tables) (h : Homes) (ms : List Member) (members : List reads.Membe
             let named = subst (λ (x : Shown). DeclaresName t w2.home (record { key = s2.key; shown = x; external_id = s2.external_id })) e2 (all_at (DeclaresName t w2.home) w2.imports.now other.declares s2 among2) in
             let one : named.0 ≡ n = (let a = named.1 in omega (arith, a, at)) in
             let same = same_name w2.home s2.key.now (sym (ap (slice_get t.shapes) one) ∙ named.2) in
-            let owned = one_owned t numbered ruled.placed.apart w.home home_none (a_world (numbered_scope w2)) (a_world (numbered_scope w)) (subst (λ q. Contains {X = ℕ × Owned} (frames numbered) (q, a_world (numbered_scope w2))) same.0 (home_frame t h ms members input ruled.placed.apart m2 c2 w2 is2)) (home_frame t h ms members input ruled.placed.apart m c w is_world) in
-            let scopes_same : numbered_scope w2 ≡ numbered_scope w = ap (world_owned (numbered_scope w)) owned in
+            let scopes_same = one_world t h ms members input ruled.placed.apart m2 m c2 c w2 w is2 is_world same.0 in
             let here : Contains (map numbered_seen w.imports.now) (numbered_seen s2) = subst (λ (x : NumberedScope). Contains x.imports (numbered_seen s2)) scopes_same (contains-map numbered_seen w2.imports.now s2 among2) in
-            let one_seen = one_key (map numbered_seen w.imports.now) keys_apart (numbered_seen s2) (numbered_seen s) here (contains-map numbered_seen w.imports.now s among) same.1 in
+            let one_seen = one_key (map numbered_seen w.imports.now) (keys_apart t h ms members input ruled.placed.apart w is) (numbered_seen s2) (numbered_seen s) here (contains-map numbered_seen w.imports.now s among) same.1 in
             let shown_same : worlds.declares y.declared ≡ worlds.declares d = sym (ap numbered_shown e2) ∙ (ap (λ (x : NumberedSeen). x.shown) one_seen ∙ ap numbered_shown e) in
             ap (declared_in d) shown_same
 
@@ -270,13 +235,21 @@ module _ (t : Tables) (h : Homes) (ms : List Member) (members : List reads.Membe
 
       -- ---- a function
 
-      function_read : (s : Seen) (f : ℕ) (g : PlannedFunction) → IsCalledIn t w.home f → (item : IsItemAmong (map (seen_of t) (map numbered_seen w.imports.now)) s.key.now (follow.Shown.function (signature_at t f)))
-          → PartsOf (λ k. b.marks k ≡ false) (function_at t f) → IsPlannedFunction t planned.kept find (s.key.now, record { signature = f; external_id = given_text s.external_id }) (s.key.now, g) → IsReadFunction t planned.kept p b (b.owners w.home) g
-      function_read s f g called item values made =
-          read_function t h ms members input main p planned b w.home find item.resources (λ r any. resource_found r (item.from r any))
-          (λ r id found. subst (λ (os : ℕ → TypeOwner). IsResource t (told t w.home) planned.kept p (os w.home) w.home r id.0) (sym owned) (resource_is r id found))
-          (s.key.now, record { signature = f; external_id = given_text s.external_id }) (s.key.now, g) made called.parts
-          (ap (λ place. rules.is_function place item.resources s.key.now (signature_at t f)) (ap place_of is.good.home) ∙ item.is) values
+      module _ (s : Seen) (f : ℕ) (g : PlannedFunction) (called : IsCalledIn t w.home f) (item : IsItemAmong (map (seen_of t) (map numbered_seen w.imports.now)) s.key.now (follow.Shown.function (signature_at t f)))
+          (made : IsPlannedFunction t planned.kept find (s.key.now, record { signature = f; external_id = given_text s.external_id }) (s.key.now, g)) where
+        resource_own : (r : Text) (id : TypeId) → find r ≡ Some id → IsResource t (told t w.home) planned.kept p (b.owners w.home) w.home r id.0
+        resource_own r id found = subst (λ (os : ℕ → TypeOwner). IsResource t (told t w.home) planned.kept p (os w.home) w.home r id.0) (sym owned) (resource_is r id found)
+
+        rule : rules.is_function (place_at t w.home) item.resources s.key.now (signature_at t f) ≡ true
+        rule = ap (λ place. rules.is_function place item.resources s.key.now (signature_at t f)) (ap place_of is.good.home) ∙ item.is
+
+        function_read : PartsOf (λ k. b.marks k ≡ false) (function_at t f) → IsReadFunction t planned.kept p b (b.owners w.home) g
+        function_read values =
+            read_function t h ms members input main p planned b w.home find item.resources (λ r any. resource_found r (item.from r any)) resource_own (s.key.now, record { signature = f; external_id = given_text s.external_id }) (s.key.now, g) made called.parts rule values
+
+        function_made : FunctionBecomes t planned.kept p (function_at t f) (given_text s.external_id) g
+        function_made =
+            function_becomes t h ms members input main p planned b w.home find item.resources (λ r any. resource_found r (item.from r any)) resource_own (s.key.now, record { signature = f; external_id = given_text s.external_id }) (s.key.now, g) made called.parts rule
 
       -- what it imports or exports
       abbrev all_imports : List follow.Seen
@@ -301,6 +274,21 @@ module _ (t : Tables) (h : Homes) (ms : List Member) (members : List reads.Membe
         from = λ r any. let wrong : false ≡ true = any in absurd cc;
       }
 
+      -- what a function that it imports or exports becomes
+      pub seen_becomes : (s : Seen) → Contains w.imports.now s ⊎ Contains w.exports.now s → (f : ℕ) → s.shown ≡ shown.Function f → (g : PlannedFunction)
+          → IsPlannedFunction t planned.kept find (s.key.now, record { signature = f; external_id = given_text s.external_id }) (s.key.now, g) → FunctionBecomes t planned.kept p (function_at t f) (given_text s.external_id) g
+      seen_becomes s side f shows g made = by side
+        where
+          called : IsSeenIn t w.home (numbered_seen s) → IsCalledIn t w.home f
+          called seen = subst (λ (x : Shown). IsSeenIn t w.home (record { key = s.key.now; shown = numbered_shown x; external_id = given_text s.external_id })) shows seen
+
+          may : SeenItem s → IsItemAmong all_imports s.key.now (follow.Shown.function (signature_at t f))
+          may item = subst (λ (x : Shown). IsItemAmong all_imports s.key.now (shown_of t (numbered_shown x))) shows item
+
+          by : Contains w.imports.now s ⊎ Contains w.exports.now s → FunctionBecomes t planned.kept p (function_at t f) (given_text s.external_id) g
+          by (inl among) = function_made s f g (called (all_at (IsSeenIn t w.home) (map numbered_seen w.imports.now) is.good.imports (numbered_seen s) (contains-map numbered_seen w.imports.now s among))) (may (import_item s among)) made
+          by (inr among) = function_made s f g (called (all_at (IsSeenIn t w.home) (map numbered_seen w.exports.now) is.good.exports (numbered_seen s) (contains-map numbered_seen w.exports.now s among))) (may (export_item s among)) made
+
       module _ (marks_are : b.marks ≡ whole.marks.marks) where
         values_of : (f : ℕ) → Contains (signatures_of_part (parts.World w)) f → PartsOf (λ k. b.marks k ≡ false) (function_at t f)
         values_of f among =
@@ -320,7 +308,7 @@ module _ (t : Tables) (h : Homes) (ms : List Member) (members : List reads.Membe
             let called = subst (λ (x : Shown). IsSeenIn t w.home (record { key = s.key.now; shown = numbered_shown x; external_id = given_text s.external_id })) shown_is seen in
             let may = subst (λ (x : Shown). IsItemAmong all_imports s.key.now (shown_of t (numbered_shown x))) shown_is item in
             let there : Contains (signatures_of_seen s) n = subst (λ (x : Shown). Contains (signatures_of_shown x) n) (sym shown_is) (contains-one n) in
-            subst (IsReadFunction t planned.kept p b (b.owners w.home)) same (function_read s n made.function called may (values n there) made.planned)
+            subst (IsReadFunction t planned.kept p b (b.owners w.home)) same (function_read s n made.function called may made.planned (values n there))
 
         items_read : (cs : List Seen) → AllByRecursion (IsSeenIn t w.home) (map numbered_seen cs) → ((s : Seen) → Contains cs s → SeenItem s) → ((f : ℕ) → Contains (flat_map signatures_of_seen cs) f → PartsOf (λ k. b.marks k ≡ false) (function_at t f))
             → (es : List (PlannedKey × PlannedItem)) → AllZip (PlansItem t planned.kept (places_in ms) find) cs es → (e : PlannedKey × PlannedItem) → Contains es e → ItemRead e

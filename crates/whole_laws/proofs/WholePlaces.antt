@@ -1,7 +1,7 @@
 -- The packages, the interfaces and the worlds of a plan that was made of what was followed.
-use Rattle.std.proofs.Common.{◌≡◌, refl, sym, ap, subst, ◌∙◌, ℕ, zero, suc, ◌+◌, ◌<◌, arith, Bool, true, false, not, ◌||◌, ◌==◌, cond, List, [], ◌∷◌, ◌++◌, filter, filter_map, length, map, Option, Some, None, option_map, slice_get}
+use Rattle.std.proofs.Common.{◌≡◌, refl, sym, ap, subst, ◌∙◌, ℕ, zero, suc, ◌<◌, arith, Bool, true, false, not, ◌||◌, ◌==◌, cond, List, [], ◌∷◌, ◌++◌, filter, filter_map, length, map, Option, Some, None, option_map, slice_get}
 use Rattle.std.specs.Prelude.{is_none, is_some}
-use Rattle.std.specs.List.{AllByRecursion, AllZip, Contains, flat_map, list_any}
+use Rattle.std.specs.List.{AllByRecursion, AllZip, Contains, list_any}
 use Rattle.std.specs.Option.{option_map_or}
 use Rattle.std.proofs.lemmas.Bool.{eqb-true}
 use Rattle.std.proofs.lemmas.Option.{slice_get_within}
@@ -10,7 +10,6 @@ use Rattle.wit_model.specs.declared.model.TypeOwner.{TypeOwner}
 use Rattle.wit_model.specs.Names.{PackageIdentity, is_label}
 use Rattle.wit_model.specs.Text.{Text, text_eq}
 use Rattle.wit_model.specs.Uses.{has}
-use Rattle.wit_model.specs.Valid.{as_interface, as_world}
 use Rattle.wit_model.proofs.Elements.{contains-get, contains-map, get-contains, same-some}
 use Rattle.wit_model.proofs.Lists.{first_true, second_true}
 use Rattle.comp_meaning.specs.Reads as reads
@@ -33,7 +32,6 @@ use Rattle.plan_members.specs.Members.{numbered_member, numbered_members, number
 use Rattle.plan_members.specs.declared.members.Member.{Member}
 use Rattle.plan_read.specs.declared.scopes.Scope.{Scope}
 use Rattle.plan_read.specs.Scopes.{numbered_scope, numbered_seen}
-use Rattle.plan_types.specs.Orders as orders
 use Rattle.plan_types.specs.PlannedTypes.{number_in}
 use Rattle.plan_whole.specs.Listed.{IsHomeAt, IsWorldAt}
 use Rattle.plan_whole.specs.PlanWhole.{PlansWhole, places_in}
@@ -45,7 +43,7 @@ use Rattle.plan_whole.proofs.ListedLaws.{homes_are_listed, worlds_are_listed}
 use Rattle.whole_laws.specs.Owners.{homes_in, owners_of}
 use Rattle.whole_laws.specs.Whole.{IsPackageInput}
 use Rattle.whole_laws.specs.WholePlaces.{LabelsStand}
-use Rattle.whole_laws.proofs.PlaceNumbers.{all_once, none_twice, number_given, number_there, owners_apart}
+use Rattle.whole_laws.proofs.PlaceNumbers.{number_there, owner_numbered, owners_apart, place_number}
 use Rattle.whole_laws.proofs.Planned.{first_there, interface_there, named_there, zip_at}
 use Rattle.whole_laws.proofs.Showings.{all_given}
 use Rattle.whole_laws.proofs.WholePlacesInstances.{own_shown}
@@ -105,15 +103,6 @@ module _ (t : Tables) (h : Homes) (known : ℕ → Fact) (n : ℕ) (ms : List Me
 
   -- ---- places
 
-  owned_as : (q m : ℕ) → number_in places q ≡ Some m → owners q ≡ as_interface m
-  owned_as q m e = ap (λ o. option_map_or as_interface o (option_map_or as_world (number_in homes q) (as_interface (length places + q)))) e
-
-  number_of : (m q : ℕ) → slice_get places m ≡ Some q → number_in places q ≡ Some m
-  number_of m q at =
-      let found = number_given places q (get-contains places m q at) in
-      let one : found.0 ≡ m = all_once [] (flat_map (λ (x : NumberedMember). orders.places_of_part x.part) (numbered_members ms)) none_twice found.0 m q (number_there places q found.0 found.1) at in
-      found.1 ∙ ap Some one
-
   path_given : (q : ℕ) (x : ℕ × Text) → home_at h q ≡ Some x → HasPath t q
   path_given q x home = by (path_at t q) refl
     where
@@ -138,7 +127,7 @@ module _ (t : Tables) (h : Homes) (known : ℕ → Fact) (n : ℕ) (ms : List Me
       let m = interface_of ms x c in
       let home = interface_home t h known n ms members given m.member m.among x.1 m.view m.imports m.is in
       let there = interface_there t h ms members given.input n p planned e.1 x.1 (number_there places x.1 e.1 is.1) in
-      record { place = x.1; path = home.0; home = home.1 ∙ ap (λ l. Some (n, l)) (m.label ∙ sym is.0); owned = owned_as x.1 e.1 is.1; interface = there.0; there = there.1 }
+      record { place = x.1; path = home.0; home = home.1 ∙ ap (λ l. Some (n, l)) (m.label ∙ sym is.0); owned = owner_numbered ms x.1 e.1 is.1; interface = there.0; there = there.1 }
 
   main_world : (e : Text × ℕ) → IsWorldAt (worlds_in ms) e → IsListedWorld t h p owners n e
   main_world e is =
@@ -154,7 +143,7 @@ module _ (t : Tables) (h : Homes) (known : ℕ → Fact) (n : ℕ) (ms : List Me
   other_interface : (c : ℕ) (e : Text × ℕ) → IsHomeAt (home_at h) c places e → IsListedInterface t h p owners c e
   other_interface c e is =
       let there = interface_there t h ms members given.input n p planned e.1 is.place is.there in
-      record { place = is.place; path = path_given is.place (c, e.0) is.home; home = is.home; owned = owned_as is.place e.1 (number_of e.1 is.place is.there); interface = there.0; there = there.1 }
+      record { place = is.place; path = path_given is.place (c, e.0) is.home; home = is.home; owned = owner_numbered ms is.place e.1 (place_number ms e.1 is.place is.there); interface = there.0; there = there.1 }
 
   main_package : (identity : PackageIdentity) (k : PlannedPackage) → slice_get h.packages n ≡ Some identity → IsMainPackage identity places ms k → IsReadPackage t h p owners n k
   main_package identity k there is =
@@ -211,7 +200,7 @@ module _ (t : Tables) (h : Homes) (known : ℕ → Fact) (n : ℕ) (ms : List Me
   listed_in c q m name k e at path home = by (planned.packages.each c k e)
     where
       under : (x : Text × ℕ) → ListsPlace places (name, q) x → x ≡ (name, m)
-      under x is = let number : x.1 ≡ m = same-some x.1 m (sym is.1 ∙ number_of m q at) in λ i. (is.0 i, number i)
+      under x is = let number : x.1 ≡ m = same-some x.1 m (sym is.1 ∙ place_number ms m q at) in λ i. (is.0 i, number i)
 
       in_main : (identity : PackageIdentity) → IsMainPackage identity places ms k → home_at h q ≡ Some (n, name) → Contains k.interfaces (name, m)
       in_main identity is own =
@@ -233,7 +222,7 @@ module _ (t : Tables) (h : Homes) (known : ℕ → Fact) (n : ℕ) (ms : List Me
   placed_under m q i e at is path =
       let home = given.input.homes.homes q path.0 path.1 in
       let package_ = package_there home.package_ home.identity home.stands in
-      under_path q home.package_ home.name package_.0 path (owned_as q m (number_of m q at)) home.home
+      under_path q home.package_ home.name package_.0 path (owner_numbered ms q m (place_number ms m q at)) home.home
       (named_as m q i e at is ∙ ap (option_map (λ (x : ℕ × Text). x.1)) home.home)
       (package_as m q i e at is ∙ ap (λ o. Some (option_map_or (λ (x : ℕ × Text). x.0) o n)) home.home)
       package_.1 (listed_in home.package_ q m home.name package_.0 package_.1 at path home.home)
@@ -263,7 +252,7 @@ module _ (t : Tables) (h : Homes) (known : ℕ → Fact) (n : ℕ) (ms : List Me
       by (x, there, is) =
           let k = contains-get (shown_of w) q shown in
           let item = zip_at (items.IsNumbered places) (shown_of w) (filter_map item_interface (items_of x)) (items.items_numbered places t planned.kept n (label, w) x is) k.0 q k.1 in
-          let number : item.0 ≡ m = same-some item.0 m (sym item.2 ∙ number_of m q at) in
+          let number : item.0 ≡ m = same-some item.0 m (sym item.2 ∙ place_number ms m q at) in
           record { number = j; world = x; there = there; item = subst (Contains (filter_map item_interface (items_of x))) number (get-contains (filter_map item_interface (items_of x)) k.0 item.0 item.1) }
 
   inline_item : (m q : ℕ) → slice_get places m ≡ Some q → path_at t q ≡ None → IsItem m
@@ -275,7 +264,7 @@ module _ (t : Tables) (h : Homes) (known : ℕ → Fact) (n : ℕ) (ms : List Me
   placed_inline : (m q : ℕ) (i : PlannedInterface) → interface_in p m ≡ Some i → slice_get places m ≡ Some q → Place q i → path_at t q ≡ None → IsPlacedInterface t h p owners m i
   placed_inline m q i e at is none =
       let item = inline_item m q at none in
-      inline q item.number item.world none (owned_as q m (number_of m q at)) (named_as m q i e at is ∙ ap (option_map (λ (x : ℕ × Text). x.1)) (given.alone q none)) item.there item.item
+      inline q item.number item.world none (owner_numbered ms q m (place_number ms m q at)) (named_as m q i e at is ∙ ap (option_map (λ (x : ℕ × Text). x.1)) (given.alone q none)) item.there item.item
 
   interfaces_read : (m : ℕ) (i : PlannedInterface) → interface_in p m ≡ Some i → IsPlacedInterface t h p owners m i
   interfaces_read m i e =

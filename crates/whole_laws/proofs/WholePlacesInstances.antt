@@ -88,7 +88,7 @@ module _ (t : Tables) where
     abbrev instance_places : List ℕ
     instance_places = map (λ (i : NumberedInstance). i.place) w.instances
 
-    as_many : length (filter (has_no_path t) instance_places) ≡ length (filter (has_no_path t) shown_places)
+    pub as_many : length (filter (has_no_path t) instance_places) ≡ length (filter (has_no_path t) shown_places)
     as_many =
         let imported : going import_ seen.seen ≡ instances_in (map (seen_of t) w.imports) = seen.imported ∙ ap instances_in shows.imports in
         let exported : going export_ seen.seen ≡ instances_in (map (seen_of t) w.exports) = seen.exported ∙ ap instances_in shows.exports in
@@ -98,7 +98,7 @@ module _ (t : Tables) where
         ∙ (sym (length-append (filter (has_no_path t) (places_of_seen w.imports)) (filter (has_no_path t) (places_of_seen w.exports)))
         ∙ ap length (sym (filter-append (has_no_path t) (places_of_seen w.imports) (places_of_seen w.exports))))))))
 
-    one_of : (q : ℕ) → Contains shown_places q → Contains instance_places q
+    pub one_of : (q : ℕ) → Contains shown_places q → Contains instance_places q
     one_of q c = by (Contains-append_cases (places_of_seen w.imports) (places_of_seen w.exports) q c)
       where
         by : Contains (places_of_seen w.imports) q ⊎ Contains (places_of_seen w.exports) q → Contains instance_places q

@@ -46,7 +46,7 @@ use Rattle.whole_laws.proofs.Planned.{interface_there, zip_at}
 use Rattle.whole_laws.proofs.Showings.{IsNamed, showings_named}
 use Rattle.whole_laws.proofs.WholeReasonsFunctions.{by_function}
 
-there_marked : (marks : List Bool) (n : ℕ) → is_marked marks n ≡ true → slice_get marks n ≡ Some true
+pub there_marked : (marks : List Bool) (n : ℕ) → is_marked marks n ≡ true → slice_get marks n ≡ Some true
 there_marked [] n e = no_true e
 there_marked (b ∷ marks) zero e = ap Some e
 there_marked (b ∷ marks) (suc n) e = there_marked marks n e

@@ -1,14 +1,14 @@
 -- Each interface of another package is shown by a world, or imported by the component type of an interface.
-use Rattle.std.proofs.Common.{◌≡◌, refl, sym, ap, subst, ◌∙◌, ℕ, ◌+◌, ◌⊎◌, inl, inr, true, false, ◌==◌, List, [], ◌∷◌, ◌++◌, length, map, Option, Some, None, slice_get}
+use Rattle.std.proofs.Common.{◌≡◌, refl, sym, ap, subst, ◌∙◌, ℕ, ◌⊎◌, inl, inr, true, false, ◌==◌, List, [], ◌∷◌, ◌++◌, map, Option, Some, None, slice_get}
 use Rattle.std.specs.Borrow.{Bor}
-use Rattle.std.specs.List.{Contains, flat_map}
+use Rattle.std.specs.List.{Contains}
 use Rattle.std.specs.Option.{option_map_or}
 use Rattle.std.proofs.lemmas.Bool.{eq-eqb}
 use Rattle.std.proofs.lemmas.List.Elements.{Contains-append_cases, Contains-append_left, Contains-append_right}
 use Rattle.wit_model.specs.Text.{Text}
 use Rattle.wit_model.specs.declared.model.TypeOwner.{TypeOwner}
 use Rattle.wit_model.specs.Parts.{same_owner}
-use Rattle.wit_model.specs.Valid.{as_interface, as_world}
+use Rattle.wit_model.specs.Valid.{as_interface}
 use Rattle.wit_model.proofs.Elements.{contains-flat, contains-map, contains-one, get-contains, none-in, one-contained}
 use Rattle.comp_meaning.specs.Reads as reads
 use Rattle.read_plan.specs.NumberedMembers.{Homes, NumberedMember, home_at, is_of_package, sights_of_members, sights_of_part}
@@ -33,8 +33,6 @@ use Rattle.plan_read.specs.Views.{numbered_view}
 use Rattle.plan_read.specs.declared.reached.ImportedView.{ImportedView}
 use Rattle.plan_read.specs.declared.scopes.Scope.{Scope}
 use Rattle.plan_read.specs.declared.views.View.{View}
-use Rattle.plan_types.specs.Orders as orders
-use Rattle.plan_types.specs.PlannedTypes.{number_in}
 use Rattle.plan_whole.specs.PlanWhole.{PlansWhole, places_in}
 use Rattle.plan_whole.specs.Views.{types_alone, views_of_members, views_of_part, whole_view}
 use Rattle.plan_whole.specs.WholeInterfaces.{PlansPlace}
@@ -43,7 +41,7 @@ use Rattle.whole_laws.specs.Whole.{IsPackageInput}
 use Rattle.whole_laws.specs.WholeReasonsForeign.{HasForeignReasons, IsShownWhole, PartIsReached}
 use Rattle.whole_laws.proofs.Inside.{flat_cases}
 use Rattle.whole_laws.proofs.PartNames.{from_map}
-use Rattle.whole_laws.proofs.PlaceNumbers.{all_once, none_twice, number_given, number_there, owners_apart}
+use Rattle.whole_laws.proofs.PlaceNumbers.{number_given, number_there, owner_numbered, owners_apart, place_number}
 use Rattle.whole_laws.proofs.Planned.{interface_there, view_met}
 use Rattle.whole_laws.proofs.Showings.{all_given}
 use Rattle.whole_laws.proofs.WholePlacesTop.{interface_home, sight_of_place}
@@ -105,21 +103,12 @@ module _ (t : Tables) (h : Homes) (known : ℕ → Fact) (n : ℕ) (ms : List Me
 
   -- ---- reasons
 
-  number_of : (m q : ℕ) → slice_get (places_in ms) m ≡ Some q → number_in (places_in ms) q ≡ Some m
-  number_of m q at =
-      let found = number_given (places_in ms) q (get-contains (places_in ms) m q at) in
-      let one : found.0 ≡ m = all_once [] (flat_map (λ (x : NumberedMember). orders.places_of_part x.part) (numbered_members ms)) none_twice found.0 m q (number_there (places_in ms) q found.0 found.1) at in
-      found.1 ∙ ap Some one
-
-  owned_as : (q m : ℕ) → number_in (places_in ms) q ≡ Some m → owners_of ms q ≡ as_interface m
-  owned_as q m e = ap (λ o. option_map_or as_interface o (option_map_or as_world (number_in (homes_in ms) q) (as_interface (length (places_in ms) + q)))) e
-
   -- the place of an interface of the plan is met
   place_met : (q k : ℕ) (i : PlannedInterface) → b.owners q ≡ as_interface k → interface_in p k ≡ Some i → Contains (places_in ms) q
   place_met q k i is there =
       let from = zip_get (PlansPlace t planned.kept n (home_at h) (views_of_members (numbered_members ms))) (places_in ms) p.interfaces planned.interfaces k i there in
       let own : owners_of ms q ≡ as_interface k = ap (λ (f : ℕ → TypeOwner). f q) (sym owned) ∙ is in
-      let other : owners_of ms from.0 ≡ as_interface k = owned_as from.0 k (number_of k from.0 from.1) in
+      let other : owners_of ms from.0 ≡ as_interface k = owner_numbered ms from.0 k (place_number ms k from.0 from.1) in
       let same : q ≡ from.0 = owners_apart (places_in ms) (homes_in ms) q from.0 (ap (same_owner (owners_of ms q)) (other ∙ sym own) ∙ owner_itself (owners_of ms q)) in
       subst (Contains (places_in ms)) (sym same) (get-contains (places_in ms) k from.0 from.1)
 
@@ -131,7 +120,7 @@ module _ (t : Tables) (h : Homes) (known : ℕ → Fact) (n : ℕ) (ms : List Me
       let there = interface_there t h ms members given.input n p planned number.0 s.place (number_there (places_in ms) s.place number.0 number.1) in
       record {
         number = number.0;
-        owned = ap (λ (f : ℕ → TypeOwner). f s.place) owned ∙ owned_as s.place number.0 number.1;
+        owned = ap (λ (f : ℕ → TypeOwner). f s.place) owned ∙ owner_numbered ms s.place number.0 number.1;
         interface = there.0;
         there = there.1;
         agrees = is_shown.agree s (contains-flat (λ (x : NumberedMember). sights_of_part t x.part) (numbered_members ms) (numbered_member m) s numbered seen);

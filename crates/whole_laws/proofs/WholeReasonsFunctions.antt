@@ -79,7 +79,7 @@ pub record IsFirstWhole (q : ℕ) (seen : List NumberedSight) : Type 0 where
   pub whole : sight.whole ≡ true
   pub functions : functions_seen q seen ≡ sight.view.functions
 
-first_whole : (q : ℕ) (seen : List NumberedSight) (s : NumberedSight) → Contains seen s → s.place ≡ q → s.whole ≡ true → IsFirstWhole q seen
+pub first_whole : (q : ℕ) (seen : List NumberedSight) (s : NumberedSight) → Contains seen s → s.place ≡ q → s.whole ≡ true → IsFirstWhole q seen
 first_whole q [] s c place whole = none-in s c
 first_whole q (r ∷ seen) s c place whole = by (r.place == q) refl r.whole refl c (λ later. first_whole q seen s later place whole)
   where

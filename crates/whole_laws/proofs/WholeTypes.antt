@@ -84,7 +84,7 @@ module _ (t : Tables) (h : Homes) (ms : List Member) (members : List reads.Membe
       by k (another other differs there made) = made.is ∙ same-some other identity (sym there ∙ at)
 
   -- the path of an interface of the plan
-  path_planned : (i : PlannedInterface) (q : ℕ) (home : Option Home) → i.name ≡ option_map (λ (x : Home). x.1) home → i.package_ ≡ Some (option_map_or (λ (x : Home). x.0) home main) → home_at h q ≡ home → (o : Option Text) → path_at t q ≡ o → path_of_planned p i ≡ o
+  pub path_planned : (i : PlannedInterface) (q : ℕ) (home : Option Home) → i.name ≡ option_map (λ (x : Home). x.1) home → i.package_ ≡ Some (option_map_or (λ (x : Home). x.0) home main) → home_at h q ≡ home → (o : Option Text) → path_at t q ≡ o → path_of_planned p i ≡ o
   path_planned i q home name package_ at (Some path) e =
       let is = ruled.input.homes.homes q path e in
       let same : home ≡ Some (is.package_, is.name) = sym at ∙ is.home in

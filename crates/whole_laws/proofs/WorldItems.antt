@@ -1,8 +1,7 @@
 -- What the worlds of a plan import and export, beside functions, is as it was followed.
-use Rattle.std.proofs.Common.{◌≡◌, refl, sym, ap, subst, ◌∙◌, ℕ, zero, suc, ◌+◌, ◌<◌, ◌⊎◌, inl, inr, arith, Bool, true, false, cond, List, [], ◌∷◌, ◌++◌, length, map, Option, Some, None, slice_get}
-use Rattle.std.specs.Borrow.{Bor}
+use Rattle.std.proofs.Common.{◌≡◌, refl, sym, ap, subst, ◌∙◌, ℕ, ◌+◌, ◌⊎◌, inl, inr, arith, Bool, true, false, cond, List, [], ◌∷◌, ◌++◌, length, map, Option, Some, None, slice_get}
 use Rattle.std.specs.Cmp.Lexicographic.{pointwise}
-use Rattle.std.specs.List.{AllByRecursion, AllZip, Contains, flat_map}
+use Rattle.std.specs.List.{AllByRecursion, Contains, flat_map}
 use Rattle.std.specs.Option.{option_map_or}
 use Rattle.std.proofs.lemmas.List.{append-nil, append_assoc}
 use Rattle.std.proofs.lemmas.Option.{slice_get_within}
@@ -13,14 +12,13 @@ use Rattle.wit_model.specs.Valid.{as_interface, as_world}
 use Rattle.wit_model.proofs.Elements.{contains-flat, contains-get, contains-map, contains-one, get-contains, has-contains, none-in, one-contained, same-some}
 use Rattle.comp_meaning.specs.Reads as reads
 use Rattle.shown_laws.proofs.Lists.{at_front, mapped_get, middle_get, unmapped_get}
-use Rattle.read_plan.specs.FollowedNumbers.{IsNameOf, IsOneOf, IsPartIn, IsShownIn}
+use Rattle.read_plan.specs.FollowedNumbers.{IsOneOf, IsPartIn, IsShownIn}
 use Rattle.read_plan.specs.GatheredPlan.{DeclaresKind, TypeBecomes}
 use Rattle.read_plan.specs.NumberedMembers.{Homes, NumberedMember, home_at, sights_of_members}
-use Rattle.read_plan.specs.NumberedViews.{NumberedSight, NumberedType, Tables, agree_in_numbers, first_at, same_shown}
-use Rattle.read_plan.specs.NumberedWorlds.{NumberedInstance, NumberedSeen, place_of_key}
+use Rattle.read_plan.specs.NumberedViews.{NumberedSight, Tables, agree_in_numbers, same_shown}
+use Rattle.read_plan.specs.NumberedWorlds.{NumberedSeen, place_of_key}
 use Rattle.read_plan.specs.Plan.{Plan}
 use Rattle.read_plan.specs.ReadFunctions.{Beside}
-use Rattle.read_plan.specs.ReadWorlds.{IsInterfaceOf}
 use Rattle.read_plan.specs.Renumbering.{IsPart, a_primitive, a_shape}
 use Rattle.read_plan.specs.Shapes.{Shape, first_label, named_shape}
 use Rattle.read_plan.proofs.GatheredPlan.{all_at}
@@ -29,7 +27,7 @@ use Rattle.plan_members.specs.Members.{numbered_member, numbered_members, number
 use Rattle.plan_members.specs.declared.members.Member.{Member}
 use Rattle.plan_members.specs.declared.members.Part.{Part}
 use Rattle.plan_members.specs.declared.members.Part.TheVariants as parts
-use Rattle.plan_read.specs.Scopes.{numbered_instance, numbered_key, numbered_scope, numbered_seen, numbered_shown}
+use Rattle.plan_read.specs.Scopes.{numbered_instance, numbered_key, numbered_seen, numbered_shown}
 use Rattle.plan_read.specs.Tables.{given_text}
 use Rattle.plan_read.specs.Views.{numbered_view}
 use Rattle.plan_read.specs.declared.scopes.InstanceKey.{InstanceKey}
@@ -38,19 +36,17 @@ use Rattle.plan_read.specs.declared.scopes.Seen.{Seen}
 use Rattle.plan_read.specs.declared.scopes.Shown.{Shown}
 use Rattle.plan_read.specs.declared.scopes.Shown.TheVariants as shown
 use Rattle.plan_read.specs.declared.views.View.{View}
-use Rattle.plan_gather.specs.Interfaces.{slot_part}
-use Rattle.plan_types.specs.Orders.{home_of_part, joined, joined_all}
+use Rattle.plan_types.specs.Orders.{home_of_part, joined_all}
 use Rattle.plan_types.specs.PlannedTypes.{PlansType, number_in}
-use Rattle.plan_types.specs.Showings.{NumberedShowing, showing_of, showings_of_members}
+use Rattle.plan_types.specs.Showings.{NumberedShowing, showings_of_members}
 use Rattle.plan_whole.specs.PlanWhole.{PlansWhole, owners_in, places_in, shown_first}
 use Rattle.plan_whole.specs.Views.{views_of_members, views_of_part, whole_view}
 use Rattle.plan_whole.specs.WholeWorlds.{world_in_part, worlds_in}
 use Rattle.plan_laws.proofs.FirstFound.{firsts_found}
 use Rattle.plan_laws.proofs.KeptKinds.{zip_length}
-use Rattle.whole_laws.specs.FirstViews.{ViewsAreOrdered, told}
+use Rattle.whole_laws.specs.FirstViews.{ViewsAreOrdered}
 use Rattle.whole_laws.specs.Owners.{homes_in, owners_of}
 use Rattle.whole_laws.specs.ShownNames.{DeclaresName, IsInput, PartDeclaresNames}
-use Rattle.whole_laws.specs.ViewedInterfaces.{views_read}
 use Rattle.whole_laws.specs.WorldItems.{InstancesAreRead, KeysAreApart, PlannedWorldsStand, TypesAreRead, WorldsAreApart}
 use Rattle.whole_laws.proofs.FirstTypes.{view_good, views_told}
 use Rattle.whole_laws.proofs.FirstViews.{first_is, told_types}
@@ -59,7 +55,7 @@ use Rattle.whole_laws.proofs.Origins as origins
 use Rattle.whole_laws.proofs.Origins.{imported_showing, origin, view_among}
 use Rattle.whole_laws.proofs.Owned.{planned_name}
 use Rattle.whole_laws.proofs.PlaceNumbers.{IsOnce, number_given, number_there}
-use Rattle.whole_laws.proofs.Planned.{first_there, home_met, interface_there, place_seen}
+use Rattle.whole_laws.proofs.Planned.{first_there, interface_there, place_seen}
 use Rattle.whole_laws.proofs.Showings.{slot_is}
 
 declared_of : Shown → Option ℕ

@@ -10,3 +10,10 @@ pub mod WholeReasons
 pub mod WholeTypes
 pub mod WholeReasonsForeign
 pub mod WholeFunctions
+pub mod ShownAlike
+pub mod ShownWhole
+pub mod WholeCondition
+pub mod WholePlan
+pub mod WholeWorlds
+pub mod WholeOrder
+pub mod Apart

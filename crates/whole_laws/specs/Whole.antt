@@ -1,17 +1,12 @@
 -- A plan, whole, of what was followed and obeys the rules of a package (Component Model WIT.md, "Package Format").
-use Rattle.std.specs.Prelude.{◌≡◌, ◌<◌, ◌≤◌, ℕ, true, List, Some, None, length, map, slice_get}
+use Rattle.std.specs.Prelude.{◌≡◌, ℕ, true, List, None}
 use Rattle.std.specs.List.{AllByRecursion}
-use Rattle.wit_model.specs.Text.{Text}
 use Rattle.comp_meaning.specs.Reads as reads
-use Rattle.comp_meaning.specs.Rules.{distinct}
 use Rattle.shown_laws.specs.Kinds.{NamesHaveKinds}
-use Rattle.read_plan.specs.KeptResources as resources
-use Rattle.read_plan.specs.KeptTypes.{TypesAreKept}
 use Rattle.read_plan.specs.NumberedMembers.{Homes, NumberedMember, NumberedPart, IsKnownSight, are_package, home_at, interface, sights_of_members, world}
 use Rattle.read_plan.specs.NumberedRules.{Fact}
 use Rattle.read_plan.specs.NumberedViews.{Tables, path_at}
 use Rattle.read_plan.specs.NumberedWorlds.{ScopeStands}
-use Rattle.read_plan.specs.Plan.{Plan}
 use Rattle.plan_members.specs.Members.{numbered_members}
 use Rattle.plan_members.specs.declared.members.Member.{Member}
 use Rattle.plan_laws.specs.FormsObeyed.{LengthsFit}

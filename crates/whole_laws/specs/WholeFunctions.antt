@@ -8,13 +8,16 @@ use Rattle.read_plan.specs.NumberedRules.{Fact}
 use Rattle.read_plan.specs.NumberedViews.{Tables}
 use Rattle.read_plan.specs.Plan.{Plan, PlannedWorld}
 use Rattle.read_plan.specs.PlanRules.{world_functions}
-use Rattle.read_plan.specs.ReadFunctions.{Beside, IsReadFunction}
+use Rattle.read_plan.specs.ReadFunctions.{Beside, FunctionsAreRead, IsReadFunction}
 use Rattle.plan_read.specs.declared.scopes.Scope.{Scope}
 use Rattle.plan_members.specs.declared.members.Member.{Member}
 use Rattle.plan_whole.specs.PlanWhole.{PlansWhole, places_in}
 use Rattle.plan_whole.specs.WholeWorlds.{PlansWorld, worlds_in}
+use Rattle.whole_laws.specs.FirstViews.{ViewsAreOrdered}
 use Rattle.whole_laws.specs.Owners.{owners_of}
+use Rattle.whole_laws.specs.WholeReasons.{AreShownAlike}
 use Rattle.whole_laws.specs.WholeTypes.{IsRuledInput, TypesAreWhole}
+use Rattle.whole_laws.specs.WorldItems.{WorldsAreApart}
 
 -- what is kept beside the tables: what is known of each part, which parts are resources, and the owner of each place
 abbrev pub beside_tables : (ℕ → Fact) → (ℕ → Bool) → List Member → Beside
@@ -25,3 +28,8 @@ abbrev pub WorldFunctionsAreRead : Type 0
 WorldFunctionsAreRead = (t : Tables) (h : Homes) (ms : List Member) (members : List reads.Member) → IsRuledInput t h ms members → (n : ℕ) (p : Plan) (planned : PlansWhole t h.packages (home_at h) n ms p)
     → (whole : TypesAreWhole t planned.kept ms p) (known : ℕ → Fact) (w : Text × Scope) → Contains (worlds_in ms) w → (x : PlannedWorld) → PlansWorld t planned.kept (places_in ms) n w x
     → AllByRecursion (IsReadFunction t planned.kept p (beside_tables known whole.marks.marks ms) (owners_of ms w.1.home)) (world_functions x)
+
+-- So is each function of the plan, where views of a place that show functions show the same ones.
+abbrev pub PlannedFunctionsAreRead : Type 0
+PlannedFunctionsAreRead = (t : Tables) (h : Homes) (ms : List Member) (members : List reads.Member) → IsRuledInput t h ms members → AreShownAlike ms → ViewsAreOrdered t ms → WorldsAreApart ms
+    → (n : ℕ) (p : Plan) (planned : PlansWhole t h.packages (home_at h) n ms p) → (whole : TypesAreWhole t planned.kept ms p) (known : ℕ → Fact) → FunctionsAreRead t planned.kept p (beside_tables known whole.marks.marks ms)

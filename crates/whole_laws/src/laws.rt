@@ -1,14 +1,21 @@
 //! Laws over definitions alone.
 
+ghost use Rattle.whole_laws.specs.Apart.{WholeStandsApart};
 ghost use Rattle.whole_laws.specs.Owners.{PlannedTypesAreOwned};
+ghost use Rattle.whole_laws.specs.ShownAlike.{WholeIsShownAlike};
 ghost use Rattle.whole_laws.specs.ShownNames.{UsedNamesAreShown};
 ghost use Rattle.whole_laws.specs.ShownRules.{ShownObeysRules};
+ghost use Rattle.whole_laws.specs.ShownWhole.{WholeIsShown};
 ghost use Rattle.whole_laws.specs.ViewedInterfaces.{PlannedInterfacesAreViewed};
-ghost use Rattle.whole_laws.specs.WholeFunctions.{WorldFunctionsAreRead};
+ghost use Rattle.whole_laws.specs.WholeCondition.{WholeMayBePlanned};
+ghost use Rattle.whole_laws.specs.WholeFunctions.{PlannedFunctionsAreRead, WorldFunctionsAreRead};
+ghost use Rattle.whole_laws.specs.WholeOrder.{PlannedOrderIsRead};
 ghost use Rattle.whole_laws.specs.WholePlaces.{WholePlacesAreRead};
+ghost use Rattle.whole_laws.specs.WholePlan.{PlanIsWhole};
 ghost use Rattle.whole_laws.specs.WholeReasons.{WholeIsKeptForReasons};
 ghost use Rattle.whole_laws.specs.WholeReasonsForeign.{ForeignHasReasons};
 ghost use Rattle.whole_laws.specs.WholeTypes.{PackagesAreRuled, PlannedTypesAreWhole};
+ghost use Rattle.whole_laws.specs.WholeWorlds.{PlannedWorldsAreRead};
 ghost use Rattle.whole_laws.specs.WorldItems.{PlannedWorldsStand};
 
 /// Each name that a plan's types use is shown in its own place, by a view or by an import of a world.
@@ -69,4 +76,50 @@ pub fn foreign_has_reasons()
 /// Each function of a world that is planned is read in the world's own place.
 pub fn world_functions_are_read()
     ensures { WorldFunctionsAreRead }
+{}
+
+/// In what was followed of a package each type is declared as one and the same wherever it is shown, and views of a place that show functions show the
+/// same ones (Component Model WIT.md, "Package Format").
+pub fn whole_is_shown_alike()
+    ensures { WholeIsShownAlike }
+{}
+
+/// The worlds of the plan show what worlds at the top do, each view shows the types by which its place is read, and what the component type of an
+/// interface imports is reached (WIT.md, "Worlds"; Component Model WIT.md, "Package Format").
+pub fn whole_is_shown()
+    ensures { WholeIsShown }
+{}
+
+/// A plan can be made of what was followed of a package, where what the component types of interfaces import shows no functions: parts stand before
+/// what they are parts of, and all that is shown is over the types that are used.
+pub fn whole_may_be_planned()
+    ensures { WholeMayBePlanned }
+{}
+
+/// Where views of a place that show functions show the same ones, each function of the plan is read, of an interface or of a world, in its own place.
+pub fn planned_functions_are_read()
+    ensures { PlannedFunctionsAreRead }
+{}
+
+/// Where the functions of the plan are read, so is each of its worlds, by what the member at the top shows: each item under its key, each function
+/// behind the types that it is over and the resource that it belongs to, and each type behind all that is imported before it (WIT.md, "Worlds").
+pub fn planned_worlds_are_read()
+    ensures { PlannedWorldsAreRead }
+{}
+
+/// Then the plan's order is that in which all was read: each name that is kept was shown by the interface of its place, or imported by the world.
+pub fn planned_order_is_read()
+    ensures { PlannedOrderIsRead }
+{}
+
+/// In what was followed of a package an inline interface is viewed once, no place of a view is a world's, and each world has a place of its own (WIT.md,
+/// "Worlds" and "Interfaces"): so views are in order, where the names of each first one rise in the table.
+pub fn whole_stands_apart()
+    ensures { WholeStandsApart }
+{}
+
+/// The plan of what was followed of a package is read as a package, whole, so that a `Resolve` that is built from it is valid and holds nothing
+/// without a reason; and it means what was followed (Component Model WIT.md, "Package Format").
+pub fn plan_is_whole()
+    ensures { PlanIsWhole }
 {}

@@ -1,4 +1,3 @@
-use Rattle.whole_laws.proofs.InterfaceFunctions.{view_function}
 use Rattle.whole_laws.proofs.WholeFunctions as lemmas
 use Rattle.whole_laws.proofs.laws.world_functions_are_read.Goals as goal
 
