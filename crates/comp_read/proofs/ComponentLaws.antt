@@ -1,5 +1,5 @@
 -- One entry of a component type after the other.
-use Rattle.std.proofs.Common.{◌≡◌, inl, refl, sym, ap, ◌∙◌, subst, ℕ, zero, suc, ◌+◌, ◌-◌, ◌<◌, ◌≤◌, ◌==◌, ◌&&◌, arith, Bool, true, false, cond, List, [], ◌∷◌, ◌++◌, map, length, Option, Some, None, slice_get, unwrap_or}
+use Rattle.std.proofs.Common.{◌≡◌, inl, inr, refl, sym, ap, ◌∙◌, subst, ℕ, zero, suc, ◌+◌, ◌-◌, ◌<◌, ◌≤◌, ◌==◌, ◌&&◌, arith, Bool, true, false, cond, List, [], ◌∷◌, ◌++◌, map, length, Option, Some, None, slice_get, unwrap_or}
 use Rattle.std.specs.List.{AllByRecursion, list_any}
 use Rattle.std.proofs.Math.ListN.{length-map}
 use Rattle.std.proofs.lemmas.List.{append-nil}
@@ -34,9 +34,11 @@ use Rattle.comp_read.proofs.AddLaws.{mapped_get}
 use Rattle.comp_read.proofs.DefiningLaws.{all_at, longer, no_shapes, same_list}
 use Rattle.comp_read.proofs.FollowingLaws.{functions_wider, joins_all, joins_grow, names_of, ranges_of}
 use Rattle.comp_read.proofs.OverLaws.{definition_over, signature_over}
+use Rattle.comp_read.proofs.PlaceLaws.{below_pathless}
+use Rattle.comp_read.proofs.PlacedLaws.{stood}
 use Rattle.comp_read.proofs.PlacedScopes.{extended_placed, found_over, none_past, path_marked, path_met}
 use Rattle.comp_read.proofs.Refusing.{refused}
-use Rattle.comp_read.proofs.ScopeLaws.{extended_world, goes_on, plus_slot, waiting_push, waits}
+use Rattle.comp_read.proofs.ScopeLaws.{all_before, extended_world, goes_on, plus_slot, waiting_push, waits}
 use Rattle.comp_read.proofs.SlotLaws.{mapped_none}
 use Rattle.comp_read.proofs.StepLaws.{after_first, grow_on, guarded, headed, less, none_left, none_less, peeled, sequence_more, some_same, unread}
 use Rattle.comp_read.proofs.TableGrowth.{found_below}
@@ -51,6 +53,7 @@ goes_as few f g old new same s = record {
   paths_grow = s.paths_grow;
   count = s.count;
   placed = s.placed;
+  met = s.met;
   follows = λ place of. same (meant_at place old) ∙ s.follows place of;
 }
 
@@ -103,7 +106,8 @@ module _ (old : World) (st : IsWorld old) where
       (extended_world old st more more_fs old.paths gs gf (same_list old.paths) tables (s ∷ []) [] [] [] [] (is, tt) tt tt tt)
       (λ base places p.
       extended_placed old st more more_fs old.paths gs gf (same_list old.paths) tables (s ∷ []) [] [] [] [] base places (length old.shapes) p [] (length more) (omega arith) (over base places p, tt) (λ j x at past. absurd (none_past old.instances j x at past)) tt tt tt (tt, tt)
-      (λ n q name low at. inl (forms.names n q name at)) (λ n form parts low at. forms.formed n form parts at) refl (λ j x c at here past. absurd (none_past old.imports j x at past)))
+      (λ j x at past. absurd (none_past old.instances j x at past)) (λ n q name low at. inl (forms.names n q name at)) (λ n form parts low at. forms.formed n form parts at) refl (λ j x c at here past. absurd (none_past old.imports j x at past)))
+      (all_before old.paths (old.instances ++ []))
       (let same = ap (λ us. waiting us 0 (old.slots ++ s ∷ [])) (append-nil old.used) in
       let push = waiting_push old.used 0 old.slots s in
       omega (arith, same, push, count))
@@ -322,6 +326,7 @@ module _ (start : World) (b : Body) where
             signatures_grow = grow_on start.signatures now.signatures next.signatures f.signatures_grow g.signatures_grow;
             paths_grow = grow_on start.paths now.paths next.paths f.paths_grow g.paths_grow;
             placed = g.placed start.shapes start.home f.placed;
+            met = g.met (length start.paths) f.met;
             es = p.0;
             left = p.1;
             count = omega (arith, before, step, split);
@@ -362,11 +367,13 @@ followed_none home shapes fs paths b tables own fresh whole new e = subst (λ (w
     exports_keyed = tt;
     formed = λ n form parts low at. inl (found_below shapes n (node_shape form parts) at);
     instances = λ j x at. absurd cc;
+    seen = λ j x at. absurd cc;
     names = λ n q name low at. inl (found_below shapes n (named_shape q name) at);
     counts = [];
     many = refl;
     counted = λ j s c at here. absurd cc;
   };
+  met = all_before paths [];
   es = items_in entry_at b;
   left = ap (λ n. sequence_at entry_at n b.bytes.now) (none_less b.count) ∙ whole;
   count = omega arith;
@@ -387,7 +394,7 @@ settled_meant T F used n (slots.Resource part ∷ ss) h = by (part_tree T part) 
 settled_meant T F used n (slots.Function f ∷ ss) h = settled_meant T F used (suc n) ss h
 settled_meant T F used n (slots.Instance b around ∷ ss) h = ap (λ v. list_any (λ m. m == n) used && v) (settled_meant T F used (suc n) ss h)
 
-module _ (home : ℕ) (shapes : List Shape) (fs : List FunctionShape) (before paths : List (Option Text)) (grows : Grows before paths) (new_home : home ≡ length before) (b : Body) (now : World) (f : IsFollowedTo (start_of home shapes fs paths) b b.count [] now) where
+module _ (home : ℕ) (shapes : List Shape) (fs : List FunctionShape) (before paths : List (Option Text)) (own : paths ≡ before ++ None ∷ []) (new_home : home ≡ length before) (b : Body) (now : World) (f : IsFollowedTo (start_of home shapes fs paths) b b.count [] now) where
   steps_end : (place : ℕ → Place) → ArePlacesOf now.paths place → steps entry_step new_scope (items_in entry_at b) ≡ Some (meant_at place now)
   steps_end place of =
       let none = none_left entry_at (b.count - b.count) [] f.es (omega arith) f.left in
@@ -404,9 +411,13 @@ module _ (home : ℕ) (shapes : List Shape) (fs : List FunctionShape) (before pa
     world = f.world;
     shapes_grow = f.shapes_grow;
     signatures_grow = f.signatures_grow;
-    paths_grow = grow_on before paths now.paths grows f.paths_grow;
+    paths_grow = grow_on before paths now.paths (record { more = None ∷ []; is = own }) f.paths_grow;
     count = (let count = f.count in omega (arith, count));
     placed = subst (λ (n : ℕ). IsPlacedWorld shapes n now) new_home f.placed;
+    met = λ q path at. elim (f.met q path at) [
+      | inl below ↦ inl (below_pathless before paths own q path (stood paths now.paths f.paths_grow q (Some path) below at))
+      | inr met ↦ inr met
+    ];
     shows = λ place of. scope_is place of true e;
   }
 

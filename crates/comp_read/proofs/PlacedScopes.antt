@@ -9,6 +9,7 @@ use Rattle.wit_model.specs.Tree as tree
 use Rattle.wit_model.specs.Tree.{Form, Place, Tree}
 use Rattle.comp_meaning.specs.Follow as follow
 use Rattle.comp_meaning.specs.Follow.{Scope as MeantScope, Seen as MeantSeen, Shown as MeantShown, Slot as Meant, ShownType as MeantType, View as MeantView}
+use Rattle.comp_read.specs.declared.instance_keys.InstanceKey.{InstanceKey}
 use Rattle.comp_read.specs.declared.scopes.Instance.{Instance}
 use Rattle.comp_read.specs.declared.scopes.Seen.{Seen}
 use Rattle.comp_read.specs.declared.scopes.Shown.{Shown}
@@ -21,7 +22,7 @@ use Rattle.comp_read.specs.Following.{AreTables, IsShownIn, IsTypeSlot}
 use Rattle.comp_read.specs.Functions.{functions_in, FunctionShape}
 use Rattle.comp_read.specs.Placed.{apart, slot_part, DeclarationOver, FunctionOver, IsNameAs, IsTypeNamed, MayMeet, SignatureOver, SlotOver, TreeOver, TypeOver, ViewOver}
 use Rattle.comp_read.specs.Places.{has_path}
-use Rattle.comp_read.specs.Scopes.{find_slot, meant_at, seen_in, view_in, IsCounted, IsCountedAs, IsFirstOf, IsImportNamed, IsKeyPlaced, IsInlinePlace, IsInstanceIn, IsPlacedAmong, IsPlacedInstance, IsShownAs, IsShownBy, by_instance, by_import, IsWorld, ShownOver, World}
+use Rattle.comp_read.specs.Scopes.{find_slot, meant_at, seen_in, view_in, IsCounted, IsCountedAs, IsFirstOf, IsImportNamed, IsKeyPlaced, IsInlinePlace, IsInstanceIn, IsInstanceSeen, as_export, as_import, IsPlacedAmong, IsPlacedInstance, IsShownAs, IsShownBy, by_instance, by_import, IsWorld, ShownOver, World}
 use Rattle.comp_read.specs.Slots.{resource_slot, slot_in, slots_in}
 use Rattle.read_plan.specs.PlanRules.{is_form}
 use Rattle.read_plan.specs.Shapes.{Shape, named_shape, node_shape, shape_trees, IsTable}
@@ -29,7 +30,7 @@ use Rattle.read_plan.proofs.ShapeLaws.{slice_there}
 use Rattle.comp_read.proofs.DefiningLaws.{all_at, longer}
 use Rattle.comp_read.proofs.FollowingLaws.{name_part}
 use Rattle.comp_read.proofs.OverLaws.{name_over}
-use Rattle.comp_read.proofs.PlacedLaws.{name_wider, stands_on, stood, types_named_wider}
+use Rattle.comp_read.proofs.PlacedLaws.{at_last, name_wider, stands_on, stood, types_named_wider}
 use Rattle.comp_read.proofs.ScopeLaws.{all_both, exported, extended, extended_meant, imported, view_stays, F, G, T, U}
 use Rattle.comp_read.proofs.TableGrowth.{found_below, last_or}
 
@@ -106,6 +107,13 @@ module _ (old : World) (st : IsWorld old) (more : List Shape) (more_fs : List Fu
 
   imports_grow : Grows old.imports (old.imports ++ im)
   imports_grow = record { more = im; is = refl }
+
+  exports_grow : Grows old.exports (old.exports ++ ex)
+  exports_grow = record { more = ex; is = refl }
+
+  seen_still : (j : ℕ) → IsInstanceSeen old j → IsInstanceSeen new j
+  seen_still j (as_import n s key at is) = as_import n s key (stands_on old.imports (old.imports ++ im) imports_grow n s at) is
+  seen_still j (as_export n s key at is) = as_export n s key (stands_on old.exports (old.exports ++ ex) exports_grow n s at) is
 
   first_still : (j : ℕ) (x : Instance) → j < length old.instances → IsFirstOf old.instances j x → IsFirstOf (old.instances ++ xs) j x
   first_still j x below first i y at less = first i y (stood old.instances (old.instances ++ xs) instances_grow i y (omega (arith, less, below)) at) less
@@ -201,11 +209,12 @@ module _ (old : World) (st : IsWorld old) (more : List Shape) (more_fs : List Fu
           → AllByRecursion (λ (s : MeantSeen). ShownOver (New old.home) s.shown) (map (seen_in apart (U old st more more_fs more_paths gs gf gp tables ss xs im ex us apart) (G old st more more_fs more_paths gs gf gp tables ss xs im ex us apart) (old.instances ++ xs)) ex)
           → AllByRecursion (λ (s : Seen). IsImportNamed more old.home s.shown) im
           → AllByRecursion (λ (s : Seen). IsKeyPlaced (old.instances ++ xs) s.shown) im × AllByRecursion (λ (s : Seen). IsKeyPlaced (old.instances ++ xs) s.shown) ex
+          → ((j : ℕ) (x : Instance) → slice_get (old.instances ++ xs) j ≡ Some x → length old.instances ≤ j → IsInstanceSeen new j)
           → ((n q : ℕ) (name : Text) → n < now → slice_get more n ≡ Some (named_shape q name) → (n < till) ⊎ IsShownBy new q name (14 + n))
           → ((n : ℕ) (form : Form) (parts : List ℕ) → n < now → slice_get more n ≡ Some (node_shape form parts) → (n < till) ⊎ (is_form form parts ≡ true))
           → length cs ≡ length im → ((j : ℕ) (s : Seen) (c : ℕ) → slice_get (old.imports ++ im) j ≡ Some s → slice_get (p.counts ++ cs) j ≡ Some c → length old.imports ≤ j → IsCounted new (p.counts ++ cs) j s c)
           → IsPlacedAmong base count now new
-      extended_placed now within hs hx hi he hn hk names forms many counted =
+      extended_placed now within hs hx hi he hn hk seen names forms many counted =
           let meant = extended_meant old st more more_fs more_paths gs gf gp tables ss xs im ex us apart in
           let before = meant_at apart old in
           let was = p.many in
@@ -233,6 +242,10 @@ module _ (old : World) (st : IsWorld old) (more : List Shape) (more_fs : List Fu
               | inl below ↦ instance_still j x (stood old.instances (old.instances ++ xs) instances_grow j x below at)
               | inr past ↦ hx j x at past
             ];
+            seen = λ j x at. elim (cases_lt j (length old.instances)) [
+              | inl below ↦ seen_still j (p.seen j x (stood old.instances (old.instances ++ xs) instances_grow j x below at))
+              | inr past ↦ seen j x at past
+            ];
             names = λ n q name low at. elim (names n q name low at) [
               | inl below ↦ elim (p.names n q name below (stood old.shapes more gs n (named_shape q name) (let inside = p.within in omega (arith, below, inside)) at)) [ inl first ↦ inl first | inr by ↦ inr (still_shown q name (14 + n) by) ]
               | inr by ↦ inr by
@@ -256,6 +269,11 @@ only_last xs y j x at past = elim (last_or xs y j x at) [ inl h ↦ (let below =
 pub imported_many : {X Y : Type 0} (b : Bool) (x : X) (y : Y) → length (imported b x) ≡ length (imported b y)
 imported_many true x y = refl
 imported_many false x y = refl
+
+-- what is added as an instance is one that is seen
+pub added_seen : (w : World) (before after : List Seen) (b : Bool) (s : Seen) (key : InstanceKey) (j : ℕ) → w.imports ≡ before ++ imported b s → w.exports ≡ after ++ exported b s → s.shown ≡ shown.Instance key j → IsInstanceSeen w j
+added_seen w before after true s key j im ex is = as_import (length before) s key (ap (λ (xs : List Seen). slice_get xs (length before)) im ∙ at_last before s) is
+added_seen w before after false s key j im ex is = as_export (length after) s key (ap (λ (xs : List Seen). slice_get xs (length after)) ex ∙ at_last after s) is
 
 -- an import or an export that passes
 pub seen_passes : (P : MeantSeen → Type 0) (f : Seen → MeantSeen) (b : Bool) (s : Seen) → P (f s) → AllByRecursion P (map f (imported b s)) × AllByRecursion P (map f (exported b s))

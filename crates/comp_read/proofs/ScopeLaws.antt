@@ -1,5 +1,5 @@
 -- A scope of a component type in tables that grow, with something more in it.
-use Rattle.std.proofs.Common.{◌≡◌, refl, sym, ap, ◌∙◌, subst, ℕ, zero, suc, ◌+◌, ◌<◌, ◌≤◌, ◌==◌, ◌||◌, arith, Bool, true, false, cond, List, [], ◌∷◌, ◌++◌, map, length, length-append, Option, Some, None, slice_get, unwrap_or, option_map}
+use Rattle.std.proofs.Common.{◌≡◌, ◌⊎◌, inl, inr, refl, sym, ap, ◌∙◌, subst, ℕ, zero, suc, ◌+◌, ◌<◌, ◌≤◌, ◌==◌, ◌||◌, arith, Bool, true, false, cond, List, [], ◌∷◌, ◌++◌, map, length, length-append, Option, Some, None, slice_get, unwrap_or, option_map}
 use Rattle.std.specs.List.{AllByRecursion, list_any}
 use Rattle.std.proofs.lemmas.Bool.{eq-eqb}
 use Rattle.std.proofs.lemmas.List.{append-nil, map-append}
@@ -20,12 +20,13 @@ use Rattle.comp_read.specs.Defining.{Grows}
 use Rattle.comp_read.specs.Following.{AreSlotsIn, AreTables, IsShownFunctionIn, IsShownIn, IsSlotIn}
 use Rattle.comp_read.specs.Functions.{functions_in, FunctionShape}
 use Rattle.comp_read.specs.Places.{key_at, ArePlacesOf, IsKeyIn}
-use Rattle.comp_read.specs.Scopes.{direction, instance_in, meant_at, seen_in, shown_in, view_in, viewed, waiting, AreSeenIn, Goes, IsInstanceIn, IsPlacedWorld, IsShownAs, IsWorld, World}
+use Rattle.comp_read.specs.Scopes.{direction, instance_in, meant_at, seen_in, shown_in, view_in, viewed, waiting, ArePathsMet, AreSeenIn, Goes, IsInstanceIn, IsPlaceMet, IsPlacedWorld, IsShownAs, IsWorld, World}
 use Rattle.comp_read.specs.Slots.{no_signature, slot_in, slots_in}
 use Rattle.read_plan.specs.Shapes.{Shape, shape_trees}
 use Rattle.read_plan.proofs.ShapeLaws.{slice_front}
 use Rattle.comp_read.proofs.DefiningLaws.{all_at, longer}
 use Rattle.comp_read.proofs.FollowingLaws.{declared_stays, functions_stay, signature_stays, slots_stay, types_stay, wider_declared, wider_functions, wider_number, wider_part, wider_slots, wider_types}
+use Rattle.comp_read.proofs.PlacedLaws.{stands_on, stood}
 use Rattle.comp_read.proofs.TableGrowth.{found_below}
 
 -- ---- what is well-formed stays so
@@ -72,6 +73,23 @@ pub plus_instance : (b : Bool) (m : MeantScope) (x : MeantInstance) (s : MeantSe
     → see (direction b) s (record m { instances = m.instances ++ x ∷ []; used = m.used ++ n ∷ [] }) ≡ plus m [] (x ∷ []) (imported b s) (exported b s) (n ∷ [])
 plus_instance true m x s n = λ i. record { slots = sym (append-nil m.slots) i; instances = m.instances ++ x ∷ []; imports = m.imports ++ s ∷ []; exports = sym (append-nil m.exports) i; used = m.used ++ n ∷ [] }
 plus_instance false m x s n = λ i. record { slots = sym (append-nil m.slots) i; instances = m.instances ++ x ∷ []; imports = sym (append-nil m.imports) i; exports = m.exports ++ s ∷ []; used = m.used ++ n ∷ [] }
+
+-- a place that was met stays met
+pub met_still : (is more : List Instance) → Grows is more → (q : ℕ) → IsPlaceMet is q → IsPlaceMet more q
+met_still is more g q h = record { number = h.number; one = h.one; at = stands_on is more g h.number h.one h.at; place = h.place }
+
+-- places that all were there before
+pub all_before : (paths : List (Option (List ℕ))) (is : List Instance) → ArePathsMet (length paths) paths is
+all_before paths is q path at = inl (found_below paths q (Some path) at)
+
+-- places that were met, and more of them
+pub paths_met : (old more : List (Option (List ℕ))) → Grows old more → (is all : List Instance) → Grows is all
+    → ((q : ℕ) (path : List ℕ) → slice_get more q ≡ Some (Some path) → (q < length old) ⊎ IsPlaceMet all q)
+    → (before : ℕ) → ArePathsMet before old is → ArePathsMet before more all
+paths_met old more gp is all gi new before h q path at = elim (new q path at) [
+  | inl below ↦ elim (h q path (stood old more gp q (Some path) below at)) [ inl first ↦ inl first | inr met ↦ inr (met_still is all gi q met) ]
+  | inr met ↦ inr met
+]
 
 -- ---- a scope with something more
 
@@ -189,18 +207,20 @@ module _ (old : World) (st : IsWorld old) (more : List Shape) (more_fs : List Fu
 
   -- the step of the definition makes the scope that stands for it
   pub goes_on : (few : ℕ) (step : MeantScope → Option MeantScope) (new : World) → new ≡ extended → IsWorld extended → ((base : List Shape) (places : ℕ) → IsPlacedWorld base places old → IsPlacedWorld base places extended)
+      → ((q : ℕ) (path : List ℕ) → slice_get more_paths q ≡ Some (Some path) → (q < length old.paths) ⊎ IsPlaceMet (old.instances ++ xs) q)
       → length more + waiting (old.used ++ us) 0 (old.slots ++ ss) ≤ length old.shapes + waiting old.used 0 old.slots + few
       → ((place : ℕ → Place) → ArePlacesOf more_paths place
       → step (meant_at place old) ≡ Some (plus (meant_at place old) (slots_in (U place) (G place) ss) (map (instance_in place (U place) (G place)) xs)
       (map (seen_in place (U place) (G place) (old.instances ++ xs)) im) (map (seen_in place (U place) (G place) (old.instances ++ xs)) ex) us))
       → Goes few step old new
-  goes_on few step new e world placed count follows = subst (λ (w : World). Goes few step old w) (sym e) (record {
+  goes_on few step new e world placed met count follows = subst (λ (w : World). Goes few step old w) (sym e) (record {
     world = world;
     shapes_grow = gs;
     signatures_grow = gf;
     paths_grow = gp;
     count = count;
     placed = placed;
+    met = paths_met old.paths more_paths gp old.instances (old.instances ++ xs) (record { more = xs; is = refl }) met;
     follows = λ place of. follows place of ∙ ap Some (sym (extended_meant place));
   })
 

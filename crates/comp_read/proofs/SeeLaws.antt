@@ -37,7 +37,7 @@ use Rattle.comp_read.proofs.OverLaws.{named_over}
 use Rattle.comp_read.proofs.PlacedLaws.{at_last, stands_on, stood}
 use Rattle.comp_read.proofs.PlacedScopes.{both_pass, counts_below, extended_placed, import_passes, imported_many, none_past, one_counted, seen_passes}
 use Rattle.comp_read.proofs.Refusing.{refused}
-use Rattle.comp_read.proofs.ScopeLaws.{exported, extended, extended_world, goes_on, imported, plus, plus_seen, plus_type, waiting_push, waits}
+use Rattle.comp_read.proofs.ScopeLaws.{all_before, exported, extended, extended_world, goes_on, imported, plus, plus_seen, plus_type, waiting_push, waits}
 use Rattle.comp_read.proofs.ShowLaws.{declared_range, name_in, name_stands, old_range, own_over}
 use Rattle.comp_read.proofs.SlotLaws.{at_slot}
 use Rattle.comp_read.proofs.TableGrowth.{found_below, last_or}
@@ -123,9 +123,11 @@ module _ (old : World) (st : IsWorld old) (b : Bool) (name : ExternName) (n : �
       let seen = seen_passes (λ (x : MeantSeen). ShownOver P x.shown) (seen_in apart T F (old.instances ++ [])) b s over in
       let c = length old.shapes in
       extended_placed old st old.shapes old.signatures old.paths gs gf gp st.tables [] [] (imported b s) (exported b s) [] base places (length old.shapes) p (imported b c) (length old.shapes) (omega arith) tt (λ j x at past. absurd (none_past old.instances j x at past))
-      seen.0 seen.1 (import_passes (λ (x : Seen). IsImportNamed old.shapes old.home x.shown) b s tt) (both_pass (λ (x : Seen). IsKeyPlaced (old.instances ++ []) x.shown) b s tt) (λ j q x low e. inl (found_below old.shapes j (named_shape q x) e)) (λ j form parts low e. inl (found_below old.shapes j (node_shape form parts) e)) (imported_many b c s)
+      seen.0 seen.1 (import_passes (λ (x : Seen). IsImportNamed old.shapes old.home x.shown) b s tt) (both_pass (λ (x : Seen). IsKeyPlaced (old.instances ++ []) x.shown) b s tt)
+      (λ j x at past. absurd (none_past old.instances j x at past)) (λ j q x low e. inl (found_below old.shapes j (named_shape q x) e)) (λ j form parts low e. inl (found_below old.shapes j (node_shape form parts) e)) (imported_many b c s)
       (one_counted base places (length old.shapes) old p (extended old st old.shapes old.signatures old.paths gs gf gp st.tables [] [] (imported b s) (exported b s) []) b s c refl (omega arith) (omega arith)
       (λ g here. all_at (IsFunctionIn (length old.shapes)) old.signatures k g st.tables.signatures here)))
+      (all_before old.paths (old.instances ++ []))
       (let same : waiting (old.used ++ []) 0 (old.slots ++ []) ≡ waiting old.used 0 old.slots = (λ i. waiting (append-nil old.used i) 0 (append-nil old.slots i)) in omega (arith, same))
       (λ place of.
       let T = world_trees place old in
@@ -275,9 +277,11 @@ module _ (old : World) (st : IsWorld old) (name : ExternName) (kind : ComponentT
       extended_placed old st more old.signatures old.paths gs gf gp tables (s ∷ []) [] (seen ∷ []) [] [] first places (length old.shapes) p (c ∷ []) (length more) (omega arith)
       (subst (λ x. SlotOver P x) (sym stands) (own_over marks (base old) bs name old.home kind made.is_resource), tt)
       (λ j x e past. absurd (none_past old.instances j x e past)) (over, tt) tt (record { number = number; is = refl; at = at }, tt) ((tt, tt), tt)
+      (λ j x e past. absurd (none_past old.instances j x e past))
       (type_names first places p more number at new seen made.declared refl refl refl adds table) (λ n form parts low e. adds_name old.shapes more old.home name.text.now adds n form parts e) refl
       (one_counted first places (length old.shapes) old p new true seen c refl le (omega arith)
       (type_counted first places p more number at new seen made.declared refl gs (adds_one old.shapes more (named_shape old.home name.text.now) adds) (old_range marks (base old) bs name old.home kind made.declared range))))
+      (all_before old.paths (old.instances ++ []))
       (let same = ap (λ us. waiting us 0 (old.slots ++ s ∷ [])) (append-nil old.used) in
       let push = waiting_push old.used 0 old.slots s in
       let light : waits s ≡ 0 = ap waits is ∙ no_wait made.is_resource (14 + number) in

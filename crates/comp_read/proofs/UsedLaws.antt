@@ -28,13 +28,13 @@ use Rattle.comp_read.specs.Following.{is_path, slots_at, AreMarked, AreSlotsIn, 
 use Rattle.comp_read.specs.Functions.{functions_in, FunctionShape}
 use Rattle.comp_read.specs.InstanceScopes.{tables_of, IsViewOf, ShowsNothing}
 use Rattle.comp_read.specs.Placed.{apart, MayMeet}
-use Rattle.comp_read.specs.Places.{has_path, key_at, path_text, place_number, ArePlacesOf, IsFreshKey, IsKeyIn, IsKeyOf}
-use Rattle.comp_read.specs.Scopes.{direction, instance_in, meant_at, path_of, seen_in, view_in, viewed, waiting, Goes, HasNoUsedView, IsFirstOf, IsImportNamed, IsInstanceIn, IsKeyPlaced, IsPlacedInstance, IsPlacedWorld, IsShownAs, IsShownBy, by_instance, by_import, IsUsedView, IsWorld, ShownOver, Stops, World}
+use Rattle.comp_read.specs.Places.{has_path, key_at, path_text, place_number, ArePlacesOf, IsFreshKey, IsKeyIn, IsKeyOf, IsOnlyNew}
+use Rattle.comp_read.specs.Scopes.{direction, instance_in, meant_at, path_of, seen_in, view_in, viewed, waiting, Goes, HasNoUsedView, IsFirstOf, IsImportNamed, IsInstanceIn, IsInstanceSeen, IsKeyPlaced, IsPlacedInstance, IsPlacedWorld, IsShownAs, IsShownBy, by_instance, by_import, IsUsedView, IsWorld, ShownOver, Stops, World}
 use Rattle.comp_read.specs.Slots.{resource_slot, slot_in}
 use Rattle.read_plan.specs.Shapes.{Shape, named_shape, shape_trees, IsTable}
 use Rattle.comp_read.proofs.DefiningLaws.{all_at, longer}
 use Rattle.comp_read.proofs.PlacedLaws.{at_last, stands_on, stood}
-use Rattle.comp_read.proofs.PlacedScopes.{both_pass, extended_placed, import_passes, imported_many, one_counted, only_last, seen_passes}
+use Rattle.comp_read.proofs.PlacedScopes.{added_seen, both_pass, extended_placed, import_passes, imported_many, one_counted, only_last, seen_passes}
 use Rattle.comp_read.proofs.Refusing.{refused}
 use Rattle.comp_read.proofs.ScopeLaws.{exported, extended, extended_world, goes_on, imported, plus, plus_instance, waiting_used}
 use Rattle.comp_read.proofs.SlotLaws.{at_slot, no_slot}
@@ -244,7 +244,7 @@ module _ (old : World) (st : IsWorld old) (b : Bool) (name : ExternName) (n : �
       ]);
     }
 
-  pub instance_goes : Grows old.paths paths → IsFreshKey old.paths key → (v : View) (more : List Shape) (more_fs : List FunctionShape)
+  pub instance_goes : Grows old.paths paths → IsFreshKey old.paths key → IsOnlyNew old.paths (place_number key) paths → (v : View) (more : List Shape) (more_fs : List FunctionShape)
       → IsUsedView (map has_path paths) (place_number key) (tables_of old.shapes old.signatures) old.slots old.used n v (tables_of more more_fs)
       → (new : World) → new ≡ record {
         home = old.home;
@@ -258,7 +258,7 @@ module _ (old : World) (st : IsWorld old) (b : Bool) (name : ExternName) (n : �
         used = old.used ++ n ∷ [];
       }
       → Goes 0 (see_instance (direction b) (raw_name name) n) old new
-  instance_goes gp fresh v more more_fs u new e =
+  instance_goes gp fresh only v more more_fs u new e =
       let x : Instance = record { place = place_number key; view = v } in
       let s : Seen = record { shown = shown.Instance key (length old.instances); external_id = name.external_id } in
       let gs = u.view.shapes_grow in
@@ -293,6 +293,7 @@ module _ (old : World) (st : IsWorld old) (b : Bool) (name : ExternName) (n : �
       (subst (λ (m : ℕ). IsPlacedInstance base places world m x) (sym last.0) (instance_placed gp fresh v more more_fs u base places p (old.slots ++ []) (old.imports ++ imported b s) (old.exports ++ exported b s) (old.used ++ n ∷ []))))
       seen.0 seen.1 (import_passes (λ (y : Seen). IsImportNamed more old.home y.shown) b s tt)
       (both_pass (λ (y : Seen). IsKeyPlaced (old.instances ++ x ∷ []) y.shown) b s (x, at_last old.instances x, refl))
+      (λ j y at past. subst (λ (m : ℕ). IsInstanceSeen world m) (sym (only_last old.instances x j y at past).0) (added_seen world old.imports old.exports b s key (length old.instances) refl refl refl))
       (λ j q label low at. elim (u.view.placed.names j q label at) [
         | inl below ↦ inl below
         | inr h ↦ inr (by_instance (length old.instances) x (at_last old.instances x) (sym h.0) h.1)
@@ -300,6 +301,10 @@ module _ (old : World) (st : IsWorld old) (b : Bool) (name : ExternName) (n : �
       (λ j form parts low at. u.view.placed.formed j form parts at)
       (imported_many b c s)
       (one_counted base places (length old.shapes) old p world b s c refl longer_table (omega arith) tt))
+      (λ q path at. elim (only q path at) [
+        | inl below ↦ inl below
+        | inr same ↦ inr (record { number = length old.instances; one = x; at = at_last old.instances x; place = sym same })
+      ])
       (let same = ap (λ zs. waiting (old.used ++ n ∷ []) 0 zs) (append-nil old.slots) in
       let few = subst (λ k. waiting (old.used ++ k ∷ []) 0 old.slots + u.body.count ≤ waiting old.used 0 old.slots) (none_before n) (waiting_used old.used n 0 old.slots (slots.Instance u.body u.around) u.slot (ap (λ k. list_any (λ m. m == k) old.used) (none_before n) ∙ u.unused)) in
       let count = u.view.count in

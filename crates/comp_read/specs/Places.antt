@@ -1,8 +1,8 @@
 -- The places of names, by number, and the keys of instances, whose paths are places (Binary.md, "Import and Export Definitions").
-use Rattle.std.specs.Prelude.{◌≡◌, ◌≤◌, ℕ, ◌+◌, ◌==◌, ◌&&◌, not, if◌then◌else◌, Bool, false, List, [], length, map, Option, Some, None, option_map, is_some, slice_get}
+use Rattle.std.specs.Prelude.{◌≡◌, ◌⊎◌, ◌<◌, ◌≤◌, ℕ, ◌+◌, ◌==◌, ◌&&◌, not, if◌then◌else◌, Bool, false, List, [], length, map, Option, Some, None, option_map, is_some, slice_get, true}
 use Rattle.std.specs.Borrow.{Bor}
 use Rattle.wit_model.specs.Text.{Text, text_of}
-use Rattle.wit_model.specs.Names.{is_label, known_path, versioned}
+use Rattle.wit_model.specs.Names.{is_label, known_path, read_path, versioned}
 use Rattle.wit_model.specs.Tree.{Place}
 use Rattle.comp_bytes.specs.Reading.{◌>>=◌}
 use Rattle.comp_meaning.specs.Follow.{Key, complete_path, place_of, provided}
@@ -36,10 +36,19 @@ has_path o = is_some o
 abbrev pub ArePathsApart : List (Option Text) → Type 0
 ArePathsApart paths = (m n : ℕ) (path : Text) → slice_get paths m ≡ Some (Some path) → slice_get paths n ≡ Some (Some path) → m ≡ n
 
--- None stands twice, the number of one without a path isn't yet that of one to come, and each mark says whether there is a path.
+-- the path, if there is one, is read as the name of an interface in a package
+abbrev pub IsReadIfGiven : Option Text → Type 0
+IsReadIfGiven o = (path : Text) → o ≡ Some path → is_some (read_path path) ≡ true
+
+-- each path is so
+abbrev pub ArePathsRead : List (Option Text) → Type 0
+ArePathsRead paths = (n : ℕ) (path : Text) → slice_get paths n ≡ Some (Some path) → is_some (read_path path) ≡ true
+
+-- None stands twice, the number of one without a path isn't yet that of one to come, each path is read, and each mark says whether there is one.
 pub record ArePlaces (shapes : List (Text × ℕ)) (marks : List Bool) : Type 0 where
   pub apart : AreApart shapes
   pub numbered : (n : ℕ) (x : Text × ℕ) → slice_get shapes n ≡ Some x → x.1 ≤ n + 1
+  pub read : ArePathsRead (map path_in shapes)
   pub marked : marks ≡ map has_path (map path_in shapes)
 
 -- each place of these numbers is that of its path, or else of the scope itself
@@ -81,6 +90,10 @@ implementing_key text target suffix = complete_path target suffix >>= λ whole. 
 -- a name that is no label alone, where it isn't the key of what implements another
 abbrev pub IsNoLabel : Text → Option Text → Type 0
 IsNoLabel text suffix = (is_label text && not (is_some suffix)) ≡ false
+
+-- a place behind those that were there before, if it has a path, is the one of this number
+abbrev pub IsOnlyNew : List (Option Text) → ℕ → List (Option Text) → Type 0
+IsOnlyNew before n paths = (q : ℕ) (path : Text) → slice_get paths q ≡ Some (Some path) → (q < length before) ⊎ (q ≡ n)
 
 -- the number of the place of a path, completed
 pub record IsPathNumber (text : Text) (suffix : Option Text) (paths : List (Option Text)) (n : ℕ) : Type 0 where

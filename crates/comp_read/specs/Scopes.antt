@@ -140,6 +140,22 @@ IsKeyPlaced is (shown.Instance key n) = (x : Instance) × (slice_get is n ≡ So
 IsKeyPlaced is (shown.Function name f) = Unit {0}
 IsKeyPlaced is (shown.Type name part d) = Unit {0}
 
+-- an import or an export is the instance of this number
+pub data IsInstanceSeen (w : World) (j : ℕ) : Type 0 where
+  as_import : (n : ℕ) (s : Seen) (key : InstanceKey) → slice_get w.imports n ≡ Some s → s.shown ≡ shown.Instance key j → IsInstanceSeen w j
+  as_export : (n : ℕ) (s : Seen) (key : InstanceKey) → slice_get w.exports n ≡ Some s → s.shown ≡ shown.Instance key j → IsInstanceSeen w j
+
+-- one of the instances is of the place
+pub record IsPlaceMet (is : List Instance) (q : ℕ) : Type 0 where
+  pub number : ℕ
+  pub one : Instance
+  pub at : slice_get is number ≡ Some one
+  pub place : one.place ≡ q
+
+-- each place with a path, behind so many that were there before, is met
+abbrev pub ArePathsMet : ℕ → List (Option Text) → List Instance → Type 0
+ArePathsMet before paths is = (q : ℕ) (path : Text) → slice_get paths q ≡ Some (Some path) → (q < before) ⊎ IsPlaceMet is q
+
 -- The name of this place, which is this part, is shown: by an instance of the place, or as an import of the scope itself.
 pub data IsShownBy (w : World) (q : ℕ) (name : Text) (part : ℕ) : Type 0 where
   by_instance : (j : ℕ) (x : Instance) → slice_get w.instances j ≡ Some x → x.place ≡ q → IsShownAmong x.view.types.items name part → IsShownBy w q name part
@@ -194,8 +210,9 @@ pub record IsCounted (w : World) (counts : List ℕ) (j : ℕ) (s : Seen) (c : �
   pub kind : IsCountedAs w counts j c s.shown
 
 -- Slots and what is shown are over names of the scope's own place and of those with a path, what is imported stands for its name, and an instance has
--- the place of its key. Each name that came into the table behind these shapes, among the first so many, is shown, each form is one that a definition may
--- have, and imports came into it in their order. There were so many places before the scope, and no name of its own.
+-- the place of its key, under which it is imported or exported. Each name that came into the table behind these shapes, among the first so many, is
+-- shown, each form is one that a definition may have, and imports came into it in their order. There were so many places before the scope, and no name
+-- of its own.
 pub record IsPlacedAmong (base : List Shape) (count till : ℕ) (w : World) : Type 0 where
   pub grows : Grows base w.shapes
   pub within : till ≤ length w.shapes
@@ -208,6 +225,7 @@ pub record IsPlacedAmong (base : List Shape) (count till : ℕ) (w : World) : Ty
   pub imports_keyed : AllByRecursion (λ (s : Seen). IsKeyPlaced w.instances s.shown) w.imports
   pub exports_keyed : AllByRecursion (λ (s : Seen). IsKeyPlaced w.instances s.shown) w.exports
   pub instances : (j : ℕ) (x : Instance) → slice_get w.instances j ≡ Some x → IsPlacedInstance base count w j x
+  pub seen : (j : ℕ) (x : Instance) → slice_get w.instances j ≡ Some x → IsInstanceSeen w j
   pub names : (n q : ℕ) (name : Text) → n < till → slice_get w.shapes n ≡ Some (named_shape q name) → (n < length base) ⊎ IsShownBy w q name (14 + n)
   pub formed : (n : ℕ) (form : Form) (parts : List ℕ) → n < till → slice_get w.shapes n ≡ Some (node_shape form parts) → (n < length base) ⊎ (is_form form parts ≡ true)
   pub counts : List ℕ
@@ -237,8 +255,8 @@ weights (e ∷ es) = weight e + weights es
 
 -- ---- steps
 
--- The tables grow, by this many types at most if all that waits is counted, names stay in their places, and the scope becomes what the step of the
--- definition makes of it.
+-- The tables grow, by this many types at most if all that waits is counted, names stay in their places, new places with a path are met, and the scope
+-- becomes what the step of the definition makes of it.
 pub record Goes (few : ℕ) (step : MeantScope → Option MeantScope) (old new : World) : Type 0 where
   pub world : IsWorld new
   pub shapes_grow : Grows old.shapes new.shapes
@@ -246,6 +264,7 @@ pub record Goes (few : ℕ) (step : MeantScope → Option MeantScope) (old new :
   pub paths_grow : Grows old.paths new.paths
   pub count : length new.shapes + waiting new.used 0 new.slots ≤ length old.shapes + waiting old.used 0 old.slots + few
   pub placed : (base : List Shape) (places : ℕ) → IsPlacedWorld base places old → IsPlacedWorld base places new
+  pub met : (before : ℕ) → ArePathsMet before old.paths old.instances → ArePathsMet before new.paths new.instances
   pub follows : (place : ℕ → Place) → ArePlacesOf new.paths place → step (meant_at place old) ≡ Some (meant_at place new)
 
 -- the step of the definition makes nothing of it, unless memory ran out
@@ -272,6 +291,7 @@ pub record IsFollowedTo (start : World) (b : Body) (i : ℕ) (rest : List ℕ) (
   pub signatures_grow : Grows start.signatures now.signatures
   pub paths_grow : Grows start.paths now.paths
   pub placed : IsPlacedWorld start.shapes start.home now
+  pub met : ArePathsMet (length start.paths) now.paths now.instances
   pub es : List RawEntry
   pub left : sequence_at entry_at (b.count - i) rest ≡ Some (es, [])
   pub count : length now.shapes + waiting now.used 0 now.slots + weights es ≤ length start.shapes + weights (items_in entry_at b)
@@ -327,8 +347,8 @@ are_settled used n (s ∷ ss) = is_settled used n s && are_settled used (suc n) 
 abbrev pub start_of : ℕ → List Shape → List FunctionShape → List (Option Text) → World
 start_of home shapes fs paths = record { home = home; shapes = shapes; signatures = fs; paths = paths; slots = []; instances = []; imports = []; exports = []; used = [] }
 
--- The tables grow, by no more types than the entries and the instance types among them declare, names stand in their places, and the scope stands for
--- what they show.
+-- The tables grow, by no more types than the entries and the instance types among them declare, names stand in their places, new places with a path are
+-- met, and the scope stands for what they show.
 pub record IsScopeOf (shapes : List Shape) (fs : List FunctionShape) (paths : List (Option Text)) (b : Body) (now : World) : Type 0 where
   pub world : IsWorld now
   pub shapes_grow : Grows shapes now.shapes
@@ -336,4 +356,5 @@ pub record IsScopeOf (shapes : List Shape) (fs : List FunctionShape) (paths : Li
   pub paths_grow : Grows paths now.paths
   pub count : length now.shapes ≤ length shapes + weights (items_in entry_at b)
   pub placed : IsPlacedWorld shapes (length paths) now
+  pub met : ArePathsMet (length paths) now.paths now.instances
   pub shows : (place : ℕ → Place) → ArePlacesOf now.paths place → entry_scope (items_in entry_at b) ≡ Some (meant_at place now)

@@ -7,7 +7,7 @@ ghost use Rattle.comp_meaning.specs.Follow.{complete_path as complete_path_lem, 
 ghost use Rattle.comp_read.specs.Defining.{Grows};
 ghost use Rattle.comp_read.specs.ExternNames.{raw_name};
 ghost use Rattle.comp_read.specs.Found.{Refuses};
-ghost use Rattle.comp_read.specs.Places.{implementing_key as implementing_key_lem, IsFreshKey, IsKeyOf, IsNoLabel, IsPathNumber};
+ghost use Rattle.comp_read.specs.Places.{implementing_key as implementing_key_lem, place_number, IsFreshKey, IsKeyOf, IsNoLabel, IsOnlyNew, IsPathNumber};
 ghost use Rattle.comp_read.specs.declared.refusal.Refusal.TheVariants as refusals;
 
 use crate::names::ExternName;
@@ -36,6 +36,7 @@ fn path_number(
     suffix: Option<&str>,
 ) -> Result<u32, Refusal>
     ensures found { IfOk result (IsPathNumber text.now (option_map borrowed_text suffix.entry) places.new) }
+    ensures only { IfOk result (λ n. IsOnlyNew places.old n places.new) }
     ensures grows { Grows places.old places.new }
     ensures absent { IfErr result (λ e. Refuses e (complete_path_lem text.now (option_map borrowed_text suffix.entry))) }
 {
@@ -54,6 +55,7 @@ fn label_key<'a>(
     requires { is_label_lem label.now ≡ true }
     ensures key { IfOk result (IsKeyOf (plain_key_lem label.now None) places.new) }
     ensures fresh { IfOk result (IsFreshKey places.old) }
+    ensures only { IfOk result (λ key. IsOnlyNew places.old (place_number key) places.new) }
     ensures grows { Grows places.old places.new }
     ensures memory { IsOkUnless result refusals.Memory }
 {
@@ -71,6 +73,7 @@ fn path_key<'a>(
     requires { IsNoLabel text.now (option_map borrowed_text suffix) }
     ensures key { IfOk result (IsKeyOf (plain_key_lem text.now (option_map borrowed_text suffix.entry)) places.new) }
     ensures fresh { IfOk result (IsFreshKey places.old) }
+    ensures only { IfOk result (λ key. IsOnlyNew places.old (place_number key) places.new) }
     ensures grows { Grows places.old places.new }
     ensures absent { IfErr result (λ e. Refuses e (plain_key_lem text.now (option_map borrowed_text suffix.entry))) }
 {
@@ -89,6 +92,7 @@ fn plain_key<'a>(
 ) -> Result<InstanceKey<'a>, Refusal>
     ensures key { IfOk result (IsKeyOf (plain_key_lem text.now (option_map borrowed_text suffix.entry)) places.new) }
     ensures fresh { IfOk result (IsFreshKey places.old) }
+    ensures only { IfOk result (λ key. IsOnlyNew places.old (place_number key) places.new) }
     ensures grows { Grows places.old places.new }
     ensures absent { IfErr result (λ e. Refuses e (plain_key_lem text.now (option_map borrowed_text suffix.entry))) }
 {
@@ -114,6 +118,7 @@ fn implementing_key<'a>(
 ) -> Result<InstanceKey<'a>, Refusal>
     ensures key { IfOk result (IsKeyOf (implementing_key_lem label.now target.now (option_map borrowed_text suffix.entry)) places.new) }
     ensures fresh { IfOk result (IsFreshKey places.old) }
+    ensures only { IfOk result (λ key. IsOnlyNew places.old (place_number key) places.new) }
     ensures grows { Grows places.old places.new }
     ensures absent { IfErr result (λ e. Refuses e (implementing_key_lem label.now target.now (option_map borrowed_text suffix.entry))) }
 {
@@ -137,6 +142,7 @@ pub fn key_of<'a>(
 ) -> Result<InstanceKey<'a>, Refusal>
     ensures key { IfOk result (IsKeyOf (key_of_lem (raw_name name.entry)) places.new) }
     ensures fresh { IfOk result (IsFreshKey places.old) }
+    ensures only { IfOk result (λ key. IsOnlyNew places.old (place_number key) places.new) }
     ensures grows { Grows places.old places.new }
     ensures absent { IfErr result (λ e. Refuses e (key_of_lem (raw_name name.entry))) }
 {

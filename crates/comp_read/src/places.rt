@@ -1,10 +1,11 @@
 //! The places of names, by number: each path once, and the scopes that have none.
 
-ghost use Rattle.std.specs.Prelude.{◌≡◌, ◌<◌, ◌≤◌, ◌+◌, ◌^◌, ◌==◌, ◌∷◌, ◌++◌, [], None, Some, length, map, option_map, slice_get, unwrap_or, IfOk, IsOkUnless, OnErr, OnOk};
+ghost use Rattle.std.specs.Prelude.{◌≡◌, ◌<◌, ◌≤◌, ◌+◌, ◌^◌, ◌==◌, ◌∷◌, ◌++◌, [], None, Some, is_some, length, map, option_map, slice_get, true, unwrap_or, IfOk, IsOkUnless, OnErr, OnOk};
+ghost use Rattle.wit_model.specs.Names.{read_path};
 ghost use Rattle.wit_model.specs.Text.{text_of};
 ghost use Rattle.comp_read.specs.Defining.{Grows};
 ghost use Rattle.comp_read.specs.Functions.{Joins};
-ghost use Rattle.comp_read.specs.Places.{has_path, place_shape, ArePathsApart, ArePlaces};
+ghost use Rattle.comp_read.specs.Places.{has_path, place_shape, ArePathsApart, ArePlaces, IsOnlyNew, path_in, ArePathsRead, IsReadIfGiven};
 ghost use Rattle.comp_read.specs.declared.refusal.Refusal.TheVariants as refusals;
 
 use crate::refusal::Refusal;
@@ -47,6 +48,7 @@ fn put(
 ) -> Result<usize, Refusal>
     requires places { ArePlaces (map place_shape keys.old.keys) marks.old.items }
     requires number { key.number ≤ length keys.old.keys + 1 }
+    requires read { IsReadIfGiven (path_in (place_shape key)) }
     ensures places { ArePlaces (map place_shape keys.new.keys) marks.new.items }
     ensures found { IfOk result (λ n. slice_get (map place_shape keys.new.keys) n ≡ Some (place_shape key)) }
     ensures joins { OnOk result (Joins (map place_shape keys.old.keys) (place_shape key) (map place_shape keys.new.keys)) }
@@ -107,11 +109,20 @@ impl Places {
         let _count = self.keys.len();
     }
 
+    /// Each path is that of an interface in a package. Does nothing.
+    pub fn are_read(&self)
+        ensures { ArePathsRead self.now }
+    {
+        let _count = self.keys.len();
+    }
+
     /// The number that the place of a path has from now on: its own, if it has one, or the next.
     ///
     /// Takes time linear in the path. Refuses with `Memory` alone, also where there are 2^32 places.
     pub fn number_of(&mut self, path: String) -> Result<u32, Refusal>
+        requires { is_some (read_path (text_of path)) ≡ true }
         ensures found { IfOk result (λ n. slice_get self.new n ≡ Some (Some (text_of path))) }
+        ensures only { IfOk result (λ n. IsOnlyNew self.old n self.new) }
         ensures grows { Grows self.old self.new }
         ensures apart { ArePathsApart self.new }
         ensures memory { IsOkUnless result refusals.Memory }

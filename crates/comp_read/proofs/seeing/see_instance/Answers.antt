@@ -19,7 +19,7 @@ returns-in-Ok-used_view-clause-seen c =
     (subst (λ (p : ℕ). IsUsedView c.marks.result.now p start c.args.scope.now.slots.items c.args.scope.now.used.keys c.args.n c.in-Ok-used_view.view now) c.place_of-here.ensures (rw c.deref.ensures.value at c.in-Ok-used_view.ensures.shown)) in
     on_ok (IsInstanceAdded c.args.scope.now c.push_instance.new.scope c.args.is_import c.in-Ok.key c.args.name.external_id c.args.n c.in-Ok-used_view.view)
     (Goes 0 (see_instance (direction c.args.is_import) (raw_name c.args.name) c.args.n) old new) c.push_instance.result
-    (λ a. instance_goes old c.requires c.args.is_import c.args.name c.args.n c.key_of.new.places c.in-Ok.key c.in-Ok.ensures.key c.in-Ok.ensures.grows c.in-Ok.ensures.fresh c.in-Ok-used_view.view c.used_view.new.table c.used_view.new.functions shown new
+    (λ a. instance_goes old c.requires c.args.is_import c.args.name c.args.n c.key_of.new.places c.in-Ok.key c.in-Ok.ensures.key c.in-Ok.ensures.grows c.in-Ok.ensures.fresh c.in-Ok.ensures.only c.in-Ok-used_view.view c.used_view.new.table c.used_view.new.functions shown new
     (λ i. record {
       home = a.home i;
       shapes = c.used_view.new.table;

@@ -2,7 +2,7 @@ use Rattle.std.proofs.Common.{◌∙◌, ◌+◌, ℕ, ap, arith, refl, ◌∷�
 use Rattle.std.proofs.Math.ListN.{length-map}
 use Rattle.wit_model.specs.Text.{Text, text_of}
 use Rattle.comp_read.specs.Places.{place_shape}
-use Rattle.comp_read.proofs.PlaceLaws.{behind_all, no_path, with_none}
+use Rattle.comp_read.proofs.PlaceLaws.{behind_all, no_path, none_read, with_none}
 use Rattle.comp_read.proofs.places.Places.new_place.Goals as goal
 
 pub returns-clause-grows : goal.returns-clause-grows
@@ -14,3 +14,6 @@ returns-clause-grows c =
     let counted = c.len-2.ensures.len in
     let behind = behind_all shapes new c.self.inside.marks.items x c.in_ok-put.field-0 c.self.invariant (omega (arith, long, counted)) c.in_ok-put.ensures.joins c.in_ok-put.ensures.found in
     with_none shapes new x behind (no_path x c.len-2.result refl) ∙ ap (λ (ps : List (Option Text)). ps ++ None ∷ []) c.self.view_is
+
+pub put-requires-clause-read : goal.put-requires-clause-read
+put-requires-clause-read c = none_read (text_of c.new.result, c.len-2.result + 1) c.len-2.result refl
