@@ -31,7 +31,7 @@ use Rattle.follow_parts.specs.declared.members.FollowedPart.TheVariants as follo
 use Rattle.follow_parts.specs.declared.members.Member.{Member}
 use Rattle.follow_parts.specs.Exported.{raw_exported}
 use Rattle.follow_parts.specs.Followed.{PartScope, world, interface, labelled_scope, part_scope}
-use Rattle.follow_parts.specs.Members.{member_meant, part_meant, parts_weight, scope_of, with_front, AreFollowedTo, AreMembersPlaced, ArePlacesBelow, IsPartFollowed, IsPlacedMember, IsShownBySome, MembersStand, StandsIn}
+use Rattle.follow_parts.specs.Members.{member_meant, part_meant, parts_weight, scope_of, with_front, AreFollowedTo, AreMembersPlaced, ArePlacesBelow, IsMetBySome, IsPartFollowed, IsPlacedMember, IsShownBySome, MembersStand, StandsIn}
 use Rattle.follow_parts.proofs.ExportLaws.{each_more, each_none}
 
 abbrev Paths : Type 0
@@ -71,7 +71,7 @@ module _ (shapes : List Shape) (fs : List FunctionShape) (paths : Paths) (more :
     pub placed_still : (base : List Shape) (count till : ℕ) → IsPlacedAmong base count till old → IsPlacedAmong base count till (world_of more more_fs more_paths scope)
     placed_still base count till p = subst (λ (w : World). IsPlacedAmong base count till w) same_world
         (extended_placed old st more more_fs more_paths gs gf gp tables [] [] [] [] [] base count till p [] till (let inside = p.within in let long = longer shapes more gs in omega (arith, inside, long)) tt
-        (λ j x at past. absurd (none_past old.instances j x at past)) tt tt tt (tt, tt) (λ n q name low at. inl low) (λ n form parts low at. inl low) refl (λ j s c at here past. absurd (none_past old.imports j s at past)))
+        (λ j x at past. absurd (none_past old.instances j x at past)) tt tt tt (tt, tt) (λ j x at past. absurd (none_past old.instances j x at past)) (λ n q name low at. inl low) (λ n form parts low at. inl low) refl (λ j s c at here past. absurd (none_past old.imports j s at past)))
 
     no_more : (m : MeantScope) → plus m [] [] [] [] [] ≡ m
     no_more m = λ i. record { slots = append-nil m.slots i; instances = append-nil m.instances i; imports = append-nil m.imports i; exports = append-nil m.exports i; used = append-nil m.used i }
@@ -133,6 +133,10 @@ module _ (shapes : List Shape) (fs : List FunctionShape) (paths : Paths) (ms : L
   some_more : (upto wide q : ℕ) (name : Text) (part : ℕ) → upto ≤ wide → IsShownBySome shapes fs paths ms upto q name part → IsShownBySome shapes fs paths more_members wide q name part
   some_more upto wide q name part le h = record { number = h.number; below = (let low = h.below in omega (arith, low, le)); member = h.member; at = stands_on ms more_members front h.number h.member h.at; by = h.by }
 
+  -- met by more
+  met_more : (q : ℕ) → IsMetBySome ms q → IsMetBySome more_members q
+  met_more q h = record { number = h.number; member = h.member; at = stands_on ms more_members front h.number h.member h.at; met = h.met }
+
   placed_before : (i : ℕ) (x : Member) → i < length ms → IsPlacedMember shapes fs paths ms i x → IsPlacedMember shapes fs paths more_members i x
   placed_before i x below h = record {
     base = h.base;
@@ -184,6 +188,10 @@ module _ (before : ℕ) (xs : List ExportedPart) where
                   (some_still shapes fs paths shapes' fs' paths' s.shapes_grow s.signatures_grow s.paths_grow tables ms (length ms) q name (14 + n) (f.names n q name e));
               earlier = λ k x e less. places_below shapes fs paths x.part (all_at (λ (y : Member). StandsIn shapes fs paths y.part) ms k x f.stand (stood ms (ms ++ m ∷ []) (record { more = m ∷ []; is = refl }) k x less e));
             });
+            met = λ q path at. elim (s.met q path at) [
+              | inl below ↦ met_more shapes' fs' paths' ms m q (f.met q path (stood paths paths' s.paths_grow q (Some path) below at))
+              | inr met ↦ record { number = length ms; member = m; at = at_last ms m; met = met }
+            ];
             formed = λ n form parts at. elim (s.placed.formed n form parts (found_below shapes' n (node_shape form parts) at) at) [
               | inl below ↦ f.formed n form parts (stood shapes shapes' s.shapes_grow n (node_shape form parts) below at)
               | inr formed ↦ formed

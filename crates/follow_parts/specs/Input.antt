@@ -6,21 +6,23 @@ use Rattle.comp_bytes.specs.Levels.{PartType, Piece}
 use Rattle.comp_meaning.specs.ByLevels.{exported_parts}
 use Rattle.comp_read.specs.Following.{AreTables}
 use Rattle.comp_read.specs.Functions.{AreApart}
-use Rattle.comp_read.specs.Places.{ArePathsApart, ArePlacesOf}
+use Rattle.comp_read.specs.Places.{ArePathsApart, ArePathsRead, ArePlacesOf}
 use Rattle.follow_parts.specs.declared.following.Followed.{Followed}
 use Rattle.follow_parts.specs.Followed.{scopes_in, scopes_of}
-use Rattle.follow_parts.specs.Members.{member_meant, parts_weight, AreFormed, AreMembersPlaced, AreNamesShown, MembersStand}
+use Rattle.follow_parts.specs.Members.{member_meant, parts_weight, AreFormed, AreMembersPlaced, AreNamesShown, ArePlacesMet, MembersStand}
 
--- The tables are well-formed, with forms as definitions have them, names stand in their places and each is shown, and the members stand in the tables
--- for what the parts do, over no more types than the parts' entries make.
+-- The tables are well-formed, with forms as definitions have them, each path is read, names stand in their places and each is shown, each place with a
+-- path is met, and the members stand in the tables for what the parts do, over no more types than the parts' entries make.
 pub record ArePartsFollowed (parts : List (Text × PartType)) (x : Followed) : Type 0 where
   pub tables : AreTables (length x.places) x.table x.functions
   pub functions_apart : AreApart x.functions
   pub paths_apart : ArePathsApart x.places
+  pub paths_read : ArePathsRead x.places
   pub stand : MembersStand x.table x.functions x.places x.members.items
   pub count : length x.table ≤ parts_weight parts
   pub placed : AreMembersPlaced x.table x.functions x.places x.members.items
   pub names : AreNamesShown x.table x.functions x.places x.members.items
+  pub met : ArePlacesMet x.places x.members.items
   pub formed : AreFormed x.table
   pub shows : (place : ℕ → Place) → ArePlacesOf x.places place → scopes_in parts ≡ Some (map (member_meant x.table x.functions x.places place) x.members.items)
 

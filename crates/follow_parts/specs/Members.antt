@@ -12,7 +12,7 @@ use Rattle.comp_read.specs.Defining.{Grows}
 use Rattle.comp_read.specs.Following.{AreTables}
 use Rattle.comp_read.specs.Functions.{FunctionShape}
 use Rattle.comp_read.specs.Places.{ArePlacesOf}
-use Rattle.comp_read.specs.Scopes.{meant_at, weights, world_of, IsPlacedAmong, IsPlacedWorld, IsShownBy, IsWorld}
+use Rattle.comp_read.specs.Scopes.{meant_at, weights, world_of, ArePathsMet, IsPlacedAmong, IsPlacedWorld, IsPlaceMet, IsShownBy, IsWorld}
 use Rattle.read_plan.specs.PlanRules.{is_form}
 use Rattle.read_plan.specs.Shapes.{Shape, named_shape, node_shape}
 use Rattle.follow_parts.specs.declared.members.FollowedPart.{FollowedPart}
@@ -28,6 +28,17 @@ scope_of (followed.Interface scope) = scope
 pub record ArePlacesBelow (count : ℕ) (p : FollowedPart) : Type 0 where
   pub home : (scope_of p).home < count
   pub instances : (j : ℕ) (x : Instance) → slice_get (scope_of p).instances.items j ≡ Some x → x.place < count
+
+-- an instance of one of the parts is of the place
+pub record IsMetBySome (ms : List Member) (q : ℕ) : Type 0 where
+  pub number : ℕ
+  pub member : Member
+  pub at : slice_get ms number ≡ Some member
+  pub met : IsPlaceMet (scope_of member.part).instances.items q
+
+-- each place with a path is met
+abbrev pub ArePlacesMet : List (Option Text) → List Member → Type 0
+ArePlacesMet paths ms = (q : ℕ) (path : Text) → slice_get paths q ≡ Some (Some path) → IsMetBySome ms q
 
 -- each form of the table is one that a definition may have
 abbrev pub AreFormed : List Shape → Type 0
@@ -87,8 +98,8 @@ module _ (shapes : List Shape) (fs : List FunctionShape) (paths : List (Option T
 
 -- ---- one part
 
--- The tables and the places grow, by no more types than its entries make, names stand in their places, and the part stands for what its type at the
--- top does.
+-- The tables and the places grow, by no more types than its entries make, names stand in their places, new places with a path are met, and the part
+-- stands for what its type at the top does.
 pub record IsPartFollowed (shapes : List Shape) (fs : List FunctionShape) (paths : List (Option Text)) (raw : PartType)
     (more : List Shape) (more_fs : List FunctionShape) (more_paths : List (Option Text)) (p : FollowedPart) : Type 0 where
   pub stands : StandsIn more more_fs more_paths p
@@ -97,6 +108,7 @@ pub record IsPartFollowed (shapes : List Shape) (fs : List FunctionShape) (paths
   pub paths_grow : Grows paths more_paths
   pub count : length more ≤ length shapes + part_weight raw
   pub placed : IsPlacedWorld shapes (length paths) (world_of more more_fs more_paths (scope_of p))
+  pub met : ArePathsMet (length paths) more_paths (scope_of p).instances.items
   pub shows : (place : ℕ → Place) → ArePlacesOf more_paths place → part_scope raw ≡ Some (part_meant more more_fs more_paths place p)
 
 -- ---- all parts
@@ -105,14 +117,15 @@ pub record IsPartFollowed (shapes : List Shape) (fs : List FunctionShape) (paths
 abbrev pub with_front : {A : Type 0} → List A → Option (List A) → Option (List A)
 with_front front found = found >>= λ rest. Some (front ++ rest)
 
--- Some parts have been followed, over so many types that were there before. Names stand in their places, and each is shown; forms are as definitions
--- have them. Those that are left decide what all stand for.
+-- Some parts have been followed, over so many types that were there before. Names stand in their places, and each is shown; each place with a path is
+-- met; forms are as definitions have them. Those that are left decide what all stand for.
 pub record AreFollowedTo (before : ℕ) (raws left : List (Text × PartType)) (shapes : List Shape) (fs : List FunctionShape) (paths : List (Option Text)) (ms : List Member) : Type 0 where
   pub tables : AreTables (length paths) shapes fs
   pub stand : MembersStand shapes fs paths ms
   pub count : length shapes + parts_weight left ≤ before + parts_weight raws
   pub placed : AreMembersPlaced shapes fs paths ms
   pub names : AreNamesShown shapes fs paths ms
+  pub met : ArePlacesMet paths ms
   pub formed : AreFormed shapes
   pub shows : (place : ℕ → Place) → ArePlacesOf paths place → with_front (map (member_meant shapes fs paths place) ms) (each labelled_scope left) ≡ each labelled_scope raws
 

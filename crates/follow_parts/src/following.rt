@@ -39,6 +39,7 @@ fn follow_each<'a>(
 ) -> Result<Vec<Member<'a>>, Refusal>
     requires tables { AreTables (length places.old) table.old functions.old }
     requires empty { table.old ≡ [] }
+    requires nowhere { places.old ≡ [] }
     requires whole { AllByRecursion (λ x. IsWholePart x.part) parts.now }
     ensures followed { IfOk result (λ ms. AreFollowed (length table.old) (map raw_exported parts.now) table.new functions.new places.new ms.items) }
     ensures absent { IfErr result (λ e. Refuses e (each labelled_scope (map raw_exported parts.now))) }
@@ -72,6 +73,7 @@ fn follow_all<'a>(alloc: Global, parts: &[ExportedPart<'a>]) -> Result<Followed<
         Ok(members) => {
             functions.are_apart();
             places.are_apart();
+            places.are_read();
             Ok(Followed {
                 table,
                 functions,

@@ -15,10 +15,12 @@ returns-in-Ok-clause-followed c =
       tables = f.tables;
       functions_apart = c.are_apart.ensures;
       paths_apart = c.are_apart-in-Ok.ensures;
+      paths_read = c.are_read.ensures;
       stand = f.stand;
       count = omega (arith, none, count);
       placed = f.placed;
       names = f.names;
+      met = f.met;
       formed = f.formed;
       shows = λ place of. some_there c.args.parts.now (sym c.if-is_empty.ensures) ∙ whole_meant (length c.new-table.result) raws c.follow_each.new.table c.follow_each.new.functions c.follow_each.new.places c.in-Ok.members.items f place of;
     }
