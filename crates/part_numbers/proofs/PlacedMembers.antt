@@ -5,10 +5,13 @@ use Rattle.std.proofs.Math.ListN.{length-map}
 use Rattle.std.proofs.lemmas.Bool.{cases_lt}
 use Rattle.wit_model.specs.Text.{Text}
 use Rattle.wit_model.specs.Tree.{Place, Tree}
+use Rattle.wit_model.proofs.Elements.{get-contains}
 use Rattle.comp_meaning.specs.Follow.{Seen as MeantSeen}
 use Rattle.comp_meaning.specs.Rules.{distinct}
+use Rattle.read_plan.specs.FollowedNumbers.{IsOneOf}
 use Rattle.read_plan.specs.NumberedViews as views
 use Rattle.read_plan.specs.NumberedViews.{function_at, path_at, NumberedType, NumberedView, PartsOf, Tables}
+use Rattle.read_plan.specs.NumberedWorlds as worlds
 use Rattle.read_plan.specs.NumberedWorlds.{place_of_key, NumberedInstance, NumberedScope, NumberedSeen}
 use Rattle.read_plan.specs.Shapes.{Shape, named_shape, shape_trees}
 use Rattle.read_plan.proofs.ShapeLaws.{slice_there}
@@ -24,16 +27,16 @@ use Rattle.comp_read.specs.Functions.{functions_in, FunctionShape, IsFunctionIn}
 use Rattle.comp_read.specs.Placed.{apart, HasNoNames, MayMeet, Rise}
 use Rattle.comp_read.specs.Places.{has_path, place_number}
 use Rattle.comp_read.specs.Scopes as scopes
-use Rattle.comp_read.specs.Scopes.{seen_in, world_of, AreSeenIn, IsCountedAs, IsImportNamed, IsInlinePlace, IsInstanceIn, IsKeyPlaced, IsPlacedAmong, IsShownAs, IsShownBy, IsWorld, ShownOver}
+use Rattle.comp_read.specs.Scopes.{seen_in, world_of, AreSeenIn, IsCountedAs, IsImportNamed, IsInlinePlace, IsInstanceIn, IsInstanceSeen, IsKeyPlaced, IsPlacedAmong, IsShownAs, IsShownBy, IsWorld, ShownOver}
 use Rattle.comp_read.proofs.AddLaws.{mapped_get}
 use Rattle.comp_read.proofs.DefiningLaws.{all_at}
 use Rattle.follow_parts.specs.declared.members.Member.{Member}
-use Rattle.follow_parts.specs.Members.{scope_of, AreFormed, AreMembersPlaced, AreNamesShown, MembersStand, StandsIn}
+use Rattle.follow_parts.specs.Members.{scope_of, AreFormed, AreMembersPlaced, AreNamesShown, ArePlacesMet, MembersStand, StandsIn}
 use Rattle.part_numbers.specs.NumberedParts.{instance_view, name_in, no_view, numbered_function, numbered_instance, numbered_key, numbered_scope, numbered_seen, numbered_shown, numbered_type, numbered_view, tables_in}
-use Rattle.part_numbers.specs.PlacedNumbers.{ArePlacedScopes, IsCounted, IsCountedItem, IsFirstSeen, IsInstanceAt, IsLastType, IsPlacedItem, IsPlacedScope, IsPlacedView, IsRisingView, PlacesAreKept, ShowsName, by_instance, by_import}
+use Rattle.part_numbers.specs.PlacedNumbers.{ArePlacedScopes, IsCounted, IsCountedItem, IsFirstSeen, IsInstanceAt, IsLastType, IsPlacedItem, IsPlacedScope, IsPlacedView, IsRisingView, IsSeenAs, as_export, as_import, PlacesAreKept, ShowsName, by_instance, by_import}
 use Rattle.part_numbers.proofs.PlacedViews.{all_of, declared_met, function_met, placed_view, rising_view, slot_number}
 use Rattle.part_numbers.proofs.ScopeNumbers.{keys_in_numbers}
-use Rattle.part_numbers.proofs.TableNumbers.{at_mapped}
+use Rattle.part_numbers.proofs.TableNumbers.{at_mapped, path_there}
 
 key_place : (key : InstanceKey) → place_of_key (numbered_key key) ≡ place_number key
 key_place (keys.Path p) = refl
@@ -74,12 +77,15 @@ module _ (shapes : List Shape) (fs : List FunctionShape) (paths : List (Option T
         let h = p.instances j x at in
         placed_view shapes fs paths tables.table tables.signatures x.place x.view inside.types inside.functions h.shown h.named
 
+    -- what an import or an export shows as the instance of this number
+    shown_view : (n : ℕ) (x : Instance) → slice_get is n ≡ Some x → instance_view x ≡ unwrap_or (slice_get vs n) no_view
+    shown_view n x at = sym (ap (λ o. unwrap_or o no_view) (mapped_get instance_view is n x at))
+
     item_placed : (s : Shown) → IsShownAs shapes fs paths (length is) s → ShownOver P (scopes.shown_in apart T (functions_in T fs) is s) → IsKeyPlaced is s → IsPlacedItem t scope.home (numbered_shown vs s)
     item_placed (shown.Instance key n) h over placed =
         let x = placed.0 in
-        let view : instance_view x ≡ unwrap_or (slice_get vs n) no_view = sym (ap (λ o. unwrap_or o no_view) (mapped_get instance_view is n x placed.1)) in
         let place : x.place ≡ place_of_key (numbered_key key) = placed.2 ∙ sym (key_place key) in
-        (keys_in_numbers shapes fs paths key h.0, subst (λ (v : NumberedView). IsPlacedView t (place_of_key (numbered_key key)) v) view (subst (λ q. IsPlacedView t q (instance_view x)) place (view_placed n x placed.1)))
+        (keys_in_numbers shapes fs paths key h.0, subst (λ (v : NumberedView). IsPlacedView t (place_of_key (numbered_key key)) v) (shown_view n x placed.1) (subst (λ q. IsPlacedView t q (instance_view x)) place (view_placed n x placed.1)))
     item_placed (shown.Function name f) h over placed = function_met shapes fs paths tables.table tables.signatures scope.home f h over
     item_placed (shown.Type name part d) h over placed = declared_met shapes fs paths tables.table tables.signatures scope.home d h.1 over
 
@@ -87,6 +93,36 @@ module _ (shapes : List Shape) (fs : List FunctionShape) (paths : List (Option T
         → AllByRecursion (λ (s : NumberedSeen). IsPlacedItem t scope.home s.shown) (map (numbered_seen paths vs) ss)
     items_placed [] h over placed = tt
     items_placed (s ∷ ss) h over placed = (item_placed s.shown h.0 over.0 placed.0, items_placed ss h.1 over.1 placed.1)
+
+    -- ---- instances that are seen
+
+    one_of : (s : Shown) → IsKeyPlaced is s → IsOneOf t w.instances (numbered_shown vs s)
+    one_of (shown.Instance key n) placed =
+        let x = placed.0 in
+        get-contains w.instances n (record { place = place_of_key (numbered_key key); view = unwrap_or (slice_get vs n) no_view })
+        (mapped_get numbered_instance is n x placed.1 ∙ (λ i. Some (record { place = (placed.2 ∙ sym (key_place key)) i; view = shown_view n x placed.1 i })))
+    one_of (shown.Function name f) placed = tt
+    one_of (shown.Type name part d) placed = tt
+
+    ones_of : (ss : List Seen) → AllByRecursion (λ (s : Seen). IsKeyPlaced is s.shown) ss → AllByRecursion (λ (s : NumberedSeen). IsOneOf t w.instances s.shown) (map (numbered_seen paths vs) ss)
+    ones_of [] placed = tt
+    ones_of (s ∷ ss) placed = (one_of s.shown placed.0, ones_of ss placed.1)
+
+    -- the place of an instance is that of the key under which it is seen
+    key_of_seen : (ss : List Seen) → AllByRecursion (λ (s : Seen). IsKeyPlaced is s.shown) ss → (n : ℕ) (s : Seen) (key : InstanceKey) (j : ℕ) (x : Instance) → slice_get ss n ≡ Some s → s.shown ≡ shown.Instance key j → slice_get is j ≡ Some x
+        → (numbered_shown vs s.shown ≡ worlds.instance (numbered_key key) (instance_view x)) × (place_of_key (numbered_key key) ≡ x.place)
+    key_of_seen ss placed n s key j x there shows at =
+        let k = subst (λ (y : Shown). IsKeyPlaced is y) shows (all_at (λ (y : Seen). IsKeyPlaced is y.shown) ss n s placed there) in
+        let same = one_item is j k.0 x k.1 at in
+        (ap (numbered_shown vs) shows ∙ ap (worlds.instance (numbered_key key)) (sym (shown_view j x at)), key_place key ∙ (sym k.2 ∙ ap (λ (y : Instance). y.place) same))
+
+    seen_as : (j : ℕ) (x : Instance) → slice_get is j ≡ Some x → IsInstanceSeen (world_of shapes fs paths scope) j → IsSeenAs w (numbered_instance x)
+    seen_as j x at (scopes.as_import n s key there shows) =
+        let k = key_of_seen scope.imports.items p.imports_keyed n s key j x there shows at in
+        as_import n (numbered_seen paths vs s) (numbered_key key) (mapped_get (numbered_seen paths vs) scope.imports.items n s there) k.0 k.1
+    seen_as j x at (scopes.as_export n s key there shows) =
+        let k = key_of_seen scope.exports.items p.exports_keyed n s key j x there shows at in
+        as_export n (numbered_seen paths vs s) (numbered_key key) (mapped_get (numbered_seen paths vs) scope.exports.items n s there) k.0 k.1
 
     -- ---- what is counted
 
@@ -142,6 +178,11 @@ module _ (shapes : List Shape) (fs : List FunctionShape) (paths : List (Option T
       instances = λ j i at.
           let x = at_mapped numbered_instance is j i at in
           subst (λ (z : NumberedInstance). IsPlacedView t z.place z.view) x.2 (view_placed j x.0 x.1);
+      imported = ones_of scope.imports.items p.imports_keyed;
+      exported = ones_of scope.exports.items p.exports_keyed;
+      seen = λ j i at.
+          let x = at_mapped numbered_instance is j i at in
+          subst (λ (z : NumberedInstance). IsSeenAs w z) x.2 (seen_as j x.0 x.1 (p.seen j x.0 x.1));
       counts = p.counts;
       many = p.many ∙ sym (length-map scope.imports.items (numbered_seen paths vs));
       counted = import_counted;
@@ -280,8 +321,8 @@ module _ (shapes : List Shape) (fs : List FunctionShape) (paths : List (Option T
       ]
     ]
 
-    pub placed_scopes : AreNamesShown shapes fs paths ms → AreFormed shapes → ArePlacedScopes t ws
-    placed_scopes names formed = record {
+    pub placed_scopes : AreNamesShown shapes fs paths ms → ArePlacesMet paths ms → AreFormed shapes → ArePlacedScopes t ws
+    placed_scopes names met formed = record {
       each = λ m w at. (let y = at_mapped scope_in ms m w at in subst (λ (v : NumberedScope). IsPlacedScope t v) y.2 (scope_placed m y.0 y.1));
       names = λ n q name at.
           let s = names n q name at in
@@ -291,6 +332,15 @@ module _ (shapes : List Shape) (fs : List FunctionShape) (paths : List (Option T
             scope = scope_in s.member;
             at = mapped_get scope_in ms s.number s.member s.at;
             shows = shows_name (scope_of s.member.part) (stands s.number s.member s.at) h.base h.count h.till h.placed q n name s.by;
+          };
+      met = λ q h.
+          let m = met q h.0 (path_there paths q h.0 h.1) in
+          record {
+            scope = m.number;
+            number = m.met.number;
+            one = numbered_instance m.met.one;
+            at = instance_there m.number m.met.number m.member m.met.one m.at m.met.at;
+            place = m.met.place;
           };
       formed = formed;
       firsts = λ m j i h.
@@ -314,4 +364,4 @@ module _ (shapes : List Shape) (fs : List FunctionShape) (paths : List (Option T
     }
 
 pub places_are_kept : PlacesAreKept
-places_are_kept pieces x f = placed_scopes x.table x.functions x.places f.followed.tables x.members.items f.followed.stand f.followed.placed f.followed.names f.followed.formed
+places_are_kept pieces x f = placed_scopes x.table x.functions x.places f.followed.tables x.members.items f.followed.stand f.followed.placed f.followed.names f.followed.met f.followed.formed

@@ -20,7 +20,7 @@ at_mapped f (x ∷ xs) (suc n) y e = at_mapped f xs n y e
 abbrev function_back : views.FunctionShape → FunctionShape
 function_back f = record { is_async = f.is_async; params = f.params; outcome = f.result }
 
-path_there : (paths : List (Option Text)) (n : ℕ) (path : Text) → unwrap_or (slice_get paths n) None ≡ Some path → slice_get paths n ≡ Some (Some path)
+pub path_there : (paths : List (Option Text)) (n : ℕ) (path : Text) → unwrap_or (slice_get paths n) None ≡ Some path → slice_get paths n ≡ Some (Some path)
 path_there [] n path e = absurd cc
 path_there (o ∷ paths) zero path e = ap Some e
 path_there (o ∷ paths) (suc n) path e = path_there paths n path e

@@ -6,9 +6,10 @@ use Rattle.wit_model.specs.Text.{Text}
 use Rattle.wit_model.specs.Tree.{Form}
 use Rattle.comp_bytes.specs.Levels.{Piece}
 use Rattle.comp_meaning.specs.Rules.{distinct}
+use Rattle.read_plan.specs.FollowedNumbers.{IsOneOf}
 use Rattle.read_plan.specs.NumberedRules.{IsSeenFrom}
 use Rattle.read_plan.specs.NumberedViews.{Tables, path_at, function_at, value, resource, AllOf, AreTables, HasNameIn, IsOutside, IsPart, NumberedSlot, NumberedType, NumberedView, PartsOf, ViewPasses}
-use Rattle.read_plan.specs.NumberedWorlds.{instance, function, declares, place_of_key, HasPath, KeyStands, NumberedInstance, NumberedScope, NumberedSeen, NumberedShown}
+use Rattle.read_plan.specs.NumberedWorlds.{instance, function, declares, place_of_key, HasPath, KeyStands, NumberedInstance, NumberedKey, NumberedScope, NumberedSeen, NumberedShown}
 use Rattle.read_plan.specs.PlanRules.{are_rising, is_form}
 use Rattle.read_plan.specs.Shapes.{named_shape, node_shape}
 use Rattle.follow_parts.specs.declared.following.Followed.{Followed}
@@ -94,12 +95,21 @@ pub record IsCounted (t : Tables) (w : NumberedScope) (counts : List ℕ) (j c :
 
 -- ---- scopes
 
--- All that the scope shows is over its own place and places with a path, and its imports came into the table in their order.
+-- an import or an export is the instance, under a key of its place
+pub data IsSeenAs (w : NumberedScope) (i : NumberedInstance) : Type 0 where
+  as_import : (n : ℕ) (s : NumberedSeen) (k : NumberedKey) → slice_get w.imports n ≡ Some s → s.shown ≡ instance k i.view → place_of_key k ≡ i.place → IsSeenAs w i
+  as_export : (n : ℕ) (s : NumberedSeen) (k : NumberedKey) → slice_get w.exports n ≡ Some s → s.shown ≡ instance k i.view → place_of_key k ≡ i.place → IsSeenAs w i
+
+-- All that the scope shows is over its own place and places with a path, its imports and exports that are instances are those of the scope, and its
+-- imports came into the table in their order.
 pub record IsPlacedScope (t : Tables) (w : NumberedScope) : Type 0 where
   pub home : path_at t w.home ≡ None
   pub imports : AllByRecursion (λ (s : NumberedSeen). IsPlacedItem t w.home s.shown) w.imports
   pub exports : AllByRecursion (λ (s : NumberedSeen). IsPlacedItem t w.home s.shown) w.exports
+  pub imported : AllByRecursion (λ (s : NumberedSeen). IsOneOf t w.instances s.shown) w.imports
+  pub exported : AllByRecursion (λ (s : NumberedSeen). IsOneOf t w.instances s.shown) w.exports
   pub instances : (j : ℕ) (i : NumberedInstance) → slice_get w.instances j ≡ Some i → IsPlacedView t i.place i.view
+  pub seen : (j : ℕ) (i : NumberedInstance) → slice_get w.instances j ≡ Some i → IsSeenAs w i
   pub counts : List ℕ
   pub many : length counts ≡ length w.imports
   pub counted : (j c : ℕ) (s : NumberedSeen) → slice_get w.imports j ≡ Some s → slice_get counts j ≡ Some c → IsCounted t w counts j c s
@@ -127,6 +137,14 @@ pub record IsInstanceAt (ws : List NumberedScope) (m j : ℕ) (i : NumberedInsta
   pub at : slice_get ws m ≡ Some scope
   pub instance_at : slice_get scope.instances j ≡ Some i
 
+-- an instance of one of the scopes is of the place
+pub record IsMetInSome (ws : List NumberedScope) (q : ℕ) : Type 0 where
+  pub scope : ℕ
+  pub number : ℕ
+  pub one : NumberedInstance
+  pub at : IsInstanceAt ws scope number one
+  pub place : one.place ≡ q
+
 -- no instance before this one is of the place
 pub record IsFirstSeen (ws : List NumberedScope) (m j p : ℕ) : Type 0 where
   pub scopes : (k l : ℕ) (i : NumberedInstance) → k < m → IsInstanceAt ws k l i → i.place ≡ p → ⊥
@@ -134,11 +152,12 @@ pub record IsFirstSeen (ws : List NumberedScope) (m j p : ℕ) : Type 0 where
 
 -- ---- all scopes of an input
 
--- Each scope is placed, each name of the table is shown, and each form is one that a definition may have. Where the names of a view differ, and it is
--- the first of its place, they came into the table in its order. Each scope and each inline interface has a place of its own.
+-- Each scope is placed, each name of the table is shown, each place with a path is met, and each form is one that a definition may have. Where the names of
+-- a view differ, and it is the first of its place, they came into the table in its order. Each scope and each inline interface has a place of its own.
 pub record ArePlacedScopes (t : Tables) (ws : List NumberedScope) : Type 0 where
   pub each : (m : ℕ) (w : NumberedScope) → slice_get ws m ≡ Some w → IsPlacedScope t w
   pub names : (n q : ℕ) (name : Text) → slice_get t.shapes n ≡ Some (named_shape q name) → IsShownInSome ws q n name
+  pub met : (q : ℕ) → HasPath t q → IsMetInSome ws q
   pub formed : (n : ℕ) (form : Form) (parts : List ℕ) → slice_get t.shapes n ≡ Some (node_shape form parts) → is_form form parts ≡ true
   pub firsts : (m j : ℕ) (i : NumberedInstance) → IsInstanceAt ws m j i → IsFirstSeen ws m j i.place → distinct (map (λ (x : NumberedType). x.name) i.view.types) ≡ true → IsRisingView t i.place i.view
   pub homes : (m n : ℕ) (w v : NumberedScope) → slice_get ws m ≡ Some w → slice_get ws n ≡ Some v → w.home ≡ v.home → m ≡ n

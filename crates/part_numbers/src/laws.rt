@@ -35,7 +35,8 @@ pub fn met_parts_are_seen()
 {}
 
 /// What is followed of an input is so in numbers: all that a scope shows is over its own place and places with a path, what is shown stands for its
-/// name, each name of the table is shown, in the order in which it came, and forms are as definitions have them.
+/// name, each name of the table is shown, in the order in which it came, instances are those that are imported and exported, each place with a path
+/// is that of one, and forms are as definitions have them.
 pub fn places_are_kept()
     ensures { PlacesAreKept }
 {}
