@@ -1,0 +1,14 @@
+pub mod Lists
+pub mod ByScopes
+pub mod Scopes
+pub mod InterfaceViews
+pub mod Members
+pub mod Views
+pub mod Inputs
+pub mod Places
+pub mod Ordered
+pub mod Labels
+pub mod Whole
+pub mod KeyLabels
+pub mod FollowedWorlds
+pub mod ReadPackages

@@ -1,0 +1,4 @@
+pub mod ReadInput
+pub mod InputLaws
+pub mod FollowedWorlds
+pub mod ReadPackages
