@@ -1,0 +1,4 @@
+pub mod BuildLaws
+pub mod DecodedLaws
+pub mod FollowedLaws
+pub mod ReadLaws

@@ -1,0 +1,107 @@
+-- The package of members that were read of what was followed.
+use Rattle.std.proofs.Common.{◌≡◌, refl, sym, ap, subst, ◌∙◌, ℕ, true, false, List, [], ◌∷◌, map, Option, Some, None, slice_get}
+use Rattle.std.specs.Borrow.{Bor}
+use Rattle.std.specs.List.{AllZip}
+use Rattle.wit_model.specs.Names.{PackageIdentity}
+use Rattle.comp_bytes.specs.Levels.{Piece}
+use Rattle.comp_meaning.specs.ByLevels.{package_of_pieces}
+use Rattle.read_plan.specs.NumberedMembers.{Homes, HomesStand, are_package, home_at}
+use Rattle.read_plan.specs.NumberedRules.{Fact}
+use Rattle.read_plan.specs.NumberedViews.{Tables}
+use Rattle.path_homes.specs.Homes.{ArePackages, HaveReasons, IsHomeOf, given_home}
+use Rattle.follow_parts.specs.declared.following.Followed.{Followed}
+use Rattle.follow_parts.specs.declared.members.Member.{Member as FollowedMember}
+use Rattle.follow_parts.specs.Input.{IsFollowed}
+use Rattle.plan_members.specs.declared.members.Member.{Member}
+use Rattle.plan_members.specs.Members.{homes_in, numbered_members}
+use Rattle.plan_read.specs.declared.tables.Fact.{Fact as KeptFact}
+use Rattle.plan_whole.specs.PlanWhole.{MayBeWhole}
+use Rattle.part_numbers.specs.FactLaws.{known_by}
+use Rattle.part_numbers.specs.KnownScopes.{AreKnown}
+use Rattle.part_numbers.specs.NumberedInput.{tables_of}
+use Rattle.part_members.specs.Decided.{are_one_package}
+use Rattle.part_members.specs.declared.reading.ReadMember.{ReadMember}
+use Rattle.part_members.specs.ReadMembers.{lent_member, read_member, AreForMembers, AreRead}
+use Rattle.part_members.proofs.PackageLaws.{decide, lent_are}
+use Rattle.input_laws.specs.ReadPackages.{IsReadPackage}
+use Rattle.input_laws.proofs.ReadPackages.{read_may_be_planned, read_packages_have_sources, read_plans_are_meant}
+use Rattle.wit_decode.specs.MembersRead.{AreReadOf, IsMain}
+use Rattle.wit_decode.specs.Planned.{PlansMean}
+
+-- ---- the package of the first member
+
+abbrev Given : Type 0
+Given = List (Option (ℕ × Bor (List ℕ)))
+
+pub of_first : (t : Tables) (h : Homes) (known : ℕ → Fact) (ms : List Member) (m : Member) → Some m ≡ slice_get ms 0 → are_package t h known m.package_number (numbered_members ms) ≡ are_one_package t h known (numbered_members ms)
+of_first t h known [] m e = absurd cc
+of_first t h known (x ∷ ms) m e = let same : m ≡ x = cc in ap (λ (y : Member). are_package t h known y.package_number (numbered_members (x ∷ ms))) same
+
+-- ---- members that are a package
+
+module _ (x : Followed) (t : Tables) (facts : List KeptFact) (h : Homes) (rs : List ReadMember) (read : AreReadOf x t facts h (map read_member rs)) (ms : List Member) (lent : map lent_member ms ≡ map read_member rs) where
+  module _ (pieces : List Piece) (followed : IsFollowed pieces x) (n : ℕ) (obeys : are_package t h (known_by facts) n (numbered_members ms) ≡ true) where
+    is_package : IsReadPackage pieces x t facts h n ms
+    is_package = record {
+      tables = read.tables;
+      followed = followed;
+      known = read.known;
+      stand = read.stand;
+      homes = read.homes;
+      packages = read.packages;
+      sources = read_packages_have_sources read.first h.packages h.homes ms read.reasons (subst (AreForMembers read.first h.packages) (sym lent) read.members);
+      read = subst (AreRead t (known_by facts) h x.members.items) (sym lent) read.read;
+      obeys = obeys;
+    }
+
+    pub may_be_whole : MayBeWhole t ms
+    may_be_whole = read_may_be_planned pieces x t facts h n ms is_package
+
+    pub plans_mean : PlansMean t h.packages (home_at h) n ms (package_of_pieces pieces)
+    plans_mean p planned fits =
+        let is = read_plans_are_meant pieces x t facts h n ms is_package p planned fits in
+        record { plan = is.plan; means = is.means }
+
+-- ---- members that are none
+
+pub no_package : (x : Followed) (t : Tables) (facts : List KeptFact) (packages : List PackageIdentity) (homes : Given) (rs : List ReadMember) → AreReadOf x t facts (homes_in packages homes) (map read_member rs)
+    → (ms : List Member) → map lent_member ms ≡ map read_member rs → are_one_package t (homes_in packages homes) (known_by facts) (numbered_members ms) ≡ false
+    → (pieces : List Piece) → IsFollowed pieces x → package_of_pieces pieces ≡ None
+no_package x t facts packages homes rs read ms lent none pieces followed =
+    decide pieces x followed facts read.known packages homes (subst (λ (u : Tables). HomesStand u (homes_in packages homes)) read.tables read.stand) t read.tables homes refl x.members.items refl rs
+    read.read homes refl rs refl false (sym none ∙ ap (are_one_package t (homes_in packages homes) (known_by facts)) (lent_are ms rs lent))
+
+-- ---- members as they are read
+
+module _ (x : Followed) (t : Tables) (tables : t ≡ tables_of x) (facts : List KeptFact) (known : AreKnown x facts) (old first packages : List PackageIdentity) (empty : old ≡ []) (homes : Given)
+    (are_homes : AllZip (IsHomeOf first) t.paths (map given_home homes)) (reasons : HaveReasons old first (map given_home homes)) (stand : HomesStand (tables_of x) (homes_in packages homes)) (are : ArePackages packages)
+    (rs : List ReadMember) (sources : AreForMembers first packages (map read_member rs)) (lent : Given) (lent_is : lent ≡ homes) (members : List FollowedMember) (all : members ≡ x.members.items)
+    (read : AreRead t (known_by facts) (homes_in packages lent) members (map read_member rs)) where
+  read_here : AreReadOf x t facts (homes_in packages homes) (map read_member rs)
+  read_here = record {
+    tables = tables;
+    known = known;
+    stand = subst (λ (u : Tables). HomesStand u (homes_in packages homes)) (sym tables) stand;
+    homes = (first, are_homes);
+    packages = are;
+    first = first;
+    reasons = subst (λ (ps : List PackageIdentity). HaveReasons ps first (map given_home homes)) empty reasons;
+    members = sources;
+    read =
+        subst (λ (hs : Given). AreRead t (known_by facts) (homes_in packages hs) x.members.items (map read_member rs)) lent_is
+        (subst (λ (ms : List FollowedMember). AreRead t (known_by facts) (homes_in packages lent) ms (map read_member rs)) all read);
+  }
+
+  pub are_read_of : (again : Given) → again ≡ homes → (those : List ReadMember) → those ≡ rs → AreReadOf x t facts (homes_in packages again) (map read_member those)
+  are_read_of again again_is those those_are =
+      subst (λ (hs : Given). AreReadOf x t facts (homes_in packages hs) (map read_member those)) (sym again_is)
+      (subst (λ (ks : List ReadMember). AreReadOf x t facts (homes_in packages homes) (map read_member ks)) (sym those_are) read_here)
+
+-- ---- the package that is looked for
+
+module _ (t : Tables) (h : Homes) (known : ℕ → Fact) (given ms : List Member) (same : given ≡ ms) (o : Option ℕ) where
+  pub main_is : (n : ℕ) → o ≡ Some n → IsMain t h known (numbered_members given) o → are_package t h known n (numbered_members ms) ≡ true
+  main_is n e is = subst (λ (ys : List Member). are_package t h known n (numbered_members ys) ≡ true) same (subst (IsMain t h known (numbered_members given)) e is)
+
+  pub none_is : o ≡ None → IsMain t h known (numbered_members given) o → are_one_package t h known (numbered_members ms) ≡ false
+  none_is e is = subst (λ (ys : List Member). are_one_package t h known (numbered_members ys) ≡ false) same (subst (IsMain t h known (numbered_members given)) e is)

@@ -1,0 +1,4 @@
+pub mod Decoded
+pub mod MembersRead
+pub mod Planned
+pub mod SomeFollowed

@@ -1,0 +1,58 @@
+//! Why what was read is no package.
+
+ghost use Rattle.std.specs.Prelude.{Option};
+ghost use Rattle.wit_model.specs.Meaning.{PackageMeaning};
+ghost use Rattle.comp_read.specs.Found.{Refuses};
+
+use comp_read::Refusal;
+use plan_gather::agree;
+use plan_members::{Member, sights_of_members};
+use plan_read::Tables;
+use std::alloc::{AllocError, Global};
+use wit_model::Cause;
+
+/// Whether a type has more levels than a type may have.
+fn has_deep_type(tables: &Tables<'_>) -> bool {
+    for fact in tables.facts {
+        if fact.levels > 100 {
+            return true;
+        }
+    }
+    false
+}
+
+/// Why members are no package: views of an interface that differ, or else another fault.
+pub(crate) fn cause_among(
+    alloc: Global,
+    tables: &Tables<'_>,
+    members: &[Member<'_>],
+) -> Result<Cause, AllocError> {
+    let sights = sights_of_members(alloc, tables, members)?;
+    if agree(alloc, &sights)? {
+        Ok(Cause::NotWit)
+    } else {
+        Ok(Cause::Disagree)
+    }
+}
+
+/// Why what was read over these tables is no package, where members that were read say this: views that differ, a type that is too deep, or else
+/// another fault.
+fn cause_over(tables: &Tables<'_>, cause: Cause) -> Cause {
+    if cause == Cause::Disagree {
+        cause
+    } else if has_deep_type(tables) {
+        Cause::TooDeep
+    } else {
+        Cause::NotWit
+    }
+}
+
+/// The refusal of what was read over these tables, with its cause.
+pub(crate) fn refusal_over(tables: &Tables<'_>, refusal: Refusal) -> Refusal
+    ensures { (found : Option PackageMeaning) → Refuses refusal found → Refuses result found }
+{
+    match refusal {
+        Refusal::Absent(cause, left) => Refusal::Absent(cause_over(tables, cause), left),
+        Refusal::Memory => Refusal::Memory,
+    }
+}
