@@ -1,5 +1,10 @@
 //! Members of a package with an interface and a world.
 
+ghost use Rattle.std.specs.Prelude.{◌≡◌, map};
+ghost use Rattle.part_members.specs.Layers.{shown_of_member, shown_owned, AreTablesOf};
+ghost use Rattle.part_numbers.specs.NumberedInput.{tables_of as tables_of_lem};
+ghost use Rattle.plan_read.specs.Tables.{numbered_tables};
+
 use comp_read::{Refusal, component_of};
 use follow_parts::{Followed, follow_parts};
 use part_members::{
@@ -65,11 +70,13 @@ fn are_read<'a>(
     tables: &Tables<'a>,
     whole: &'a Followed<'a>,
     scopes: &'a [OwnedScope<'a>],
-) -> Result<bool, Refusal> {
+) -> Result<bool, Refusal>
+    requires tables { numbered_tables tables.now ≡ tables_of_lem whole.now }
+    requires scopes { map shown_owned scopes.now ≡ map (shown_of_member whole.now.places) whole.now.members.items }
+{
     let mut packages: Packages<'a> = Packages::new(alloc);
     let homes = homes_of(alloc, &mut packages, tables.paths)?;
-    let members = &whole.members;
-    let read = read_members(alloc, tables, &mut packages, &homes, members, scopes)?;
+    let read = read_members(alloc, tables, &mut packages, &homes, &whole.members, scopes)?;
     let is_one = packages.count() == 1;
     Ok(are_members(alloc, &read)? && is_one)
 }
@@ -79,7 +86,10 @@ fn are_all_read(
     tables: &OwnedTables<'_>,
     whole: &Followed<'_>,
     scopes: &[OwnedScope<'_>],
-) -> Result<bool, Refusal> {
+) -> Result<bool, Refusal>
+    requires tables { AreTablesOf whole.now tables.now }
+    requires scopes { map shown_owned scopes.now ≡ map (shown_of_member whole.now.places) whole.now.members.items }
+{
     are_read(alloc, &lent_tables(tables), whole, scopes)
 }
 
