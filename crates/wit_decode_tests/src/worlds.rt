@@ -162,7 +162,11 @@ fn changed_bytes(rt: HostRuntime) {
         let mut whole = WORLD;
         whole[change.at % 67] = change.to;
         let bytes = whole.split_at(63).0;
-        assert!(rt; is_refused_at(alloc, bytes, change.cause, change.offset), "{}", change.at);
+        assert!(rt;
+            is_refused_at(alloc, bytes, change.cause, change.offset),
+            "{}",
+            change.at
+        );
     }
 }
 
