@@ -39,7 +39,8 @@ fn error_of(refusal: Refusal, length: usize) -> Error
 ///
 /// Takes time linear in the bytes, expected, but for aliases, each of which takes time linear in the types that its instance shows, and
 /// memory linear in what is declared. Refuses with `NoReading` exactly where the bytes mean no package, at an offset that is at most their
-/// length; else with `Memory`.
+/// length: with the cause of `component_of` or `follow_parts`, and else, at the end of the bytes, `Disagree` where views of an interface
+/// differ, `TooDeep` where a type has more than 100 levels, or `NotWit`; else with `Memory`.
 pub fn decode(alloc: Global, bytes: &[u8]) -> Result<(Resolve, PackageId), Error>
     ensures decoded { IfOk result (λ x. IsDecoded bytes.now x.0 x.1.0) }
     ensures refuses { IfErr result (RefusesBytes bytes.now) }
