@@ -115,10 +115,10 @@ listed-more (e ∷ ds) d = let h = listed-more ds d in let a = one-taken e (from
 pub inside-more : (outer : Declarations) (inner : Option OpenInterface) (current : OpenInterface) (ds : List Declaration) (d : Declaration) (n : ℕ) → inner ≡ Some current → ds ≡ current.declared ++ d ∷ [] → length (declaration_bytes d) ≤ n
     → declared_extent outer + declared_extent (from_list ds) ≤ extent_in outer inner + n
 inside-more outer inner current ds d n is e l =
-    let open = ap (extent_in outer) is in
+    let opened = ap (extent_in outer) is in
     let same = ap (λ (xs : List Declaration). declared_extent (from_list xs)) e in
     let one = listed-more current.declared d in
-    omega (arith, open, same, one, l)
+    omega (arith, opened, same, one, l)
 
 pub outside-more : (outer outer' : Declarations) (inner : Option OpenInterface) (d : Declaration) (n : ℕ) → inner ≡ None → outer' ≡ declared_after outer d → length (declaration_bytes d) ≤ n → extent_in outer' inner ≤ extent_in outer inner + n
 outside-more outer outer' inner d n none e l =
@@ -145,8 +145,8 @@ pub imported-more : {r : Resolve} {id : TypeId} (a a' : Around) (inner : Option 
 imported-more a a' inner current ds k def reaches at is e =
     let around = reached-more reaches def at in
     let inside = inside-more a.declared inner current ds _ 16 is e (bytes-few.outer_aliases 1 k) in
-    let open = ap (extent_in a.declared) is in
-    omega (arith, around, inside, open)
+    let opened = ap (extent_in a.declared) is in
+    omega (arith, around, inside, opened)
 
 -- ---- functions
 
@@ -185,10 +185,10 @@ taken r i types fs m m' outer outer' inner ds current empty none is once only l 
     | inr reached ↦ reached
   ]);
   few =
-      let open = ap (extent_in outer') is in
+      let opened = ap (extent_in outer') is in
       let nothing = ap (λ (xs : List Declaration). declared_extent (from_list xs)) none ∙ nothing-taken in
       let sum = sums-mapped (number_extent r (Some i)) (λ (e : ℕ × ℕ). e.0) m'.id_to_index.entries in
-      omega (arith, open, nothing, sum, l);
+      omega (arith, opened, nothing, sum, l);
 }
 
 -- closed, in a component type
