@@ -1,7 +1,8 @@
 //! The calls for one item are drafted first, and then made.
 
-ghost use Rattle.std.specs.Prelude.{◌≡◌, true, false, [], ◌∷◌, ◌++◌, codes, IsTrue, OnOk, OnErr, IfOk, IsOkUnless};
+ghost use Rattle.std.specs.Prelude.{◌≡◌, ◌<◌, true, false, [], ◌∷◌, ◌++◌, codes, IsTrue, OnOk, OnErr, IfOk, IsOkUnless};
 ghost use Rattle.std.specs.Fmt.{decimal};
+ghost use Rattle.std.specs.Vec.{vec_len, vec_capacity};
 ghost use Rattle.std.specs.String.{string_bytes};
 ghost use Rattle.semver.specs.Identifiers.{version_text};
 ghost use Rattle.wit_model.specs.declared.error.Error.TheVariants.{Memory};
@@ -21,6 +22,19 @@ use std::alloc::{AllocError, Global};
 use std::borrow::CowStr;
 use std::marker::Model;
 use wit_model::Error;
+
+/// Room for the calls of a usual item, which is taken at once.
+const USUAL_LENGTH: usize = 32;
+
+/// Room for more calls.
+#[cold]
+#[inline(never)]
+fn make_room<'a>(pieces: &mut Vec<Piece<'a>>) -> Result<(), AllocError>
+    ensures items { pieces.new.items ≡ pieces.old.items }
+    ensures room { OnOk result (vec_len pieces.new < vec_capacity pieces.new) }
+{
+    pieces.reserve(USUAL_LENGTH)
+}
 
 /// Calls to be made of an output, each of which may follow those before it, wherever the first is made.
 #[derive(Drop)]
@@ -66,13 +80,17 @@ impl<'a> Draft<'a> {
     }
 
     // One more call.
+    #[inline(always)]
     fn push(&mut self, piece: Piece<'a>, line_begun: bool) -> Result<(), AllocError>
         requires may { IsTrue (may_stand self.old.line_begun (piece_call piece)) }
         requires line { line_begun ≡ line_begun_after (piece_call piece) self.old.line_begun }
         ensures ok { OnOk result (self.new ≡ record { line_begun = line_begun; kept = self.old.kept ++ piece_call piece.entry ∷ [] }) }
         ensures err { OnErr result (self.new ≡ self.old) }
     {
-        self.pieces.push(piece)?;
+        if self.pieces.capacity() <= self.pieces.len() {
+            make_room(&mut self.pieces)?;
+        }
+        self.pieces.push_reserved(piece);
         self.line_begun = line_begun;
         Ok(())
     }
