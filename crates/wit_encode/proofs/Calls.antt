@@ -19,7 +19,7 @@ use Rattle.comp_bytes.specs.RawOf.{raw_defined, raw_function}
 use Rattle.comp_bytes.specs.Held.{type_slots}
 use Rattle.comp_bytes.specs.Reading.{◌>>=◌}
 use Rattle.comp_meaning.specs.Follow as follow
-use Rattle.comp_meaning.specs.Follow.{Slot, InstanceScope, ShownType, new_instance, new_scope, definition, function_signature, named_type, named_like, declared_by, is_foreign_name, is_simple, show_type, instance_step, component_step, in_instance, in_scope}
+use Rattle.comp_meaning.specs.Follow.{Slot, InstanceScope, ShownType, new_instance, definition, function_signature, named_type, is_foreign_name, is_simple, show_type, instance_step, in_instance}
 use Rattle.wit_encode_types.specs.Slots.{Standing, tree, function, SlotAdded, SlotsGrow, Follows, FollowsFunction, Defines, DefinesFunction}
 use Rattle.wit_encode_types.specs.Resources.{Names, is_resource_tree}
 use Rattle.wit_encode_types.specs.Scope.{Scope, IsDeclared, DeclaresSlot, DeclaresResource, exported_name}

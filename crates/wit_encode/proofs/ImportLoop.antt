@@ -206,7 +206,7 @@ all-imported r r' xs k a e l h =
 
 -- ---- how much is held and defined
 
-numbers-next : (xs : List InterfaceId) (k : ℕ) → k < length xs → take k (numbers xs) ++ (item xs k).0 ∷ [] ≡ take (k + 1) (numbers xs)
+pub numbers-next : (xs : List InterfaceId) (k : ℕ) → k < length xs → take k (numbers xs) ++ (item xs k).0 ∷ [] ≡ take (k + 1) (numbers xs)
 numbers-next xs k l = take-next (numbers xs) k (item xs k).0 (number-at xs k l) ∙ (let more : suc k ≡ k + 1 = omega arith in ap (λ (j : ℕ). take j (numbers xs)) more)
 
 pub defines-next : (r r' : Resolve) (canonical : Bool) (xs : List InterfaceId) (k : ℕ) (a a' : Around) → r' ≡ r → k < length xs → ImportsTypes r' canonical a a' (item xs k) k → DefinesImports r a.declared (take k (numbers xs)) → DefinesImports r a'.declared (take (k + 1) (numbers xs))

@@ -25,7 +25,7 @@ use Rattle.comp_bytes.specs.Held.{type_slots_of}
 use Rattle.comp_bytes.specs.Reading.{◌>>=◌}
 use Rattle.comp_bytes.specs.declared.forms.ComponentTypeRef.TheVariants as refs
 use Rattle.comp_meaning.specs.Follow as follow
-use Rattle.comp_meaning.specs.Follow.{Direction, import_, export_, Instance, Key, Scope, Seen, Slot, View, component_scope, component_step, in_scope, instance_types, instance_view, is_foreign_name, new_scope, provided, see, used_view}
+use Rattle.comp_meaning.specs.Follow.{Direction, import_, export_, Instance, Key, Scope, Slot, View, component_scope, component_step, in_scope, instance_types, instance_view, is_foreign_name, new_scope, provided, see, used_view}
 use Rattle.comp_bytes.specs.Raw.{ExternName}
 use Rattle.wit_shown.specs.Views.{ShowsImport}
 use Rattle.world_names.specs.WorldNames.{name_of_interface}

@@ -67,3 +67,5 @@ pub mod Extents
 pub mod ExtentWeighing
 pub mod PackageWeighing
 pub mod ComponentExtents
+pub mod BytesWritten
+pub mod WorldBytes

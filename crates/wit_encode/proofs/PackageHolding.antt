@@ -1,5 +1,5 @@
 -- Component types for which a component has no room.
-use Rattle.std.proofs.Common.{◌≡◌, ◌<◌, ◌+◌, inl, inr, refl, sym, ap, subst, ◌∙◌, Bool, false, ◌&&◌, List, [], ◌∷◌, ◌++◌, append_assoc, Some}
+use Rattle.std.proofs.Common.{◌≡◌, ◌<◌, ◌≤◌, ◌+◌, inl, inr, refl, sym, ap, subst, ◌∙◌, Bool, false, ◌&&◌, List, [], ◌∷◌, ◌++◌, append_assoc, Some}
 use Rattle.wit_model.specs.Text.{Text, text_of}
 use Rattle.wit_model.specs.Names.{PackageIdentity}
 use Rattle.wit_model.specs.Lookup.{interface_path, world_at}
@@ -10,8 +10,10 @@ use Rattle.comp_bytes.specs.Parts.{Part, fits_component, plain_export, top_slots
 use Rattle.component_exports.specs.ExportedParts.{one_exported}
 use Rattle.component_exports.proofs.Exports.{one_more}
 use Rattle.wit_encode_types.specs.Room.{limit}
+use Rattle.wit_model.specs.Weight.{interface_weight}
 use Rattle.wit_encode.specs.Dependencies.{ShowsComponent}
 use Rattle.wit_encode.specs.DependencyCounts.{DefinesComponent}
+use Rattle.wit_encode.specs.Instance.{declared_extent}
 use Rattle.wit_encode.specs.PackageRoom.{InterfacesLackRoom, LacksInterface, LacksWorld, WorldsLackRoom, parts_extent}
 use Rattle.wit_encode.specs.Packages.{HoldsMembers, Listed, ListedWorld, WrapsWorld}
 use Rattle.wit_encode.proofs.Lengths.{long-parts}
@@ -32,15 +34,15 @@ module _ (old : List Part) (x : Text × Declarations) where
   long-export : (fits_component (old ++ typed ∷ []) && fits_component (old ++ one_exported (top_slots old) x)) ≡ false → limit < 8 + parts_extent (old ++ one_exported (top_slots old) x)
   long-export e = subst (λ (ps : List Part). limit < 8 + parts_extent ps) whole (long-parts (old ++ typed ∷ []) (export ∷ []) (ap (λ (ps : List Part). fits_component (old ++ typed ∷ []) && fits_component ps) whole ∙ e))
 
-pub interface-long : (r : Resolve) (e : Listed) (declared : Declarations) (old : List Part) → ((path : Text) → interface_path r e.1.0 ≡ Some path → ShowsComponent r e.1.0 path declared) → DefinesComponent r e.1.0 declared
+pub interface-long : (r : Resolve) (e : Listed) (declared : Declarations) (old : List Part) → ((path : Text) → interface_path r e.1.0 ≡ Some path → ShowsComponent r e.1.0 path declared) → DefinesComponent r e.1.0 declared → declared_extent declared ≤ interface_weight r e.1.0
     → (fits_component (old ++ Part.top_type (TopType.component declared) ∷ []) && fits_component (old ++ one_exported (top_slots old) (text_of e.0, declared))) ≡ false → LacksInterface r e old
-interface-long r e declared old shows once long = inr (λ entries h. record {
+interface-long r e declared old shows once light long = inr (λ entries h. record {
   parts = old ++ one_exported (top_slots old) (text_of e.0, declared);
-  hold = type-added r e declared old _ shows once (λ types is. one_more old _ types (text_of e.0, declared) refl is) entries h;
+  hold = type-added r e declared old _ shows once light (λ types is. one_more old _ types (text_of e.0, declared) refl is) entries h;
   long = long-export old (text_of e.0, declared) long;
 })
 
-pub world-long : (r : Resolve) (p : PackageIdentity) (e : ListedWorld) (w : World) (declared : Declarations) (old : List Part) → world_at r e.1.0 ≡ Some w → WrapsWorld r p w declared
+pub world-long : (r : Resolve) (p : PackageIdentity) (e : ListedWorld) (w : World) (declared : Declarations) (old : List Part) → world_at r e.1.0 ≡ Some w → WrapsWorld r p e.1.0 w declared
     → (fits_component (old ++ Part.top_type (TopType.component declared) ∷ []) && fits_component (old ++ one_exported (top_slots old) (text_of e.0, declared))) ≡ false → LacksWorld r p e old
 world-long r p e w declared old there wraps long = inr (λ interfaces worlds h. record {
   parts = old ++ one_exported (top_slots old) (text_of e.0, declared);

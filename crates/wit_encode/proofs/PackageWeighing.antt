@@ -1,9 +1,9 @@
--- A component in which component types of a package have no room: the package is too heavy, or one of them takes more bytes than it weighs.
-use Rattle.std.proofs.Common.{◌≡◌, ◌≤◌, ◌+◌, ◌⊎◌, inl, inr, refl, sym, ap, subst, ◌∙◌, ℕ, zero, suc, Bool, true, false, nat_lt, List, [], ◌∷◌, ◌++◌, append-nil, length, length-append, option_map, option_to_list, Option, Some, arith}
+-- A component in which the component types of a package have no room: the package is too heavy.
+use Rattle.std.proofs.Common.{◌≡◌, ◌≤◌, ◌<◌, ◌+◌, refl, sym, ap, subst, ◌∙◌, ℕ, zero, suc, false, List, [], ◌∷◌, ◌++◌, append-nil, length, length-append, option_map, option_to_list, Option, Some, arith}
 use Rattle.std.specs.Prelude.{option_and_then, sum_by}
 use Rattle.std.specs.List.{AllZip, Contains}
 use Rattle.std.specs.Option.{option_map_or}
-use Rattle.std.proofs.lemmas.Bool.{ltb-true, ltb-false, lt-ltb}
+use Rattle.std.proofs.lemmas.Bool.{lt-ltb}
 use Rattle.std.proofs.lemmas.List.Elements.{Contains-append_left, Contains-append_right}
 use Rattle.std.proofs.lemmas.List.Sums.{sum_by-cons, sum_by-append}
 use Rattle.wit_model.specs.Text.{Text, text_of}
@@ -23,7 +23,9 @@ use Rattle.comp_bytes.specs.Writing.{u32_bytes, name_bytes, declarations_bytes}
 use Rattle.component_exports.specs.ExportedParts.{exporting_from, one_exported}
 use Rattle.wit_shown.proofs.Owning.{own-world}
 use Rattle.wit_shown.specs.PackageTypes.{wrapper}
-use Rattle.wit_encode.specs.PackageRoom.{AreLong, InterfacesLackRoom, PackageLacksRoom, WorldsLackRoom, part_extent, parts_extent}
+use Rattle.wit_encode_types.specs.Room.{limit}
+use Rattle.wit_encode.specs.Instance.{declared_extent}
+use Rattle.wit_encode.specs.PackageRoom.{AreLong, InterfacesLackRoom, WorldsLackRoom, part_extent, parts_extent}
 use Rattle.wit_encode.specs.Packages.{HoldsInterfaces, HoldsMembers, HoldsPackage, IsTypeOf, IsWrapperOf, Listed, ListedWorld}
 use Rattle.wit_encode.proofs.Lengths.{long-component, name-short, u32-short}
 use Rattle.wit_encode.proofs.Weighing.{one-of}
@@ -68,6 +70,10 @@ wrapper-short path inner =
     let whole = length-append (1 ∷ 0x41 ∷ (u32_bytes (declaration_count inner) ++ declarations_bytes inner)) ((4 ∷ ((0 ∷ name_bytes path) ++ (4 ∷ u32_bytes 0))) ++ []) in
     omega arith
 
+extent-is : (ds : Declarations) → declared_extent ds ≡ length (declarations_bytes ds)
+unfolding declared_extent
+extent-is ds = refl
+
 -- ---- packages
 
 module _ (r : Resolve) (v : IsValid r) (n : ℕ) (p : Package) (at : package_at r n ≡ Some p) where
@@ -106,77 +112,59 @@ module _ (r : Resolve) (v : IsValid r) (n : ℕ) (p : Package) (at : package_at 
   one-text : (t : Text) → unit_of (t ∷ []) ≡ 64 + length t
   one-text t = let one = sum_by-cons length t [] in omega arith
 
-  -- the component types of interfaces are light together, or one is long
-  interfaces-light : (es : List Listed) (xs : List (Text × Declarations)) → ((e : Listed) → Contains es e → Contains p.interfaces.entries e) → AllZip (IsTypeOf r) es xs
-      → (sum_by type-extent xs ≤ sum_by interface-weight es) ⊎ PackageLacksRoom r n p
-  interfaces-light [] [] own h = inl (omega arith)
-  interfaces-light [] (x ∷ xs) own h = absurd h
-  interfaces-light (e ∷ es) [] own h = absurd h
-  interfaces-light (e ∷ es) (x ∷ xs) own h = by-length (nat_lt (interface_weight r e.1.0) (length (declarations_bytes x.1))) refl (interfaces-light es xs (λ f c. own f (Contains-append_right (e ∷ []) es f c)) h.1)
-    where
-      by-length : (b : Bool) → nat_lt (interface_weight r e.1.0) (length (declarations_bytes x.1)) ≡ b → (sum_by type-extent xs ≤ sum_by interface-weight es) ⊎ PackageLacksRoom r n p
-          → (sum_by type-extent (x ∷ xs) ≤ sum_by interface-weight (e ∷ es)) ⊎ PackageLacksRoom r n p
-      by-length true q rest = inr (PackageLacksRoom.a_long_interface e x (own e (Contains-append_left (e ∷ []) es e (contains-one e))) h.0 (ltb-true _ _ q))
-      by-length false q (inr lacks) = inr lacks
-      by-length false q (inl rest) =
-          let short = ltb-false (interface_weight r e.1.0) (length (declarations_bytes x.1)) q in
-          let label : length x.0 ≡ length (text_of e.0) = ap length h.0.label in
-          let a = sum_by-cons type-extent x xs in
-          let b = sum_by-cons interface-weight e es in
-          let text = one-text (text_of e.0) in
-          inl (omega (arith, short, label, a, b, text, rest))
+  -- the component types of interfaces are light together
+  interfaces-light : (es : List Listed) (xs : List (Text × Declarations)) → AllZip (IsTypeOf r) es xs → sum_by type-extent xs ≤ sum_by interface-weight es
+  interfaces-light [] [] h = omega arith
+  interfaces-light [] (x ∷ xs) h = absurd h
+  interfaces-light (e ∷ es) [] h = absurd h
+  interfaces-light (e ∷ es) (x ∷ xs) h =
+      let rest = interfaces-light es xs h.1 in
+      let short = h.0.light in
+      let is = extent-is x.1 in
+      let label : length x.0 ≡ length (text_of e.0) = ap length h.0.label in
+      let a = sum_by-cons type-extent x xs in
+      let b = sum_by-cons interface-weight e es in
+      let text = one-text (text_of e.0) in
+      omega (arith, short, is, label, a, b, text, rest)
 
   -- the same of worlds
-  worlds-light : (es : List ListedWorld) (xs : List (Text × Declarations)) → ((e : ListedWorld) → Contains es e → Contains p.worlds.entries e) → AllZip (IsWrapperOf r (identity_of p.name)) es xs
-      → (sum_by type-extent xs ≤ sum_by world-weight es) ⊎ PackageLacksRoom r n p
-  worlds-light [] [] own h = inl (omega arith)
+  worlds-light : (es : List ListedWorld) (xs : List (Text × Declarations)) → ((e : ListedWorld) → Contains es e → Contains p.worlds.entries e) → AllZip (IsWrapperOf r (identity_of p.name)) es xs → sum_by type-extent xs ≤ sum_by world-weight es
+  worlds-light [] [] own h = omega arith
   worlds-light [] (x ∷ xs) own h = absurd h
   worlds-light (e ∷ es) [] own h = absurd h
-  worlds-light (e ∷ es) (x ∷ xs) own h = by-length (nat_lt (world_weight r e.1.0) (length (declarations_bytes h.0.wraps.inner))) refl (worlds-light es xs (λ f c. own f (Contains-append_right (e ∷ []) es f c)) h.1)
-    where
-      listed : Contains p.worlds.entries e
-      listed = own e (Contains-append_left (e ∷ []) es e (contains-one e))
-
-      by-length : (b : Bool) → nat_lt (world_weight r e.1.0) (length (declarations_bytes h.0.wraps.inner)) ≡ b → (sum_by type-extent xs ≤ sum_by world-weight es) ⊎ PackageLacksRoom r n p
-          → (sum_by type-extent (x ∷ xs) ≤ sum_by world-weight (e ∷ es)) ⊎ PackageLacksRoom r n p
-      by-length true q rest = inr (PackageLacksRoom.a_long_world e h.0.world h.0.wraps.inner listed h.0.there h.0.wraps.shows h.0.wraps.once (ltb-true _ _ q))
-      by-length false q (inr lacks) = inr lacks
-      by-length false q (inl rest) =
-          let short = ltb-false (world_weight r e.1.0) (length (declarations_bytes h.0.wraps.inner)) q in
-          let label : length x.0 ≡ length (text_of e.0) = ap length h.0.label in
-          let path = path_in (identity_of p.name) (text_of h.0.world.name) in
-          let wrapped = wrapper-short path h.0.wraps.inner in
-          let is : length (declarations_bytes x.1) ≡ length (declarations_bytes (wrapper path h.0.wraps.inner)) = ap (λ (ds : Declarations). length (declarations_bytes ds)) h.0.wraps.is in
-          let named : unit_of (option_to_list (option_and_then (path_of_world r) (world_at r e.1.0))) ≡ unit_of (path ∷ []) =
-          ap (λ (o : Option World). unit_of (option_to_list (option_and_then (path_of_world r) o))) h.0.there ∙ ap (λ (o : Option Text). unit_of (option_to_list o)) (path-is e listed h.0.world h.0.there) in
-          let a = sum_by-cons type-extent x xs in
-          let b = sum_by-cons world-weight e es in
-          let text = one-text (text_of e.0) in
-          let long = one-text path in
-          inl (omega (arith, short, label, wrapped, is, named, a, b, text, long, rest))
+  worlds-light (e ∷ es) (x ∷ xs) own h =
+      let rest = worlds-light es xs (λ f c. own f (Contains-append_right (e ∷ []) es f c)) h.1 in
+      let listed = own e (Contains-append_left (e ∷ []) es e (contains-one e)) in
+      let short = h.0.wraps.light in
+      let inner = extent-is h.0.wraps.inner in
+      let label : length x.0 ≡ length (text_of e.0) = ap length h.0.label in
+      let path = path_in (identity_of p.name) (text_of h.0.world.name) in
+      let wrapped = wrapper-short path h.0.wraps.inner in
+      let is : length (declarations_bytes x.1) ≡ length (declarations_bytes (wrapper path h.0.wraps.inner)) = ap (λ (ds : Declarations). length (declarations_bytes ds)) h.0.wraps.is in
+      let named : unit_of (option_to_list (option_and_then (path_of_world r) (world_at r e.1.0))) ≡ unit_of (path ∷ []) =
+      ap (λ (o : Option World). unit_of (option_to_list (option_and_then (path_of_world r) o))) h.0.there ∙ ap (λ (o : Option Text). unit_of (option_to_list o)) (path-is e listed h.0.world h.0.there) in
+      let a = sum_by-cons type-extent x xs in
+      let b = sum_by-cons world-weight e es in
+      let text = one-text (text_of e.0) in
+      let long = one-text path in
+      omega (arith, short, inner, label, wrapped, is, named, a, b, text, long, rest)
 
   long-lacks : (interfaces more_interfaces : List Listed) (worlds more_worlds : List ListedWorld) → p.interfaces.entries ≡ interfaces ++ more_interfaces → p.worlds.entries ≡ worlds ++ more_worlds
-      → AreLong (HoldsMembers r (identity_of p.name) interfaces worlds) → PackageLacksRoom r n p
+      → AreLong (HoldsMembers r (identity_of p.name) interfaces worlds) → limit < package_weight r n
   long-lacks interfaces more_interfaces worlds more_worlds are those h =
-      by-interfaces (interfaces-light interfaces h.hold.interface_types (λ e c. subst (λ (es : List Listed). Contains es e) (sym are) (Contains-append_left interfaces more_interfaces e c)) h.hold.interfaces_are)
-      (worlds-light worlds h.hold.world_types (λ e c. subst (λ (es : List ListedWorld). Contains es e) (sym those) (Contains-append_left worlds more_worlds e c)) h.hold.worlds_are)
-    where
-      by-interfaces : (sum_by type-extent h.hold.interface_types ≤ sum_by interface-weight interfaces) ⊎ PackageLacksRoom r n p → (sum_by type-extent h.hold.world_types ≤ sum_by world-weight worlds) ⊎ PackageLacksRoom r n p
-          → PackageLacksRoom r n p
-      by-interfaces (inr lacks) q = lacks
-      by-interfaces (inl a) (inr lacks) = lacks
-      by-interfaces (inl a) (inl b) =
-          let is = ap parts_extent h.hold.is in
-          let short = exporting-short zero (h.hold.interface_types ++ h.hold.world_types) in
-          let both = sum_by-append type-extent h.hold.interface_types h.hold.world_types in
-          let front = ap (sum_by interface-weight) are ∙ sum_by-append interface-weight interfaces more_interfaces in
-          let back = ap (sum_by world-weight) those ∙ sum_by-append world-weight worlds more_worlds in
-          let whole = weight-is in
-          let long = h.long in
-          PackageLacksRoom.too_heavy (omega (arith, is, short, both, front, back, whole, long, a, b))
+      let a = interfaces-light interfaces h.hold.interface_types h.hold.interfaces_are in
+      let b = worlds-light worlds h.hold.world_types (λ e c. subst (λ (es : List ListedWorld). Contains es e) (sym those) (Contains-append_left worlds more_worlds e c)) h.hold.worlds_are in
+      let is = ap parts_extent h.hold.is in
+      let short = exporting-short zero (h.hold.interface_types ++ h.hold.world_types) in
+      let both = sum_by-append type-extent h.hold.interface_types h.hold.world_types in
+      let front = ap (sum_by interface-weight) are ∙ sum_by-append interface-weight interfaces more_interfaces in
+      let back = ap (sum_by world-weight) those ∙ sum_by-append world-weight worlds more_worlds in
+      let whole = weight-is in
+      let long = h.long in
+      omega (arith, is, short, both, front, back, whole, long, a, b)
 
-  pub interfaces-lack : InterfacesLackRoom r p.interfaces.entries → PackageLacksRoom r n p
-  interfaces-lack (InterfacesLackRoom.too_heavy e c heavy) = let within = interface-within e c in PackageLacksRoom.too_heavy (omega (arith, within, heavy))
+  pub interfaces-lack : InterfacesLackRoom r p.interfaces.entries → limit < package_weight r n
+  interfaces-lack (InterfacesLackRoom.too_heavy e c heavy) = let within = interface-within e c in omega (arith, within, heavy)
   interfaces-lack (InterfacesLackRoom.too_long first rest are long) = long-lacks first rest [] p.worlds.entries are refl (record {
     parts = long.parts;
     hold = no-worlds_yet r v n p at first long.parts long.hold;
@@ -184,18 +172,18 @@ module _ (r : Resolve) (v : IsValid r) (n : ℕ) (p : Package) (at : package_at 
   })
 
   pub worlds-lack : (before : List Part) → HoldsInterfaces r p.interfaces.entries before → (HoldsMembers r (identity_of p.name) p.interfaces.entries [] before → WorldsLackRoom r (identity_of p.name) p.interfaces.entries p.worlds.entries)
-      → PackageLacksRoom r n p
+      → limit < package_weight r n
   worlds-lack before held lacks = by-lack (lacks (no-worlds_yet r v n p at p.interfaces.entries before held))
     where
-      by-lack : WorldsLackRoom r (identity_of p.name) p.interfaces.entries p.worlds.entries → PackageLacksRoom r n p
+      by-lack : WorldsLackRoom r (identity_of p.name) p.interfaces.entries p.worlds.entries → limit < package_weight r n
       by-lack (WorldsLackRoom.too_heavy e c heavy) =
           let w = found-in r.worlds.items e.1.0 (lt-ltb e.1.0 (length r.worlds.items) (are-worlds r v n p at e c)) in
           let within = world-within e c w.0 w.1 in
           let over = heavy w.0 w.1 in
-          PackageLacksRoom.too_heavy (omega (arith, within, over))
+          omega (arith, within, over)
       by-lack (WorldsLackRoom.too_long first rest are long) = long-lacks p.interfaces.entries [] first rest (sym (append-nil p.interfaces.entries)) are long
 
-  pub all-lack : (parts : List Part) → HoldsPackage r p parts → fits_component parts ≡ false → PackageLacksRoom r n p
+  pub all-lack : (parts : List Part) → HoldsPackage r p parts → fits_component parts ≡ false → limit < package_weight r n
   all-lack parts h e = long-lacks p.interfaces.entries [] p.worlds.entries [] (sym (append-nil p.interfaces.entries)) (sym (append-nil p.worlds.entries)) (record {
     parts = parts;
     hold = h.members;

@@ -1,5 +1,5 @@
 -- Component types that are added one after the other.
-use Rattle.std.proofs.Common.{◌≡◌, refl, sym, ap, subst, ◌∙◌, ℕ, Bool, true, List, [], ◌∷◌, ◌++◌, append_assoc, append-nil, Some, Result, Ok, Err, IfErr, OnOk, ◌⊎◌, inl, inr}
+use Rattle.std.proofs.Common.{◌≡◌, refl, sym, ap, subst, ◌∙◌, ℕ, Bool, true, List, [], ◌∷◌, ◌++◌, append_assoc, append-nil, Some, Result, Ok, Err, IfErr, OnOk, ◌⊎◌, inl, inr, ◌≤◌}
 use Rattle.std.specs.Prelude.{IsErrAnd}
 use Rattle.std.specs.List.{Contains}
 use Rattle.std.proofs.lemmas.List.Elements.{Contains-append_cases, Contains-append_left, Contains-append_right}
@@ -19,16 +19,18 @@ use Rattle.wit_encode.specs.DependencyCounts.{DefinesComponent}
 use Rattle.wit_encode.specs.Scopes.{HasNoEqualPaths, RefusesInterface}
 use Rattle.wit_encode.specs.WholeWorlds.{RefusesWorld}
 use Rattle.wit_encode.specs.Packages.{AddsInterface, AddsWorld, AddsWorlds, HasNoClashAt, HaveNoClash, HaveNoEqualPaths, HoldsInterfaces, IsTypeOf, IsWrapperOf, Listed, ListedWorld, RefusesInterfaces, RefusesWorldAt, RefusesWorlds, WrapsWorld}
+use Rattle.wit_model.specs.Weight.{interface_weight}
+use Rattle.wit_encode.specs.Instance.{declared_extent}
 
 pub on-ok : {X E A B : Type 0} (given : Result X E) → OnOk given A → (A → B) → OnOk given B
 on-ok (Ok x) a f = f a
 on-ok (Err e) a f = tt
 
 pub type-added : (r : Resolve) (e : Listed) (declared : Declarations) (old new : List Part) → ((path : Text) → interface_path r e.1.0 ≡ Some path → ShowsComponent r e.1.0 path declared) → DefinesComponent r e.1.0 declared
-    → ((types : List (Text × Declarations)) → old ≡ exporting types → new ≡ exporting (types ++ (text_of e.0, declared) ∷ [])) → AddsInterface r e old new
-type-added r e declared old new shows once more = λ entries h. record {
+    → declared_extent declared ≤ interface_weight r e.1.0 → ((types : List (Text × Declarations)) → old ≡ exporting types → new ≡ exporting (types ++ (text_of e.0, declared) ∷ [])) → AddsInterface r e old new
+type-added r e declared old new shows once light more = λ entries h. record {
   types = h.types ++ (text_of e.0, declared) ∷ [];
-  are = zip-push (IsTypeOf r) entries h.types e (text_of e.0, declared) h.are (record { label = refl; shows = shows; once = once });
+  are = zip-push (IsTypeOf r) entries h.types e (text_of e.0, declared) h.are (record { label = refl; shows = shows; once = once; light = light });
   is = more h.types h.is;
 }
 
@@ -92,7 +94,7 @@ all-differ r canonical entries left parts h is asked = subst (HaveNoEqualPaths r
 
 -- ---- worlds
 
-pub world-added : (r : Resolve) (p : PackageIdentity) (e : ListedWorld) (w : World) (declared : Declarations) (old new : List Part) → world_at r e.1.0 ≡ Some w → WrapsWorld r p w declared
+pub world-added : (r : Resolve) (p : PackageIdentity) (e : ListedWorld) (w : World) (declared : Declarations) (old new : List Part) → world_at r e.1.0 ≡ Some w → WrapsWorld r p e.1.0 w declared
     → ((types : List (Text × Declarations)) → old ≡ exporting types → new ≡ exporting (types ++ (text_of e.0, declared) ∷ [])) → AddsWorld r p e old new
 world-added r p e w declared old new there wraps more = λ interfaces worlds h. record {
   interface_types = h.interface_types;

@@ -5,7 +5,7 @@ use Rattle.wit_model.specs.Tree.{Place}
 use Rattle.comp_bytes.specs.Raw.{Alias, Declaration}
 use Rattle.comp_bytes.specs.Held.{type_slots_of}
 use Rattle.comp_meaning.specs.Follow as follow
-use Rattle.comp_meaning.specs.Follow.{Slot, Instance, InstanceScope, new_instance, new_scope, is_foreign_name, provided, in_instance, in_scope, find_type, exported_slot, component_step, instance_step, instance_steps}
+use Rattle.comp_meaning.specs.Follow.{Slot, Instance, InstanceScope, new_instance, new_scope, provided, in_scope, find_type, exported_slot, component_step, instance_step, instance_steps}
 use Rattle.wit_encode_types.specs.Known.{Around, Aliased, alias_declared, with_alias}
 use Rattle.wit_encode.specs.Instance.{no_view, outer_scope, outer_slots, outer_instances, inner_scope, inner_contents}
 use Rattle.wit_encode.proofs.Strict.{bind}

@@ -25,7 +25,7 @@ use Rattle.comp_bytes.specs.RawOf.{raw_defined, raw_function}
 use Rattle.comp_bytes.specs.Held.{type_slots_of}
 use Rattle.comp_meaning.specs.Same.{same_place}
 use Rattle.comp_meaning.specs.Follow as follow
-use Rattle.comp_meaning.specs.Follow.{Direction, import_, Seen, Slot, component_step, declared_by, definition, function_signature, in_scope, instance_types, is_foreign_name, is_simple, named_like, named_type, new_scope, see}
+use Rattle.comp_meaning.specs.Follow.{import_, Seen, Slot, component_step, definition, function_signature, in_scope, instance_types, is_foreign_name, is_simple, named_type, new_scope, see}
 use Rattle.wit_encode_types.specs.declared.maps.TypeEncodingMaps.{TypeEncodingMaps}
 use Rattle.wit_encode_types.specs.Slots.{Standing, tree, Follows, FollowsFunction, Defines, DefinesFunction}
 use Rattle.wit_encode_types.specs.Resources.{is_met_owner, is_named_interface, named_resources}

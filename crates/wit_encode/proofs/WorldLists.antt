@@ -11,6 +11,11 @@ use Rattle.wit_encode.specs.WorldHolds.{HoldsAll, HoldsFew, LacksRoomTowards}
 use Rattle.wit_encode.specs.WorldItems.{AwaitsAll, EncodesAll, HasShown, IsNext, all_done, begun, ended, entries_of}
 use Rattle.wit_encode.specs.WorldRoom.{WorldLacksRoom}
 use Rattle.wit_encode.proofs.WrittenNames.{names-nothing, names-then}
+use Rattle.std.proofs.Common.{arith}
+use Rattle.std.proofs.lemmas.List.Sums.{sum_by-append}
+use Rattle.wit_encode.specs.Extents.{item_extent}
+use Rattle.wit_encode.specs.WrittenBytes.{AddsLearnt, items_extent}
+use Rattle.wit_encode.proofs.BytesWritten.{learnt-most, learnt-nothing, learnt-then}
 
 -- where these are done
 abbrev pub so_far : Direction → World → List Entry → Entries
@@ -25,6 +30,7 @@ pub record Goes (r : Resolve) (canonical : Bool) (e e' : WorldEncoder) (directio
   pub names : NamesMore r canonical front e.outer e'.outer
   pub defines : DefinesAll r e e' front
   pub holds : HoldsAll r e e' front
+  pub written : AddsLearnt r (items_extent r canonical front) e.maps e'.maps e.outer e'.outer
 
 pub goes-first : (r : Resolve) (canonical : Bool) (e : WorldEncoder) (direction : Direction) (entries rest : List Entry) → rest ≡ entries → Goes r canonical e e direction entries rest
 goes-first r canonical e direction entries rest same = record {
@@ -34,6 +40,7 @@ goes-first r canonical e direction entries rest same = record {
   names = names-nothing r canonical e.outer;
   defines = λ es h. subst (HasDefined r e) (sym (append-nil es)) h;
   holds = λ es h. subst (HoldsFew r e) (sym (append-nil es)) h;
+  written = learnt-nothing r e.maps e.outer;
 }
   where
     begins : (direction : Direction) (w : World) → HasShown r w e (begun direction w) → HasShown r w e (so_far direction w [])
@@ -62,14 +69,15 @@ world-of r e w v d d' h k = some-same (sym k.world_ ∙ h.world_)
 
 pub goes-on : (r : Resolve) (canonical : Bool) (e e' e'' : WorldEncoder) (direction : Direction) (entries rest more : List Entry) (x : Entry) → AwaitsAll r e direction entries → Goes r canonical e e' direction entries rest → rest ≡ x ∷ more
     → ((w : World) (done : Entries) → HasShown r w e' done → IsNext r w direction done x → HasShown r w e'' (with_entry direction done x)) → NamesMore r canonical (x ∷ []) e'.outer e''.outer
-    → DefinesAll r e' e'' (x ∷ []) → HoldsAll r e' e'' (x ∷ []) → Goes r canonical e e'' direction entries more
-goes-on r canonical e e' e'' direction entries rest more x a g is encodes named defines holds = record {
+    → DefinesAll r e' e'' (x ∷ []) → HoldsAll r e' e'' (x ∷ []) → AddsLearnt r (items_extent r canonical (x ∷ [])) e'.maps e''.maps e'.outer e''.outer → Goes r canonical e e'' direction entries more
+goes-on r canonical e e' e'' direction entries rest more x a g is encodes named defines holds written = record {
   front = g.front ++ x ∷ [];
   split = g.split ∙ ap (λ (xs : List Entry). g.front ++ xs) is ∙ sym (append_assoc g.front (x ∷ []) more);
   shown = λ w h. by direction w (g.shown w h) (sym (a.are ∙ ap (entries_of direction) (sym (world-of r e a.world w _ _ a.shown h))) ∙ g.split ∙ ap (λ (xs : List Entry). g.front ++ xs) is) encodes;
   names = names-then r canonical g.front (x ∷ []) e.outer e'.outer e''.outer g.names named;
   defines = λ es h. subst (HasDefined r e'') (append_assoc es g.front (x ∷ [])) (defines (es ++ g.front) (g.defines es h));
   holds = λ es h. subst (HoldsFew r e'') (append_assoc es g.front (x ∷ [])) (holds (es ++ g.front) (g.holds es h));
+  written = (let both = sum_by-append (item_extent r canonical) g.front (x ∷ []) in learnt-most (omega (arith, both)) (learnt-then g.written written));
 }
   where
     by : (direction : Direction) (w : World) → HasShown r w e' (so_far direction w g.front) → entries_of direction w ≡ g.front ++ x ∷ more
@@ -108,3 +116,7 @@ defines-whole r canonical e e' direction entries rest g none = subst (DefinesAll
 
 pub holds-whole : (r : Resolve) (canonical : Bool) (e e' : WorldEncoder) (direction : Direction) (entries rest : List Entry) → Goes r canonical e e' direction entries rest → rest ≡ [] → HoldsAll r e e' entries
 holds-whole r canonical e e' direction entries rest g none = subst (HoldsAll r e e') (sym (g.split ∙ ap (λ (xs : List Entry). g.front ++ xs) none ∙ append-nil g.front)) g.holds
+
+pub written-whole : (r : Resolve) (canonical : Bool) (e e' : WorldEncoder) (direction : Direction) (entries rest : List Entry) → Goes r canonical e e' direction entries rest → rest ≡ [] → AddsLearnt r (items_extent r canonical entries) e.maps e'.maps e.outer e'.outer
+written-whole r canonical e e' direction entries rest g none =
+    subst (λ (es : List Entry). AddsLearnt r (items_extent r canonical es) e.maps e'.maps e.outer e'.outer) (sym (g.split ∙ ap (λ (xs : List Entry). g.front ++ xs) none ∙ append-nil g.front)) g.written

@@ -29,8 +29,8 @@ use Rattle.wit_encode_types.specs.Room.{Request, HasNoRoom, function_requests}
 use Rattle.wit_encode_types.specs.MetKinds.{referred}
 use Rattle.wit_encode_types.specs.Leaves.{LacksRoom}
 use Rattle.indexmap.specs.IndexMap.{values}
-use Rattle.wit_encode_types.specs.View.{View, Agrees, HoldsLearnt}
-use Rattle.wit_encode.specs.Instance.{own_of, ShowsFunction, placed_function, meaning_of, Contents, contents_of, encoder_scope, around_of, around_at, slots_in, stands_in, defined_in, opened, standing_instances, Continues, EncodesInterface, EncodesDependency, EncodesPart, held_in, lacks_room_in, LacksInstanceRoom}
+use Rattle.wit_encode_types.specs.View.{View, Agrees, HoldsLearnt, WritesLearnt}
+use Rattle.wit_encode.specs.Instance.{own_of, ShowsFunction, placed_function, meaning_of, Contents, contents_of, encoder_scope, around_of, around_at, slots_in, stands_in, defined_in, opened, standing_instances, Continues, EncodesInterface, EncodesDependency, EncodesPart, held_in, extent_in, lacks_room_in, LacksInstanceRoom}
 
 abbrev pub InterfaceEncoder : Type 0
 InterfaceEncoder = InterfaceEncoderOf TypeEncodingMaps
@@ -45,6 +45,7 @@ view_of r e = record {
   definitions = defined_in r e.outer e.inner;
   maps = e.maps;
   held = held_in e.outer e.inner;
+  extent = extent_in e.outer e.inner;
   lacks_room = lacks_room_in r e.outer e.inner;
 }
 
@@ -122,6 +123,10 @@ ShowsMore r e e' fs = (view_of r e').scope.functions ≡ (view_of r e).scope.fun
 -- at most so much more is held, and two for each type number that has been learnt
 abbrev pub HoldsInside : ℕ → InterfaceEncoder → InterfaceEncoder → Type 0
 HoldsInside n e e' = HoldsLearnt n (encoder_view e) (encoder_view e')
+
+-- at most so much more has been written, and each type number that has been learnt
+abbrev pub WritesInside : Resolve → ℕ → InterfaceEncoder → InterfaceEncoder → Type 0
+WritesInside r n e e' = WritesLearnt r n (encoder_view e) (encoder_view e')
 
 -- a part of a type that is met from these, or one of these requests, has no room, and not much more is held than was
 abbrev pub LacksInside : Resolve → InterfaceEncoder → InterfaceEncoder → List ValueType → List Request → Type 0

@@ -17,6 +17,7 @@ use Rattle.wit_model.specs.declared.model.InterfaceId.{InterfaceId}
 use Rattle.wit_model.specs.declared.model.TypeOwner.{TypeOwner}
 use Rattle.wit_model.specs.declared.model.TypeOwner.TheVariants as owner
 use Rattle.comp_bytes.specs.Raw.{Declaration, Declarations, append, declaration_count, from_list}
+use Rattle.comp_bytes.specs.Writing.{declarations_bytes}
 use Rattle.comp_meaning.specs.Reads.{interface_meaning}
 use Rattle.comp_meaning.specs.Follow.{Slot, View, InstanceScope, instance_view, instance_steps, new_instance}
 use Rattle.wit_shown.specs.Views.{ShowsInterface, ShowsTypes, types_of}
@@ -168,6 +169,15 @@ defined_in r outer inner = definitions_with (contents_of r outer inner)
 abbrev pub held_in : Declarations → Option OpenInterface → ℕ
 held_in outer None = declaration_count outer
 held_in outer (Some current) = length current.declared
+
+-- how many bytes declarations take
+unfoldable pub declared_extent : Declarations → ℕ
+declared_extent ds = length (declarations_bytes ds)
+
+-- those of the component type, with those of the instance type, if one is open
+abbrev pub extent_in : Declarations → Option OpenInterface → ℕ
+extent_in outer None = declared_extent outer
+extent_in outer (Some current) = declared_extent outer + declared_extent (from_list current.declared)
 
 -- an import has no room where the component type has none for one more alias
 abbrev pub LacksAlias : Declarations → Refusals

@@ -21,3 +21,4 @@ pub mod DependencyRoom
 pub mod DependencyCounts
 pub mod PackageRoom
 pub mod Extents
+pub mod WrittenBytes

@@ -1,22 +1,17 @@
--- Which packages have no room in a component, where every length is a number of 32 bits, that of the component too (Component Model Binary.md,
+-- Which interfaces and worlds have no room in the component of a package, where every length is a number of 32 bits, that of the component too (Component Model Binary.md,
 -- "Component Definitions" and the numbers of "Core WebAssembly").
 use Rattle.std.specs.Prelude.{ℕ, ◌≡◌, ◌<◌, ◌+◌, ◌⊎◌, List, [], ◌∷◌, ◌++◌, length, sum_by, Some}
 use Rattle.std.specs.List.{Contains}
-use Rattle.wit_model.specs.Text.{Text, text_of}
+use Rattle.wit_model.specs.Text.{text_of}
 use Rattle.wit_model.specs.Names.{PackageIdentity, path_in}
 use Rattle.wit_model.specs.Lookup.{world_at}
-use Rattle.wit_model.specs.Weight.{interface_weight, world_weight, package_weight}
+use Rattle.wit_model.specs.Weight.{interface_weight, world_weight}
 use Rattle.wit_model.specs.declared.model.Resolve.{Resolve}
-use Rattle.wit_model.specs.declared.model.Package.{Package}
 use Rattle.wit_model.specs.declared.model.World.{World}
 use Rattle.comp_bytes.specs.Parts.{Part}
-use Rattle.comp_bytes.specs.Raw.{Declarations}
-use Rattle.comp_bytes.specs.Writing.{declarations_bytes, top_type_bytes, top_export_bytes}
+use Rattle.comp_bytes.specs.Writing.{top_type_bytes, top_export_bytes}
 use Rattle.wit_encode_types.specs.Room.{limit}
-use Rattle.wit_encode.specs.Packages.{HoldsInterfaces, HoldsMembers, IsTypeOf, Listed, ListedWorld}
-use Rattle.wit_encode.specs.WholeWorlds.{ShowsWorldType}
-use Rattle.wit_encode.specs.WorldCounts.{DefinesOnce}
-use Rattle.wit_encode.specs.WorldRoom.{entries_in}
+use Rattle.wit_encode.specs.Packages.{HoldsInterfaces, HoldsMembers, Listed, ListedWorld}
 
 -- ---- how long parts are
 
@@ -60,13 +55,3 @@ LacksWorld r p e old =
 pub data WorldsLackRoom (r : Resolve) (p : PackageIdentity) (interfaces : List Listed) (entries : List ListedWorld) : Type 0 where
   too_heavy : (e : ListedWorld) → Contains entries e → IsHeavyWorld r p e.1.0 → WorldsLackRoom r p interfaces entries
   too_long : (first rest : List ListedWorld) → entries ≡ first ++ rest → AreLong (HoldsMembers r p interfaces first) → WorldsLackRoom r p interfaces entries
-
--- ---- packages
-
--- Package n weighs more than the largest number of 32 bits. Or a component type of one of its interfaces takes more bytes than the interface
--- weighs with what it reaches, or one of a world more than the world weighs.
-pub data PackageLacksRoom (r : Resolve) (n : ℕ) (p : Package) : Type 0 where
-  too_heavy : limit < package_weight r n → PackageLacksRoom r n p
-  a_long_interface : (e : Listed) (x : Text × Declarations) → Contains p.interfaces.entries e → IsTypeOf r e x → interface_weight r e.1.0 < length (declarations_bytes x.1) → PackageLacksRoom r n p
-  a_long_world : (e : ListedWorld) (w : World) (inner : Declarations) → Contains p.worlds.entries e → world_at r e.1.0 ≡ Some w → ShowsWorldType r w inner → DefinesOnce r inner (entries_in w)
-      → world_weight r e.1.0 < length (declarations_bytes inner) → PackageLacksRoom r n p

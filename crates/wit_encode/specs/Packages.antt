@@ -1,6 +1,6 @@
 -- The component of a package: a component type for each interface, and then one for each world in its wrapper, each exported under its name
 -- (Component Model WIT.md, "Package Format").
-use Rattle.std.specs.Prelude.{◌≡◌, ◌<◌, ◌↔◌, ◌||◌, ℕ, Bool, false, true, is_some, List, [], ◌∷◌, ◌++◌, length, Some, String}
+use Rattle.std.specs.Prelude.{◌≡◌, ◌<◌, ◌≤◌, ◌↔◌, ◌||◌, ℕ, Bool, false, true, is_some, List, [], ◌∷◌, ◌++◌, length, Some, String}
 use Rattle.std.specs.List.{AllZip, Contains}
 use Rattle.std.specs.declared.alloc.Global.{Global}
 use Rattle.wit_model.specs.Text.{Text, text_of}
@@ -23,8 +23,10 @@ use Rattle.comp_meaning.specs.Reads.{Reads}
 use Rattle.wit_shown.specs.PackageTypes.{ArePackageTypes, wrapper}
 use Rattle.world_names.specs.Clashes.{HasNoClash}
 use Rattle.component_exports.specs.ExportedParts.{exporting}
+use Rattle.wit_model.specs.Weight.{interface_weight, world_weight}
 use Rattle.wit_encode.specs.Dependencies.{ShowsComponent}
 use Rattle.wit_encode.specs.DependencyCounts.{DefinesComponent}
+use Rattle.wit_encode.specs.Instance.{declared_extent}
 use Rattle.wit_encode.specs.Scopes.{HasNoEqualPaths, RefusesInterface}
 use Rattle.wit_encode.specs.WholeWorlds.{RefusesWorld, ShowsWorldType}
 use Rattle.wit_encode.specs.WorldCounts.{DefinesOnce}
@@ -51,11 +53,13 @@ pub record RefusesInterfaces (r : Resolve) (entries : List Listed) (canonical : 
   pub differ : canonical ≡ true → HaveNoEqualPaths r before
   pub refuses : RefusesInterface r refused.1.0 canonical e
 
--- the component type of an interface, under its name, with each definition once
+-- the component type of an interface, under its name, with each definition once: it takes no more bytes than the interface weighs with what it
+-- reaches
 pub record IsTypeOf (r : Resolve) (e : Listed) (x : Text × Declarations) : Type 0 where
   pub label : x.0 ≡ text_of e.0
   pub shows : (path : Text) → interface_path r e.1.0 ≡ Some path → ShowsComponent r e.1.0 path x.1
   pub once : DefinesComponent r e.1.0 x.1
+  pub light : declared_extent x.1 ≤ interface_weight r e.1.0
 
 -- a component that exports the component types of these interfaces, in order, and nothing else
 pub record HoldsInterfaces (r : Resolve) (entries : List Listed) (parts : List Part) : Type 0 where
@@ -73,20 +77,21 @@ AddsInterface r e old new = (entries : List Listed) → HoldsInterfaces r entrie
 abbrev pub ListedWorld : Type 0
 ListedWorld = String Global × WorldId
 
--- the wrapper of a world of a package of this name and version: it defines a component type that shows the world, with each definition once, and
--- exports it under the world's path, whole
-pub record WrapsWorld (r : Resolve) (p : PackageIdentity) (w : World) (declared : Declarations) : Type 0 where
+-- the wrapper of world n of a package of this name and version: it defines a component type that shows the world, with each definition once and
+-- no more bytes than the world weighs, and exports it under the world's path, whole
+pub record WrapsWorld (r : Resolve) (p : PackageIdentity) (n : ℕ) (w : World) (declared : Declarations) : Type 0 where
   pub inner : Declarations
   pub is : declared ≡ wrapper (path_in p (text_of w.name)) inner
   pub shows : ShowsWorldType r w inner
   pub once : DefinesOnce r inner (entries_in w)
+  pub light : declared_extent inner ≤ world_weight r n
 
 -- the wrapper of a world, under its name
 pub record IsWrapperOf (r : Resolve) (p : PackageIdentity) (e : ListedWorld) (x : Text × Declarations) : Type 0 where
   pub label : x.0 ≡ text_of e.0
   pub world : World
   pub there : world_at r e.1.0 ≡ Some world
-  pub wraps : WrapsWorld r p world x.1
+  pub wraps : WrapsWorld r p e.1.0 world x.1
 
 -- a component that exports the component types of these interfaces, in order, then the wrappers of these worlds, in order, and nothing else
 pub record HoldsMembers (r : Resolve) (p : PackageIdentity) (interfaces : List Listed) (worlds : List ListedWorld) (parts : List Part) : Type 0 where

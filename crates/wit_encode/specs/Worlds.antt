@@ -24,7 +24,7 @@ use Rattle.wit_encode_types.specs.Standing.{SlotsStand, is_slot_of}
 use Rattle.wit_encode_types.specs.Table.{table_scope}
 use Rattle.wit_encode_types.specs.View.{View}
 use Rattle.world_names.specs.Rebuilt.{others_seen}
-use Rattle.wit_encode.specs.Instance.{around_at, count_declared}
+use Rattle.wit_encode.specs.Instance.{around_at, count_declared, declared_extent}
 use Rattle.wit_encode.specs.WrittenNames.{instances_around}
 use Rattle.wit_encode.specs.declared.world.WorldEncoderOf.{WorldEncoderOf}
 
@@ -120,6 +120,7 @@ world_view r w count component maps = record {
   definitions = world_definitions component.declared;
   maps = maps;
   held = held_beside r component;
+  extent = declared_extent component.declared;
   lacks_room = LacksRoomBehind r (declaration_count component.declared);
 }
 

@@ -8,12 +8,16 @@ ghost use Rattle.wit_model.specs.Lookup.{interface_path};
 ghost use Rattle.wit_model.specs.Text.{Text};
 ghost use Rattle.wit_model.specs.declared.error.Error.TheVariants.{Size};
 ghost use Rattle.wit_model.specs.Valid.{IsValid};
-ghost use Rattle.wit_model.specs.Weight.{interface_weight};
+ghost use Rattle.wit_model.specs.Weight.{interface_weight, types_instance_weight};
+ghost use Rattle.world_names.specs.WorldNames.{name_of_interface};
 ghost use Rattle.wit_encode.specs.Encoders.{outside, UsedAround};
 ghost use Rattle.wit_encode.specs.Dependencies.{AreImportable, HasImported, ImportsTypes, ShowsComponent};
 ghost use Rattle.wit_encode.specs.DependencyCounts.{DefinesComponent, DefinesImports};
 ghost use Rattle.wit_encode.specs.DependencyRoom.{HoldsImports, ImportsLackRoom, LacksImport};
+ghost use Rattle.wit_encode.specs.Extents.{instance_extent};
+ghost use Rattle.wit_encode.specs.Instance.{declared_extent};
 ghost use Rattle.wit_encode.specs.Scopes.{HasNoEqualPaths, RefusesInterface};
+ghost use Rattle.wit_encode.specs.WrittenBytes.{AddsBytes, imports_extent};
 
 use crate::interface::{InterfaceEncoder, InterfaceEncoderOf};
 use comp_bytes::{ComponentType, ComponentTypeRef};
@@ -37,6 +41,7 @@ fn import_dependency<'a>(
     ensures closed { encoder.new.inner ≡ None }
     ensures resolve { encoder.new.resolve.now ≡ encoder.old.resolve.now }
     ensures imports { OnOk result (ImportsTypes encoder.old.resolve.now canonical_names (outside encoder.old) (outside encoder.new) interface number) }
+    ensures written { OnOk result (AddsBytes (instance_extent (name_of_interface encoder.old.resolve.now canonical_names interface.0) (types_instance_weight encoder.old.resolve.now interface.0)) encoder.old.outer encoder.new.outer) }
     ensures size { result ≡ Err Size → LacksImport encoder.old.resolve.now canonical_names (outside encoder.old) interface }
     ensures refuses { IfErr result IsMemoryOrSize }
 {
@@ -66,6 +71,7 @@ fn import_dependencies<'a>(
     ensures imported { OnOk result (HasImported encoder.old.resolve.now (outside encoder.new) (map (λ id. id.0) interfaces.now)) }
     ensures held { HoldsImports encoder.old.resolve.now (outside encoder.old) [] → OnOk result (HoldsImports encoder.old.resolve.now (outside encoder.new) (map (λ id. id.0) interfaces.now)) }
     ensures once { DefinesImports encoder.old.resolve.now encoder.old.outer [] → OnOk result (DefinesImports encoder.old.resolve.now encoder.new.outer (map (λ id. id.0) interfaces.now)) }
+    ensures written { OnOk result (AddsBytes (imports_extent encoder.old.resolve.now canonical_names (map (λ id. id.0) interfaces.now)) encoder.old.outer encoder.new.outer) }
     ensures size { result ≡ Err Size → HoldsImports encoder.old.resolve.now (outside encoder.old) [] → ImportsLackRoom encoder.old.resolve.now (map (λ id. id.0) interfaces.now) }
     ensures refuses { IfErr result IsMemoryOrSize }
 {
@@ -84,8 +90,8 @@ fn import_dependencies<'a>(
 /// a definition of its own; in that of the interface itself there are as many types of functions as its functions have keys, and in the others
 /// none.
 ///
-/// Takes as long as encoding the types of these interfaces, and the functions of this one. Refuses `Memory` besides, and `Size` only where the
-/// interface, with what it reaches, weighs more than 4,294,967,295.
+/// Takes as long as encoding the types of these interfaces, and the functions of this one, and its declarations take no more bytes than the
+/// interface, with what it reaches, weighs. Refuses `Memory` besides, and `Size` only where that is more than 4,294,967,295.
 pub fn interface_type(
     alloc: Global,
     resolve: &Resolve,
@@ -97,6 +103,7 @@ pub fn interface_type(
     ensures shows { IfOk result (λ declared. (path : Text) → interface_path resolve.now interface.0 ≡ Some path → ShowsComponent resolve.now interface.0 path declared) }
     ensures once { IfOk result (DefinesComponent resolve.now interface.0) }
     ensures differ { canonical_names ≡ true → OnOk result (HasNoEqualPaths resolve.now interface.0) }
+    ensures light { IfOk result (λ declared. declared_extent declared ≤ interface_weight resolve.now interface.0) }
     ensures size { result ≡ Err Size → 4294967295 < interface_weight resolve.now interface.0 }
     ensures refuses { IfErr result (RefusesInterface resolve.now interface.0 canonical_names) }
 {

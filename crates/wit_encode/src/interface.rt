@@ -322,7 +322,7 @@ impl<'a> ValtypeEncoder<'a> for InterfaceEncoderOf<'a, TypeEncodingMaps<'a>> {
 
     ghost maps_in_view = { λ e. refl };
 
-    ghost view_with_maps = { λ e m. record { scope_ = refl; around_ = refl; slot_count_ = refl; definitions_ = refl; held_ = refl; kept = λ i s h. h; back = λ i s h. h } };
+    ghost view_with_maps = { λ e m. record { scope_ = refl; around_ = refl; slot_count_ = refl; definitions_ = refl; held_ = refl; extent_ = refl; kept = λ i s h. h; back = λ i s h. h } };
 }
 
 impl<'a> InterfaceEncoderOf<'a, TypeEncodingMaps<'a>> {
@@ -331,12 +331,15 @@ impl<'a> InterfaceEncoderOf<'a, TypeEncodingMaps<'a>> {
     ghost use Rattle.wit_encode_types.specs.Slots.{Keeps, function};
     ghost use Rattle.wit_model.specs.Meant.{function_meaning};
     ghost use Rattle.wit_model.specs.Valid.{IsValid};
-    ghost use Rattle.wit_encode_types.specs.View.{Agrees, HoldsMore, HoldsLearnt};
+    ghost use Rattle.wit_encode_types.specs.View.{Agrees, HoldsMore, HoldsLearnt, Writes};
+    ghost use Rattle.wit_encode_types.specs.Extents.{function_extent, name_extent};
+    ghost use Rattle.wit_encode.specs.WrittenBytes.{AddsBytes, TakesFew, types_extent, whole_extent};
+    ghost use Rattle.wit_encode.specs.Instance.{declared_extent};
     ghost use Rattle.wit_encode_types.specs.Leaves.{Leaves, CountsTypes, CountsFunctions, LacksRoom};
     ghost use Rattle.wit_encode_types.specs.Fits.{CanEncode};
     ghost use Rattle.wit_encode_types.specs.Counts.{names_defined};
     ghost use Rattle.std.specs.Set.{distinct_count};
-    ghost use Rattle.std.specs.Prelude.{nat_eq};
+    ghost use Rattle.std.specs.Prelude.{nat_eq, sum_by};
     ghost use Rattle.wit_encode_types.specs.Distinct.{DefinesKeys, DefinesTypes, defined_under_names};
     ghost use Rattle.wit_model.specs.Valid.{IsValid};
     ghost use Rattle.wit_encode_types.specs.MetKinds.{LearnsFrom, referred};
@@ -345,7 +348,7 @@ impl<'a> InterfaceEncoderOf<'a, TypeEncodingMaps<'a>> {
     ghost use Rattle.wit_encode.specs.Exports.{AreTypesOf, AllKnown, KnowsUsed, UsesListed};
     ghost use Rattle.wit_model.specs.declared.model.«Type».TheVariants as ValueType;
     ghost use Rattle.wit_encode.specs.Instance.{ShowsFunction, CanEncodeFunction, IsInstance, placed_function, meaning_of, own_of, declarations_in};
-    ghost use Rattle.wit_encode.specs.Encoders.{encoder_view, view_of, contents_in, shown_as, scope_within, outside, GoesOn, Reaches, InstancesStay, UsedAround, EncodesAs, EncodesPlaced, EncodesTypesAs, LacksDependency, LacksInstance, LacksWithin, plain, requests_of, meanings_of, ShowsAs, ShowsMore, HoldsInside, LacksInside, TypesStay, NamesStay, LearnsInside, DefinesNames, IsEncoding, Begins};
+    ghost use Rattle.wit_encode.specs.Encoders.{encoder_view, view_of, contents_in, shown_as, scope_within, outside, GoesOn, Reaches, InstancesStay, UsedAround, EncodesAs, EncodesPlaced, EncodesTypesAs, LacksDependency, LacksInstance, LacksWithin, plain, requests_of, meanings_of, ShowsAs, ShowsMore, HoldsInside, LacksInside, TypesStay, NamesStay, LearnsInside, WritesInside, DefinesNames, IsEncoding, Begins};
     ghost use Rattle.wit_encode_types.specs.Room.{export_name, function_requests};
     ghost use Rattle.wit_encode_types.specs.Maps.{MapsGrow};
 
@@ -383,6 +386,7 @@ impl<'a> InterfaceEncoderOf<'a, TypeEncodingMaps<'a>> {
         ensures outer { self.new.outer ≡ self.old.outer }
         ensures maps { self.new.maps ≡ self.old.maps }
         ensures held { HoldsMore 1 (encoder_view self.old) (encoder_view self.new) }
+        ensures written { OnOk result (Writes (name_extent (raw_name name.entry)) (encoder_view self.old) (encoder_view self.new)) }
         ensures size { result ≡ Err Size → (encoder_view self.new).lacks_room (export_name (raw_name name.entry)) }
         ensures refuses { IfErr result IsMemoryOrSize }
     {
@@ -413,6 +417,7 @@ impl<'a> InterfaceEncoderOf<'a, TypeEncodingMaps<'a>> {
         ensures types_stay { OnOk result (TypesStay resolve.now self.old self.new) }
         ensures names_stay { OnOk result (NamesStay resolve.now self.old self.new) }
         ensures held { OnOk result (HoldsInside 2 self.old self.new) }
+        ensures written { OnOk result (WritesInside resolve.now (function_extent resolve.now (text_of name.now, func.now)) self.old self.new) }
         ensures size { result ≡ Err Size → LacksInside resolve.now self.old self.new (function_types func.now) (function_requests resolve.now (text_of name.now, func.now)) }
         ensures refuses { IfErr result IsMemoryOrSize }
     {
@@ -437,6 +442,7 @@ impl<'a> InterfaceEncoderOf<'a, TypeEncodingMaps<'a>> {
         ensures types_stay { OnOk result (TypesStay resolve.now self.old self.new) }
         ensures names_stay { OnOk result (NamesStay resolve.now self.old self.new) }
         ensures held { OnOk result (HoldsInside (2 * length functions.now) self.old self.new) }
+        ensures written { OnOk result (WritesInside resolve.now (sum_by (function_extent resolve.now) (map placed_function functions.now)) self.old self.new) }
         ensures size { result ≡ Err Size → LacksInside resolve.now self.old self.new (flat_map function_types (plain functions.now)) (requests_of resolve.now functions.now) }
         ensures refuses { IfErr result IsMemoryOrSize }
     {
@@ -463,6 +469,7 @@ impl<'a> InterfaceEncoderOf<'a, TypeEncodingMaps<'a>> {
         ensures exported { OnOk result ((encoder_view self.new).definitions.exports ≡ declarations_in resolve.now (own_of self.old.inner)) }
         ensures defined { OnOk result (DefinesNames resolve.now (encoder_view self.old) self.old self.new types.now) }
         ensures held { OnOk result (HoldsInside 0 self.old self.new) }
+        ensures written { OnOk result (WritesInside resolve.now 0 self.old self.new) }
         ensures size { result ≡ Err Size → LacksInside resolve.now self.old self.new (map (λ t. ValueType.Id t) types.now) [] }
         ensures refuses { IfErr result IsMemoryOrSize }
     {
@@ -492,6 +499,7 @@ impl<'a> InterfaceEncoderOf<'a, TypeEncodingMaps<'a>> {
         ensures learns { OnOk result (LearnsInside resolve.now self.old self.new (referred types.now (plain functions.now))) }
         ensures exported { OnOk result ((view_of resolve.now self.new).definitions.exports ≡ declarations_in resolve.now (own_of self.old.inner)) }
         ensures defined { OnOk result (DefinesNames resolve.now (view_of resolve.now self.old) self.old self.new types.now) }
+        ensures written { OnOk result (WritesInside resolve.now (sum_by (function_extent resolve.now) (map placed_function functions.now)) self.old self.new) }
         ensures size { result ≡ Err Size → LacksInside resolve.now self.old self.new (referred types.now (plain functions.now)) (requests_of resolve.now functions.now) }
         ensures refuses { IfErr result IsMemoryOrSize }
     {
@@ -519,6 +527,7 @@ impl<'a> InterfaceEncoderOf<'a, TypeEncodingMaps<'a>> {
         ensures ok { IfOk result (λ ds. IsInstance self.old.resolve.now self.new.outer interface ds (meanings_of self.old.resolve.now functions.now)) }
         ensures function_types { IfOk result (DefinesKeys (plain functions.now)) }
         ensures value_types { IfOk result (DefinesTypes self.old.resolve.now interface types.now (plain functions.now)) }
+        ensures written { IfOk result (λ ds. TakesFew self.old.resolve.now interface (referred types.now (plain functions.now)) (map placed_function functions.now) (declared_extent self.old.outer) (declared_extent self.new.outer + declared_extent (from_list ds))) }
         ensures size { result ≡ Err Size → LacksWithin self.old interface types.now functions.now }
         ensures refuses { IfErr result IsMemoryOrSize }
     {
@@ -577,6 +586,7 @@ impl<'a> InterfaceEncoderOf<'a, TypeEncodingMaps<'a>> {
         ensures ok { IfOk result (EncodesPlaced self.old self.new interface functions.now) }
         ensures stands { OnOk result (Keeps (encoder_view self.old).stands (encoder_view self.new).stands) }
         ensures instances { InstancesStay self.old self.new }
+        ensures written { OnOk result (TakesFew self.old.resolve.now interface (referred types.now (plain functions.now)) (map placed_function functions.now) (declared_extent self.old.outer + 8) (declared_extent self.new.outer)) }
         ensures size { result ≡ Err Size → LacksWithin self.old interface types.now functions.now }
         ensures refuses { IfErr result IsMemoryOrSize }
     {
@@ -604,6 +614,7 @@ impl<'a> InterfaceEncoderOf<'a, TypeEncodingMaps<'a>> {
         ensures ok { IfOk result (EncodesTypesAs self.old self.new interface) }
         ensures stands { OnOk result (Keeps (encoder_view self.old).stands (encoder_view self.new).stands) }
         ensures instances { InstancesStay self.old self.new }
+        ensures written { OnOk result (AddsBytes (types_extent self.old.resolve.now interface.0) self.old.outer self.new.outer) }
         ensures size { result ≡ Err Size → LacksDependency self.old interface }
         ensures refuses { IfErr result IsMemoryOrSize }
     {
@@ -635,6 +646,7 @@ impl<'a> InterfaceEncoderOf<'a, TypeEncodingMaps<'a>> {
         ensures ok { IfOk result (EncodesAs self.old self.new interface) }
         ensures stands { OnOk result (Keeps (encoder_view self.old).stands (encoder_view self.new).stands) }
         ensures instances { InstancesStay self.old self.new }
+        ensures written { OnOk result (AddsBytes (whole_extent self.old.resolve.now interface.0) self.old.outer self.new.outer) }
         ensures size { result ≡ Err Size → LacksInstance self.old interface }
         ensures refuses { IfErr result IsMemoryOrSize }
     {

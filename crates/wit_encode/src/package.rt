@@ -5,13 +5,14 @@ ghost use Rattle.comp_bytes.specs.Refusal.{IsMemoryOrSize};
 ghost use Rattle.wit_model.specs.Lookup.{identity_of, interface_path, package_at, world_at};
 ghost use Rattle.wit_model.specs.Names.{path_in};
 ghost use Rattle.wit_model.specs.Valid.{IsValid};
+ghost use Rattle.wit_model.specs.Weight.{package_weight};
 ghost use Rattle.wit_model.specs.declared.model.Package.{Package as PackageValue};
 ghost use Rattle.wit_model.specs.declared.model.World.{World as WorldValue};
 ghost use Rattle.comp_bytes.specs.Spelling.{preamble};
 ghost use Rattle.wit_model.specs.declared.error.Error.TheVariants.{Size};
 ghost use Rattle.wit_shown.specs.PackageTypes.{wrapper};
 ghost use Rattle.wit_encode.specs.Scopes.{HasNoEqualPaths, RefusesInterface};
-ghost use Rattle.wit_encode.specs.PackageRoom.{InterfacesLackRoom, IsHeavyWorld, LacksInterface, LacksWorld, PackageLacksRoom, WorldsLackRoom};
+ghost use Rattle.wit_encode.specs.PackageRoom.{InterfacesLackRoom, IsHeavyWorld, LacksInterface, LacksWorld, WorldsLackRoom};
 ghost use Rattle.wit_encode.specs.Packages.{AddsInterface, AddsWorld, AddsWorlds, AreNamed, AreWorlds, HasMembers, HasNoClashAt, HasNoClashes, HasNoMembers, HoldsMembers, Listed, HaveNoClash, HaveNoEqualPaths, HoldsInterfaces, HoldsPackage, MeansPackage, RefusesInterfaces, RefusesPackage, RefusesWorldAt, RefusesWorlds, SpellsPackage, WrapsWorld};
 
 use crate::component_types::interface_type;
@@ -104,7 +105,7 @@ fn world_type(
 ) -> Result<ComponentType, Error>
     requires valid { IsValid resolve.now }
     requires in_range { world.0 < length resolve.now.worlds.items }
-    ensures wraps { IfOk result (λ declared. (w : WorldValue) → world_at resolve.now world.0 ≡ Some w → WrapsWorld resolve.now (identity_of «package».now) w declared) }
+    ensures wraps { IfOk result (λ declared. (w : WorldValue) → world_at resolve.now world.0 ≡ Some w → WrapsWorld resolve.now (identity_of «package».now) world.0 w declared) }
     ensures differ { canonical_names ≡ true → OnOk result (HasNoClashAt resolve.now world.0) }
     ensures size { result ≡ Err Size → IsHeavyWorld resolve.now (identity_of «package».now) world.0 }
     ensures refuses { IfErr result (RefusesWorldAt resolve.now world.0 canonical_names) }
@@ -171,8 +172,8 @@ fn add_worlds(
 /// Paths are written with their whole version, or, with canonical names, with the canonical part of it and an attribute that completes it; the
 /// meaning is the same. Then `CanonicalClash` is answered where two imports, or two exports, of one component type have one canonical name,
 /// with the first name that repeats an earlier one, interfaces before worlds, each in order. Otherwise `Memory` and `Size` alone are refused,
-/// and `Size` only where the package weighs more than 4,294,967,295, or where a component type of one of its interfaces or worlds takes more
-/// bytes than the interface, with what it reaches, or the world weighs.
+/// and `Size` only where the package weighs more than 4,294,967,295. A component type of an interface takes no more bytes than the interface
+/// weighs with what it reaches, and one of a world no more than the world weighs.
 ///
 /// In each component type, and in each instance type in one, as many types of functions are defined as the functions there have keys, and each
 /// unnamed kind that is met is defined once, as is each named type that has a definition of its own.
@@ -188,7 +189,7 @@ pub fn encode_component(
     requires in_range { «package».0 < length resolve.now.packages.items }
     ensures holds { IfOk result (λ parts. (p : PackageValue) → package_at resolve.now «package».0 ≡ Some p → HoldsPackage resolve.now p parts) }
     ensures differ { (p : PackageValue) → package_at resolve.now «package».0 ≡ Some p → canonical_names ≡ true → OnOk result (HasNoClashes resolve.now p) }
-    ensures size { result ≡ Err Size → (p : PackageValue) → package_at resolve.now «package».0 ≡ Some p → PackageLacksRoom resolve.now «package».0 p }
+    ensures size { result ≡ Err Size → 4294967295 < package_weight resolve.now «package».0 }
     ensures refuses { (p : PackageValue) → package_at resolve.now «package».0 ≡ Some p → IfErr result (RefusesPackage resolve.now p canonical_names) }
 {
     let own = &resolve.packages[package.0 as usize];
@@ -220,7 +221,7 @@ pub fn encode(
     ensures holds { IfOk result (λ bytes. (p : PackageValue) → package_at resolve.now «package».0 ≡ Some p → SpellsPackage resolve.now p bytes.items) }
     ensures empty { IfOk result (λ bytes. (p : PackageValue) → package_at resolve.now «package».0 ≡ Some p → HasNoMembers p → bytes.items ≡ preamble) }
     ensures differ { (p : PackageValue) → package_at resolve.now «package».0 ≡ Some p → canonical_names ≡ true → OnOk result (HasNoClashes resolve.now p) }
-    ensures size { result ≡ Err Size → (p : PackageValue) → package_at resolve.now «package».0 ≡ Some p → PackageLacksRoom resolve.now «package».0 p }
+    ensures size { result ≡ Err Size → 4294967295 < package_weight resolve.now «package».0 }
     ensures refuses { (p : PackageValue) → package_at resolve.now «package».0 ≡ Some p → IfErr result (RefusesPackage resolve.now p canonical_names) }
 {
     encode_component(alloc, resolve, package, canonical_names)?.finish()

@@ -24,6 +24,8 @@ ghost use Rattle.wit_encode.specs.WholeWorlds.{RefusesWorld, ShowsWorldType};
 ghost use Rattle.wit_encode.specs.WorldItems.{entry_of, towards, AwaitsAll, AwaitsNext, DefinesInstance, Encodes, EncodesAll, HasShown, ListsInstance};
 ghost use Rattle.wit_encode.specs.WorldRoom.{entries_in};
 ghost use Rattle.wit_encode.specs.Worlds.{world_around};
+ghost use Rattle.wit_encode.specs.Instance.{declared_extent};
+ghost use Rattle.wit_encode.specs.WrittenBytes.{AddsBytes, AddsLearnt, items_extent, whole_extent};
 ghost use Rattle.wit_encode.specs.WrittenNames.{NamesMore, WritesNames};
 
 use crate::interface::{
@@ -170,7 +172,7 @@ impl<'a> ValtypeEncoder<'a> for WorldEncoderOf<'a, TypeEncodingMaps<'a>> {
 
     ghost maps_in_view = { λ e. refl };
 
-    ghost view_with_maps = { λ e m. record { scope_ = refl; around_ = refl; slot_count_ = refl; definitions_ = refl; held_ = refl; kept = λ i s h. h; back = λ i s h. h } };
+    ghost view_with_maps = { λ e m. record { scope_ = refl; around_ = refl; slot_count_ = refl; definitions_ = refl; held_ = refl; extent_ = refl; kept = λ i s h. h; back = λ i s h. h } };
 }
 
 /// An encoder of a world.
@@ -210,6 +212,7 @@ impl<'a> WorldEncoderOf<'a, TypeEncodingMaps<'a>> {
         ensures ok { OnOk result (Encodes resolve.now self.old self.new placed.entry) }
         ensures once { OnOk result (Defines resolve.now self.old self.new placed.entry) }
         ensures few { OnOk result (HoldsOn resolve.now self.old self.new placed.entry) }
+        ensures written { OnOk result (AddsLearnt resolve.now (items_extent resolve.now placed.entry.canonical_names (entry_of placed.entry ∷ [])) self.old.maps self.new.maps self.old.outer self.new.outer) }
         ensures size { result ≡ Err Size → LacksWorldRoom resolve.now self.old placed.entry }
         ensures names { OnOk result (NamesMore resolve.now placed.entry.canonical_names (entry_of placed.entry ∷ []) self.old.outer self.new.outer) }
         ensures refuses { IfErr result IsMemoryOrSize }
@@ -240,6 +243,7 @@ impl<'a> WorldEncoderOf<'a, TypeEncodingMaps<'a>> {
         ensures ok { OnOk result (Encodes resolve.now self.old self.new placed.entry) }
         ensures once { OnOk result (Defines resolve.now self.old self.new placed.entry) }
         ensures few { OnOk result (HoldsOn resolve.now self.old self.new placed.entry) }
+        ensures written { OnOk result (AddsLearnt resolve.now (items_extent resolve.now placed.entry.canonical_names (entry_of placed.entry ∷ [])) self.old.maps self.new.maps self.old.outer self.new.outer) }
         ensures size { result ≡ Err Size → LacksWorldRoom resolve.now self.old placed.entry }
         ensures names { OnOk result (NamesMore resolve.now placed.entry.canonical_names (entry_of placed.entry ∷ []) self.old.outer self.new.outer) }
         ensures refuses { IfErr result IsMemoryOrSize }
@@ -255,6 +259,7 @@ impl<'a> WorldEncoderOf<'a, TypeEncodingMaps<'a>> {
         requires in_range { interface.0 < length self.old.resolve.now.interfaces.items }
         requires around { UsedStand self.old.resolve.now (standing_instances self.old.resolve.now (world_around self.old)) interface.0 }
         ensures ok { IfOk result (DefinesInstance self.old self.new interface) }
+        ensures written { OnOk result (AddsBytes (whole_extent self.old.resolve.now interface.0) self.old.outer self.new.outer) }
         ensures size { result ≡ Err Size → LacksInstanceHere self.old interface }
         ensures rest { self.new ≡ record self.old { outer = self.new.outer; foreign = self.new.foreign } }
         ensures refuses { IfErr result IsMemoryOrSize }
@@ -300,6 +305,7 @@ impl<'a> WorldEncoderOf<'a, TypeEncodingMaps<'a>> {
         ensures ok { OnOk result (Encodes resolve.now self.old self.new placed.entry) }
         ensures once { OnOk result (Defines resolve.now self.old self.new placed.entry) }
         ensures few { OnOk result (HoldsOn resolve.now self.old self.new placed.entry) }
+        ensures written { OnOk result (AddsLearnt resolve.now (items_extent resolve.now placed.entry.canonical_names (entry_of placed.entry ∷ [])) self.old.maps self.new.maps self.old.outer self.new.outer) }
         ensures size { result ≡ Err Size → LacksWorldRoom resolve.now self.old placed.entry }
         ensures names { OnOk result (NamesMore resolve.now placed.entry.canonical_names (entry_of placed.entry ∷ []) self.old.outer self.new.outer) }
         ensures refuses { IfErr result IsMemoryOrSize }
@@ -329,6 +335,7 @@ impl<'a> WorldEncoderOf<'a, TypeEncodingMaps<'a>> {
         ensures ok { OnOk result (Encodes resolve.now self.old self.new placed.entry) }
         ensures once { OnOk result (Defines resolve.now self.old self.new placed.entry) }
         ensures few { OnOk result (HoldsOn resolve.now self.old self.new placed.entry) }
+        ensures written { OnOk result (AddsLearnt resolve.now (items_extent resolve.now placed.entry.canonical_names (entry_of placed.entry ∷ [])) self.old.maps self.new.maps self.old.outer self.new.outer) }
         ensures size { result ≡ Err Size → LacksWorldRoom resolve.now self.old placed.entry }
         ensures names { OnOk result (NamesMore resolve.now placed.entry.canonical_names (entry_of placed.entry ∷ []) self.old.outer self.new.outer) }
         ensures refuses { IfErr result IsMemoryOrSize }
@@ -354,6 +361,7 @@ impl<'a> WorldEncoderOf<'a, TypeEncodingMaps<'a>> {
         ensures ok { OnOk result (EncodesAll resolve.now self.old self.new (towards direction)) }
         ensures once { OnOk result (DefinesAll resolve.now self.old self.new items.now.entries) }
         ensures few { OnOk result (HoldsAll resolve.now self.old self.new items.now.entries) }
+        ensures written { OnOk result (AddsLearnt resolve.now (items_extent resolve.now canonical_names items.now.entries) self.old.maps self.new.maps self.old.outer self.new.outer) }
         ensures size { result ≡ Err Size → LacksRoomTowards resolve.now self.old (towards direction) }
         ensures names { OnOk result (NamesMore resolve.now canonical_names items.now.entries self.old.outer self.new.outer) }
         ensures refuses { IfErr result IsMemoryOrSize }
@@ -382,6 +390,7 @@ fn encode_entries(
     requires in_range { world.0 < length resolve.now.worlds.items }
     ensures shows { IfOk result (λ declared. (w : WorldValue) → world_at resolve.now world.0 ≡ Some w → ShowsWorldType resolve.now w declared) }
     ensures once { IfOk result (λ declared. (w : WorldValue) → world_at resolve.now world.0 ≡ Some w → DefinesOnce resolve.now declared (entries_in w)) }
+    ensures light { IfOk result (λ declared. declared_extent declared ≤ world_weight resolve.now world.0) }
     ensures size { result ≡ Err Size → 4294967295 < world_weight resolve.now world.0 }
     ensures names { IfOk result (λ declared. (w : WorldValue) → world_at resolve.now world.0 ≡ Some w → WritesNames resolve.now canonical_names w declared) }
     ensures refuses { IfErr result IsMemoryOrSize }
@@ -418,7 +427,8 @@ fn encode_entries(
 /// In the component type as many types of functions are defined as the world's functions have keys, and each unnamed kind that its types and
 /// functions meet is defined once, as is each of its named types that has a definition of its own. In each instance type it is the same.
 ///
-/// Takes as long as encoding its interfaces, types and functions, with a search in an ordered map for each.
+/// Takes as long as encoding its interfaces, types and functions, with a search in an ordered map for each. Its declarations take no more bytes
+/// than the world weighs.
 pub fn encode_world(
     alloc: Global,
     resolve: &Resolve,
@@ -429,6 +439,7 @@ pub fn encode_world(
     requires in_range { world.0 < length resolve.now.worlds.items }
     ensures shows { IfOk result (λ declared. (w : WorldValue) → world_at resolve.now world.0 ≡ Some w → ShowsWorldType resolve.now w declared) }
     ensures once { IfOk result (λ declared. (w : WorldValue) → world_at resolve.now world.0 ≡ Some w → DefinesOnce resolve.now declared (entries_in w)) }
+    ensures light { IfOk result (λ declared. declared_extent declared ≤ world_weight resolve.now world.0) }
     ensures size { result ≡ Err Size → 4294967295 < world_weight resolve.now world.0 }
     ensures names { IfOk result (λ declared. (w : WorldValue) → world_at resolve.now world.0 ≡ Some w → WritesNames resolve.now canonical_names w declared) }
     ensures clashes { (w : WorldValue) → world_at resolve.now world.0 ≡ Some w → canonical_names ≡ true → OnOk result (HasNoClash resolve.now w) }

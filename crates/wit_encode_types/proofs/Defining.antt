@@ -1,10 +1,9 @@
 -- What is defined, call by call.
-use Rattle.std.proofs.Common.{◌≡◌, refl, sym, subst, ap, ◌∙◌, ℕ, ◌+◌, ◌<◌, inl, inr, append_assoc, append-nil, Bool, true, false, cond, List, [], ◌∷◌, ◌++◌, Result, Ok, Err, IfOk, Option, Some, None, length, length-append, arith, count_by, zero-add, map, Vec}
+use Rattle.std.proofs.Common.{◌≡◌, refl, sym, subst, ap, ◌∙◌, ℕ, ◌+◌, inl, inr, append_assoc, append-nil, Bool, true, false, cond, List, [], ◌∷◌, ◌++◌, Result, Ok, Err, IfOk, Option, Some, None, length, length-append, arith, count_by, zero-add, map, Vec}
 use Rattle.std.proofs.lemmas.List.Sums.{sum_by-append}
 use Rattle.wit_model.specs.Rules.{is_named_kind}
-use Rattle.wit_model.specs.Tree.{Tree, Declaration}
-use Rattle.wit_model.specs.contracts.model.TypeDefKindEq.TheImpl.Laws.{laws-law as kind_laws}
-use Rattle.wit_model.specs.Types.{declared_by, tree_of_declaration, trees_of, tree_of}
+use Rattle.wit_model.specs.Tree.{Tree}
+use Rattle.wit_model.specs.Types.{trees_of, tree_of}
 use Rattle.wit_model.specs.declared.model.Resolve.{Resolve}
 use Rattle.wit_model.specs.declared.model.TypeId.{TypeId}
 use Rattle.wit_model.specs.declared.model.TypeDefKind.{TypeDefKind}
@@ -38,7 +37,6 @@ use Rattle.wit_encode_types.proofs.Around.{around-trans}
 use Rattle.wit_encode_types.specs.View.{View, Agrees, Grows}
 use Rattle.wit_encode_types.specs.Leaves.{Leaves}
 use Rattle.wit_encode_types.proofs.Written.{written-stands}
-use Rattle.wit_encode_types.proofs.KindLaws.{same_tree}
 
 -- ---- more pairs
 

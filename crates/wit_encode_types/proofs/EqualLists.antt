@@ -19,8 +19,8 @@ use Rattle.wit_encode_types.specs.declared.key.FunctionKey.{FunctionKey}
 use Rattle.wit_encode_types.specs.Key.{same_type, same_param, same_params, same_key}
 use Rattle.wit_encode_types.specs.KeyLaws.{type_equiv, text_same}
 use Rattle.wit_encode_types.specs.Maps.{same_kind}
-use Rattle.wit_encode_types.specs.Codes.{type_code, optional_code, kind_code, Names, IsTable, AreListed, async_code, IsListed, IsKeyList}
-use Rattle.wit_encode_types.specs.CodeLaws.{EqualKindLists, EqualKeyLists, EqualKinds, EqualKeys}
+use Rattle.wit_encode_types.specs.Codes.{type_code, optional_code, kind_code, Names, IsTable, AreListed, async_code, IsKeyList}
+use Rattle.wit_encode_types.specs.CodeLaws.{EqualKinds, EqualKeys}
 use Rattle.wit_encode_types.proofs.KindLaws.{same_types, optional_same, types_same}
 use Rattle.wit_encode_types.proofs.Lists.{both}
 

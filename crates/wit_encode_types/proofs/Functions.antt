@@ -1,27 +1,20 @@
 -- Types of functions by their keys.
-use Rattle.std.proofs.Common.{◌≡◌, refl, sym, subst, ap, ◌∙◌, ℕ, ◌+◌, Bool, true, false, ◌&&◌, List, [], ◌∷◌, ◌++◌, inl, inr, map, Result, Ok, Err, IfOk, option_map, length, arith, count_by, Vec}
+use Rattle.std.proofs.Common.{◌≡◌, refl, sym, subst, ap, ℕ, ◌+◌, List, [], ◌∷◌, ◌++◌, inl, inr, map, Result, Ok, Err, IfOk, option_map, length, arith, count_by, Vec}
 use Rattle.std.specs.Prelude.{IsPermutation}
 use Rattle.std.specs.Borrow.{Bor}
 use Rattle.std.specs.declared.alloc.Global.{Global}
 use Rattle.std.specs.List.{Contains}
-use Rattle.std.specs.Option.{option_eq}
-use Rattle.std.specs.Cmp.Lexicographic.{pointwise}
 use Rattle.std.proofs.lemmas.List.Elements.{Contains-append_left, Contains-append_right}
-use mathlib.Core.Bool.{beq, true≢false}
-use Rattle.wit_model.proofs.Lists.{first_true, second_true}
-use Rattle.wit_model.specs.Text.{Text, text_of, text_eq}
-use Rattle.wit_model.specs.Tree.{Tree}
+use Rattle.wit_model.specs.Text.{Text, text_of}
 use Rattle.wit_model.specs.Types.{trees_of, tree_of}
 use Rattle.wit_model.specs.Meant.{signature_of}
 use Rattle.wit_model.specs.Meaning.{Signature}
 use Rattle.wit_model.specs.declared.model.Resolve.{Resolve}
-use Rattle.wit_model.specs.declared.model.Param.{Param}
 use Rattle.wit_model.specs.declared.model.Function.{Function}
 use Rattle.wit_model.specs.declared.model.«Type».{«Type» as ValueType}
 use Rattle.wit_encode_types.specs.declared.key.FunctionKey.{FunctionKey}
 use Rattle.wit_encode_types.specs.declared.maps.TypeEncodingMaps.{TypeEncodingMaps}
-use Rattle.wit_encode_types.specs.Key.{same_type, same_param, same_params, same_key, IsKeyOf, key_signature}
-use Rattle.wit_encode_types.specs.KeyLaws.{text_same}
+use Rattle.wit_encode_types.specs.Key.{IsKeyOf, key_signature}
 use Rattle.wit_encode_types.specs.Maps.{MapsAgree, NamesGrow, HasKey, LacksKey, LearnsKey, by_key}
 use Rattle.wit_encode_types.specs.Slots.{Pairs, function}
 use Rattle.wit_encode_types.specs.Scope.{Scope}

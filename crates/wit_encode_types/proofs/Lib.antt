@@ -16,3 +16,4 @@ pub mod Paths
 pub mod TableSteps
 pub mod Rooms
 pub mod Learning
+pub mod Writing

@@ -1,5 +1,5 @@
 -- How much an encoder holds, and what it has no room for, call after call.
-use Rattle.std.proofs.Common.{◌≡◌, refl, sym, subst, ap, ◌∙◌, ℕ, zero, suc, ◌+◌, ◌≤◌, inl, inr, Bool, true, false, List, [], ◌∷◌, ◌++◌, map, length, length-append, take, append_assoc, append-nil, Option, Some, arith, nat_eq, Result, Ok, Err, OnOk}
+use Rattle.std.proofs.Common.{◌≡◌, refl, sym, subst, ◌∙◌, ℕ, zero, suc, ◌+◌, ◌≤◌, inl, inr, Bool, true, false, List, [], ◌∷◌, ◌++◌, map, length, length-append, take, append-nil, Option, Some, arith, nat_eq, Result, Ok, Err, OnOk}
 use Rattle.std.specs.Prelude.{flat_map, IsPermutation}
 use Rattle.std.proofs.lemmas.Cmp.{nat_eq_equiv}
 use Rattle.std.proofs.lemmas.List.Sorted.{IsPermutation-refl, IsPermutation-sym, Contains-permutation}

@@ -12,6 +12,7 @@ pub mod Plan
 pub mod Definition
 pub mod Counts
 pub mod Room
+pub mod Extents
 pub mod View
 pub mod Fits
 pub mod Table

@@ -123,6 +123,7 @@ table_view t = record {
   definitions = table_definitions (table_scope t.resolve.now t.owner).declarations t.slots.items;
   maps = t.maps;
   held = length t.slots.items;
+  extent = 0;
   lacks_room = λ request. nat_lt (length t.slots.items) (2 ^ 32) ≡ false;
 }
 

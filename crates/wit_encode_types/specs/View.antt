@@ -1,7 +1,9 @@
 -- What an encoder holds.
-use Rattle.std.specs.Prelude.{ℕ, ◌≡◌, ◌≤◌, ◌+◌, Option}
+use Rattle.std.specs.Prelude.{ℕ, ◌≡◌, ◌≤◌, ◌+◌, Option, Some}
 use Rattle.wit_model.specs.Tree.{Tree, named}
 use Rattle.wit_model.specs.Meaning.{Signature}
+use Rattle.wit_model.specs.Lookup.{type_at}
+use Rattle.wit_model.specs.declared.model.TypeDef.{TypeDef}
 use Rattle.comp_bytes.specs.declared.forms.ComponentDefinedType.{ComponentDefinedType}
 use Rattle.comp_bytes.specs.declared.forms.ComponentFuncType.{ComponentFuncType}
 use Rattle.wit_model.specs.declared.model.Resolve.{Resolve}
@@ -13,6 +15,7 @@ use Rattle.wit_encode_types.specs.Known.{Around, GrowsAround}
 use Rattle.wit_encode_types.specs.Maps.{MapsAgree}
 use Rattle.wit_encode_types.specs.Counts.{Definitions, ExportsOne}
 use Rattle.wit_encode_types.specs.Room.{Refusals, HoldsFor, value_type, function_type}
+use Rattle.wit_encode_types.specs.Extents.{tree_extent, signature_extent, import_extent, known_extent}
 
 pub record View : Type 1 where
   -- what is around
@@ -28,6 +31,8 @@ pub record View : Type 1 where
   pub maps : TypeEncodingMaps
   -- how much it holds: a call that defines, exports or imports adds one at most
   pub held : ℕ
+  -- how much it has written: a call that defines, exports or imports adds no more than the extent of what it is asked to add
+  pub extent : ℕ
   -- what more it has no room for, in 32 bits
   pub lacks_room : Refusals
 
@@ -73,6 +78,25 @@ HoldsMore n v v' = v'.held ≤ v.held + n
 abbrev pub HoldsLearnt : ℕ → View → View → Type 0
 HoldsLearnt n v v' = HoldsFor v.maps v'.maps v.held v'.held n
 
+-- at most so much more has been written
+pub record Writes (n : ℕ) (v v' : View) : Type 0 where
+  pub extent : v'.extent ≤ v.extent + n
+
+-- a definition, or the type of a function, as it was read before the call, has been written
+abbrev pub WritesDefinition : View → View → ComponentDefinedType → Type 0
+WritesDefinition v v' def = (t : Tree) → Follows v.stands def t → Writes (tree_extent t) v v'
+
+abbrev pub WritesFunctionType : View → View → ComponentFuncType → Type 0
+WritesFunctionType v v' def = (s : Signature) → FollowsFunction v.stands def s → Writes (signature_extent s) v v'
+
+-- what stands for a type number of another interface has been written
+abbrev pub WritesImport : View → View → ℕ → Type 0
+WritesImport v v' n = (def : TypeDef) → type_at v.scope.packages n ≡ Some def → Writes (import_extent def) v v'
+
+-- at most so much more has been written, and each type number that has been learnt
+pub record WritesLearnt (r : Resolve) (n : ℕ) (v v' : View) : Type 0 where
+  pub extent : v'.extent + known_extent r v.scope.own_interface v.maps ≤ v.extent + (known_extent r v.scope.own_interface v'.maps + n)
+
 -- all but the maps is the same
 pub record SameRest (v v' : View) : Type 0 where
   pub scope_ : v'.scope ≡ v.scope
@@ -80,5 +104,6 @@ pub record SameRest (v v' : View) : Type 0 where
   pub slot_count_ : v'.slot_count ≡ v.slot_count
   pub definitions_ : v'.definitions ≡ v.definitions
   pub held_ : v'.held ≡ v.held
+  pub extent_ : v'.extent ≡ v.extent
   pub kept : Keeps v.stands v'.stands
   pub back : Keeps v'.stands v.stands

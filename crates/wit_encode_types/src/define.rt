@@ -1,6 +1,6 @@
 //! Defines types whose parts are known, in a scope of any encoder.
 
-ghost use Rattle.std.specs.Prelude.{◌≡◌, Err, ◌<◌, ◌&&◌, true, false, not, length, IfOk, OnOk, List, Some, None, is_some, IfErr, ◌∷◌, []};
+ghost use Rattle.std.specs.Prelude.{◌≡◌, ◌+◌, Err, ◌<◌, ◌&&◌, true, false, not, length, IfOk, OnOk, List, Some, None, is_some, IfErr, ◌∷◌, []};
 ghost use Rattle.std.specs.List.{Contains};
 ghost use Rattle.comp_bytes.specs.RawOf.{raw_name};
 ghost use Rattle.comp_bytes.specs.Refusal.{IsMemoryOrSize};
@@ -14,7 +14,8 @@ ghost use Rattle.wit_model.specs.Lookup.{type_at};
 ghost use Rattle.wit_model.specs.Meant.{type_meaning};
 ghost use Rattle.wit_encode_types.specs.Slots.{tree};
 ghost use Rattle.wit_encode_types.specs.Room.{value_type, export_name, import_of};
-ghost use Rattle.wit_encode_types.specs.View.{Agrees, Grows, ExportsName, HoldsMore, HoldsLearnt};
+ghost use Rattle.wit_encode_types.specs.View.{Agrees, Grows, ExportsName, HoldsMore, HoldsLearnt, Writes, WritesImport, WritesLearnt};
+ghost use Rattle.wit_encode_types.specs.Extents.{name_extent, number_extent, tree_extent};
 ghost use Rattle.wit_encode_types.specs.Kinds.{parts_of, kind_of, kind_tree, has_form, has_definition};
 ghost use Rattle.wit_encode_types.specs.Codes.{kind_code};
 ghost use Rattle.wit_encode_types.specs.Numbers.{PartsReady, NamedLacksRoom};
@@ -55,6 +56,7 @@ pub(crate) fn define_shape<'a, E: ValtypeEncoder<'a>>(
     ensures maps_stay { (E.view enc.new).maps ≡ (E.view enc.old).maps }
     ensures counts { OnOk result ((E.view enc.new).definitions ≡ one_type_more (E.view enc.old).definitions) }
     ensures held { HoldsMore 1 (E.view enc.old) (E.view enc.new) }
+    ensures written { OnOk result (Writes (tree_extent (kind_tree resolve.now (kind_of shape.entry))) (E.view enc.old) (E.view enc.new)) }
     ensures size { result ≡ Err Size → (E.view enc.new).lacks_room (value_type (kind_tree resolve.now (kind_of shape.entry))) }
     ensures refuses { IfErr result IsMemoryOrSize }
 {
@@ -77,6 +79,7 @@ fn define_alias<'a, E: ValtypeEncoder<'a>>(
     ensures maps_stay { (E.view enc.new).maps ≡ (E.view enc.old).maps }
     ensures counts { OnOk result (DefinesIf (has_definition (TypeDefKind.Type_ ty.now)) (E.view enc.old) (E.view enc.new)) }
     ensures held { HoldsMore 1 (E.view enc.old) (E.view enc.new) }
+    ensures written { OnOk result (Writes (tree_extent (kind_tree resolve.now (TypeDefKind.Type_ ty.now))) (E.view enc.old) (E.view enc.new)) }
     ensures size { result ≡ Err Size → (E.view enc.new).lacks_room (value_type (kind_tree resolve.now (TypeDefKind.Type_ ty.now))) }
     ensures refuses { IfErr result IsMemoryOrSize }
 {
@@ -105,6 +108,7 @@ fn define_kind<'a, E: ValtypeEncoder<'a>>(
     ensures maps_stay { (E.view enc.new).maps ≡ (E.view enc.old).maps }
     ensures counts { OnOk result (DefinesIf (has_definition kind.now) (E.view enc.old) (E.view enc.new)) }
     ensures held { HoldsMore 1 (E.view enc.old) (E.view enc.new) }
+    ensures written { OnOk result (Writes (tree_extent (kind_tree resolve.now kind.entry.now)) (E.view enc.old) (E.view enc.new)) }
     ensures size { result ≡ Err Size → (E.view enc.new).lacks_room (value_type (kind_tree resolve.now kind.entry.now)) }
     ensures refuses { IfErr result IsMemoryOrSize }
 {
@@ -134,6 +138,7 @@ fn define_new_kind<'a, E: ValtypeEncoder<'a>>(
     ensures counts { OnOk result (CountsTypes resolve.now (E.view enc.old) (E.view enc.new)) }
     ensures kinds { OnOk result (LearnsKindOf (E.view enc.old).maps (E.view enc.new).maps kind.now) }
     ensures held { HoldsMore 1 (E.view enc.old) (E.view enc.new) }
+    ensures written { OnOk result (Writes (tree_extent (kind_tree resolve.now kind.entry.now)) (E.view enc.old) (E.view enc.new)) }
     ensures size { result ≡ Err Size → (E.view enc.new).lacks_room (value_type (kind_tree resolve.now kind.entry.now)) }
     ensures refuses { IfErr result IsMemoryOrSize }
 {
@@ -159,6 +164,7 @@ fn define_unnamed_kind<'a, E: ValtypeEncoder<'a>>(
     ensures counts { OnOk result (CountsTypes resolve.now (E.view enc.old) (E.view enc.new)) }
     ensures kinds { OnOk result (LearnsKindOf (E.view enc.old).maps (E.view enc.new).maps kind.now) }
     ensures held { HoldsMore 1 (E.view enc.old) (E.view enc.new) }
+    ensures written { OnOk result (Writes (tree_extent (kind_tree resolve.now kind.entry.now)) (E.view enc.old) (E.view enc.new)) }
     ensures size { result ≡ Err Size → (E.view enc.new).lacks_room (value_type (kind_tree resolve.now kind.entry.now)) }
     ensures refuses { IfErr result IsMemoryOrSize }
 {
@@ -190,6 +196,7 @@ fn define_unnamed<'a, E: ValtypeEncoder<'a>>(
     ensures counts { OnOk result (CountsTypes resolve.now (E.view enc.old) (E.view enc.new)) }
     ensures kinds { OnOk result (LearnsKindOf (E.view enc.old).maps (E.view enc.new).maps kind.now) }
     ensures held { HoldsMore 1 (E.view enc.old) (E.view enc.new) }
+    ensures written { OnOk result (Writes (tree_extent (kind_tree resolve.now kind.entry.now)) (E.view enc.old) (E.view enc.new)) }
     ensures size { result ≡ Err Size → (E.view enc.new).lacks_room (value_type (kind_tree resolve.now kind.entry.now)) }
     ensures refuses { IfErr result IsMemoryOrSize }
 {
@@ -215,6 +222,7 @@ fn define_resource<'a, E: ValtypeEncoder<'a>>(
     ensures counts { OnOk result (CountsTypes resolve.now (E.view enc.old) (E.view enc.new)) }
     ensures kinds { OnOk result ((E.view enc.new).maps.def_to_index.entries ≡ (E.view enc.old).maps.def_to_index.entries) }
     ensures held { HoldsMore 1 (E.view enc.old) (E.view enc.new) }
+    ensures written { OnOk result (Writes (name_extent (raw_name name.entry)) (E.view enc.old) (E.view enc.new)) }
     ensures size { result ≡ Err Size → (E.view enc.new).lacks_room (export_name (raw_name name.entry)) }
     ensures refuses { IfErr result IsMemoryOrSize }
 {
@@ -235,6 +243,7 @@ fn export<'a, E: ValtypeEncoder<'a>>(
     ensures maps_stay { (E.view enc.new).maps ≡ (E.view enc.old).maps }
     ensures counts { OnOk result (ExportsName (E.view enc.old) (E.view enc.new) (raw_name name.entry)) }
     ensures held { HoldsMore 1 (E.view enc.old) (E.view enc.new) }
+    ensures written { OnOk result (Writes (name_extent (raw_name name.entry)) (E.view enc.old) (E.view enc.new)) }
     ensures size { result ≡ Err Size → (E.view enc.new).lacks_room (export_name (raw_name name.entry)) }
     ensures refuses { IfErr result IsMemoryOrSize }
 {
@@ -268,6 +277,7 @@ fn define_named<'a, E: ValtypeEncoder<'a>>(
     ensures counts { OnOk result (CountsTypes resolve.now (E.view enc.old) (E.view enc.new)) }
     ensures kinds { OnOk result ((E.view enc.new).maps.def_to_index.entries ≡ (E.view enc.old).maps.def_to_index.entries) }
     ensures held { HoldsMore 2 (E.view enc.old) (E.view enc.new) }
+    ensures written { OnOk result (Writes (tree_extent (kind_tree resolve.now def.entry.now.kind) + name_extent (raw_name name.entry)) (E.view enc.old) (E.view enc.new)) }
     ensures size { result ≡ Err Size → NamedLacksRoom resolve.now def.entry.now (raw_name name.entry) (E.view enc.new) }
     ensures refuses { IfErr result IsMemoryOrSize }
 {
@@ -296,6 +306,7 @@ fn define_own<'a, E: ValtypeEncoder<'a>>(
     ensures counts { OnOk result (CountsTypes resolve.now (E.view enc.old) (E.view enc.new)) }
     ensures learns { OnOk result (LearnsParts resolve.now (E.view enc.old) (E.view enc.new)) }
     ensures held { HoldsMore 2 (E.view enc.old) (E.view enc.new) }
+    ensures written { OnOk result (Writes (number_extent resolve.now (E.view enc.old).scope.own_interface id.0) (E.view enc.old) (E.view enc.new)) }
     ensures size { result ≡ Err Size → LacksRoom resolve.now (ValueType.Id id ∷ []) [] (E.view enc.old) (E.view enc.new) }
     ensures refuses { IfErr result IsMemoryOrSize }
 {
@@ -329,6 +340,7 @@ fn define_number<'a, E: ValtypeEncoder<'a>>(
     ensures counts { OnOk result (CountsTypes resolve.now (E.view enc.old) (E.view enc.new)) }
     ensures learns { OnOk result (LearnsParts resolve.now (E.view enc.old) (E.view enc.new)) }
     ensures held { OnOk result (HoldsLearnt 0 (E.view enc.old) (E.view enc.new)) }
+    ensures written { OnOk result (WritesLearnt resolve.now 0 (E.view enc.old) (E.view enc.new)) }
     ensures size { result ≡ Err Size → LacksRoom resolve.now (ValueType.Id id ∷ []) [] (E.view enc.old) (E.view enc.new) }
     ensures refuses { IfErr result IsMemoryOrSize }
 {
@@ -361,6 +373,7 @@ fn import<'a, E: ValtypeEncoder<'a>>(
     ensures counts { OnOk result (CountsTypes resolve.now (E.view enc.old) (E.view enc.new)) }
     ensures kinds { OnOk result ((E.view enc.new).maps.def_to_index.entries ≡ (E.view enc.old).maps.def_to_index.entries) }
     ensures held { HoldsMore 1 (E.view enc.old) (E.view enc.new) }
+    ensures written { OnOk result (WritesImport (E.view enc.old) (E.view enc.new) id.0) }
     ensures size { result ≡ Err Size → (E.view enc.new).lacks_room (import_of id.0) }
     ensures refuses { IfErr result IsMemoryOrSize }
 {
@@ -382,6 +395,7 @@ pub(crate) fn define_parts<'a, E: ValtypeEncoder<'a>>(
     ensures leaves { Leaves resolve.now (E.view enc.old) (E.view enc.new) }
     ensures counts { OnOk result (CountsTypes resolve.now (E.view enc.old) (E.view enc.new)) }
     ensures held { OnOk result (HoldsLearnt 0 (E.view enc.old) (E.view enc.new)) }
+    ensures written { OnOk result (WritesLearnt resolve.now 0 (E.view enc.old) (E.view enc.new)) }
     ensures size { result ≡ Err Size → LacksRoom resolve.now types.now [] (E.view enc.old) (E.view enc.new) }
     ensures refuses { IfErr result IsMemoryOrSize }
 {

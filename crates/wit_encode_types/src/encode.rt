@@ -25,7 +25,7 @@ ghost use Rattle.wit_encode_types.specs.Fits.{CanEncode, CanImport, is_foreign};
 ghost use Rattle.wit_encode_types.specs.Formed.{IsFormed};
 ghost use Rattle.wit_encode_types.specs.Counts.{one_type_more};
 ghost use Rattle.wit_encode_types.specs.Room.{value_type, import_of};
-ghost use Rattle.wit_encode_types.specs.View.{Agrees, Grows, HoldsMore, HoldsLearnt};
+ghost use Rattle.wit_encode_types.specs.View.{Agrees, Grows, HoldsMore, HoldsLearnt, WritesLearnt};
 ghost use Rattle.wit_encode_types.specs.Leaves.{Leaves, LearnsFrom, CountsTypes, CountsOneMore, DefinesIf, LacksRoom, KindLacksRoom};
 
 use crate::define::{define_parts, define_shape};
@@ -84,6 +84,7 @@ pub fn encode_valtype<'a, E: ValtypeEncoder<'a>>(
     ensures counts { OnOk result (CountsTypes resolve.now (E.view enc.old) (E.view enc.new)) }
     ensures knows { OnOk result (IsReady (E.view enc.new).maps ty.now) }
     ensures held { OnOk result (HoldsLearnt 0 (E.view enc.old) (E.view enc.new)) }
+    ensures written { OnOk result (WritesLearnt resolve.now 0 (E.view enc.old) (E.view enc.new)) }
     ensures size { result ≡ Err Size → LacksRoom resolve.now (ty.now ∷ []) [] (E.view enc.old) (E.view enc.new) }
     ensures refuses { IfErr result IsMemoryOrSize }
 {
@@ -108,6 +109,7 @@ pub fn encode_optional_valtype<'a, E: ValtypeEncoder<'a>>(
     ensures counts { OnOk result (CountsTypes resolve.now (E.view enc.old) (E.view enc.new)) }
     ensures knows { OnOk result (AllReady (E.view enc.new).maps (option_to_list (option_copied ty.entry))) }
     ensures held { OnOk result (HoldsLearnt 0 (E.view enc.old) (E.view enc.new)) }
+    ensures written { OnOk result (WritesLearnt resolve.now 0 (E.view enc.old) (E.view enc.new)) }
     ensures size { result ≡ Err Size → LacksRoom resolve.now (option_to_list (option_copied ty.entry)) [] (E.view enc.old) (E.view enc.new) }
     ensures refuses { IfErr result IsMemoryOrSize }
 {
@@ -137,6 +139,7 @@ pub fn encode_params<'a, E: ValtypeEncoder<'a>>(
     ensures counts { OnOk result (CountsTypes resolve.now (E.view enc.old) (E.view enc.new)) }
     ensures knows { OnOk result (AllReady (E.view enc.new).maps (map (λ p. p.ty) params.now)) }
     ensures held { OnOk result (HoldsLearnt 0 (E.view enc.old) (E.view enc.new)) }
+    ensures written { OnOk result (WritesLearnt resolve.now 0 (E.view enc.old) (E.view enc.new)) }
     ensures size { result ≡ Err Size → LacksRoom resolve.now (map (λ p. p.ty) params.now) [] (E.view enc.old) (E.view enc.new) }
     ensures refuses { IfErr result IsMemoryOrSize }
 {

@@ -9,9 +9,10 @@ ghost use Rattle.wit_model.specs.Types.{number_tree};
 ghost use Rattle.comp_bytes.specs.RawOf.{raw_name};
 ghost use Rattle.comp_bytes.specs.Refusal.{IsMemoryOrSize};
 ghost use Rattle.wit_encode_types.specs.Slots.{Standing, tree, Follows, FollowsFunction, Defines, DefinesFunction};
-ghost use Rattle.wit_encode_types.specs.View.{View, Grows, AddsSlot, AddsName, Exports, ExportsName, SameRest, HoldsMore, LacksDefinition, LacksFunctionType};
+ghost use Rattle.wit_encode_types.specs.View.{View, Grows, AddsSlot, AddsName, Exports, ExportsName, SameRest, HoldsMore, LacksDefinition, LacksFunctionType, Writes, WritesDefinition, WritesFunctionType, WritesImport};
 ghost use Rattle.wit_encode_types.specs.Scope.{DeclaresSlot, DeclaresResource, IsImportable};
 ghost use Rattle.wit_encode_types.specs.Room.{export_name, import_of};
+ghost use Rattle.wit_encode_types.specs.Extents.{name_extent};
 ghost use Rattle.wit_encode_types.specs.Formed.{IsFormed, IsFormedSignature};
 ghost use Rattle.wit_encode_types.specs.Counts.{one_type_more, one_function_more};
 ghost use Rattle.wit_encode_types.specs.declared.maps.TypeEncodingMaps.{TypeEncodingMaps as MapsValue};
@@ -45,7 +46,8 @@ pub trait LendsMaps<M> {
 /// of `import_type` may make aliases of types that had none, and no other call changes anything.
 /// A call answers `Error::Size` only where what it is asked to add has no room in 32 bits: then the view says so of the encoder that
 /// the call leaves (`View::lacks_room`). An implementor says in its view when that is, and how much it holds (`View::held`): a number
-/// of its own, which each call raises by one at most.
+/// of its own, which each call raises by one at most. It says there how much it has written, too (`View::extent`): a number of its own, which a
+/// call raises by no more than the bytes that what it is asked to add takes at most.
 pub trait ValtypeEncoder<'a>: LendsMaps<TypeEncodingMaps<'a>> {
     // what it holds: what is around, its slots, how much has been defined, its maps, and what has no room
     ghost view: { Self → View };
@@ -60,6 +62,7 @@ pub trait ValtypeEncoder<'a>: LendsMaps<TypeEncodingMaps<'a>> {
         ensures maps_stay { (view self.new).maps ≡ (view self.old).maps }
         ensures counts { OnOk result ((view self.new).definitions ≡ one_type_more (view self.old).definitions) }
         ensures held { HoldsMore 1 (view self.old) (view self.new) }
+        ensures written { OnOk result (WritesDefinition (view self.old) (view self.new) def.entry) }
         ensures size { result ≡ Err Size → LacksDefinition (view self.old) (view self.new) def.entry }
         ensures refuses { IfErr result IsMemoryOrSize };
 
@@ -73,6 +76,7 @@ pub trait ValtypeEncoder<'a>: LendsMaps<TypeEncodingMaps<'a>> {
         ensures maps_stay { (view self.new).maps ≡ (view self.old).maps }
         ensures counts { OnOk result ((view self.new).definitions ≡ one_function_more (view self.old).definitions) }
         ensures held { HoldsMore 1 (view self.old) (view self.new) }
+        ensures written { OnOk result (WritesFunctionType (view self.old) (view self.new) def.entry) }
         ensures size { result ≡ Err Size → LacksFunctionType (view self.old) (view self.new) def.entry }
         ensures refuses { IfErr result IsMemoryOrSize };
 
@@ -91,6 +95,7 @@ pub trait ValtypeEncoder<'a>: LendsMaps<TypeEncodingMaps<'a>> {
         ensures maps_stay { (view self.new).maps ≡ (view self.old).maps }
         ensures counts { OnOk result (ExportsName (view self.old) (view self.new) (raw_name name.entry)) }
         ensures held { HoldsMore 1 (view self.old) (view self.new) }
+        ensures written { OnOk result (Writes (name_extent (raw_name name.entry)) (view self.old) (view self.new)) }
         ensures size { result ≡ Err Size → (view self.new).lacks_room (export_name (raw_name name.entry)) }
         ensures refuses { IfErr result IsMemoryOrSize };
 
@@ -104,6 +109,7 @@ pub trait ValtypeEncoder<'a>: LendsMaps<TypeEncodingMaps<'a>> {
         ensures maps_stay { (view self.new).maps ≡ (view self.old).maps }
         ensures counts { OnOk result (ExportsName (view self.old) (view self.new) (raw_name name.entry)) }
         ensures held { HoldsMore 1 (view self.old) (view self.new) }
+        ensures written { OnOk result (Writes (name_extent (raw_name name.entry)) (view self.old) (view self.new)) }
         ensures size { result ≡ Err Size → (view self.new).lacks_room (export_name (raw_name name.entry)) }
         ensures refuses { IfErr result IsMemoryOrSize };
 
@@ -116,6 +122,7 @@ pub trait ValtypeEncoder<'a>: LendsMaps<TypeEncodingMaps<'a>> {
         ensures maps_stay { (view self.new).maps ≡ (view self.old).maps }
         ensures counts { OnOk result ((view self.new).definitions ≡ (view self.old).definitions) }
         ensures held { HoldsMore 1 (view self.old) (view self.new) }
+        ensures written { OnOk result (WritesImport (view self.old) (view self.new) id.0) }
         ensures size { result ≡ Err Size → (view self.new).lacks_room (import_of id.0) }
         ensures refuses { IfErr result IsMemoryOrSize };
 

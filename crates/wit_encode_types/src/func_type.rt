@@ -10,7 +10,8 @@ ghost use Rattle.wit_encode_types.specs.Key.{IsKeyOf};
 ghost use Rattle.wit_encode_types.specs.Maps.{AllReady, LacksKey};
 ghost use Rattle.wit_encode_types.specs.Fits.{CanEncode};
 ghost use Rattle.wit_encode_types.specs.Formed.{IsFormedSignature};
-ghost use Rattle.wit_encode_types.specs.View.{Agrees, HoldsLearnt};
+ghost use Rattle.wit_encode_types.specs.Extents.{signature_extent};
+ghost use Rattle.wit_encode_types.specs.View.{Agrees, HoldsLearnt, WritesLearnt};
 ghost use Rattle.wit_encode_types.specs.Leaves.{Leaves, LearnsFrom, CountsTypes, CountsFunction, LacksRoom, FunctionLacksRoom};
 ghost use Rattle.wit_encode_types.specs.declared.key.FunctionKey.{FunctionKey as KeyValue};
 
@@ -39,6 +40,7 @@ fn function_of<'a, E: ValtypeEncoder<'a>>(
     ensures counts { OnOk result (CountsTypes resolve.now (E.view enc.old) (E.view enc.new)) }
     ensures knows { OnOk result (AllReady (E.view enc.new).maps (function_types func.now)) }
     ensures held { OnOk result (HoldsLearnt 0 (E.view enc.old) (E.view enc.new)) }
+    ensures written { OnOk result (WritesLearnt resolve.now 0 (E.view enc.old) (E.view enc.new)) }
     ensures size { result ≡ Err Size → LacksRoom resolve.now (function_types func.now) [] (E.view enc.old) (E.view enc.new) }
     ensures refuses { IfErr result IsMemoryOrSize }
 {
@@ -69,6 +71,7 @@ fn define_key<'a, E: ValtypeEncoder<'a>>(
     ensures leaves { Leaves resolve.now (E.view enc.old) (E.view enc.new) }
     ensures counts { IfOk result (CountsFunction resolve.now (E.view enc.old) (E.view enc.new) key.entry) }
     ensures held { OnOk result (HoldsLearnt 1 (E.view enc.old) (E.view enc.new)) }
+    ensures written { OnOk result (WritesLearnt resolve.now (signature_extent (signature_of resolve.now func.now)) (E.view enc.old) (E.view enc.new)) }
     ensures size { result ≡ Err Size → FunctionLacksRoom resolve.now func.now (E.view enc.old) (E.view enc.new) }
     ensures refuses { IfErr result IsMemoryOrSize }
 {
@@ -95,6 +98,7 @@ pub fn encode_func_type<'a, E: ValtypeEncoder<'a>>(
     ensures leaves { Leaves resolve.now (E.view enc.old) (E.view enc.new) }
     ensures counts { IfOk result (λ i. (key : KeyValue) × IsKeyOf key func.now × CountsFunction resolve.now (E.view enc.old) (E.view enc.new) key i) }
     ensures held { OnOk result (HoldsLearnt 1 (E.view enc.old) (E.view enc.new)) }
+    ensures written { OnOk result (WritesLearnt resolve.now (signature_extent (signature_of resolve.now func.now)) (E.view enc.old) (E.view enc.new)) }
     ensures size { result ≡ Err Size → FunctionLacksRoom resolve.now func.now (E.view enc.old) (E.view enc.new) }
     ensures refuses { IfErr result IsMemoryOrSize }
 {

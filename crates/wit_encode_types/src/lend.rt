@@ -131,6 +131,7 @@ pub(crate) fn remember_id<'a, E: ValtypeEncoder<'a>>(
     ensures leaves { Leaves resolve.now (E.view enc.old) (E.view enc.new) }
     ensures counts { (E.view enc.new).definitions ≡ (E.view enc.old).definitions }
     ensures held { (E.view enc.new).held ≡ (E.view enc.old).held }
+    ensures written { (E.view enc.new).extent ≡ (E.view enc.old).extent }
     ensures size { result ≡ Err Size → ⊥ }
     ensures refuses { IfErr result IsMemoryOrSize }
 {
@@ -150,6 +151,7 @@ pub(crate) fn remember_kind<'a, E: ValtypeEncoder<'a>>(
     ensures leaves { Leaves resolve.now (E.view enc.old) (E.view enc.new) }
     ensures counts { (E.view enc.new).definitions ≡ (E.view enc.old).definitions }
     ensures held { (E.view enc.new).held ≡ (E.view enc.old).held }
+    ensures written { (E.view enc.new).extent ≡ (E.view enc.old).extent }
     ensures size { result ≡ Err Size → ⊥ }
     ensures refuses { IfErr result IsMemoryOrSize }
 {
@@ -170,6 +172,7 @@ pub(crate) fn remember_key<'a, E: ValtypeEncoder<'a>>(
     ensures leaves { Leaves resolve.now (E.view enc.old) (E.view enc.new) }
     ensures counts { (E.view enc.new).definitions ≡ (E.view enc.old).definitions }
     ensures held { (E.view enc.new).held ≡ (E.view enc.old).held }
+    ensures written { (E.view enc.new).extent ≡ (E.view enc.old).extent }
     ensures size { result ≡ Err Size → ⊥ }
     ensures refuses { IfErr result IsMemoryOrSize }
 {
@@ -184,6 +187,7 @@ pub(crate) fn remember_unit_future<'a, E: ValtypeEncoder<'a>>(enc: &mut E, index
     ensures leaves { Leaves (E.view enc.old).scope.packages (E.view enc.old) (E.view enc.new) }
     ensures counts { (E.view enc.new).definitions ≡ (E.view enc.old).definitions }
     ensures held { (E.view enc.new).held ≡ (E.view enc.old).held }
+    ensures written { (E.view enc.new).extent ≡ (E.view enc.old).extent }
 {
     enc.type_encoding_maps().remember_unit_future(index);
 }
@@ -196,6 +200,7 @@ pub(crate) fn remember_unit_stream<'a, E: ValtypeEncoder<'a>>(enc: &mut E, index
     ensures leaves { Leaves (E.view enc.old).scope.packages (E.view enc.old) (E.view enc.new) }
     ensures counts { (E.view enc.new).definitions ≡ (E.view enc.old).definitions }
     ensures held { (E.view enc.new).held ≡ (E.view enc.old).held }
+    ensures written { (E.view enc.new).extent ≡ (E.view enc.old).extent }
 {
     enc.type_encoding_maps().remember_unit_stream(index);
 }

@@ -104,7 +104,7 @@ impl<'a> ValtypeEncoder<'a> for TableOf<'a, TypeEncodingMaps<'a>> {
 
     ghost maps_in_view = { λ e. refl };
 
-    ghost view_with_maps = { λ e m. record { scope_ = refl; around_ = refl; slot_count_ = refl; definitions_ = refl; held_ = refl; kept = λ i s h. h; back = λ i s h. h } };
+    ghost view_with_maps = { λ e m. record { scope_ = refl; around_ = refl; slot_count_ = refl; definitions_ = refl; held_ = refl; extent_ = refl; kept = λ i s h. h; back = λ i s h. h } };
 }
 
 impl<'a> TableOf<'a, TypeEncodingMaps<'a>> {

@@ -8,6 +8,10 @@ use Rattle.wit_encode_types.proofs.Paths.{found-in}
 use Rattle.wit_encode.specs.Encoders.{outside}
 use Rattle.wit_encode.proofs.DependencyHolding.{import-lacks, slot-lacks}
 use Rattle.wit_encode.proofs.component_types.import_dependency.Goals as goal
+use Rattle.wit_encode.proofs.BytesWritten.{adds-described}
+use Rattle.wit_encode.proofs.Extents.{bytes-few}
+use Rattle.world_names.specs.WorldNames.{name_of_interface}
+use Rattle.wit_model.specs.Weight.{types_instance_weight}
 
 pub returns-clause-imports : goal.returns-clause-imports
 returns-clause-imports c =
@@ -40,3 +44,8 @@ returns-in_err-import-clause-size c = λ h.
     let found = found-in r.interfaces.items c.args.interface.0 (lt-ltb c.args.interface.0 (length r.interfaces.items) c.requires.in_range) in
     let encodes = c.in_ok-slot.ensures.ok found.0 found.1 in
     import-lacks r c.args.canonical_names (outside c.args.encoder.now) (outside c.encode_dependency.new.self) c.args.interface found.0 [] [] c.in_ok-slot.slot encodes.part _ c.in_ok-name.ensures.ok refused
+
+pub returns-clause-written : goal.returns-clause-written
+returns-clause-written c =
+    adds-described (types_instance_weight c.args.encoder.now.resolve.now c.args.interface.0) c.args.encoder.now.outer c.encode_dependency.new.self.outer c.import.new.self _ _ (name_of_interface c.args.encoder.now.resolve.now c.args.canonical_names c.args.interface.0) c.in_ok-slot.ensures.written c.in_ok-import.ensures.ok
+    (bytes-few.imports _ (refs.Instance c.in_ok-slot.slot)) c.in_ok-name.ensures.ok

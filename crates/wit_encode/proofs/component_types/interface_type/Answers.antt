@@ -22,6 +22,11 @@ use Rattle.wit_encode.proofs.ImportsStand.{imports_stand}
 use Rattle.wit_encode.proofs.ImportLoop.{few-importable, moved, moved-held, path-in-range, reached-importable, reached-used}
 use Rattle.wit_encode.proofs.Scopes.{paths-fit, refused-by_paths}
 use Rattle.wit_encode.proofs.component_types.interface_type.Goals as goal
+use Rattle.wit_encode.proofs.BytesWritten.{adds-described, component-few}
+use Rattle.wit_encode.proofs.Extents.{bytes-few}
+use Rattle.world_names.specs.WorldNames.{name_of_interface}
+use Rattle.wit_encode.specs.WrittenBytes.{AddsBytes, imports_extent}
+use Rattle.wit_model.specs.Weight.{whole_instance_weight}
 
 pub returns-in_err-refuse_equal_paths-clause-refuses : goal.returns-in_err-refuse_equal_paths-clause-refuses
 returns-in_err-refuse_equal_paths-clause-refuses c =
@@ -134,3 +139,16 @@ returns-in_err-export-clause-size c = λ h.
     let encodes = subst (λ (q : Resolve). EncodesInterface q (outside before) (outside after) c.args.interface found.0 c.in_ok-slot.slot) same (c.in_ok-slot.ensures.ok found.0 (ap (λ (q : Resolve). interface_at q c.args.interface.0) same ∙ found.1)) in
     lacking-components-heavy r c.args.interface ns c.requires.valid c.requires.named c.in_ok-reached.ensures.reached
     (export-lacks r ns (outside before) imported held c.args.interface found.0 c.args.canonical_names (outside after) c.in_ok-slot.slot encodes _ c.in_ok-name.ensures.ok refused)
+
+pub returns-clause-light : goal.returns-clause-light
+returns-clause-light c =
+    let r = c.args.resolve.now in
+    let q = c.new-encoder.result.resolve.now in
+    let before = c.import_dependencies.new.encoder in
+    let after = c.encode_instance.new.self in
+    let ns = map (λ (id : InterfaceId). id.0) c.in_ok-reached.reached.items in
+    let imports = subst (λ (xs : List InterfaceId). AddsBytes (imports_extent q c.args.canonical_names (map (λ (id : InterfaceId). id.0) xs)) c.new-encoder.result.outer before.outer) c.deref-2.ensures.value c.in_ok-import_dependencies.ensures.written in
+    component-few r before.resolve.now c.requires.valid c.args.interface ns c.args.canonical_names (c.import_dependencies.ensures.resolve ∙ c.new-encoder.ensures.resolve) c.requires.named c.in_ok-reached.ensures.reached c.new-encoder.result.outer before.outer c.export.new.self
+    c.new-encoder.ensures.outer
+    (subst (λ (z : Resolve). AddsBytes (imports_extent z c.args.canonical_names ns) c.new-encoder.result.outer before.outer) (sym c.import_dependencies.ensures.resolve) imports)
+    (adds-described (whole_instance_weight before.resolve.now c.args.interface.0) before.outer after.outer c.export.new.self _ _ (name_of_interface r c.args.canonical_names c.args.interface.0) c.in_ok-slot.ensures.written c.in_ok-export.ensures.ok (bytes-few.exports _ (refs.Instance c.in_ok-slot.slot)) c.in_ok-name.ensures.ok)

@@ -8,6 +8,9 @@ use Rattle.wit_encode.specs.Packages.{HasMembers, HasNoMembers, MeansPackage, Sp
 use Rattle.wit_encode.proofs.WholePackages.{bytes-empty, bytes-mean}
 use Rattle.wit_encode.proofs.PackageWeighing.{all-lack}
 use Rattle.wit_encode.proofs.package.encode.Goals as goal
+use Rattle.std.proofs.Common.{length}
+use Rattle.std.proofs.lemmas.Bool.{lt-ltb}
+use Rattle.wit_model.proofs.OnePath.{found-in}
 
 pub returns-clause-means : goal.returns-clause-means
 returns-clause-means c =
@@ -34,8 +37,10 @@ returns-clause-empty c =
     (λ bytes spelled p is none. bytes-empty r c.requires.valid n p is parts bytes.items (c.in_ok-encode_component.ensures.holds p is) spelled none) c.finish.ensures.spelled
 
 pub returns-in_err-encode_component-clause-size : goal.returns-in_err-encode_component-clause-size
-returns-in_err-encode_component-clause-size c = λ h p is. c.encode_component.ensures.size (search rules) p is
+returns-in_err-encode_component-clause-size c = λ h. c.encode_component.ensures.size (search rules)
 
 pub returns-clause-size : goal.returns-clause-size
-returns-clause-size c = λ h p is.
-    all-lack c.args.resolve.now c.requires.valid c.args.package.0 p is c.in_ok-encode_component.field-0 (c.in_ok-encode_component.ensures.holds p is) (c.finish.ensures.size h)
+returns-clause-size c = λ h.
+    let r = c.args.resolve.now in
+    let found = found-in r.packages.items c.args.package.0 (lt-ltb c.args.package.0 (length r.packages.items) c.requires.in_range) in
+    all-lack r c.requires.valid c.args.package.0 found.0 found.1 c.in_ok-encode_component.field-0 (c.in_ok-encode_component.ensures.holds found.0 found.1) (c.finish.ensures.size h)

@@ -5,7 +5,6 @@ use Rattle.wit_model.specs.declared.model.Package.{Package}
 use Rattle.wit_model.proofs.OnePath.{some-same}
 use Rattle.wit_encode.specs.Packages.{HasNoClashes, HaveNoEqualPaths, HoldsPackage, RefusesInterfaces, RefusesWorlds}
 use Rattle.wit_encode.proofs.WholePackages.{are-named, are-worlds, interfaces-refused, package-held, worlds-refused}
-use Rattle.wit_encode.specs.PackageRoom.{PackageLacksRoom}
 use Rattle.wit_encode.proofs.PackageWeighing.{interfaces-lack, worlds-lack}
 use Rattle.wit_encode.proofs.package.encode_component.Goals as goal
 
@@ -53,16 +52,10 @@ returns-clause-differ c = λ p is asked.
     subst (HasNoClashes r) (some-same own p (sym at ∙ is)) (record { interfaces = c.in_ok-builder.ensures.differ asked; worlds = c.in_ok-add_worlds.ensures.differ asked })
 
 pub returns-in_err-builder-clause-size : goal.returns-in_err-builder-clause-size
-returns-in_err-builder-clause-size c = λ h p is.
-    let r = c.args.resolve.now in
-    let own = c.index-own.result.now in
-    let at : package_at r c.args.package.0 ≡ Some own = slice_get_read _ _ _ _ refl c.requires.in_range c.index-own.ensures in
-    subst (PackageLacksRoom r c.args.package.0) (some-same own p (sym at ∙ is)) (interfaces-lack r c.requires.valid c.args.package.0 own at (c.interfaces_component.ensures.size (search rules)))
+returns-in_err-builder-clause-size c = λ h.
+    interfaces-lack c.args.resolve.now c.requires.valid c.args.package.0 c.index-own.result.now (slice_get_read _ _ _ _ refl c.requires.in_range c.index-own.ensures) (c.interfaces_component.ensures.size (search rules))
 
 pub returns-in_err-add_worlds-clause-size : goal.returns-in_err-add_worlds-clause-size
-returns-in_err-add_worlds-clause-size c = λ h p is.
-    let r = c.args.resolve.now in
+returns-in_err-add_worlds-clause-size c = λ h.
     let own = c.index-own.result.now in
-    let at : package_at r c.args.package.0 ≡ Some own = slice_get_read _ _ _ _ refl c.requires.in_range c.index-own.ensures in
-    subst (PackageLacksRoom r c.args.package.0) (some-same own p (sym at ∙ is))
-    (worlds-lack r c.requires.valid c.args.package.0 own at c.in_ok-builder.builder c.in_ok-builder.ensures.holds (c.add_worlds.ensures.size (search rules) own.interfaces.entries))
+    worlds-lack c.args.resolve.now c.requires.valid c.args.package.0 own (slice_get_read _ _ _ _ refl c.requires.in_range c.index-own.ensures) c.in_ok-builder.builder c.in_ok-builder.ensures.holds (c.add_worlds.ensures.size (search rules) own.interfaces.entries)

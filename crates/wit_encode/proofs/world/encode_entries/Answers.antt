@@ -15,6 +15,10 @@ use Rattle.wit_encode.proofs.WrittenNames.{names-then}
 use Rattle.wit_encode.proofs.WholeWorlds.{world-shown}
 use Rattle.wit_encode.proofs.world.encode_entries.Goals as goal
 use Rattle.wit_encode.proofs.world.encode_entries.Goals.{After-index-def}
+use Rattle.std.proofs.Common.{arith}
+use Rattle.std.proofs.lemmas.List.Sums.{sum_by-append}
+use Rattle.wit_encode.specs.Extents.{item_extent}
+use Rattle.wit_encode.proofs.BytesWritten.{learnt-most, learnt-then, world-few}
 
 there : (c : After-index-def) → world_at c.args.resolve.now c.args.world.0 ≡ Some c.index-def.result.now
 there c = slice_get_read _ _ _ _ refl c.requires.in_range c.index-def.ensures
@@ -68,3 +72,15 @@ returns-in_err-encode_items-2-clause-size c = λ h.
     (refused w (c.in_ok-encode_items.ensures.ok w (c.new-encoder.ensures.starts w at))
     (subst (HasDefined r c.encode_items.new.self) (sym (append-nil w.imports.entries)) (c.in_ok-encode_items.ensures.once [] c.new-encoder.ensures.defines))
     (subst (HoldsFew r c.encode_items.new.self) (sym (append-nil w.imports.entries)) (c.in_ok-encode_items.ensures.few [] c.new-encoder.ensures.few)))
+
+pub returns-clause-light : goal.returns-clause-light
+returns-clause-light c =
+    let r = c.args.resolve.now in
+    let w = c.index-def.result.now in
+    let at = there (goal.at.returns-clause-light c).After-index-def in
+    let after = c.encode_items-2.new.self in
+    let shown = c.in_ok-encode_items-2.ensures.ok w (c.in_ok-encode_items.ensures.ok w (c.new-encoder.ensures.starts w at)) in
+    let exported : HasDefined r after (w.imports.entries ++ w.exports.entries) = c.in_ok-encode_items-2.ensures.once w.imports.entries (c.in_ok-encode_items.ensures.once [] c.new-encoder.ensures.defines) in
+    let both = sum_by-append (item_extent r c.args.canonical_names) w.imports.entries w.exports.entries in
+    world-few r c.requires.valid c.args.world w at c.args.canonical_names exported.began c.new-encoder.result.maps after.maps c.new-encoder.result.outer after.outer shown.agree.once exported.no_numbers exported.learns.only c.new-encoder.ensures.empty
+    (learnt-most (omega (arith, both)) (learnt-then c.in_ok-encode_items.ensures.written c.in_ok-encode_items-2.ensures.written))

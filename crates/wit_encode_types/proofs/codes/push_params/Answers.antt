@@ -1,8 +1,8 @@
-use Rattle.std.proofs.Common.{◌≡◌, ◌∙◌, sym, ap, subst, ℕ, List, Some, None}
+use Rattle.std.proofs.Common.{◌∙◌, sym, ap, subst}
 use Rattle.std.specs.Borrow.{Bor}
 use Rattle.std.specs.List.{Contains}
 use Rattle.std.specs.Option.{option_copied}
-use Rattle.wit_model.specs.Text.{Text, text_of}
+use Rattle.wit_model.specs.Text.{Text}
 use Rattle.wit_encode_types.specs.Codes.{names_of}
 use Rattle.wit_encode_types.proofs.Lists.{contains-at}
 use Rattle.wit_encode_types.proofs.Tables.{reads, lacks, listed-names, listed-next}

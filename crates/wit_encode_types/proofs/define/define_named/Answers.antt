@@ -7,6 +7,7 @@ use Rattle.wit_encode_types.specs.Counts.{Definitions, ExportsOne, type_more_if}
 use Rattle.wit_encode_types.proofs.Agree.{on_ok, learnt-one}
 use Rattle.wit_encode_types.proofs.Defining.{counts-named, leaves-kept, leaves-trans}
 use Rattle.wit_encode_types.proofs.define.define_named.Goals as goal
+use Rattle.wit_encode_types.proofs.Writing.{written-more, written-on}
 
 pub returns-clause-ok : goal.returns-clause-ok
 returns-clause-ok g c = on_ok c.remember_id.result _ _ (λ l. learnt-one (g.E.ValtypeEncoder.view c.args.enc.now).maps _ _ c.args.id _ (ap (λ (z : TypeEncodingMaps). z.id_to_index.entries) (c.export.ensures.maps_stay ∙ c.define_kind.ensures.maps_stay)) l) c.remember_id.ensures.ok
@@ -29,3 +30,6 @@ returns-clause-leaves g c = leaves-trans (leaves-kept {v = g.E.ValtypeEncoder.vi
 
 pub returns-in_err-slot-clause-leaves : goal.returns-in_err-slot-clause-leaves
 returns-in_err-slot-clause-leaves g c = leaves-trans (leaves-kept {v = g.E.ValtypeEncoder.view c.args.enc.now} {v' = g.E.ValtypeEncoder.view c.define_kind.new.enc} c.requires.agree c.define_kind.ensures.grows c.define_kind.ensures.scope_stays c.define_kind.ensures.maps_stay) (leaves-kept {v = g.E.ValtypeEncoder.view c.define_kind.new.enc} {v' = g.E.ValtypeEncoder.view c.export.new.enc} (leaves-kept {v = g.E.ValtypeEncoder.view c.args.enc.now} {v' = g.E.ValtypeEncoder.view c.define_kind.new.enc} c.requires.agree c.define_kind.ensures.grows c.define_kind.ensures.scope_stays c.define_kind.ensures.maps_stay).agree c.export.ensures.grows c.export.ensures.scope_stays c.export.ensures.maps_stay)
+
+pub returns-clause-written : goal.returns-clause-written
+returns-clause-written g c = on_ok c.remember_id.result _ _ (λ l. written-on (written-more c.in_ok-index.ensures.written c.in_ok-slot.ensures.written) c.remember_id.ensures.written) c.remember_id.ensures.ok

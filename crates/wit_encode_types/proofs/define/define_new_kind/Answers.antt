@@ -5,6 +5,7 @@ use Rattle.wit_encode_types.specs.Maps.{LearnsList, LacksList}
 use Rattle.wit_encode_types.proofs.Learning.{kind-learnt}
 use Rattle.wit_encode_types.proofs.Defining.{leaves-kept, counts-kind, leaves-trans}
 use Rattle.wit_encode_types.proofs.define.define_new_kind.Goals as goal
+use Rattle.wit_encode_types.proofs.Writing.{written-on}
 
 pub define_shape-requires : goal.define_shape-requires
 define_shape-requires g c = λ _. ((refl, tt), (rw c.shape_of.ensures c.requires.ready, (rw c.shape_of.ensures c.requires.formed, c.requires.agree)))
@@ -35,3 +36,6 @@ returns-clause-leaves g c = leaves-trans (leaves-kept {v = g.E.ValtypeEncoder.vi
 
 pub returns-in_err-remember_kind-clause-leaves : goal.returns-in_err-remember_kind-clause-leaves
 returns-in_err-remember_kind-clause-leaves g c = leaves-trans (leaves-kept {v = g.E.ValtypeEncoder.view c.args.enc.now} {v' = g.E.ValtypeEncoder.view c.define_shape.new.enc} c.requires.agree c.define_shape.ensures.grows c.define_shape.ensures.scope_stays c.define_shape.ensures.maps_stay) c.remember_kind.ensures.leaves
+
+pub returns-clause-written : goal.returns-clause-written
+returns-clause-written g c = written-on (rw c.shape_of.ensures at c.in_ok-index.ensures.written) c.remember_kind.ensures.written

@@ -14,6 +14,7 @@ use Rattle.wit_encode_types.proofs.Agree.{not-known}
 use Rattle.wit_encode_types.proofs.define.define_number.Given.{Over}
 use Rattle.wit_encode_types.proofs.define.define_number.Goals as goal
 use Rattle.wit_encode_types.proofs.define.define_number.Goals.{After-foreign}
+use Rattle.wit_encode_types.proofs.Writing.{writes-nothing, writes-number, foreign-extent, on-three}
 
 there : (g : Over) (c : After-foreign g) → type_at c.args.resolve.now c.args.id.0 ≡ Some c.index-def.result.now
 there g c = slice_get_read _ _ _ _ refl c.requires.in_range c.index-def.ensures
@@ -95,3 +96,23 @@ returns-in-Some-clause-size g c = λ h.
     let f : foreign_owner (g.E.ValtypeEncoder.view c.args.enc.now).scope.own_interface c.index-def.result.now.owner ≡ Some c.in-Some.interface = sym (owner_is g a) ∙ c.in-Some.is in
     lacks-number c.args.resolve.now (g.E.ValtypeEncoder.view c.args.enc.now).scope.own_interface c.args.id c.index-def.result.now (g.E.ValtypeEncoder.view c.args.enc.now).maps (g.E.ValtypeEncoder.view c.args.enc.now).held after.held after.lacks_room
     (there g a) (unknown g a) (let l : after.held ≤ (g.E.ValtypeEncoder.view c.args.enc.now).held + 1 = (rw c.index_of.ensures.same at c.import.ensures.held) in omega arith) (its_import c.in-Some.interface f (c.import.ensures.size h))
+
+pub returns-then-is_some-clause-written : goal.returns-then-is_some-clause-written
+returns-then-is_some-clause-written g c = rw c.index_of.ensures.same (writes-nothing c.args.resolve.now 0 (g.E.ValtypeEncoder.view c.args.enc.now))
+
+pub returns-in-Some-clause-written : goal.returns-in-Some-clause-written
+returns-in-Some-clause-written g c =
+    let a = (goal.at.returns-in-Some-clause-written g c).After-foreign in
+    let f : foreign_owner (g.E.ValtypeEncoder.view c.args.enc.now).scope.own_interface c.index-def.result.now.owner ≡ Some c.in-Some.interface = sym (owner_is g a) ∙ c.in-Some.is in
+    let takes = foreign-extent c.args.resolve.now (g.E.ValtypeEncoder.view c.args.enc.now).scope.own_interface c.args.id.0 c.index-def.result.now c.in-Some.interface (there g a) f in
+    let at : type_at (g.E.ValtypeEncoder.view c.args.enc.now).scope.packages c.args.id.0 ≡ Some c.index-def.result.now = rw c.requires.packages (there g a) in
+    on-three c.import.result _ _ _ _
+    (λ one counts w. writes-number counts.shows.learnt c.args.id.0 counts.shows.numbers one.known (unknown g a) (let l = (w c.index-def.result.now at).extent in omega (arith, l, takes)))
+    c.import.ensures.ok (rw c.index_of.ensures.same at c.import.ensures.counts) (rw c.index_of.ensures.same at c.import.ensures.written)
+
+pub returns-clause-written : goal.returns-clause-written
+returns-clause-written g c =
+    let a = (goal.at.returns-clause-written g c).After-foreign in
+    on-three c.define_own.result _ _ _ _
+    (λ one counts w. writes-number counts.shows.learnt c.args.id.0 counts.shows.numbers one.known (unknown g a) w.extent)
+    c.define_own.ensures.ok (rw c.index_of.ensures.same at c.define_own.ensures.counts) (rw c.index_of.ensures.same at c.define_own.ensures.written)

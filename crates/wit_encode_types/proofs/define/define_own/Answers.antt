@@ -7,6 +7,7 @@ use Rattle.wit_model.specs.Meant.{type_meaning}
 use Rattle.wit_encode_types.specs.Kinds.{has_definition}
 use Rattle.wit_encode_types.specs.Scope.{IsDeclared, exported_name}
 use Rattle.wit_encode_types.specs.Room.{export_name, LacksPart, its_definition, its_name}
+use Rattle.wit_encode_types.specs.Extents.{name_extent, own_name_extent}
 use Rattle.wit_encode_types.proofs.Rooms.{lacks-number}
 use Rattle.wit_encode_types.specs.Counts.{is_defined_by_name, own_name}
 use Rattle.wit_encode_types.proofs.Learning.{learns-call-unnamed, learns-call-named}
@@ -15,6 +16,8 @@ use Rattle.wit_encode_types.proofs.Owning.{exported-as, named-tree, declared-her
 use Rattle.wit_encode_types.proofs.define.define_own.Given.{Over}
 use Rattle.wit_encode_types.proofs.define.define_own.Goals as goal
 use Rattle.wit_encode_types.proofs.define.define_own.Goals.{After-name_of-name}
+use Rattle.wit_encode_types.proofs.Agree.{on_ok}
+use Rattle.wit_encode_types.proofs.Writing.{written-most, own-extent, name-extent}
 
 exported : (g : Over) (c : After-name_of-name g) → raw_name c.name_of-name.result ≡ exported_name ((raw_name c.name_of-name.result).text, type_meaning c.args.resolve.now c.args.def.now)
 exported g c = exported-as _ _ (type_meaning c.args.resolve.now c.args.def.now) refl c.name_of-name.ensures.implements c.name_of-name.ensures.version_suffix c.name_of-name.ensures.external_id
@@ -89,3 +92,23 @@ returns-in_default-clause-size g c = λ h.
     ] in
     lacks-number c.args.resolve.now (g.E.ValtypeEncoder.view c.args.enc.now).scope.own_interface c.args.id c.args.def.now (g.E.ValtypeEncoder.view c.args.enc.now).maps (g.E.ValtypeEncoder.view c.args.enc.now).held after.held after.lacks_room
     c.requires.there c.requires.fresh (let l = c.define_named.ensures.held in omega arith) part
+
+takes : (g : Over) (c : After-name_of-name g) → own_name_extent c.args.resolve.now c.args.def.now ≡ name_extent (raw_name c.name_of-name.result)
+takes g c = name-extent c.args.resolve.now c.args.def.now c.in-Some.label (raw_name c.name_of-name.result) c.in-Some.is (its_own_name g c)
+
+pub returns-in-None-clause-written : goal.returns-in-None-clause-written
+returns-in-None-clause-written g c =
+    let all = own-extent c.args.resolve.now (g.E.ValtypeEncoder.view c.args.enc.now).scope.own_interface c.args.id.0 c.args.def.now c.requires.there c.requires.own in
+    on_ok c.define_unnamed.result _ _ (λ w. written-most (omega (arith, all)) w) c.define_unnamed.ensures.written
+
+pub returns-in-Resource-clause-written : goal.returns-in-Resource-clause-written
+returns-in-Resource-clause-written g c =
+    let all = own-extent c.args.resolve.now (g.E.ValtypeEncoder.view c.args.enc.now).scope.own_interface c.args.id.0 c.args.def.now c.requires.there c.requires.own in
+    let name = takes g (goal.at.returns-in-Resource-clause-written g c).After-name_of-name in
+    on_ok c.define_resource.result _ _ (λ w. written-most (omega (arith, all, name)) w) c.define_resource.ensures.written
+
+pub returns-in_default-clause-written : goal.returns-in_default-clause-written
+returns-in_default-clause-written g c =
+    let all = own-extent c.args.resolve.now (g.E.ValtypeEncoder.view c.args.enc.now).scope.own_interface c.args.id.0 c.args.def.now c.requires.there c.requires.own in
+    let name = takes g (goal.at.returns-in_default-clause-written g c).After-name_of-name in
+    on_ok c.define_named.result _ _ (λ w. written-most (omega (arith, all, name)) w) c.define_named.ensures.written

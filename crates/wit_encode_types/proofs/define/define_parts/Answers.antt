@@ -14,6 +14,7 @@ use Rattle.wit_encode_types.proofs.Lists.{one-contained, none-in}
 use Rattle.wit_encode_types.proofs.define.define_parts.Given.{Over}
 use Rattle.wit_encode_types.proofs.define.define_parts.Goals as goal
 use Rattle.wit_encode_types.proofs.define.define_parts.Goals.{After-deref-n-items}
+use Rattle.wit_encode_types.proofs.Writing.{writes-nothing, writes-then}
 
 ordered : (g : Over) (c : After-deref-n-items g) → IsOrderOf c.args.resolve.now (g.E.ValtypeEncoder.view c.args.enc.now).scope.own_interface (g.E.ValtypeEncoder.view c.args.enc.now).maps c.args.types.now c.deref-n-items.result.now
 ordered g c = rw c.deref-n-items.ensures.value c.in_ok-order.ensures.order
@@ -51,6 +52,7 @@ loop-n-preserved g c = record {
   learnt = learns-then (ap (λ (x : Scope). x.own_interface) c.loop-n.invariant.leaves.scope_stays) c.loop-n.invariant.learnt c.in_ok-define_number.ensures.learns;
   leaves = leaves-trans c.loop-n.invariant.leaves c.define_number.ensures.leaves;
   held = holds-then c.loop-n.invariant.held c.in_ok-define_number.ensures.held;
+  written = writes-then c.loop-n.invariant.leaves.scope_stays c.loop-n.invariant.written c.in_ok-define_number.ensures.written;
   counts = counts-trans c.loop-n.invariant.leaves.scope_stays c.loop-n.invariant.counts c.in_ok-define_number.ensures.counts;
 }
 
@@ -72,6 +74,7 @@ loop-n-init g c = rw c.order_of.ensures.same (record {
   learnt = learns-none c.args.resolve.now (g.E.ValtypeEncoder.view c.args.enc.now).scope.own_interface (g.E.ValtypeEncoder.view c.args.enc.now).maps;
   leaves = leaves-kept c.requires.agree (record { kept = λ i s h. h; more = omega arith; around_ = around-same refl }) refl refl;
   held = holds-none (g.E.ValtypeEncoder.view c.args.enc.now).maps (g.E.ValtypeEncoder.view c.args.enc.now).held;
+  written = writes-nothing c.args.resolve.now 0 (g.E.ValtypeEncoder.view c.args.enc.now);
   counts = counts-none c.args.resolve.now (g.E.ValtypeEncoder.view c.args.enc.now).scope (g.E.ValtypeEncoder.view c.args.enc.now).maps (g.E.ValtypeEncoder.view c.args.enc.now).definitions;
 })
 

@@ -1,7 +1,7 @@
 use Rattle.std.proofs.Common.{ℕ, take}
 use Rattle.std.specs.List.{Contains}
 use Rattle.wit_encode_types.specs.Maps.{IsKnown, LearnsOnly}
-use Rattle.wit_encode_types.specs.View.{HoldsLearnt}
+use Rattle.wit_encode_types.specs.View.{HoldsLearnt, WritesLearnt}
 use Rattle.wit_encode_types.specs.Leaves.{Leaves, LearnsParts, CountsTypes}
 use Rattle.wit_encode_types.proofs.define.define_parts.Given as goal
 
@@ -12,5 +12,6 @@ invariant-loop-n g l = record {
   learnt : LearnsParts l.resolve (g.E.ValtypeEncoder.view l.fn.enc) (g.E.ValtypeEncoder.view l.enc);
   leaves : Leaves l.resolve (g.E.ValtypeEncoder.view l.fn.enc) (g.E.ValtypeEncoder.view l.enc);
   held : HoldsLearnt 0 (g.E.ValtypeEncoder.view l.fn.enc) (g.E.ValtypeEncoder.view l.enc);
+  written : WritesLearnt l.resolve 0 (g.E.ValtypeEncoder.view l.fn.enc) (g.E.ValtypeEncoder.view l.enc);
   counts : CountsTypes l.resolve (g.E.ValtypeEncoder.view l.fn.enc) (g.E.ValtypeEncoder.view l.enc);
 }

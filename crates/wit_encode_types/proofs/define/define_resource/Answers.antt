@@ -6,6 +6,7 @@ use Rattle.wit_encode_types.specs.Counts.{Definitions, ExportsOne, type_more_if}
 use Rattle.wit_encode_types.proofs.Agree.{on_ok, learnt-one}
 use Rattle.wit_encode_types.proofs.Defining.{counts-named, leaves-kept, leaves-trans}
 use Rattle.wit_encode_types.proofs.define.define_resource.Goals as goal
+use Rattle.wit_encode_types.proofs.Writing.{written-on}
 
 pub returns-clause-ok : goal.returns-clause-ok
 returns-clause-ok g c = on_ok c.remember_id.result _ _ (位 l. learnt-one (g.E.ValtypeEncoder.view c.args.enc.now).maps _ _ c.args.id _ (ap (位 (z : TypeEncodingMaps). z.id_to_index.entries) c.export_resource.ensures.maps_stay) l) c.remember_id.ensures.ok
@@ -24,3 +25,6 @@ returns-clause-kinds g c = on_ok c.remember_id.result _ _ (位 l. l.rest.kinds 鈭
 
 pub returns-clause-leaves : goal.returns-clause-leaves
 returns-clause-leaves g c = leaves-trans (leaves-kept {v = g.E.ValtypeEncoder.view c.args.enc.now} {v' = g.E.ValtypeEncoder.view c.export_resource.new.self} c.requires.agree c.export_resource.ensures.grows c.export_resource.ensures.scope_stays c.export_resource.ensures.maps_stay) c.remember_id.ensures.leaves
+
+pub returns-clause-written : goal.returns-clause-written
+returns-clause-written g c = on_ok c.remember_id.result _ _ (位 l. written-on c.in_ok-index.ensures.written c.remember_id.ensures.written) c.remember_id.ensures.ok

@@ -5,6 +5,7 @@ use Rattle.wit_encode_types.proofs.Defining.{definition-stands, adds-ok}
 use Rattle.wit_encode_types.proofs.define.define_shape.Given.{Over}
 use Rattle.wit_encode_types.proofs.define.define_shape.Goals as goal
 use Rattle.wit_encode_types.proofs.define.define_shape.Goals.{In_ok-def}
+use Rattle.wit_encode_types.proofs.Agree.{on_ok}
 
 followed : (g : Over) (c : In_ok-def g) → Follows (g.E.ValtypeEncoder.view c.definition_of.new.enc).stands c.in_ok-def.def (kind_tree c.args.resolve.now (kind_of c.args.shape))
 followed g c = rw c.definition_of.ensures.same (definition-stands c.args.resolve.now (g.E.ValtypeEncoder.view c.args.enc.now).maps (g.E.ValtypeEncoder.view c.args.enc.now).stands (kind_of c.args.shape) c.in_ok-def.def c.requires.agree c.in_ok-def.ensures.value)
@@ -20,3 +21,9 @@ returns-clause-ok g c =
 
 pub returns-clause-size : goal.returns-clause-size
 returns-clause-size g c = λ h. c.defined_type.ensures.size h _ (followed g (goal.at.returns-clause-size g c).In_ok-def)
+
+pub returns-clause-written : goal.returns-clause-written
+returns-clause-written g c =
+    on_ok c.defined_type.result _ _
+    (λ w. record { extent = (let x = (w _ (followed g (goal.at.returns-clause-written g c).In_ok-def)).extent in rw c.definition_of.ensures.same at x) })
+    c.defined_type.ensures.written

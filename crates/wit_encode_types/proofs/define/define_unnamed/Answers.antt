@@ -5,6 +5,7 @@ use Rattle.wit_encode_types.proofs.Learning.{kind-same}
 use Rattle.wit_encode_types.proofs.Agree.{on_ok, learnt-one}
 use Rattle.wit_encode_types.proofs.Defining.{counts-number, counts-trans, leaves-trans}
 use Rattle.wit_encode_types.proofs.define.define_unnamed.Goals as goal
+use Rattle.wit_encode_types.proofs.Writing.{written-on}
 
 pub returns-clause-ok : goal.returns-clause-ok
 returns-clause-ok g c = on_ok c.remember_id.result _ _ (λ l. learnt-one (g.E.ValtypeEncoder.view c.args.enc.now).maps _ _ c.args.id _ c.in_ok-index.ensures.numbers l) c.remember_id.ensures.ok
@@ -24,3 +25,6 @@ returns-clause-kinds g c = on_ok c.remember_id.result _ _ (λ l. kind-same (g.E.
 
 pub returns-clause-leaves : goal.returns-clause-leaves
 returns-clause-leaves g c = leaves-trans c.define_unnamed_kind.ensures.leaves c.remember_id.ensures.leaves
+
+pub returns-clause-written : goal.returns-clause-written
+returns-clause-written g c = on_ok c.remember_id.result _ _ (λ l. written-on c.in_ok-index.ensures.written c.remember_id.ensures.written) c.remember_id.ensures.ok

@@ -1,4 +1,4 @@
-use Rattle.std.proofs.Common.{refl, ◌∙◌, sym, subst, ℕ, List}
+use Rattle.std.proofs.Common.{refl, ◌∙◌, subst, ℕ, List}
 use Rattle.std.specs.List.{Contains}
 use Rattle.wit_encode_types.specs.Codes.{lists_of}
 use Rattle.wit_encode_types.specs.Maps.{HasKind, LacksList}
@@ -7,6 +7,7 @@ use Rattle.wit_encode_types.proofs.Defining.{kind-stands, counts-none}
 use Rattle.wit_encode_types.proofs.define.define_unnamed_kind.Given.{Over}
 use Rattle.wit_encode_types.proofs.define.define_unnamed_kind.Goals as goal
 use Rattle.wit_encode_types.proofs.define.define_unnamed_kind.Goals.{In-Some}
+use Rattle.wit_encode_types.proofs.Writing.{written-none}
 
 had : (g : Over) (c : In-Some g) → HasKind (g.E.ValtypeEncoder.view c.args.enc.now).maps c.args.kind.now c.in-Some.index
 had g c = (c.requires.unnamed, subst (λ (xs : List ℕ). Contains (lists_of (g.E.ValtypeEncoder.view c.args.enc.now).maps.def_to_index) (xs, c.in-Some.index)) (c.as_slice.ensures.value ∙ c.in_ok-list.ensures) c.in-Some.ensures.some)
@@ -34,3 +35,9 @@ returns-in-Some-clause-counts g c = rw c.index_of_kind.ensures.same (counts-none
 
 pub returns-in-Some-clause-kinds : goal.returns-in-Some-clause-kinds
 returns-in-Some-clause-kinds g c = rw c.index_of_kind.ensures.same (kind-had (g.E.ValtypeEncoder.view c.args.enc.now).maps c.args.kind.now c.in-Some.index (had g (goal.at.returns-in-Some-clause-kinds g c).In-Some))
+
+pub returns-in-Some-clause-written : goal.returns-in-Some-clause-written
+returns-in-Some-clause-written g c = rw c.index_of_kind.ensures.same (written-none _ (g.E.ValtypeEncoder.view c.args.enc.now))
+
+pub returns-clause-written : goal.returns-clause-written
+returns-clause-written g c = rw c.index_of_kind.ensures.same at c.define_new_kind.ensures.written

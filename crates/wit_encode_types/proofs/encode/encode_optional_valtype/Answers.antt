@@ -1,6 +1,7 @@
 use Rattle.wit_encode_types.proofs.Learning.{met-nothing, ready-none, ready-single}
 use Rattle.wit_encode_types.proofs.Defining.{counts-none}
 use Rattle.wit_encode_types.proofs.encode.encode_optional_valtype.Goals as goal
+use Rattle.wit_encode_types.proofs.Writing.{writes-nothing}
 
 pub returns-in_ok-value-in-Some-clause-learns : goal.returns-in_ok-value-in-Some-clause-learns
 returns-in_ok-value-in-Some-clause-learns g c = rw c.in-Some.is c.in_ok-value-in-Some.ensures.learns
@@ -16,3 +17,6 @@ returns-in_ok-value-in-Some-clause-knows g c = rw c.in-Some.is (ready-single (g.
 
 pub returns-in-None-clause-knows : goal.returns-in-None-clause-knows
 returns-in-None-clause-knows g c = rw c.in-None.is (ready-none (g.E.ValtypeEncoder.view c.args.enc.now).maps)
+
+pub returns-in-None-clause-written : goal.returns-in-None-clause-written
+returns-in-None-clause-written g c = writes-nothing c.args.resolve.now 0 (g.E.ValtypeEncoder.view c.args.enc.now)

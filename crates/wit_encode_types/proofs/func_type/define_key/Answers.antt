@@ -15,6 +15,10 @@ use Rattle.wit_encode_types.proofs.func_type.define_key.Given.{Over}
 use Rattle.wit_encode_types.proofs.func_type.define_key.Goals as goal
 use Rattle.wit_encode_types.proofs.func_type.define_key.Goals.{In_ok-index}
 use Rattle.wit_encode_types.proofs.Lists.{none-in}
+use Rattle.wit_encode_types.specs.View.{WritesLearnt}
+use Rattle.wit_encode_types.proofs.Writing.{writes-beside, writes-most}
+use Rattle.std.proofs.Common.{◌≤◌, ◌+◌}
+use Rattle.wit_encode_types.specs.Extents.{signature_extent}
 
 pub function_of-requires : goal.function_of-requires
 function_of-requires g c = λ _. ((refl, tt), (c.requires.encodable, (c.requires.is_key.async, c.requires.agree)))
@@ -70,3 +74,11 @@ returns-in_err-index-clause-size g c = λ h.
     room-after c.in_ok-def.ensures.held c.function_of.ensures.leaves.agree.once (ap (λ (s : Scope). s.own_interface) c.function_of.ensures.leaves.scope_stays) (only-reached c.args.resolve.now (g.E.ValtypeEncoder.view c.args.enc.now).scope.own_interface (function_types c.args.func.now) c.in_ok-def.ensures.learns.only) (λ n x. x) (λ q k. k) (omega arith)
     (lacks-request c.args.resolve.now between.scope.own_interface (function_types c.args.func.now) (function_type (signature_of c.args.resolve.now c.args.func.now)) between.maps between.held after.held after.lacks_room c.define_function_type.ensures.held
     (c.define_function_type.ensures.size (search rules) (signature_of c.args.resolve.now c.args.func.now) c.in_ok-def.ensures.ok))
+
+pub returns-clause-written : goal.returns-clause-written
+returns-clause-written g c =
+    let one = (c.in_ok-index.ensures.written (signature_of c.args.resolve.now c.args.func.now) c.in_ok-def.ensures.ok).extent in
+    let all : (g.E.ValtypeEncoder.view c.remember_key.new.enc).extent ≤ (g.E.ValtypeEncoder.view c.function_of.new.enc).extent + signature_extent (signature_of c.args.resolve.now c.args.func.now) = (let e = c.remember_key.ensures.written in omega (arith, one, e)) in
+    let w : WritesLearnt c.args.resolve.now (0 + signature_extent (signature_of c.args.resolve.now c.args.func.now)) (g.E.ValtypeEncoder.view c.args.enc.now) (g.E.ValtypeEncoder.view c.remember_key.new.enc) =
+    writes-beside (signature_extent (signature_of c.args.resolve.now c.args.func.now)) c.in_ok-def.ensures.written all (c.in_ok-remember_key.ensures.ok.rest.numbers ∙ ap (λ (z : TypeEncodingMaps). z.id_to_index.entries) c.define_function_type.ensures.maps_stay) in
+    writes-most (omega arith) w

@@ -7,6 +7,7 @@ use Rattle.wit_encode_types.proofs.Learning.{met-both, ready-both}
 use Rattle.wit_encode_types.proofs.Functions.{encode-left, encode-right}
 use Rattle.wit_encode_types.proofs.Defining.{leaves-trans, counts-trans, zip-kept, stands-more}
 use Rattle.wit_encode_types.proofs.func_type.function_of.Goals as goal
+use Rattle.wit_encode_types.proofs.Writing.{writes-then}
 
 pub encode_params-requires : goal.encode_params-requires
 encode_params-requires g c = λ _. ((refl, tt), (rw c.deref.ensures.value (encode-left c.args.resolve.now (g.E.ValtypeEncoder.view c.args.enc.now).scope (map (λ p. p.ty) c.args.func.now.params.items) (option_to_list c.args.func.now.result) c.requires.encodable), c.requires.agree))
@@ -63,3 +64,6 @@ returns-in_err-result-clause-size g c = λ h.
 
 pub returns-clause-held : goal.returns-clause-held
 returns-clause-held g c = holds-then c.in_ok-params.ensures.held c.in_ok-result.ensures.held
+
+pub returns-clause-written : goal.returns-clause-written
+returns-clause-written g c = writes-then c.encode_params.ensures.leaves.scope_stays c.in_ok-params.ensures.written c.in_ok-result.ensures.written

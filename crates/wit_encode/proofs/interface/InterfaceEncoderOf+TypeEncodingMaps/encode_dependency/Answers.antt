@@ -14,6 +14,8 @@ use Rattle.wit_encode.proofs.Opening.{ok-then}
 use Rattle.wit_encode.proofs.Closing.{types-alone}
 use Rattle.wit_encode.proofs.interface.InterfaceEncoderOf+TypeEncodingMaps.encode_dependency.Goals as goal
 use Rattle.wit_encode.proofs.interface.InterfaceEncoderOf+TypeEncodingMaps.encode_dependency.Goals.{After-index-def}
+use Rattle.wit_encode.proofs.BytesWritten.{types-few}
+use Rattle.wit_encode_types.proofs.Agree.{on_ok}
 
 there : (c : After-index-def) → interface_at c.args.self.now.resolve.now c.args.interface.0 ≡ Some c.index-def.result.now
 there c = slice_get_read _ _ _ _ refl c.requires.in_range c.index-def.ensures
@@ -50,3 +52,8 @@ returns-clause-size c = λ h def is.
       | inl room ↦ inl (room-listed c.args.self.now.resolve.now c.args.interface _ _ [] [] (c.deref.ensures.value ∙ c.in_ok-types.ensures ∙ ap (λ (z : Interface). values z.types) is_def) refl room)
       | inr around ↦ inr around
     ]
+
+pub returns-clause-written : goal.returns-clause-written
+returns-clause-written c = on_ok c.encode_part.result _ _
+    (λ t. types-few c.args.self.now.resolve.now c.requires.valid c.args.interface c.index-def.result.now (there (goal.at.returns-clause-written c).After-index-def) c.deref.result.now (c.deref.ensures.value ∙ c.in_ok-types.ensures)
+    c.args.self.now.outer c.encode_part.new.self.outer t) c.encode_part.ensures.written

@@ -22,6 +22,10 @@ use Rattle.wit_encode_types.specs.Room.{Request, export_name, function_type, fun
 use Rattle.wit_encode.proofs.Refusing.{function-named}
 use Rattle.wit_encode.proofs.interface.InterfaceEncoderOf+TypeEncodingMaps.encode_function.Goals as goal
 use Rattle.wit_encode.proofs.interface.InterfaceEncoderOf+TypeEncodingMaps.encode_function.Goals.{After-export_function}
+use Rattle.wit_encode_types.proofs.Agree.{on_ok}
+use Rattle.wit_encode_types.proofs.Writing.{writes-beside}
+use Rattle.wit_encode_types.specs.Extents.{name_extent}
+use Rattle.std.proofs.Common.{◌≤◌, ◌+◌}
 
 pub encode_func_type-requires : goal.encode_func_type-requires
 encode_func_type-requires c = λ _. ((refl, tt), rw c.requires.open.packages_ (c.requires.encodable.types, (c.requires.encodable.formed, c.requires.open.agree)))
@@ -112,3 +116,13 @@ returns-clause-size c = λ h.
     (only-reached c.args.resolve.now (own_of c.args.self.now.inner) (function_types c.args.func.now) c.in_ok-index.ensures.learns.only) (λ n x. x) (λ q k. Contains-append_right (function_type (signature_of c.args.resolve.now c.args.func.now) ∷ []) (name ∷ []) q k) (omega arith)
     (lacks-request c.args.resolve.now between.scope.own_interface (function_types c.args.func.now) name between.maps between.held after.held after.lacks_room c.export_function.ensures.held
     (subst after.lacks_room (ap export_name (function-named (raw_name c.name_of.result) (text_of c.args.name.now, c.args.func.now) c.name_of.ensures.text c.name_of.ensures.implements c.name_of.ensures.version_suffix c.name_of.ensures.external_id)) (c.export_function.ensures.size h)))
+
+pub returns-clause-written : goal.returns-clause-written
+returns-clause-written c =
+    let named = ap name_extent (function-named (raw_name c.name_of.result) (text_of c.args.name.now, c.args.func.now) c.name_of.ensures.text c.name_of.ensures.implements c.name_of.ensures.version_suffix c.name_of.ensures.external_id) in
+    let between = encoder_view c.encode_func_type.new.enc in
+    let after = encoder_view c.export_function.new.self in
+    on_ok c.export_function.result _ _
+    (λ w.
+    let more : after.extent ≤ between.extent + name_extent (function_name (text_of c.args.name.now, c.args.func.now)) = (let l = w.extent in omega (arith, named, l)) in
+    writes-beside (name_extent (function_name (text_of c.args.name.now, c.args.func.now))) c.in_ok-index.ensures.written more (ap (λ (m : TypeEncodingMaps). m.id_to_index.entries) c.export_function.ensures.maps)) c.export_function.ensures.written

@@ -18,6 +18,10 @@ use Rattle.wit_encode.proofs.Numbers.{contains-flat}
 use Rattle.wit_encode.proofs.Refusing.{two-each}
 use Rattle.wit_encode_types.proofs.Rooms.{holds-most, holds-then, room-after, only-more, flat-taken}
 use Rattle.wit_encode.proofs.interface.InterfaceEncoderOf+TypeEncodingMaps.encode_functions.Goals as goal
+use Rattle.wit_encode.proofs.BytesWritten.{functions-next, functions-whole}
+use Rattle.wit_encode_types.proofs.Writing.{writes-along, writes-most, writes-nothing}
+use Rattle.wit_encode_types.specs.Extents.{function_extent}
+use Rattle.wit_encode.specs.Encoders.{encoder_view}
 
 pub encode_function-requires-clause-encodable : goal.encode_function-requires-clause-encodable
 encode_function-requires-clause-encodable c = function-continues _ c.loop-entry.invariant.continues (c.requires.encodable c.entry-item.result (contains-at c.args.functions.now c.loop-entry.entry-index c.entry-item.result c.loop-entry-test.true c.entry-item.is))
@@ -40,6 +44,9 @@ loop-entry-preserved c = record {
       c.loop-entry.invariant.own c.loop-entry.invariant.names c.in_ok-encode_function.ensures.names_stay;
   within = omega arith;
   held = holds-most (omega arith) (holds-then c.loop-entry.invariant.held c.in_ok-encode_function.ensures.held);
+  written =
+      let next = functions-next (function_extent c.args.resolve.now) placed_function c.args.functions.now c.loop-entry.entry-index c.entry-item.result c.loop-entry-test.true c.entry-item.is in
+      writes-most (omega (arith, next)) (writes-along c.loop-entry.invariant.own c.loop-entry.invariant.written c.in_ok-encode_function.ensures.written);
   grow = search rules;
   types_stay = search rules;
 }
@@ -76,3 +83,24 @@ returns-in_err-encode_function-clause-size c = λ h.
     (λ n x. (x.0, contains-flat function_types _ c.entry-item.result.2.now x.0 (contains-map (λ (f : ℕ × Bor (String Global) × Bor Function). f.2.now) c.args.functions.now c.entry-item.result at) x.1, x.2))
     (λ q k. contains-flat (function_requests c.args.resolve.now) _ (placed_function c.entry-item.result) q (contains-map placed_function c.args.functions.now c.entry-item.result at) k)
     (omega arith) (c.encode_function.ensures.size (search rules))
+
+pub loop-entry-init : goal.loop-entry-init
+loop-entry-init c = record {
+  packages_ = search rules;
+  own = search rules;
+  continues = search rules;
+  shows = search rules;
+  counts = search rules;
+  learns = search rules;
+  names = search rules;
+  within = omega arith;
+  held = search rules;
+  written = writes-nothing c.args.resolve.now _ (encoder_view c.args.self.now);
+  grow = search rules;
+  types_stay = search rules;
+}
+
+pub returns-clause-written : goal.returns-clause-written
+returns-clause-written c =
+    let all = functions-whole (function_extent c.args.resolve.now) placed_function c.args.functions.now c.loop-entry.entry-index c.loop-entry-test.false in
+    writes-most (omega (arith, all)) c.loop-entry.invariant.written

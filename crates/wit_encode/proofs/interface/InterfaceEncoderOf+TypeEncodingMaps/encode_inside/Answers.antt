@@ -13,6 +13,7 @@ use Rattle.wit_encode.proofs.Counting.{Began, Counted, closed-counts}
 use Rattle.wit_encode.proofs.Refusing.{no-room}
 use Rattle.wit_encode.proofs.interface.InterfaceEncoderOf+TypeEncodingMaps.encode_inside.Goals as goal
 use Rattle.wit_encode.proofs.interface.InterfaceEncoderOf+TypeEncodingMaps.encode_inside.Goals.{After-new-2, In-Some, In_ok-outcome-in-Some}
+use Rattle.wit_encode.proofs.BytesWritten.{taken}
 
 begun : (c : After-new-2) → ◌≡◌ {A = Option OpenInterface} (Some (record { interface = c.args.interface; declared = c.new-2.result; foreign = c.replace-foreign.result })) (opened c.args.interface c.args.self.now.foreign)
 begun c = opened-with c.args.interface c.new-2.result c.replace-foreign.result c.args.self.now.foreign c.new-2.ensures c.replace-foreign.ensures.value
@@ -99,3 +100,9 @@ returns-in_err-outcome-in-Some-clause-size c = λ h.
     no-room after.outer after.inner refl (ap length c.new-2.ensures) c.encode_parts-outcome.ensures.continues.packages_
     (λ full. record { after = around_at c.encode_parts-outcome.new.self.outer c.in-Some.current.foreign; grown = around-grown (goal.at.returns-in_err-outcome-in-Some-clause-size c).In-Some; full = full })
     (c.encode_parts-outcome.ensures.size (search rules))
+
+pub returns-clause-written : goal.returns-clause-written
+returns-clause-written c =
+    let after = c.encode_parts-outcome.new.self in
+    taken c.args.self.now.resolve.now c.args.interface _ _ c.replace-saved.new.dest after.maps c.args.self.now.outer after.outer after.inner c.new-2.result c.in-Some.current (began (goal.at.returns-clause-written c).In-Some).numbers c.new-2.ensures
+    (sym c.replace-inner.ensures.value ∙ c.in-Some.is) c.encode_parts-outcome.ensures.continues.continues.agree.once c.in_ok-outcome-in-Some.ensures.learns.only c.in_ok-outcome-in-Some.ensures.written.extent

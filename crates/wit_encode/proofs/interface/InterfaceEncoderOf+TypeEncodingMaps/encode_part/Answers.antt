@@ -8,6 +8,8 @@ use Rattle.wit_encode.specs.Encoders.{outside}
 use Rattle.wit_encode.proofs.Closing.{closes}
 use Rattle.wit_encode.proofs.Opening.{close-each, closed-keeps, closed-stay, grown-stay, listed-there}
 use Rattle.wit_encode.proofs.interface.InterfaceEncoderOf+TypeEncodingMaps.encode_part.Goals as goal
+use Rattle.wit_encode.proofs.BytesWritten.{taken-closed, when-ok}
+use Rattle.comp_bytes.specs.Raw.{from_list}
 
 pub returns-clause-ok : goal.returns-clause-ok
 returns-clause-ok c =
@@ -30,3 +32,6 @@ returns-clause-instances c = closed-stay c.close.result c.args.self.now.resolve.
 
 pub returns-in_err-declared-clause-instances : goal.returns-in_err-declared-clause-instances
 returns-in_err-declared-clause-instances c = grown-stay c.args.self.now.resolve.now (outside c.args.self.now) (outside c.encode_inside.new.self) c.encode_inside.ensures.reaches
+
+pub returns-clause-written : goal.returns-clause-written
+returns-clause-written c = when-ok c.close.result _ _ (λ k made. taken-closed c.encode_inside.new.self.outer c.close.new.self.outer (from_list c.in_ok-declared.declared) made.1 c.in_ok-declared.ensures.written) c.close.ensures.ok

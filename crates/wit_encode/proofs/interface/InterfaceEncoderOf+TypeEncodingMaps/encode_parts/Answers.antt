@@ -14,6 +14,7 @@ use Rattle.wit_encode.proofs.FunctionExports.{listed-used, exported-after}
 use Rattle.wit_encode.proofs.interface.InterfaceEncoderOf+TypeEncodingMaps.encode_parts.Goals as goal
 use Rattle.wit_encode.proofs.interface.InterfaceEncoderOf+TypeEncodingMaps.encode_parts.Goals.{After-encode_types}
 use Rattle.wit_encode_types.proofs.Lists.{none-in}
+use Rattle.wit_encode_types.proofs.Writing.{writes-most, writes-then}
 
 pub encode_functions-requires-clause-encodable : goal.encode_functions-requires-clause-encodable
 encode_functions-requires-clause-encodable c = λ f h. subst (λ (s : Scope). CanEncodeFunction c.args.resolve.now s f.2.now)
@@ -66,3 +67,6 @@ returns-clause-size c = λ h.
     let others = flat_map function_types (map (λ f. f.2.now) c.args.functions.now) in
     room-after c.in_ok-encode_types.ensures.held c.encode_types.ensures.leaves.agree.once (ap (λ (s : Scope). s.own_interface) c.encode_types.ensures.leaves.scope_stays)
     (only-more (reached-left types others) c.in_ok-encode_types.ensures.learns.only) (reached-right types others) (λ q k. k) (omega arith) (c.encode_functions.ensures.size h)
+
+pub returns-clause-written : goal.returns-clause-written
+returns-clause-written c = on_ok c.encode_functions.result _ _ (λ w. writes-most (omega arith) (writes-then c.encode_types.ensures.leaves.scope_stays c.in_ok-encode_types.ensures.written w)) c.encode_functions.ensures.written

@@ -18,11 +18,13 @@ use Rattle.wit_encode_types.proofs.Around.{around-same}
 use Rattle.wit_encode.proofs.Counting.{exact-names}
 use Rattle.wit_encode.proofs.Exporting.{exports-start, exports-next, exports-end}
 use Rattle.wit_encode.proofs.interface.InterfaceEncoderOf+TypeEncodingMaps.encode_types.Goals as goal
+use Rattle.wit_encode_types.proofs.Writing.{writes-nothing, writes-then}
 
 pub loop-id-init : goal.loop-id-init
 loop-id-init c = record {
   leaves = leaves-kept c.requires.begins.agree (record { kept = λ i m h. h; more = omega arith; around_ = around-same refl }) refl refl;
   held = holds-none c.args.self.now.maps (encoder_view c.args.self.now).held;
+  written = writes-nothing c.args.resolve.now 0 (encoder_view c.args.self.now);
   learns = from-none c.args.resolve.now (own_of c.args.self.now.inner) _ c.args.self.now.maps;
   first = exports-start c.args.resolve.now c.requires.begins.valid (encoder_scope c.args.self.now.resolve.now c.args.self.now.outer c.args.self.now.inner) c.args.types.now c.requires.begins.listed (ap (λ (z : Resolve). declarations_in z (own_of c.args.self.now.inner)) c.requires.begins.packages_) c.args.self.now.maps (definitions_with (contents_of c.args.self.now.resolve.now c.args.self.now.outer c.args.self.now.inner)) c.requires.begins.fresh c.requires.begins.unshown;
   counts = counts-none c.args.resolve.now _ c.args.self.now.maps (definitions_with (contents_of c.args.self.now.resolve.now c.args.self.now.outer c.args.self.now.inner));
@@ -41,6 +43,7 @@ pub loop-id-preserved : goal.loop-id-preserved
 loop-id-preserved c = record {
   leaves = leaves-trans c.loop-id.invariant.leaves c.encode_valtype.ensures.leaves;
   held = holds-then c.loop-id.invariant.held c.in_ok-encode_valtype.ensures.held;
+  written = writes-then c.loop-id.invariant.leaves.scope_stays c.loop-id.invariant.written c.in_ok-encode_valtype.ensures.written;
   learns = from-type c.args.resolve.now (own_of c.args.self.now.inner) (own_of c.loop-id.self.inner) c.args.types.now c.loop-id.id-index (record { 0 = 0 }) c.args.self.now.maps c.loop-id.self.maps c.encode_valtype.new.enc.maps
       c.loop-id-test.true (ap (λ (z : Scope). z.own_interface) c.loop-id.invariant.leaves.scope_stays) c.loop-id.invariant.learns c.in_ok-encode_valtype.ensures.learns;
   first = exports-next c.args.resolve.now c.requires.begins.valid (encoder_scope c.args.self.now.resolve.now c.args.self.now.outer c.args.self.now.inner) c.args.types.now c.requires.begins.listed (ap (λ (z : Resolve). declarations_in z (own_of c.args.self.now.inner)) c.requires.begins.packages_)

@@ -5,6 +5,8 @@ use Rattle.wit_encode.proofs.Within.{defined-within, defined-without}
 use Rattle.wit_encode.specs.Instance.{stands_in}
 use Rattle.wit_encode.proofs.Refusing.{value-inside, value-outside, held-inside, held-outside}
 use Rattle.wit_encode.proofs.interface.InterfaceEncoderOfTypeEncodingMapsValtypeEncoder.defined_type.Goals as goal
+use Rattle.wit_encode.proofs.Extents.{bytes-few}
+use Rattle.wit_encode.proofs.BytesWritten.{inside-more, outside-more, when-ok}
 
 pub returns-in-Some-clause-ok : goal.returns-in-Some-clause-ok
 returns-in-Some-clause-ok c = (defined-within c.define_inside.result c.args.self.now.resolve.now c.args.self.now.outer c.args.self.now.inner c.in-Some.current c.define_inside.new.inner c.in-Some.is c.args.def c.requires c.define_inside.ensures.ok c.define_inside.ensures.err).ok
@@ -47,3 +49,11 @@ returns-in-Some-clause-around_stays c = ap (around_of c.args.self.now.outer) (sy
 
 pub returns-clause-around_stays : goal.returns-clause-around_stays
 returns-clause-around_stays c = ap (around_of c.define_outside.new.outer) c.in-None.is ∙ sym (ap (around_of c.args.self.now.outer) c.in-None.is)
+
+pub returns-in-Some-clause-written : goal.returns-in-Some-clause-written
+returns-in-Some-clause-written c = when-ok c.define_inside.result _ _
+    (λ i made t f. record { extent = inside-more c.args.self.now.outer c.args.self.now.inner c.in-Some.current c.define_inside.new.inner _ _ c.in-Some.is made.1 (bytes-few.definitions _ c.args.def t f) }) c.define_inside.ensures.ok
+
+pub returns-clause-written : goal.returns-clause-written
+returns-clause-written c = when-ok c.define_outside.result _ _
+    (λ i made t f. record { extent = outside-more c.args.self.now.outer c.define_outside.new.outer c.args.self.now.inner _ _ c.in-None.is made.1 (bytes-few.definitions _ c.args.def t f) }) c.define_outside.ensures.ok

@@ -6,6 +6,8 @@ use Rattle.comp_bytes.specs.declared.forms.ComponentTypeRef.TheVariants as refs
 use Rattle.wit_encode.proofs.Refusing.{name-inside, held-inside}
 use Rattle.comp_bytes.specs.RawOf.{raw_name}
 use Rattle.wit_encode.proofs.interface.InterfaceEncoderOfTypeEncodingMapsValtypeEncoder.export_resource.Goals as goal
+use Rattle.wit_encode.proofs.Extents.{bytes-few}
+use Rattle.wit_encode.proofs.BytesWritten.{inside-more, when-ok}
 
 pub returns-clause-ok : goal.returns-clause-ok
 returns-clause-ok c = (resource-within c.export_inside.result c.args.self.now.resolve.now c.args.self.now.outer c.args.self.now.inner c.in-Some.current c.export_inside.new.inner c.in-Some.is _ c.requires c.export_inside.ensures.ok c.export_inside.ensures.err).ok
@@ -27,3 +29,7 @@ returns-clause-held c = held-inside c.args.self.now.outer c.args.self.now.inner 
 
 pub returns-clause-around_stays : goal.returns-clause-around_stays
 returns-clause-around_stays c = ap (around_of c.args.self.now.outer) (sym c.in-Some.is)
+
+pub returns-clause-written : goal.returns-clause-written
+returns-clause-written c = when-ok c.export_inside.result _ _
+    (λ i made. record { extent = inside-more c.args.self.now.outer c.args.self.now.inner c.in-Some.current c.export_inside.new.inner _ _ c.in-Some.is made.1 (bytes-few.exports (raw_name c.args.name) refs.SubResource) }) c.export_inside.ensures.ok

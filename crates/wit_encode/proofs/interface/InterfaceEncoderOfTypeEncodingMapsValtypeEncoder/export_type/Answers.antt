@@ -9,6 +9,8 @@ use Rattle.comp_bytes.specs.declared.forms.ComponentTypeRef.TheVariants as refs
 use Rattle.wit_encode.proofs.Refusing.{name-inside, held-inside}
 use Rattle.wit_model.specs.declared.error.Error.TheVariants as errors
 use Rattle.wit_encode.proofs.interface.InterfaceEncoderOfTypeEncodingMapsValtypeEncoder.export_type.Goals as goal
+use Rattle.wit_encode.proofs.Extents.{bytes-few}
+use Rattle.wit_encode.proofs.BytesWritten.{inside-more}
 
 pub returns-clause-ok : goal.returns-clause-ok
 returns-clause-ok c =
@@ -49,3 +51,8 @@ returns-clause-around_stays c = ap (around_of c.args.self.now.outer) (sym c.in-S
 
 pub returns-in_err-slot-in-Some-clause-around_stays : goal.returns-in_err-slot-in-Some-clause-around_stays
 returns-in_err-slot-in-Some-clause-around_stays c = ap (around_of c.args.self.now.outer) (sym c.in-Some.is)
+
+pub returns-clause-written : goal.returns-clause-written
+returns-clause-written c = record {
+  extent = inside-more c.args.self.now.outer c.args.self.now.inner c.in-Some.current c.export_inside.new.inner _ _ c.in-Some.is c.in_ok-slot-in-Some.ensures.ok.1 (bytes-few.exports (raw_name c.args.name) (refs.TypeEq c.args.index));
+}

@@ -9,6 +9,7 @@ use Rattle.wit_encode.proofs.Importing.{ImportsTo, imported, imported-stands, im
 use Rattle.wit_encode.proofs.Refusing.{alias-inside, alias-outside, held-inside}
 use Rattle.wit_encode.proofs.interface.InterfaceEncoderOfTypeEncodingMapsValtypeEncoder.import_type.Goals as goal
 use Rattle.wit_encode.proofs.interface.InterfaceEncoderOfTypeEncodingMapsValtypeEncoder.import_type.Goals.{After-alias_inside}
+use Rattle.wit_encode.proofs.BytesWritten.{imported-more, when-ok}
 
 pub reach-requires-clause-in_range : goal.reach-requires-clause-in_range
 reach-requires-clause-in_range c = slice_get_within c.args.self.now.resolve.now.types.items c.args.id.0 c.requires.def c.requires.there
@@ -54,3 +55,10 @@ returns-in_err-slot-in-Some-clause-scope_stays c =
 
 pub returns-in_err-slot-in-Some-clause-size : goal.returns-in_err-slot-in-Some-clause-size
 returns-in_err-slot-in-Some-clause-size c = λ h. alias-outside c.args.self.now.resolve.now c.reach.new.outer (Some (record c.in-Some.current { foreign = c.reach.new.foreign })) c.args.id.0 (c.reach.ensures.size (search rules))
+
+pub returns-clause-written : goal.returns-clause-written
+returns-clause-written c = when-ok c.alias_inside.result _ _
+    (λ i made def at. record {
+      extent = imported-more (around_at c.args.self.now.outer c.in-Some.current.foreign) (around_at c.reach.new.outer c.reach.new.foreign) c.args.self.now.inner c.in-Some.current c.alias_inside.new.inner c.in_ok-slot-in-Some.slot def
+          c.reach.ensures.reaches at c.in-Some.is made.1;
+    }) c.alias_inside.ensures.ok

@@ -6,6 +6,9 @@ use Rattle.wit_encode_types.specs.Known.{Around, UsedStand, standing_instances}
 use Rattle.wit_encode.specs.Encoders.{InterfaceLacksRoom}
 use Rattle.wit_encode.specs.Instance.{EncodesInterface, LacksInstanceRoom, around_at}
 use Rattle.wit_encode.proofs.world.WorldEncoderOf+TypeEncodingMaps.define_instance.Goals as goal
+use Rattle.comp_bytes.specs.Raw.{Declarations}
+use Rattle.std.proofs.Common.{OnOk}
+use Rattle.wit_encode.specs.WrittenBytes.{AddsBytes, whole_extent}
 
 pub encode_instance-outcome-requires-clause-around : goal.encode_instance-outcome-requires-clause-around
 encode_instance-outcome-requires-clause-around c =
@@ -24,3 +27,7 @@ returns-clause-size c = λ refused.
     let q = c.args.self.now.resolve.now in
     subst (λ (z : Around). (def : Interface) → interface_at q c.args.interface.0 ≡ Some def → InterfaceLacksRoom q c.args.interface def ⊎ LacksInstanceRoom q z)
     (λ j. record { declared = c.replace.ensures.value j; instances = (c.replace-2.ensures.value j).instances.entries; known = (c.replace-2.ensures.value j).known.entries }) (c.encode_instance-outcome.ensures.size refused)
+
+pub returns-clause-written : goal.returns-clause-written
+returns-clause-written c =
+    subst (λ (z : Declarations). OnOk c.encode_instance-outcome.result (AddsBytes (whole_extent c.args.self.now.resolve.now c.args.interface.0) z c.encode_instance-outcome.new.self.outer)) c.replace.ensures.value c.encode_instance-outcome.ensures.written

@@ -14,6 +14,12 @@ use Rattle.wit_encode.proofs.WorldHolding.{function-few, function-lacks, functio
 use Rattle.wit_encode.proofs.WrittenNames.{function-names}
 use Rattle.wit_encode.proofs.WorldFunctions.{can-encode, function-encoded}
 use Rattle.wit_encode.proofs.world.WorldEncoderOf+TypeEncodingMaps.encode_function.Goals as goal
+use Rattle.wit_encode.proofs.BytesWritten.{function-item, learnt-more, learnt-most}
+use Rattle.wit_encode.proofs.WorldBytes.{declared-few}
+use Rattle.std.proofs.Common.{arith}
+use Rattle.wit_model.specs.Meant.{signature_of}
+use Rattle.wit_encode_types.specs.Extents.{name_extent, signature_extent}
+use Rattle.wit_encode.specs.WrittenBytes.{AddsLearnt}
 
 pub encode_func_type-requires : goal.encode_func_type-requires
 encode_func_type-requires c =
@@ -65,3 +71,11 @@ returns-in_err-index-clause-size c = λ h.
 pub returns-clause-names : goal.returns-clause-names
 returns-clause-names c = on-each c.declare.result (λ made. function-names c.args.resolve.now c.args.self.now.resolve.now c.args.placed.canonical_names (entry_of c.args.placed) c.args.func.now c.args.self.now.outer c.encode_func_type.new.enc.outer c.declare.new.outer
     (towards c.args.placed.direction) _ c.in_ok-index.index c.requires.item c.encode_func_type.ensures.leaves.grows.around_ made) c.declare.ensures.ok
+
+pub returns-clause-written : goal.returns-clause-written
+returns-clause-written c =
+    let r = c.args.resolve.now in
+    let whole = function-item r c.args.placed.canonical_names c.args.placed.key.now c.args.placed.item.now c.args.func.now c.requires.item in
+    let named = ap name_extent c.in_ok-name.ensures.ok in
+    let types : AddsLearnt r (signature_extent (signature_of r c.args.func.now)) c.args.self.now.maps c.encode_func_type.new.enc.maps c.args.self.now.outer c.encode_func_type.new.enc.outer = record { few = c.in_ok-index.ensures.written.extent } in
+    on-each c.declare.result (λ made. learnt-most (omega (arith, whole, named)) (learnt-more _ c.encode_func_type.new.enc.outer c.declare.new.outer _ types made (declared-few (towards c.args.placed.direction) _ (refs.Func c.in_ok-index.index)))) c.declare.ensures.ok

@@ -17,6 +17,12 @@ use Rattle.wit_encode.proofs.Refusing.{never-size}
 use Rattle.wit_encode.proofs.WorldInstances.{instance-lacks, interface-defined, interface-few, placed-lacks}
 use Rattle.wit_encode.proofs.WorldInterfaces.{interface-encoded, interface-there, room, used-stand}
 use Rattle.wit_encode.proofs.world.WorldEncoderOf+TypeEncodingMaps.encode_interface.Goals as goal
+use Rattle.wit_encode.proofs.BytesWritten.{adds-described, interface-item, learnt-beside, learnt-most}
+use Rattle.wit_encode.proofs.WorldBytes.{declared-few}
+use Rattle.std.proofs.Common.{arith}
+use Rattle.wit_encode.specs.WrittenBytes.{AddsBytes, AddsLearnt, items_extent, whole_extent}
+use Rattle.world_names.specs.WorldNames.{name_of_item}
+use Rattle.wit_model.specs.Weight.{whole_instance_weight}
 
 pub define_instance-requires-clause-in_range : goal.define_instance-requires-clause-in_range
 define_instance-requires-clause-in_range c =
@@ -96,3 +102,15 @@ returns-in_err-declare-clause-size c = λ h.
     (c.in_ok-slot.ensures.ok there.0 (ap (λ (q : Resolve). interface_at q c.args.interface.0) shown.packages_ ∙ there.1)) in
     placed-lacks c.args.resolve.now w c.args.self.now done (towards c.args.placed.direction) (entry_of c.args.placed) next d few shown.agree.once c.args.interface c.requires.item c.args.placed.canonical_names _ c.in_ok-slot.slot
     (world_around c.define_instance.new.self) there.0 encodes c.in_ok-name.ensures.ok refused
+
+pub returns-clause-written : goal.returns-clause-written
+returns-clause-written c = on-each c.list_instance.result (λ lists.
+    let r = c.args.resolve.now in
+    let whole = interface-item r c.args.placed.canonical_names c.args.placed.key.now c.args.placed.item.now c.args.interface.0 c.requires.item in
+    let one = subst (λ (q : Resolve). AddsBytes (whole_extent q c.args.interface.0) c.args.self.now.outer c.define_instance.new.self.outer) c.requires.next.shown.packages_ c.in_ok-slot.ensures.written in
+    let both = adds-described (whole_instance_weight r c.args.interface.0) c.args.self.now.outer c.define_instance.new.self.outer c.declare.new.outer _ _ (name_of_item r c.args.placed.canonical_names (entry_of c.args.placed)) one c.in_ok-declare.ensures.ok
+    (declared-few (towards c.args.placed.direction) _ (refs.Instance c.in_ok-slot.slot)) c.in_ok-name.ensures.ok in
+    let here : AddsLearnt r (items_extent r c.args.placed.canonical_names (entry_of c.args.placed ∷ [])) c.args.self.now.maps c.args.self.now.maps c.args.self.now.outer c.declare.new.outer = learnt-most (omega (arith, whole)) (learnt-beside c.args.self.now.maps _ _ both) in
+    subst (λ (z : WorldEncoder). AddsLearnt r (items_extent r c.args.placed.canonical_names (entry_of c.args.placed ∷ [])) c.args.self.now.maps z.maps c.args.self.now.outer z.outer) (sym lists.rest)
+    (subst (λ (z : WorldEncoder). AddsLearnt r (items_extent r c.args.placed.canonical_names (entry_of c.args.placed ∷ [])) c.args.self.now.maps z.maps c.args.self.now.outer c.declare.new.outer) (sym c.define_instance.ensures.rest) here))
+    c.list_instance.ensures.ok

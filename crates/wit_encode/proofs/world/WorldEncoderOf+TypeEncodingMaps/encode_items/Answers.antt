@@ -2,7 +2,7 @@ use Rattle.std.proofs.Common.{rules}
 use Rattle.std.specs.Map.Iter.{deref_pair}
 use Rattle.std.proofs.lemmas.Map.Iter.{rest_all, rest_more}
 use Rattle.wit_encode.specs.WorldItems.{towards}
-use Rattle.wit_encode.proofs.WorldLists.{defines-whole, goes-first, goes-lacks, goes-next, goes-on, goes-whole, holds-whole, names-whole}
+use Rattle.wit_encode.proofs.WorldLists.{defines-whole, goes-first, goes-lacks, goes-next, goes-on, goes-whole, holds-whole, names-whole, written-whole}
 use Rattle.wit_encode.proofs.world.WorldEncoderOf+TypeEncodingMaps.encode_items.Goals as goal
 
 pub loop-key-init : goal.loop-key-init
@@ -19,7 +19,7 @@ loop-key-preserved c =
     let is = rest_more deref_pair c.loop-key.key-iterator c.next.new.self c.next.result (c.in-Some.key, c.in-Some.item) c.in-Some.is c.next.ensures.steps in
     record {
       going = goes-on c.args.resolve.now c.args.canonical_names c.args.self.now c.loop-key.self c.encode_item.new.self (towards c.args.direction) c.args.items.now.entries c.loop-key.key-iterator c.next.new.self (c.in-Some.key.now, c.in-Some.item.now)
-          c.requires.begins c.loop-key.invariant.going is c.in_ok-encode_item.ensures.ok c.in_ok-encode_item.ensures.names c.in_ok-encode_item.ensures.once c.in_ok-encode_item.ensures.few;
+          c.requires.begins c.loop-key.invariant.going is c.in_ok-encode_item.ensures.ok c.in_ok-encode_item.ensures.names c.in_ok-encode_item.ensures.once c.in_ok-encode_item.ensures.few c.in_ok-encode_item.ensures.written;
     }
 
 pub returns-clause-ok : goal.returns-clause-ok
@@ -44,3 +44,7 @@ returns-in_err-encode_item-clause-size c = λ h.
     let is = rest_more deref_pair c.loop-key.key-iterator c.next.new.self c.next.result (c.in-Some.key, c.in-Some.item) c.in-Some.is c.next.ensures.steps in
     goes-lacks c.args.resolve.now c.args.canonical_names c.args.self.now c.loop-key.self (towards c.args.direction) c.args.items.now.entries c.loop-key.key-iterator c.next.new.self (c.in-Some.key.now, c.in-Some.item.now)
     c.requires.begins c.loop-key.invariant.going is refused
+
+pub returns-clause-written : goal.returns-clause-written
+returns-clause-written c = written-whole c.args.resolve.now c.args.canonical_names c.args.self.now c.loop-key.self (towards c.args.direction) c.args.items.now.entries c.loop-key.key-iterator c.loop-key.invariant.going
+    (rest_all deref_pair c.loop-key.key-iterator c.next.new.self c.next.result c.in-None.is c.next.ensures.steps)

@@ -10,6 +10,9 @@ use Rattle.wit_encode.proofs.WorldHolding.{type-few, type-lacks}
 use Rattle.wit_encode.proofs.WrittenNames.{type-names}
 use Rattle.wit_encode.proofs.WorldTypes.{type-encodable, type-encoded}
 use Rattle.wit_encode.proofs.world.WorldEncoderOf+TypeEncodingMaps.encode_type.Goals as goal
+use Rattle.wit_encode.specs.WrittenBytes.{AddsLearnt}
+use Rattle.wit_encode.proofs.BytesWritten.{learnt-most}
+use Rattle.std.proofs.Common.{arith}
 
 pub encode_valtype-requires : goal.encode_valtype-requires
 encode_valtype-requires c =
@@ -40,3 +43,8 @@ returns-in_err-encode_valtype-clause-size c = λ h.
 
 pub returns-clause-names : goal.returns-clause-names
 returns-clause-names c = type-names c.args.resolve.now c.args.self.now.resolve.now c.args.placed.canonical_names (entry_of c.args.placed) c.args.id c.args.self.now.outer c.encode_valtype.new.enc.outer c.requires.item c.encode_valtype.ensures.leaves.grows.around_
+
+pub returns-clause-written : goal.returns-clause-written
+returns-clause-written c =
+    let types : AddsLearnt c.args.resolve.now 0 c.args.self.now.maps c.encode_valtype.new.enc.maps c.args.self.now.outer c.encode_valtype.new.enc.outer = record { few = c.in_ok-encode_valtype.ensures.written.extent } in
+    learnt-most (omega arith) types

@@ -10,6 +10,8 @@ use Rattle.wit_encode.proofs.Refusing.{function-outside}
 use Rattle.wit_encode.proofs.WorldCalls.{after_declaring, defines-function}
 use Rattle.wit_encode.proofs.world.WorldEncoderOfTypeEncodingMapsValtypeEncoder.define_function_type.Goals as goal
 use Rattle.wit_encode.proofs.world.WorldEncoderOfTypeEncodingMapsValtypeEncoder.define_function_type.Goals.{After-define_function_outside}
+use Rattle.wit_encode.proofs.Extents.{bytes-few}
+use Rattle.wit_encode.proofs.BytesWritten.{one-more, when-ok}
 
 calls : (c : After-define_function_outside) → WorldCalls c.define_function_outside.result (world_encoder_view c.args.self.now)
     (world_view c.args.self.now.resolve.now c.args.self.now.world c.args.self.now.instances (after_declaring (world_around c.args.self.now) c.define_function_outside.new.outer) c.args.self.now.maps)
@@ -37,3 +39,7 @@ returns-clause-around_stays c = (calls (goal.at.returns-clause-around_stays c).A
 
 pub returns-clause-held : goal.returns-clause-held
 returns-clause-held c = beside-more c.args.self.now.resolve.now (world_around c.args.self.now) c.define_function_outside.new.outer c.define_function_outside.ensures.held
+
+pub returns-clause-written : goal.returns-clause-written
+returns-clause-written c = when-ok c.define_function_outside.result _ _
+    (λ i made s f. record { extent = one-more c.args.self.now.outer c.define_function_outside.new.outer _ _ made.1 (bytes-few.functions _ c.args.def s f) }) c.define_function_outside.ensures.ok

@@ -11,6 +11,8 @@ use Rattle.wit_encode.proofs.WorldBrought.{beside-more}
 use Rattle.wit_encode.proofs.WorldScope.{WorldCalls}
 use Rattle.wit_encode.proofs.world.WorldEncoderOfTypeEncodingMapsValtypeEncoder.export_resource.Goals as goal
 use Rattle.wit_encode.proofs.world.WorldEncoderOfTypeEncodingMapsValtypeEncoder.export_resource.Goals.{After-import_type_outside}
+use Rattle.wit_encode.proofs.Extents.{bytes-few}
+use Rattle.wit_encode.proofs.BytesWritten.{one-more, when-ok}
 
 calls : (c : After-import_type_outside) → WorldCalls c.import_type_outside.result (world_encoder_view c.args.self.now)
     (world_view c.args.self.now.resolve.now c.args.self.now.world c.args.self.now.instances (after_declaring (world_around c.args.self.now) c.import_type_outside.new.outer) c.args.self.now.maps) (λ m. m ≡ tree (named here (raw_name c.args.name).text))
@@ -38,3 +40,7 @@ returns-clause-around_stays c = (calls (goal.at.returns-clause-around_stays c).A
 
 pub returns-clause-held : goal.returns-clause-held
 returns-clause-held c = beside-more c.args.self.now.resolve.now (world_around c.args.self.now) c.import_type_outside.new.outer c.import_type_outside.ensures.held
+
+pub returns-clause-written : goal.returns-clause-written
+returns-clause-written c = when-ok c.import_type_outside.result _ _
+    (λ i made. record { extent = one-more c.args.self.now.outer c.import_type_outside.new.outer _ _ made.1 (bytes-few.imports (raw_name c.args.name) refs.SubResource) }) c.import_type_outside.ensures.ok

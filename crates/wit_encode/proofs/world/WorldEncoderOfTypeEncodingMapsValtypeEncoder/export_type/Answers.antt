@@ -16,6 +16,8 @@ use Rattle.wit_encode.proofs.WorldBrought.{beside-more}
 use Rattle.wit_encode.proofs.WorldScope.{WorldCalls}
 use Rattle.wit_encode.proofs.world.WorldEncoderOfTypeEncodingMapsValtypeEncoder.export_type.Goals as goal
 use Rattle.wit_encode.proofs.world.WorldEncoderOfTypeEncodingMapsValtypeEncoder.export_type.Goals.{After-import_type_outside}
+use Rattle.wit_encode.proofs.Extents.{bytes-few}
+use Rattle.wit_encode.proofs.BytesWritten.{one-more}
 
 calls : (c : After-import_type_outside) (res : Result ℕ Error) → IfOk res (λ k. (k ≡ type_slots_of c.args.self.now.outer) × (c.import_type_outside.new.outer ≡ declared_after c.args.self.now.outer (Declaration.imported (raw_name c.args.name) (refs.TypeEq c.args.index))))
     → OnErr res (c.import_type_outside.new.outer ≡ c.args.self.now.outer) → WorldCalls res (world_encoder_view c.args.self.now)
@@ -46,3 +48,6 @@ returns-clause-around_stays c = (calls (goal.at.returns-clause-around_stays c).A
 
 pub returns-clause-held : goal.returns-clause-held
 returns-clause-held c = beside-more c.args.self.now.resolve.now (world_around c.args.self.now) c.import_type_outside.new.outer c.import_type_outside.ensures.held
+
+pub returns-clause-written : goal.returns-clause-written
+returns-clause-written c = record { extent = one-more c.args.self.now.outer c.import_type_outside.new.outer _ _ c.in_ok-slot.ensures.ok.1 (bytes-few.imports (raw_name c.args.name) (refs.TypeEq c.args.index)) }

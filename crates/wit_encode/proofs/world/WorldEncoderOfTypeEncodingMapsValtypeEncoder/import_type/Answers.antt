@@ -7,6 +7,8 @@ use Rattle.wit_encode.proofs.WorldBrought.{reached-beside}
 use Rattle.wit_encode.proofs.WorldCalls.{WorldImports, world-imports, world-source}
 use Rattle.wit_encode.proofs.world.WorldEncoderOfTypeEncodingMapsValtypeEncoder.import_type.Goals as goal
 use Rattle.wit_encode.proofs.world.WorldEncoderOfTypeEncodingMapsValtypeEncoder.import_type.Goals.{After-reach}
+use Rattle.wit_encode.proofs.BytesWritten.{reached-more}
+use Rattle.std.proofs.Common.{arith}
 
 imports : (c : After-reach) → WorldImports c.args.self.now.resolve.now (world_encoder_view c.args.self.now) (world_view c.args.self.now.resolve.now c.args.self.now.world c.args.self.now.instances (around_at c.reach.new.outer c.reach.new.foreign) c.args.self.now.maps) c.args.id.0 c.reach.new.foreign.known.entries
 imports c = world-imports c.args.self.now.resolve.now c.args.self.now.world c.args.self.now.instances (world_around c.args.self.now) c.args.self.now.maps c.args.interface.0 c.args.id c.requires (around_at c.reach.new.outer c.reach.new.foreign) c.reach.ensures.reaches
@@ -42,3 +44,6 @@ returns-clause-held c = reached-beside c.reach.ensures.reaches
 
 pub returns-clause-size : goal.returns-clause-size
 returns-clause-size c = λ h. alias-behind c.args.self.now.resolve.now c.reach.new.outer c.args.id.0 (c.reach.ensures.size h)
+
+pub returns-clause-written : goal.returns-clause-written
+returns-clause-written c = on-ok c.reach.result (λ def at. record { extent = (let l = reached-more c.reach.ensures.reaches def at in omega (arith, l)) })

@@ -1,4 +1,4 @@
-use Rattle.std.proofs.Common.{◌∙◌, sym}
+use Rattle.std.proofs.Common.{◌∙◌}
 use Rattle.wit_encode_types.proofs.Tables.{number-found, number-known}
 use Rattle.wit_encode_types.proofs.maps.TypeEncodingMaps.index_of.Goals as goal
 

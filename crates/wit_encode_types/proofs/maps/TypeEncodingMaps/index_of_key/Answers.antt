@@ -1,10 +1,10 @@
-use Rattle.std.proofs.Common.{◌≡◌, ◌∙◌, sym, ap, subst, ℕ, List, Vec}
+use Rattle.std.proofs.Common.{◌∙◌, sym, subst, ℕ, List, Vec}
 use Rattle.std.specs.List.{Contains}
 use Rattle.std.specs.Prelude.{IfSome}
 use Rattle.std.specs.declared.alloc.Global.{Global}
 use Rattle.std.proofs.lemmas.Option.{IfSome_then}
 use Rattle.wit_encode_types.specs.Codes.{names_of, lists_of, IsKeyList}
-use Rattle.wit_encode_types.proofs.Tables.{list-found, list-lacks, lacks, none-when, at-some, at-none, one-list}
+use Rattle.wit_encode_types.proofs.Tables.{list-found, lacks, none-when, at-some, at-none, one-list}
 use Rattle.wit_encode_types.proofs.maps.TypeEncodingMaps.index_of_key.Goals as goal
 use Rattle.wit_encode_types.proofs.maps.TypeEncodingMaps.index_of_key.Goals.{In-Some}
 

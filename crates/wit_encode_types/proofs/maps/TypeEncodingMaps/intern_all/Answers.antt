@@ -1,4 +1,4 @@
-use Rattle.std.proofs.Common.{rules, ◌≡◌, ap, subst, ℕ, List, arith, ◌≤◌, length}
+use Rattle.std.proofs.Common.{rules, subst, ℕ, List}
 use Rattle.std.specs.List.{Contains}
 use Rattle.std.proofs.lemmas.List.{take_all}
 use Rattle.wit_model.specs.Text.{Text}

@@ -1,4 +1,0 @@
-pub mod Key
-pub mod Written
-pub mod Encoded
-pub mod Extent

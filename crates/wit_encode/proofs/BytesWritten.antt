@@ -1,0 +1,306 @@
+-- How many bytes have been declared, call after call.
+use Rattle.std.proofs.Common.{◌≡◌, refl, sym, subst, ap, ◌∙◌, ℕ, zero, suc, ◌+◌, ◌≤◌, ◌<◌, inl, inr, Bool, true, false, nat_eq, is_some, List, [], ◌∷◌, ◌++◌, map, length, length-append, take, get_or, Option, Some, None, String, Result, Ok, Err, OnOk, IfOk, arith}
+use Rattle.std.specs.Prelude.{sum_by}
+use Rattle.std.specs.List.{Contains}
+use Rattle.std.specs.declared.alloc.Global.{Global}
+use Rattle.std.proofs.lemmas.List.{map-append, take_all, take_more, length-map}
+use Rattle.std.proofs.lemmas.List.Sums.{sum_by-append, sum_by-cons}
+use Rattle.indexmap.specs.IndexMap.{values}
+use Rattle.wit_model.specs.Text.{Text, optional_text}
+use Rattle.wit_model.specs.Lookup.{interface_at, interface_path, type_at, world_at}
+use Rattle.wit_model.specs.Meant.{signature_of}
+use Rattle.wit_model.specs.Uses.{item_interface}
+use Rattle.wit_model.specs.Weight.{interface_weight, types_instance_weight, whole_instance_weight, world_weight}
+use Rattle.wit_model.specs.Valid.{IsValid}
+use Rattle.wit_model.specs.declared.model.Resolve.{Resolve}
+use Rattle.wit_model.specs.declared.model.Interface.{Interface}
+use Rattle.wit_model.specs.declared.model.InterfaceId.{InterfaceId}
+use Rattle.wit_model.specs.declared.model.Function.{Function}
+use Rattle.wit_model.specs.declared.model.TypeDef.{TypeDef}
+use Rattle.wit_model.specs.declared.model.World.{World}
+use Rattle.wit_model.specs.declared.model.WorldId.{WorldId}
+use Rattle.wit_model.specs.declared.model.WorldKey.{WorldKey}
+use Rattle.wit_model.specs.declared.model.WorldItem.{WorldItem}
+use Rattle.wit_model.specs.declared.model.WorldItem.TheVariants as item
+use Rattle.wit_model.specs.declared.model.TypeId.{TypeId}
+use Rattle.wit_model.specs.declared.model.«Type».{«Type» as ValueType}
+use Rattle.comp_bytes.specs.Raw.{Alias, ExternName, Declaration, Declarations, append, declaration_count, from_list}
+use Rattle.comp_bytes.specs.Writing.{u32_bytes, declaration_bytes, declarations_bytes}
+use Rattle.wit_encode_types.specs.declared.maps.TypeEncodingMaps.{TypeEncodingMaps}
+use Rattle.wit_encode_types.specs.Extents.{function_extent, given_length, import_extent, known_extent, name_extent, number_extent, signature_extent}
+use Rattle.wit_encode_types.specs.Known.{Around, ReachesAround, alias_declared, as_before, aliased}
+use Rattle.wit_encode_types.specs.Maps.{IsOnce, LearnsOnly}
+use Rattle.wit_encode_types.specs.MetKinds.{ReachedFrom, referred}
+use Rattle.wit_encode_types.proofs.Lists.{none-in}
+use Rattle.wit_encode_types.proofs.Pairs.{pairs-map}
+use Rattle.wit_encode_types.proofs.Paths.{some-same}
+use Rattle.wit_encode.specs.declared.interface.OpenInterface.{OpenInterface}
+use Rattle.wit_encode.specs.Encoders.{declared_after}
+use Rattle.wit_encode.specs.Instance.{declared_extent, extent_in, placed_function}
+use Rattle.wit_encode.specs.Order.{functions_in_order}
+use Rattle.wit_encode.specs.WorldRoom.{IsMetAmong, entries_in}
+use Rattle.wit_encode.specs.Extents.{instance_extent, item_extent}
+use Rattle.wit_encode.specs.WrittenBytes.{AddsBytes, AddsLearnt, TakesFew, imports_extent, items_extent, types_extent, whole_extent}
+use Rattle.wit_shown.specs.Views.{AreReached}
+use Rattle.world_names.specs.WorldNames.{name_of_interface, name_of_item}
+use Rattle.world_names.specs.WorldSteps.{Entry}
+use Rattle.wit_encode.proofs.ComponentExtents.{components-light, worlds-light}
+use Rattle.wit_encode.proofs.ImportLoop.{numbers-next}
+use Rattle.wit_encode.proofs.Extents.{bytes-few}
+use Rattle.wit_encode.proofs.ExtentWeighing.{dependencies-light, instances-light}
+use Rattle.wit_encode.proofs.Lengths.{u32-short}
+use Rattle.wit_encode.proofs.Opening.{Placed}
+use Rattle.wit_encode.proofs.Refusing.{map-twice}
+
+-- ---- answers
+
+pub when-ok : {A E : Type 0} (x : Result A E) (P : A → Type 0) (Q : Type 0) → ((a : A) → P a → Q) → IfOk x P → OnOk x Q
+when-ok (Ok a) P Q f p = f a p
+when-ok (Err e) P Q f p = tt
+
+-- ---- declarations
+
+nothing-taken : declared_extent Declarations.no_more ≡ 0
+unfolding declared_extent
+nothing-taken = refl
+
+one-taken : (d : Declaration) (rest : Declarations) → declared_extent (Declarations.declares d rest) ≡ length (declaration_bytes d) + declared_extent rest
+unfolding declared_extent
+one-taken d rest = length-append (declaration_bytes d) (declarations_bytes rest)
+
+component-taken : (inner rest : Declarations) → declared_extent (Declarations.component inner rest) ≡ (2 + (length (u32_bytes (declaration_count inner)) + declared_extent inner)) + declared_extent rest
+unfolding declared_extent
+component-taken inner rest =
+    let a = length-append (u32_bytes (declaration_count inner)) (declarations_bytes inner) in
+    let b = length-append (1 ∷ 0x41 ∷ (u32_bytes (declaration_count inner) ++ declarations_bytes inner)) (declarations_bytes rest) in
+    omega arith
+
+instance-taken : (inner rest : Declarations) → declared_extent (Declarations.instance inner rest) ≡ (2 + (length (u32_bytes (declaration_count inner)) + declared_extent inner)) + declared_extent rest
+unfolding declared_extent
+instance-taken inner rest =
+    let a = length-append (u32_bytes (declaration_count inner)) (declarations_bytes inner) in
+    let b = length-append (1 ∷ 0x42 ∷ (u32_bytes (declaration_count inner) ++ declarations_bytes inner)) (declarations_bytes rest) in
+    omega arith
+
+both-taken : (ds es : Declarations) → declared_extent (append ds es) ≡ declared_extent ds + declared_extent es
+both-taken Declarations.no_more es = let z = nothing-taken in omega (arith, z)
+both-taken (Declarations.declares d rest) es = let h = both-taken rest es in let a = one-taken d (append rest es) in let b = one-taken d rest in omega (arith, h, a, b)
+both-taken (Declarations.component inner rest) es = let h = both-taken rest es in let a = component-taken inner (append rest es) in let b = component-taken inner rest in omega (arith, h, a, b)
+both-taken (Declarations.instance inner rest) es = let h = both-taken rest es in let a = instance-taken inner (append rest es) in let b = instance-taken inner rest in omega (arith, h, a, b)
+
+-- one declaration more
+pub one-more : (outer outer' : Declarations) (d : Declaration) (n : ℕ) → outer' ≡ declared_after outer d → length (declaration_bytes d) ≤ n → declared_extent outer' ≤ declared_extent outer + n
+one-more outer outer' d n e l =
+    let same = ap declared_extent e in
+    let both = both-taken outer (Declarations.declares d Declarations.no_more) in
+    let one = one-taken d Declarations.no_more in
+    let z = nothing-taken in
+    omega (arith, same, both, one, z, l)
+
+-- one instance type more
+pub instance-more : (outer outer' inner : Declarations) → outer' ≡ append outer (Declarations.instance inner Declarations.no_more) → declared_extent outer' ≤ declared_extent outer + (8 + declared_extent inner)
+instance-more outer outer' inner e =
+    let same = ap declared_extent e in
+    let both = both-taken outer (Declarations.instance inner Declarations.no_more) in
+    let one = instance-taken inner Declarations.no_more in
+    let count = u32-short (declaration_count inner) in
+    let z = nothing-taken in
+    omega (arith, same, both, one, count, z)
+
+listed-more : (ds : List Declaration) (d : Declaration) → declared_extent (from_list (ds ++ d ∷ [])) ≡ declared_extent (from_list ds) + length (declaration_bytes d)
+listed-more [] d = let a = one-taken d Declarations.no_more in let z = nothing-taken in omega (arith, a, z)
+listed-more (e ∷ ds) d = let h = listed-more ds d in let a = one-taken e (from_list (ds ++ d ∷ [])) in let b = one-taken e (from_list ds) in omega (arith, h, a, b)
+
+-- one declaration more in the instance type that is open, or in the component type
+pub inside-more : (outer : Declarations) (inner : Option OpenInterface) (current : OpenInterface) (ds : List Declaration) (d : Declaration) (n : ℕ) → inner ≡ Some current → ds ≡ current.declared ++ d ∷ [] → length (declaration_bytes d) ≤ n
+    → declared_extent outer + declared_extent (from_list ds) ≤ extent_in outer inner + n
+inside-more outer inner current ds d n is e l =
+    let opened = ap (extent_in outer) is in
+    let same = ap (λ (xs : List Declaration). declared_extent (from_list xs)) e in
+    let one = listed-more current.declared d in
+    omega (arith, opened, same, one, l)
+
+pub outside-more : (outer outer' : Declarations) (inner : Option OpenInterface) (d : Declaration) (n : ℕ) → inner ≡ None → outer' ≡ declared_after outer d → length (declaration_bytes d) ≤ n → extent_in outer' inner ≤ extent_in outer inner + n
+outside-more outer outer' inner d n none e l =
+    let before = ap (extent_in outer) none in
+    let after = ap (extent_in outer') none in
+    let one = one-more outer outer' d n e l in
+    omega (arith, before, after, one)
+
+-- ---- aliases
+
+-- the alias of a type, if one is made
+pub reached-more : {r : Resolve} {id : TypeId} {a a' : Around} → ReachesAround r id a a' → (def : TypeDef) → type_at r id.0 ≡ Some def → declared_extent a'.declared ≤ declared_extent a.declared + (16 + given_length (optional_text def.name))
+reached-more {r} {id} {a} {a'} (as_before e) def at = let same = ap (λ (z : Around). declared_extent z.declared) e in omega (arith, same)
+reached-more {r} {id} {a} {a'} (aliased x is n e) def at =
+    let same : is.def ≡ def = some-same is.def def (sym is.there ∙ ap (λ (t : TypeId). type_at r t.0) n ∙ at) in
+    let name : length x.name ≡ given_length (optional_text def.name) =
+    ap length is.text ∙ sym (ap (λ (o : Option (String Global)). given_length (optional_text o)) (ap (λ (d : TypeDef). d.name) (sym same) ∙ is.named_)) in
+    let one = one-more a.declared a'.declared (alias_declared x) (16 + length x.name) (ap (λ (z : Around). z.declared) e) (bytes-few.aliases x.instance x.name) in
+    omega (arith, name, one)
+
+-- with the outer alias that stands for it in the instance type
+pub imported-more : {r : Resolve} {id : TypeId} (a a' : Around) (inner : Option OpenInterface) (current : OpenInterface) (ds : List Declaration) (k : ℕ) (def : TypeDef) → ReachesAround r id a a' → type_at r id.0 ≡ Some def → inner ≡ Some current
+    → ds ≡ current.declared ++ Declaration.alias_of (Alias.of_outer 1 k) ∷ [] → declared_extent a'.declared + declared_extent (from_list ds) ≤ extent_in a.declared inner + import_extent def
+imported-more a a' inner current ds k def reaches at is e =
+    let around = reached-more reaches def at in
+    let inside = inside-more a.declared inner current ds _ 16 is e (bytes-few.outer_aliases 1 k) in
+    let opened = ap (extent_in a.declared) is in
+    omega (arith, around, inside, opened)
+
+-- ---- functions
+
+pub functions-next : {X : Type 0} (f : Text × Function → ℕ) (view : X → Text × Function) (xs : List X) (i : ℕ) (x : X) → i < length xs → x ≡ get_or xs i x → sum_by f (map view (take (i + 1) xs)) ≡ sum_by f (map view (take i xs)) + f (view x)
+functions-next f view xs i x l is =
+    let more = ap (λ ys. sum_by f (map view ys)) (take_more xs i x l) in
+    let both = ap (sum_by f) (map-append view (take i xs) (get_or xs i x ∷ [])) ∙ sum_by-append f (map view (take i xs)) (view (get_or xs i x) ∷ []) in
+    let one = sum_by-cons f (view (get_or xs i x)) [] in
+    let same = ap (λ y. f (view y)) is in
+    omega (arith, more, both, one, same)
+
+pub functions-whole : {X : Type 0} (f : Text × Function → ℕ) (view : X → Text × Function) (xs : List X) (i : ℕ) → length xs ≤ i → sum_by f (map view (take i xs)) ≡ sum_by f (map view xs)
+functions-whole f view xs i l = ap (λ ys. sum_by f (map view ys)) (take_all i xs l)
+
+-- ---- an instance type
+
+sums-mapped : {X Y : Type 0} (g : Y → ℕ) (f : X → Y) (xs : List X) → sum_by g (map f xs) ≡ sum_by (λ x. g (f x)) xs
+sums-mapped g f [] = refl
+sums-mapped g f (x ∷ xs) = let h = sums-mapped g f xs in let a = sum_by-cons g (f x) (map f xs) in let b = sum_by-cons (λ x. g (f x)) x xs in omega (arith, h, a, b)
+
+with-index : (es : List (ℕ × ℕ)) (n : ℕ) → Contains (map (λ e. e.0) es) n → (i : ℕ) × Contains es (n, i)
+with-index [] n c = none-in n c
+with-index (e ∷ es) n (zero, l, q) = (e.1, (0, omega arith, (λ j. (q j, e.1))))
+with-index (e ∷ es) n (suc i, l, q) = (let x = with-index es n (i, omega (arith, l), q) in (x.0, (suc x.1.0, (let y = x.1.1 in omega (arith, y)), x.1.2)))
+
+-- what maps that were empty have learnt by the end, and functions
+pub taken : (r : Resolve) (i : InterfaceId) (types : List ValueType) (fs : List (Text × Function)) (m m' : TypeEncodingMaps) (outer outer' : Declarations) (inner : Option OpenInterface) (ds : List Declaration) (current : OpenInterface)
+    → m.id_to_index.entries ≡ [] → ds ≡ [] → inner ≡ Some current → IsOnce m' → LearnsOnly (ReachedFrom r (Some i) types) m m'
+    → extent_in outer' inner + known_extent r (Some i) m ≤ (declared_extent outer + declared_extent (from_list ds)) + (known_extent r (Some i) m' + sum_by (function_extent r) fs)
+    → TakesFew r i types fs (declared_extent outer) (declared_extent outer' + declared_extent (from_list current.declared))
+taken r i types fs m m' outer outer' inner ds current empty none is once only l = record {
+  numbers = map (λ (e : ℕ × ℕ). e.0) m'.id_to_index.entries;
+  different = pairs-map (λ (e : ℕ × ℕ). e.0) (λ x y. nat_eq x y ≡ false) m'.id_to_index.entries once.numbers;
+  met = λ n c. (let x = with-index m'.id_to_index.entries n c in elim (only.each n x.0 x.1) [
+    | inl old ↦ none-in (n, x.0) (subst (λ (es : List (ℕ × ℕ)). Contains es (n, x.0)) empty old)
+    | inr reached ↦ reached
+  ]);
+  few =
+      let opened = ap (extent_in outer') is in
+      let nothing = ap (λ (xs : List Declaration). declared_extent (from_list xs)) none ∙ nothing-taken in
+      let sum = sums-mapped (number_extent r (Some i)) (λ (e : ℕ × ℕ). e.0) m'.id_to_index.entries in
+      omega (arith, opened, nothing, sum, l);
+}
+
+-- closed, in a component type
+pub taken-closed : {r : Resolve} {i : InterfaceId} {types : List ValueType} {fs : List (Text × Function)} {before : ℕ} (outer outer' inner : Declarations) → outer' ≡ append outer (Declarations.instance inner Declarations.no_more)
+    → TakesFew r i types fs before (declared_extent outer + declared_extent inner) → TakesFew r i types fs (before + 8) (declared_extent outer')
+taken-closed outer outer' inner e t = record { numbers = t.numbers; different = t.different; met = t.met; few = (let more = instance-more outer outer' inner e in let few = t.few in omega (arith, more, few)) }
+
+pub types-few : (r : Resolve) → IsValid r → (i : InterfaceId) (def : Interface) → interface_at r i.0 ≡ Some def → (types : List TypeId) → types ≡ values def.types → (outer outer' : Declarations)
+    → TakesFew r i (referred types []) [] (declared_extent outer + 8) (declared_extent outer') → AddsBytes (types_extent r i.0) outer outer'
+types-few r v i def at types e outer outer' t =
+    let light = dependencies-light r i def t.numbers v at t.different (λ n c. subst (λ (ts : List TypeId). ReachedFrom r (Some i) (referred ts []) n) e (t.met n c)) in
+    let few = t.few in
+    record { few = omega (arith, light, few) }
+
+pub whole-few : (r : Resolve) → IsValid r → (i : InterfaceId) (def : Interface) → interface_at r i.0 ≡ Some def → (types : List TypeId) → types ≡ values def.types → (fs : List Placed) → map placed_function fs ≡ functions_in_order def → (outer outer' : Declarations)
+    → TakesFew r i (referred types (map (λ f. f.2.now) fs)) (map placed_function fs) (declared_extent outer + 8) (declared_extent outer') → AddsBytes (whole_extent r i.0) outer outer'
+whole-few r v i def at types e fs order outer outer' t =
+    let own : map (λ f. f.2.now) fs ≡ map (λ (g : Text × Function). g.1) (functions_in_order def) = sym (map-twice (λ (g : Text × Function). g.1) placed_function fs) ∙ ap (map (λ (g : Text × Function). g.1)) order in
+    let met : (n : ℕ) → Contains t.numbers n → ReachedFrom r (Some i) (referred (values def.types) (map (λ (g : Text × Function). g.1) (functions_in_order def))) n =
+    λ n c. subst (λ (gs : List Function). ReachedFrom r (Some i) (referred (values def.types) gs) n) own (subst (λ (ts : List TypeId). ReachedFrom r (Some i) (referred ts (map (λ f. f.2.now) fs)) n) e (t.met n c)) in
+    let light = instances-light r i def t.numbers v at t.different met in
+    let functions = ap (sum_by (function_extent r)) order in
+    let few = t.few in
+    record { few = omega (arith, light, functions, few) }
+
+-- ---- a component type
+
+pub adds-nothing : (outer : Declarations) → AddsBytes 0 outer outer
+adds-nothing outer = record { few = omega arith }
+
+-- an instance type of so much, and the import or the export that uses it
+pub adds-described : (n : ℕ) (outer between outer' : Declarations) (d : Declaration) (named name : ExternName) → AddsBytes (8 + n) outer between → outer' ≡ declared_after between d → length (declaration_bytes d) ≤ name_extent named → named ≡ name
+    → AddsBytes (instance_extent name n) outer outer'
+adds-described n outer between outer' d named name one e l same =
+    let before = one.few in
+    let after = one-more between outer' d (name_extent named) e l in
+    let is = ap name_extent same in
+    record { few = omega (arith, before, after, is) }
+
+abbrev import-extent : Resolve → Bool → ℕ → ℕ
+import-extent r canonical n = instance_extent (name_of_interface r canonical n) (types_instance_weight r n)
+
+-- one import more
+pub imports-next : (r q : Resolve) (canonical : Bool) (xs : List InterfaceId) (k : ℕ) (outer between outer' : Declarations) → q ≡ r → k < length xs → AddsBytes (imports_extent r canonical (take k (map (λ id. id.0) xs))) outer between
+    → AddsBytes (import-extent q canonical (get_or xs k (record { 0 = 0 })).0) between outer' → AddsBytes (imports_extent r canonical (take (k + 1) (map (λ id. id.0) xs))) outer outer'
+imports-next r q canonical xs k outer between outer' e l before more =
+    let next = ap (sum_by (import-extent r canonical)) (sym (numbers-next xs k l)) ∙ sum_by-append (import-extent r canonical) (take k (map (λ (id : InterfaceId). id.0) xs)) ((get_or xs k (record { 0 = 0 })).0 ∷ []) in
+    let one = sum_by-cons (import-extent r canonical) (get_or xs k (record { 0 = 0 })).0 [] in
+    let same = ap (λ (z : Resolve). import-extent z canonical (get_or xs k (record { 0 = 0 })).0) e in
+    let a = before.few in
+    let b = more.few in
+    record { few = omega (arith, next, one, same, a, b) }
+
+pub imports-whole : (r : Resolve) (canonical : Bool) (xs : List InterfaceId) (k : ℕ) (outer outer' : Declarations) → length xs ≤ k → AddsBytes (imports_extent r canonical (take k (map (λ id. id.0) xs))) outer outer' → AddsBytes (imports_extent r canonical (map (λ id. id.0) xs)) outer outer'
+imports-whole r canonical xs k outer outer' l h =
+    let same : length (map (λ (id : InterfaceId). id.0) xs) ≡ length xs = length-map xs (λ (id : InterfaceId). id.0) in
+    subst (λ (ns : List ℕ). AddsBytes (imports_extent r canonical ns) outer outer') (take_all k (map (λ (id : InterfaceId). id.0) xs) (omega (arith, same, l))) h
+
+-- all imports, and the interface itself
+pub component-few : (r q : Resolve) (v : IsValid r) (i : InterfaceId) (reached : List ℕ) (canonical : Bool) → q ≡ r → is_some (interface_path r i.0) ≡ true → AreReached r i.0 reached → (empty outer outer' : Declarations) → empty ≡ Declarations.no_more
+    → AddsBytes (imports_extent q canonical reached) empty outer → AddsBytes (instance_extent (name_of_interface r canonical i.0) (whole_instance_weight q i.0)) outer outer' → declared_extent outer' ≤ interface_weight r i.0
+component-few r q v i reached canonical e named reaches empty outer outer' none imports own =
+    let light = components-light r i reached canonical v named reaches in
+    let first = ap (λ (z : Resolve). imports_extent z canonical reached) e in
+    let last = ap (λ (z : Resolve). whole_instance_weight z i.0) e in
+    let nothing = ap declared_extent none ∙ nothing-taken in
+    let a = imports.few in
+    let b = own.few in
+    omega (arith, light, first, last, nothing, a, b)
+
+-- ---- a world
+
+pub learnt-then : {r : Resolve} {k n : ℕ} {a b c : TypeEncodingMaps} {x y z : Declarations} → AddsLearnt r k a b x y → AddsLearnt r n b c y z → AddsLearnt r (k + n) a c x z
+learnt-then p q = record { few = (let x = p.few in let y = q.few in omega (arith, x, y)) }
+
+pub learnt-nothing : (r : Resolve) (m : TypeEncodingMaps) (x : Declarations) → AddsLearnt r 0 m m x x
+learnt-nothing r m x = record { few = omega arith }
+
+pub learnt-most : {r : Resolve} {k n : ℕ} {a b : TypeEncodingMaps} {x y : Declarations} → k ≤ n → AddsLearnt r k a b x y → AddsLearnt r n a b x y
+learnt-most l p = record { few = (let x = p.few in omega (arith, x, l)) }
+
+-- the maps have learnt nothing
+pub learnt-beside : {r : Resolve} {n : ℕ} (m : TypeEncodingMaps) (x y : Declarations) → AddsBytes n x y → AddsLearnt r n m m x y
+learnt-beside m x y p = record { few = (let l = p.few in omega (arith, l)) }
+
+-- one declaration behind what has been learnt
+pub learnt-more : {r : Resolve} {k : ℕ} {a b : TypeEncodingMaps} {x : Declarations} (n : ℕ) (y z : Declarations) (d : Declaration) → AddsLearnt r k a b x y → z ≡ declared_after y d → length (declaration_bytes d) ≤ n → AddsLearnt r (k + n) a b x z
+learnt-more n y z d p e l = record { few = (let before = p.few in let one = one-more y z d n e l in omega (arith, before, one)) }
+
+items-one : (r : Resolve) (canonical : Bool) (x : Entry) → items_extent r canonical (x ∷ []) ≡ item_extent r canonical x
+items-one r canonical x = let a = sum_by-cons (item_extent r canonical) x [] in omega (arith, a)
+
+pub function-item : (r : Resolve) (canonical : Bool) (k : WorldKey) (i : WorldItem) (f : Function) → i ≡ item.Function f → items_extent r canonical ((k, i) ∷ []) ≡ signature_extent (signature_of r f) + name_extent (name_of_item r canonical (k, i))
+function-item r canonical k i f e =
+    items-one r canonical (k, i) ∙ ap (λ (j : WorldItem). item_extent r canonical (k, j)) e ∙ ap (λ (j : WorldItem). signature_extent (signature_of r f) + name_extent (name_of_item r canonical (k, j))) (sym e)
+
+pub interface-item : (r : Resolve) (canonical : Bool) (k : WorldKey) (i : WorldItem) (n : ℕ) → item_interface i ≡ Some n → items_extent r canonical ((k, i) ∷ []) ≡ instance_extent (name_of_item r canonical (k, i)) (whole_instance_weight r n)
+interface-item r canonical k (item.Interface id stability docs external) n e =
+    items-one r canonical (k, item.Interface id stability docs external) ∙ ap (λ (m : ℕ). instance_extent (name_of_item r canonical (k, item.Interface id stability docs external)) (whole_instance_weight r m)) (some-same id.0 n e)
+interface-item r canonical k (item.Function f) n e = absurd (let z : ⊥ = cc in z)
+interface-item r canonical k (item.Type_ id) n e = absurd (let z : ⊥ = cc in z)
+
+-- all items of a world
+pub world-few : (r : Resolve) → IsValid r → (w : WorldId) (def : World) → world_at r w.0 ≡ Some def → (canonical : Bool) (began m m' : TypeEncodingMaps) (outer outer' : Declarations) → IsOnce m' → began.id_to_index.entries ≡ [] → LearnsOnly (IsMetAmong r (entries_in def)) began m' → outer ≡ Declarations.no_more
+    → AddsLearnt r (items_extent r canonical (entries_in def)) m m' outer outer' → declared_extent outer' ≤ world_weight r w.0
+world-few r v w def at canonical began m m' outer outer' once empty only none adds =
+    let met : (n : ℕ) → Contains (map (λ (e : ℕ × ℕ). e.0) m'.id_to_index.entries) n → IsMetAmong r (entries_in def) n = λ n c. (let x = with-index m'.id_to_index.entries n c in elim (only.each n x.0 x.1) [
+      | inl old ↦ none-in (n, x.0) (subst (λ (es : List (ℕ × ℕ)). Contains es (n, x.0)) empty old)
+      | inr reached ↦ reached
+    ]) in
+    let light = worlds-light r w def (map (λ (e : ℕ × ℕ). e.0) m'.id_to_index.entries) canonical v at (pairs-map (λ (e : ℕ × ℕ). e.0) (λ x y. nat_eq x y ≡ false) m'.id_to_index.entries once.numbers) met in
+    let sum = sums-mapped (number_extent r None) (λ (e : ℕ × ℕ). e.0) m'.id_to_index.entries in
+    let nothing = ap declared_extent none ∙ nothing-taken in
+    let few = adds.few in
+    omega (arith, light, sum, nothing, few)

@@ -1,0 +1,48 @@
+-- How many bytes have been declared: no more than what was asked for takes, and each type number that has been learnt on the way
+-- (Component Model Binary.md, "Type Definitions").
+use Rattle.std.specs.Prelude.{ℕ, ◌≡◌, ◌≤◌, ◌+◌, Bool, false, nat_eq, List, sum_by, Some, None}
+use Rattle.std.specs.List.{AllPairs, Contains}
+use Rattle.wit_model.specs.Text.{Text}
+use Rattle.wit_model.specs.Weight.{types_instance_weight, whole_instance_weight}
+use Rattle.wit_model.specs.declared.model.Resolve.{Resolve}
+use Rattle.wit_model.specs.declared.model.Function.{Function}
+use Rattle.wit_model.specs.declared.model.InterfaceId.{InterfaceId}
+use Rattle.wit_model.specs.declared.model.«Type».{«Type» as ValueType}
+use Rattle.comp_bytes.specs.Raw.{Declarations}
+use Rattle.wit_encode_types.specs.Extents.{function_extent, known_extent, number_extent}
+use Rattle.wit_encode_types.specs.MetKinds.{ReachedFrom}
+use Rattle.wit_encode_types.specs.declared.maps.TypeEncodingMaps.{TypeEncodingMaps}
+use Rattle.world_names.specs.WorldNames.{name_of_interface}
+use Rattle.world_names.specs.WorldSteps.{Entry}
+use Rattle.wit_encode.specs.Extents.{instance_extent, item_extent}
+use Rattle.wit_encode.specs.Instance.{declared_extent}
+
+-- at most so many bytes more
+pub record AddsBytes (n : ℕ) (outer outer' : Declarations) : Type 0 where
+  pub few : declared_extent outer' ≤ declared_extent outer + n
+
+-- at most so many bytes more, and those of each type number that the maps have learnt in the scope of no interface
+pub record AddsLearnt (r : Resolve) (n : ℕ) (m m' : TypeEncodingMaps) (outer outer' : Declarations) : Type 0 where
+  pub few : declared_extent outer' + known_extent r None m ≤ declared_extent outer + (known_extent r None m' + n)
+
+-- From before to after there are at most the bytes of these functions, and of type numbers that are met from these types, each once.
+pub record TakesFew (r : Resolve) (i : InterfaceId) (types : List ValueType) (functions : List (Text × Function)) (before after : ℕ) : Type 0 where
+  pub numbers : List ℕ
+  pub different : AllPairs (λ x y. nat_eq x y ≡ false) numbers
+  pub met : (n : ℕ) → Contains numbers n → ReachedFrom r (Some i) types n
+  pub few : after ≤ before + (sum_by (number_extent r (Some i)) numbers + sum_by (function_extent r) functions)
+
+-- the instance type of an interface, or of its types alone, with what stands before it
+abbrev pub whole_extent : Resolve → ℕ → ℕ
+whole_extent r n = 8 + whole_instance_weight r n
+
+abbrev pub types_extent : Resolve → ℕ → ℕ
+types_extent r n = 8 + types_instance_weight r n
+
+-- the imports of interfaces, by their types alone
+abbrev pub imports_extent : Resolve → Bool → List ℕ → ℕ
+imports_extent r canonical ns = sum_by (λ n. instance_extent (name_of_interface r canonical n) (types_instance_weight r n)) ns
+
+-- imports and exports of a world
+abbrev pub items_extent : Resolve → Bool → List Entry → ℕ
+items_extent r canonical es = sum_by (item_extent r canonical) es
