@@ -1,6 +1,7 @@
 -- One more call after calls that may follow one another.
 use Rattle.std.proofs.Common.{◌≡◌, ◌&&◌, Bool, true, false, IsTrue, List, [], ◌∷◌, ◌++◌, refl, arith, ap, sym, subst, ◌∙◌, ℕ}
 use Rattle.std.proofs.lemmas.List.{map-append}
+use Rattle.wit_model.proofs.Lists.{second_true}
 use Rattle.wit_print.specs.declared.piece.Piece.{Piece}
 use Rattle.wit_print.specs.Drafted.{piece_call, piece_calls}
 use Rattle.wit_print.specs.OutputCall.{OutputCall, may_follow, may_stand, line_begun_after, lines_begun_after, is_one_line, has_no_space_first, may_begin}
@@ -47,6 +48,10 @@ follow_anywhere true calls h = h
 follow_anywhere false calls h = follow_off calls h
 
 pub ruleset anywhere = (follow_anywhere)
+
+-- text that equals what a call may print may stand there
+pub front_of : (begun : Bool) (text other : List ℕ) → IsTrue (is_one_line text && may_begin begun text) → other ≡ text → IsTrue (may_begin begun other)
+front_of begun text other h e = subst (λ t. IsTrue (may_begin begun t)) (sym e) (second_true (is_one_line text) (may_begin begun text) h)
 
 -- text without a space at its front may stand anywhere
 pub front_anywhere : (b : Bool) (text : List ℕ) → IsTrue (has_no_space_first text) → IsTrue (may_begin b text)

@@ -1,8 +1,8 @@
 //! The calls for one item are drafted first, and then made.
 
-ghost use Rattle.std.specs.Prelude.{◌≡◌, true, false, [], ◌∷◌, ◌++◌, codes, IsTrue, OnOk, OnErr, IfOk, IsOkUnless};
+ghost use Rattle.std.specs.Prelude.{◌≡◌, ◌<◌, true, false, [], ◌∷◌, ◌++◌, codes, IsTrue, OnOk, OnErr, IsOkUnless};
 ghost use Rattle.std.specs.Fmt.{decimal};
-ghost use Rattle.std.specs.String.{string_bytes};
+ghost use Rattle.std.specs.Vec.{vec_len, vec_capacity};
 ghost use Rattle.semver.specs.Identifiers.{version_text};
 ghost use Rattle.wit_model.specs.declared.error.Error.TheVariants.{Memory};
 ghost use Rattle.wit_model.specs.Names.{is_label, is_version_text};
@@ -11,16 +11,27 @@ ghost use Rattle.wit_print.specs.Drafted.{piece_call};
 ghost use Rattle.wit_print.specs.Calls.{character_call, space};
 ghost use Rattle.wit_print.specs.Keyword.{escaped};
 
-use crate::escape::{escape, escape_character};
 use crate::make::make_calls;
 use crate::output::Output;
 use crate::piece::Piece;
 use crate::type_kind::TypeKind;
 use semver::Version;
 use std::alloc::{AllocError, Global};
-use std::borrow::CowStr;
 use std::marker::Model;
 use wit_model::Error;
+
+/// Room for the calls of a usual item, which is taken at once.
+const USUAL_LENGTH: usize = 32;
+
+/// Room for more calls.
+#[cold]
+#[inline(never)]
+fn make_room<'a>(pieces: &mut Vec<Piece<'a>>) -> Result<(), AllocError>
+    ensures items { pieces.new.items ≡ pieces.old.items }
+    ensures room { OnOk result (vec_len pieces.new < vec_capacity pieces.new) }
+{
+    pieces.reserve(USUAL_LENGTH)
+}
 
 /// Calls to be made of an output, each of which may follow those before it, wherever the first is made.
 #[derive(Drop)]
@@ -62,17 +73,21 @@ impl<'a> Draft<'a> {
         ensures err { OnErr result (Begins O.keeps (O.view output.old) self.now.kept (O.view output.new)) }
         ensures memory { IsOkUnless result Memory }
     {
-        make_calls(output, &self.pieces)
+        make_calls(output, self.alloc, &self.pieces)
     }
 
     // One more call.
+    #[inline(always)]
     fn push(&mut self, piece: Piece<'a>, line_begun: bool) -> Result<(), AllocError>
         requires may { IsTrue (may_stand self.old.line_begun (piece_call piece)) }
         requires line { line_begun ≡ line_begun_after (piece_call piece) self.old.line_begun }
         ensures ok { OnOk result (self.new ≡ record { line_begun = line_begun; kept = self.old.kept ++ piece_call piece.entry ∷ [] }) }
         ensures err { OnErr result (self.new ≡ self.old) }
     {
-        self.pieces.push(piece)?;
+        if self.pieces.capacity() <= self.pieces.len() {
+            make_room(&mut self.pieces)?;
+        }
+        self.pieces.push_reserved(piece);
         self.line_begun = line_begun;
         Ok(())
     }
@@ -101,7 +116,7 @@ impl<'a> Draft<'a> {
         requires front { IsTrue (may_begin self.old.line_begun text.now) }
         ensures { OnOk result (self.new ≡ record { line_begun = false; kept = self.old.kept ++ OutputCall.Str text.now ∷ [] }) }
     {
-        self.push(Piece::Str(CowStr::Borrowed(text)), false)
+        self.push(Piece::Str(text), false)
     }
 
     /// A word of a kind, as it stands.
@@ -111,7 +126,7 @@ impl<'a> Draft<'a> {
         requires front { IsTrue (has_no_space_first text.now) }
         ensures { OnOk result (self.new ≡ record { line_begun = false; kept = self.old.kept ++ OutputCall.Ty text.now kind ∷ [] }) }
     {
-        self.push(Piece::Ty(CowStr::Borrowed(text), kind), false)
+        self.push(Piece::Ty(kind, text), false)
     }
 
     /// A name of a kind, as an id.
@@ -120,8 +135,7 @@ impl<'a> Draft<'a> {
         requires { is_label label.now ≡ true }
         ensures { OnOk result (self.new ≡ record { line_begun = false; kept = self.old.kept ++ OutputCall.Ty (escaped label.now) kind ∷ [] }) }
     {
-        let text = escape(self.alloc, label)?;
-        self.push(Piece::Ty(text, kind), false)
+        self.push(Piece::Name(kind, label), false)
     }
 
     /// The name of a parameter or a field, as an id.
@@ -130,8 +144,7 @@ impl<'a> Draft<'a> {
         requires { is_label label.now ≡ true }
         ensures { OnOk result (self.new ≡ record { line_begun = false; kept = self.old.kept ++ OutputCall.Param (escaped label.now) ∷ [] }) }
     {
-        let text = escape(self.alloc, label)?;
-        self.push(Piece::Param(text), false)
+        self.push(Piece::Param(label), false)
     }
 
     /// The name of a case of a variant or an enum, or of a flag, as an id.
@@ -140,8 +153,7 @@ impl<'a> Draft<'a> {
         requires { is_label label.now ≡ true }
         ensures { OnOk result (self.new ≡ record { line_begun = false; kept = self.old.kept ++ OutputCall.Case (escaped label.now) ∷ [] }) }
     {
-        let text = escape(self.alloc, label)?;
-        self.push(Piece::Case(text), false)
+        self.push(Piece::Case(label), false)
     }
 
     /// Text as it stands, without indentation.
@@ -149,7 +161,7 @@ impl<'a> Draft<'a> {
         ensures { OnOk result (self.new ≡ record { line_begun = self.old.line_begun; kept = self.old.kept ++ OutputCall.PushStr text.now ∷ [] }) }
     {
         let line_begun = self.line_begun;
-        self.push(Piece::PushStr(CowStr::Borrowed(text)), line_begun)
+        self.push(Piece::PushStr(text), line_begun)
     }
 
     /// The length of a list behind the type of its elements, without indentation.
@@ -157,8 +169,7 @@ impl<'a> Draft<'a> {
         ensures { OnOk result (self.new ≡ record { line_begun = self.old.line_begun; kept = self.old.kept ++ OutputCall.PushStr (codes ", " ++ decimal length) ∷ [] }) }
     {
         let line_begun = self.line_begun;
-        let text = length_text(self.alloc, length)?;
-        self.push(Piece::PushStr(CowStr::Owned(text)), line_begun)
+        self.push(Piece::PushLength(length), line_begun)
     }
 
     /// The length of a list behind the type of its elements, as other text.
@@ -167,8 +178,7 @@ impl<'a> Draft<'a> {
         requires { self.old.line_begun ≡ false }
         ensures { OnOk result (self.new ≡ record { line_begun = false; kept = self.old.kept ++ OutputCall.Str (codes ", " ++ decimal length) ∷ [] }) }
     {
-        let text = length_text(self.alloc, length)?;
-        self.push(Piece::Str(CowStr::Owned(text)), false)
+        self.push(Piece::Length(length), false)
     }
 
     pub(crate) fn generic_args_start(&mut self) -> Result<(), AllocError>
@@ -190,8 +200,7 @@ impl<'a> Draft<'a> {
         ensures { OnOk result (self.new ≡ record { line_begun = self.old.line_begun; kept = self.old.kept ++ character_call c ∷ [] }) }
     {
         let line_begun = self.line_begun;
-        let text = escape_character(self.alloc, c)?;
-        self.push(Piece::PushStr(text), line_begun)
+        self.push(Piece::Character(c), line_begun)
     }
 
     /// The name of a feature, as an id.
@@ -200,30 +209,24 @@ impl<'a> Draft<'a> {
         requires { is_label label.now ≡ true }
         ensures { OnOk result (self.new ≡ record { line_begun = false; kept = self.old.kept ++ OutputCall.Str (escaped label.now) ∷ [] }) }
     {
-        let text = escape(self.alloc, label)?;
-        self.push(Piece::Str(text), false)
+        self.push(Piece::Feature(label), false)
     }
 
     /// A version in an attribute, behind other text in its line.
-    pub(crate) fn plain_version(&mut self, version: &Version) -> Result<(), AllocError>
+    pub(crate) fn plain_version(&mut self, version: &'a Version) -> Result<(), AllocError>
         requires same_line { self.old.line_begun ≡ false }
         requires version { is_version_text (version_text version.now) ≡ true }
         ensures { OnOk result (self.new ≡ record { line_begun = false; kept = self.old.kept ++ OutputCall.Ty (version_text version.now) TypeKind.VersionAnnotation ∷ [] }) }
     {
-        let text = format!(in self.alloc; "{version}")?;
-        self.push(
-            Piece::Ty(CowStr::Owned(text), TypeKind::VersionAnnotation),
-            false,
-        )
+        self.push(Piece::PlainVersion(version), false)
     }
 
     /// A version after its mark, `@`.
-    pub(crate) fn version(&mut self, version: &Version, kind: TypeKind) -> Result<(), AllocError>
+    pub(crate) fn version(&mut self, version: &'a Version, kind: TypeKind) -> Result<(), AllocError>
         requires { is_version_text (version_text version.now) ≡ true }
         ensures { OnOk result (self.new ≡ record { line_begun = false; kept = self.old.kept ++ OutputCall.Ty (64 ∷ version_text version.now) kind ∷ [] }) }
     {
-        let text = format!(in self.alloc; "@{version}")?;
-        self.push(Piece::Ty(CowStr::Owned(text), kind), false)
+        self.push(Piece::MarkedVersion(kind, version), false)
     }
 
     pub(crate) fn doc(&mut self, line: &'a str) -> Result<(), AllocError>
@@ -258,11 +261,4 @@ impl<'a> Draft<'a> {
     {
         self.push(Piece::Semicolon, true)
     }
-}
-
-/// The length of a list as it stands behind the type of its elements.
-fn length_text(alloc: Global, length: u32) -> Result<String, AllocError>
-    ensures { IfOk result (λ text. string_bytes text ≡ codes ", " ++ decimal length) }
-{
-    format!(in alloc; ", {length}")
 }

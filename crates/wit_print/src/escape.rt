@@ -1,11 +1,11 @@
 //! Names as ids of WIT text.
 
-ghost use Rattle.std.specs.Prelude.{◌≡◌, IfOk};
+ghost use Rattle.std.specs.Prelude.{◌≡◌, ◌∷◌, List, ℕ, IfOk};
 ghost use Rattle.std.specs.List.{list_any};
 ghost use Rattle.std.specs.Cow.{cow_str_bytes};
 ghost use Rattle.wit_model.specs.Text.{text_eq};
 ghost use Rattle.wit_print.specs.Calls.{escaped_character, is_plain as is_plain_lem};
-ghost use Rattle.wit_print.specs.Keyword.{escaped, is_keyword as is_keyword_lem};
+ghost use Rattle.wit_print.specs.Keyword.{escaped, is_keyword as is_keyword_lem, keyword_texts};
 
 use std::alloc::{AllocError, Global};
 use std::borrow::CowStr;
@@ -60,17 +60,54 @@ const KEYWORDS: [&str; 46] = [
     "map",
 ];
 
+/// The keywords that begin with this letter, in order. All of them for any other byte.
+fn keywords_with(first: u8) -> &'static [&'static str]
+    ensures { (rest : List ℕ) → list_any (λ w. text_eq w.now (first ∷ rest)) result.now ≡ list_any (λ entry. text_eq entry.0 (first ∷ rest)) keyword_texts }
+{
+    match first {
+        b'a' => &["as", "async"],
+        b'b' => &["bool", "borrow"],
+        b'c' => &["char", "constructor"],
+        b'd' | b'g' | b'h' | b'j' | b'k' | b'n' | b'q' | b'x' | b'y' | b'z' => &[],
+        b'e' => &["error-context", "enum", "export"],
+        b'f' => &[
+            "f32", "f64", "func", "float32", "float64", "flags", "future", "from",
+        ],
+        b'i' => &["interface", "import", "include"],
+        b'l' => &["list"],
+        b'm' => &["map"],
+        b'o' => &["option", "own"],
+        b'p' => &["package"],
+        b'r' => &["resource", "record", "result"],
+        b's' => &["s8", "s16", "s32", "s64", "string", "stream", "static"],
+        b't' => &["type", "tuple"],
+        b'u' => &["u8", "u16", "u32", "u64", "use"],
+        b'v' => &["variant"],
+        b'w' => &["world", "with"],
+        _ => &KEYWORDS,
+    }
+}
+
+fn same_text(a: &str, b: &str) -> bool
+    ensures { result ≡ text_eq a.now b.now }
+{
+    a.len() == b.len() && a == b
+}
+
 fn is_among(word: &str, words: &[&str]) -> bool
     ensures { result ≡ list_any (λ w. text_eq w.now word.now) words.now }
 {
-    words.iter().any(|other| *other == word)
+    words.iter().any(|other| same_text(*other, word))
 }
 
 /// Whether a word is a keyword of WIT text.
 fn is_keyword(word: &str) -> bool
     ensures { result ≡ is_keyword_lem word.now }
 {
-    is_among(word, &KEYWORDS)
+    match word.as_bytes().first() {
+        Some(first) => is_among(word, keywords_with(*first)),
+        None => false,
+    }
 }
 
 /// A label as an id: with `%` in front where it is a keyword. Only then is text made.

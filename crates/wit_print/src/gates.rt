@@ -19,7 +19,7 @@ use wit_model::Stability;
 fn draft_version_attribute<'a>(
     draft: &mut Draft<'a>,
     word: &'a str,
-    version: &Version,
+    version: &'a Version,
 ) -> Result<(), AllocError>
     requires one_line { IsTrue (is_one_line word.now) }
     requires front { IsTrue (has_no_space_first word.now) }
@@ -38,7 +38,7 @@ fn draft_version_attribute<'a>(
 /// Since which version an item is deprecated, if it is.
 fn draft_deprecated<'a>(
     draft: &mut Draft<'a>,
-    deprecated: &Option<Version>,
+    deprecated: &'a Option<Version>,
 ) -> Result<(), AllocError>
     requires begun { draft.old.line_begun ≡ true }
     requires version { is_well_optional is_version_text (optional_version_text deprecated.now) ≡ true }

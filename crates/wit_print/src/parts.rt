@@ -18,7 +18,7 @@ use wit_model::{Package, PackageName};
 /// A version after its mark, if there is one.
 pub(crate) fn draft_version<'a>(
     draft: &mut Draft<'a>,
-    version: &Option<Version>,
+    version: &'a Option<Version>,
     kind: TypeKind,
 ) -> Result<(), AllocError>
     requires same_line { draft.old.line_begun ≡ false }

@@ -73,3 +73,20 @@ fn unstable_without_documentation(rt: HostRuntime) -> Result<(), Fail> {
         "@unstable(feature = %async)\ninterface %interface",
     )
 }
+
+#[test]
+fn unstable_and_deprecated(rt: HostRuntime) -> Result<(), Fail> {
+    let alloc = rt.alloc();
+    let stability = Stability::Unstable {
+        feature: String::from_str(alloc, "x")?,
+        deprecated: Some(Version::parse(alloc, "2.0.0-rc.1")?),
+    };
+    assert_outer(
+        &rt,
+        alloc,
+        stability,
+        "i",
+        false,
+        "@unstable(feature = x)\n@deprecated(version = 2.0.0-rc.1)\ninterface i",
+    )
+}

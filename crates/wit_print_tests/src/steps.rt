@@ -4,14 +4,22 @@ use crate::kinds::{Kind, kind_of};
 use semver::Version;
 use std::alloc::{AllocError, Global};
 use wit_model::{
-    Function, FunctionKind, InterfaceId, PackageId, Resolve, Stability, Type, WorldId, WorldItem,
-    WorldKey,
+    Docs, Function, FunctionKind, InterfaceId, PackageId, Resolve, Stability, Type, TypeDefKind,
+    WorldId, WorldItem, WorldKey,
 };
 use wit_samples::drafts::{
-    add_package, add_type_of, add_unlisted_interface, add_unlisted_world, add_unnamed,
+    NO_DOCS, add_package, add_type_of, add_unlisted_interface, add_unlisted_world, add_unnamed,
     add_world_type, empty, export_from, import_into, list_interface, list_world, nullary, param,
     put_function, shown,
 };
+
+/// What stands in front of an item.
+#[derive(Clone, Copy)]
+pub struct Front {
+    pub docs: &'static str,
+    pub feature: &'static str,
+    pub external_id: &'static str,
+}
 
 /// A function.
 #[derive(Clone, Copy)]
@@ -20,6 +28,7 @@ pub struct Signature {
     pub kind: FunctionKind,
     pub params: &'static [(&'static str, Type)],
     pub result: Option<Type>,
+    pub front: Option<Front>,
 }
 
 /// `f: func()`
@@ -28,6 +37,7 @@ pub const FUNCTION: Signature = Signature {
     kind: FunctionKind::Freestanding,
     params: &[],
     result: None,
+    front: None,
 };
 
 /// A key of a world: a name, or the number of an interface.
@@ -44,6 +54,8 @@ pub enum Item {
     Interface(u32),
     /// The same, with documentation of its own.
     Documented(u32, &'static str),
+    /// The same, under a feature and with an external id.
+    Gated(u32, &'static str, &'static str),
     Function(Signature),
 }
 
@@ -67,6 +79,10 @@ pub enum Step {
     Type(u32, &'static str, Kind),
     /// A type of world 0.
     WorldType(&'static str, Kind),
+    /// Documentation of a type.
+    DocumentType(usize, &'static str),
+    /// Documentation of the first member of a type.
+    DocumentMember(usize, &'static str),
     /// The feature and the external id of a type.
     Gate(usize, &'static str, &'static str),
     /// A function of an interface.
@@ -75,10 +91,28 @@ pub enum Step {
     Export(usize, Key, Item),
 }
 
+fn docs_of(alloc: Global, contents: &str) -> Result<Docs, AllocError> {
+    Ok(Docs {
+        contents: Some(String::from_str(alloc, contents)?),
+    })
+}
+
+fn under(alloc: Global, feature: &str) -> Result<Stability, AllocError> {
+    Ok(Stability::Unstable {
+        feature: String::from_str(alloc, feature)?,
+        deprecated: None,
+    })
+}
+
 fn function_of(alloc: Global, signature: Signature) -> Result<Function, AllocError> {
     let mut function = nullary(alloc, signature.name, signature.kind, signature.result)?;
     for (name, ty) in signature.params {
         function.params.push(param(alloc, *name, *ty)?)?;
+    }
+    if let Some(front) = signature.front {
+        function.docs = docs_of(alloc, front.docs)?;
+        function.stability = under(alloc, front.feature)?;
+        function.external_id = Some(String::from_str(alloc, front.external_id)?);
     }
     Ok(function)
 }
@@ -99,10 +133,25 @@ fn documented(alloc: Global, number: u32, contents: &str) -> Result<WorldItem, A
     Ok(item)
 }
 
+fn gated(
+    alloc: Global,
+    number: u32,
+    feature: &str,
+    external_id: &str,
+) -> Result<WorldItem, AllocError> {
+    Ok(WorldItem::Interface {
+        id: InterfaceId(number),
+        stability: under(alloc, feature)?,
+        docs: NO_DOCS,
+        external_id: Some(String::from_str(alloc, external_id)?),
+    })
+}
+
 fn item_of(alloc: Global, item: Item) -> Result<WorldItem, AllocError> {
     match item {
         Item::Interface(number) => Ok(shown(number)),
         Item::Documented(number, contents) => documented(alloc, number, contents),
+        Item::Gated(number, feature, external_id) => gated(alloc, number, feature, external_id),
         Item::Function(signature) => Ok(WorldItem::Function(function_of(alloc, signature)?)),
     }
 }
@@ -134,14 +183,64 @@ fn gate(
     feature: &str,
     external_id: &str,
 ) -> Result<(), AllocError> {
-    let stability = Stability::Unstable {
-        feature: String::from_str(alloc, feature)?,
-        deprecated: None,
-    };
+    let stability = under(alloc, feature)?;
     let external_id = Some(String::from_str(alloc, external_id)?);
     if let Some(def) = resolve.types.get_mut(number) {
         def.stability = stability;
         def.external_id = external_id;
+    }
+    Ok(())
+}
+
+fn document_type(
+    alloc: Global,
+    resolve: &mut Resolve,
+    number: usize,
+    contents: &str,
+) -> Result<(), AllocError> {
+    let docs = docs_of(alloc, contents)?;
+    if let Some(def) = resolve.types.get_mut(number) {
+        def.docs = docs;
+    }
+    Ok(())
+}
+
+// Where the first member's documentation stands.
+fn document_first(kind: &mut TypeDefKind, docs: Docs) {
+    match kind {
+        TypeDefKind::Record(of) => {
+            if let Some(field) = of.fields.get_mut(0) {
+                field.docs = docs;
+            }
+        }
+        TypeDefKind::Variant(of) => {
+            if let Some(case) = of.cases.get_mut(0) {
+                case.docs = docs;
+            }
+        }
+        TypeDefKind::Flags(of) => {
+            if let Some(flag) = of.flags.get_mut(0) {
+                flag.docs = docs;
+            }
+        }
+        TypeDefKind::Enum(of) => {
+            if let Some(case) = of.cases.get_mut(0) {
+                case.docs = docs;
+            }
+        }
+        _ => {}
+    }
+}
+
+fn document_member(
+    alloc: Global,
+    resolve: &mut Resolve,
+    number: usize,
+    contents: &str,
+) -> Result<(), AllocError> {
+    let docs = docs_of(alloc, contents)?;
+    if let Some(def) = resolve.types.get_mut(number) {
+        document_first(&mut def.kind, docs);
     }
     Ok(())
 }
@@ -167,6 +266,8 @@ fn add(alloc: Global, resolve: &mut Resolve, step: Step) -> Result<(), AllocErro
             add_type_of(alloc, resolve, interface, name, kind_of(alloc, kind)?)
         }
         Step::WorldType(name, kind) => add_world_type(alloc, resolve, name, kind_of(alloc, kind)?),
+        Step::DocumentType(number, contents) => document_type(alloc, resolve, number, contents),
+        Step::DocumentMember(number, contents) => document_member(alloc, resolve, number, contents),
         Step::Gate(number, feature, external_id) => {
             gate(alloc, resolve, number, feature, external_id)
         }

@@ -14,7 +14,7 @@ use wit_model::{FunctionKind, PackageId, Resolve, Type, TypeId};
 use wit_print::{OutputToString, WitPrinter};
 
 /// The steps of a file, whose package 0 is the main one, the packages nested in it, and its text.
-type Case = (&'static [Step], &'static [PackageId], &'static str);
+pub type Case = (&'static [Step], &'static [PackageId], &'static str);
 
 /// Whether packages are in range.
 fn are_packages(resolve: &Resolve, numbers: &[PackageId]) -> bool
@@ -36,7 +36,7 @@ fn text_of(rt: &impl Abort, alloc: Global, case: &Case) -> Result<String, Fail> 
     Ok(String::from(printer.output))
 }
 
-fn assert_texts(rt: &impl Abort, alloc: Global, cases: &[Case]) -> Result<(), Fail> {
+pub fn assert_texts(rt: &impl Abort, alloc: Global, cases: &[Case]) -> Result<(), Fail> {
     for case in cases {
         let text = text_of(rt, alloc, case)?;
         assert_eq!(rt; text.as_str(), case.2);
@@ -136,13 +136,14 @@ const CONSTRUCTOR: Signature = Signature {
     kind: FunctionKind::Constructor(TypeId(0)),
     params: &[("x", Type::U32)],
     result: Some(Type::Id(TypeId(1))),
+    ..FUNCTION
 };
 
 const METHOD: Signature = Signature {
     name: "[method]r.m",
     kind: FunctionKind::Method(TypeId(0)),
     params: &[("self", Type::Id(TypeId(2))), ("y", Type::Id(TypeId(1)))],
-    result: None,
+    ..FUNCTION
 };
 
 const TAKING_OWNED: Signature = Signature {
@@ -207,7 +208,7 @@ const WORLD_METHOD: Signature = Signature {
     name: "[method]r.m",
     kind: FunctionKind::Method(TypeId(2)),
     params: &[("self", Type::Id(TypeId(3)))],
-    result: None,
+    ..FUNCTION
 };
 
 const G: Signature = Signature {

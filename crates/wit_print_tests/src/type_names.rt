@@ -49,7 +49,7 @@ fn assert_name(rt: &impl Abort, alloc: Global, kind: Kind, expected: &str) -> Re
 // A kind and its text.
 #[test]
 fn names_of_kinds(rt: HostRuntime) -> Result<(), Fail> {
-    static CASES: [(Kind, &str); 15] = [
+    static CASES: [(Kind, &str); 21] = [
         (Kind::FixedList(Type::U8, 4), "list<u8, 4>"),
         (Kind::Map(Type::String, Type::U32), "map<string, u32>"),
         (Kind::Result(None, None), "result"),
@@ -69,6 +69,12 @@ fn names_of_kinds(rt: HostRuntime) -> Result<(), Fail> {
             Kind::Tuple(Type::Bool, Type::ErrorContext),
             "tuple<bool, error-context>",
         ),
+        (Kind::Tuple(Type::U8, Type::U16), "tuple<u8, u16>"),
+        (Kind::Tuple(Type::U32, Type::U64), "tuple<u32, u64>"),
+        (Kind::Tuple(Type::S8, Type::S16), "tuple<s8, s16>"),
+        (Kind::Tuple(Type::S32, Type::S64), "tuple<s32, s64>"),
+        (Kind::Tuple(Type::F32, Type::F64), "tuple<f32, f64>"),
+        (Kind::Tuple(Type::Char, Type::String), "tuple<char, string>"),
         (Kind::Option(Type::Id(TypeId(1))), "option<%list>"),
         (Kind::List(Type::F64), "list<f64>"),
     ];

@@ -3,7 +3,7 @@ use Rattle.wit_print.specs.OutputCall.{Begins}
 use Rattle.wit_print.specs.OutputCall.Moves.{nothing_moved}
 use Rattle.wit_print.specs.Drafted.{piece_call, piece_calls}
 use Rattle.wit_print.proofs.Moves.{Moves-append, Begins-append, Begins-more, at_err}
-use Rattle.wit_print.proofs.Pieces.{map-take_next, map-drop_next, map-parted, follow-rest}
+use Rattle.wit_print.proofs.Pieces.{map-take_next, map-drop_next, map-parted, follow-first, follow-rest}
 use Rattle.wit_print.proofs.make.make_calls.Goals as goal
 
 pub loop-piece-init : goal.loop-piece-init
@@ -25,3 +25,8 @@ loop-piece-preserved g c =
       moved = rw taken (Moves-append g.O.Output.keeps c.loop-piece.invariant.moved c.in_ok-make_call.ensures.ok);
       rest = follow-rest (g.O.Output.view c.loop-piece.output).line_begun _ (piece_call c.piece-item.result) (piece_calls (drop (c.loop-piece.piece-index + 1) c.args.pieces.now)) (rw left at c.loop-piece.invariant.rest) c.in_ok-make_call.ensures.line;
     }
+
+pub make_call-requires : goal.make_call-requires
+make_call-requires g c =
+    let left = map-drop_next piece_call c.args.pieces.now c.loop-piece.piece-index c.piece-item.result c.loop-piece-test.true c.piece-item.is in
+    follow-first (g.O.Output.view c.loop-piece.output).line_begun (piece_call c.piece-item.result) (piece_calls (drop (c.loop-piece.piece-index + 1) c.args.pieces.now)) (rw left at c.loop-piece.invariant.rest)
