@@ -29,6 +29,7 @@ use Rattle.part_numbers.specs.NumberedParts.{instance_view}
 use Rattle.part_numbers.specs.PlacedNumbers.{IsPlacedItem, IsPlacedScope, scopes_in as numbered_scopes}
 use Rattle.part_numbers.proofs.ImportOrder.{imports_come_last}
 use Rattle.part_numbers.proofs.ImportParts.{imports_are_named}
+use Rattle.plan_laws.proofs.MembersStand.{members_stand_together}
 use Rattle.plan_laws.proofs.Walks.{all_unmapped}
 use Rattle.plan_members.specs.Members.{numbered_member, numbered_members, numbered_part}
 use Rattle.plan_members.specs.declared.members.Member.{Member}
@@ -201,7 +202,7 @@ module _ (pieces : List Piece) (x : Followed) (h : Homes) (ms : List Member) (me
         subst (λ (m : NumberedMember). IsPartIn t m.part) from.2 (part_in there.0 from.0 (both_at pieces x h ms members input there.0 from.0 there.1)))
 
     pub is_input : IsInput t h ms members
-    is_input = record { tables = tables pieces x h ms members input; homes = input.homes; shown = input.shown; stand = members_stand pieces x h ms members input; numbers = members_in; declared = members_named }
+    is_input = record { tables = tables pieces x h ms members input; homes = input.homes; shown = input.shown; stand = members_stand_together members (members_stand pieces x h ms members input); numbers = members_in; declared = members_named }
 
 pub read_members_stand : ReadMembersStand
 read_members_stand pieces x h ms members input = members_stand pieces x h ms members input

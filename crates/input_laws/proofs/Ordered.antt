@@ -100,7 +100,7 @@ module _ (pieces : List Piece) (x : Followed) (h : Homes) (ms : List Member) (me
   -- ---- the order
 
   module _ (told : ℕ → Fact) (obey : ViewsObey t told ms) where
-    view_rises : (s : NumberedSight) → Contains views s → IsRisingView t s.place s.view
+    pub view_rises : (s : NumberedSight) → Contains views s → IsRisingView t s.place s.view
     view_rises s c =
         let i = instance_of_any s c in
         let rising = instance_rises pieces x h ms members input told obey i.0 i.1.number (instance_shown s) i.1.at in

@@ -52,7 +52,7 @@ lengths_fit pieces x h ms members input n l parts at = ltb-true l 4294967296 (se
 -- ---- homes
 
 -- a place without a path has none
-alone : (packages : List PackageIdentity) (paths : List (Option Text)) (homes : List (Option (ℕ × Text))) → AllZip (IsHomeOf packages) paths homes → (q : ℕ) → unwrap_or (slice_get paths q) None ≡ None → unwrap_or (slice_get homes q) None ≡ None
+pub alone : (packages : List PackageIdentity) (paths : List (Option Text)) (homes : List (Option (ℕ × Text))) → AllZip (IsHomeOf packages) paths homes → (q : ℕ) → unwrap_or (slice_get paths q) None ≡ None → unwrap_or (slice_get homes q) None ≡ None
 alone packages [] [] all q e = refl
 alone packages [] (home ∷ homes) all q e = absurd all
 alone packages (o ∷ paths) [] all q e = absurd all

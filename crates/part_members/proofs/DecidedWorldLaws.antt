@@ -32,7 +32,7 @@ use Rattle.part_members.proofs.MeantLaws.{read_members_are_meant}
 use Rattle.part_members.proofs.SightLaws.{members_are_known}
 
 -- the one world of the members
-by_members : (pieces : List Piece) → world_of_pieces pieces ≡ (members_meant pieces >>= world_of_members)
+pub by_members : (pieces : List Piece) → world_of_pieces pieces ≡ (members_meant pieces >>= world_of_members)
 by_members pieces = world_by_scopes pieces ∙ by (scopes_of pieces)
   where
     by : (o : Option (List (Text × PartScope))) → (o >>= λ scopes. each member_of_scope scopes >>= world_of_members) ≡ ((o >>= each member_of_scope) >>= world_of_members)

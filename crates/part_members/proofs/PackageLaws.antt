@@ -30,7 +30,7 @@ use Rattle.part_numbers.specs.NumberedInput.{tables_of}
 use Rattle.part_numbers.specs.NumberedParts.{numbered_scope as followed_scope}
 use Rattle.part_members.specs.Decided.{are_one_package, ArePackageDecided, Decides}
 use Rattle.part_members.specs.declared.reading.ReadMember.{ReadMember}
-use Rattle.part_members.specs.ReadMembers.{lent_member, numbered_read, read_member, AreRead, Because, IsElsewhere, IsNoPart, IsOneNone}
+use Rattle.part_members.specs.ReadMembers.{lent_member, members_meant, numbered_read, read_member, AreRead, Because, IsElsewhere, IsNoPart, IsOneNone}
 use Rattle.part_members.proofs.DecidedLaws.{by_members, packages_are_decided}
 use Rattle.part_members.proofs.MeantLaws.{no_members_are_meant}
 
@@ -92,13 +92,12 @@ module _ (pieces : List Piece) (x : Followed) (f : IsFollowed pieces x) (facts :
   none_there label (followed.World path s) none = none
   none_there label (followed.Interface s) none = away label (shown_interface (tables_of x) (followed_scope x.places s)) none
 
-  no_package : IsOneNone t known (homes_alone lent) members → package_of_pieces pieces ≡ None
-  no_package one =
+  pub none_meant : IsOneNone t known (homes_alone lent) members → members_meant pieces ≡ None
+  none_meant one =
       let so : IsOneNone (tables_of x) known (homes_alone lent) x.members.items =
       subst (λ (ms : List FollowedMember). IsOneNone (tables_of x) known (homes_alone lent) ms) all (subst (λ (u : Tables). IsOneNone u known (homes_alone lent) members) same one) in
-      by_members pieces ∙ ap (λ o. o >>= package_of_members)
-      (no_members_are_meant pieces x f facts are (homes_in packages homes) stand (record { number = so.number; member = so.member; at = so.at; none = none_there so.member.label.now so.member.part so.none }))
+      no_members_are_meant pieces x f facts are (homes_in packages homes) stand (record { number = so.number; member = so.member; at = so.at; none = none_there so.member.label.now so.member.part so.none })
 
   pub refused : (e : Refusal) → Because e (IsOneNone t known (homes_alone lent) members) → Refuses e (package_of_pieces pieces)
   refused refusals.Memory one = tt
-  refused (refusals.Absent cause left) one = no_package one
+  refused (refusals.Absent cause left) one = by_members pieces ∙ ap (λ o. o >>= package_of_members) (none_meant one)

@@ -1,8 +1,9 @@
 -- Forms of what was followed are as definitions have them.
-use Rattle.std.proofs.Common.{◌≡◌, refl, sym, ap, subst, ◌∙◌, ℕ, Bool, true, false, ◌&&◌, ◌==◌, List, [], ◌∷◌, ◌++◌, map, length, Option, Some, None, option_map, slice_get, unwrap_or}
+use Rattle.std.proofs.Common.{◌≡◌, refl, sym, ap, subst, ◌∙◌, ℕ, Bool, true, false, ◌&&◌, ◌==◌, List, [], ◌∷◌, map, length, Option, Some, None, option_map, slice_get, unwrap_or}
 use Rattle.std.specs.Prelude.{nat_le, nat_lt}
 use Rattle.std.proofs.lemmas.Bool.{lt-ltb}
-use Rattle.std.specs.List.{AllByRecursion, AllZip, flat_map}
+use Rattle.std.specs.List.{AllByRecursion, AllZip, Contains, flat_map}
+use Rattle.std.proofs.lemmas.List.Elements.{Contains-append_left, Contains-append_right}
 use Rattle.std.specs.Option.{option_map_or}
 use Rattle.wit_model.specs.Text.{Text}
 use Rattle.wit_model.specs.Tree.{Declaration, Form, Place, Tree}
@@ -10,15 +11,16 @@ use Rattle.wit_model.specs.Meaning.{FunctionMeaning}
 use Rattle.wit_model.specs.Names.{PackageIdentity, path_in}
 use Rattle.wit_model.specs.Rules.{has_items}
 use Rattle.wit_model.specs.Types.{no_tree}
+use Rattle.wit_model.proofs.Elements.{contains-get, contains-one, get-contains}
 use Rattle.wit_model.proofs.Lists.{first_true}
 use Rattle.comp_meaning.specs.Follow.{Instance, Scope, Seen, interface_of, is_filled, is_key, is_key_primitive, place_of}
 use Rattle.comp_meaning.specs.Reads as reads
-use Rattle.shown_laws.specs.Parts.{MemberStands, named_instance}
+use Rattle.shown_laws.specs.Parts.{PartStands, instances_of, named_instance}
 use Rattle.shown_laws.specs.Scopes.{IsMetInScope, IsShownBefore, ShownStands}
 use Rattle.shown_laws.specs.Scopes as scopes
 use Rattle.shown_laws.specs.Trees.{AllAt, DeclarationStands, SignatureStands, TreeStands, count_true, is_formed}
 use Rattle.shown_laws.specs.Views.{IsMetInView, TypeStands, ViewStands}
-use Rattle.shown_laws.proofs.Lists.{at_front, middle_get, recursion_weaker}
+use Rattle.shown_laws.proofs.Lists.{recursion_weaker}
 use Rattle.read_plan.proofs.Lists.{both, get_of_map, map_of_map, no_true}
 use Rattle.read_plan.proofs.ReadOrder.{all_both}
 use Rattle.read_plan.proofs.ShapeLaws.{PartView, is_name, is_node, is_primitive, part_front, slice_there}
@@ -43,6 +45,7 @@ use Rattle.plan_types.specs.Showings.{NumberedShowing, showing_of, showings_of_i
 use Rattle.plan_laws.proofs.InnerForms.{child_list_back, form_range, inner_stands, signature_parts_hold, view_part}
 use Rattle.plan_laws.proofs.Walks.{all_any, all_flat, all_mapped, at_each}
 use Rattle.plan_laws.specs.FormsObeyed.{FormsAreObeyed, LengthsFit}
+use Rattle.plan_laws.specs.MembersStand.{MembersStand, all_instances}
 use Rattle.plan_laws.specs.ShownForms.{EachForm, FormsHold}
 
 module _ (t : Tables) (tables : AreTables t) (fit : LengthsFit t) where
@@ -164,44 +167,54 @@ module _ (t : Tables) (tables : AreTables t) (Obeys : Form → List ℕ → Type
 
   -- ---- members
 
-  module _ (h : Homes) (m : Member) (label : Text) (identity : PackageIdentity) where
-    part_obeys_all : (part : Part) (y : reads.Part) → ShowsPart t h (numbered_member m) (numbered_part part) y → MemberStands (record { label = label; package_ = identity; part = y }) → AreHeld (showings_of_part part) (signatures_of_part part)
-    part_obeys_all (parts.World w) (reads.Part.world scope) is stands =
-        let holds = stands.part.stands in
+  -- an instance whose view is well-formed behind some of these
+  abbrev StandsAmong : List Instance → Instance → Type 0
+  StandsAmong all x = (n : ℕ) × ViewStands (IsShownBefore all n) (place_of x.interface) x.view
+
+  module _ (h : Homes) (all : List Instance) (m : Member) (label : Text) (identity : PackageIdentity) where
+    part_obeys_all : (part : Part) (y : reads.Part) → ShowsPart t h (numbered_member m) (numbered_part part) y → ((x : Instance) → Contains (instances_of (record { label = label; package_ = identity; part = y })) x → StandsAmong all x)
+        → PartStands y → AreHeld (showings_of_part part) (signatures_of_part part)
+    part_obeys_all (parts.World w) (reads.Part.world scope) is views stands =
+        let holds = stands.stands in
         let imports = all_seen scope holds (λ n. n) w.imports.now (subst (AllAt (λ n (s : Seen). ShownStands scope.instances scope.imports n s.shown)) is.imports holds.imports) in
         let exports = all_seen scope holds (λ n. length scope.imports) w.exports.now (subst (AllAt (λ n (s : Seen). ShownStands scope.instances scope.imports (length scope.imports) s.shown)) is.exports holds.exports) in (
           all_both ShowingStands (flat_map showings_of_seen w.imports.now) (flat_map showings_of_seen w.exports.now) imports.0 exports.0,
           all_both FunctionStands (flat_map signatures_of_seen w.imports.now) (flat_map signatures_of_seen w.exports.now) imports.1 exports.1,
         )
-    part_obeys_all (parts.Interface p v imports) (reads.Part.interface view views) is stands =
+    part_obeys_all (parts.Interface p v imports) (reads.Part.interface view views) is each_stands stands =
         let front = map named_instance views in
         let last : Instance = named_instance (path_in identity label, view) in
-        let V = λ (n : ℕ) (x : Instance). ViewStands (IsShownBefore (front ++ last ∷ []) n) (place_of x.interface) x.view in
-        let own = stands.views (length front) last (middle_get front last []) in
-        let own_view = subst (ViewStands (IsShownBefore (front ++ last ∷ []) (length front)) (place_of last.interface)) is.shown own in
+        let V = λ (n : ℕ) (x : Instance). StandsAmong all x in
+        let own = each_stands last (Contains-append_right front (last ∷ []) last (contains-one last)) in
+        let own_view = subst (ViewStands (IsShownBefore all own.0) (place_of last.interface)) is.shown own.1 in
         let before : AllAt V (map (λ (i : ImportedView). named_instance (path_text t i.place, view_of t (numbered_view i.view))) imports.now) =
         subst (AllAt V) (ap (map named_instance) is.imported ∙ (map_of_map named_instance (λ (i : ℕ × NumberedView). (path_text t i.0, view_of t i.1)) (map numbered_import imports.now)
-        ∙ map_of_map (λ (i : ℕ × NumberedView). named_instance (path_text t i.0, view_of t i.1)) numbered_import imports.now)) (λ n x e. stands.views n x (at_front front (last ∷ []) n x e)) in
+        ∙ map_of_map (λ (i : ℕ × NumberedView). named_instance (path_text t i.0, view_of t i.1)) numbered_import imports.now)) (λ n x e. each_stands x (Contains-append_left front (last ∷ []) x (get-contains front n x e))) in
         let each : AllByRecursion (λ (i : ImportedView). AllByRecursion ShowingStands (showings_of_import i)) imports.now =
         at_each (λ (i : ImportedView). named_instance (path_text t i.place, view_of t (numbered_view i.view))) V (λ i. Unit {0}) (λ (i : ImportedView). AllByRecursion ShowingStands (showings_of_import i)) imports.now
-        (λ n i any is. view_types (IsShownBefore (front ++ last ∷ []) n) (place_of (Some (path_text t i.place))) (numbered_view i.view) is) (all_any imports.now) before in (
+        (λ n i any is. view_types (IsShownBefore all is.0) (place_of (Some (path_text t i.place))) (numbered_view i.view) is.1) (all_any imports.now) before in (
           all_both ShowingStands (flat_map showings_of_import imports.now) (showings_of_view (numbered_view v)) (all_flat ShowingStands showings_of_import imports.now each)
-              (view_types (IsShownBefore (front ++ last ∷ []) (length front)) (place_of last.interface) (numbered_view v) own_view),
-          view_functions (IsShownBefore (front ++ last ∷ []) (length front)) (place_of last.interface) (numbered_view v) own_view,
+              (view_types (IsShownBefore all own.0) (place_of last.interface) (numbered_view v) own_view),
+          view_functions (IsShownBefore all own.0) (place_of last.interface) (numbered_view v) own_view,
         )
-    part_obeys_all (parts.World w) (reads.Part.interface view views) is stands = absurd is
-    part_obeys_all (parts.Interface p v imports) (reads.Part.world scope) is stands = absurd is
+    part_obeys_all (parts.World w) (reads.Part.interface view views) is each_stands stands = absurd is
+    part_obeys_all (parts.Interface p v imports) (reads.Part.world scope) is each_stands stands = absurd is
 
-  members_obey : (h : Homes) (ms : List Member) (members : List reads.Member) → AllZip (IsMember t h) (numbered_members ms) members → AllByRecursion MemberStands members
+  members_obey : (h : Homes) (all : List Instance) (ms : List Member) (members : List reads.Member) → AllZip (IsMember t h) (numbered_members ms) members → ((x : Instance) → Contains (all_instances members) x → StandsAmong all x)
+      → AllByRecursion (λ (x : reads.Member). PartStands x.part) members
       → AllByRecursion (λ (m : Member). AreHeld (showings_of_part m.part) (signatures_of_part m.part)) ms
-  members_obey h [] [] zip stand = tt
-  members_obey h [] (x ∷ members) zip stand = tt
-  members_obey h (m ∷ ms) [] zip stand = absurd zip
-  members_obey h (m ∷ ms) (x ∷ members) zip stand = (part_obeys_all h m x.label x.package_ m.part x.part zip.0.part stand.0, members_obey h ms members zip.1 stand.1)
+  members_obey h all [] [] zip each stand = tt
+  members_obey h all [] (x ∷ members) zip each stand = tt
+  members_obey h all (m ∷ ms) [] zip each stand = absurd zip
+  members_obey h all (m ∷ ms) (x ∷ members) zip each stand = (
+    part_obeys_all h all m x.label x.package_ m.part x.part zip.0.part (λ y c. each y (Contains-append_left (instances_of x) (all_instances members) y c)) stand.0,
+    members_obey h all ms members zip.1 (λ y c. each y (Contains-append_right (instances_of x) (all_instances members) y c)) stand.1,
+  )
 
-  pub forms_hold : (h : Homes) (ms : List Member) (members : List reads.Member) → AllZip (IsMember t h) (numbered_members ms) members → AllByRecursion MemberStands members → FormsHold t Obeys (showings_of_members ms) (signatures_of_members ms)
+  pub forms_hold : (h : Homes) (ms : List Member) (members : List reads.Member) → AllZip (IsMember t h) (numbered_members ms) members → MembersStand members → FormsHold t Obeys (showings_of_members ms) (signatures_of_members ms)
   forms_hold h ms members zip stand =
-      let each = members_obey h ms members zip stand in
+      let all = all_instances members in
+      let each = members_obey h all ms members zip (λ x c. let at = contains-get all x c in (at.0, stand.views at.0 x at.1)) stand.parts in
       record {
         declared = all_flat ShowingStands (λ (m : Member). showings_of_part m.part) ms
             (recursion_weaker (λ (m : Member). AreHeld (showings_of_part m.part) (signatures_of_part m.part)) (λ (m : Member). AllByRecursion ShowingStands (showings_of_part m.part)) (λ m held. held.0) ms each);

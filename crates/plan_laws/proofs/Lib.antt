@@ -3,6 +3,7 @@ pub mod FormsObeyed
 pub mod InnerForms
 pub mod KeptKinds
 pub mod KeptMarks
+pub mod MembersStand
 pub mod PartKinds
 pub mod PartPlaces
 pub mod PlanTypes

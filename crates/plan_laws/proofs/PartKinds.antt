@@ -7,7 +7,7 @@ use Rattle.wit_model.specs.Text.{Text}
 use Rattle.comp_meaning.specs.Follow.{Instance, Scope, Seen, ShownType, interface_of, place_of}
 use Rattle.comp_meaning.specs.Reads as reads
 use Rattle.shown_laws.specs.Kinds.{MemberHasKinds, OfKind, ShownHasKind, ViewHasKinds, WorldHasKinds, kind_at}
-use Rattle.shown_laws.specs.Parts.{MemberStands, named_instance}
+use Rattle.shown_laws.specs.Parts.{PartStands, named_instance}
 use Rattle.shown_laws.specs.Scopes as scopes
 use Rattle.shown_laws.specs.Scopes.{ShownStands}
 use Rattle.shown_laws.specs.Trees.{AllAt, DeclarationStands, SignatureStands}
@@ -126,9 +126,9 @@ module _ (t : Tables) (kinds : Text → Text → Bool) where
   -- ---- members
 
   module _ (h : Homes) (stand : HomesStand t h) (m : Member) (identity : PackageIdentity) (there : slice_get h.packages m.package_number ≡ Some identity) (name : Text) (under : name ≡ m.label.now) where
-    part_kinds : (part : Part) (y : reads.Part) → ShowsPart t h (numbered_member m) (numbered_part part) y → MemberStands (record { label = name; package_ = identity; part = y }) → MemberHasKinds kinds (record { label = name; package_ = identity; part = y })
+    part_kinds : (part : Part) (y : reads.Part) → ShowsPart t h (numbered_member m) (numbered_part part) y → PartStands y → MemberHasKinds kinds (record { label = name; package_ = identity; part = y })
         → IsPartIn t (numbered_part part) → PartNames t part → PartKinds part
-    part_kinds (parts.World w) (reads.Part.world scope) is stands has within names = world_kinds w scope is stands.part.stands has.views has.world within names
+    part_kinds (parts.World w) (reads.Part.world scope) is stands has within names = world_kinds w scope is stands.stands has.views has.world within names
     part_kinds (parts.Interface p v imports) (reads.Part.interface view views) is stands has within names =
         let front = map named_instance views in
         let last : Instance = named_instance (path_in identity name, view) in
@@ -149,7 +149,7 @@ module _ (t : Tables) (kinds : Text → Text → Bool) where
     part_kinds (parts.World w) (reads.Part.interface view views) is stands has within names = absurd is
     part_kinds (parts.Interface p v imports) (reads.Part.world scope) is stands has within names = absurd is
 
-  pub member_kinds : (h : Homes) → HomesStand t h → (ms : List Member) (members : List reads.Member) → AllZip (IsMember t h) (numbered_members ms) members → AllByRecursion MemberStands members → AllByRecursion (MemberHasKinds kinds) members
+  pub member_kinds : (h : Homes) → HomesStand t h → (ms : List Member) (members : List reads.Member) → AllZip (IsMember t h) (numbered_members ms) members → AllByRecursion (λ (x : reads.Member). PartStands x.part) members → AllByRecursion (MemberHasKinds kinds) members
       → AreMembersIn t (numbered_members ms) → AllByRecursion (λ (m : Member). PartNames t m.part) ms → AllByRecursion (λ (m : Member). PartKinds m.part) ms
   member_kinds h stand [] [] zip stands has within names = tt
   member_kinds h stand [] (x ∷ members) zip stands has within names = tt

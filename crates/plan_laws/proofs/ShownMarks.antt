@@ -185,7 +185,7 @@ module _ (t : Tables) (tables : AreTables t) (kinds : Text → Text → Bool) (o
 pub names_marked : NamesAreMarked
 names_marked t tables h stand ms members zip stands has within placed =
     let kinds = has.kinds in
-    let is = member_kinds t kinds h stand ms members zip stands has.each within placed.names in
+    let is = member_kinds t kinds h stand ms members zip stands.parts has.each within placed.names in
     let fs = frames t kinds ms is in
     let own_at = own_in fs in
     let found = each_found (has_no_path t) fs (ap (λ ps. are_once (filter (has_no_path t) ps)) (places_are t kinds ms is) ∙ placed.apart) in

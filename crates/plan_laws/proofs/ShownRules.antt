@@ -14,7 +14,7 @@ use Rattle.comp_meaning.specs.Reads as reads
 use Rattle.comp_meaning.specs.Reads.{Sight}
 use Rattle.comp_meaning.specs.Rules as rules
 use Rattle.comp_meaning.specs.Rules.{distinct}
-use Rattle.shown_laws.specs.Parts.{MemberStands}
+use Rattle.shown_laws.specs.Parts.{PartStands}
 use Rattle.shown_laws.specs.Scopes as scopes
 use Rattle.shown_laws.specs.Trees.{AllAt}
 use Rattle.shown_laws.proofs.Lists.{recursion_weaker}
@@ -191,9 +191,9 @@ module _ (t : Tables) (tables : AreTables t) where
       (view_obeys i.place (numbered_view i.view) within.0.1 (Place.of_interface (path_text t i.place)) (path_place t i.place within.0.0) (first_true one rest h)).0 (views_obey is within.1 (second_true one rest h))
 
   module _ (h : Homes) (stand : HomesStand t h) (m : Member) (identity : PackageIdentity) (there : slice_get h.packages m.package_number ≡ Some identity) (name : Text) (under : name ≡ m.label.now) where
-    part_obeys : (part : Part) (y : reads.Part) → ShowsPart t h (numbered_member m) (numbered_part part) y → MemberStands (record { label = name; package_ = identity; part = y })
+    part_obeys : (part : Part) (y : reads.Part) → ShowsPart t h (numbered_member m) (numbered_part part) y → PartStands y
         → list_all may_be (reads.sights (record { label = name; package_ = identity; part = y })) ≡ true → IsPartIn t (numbered_part part) → PartNames t part → Hold (showings_of_part part) (signatures_of_part part)
-    part_obeys (parts.World w) (reads.Part.world scope) is stands may within names = world_obeys w scope is stands.part.stands stands.part.obeys within names
+    part_obeys (parts.World w) (reads.Part.world scope) is stands may within names = world_obeys w scope is stands.stands stands.obeys within names
     part_obeys (parts.Interface p v imports) (reads.Part.interface view views) is stands may within names =
         let own : Sight = record { path = path_in identity name; view = view; whole = true } in
         let front = list_all may_be (map imported views) in
@@ -208,7 +208,7 @@ module _ (t : Tables) (tables : AreTables t) where
     part_obeys (parts.World w) (reads.Part.interface view views) is stands may within names = absurd is
     part_obeys (parts.Interface p v imports) (reads.Part.world scope) is stands may within names = absurd is
 
-  members_obey : (h : Homes) → HomesStand t h → (ms : List Member) (members : List reads.Member) → AllZip (IsMember t h) (numbered_members ms) members → AllByRecursion MemberStands members
+  members_obey : (h : Homes) → HomesStand t h → (ms : List Member) (members : List reads.Member) → AllZip (IsMember t h) (numbered_members ms) members → AllByRecursion (λ (x : reads.Member). PartStands x.part) members
       → list_all may_be (flat_map reads.sights members) ≡ true → AreMembersIn t (numbered_members ms) → AllByRecursion (λ (m : Member). PartNames t m.part) ms → Hold (showings_of_members ms) (signatures_of_members ms)
   members_obey h stand [] [] zip stands may within names = (tt, tt)
   members_obey h stand [] (x ∷ members) zip stands may within names = (tt, tt)
@@ -238,7 +238,7 @@ module _ (t : Tables) (tables : AreTables t) where
 
 pub shown_obeys : ShownObeysRules
 shown_obeys t tables h stand ms members zip stands may within names =
-    let held = members_obey t tables h stand ms members zip stands may within names in
+    let held = members_obey t tables h stand ms members zip stands.parts may within names in
     record { names = held.0; declared = recursion_weaker (ShowingIsName t) (ShowingObeys t) (name_is_shown t tables) (showings_of_members ms) held.0; called = held.1 }
 
 pub names_obey : NamesObeyRules

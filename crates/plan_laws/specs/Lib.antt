@@ -1,5 +1,6 @@
 pub mod FormsObeyed
 pub mod KeptMarks
+pub mod MembersStand
 pub mod PlanTypes
 pub mod ReadTypes
 pub mod ShownForms

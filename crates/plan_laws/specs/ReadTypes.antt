@@ -1,12 +1,11 @@
 -- The types of a plan of what was read, whole: they are those of a plan that was read, and marks tell which are resources
 -- (WIT.md, "Types"; Component Model WIT.md, "Package Format").
 use Rattle.std.specs.Prelude.{◌≡◌, ℕ, Bool, true, List, Some, slice_get}
-use Rattle.std.specs.List.{AllByRecursion, AllZip, flat_map}
+use Rattle.std.specs.List.{AllZip, flat_map}
 use Rattle.wit_model.specs.declared.model.TypeOwner.{TypeOwner}
 use Rattle.wit_model.specs.Text.{Text}
 use Rattle.comp_meaning.specs.Reads as reads
 use Rattle.shown_laws.specs.Kinds.{NamesHaveKinds}
-use Rattle.shown_laws.specs.Parts.{MemberStands}
 use Rattle.read_plan.specs.FollowedNumbers.{AreMembersIn}
 use Rattle.read_plan.specs.KeptResources as resources
 use Rattle.read_plan.specs.KeptTypes.{TypesAreKept}
@@ -24,6 +23,7 @@ use Rattle.plan_types.specs.Showings.{showings_of_members, signatures_of_members
 use Rattle.plan_types.specs.Used.{used_parts, AreUsed}
 use Rattle.plan_laws.specs.FormsObeyed.{LengthsFit}
 use Rattle.plan_laws.specs.ShownMarks.{ArePlaced, MarksStand}
+use Rattle.plan_laws.specs.MembersStand.{MembersStand}
 
 -- What is exported at the top, in numbers and in trees: it is well-formed, each name is a resource or isn't wherever it is met, and the views of
 -- interfaces may be ones.
@@ -32,7 +32,7 @@ pub record IsFollowed (t : Tables) (h : Homes) (ms : List Member) (members : Lis
   pub lengths : LengthsFit t
   pub homes : HomesStand t h
   pub shown : AllZip (IsMember t h) (numbered_members ms) members
-  pub stand : AllByRecursion MemberStands members
+  pub stand : MembersStand members
   pub kinds : NamesHaveKinds members
   pub interfaces : reads.are_interfaces (flat_map reads.sights members) ≡ true
   pub numbers : AreMembersIn t (numbered_members ms)

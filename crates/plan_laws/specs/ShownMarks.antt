@@ -5,7 +5,6 @@ use Rattle.wit_model.specs.Text.{Text}
 use Rattle.wit_model.specs.Tree.{Form}
 use Rattle.comp_meaning.specs.Reads as reads
 use Rattle.shown_laws.specs.Kinds.{NamesHaveKinds}
-use Rattle.shown_laws.specs.Parts.{MemberStands}
 use Rattle.read_plan.specs.FollowedNumbers.{AreMembersIn}
 use Rattle.read_plan.specs.KeptResources.{FormIsMarked}
 use Rattle.read_plan.specs.NumberedMembers.{Homes, HomesStand, IsMember, NumberedMember, NumberedPart, interface, world}
@@ -22,6 +21,7 @@ use Rattle.plan_members.specs.declared.members.Part.TheVariants as parts
 use Rattle.plan_members.specs.Members.{numbered_members}
 use Rattle.plan_types.specs.Showings.{NumberedShowing, showings_of_members, signatures_of_members}
 use Rattle.plan_laws.specs.ShownForms.{FormsHold}
+use Rattle.plan_laws.specs.MembersStand.{MembersStand}
 
 -- ---- places
 
@@ -88,5 +88,5 @@ pub record MarksStand (t : Tables) (showings : List NumberedShowing) (signatures
 
 -- Where the parts at the top are well-formed, and each name is a resource wherever it is met, or nowhere, there are such marks.
 abbrev pub NamesAreMarked : Type 0
-NamesAreMarked = (t : Tables) → AreTables t → (h : Homes) → HomesStand t h → (ms : List Member) (members : List reads.Member) → AllZip (IsMember t h) (numbered_members ms) members → AllByRecursion MemberStands members
+NamesAreMarked = (t : Tables) → AreTables t → (h : Homes) → HomesStand t h → (ms : List Member) (members : List reads.Member) → AllZip (IsMember t h) (numbered_members ms) members → MembersStand members
     → NamesHaveKinds members → AreMembersIn t (numbered_members ms) → ArePlaced t ms → MarksStand t (showings_of_members ms) (signatures_of_members ms)

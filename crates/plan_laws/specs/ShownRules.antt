@@ -6,7 +6,6 @@ use Rattle.wit_model.specs.Names.{is_label}
 use Rattle.wit_model.specs.Text.{Text}
 use Rattle.comp_meaning.specs.Reads as reads
 use Rattle.comp_meaning.specs.Rules as rules
-use Rattle.shown_laws.specs.Parts.{MemberStands}
 use Rattle.read_plan.specs.FollowedNumbers.{AreMembersIn}
 use Rattle.read_plan.specs.NumberedMembers.{Homes, HomesStand, IsMember}
 use Rattle.read_plan.specs.NumberedViews.{AllOf, AreTables, Tables, declaration_of, place_at}
@@ -20,6 +19,7 @@ use Rattle.plan_laws.specs.PlanTypes.{NamesObey}
 use Rattle.plan_laws.specs.ShownForms.{FindsShown}
 use Rattle.plan_laws.specs.ShownMarks.{PartNames}
 use Rattle.plan_laws.specs.UsedParts.{ShowingObeys, SignatureObeys}
+use Rattle.plan_laws.specs.MembersStand.{MembersStand}
 
 -- A type that is shown is a name of its place, a label, and stands behind what it is declared as, which is what may be declared there.
 pub record ShowingIsName (t : Tables) (s : NumberedShowing) : Type 0 where
@@ -40,7 +40,7 @@ pub record RulesHold (t : Tables) (showings : List NumberedShowing) (signatures 
 
 -- Where the parts at the top are well-formed, and the views of interfaces may be ones, all that they show obeys the rules.
 abbrev pub ShownObeysRules : Type 0
-ShownObeysRules = (t : Tables) → AreTables t → (h : Homes) → HomesStand t h → (ms : List Member) (members : List reads.Member) → AllZip (IsMember t h) (numbered_members ms) members → AllByRecursion MemberStands members
+ShownObeysRules = (t : Tables) → AreTables t → (h : Homes) → HomesStand t h → (ms : List Member) (members : List reads.Member) → AllZip (IsMember t h) (numbered_members ms) members → MembersStand members
     → reads.are_interfaces (flat_map reads.sights members) ≡ true → AreMembersIn t (numbered_members ms) → AllByRecursion (λ (m : Member). PartNames t m.part) ms → RulesHold t (showings_of_members ms) (signatures_of_members ms)
 
 -- Then each name that is used obeys them too, where its place is its owner's.

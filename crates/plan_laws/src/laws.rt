@@ -2,6 +2,7 @@
 
 ghost use Rattle.plan_laws.specs.FormsObeyed.{FormsAreObeyed};
 ghost use Rattle.plan_laws.specs.KeptMarks.{MarksAreKept};
+ghost use Rattle.plan_laws.specs.MembersStand.{MembersStandTogether};
 ghost use Rattle.plan_laws.specs.PlanTypes.{PlannedTypesAreKept};
 ghost use Rattle.plan_laws.specs.ReadTypes.{PlannedTypesAreRead};
 ghost use Rattle.plan_laws.specs.ShownForms.{FirstsAreFound};
@@ -57,4 +58,9 @@ pub fn names_obey()
 /// resources, where what is exported was followed and read.
 pub fn planned_types_are_read()
     ensures { PlannedTypesAreRead }
+{}
+
+/// Parts at the top that are well-formed each alone are so together: each name that is met was shown before it, by the same part or by one before it.
+pub fn members_stand_together()
+    ensures { MembersStandTogether }
 {}

@@ -1,9 +1,8 @@
 -- What stands before the first view of a place has a smaller number.
-use Rattle.std.proofs.Common.{◌≡◌, refl, sym, ap, subst, ◌∙◌, ℕ, zero, suc, ◌<◌, ◌⊎◌, inl, inr, arith, Bool, true, false, ◌==◌, cond, List, [], ◌∷◌, ◌++◌, length, Some, None, slice_get}
-use Rattle.std.specs.List.{Contains, find, flat_map}
+use Rattle.std.proofs.Common.{◌≡◌, refl, sym, ap, ◌∙◌, ℕ, zero, suc, ◌<◌, ◌⊎◌, inl, inr, arith, Bool, true, false, ◌==◌, cond, List, [], ◌∷◌, ◌++◌, length, Some, None, slice_get}
+use Rattle.std.specs.List.{Contains, find}
 use Rattle.std.proofs.lemmas.Bool.{eq-eqb, eqb-true}
 use Rattle.std.proofs.lemmas.List.{append-nil, append_assoc}
-use Rattle.std.proofs.lemmas.List.Elements.{Contains-append_right}
 use Rattle.std.proofs.lemmas.Option.{slice_get_within}
 use Rattle.wit_model.specs.Uses.{has}
 use Rattle.wit_model.proofs.Elements.{contains-get, has-contains, none-in, same-some}
@@ -20,49 +19,6 @@ pub record Split {A : Type 0} (xs : List A) (y : A) : Type 0 where
   pub front : List A
   pub back : List A
   pub is : xs ≡ front ++ y ∷ back
-
--- the first list reaches to the element, or ends before it
-append_split : {A : Type 0} (a b c : List A) (y : A) (d : List A) → a ++ b ≡ c ++ y ∷ d → ((l : List A) × (a ≡ c ++ y ∷ l)) ⊎ ((e : List A) × (c ≡ a ++ e) × (b ≡ e ++ y ∷ d))
-append_split [] b c y d e = inr (c, refl, e)
-append_split (x ∷ a) b [] y d e = let same : x ≡ y = cc in inl (a, ap (λ z. z ∷ a) same)
-append_split {A = A} (x ∷ a) b (z ∷ c) y d e = by (append_split a b c y d rest)
-  where
-    rest : a ++ b ≡ c ++ y ∷ d
-    rest = cc
-
-    head : x ≡ z
-    head = cc
-
-    by : ((l : List A) × (a ≡ c ++ y ∷ l)) ⊎ ((f : List A) × (c ≡ a ++ f) × (b ≡ f ++ y ∷ d)) → ((l : List A) × (x ∷ a ≡ z ∷ (c ++ y ∷ l))) ⊎ ((f : List A) × (z ∷ c ≡ x ∷ (a ++ f)) × (b ≡ f ++ y ∷ d))
-    by (inl (l, same)) = inl (l, λ i. head i ∷ same i)
-    by (inr (f, same, later)) = inr (f, (λ i. sym head i ∷ same i), later)
-
--- the list that the element is of, and what stands before it
-pub record InFlat {A B : Type 0} (f : A → List B) (xs : List A) (front : List B) (y : B) : Type 0 where
-  pub one : A
-  pub among : Contains xs one
-  pub inner : List B
-  pub behind : List B
-  pub is : f one ≡ inner ++ y ∷ behind
-  pub before : (z : B) → Contains inner z → Contains front z
-
-pub flat_split : {A B : Type 0} (f : A → List B) (xs : List A) (front : List B) (y : B) (back : List B) → flat_map f xs ≡ front ++ y ∷ back → InFlat f xs front y
-flat_split f [] [] y back e = let wrong : ⊥ = cc in absurd wrong
-flat_split f [] (z ∷ front) y back e = let wrong : ⊥ = cc in absurd wrong
-flat_split {A = A} {B = B} f (x ∷ xs) front y back e = by (λ rest same. flat_split f xs rest y back same) (append_split (f x) (flat_map f xs) front y back e)
-  where
-    by : ((rest : List B) → flat_map f xs ≡ rest ++ y ∷ back → InFlat f xs rest y) → ((l : List B) × (f x ≡ front ++ y ∷ l)) ⊎ ((g : List B) × (front ≡ f x ++ g) × (flat_map f xs ≡ g ++ y ∷ back)) → InFlat f (x ∷ xs) front y
-    by later (inl (l, same)) = record { one = x; among = (0, omega arith, refl); inner = front; behind = l; is = same; before = λ z c. c }
-    by later (inr (g, same, rest)) =
-        let found = later g rest in
-        record {
-          one = found.one;
-          among = (let at = found.among in (suc at.0, (let low = at.1 in omega (arith, low)), at.2));
-          inner = found.inner;
-          behind = found.behind;
-          is = found.is;
-          before = λ z c. subst (λ zs. Contains zs z) (sym same) (Contains-append_right (f x) g z (found.before z c));
-        }
 
 -- ---- the first view of a place
 

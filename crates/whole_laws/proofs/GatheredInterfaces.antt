@@ -1,16 +1,16 @@
 -- The interfaces of a plan become what each view of their places tells, with the functions of the first that shows some.
-use Rattle.std.proofs.Common.{◌≡◌, refl, sym, ap, subst, ◌∙◌, ℕ, zero, suc, arith, Bool, true, false, ◌==◌, cond, List, [], ◌∷◌, ◌++◌, map, filter_map, Option, Some, None, option_map, slice_get}
+use Rattle.std.proofs.Common.{◌≡◌, refl, sym, ap, subst, ◌∙◌, ℕ, suc, arith, Bool, true, false, not, ◌==◌, cond, List, [], ◌∷◌, ◌++◌, map, Option, Some, None, option_map, slice_get}
 use Rattle.std.specs.Prelude.{option_and_then}
-use Rattle.std.specs.List.{AllZip, Contains, cons_option}
+use Rattle.std.specs.List.{AllZip, Contains}
 use Rattle.std.specs.Option.{option_map_or}
 use Rattle.std.proofs.lemmas.List.Elements.{Contains-append_right}
 use Rattle.wit_model.specs.Rules.{is_id}
 use Rattle.wit_model.specs.Text.{Text}
 use Rattle.wit_model.specs.Valid.{as_interface}
-use Rattle.wit_model.proofs.Elements.{contains-later, contains-map, contains-one, get-contains, none-in, same-some}
+use Rattle.wit_model.proofs.Elements.{contains-later, contains-map, contains-one, get-contains, same-some}
 use Rattle.comp_meaning.specs.Reads as reads
 use Rattle.read_plan.specs.FollowedNumbers.{IsPartIn}
-use Rattle.read_plan.specs.GatheredPlan.{AreChosen, InterfaceAt, InterfaceBecomes, InterfacesListed, SightBecomes, TypeBecomes, TypeListed, foreign_interface, functions_seen, interfaces_listed, is_foreign, under_path}
+use Rattle.read_plan.specs.GatheredPlan.{InterfaceAt, InterfaceBecomes, InterfacesListed, TypeBecomes, TypeListed, foreign_interface, functions_seen, interfaces_listed, under_path}
 use Rattle.read_plan.specs.NumberedMembers.{Homes, NumberedMember, home_at, is_of_package, sights_of_members}
 use Rattle.read_plan.specs.NumberedRules.{Fact}
 use Rattle.read_plan.specs.NumberedViews.{IsSight, NumberedSight, NumberedType, NumberedView, Tables, first_at, path_at, path_text}
@@ -40,6 +40,7 @@ use Rattle.whole_laws.specs.Whole.{IsPackageInput}
 use Rattle.whole_laws.specs.WholeTypes.{IsRuledInput}
 use Rattle.whole_laws.proofs.FirstTypes.{views_told}
 use Rattle.whole_laws.proofs.FirstViews.{first_is}
+use Rattle.whole_laws.proofs.GatheredSights.{IsGatheredFrom, IsGatheredOne, gathered, gathered_from, left_out}
 use Rattle.whole_laws.proofs.Inside.{flat_cases}
 use Rattle.whole_laws.proofs.ListedFunctions.{functions_listed, seen_same}
 use Rattle.whole_laws.proofs.Origins.{view_among}
@@ -142,104 +143,84 @@ module _ (t : Tables) (h : Homes) (known : ℕ → Fact) (n : ℕ) (ms : List Me
   pub top_listed : (es : List (Text × ℕ)) → AllZip (ListsPlace places) (interfaces_in ms) es → AllZip (InterfacesListed t planned.kept p sights) (interfaces_listed (numbered_members ms)) es
   top_listed es zip = exported_listed ms (λ m c. c) es zip
 
+  -- ---- those with a path
+
+  -- Views with a path, one at least of each place that is wanted, which show the functions that all views of their places do.
+  pub record ShowPlaces (wanted : ℕ → Bool) (seen : List NumberedSight) : Type 0 where
+    pub among : (s : NumberedSight) → Contains seen s → Contains sights s
+    pub met : (q : ℕ) → Contains places q → wanted q ≡ true → HasPath t q → (s : NumberedSight) × Contains seen s × (s.place ≡ q)
+    pub functions : (s : NumberedSight) → Contains seen s → functions_seen s.place sights ≡ functions_seen s.place seen
+
+  module _ (wanted : ℕ → Bool) (leaves : PlannedInterface → Bool) (told : (k q : ℕ) → slice_get places k ≡ Some q → HasPath t q → (i : PlannedInterface) → interface_in p k ≡ Some i → leaves i ≡ not (wanted q))
+      (seen : List NumberedSight) (show : ShowPlaces wanted seen) where
+    abbrev pick : PlannedInterface → Option (Text × PlannedInterface)
+    pick i = cond (leaves i) None (under_path p i)
+
+    abbrev IsOne : ℕ → PlannedInterface → Type 0
+    IsOne = IsGatheredOne t planned.kept p seen wanted pick
+
+    one_gathered : (k q : ℕ) → slice_get places k ≡ Some q → (i : PlannedInterface) → interface_in p k ≡ Some i → IsOne q i
+    one_gathered k q at i there = by (path_at t q) refl
+      where
+        number : number_in places q ≡ Some k
+        number = place_number ms k q at
+
+        planned_path : path_of_planned p i ≡ path_at t q
+        planned_path = ap (option_and_then (path_of_planned p)) (sym there) ∙ path_same q k number
+
+        no_path : path_at t q ≡ None → (c : Bool) → cond c None (under_path p i) ≡ None
+        no_path none true = refl
+        no_path none false = ap (option_map (λ (path : Text). (path, i))) (planned_path ∙ none)
+
+        with_path : (path : Text) → path_at t q ≡ Some path → (c : Bool) → wanted q ≡ c → IsOne q i
+        with_path path e false other = left_out (ap (λ c. cond c None (under_path p i)) (told k q at (path, e) i there ∙ ap not other)) (λ passes given_path. no_true (sym other ∙ passes))
+        with_path path e true passes =
+            let found : pick i ≡ Some (path, i) = ap (λ c. cond c None (under_path p i)) (told k q at (path, e) i there ∙ ap not passes) ∙ ap (option_map (λ (y : Text). (y, i))) (planned_path ∙ e) in
+            let view = show.met q (get-contains places k q at) passes (path, e) in
+            let s = view.0 in
+            let becomes = interface_by s (sight_viewed t (numbered_members ms) s (show.among s view.1)) k (ap (number_in places) view.2 ∙ number) i there in
+            let text : path_text t s.place ≡ path = ap (path_text t) view.2 ∙ path_is t q (path, e) in
+            let functions : functions_seen s.place views ≡ functions_seen s.place seen = seen_same t s.place (path, ap (path_at t) view.2 ∙ e) (numbered_members ms) ∙ show.functions s view.1 in
+            gathered s (path, i) view.1 view.2 (ap wanted view.2 ∙ passes) found (text, subst (λ fs. InterfaceBecomes t planned.kept p s.view fs i) functions becomes)
+
+        by : (o : Option Text) → path_at t q ≡ o → IsOne q i
+        by None e = left_out (no_path e (leaves i)) (λ passes path. let wrong : None ≡ Some path.0 = sym e ∙ path.1 in absurd cc)
+        by (Some path) e = with_path path e (wanted q) refl
+
+    -- the place of such a view is met, and has a path
+    seen_met : (s : NumberedSight) → Contains seen s → Contains places s.place × HasPath t s.place
+    seen_met s c =
+        let from = flat_cases (λ (m : NumberedMember). views_of_part m.part) (numbered_members ms) s (sight_viewed t (numbered_members ms) s (show.among s c)) in
+        let is = all_at (IsSight t) sights (only_sights t known sights given.sights) s (show.among s c) in
+        (view_met ms from.0 from.1 s from.2, (is.path, is.home))
+
+    pub all_gathered : IsGatheredFrom t planned.kept p seen wanted pick p.interfaces
+    all_gathered =
+        gathered_from t planned.kept p seen wanted pick places p.interfaces
+        (zip_each (PlansPlace t planned.kept n (home_at h) views) IsOne places p.interfaces planned.interfaces (λ k q i at there. one_gathered k q at i there)) seen_met
+
   -- ---- those of other packages
 
-  -- An interface of another package is gathered from a view of its place; any other isn't.
-  data IsGatheredOne (q : ℕ) (i : PlannedInterface) : Type 0 where
-    left_out : foreign_interface p i ≡ None → (is_of_package h n q ≡ false → HasPath t q → ⊥) → IsGatheredOne q i
-    gathered : (s : NumberedSight) (x : Text × PlannedInterface) → Contains sights s → s.place ≡ q → is_foreign h n s ≡ true → foreign_interface p i ≡ Some x → SightBecomes t planned.kept p sights s x → IsGatheredOne q i
+  abbrev is_other : ℕ → Bool
+  is_other q = cond (is_of_package h n q) false true
 
-  one_gathered : (k q : ℕ) → slice_get places k ≡ Some q → (i : PlannedInterface) → interface_in p k ≡ Some i → IsGatheredOne q i
-  one_gathered k q at i there = by (path_at t q) refl
+  -- an interface is left out where it is one of the package itself
+  other_told : (k q : ℕ) → slice_get places k ≡ Some q → HasPath t q → (i : PlannedInterface) → interface_in p k ≡ Some i → is_id p.main i.package_ ≡ not (is_other q)
+  other_told k q at path i there =
+      let home = given.input.homes.homes q path.0 path.1 in
+      let found = interface_there t h ms members given.input n p planned k q at in
+      let first = first_there t h ms members given.input n p planned k q at in
+      let package_is : i.package_ ≡ Some home.package_ =
+      ap (λ (x : PlannedInterface). x.package_) (same-some i found.0 (sym there ∙ found.1)) ∙ ((found.2 first.0 first.1).package_ ∙ ap (λ o. Some (option_map_or (λ (x : ℕ × Text). x.0) o n)) home.home) in
+      let main : is_id p.main i.package_ ≡ (home.package_ == n) = ap (is_id p.main) package_is ∙ ap (λ m. home.package_ == m) planned.main in
+      let own : is_of_package h n q ≡ (home.package_ == n) = ap (λ o. option_map_or (λ (x : ℕ × Text). x.0 == n) o false) home.home in
+      main ∙ (twice (home.package_ == n) ∙ ap (λ c. not (cond c false true)) (sym own))
     where
-      number : number_in places q ≡ Some k
-      number = place_number ms k q at
+      twice : (c : Bool) → c ≡ not (cond c false true)
+      twice true = refl
+      twice false = refl
 
-      path_is_planned : path_of_planned p i ≡ path_at t q
-      path_is_planned = ap (option_and_then (path_of_planned p)) (sym there) ∙ path_same q k number
-
-      package_is : i.package_ ≡ Some (option_map_or (λ (x : ℕ × Text). x.0) (home_at h q) n)
-      package_is =
-          let found = interface_there t h ms members given.input n p planned k q at in
-          let first = first_there t h ms members given.input n p planned k q at in
-          ap (λ (x : PlannedInterface). x.package_) (same-some i found.0 (sym there ∙ found.1)) ∙ (found.2 first.0 first.1).package_
-
-      no_path : path_at t q ≡ None → (c : Bool) → cond c None (under_path p i) ≡ None
-      no_path none true = refl
-      no_path none false = ap (option_map (λ (path : Text). (path, i))) (path_is_planned ∙ none)
-
-      with_path : (path : Text) → path_at t q ≡ Some path → (x : ℕ × Text) → home_at h q ≡ Some x → (c : Bool) → (x.0 == n) ≡ c → IsGatheredOne q i
-      with_path path e x home true own =
-          let main : is_id p.main i.package_ ≡ true = ap (is_id p.main) (package_is ∙ ap (λ o. Some (option_map_or (λ (y : ℕ × Text). y.0) o n)) home) ∙ (ap (λ m. x.0 == m) planned.main ∙ own) in
-          left_out (ap (λ c. cond c None (under_path p i)) main) (λ foreign given_path. no_true (sym foreign ∙ (ap (λ o. option_map_or (λ (y : ℕ × Text). y.0 == n) o false) home ∙ own)))
-      with_path path e x home false own =
-          let other : is_id p.main i.package_ ≡ false = ap (is_id p.main) (package_is ∙ ap (λ o. Some (option_map_or (λ (y : ℕ × Text). y.0) o n)) home) ∙ (ap (λ m. x.0 == m) planned.main ∙ own) in
-          let found : foreign_interface p i ≡ Some (path, i) = ap (λ c. cond c None (under_path p i)) other ∙ ap (option_map (λ (y : Text). (y, i))) (path_is_planned ∙ e) in
-          let seen = sight_of_place t ms q (get-contains places k q at) (path, e) in
-          let s = seen.0 in
-          let foreign : is_of_package h n s.place ≡ false = ap (is_of_package h n) seen.2 ∙ (ap (λ o. option_map_or (λ (y : ℕ × Text). y.0 == n) o false) home ∙ own) in
-          let viewed = sight_viewed t (numbered_members ms) s seen.1 in
-          let text : path_text t s.place ≡ path = ap (path_text t) seen.2 ∙ path_is t q (path, e) in
-          let becomes = interface_by s viewed k (ap (number_in places) seen.2 ∙ number) i there in
-          gathered s (path, i) seen.1 seen.2 (ap (λ c. cond c false true) foreign) found
-          (text, subst (λ fs. InterfaceBecomes t planned.kept p s.view fs i) (seen_same t s.place (path, ap (path_at t) seen.2 ∙ e) (numbered_members ms)) becomes)
-
-      by : (o : Option Text) → path_at t q ≡ o → IsGatheredOne q i
-      by None e = left_out (no_path e (is_id p.main i.package_)) (λ foreign path. let wrong : None ≡ Some path.0 = sym e ∙ path.1 in absurd cc)
-      by (Some path) e = let home = given.input.homes.homes q path e in with_path path e (home.package_, home.name) home.home (home.package_ == n) refl
-
-  pub record AreGathered (qs : List ℕ) (is : List PlannedInterface) : Type 0 where
-    pub chosen : List NumberedSight
-    pub zip : AllZip (SightBecomes t planned.kept p sights) chosen (filter_map (foreign_interface p) is)
-    pub among : (s : NumberedSight) → Contains chosen s → Contains sights s × (is_foreign h n s ≡ true)
-    pub each : (q : ℕ) → Contains qs q → is_of_package h n q ≡ false → HasPath t q → (c : NumberedSight) × Contains chosen c × (c.place ≡ q)
-
-  gather : (qs : List ℕ) (is : List PlannedInterface) → AllZip IsGatheredOne qs is → AreGathered qs is
-  gather [] [] zip = record { chosen = []; zip = tt; among = λ s c. none-in s c; each = λ q c. none-in q c }
-  gather [] (i ∷ is) zip = absurd zip
-  gather (q ∷ qs) [] zip = absurd zip
-  gather (q ∷ qs) (i ∷ is) zip = by zip.0 (gather qs is zip.1)
-    where
-      by : IsGatheredOne q i → AreGathered qs is → AreGathered (q ∷ qs) (i ∷ is)
-      by (left_out none own) rest = record {
-        chosen = rest.chosen;
-        zip = subst (AllZip (SightBecomes t planned.kept p sights) rest.chosen) (ap (λ o. cons_option o (filter_map (foreign_interface p) is)) (sym none)) rest.zip;
-        among = rest.among;
-        each = each;
-      }
-        where
-          each : (r : ℕ) → Contains (q ∷ qs) r → is_of_package h n r ≡ false → HasPath t r → (c : NumberedSight) × Contains rest.chosen c × (c.place ≡ r)
-          each r (zero, low, same) foreign path = absurd (own (ap (is_of_package h n) same ∙ foreign) (subst (HasPath t) (sym same) path))
-          each r (suc j, low, same) foreign path = rest.each r (j, omega (arith, low), same) foreign path
-      by (gathered s x c place foreign found becomes) rest = record {
-        chosen = s ∷ rest.chosen;
-        zip = subst (AllZip (SightBecomes t planned.kept p sights) (s ∷ rest.chosen)) (ap (λ o. cons_option o (filter_map (foreign_interface p) is)) (sym found)) (becomes, rest.zip);
-        among = among;
-        each = each;
-      }
-        where
-          among : (r : NumberedSight) → Contains (s ∷ rest.chosen) r → Contains sights r × (is_foreign h n r ≡ true)
-          among r (zero, low, same) = (subst (Contains sights) same c, ap (is_foreign h n) (sym same) ∙ foreign)
-          among r (suc j, low, same) = rest.among r (j, omega (arith, low), same)
-
-          each : (r : ℕ) → Contains (q ∷ qs) r → is_of_package h n r ≡ false → HasPath t r → (d : NumberedSight) × Contains (s ∷ rest.chosen) d × (d.place ≡ r)
-          each r (zero, low, same) other path = (s, (0, omega arith, refl), place ∙ same)
-          each r (suc j, low, same) other path = let later = rest.each r (j, omega (arith, low), same) other path in (later.0, contains-later s rest.chosen later.0 later.1, later.2)
-
-  pub all_gathered : AreGathered places p.interfaces
-  all_gathered = gather places p.interfaces (zip_each (PlansPlace t planned.kept n (home_at h) views) IsGatheredOne places p.interfaces planned.interfaces (λ k q i at there. one_gathered k q at i there))
-
-  pub chosen_are : AreChosen (is_foreign h n) sights all_gathered.chosen
-  chosen_are = record { among = all_gathered.among; each = each }
-    where
-      is_other : (c : Bool) → cond c false true ≡ true → c ≡ false
-      is_other true e = no_true e
-      is_other false e = refl
-
-      each : (s : NumberedSight) → Contains sights s → is_foreign h n s ≡ true → (c : NumberedSight) × Contains all_gathered.chosen c × (c.place ≡ s.place)
-      each s c foreign =
-          let from = flat_cases (λ (m : NumberedMember). views_of_part m.part) (numbered_members ms) s (sight_viewed t (numbered_members ms) s c) in
-          all_gathered.each s.place (view_met ms from.0 from.1 s from.2) (is_other (is_of_package h n s.place) foreign) (sight_path s c)
-        where
-          sight_path : (u : NumberedSight) → Contains sights u → HasPath t u.place
-          sight_path u d = let is = all_at (IsSight t) sights (only_sights t known sights given.sights) u d in (is.path, is.home)
+  pub foreign_gathered : IsGatheredFrom t planned.kept p sights is_other (foreign_interface p) p.interfaces
+  foreign_gathered =
+      all_gathered is_other (λ (i : PlannedInterface). is_id p.main i.package_) other_told sights
+      (record { among = λ s c. c; met = λ q c passes path. sight_of_place t ms q c path; functions = λ s c. refl })

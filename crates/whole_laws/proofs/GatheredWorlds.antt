@@ -177,7 +177,7 @@ module _ (t : Tables) (h : Homes) (known : ℕ → Fact) (n : ℕ) (ms : List Me
       (mapped_get key (map numbered_seen w.imports.now) i (numbered_seen a) (mapped_get numbered_seen w.imports.now i a at_a) ∙ ap Some same)
       (mapped_get key (map numbered_seen w.imports.now) j (numbered_seen c) (mapped_get numbered_seen w.imports.now j c at_c))
 
-  world_at : (j : ℕ) (w : Text × Scope) → slice_get (worlds_in ms) j ≡ Some w → WorldAt t planned.kept p (numbered_scope w.1) j
+  pub world_at : (j : ℕ) (w : Text × Scope) → slice_get (worlds_in ms) j ≡ Some w → WorldAt t planned.kept p (numbered_scope w.1) j
   world_at j w at =
       let x = zip_at (PlansWorld t planned.kept (places_in ms) n) (worlds_in ms) p.worlds planned.worlds j w at in
       let m = world_member ms w (get-contains (worlds_in ms) j w at) in

@@ -41,6 +41,7 @@ pub mod FormCounts
 pub mod WholeCondition
 pub mod ListedFunctions
 pub mod WholePlan
+pub mod GatheredSights
 pub mod GatheredInterfaces
 pub mod GatheredWorlds
 pub mod WholeMeaning
@@ -49,3 +50,6 @@ pub mod FollowedItems
 pub mod WholeWorlds
 pub mod WholeOrder
 pub mod Apart
+pub mod OneWorld
+pub mod WorldPlan
+pub mod WorldMeaning

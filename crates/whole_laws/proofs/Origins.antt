@@ -5,7 +5,7 @@ use Rattle.std.proofs.lemmas.List.Elements.{Contains-append_cases, Contains-appe
 use Rattle.wit_model.specs.Text.{Text}
 use Rattle.wit_model.proofs.Elements.{contains-flat, contains-map, contains-one, none-in, one-contained}
 use Rattle.comp_meaning.specs.Reads as reads
-use Rattle.shown_laws.specs.Parts.{MemberStands}
+use Rattle.shown_laws.specs.Parts.{PartStands}
 use Rattle.read_plan.specs.FollowedNumbers.{IsOneOf, IsPartIn}
 use Rattle.read_plan.specs.NumberedMembers.{Homes, IsMember, NumberedMember}
 use Rattle.read_plan.specs.NumberedViews.{AreTables, NumberedSight, NumberedType, Tables}
@@ -95,8 +95,8 @@ origin t h ms members input y c =
     let from = flat_cases (λ (m : Member). showings_of_part m.part) ms y c in
     let m = from.0 in
     let there = beside (IsMember t h) numbered_member ms members input.shown m from.1 in
-    let stand : MemberStands there.0 = all_at MemberStands members input.stand there.0 there.1 in
-    (m, from.1, part_origin t input.tables m.part (all_at (λ (x : NumberedMember). IsPartIn t x.part) (numbered_members ms) input.numbers (numbered_member m) (contains-map numbered_member ms m from.1)) (exports_no_type t input.tables h ms members input m.part there.0.part (numbered_member m) there.2.part stand.part) y from.2)
+    let stand : PartStands there.0.part = all_at (λ (x : reads.Member). PartStands x.part) members input.stand.parts there.0 there.1 in
+    (m, from.1, part_origin t input.tables m.part (all_at (λ (x : NumberedMember). IsPartIn t x.part) (numbered_members ms) input.numbers (numbered_member m) (contains-map numbered_member ms m from.1)) (exports_no_type t input.tables h ms members input m.part there.0.part (numbered_member m) there.2.part stand) y from.2)
 
 -- a view of a part is one of all
 pub view_among : (ms : List Member) (m : Member) → Contains ms m → (s : NumberedSight) → Contains (views_of_part (numbered_part m.part)) s → Contains (views_of_members (numbered_members ms)) s

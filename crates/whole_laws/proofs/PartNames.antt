@@ -1,7 +1,7 @@
--- A name that is used by what a part shows is shown by the part in its own place.
+-- A name that is used by what a part shows is shown by a view in its own place, or imported by the world.
 use Rattle.std.proofs.Common.{◌≡◌, refl, sym, ap, subst, ◌∙◌, ℕ, zero, suc, ◌+◌, ◌⊎◌, inl, inr, arith, Bool, true, false, List, [], ◌∷◌, ◌++◌, length, map, Option, Some, slice_get}
 use Rattle.std.specs.Borrow.{Bor}
-use Rattle.std.specs.List.{AllByRecursion, Contains, flat_map}
+use Rattle.std.specs.List.{AllByRecursion, AllZip, Contains, flat_map}
 use Rattle.std.proofs.lemmas.List.Elements.{Contains-append_cases, Contains-append_left, Contains-append_right}
 use Rattle.wit_model.specs.Text.{Text}
 use Rattle.wit_model.specs.Names.{path_in}
@@ -38,12 +38,12 @@ use Rattle.plan_read.specs.Scopes.{numbered_instance, numbered_key, numbered_sco
 use Rattle.plan_read.specs.Tables.{given_text}
 use Rattle.plan_read.specs.Views.{numbered_view}
 use Rattle.plan_members.specs.Members.{numbered_part}
-use Rattle.plan_members.specs.declared.members.Part.{Part}
 use Rattle.plan_members.specs.declared.members.Part.TheVariants as parts
+use Rattle.plan_laws.specs.MembersStand.{all_instances}
 use Rattle.plan_types.specs.Showings.{NumberedShowing, showing_of, showings_of_import, showings_of_part, showings_of_seen, showings_of_shown, showings_of_view, signatures_of_part, signatures_of_seen, signatures_of_shown, signatures_of_view}
 use Rattle.plan_types.specs.Used.{declared_parts, function_parts, showing_parts}
-use Rattle.plan_whole.specs.Views.{types_alone, views_of_part, whole_view}
-use Rattle.whole_laws.specs.ShownNames.{DeclaresName, IsShownByPart, by_import, by_view}
+use Rattle.plan_whole.specs.Views.{types_alone, views_of_members, views_of_part, whole_view}
+use Rattle.whole_laws.specs.ShownNames.{DeclaresName, ImportsNumber, ShowsNumber}
 use Rattle.whole_laws.proofs.Inside.{IsIn, flat_cases, name_alone, name_in}
 use Rattle.whole_laws.proofs.MetNames.{in_declared, in_signature}
 use Rattle.whole_laws.proofs.ViewNames.{declared_inside, function_shows, instance_tree, outside_shows, part_of_function, part_shows, parts_weaker}
@@ -105,65 +105,82 @@ module _ (t : Tables) (tables : AreTables t) (h : Homes) (stand : HomesStand t h
       all_both (λ (s : NumberedSight). IsViewIn t s.place s.view) (map types_alone imports) (record { place = p; view = v; whole = true } ∷ [])
       (all_along (λ (i : ℕ × NumberedView). HasPath t i.0 × IsViewIn t i.0 i.1) (λ (s : NumberedSight). IsViewIn t s.place s.view) types_alone (λ i is. is.1) imports good.1) (good.0.1, tt)
 
-  -- ---- one part
+  -- the instances of all parts
+  pub trees_of_all : (ms : List NumberedMember) (members : List reads.Member) → AllZip (IsMember t h) ms members → AllByRecursion (λ (m : NumberedMember). IsPartIn t m.part) ms
+      → all_instances members ≡ map (instance_tree t tables) (views_of_members ms)
+  trees_of_all [] [] zip good = refl
+  trees_of_all [] (x ∷ members) zip good = absurd zip
+  trees_of_all (m ∷ ms) [] zip good = absurd zip
+  trees_of_all (m ∷ ms) (x ∷ members) zip good =
+      let first = trees_of_part m x zip.0 m.part x.part zip.0.part good.0 in
+      let rest = trees_of_all ms members zip.1 good.1 in
+      (λ i. first i ++ rest i) ∙ sym (append_of_map (instance_tree t tables) (views_of_part m.part) (views_of_members ms))
 
-  module _ (n q : ℕ) (name : Text) (at : slice_get t.shapes n ≡ Some (named_shape q name)) (part : Part) (instances : List Instance) (trees : instances ≡ map (instance_tree t tables) (views_of_part (numbered_part part))) (good : IsPartIn t (numbered_part part))
-      (stands : (k : ℕ) (s : NumberedSight) → slice_get (views_of_part (numbered_part part)) k ≡ Some s → ViewStands (IsShownBefore instances k) (place_at t s.place) (view_of t s.view)) where
-    abbrev views : List NumberedSight
-    views = views_of_part (numbered_part part)
+  -- ---- some views
 
-    all_good : AllByRecursion (λ (s : NumberedSight). IsViewIn t s.place s.view) views
-    all_good = views_are_good (numbered_part part) good
-
+  module _ (n q : ℕ) (name : Text) (at : slice_get t.shapes n ≡ Some (named_shape q name)) (views : List NumberedSight) (instances : List Instance) (trees : instances ≡ map (instance_tree t tables) views)
+      (all_good : AllByRecursion (λ (s : NumberedSight). IsViewIn t s.place s.view) views)
+      (stands : (k : ℕ) (s : NumberedSight) → slice_get views k ≡ Some s → ViewStands (IsShownBefore instances k) (place_at t s.place) (view_of t s.view)) where
     -- what a view shows
-    pub view_showing : (s : NumberedSight) → Contains views s → (y : NumberedShowing) → Contains (showings_of_view s.view) y → (k : ℕ) → Contains (showing_parts t y) k → IsIn t.shapes k n → IsShownByPart t part q n
+    pub view_showing : (s : NumberedSight) → Contains views s → (y : NumberedShowing) → Contains (showings_of_view s.view) y → (k : ℕ) → Contains (showing_parts t y) k → IsIn t.shapes k n → ShowsNumber t views q n
     view_showing s c y among k used found =
         let there = contains-get views s c in
         let from = from_map showing_of s.view.types y among in
-        by_view (part_shows t tables views all_good n q name at instances trees s there.0 there.1 (stands there.0 s there.1) from.0 from.1 k (subst (λ (z : NumberedShowing). Contains (showing_parts t z) k) (sym from.2) used) found)
+        part_shows t tables views all_good n q name at instances trees s there.0 there.1 (stands there.0 s there.1) from.0 from.1 k (subst (λ (z : NumberedShowing). Contains (showing_parts t z) k) (sym from.2) used) found
 
-    pub view_signature : (s : NumberedSight) → Contains views s → (f : ℕ) → Contains (signatures_of_view s.view) f → (k : ℕ) → Contains (function_parts t f) k → IsIn t.shapes k n → IsShownByPart t part q n
+    pub view_signature : (s : NumberedSight) → Contains views s → (f : ℕ) → Contains (signatures_of_view s.view) f → (k : ℕ) → Contains (function_parts t f) k → IsIn t.shapes k n → ShowsNumber t views q n
     view_signature s c f among k used found =
         let there = contains-get views s c in
         let from = from_map (λ (g : Text × NumberedFunction). g.1.signature) s.view.functions f among in
-        by_view (function_shows t tables views all_good n q name at instances trees s there.0 there.1 (stands there.0 s there.1) from.0 from.1 k (subst (λ z. Contains (function_parts t z) k) (sym from.2) used) found)
-
-    pub before_shows : (count : ℕ) (b : Bool) → IsShownBefore instances count (place_at t q) name b → IsShownByPart t part q n
-    before_shows count b before = by_view (outside_shows t tables views all_good n q name at instances trees count b before)
+        function_shows t tables views all_good n q name at instances trees s there.0 there.1 (stands there.0 s there.1) from.0 from.1 k (subst (λ z. Contains (function_parts t z) k) (sym from.2) used) found
 
   -- ---- the component type of an interface
 
-  module _ (n q : ℕ) (name : Text) (at : slice_get t.shapes n ≡ Some (named_shape q name)) (p : ℕ) (v : View) (imports : Bor (List ImportedView)) (instances : List Instance)
-      (trees : instances ≡ map (instance_tree t tables) (views_of_part (numbered_part (parts.Interface p v imports)))) (good : IsPartIn t (numbered_part (parts.Interface p v imports)))
-      (stands : (k : ℕ) (s : NumberedSight) → slice_get (views_of_part (numbered_part (parts.Interface p v imports))) k ≡ Some s → ViewStands (IsShownBefore instances k) (place_at t s.place) (view_of t s.view)) where
+  module _ (n q : ℕ) (name : Text) (at : slice_get t.shapes n ≡ Some (named_shape q name)) (views : List NumberedSight) (instances : List Instance) (trees : instances ≡ map (instance_tree t tables) views)
+      (all_good : AllByRecursion (λ (s : NumberedSight). IsViewIn t s.place s.view) views)
+      (stands : (k : ℕ) (s : NumberedSight) → slice_get views k ≡ Some s → ViewStands (IsShownBefore instances k) (place_at t s.place) (view_of t s.view))
+      (p : ℕ) (v : View) (imports : Bor (List ImportedView)) (within : (s : NumberedSight) → Contains (views_of_part (numbered_part (parts.Interface p v imports))) s → Contains views s) where
     abbrev own_sight : NumberedSight
     own_sight = record { place = p; view = numbered_view v; whole = true }
 
     own_there : Contains (map types_alone (map numbered_import imports.now) ++ own_sight ∷ []) own_sight
     own_there = Contains-append_right (map types_alone (map numbered_import imports.now)) (own_sight ∷ []) own_sight (contains-one own_sight)
 
-    pub interface_showing : (y : NumberedShowing) → Contains (showings_of_part (parts.Interface p v imports)) y → (k : ℕ) → Contains (showing_parts t y) k → IsIn t.shapes k n → IsShownByPart t (parts.Interface p v imports) q n
+    pub interface_showing : (y : NumberedShowing) → Contains (showings_of_part (parts.Interface p v imports)) y → (k : ℕ) → Contains (showing_parts t y) k → IsIn t.shapes k n → ShowsNumber t views q n
     interface_showing y c k used found = by (Contains-append_cases (flat_map showings_of_import imports.now) (showings_of_view (numbered_view v)) y c)
       where
-        by : Contains (flat_map showings_of_import imports.now) y ⊎ Contains (showings_of_view (numbered_view v)) y → IsShownByPart t (parts.Interface p v imports) q n
+        by : Contains (flat_map showings_of_import imports.now) y ⊎ Contains (showings_of_view (numbered_view v)) y → ShowsNumber t views q n
         by (inl imported) =
             let from = flat_cases showings_of_import imports.now y imported in
             let sight = types_alone (numbered_import from.0) in
-            view_showing n q name at (parts.Interface p v imports) instances trees good stands sight
-            (Contains-append_left (map types_alone (map numbered_import imports.now)) (own_sight ∷ []) sight (contains-map types_alone (map numbered_import imports.now) (numbered_import from.0) (contains-map numbered_import imports.now from.0 from.1)))
+            view_showing n q name at views instances trees all_good stands sight
+            (within sight (Contains-append_left (map types_alone (map numbered_import imports.now)) (own_sight ∷ []) sight (contains-map types_alone (map numbered_import imports.now) (numbered_import from.0) (contains-map numbered_import imports.now from.0 from.1))))
             y from.2 k used found
-        by (inr shown) = view_showing n q name at (parts.Interface p v imports) instances trees good stands own_sight own_there y shown k used found
+        by (inr shown) = view_showing n q name at views instances trees all_good stands own_sight (within own_sight own_there) y shown k used found
 
-    pub interface_signature : (f : ℕ) → Contains (signatures_of_part (parts.Interface p v imports)) f → (k : ℕ) → Contains (function_parts t f) k → IsIn t.shapes k n → IsShownByPart t (parts.Interface p v imports) q n
-    interface_signature f c k used found = view_signature n q name at (parts.Interface p v imports) instances trees good stands own_sight own_there f c k used found
+    pub interface_signature : (f : ℕ) → Contains (signatures_of_part (parts.Interface p v imports)) f → (k : ℕ) → Contains (function_parts t f) k → IsIn t.shapes k n → ShowsNumber t views q n
+    interface_signature f c k used found = view_signature n q name at views instances trees all_good stands own_sight (within own_sight own_there) f c k used found
 
   -- ---- a world
 
-  module _ (n q : ℕ) (name : Text) (at : slice_get t.shapes n ≡ Some (named_shape q name)) (w : Scope) (scope : follow.Scope) (shows : Shows t (numbered_scope w) scope)
-      (trees : scope.instances ≡ map (instance_tree t tables) (map whole_view (map numbered_instance w.instances.now))) (good : IsScopeIn t (numbered_scope w)) (declares : AllByRecursion (DeclaresName t w.home) w.imports.now)
-      (scope_stands : ScopeStands scope) (stands : (k : ℕ) (s : NumberedSight) → slice_get (map whole_view (map numbered_instance w.instances.now)) k ≡ Some s → ViewStands (IsShownBefore scope.instances k) (place_at t s.place) (view_of t s.view)) where
+  module _ (n q : ℕ) (name : Text) (at : slice_get t.shapes n ≡ Some (named_shape q name)) (views : List NumberedSight) (instances : List Instance) (trees : instances ≡ map (instance_tree t tables) views)
+      (all_good : AllByRecursion (λ (s : NumberedSight). IsViewIn t s.place s.view) views)
+      (stands : (k : ℕ) (s : NumberedSight) → slice_get views k ≡ Some s → ViewStands (IsShownBefore instances k) (place_at t s.place) (view_of t s.view))
+      (w : Scope) (within : (s : NumberedSight) → Contains (map whole_view (map numbered_instance w.instances.now)) s → Contains views s) (scope : follow.Scope) (shows : Shows t (numbered_scope w) scope)
+      (good : IsScopeIn t (numbered_scope w)) (declares : AllByRecursion (DeclaresName t w.home) w.imports.now) (scope_stands : ScopeStands scope) where
+    -- a view shows the type, or the world imports it
     abbrev Goal : Type 0
-    Goal = IsShownByPart t (parts.World w) q n
+    Goal = ShowsNumber t views q n ⊎ ((q ≡ w.home) × ImportsNumber t w n)
+
+    abbrev own_views : List NumberedSight
+    own_views = map whole_view (map numbered_instance w.instances.now)
+
+    own_trees : scope.instances ≡ map (instance_tree t tables) own_views
+    own_trees = shows.instances ∙ sym (map_of_map (instance_tree t tables) whole_view (map numbered_instance w.instances.now))
+
+    -- what a view of the world shows
+    within_all : ShowsNumber t own_views q n → ShowsNumber t views q n
+    within_all s = record { sight = s.sight; among = within s.sight s.among; place = s.place; type_ = s.type_; there = s.there; named = s.named; slot = s.slot }
 
     -- an import, as it was followed
     import_tree : (c : Seen) → Contains w.imports.now c → (i : ℕ) × (slice_get w.imports.now i ≡ Some c) × (slice_get scope.imports i ≡ Some (seen_of t (numbered_seen c)))
@@ -201,13 +218,16 @@ module _ (t : Tables) (tables : AreTables t) (h : Homes) (stand : HomesStand t h
 
     imports_it : (c : Seen) → Contains w.imports.now c → (d : Option ℕ) (m part : ℕ) → c.shown ≡ shown.Declares part d → part ≡ 14 + m → IsNameOf t w.home c.key.now d m → m ≡ n → q ≡ w.home → Goal
     imports_it c among d m part e is named one home =
-        by_import w refl home (record {
-          seen = c;
-          among = among;
-          declared = d;
-          shown = e ∙ ap (λ k. shown.Declares k d) (is ∙ ap (λ k. 14 + k) one);
-          named = subst (IsNameOf t w.home c.key.now d) one named;
-        })
+        inr (
+          home,
+          record {
+            seen = c;
+            among = among;
+            declared = d;
+            shown = e ∙ ap (λ k. shown.Declares k d) (is ∙ ap (λ k. 14 + k) one);
+            named = subst (IsNameOf t w.home c.key.now d) one named;
+          },
+        )
 
     -- ---- what is met
 
@@ -242,7 +262,7 @@ module _ (t : Tables) (tables : AreTables t) (h : Homes) (stand : HomesStand t h
     no_path path here = let wrong : Place.of_interface path.0 ≡ Place.here = sym (ap place_of path.1) ∙ here in cc
 
     met_shows : (count : ℕ) (b : Bool) → (q ≡ w.home) ⊎ HasPath t q → IsMetInScope scope.instances scope.imports count (place_at t q) name b → Goal
-    met_shows count b own (scopes.by_instance before) = before_shows n q name at (parts.World w) scope.instances trees good stands (length scope.instances) b before
+    met_shows count b own (scopes.by_instance before) = inl (within_all (outside_shows t tables own_views (views_are_good (world (numbered_scope w)) good) n q name at scope.instances own_trees (length scope.instances) b before))
     met_shows count b (inl home) (scopes.by_import here declared) = let found = imported declared in import_shows found.0 found.1 found.2 home
     met_shows count b (inr path) (scopes.by_import here declared) = absurd (no_path path here)
 
@@ -254,11 +274,13 @@ module _ (t : Tables) (tables : AreTables t) (h : Homes) (stand : HomesStand t h
 
     instance_showing : (key : InstanceKey) (v : View) → IsOneOf t (map numbered_instance w.instances.now) (numbered_shown (shown.Instance key v))
         → (y : NumberedShowing) → Contains (showings_of_view (numbered_view v)) y → (k : ℕ) → Contains (showing_parts t y) k → IsIn t.shapes k n → Goal
-    instance_showing key v c y among k used found = view_showing n q name at (parts.World w) scope.instances trees good stands (record { place = place_of_key (numbered_key key); view = numbered_view v; whole = true }) (instance_there key v c) y among k used found
+    instance_showing key v c y among k used found =
+        let s : NumberedSight = record { place = place_of_key (numbered_key key); view = numbered_view v; whole = true } in inl (view_showing n q name at views instances trees all_good stands s (within s (instance_there key v c)) y among k used found)
 
     instance_signature : (key : InstanceKey) (v : View) → IsOneOf t (map numbered_instance w.instances.now) (numbered_shown (shown.Instance key v))
         → (f : ℕ) → Contains (signatures_of_view (numbered_view v)) f → (k : ℕ) → Contains (function_parts t f) k → IsIn t.shapes k n → Goal
-    instance_signature key v c f among k used found = view_signature n q name at (parts.World w) scope.instances trees good stands (record { place = place_of_key (numbered_key key); view = numbered_view v; whole = true }) (instance_there key v c) f among k used found
+    instance_signature key v c f among k used found =
+        let s : NumberedSight = record { place = place_of_key (numbered_key key); view = numbered_view v; whole = true } in inl (view_signature n q name at views instances trees all_good stands s (within s (instance_there key v c)) f among k used found)
 
     -- a type that is declared, of which a part is used
     declared_shows : (c : Seen) → Contains w.imports.now c → (part : ℕ) (d : Option ℕ) → c.shown ≡ shown.Declares part d → (k : ℕ) → Contains (part ∷ declared_parts t d) k → IsIn t.shapes k n → Goal

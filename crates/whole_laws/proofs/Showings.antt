@@ -7,7 +7,7 @@ use Rattle.wit_model.specs.Text.{Text}
 use Rattle.wit_model.proofs.Elements.{contains-map, none-in, one-contained}
 use Rattle.read_plan.specs.FollowedNumbers.{IsNameOf, IsPartIn, IsSeenIn, IsShownIn, IsSlotOf, IsViewIn}
 use Rattle.comp_meaning.specs.Reads as reads
-use Rattle.shown_laws.specs.Parts.{MemberStands, PartStands}
+use Rattle.shown_laws.specs.Parts.{PartStands}
 use Rattle.shown_laws.specs.Scopes as scopes
 use Rattle.shown_laws.proofs.Lists.{mapped_get}
 use Rattle.read_plan.specs.NumberedMembers.{Homes, IsMember, NumberedMember, ShowsPart}
@@ -128,6 +128,6 @@ module _ (t : Tables) (tables : AreTables t) where
         let from = flat_cases (λ (m : Member). showings_of_part m.part) ms y c in
         let m = from.0 in
         let there = beside (IsMember t h) numbered_member ms members input.shown m from.1 in
-        let stand : MemberStands there.0 = all_at MemberStands members input.stand there.0 there.1 in
+        let stand : PartStands there.0.part = all_at (λ (x : reads.Member). PartStands x.part) members input.stand.parts there.0 there.1 in
         part_named m.part (all_at (λ (x : NumberedMember). IsPartIn t x.part) (numbered_members ms) input.numbers (numbered_member m) (contains-map numbered_member ms m from.1))
-        (all_at (λ (x : Member). PartDeclaresNames t x.part) ms input.declared m from.1) (exports_no_type m.part there.0.part (numbered_member m) there.2.part stand.part) y from.2
+        (all_at (λ (x : Member). PartDeclaresNames t x.part) ms input.declared m from.1) (exports_no_type m.part there.0.part (numbered_member m) there.2.part stand) y from.2

@@ -6,7 +6,7 @@ use Rattle.wit_model.specs.Text.{Text}
 use Rattle.wit_model.proofs.Elements.{contains-flat, contains-later, contains-map, contains-one, none-in, one-contained}
 use Rattle.comp_meaning.specs.Follow as follow
 use Rattle.comp_meaning.specs.Reads as reads
-use Rattle.shown_laws.specs.Parts.{MemberStands, PartStands, WorldStands}
+use Rattle.shown_laws.specs.Parts.{PartStands, WorldStands}
 use Rattle.shown_laws.specs.Scopes as scopes
 use Rattle.read_plan.specs.FollowedNumbers.{IsOneOf, IsPartIn, IsScopeIn, IsSeenIn, IsViewIn}
 use Rattle.read_plan.specs.NumberedMembers.{Homes, IsMember, NumberedMember, ShowsPart, world}
@@ -57,11 +57,11 @@ module _ (t : Tables) (h : Homes) (ms : List Member) (members : List reads.Membe
   pub world_of : (m : Member) → Contains ms m → (w : Scope) → m.part ≡ parts.World w → IsWorldOf w
   world_of m c w is =
       let there = beside (IsMember t h) numbered_member ms members input.shown m c in
-      let stand : MemberStands there.0 = all_at MemberStands members input.stand there.0 there.1 in
+      let stand : PartStands there.0.part = all_at (λ (x : reads.Member). PartStands x.part) members input.stand.parts there.0 there.1 in
       let good = all_at (λ (x : NumberedMember). IsPartIn t x.part) numbered input.numbers (numbered_member m) (contains-map numbered_member ms m c) in
       let named = all_at (λ (x : Member). PartDeclaresNames t x.part) ms input.declared m c in
       let once = once_inside (has_no_path t) (λ (x : NumberedMember). places_of_part x.part) numbered apart (numbered_member m) (contains-map numbered_member ms m c) in
-      by there.0.part (numbered_member m) (subst (λ a. ShowsPart t h (numbered_member m) (numbered_part a) there.0.part) is there.2.part) stand.part (subst (λ a. IsPartIn t (numbered_part a)) is good) (subst (PartDeclaresNames t) is named)
+      by there.0.part (numbered_member m) (subst (λ a. ShowsPart t h (numbered_member m) (numbered_part a) there.0.part) is there.2.part) stand (subst (λ a. IsPartIn t (numbered_part a)) is good) (subst (PartDeclaresNames t) is named)
       (subst (λ a. are_once (filter (has_no_path t) (places_of_part (numbered_part a))) ≡ true) is once)
     where
       by : (b : reads.Part) (n : NumberedMember) → ShowsPart t h n (world (numbered_scope w)) b → PartStands b → IsScopeIn t (numbered_scope w) → AllByRecursion (DeclaresName t w.home) w.imports.now

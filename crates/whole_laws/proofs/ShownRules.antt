@@ -16,7 +16,7 @@ use Rattle.comp_meaning.specs.Rules as rules
 use Rattle.comp_meaning.specs.Rules.{distinct}
 use Rattle.shown_laws.specs.Instances.{going, instances_in}
 use Rattle.shown_laws.specs.Instances as shown_instances
-use Rattle.shown_laws.specs.Parts.{MemberStands, PartStands, WorldStands}
+use Rattle.shown_laws.specs.Parts.{PartStands, WorldStands}
 use Rattle.shown_laws.specs.Scopes as scopes
 use Rattle.read_plan.specs.FollowedNumbers.{IsCalledIn, IsMetFrom, IsNameOf, IsPartIn, IsScopeIn, IsSeenIn, IsShownIn, IsViewIn}
 use Rattle.read_plan.specs.NumberedMembers.{Homes, IsKnownSight, IsMember, NumberedMember, ShowsPart, are_interfaces, sights_of_members, sights_of_part}
@@ -287,8 +287,8 @@ module _ (t : Tables) (tables : AreTables t) where
       there : (y : reads.Member) × Contains members y × IsMember t h (numbered_member m) y
       there = beside (IsMember t h) numbered_member ms members input.shown m c
 
-      stand : MemberStands there.0
-      stand = all_at MemberStands members input.stand there.0 there.1
+      stand : PartStands there.0.part
+      stand = all_at (λ (x : reads.Member). PartStands x.part) members input.stand.parts there.0 there.1
 
       good_part : IsPartIn t (numbered_part m.part)
       good_part = all_at (λ (x : NumberedMember). IsPartIn t x.part) (numbered_members ms) input.numbers (numbered_member m) (contains-map numbered_member ms m c)
@@ -344,7 +344,7 @@ module _ (t : Tables) (tables : AreTables t) where
     part_follows (parts.World w) (reads.Part.interface view views) m shows stands good declared each = absurd shows
 
     member_follows : (m : Member) → Contains ms m → PartFollows m.part
-    member_follows m c = part_follows m.part (there m c).0.part (numbered_member m) (there m c).2.part (stand m c).part (good_part m c) (named m c) (part_sights m c)
+    member_follows m c = part_follows m.part (there m c).0.part (numbered_member m) (there m c).2.part (stand m c) (good_part m c) (named m c) (part_sights m c)
 
     pub rules_obeyed : RulesAreObeyed t ms
     rules_obeyed = record {

@@ -49,21 +49,25 @@ use Rattle.whole_laws.proofs.ShownFrom.{world_of}
 use Rattle.whole_laws.proofs.WholePlacesLabels.{world_among}
 use Rattle.whole_laws.proofs.WholeTypes.{packages_are_ruled}
 
+-- the view that an instance gives, if its place has a path
+pub view_given : (t : Tables) (i : NumberedInstance) (s : NumberedSight) → Contains (sights_of_instance t i) s → whole_view i ≡ s
+view_given t i s c = by (path_at t i.place) c
+  where
+    by : (o : Option Text) → Contains (option_map_or (λ (path : Text). whole_view i ∷ []) o []) s → whole_view i ≡ s
+    by None there = none-in s there
+    by (Some path) there = one-contained (whole_view i) s there
+
 -- a view with a path that is seen is one of all
 pub sight_viewed : (t : Tables) (ms : List NumberedMember) (s : NumberedSight) → Contains (sights_of_members t ms) s → Contains (views_of_members ms) s
 sight_viewed t ms s c =
     let from = flat_cases (λ (m : NumberedMember). sights_of_part t m.part) ms s c in
     contains-flat (λ (m : NumberedMember). views_of_part m.part) ms from.0 s from.1 (of_part from.0.part from.2)
   where
-    of_instance : (i : NumberedInstance) (o : Option Text) → Contains (option_map_or (λ (path : Text). whole_view i ∷ []) o []) s → whole_view i ≡ s
-    of_instance i None there = none-in s there
-    of_instance i (Some path) there = one-contained (whole_view i) s there
-
     of_part : (a : NumberedPart) → Contains (sights_of_part t a) s → Contains (views_of_part a) s
     of_part (interface p v imports) there = there
     of_part (world w) there =
         let from = flat_cases (sights_of_instance t) w.instances s there in
-        subst (Contains (map whole_view w.instances)) (of_instance from.0 (path_at t from.0.place) from.2) (contains-map whole_view w.instances from.0 from.1)
+        subst (Contains (map whole_view w.instances)) (view_given t from.0 s from.2) (contains-map whole_view w.instances from.0 from.1)
 
 module _ (t : Tables) (h : Homes) (known : ℕ → Fact) (n : ℕ) (ms : List Member) (members : List reads.Member) (given : IsPackageInput t h known n ms members) (ordered : ViewsAreOrdered t ms) (p : Plan)
     (planned : PlansWhole t h.packages (home_at h) n ms p) (b : Beside) (owned : b.owners ≡ owners_of ms) (read : IsReadPlan t h planned.kept p b (views_read ms)) where

@@ -14,13 +14,12 @@ use Rattle.wit_model.proofs.NameLaws.{read_path_is_spelled}
 use Rattle.comp_meaning.specs.Reads as reads
 use Rattle.comp_meaning.specs.Rules as rules
 use Rattle.comp_meaning.specs.Follow.{Instance}
-use Rattle.shown_laws.specs.Parts.{MemberStands, instances_of}
 use Rattle.shown_laws.specs.Scopes.{IsInstanceBefore}
 use Rattle.shown_laws.proofs.Lists.{front_get, mapped_get, middle_get, recursion_weaker, unmapped_get}
 use Rattle.shown_laws.proofs.Uses.{use_stands_before}
-use Rattle.read_plan.specs.FollowedNumbers.{IsMetFrom, IsPartIn, IsShownIn}
+use Rattle.read_plan.specs.FollowedNumbers.{IsMetFrom, IsShownIn}
 use Rattle.read_plan.specs.GatheredPlan.{DeclaresKind, TypeListed, functions_seen}
-use Rattle.read_plan.specs.NumberedMembers.{Homes, IsMember, NumberedMember, home_at, sights_of_members}
+use Rattle.read_plan.specs.NumberedMembers.{Homes, NumberedMember, home_at, sights_of_members}
 use Rattle.read_plan.specs.NumberedViews.{AllOf, IsPart, NumberedSight, NumberedType, Tables, agree_in_numbers, first_at, path_at, path_text, place_at, view_of}
 use Rattle.read_plan.specs.NumberedWorlds.{DeclaresParts, HasPath, used_by_view}
 use Rattle.read_plan.specs.Plan.{Plan, PlannedInterface, interface_in}
@@ -34,27 +33,27 @@ use Rattle.read_plan.proofs.Lists.{append_of_map}
 use Rattle.read_plan.proofs.NumberedWorlds.{path_is, view_paths, view_uses}
 use Rattle.read_plan.proofs.ShapeLaws.{slice_there}
 use Rattle.plan_gather.specs.Interfaces.{IsPlannedFunction, slot_part}
-use Rattle.plan_members.specs.Members.{numbered_member, numbered_members}
+use Rattle.plan_members.specs.Members.{numbered_members}
 use Rattle.plan_members.specs.declared.members.Member.{Member}
 use Rattle.plan_types.specs.Orders.{joined_all, places_of_part}
 use Rattle.plan_types.specs.PlannedTypes.{PlansType, number_in}
 use Rattle.plan_whole.specs.PlanWhole.{PlansWhole, owners_in, places_in, shown_first}
 use Rattle.plan_whole.specs.Views.{views_of_members, views_of_part}
 use Rattle.plan_whole.specs.WholeInterfaces.{ListsNumber, PlansInterface, PlansPlace}
+use Rattle.plan_laws.specs.MembersStand.{all_instances}
 use Rattle.plan_laws.proofs.KeptKinds.{zip_get, zip_length}
 use Rattle.whole_laws.specs.FirstViews.{IsRisingView, ViewsAreOrdered}
 use Rattle.whole_laws.specs.Owners.{owners_of}
 use Rattle.whole_laws.specs.ShownNames.{IsInput}
 use Rattle.whole_laws.specs.ViewedInterfaces.{PlannedInterfacesAreViewed, views_read}
-use Rattle.whole_laws.proofs.FirstPlaces.{first_split, flat_split, number_before}
+use Rattle.whole_laws.proofs.FirstPlaces.{first_split, number_before}
 use Rattle.whole_laws.proofs.FirstTypes.{first_told, view_good, views_told}
 use Rattle.whole_laws.proofs.FirstViews.{first_is}
 use Rattle.whole_laws.proofs.Owned.{planned_name}
-use Rattle.whole_laws.proofs.PartNames.{from_map, trees_of_part}
+use Rattle.whole_laws.proofs.PartNames.{from_map, trees_of_all}
 use Rattle.whole_laws.proofs.PlaceNumbers.{all_joined, number_given, number_there, owner_numbered, place_number}
 use Rattle.whole_laws.proofs.Planned.{first_there, places_of_views}
 use Rattle.whole_laws.proofs.Showings.{slot_is}
-use Rattle.whole_laws.proofs.ShownNames.{beside}
 use Rattle.whole_laws.proofs.ViewNames.{instance_tree}
 use Rattle.whole_laws.proofs.ViewRules.{seen_obeys}
 
@@ -83,12 +82,6 @@ module _ (t : Tables) (h : Homes) (ms : List Member) (members : List reads.Membe
 
   owner_at : (m q : ℕ) → slice_get places m ≡ Some q → b.owners q ≡ as_interface m
   owner_at m q e = ap (λ (o : ℕ → TypeOwner). o q) beside_owners ∙ owner_numbered ms q m (place_number ms m q e)
-
-  beside_member : (m : NumberedMember) → Contains (numbered_members ms) m → (x : reads.Member) × Contains members x × IsMember t h m x
-  beside_member m c =
-      let from = from_map numbered_member ms m c in
-      let found = beside (IsMember t h) numbered_member ms members input.shown from.0 from.1 in
-      (found.0, found.1, subst (λ y. IsMember t h y found.0) from.2 found.2)
 
   places_of_all : (xs : List NumberedMember) → map (λ (s : NumberedSight). s.place) (flat_map (λ (m : NumberedMember). views_of_part m.part) xs) ≡ flat_map (λ (m : NumberedMember). places_of_part m.part) xs
   places_of_all [] = refl
@@ -213,25 +206,23 @@ module _ (t : Tables) (h : Homes) (ms : List Member) (members : List reads.Membe
       uses : IsUsedPlace b.owners m q r
       uses =
           let split = first_split q views first is_first in
-          let inner = flat_split (λ (x : NumberedMember). views_of_part x.part) (numbered_members ms) split.split.front first split.split.back split.split.is in
-          let member = beside_member inner.one inner.among in
-          let trees = trees_of_part t input.tables h input.homes inner.one member.0 member.2 inner.one.part member.0.part member.2.part (all_at (λ (x : NumberedMember). IsPartIn t x.part) (numbered_members ms) input.numbers inner.one inner.among) in
-          let here : slice_get (views_of_part inner.one.part) (length inner.inner) ≡ Some first = ap (λ xs. slice_get xs (length inner.inner)) inner.is ∙ middle_get inner.inner first inner.behind in
-          let stand : MemberStands member.0 = all_at MemberStands members input.stand member.0 member.1 in
-          let stands = stand.views (length inner.inner) (instance_tree t input.tables first) (subst (λ xs. slice_get xs (length inner.inner) ≡ Some (instance_tree t input.tables first)) (sym trees) (mapped_get (instance_tree t input.tables) (views_of_part inner.one.part) (length inner.inner) first here)) in
-          by split.split.front split.split.back split.split.is split.none inner.one inner.inner inner.behind inner.is inner.before (instances_of member.0) trees
-          (use_stands_before (instances_of member.0) (length inner.inner) (instance_tree t input.tables first) stands (path_text t r) path_used)
+          let front = split.split.front in
+          let trees = trees_of_all t input.tables h input.homes (numbered_members ms) members input.shown input.numbers in
+          let here : slice_get views (length front) ≡ Some first = ap (λ xs. slice_get xs (length front)) split.split.is ∙ middle_get front first split.split.back in
+          let stands = input.stand.views (length front) (instance_tree t input.tables first) (subst (λ xs. slice_get xs (length front) ≡ Some (instance_tree t input.tables first)) (sym trees) (mapped_get (instance_tree t input.tables) views (length front) first here)) in
+          by front split.split.back split.split.is split.none (all_instances members) trees
+          (use_stands_before (all_instances members) (length front) (instance_tree t input.tables first) stands (path_text t r) path_used)
         where
-          by : (front back : List NumberedSight) → views ≡ front ++ first ∷ back → ((u : NumberedSight) → Contains front u → u.place ≡ q → ⊥) → (one : NumberedMember) (inner behind : List NumberedSight) → views_of_part one.part ≡ inner ++ first ∷ behind → ((u : NumberedSight) → Contains inner u → Contains front u)
-              → (instances : List Instance) → instances ≡ map (instance_tree t input.tables) (views_of_part one.part) → (path_at t first.place ≡ Some (path_text t r)) ⊎ IsInstanceBefore instances (length inner) (path_text t r) → IsUsedPlace b.owners m q r
-          by front back split new one inner behind is before instances trees (inl own) = itself (input.tables.paths r q r_path.0 r_path.1 (ap (path_at t) (sym place) ∙ same_path (path_at t first.place) own))
-          by front back split new one inner behind is before instances trees (inr earlier) =
-              let from = unmapped_get (instance_tree t input.tables) (views_of_part one.part) earlier.number earlier.shown (subst (λ xs. slice_get xs earlier.number ≡ Some earlier.shown) trees earlier.at) in
+          by : (front back : List NumberedSight) → views ≡ front ++ first ∷ back → ((u : NumberedSight) → Contains front u → u.place ≡ q → ⊥)
+              → (instances : List Instance) → instances ≡ map (instance_tree t input.tables) views → (path_at t first.place ≡ Some (path_text t r)) ⊎ IsInstanceBefore instances (length front) (path_text t r) → IsUsedPlace b.owners m q r
+          by front back split new instances trees (inl own) = itself (input.tables.paths r q r_path.0 r_path.1 (ap (path_at t) (sym place) ∙ same_path (path_at t first.place) own))
+          by front back split new instances trees (inr earlier) =
+              let from = unmapped_get (instance_tree t input.tables) views earlier.number earlier.shown (subst (λ xs. slice_get xs earlier.number ≡ Some earlier.shown) trees earlier.at) in
               let u = from.0 in
               let path : path_at t u.place ≡ Some r_path.0 = ap (λ (x : Instance). x.interface) from.2 ∙ same_path earlier.shown.interface earlier.of_path in
               let same : u.place ≡ r = input.tables.paths u.place r r_path.0 path r_path.1 in
-              let inside : slice_get inner earlier.number ≡ Some u = sym (front_get inner (first ∷ behind) earlier.number earlier.below) ∙ (ap (λ xs. slice_get xs earlier.number) (sym is) ∙ from.1) in
-              used_before front back split new u (before u (get-contains inner earlier.number u inside)) same
+              let inside : slice_get front earlier.number ≡ Some u = sym (front_get front (first ∷ back) earlier.number earlier.below) ∙ (ap (λ xs. slice_get xs earlier.number) (sym split) ∙ from.1) in
+              used_before front back split new u (get-contains front earlier.number u inside) same
 
     pub viewed : IsViewedInterface t planned.kept p b (views_read ms) m i
     unfolding read

@@ -28,7 +28,7 @@ use Rattle.whole_laws.specs.WholePlan.{IsWholeInput, PlanIsWhole}
 use Rattle.whole_laws.specs.WholeTypes.{TypesAreWhole}
 use Rattle.whole_laws.specs.WorldItems.{WorldsAreApart}
 use Rattle.whole_laws.proofs.Apart.{whole_stands_apart}
-use Rattle.whole_laws.proofs.GatheredInterfaces.{all_gathered, chosen_are, top_listed}
+use Rattle.whole_laws.proofs.GatheredInterfaces.{foreign_gathered, top_listed}
 use Rattle.whole_laws.proofs.GatheredWorlds.{worlds_are_listed}
 use Rattle.whole_laws.proofs.WholePlan.{plan_read}
 use Rattle.whole_laws.proofs.WholeTypes.{packages_are_ruled, planned_types_are_whole}
@@ -43,12 +43,12 @@ module _ (t : Tables) (h : Homes) (known : ℕ → Fact) (n : ℕ) (ms : List Me
   b = beside_tables known whole.marks.marks ms
 
   -- the package itself, and what it lists
-  record IsMain : Type 0 where
-    package_ : PlannedPackage
-    there : package_in p n ≡ Some package_
-    made : IsMainPackage input.identity (places_in ms) ms package_
+  pub record IsMain : Type 0 where
+    pub package_ : PlannedPackage
+    pub there : package_in p n ≡ Some package_
+    pub made : IsMainPackage input.identity (places_in ms) ms package_
 
-  main : IsMain
+  pub main : IsMain
   main =
       let low : n < length p.packages = (let within = slice_get_within h.packages n input.identity input.stands in let many = planned.packages.many in omega (arith, within, many)) in
       let found = slice_there p.packages n low in
@@ -60,7 +60,7 @@ module _ (t : Tables) (h : Homes) (known : ℕ → Fact) (n : ℕ) (ms : List Me
       by k at (another identity other there made) = absurd (other refl)
 
   gathered : IsGathered t h n (numbered_members ms) p
-  gathered = record {
+  gathered = let foreign = foreign_gathered t h known n ms members given apart.0 p planned b refl in record {
     kept = planned.kept;
     keeps = (kept_types_pass t given.input.tables planned.kept p whole.types).0;
     main = main.package_;
@@ -68,9 +68,9 @@ module _ (t : Tables) (h : Homes) (known : ℕ → Fact) (n : ℕ) (ms : List Me
     identity = input.stands ∙ ap Some (sym main.made.is);
     interfaces = top_listed t h known n ms members given apart.0 p planned b refl main.package_.interfaces main.made.interfaces;
     worlds = subst (AllZip (WorldsListed t planned.kept p) (worlds_listed (numbered_members ms))) (sym main.made.worlds) (worlds_are_listed t h known n ms members given apart.0 apart.1 input.followed p planned whole);
-    chosen = (all_gathered t h known n ms members given apart.0 p planned b refl).chosen;
-    chosen_are = chosen_are t h known n ms members given apart.0 p planned b refl;
-    foreign = (all_gathered t h known n ms members given apart.0 p planned b refl).zip;
+    chosen = foreign.chosen;
+    chosen_are = foreign.chosen_are;
+    foreign = foreign.zip;
   }
 
   pub plan_meant : plan_meaning p ≡ reads.package_with input.identity members

@@ -11,7 +11,7 @@ use Rattle.wit_model.proofs.Elements.{all-contained, contains-flat, contains-map
 use Rattle.wit_model.proofs.Lists.{first_true, second_true}
 use Rattle.comp_meaning.specs.Reads as reads
 use Rattle.comp_meaning.specs.Follow.{Scope as MeantScope}
-use Rattle.shown_laws.specs.Parts.{MemberStands, PartStands, WorldStands}
+use Rattle.shown_laws.specs.Parts.{PartStands, WorldStands}
 use Rattle.read_plan.specs.FollowedNumbers.{IsPartIn, IsScopeIn, IsViewIn}
 use Rattle.read_plan.specs.NumberedMembers.{Homes, IsMember, NumberedMember, NumberedPart, ShowsPart, are_interfaces, home_at, interface, is_interface_of, is_of_package, sights_of_members, sights_of_part, stands_at_top, world}
 use Rattle.read_plan.specs.NumberedRules.{Fact}
@@ -97,8 +97,8 @@ module _ (t : Tables) (h : Homes) (known : ℕ → Fact) (n : ℕ) (ms : List Me
   pub world_followed : (m : Member) → Contains ms m → (w : Scope) → m.part ≡ parts.World w → IsFollowed w
   world_followed m c w is =
       let there = beside (IsMember t h) numbered_member ms members given.input.shown m c in
-      let stand : MemberStands there.0 = all_at MemberStands members given.input.stand there.0 there.1 in
-      by there.0.part (subst (λ a. ShowsPart t h (numbered_member m) (numbered_part a) there.0.part) is there.2.part) stand.part
+      let stand : PartStands there.0.part = all_at (λ (x : reads.Member). PartStands x.part) members given.input.stand.parts there.0 there.1 in
+      by there.0.part (subst (λ a. ShowsPart t h (numbered_member m) (numbered_part a) there.0.part) is there.2.part) stand
     where
       by : (b : reads.Part) → ShowsPart t h (numbered_member m) (numbered_part (parts.World w)) b → PartStands b → IsFollowed w
       by (reads.Part.interface view views) shows stands = absurd shows

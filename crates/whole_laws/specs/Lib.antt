@@ -17,3 +17,4 @@ pub mod WholePlan
 pub mod WholeWorlds
 pub mod WholeOrder
 pub mod Apart
+pub mod OneWorld

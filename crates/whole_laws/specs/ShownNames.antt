@@ -3,7 +3,6 @@ use Rattle.std.specs.Prelude.{◌≡◌, ℕ, ◌+◌, Bool, true, List, Option,
 use Rattle.std.specs.List.{AllByRecursion, AllZip, Contains}
 use Rattle.wit_model.specs.Text.{Text}
 use Rattle.comp_meaning.specs.Reads as reads
-use Rattle.shown_laws.specs.Parts.{MemberStands}
 use Rattle.read_plan.specs.FollowedNumbers.{AreMembersIn, IsNameOf, IsSlotOf}
 use Rattle.read_plan.specs.NumberedMembers.{Homes, HomesStand, IsMember}
 use Rattle.read_plan.specs.NumberedViews.{AreTables, NumberedSight, NumberedType, Tables}
@@ -17,6 +16,7 @@ use Rattle.plan_members.specs.Members.{numbered_members, numbered_part}
 use Rattle.plan_members.specs.declared.members.Member.{Member}
 use Rattle.plan_members.specs.declared.members.Part.{Part}
 use Rattle.plan_members.specs.declared.members.Part.TheVariants as parts
+use Rattle.plan_laws.specs.MembersStand.{MembersStand}
 use Rattle.plan_types.specs.Showings.{showings_of_members, signatures_of_members}
 use Rattle.plan_types.specs.Used.{used_parts, AreUsed}
 use Rattle.plan_whole.specs.Views.{views_of_part}
@@ -65,7 +65,7 @@ pub record IsInput (t : Tables) (h : Homes) (ms : List Member) (members : List r
   pub tables : AreTables t
   pub homes : HomesStand t h
   pub shown : AllZip (IsMember t h) (numbered_members ms) members
-  pub stand : AllByRecursion MemberStands members
+  pub stand : MembersStand members
   pub numbers : AreMembersIn t (numbered_members ms)
   pub declared : AllByRecursion (λ (m : Member). PartDeclaresNames t m.part) ms
 

@@ -1,6 +1,7 @@
 //! Laws over definitions alone.
 
 ghost use Rattle.whole_laws.specs.Apart.{WholeStandsApart};
+ghost use Rattle.whole_laws.specs.OneWorld.{WorldPlanIsWhole};
 ghost use Rattle.whole_laws.specs.Owners.{PlannedTypesAreOwned};
 ghost use Rattle.whole_laws.specs.ShownAlike.{WholeIsShownAlike};
 ghost use Rattle.whole_laws.specs.ShownNames.{UsedNamesAreShown};
@@ -122,4 +123,10 @@ pub fn whole_stands_apart()
 /// without a reason; and it means what was followed (Component Model WIT.md, "Package Format").
 pub fn plan_is_whole()
     ensures { PlanIsWhole }
+{}
+
+/// Where what was followed of one world, beside the interfaces of its package that it shows, is a package, the plan of that is the plan of one
+/// world, which shows each interface that has a name; and it means what the world does (WIT.md, "Worlds"; Component Model WIT.md, "Package Format").
+pub fn world_plan_is_whole()
+    ensures { WorldPlanIsWhole }
 {}
