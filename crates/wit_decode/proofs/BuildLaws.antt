@@ -30,7 +30,7 @@ use Rattle.plan_whole.specs.PlanWhole.{owners_in, shown_first, PlansWhole}
 use Rattle.plan_whole.specs.WholeInterfaces.{Home}
 use Rattle.wit_model.specs.Names.{PackageIdentity}
 use Rattle.wit_decode.specs.Decoded.{HoldsFound}
-use Rattle.wit_decode.specs.Planned.{MeansFound}
+use Rattle.wit_decode.specs.Planned.{IsBuiltOf, MeansFound, PlansMean}
 
 -- ---- what it holds
 
@@ -46,7 +46,7 @@ both : (r : Resolve) (n : ℕ) (m : PackageMeaning) (a b : Option PackageMeaning
 both r n m a b same is = subst (λ (o : Option PackageMeaning). (Meant r n m → o ≡ Some m) × ((o ≡ Some m) → Meant r n m)) same is
 
 module _ (p : Plan) (r : Resolve) (found : Option PackageMeaning) (is : MeansFound found p) (built : IsBuildable p → IsBuilt p r) (valid : IsPlan p → IsValid r) (meant : MeansPlan p r) where
-  pub are_built : IsBuilt p r
+  are_built : IsBuilt p r
   are_built = built (plans_are_buildable p is.plan.plan)
 
   main : (k : PlannedPackage) × (package_in p p.main ≡ Some k)
@@ -146,3 +146,15 @@ module _ (t : Tables) (fall : TypesFall t) (packages : List PackageIdentity) (ho
   few_built r built =
       let same : length r.types.items ≡ length p.types = sym (length-map r.types.items planned_type) ∙ ap length built.types in
       omega (arith, same, few_planned)
+
+-- ---- what is built of members that are a package
+
+module _ (t : Tables) (packages : List PackageIdentity) (homes : ℕ → Option Home) (n : ℕ) (ms : List Member) (r : Resolve) (main : ℕ) (is : IsBuiltOf t packages homes n ms r main) (found : Option PackageMeaning) (mean : PlansMean t packages homes n ms found) where
+  meant_found : MeansFound found is.plan
+  meant_found = mean is.plan is.planned is.fits
+
+  pub package_built : HoldsFound found r main
+  package_built = subst (HoldsFound found r) is.main_is (holds is.plan r found meant_found is.built is.valid is.meant)
+
+  pub few_in_package : TypesFall t → length r.types.items ≤ length t.shapes
+  few_in_package fall = few_built t fall packages homes n ms is.plan is.planned r (is.built (plans_are_buildable is.plan meant_found.plan.plan))

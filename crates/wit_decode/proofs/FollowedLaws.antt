@@ -1,23 +1,26 @@
 -- What was followed of the sections of an input.
-use Rattle.std.proofs.Common.{◌≡◌, ap, ◌∙◌, ℕ, ◌≤◌, arith, List, length, Option, Some}
+use Rattle.std.proofs.Common.{◌≡◌, ap, ◌∙◌, ℕ, ◌≤◌, arith, List, length, Some, None}
 use Rattle.wit_model.specs.Names.{read_path}
-use Rattle.wit_model.specs.Text.{Text}
 use Rattle.comp_bytes.specs.Levels.{Piece, levels_of}
 use Rattle.comp_bytes.specs.Reading.{◌>>=◌}
-use Rattle.comp_meaning.specs.ByLevels.{package_of_pieces}
 use Rattle.comp_read.specs.declared.refusal.Refusal.{Refusal}
 use Rattle.comp_read.specs.declared.refusal.Refusal.TheVariants as refusals
 use Rattle.comp_read.specs.Found.{Refuses}
 use Rattle.follow_parts.specs.declared.following.Followed.{Followed}
 use Rattle.comp_meaning.specs.Follow.{each}
-use Rattle.comp_meaning.specs.Reads.{package_of_members}
-use Rattle.follow_parts.specs.Followed.{PartScope, member_of_scope, scopes_of}
+use Rattle.comp_meaning.specs.Reads.{package_of_members, world_of_members}
+use Rattle.follow_parts.specs.Followed.{member_of_scope, scopes_of}
 use Rattle.follow_parts.specs.Input.{IsFollowed}
 use Rattle.follow_parts.proofs.CountLaws.{parts_fit}
 use Rattle.part_numbers.specs.NumberedInput.{tables_of}
-use Rattle.part_members.proofs.DecidedLaws.{by_members}
+use Rattle.part_members.specs.ReadMembers.{Because, members_meant}
+use Rattle.part_members.proofs.DecidedLaws.{by_members as package_by_members}
+use Rattle.part_members.proofs.DecidedWorldLaws.{by_members as world_by_members}
 use Rattle.path_homes.specs.Homes.{ArePaths}
+use Rattle.wit_decode.specs.declared.wanted.Wanted.{Wanted}
+use Rattle.wit_decode.specs.declared.wanted.Wanted.TheVariants as wanted
 use Rattle.wit_decode.specs.SomeFollowed.{IsSomeFollowed}
+use Rattle.wit_decode.specs.WantedFound.{MeansNone}
 use Rattle.wit_decode.proofs.BuildLaws.{there}
 
 -- each path is one
@@ -31,7 +34,15 @@ few_followed bytes pieces x is read =
     let count = is.followed.count in
     omega (arith, fit, count)
 
--- where nothing was followed, there is no package
-pub no_package : (pieces : List Piece) (e : Refusal) → Refuses e (scopes_of pieces) → Refuses e (package_of_pieces pieces)
-no_package pieces refusals.Memory none = tt
-no_package pieces (refusals.Absent cause left) none = by_members pieces ∙ ap (λ (o : Option (List (Text × PartScope))). (o >>= each member_of_scope) >>= package_of_members) none
+-- where nothing was followed, and where no members are meant, there is no package and no world
+pub none_meant : (wanted : Wanted) (pieces : List Piece) → members_meant pieces ≡ None → MeansNone wanted (Some pieces)
+none_meant wanted.Package pieces none = package_by_members pieces ∙ ap (λ o. o >>= package_of_members) none
+none_meant wanted.World pieces none = world_by_members pieces ∙ ap (λ o. o >>= world_of_members) none
+
+pub none_followed : (wanted : Wanted) (pieces : List Piece) (e : Refusal) → Refuses e (scopes_of pieces) → Because e (MeansNone wanted (Some pieces))
+none_followed w pieces refusals.Memory none = tt
+none_followed w pieces (refusals.Absent cause left) none = none_meant w pieces (ap (λ o. o >>= each member_of_scope) none)
+
+pub none_read : (wanted : Wanted) (pieces : List Piece) (e : Refusal) (fact : Type 0) → (fact → members_meant pieces ≡ None) → Because e fact → Because e (MeansNone wanted (Some pieces))
+none_read w pieces refusals.Memory fact none is = tt
+none_read w pieces (refusals.Absent cause left) fact none is = none_meant w pieces (none is)

@@ -1,14 +1,16 @@
 -- The package of members that were read of what was followed.
-use Rattle.std.proofs.Common.{◌≡◌, refl, sym, ap, subst, ◌∙◌, ℕ, true, false, List, [], ◌∷◌, map, Option, Some, None, slice_get}
+use Rattle.std.proofs.Common.{◌≡◌, sym, ap, subst, ◌∙◌, ℕ, true, false, List, [], ◌∷◌, map, Option, Some, None, slice_get}
 use Rattle.std.specs.Borrow.{Bor}
 use Rattle.std.specs.List.{AllZip}
 use Rattle.wit_model.specs.Names.{PackageIdentity}
 use Rattle.comp_bytes.specs.Levels.{Piece}
 use Rattle.comp_meaning.specs.ByLevels.{package_of_pieces}
-use Rattle.read_plan.specs.NumberedMembers.{Homes, HomesStand, are_package, home_at}
+use Rattle.comp_meaning.specs.Follow.{provided}
+use Rattle.read_plan.specs.NumberedMembers.{Homes, HomesStand, NumberedMember, are_package, home_at, package_shown}
 use Rattle.read_plan.specs.NumberedRules.{Fact}
 use Rattle.read_plan.specs.NumberedViews.{Tables}
 use Rattle.path_homes.specs.Homes.{ArePackages, HaveReasons, IsHomeOf, given_home}
+use Rattle.read_plan.proofs.Lists.{map_of_map}
 use Rattle.follow_parts.specs.declared.following.Followed.{Followed}
 use Rattle.follow_parts.specs.declared.members.Member.{Member as FollowedMember}
 use Rattle.follow_parts.specs.Input.{IsFollowed}
@@ -19,10 +21,10 @@ use Rattle.plan_whole.specs.PlanWhole.{MayBeWhole}
 use Rattle.part_numbers.specs.FactLaws.{known_by}
 use Rattle.part_numbers.specs.KnownScopes.{AreKnown}
 use Rattle.part_numbers.specs.NumberedInput.{tables_of}
-use Rattle.part_members.specs.Decided.{are_one_package}
+use Rattle.part_members.specs.Decided.{ArePackageDecided, are_one_package}
 use Rattle.part_members.specs.declared.reading.ReadMember.{ReadMember}
 use Rattle.part_members.specs.ReadMembers.{lent_member, read_member, AreForMembers, AreRead}
-use Rattle.part_members.proofs.PackageLaws.{decide, lent_are}
+use Rattle.part_members.proofs.DecidedLaws.{packages_are_decided}
 use Rattle.input_laws.specs.ReadPackages.{IsReadPackage}
 use Rattle.input_laws.proofs.ReadPackages.{read_may_be_planned, read_packages_have_sources, read_plans_are_meant}
 use Rattle.wit_decode.specs.MembersRead.{AreReadOf, IsMain}
@@ -39,8 +41,8 @@ of_first t h known (x ∷ ms) m e = let same : m ≡ x = cc in ap (λ (y : Membe
 
 -- ---- members that are a package
 
-module _ (x : Followed) (t : Tables) (facts : List KeptFact) (h : Homes) (rs : List ReadMember) (read : AreReadOf x t facts h (map read_member rs)) (ms : List Member) (lent : map lent_member ms ≡ map read_member rs) where
-  module _ (pieces : List Piece) (followed : IsFollowed pieces x) (n : ℕ) (obeys : are_package t h (known_by facts) n (numbered_members ms) ≡ true) where
+module _ (x : Followed) (t : Tables) (facts : List KeptFact) (h : Homes) (ms : List Member) (read : AreReadOf x t facts h (map lent_member ms)) (pieces : List Piece) (followed : IsFollowed pieces x) where
+  module _ (n : ℕ) (obeys : are_package t h (known_by facts) n (numbered_members ms) ≡ true) where
     is_package : IsReadPackage pieces x t facts h n ms
     is_package = record {
       tables = read.tables;
@@ -49,8 +51,8 @@ module _ (x : Followed) (t : Tables) (facts : List KeptFact) (h : Homes) (rs : L
       stand = read.stand;
       homes = read.homes;
       packages = read.packages;
-      sources = read_packages_have_sources read.first h.packages h.homes ms read.reasons (subst (AreForMembers read.first h.packages) (sym lent) read.members);
-      read = subst (AreRead t (known_by facts) h x.members.items) (sym lent) read.read;
+      sources = read_packages_have_sources read.first h.packages h.homes ms read.reasons read.members;
+      read = read.read;
       obeys = obeys;
     }
 
@@ -62,14 +64,20 @@ module _ (x : Followed) (t : Tables) (facts : List KeptFact) (h : Homes) (rs : L
         let is = read_plans_are_meant pieces x t facts h n ms is_package p planned fits in
         record { plan = is.plan; means = is.means }
 
--- ---- members that are none
+  -- ---- members that are none
 
-pub no_package : (x : Followed) (t : Tables) (facts : List KeptFact) (packages : List PackageIdentity) (homes : Given) (rs : List ReadMember) → AreReadOf x t facts (homes_in packages homes) (map read_member rs)
-    → (ms : List Member) → map lent_member ms ≡ map read_member rs → are_one_package t (homes_in packages homes) (known_by facts) (numbered_members ms) ≡ false
-    → (pieces : List Piece) → IsFollowed pieces x → package_of_pieces pieces ≡ None
-no_package x t facts packages homes rs read ms lent none pieces followed =
-    decide pieces x followed facts read.known packages homes (subst (λ (u : Tables). HomesStand u (homes_in packages homes)) read.tables read.stand) t read.tables homes refl x.members.items refl rs
-    read.read homes refl rs refl false (sym none ∙ ap (are_one_package t (homes_in packages homes) (known_by facts)) (lent_are ms rs lent))
+  pub over_followed : (P : Tables → Type 0) → P t → P (tables_of x)
+  over_followed P is = subst P read.tables is
+
+  none_decided : (u : Tables) (ks : List NumberedMember) → ArePackageDecided pieces u h (known_by facts) ks → are_one_package u h (known_by facts) ks ≡ false → package_of_pieces pieces ≡ None
+  none_decided u [] d e = d
+  none_decided u (k ∷ ks) d e = d.decided ∙ ap (λ b. provided b (package_shown d.identity d.members)) e
+
+  pub no_package : are_one_package t h (known_by facts) (numbered_members ms) ≡ false → package_of_pieces pieces ≡ None
+  no_package none =
+      let decided = packages_are_decided pieces x followed facts read.known h (over_followed (λ (u : Tables). HomesStand u h) read.stand) (map lent_member ms) (over_followed (λ (u : Tables). AreRead u (known_by facts) h x.members.items (map lent_member ms)) read.read) in
+      none_decided (tables_of x) (numbered_members ms) (subst (ArePackageDecided pieces (tables_of x) h (known_by facts)) (map_of_map (λ (m : NumberedMember × List (Option ℕ)). m.0) lent_member ms) decided)
+      (over_followed (λ (u : Tables). are_one_package u h (known_by facts) (numbered_members ms) ≡ false) none)
 
 -- ---- members as they are read
 

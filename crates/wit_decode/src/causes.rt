@@ -1,8 +1,10 @@
-//! Why what was read is no package.
+//! Why what was read is no package, or no world by itself.
 
-ghost use Rattle.std.specs.Prelude.{Option};
-ghost use Rattle.wit_model.specs.Meaning.{PackageMeaning};
-ghost use Rattle.comp_read.specs.Found.{Refuses};
+ghost use Rattle.std.specs.Prelude.{List, Some};
+ghost use Rattle.comp_bytes.specs.Levels.{Piece};
+ghost use Rattle.part_members.specs.ReadMembers.{Because};
+ghost use Rattle.wit_decode.specs.declared.wanted.Wanted.{Wanted};
+ghost use Rattle.wit_decode.specs.WantedFound.{MeansNone};
 
 use comp_read::Refusal;
 use plan_gather::agree;
@@ -35,7 +37,7 @@ pub(crate) fn cause_among(
     }
 }
 
-/// Why what was read over these tables is no package, where members that were read say this: views that differ, a type that is too deep, or else
+/// Why what was read over these tables is no package, or no world, where members that were read say this: views that differ, a type that is too deep, or else
 /// another fault.
 fn cause_over(tables: &Tables<'_>, cause: Cause) -> Cause {
     if cause == Cause::Disagree {
@@ -49,7 +51,7 @@ fn cause_over(tables: &Tables<'_>, cause: Cause) -> Cause {
 
 /// The refusal of what was read over these tables, with its cause.
 pub(crate) fn refusal_over(tables: &Tables<'_>, refusal: Refusal) -> Refusal
-    ensures { (found : Option PackageMeaning) → Refuses refusal found → Refuses result found }
+    ensures { (wanted : Wanted) (pieces : List Piece) → Because refusal (MeansNone wanted (Some pieces)) → Because result (MeansNone wanted (Some pieces)) }
 {
     match refusal {
         Refusal::Absent(cause, left) => Refusal::Absent(cause_over(tables, cause), left),

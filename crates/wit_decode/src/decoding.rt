@@ -1,22 +1,26 @@
-//! Packages from bytes.
+//! Packages and worlds from bytes.
 
 ghost use Rattle.std.specs.Prelude.{◌≡◌, ◌≤◌, length, IfErr, IfOk};
-ghost use Rattle.comp_read.specs.Found.{Refuses};
-ghost use Rattle.wit_decode.specs.Decoded.{error_from, package_found, HoldsFound, IsDecoded, RefusesBytes};
+ghost use Rattle.comp_bytes.specs.Levels.{levels_of};
+ghost use Rattle.part_members.specs.ReadMembers.{Because};
+ghost use Rattle.wit_decode.specs.Decoded.{error_from, IsDecoded, RefusesBytes};
+ghost use Rattle.wit_decode.specs.DecodedWorlds.{IsDecodedWorld, RefusesWorldBytes};
+ghost use Rattle.wit_decode.specs.WantedFound.{HoldsWanted, MeansNone};
 
-use crate::packages::package_of_pieces;
+use crate::reading::wanted_of_pieces;
+use crate::wanted::Wanted;
 use comp_read::{Refusal, component_of};
 use std::alloc::Global;
-use wit_model::{Error, PackageId, Resolve};
+use wit_model::{Error, PackageId, Resolve, WorldId};
 
-/// The package that the sections of a component mean, by its number in a `Resolve` of its own.
-fn package_in(alloc: Global, bytes: &[u8]) -> Result<(Resolve, PackageId), Refusal>
-    ensures read { IfOk result (λ x. HoldsFound (package_found bytes.now) x.0 x.1.0) }
+/// The package, or the one world, that the sections of a component mean, in a `Resolve` of its own, and the number of the package.
+fn wanted_in(alloc: Global, wanted: Wanted, bytes: &[u8]) -> Result<(Resolve, PackageId), Refusal>
+    ensures read { IfOk result (λ x. HoldsWanted wanted (levels_of bytes.now) x.0 x.1.0) }
     ensures few { IfOk result (λ x. length x.0.types.items ≤ length bytes.now) }
-    ensures absent { IfErr result (λ e. Refuses e (package_found bytes.now)) }
+    ensures absent { IfErr result (λ e. Because e (MeansNone wanted (levels_of bytes.now))) }
 {
     match component_of(alloc, bytes) {
-        Ok(pieces) => package_of_pieces(alloc, &pieces),
+        Ok(pieces) => wanted_of_pieces(alloc, wanted, &pieces),
         Err(refusal) => Err(refusal),
     }
 }
@@ -45,8 +49,30 @@ pub fn decode(alloc: Global, bytes: &[u8]) -> Result<(Resolve, PackageId), Error
     ensures decoded { IfOk result (λ x. IsDecoded bytes.now x.0 x.1.0) }
     ensures refuses { IfErr result (RefusesBytes bytes.now) }
 {
-    match package_in(alloc, bytes) {
+    match wanted_in(alloc, Wanted::Package, bytes) {
         Ok(package) => Ok(package),
+        Err(refusal) => Err(error_of(refusal, bytes.len())),
+    }
+}
+
+/// The one world that the bytes of a component mean (Component Model WIT.md, "Package Format"; WIT.md, "Worlds"), and its number in the `Resolve`, which
+/// is 0.
+///
+/// The `Resolve` is valid, has no documentation and no known stability, and nothing beyond what the world means: the world, the interfaces that it
+/// imports and exports, each as the world shows it, and their packages. Those of its own package are the package's, in the order in which the world
+/// shows them first. It has no more types than there are bytes.
+///
+/// Takes time linear in the bytes, expected, but for aliases, each of which takes time linear in the types that its instance shows, and
+/// memory linear in what is declared. Refuses with `NoReading` exactly where the bytes mean no one world, at an offset that is at most their
+/// length: with the cause of `component_of` or `follow_parts`, and else, at the end of the bytes, `Disagree` where there is one world and views of an
+/// interface differ, `TooDeep` where a type has more than 100 levels, or `NotWit`, so where a package has another member beside the world, or where
+/// the world shows an interface under its own path; else with `Memory`.
+pub fn decode_world(alloc: Global, bytes: &[u8]) -> Result<(Resolve, WorldId), Error>
+    ensures decoded { IfOk result (λ x. IsDecodedWorld bytes.now x.0 x.1.0) }
+    ensures refuses { IfErr result (RefusesWorldBytes bytes.now) }
+{
+    match wanted_in(alloc, Wanted::World, bytes) {
+        Ok((resolve, _)) => Ok((resolve, WorldId(0))),
         Err(refusal) => Err(error_of(refusal, bytes.len())),
     }
 }

@@ -1,9 +1,12 @@
-//! Component bytes decoded into the packages that they mean.
+//! Component bytes decoded into the packages and the worlds that they mean.
 #![tactic(auto)]
 
 mod building;
 mod causes;
 mod decoding;
 mod packages;
+mod reading;
+mod wanted;
+mod worlds;
 
-pub use decoding::decode;
+pub use decoding::{decode, decode_world};

@@ -2,6 +2,8 @@
 #![tactic(auto)]
 
 #[cfg(test)]
+mod one_world;
+#[cfg(test)]
 mod packages;
 #[cfg(test)]
 mod worlds;

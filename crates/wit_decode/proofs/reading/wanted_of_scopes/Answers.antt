@@ -3,12 +3,13 @@ use Rattle.path_homes.specs.Homes.{given_home}
 use Rattle.plan_read.specs.Tables.{numbered_tables}
 use Rattle.read_plan.specs.NumberedViews.{Tables}
 use Rattle.part_numbers.specs.NumberedInput.{tables_of}
-use Rattle.part_members.proofs.PackageLaws.{refused}
+use Rattle.part_members.proofs.PackageLaws.{none_meant}
+use Rattle.wit_decode.proofs.FollowedLaws.{none_read}
 use Rattle.wit_decode.proofs.ReadLaws.{are_read_of}
-use Rattle.wit_decode.proofs.packages.package_of_scopes.Goals as goal
+use Rattle.wit_decode.proofs.reading.wanted_of_scopes.Goals as goal
 
-pub package_of_read-requires-clause-read : goal.package_of_read-requires-clause-read
-package_of_read-requires-clause-read c =
+pub wanted_of_read-requires-clause-read : goal.wanted_of_read-requires-clause-read
+wanted_of_read-requires-clause-read c =
     let x = c.args.followed.now in
     let homes = c.in_ok-homes.homes.items in
     let first = c.in_ok-homes.ensures.stand (tables_of x) (ap (λ (t : Tables). t.paths) (sym c.requires.tables)) c.requires.paths in
@@ -22,5 +23,6 @@ returns-clause-absent c = λ pieces f.
     let x = c.args.followed.now in
     let homes = c.in_ok-homes.homes.items in
     let first = c.in_ok-homes.ensures.stand (tables_of x) (ap (λ (t : Tables). t.paths) (sym c.requires.tables)) c.requires.paths in
-    refused pieces x f c.args.tables.now.facts.now c.requires.known c.homes_of.new.packages homes first (numbered_tables c.args.tables.now) c.requires.tables
-    c.deref.result.now c.deref.ensures.value c.deref-2.result.now c.deref-2.ensures.value c.in-Err.refusal c.in-Err.ensures.absent
+    none_read c.args.wanted pieces c.in-Err.refusal _
+    (none_meant pieces x f c.args.tables.now.facts.now c.requires.known c.homes_of.new.packages homes first (numbered_tables c.args.tables.now) c.requires.tables
+    c.deref.result.now c.deref.ensures.value c.deref-2.result.now c.deref-2.ensures.value) c.in-Err.ensures.absent

@@ -2,13 +2,13 @@ use Rattle.std.proofs.Common.{◌≤◌, arith, length}
 use Rattle.part_numbers.specs.NumberedInput.{tables_of}
 use Rattle.plan_whole.proofs.PackageLaws.{if_ok}
 use Rattle.wit_decode.proofs.FollowedLaws.{are_paths, few_followed}
-use Rattle.wit_decode.proofs.packages.package_of_parts.Goals as goal
+use Rattle.wit_decode.proofs.reading.wanted_of_parts.Goals as goal
 
-pub package_of_followed-requires-clause-paths : goal.package_of_followed-requires-clause-paths
-package_of_followed-requires-clause-paths c = are_paths c.args.followed.now c.requires
+pub wanted_of_followed-requires-clause-paths : goal.wanted_of_followed-requires-clause-paths
+wanted_of_followed-requires-clause-paths c = are_paths c.args.followed.now c.requires
 
 pub returns-clause-few : goal.returns-clause-few
 returns-clause-few c = λ bytes pieces is read.
     let shapes = (tables_of c.args.followed.now).shapes in
     let fit = few_followed bytes pieces c.args.followed.now is read in
-    if_ok c.package_of_followed.result (λ x. length x.0.types.items ≤ length shapes) (λ x. length x.0.types.items ≤ length bytes) (λ x few. omega (arith, fit, few)) c.package_of_followed.ensures.few
+    if_ok c.wanted_of_followed.result (λ x. length x.0.types.items ≤ length shapes) (λ x. length x.0.types.items ≤ length bytes) (λ x few. omega (arith, fit, few)) c.wanted_of_followed.ensures.few
