@@ -1,0 +1,3 @@
+pub mod Nothing
+pub mod ReadBackLaws
+pub mod Refusing

@@ -1,0 +1,51 @@
+-- What is decoded of the bytes of a package means what the package does.
+use Rattle.std.proofs.Common.{◌≡◌, ap, refl, ℕ, Some, option_map}
+use Rattle.wit_model.specs.declared.error.Error.TheVariants as errors
+use Rattle.wit_model.specs.declared.model.Package.{Package}
+use Rattle.wit_model.specs.declared.model.Resolve.{Resolve}
+use Rattle.wit_model.specs.Lookup.{package_at}
+use Rattle.wit_model.specs.Meant.{package_meaning, Meant}
+use Rattle.wit_component.specs.ReadBack.{DecodingGivesThatMeaning, EncodingKeepsMeaning, MemoryAloneIsRefused}
+
+-- a package has its meaning
+pub has_meaning : (r : Resolve) (n : ℕ) (p : Package) → package_at r n ≡ Some p → Meant r n (package_meaning r n p)
+unfolding Meant
+has_meaning r n p is = ap (option_map (package_meaning r n)) is
+
+pub gives_that_meaning : DecodingGivesThatMeaning
+gives_that_meaning r n p bytes is means s k decoded = record {
+  valid = decoded.valid;
+  bare = decoded.bare;
+  package_ = decoded.package_;
+  stands = decoded.stands;
+  alone = decoded.alone;
+  means = record {
+    meaning = package_meaning r n p;
+    meant = has_meaning r n p is;
+    same = λ m. ((λ meant. (decoded.meant m).1 ((means m).0 meant)), (λ meant. (means m).1 ((decoded.meant m).0 meant)));
+  };
+}
+
+pub memory_alone : MemoryAloneIsRefused
+memory_alone r n p bytes is means errors.Memory refused = refl
+memory_alone r n p bytes is means (errors.NoReading cause offset) refused = absurd (refused.1 (package_meaning r n p) ((means (package_meaning r n p)).0 (has_meaning r n p is)))
+memory_alone r n p bytes is means errors.Size refused = absurd refused
+memory_alone r n p bytes is means (errors.CanonicalClash name) refused = absurd refused
+memory_alone r n p bytes is means errors.EncodingMissing refused = absurd refused
+memory_alone r n p bytes is means errors.EncodingUnknownFormat refused = absurd refused
+memory_alone r n p bytes is means (errors.EncodingVersion version) refused = absurd refused
+memory_alone r n p bytes is means (errors.BadStringEncoding byte) refused = absurd refused
+memory_alone r n p bytes is means errors.Historical refused = absurd refused
+memory_alone r n p bytes is means errors.NotAModule refused = absurd refused
+memory_alone r n p bytes is means (errors.BadModule offset) refused = absurd refused
+memory_alone r n p bytes is means (errors.Clash what key) refused = absurd refused
+memory_alone r n p bytes is means errors.OtherPackage refused = absurd refused
+memory_alone r n p bytes is means (errors.TwiceWithoutVersion name) refused = absurd refused
+memory_alone r n p bytes is means (errors.Missing name) refused = absurd refused
+memory_alone r n p bytes is means (errors.Differs name) refused = absurd refused
+
+pub encoding_keeps : EncodingKeepsMeaning
+encoding_keeps bytes again s k decoded means m = (
+  (λ read. (means m).0 ((decoded.meant m).1 read)),
+  (λ read. (decoded.meant m).0 ((means m).1 read)),
+)

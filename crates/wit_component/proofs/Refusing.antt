@@ -1,0 +1,128 @@
+-- What a package is refused for where it is encoded without canonical names and decoded.
+use Rattle.std.proofs.Common.{◌≡◌, ◌<◌, ◌||◌, refl, sym, ap, subst, ◌∙◌, ℕ, zero, suc, Bool, true, false, List, [], ◌∷◌, length, Some, arith, Result, Ok, Err, IfErr}
+use Rattle.std.specs.Prelude.{IsErrAnd}
+use Rattle.std.specs.List.{Contains, slice_get}
+use Rattle.std.proofs.lemmas.Bool.{true≢false}
+use Rattle.std.proofs.lemmas.List.Elements.{Contains-append_left, Contains-append_right}
+use Rattle.wit_model.specs.declared.error.Error.{Error}
+use Rattle.wit_model.specs.declared.error.Error.TheVariants as errors
+use Rattle.wit_model.specs.declared.model.Package.{Package}
+use Rattle.wit_model.specs.declared.model.Resolve.{Resolve}
+use Rattle.wit_model.specs.declared.model.World.{World}
+use Rattle.wit_model.specs.Lookup.{package_at}
+use Rattle.wit_model.specs.Meant.{package_meaning}
+use Rattle.wit_model.specs.Valid.{IsValid}
+use Rattle.wit_model.proofs.Elements.{contains-one}
+use Rattle.comp_bytes.specs.Refusal.{IsMemoryOrSize}
+use Rattle.comp_bytes.specs.Spelling.{preamble}
+use Rattle.comp_meaning.specs.Follow.{is_filled}
+use Rattle.comp_meaning.specs.Reads.{Reads}
+use Rattle.wit_decode.specs.Decoded.{IsDecoded, RefusesBytes}
+use Rattle.world_names.specs.Clashes.{RefusesNames, RefusesPaths}
+use Rattle.wit_encode.specs.Packages.{HasMembers, HasNoMembers, MeansPackage, RefusesPackage, RefusesWorldAt}
+use Rattle.wit_encode.specs.Scopes.{RefusesInterface}
+use Rattle.wit_encode.specs.WholeWorlds.{RefusesWorld}
+use Rattle.wit_encode.proofs.WholePackages.{are-worlds}
+use Rattle.wit_component.specs.ReadBack.{IsReadBack, RefusesReadBack}
+use Rattle.wit_component.proofs.Nothing.{preamble_means_nothing}
+use Rattle.wit_component.proofs.ReadBackLaws.{gives_that_meaning, has_meaning}
+
+-- ---- encoding
+
+of_memory : (e : Error) → e ≡ errors.Memory → IsMemoryOrSize e
+of_memory e is = subst IsMemoryOrSize (sym is) tt
+
+of_interface : (r : Resolve) (n : ℕ) (e : Error) → RefusesInterface r n false e → IsMemoryOrSize e
+of_interface r n e (RefusesInterface.of_paths (RefusesPaths.memory is)) = of_memory e is
+of_interface r n e (RefusesInterface.of_paths (RefusesPaths.clash asked name first is)) = absurd (true≢false (sym asked))
+of_interface r n e (RefusesInterface.of_room differ h) = h
+
+of_world : (r : Resolve) (w : World) (e : Error) → RefusesWorld r w false e → IsMemoryOrSize e
+of_world r w e (RefusesWorld.of_names (RefusesNames.memory is)) = of_memory e is
+of_world r w e (RefusesWorld.of_names (RefusesNames.clash asked name first is)) = absurd (true≢false (sym asked))
+of_world r w e (RefusesWorld.of_room differ h) = h
+
+pub stands : {A : Type 0} (xs : List A) (k : ℕ) → k < length xs → (x : A) × (slice_get xs k ≡ Some x)
+stands [] k below = absurd (omega (arith, below))
+stands (x ∷ xs) zero below = (x, refl)
+stands (x ∷ xs) (suc k) below = stands xs k (omega (arith, below))
+
+of_world_at : (r : Resolve) (n : ℕ) (e : Error) → n < length r.worlds.items → RefusesWorldAt r n false e → IsMemoryOrSize e
+of_world_at r n e below h = let w = stands r.worlds.items n below in of_world r w.0 e (h w.0 w.1)
+
+pub memory_or_size : (r : Resolve) → IsValid r → (n : ℕ) (p : Package) → package_at r n ≡ Some p → (e : Error) → RefusesPackage r p false e → IsMemoryOrSize e
+memory_or_size r v n p at e (RefusesPackage.of_interfaces h) = of_interface r h.refused.1.0 e h.refuses
+memory_or_size r v n p at e (RefusesPackage.of_worlds differ h) =
+    let listed : Contains p.worlds.entries h.refused = subst (λ es. Contains es h.refused) (sym h.are)
+    (Contains-append_right h.before (h.refused ∷ h.after) h.refused (Contains-append_left (h.refused ∷ []) h.after h.refused (contains-one h.refused))) in
+    of_world_at r h.refused.1.0 e (are-worlds r v n p at h.refused listed) h.refuses
+memory_or_size r v n p at e (RefusesPackage.of_room differ h) = h
+
+-- an error that is handed on
+pub passed_on : {X : Type 0} (P : Error → Type 0) (e : Error) (given : Result X Error) → P e → IsErrAnd given (λ d. d ≡ e) → IfErr given P
+passed_on P e (Ok x) h same = tt
+passed_on P e (Err d) h same = subst P (sym same) h
+
+pub handed_on : {X Y : Type 0} (e : Error) (given : Result X Error) → IsErrAnd given (λ d. d ≡ e) → given ≡ Err errors.Size → ◌≡◌ {A = Result Y Error} (Err e) (Err errors.Size)
+handed_on e (Ok x) same refused = absurd (let z : ⊥ = cc in z)
+handed_on e (Err d) same refused = let size : d ≡ errors.Size = cc in ap Err (sym same ∙ size)
+
+pub refused_encoding : (p : Package) (e : Error) → IsMemoryOrSize e → RefusesReadBack p e
+refused_encoding p errors.Memory h = tt
+refused_encoding p errors.Size h = tt
+refused_encoding p (errors.NoReading cause offset) h = absurd h
+refused_encoding p (errors.CanonicalClash name) h = absurd h
+refused_encoding p errors.EncodingMissing h = absurd h
+refused_encoding p errors.EncodingUnknownFormat h = absurd h
+refused_encoding p (errors.EncodingVersion version) h = absurd h
+refused_encoding p (errors.BadStringEncoding byte) h = absurd h
+refused_encoding p errors.Historical h = absurd h
+refused_encoding p errors.NotAModule h = absurd h
+refused_encoding p (errors.BadModule offset) h = absurd h
+refused_encoding p (errors.Clash what key) h = absurd h
+refused_encoding p errors.OtherPackage h = absurd h
+refused_encoding p (errors.TwiceWithoutVersion name) h = absurd h
+refused_encoding p (errors.Missing name) h = absurd h
+refused_encoding p (errors.Differs name) h = absurd h
+
+-- ---- decoding
+
+module _ (r : Resolve) (n : ℕ) (p : Package) (bytes : List ℕ) (at : package_at r n ≡ Some p) (means : HasMembers p → MeansPackage r n bytes) where
+  split : {X : Type 0} (b : Bool) → (b ≡ true → X) → (b ≡ false → X) → X
+  split true holds fails = holds refl
+  split false holds fails = fails refl
+
+  pub refused_decoding : (e : Error) → RefusesBytes bytes e → RefusesReadBack p e
+  refused_decoding errors.Memory h = tt
+  refused_decoding (errors.NoReading cause offset) h =
+      split (is_filled p.interfaces.entries || is_filled p.worlds.entries)
+      (λ some. let m = package_meaning r n p in absurd (h.1 m ((means some m).0 (has_meaning r n p at))))
+      (λ none. none)
+  refused_decoding errors.Size h = absurd h
+  refused_decoding (errors.CanonicalClash name) h = absurd h
+  refused_decoding errors.EncodingMissing h = absurd h
+  refused_decoding errors.EncodingUnknownFormat h = absurd h
+  refused_decoding (errors.EncodingVersion version) h = absurd h
+  refused_decoding (errors.BadStringEncoding byte) h = absurd h
+  refused_decoding errors.Historical h = absurd h
+  refused_decoding errors.NotAModule h = absurd h
+  refused_decoding (errors.BadModule offset) h = absurd h
+  refused_decoding (errors.Clash what key) h = absurd h
+  refused_decoding errors.OtherPackage h = absurd h
+  refused_decoding (errors.TwiceWithoutVersion name) h = absurd h
+  refused_decoding (errors.Missing name) h = absurd h
+  refused_decoding (errors.Differs name) h = absurd h
+
+  pub read_back : (HasNoMembers p → bytes ≡ preamble) → (s : Resolve) (k : ℕ) → IsDecoded bytes s k → IsReadBack r n s k
+  read_back empty s k decoded =
+      split (is_filled p.interfaces.entries || is_filled p.worlds.entries)
+      (λ some. gives_that_meaning r n p bytes at (means some) s k decoded)
+      (λ none. absurd (preamble_means_nothing decoded.meaning (subst (λ (bs : List ℕ). Reads bs decoded.meaning) (empty none) decoded.read)))
+
+same_error : {X : Type 0} (d e : Error) → ◌≡◌ {A = Result X Error} (Err d) (Err e) → d ≡ e
+same_error d e same = cc
+
+-- bytes are not refused for what doesn't fit
+pub never_too_large : {X Q : Type 0} (bytes : List ℕ) (given : Result X Error) → IfErr given (RefusesBytes bytes) → given ≡ Err errors.Size → Q
+never_too_large bytes (Ok x) h refused = absurd (let z : ⊥ = cc in z)
+never_too_large bytes (Err e) h refused = absurd (subst (RefusesBytes bytes) (same_error e errors.Size refused) h)

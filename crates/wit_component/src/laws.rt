@@ -1,0 +1,20 @@
+//! Laws that join the crates.
+
+ghost use Rattle.wit_component.specs.ReadBack.{DecodedHaveMembers, DecodingGivesThatMeaning, EncodingKeepsMeaning, MemoryAloneIsRefused};
+
+pub use comp_meaning::laws::one_meaning;
+
+/// Of bytes that mean exactly what a package of a `Resolve` does, as those that `encode` answers of a valid package with an interface or a
+/// world: what `decode` answers of them is valid, without documentation, and means that and nothing else; and it refuses them for want of
+/// memory alone.
+pub fn decoding_gives_that_meaning()
+    ensures decoded { DecodingGivesThatMeaning }
+    ensures refused { MemoryAloneIsRefused }
+{}
+
+/// What `decode` answers has an interface or a world, so that the bytes which `encode` answers of it mean exactly what it does; and that is what
+/// the bytes mean which it was decoded of.
+pub fn encoding_keeps_that_meaning()
+    ensures encoded { EncodingKeepsMeaning }
+    ensures members { DecodedHaveMembers }
+{}
