@@ -1,13 +1,32 @@
--- Which words are a command.
-use Rattle.std.specs.Prelude.{ℕ, Bool, false, ◌&&◌, ◌||◌, nat_eq, List, [], ◌∷◌, codes, Vec}
+-- What the words behind the program's name ask for.
+use Rattle.std.specs.Prelude.{ℕ, Bool, ◌&&◌, nat_eq, List, [], ◌∷◌, codes, Vec, Option, Some, None, is_some, if◌then◌else◌}
 use Rattle.std.specs.declared.alloc.Global.{Global}
 use Rattle.std.specs.Cmp.Lexicographic.{pointwise}
+use Rattle.std.specs.Str.{is_utf8}
+
+-- what is asked for: the demo's package as text or as digits, the text of a package, or whether the world of the second name may take the
+-- place of the one of the first
+pub data Asked : Type 0 where
+  demo_text : Asked
+  demo_hex : Asked
+  print : Asked
+  compat : List ℕ → List ℕ → Asked
 
 -- whether a word is this text
 abbrev pub is_word : Vec ℕ Global → List ℕ → Bool
 is_word word text = pointwise nat_eq word.items text
 
--- whether the words are a command: so far `demo text` and `demo hex`
+-- what follows `demo`
+abbrev pub demo_of : Vec ℕ Global → Option Asked
+demo_of second = if is_word second (codes "text") then Some demo_text else (if is_word second (codes "hex") then Some demo_hex else None)
+
+-- what the words ask for, or none where they are no command: so far `demo text`, `demo hex`, `print`, and `compat` with two words that are UTF-8
+abbrev pub asked_of : List (Vec ℕ Global) → Option Asked
+asked_of (first ∷ []) = if is_word first (codes "print") then Some print else None
+asked_of (first ∷ second ∷ []) = if is_word first (codes "demo") then demo_of second else None
+asked_of (first ∷ prev ∷ new ∷ []) = if is_word first (codes "compat") && (is_utf8 prev.items && is_utf8 new.items) then Some (compat prev.items new.items) else None
+asked_of _ = None
+
+-- whether the words are a command
 abbrev pub is_command : List (Vec ℕ Global) → Bool
-is_command (first ∷ second ∷ []) = is_word first (codes "demo") && (is_word second (codes "text") || is_word second (codes "hex"))
-is_command _ = false
+is_command words = is_some (asked_of words)

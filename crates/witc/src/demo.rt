@@ -1,17 +1,56 @@
 //! The package that `witc demo` shows: `a:b` with the world `foo`, which imports `host` and exports `guest`, two functions
 //! without parameters and result.
 
+ghost use Rattle.std.specs.Prelude.{IfOk};
+ghost use Rattle.wit_model.specs.Valid.{IsValid};
+ghost use Rattle.witc.specs.Demo.{HoldsDemo, IsFoo, IsOneFunction};
+ghost use Rattle.witc.specs.DemoShown.{IsDemoDigits, IsDemoText};
+
+use crate::hex::hex_lines;
+use crate::print::text_of_package;
+use crate::refusal::Refusal;
 use std::alloc::Global;
+use wit_check::Check;
+use wit_encode::encode;
 use wit_model::{
     Docs, Error, Function, FunctionKind, Map, Package, PackageId, PackageName, Resolve, Stability,
     World, WorldId, WorldItem, WorldKey,
 };
 
 /// The package's number in `package`.
-pub const PACKAGE: PackageId = PackageId(0);
+const PACKAGE: PackageId = PackageId(0);
+
+/// The package as text.
+pub fn demo_text(alloc: Global) -> Result<Vec<u8>, Refusal>
+    ensures { IfOk result (λ text. IsDemoText text.items) }
+{
+    let resolve = checked_package(alloc)?;
+    Ok(text_of_package(alloc, &resolve, PACKAGE)?)
+}
+
+/// The package's bytes in hexadecimal digits.
+pub fn demo_hex(alloc: Global) -> Result<Vec<u8>, Refusal>
+    ensures { IfOk result (λ text. IsDemoDigits text.items) }
+{
+    let resolve = checked_package(alloc)?;
+    let bytes = encode(alloc, &resolve, PACKAGE, false)?;
+    Ok(hex_lines(alloc, &bytes)?)
+}
+
+/// A `Resolve` of the one package, which is valid.
+fn checked_package(alloc: Global) -> Result<Resolve, Refusal>
+    ensures holds { IfOk result HoldsDemo }
+    ensures valid { IfOk result IsValid }
+{
+    let resolve = package(alloc)?;
+    resolve.check(alloc)?;
+    Ok(resolve)
+}
 
 /// A `Resolve` of the one package.
-pub fn package(alloc: Global) -> Result<Resolve, Error> {
+fn package(alloc: Global) -> Result<Resolve, Error>
+    ensures { IfOk result HoldsDemo }
+{
     let mut worlds = Map::new(alloc);
     worlds.insert(String::from_str(alloc, "foo")?, WorldId(0))?;
     let name = PackageName {
@@ -33,26 +72,23 @@ pub fn package(alloc: Global) -> Result<Resolve, Error> {
     })
 }
 
-fn world(alloc: Global) -> Result<World, Error> {
-    let mut imports = Map::new(alloc);
-    insert_function(alloc, &mut imports, "host")?;
-    let mut exports = Map::new(alloc);
-    insert_function(alloc, &mut exports, "guest")?;
+fn world(alloc: Global) -> Result<World, Error>
+    ensures { IfOk result IsFoo }
+{
     Ok(World {
         name: String::from_str(alloc, "foo")?,
-        imports,
-        exports,
+        imports: one_function(alloc, "host")?,
+        exports: one_function(alloc, "guest")?,
         docs: Docs { contents: None },
         stability: Stability::Unknown,
         package: Some(PACKAGE),
     })
 }
 
-fn insert_function(
-    alloc: Global,
-    items: &mut Map<WorldKey, WorldItem>,
-    name: &str,
-) -> Result<(), Error> {
+/// Items of a world: the function of this name, without parameters and result.
+fn one_function(alloc: Global, name: &str) -> Result<Map<WorldKey, WorldItem>, Error>
+    ensures { IfOk result (λ items. IsOneFunction name.now items.entries) }
+{
     let key = WorldKey::Name(String::from_str(alloc, name)?);
     let function = Function {
         name: String::from_str(alloc, name)?,
@@ -63,6 +99,7 @@ fn insert_function(
         stability: Stability::Unknown,
         external_id: None,
     };
+    let mut items = Map::new(alloc);
     items.insert(key, WorldItem::Function(function))?;
-    Ok(())
+    Ok(items)
 }

@@ -3,9 +3,18 @@
 use std::alloc::Global;
 use std::test::Fail;
 use wit_check::Check;
+use wit_decode::decode;
 use wit_encode::encode;
 use wit_model::*;
 use wit_print::{OutputToString, WitPrinter};
+
+/// The text of the package that the bytes of a component mean.
+fn text_of(alloc: Global, bytes: &[u8]) -> Result<String, Error> {
+    let (resolve, id) = decode(alloc, bytes)?;
+    let mut printer = WitPrinter::new(OutputToString::new(alloc));
+    printer.print(alloc, &resolve, id, &[])?;
+    Ok(String::from(printer.output))
+}
 
 /// Package `a:b`, whose world `foo` exports one function.
 fn package(alloc: Global) -> Result<Resolve, Error> {
@@ -55,7 +64,7 @@ fn package(alloc: Global) -> Result<Resolve, Error> {
 }
 
 #[test]
-fn checked_encoded_and_printed(rt: HostRuntime) -> Result<(), Fail> {
+fn checked_encoded_decoded_and_printed(rt: HostRuntime) -> Result<(), Fail> {
     let alloc = rt.alloc();
     let resolve = package(alloc)?;
     assert!(rt; resolve.packages.len() > 0);
@@ -63,11 +72,8 @@ fn checked_encoded_and_printed(rt: HostRuntime) -> Result<(), Fail> {
 
     let bytes = encode(alloc, &resolve, PackageId(0), false)?;
     assert_eq!(rt; bytes.len(), 54);
-
-    let mut printer = WitPrinter::new(OutputToString::new(alloc));
-    printer.print(alloc, &resolve, PackageId(0), &[])?;
     assert_eq!(rt;
-        String::from(printer.output).as_str(),
+        text_of(alloc, &bytes)?.as_str(),
         "package a:b;\n\nworld foo {\n  export go: async func(n: u64) -> string;\n}\n"
     );
     Ok(())

@@ -1,16 +1,25 @@
 //! The program `witc`: WIT packages as bytes and as text.
 #![tactic(auto)]
 
+mod answer;
+mod command;
+mod compat;
 mod demo;
 #[cfg(test)]
 mod example;
 mod hex;
+mod input;
 #[cfg(test)]
 mod plain_packages;
+mod print;
+mod refusal;
 mod run;
 mod words;
+mod worlds;
 
-use run::{Refusal, refuse, run};
+use answer::refuse;
+use refusal::Refusal;
+use run::run;
 use std::process::ExitCode;
 use wit_model::Error;
 

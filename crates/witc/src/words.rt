@@ -1,5 +1,7 @@
 //! The words behind the program's name.
 
+ghost use Rattle.std.specs.Prelude.{◌≤◌, vec_len, IfOk};
+
 use std::alloc::{AllocError, Global};
 use std::env::FillError;
 use std::rt::Env;
@@ -8,7 +10,9 @@ use std::rt::Env;
 const MOST_WORDS: usize = 4;
 
 /// The words behind the program's name, as their bytes; of more than `MOST_WORDS` those in front.
-pub fn words<E: Env>(env: &E, alloc: Global) -> Result<Vec<Vec<u8>>, AllocError> {
+pub fn words<E: Env>(env: &E, alloc: Global) -> Result<Vec<Vec<u8>>, AllocError>
+    ensures { IfOk result (λ words. vec_len words ≤ 4) }
+{
     let mut words = Vec::new(alloc);
     for i in 0..MOST_WORDS {
         match word(env, alloc, i + 1)? {
@@ -35,3 +39,6 @@ fn word<E: Env>(env: &E, alloc: Global, i: usize) -> Result<Option<Vec<u8>>, All
     }
     Err(AllocError)
 }
+
+#[cfg(test)]
+mod tests;

@@ -1,0 +1,5 @@
+mod DemoLaws
+mod NamedLaws
+mod PrintedLaws
+mod RefusedLaws
+mod RunLaws

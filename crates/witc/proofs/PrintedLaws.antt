@@ -1,0 +1,48 @@
+-- The text of a package that was printed, and the bytes of the demo's that were encoded.
+use Rattle.std.proofs.Common.{◌≡◌, ◌||◌, ℕ, Bool, true, false, refl, sym, ap, subst, ◌∙◌, List, [], ◌∷◌, codes, map, Option, Some, None, option_map}
+use Rattle.std.specs.declared.alloc.Global.{Global}
+use Rattle.std.specs.Prelude.{String}
+use Rattle.comp_meaning.specs.Follow.{is_filled}
+use Rattle.wit_encode.specs.Packages.{HasMembers}
+use Rattle.wit_model.specs.declared.model.Package.{Package}
+use Rattle.wit_model.specs.declared.model.PackageId.{PackageId}
+use Rattle.wit_model.specs.declared.model.Resolve.{Resolve}
+use Rattle.wit_model.specs.declared.model.WorldId.{WorldId}
+use Rattle.wit_model.specs.Lookup.{package_at}
+use Rattle.wit_model.specs.Meaning.{PackageMeaning, WorldMeaning}
+use Rattle.wit_model.specs.Meant.{Meant, package_meaning, world_meaning_at}
+use Rattle.wit_model.specs.Text.{Text, text_of}
+use Rattle.wit_model.proofs.Elements.{same-some}
+use Rattle.wit_print.proofs.RenderLaws.{Moves-writes}
+use Rattle.wit_print.specs.AsRead.{file_as_read}
+use Rattle.wit_print.specs.Calls.{file_calls}
+use Rattle.wit_print.specs.OutputCall.{Moves, View}
+use Rattle.wit_print.specs.Reading.{IsOnlyReading}
+use Rattle.wit_print.specs.Render.{Written, blank, render, writes}
+use Rattle.wit_print.specs.Shown.{shown_file}
+use Rattle.witc.specs.Demo.{demo, foo}
+use Rattle.witc.specs.Printed.{IsTextOf}
+
+-- what an output holds that was blank before the calls
+pub printed : (r : Resolve) (id : PackageId) (text : List ℕ) (new : View Written) → Moves writes blank (file_calls true (shown_file r id [])) new → text ≡ new.kept.text
+    → IsOnlyReading (render (file_calls true (shown_file r id []))) (file_as_read (shown_file r id [])) → IsTextOf r id text
+printed r id text new moved is reads =
+    let rendered : text ≡ render (file_calls true (shown_file r id [])) = is ∙ ap (λ (v : View Written). v.kept.text) (Moves-writes moved) in
+    record { rendered = rendered; reads = subst (λ (t : List ℕ). IsOnlyReading t (file_as_read (shown_file r id []))) (sym rendered) reads }
+
+-- a package that means the demo's holds a world
+pub holds-world : (r : Resolve) (p : Package) → package_at r 0 ≡ Some p → Meant r 0 demo → HasMembers p
+unfolding Meant
+holds-world r p at means =
+    go p.worlds.entries (ap (λ (m : PackageMeaning). m.worlds) (same-some (package_meaning r 0 p) demo (sym (ap (option_map (package_meaning r 0)) at) ∙ means)))
+  where
+    shown : String Global × WorldId → Text × WorldMeaning
+    shown e = (text_of e.0, world_meaning_at r e.1.0)
+
+    or-true : (b : Bool) → (b || true) ≡ true
+    or-true true = refl
+    or-true false = refl
+
+    go : (es : List (String Global × WorldId)) → map shown es ≡ (codes "foo", foo) ∷ [] → (is_filled p.interfaces.entries || is_filled es) ≡ true
+    go [] is = absurd (let z : ⊥ = cc in z)
+    go (e ∷ es) is = or-true (is_filled p.interfaces.entries)

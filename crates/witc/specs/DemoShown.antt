@@ -1,0 +1,20 @@
+-- The demo's package as text and as digits.
+use Rattle.std.specs.Prelude.{◌≡◌, ℕ, List}
+use Rattle.wit_model.specs.declared.model.Resolve.{Resolve}
+use Rattle.wit_model.specs.Meant.{Meant}
+use Rattle.comp_meaning.specs.Reads.{Reads}
+use Rattle.witc.specs.Demo.{demo}
+use Rattle.witc.specs.Hex.{hex_text}
+use Rattle.witc.specs.Printed.{IsTextOf}
+
+-- The text is of a `Resolve` whose first package means the demo's.
+pub record IsDemoText (text : List ℕ) : Type 0 where
+  pub resolve : Resolve
+  pub means : Meant resolve 0 demo
+  pub is_text : IsTextOf resolve (record { 0 = 0 }) text
+
+-- The digits are of bytes that mean the demo's package.
+pub record IsDemoDigits (text : List ℕ) : Type 0 where
+  pub bytes : List ℕ
+  pub means : Reads bytes demo
+  pub is_text : text ≡ hex_text bytes

@@ -1,0 +1,22 @@
+-- The text of packages (Component Model WIT.md).
+use Rattle.std.specs.Prelude.{◌≡◌, ℕ, List, [], Option, true}
+use Rattle.wit_model.specs.declared.model.PackageId.{PackageId}
+use Rattle.wit_model.specs.declared.model.Resolve.{Resolve}
+use Rattle.wit_print.specs.AsRead.{file_as_read}
+use Rattle.wit_print.specs.Calls.{file_calls}
+use Rattle.wit_print.specs.Reading.{IsOnlyReading}
+use Rattle.wit_print.specs.Render.{render}
+use Rattle.wit_print.specs.Shown.{shown_file}
+use Rattle.witc.specs.Decodes.{DecodesInput}
+
+-- The text is what the package's calls render to, with documentation and no others nested, and its one reading is what is shown of the package.
+pub record IsTextOf (r : Resolve) (id : PackageId) (text : List ℕ) : Type 0 where
+  pub rendered : text ≡ render (file_calls true (shown_file r id []))
+  pub reads : IsOnlyReading text (file_as_read (shown_file r id []))
+
+-- All that a reader has left means a package, and the text is of it.
+pub record PrintsInput (left rest : Option (List ℕ)) (text : List ℕ) : Type 0 where
+  pub resolve : Resolve
+  pub id : PackageId
+  pub decoded : DecodesInput left rest resolve id.0
+  pub is_text : IsTextOf resolve id text

@@ -1,0 +1,87 @@
+//! What the words behind the program's name ask for.
+
+ghost use Rattle.std.specs.Prelude.{◌≡◌, [], ◌∷◌, true, false, MatchOption};
+ghost use Rattle.std.specs.Option.{option_map};
+ghost use Rattle.std.specs.Str.{is_utf8};
+ghost use Rattle.witc.specs.Asks.{asked_by};
+ghost use Rattle.witc.specs.Words.{asked_of, is_word};
+
+/// What is written where the words are no command.
+pub const USAGE: &str =
+    "usage: witc demo text | demo hex | print | module | strip | compat PREV NEW\n";
+
+/// What the words ask for.
+#[derive(Clone, Copy)]
+pub enum Command<'a> {
+    /// The demo's package as text.
+    DemoText,
+    /// The demo's package as bytes in hexadecimal digits.
+    DemoHex,
+    /// The bytes of a package to its text.
+    Print,
+    /// Whether the world of the second name may take the place of the one of the first, in the bytes of a package.
+    Compat(&'a str, &'a str),
+}
+
+/// The command that the words are, or none.
+pub fn command_of(words: &[Vec<u8>]) -> Option<Command<'_>>
+    ensures { option_map asked_by result ≡ asked_of words.now }
+{
+    match words {
+        [word] => print_command(word),
+        [first, second] => demo_command(first, second),
+        [first, prev, new] => compat_command(first, prev, new),
+        _ => None,
+    }
+}
+
+fn print_command(word: &Vec<u8>) -> Option<Command<'_>>
+    ensures { option_map asked_by result ≡ asked_of (word.now ∷ []) }
+{
+    if is(word, "print") {
+        Some(Command::Print)
+    } else {
+        None
+    }
+}
+
+fn demo_command<'a>(first: &'a Vec<u8>, second: &Vec<u8>) -> Option<Command<'a>>
+    ensures { option_map asked_by result ≡ asked_of (first.now ∷ second.now ∷ []) }
+{
+    if !is(first, "demo") {
+        None
+    } else if is(second, "text") {
+        Some(Command::DemoText)
+    } else if is(second, "hex") {
+        Some(Command::DemoHex)
+    } else {
+        None
+    }
+}
+
+/// A word as text, where it is UTF-8.
+fn text_of(word: &Vec<u8>) -> Option<&str>
+    ensures { MatchOption result (is_utf8 word.now.items ≡ false) (λ text. (text.now ≡ word.now.items) × (is_utf8 word.now.items ≡ true)) }
+{
+    match str::from_utf8(word) {
+        Ok(text) => Some(text),
+        Err(_) => None,
+    }
+}
+
+fn compat_command<'a>(first: &Vec<u8>, prev: &'a Vec<u8>, new: &'a Vec<u8>) -> Option<Command<'a>>
+    ensures { option_map asked_by result ≡ asked_of (first.now ∷ prev.now ∷ new.now ∷ []) }
+{
+    if !is(first, "compat") {
+        return None;
+    }
+    let prev = text_of(prev)?;
+    let new = text_of(new)?;
+    Some(Command::Compat(prev, new))
+}
+
+fn is(word: &Vec<u8>, text: &str) -> bool
+    ensures { result ≡ is_word word.now text.now }
+{
+    word.as_slice() == text.as_bytes()
+}

@@ -1,0 +1,35 @@
+//! Packages as text.
+
+ghost use Rattle.std.specs.Prelude.{◌≡◌, ◌<◌, length, IfErr, IfOk, IsOkUnless};
+ghost use Rattle.wit_model.specs.declared.error.Error.TheVariants.{Memory};
+ghost use Rattle.wit_model.specs.Valid.{IsValid};
+ghost use Rattle.witc.specs.Printed.{IsTextOf, PrintsInput};
+ghost use Rattle.witc.specs.Decodes.{RefusesInput};
+
+use crate::input::decode_input;
+use crate::refusal::Refusal;
+use std::alloc::Global;
+use std::io::Read;
+use wit_model::{Error, PackageId, Resolve};
+use wit_print::{OutputToString, WitPrinter};
+
+/// The text of a package, with no others nested in it.
+pub fn text_of_package(alloc: Global, resolve: &Resolve, id: PackageId) -> Result<Vec<u8>, Error>
+    requires valid { IsValid resolve.now }
+    requires in_range { id.0 < length resolve.now.packages.items }
+    ensures text { IfOk result (λ text. IsTextOf resolve.now id text.items) }
+    ensures memory { IsOkUnless result Memory }
+{
+    let mut printer = WitPrinter::new(OutputToString::new(alloc));
+    printer.print(alloc, resolve, id, &[])?;
+    Ok(String::from(printer.output).into_bytes())
+}
+
+/// The text of the package that the bytes mean which a reader gives.
+pub fn print_input<R: Read>(alloc: Global, reader: &mut R) -> Result<Vec<u8>, Refusal>
+    ensures printed { IfOk result (λ text. PrintsInput (R.remaining reader.old) (R.remaining reader.new) text.items) }
+    ensures refused { IfErr result (RefusesInput (R.remaining reader.old) (R.remaining reader.new)) }
+{
+    let (resolve, id) = decode_input(alloc, reader)?;
+    Ok(text_of_package(alloc, &resolve, id)?)
+}
