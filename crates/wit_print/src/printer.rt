@@ -21,15 +21,15 @@ ghost use Rattle.wit_print.specs.GivenTypes.{are_functions_of, given_members};
 ghost use Rattle.wit_print.specs.UseGroups.{is_listed_type, listed_of};
 ghost use Rattle.wit_print.specs.Heads.{interface_body_calls, interface_head_calls};
 
-use crate::draft::Draft;
+use crate::driver::Driver;
 use crate::file::print_file;
 use crate::given_types::{collect_types, print_given_types};
 use crate::interface::{print_head, print_interface_body};
 use crate::output::Output;
 use crate::output_to_string::OutputToString;
 use crate::package::print_whole_package;
-use crate::parts::draft_package_outer;
-use crate::type_name::draft_type_name;
+use crate::parts::write_package_outer;
+use crate::type_name::write_type_name;
 use std::alloc::Global;
 use std::collections::HashMap;
 use wit_model::{
@@ -129,7 +129,7 @@ impl<O: Output> WitPrinter<O> {
     }
 
     /// Prints a package's documentation, and its name and version as they are declared.
-    #[tactic(auto, using(crate::proofs::Moves::moving))]
+    #[tactic(auto, using(crate::proofs::Driven::finishing))]
     pub fn print_package_outer(&mut self, alloc: Global, package: &Package) -> Result<(), Error>
         requires namespace { is_label (text_of «package».now.name.namespace) ≡ true }
         requires name { is_label (text_of «package».now.name.name) ≡ true }
@@ -140,9 +140,9 @@ impl<O: Output> WitPrinter<O> {
         ensures docs { emits_docs self.new ≡ emits_docs self.old }
         ensures mark { block_has_printed self.new ≡ block_has_printed self.old }
     {
-        let mut draft = Draft::new(alloc);
-        draft_package_outer(&mut draft, self.emit_docs, package)?;
-        draft.make(&mut self.output)
+        let mut driver = Driver::new(&mut self.output, alloc);
+        write_package_outer(&mut driver, self.emit_docs, package);
+        driver.finish()
     }
 
     /// Prints an interface's documentation, gates and name, under the name that is handed in, as they are declared.
@@ -244,7 +244,7 @@ impl<O: Output> WitPrinter<O> {
     /// name of its own is printed as the resource.
     ///
     /// What the printer keeps meanwhile is bounded by what is printed. After a refusal the output has a beginning of the calls.
-    #[tactic(auto, using(crate::proofs::Moves::moving))]
+    #[tactic(auto, using(crate::proofs::Driven::finishing))]
     pub fn print_type_name(
         &mut self,
         alloc: Global,
@@ -259,8 +259,8 @@ impl<O: Output> WitPrinter<O> {
         ensures docs { emits_docs self.new ≡ emits_docs self.old }
         ensures mark { block_has_printed self.new ≡ block_has_printed self.old }
     {
-        let mut draft = Draft::new(alloc);
-        draft_type_name(&mut draft, resolve, ty)?;
-        draft.make(&mut self.output)
+        let mut driver = Driver::new(&mut self.output, alloc);
+        write_type_name(&mut driver, resolve, ty);
+        driver.finish()
     }
 }
