@@ -1,4 +1,4 @@
--- Calls of a driver, and then more.
+-- Calls of a driver: one call, calls after calls, and what they come to at the end.
 use Rattle.std.proofs.Common.{Result, Ok, Err, OnOk, OnErr, ◌≡◌, ◌<◌, ◌+◌, ℕ, Bool, true, false, List, [], ◌∷◌, ◌++◌, refl, sym, subst, ◌∙◌, ap, inl, take, get_or, length, add-one, append-nil, append_assoc}
 use Rattle.std.specs.Prelude.{is_err}
 use Rattle.std.proofs.lemmas.Bool.{false≢true, true≢false}
@@ -28,27 +28,27 @@ module _ {Kept : Type 0} {keeps : View Kept → OutputCall → Kept} where
   called (Ok x) u v call h k = all_made (one_moved h)
   called (Err e) u v call h k = one_refused (begun_in k)
 
-  pub runs_one : {T E : Type 0} (refused now : Bool) (r : Result T E) (u v : View Kept) (call : OutputCall) → refused ≡ false → now ≡ is_err r → OnOk r (Counts keeps u call v) → OnErr r (Reaches keeps u (body_calls call) v) → Runs keeps refused u (call ∷ []) now v
+  runs_one : {T E : Type 0} (refused now : Bool) (r : Result T E) (u v : View Kept) (call : OutputCall) → refused ≡ false → now ≡ is_err r → OnOk r (Counts keeps u call v) → OnErr r (Reaches keeps u (body_calls call) v) → Runs keeps refused u (call ∷ []) now v
   runs_one refused now r u v call f n h k = subst (λ b. Runs keeps b u (call ∷ []) now v) (sym f) (subst (λ b. Runs keeps false u (call ∷ []) b v) (sym n) (called r u v call h k))
 
   by_result : {T E : Type 0} (r : Result T E) (u v : View Kept) (calls : List OutputCall) → OnOk r (Moves keeps u calls v) → OnErr r (Begins keeps u calls v) → Runs keeps false u calls (is_err r) v
   by_result (Ok x) u v calls h k = all_made h
   by_result (Err e) u v calls h k = one_refused k
 
-  pub runs_by : {T E : Type 0} (refused now : Bool) (r : Result T E) (u v : View Kept) (calls : List OutputCall) → refused ≡ false → now ≡ is_err r → OnOk r (Moves keeps u calls v) → OnErr r (Begins keeps u calls v) → Runs keeps refused u calls now v
+  runs_by : {T E : Type 0} (refused now : Bool) (r : Result T E) (u v : View Kept) (calls : List OutputCall) → refused ≡ false → now ≡ is_err r → OnOk r (Moves keeps u calls v) → OnErr r (Begins keeps u calls v) → Runs keeps refused u calls now v
   runs_by refused now r u v calls f n h k = subst (λ b. Runs keeps b u calls now v) (sym f) (subst (λ b. Runs keeps false u calls b v) (sym n) (by_result r u v calls h k))
 
   -- no call where one was refused
-  pub runs_past : (refused : Bool) (u : View Kept) (calls : List OutputCall) → refused ≡ true → Runs keeps refused u calls refused u
+  runs_past : (refused : Bool) (u : View Kept) (calls : List OutputCall) → refused ≡ true → Runs keeps refused u calls refused u
   runs_past refused u calls r = subst (λ b. Runs keeps b u calls b u) (sym r) (none_made refl)
 
 module _ {Kept : Type 0} {keeps : View Kept → OutputCall → Kept} where
-  pub runs_moved : {a b : Bool} {u v : View Kept} {calls : List OutputCall} → Runs keeps a u calls b v → a ≡ false → b ≡ false → Moves keeps u calls v
+  runs_moved : {a b : Bool} {u v : View Kept} {calls : List OutputCall} → Runs keeps a u calls b v → a ≡ false → b ≡ false → Moves keeps u calls v
   runs_moved (all_made m) f n = m
   runs_moved (one_refused m) f n = absurd (true≢false n)
   runs_moved (none_made m) f n = absurd (true≢false n)
 
-  pub runs_begun : {a b : Bool} {u v : View Kept} {calls : List OutputCall} → Runs keeps a u calls b v → a ≡ false → b ≡ true → Begins keeps u calls v
+  runs_begun : {a b : Bool} {u v : View Kept} {calls : List OutputCall} → Runs keeps a u calls b v → a ≡ false → b ≡ true → Begins keeps u calls v
   runs_begun (all_made m) f n = absurd (false≢true n)
   runs_begun (one_refused m) f n = m
   runs_begun (none_made m) f n = absurd (true≢false f)
@@ -70,20 +70,12 @@ module _ {O Kept : Type 0} {view : O → View Kept} {keeps : View Kept → Outpu
   pub driven_none : (a : Driver O) → Drives view keeps a [] a
   driven_none a = record { same = refl; runs = runs_none _ _ }
 
+  -- several in a row, which together are these, grouped to the right
   pub driven3 : {a b c d : Driver O} {A B C all : List OutputCall} → Drives view keeps a A b → Drives view keeps b B c → Drives view keeps c C d → A ++ (B ++ C) ≡ all → Drives view keeps a all d
   driven3 p q r h = driven_on p (driven q r) h
 
   pub driven4 : {a b c d e : Driver O} {A B C D all : List OutputCall} → Drives view keeps a A b → Drives view keeps b B c → Drives view keeps c C d → Drives view keeps d D e → A ++ (B ++ (C ++ D)) ≡ all → Drives view keeps a all e
   driven4 p q r s h = driven_on p (driven q (driven r s)) h
-
-  pub driven3l : {a b c d : Driver O} {A B C all : List OutputCall} → Drives view keeps a A b → Drives view keeps b B c → Drives view keeps c C d → (A ++ B) ++ C ≡ all → Drives view keeps a all d
-  driven3l p q r h = driven_on (driven p q) r h
-
-  pub driven4l : {a b c d e : Driver O} {A B C D all : List OutputCall} → Drives view keeps a A b → Drives view keeps b B c → Drives view keeps c C d → Drives view keeps d D e → ((A ++ B) ++ C) ++ D ≡ all → Drives view keeps a all e
-  driven4l p q r s h = driven_on (driven (driven p q) r) s h
-
-  pub driven4m : {a b c d e : Driver O} {A B C D all : List OutputCall} → Drives view keeps a A b → Drives view keeps b B c → Drives view keeps c C d → Drives view keeps d D e → (A ++ B) ++ (C ++ D) ≡ all → Drives view keeps a all e
-  driven4m p q r s h = driven_on (driven p q) (driven r s) h
 
   pub driven5 : {a b c d e f : Driver O} {A B C D E all : List OutputCall} → Drives view keeps a A b → Drives view keeps b B c → Drives view keeps c C d → Drives view keeps d D e → Drives view keeps e E f → A ++ (B ++ (C ++ (D ++ E))) ≡ all → Drives view keeps a all f
   driven5 p q r s t h = driven_on p (driven q (driven r (driven s t))) h
@@ -94,7 +86,18 @@ module _ {O Kept : Type 0} {view : O → View Kept} {keeps : View Kept → Outpu
   pub driven7 : {a b c d e f g i : Driver O} {A B C D E F G all : List OutputCall} → Drives view keeps a A b → Drives view keeps b B c → Drives view keeps c C d → Drives view keeps d D e → Drives view keeps e E f → Drives view keeps f F g → Drives view keeps g G i → A ++ (B ++ (C ++ (D ++ (E ++ (F ++ G))))) ≡ all → Drives view keeps a all i
   driven7 p q r s t u v h = driven_on p (driven q (driven r (driven s (driven t (driven u v))))) h
 
-  -- one run more
+  -- grouped to the left
+  pub driven3_left : {a b c d : Driver O} {A B C all : List OutputCall} → Drives view keeps a A b → Drives view keeps b B c → Drives view keeps c C d → (A ++ B) ++ C ≡ all → Drives view keeps a all d
+  driven3_left p q r h = driven_on (driven p q) r h
+
+  pub driven4_left : {a b c d e : Driver O} {A B C D all : List OutputCall} → Drives view keeps a A b → Drives view keeps b B c → Drives view keeps c C d → Drives view keeps d D e → ((A ++ B) ++ C) ++ D ≡ all → Drives view keeps a all e
+  driven4_left p q r s h = driven_on (driven (driven p q) r) s h
+
+  -- grouped in pairs
+  pub driven4_pairs : {a b c d e : Driver O} {A B C D all : List OutputCall} → Drives view keeps a A b → Drives view keeps b B c → Drives view keeps c C d → Drives view keeps d D e → (A ++ B) ++ (C ++ D) ≡ all → Drives view keeps a all e
+  driven4_pairs p q r s h = driven_on (driven p q) (driven r s) h
+
+  -- one more of the runs of calls that the elements of a list give
   pub one_run : {X : Type 0} (run : X → List OutputCall) (xs : List X) (i : ℕ) (x : X) {a b c : Driver O} → Drives view keeps a (flat_map run (take i xs)) b → i < length xs → x ≡ get_or xs i x → Drives view keeps b (run x) c → Drives view keeps a (flat_map run (take (i + 1) xs)) c
   one_run run xs i x d within e more = driven_on d more (sym (flat_map-take_next run xs i x within e))
 
@@ -110,16 +113,18 @@ module _ {O Kept : Type 0} {view : O → View Kept} {keeps : View Kept → Outpu
   pub plain_made : {T E : Type 0} (a b : Driver O) (r : Result T E) (call : OutputCall) → b.output.ghost_name ≡ a.output.ghost_name → a.refused ≡ false → b.refused ≡ is_err r → OnOk r (view b.output.now ≡ after keeps (view a.output.now) call) → OnErr r (view b.output.now ≡ view a.output.now) → Drives view keeps a (call ∷ []) b
   plain_made a b r call s f n h k = spelled_made a b r call s f n (on_ok r (λ e. one_moved (inl e)) h) (on_err r (λ e. nothing_begun e) k)
 
+  -- no call where one was refused
   pub call_passed : (a : Driver O) (calls : List OutputCall) → a.refused ≡ true → Drives view keeps a calls a
   call_passed a calls f = record { same = refl; runs = runs_past _ _ _ f }
 
+  -- what a driver that refused nothing did at its end, by whether it has refused a call
   pub all_moved : {a b : Driver O} {calls : List OutputCall} → Drives view keeps a calls b → a.refused ≡ false → b.refused ≡ false → Moves keeps (view a.output.now) calls (view b.output.now)
   all_moved d f n = runs_moved d.runs f n
 
   pub some_begun : {a b : Driver O} {calls : List OutputCall} → Drives view keeps a calls b → a.refused ≡ false → b.refused ≡ true → Begins keeps (view a.output.now) calls (view b.output.now)
   some_begun d f n = runs_begun d.runs f n
 
-pub ruleset driving = (driven_as, driven_none, driven_on, driven3, driven3l, driven4, driven4l, driven4m, driven5, driven6, driven7)
+pub ruleset driving = (driven_as, driven_none, driven_on, driven3, driven3_left, driven4, driven4_left, driven4_pairs, driven5, driven6, driven7)
 
 pub ruleset finishing = (all_moved, some_begun, on_ok, on_err)
 
@@ -141,6 +146,7 @@ module _ {Kept : Type 0} {keeps : View Kept → OutputCall → Kept} where
   runs_free (none_made m) n = n
 
 module _ {O Kept : Type 0} {view : O → View Kept} {keeps : View Kept → OutputCall → Kept} where
+  -- whether a line has just begun after calls of which none was refused
   pub line_driven : {a b : Driver O} {calls : List OutputCall} → Drives view keeps a calls b → b.refused ≡ false → (view b.output.now).line_begun ≡ lines_begun_after (view a.output.now).line_begun calls
   line_driven d n = runs_line d.runs n
 

@@ -1,7 +1,7 @@
 //! Types that `type` declares, printed.
 #![tactic(auto, using(crate::proofs::Driven::driving))]
 
-ghost use Rattle.std.specs.Prelude.{◌≡◌, ◌++◌, true, false, option_map, IsTrue, OnOk};
+ghost use Rattle.std.specs.Prelude.{◌≡◌, true, false, option_map, IsTrue};
 ghost use Rattle.wit_model.specs.Names.{is_label};
 ghost use Rattle.wit_model.specs.Parts.{handle_target};
 ghost use Rattle.wit_model.specs.Rules.{in_list};
@@ -19,15 +19,11 @@ ghost use Rattle.wit_print.specs.WellNamed.{is_well_optional, is_well_type};
 use crate::driver::Driver;
 use crate::output::Output;
 use crate::type_kind::TypeKind;
-use crate::type_name::{write_handle_of, write_type, write_unnamed, name_of};
+use crate::type_name::{name_of, write_handle_of, write_type, write_unnamed};
 use wit_model::{Handle, Resolve, Type, TypeId};
 
 /// A name for a type, up to the sign.
-fn write_alias_start<O: Output>(
-    driver: &mut Driver<O>,
-    name: &str,
-    kind: TypeKind,
-)
+fn write_alias_start<O: Output>(driver: &mut Driver<O>, name: &str, kind: TypeKind)
     requires { is_label name.now ≡ true }
     ensures calls { Drives O.view O.keeps driver.old (alias_start_calls name.now kind) driver.new }
     ensures line { LineIs O.view false driver.new }
@@ -56,11 +52,7 @@ pub(crate) fn write_type_alias<O: Output>(
 }
 
 /// A handle with a name of its own: `own` is written.
-fn write_named_handle<O: Output>(
-    driver: &mut Driver<O>,
-    resolve: &Resolve,
-    handle: &Handle,
-)
+fn write_named_handle<O: Output>(driver: &mut Driver<O>, resolve: &Resolve, handle: &Handle)
     requires { is_labelled resolve.now (handle_target handle.now) ≡ true }
     ensures calls { Drives O.view O.keeps driver.old (type_calls (named_handle resolve.now handle.now)) driver.new }
     ensures line { LineIs O.view false driver.new }
@@ -88,11 +80,7 @@ pub(crate) fn write_handle_alias<O: Output>(
 }
 
 /// A kind without a name of its own, behind other text in its line.
-fn write_kind_behind<O: Output>(
-    driver: &mut Driver<O>,
-    resolve: &Resolve,
-    id: TypeId,
-)
+fn write_kind_behind<O: Output>(driver: &mut Driver<O>, resolve: &Resolve, id: TypeId)
     requires same_line { LineIs O.view false driver.old }
     requires valid { IsValid resolve.now }
     requires in_range { in_list resolve.now.types.items id.0 ≡ true }
@@ -134,12 +122,7 @@ fn write_angle<O: Output>(driver: &mut Driver<O>, word: &str)
 }
 
 /// A word, and a type in such brackets.
-fn write_angled<O: Output>(
-    driver: &mut Driver<O>,
-    resolve: &Resolve,
-    word: &str,
-    ty: &Type,
-)
+fn write_angled<O: Output>(driver: &mut Driver<O>, resolve: &Resolve, word: &str, ty: &Type)
     requires one_line { IsTrue (is_one_line word.now) }
     requires front { IsTrue (has_no_space_first word.now) }
     requires valid { IsValid resolve.now }
@@ -170,12 +153,7 @@ pub(crate) fn write_list_alias<O: Output>(
 }
 
 /// A type and a length, in such brackets.
-fn write_fixed_list<O: Output>(
-    driver: &mut Driver<O>,
-    resolve: &Resolve,
-    ty: &Type,
-    length: u32,
-)
+fn write_fixed_list<O: Output>(driver: &mut Driver<O>, resolve: &Resolve, ty: &Type, length: u32)
     requires valid { IsValid resolve.now }
     requires well { is_well_type (shown_type resolve.now ty.now) ≡ true }
     ensures calls { Drives O.view O.keeps driver.old (fixed_list_calls (shown_type resolve.now ty.now) length) driver.new }
@@ -206,12 +184,7 @@ pub(crate) fn write_fixed_list_alias<O: Output>(
 }
 
 /// Two types, with a comma between.
-fn write_two<O: Output>(
-    driver: &mut Driver<O>,
-    resolve: &Resolve,
-    first: &Type,
-    second: &Type,
-)
+fn write_two<O: Output>(driver: &mut Driver<O>, resolve: &Resolve, first: &Type, second: &Type)
     requires same_line { LineIs O.view false driver.old }
     requires valid { IsValid resolve.now }
     requires first { is_well_type (shown_type resolve.now first.now) ≡ true }
@@ -225,12 +198,7 @@ fn write_two<O: Output>(
 }
 
 /// Two types in such brackets.
-fn write_map<O: Output>(
-    driver: &mut Driver<O>,
-    resolve: &Resolve,
-    key: &Type,
-    value: &Type,
-)
+fn write_map<O: Output>(driver: &mut Driver<O>, resolve: &Resolve, key: &Type, value: &Type)
     requires valid { IsValid resolve.now }
     requires key { is_well_type (shown_type resolve.now key.now) ≡ true }
     requires value { is_well_type (shown_type resolve.now value.now) ≡ true }

@@ -228,7 +228,12 @@ impl<'a, O: Output> Driver<'a, O> {
         ensures line { LineIs O.view false self.new }
     {
         if !self.refused {
-            self.refused = spelled::print_marked_version(self.output, self.alloc, version, kind).is_err();
+            self.refused = spelled::print_marked_version(
+                self.output,
+                self.alloc,
+                version,
+                kind,
+            ).is_err();
         }
     }
 

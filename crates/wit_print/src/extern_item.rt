@@ -1,7 +1,6 @@
 //! Interfaces that a world imports or exports, printed.
 
 ghost use Rattle.std.specs.Prelude.{◌≡◌, ◌++◌, ◌∷◌, [], true, Some, IsTrue, OnOk, OnErr, IsOkUnless};
-ghost use Rattle.std.specs.Option.{option_map_or};
 ghost use Rattle.wit_model.specs.declared.error.Error.TheVariants.{Memory};
 ghost use Rattle.wit_model.specs.Lookup.{interface_at};
 ghost use Rattle.wit_model.specs.Names.{is_label};

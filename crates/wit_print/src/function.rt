@@ -1,7 +1,7 @@
 //! Functions, printed.
 #![tactic(auto, using(crate::proofs::Driven::driving))]
 
-ghost use Rattle.std.specs.Prelude.{◌≡◌, ◌++◌, ◌∷◌, [], codes, true, false, map, option_map, OnOk};
+ghost use Rattle.std.specs.Prelude.{◌≡◌, ◌∷◌, codes, true, false, map, option_map};
 ghost use Rattle.std.specs.List.{list_all, flat_map};
 ghost use Rattle.wit_model.specs.Names.{is_label};
 ghost use Rattle.wit_model.specs.Lookup.{is_async as is_async_lem};
@@ -19,11 +19,7 @@ use crate::type_kind::TypeKind;
 use crate::type_name::write_type;
 use wit_model::{Function, FunctionKind, Param, Resolve, Type};
 
-fn write_param<O: Output>(
-    driver: &mut Driver<O>,
-    resolve: &Resolve,
-    param: &Param,
-)
+fn write_param<O: Output>(driver: &mut Driver<O>, resolve: &Resolve, param: &Param)
     requires same_line { LineIs O.view false driver.old }
     requires valid { IsValid resolve.now }
     requires well { is_well_param (shown_param resolve.now param.now) ≡ true }
@@ -36,11 +32,7 @@ fn write_param<O: Output>(
 }
 
 /// Parameters, each after a comma.
-fn write_more_params<O: Output>(
-    driver: &mut Driver<O>,
-    resolve: &Resolve,
-    params: &[Param],
-)
+fn write_more_params<O: Output>(driver: &mut Driver<O>, resolve: &Resolve, params: &[Param])
     requires same_line { LineIs O.view false driver.old }
     requires valid { IsValid resolve.now }
     requires well { list_all (λ param. is_well_param (shown_param resolve.now param)) params.now ≡ true }
@@ -54,11 +46,7 @@ fn write_more_params<O: Output>(
 }
 
 /// Parameters, with commas between.
-fn write_params<O: Output>(
-    driver: &mut Driver<O>,
-    resolve: &Resolve,
-    params: &[Param],
-)
+fn write_params<O: Output>(driver: &mut Driver<O>, resolve: &Resolve, params: &[Param])
     requires same_line { LineIs O.view false driver.old }
     requires valid { IsValid resolve.now }
     requires well { list_all (λ param. is_well_param (shown_param resolve.now param)) params.now ≡ true }
@@ -72,11 +60,7 @@ fn write_params<O: Output>(
 }
 
 /// What a function returns, if it does.
-fn write_result<O: Output>(
-    driver: &mut Driver<O>,
-    resolve: &Resolve,
-    returned: &Option<Type>,
-)
+fn write_result<O: Output>(driver: &mut Driver<O>, resolve: &Resolve, returned: &Option<Type>)
     requires same_line { LineIs O.view false driver.old }
     requires valid { IsValid resolve.now }
     requires well { is_well_optional is_well_type (option_map (shown_type resolve.now) returned.now) ≡ true }

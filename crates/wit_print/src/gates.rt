@@ -1,11 +1,11 @@
 //! Feature gates, printed.
 #![tactic(auto, using(crate::proofs::Driven::driving))]
 
-ghost use Rattle.std.specs.Prelude.{◌≡◌, ◌++◌, true, IsTrue, OnOk};
+ghost use Rattle.std.specs.Prelude.{◌≡◌, true, IsTrue};
 ghost use Rattle.semver.specs.Identifiers.{version_text};
 ghost use Rattle.wit_model.specs.Names.{is_label, is_version_text};
 ghost use Rattle.wit_model.specs.Lookup.{optional_version_text};
-ghost use Rattle.wit_print.specs.Drives.{Drives, LineIs};
+ghost use Rattle.wit_print.specs.Drives.{Drives};
 ghost use Rattle.wit_print.specs.OutputCall.{is_one_line, has_no_space_first};
 ghost use Rattle.wit_print.specs.Shown.{shown_gates};
 ghost use Rattle.wit_print.specs.Calls.{deprecated_calls, gates_calls, version_attribute_calls};
@@ -18,11 +18,7 @@ use semver::Version;
 use wit_model::Stability;
 
 /// An attribute with a version, in a line of its own.
-fn write_version_attribute<O: Output>(
-    driver: &mut Driver<O>,
-    word: &str,
-    version: &Version,
-)
+fn write_version_attribute<O: Output>(driver: &mut Driver<O>, word: &str, version: &Version)
     requires one_line { IsTrue (is_one_line word.now) }
     requires front { IsTrue (has_no_space_first word.now) }
     requires version { is_version_text (version_text version.now) ≡ true }
@@ -38,10 +34,7 @@ fn write_version_attribute<O: Output>(
 }
 
 /// Since which version an item is deprecated, if it is.
-fn write_deprecated<O: Output>(
-    driver: &mut Driver<O>,
-    deprecated: &Option<Version>,
-)
+fn write_deprecated<O: Output>(driver: &mut Driver<O>, deprecated: &Option<Version>)
     requires version { is_well_optional is_version_text (optional_version_text deprecated.now) ≡ true }
     ensures calls { Drives O.view O.keeps driver.old (deprecated_calls (optional_version_text deprecated.now)) driver.new }
 {
@@ -66,10 +59,7 @@ fn write_feature<O: Output>(driver: &mut Driver<O>, feature: &str)
 }
 
 /// Gates, each in a line of its own.
-pub(crate) fn write_gates<O: Output>(
-    driver: &mut Driver<O>,
-    stability: &Stability,
-)
+pub(crate) fn write_gates<O: Output>(driver: &mut Driver<O>, stability: &Stability)
     requires well { is_well_gates (shown_gates stability.now) ≡ true }
     ensures calls { Drives O.view O.keeps driver.old (gates_calls (shown_gates stability.now)) driver.new }
 {

@@ -1,7 +1,7 @@
 //! Interfaces, printed item by item.
 #![tactic(auto, using(crate::proofs::Driven::driving))]
 
-ghost use Rattle.std.specs.Prelude.{◌≡◌, ◌++◌, ◌∷◌, [], true, false, Some, OnOk, OnErr, IsOkUnless};
+ghost use Rattle.std.specs.Prelude.{◌≡◌, ◌∷◌, [], true, false, Some, OnOk, OnErr, IsOkUnless};
 ghost use Rattle.std.specs.List.{list_all};
 ghost use Rattle.wit_model.specs.declared.error.Error.TheVariants.{Memory};
 ghost use Rattle.wit_model.specs.Lookup.{interface_at};
@@ -65,10 +65,7 @@ pub(crate) fn print_head<'a, O: Output>(
 }
 
 /// An empty line, where the block has printed something.
-pub(crate) fn write_line_before<O: Output>(
-    driver: &mut Driver<O>,
-    has_printed: bool,
-)
+pub(crate) fn write_line_before<O: Output>(driver: &mut Driver<O>, has_printed: bool)
     ensures calls { Drives O.view O.keeps driver.old (line_between has_printed) driver.new }
 {
     if has_printed {

@@ -1,10 +1,10 @@
 //! Flags and enums, printed: both are lists of labels.
 #![tactic(auto, using(crate::proofs::Driven::driving))]
 
-ghost use Rattle.std.specs.Prelude.{◌≡◌, ◌++◌, true, map, OnOk};
+ghost use Rattle.std.specs.Prelude.{◌≡◌, true, map};
 ghost use Rattle.std.specs.List.{flat_map, list_all};
 ghost use Rattle.wit_model.specs.Names.{is_label};
-ghost use Rattle.wit_print.specs.Drives.{Drives, LineIs};
+ghost use Rattle.wit_print.specs.Drives.{Drives};
 ghost use Rattle.wit_print.specs.Shown.{shown_docs, shown_enum_case, shown_flag};
 ghost use Rattle.wit_print.specs.Tree.Declared.{EnumOf, FlagsOf};
 ghost use Rattle.wit_print.specs.Calls.{declared_calls, label_calls};
@@ -18,12 +18,7 @@ use crate::type_kind::TypeKind;
 use wit_model::{Docs, Enum, EnumCase, Flag, Flags};
 
 /// A label, in lines of its own.
-fn write_label<O: Output>(
-    driver: &mut Driver<O>,
-    emits_docs: bool,
-    docs: &Docs,
-    name: &str,
-)
+fn write_label<O: Output>(driver: &mut Driver<O>, emits_docs: bool, docs: &Docs, name: &str)
     requires label { is_label name.now ≡ true }
     ensures calls { Drives O.view O.keeps driver.old (label_calls emits_docs (record { docs = shown_docs docs.now; name = name.now })) driver.new }
 {
@@ -32,11 +27,7 @@ fn write_label<O: Output>(
     write_line_end(driver);
 }
 
-fn write_each_flag<O: Output>(
-    driver: &mut Driver<O>,
-    emits_docs: bool,
-    flags: &[Flag],
-)
+fn write_each_flag<O: Output>(driver: &mut Driver<O>, emits_docs: bool, flags: &[Flag])
     requires well { list_all (λ flag. is_well_label (shown_flag flag)) flags.now ≡ true }
     ensures calls { Drives O.view O.keeps driver.old (flat_map (λ flag. label_calls emits_docs (shown_flag flag)) flags.now) driver.new }
 {
@@ -45,11 +36,7 @@ fn write_each_flag<O: Output>(
     }
 }
 
-fn write_each_case<O: Output>(
-    driver: &mut Driver<O>,
-    emits_docs: bool,
-    cases: &[EnumCase],
-)
+fn write_each_case<O: Output>(driver: &mut Driver<O>, emits_docs: bool, cases: &[EnumCase])
     requires well { list_all (λ case. is_well_label (shown_enum_case case)) cases.now ≡ true }
     ensures calls { Drives O.view O.keeps driver.old (flat_map (λ case. label_calls emits_docs (shown_enum_case case)) cases.now) driver.new }
 {
@@ -74,12 +61,7 @@ pub(crate) fn write_flags<O: Output>(
 }
 
 /// An enum under its name.
-pub(crate) fn write_enum<O: Output>(
-    driver: &mut Driver<O>,
-    emits_docs: bool,
-    name: &str,
-    of: &Enum,
-)
+pub(crate) fn write_enum<O: Output>(driver: &mut Driver<O>, emits_docs: bool, name: &str, of: &Enum)
     requires well { is_well_declared (EnumOf name.now (map shown_enum_case of.now.cases.items)) ≡ true }
     ensures calls { Drives O.view O.keeps driver.old (declared_calls emits_docs (EnumOf name.now (map shown_enum_case of.now.cases.items))) driver.new }
 {

@@ -20,7 +20,7 @@ ghost use Rattle.wit_print.specs.WellNamed.{is_well_gates, is_well_optional};
 use crate::driver::Driver;
 use crate::extern_item::print_block_end;
 use crate::gates::write_gates;
-use crate::interface::{write_head, print_interface_body};
+use crate::interface::{print_interface_body, write_head};
 use crate::items::print_world_body;
 use crate::output::Output;
 use crate::parts::write_package_outer;
@@ -30,12 +30,7 @@ use std::alloc::Global;
 use wit_model::{Error, Interface, InterfaceId, Map, Package, PackageId, Resolve, World, WorldId};
 
 /// A world's documentation, gates and name, and the start of its block.
-fn write_world_start<O: Output>(
-    driver: &mut Driver<O>,
-    emits_docs: bool,
-    name: &str,
-    world: &World,
-)
+fn write_world_start<O: Output>(driver: &mut Driver<O>, emits_docs: bool, name: &str, world: &World)
     requires gates { is_well_gates (shown_gates world.now.stability) ≡ true }
     requires name { is_label name.now ≡ true }
     ensures calls { Drives O.view O.keeps driver.old (world_start_calls emits_docs name.now world.now) driver.new }

@@ -1,7 +1,7 @@
 //! Paths to interfaces, printed.
 #![tactic(auto, using(crate::proofs::Driven::driving))]
 
-ghost use Rattle.std.specs.Prelude.{◌≡◌, ◌++◌, ◌∷◌, [], codes, true, false, OnOk};
+ghost use Rattle.std.specs.Prelude.{◌≡◌, ◌∷◌, [], codes, true, false};
 ghost use Rattle.wit_model.specs.Names.{is_label, is_version_text};
 ghost use Rattle.wit_model.specs.Lookup.{optional_version_text};
 ghost use Rattle.wit_model.specs.Rules.{in_list, package_number, passes};
@@ -36,11 +36,7 @@ fn write_package_path<O: Output>(driver: &mut Driver<O>, name: &PackageName)
 }
 
 /// A package and an interface in it, with the package's version.
-fn write_full_path<O: Output>(
-    driver: &mut Driver<O>,
-    name: &PackageName,
-    interface: &str,
-)
+fn write_full_path<O: Output>(driver: &mut Driver<O>, name: &PackageName, interface: &str)
     requires namespace { is_label (text_of name.now.namespace) ≡ true }
     requires name { is_label (text_of name.now.name) ≡ true }
     requires version { is_well_optional is_version_text (optional_version_text name.now.version) ≡ true }

@@ -1,18 +1,18 @@
 //! What stands in front of an item: documentation, gates and an external id, printed.
 #![tactic(auto, using(crate::proofs::Driven::driving))]
 
-ghost use Rattle.std.specs.Prelude.{◌≡◌, ◌++◌, ◌∷◌, [], codes, true, false, map, Some, OnOk};
+ghost use Rattle.std.specs.Prelude.{◌≡◌, ◌∷◌, [], codes, true, map, Some};
 ghost use Rattle.std.specs.Str.{chars};
 ghost use Rattle.std.specs.Str.Lines.{lines};
-ghost use Rattle.wit_print.specs.Drives.{Drives, LineIs};
+ghost use Rattle.wit_print.specs.Drives.{Drives};
 ghost use Rattle.wit_print.specs.OutputCall.{OutputCall};
 ghost use Rattle.wit_print.specs.Shown.{shown_docs, shown_external_id, shown_prefix};
 ghost use Rattle.wit_print.specs.Calls.{character_call, doc_calls, external_id_calls, prefix_calls};
 ghost use Rattle.wit_print.specs.WellNamed.{is_well_prefix};
 
 use crate::driver::Driver;
-use crate::output::Output;
 use crate::gates::write_gates;
+use crate::output::Output;
 use wit_model::{Docs, Stability};
 
 /// Each line of a text, as documentation.
@@ -25,11 +25,7 @@ fn write_lines<O: Output>(driver: &mut Driver<O>, contents: &str)
 }
 
 /// Documentation, if it is printed.
-pub(crate) fn write_docs<O: Output>(
-    driver: &mut Driver<O>,
-    emits_docs: bool,
-    docs: &Docs,
-)
+pub(crate) fn write_docs<O: Output>(driver: &mut Driver<O>, emits_docs: bool, docs: &Docs)
     ensures calls { Drives O.view O.keeps driver.old (doc_calls emits_docs (shown_docs docs.now)) driver.new }
 {
     if emits_docs {
@@ -68,10 +64,7 @@ fn write_given_external_id<O: Output>(driver: &mut Driver<O>, text: &str)
 }
 
 /// An external id, if there is one.
-pub(crate) fn write_external_id<O: Output>(
-    driver: &mut Driver<O>,
-    external_id: &Option<String>,
-)
+pub(crate) fn write_external_id<O: Output>(driver: &mut Driver<O>, external_id: &Option<String>)
     ensures calls { Drives O.view O.keeps driver.old (external_id_calls (shown_external_id external_id.now)) driver.new }
 {
     match external_id {

@@ -1,6 +1,6 @@
 //! The printer.
 
-ghost use Rattle.std.specs.Prelude.{◌≡◌, ◌<◌, ◌⊎◌, List, [], true, false, length, OnOk, OnErr, IsOkUnless};
+ghost use Rattle.std.specs.Prelude.{◌≡◌, ◌<◌, ◌⊎◌, List, true, false, length, OnOk, OnErr, IsOkUnless};
 ghost use Rattle.std.specs.Borrow.{Bor};
 ghost use Rattle.std.specs.Iterator.{Drains, IsFinite};
 ghost use Rattle.std.specs.List.{list_all};
@@ -77,8 +77,8 @@ impl<O: Output> WitPrinter<O> {
     /// What the calls of the file render to, which is what a fresh `OutputToString` holds after a completed print, has one
     /// reading in the grammar of WIT text: what is shown of the package.
     ///
-    /// What the printer keeps meanwhile is bounded by the largest item, and by lists of one owner's types and functions. After a
-    /// refusal the output has a beginning of the calls.
+    /// What the printer keeps meanwhile is one word as it is spelled, and lists of one owner's types and functions. The time
+    /// is linear in what is printed. After a refusal the output has a beginning of the calls.
     pub fn print(
         &mut self,
         alloc: Global,
@@ -101,8 +101,8 @@ impl<O: Output> WitPrinter<O> {
 
     /// Prints a package: the main one of a file, or one that is nested in it.
     ///
-    /// What the printer keeps meanwhile is bounded by the largest item, and by lists of one owner's types and functions. After a
-    /// refusal the output has a beginning of the calls.
+    /// What the printer keeps meanwhile is one word as it is spelled, and lists of one owner's types and functions. The time
+    /// is linear in what is printed. After a refusal the output has a beginning of the calls.
     pub fn print_package(
         &mut self,
         alloc: Global,
@@ -171,8 +171,8 @@ impl<O: Output> WitPrinter<O> {
 
     /// Prints what an interface has, a block of its own: neither what stands before the block nor its end.
     ///
-    /// What the printer keeps meanwhile is bounded by the largest item, and by lists of the interface's types and functions. After
-    /// a refusal the output has a beginning of the calls.
+    /// What the printer keeps meanwhile is one word as it is spelled, and lists of the interface's types and functions. The
+    /// time is linear in what is printed. After a refusal the output has a beginning of the calls.
     pub fn print_interface(
         &mut self,
         alloc: Global,
@@ -203,7 +203,7 @@ impl<O: Output> WitPrinter<O> {
     /// package of its own.
     ///
     /// Goes on in the printer's outer block, in which a new printer has printed nothing: a declaration behind another comes
-    /// after an empty line. Keeps a list of the types meanwhile, and otherwise no more than the largest item. The time is
+    /// after an empty line. Keeps a list of the types meanwhile, and otherwise one word as it is spelled. The time is
     /// linear in what is printed and in the functions handed in. After a refusal the output has a beginning of the calls, and
     /// is all that is of use.
     pub fn print_types<'a, I: Iterator<Item = (&'a str, TypeId)> + Drop>(
@@ -243,7 +243,7 @@ impl<O: Output> WitPrinter<O> {
     /// Prints a type as it stands where it is used: by its name, or else by its kind. A handle that owns a resource and has no
     /// name of its own is printed as the resource.
     ///
-    /// What the printer keeps meanwhile is bounded by what is printed. After a refusal the output has a beginning of the calls.
+    /// What the printer keeps meanwhile is one word as it is spelled. After a refusal the output has a beginning of the calls.
     #[tactic(auto, using(crate::proofs::Driven::finishing))]
     pub fn print_type_name(
         &mut self,

@@ -1,10 +1,9 @@
 //! Records, printed.
 #![tactic(auto, using(crate::proofs::Driven::driving))]
 
-ghost use Rattle.std.specs.Prelude.{◌≡◌, ◌++◌, ◌∷◌, [], codes, true, false, map, OnOk};
+ghost use Rattle.std.specs.Prelude.{◌≡◌, ◌∷◌, codes, true, false, map};
 ghost use Rattle.std.specs.List.{flat_map, list_all};
 ghost use Rattle.wit_model.specs.Names.{is_label};
-ghost use Rattle.wit_model.specs.Text.{text_of};
 ghost use Rattle.wit_model.specs.Valid.{IsValid};
 ghost use Rattle.wit_print.specs.Drives.{Drives, LineIs};
 ghost use Rattle.wit_print.specs.OutputCall.{OutputCall};
@@ -23,12 +22,7 @@ use crate::type_name::write_type;
 use wit_model::{Field, Record, Resolve, Type};
 
 /// A name with a type.
-fn write_typed<O: Output>(
-    driver: &mut Driver<O>,
-    resolve: &Resolve,
-    name: &str,
-    ty: &Type,
-)
+fn write_typed<O: Output>(driver: &mut Driver<O>, resolve: &Resolve, name: &str, ty: &Type)
     requires valid { IsValid resolve.now }
     requires label { is_label name.now ≡ true }
     requires well { is_well_type (shown_type resolve.now ty.now) ≡ true }

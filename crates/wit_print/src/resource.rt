@@ -1,7 +1,7 @@
 //! Resources with their functions, printed.
 #![tactic(auto, using(crate::proofs::Driven::driving))]
 
-ghost use Rattle.std.specs.Prelude.{◌≡◌, ◌++◌, true, false, map, option_map, OnOk};
+ghost use Rattle.std.specs.Prelude.{◌≡◌, true, false, map, option_map};
 ghost use Rattle.std.specs.List.{flat_map, list_all};
 ghost use Rattle.wit_model.specs.declared.model.FunctionKind.TheVariants as kinds;
 ghost use Rattle.wit_model.specs.Calls.{item_name};
@@ -16,8 +16,8 @@ ghost use Rattle.wit_print.specs.ItemCalls.{named_calls};
 ghost use Rattle.wit_print.specs.WellNamed.{is_well_declared, is_well_optional, is_well_param, is_well_resource_member, is_well_signature, is_well_type};
 
 use crate::driver::Driver;
-use crate::output::Output;
 use crate::function::{write_named, write_params_and_result, write_signature};
+use crate::output::Output;
 use crate::prefix::write_prefix;
 use crate::type_kind::TypeKind;
 use wit_model::{Function, FunctionKind, Resolve, Type, TypeId};
@@ -34,11 +34,7 @@ fn write_static_start<O: Output>(driver: &mut Driver<O>, name: &str)
 }
 
 /// A static function of a resource.
-fn write_static<O: Output>(
-    driver: &mut Driver<O>,
-    resolve: &Resolve,
-    function: &Function,
-)
+fn write_static<O: Output>(driver: &mut Driver<O>, resolve: &Resolve, function: &Function)
     requires valid { IsValid resolve.now }
     requires label { is_label (item_name function.now) ≡ true }
     requires well { is_well_signature (shown_signature resolve.now function.now) ≡ true }
@@ -50,11 +46,7 @@ fn write_static<O: Output>(
 }
 
 /// A method of a resource.
-fn write_method<O: Output>(
-    driver: &mut Driver<O>,
-    resolve: &Resolve,
-    function: &Function,
-)
+fn write_method<O: Output>(driver: &mut Driver<O>, resolve: &Resolve, function: &Function)
     requires valid { IsValid resolve.now }
     requires label { is_label (item_name function.now) ≡ true }
     requires well { is_well_signature (shown_signature resolve.now function.now) ≡ true }
@@ -95,11 +87,7 @@ fn write_constructor<O: Output>(
 }
 
 /// What a function of a resource is.
-fn write_member<O: Output>(
-    driver: &mut Driver<O>,
-    resolve: &Resolve,
-    function: &Function,
-)
+fn write_member<O: Output>(driver: &mut Driver<O>, resolve: &Resolve, function: &Function)
     requires valid { IsValid resolve.now }
     requires well { is_well_resource_member (shown_resource_member resolve.now function.now) ≡ true }
     ensures calls { Drives O.view O.keeps driver.old (bare_member_calls (shown_resource_member resolve.now function.now)) driver.new }

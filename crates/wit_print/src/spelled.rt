@@ -5,7 +5,7 @@ ghost use Rattle.std.specs.Fmt.{decimal};
 ghost use Rattle.std.specs.String.{string_bytes};
 ghost use Rattle.semver.specs.Identifiers.{version_text};
 ghost use Rattle.wit_model.specs.declared.error.Error.TheVariants.{Memory};
-ghost use Rattle.wit_print.specs.OutputCall.{OutputCall, Moves, Begins, may_stand, may_follow, line_begun_after};
+ghost use Rattle.wit_print.specs.OutputCall.{OutputCall, Moves, Begins, may_stand, line_begun_after};
 ghost use Rattle.wit_print.specs.Calls.{character_call};
 ghost use Rattle.wit_print.specs.Keyword.{escaped};
 
@@ -36,7 +36,11 @@ pub(crate) fn print_name<O: Output>(
 
 /// The name of a parameter or a field, as an id.
 #[tactic(auto, using(crate::proofs::Moves::moving))]
-pub(crate) fn print_param<O: Output>(output: &mut O, alloc: Global, label: &str) -> Result<(), Error>
+pub(crate) fn print_param<O: Output>(
+    output: &mut O,
+    alloc: Global,
+    label: &str,
+) -> Result<(), Error>
     requires { IsTrue (may_stand (O.view output.old).line_begun (OutputCall.Param (escaped label.now))) }
     ensures ok { OnOk result (Moves O.keeps (O.view output.old) (OutputCall.Param (escaped label.now) ∷ []) (O.view output.new)) }
     ensures line { OnOk result ((O.view output.new).line_begun ≡ line_begun_after (OutputCall.Param (escaped label.now)) (O.view output.old).line_begun) }
@@ -62,7 +66,11 @@ pub(crate) fn print_case<O: Output>(output: &mut O, alloc: Global, label: &str) 
 
 /// The name of a feature, as an id.
 #[tactic(auto, using(crate::proofs::Moves::moving))]
-pub(crate) fn print_feature<O: Output>(output: &mut O, alloc: Global, label: &str) -> Result<(), Error>
+pub(crate) fn print_feature<O: Output>(
+    output: &mut O,
+    alloc: Global,
+    label: &str,
+) -> Result<(), Error>
     requires { IsTrue (may_stand (O.view output.old).line_begun (OutputCall.Str (escaped label.now))) }
     ensures ok { OnOk result (Moves O.keeps (O.view output.old) (OutputCall.Str (escaped label.now) ∷ []) (O.view output.new)) }
     ensures line { OnOk result ((O.view output.new).line_begun ≡ line_begun_after (OutputCall.Str (escaped label.now)) (O.view output.old).line_begun) }
@@ -82,7 +90,11 @@ fn length_text(alloc: Global, length: u32) -> Result<String, AllocError>
 
 /// The length of a list, as other text.
 #[tactic(auto, using(crate::proofs::Moves::moving))]
-pub(crate) fn print_length<O: Output>(output: &mut O, alloc: Global, length: u32) -> Result<(), Error>
+pub(crate) fn print_length<O: Output>(
+    output: &mut O,
+    alloc: Global,
+    length: u32,
+) -> Result<(), Error>
     requires { IsTrue (may_stand (O.view output.old).line_begun (OutputCall.Str (codes ", " ++ decimal length))) }
     ensures ok { OnOk result (Moves O.keeps (O.view output.old) (OutputCall.Str (codes ", " ++ decimal length) ∷ []) (O.view output.new)) }
     ensures line { OnOk result ((O.view output.new).line_begun ≡ line_begun_after (OutputCall.Str (codes ", " ++ decimal length)) (O.view output.old).line_begun) }
@@ -95,7 +107,11 @@ pub(crate) fn print_length<O: Output>(output: &mut O, alloc: Global, length: u32
 
 /// The length of a list, without indentation.
 #[tactic(auto, using(crate::proofs::Moves::moving))]
-pub(crate) fn push_length<O: Output>(output: &mut O, alloc: Global, length: u32) -> Result<(), Error>
+pub(crate) fn push_length<O: Output>(
+    output: &mut O,
+    alloc: Global,
+    length: u32,
+) -> Result<(), Error>
     requires { IsTrue (may_stand (O.view output.old).line_begun (OutputCall.PushStr (codes ", " ++ decimal length))) }
     ensures ok { OnOk result (Moves O.keeps (O.view output.old) (OutputCall.PushStr (codes ", " ++ decimal length) ∷ []) (O.view output.new)) }
     ensures line { OnOk result ((O.view output.new).line_begun ≡ line_begun_after (OutputCall.PushStr (codes ", " ++ decimal length)) (O.view output.old).line_begun) }
@@ -108,7 +124,11 @@ pub(crate) fn push_length<O: Output>(output: &mut O, alloc: Global, length: u32)
 
 /// A character of a string, escaped where it doesn't stand for itself.
 #[tactic(auto, using(crate::proofs::Moves::moving))]
-pub(crate) fn print_character<O: Output>(output: &mut O, alloc: Global, c: char) -> Result<(), Error>
+pub(crate) fn print_character<O: Output>(
+    output: &mut O,
+    alloc: Global,
+    c: char,
+) -> Result<(), Error>
     requires { IsTrue (may_stand (O.view output.old).line_begun (character_call c)) }
     ensures ok { OnOk result (Moves O.keeps (O.view output.old) (character_call c ∷ []) (O.view output.new)) }
     ensures line { OnOk result ((O.view output.new).line_begun ≡ line_begun_after (character_call c) (O.view output.old).line_begun) }

@@ -1,7 +1,7 @@
 //! Types where they are used, printed.
 #![tactic(auto, using(crate::proofs::Driven::driving))]
 
-ghost use Rattle.std.specs.Prelude.{◌≡◌, ◌++◌, ◌∷◌, ◌≤◌, [], codes, Bool, true, false, List, length, slice_get, option_to_list, IsTrue, OnOk};
+ghost use Rattle.std.specs.Prelude.{◌≡◌, ◌++◌, ◌∷◌, ◌≤◌, [], codes, Bool, true, false, List, length, slice_get, option_to_list, IsTrue};
 ghost use Rattle.std.specs.Fmt.{decimal};
 ghost use Rattle.wit_model.specs.Names.{is_label};
 ghost use Rattle.wit_model.specs.Parts.{member_types, handle_target};
@@ -9,7 +9,7 @@ ghost use Rattle.wit_model.specs.Rules.{in_list, is_named_kind, passes};
 ghost use Rattle.wit_model.specs.Types.{number_of};
 ghost use Rattle.wit_model.specs.Valid.{IsValid};
 ghost use Rattle.wit_print.specs.Drives.{Drives, LineIs, MayFollow};
-ghost use Rattle.wit_print.specs.OutputCall.{OutputCall, is_one_line, has_no_space_first, lines_begun_after, may_follow};
+ghost use Rattle.wit_print.specs.OutputCall.{OutputCall, is_one_line, has_no_space_first};
 ghost use Rattle.wit_print.specs.Printable.{is_primitive};
 ghost use Rattle.wit_print.specs.Shown.{present_name, shown_type, type_name, used_type};
 ghost use Rattle.wit_print.specs.Calls.{handle_calls, type_calls};
@@ -49,11 +49,7 @@ fn type_word(ty: &Type) -> &'static str
 }
 
 /// A primitive type.
-pub(crate) fn write_primitive<O: Output>(
-    driver: &mut Driver<O>,
-    resolve: &Resolve,
-    ty: &Type,
-)
+pub(crate) fn write_primitive<O: Output>(driver: &mut Driver<O>, resolve: &Resolve, ty: &Type)
     requires { is_primitive ty.now ≡ true }
     ensures calls { Drives O.view O.keeps driver.old (type_calls (shown_type resolve.now ty.now)) driver.new }
     ensures line { LineIs O.view false driver.new }
@@ -82,11 +78,7 @@ pub(crate) fn name_of<'a>(resolve: &'a Resolve, id: TypeId) -> &'a str
 }
 
 /// A word, and a resource in angle brackets.
-pub(crate) fn write_handle_of<O: Output>(
-    driver: &mut Driver<O>,
-    word: &str,
-    resource: &str,
-)
+pub(crate) fn write_handle_of<O: Output>(driver: &mut Driver<O>, word: &str, resource: &str)
     requires one_line { IsTrue (is_one_line word.now) }
     requires front { IsTrue (has_no_space_first word.now) }
     requires label { is_label resource.now ≡ true }
@@ -100,11 +92,7 @@ pub(crate) fn write_handle_of<O: Output>(
 }
 
 /// A handle without a name of its own: an owned resource is written as the resource.
-fn write_handle<O: Output>(
-    driver: &mut Driver<O>,
-    resolve: &Resolve,
-    handle: &Handle,
-)
+fn write_handle<O: Output>(driver: &mut Driver<O>, resolve: &Resolve, handle: &Handle)
     requires { is_labelled resolve.now (handle_target handle.now) ≡ true }
     ensures calls { Drives O.view O.keeps driver.old (handle_start resolve.now handle.now) driver.new }
     ensures line { LineIs O.view false driver.new }
@@ -156,11 +144,7 @@ fn write_carrier_start<O: Output>(
 }
 
 /// What stands before the types of a kind without a name of its own.
-fn write_kind_start<O: Output>(
-    driver: &mut Driver<O>,
-    resolve: &Resolve,
-    kind: &TypeDefKind,
-)
+fn write_kind_start<O: Output>(driver: &mut Driver<O>, resolve: &Resolve, kind: &TypeDefKind)
     requires { handles_label resolve.now kind.now ≡ true }
     ensures calls { Drives O.view O.keeps driver.old (kind_start resolve.now kind.now) driver.new }
 {
@@ -330,11 +314,7 @@ fn kind_length(kind: &TypeDefKind) -> usize
 
 /// The kind of a type number that is written without its name, if it has one. No call is deeper than the kind has unnamed levels.
 #[cycle(types)]
-pub(crate) fn write_unnamed<O: Output>(
-    driver: &mut Driver<O>,
-    resolve: &Resolve,
-    id: TypeId,
-)
+pub(crate) fn write_unnamed<O: Output>(driver: &mut Driver<O>, resolve: &Resolve, id: TypeId)
     requires valid { IsValid resolve.now }
     requires in_range { in_list resolve.now.types.items id.0 ≡ true }
     requires unnamed { may_be_unnamed resolve.now id ≡ true }
@@ -352,11 +332,7 @@ pub(crate) fn write_unnamed<O: Output>(
 
 /// A type where it is used: its name, or else its kind.
 #[cycle(types)]
-pub(crate) fn write_type_name<O: Output>(
-    driver: &mut Driver<O>,
-    resolve: &Resolve,
-    ty: &Type,
-)
+pub(crate) fn write_type_name<O: Output>(driver: &mut Driver<O>, resolve: &Resolve, ty: &Type)
     requires valid { IsValid resolve.now }
     requires in_range { passes (in_list resolve.now.types.items) (number_of ty.now) ≡ true }
     ensures calls { Drives O.view O.keeps driver.old (type_calls (shown_type resolve.now ty.now)) driver.new }
@@ -373,11 +349,7 @@ pub(crate) fn write_type_name<O: Output>(
 }
 
 /// A type behind other text in its line.
-pub(crate) fn write_type<O: Output>(
-    driver: &mut Driver<O>,
-    resolve: &Resolve,
-    ty: &Type,
-)
+pub(crate) fn write_type<O: Output>(driver: &mut Driver<O>, resolve: &Resolve, ty: &Type)
     requires same_line { LineIs O.view false driver.old }
     requires valid { IsValid resolve.now }
     requires well { is_well_type (shown_type resolve.now ty.now) ≡ true }

@@ -282,11 +282,7 @@ fn write_own_name<O: Output>(driver: &mut Driver<O>, own: &str)
 }
 
 /// A name of a group.
-fn write_used_name<O: Output>(
-    driver: &mut Driver<O>,
-    own: &str,
-    other: &str,
-)
+fn write_used_name<O: Output>(driver: &mut Driver<O>, own: &str, other: &str)
     requires own { is_label own.now ≡ true }
     requires other { is_label other.now ≡ true }
     ensures calls { Drives O.view O.keeps driver.old (used_name_calls (record { other = other.now; own = own_name own.now other.now })) driver.new }
@@ -335,12 +331,7 @@ fn write_group_start<O: Output>(
 }
 
 /// A use that begins a group.
-fn write_new_group<O: Output>(
-    driver: &mut Driver<O>,
-    resolve: &Resolve,
-    here: PackageId,
-    used: Use,
-)
+fn write_new_group<O: Output>(driver: &mut Driver<O>, resolve: &Resolve, here: PackageId, used: Use)
     requires valid { IsValid resolve.now }
     requires printable { is_printable_use resolve.now here used ≡ true }
     ensures calls { Drives O.view O.keeps driver.old (new_group_calls (shown_path resolve.now here) (shown_use used.entry)) driver.new }

@@ -1,9 +1,8 @@
 //! Variants, printed.
 #![tactic(auto, using(crate::proofs::Driven::driving))]
 
-ghost use Rattle.std.specs.Prelude.{◌≡◌, ◌++◌, ◌∷◌, [], true, false, map, option_map, OnOk};
+ghost use Rattle.std.specs.Prelude.{◌≡◌, true, false, map, option_map};
 ghost use Rattle.std.specs.List.{flat_map, list_all};
-ghost use Rattle.wit_model.specs.Names.{is_label};
 ghost use Rattle.wit_model.specs.Valid.{IsValid};
 ghost use Rattle.wit_print.specs.Drives.{Drives, LineIs};
 ghost use Rattle.wit_print.specs.Shown.{shown_case, shown_type};
@@ -20,11 +19,7 @@ use crate::type_name::write_type;
 use wit_model::{Case, Resolve, Type, Variant};
 
 /// A payload in parentheses, if there is one.
-fn write_payload<O: Output>(
-    driver: &mut Driver<O>,
-    resolve: &Resolve,
-    payload: &Option<Type>,
-)
+fn write_payload<O: Output>(driver: &mut Driver<O>, resolve: &Resolve, payload: &Option<Type>)
     requires same_line { LineIs O.view false driver.old }
     requires valid { IsValid resolve.now }
     requires well { is_well_optional is_well_type (option_map (shown_type resolve.now) payload.now) ≡ true }
@@ -39,12 +34,7 @@ fn write_payload<O: Output>(
 }
 
 /// A case, in lines of its own.
-fn write_case<O: Output>(
-    driver: &mut Driver<O>,
-    emits_docs: bool,
-    resolve: &Resolve,
-    case: &Case,
-)
+fn write_case<O: Output>(driver: &mut Driver<O>, emits_docs: bool, resolve: &Resolve, case: &Case)
     requires valid { IsValid resolve.now }
     requires well { is_well_case (shown_case resolve.now case.now) ≡ true }
     ensures calls { Drives O.view O.keeps driver.old (case_calls emits_docs (shown_case resolve.now case.now)) driver.new }

@@ -1,13 +1,13 @@
 //! What a world imports and exports, printed.
 #![tactic(auto, using(crate::proofs::Driven::driving))]
 
-ghost use Rattle.std.specs.Prelude.{◌≡◌, ◌++◌, ◌∷◌, [], true, false, IsTrue, OnOk};
+ghost use Rattle.std.specs.Prelude.{◌≡◌, ◌++◌, true, false, IsTrue};
 ghost use Rattle.wit_model.specs.Names.{is_label};
 ghost use Rattle.wit_model.specs.Rules.{in_list};
 ghost use Rattle.wit_model.specs.Text.{text_of};
 ghost use Rattle.wit_model.specs.Valid.{IsValid};
 ghost use Rattle.wit_print.specs.Drives.{Drives, LineIs};
-ghost use Rattle.wit_print.specs.OutputCall.{OutputCall, is_one_line, has_no_space_first};
+ghost use Rattle.wit_print.specs.OutputCall.{is_one_line, has_no_space_first};
 ghost use Rattle.wit_print.specs.Tree.ExternTree.{NamedFunction, NamedPath, Path};
 ghost use Rattle.wit_print.specs.Shown.{function_prefix, shown_path, shown_prefix, shown_signature};
 ghost use Rattle.wit_print.specs.Calls.{extern_calls, world_extern_calls};
@@ -15,8 +15,8 @@ ghost use Rattle.wit_print.specs.ItemCalls.{front_calls, inline_start_calls};
 ghost use Rattle.wit_print.specs.WellNamed.{is_well_path, is_well_prefix, is_well_signature};
 
 use crate::driver::Driver;
-use crate::output::Output;
 use crate::function::write_named;
+use crate::output::Output;
 use crate::path::write_path;
 use crate::prefix::write_prefix;
 use crate::type_kind::TypeKind;
@@ -104,10 +104,7 @@ pub(crate) fn write_labelled_path<O: Output>(
 }
 
 /// The start of an interface that has no name, under a label.
-pub(crate) fn write_inline_start<O: Output>(
-    driver: &mut Driver<O>,
-    label: &str,
-)
+pub(crate) fn write_inline_start<O: Output>(driver: &mut Driver<O>, label: &str)
     requires { is_label label.now ≡ true }
     ensures calls { Drives O.view O.keeps driver.old (inline_start_calls label.now) driver.new }
 {

@@ -21,7 +21,9 @@ returns g c =
     let prefix = shown_prefix def.docs def.stability def.external_id in
     let line = line_between c.args.has_printed in
     let front = prefix_calls c.args.emits_docs prefix in
-    record { calls = driven_on (driven c.write_line_before.ensures.calls c.write_prefix.ensures.calls) c.write_declared.ensures.calls
-    (append_assoc line front (declared_calls c.args.emits_docs (declared_of r c.present-name.result.now members def.kind))
-    ∙ ap (λ name. line ++ (front ++ declared_calls c.args.emits_docs (declared_of r name members def.kind))) c.present-name.ensures
-    ∙ declaration_alone c.args.emits_docs c.args.has_printed prefix (declared_of r (present_name def.name) members def.kind)) }
+    record {
+      calls = driven_on (driven c.write_line_before.ensures.calls c.write_prefix.ensures.calls) c.write_declared.ensures.calls
+          (append_assoc line front (declared_calls c.args.emits_docs (declared_of r c.present-name.result.now members def.kind))
+          ∙ ap (λ name. line ++ (front ++ declared_calls c.args.emits_docs (declared_of r name members def.kind))) c.present-name.ensures
+          ∙ declaration_alone c.args.emits_docs c.args.has_printed prefix (declared_of r (present_name def.name) members def.kind));
+    }

@@ -15,8 +15,9 @@ use Rattle.wit_print.proofs.interface.write_function.Goals as goal
 
 pub write_prefix-requires : goal.write_prefix-requires
 write_prefix-requires g c =
-    record { well =
-    left_of _ _ c.requires.well
+    record {
+      well =
+          left_of _ _ c.requires.well;
     }
 
 pub write_named-requires-clause-label : goal.write_named-requires-clause-label
@@ -33,7 +34,9 @@ returns g c =
     let f = c.args.function.now in
     let line = line_between c.args.has_printed in
     let front = prefix_calls c.args.emits_docs (function_prefix f) in
-    record { calls = driven_on (driven c.write_line_before.ensures.calls c.write_prefix.ensures.calls) c.write_named.ensures.calls
-    (append_assoc line front (named_calls c.deref.result.now FunctionFreestanding (shown_signature r f))
-    ∙ ap (λ name. line ++ (front ++ named_calls name FunctionFreestanding (shown_signature r f))) c.deref.ensures
-    ∙ function_alone c.args.emits_docs c.args.has_printed r f) }
+    record {
+      calls = driven_on (driven c.write_line_before.ensures.calls c.write_prefix.ensures.calls) c.write_named.ensures.calls
+          (append_assoc line front (named_calls c.deref.result.now FunctionFreestanding (shown_signature r f))
+          ∙ ap (λ name. line ++ (front ++ named_calls name FunctionFreestanding (shown_signature r f))) c.deref.ensures
+          ∙ function_alone c.args.emits_docs c.args.has_printed r f);
+    }

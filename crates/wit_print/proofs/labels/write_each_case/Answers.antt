@@ -12,9 +12,10 @@ use Rattle.wit_print.proofs.labels.write_each_case.Goals as goal
 
 pub write_label-requires : goal.write_label-requires
 write_label-requires g c =
-    record { label =
-    let well = passes_at (λ x. is_well_label (shown_enum_case x)) c.args.cases.now c.loop-case.case-index c.case-item.result c.requires.well c.loop-case-test.true c.case-item.is in
-        subst (λ text. is_label text ≡ true) (sym c.deref.ensures) (second_true (list_all is_one_line (shown_docs c.case-item.result.docs)) _ well)
+    record {
+      label =
+          let well = passes_at (λ x. is_well_label (shown_enum_case x)) c.args.cases.now c.loop-case.case-index c.case-item.result c.requires.well c.loop-case-test.true c.case-item.is in
+          subst (λ text. is_label text ≡ true) (sym c.deref.ensures) (second_true (list_all is_one_line (shown_docs c.case-item.result.docs)) _ well);
     }
 
 pub loop-case-preserved : goal.loop-case-preserved

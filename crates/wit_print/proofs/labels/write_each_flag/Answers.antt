@@ -12,9 +12,10 @@ use Rattle.wit_print.proofs.labels.write_each_flag.Goals as goal
 
 pub write_label-requires : goal.write_label-requires
 write_label-requires g c =
-    record { label =
-    let well = passes_at (λ x. is_well_label (shown_flag x)) c.args.flags.now c.loop-flag.flag-index c.flag-item.result c.requires.well c.loop-flag-test.true c.flag-item.is in
-        subst (λ text. is_label text ≡ true) (sym c.deref.ensures) (second_true (list_all is_one_line (shown_docs c.flag-item.result.docs)) _ well)
+    record {
+      label =
+          let well = passes_at (λ x. is_well_label (shown_flag x)) c.args.flags.now c.loop-flag.flag-index c.flag-item.result c.requires.well c.loop-flag-test.true c.flag-item.is in
+          subst (λ text. is_label text ≡ true) (sym c.deref.ensures) (second_true (list_all is_one_line (shown_docs c.flag-item.result.docs)) _ well);
     }
 
 pub loop-flag-preserved : goal.loop-flag-preserved

@@ -21,13 +21,16 @@ write_block_start-requires-clause-label g c = left_of _ _ c.requires.well
 
 pub write_each_flag-requires : goal.write_each_flag-requires
 write_each_flag-requires g c =
-    record { well =
-    subst (λ xs. list_all (λ x. is_well_label (shown_flag x)) xs ≡ true) (sym c.deref.ensures.value) (block_members is_well_label shown_flag (is_label c.args.name.now) c.args.of.now.flags.items c.requires.well)
+    record {
+      well =
+          subst (λ xs. list_all (λ x. is_well_label (shown_flag x)) xs ≡ true) (sym c.deref.ensures.value) (block_members is_well_label shown_flag (is_label c.args.name.now) c.args.of.now.flags.items c.requires.well);
     }
 
 pub returns : goal.returns
 returns g c =
     let members = c.deref.result.now in
     let start = block_start_calls (codes "flags") c.args.name.now Flags in
-    record { calls = driven3 c.write_block_start.ensures.calls c.write_each_flag.ensures.calls c.indent_end.ensures.calls
-    (ap (λ x. start ++ (x ++ (IndentEnd ∷ []))) (sym (flat_map-map (label_calls c.args.emits_docs) shown_flag members) ∙ ap (λ xs. flat_map (label_calls c.args.emits_docs) (map shown_flag xs)) c.deref.ensures.value)) }
+    record {
+      calls = driven3 c.write_block_start.ensures.calls c.write_each_flag.ensures.calls c.indent_end.ensures.calls
+          (ap (λ x. start ++ (x ++ (IndentEnd ∷ []))) (sym (flat_map-map (label_calls c.args.emits_docs) shown_flag members) ∙ ap (λ xs. flat_map (label_calls c.args.emits_docs) (map shown_flag xs)) c.deref.ensures.value));
+    }

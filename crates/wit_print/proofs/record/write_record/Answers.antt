@@ -27,5 +27,7 @@ pub returns : goal.returns
 returns g c =
     let members = c.deref.result.now in
     let start = block_start_calls (codes "record") c.args.name.now Record in
-    record { calls = driven3 c.write_block_start.ensures.calls c.write_fields.ensures.calls c.indent_end.ensures.calls
-    (ap (λ x. start ++ (x ++ (IndentEnd ∷ []))) (sym (flat_map-map (field_calls c.args.emits_docs) (shown_field c.args.resolve.now) members) ∙ ap (λ xs. flat_map (field_calls c.args.emits_docs) (map (shown_field c.args.resolve.now) xs)) c.deref.ensures.value)) }
+    record {
+      calls = driven3 c.write_block_start.ensures.calls c.write_fields.ensures.calls c.indent_end.ensures.calls
+          (ap (λ x. start ++ (x ++ (IndentEnd ∷ []))) (sym (flat_map-map (field_calls c.args.emits_docs) (shown_field c.args.resolve.now) members) ∙ ap (λ xs. flat_map (field_calls c.args.emits_docs) (map (shown_field c.args.resolve.now) xs)) c.deref.ensures.value));
+    }

@@ -8,8 +8,9 @@ use Rattle.wit_print.proofs.resource.write_resource_function.Goals as goal
 
 pub write_prefix-requires : goal.write_prefix-requires
 write_prefix-requires g c =
-    record { well =
-    member_prefix c.args.resolve.now c.args.function.now c.requires.well
+    record {
+      well =
+          member_prefix c.args.resolve.now c.args.function.now c.requires.well;
     }
 
 pub returns : goal.returns

@@ -27,5 +27,7 @@ pub returns : goal.returns
 returns g c =
     let members = c.deref.result.now in
     let start = block_start_calls (codes "variant") c.args.name.now Variant in
-    record { calls = driven3 c.write_block_start.ensures.calls c.write_cases.ensures.calls c.indent_end.ensures.calls
-    (ap (λ x. start ++ (x ++ (IndentEnd ∷ []))) (sym (flat_map-map (case_calls c.args.emits_docs) (shown_case c.args.resolve.now) members) ∙ ap (λ xs. flat_map (case_calls c.args.emits_docs) (map (shown_case c.args.resolve.now) xs)) c.deref.ensures.value)) }
+    record {
+      calls = driven3 c.write_block_start.ensures.calls c.write_cases.ensures.calls c.indent_end.ensures.calls
+          (ap (λ x. start ++ (x ++ (IndentEnd ∷ []))) (sym (flat_map-map (case_calls c.args.emits_docs) (shown_case c.args.resolve.now) members) ∙ ap (λ xs. flat_map (case_calls c.args.emits_docs) (map (shown_case c.args.resolve.now) xs)) c.deref.ensures.value));
+    }

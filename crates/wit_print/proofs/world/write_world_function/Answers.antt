@@ -13,5 +13,7 @@ returns g c =
     let signature = shown_signature c.args.resolve.now f in
     let word = c.args.word.now in
     let prefix = prefix_calls c.args.emits_docs (function_prefix f) in
-    record { calls = driven_on c.write_front.ensures.calls c.write_named.ensures.calls
-    (append_assoc prefix (Keyword word ∷ space ∷ []) (named_calls c.deref.result.now Other signature) ∙ ap (λ name. prefix ++ (Keyword word ∷ space ∷ named_calls name Other signature)) c.deref.ensures) }
+    record {
+      calls = driven_on c.write_front.ensures.calls c.write_named.ensures.calls
+          (append_assoc prefix (Keyword word ∷ space ∷ []) (named_calls c.deref.result.now Other signature) ∙ ap (λ name. prefix ++ (Keyword word ∷ space ∷ named_calls name Other signature)) c.deref.ensures);
+    }
