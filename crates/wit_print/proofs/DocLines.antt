@@ -7,7 +7,9 @@ use Rattle.std.proofs.lemmas.Simd.{map-map}
 use Rattle.wit_model.proofs.Lists.{first_true, second_true}
 use Rattle.wit_model.specs.Text.{Text}
 use Rattle.wit_print.specs.OutputCall.{OutputCall, View, is_one_line}
-use Rattle.wit_print.proofs.Runs.{view_is}
+use Rattle.wit_print.specs.declared.driver.Driver.{Driver}
+use Rattle.wit_print.specs.Drives.{Drives}
+use Rattle.wit_print.proofs.Driven.{driven_as}
 
 both_true : (a b : Bool) → a ≡ true → b ≡ true → (a && b) ≡ true
 both_true a b p q = rw p q
@@ -48,11 +50,7 @@ pub line_one_line : (text : Text) (i : ℕ) (line : Text) → i < length (lines 
 line_one_line text i line within e =
     subst (λ l. is_one_line l ≡ true) (sym e) (AllPass-from_list_all is_one_line (lines text) (lines_one_line (slice_split (λ b. b == 10) text) (parts_one_line text)) i line within)
 
--- the lines that were drafted are all
-pub drafted_lines : (draft : View (List OutputCall)) (before : List OutputCall) (drafted : List (Bor Text)) (all : List Text)
-    → draft.line_begun ≡ true → draft.kept ≡ before ++ map (λ line. OutputCall.Doc line.now) drafted → map (λ line. line.now) drafted ≡ all
-    → draft ≡ record { line_begun = true; kept = before ++ map OutputCall.Doc all }
-drafted_lines draft before drafted all begun calls e =
-    let whole : map (λ line. OutputCall.Doc line.now) drafted ≡ map OutputCall.Doc all = sym (map-map OutputCall.Doc (λ line. line.now) drafted) ∙ ap (map OutputCall.Doc) e in
-    let kept : draft.kept ≡ before ++ map OutputCall.Doc all = calls ∙ ap (λ x. before ++ x) whole in
-    view_is draft true _ begun kept
+-- the lines that were printed are all
+pub lines_driven : {O Kept : Type 0} {view : O → View Kept} {keeps : View Kept → OutputCall → Kept} {a b : Driver O} (printed : List (Bor Text)) (all : List Text)
+    → Drives view keeps a (map (λ line. OutputCall.Doc line.now) printed) b → map (λ line. line.now) printed ≡ all → Drives view keeps a (map OutputCall.Doc all) b
+lines_driven printed all d e = driven_as d (sym (map-map OutputCall.Doc (λ line. line.now) printed) ∙ ap (map OutputCall.Doc) e)

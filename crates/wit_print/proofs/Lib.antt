@@ -1,4 +1,5 @@
 pub mod Moves
+pub mod Driven
 pub mod RenderLaws
 mod ReadingExamples
 mod TextExamples
@@ -18,8 +19,7 @@ pub mod DeclaredReads
 pub mod MemberReads
 pub mod FileReads
 pub mod Keywords
-pub mod Pieces
-pub mod Drafts
+pub mod Fronts
 pub mod OneLine
 pub mod DocLines
 pub mod Runs

@@ -31,11 +31,9 @@ use Rattle.wit_print.specs.Shown.{shown_type, type_name, used_type, used_types, 
 use Rattle.wit_print.specs.Keyword.{escaped}
 use Rattle.wit_print.specs.declared.type_kind.TypeKind.TheVariants.{Other}
 use Rattle.wit_print.specs.Calls.{type_calls, types_calls, more_types_calls}
-use Rattle.wit_print.specs.Drafted.{drafted}
 use Rattle.wit_print.specs.TypeParts.{kind_start, kind_end, result_start, result_end, carrier_end, types_from, comma_calls, handles_label, may_be_unnamed, kind_calls}
 use Rattle.wit_print.proofs.ByteTests.{both, left_of, right_of}
 use Rattle.wit_print.proofs.ByPlace.{all_get}
-use Rattle.wit_print.proofs.Runs.{view_is}
 use Rattle.wit_print.specs.WellNamed.{is_well_type}
 use Rattle.wit_print.proofs.TypesWell.{is_below, below_of_numbers, IsShownType, type_is_shown, trees_count}
 
@@ -229,24 +227,6 @@ module _ (r : Resolve) (trees : List TypeTree) where
   end_may_follow b (defined.Variant x) = refl
   end_may_follow b (defined.Enum x) = refl
   end_may_follow b defined.Resource = refl
-
--- ---- drafts with more calls
-
-pub drafted-append : (v : View (List OutputCall)) (a b : List OutputCall) → drafted (drafted v a) b ≡ drafted v (a ++ b)
-drafted-append v a b = view_is (drafted (drafted v a) b) (lines_begun_after v.line_begun (a ++ b)) (v.kept ++ (a ++ b)) (sym (begun-append v.line_begun a b)) (append_assoc v.kept a b)
-
--- what is left to draft after a run of calls
-pub advance : (now next old : View (List OutputCall)) (run left rest all : List OutputCall) → next ≡ drafted now run → drafted now left ≡ drafted old all → left ≡ run ++ rest → drafted next rest ≡ drafted old all
-advance now next old run left rest all e h s = ap (λ v. drafted v rest) e ∙ drafted-append now run rest ∙ ap (drafted now) (sym s) ∙ h
-
--- nothing is left to draft
-pub drafted_whole : (now old : View (List OutputCall)) (left all : List OutputCall) → drafted now left ≡ drafted old all → left ≡ [] → now ≡ drafted old all
-drafted_whole now old left all h e =
-    sym (ap (drafted now) e ∙ view_is (drafted now []) now.line_begun now.kept refl (append-nil now.kept)) ∙ h
-
--- a run of calls after others, which together are these
-pub drafted_on : (old now new : View (List OutputCall)) (first then all : List OutputCall) → now ≡ drafted old first → new ≡ drafted now then → first ++ then ≡ all → new ≡ drafted old all
-drafted_on old now new first then all e f s = f ∙ ap (λ v. drafted v then) e ∙ drafted-append old first then ∙ ap (drafted old) s
 
 -- ---- a type number of a valid `Resolve`
 

@@ -1,4 +1,5 @@
 pub mod OutputCall
+pub mod Drives
 pub mod Render
 pub mod Keyword
 pub mod Tree
@@ -16,7 +17,6 @@ pub mod Heads
 pub mod ItemCalls
 pub mod DeclaredCalls
 pub mod UseGroups
-pub mod Drafted
 pub mod Printable
 pub mod Printer
 pub mod GivenTypes

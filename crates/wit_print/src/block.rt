@@ -1,36 +1,38 @@
-//! Blocks and their lines, drafted.
+//! Blocks and their lines, printed.
+#![tactic(auto, using(crate::proofs::Driven::driving))]
 
-ghost use Rattle.std.specs.Prelude.{◌≡◌, ◌++◌, true, false, IsTrue, OnOk};
+ghost use Rattle.std.specs.Prelude.{◌≡◌, true, false, IsTrue};
 ghost use Rattle.wit_model.specs.Names.{is_label};
+ghost use Rattle.wit_print.specs.Drives.{Drives, LineIs};
 ghost use Rattle.wit_print.specs.OutputCall.{is_one_line, has_no_space_first};
 ghost use Rattle.wit_print.specs.DeclaredCalls.{block_start_calls, line_end_calls};
 
-use crate::draft::Draft;
+use crate::driver::Driver;
+use crate::output::Output;
 use crate::type_kind::TypeKind;
-use std::alloc::AllocError;
 
 /// A word, a name and the start of a block.
-pub(crate) fn draft_block_start<'a>(
-    draft: &mut Draft<'a>,
-    word: &'a str,
-    name: &'a str,
+pub(crate) fn write_block_start<O: Output>(
+    driver: &mut Driver<O>,
+    word: &str,
+    name: &str,
     kind: TypeKind,
-) -> Result<(), AllocError>
+)
     requires one_line { IsTrue (is_one_line word.now) }
     requires front { IsTrue (has_no_space_first word.now) }
     requires label { is_label name.now ≡ true }
-    ensures { OnOk result (draft.new ≡ record { line_begun = true; kept = draft.old.kept ++ block_start_calls word.now name.now kind }) }
+    ensures calls { Drives O.view O.keeps driver.old (block_start_calls word.now name.now kind) driver.new }
 {
-    draft.keyword_and_blank(word)?;
-    draft.name(name, kind)?;
-    draft.indent_start()
+    driver.keyword_and_blank(word);
+    driver.name(name, kind);
+    driver.indent_start();
 }
 
 /// The end of a member's line.
-pub(crate) fn draft_line_end<'a>(draft: &mut Draft<'a>) -> Result<(), AllocError>
-    requires { draft.old.line_begun ≡ false }
-    ensures { OnOk result (draft.new ≡ record { line_begun = true; kept = draft.old.kept ++ line_end_calls }) }
+pub(crate) fn write_line_end<O: Output>(driver: &mut Driver<O>)
+    requires { LineIs O.view false driver.old }
+    ensures calls { Drives O.view O.keeps driver.old line_end_calls driver.new }
 {
-    draft.str(",")?;
-    draft.newline()
+    driver.str(",");
+    driver.newline();
 }

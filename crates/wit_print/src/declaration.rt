@@ -1,10 +1,12 @@
-//! Declared types, drafted and printed.
+//! Declared types, printed.
+#![tactic(auto, using(crate::proofs::Driven::driving))]
 
-ghost use Rattle.std.specs.Prelude.{◌≡◌, ◌++◌, ◌∷◌, [], true, filter, map, Some, IfOk, IsOkUnless, OnErr, OnOk};
+ghost use Rattle.std.specs.Prelude.{◌≡◌, ◌∷◌, [], true, filter, map, Some, IfOk, IsOkUnless, OnErr, OnOk};
 ghost use Rattle.std.specs.List.{list_all};
 ghost use Rattle.wit_model.specs.declared.error.Error.TheVariants.{Memory};
 ghost use Rattle.wit_model.specs.Lookup.{type_at};
 ghost use Rattle.wit_model.specs.Valid.{IsValid};
+ghost use Rattle.wit_print.specs.Drives.{Drives};
 ghost use Rattle.wit_print.specs.OutputCall.{Moves, Begins};
 ghost use Rattle.wit_print.specs.Shown.{belongs_to as belongs_to_lem, declared_of, present_name, shown_prefix, shown_resource_member};
 ghost use Rattle.wit_print.specs.Tree.MemberTree.{TypeMember};
@@ -15,94 +17,93 @@ ghost use Rattle.wit_print.specs.UseGroups.{is_listed_function, is_listed_type, 
 ghost use Rattle.wit_print.specs.WellNamed.{is_well_declared, is_well_prefix};
 
 use crate::alias::{
-    draft_carrier_alias, draft_fixed_list_alias, draft_handle_alias, draft_kind_alias,
-    draft_list_alias, draft_map_alias, draft_type_alias,
+    write_carrier_alias, write_fixed_list_alias, write_handle_alias, write_kind_alias,
+    write_list_alias, write_map_alias, write_type_alias,
 };
-use crate::draft::Draft;
-use crate::interface::draft_line_before;
-use crate::labels::{draft_enum, draft_flags};
+use crate::driver::Driver;
+use crate::interface::write_line_before;
+use crate::labels::{write_enum, write_flags};
 use crate::output::Output;
-use crate::prefix::draft_prefix;
-use crate::record::draft_record;
-use crate::resource::draft_resource;
+use crate::prefix::write_prefix;
+use crate::record::write_record;
+use crate::resource::write_resource;
 use crate::type_kind::TypeKind;
 use crate::type_name::present;
 use crate::use_group::use_of;
-use crate::variant::draft_variant;
+use crate::variant::write_variant;
 use std::alloc::{AllocError, Global};
 use std::collections::HashMap;
 use wit_model::{Error, Function, Resolve, TypeDef, TypeDefKind, TypeId, TypeOwner};
 
 /// A declared type under a name, with its functions if it is a resource.
-fn draft_declared<'a>(
-    draft: &mut Draft<'a>,
+fn write_declared<O: Output>(
+    driver: &mut Driver<O>,
     emits_docs: bool,
-    resolve: &'a Resolve,
+    resolve: &Resolve,
     id: TypeId,
-    name: &'a str,
-    def: &'a TypeDef,
-    functions: &[&'a Function],
-) -> Result<(), AllocError>
+    name: &str,
+    def: &TypeDef,
+    functions: &[&Function],
+)
     requires valid { IsValid resolve.now }
     requires at { type_at resolve.now id.0 ≡ Some def.now }
     requires well { is_well_declared (declared_of resolve.now name.now (map (λ f. shown_resource_member resolve.now f.now) functions.now) def.now.kind) ≡ true }
-    ensures { OnOk result (draft.new ≡ record { line_begun = true; kept = draft.old.kept ++ declared_calls emits_docs (declared_of resolve.now name.now (map (λ f. shown_resource_member resolve.now f.now) functions.now) def.now.kind) }) }
+    ensures calls { Drives O.view O.keeps driver.old (declared_calls emits_docs (declared_of resolve.now name.now (map (λ f. shown_resource_member resolve.now f.now) functions.now) def.now.kind)) driver.new }
 {
     match &def.kind {
-        TypeDefKind::Record(of) => draft_record(draft, emits_docs, resolve, name, of),
-        TypeDefKind::Variant(of) => draft_variant(draft, emits_docs, resolve, name, of),
-        TypeDefKind::Flags(of) => draft_flags(draft, emits_docs, name, of),
-        TypeDefKind::Enum(of) => draft_enum(draft, emits_docs, name, of),
-        TypeDefKind::Resource => draft_resource(draft, emits_docs, resolve, name, functions),
-        TypeDefKind::Type_(ty) => draft_type_alias(draft, resolve, name, ty),
-        TypeDefKind::Handle(handle) => draft_handle_alias(draft, resolve, name, handle),
-        TypeDefKind::Tuple(_) => draft_kind_alias(draft, resolve, id, name, TypeKind::Tuple),
-        TypeDefKind::Option(_) => draft_kind_alias(draft, resolve, id, name, TypeKind::Option),
-        TypeDefKind::Result(_) => draft_kind_alias(draft, resolve, id, name, TypeKind::Result),
-        TypeDefKind::List(ty) => draft_list_alias(draft, resolve, name, ty),
+        TypeDefKind::Record(of) => write_record(driver, emits_docs, resolve, name, of),
+        TypeDefKind::Variant(of) => write_variant(driver, emits_docs, resolve, name, of),
+        TypeDefKind::Flags(of) => write_flags(driver, emits_docs, name, of),
+        TypeDefKind::Enum(of) => write_enum(driver, emits_docs, name, of),
+        TypeDefKind::Resource => write_resource(driver, emits_docs, resolve, name, functions),
+        TypeDefKind::Type_(ty) => write_type_alias(driver, resolve, name, ty),
+        TypeDefKind::Handle(handle) => write_handle_alias(driver, resolve, name, handle),
+        TypeDefKind::Tuple(_) => write_kind_alias(driver, resolve, id, name, TypeKind::Tuple),
+        TypeDefKind::Option(_) => write_kind_alias(driver, resolve, id, name, TypeKind::Option),
+        TypeDefKind::Result(_) => write_kind_alias(driver, resolve, id, name, TypeKind::Result),
+        TypeDefKind::List(ty) => write_list_alias(driver, resolve, name, ty),
         TypeDefKind::FixedLengthList(ty, length) => {
-            draft_fixed_list_alias(draft, resolve, name, ty, *length)
+            write_fixed_list_alias(driver, resolve, name, ty, *length)
         }
-        TypeDefKind::Map(key, value) => draft_map_alias(draft, resolve, name, key, value),
+        TypeDefKind::Map(key, value) => write_map_alias(driver, resolve, name, key, value),
         TypeDefKind::Future(payload) => {
-            draft_carrier_alias(draft, resolve, name, TypeKind::Future, "future", payload)
+            write_carrier_alias(driver, resolve, name, TypeKind::Future, "future", payload)
         }
         TypeDefKind::Stream(payload) => {
-            draft_carrier_alias(draft, resolve, name, TypeKind::Stream, "stream", payload)
+            write_carrier_alias(driver, resolve, name, TypeKind::Stream, "stream", payload)
         }
     }
 }
 
 /// A declared type with what stands in front of it, an item of its block.
-fn draft_declaration<'a>(
-    draft: &mut Draft<'a>,
+fn write_declaration<O: Output>(
+    driver: &mut Driver<O>,
     emits_docs: bool,
     has_printed: bool,
-    resolve: &'a Resolve,
+    resolve: &Resolve,
     id: TypeId,
-    def: &'a TypeDef,
-    functions: &[&'a Function],
-) -> Result<(), AllocError>
-    requires begun { draft.old.line_begun ≡ true }
+    def: &TypeDef,
+    functions: &[&Function],
+)
     requires valid { IsValid resolve.now }
     requires at { type_at resolve.now id.0 ≡ Some def.now }
     requires prefix { is_well_prefix (shown_prefix def.now.docs def.now.stability def.now.external_id) ≡ true }
     requires well { is_well_declared (declared_of resolve.now (present_name def.now.name) (map (λ f. shown_resource_member resolve.now f.now) functions.now) def.now.kind) ≡ true }
-    ensures { OnOk result (draft.new ≡ record { line_begun = true; kept = draft.old.kept ++ members_calls emits_docs has_printed (TypeMember (shown_prefix def.now.docs def.now.stability def.now.external_id) (declared_of resolve.now (present_name def.now.name) (map (λ f. shown_resource_member resolve.now f.now) functions.now) def.now.kind) ∷ []) }) }
+    ensures calls { Drives O.view O.keeps driver.old (members_calls emits_docs has_printed (TypeMember (shown_prefix def.now.docs def.now.stability def.now.external_id) (declared_of resolve.now (present_name def.now.name) (map (λ f. shown_resource_member resolve.now f.now) functions.now) def.now.kind) ∷ [])) driver.new }
 {
-    draft_line_before(draft, has_printed)?;
-    draft_prefix(
-        draft,
+    write_line_before(driver, has_printed);
+    write_prefix(
+        driver,
         emits_docs,
         &def.docs,
         &def.stability,
         &def.external_id,
-    )?;
+    );
     let name = present(&def.name);
-    draft_declared(draft, emits_docs, resolve, id, name, def, functions)
+    write_declared(driver, emits_docs, resolve, id, name, def, functions);
 }
 
-#[tactic(auto, using(crate::proofs::Moves::moving))]
+#[tactic(auto, using(crate::proofs::Driven::finishing))]
 fn print_declaration<'a, O: Output>(
     output: &mut O,
     alloc: Global,
@@ -121,17 +122,17 @@ fn print_declaration<'a, O: Output>(
     ensures err { OnErr result (Begins O.keeps (O.view output.old) (members_calls emits_docs has_printed (TypeMember (shown_prefix def.now.docs def.now.stability def.now.external_id) (declared_of resolve.now (present_name def.now.name) (map (λ f. shown_resource_member resolve.now f.now) functions.now) def.now.kind) ∷ [])) (O.view output.new)) }
     ensures memory { IsOkUnless result Memory }
 {
-    let mut draft = Draft::new(alloc);
-    draft_declaration(
-        &mut draft,
+    let mut driver = Driver::new(output, alloc);
+    write_declaration(
+        &mut driver,
         emits_docs,
         has_printed,
         resolve,
         id,
         def,
         functions,
-    )?;
-    draft.make(output)
+    );
+    driver.finish()
 }
 
 /// Whether a function belongs to the resource of this number.
@@ -274,7 +275,7 @@ fn print_type_with_functions<'a, O: Output>(
     )
 }
 
-/// The types of an owner that are no uses, each an item of its block, a resource with the functions under it. One is drafted at a
+/// The types of an owner that are no uses, each an item of its block, a resource with the functions under it. One is printed at a
 /// time. Answers whether the block has printed something then.
 pub(crate) fn print_declarations<'a, O: Output>(
     output: &mut O,

@@ -1,7 +1,6 @@
 //! Interfaces that a world imports or exports, printed.
 
 ghost use Rattle.std.specs.Prelude.{◌≡◌, ◌++◌, ◌∷◌, [], true, Some, IsTrue, OnOk, OnErr, IsOkUnless};
-ghost use Rattle.std.specs.Option.{option_map_or};
 ghost use Rattle.wit_model.specs.declared.error.Error.TheVariants.{Memory};
 ghost use Rattle.wit_model.specs.Lookup.{interface_at};
 ghost use Rattle.wit_model.specs.Names.{is_label};
@@ -14,10 +13,10 @@ ghost use Rattle.wit_print.specs.Shown.{extern_docs, shown_docs, shown_interface
 ghost use Rattle.wit_print.specs.Tree.ExternTree.{NamedInterface, NamedPath, Path};
 ghost use Rattle.wit_print.specs.WellNamed.{is_well_extern, is_well_path, is_well_prefix};
 
-use crate::draft::Draft;
+use crate::driver::Driver;
 use crate::interface::print_interface_body;
 use crate::output::Output;
-use crate::world::{draft_inline, draft_keyed, draft_labelled};
+use crate::world::{write_inline, write_keyed, write_labelled};
 use std::alloc::Global;
 use wit_model::{Docs, Error, Interface, InterfaceId, PackageId, Resolve, Stability, WorldKey};
 
@@ -44,7 +43,7 @@ pub(crate) fn docs_of<'a>(
 }
 
 /// An interface by its path.
-#[tactic(auto, using(crate::proofs::Moves::moving))]
+#[tactic(auto, using(crate::proofs::Driven::finishing))]
 pub(crate) fn print_keyed<'a, O: Output>(
     output: &mut O,
     alloc: Global,
@@ -67,9 +66,9 @@ pub(crate) fn print_keyed<'a, O: Output>(
     ensures err { OnErr result (Begins O.keeps (O.view output.old) (world_extern_calls emits_docs (shown_prefix docs.now stability.now external_id.now) word.now (Path (shown_path resolve.now here id))) (O.view output.new)) }
     ensures memory { IsOkUnless result Memory }
 {
-    let mut draft = Draft::new(alloc);
-    draft_keyed(
-        &mut draft,
+    let mut driver = Driver::new(output, alloc);
+    write_keyed(
+        &mut driver,
         emits_docs,
         docs,
         stability,
@@ -78,12 +77,12 @@ pub(crate) fn print_keyed<'a, O: Output>(
         resolve,
         here,
         id,
-    )?;
-    draft.make(output)
+    );
+    driver.finish()
 }
 
 /// An interface by its path, under a label.
-#[tactic(auto, using(crate::proofs::Moves::moving))]
+#[tactic(auto, using(crate::proofs::Driven::finishing))]
 fn print_labelled_path<'a, O: Output>(
     output: &mut O,
     alloc: Global,
@@ -108,9 +107,9 @@ fn print_labelled_path<'a, O: Output>(
     ensures err { OnErr result (Begins O.keeps (O.view output.old) (world_extern_calls emits_docs (shown_prefix docs.now stability.now external_id.now) word.now (NamedPath label.now (shown_path resolve.now here id))) (O.view output.new)) }
     ensures memory { IsOkUnless result Memory }
 {
-    let mut draft = Draft::new(alloc);
-    draft_labelled(
-        &mut draft,
+    let mut driver = Driver::new(output, alloc);
+    write_labelled(
+        &mut driver,
         emits_docs,
         docs,
         stability,
@@ -120,11 +119,11 @@ fn print_labelled_path<'a, O: Output>(
         here,
         label,
         id,
-    )?;
-    draft.make(output)
+    );
+    driver.finish()
 }
 
-#[tactic(auto, using(crate::proofs::Moves::moving))]
+#[tactic(auto, using(crate::proofs::Driven::finishing))]
 fn print_inline_start<'a, O: Output>(
     output: &mut O,
     alloc: Global,
@@ -143,17 +142,17 @@ fn print_inline_start<'a, O: Output>(
     ensures err { OnErr result (Begins O.keeps (O.view output.old) (front_calls emits_docs (shown_prefix docs.now stability.now external_id.now) word.now ++ inline_start_calls label.now) (O.view output.new)) }
     ensures memory { IsOkUnless result Memory }
 {
-    let mut draft = Draft::new(alloc);
-    draft_inline(
-        &mut draft,
+    let mut driver = Driver::new(output, alloc);
+    write_inline(
+        &mut driver,
         emits_docs,
         docs,
         stability,
         external_id,
         word,
         label,
-    )?;
-    draft.make(output)
+    );
+    driver.finish()
 }
 
 /// The end of a block.

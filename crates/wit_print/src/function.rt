@@ -1,118 +1,106 @@
-//! Functions, drafted.
+//! Functions, printed.
+#![tactic(auto, using(crate::proofs::Driven::driving))]
 
-ghost use Rattle.std.specs.Prelude.{◌≡◌, ◌++◌, ◌∷◌, [], codes, true, false, map, option_map, OnOk};
+ghost use Rattle.std.specs.Prelude.{◌≡◌, ◌∷◌, codes, true, false, map, option_map};
 ghost use Rattle.std.specs.List.{list_all, flat_map};
 ghost use Rattle.wit_model.specs.Names.{is_label};
 ghost use Rattle.wit_model.specs.Lookup.{is_async as is_async_lem};
 ghost use Rattle.wit_model.specs.Valid.{IsValid};
+ghost use Rattle.wit_print.specs.Drives.{Drives, LineIs};
 ghost use Rattle.wit_print.specs.OutputCall.{OutputCall};
 ghost use Rattle.wit_print.specs.Shown.{is_method as is_method_lem, shown_param, shown_signature, shown_type};
 ghost use Rattle.wit_print.specs.Calls.{async_calls, param_calls, params_calls, result_calls, separated, signature_calls};
 ghost use Rattle.wit_print.specs.ItemCalls.{named_calls, written_params as written_params_lem};
 ghost use Rattle.wit_print.specs.WellNamed.{is_well_optional, is_well_param, is_well_signature, is_well_type};
 
-use crate::draft::Draft;
+use crate::driver::Driver;
+use crate::output::Output;
 use crate::type_kind::TypeKind;
-use crate::type_name::draft_type;
-use std::alloc::AllocError;
+use crate::type_name::write_type;
 use wit_model::{Function, FunctionKind, Param, Resolve, Type};
 
-fn draft_param<'a>(
-    draft: &mut Draft<'a>,
-    resolve: &'a Resolve,
-    param: &'a Param,
-) -> Result<(), AllocError>
-    requires same_line { draft.old.line_begun ≡ false }
+fn write_param<O: Output>(driver: &mut Driver<O>, resolve: &Resolve, param: &Param)
+    requires same_line { LineIs O.view false driver.old }
     requires valid { IsValid resolve.now }
     requires well { is_well_param (shown_param resolve.now param.now) ≡ true }
-    ensures { OnOk result (draft.new ≡ record { line_begun = false; kept = draft.old.kept ++ param_calls (shown_param resolve.now param.now) }) }
+    ensures calls { Drives O.view O.keeps driver.old (param_calls (shown_param resolve.now param.now)) driver.new }
+    ensures line { LineIs O.view false driver.new }
 {
-    draft.param(&param.name)?;
-    draft.str(": ")?;
-    draft_type(draft, resolve, &param.ty)
+    driver.param(&param.name);
+    driver.str(": ");
+    write_type(driver, resolve, &param.ty);
 }
 
 /// Parameters, each after a comma.
-fn draft_more_params<'a>(
-    draft: &mut Draft<'a>,
-    resolve: &'a Resolve,
-    params: &'a [Param],
-) -> Result<(), AllocError>
-    requires same_line { draft.old.line_begun ≡ false }
+fn write_more_params<O: Output>(driver: &mut Driver<O>, resolve: &Resolve, params: &[Param])
+    requires same_line { LineIs O.view false driver.old }
     requires valid { IsValid resolve.now }
     requires well { list_all (λ param. is_well_param (shown_param resolve.now param)) params.now ≡ true }
-    ensures { OnOk result (draft.new ≡ record { line_begun = false; kept = draft.old.kept ++ flat_map (λ param. OutputCall.Str (codes ", ") ∷ param_calls (shown_param resolve.now param)) params.now }) }
+    ensures calls { Drives O.view O.keeps driver.old (flat_map (λ param. OutputCall.Str (codes ", ") ∷ param_calls (shown_param resolve.now param)) params.now) driver.new }
+    ensures line { LineIs O.view false driver.new }
 {
     for param in params {
-        draft.str(", ")?;
-        draft_param(draft, resolve, param)?;
+        driver.str(", ");
+        write_param(driver, resolve, param);
     }
-    Ok(())
 }
 
 /// Parameters, with commas between.
-fn draft_params<'a>(
-    draft: &mut Draft<'a>,
-    resolve: &'a Resolve,
-    params: &'a [Param],
-) -> Result<(), AllocError>
-    requires same_line { draft.old.line_begun ≡ false }
+fn write_params<O: Output>(driver: &mut Driver<O>, resolve: &Resolve, params: &[Param])
+    requires same_line { LineIs O.view false driver.old }
     requires valid { IsValid resolve.now }
     requires well { list_all (λ param. is_well_param (shown_param resolve.now param)) params.now ≡ true }
-    ensures { OnOk result (draft.new ≡ record { line_begun = false; kept = draft.old.kept ++ separated (OutputCall.Str (codes ", ")) (map param_calls (map (shown_param resolve.now) params.now)) }) }
+    ensures calls { Drives O.view O.keeps driver.old (separated (OutputCall.Str (codes ", ")) (map param_calls (map (shown_param resolve.now) params.now))) driver.new }
+    ensures line { LineIs O.view false driver.new }
 {
     if let Some((first, rest)) = params.split_first() {
-        draft_param(draft, resolve, first)?;
-        draft_more_params(draft, resolve, rest)?;
+        write_param(driver, resolve, first);
+        write_more_params(driver, resolve, rest);
     }
-    Ok(())
 }
 
 /// What a function returns, if it does.
-fn draft_result<'a>(
-    draft: &mut Draft<'a>,
-    resolve: &'a Resolve,
-    returned: &Option<Type>,
-) -> Result<(), AllocError>
-    requires same_line { draft.old.line_begun ≡ false }
+fn write_result<O: Output>(driver: &mut Driver<O>, resolve: &Resolve, returned: &Option<Type>)
+    requires same_line { LineIs O.view false driver.old }
     requires valid { IsValid resolve.now }
     requires well { is_well_optional is_well_type (option_map (shown_type resolve.now) returned.now) ≡ true }
-    ensures { OnOk result (draft.new ≡ record { line_begun = false; kept = draft.old.kept ++ result_calls (option_map (shown_type resolve.now) returned.now) }) }
+    ensures calls { Drives O.view O.keeps driver.old (result_calls (option_map (shown_type resolve.now) returned.now)) driver.new }
+    ensures line { LineIs O.view false driver.new }
 {
     if let Some(ty) = returned {
-        draft.str(" -> ")?;
-        draft_type(draft, resolve, ty)?;
+        driver.str(" -> ");
+        write_type(driver, resolve, ty);
     }
-    Ok(())
 }
 
 /// Parameters in parentheses, and a result.
-pub(crate) fn draft_params_and_result<'a>(
-    draft: &mut Draft<'a>,
-    resolve: &'a Resolve,
-    params: &'a [Param],
+pub(crate) fn write_params_and_result<O: Output>(
+    driver: &mut Driver<O>,
+    resolve: &Resolve,
+    params: &[Param],
     returned: &Option<Type>,
-) -> Result<(), AllocError>
-    requires same_line { draft.old.line_begun ≡ false }
+)
+    requires same_line { LineIs O.view false driver.old }
     requires valid { IsValid resolve.now }
     requires params { list_all (λ param. is_well_param (shown_param resolve.now param)) params.now ≡ true }
     requires returned { is_well_optional is_well_type (option_map (shown_type resolve.now) returned.now) ≡ true }
-    ensures { OnOk result (draft.new ≡ record { line_begun = false; kept = draft.old.kept ++ params_calls (map (shown_param resolve.now) params.now) (option_map (shown_type resolve.now) returned.now) }) }
+    ensures calls { Drives O.view O.keeps driver.old (params_calls (map (shown_param resolve.now) params.now) (option_map (shown_type resolve.now) returned.now)) driver.new }
+    ensures line { LineIs O.view false driver.new }
 {
-    draft.str("(")?;
-    draft_params(draft, resolve, params)?;
-    draft.str(")")?;
-    draft_result(draft, resolve, returned)
+    driver.str("(");
+    write_params(driver, resolve, params);
+    driver.str(")");
+    write_result(driver, resolve, returned);
 }
 
-fn draft_async<'a>(draft: &mut Draft<'a>, kind: FunctionKind) -> Result<(), AllocError>
-    requires { draft.old.line_begun ≡ false }
-    ensures { OnOk result (draft.new ≡ record { line_begun = false; kept = draft.old.kept ++ async_calls (is_async_lem kind) }) }
+fn write_async<O: Output>(driver: &mut Driver<O>, kind: FunctionKind)
+    requires { LineIs O.view false driver.old }
+    ensures calls { Drives O.view O.keeps driver.old (async_calls (is_async_lem kind)) driver.new }
+    ensures line { LineIs O.view false driver.new }
 {
     if kind.is_async() {
-        draft.keyword_and_blank("async")?;
+        driver.keyword_and_blank("async");
     }
-    Ok(())
 }
 
 fn is_method(kind: FunctionKind) -> bool
@@ -142,36 +130,37 @@ fn written_params<'a>(function: &'a Function) -> &'a [Param]
 }
 
 /// What a function is that is no constructor.
-pub(crate) fn draft_signature<'a>(
-    draft: &mut Draft<'a>,
-    resolve: &'a Resolve,
-    function: &'a Function,
-) -> Result<(), AllocError>
-    requires same_line { draft.old.line_begun ≡ false }
+pub(crate) fn write_signature<O: Output>(
+    driver: &mut Driver<O>,
+    resolve: &Resolve,
+    function: &Function,
+)
+    requires same_line { LineIs O.view false driver.old }
     requires valid { IsValid resolve.now }
     requires well { is_well_signature (shown_signature resolve.now function.now) ≡ true }
-    ensures { OnOk result (draft.new ≡ record { line_begun = false; kept = draft.old.kept ++ signature_calls (shown_signature resolve.now function.now) }) }
+    ensures calls { Drives O.view O.keeps driver.old (signature_calls (shown_signature resolve.now function.now)) driver.new }
+    ensures line { LineIs O.view false driver.new }
 {
-    draft_async(draft, function.kind)?;
-    draft.keyword("func")?;
-    draft_params_and_result(draft, resolve, written_params(function), &function.result)
+    write_async(driver, function.kind);
+    driver.keyword("func");
+    write_params_and_result(driver, resolve, written_params(function), &function.result);
 }
 
 /// A function under a name.
-pub(crate) fn draft_named<'a>(
-    draft: &mut Draft<'a>,
-    resolve: &'a Resolve,
-    function: &'a Function,
-    name: &'a str,
+pub(crate) fn write_named<O: Output>(
+    driver: &mut Driver<O>,
+    resolve: &Resolve,
+    function: &Function,
+    name: &str,
     kind: TypeKind,
-) -> Result<(), AllocError>
+)
     requires valid { IsValid resolve.now }
     requires label { is_label name.now ≡ true }
     requires well { is_well_signature (shown_signature resolve.now function.now) ≡ true }
-    ensures { OnOk result (draft.new ≡ record { line_begun = true; kept = draft.old.kept ++ named_calls name.now kind (shown_signature resolve.now function.now) }) }
+    ensures calls { Drives O.view O.keeps driver.old (named_calls name.now kind (shown_signature resolve.now function.now)) driver.new }
 {
-    draft.name(name, kind)?;
-    draft.str(": ")?;
-    draft_signature(draft, resolve, function)?;
-    draft.semicolon()
+    driver.name(name, kind);
+    driver.str(": ");
+    write_signature(driver, resolve, function);
+    driver.semicolon();
 }

@@ -1,6 +1,6 @@
 //! Types that are handed in, with functions by the resources that they stand under, printed.
 
-ghost use Rattle.std.specs.Prelude.{◌≡◌, true, false, map, IfOk, IsOkUnless, OnErr, OnOk};
+ghost use Rattle.std.specs.Prelude.{◌≡◌, true, false, IfOk, IsOkUnless, OnErr, OnOk};
 ghost use Rattle.std.specs.Iterator.{Drains, IsFinite};
 ghost use Rattle.std.specs.List.{list_all};
 ghost use Rattle.wit_model.specs.declared.error.Error.TheVariants.{Memory};
@@ -8,9 +8,9 @@ ghost use Rattle.wit_model.specs.Parts.{same_owner};
 ghost use Rattle.wit_model.specs.Valid.{IsValid};
 ghost use Rattle.wit_print.specs.OutputCall.{Moves, Begins};
 ghost use Rattle.wit_print.specs.Calls.{members_calls, printed_after};
-ghost use Rattle.wit_print.specs.GivenTypes.{are_functions_of, functions_under, given_declarations, given_members, package_of_owner};
+ghost use Rattle.wit_print.specs.GivenTypes.{are_functions_of, given_members, package_of_owner};
 ghost use Rattle.wit_print.specs.Shown.{owner_package as owner_package_lem};
-ghost use Rattle.wit_print.specs.UseGroups.{is_listed_type, listed_declaration, listed_of};
+ghost use Rattle.wit_print.specs.UseGroups.{is_listed_type, listed_of};
 
 use crate::declaration::print_declarations;
 use crate::output::Output;

@@ -1,12 +1,14 @@
 //! Interfaces, printed item by item.
+#![tactic(auto, using(crate::proofs::Driven::driving))]
 
-ghost use Rattle.std.specs.Prelude.{◌≡◌, ◌++◌, ◌∷◌, [], true, false, Some, OnOk, OnErr, IsOkUnless};
+ghost use Rattle.std.specs.Prelude.{◌≡◌, ◌∷◌, [], true, false, Some, OnOk, OnErr, IsOkUnless};
 ghost use Rattle.std.specs.List.{list_all};
 ghost use Rattle.wit_model.specs.declared.error.Error.TheVariants.{Memory};
 ghost use Rattle.wit_model.specs.Lookup.{interface_at};
 ghost use Rattle.wit_model.specs.Names.{is_label};
 ghost use Rattle.wit_model.specs.Rules.{is_freestanding as is_freestanding_lem};
 ghost use Rattle.wit_model.specs.Valid.{IsValid};
+ghost use Rattle.wit_print.specs.Drives.{Drives, LineIs};
 ghost use Rattle.wit_print.specs.OutputCall.{Moves, Begins};
 ghost use Rattle.wit_print.specs.Calls.{members_calls};
 ghost use Rattle.wit_print.specs.Heads.{head_calls};
@@ -14,36 +16,36 @@ ghost use Rattle.wit_print.specs.Printable.{is_printable_function, line_between,
 ghost use Rattle.wit_print.specs.Shown.{shown_function, shown_gates, shown_interface};
 ghost use Rattle.wit_print.specs.WellNamed.{is_well_gates, is_well_member};
 
-use crate::draft::Draft;
-use crate::function::draft_named;
-use crate::gates::draft_gates;
+use crate::driver::Driver;
+use crate::function::write_named;
+use crate::gates::write_gates;
 use crate::output::Output;
-use crate::prefix::{draft_docs, draft_prefix};
+use crate::prefix::{write_docs, write_prefix};
 use crate::type_kind::TypeKind;
 use crate::types::print_interface_types;
-use std::alloc::{AllocError, Global};
+use std::alloc::Global;
 use wit_model::{Error, Function, Interface, InterfaceId, Map, Resolve};
 
 /// An interface's documentation, gates and name.
-pub(crate) fn draft_head<'a>(
-    draft: &mut Draft<'a>,
+pub(crate) fn write_head<O: Output>(
+    driver: &mut Driver<O>,
     emits_docs: bool,
-    interface: &'a Interface,
-    name: &'a str,
-) -> Result<(), AllocError>
-    requires begun { draft.old.line_begun ≡ true }
+    interface: &Interface,
+    name: &str,
+)
     requires gates { is_well_gates (shown_gates interface.now.stability) ≡ true }
     requires name { is_label name.now ≡ true }
-    ensures { OnOk result (draft.new ≡ record { line_begun = false; kept = draft.old.kept ++ head_calls emits_docs interface.now name.now }) }
+    ensures calls { Drives O.view O.keeps driver.old (head_calls emits_docs interface.now name.now) driver.new }
+    ensures line { LineIs O.view false driver.new }
 {
-    draft_docs(draft, emits_docs, &interface.docs)?;
-    draft_gates(draft, &interface.stability)?;
-    draft.keyword_and_blank("interface")?;
-    draft.name(name, TypeKind::InterfaceDeclaration)
+    write_docs(driver, emits_docs, &interface.docs);
+    write_gates(driver, &interface.stability);
+    driver.keyword_and_blank("interface");
+    driver.name(name, TypeKind::InterfaceDeclaration);
 }
 
 /// An interface's documentation, gates and name.
-#[tactic(auto, using(crate::proofs::Moves::moving))]
+#[tactic(auto, using(crate::proofs::Driven::finishing))]
 pub(crate) fn print_head<'a, O: Output>(
     output: &mut O,
     alloc: Global,
@@ -57,56 +59,50 @@ pub(crate) fn print_head<'a, O: Output>(
     ensures err { OnErr result (Begins O.keeps (O.view output.old) (head_calls emits_docs interface.now name.now) (O.view output.new)) }
     ensures memory { IsOkUnless result Memory }
 {
-    let mut draft = Draft::new(alloc);
-    draft_head(&mut draft, emits_docs, interface, name)?;
-    draft.make(output)
+    let mut driver = Driver::new(output, alloc);
+    write_head(&mut driver, emits_docs, interface, name);
+    driver.finish()
 }
 
 /// An empty line, where the block has printed something.
-pub(crate) fn draft_line_before<'a>(
-    draft: &mut Draft<'a>,
-    has_printed: bool,
-) -> Result<(), AllocError>
-    requires { draft.old.line_begun ≡ true }
-    ensures { OnOk result (draft.new ≡ record { line_begun = true; kept = draft.old.kept ++ line_between has_printed }) }
+pub(crate) fn write_line_before<O: Output>(driver: &mut Driver<O>, has_printed: bool)
+    ensures calls { Drives O.view O.keeps driver.old (line_between has_printed) driver.new }
 {
     if has_printed {
-        draft.newline()?;
+        driver.newline();
     }
-    Ok(())
 }
 
 /// A freestanding function, an item of its block.
-fn draft_function<'a>(
-    draft: &mut Draft<'a>,
+fn write_function<O: Output>(
+    driver: &mut Driver<O>,
     emits_docs: bool,
     has_printed: bool,
-    resolve: &'a Resolve,
-    function: &'a Function,
-) -> Result<(), AllocError>
-    requires begun { draft.old.line_begun ≡ true }
+    resolve: &Resolve,
+    function: &Function,
+)
     requires valid { IsValid resolve.now }
     requires well { is_well_member (shown_function resolve.now function.now) ≡ true }
-    ensures { OnOk result (draft.new ≡ record { line_begun = true; kept = draft.old.kept ++ members_calls emits_docs has_printed (shown_function resolve.now function.now ∷ []) }) }
+    ensures calls { Drives O.view O.keeps driver.old (members_calls emits_docs has_printed (shown_function resolve.now function.now ∷ [])) driver.new }
 {
-    draft_line_before(draft, has_printed)?;
-    draft_prefix(
-        draft,
+    write_line_before(driver, has_printed);
+    write_prefix(
+        driver,
         emits_docs,
         &function.docs,
         &function.stability,
         &function.external_id,
-    )?;
-    draft_named(
-        draft,
+    );
+    write_named(
+        driver,
         resolve,
         function,
         &function.name,
         TypeKind::FunctionFreestanding,
-    )
+    );
 }
 
-#[tactic(auto, using(crate::proofs::Moves::moving))]
+#[tactic(auto, using(crate::proofs::Driven::finishing))]
 fn print_function<'a, O: Output>(
     output: &mut O,
     alloc: Global,
@@ -121,9 +117,9 @@ fn print_function<'a, O: Output>(
     ensures err { OnErr result (Begins O.keeps (O.view output.old) (members_calls emits_docs has_printed (shown_function resolve.now function.now ∷ [])) (O.view output.new)) }
     ensures memory { IsOkUnless result Memory }
 {
-    let mut draft = Draft::new(alloc);
-    draft_function(&mut draft, emits_docs, has_printed, resolve, function)?;
-    draft.make(output)
+    let mut driver = Driver::new(output, alloc);
+    write_function(&mut driver, emits_docs, has_printed, resolve, function);
+    driver.finish()
 }
 
 /// Whether a function belongs to no resource.
@@ -133,7 +129,7 @@ fn is_freestanding(function: &Function) -> bool
     function.kind.resource().is_none()
 }
 
-/// The functions that belong to no resource, each an item of its block. One is drafted at a time.
+/// The functions that belong to no resource, each an item of its block. One is printed at a time.
 fn print_functions<'a, O: Output>(
     output: &mut O,
     alloc: Global,

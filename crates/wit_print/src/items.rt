@@ -13,16 +13,16 @@ ghost use Rattle.wit_print.specs.Tree.ExternTree.{NamedFunction};
 ghost use Rattle.wit_print.specs.WellNamed.{is_well_extern, is_well_prefix};
 ghost use Rattle.wit_model.specs.Text.{text_of};
 
-use crate::draft::Draft;
+use crate::driver::Driver;
 use crate::extern_item::{docs_of, print_keyed, print_labelled};
 use crate::output::Output;
 use crate::types::print_world_types;
 use crate::use_group::either;
-use crate::world::draft_world_function;
+use crate::world::write_world_function;
 use std::alloc::Global;
 use wit_model::{Error, Function, Map, PackageId, Resolve, World, WorldId, WorldItem, WorldKey};
 
-#[tactic(auto, using(crate::proofs::Moves::moving))]
+#[tactic(auto, using(crate::proofs::Driven::finishing))]
 fn print_world_function<'a, O: Output>(
     output: &mut O,
     alloc: Global,
@@ -40,9 +40,9 @@ fn print_world_function<'a, O: Output>(
     ensures err { OnErr result (Begins O.keeps (O.view output.old) (world_extern_calls emits_docs (function_prefix function.now) word.now (NamedFunction (text_of function.now.name) (shown_signature resolve.now function.now))) (O.view output.new)) }
     ensures memory { IsOkUnless result Memory }
 {
-    let mut draft = Draft::new(alloc);
-    draft_world_function(&mut draft, emits_docs, resolve, word, function)?;
-    draft.make(output)
+    let mut driver = Driver::new(output, alloc);
+    write_world_function(&mut driver, emits_docs, resolve, word, function);
+    driver.finish()
 }
 
 /// An import or an export of a world of the package `here`.

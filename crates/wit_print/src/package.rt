@@ -1,4 +1,5 @@
 //! Packages, printed item by item.
+#![tactic(auto, using(crate::proofs::Driven::driving))]
 
 ghost use Rattle.std.specs.Prelude.{◌≡◌, ◌<◌, ◌++◌, ◌∷◌, [], true, false, length, Some, OnOk, OnErr, IsOkUnless};
 ghost use Rattle.std.specs.List.{flat_map, list_all};
@@ -7,6 +8,7 @@ ghost use Rattle.wit_model.specs.Text.{text_of};
 ghost use Rattle.wit_model.specs.Names.{is_label, is_version_text};
 ghost use Rattle.wit_model.specs.Lookup.{interface_at, optional_version_text};
 ghost use Rattle.wit_model.specs.Valid.{IsValid};
+ghost use Rattle.wit_print.specs.Drives.{Drives, LineIs};
 ghost use Rattle.wit_print.specs.OutputCall.{OutputCall, Moves, Begins};
 ghost use Rattle.wit_print.specs.Printable.{IsPrintableWorld, is_printable_interface, is_printable_listed, listed_calls, listed_interface_calls, listed_package_calls, world_start_calls, world_calls};
 ghost use Rattle.wit_print.specs.Shown.{shown_docs, shown_gates, shown_head, shown_interface, shown_package};
@@ -15,38 +17,32 @@ ghost use Rattle.wit_print.specs.Heads.{head_calls};
 ghost use Rattle.wit_print.specs.Tree.{ItemTree};
 ghost use Rattle.wit_print.specs.WellNamed.{is_well_gates, is_well_optional};
 
-use crate::draft::Draft;
+use crate::driver::Driver;
 use crate::extern_item::print_block_end;
-use crate::gates::draft_gates;
-use crate::interface::{draft_head, print_interface_body};
+use crate::gates::write_gates;
+use crate::interface::{print_interface_body, write_head};
 use crate::items::print_world_body;
 use crate::output::Output;
-use crate::parts::draft_package_outer;
-use crate::prefix::draft_docs;
+use crate::parts::write_package_outer;
+use crate::prefix::write_docs;
 use crate::type_kind::TypeKind;
-use std::alloc::{AllocError, Global};
+use std::alloc::Global;
 use wit_model::{Error, Interface, InterfaceId, Map, Package, PackageId, Resolve, World, WorldId};
 
 /// A world's documentation, gates and name, and the start of its block.
-fn draft_world_start<'a>(
-    draft: &mut Draft<'a>,
-    emits_docs: bool,
-    name: &'a str,
-    world: &'a World,
-) -> Result<(), AllocError>
-    requires begun { draft.old.line_begun ≡ true }
+fn write_world_start<O: Output>(driver: &mut Driver<O>, emits_docs: bool, name: &str, world: &World)
     requires gates { is_well_gates (shown_gates world.now.stability) ≡ true }
     requires name { is_label name.now ≡ true }
-    ensures { OnOk result (draft.new ≡ record { line_begun = true; kept = draft.old.kept ++ world_start_calls emits_docs name.now world.now }) }
+    ensures calls { Drives O.view O.keeps driver.old (world_start_calls emits_docs name.now world.now) driver.new }
 {
-    draft_docs(draft, emits_docs, &world.docs)?;
-    draft_gates(draft, &world.stability)?;
-    draft.keyword_and_blank("world")?;
-    draft.name(name, TypeKind::WorldDeclaration)?;
-    draft.indent_start()
+    write_docs(driver, emits_docs, &world.docs);
+    write_gates(driver, &world.stability);
+    driver.keyword_and_blank("world");
+    driver.name(name, TypeKind::WorldDeclaration);
+    driver.indent_start();
 }
 
-#[tactic(auto, using(crate::proofs::Moves::moving))]
+#[tactic(auto, using(crate::proofs::Driven::finishing))]
 fn print_world_start<'a, O: Output>(
     output: &mut O,
     alloc: Global,
@@ -60,9 +56,9 @@ fn print_world_start<'a, O: Output>(
     ensures err { OnErr result (Begins O.keeps (O.view output.old) (world_start_calls emits_docs name.now world.now) (O.view output.new)) }
     ensures memory { IsOkUnless result Memory }
 {
-    let mut draft = Draft::new(alloc);
-    draft_world_start(&mut draft, emits_docs, name, world)?;
-    draft.make(output)
+    let mut driver = Driver::new(output, alloc);
+    write_world_start(&mut driver, emits_docs, name, world);
+    driver.finish()
 }
 
 /// A world of the package `here`, under a name.
@@ -130,22 +126,21 @@ fn print_worlds<'a, O: Output>(
 }
 
 /// An interface's documentation, gates and name, and the start of its block.
-fn draft_interface_start<'a>(
-    draft: &mut Draft<'a>,
+fn write_interface_start<O: Output>(
+    driver: &mut Driver<O>,
     emits_docs: bool,
-    name: &'a str,
-    interface: &'a Interface,
-) -> Result<(), AllocError>
-    requires begun { draft.old.line_begun ≡ true }
+    name: &str,
+    interface: &Interface,
+)
     requires gates { is_well_gates (shown_gates interface.now.stability) ≡ true }
     requires name { is_label name.now ≡ true }
-    ensures { OnOk result (draft.new ≡ record { line_begun = true; kept = draft.old.kept ++ (head_calls emits_docs interface.now name.now ++ OutputCall.IndentStart ∷ []) }) }
+    ensures calls { Drives O.view O.keeps driver.old (head_calls emits_docs interface.now name.now ++ OutputCall.IndentStart ∷ []) driver.new }
 {
-    draft_head(draft, emits_docs, interface, name)?;
-    draft.indent_start()
+    write_head(driver, emits_docs, interface, name);
+    driver.indent_start();
 }
 
-#[tactic(auto, using(crate::proofs::Moves::moving))]
+#[tactic(auto, using(crate::proofs::Driven::finishing))]
 fn print_interface_start<'a, O: Output>(
     output: &mut O,
     alloc: Global,
@@ -159,9 +154,9 @@ fn print_interface_start<'a, O: Output>(
     ensures err { OnErr result (Begins O.keeps (O.view output.old) (head_calls emits_docs interface.now name.now ++ OutputCall.IndentStart ∷ []) (O.view output.new)) }
     ensures memory { IsOkUnless result Memory }
 {
-    let mut draft = Draft::new(alloc);
-    draft_interface_start(&mut draft, emits_docs, name, interface)?;
-    draft.make(output)
+    let mut driver = Driver::new(output, alloc);
+    write_interface_start(&mut driver, emits_docs, name, interface);
+    driver.finish()
 }
 
 /// An empty line after an interface of a main package.
@@ -255,36 +250,35 @@ fn print_interfaces<'a, O: Output>(
 }
 
 /// What follows a package's name: the end of its line and an empty line, or the start of a block.
-fn draft_package_open<'a>(draft: &mut Draft<'a>, is_main: bool) -> Result<(), AllocError>
-    requires { draft.old.line_begun ≡ false }
-    ensures { OnOk result (draft.new ≡ record { line_begun = true; kept = draft.old.kept ++ package_start_calls is_main }) }
+fn write_package_open<O: Output>(driver: &mut Driver<O>, is_main: bool)
+    requires { LineIs O.view false driver.old }
+    ensures calls { Drives O.view O.keeps driver.old (package_start_calls is_main) driver.new }
 {
     if is_main {
-        draft.semicolon()?;
-        draft.newline()
+        driver.semicolon();
+        driver.newline()
     } else {
-        draft.indent_start()
+        driver.indent_start()
     }
 }
 
 /// A package's documentation and name, and what follows.
-fn draft_package_start<'a>(
-    draft: &mut Draft<'a>,
+fn write_package_start<O: Output>(
+    driver: &mut Driver<O>,
     emits_docs: bool,
-    package: &'a Package,
+    package: &Package,
     is_main: bool,
-) -> Result<(), AllocError>
-    requires begun { draft.old.line_begun ≡ true }
+)
     requires namespace { is_label (text_of «package».now.name.namespace) ≡ true }
     requires name { is_label (text_of «package».now.name.name) ≡ true }
     requires version { is_well_optional is_version_text (optional_version_text «package».now.name.version) ≡ true }
-    ensures { OnOk result (draft.new ≡ record { line_begun = true; kept = draft.old.kept ++ (package_outer_calls emits_docs (shown_head «package».now) ++ package_start_calls is_main) }) }
+    ensures calls { Drives O.view O.keeps driver.old (package_outer_calls emits_docs (shown_head «package».now) ++ package_start_calls is_main) driver.new }
 {
-    draft_package_outer(draft, emits_docs, package)?;
-    draft_package_open(draft, is_main)
+    write_package_outer(driver, emits_docs, package);
+    write_package_open(driver, is_main);
 }
 
-#[tactic(auto, using(crate::proofs::Moves::moving))]
+#[tactic(auto, using(crate::proofs::Driven::finishing))]
 fn print_package_start<'a, O: Output>(
     output: &mut O,
     alloc: Global,
@@ -299,9 +293,9 @@ fn print_package_start<'a, O: Output>(
     ensures err { OnErr result (Begins O.keeps (O.view output.old) (package_outer_calls emits_docs (shown_head «package».now) ++ package_start_calls is_main) (O.view output.new)) }
     ensures memory { IsOkUnless result Memory }
 {
-    let mut draft = Draft::new(alloc);
-    draft_package_start(&mut draft, emits_docs, package, is_main)?;
-    draft.make(output)
+    let mut driver = Driver::new(output, alloc);
+    write_package_start(&mut driver, emits_docs, package, is_main);
+    driver.finish()
 }
 
 /// The end of a package's block, if it has one.

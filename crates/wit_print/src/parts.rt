@@ -1,62 +1,66 @@
-//! Parts of an item, drafted.
+//! Parts of an item, printed.
+#![tactic(auto, using(crate::proofs::Driven::driving))]
 
-ghost use Rattle.std.specs.Prelude.{◌≡◌, ◌++◌, true, false, OnOk};
+ghost use Rattle.std.specs.Prelude.{◌≡◌, true, false};
 ghost use Rattle.wit_model.specs.Text.{text_of};
 ghost use Rattle.wit_model.specs.Names.{is_label, is_version_text};
 ghost use Rattle.wit_model.specs.Lookup.{optional_version_text};
+ghost use Rattle.wit_print.specs.Drives.{Drives, LineIs};
 ghost use Rattle.wit_print.specs.Shown.{shown_head};
 ghost use Rattle.wit_print.specs.Calls.{package_name_calls, package_outer_calls, version_calls};
 ghost use Rattle.wit_print.specs.WellNamed.{is_well_optional};
 
-use crate::draft::Draft;
-use crate::prefix::draft_docs;
+use crate::driver::Driver;
+use crate::output::Output;
+use crate::prefix::write_docs;
 use crate::type_kind::TypeKind;
 use semver::Version;
-use std::alloc::AllocError;
 use wit_model::{Package, PackageName};
 
 /// A version after its mark, if there is one.
-pub(crate) fn draft_version<'a>(
-    draft: &mut Draft<'a>,
-    version: &'a Option<Version>,
+pub(crate) fn write_version<O: Output>(
+    driver: &mut Driver<O>,
+    version: &Option<Version>,
     kind: TypeKind,
-) -> Result<(), AllocError>
-    requires same_line { draft.old.line_begun ≡ false }
+)
+    requires same_line { LineIs O.view false driver.old }
     requires version { is_well_optional is_version_text (optional_version_text version.now) ≡ true }
-    ensures { OnOk result (draft.new ≡ record { line_begun = false; kept = draft.old.kept ++ version_calls (optional_version_text version.now) kind }) }
+    ensures calls { Drives O.view O.keeps driver.old (version_calls (optional_version_text version.now) kind) driver.new }
+    ensures line { LineIs O.view false driver.new }
 {
     match version {
-        Some(version) => draft.version(version, kind),
-        None => Ok(()),
+        Some(version) => driver.version(version, kind),
+        None => {}
     }
 }
 
 /// The name of a package, as it is declared.
-fn draft_package_name<'a>(draft: &mut Draft<'a>, name: &'a PackageName) -> Result<(), AllocError>
+fn write_package_name<O: Output>(driver: &mut Driver<O>, name: &PackageName)
     requires namespace { is_label (text_of name.now.namespace) ≡ true }
     requires name { is_label (text_of name.now.name) ≡ true }
     requires version { is_well_optional is_version_text (optional_version_text name.now.version) ≡ true }
-    ensures { OnOk result (draft.new ≡ record { line_begun = false; kept = draft.old.kept ++ package_name_calls (text_of name.now.namespace) (text_of name.now.name) (optional_version_text name.now.version) }) }
+    ensures calls { Drives O.view O.keeps driver.old (package_name_calls (text_of name.now.namespace) (text_of name.now.name) (optional_version_text name.now.version)) driver.new }
+    ensures line { LineIs O.view false driver.new }
 {
-    draft.keyword_and_blank("package")?;
-    draft.name(&name.namespace, TypeKind::NamespaceDeclaration)?;
-    draft.str(":")?;
-    draft.name(&name.name, TypeKind::PackageNameDeclaration)?;
-    draft_version(draft, &name.version, TypeKind::VersionDeclaration)
+    driver.keyword_and_blank("package");
+    driver.name(&name.namespace, TypeKind::NamespaceDeclaration);
+    driver.str(":");
+    driver.name(&name.name, TypeKind::PackageNameDeclaration);
+    write_version(driver, &name.version, TypeKind::VersionDeclaration);
 }
 
 /// A package's documentation and name.
-pub(crate) fn draft_package_outer<'a>(
-    draft: &mut Draft<'a>,
+pub(crate) fn write_package_outer<O: Output>(
+    driver: &mut Driver<O>,
     emits_docs: bool,
-    package: &'a Package,
-) -> Result<(), AllocError>
-    requires begun { draft.old.line_begun ≡ true }
+    package: &Package,
+)
     requires namespace { is_label (text_of «package».now.name.namespace) ≡ true }
     requires name { is_label (text_of «package».now.name.name) ≡ true }
     requires version { is_well_optional is_version_text (optional_version_text «package».now.name.version) ≡ true }
-    ensures { OnOk result (draft.new ≡ record { line_begun = false; kept = draft.old.kept ++ package_outer_calls emits_docs (shown_head «package».now) }) }
+    ensures calls { Drives O.view O.keeps driver.old (package_outer_calls emits_docs (shown_head «package».now)) driver.new }
+    ensures line { LineIs O.view false driver.new }
 {
-    draft_docs(draft, emits_docs, &package.docs)?;
-    draft_package_name(draft, &package.name)
+    write_docs(driver, emits_docs, &package.docs);
+    write_package_name(driver, &package.name);
 }

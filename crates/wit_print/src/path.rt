@@ -1,11 +1,13 @@
-//! Paths to interfaces, drafted.
+//! Paths to interfaces, printed.
+#![tactic(auto, using(crate::proofs::Driven::driving))]
 
-ghost use Rattle.std.specs.Prelude.{◌≡◌, ◌++◌, ◌∷◌, [], codes, true, false, OnOk};
+ghost use Rattle.std.specs.Prelude.{◌≡◌, ◌∷◌, [], codes, true, false};
 ghost use Rattle.wit_model.specs.Names.{is_label, is_version_text};
 ghost use Rattle.wit_model.specs.Lookup.{optional_version_text};
 ghost use Rattle.wit_model.specs.Rules.{in_list, package_number, passes};
 ghost use Rattle.wit_model.specs.Text.{text_of};
 ghost use Rattle.wit_model.specs.Valid.{IsValid};
+ghost use Rattle.wit_print.specs.Drives.{Drives, LineIs};
 ghost use Rattle.wit_print.specs.OutputCall.{OutputCall};
 ghost use Rattle.wit_print.specs.Keyword.{escaped};
 ghost use Rattle.wit_print.specs.Shown.{path_from, shown_path};
@@ -13,77 +15,77 @@ ghost use Rattle.wit_print.specs.Tree.PathTree.{Full};
 ghost use Rattle.wit_print.specs.Calls.{path_calls};
 ghost use Rattle.wit_print.specs.WellNamed.{is_well_optional, is_well_path};
 
-use crate::draft::Draft;
-use crate::parts::draft_version;
+use crate::driver::Driver;
+use crate::output::Output;
+use crate::parts::write_version;
 use crate::type_kind::TypeKind;
 use crate::type_name::present;
-use std::alloc::AllocError;
 use wit_model::{Interface, InterfaceId, PackageId, PackageName, Resolve};
 
 /// A package, before the name of an interface in it.
-fn draft_package_path<'a>(draft: &mut Draft<'a>, name: &'a PackageName) -> Result<(), AllocError>
+fn write_package_path<O: Output>(driver: &mut Driver<O>, name: &PackageName)
     requires namespace { is_label (text_of name.now.namespace) ≡ true }
     requires name { is_label (text_of name.now.name) ≡ true }
-    ensures { OnOk result (draft.new ≡ record { line_begun = false; kept = draft.old.kept ++ OutputCall.Ty (escaped (text_of name.now.namespace)) TypeKind.NamespacePath ∷ OutputCall.Str (codes ":") ∷ OutputCall.Ty (escaped (text_of name.now.name)) TypeKind.PackageNamePath ∷ OutputCall.Str (codes "/") ∷ [] }) }
+    ensures calls { Drives O.view O.keeps driver.old (OutputCall.Ty (escaped (text_of name.now.namespace)) TypeKind.NamespacePath ∷ OutputCall.Str (codes ":") ∷ OutputCall.Ty (escaped (text_of name.now.name)) TypeKind.PackageNamePath ∷ OutputCall.Str (codes "/") ∷ []) driver.new }
+    ensures line { LineIs O.view false driver.new }
 {
-    draft.name(&name.namespace, TypeKind::NamespacePath)?;
-    draft.str(":")?;
-    draft.name(&name.name, TypeKind::PackageNamePath)?;
-    draft.str("/")
+    driver.name(&name.namespace, TypeKind::NamespacePath);
+    driver.str(":");
+    driver.name(&name.name, TypeKind::PackageNamePath);
+    driver.str("/");
 }
 
 /// A package and an interface in it, with the package's version.
-fn draft_full_path<'a>(
-    draft: &mut Draft<'a>,
-    name: &'a PackageName,
-    interface: &'a str,
-) -> Result<(), AllocError>
+fn write_full_path<O: Output>(driver: &mut Driver<O>, name: &PackageName, interface: &str)
     requires namespace { is_label (text_of name.now.namespace) ≡ true }
     requires name { is_label (text_of name.now.name) ≡ true }
     requires version { is_well_optional is_version_text (optional_version_text name.now.version) ≡ true }
     requires interface { is_label interface.now ≡ true }
-    ensures { OnOk result (draft.new ≡ record { line_begun = false; kept = draft.old.kept ++ path_calls (Full (text_of name.now.namespace) (text_of name.now.name) interface.now (optional_version_text name.now.version)) }) }
+    ensures calls { Drives O.view O.keeps driver.old (path_calls (Full (text_of name.now.namespace) (text_of name.now.name) interface.now (optional_version_text name.now.version))) driver.new }
+    ensures line { LineIs O.view false driver.new }
 {
-    draft_package_path(draft, name)?;
-    draft.name(interface, TypeKind::InterfacePath)?;
-    draft_version(draft, &name.version, TypeKind::VersionPath)
+    write_package_path(driver, name);
+    driver.name(interface, TypeKind::InterfacePath);
+    write_version(driver, &name.version, TypeKind::VersionPath);
 }
 
 /// A path from the package `here` to an interface: its name alone, in the same package.
-fn draft_path_to<'a>(
-    draft: &mut Draft<'a>,
-    resolve: &'a Resolve,
+fn write_path_to<O: Output>(
+    driver: &mut Driver<O>,
+    resolve: &Resolve,
     here: PackageId,
-    interface: &'a Interface,
-) -> Result<(), AllocError>
+    interface: &Interface,
+)
     requires placed { passes (in_list resolve.now.packages.items) (package_number interface.now.«package») ≡ true }
     requires well { is_well_path (path_from resolve.now here interface.now) ≡ true }
-    ensures { OnOk result (draft.new ≡ record { line_begun = false; kept = draft.old.kept ++ path_calls (path_from resolve.now here interface.now) }) }
+    ensures calls { Drives O.view O.keeps driver.old (path_calls (path_from resolve.now here interface.now)) driver.new }
+    ensures line { LineIs O.view false driver.new }
 {
     let name = present(&interface.name);
     let other = match interface.package {
         Some(other) => other,
-        None => return draft.name(name, TypeKind::InterfacePath),
+        None => return driver.name(name, TypeKind::InterfacePath),
     };
     if other.0 == here.0 {
-        return draft.name(name, TypeKind::InterfacePath);
+        return driver.name(name, TypeKind::InterfacePath);
     }
     let owner = &resolve.packages[other.0 as usize];
-    draft_full_path(draft, &owner.name, name)
+    write_full_path(driver, &owner.name, name);
 }
 
 /// A path from the package `here` to the interface of this number.
-pub(crate) fn draft_path<'a>(
-    draft: &mut Draft<'a>,
-    resolve: &'a Resolve,
+pub(crate) fn write_path<O: Output>(
+    driver: &mut Driver<O>,
+    resolve: &Resolve,
     here: PackageId,
     id: InterfaceId,
-) -> Result<(), AllocError>
+)
     requires valid { IsValid resolve.now }
     requires in_range { in_list resolve.now.interfaces.items id.0 ≡ true }
     requires well { is_well_path (shown_path resolve.now here id) ≡ true }
-    ensures { OnOk result (draft.new ≡ record { line_begun = false; kept = draft.old.kept ++ path_calls (shown_path resolve.now here id) }) }
+    ensures calls { Drives O.view O.keeps driver.old (path_calls (shown_path resolve.now here id)) driver.new }
+    ensures line { LineIs O.view false driver.new }
 {
     let interface = &resolve.interfaces[id.0 as usize];
-    draft_path_to(draft, resolve, here, interface)
+    write_path_to(driver, resolve, here, interface);
 }

@@ -1,102 +1,90 @@
-//! What stands in front of an item: documentation, gates and an external id, drafted.
+//! What stands in front of an item: documentation, gates and an external id, printed.
+#![tactic(auto, using(crate::proofs::Driven::driving))]
 
-ghost use Rattle.std.specs.Prelude.{◌≡◌, ◌++◌, ◌∷◌, [], codes, true, false, map, Some, OnOk};
+ghost use Rattle.std.specs.Prelude.{◌≡◌, ◌∷◌, [], codes, true, map, Some};
 ghost use Rattle.std.specs.Str.{chars};
 ghost use Rattle.std.specs.Str.Lines.{lines};
+ghost use Rattle.wit_print.specs.Drives.{Drives};
 ghost use Rattle.wit_print.specs.OutputCall.{OutputCall};
 ghost use Rattle.wit_print.specs.Shown.{shown_docs, shown_external_id, shown_prefix};
 ghost use Rattle.wit_print.specs.Calls.{character_call, doc_calls, external_id_calls, prefix_calls};
 ghost use Rattle.wit_print.specs.WellNamed.{is_well_prefix};
 
-use crate::draft::Draft;
-use crate::gates::draft_gates;
-use std::alloc::AllocError;
+use crate::driver::Driver;
+use crate::gates::write_gates;
+use crate::output::Output;
 use wit_model::{Docs, Stability};
 
 /// Each line of a text, as documentation.
-fn draft_lines<'a>(draft: &mut Draft<'a>, contents: &'a str) -> Result<(), AllocError>
-    requires { draft.old.line_begun ≡ true }
-    ensures { OnOk result (draft.new ≡ record { line_begun = true; kept = draft.old.kept ++ map OutputCall.Doc (lines contents.now) }) }
+fn write_lines<O: Output>(driver: &mut Driver<O>, contents: &str)
+    ensures calls { Drives O.view O.keeps driver.old (map OutputCall.Doc (lines contents.now)) driver.new }
 {
     for line in contents.lines() {
-        draft.doc(line)?;
+        driver.doc(line);
     }
-    Ok(())
 }
 
 /// Documentation, if it is printed.
-pub(crate) fn draft_docs<'a>(
-    draft: &mut Draft<'a>,
-    emits_docs: bool,
-    docs: &'a Docs,
-) -> Result<(), AllocError>
-    requires { draft.old.line_begun ≡ true }
-    ensures { OnOk result (draft.new ≡ record { line_begun = true; kept = draft.old.kept ++ doc_calls emits_docs (shown_docs docs.now) }) }
+pub(crate) fn write_docs<O: Output>(driver: &mut Driver<O>, emits_docs: bool, docs: &Docs)
+    ensures calls { Drives O.view O.keeps driver.old (doc_calls emits_docs (shown_docs docs.now)) driver.new }
 {
     if emits_docs {
         if let Some(contents) = &docs.contents {
-            draft_lines(draft, contents)?;
+            write_lines(driver, contents);
         }
     }
-    Ok(())
 }
 
 /// The characters of a string, each by itself.
-fn draft_characters<'a>(draft: &mut Draft<'a>, text: &str) -> Result<(), AllocError>
-    ensures { OnOk result (draft.new ≡ record { line_begun = draft.old.line_begun; kept = draft.old.kept ++ map character_call (chars text.now) }) }
+fn write_characters<O: Output>(driver: &mut Driver<O>, text: &str)
+    ensures calls { Drives O.view O.keeps driver.old (map character_call (chars text.now)) driver.new }
 {
     for c in text.chars() {
-        draft.character(c)?;
+        driver.character(c);
     }
-    Ok(())
 }
 
 /// The end of an external id, and of its line.
-fn draft_external_id_end<'a>(draft: &mut Draft<'a>) -> Result<(), AllocError>
-    requires { draft.old.line_begun ≡ false }
-    ensures { OnOk result (draft.new ≡ record { line_begun = true; kept = draft.old.kept ++ OutputCall.Str (codes "\")") ∷ OutputCall.Newline ∷ [] }) }
+#[tactic(auto, using(crate::proofs::Driven::driving, crate::proofs::Fronts::fronts))]
+fn write_external_id_end<O: Output>(driver: &mut Driver<O>)
+    ensures calls { Drives O.view O.keeps driver.old (OutputCall.Str (codes "\")") ∷ OutputCall.Newline ∷ []) driver.new }
 {
-    draft.str("\")")?;
-    draft.newline()
+    driver.str("\")");
+    driver.newline();
 }
 
 /// An external id in a line of its own.
-fn draft_given_external_id<'a>(draft: &mut Draft<'a>, text: &str) -> Result<(), AllocError>
-    ensures { OnOk result (draft.new ≡ record { line_begun = true; kept = draft.old.kept ++ external_id_calls (Some (chars text.now)) }) }
+fn write_given_external_id<O: Output>(driver: &mut Driver<O>, text: &str)
+    ensures calls { Drives O.view O.keeps driver.old (external_id_calls (Some (chars text.now))) driver.new }
 {
-    draft.keyword("@external-id")?;
-    draft.str("(\"")?;
-    draft_characters(draft, text)?;
-    draft_external_id_end(draft)
+    driver.keyword("@external-id");
+    driver.str("(\"");
+    write_characters(driver, text);
+    write_external_id_end(driver);
 }
 
 /// An external id, if there is one.
-pub(crate) fn draft_external_id<'a>(
-    draft: &mut Draft<'a>,
-    external_id: &Option<String>,
-) -> Result<(), AllocError>
-    requires { draft.old.line_begun ≡ true }
-    ensures { OnOk result (draft.new ≡ record { line_begun = true; kept = draft.old.kept ++ external_id_calls (shown_external_id external_id.now) }) }
+pub(crate) fn write_external_id<O: Output>(driver: &mut Driver<O>, external_id: &Option<String>)
+    ensures calls { Drives O.view O.keeps driver.old (external_id_calls (shown_external_id external_id.now)) driver.new }
 {
     match external_id {
-        Some(text) => draft_given_external_id(draft, text),
-        None => Ok(()),
+        Some(text) => write_given_external_id(driver, text),
+        None => {}
     }
 }
 
 /// What stands in front of an item.
-pub(crate) fn draft_prefix<'a>(
-    draft: &mut Draft<'a>,
+pub(crate) fn write_prefix<O: Output>(
+    driver: &mut Driver<O>,
     emits_docs: bool,
-    docs: &'a Docs,
-    stability: &'a Stability,
-    external_id: &'a Option<String>,
-) -> Result<(), AllocError>
-    requires begun { draft.old.line_begun ≡ true }
+    docs: &Docs,
+    stability: &Stability,
+    external_id: &Option<String>,
+)
     requires well { is_well_prefix (shown_prefix docs.now stability.now external_id.now) ≡ true }
-    ensures { OnOk result (draft.new ≡ record { line_begun = true; kept = draft.old.kept ++ prefix_calls emits_docs (shown_prefix docs.now stability.now external_id.now) }) }
+    ensures calls { Drives O.view O.keeps driver.old (prefix_calls emits_docs (shown_prefix docs.now stability.now external_id.now)) driver.new }
 {
-    draft_docs(draft, emits_docs, docs)?;
-    draft_gates(draft, stability)?;
-    draft_external_id(draft, external_id)
+    write_docs(driver, emits_docs, docs);
+    write_gates(driver, stability);
+    write_external_id(driver, external_id);
 }

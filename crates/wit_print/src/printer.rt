@@ -1,6 +1,6 @@
 //! The printer.
 
-ghost use Rattle.std.specs.Prelude.{◌≡◌, ◌<◌, ◌⊎◌, List, [], true, false, length, OnOk, OnErr, IsOkUnless};
+ghost use Rattle.std.specs.Prelude.{◌≡◌, ◌<◌, ◌⊎◌, List, true, false, length, OnOk, OnErr, IsOkUnless};
 ghost use Rattle.std.specs.Borrow.{Bor};
 ghost use Rattle.std.specs.Iterator.{Drains, IsFinite};
 ghost use Rattle.std.specs.List.{list_all};
@@ -21,15 +21,15 @@ ghost use Rattle.wit_print.specs.GivenTypes.{are_functions_of, given_members};
 ghost use Rattle.wit_print.specs.UseGroups.{is_listed_type, listed_of};
 ghost use Rattle.wit_print.specs.Heads.{interface_body_calls, interface_head_calls};
 
-use crate::draft::Draft;
+use crate::driver::Driver;
 use crate::file::print_file;
 use crate::given_types::{collect_types, print_given_types};
 use crate::interface::{print_head, print_interface_body};
 use crate::output::Output;
 use crate::output_to_string::OutputToString;
 use crate::package::print_whole_package;
-use crate::parts::draft_package_outer;
-use crate::type_name::draft_type_name;
+use crate::parts::write_package_outer;
+use crate::type_name::write_type_name;
 use std::alloc::Global;
 use std::collections::HashMap;
 use wit_model::{
@@ -77,8 +77,8 @@ impl<O: Output> WitPrinter<O> {
     /// What the calls of the file render to, which is what a fresh `OutputToString` holds after a completed print, has one
     /// reading in the grammar of WIT text: what is shown of the package.
     ///
-    /// What the printer keeps meanwhile is bounded by the largest item, and by lists of one owner's types and functions. After a
-    /// refusal the output has a beginning of the calls.
+    /// What the printer keeps meanwhile is one word as it is spelled, and lists of one owner's types and functions. The time
+    /// is linear in what is printed. After a refusal the output has a beginning of the calls.
     pub fn print(
         &mut self,
         alloc: Global,
@@ -101,8 +101,8 @@ impl<O: Output> WitPrinter<O> {
 
     /// Prints a package: the main one of a file, or one that is nested in it.
     ///
-    /// What the printer keeps meanwhile is bounded by the largest item, and by lists of one owner's types and functions. After a
-    /// refusal the output has a beginning of the calls.
+    /// What the printer keeps meanwhile is one word as it is spelled, and lists of one owner's types and functions. The time
+    /// is linear in what is printed. After a refusal the output has a beginning of the calls.
     pub fn print_package(
         &mut self,
         alloc: Global,
@@ -129,7 +129,7 @@ impl<O: Output> WitPrinter<O> {
     }
 
     /// Prints a package's documentation, and its name and version as they are declared.
-    #[tactic(auto, using(crate::proofs::Moves::moving))]
+    #[tactic(auto, using(crate::proofs::Driven::finishing))]
     pub fn print_package_outer(&mut self, alloc: Global, package: &Package) -> Result<(), Error>
         requires namespace { is_label (text_of «package».now.name.namespace) ≡ true }
         requires name { is_label (text_of «package».now.name.name) ≡ true }
@@ -140,9 +140,9 @@ impl<O: Output> WitPrinter<O> {
         ensures docs { emits_docs self.new ≡ emits_docs self.old }
         ensures mark { block_has_printed self.new ≡ block_has_printed self.old }
     {
-        let mut draft = Draft::new(alloc);
-        draft_package_outer(&mut draft, self.emit_docs, package)?;
-        draft.make(&mut self.output)
+        let mut driver = Driver::new(&mut self.output, alloc);
+        write_package_outer(&mut driver, self.emit_docs, package);
+        driver.finish()
     }
 
     /// Prints an interface's documentation, gates and name, under the name that is handed in, as they are declared.
@@ -171,8 +171,8 @@ impl<O: Output> WitPrinter<O> {
 
     /// Prints what an interface has, a block of its own: neither what stands before the block nor its end.
     ///
-    /// What the printer keeps meanwhile is bounded by the largest item, and by lists of the interface's types and functions. After
-    /// a refusal the output has a beginning of the calls.
+    /// What the printer keeps meanwhile is one word as it is spelled, and lists of the interface's types and functions. The
+    /// time is linear in what is printed. After a refusal the output has a beginning of the calls.
     pub fn print_interface(
         &mut self,
         alloc: Global,
@@ -203,7 +203,7 @@ impl<O: Output> WitPrinter<O> {
     /// package of its own.
     ///
     /// Goes on in the printer's outer block, in which a new printer has printed nothing: a declaration behind another comes
-    /// after an empty line. Keeps a list of the types meanwhile, and otherwise no more than the largest item. The time is
+    /// after an empty line. Keeps a list of the types meanwhile, and otherwise one word as it is spelled. The time is
     /// linear in what is printed and in the functions handed in. After a refusal the output has a beginning of the calls, and
     /// is all that is of use.
     pub fn print_types<'a, I: Iterator<Item = (&'a str, TypeId)> + Drop>(
@@ -243,8 +243,8 @@ impl<O: Output> WitPrinter<O> {
     /// Prints a type as it stands where it is used: by its name, or else by its kind. A handle that owns a resource and has no
     /// name of its own is printed as the resource.
     ///
-    /// What the printer keeps meanwhile is bounded by what is printed. After a refusal the output has a beginning of the calls.
-    #[tactic(auto, using(crate::proofs::Moves::moving))]
+    /// What the printer keeps meanwhile is one word as it is spelled. After a refusal the output has a beginning of the calls.
+    #[tactic(auto, using(crate::proofs::Driven::finishing))]
     pub fn print_type_name(
         &mut self,
         alloc: Global,
@@ -259,8 +259,8 @@ impl<O: Output> WitPrinter<O> {
         ensures docs { emits_docs self.new ≡ emits_docs self.old }
         ensures mark { block_has_printed self.new ≡ block_has_printed self.old }
     {
-        let mut draft = Draft::new(alloc);
-        draft_type_name(&mut draft, resolve, ty)?;
-        draft.make(&mut self.output)
+        let mut driver = Driver::new(&mut self.output, alloc);
+        write_type_name(&mut driver, resolve, ty);
+        driver.finish()
     }
 }

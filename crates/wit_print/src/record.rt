@@ -1,10 +1,11 @@
-//! Records, drafted.
+//! Records, printed.
+#![tactic(auto, using(crate::proofs::Driven::driving))]
 
-ghost use Rattle.std.specs.Prelude.{◌≡◌, ◌++◌, ◌∷◌, [], codes, true, false, map, OnOk};
+ghost use Rattle.std.specs.Prelude.{◌≡◌, ◌∷◌, codes, true, false, map};
 ghost use Rattle.std.specs.List.{flat_map, list_all};
 ghost use Rattle.wit_model.specs.Names.{is_label};
-ghost use Rattle.wit_model.specs.Text.{text_of};
 ghost use Rattle.wit_model.specs.Valid.{IsValid};
+ghost use Rattle.wit_print.specs.Drives.{Drives, LineIs};
 ghost use Rattle.wit_print.specs.OutputCall.{OutputCall};
 ghost use Rattle.wit_print.specs.Keyword.{escaped};
 ghost use Rattle.wit_print.specs.Shown.{shown_field, shown_type};
@@ -12,78 +13,71 @@ ghost use Rattle.wit_print.specs.Tree.Declared.{RecordOf};
 ghost use Rattle.wit_print.specs.Calls.{declared_calls, field_calls, type_calls};
 ghost use Rattle.wit_print.specs.WellNamed.{is_well_declared, is_well_field, is_well_type};
 
-use crate::block::{draft_block_start, draft_line_end};
-use crate::draft::Draft;
-use crate::prefix::draft_docs;
+use crate::block::{write_block_start, write_line_end};
+use crate::driver::Driver;
+use crate::output::Output;
+use crate::prefix::write_docs;
 use crate::type_kind::TypeKind;
-use crate::type_name::draft_type;
-use std::alloc::AllocError;
+use crate::type_name::write_type;
 use wit_model::{Field, Record, Resolve, Type};
 
 /// A name with a type.
-fn draft_typed<'a>(
-    draft: &mut Draft<'a>,
-    resolve: &'a Resolve,
-    name: &'a str,
-    ty: &Type,
-) -> Result<(), AllocError>
+fn write_typed<O: Output>(driver: &mut Driver<O>, resolve: &Resolve, name: &str, ty: &Type)
     requires valid { IsValid resolve.now }
     requires label { is_label name.now ≡ true }
     requires well { is_well_type (shown_type resolve.now ty.now) ≡ true }
-    ensures { OnOk result (draft.new ≡ record { line_begun = false; kept = draft.old.kept ++ OutputCall.Param (escaped name.now) ∷ OutputCall.Str (codes ": ") ∷ type_calls (shown_type resolve.now ty.now) }) }
+    ensures calls { Drives O.view O.keeps driver.old (OutputCall.Param (escaped name.now) ∷ OutputCall.Str (codes ": ") ∷ type_calls (shown_type resolve.now ty.now)) driver.new }
+    ensures line { LineIs O.view false driver.new }
 {
-    draft.param(name)?;
-    draft.str(": ")?;
-    draft_type(draft, resolve, ty)
+    driver.param(name);
+    driver.str(": ");
+    write_type(driver, resolve, ty);
 }
 
 /// A field, in lines of its own.
-fn draft_field<'a>(
-    draft: &mut Draft<'a>,
+fn write_field<O: Output>(
+    driver: &mut Driver<O>,
     emits_docs: bool,
-    resolve: &'a Resolve,
-    field: &'a Field,
-) -> Result<(), AllocError>
-    requires begun { draft.old.line_begun ≡ true }
+    resolve: &Resolve,
+    field: &Field,
+)
     requires valid { IsValid resolve.now }
     requires well { is_well_field (shown_field resolve.now field.now) ≡ true }
-    ensures { OnOk result (draft.new ≡ record { line_begun = true; kept = draft.old.kept ++ field_calls emits_docs (shown_field resolve.now field.now) }) }
+    ensures calls { Drives O.view O.keeps driver.old (field_calls emits_docs (shown_field resolve.now field.now)) driver.new }
 {
-    draft_docs(draft, emits_docs, &field.docs)?;
-    draft_typed(draft, resolve, &field.name, &field.ty)?;
-    draft_line_end(draft)
+    write_docs(driver, emits_docs, &field.docs);
+    write_typed(driver, resolve, &field.name, &field.ty);
+    write_line_end(driver);
 }
 
-fn draft_fields<'a>(
-    draft: &mut Draft<'a>,
+fn write_fields<O: Output>(
+    driver: &mut Driver<O>,
     emits_docs: bool,
-    resolve: &'a Resolve,
-    fields: &'a [Field],
-) -> Result<(), AllocError>
-    requires begun { draft.old.line_begun ≡ true }
+    resolve: &Resolve,
+    fields: &[Field],
+)
     requires valid { IsValid resolve.now }
     requires well { list_all (λ field. is_well_field (shown_field resolve.now field)) fields.now ≡ true }
-    ensures { OnOk result (draft.new ≡ record { line_begun = true; kept = draft.old.kept ++ flat_map (λ field. field_calls emits_docs (shown_field resolve.now field)) fields.now }) }
+    ensures calls { Drives O.view O.keeps driver.old (flat_map (λ field. field_calls emits_docs (shown_field resolve.now field)) fields.now) driver.new }
 {
     for field in fields {
-        draft_field(draft, emits_docs, resolve, field)?;
+        write_field(driver, emits_docs, resolve, field);
     }
-    Ok(())
 }
 
 /// A record under its name.
-pub(crate) fn draft_record<'a>(
-    draft: &mut Draft<'a>,
+pub(crate) fn write_record<O: Output>(
+    driver: &mut Driver<O>,
     emits_docs: bool,
-    resolve: &'a Resolve,
-    name: &'a str,
-    of: &'a Record,
-) -> Result<(), AllocError>
+    resolve: &Resolve,
+    name: &str,
+    of: &Record,
+)
     requires valid { IsValid resolve.now }
     requires well { is_well_declared (RecordOf name.now (map (shown_field resolve.now) of.now.fields.items)) ≡ true }
-    ensures { OnOk result (draft.new ≡ record { line_begun = true; kept = draft.old.kept ++ declared_calls emits_docs (RecordOf name.now (map (shown_field resolve.now) of.now.fields.items)) }) }
+    ensures calls { Drives O.view O.keeps driver.old (declared_calls emits_docs (RecordOf name.now (map (shown_field resolve.now) of.now.fields.items))) driver.new }
 {
-    draft_block_start(draft, "record", name, TypeKind::Record)?;
-    draft_fields(draft, emits_docs, resolve, &of.fields)?;
-    draft.indent_end()
+    write_block_start(driver, "record", name, TypeKind::Record);
+    write_fields(driver, emits_docs, resolve, &of.fields);
+    driver.indent_end();
 }

@@ -1,11 +1,13 @@
-//! Resources with their functions, drafted.
+//! Resources with their functions, printed.
+#![tactic(auto, using(crate::proofs::Driven::driving))]
 
-ghost use Rattle.std.specs.Prelude.{◌≡◌, ◌++◌, true, false, map, option_map, OnOk};
+ghost use Rattle.std.specs.Prelude.{◌≡◌, true, false, map, option_map};
 ghost use Rattle.std.specs.List.{flat_map, list_all};
 ghost use Rattle.wit_model.specs.declared.model.FunctionKind.TheVariants as kinds;
 ghost use Rattle.wit_model.specs.Calls.{item_name};
 ghost use Rattle.wit_model.specs.Names.{is_label};
 ghost use Rattle.wit_model.specs.Valid.{IsValid};
+ghost use Rattle.wit_print.specs.Drives.{Drives, LineIs};
 ghost use Rattle.wit_print.specs.Shown.{constructor_result, shown_params, shown_resource_member, shown_signature, shown_type};
 ghost use Rattle.wit_print.specs.Tree.Declared.{ResourceOf};
 ghost use Rattle.wit_print.specs.Calls.{declared_calls, resource_body_calls, resource_member_calls};
@@ -13,52 +15,45 @@ ghost use Rattle.wit_print.specs.DeclaredCalls.{bare_member_calls, constructor_c
 ghost use Rattle.wit_print.specs.ItemCalls.{named_calls};
 ghost use Rattle.wit_print.specs.WellNamed.{is_well_declared, is_well_optional, is_well_param, is_well_resource_member, is_well_signature, is_well_type};
 
-use crate::draft::Draft;
-use crate::function::{draft_named, draft_params_and_result, draft_signature};
-use crate::prefix::draft_prefix;
+use crate::driver::Driver;
+use crate::function::{write_named, write_params_and_result, write_signature};
+use crate::output::Output;
+use crate::prefix::write_prefix;
 use crate::type_kind::TypeKind;
-use std::alloc::AllocError;
 use wit_model::{Function, FunctionKind, Resolve, Type, TypeId};
 
 /// The name of a static function, up to what it is.
-fn draft_static_start<'a>(draft: &mut Draft<'a>, name: &'a str) -> Result<(), AllocError>
+fn write_static_start<O: Output>(driver: &mut Driver<O>, name: &str)
     requires { is_label name.now ≡ true }
-    ensures { OnOk result (draft.new ≡ record { line_begun = false; kept = draft.old.kept ++ static_start_calls name.now }) }
+    ensures calls { Drives O.view O.keeps driver.old (static_start_calls name.now) driver.new }
+    ensures line { LineIs O.view false driver.new }
 {
-    draft.name(name, TypeKind::FunctionStatic)?;
-    draft.str(": ")?;
-    draft.keyword_and_blank("static")
+    driver.name(name, TypeKind::FunctionStatic);
+    driver.str(": ");
+    driver.keyword_and_blank("static");
 }
 
 /// A static function of a resource.
-fn draft_static<'a>(
-    draft: &mut Draft<'a>,
-    resolve: &'a Resolve,
-    function: &'a Function,
-) -> Result<(), AllocError>
+fn write_static<O: Output>(driver: &mut Driver<O>, resolve: &Resolve, function: &Function)
     requires valid { IsValid resolve.now }
     requires label { is_label (item_name function.now) ≡ true }
     requires well { is_well_signature (shown_signature resolve.now function.now) ≡ true }
-    ensures { OnOk result (draft.new ≡ record { line_begun = true; kept = draft.old.kept ++ static_calls (item_name function.now) (shown_signature resolve.now function.now) }) }
+    ensures calls { Drives O.view O.keeps driver.old (static_calls (item_name function.now) (shown_signature resolve.now function.now)) driver.new }
 {
-    draft_static_start(draft, function.item_name())?;
-    draft_signature(draft, resolve, function)?;
-    draft.semicolon()
+    write_static_start(driver, function.item_name());
+    write_signature(driver, resolve, function);
+    driver.semicolon();
 }
 
 /// A method of a resource.
-fn draft_method<'a>(
-    draft: &mut Draft<'a>,
-    resolve: &'a Resolve,
-    function: &'a Function,
-) -> Result<(), AllocError>
+fn write_method<O: Output>(driver: &mut Driver<O>, resolve: &Resolve, function: &Function)
     requires valid { IsValid resolve.now }
     requires label { is_label (item_name function.now) ≡ true }
     requires well { is_well_signature (shown_signature resolve.now function.now) ≡ true }
-    ensures { OnOk result (draft.new ≡ record { line_begun = true; kept = draft.old.kept ++ named_calls (item_name function.now) TypeKind.FunctionMethod (shown_signature resolve.now function.now) }) }
+    ensures calls { Drives O.view O.keeps driver.old (named_calls (item_name function.now) TypeKind.FunctionMethod (shown_signature resolve.now function.now)) driver.new }
 {
     let name = function.item_name();
-    draft_named(draft, resolve, function, name, TypeKind::FunctionMethod)
+    write_named(driver, resolve, function, name, TypeKind::FunctionMethod);
 }
 
 /// What is written of a constructor's result: nothing where it is its resource.
@@ -73,126 +68,120 @@ fn written_result(resolve: &Resolve, function: &Function) -> Option<Type>
 }
 
 /// A constructor of the resource `id`.
-fn draft_constructor<'a>(
-    draft: &mut Draft<'a>,
-    resolve: &'a Resolve,
+fn write_constructor<O: Output>(
+    driver: &mut Driver<O>,
+    resolve: &Resolve,
     id: TypeId,
-    function: &'a Function,
-) -> Result<(), AllocError>
+    function: &Function,
+)
     requires kind { function.now.kind ≡ kinds.Constructor id }
     requires valid { IsValid resolve.now }
     requires params { list_all is_well_param (shown_params resolve.now function.now) ≡ true }
     requires returned { is_well_optional is_well_type (constructor_result resolve.now id function.now.result) ≡ true }
-    ensures { OnOk result (draft.new ≡ record { line_begun = true; kept = draft.old.kept ++ constructor_calls (shown_params resolve.now function.now) (constructor_result resolve.now id function.now.result) }) }
+    ensures calls { Drives O.view O.keeps driver.old (constructor_calls (shown_params resolve.now function.now) (constructor_result resolve.now id function.now.result)) driver.new }
 {
     let returned = written_result(resolve, function);
-    draft.keyword("constructor")?;
-    draft_params_and_result(draft, resolve, &function.params, &returned)?;
-    draft.semicolon()
+    driver.keyword("constructor");
+    write_params_and_result(driver, resolve, &function.params, &returned);
+    driver.semicolon();
 }
 
 /// What a function of a resource is.
-fn draft_member<'a>(
-    draft: &mut Draft<'a>,
-    resolve: &'a Resolve,
-    function: &'a Function,
-) -> Result<(), AllocError>
+fn write_member<O: Output>(driver: &mut Driver<O>, resolve: &Resolve, function: &Function)
     requires valid { IsValid resolve.now }
     requires well { is_well_resource_member (shown_resource_member resolve.now function.now) ≡ true }
-    ensures { OnOk result (draft.new ≡ record { line_begun = true; kept = draft.old.kept ++ bare_member_calls (shown_resource_member resolve.now function.now) }) }
+    ensures calls { Drives O.view O.keeps driver.old (bare_member_calls (shown_resource_member resolve.now function.now)) driver.new }
 {
     match function.kind {
-        FunctionKind::Constructor(id) => draft_constructor(draft, resolve, id, function),
-        FunctionKind::Static(_) => draft_static(draft, resolve, function),
-        FunctionKind::AsyncStatic(_) => draft_static(draft, resolve, function),
-        FunctionKind::Method(_) => draft_method(draft, resolve, function),
-        FunctionKind::AsyncMethod(_) => draft_method(draft, resolve, function),
-        FunctionKind::Freestanding => draft_method(draft, resolve, function),
-        FunctionKind::AsyncFreestanding => draft_method(draft, resolve, function),
+        FunctionKind::Constructor(id) => write_constructor(driver, resolve, id, function),
+        FunctionKind::Static(_) => write_static(driver, resolve, function),
+        FunctionKind::AsyncStatic(_) => write_static(driver, resolve, function),
+        FunctionKind::Method(_) => write_method(driver, resolve, function),
+        FunctionKind::AsyncMethod(_) => write_method(driver, resolve, function),
+        FunctionKind::Freestanding => write_method(driver, resolve, function),
+        FunctionKind::AsyncFreestanding => write_method(driver, resolve, function),
     }
 }
 
 /// A function of a resource, with what stands in front of it.
-fn draft_resource_function<'a>(
-    draft: &mut Draft<'a>,
+fn write_resource_function<O: Output>(
+    driver: &mut Driver<O>,
     emits_docs: bool,
-    resolve: &'a Resolve,
-    function: &'a Function,
-) -> Result<(), AllocError>
-    requires begun { draft.old.line_begun ≡ true }
+    resolve: &Resolve,
+    function: &Function,
+)
     requires valid { IsValid resolve.now }
     requires well { is_well_resource_member (shown_resource_member resolve.now function.now) ≡ true }
-    ensures { OnOk result (draft.new ≡ record { line_begun = true; kept = draft.old.kept ++ resource_member_calls emits_docs (shown_resource_member resolve.now function.now) }) }
+    ensures calls { Drives O.view O.keeps driver.old (resource_member_calls emits_docs (shown_resource_member resolve.now function.now)) driver.new }
 {
-    draft_prefix(
-        draft,
+    write_prefix(
+        driver,
         emits_docs,
         &function.docs,
         &function.stability,
         &function.external_id,
-    )?;
-    draft_member(draft, resolve, function)
+    );
+    write_member(driver, resolve, function);
 }
 
-fn draft_members<'a>(
-    draft: &mut Draft<'a>,
+fn write_members<O: Output>(
+    driver: &mut Driver<O>,
     emits_docs: bool,
-    resolve: &'a Resolve,
-    functions: &[&'a Function],
-) -> Result<(), AllocError>
-    requires begun { draft.old.line_begun ≡ true }
+    resolve: &Resolve,
+    functions: &[&Function],
+)
     requires valid { IsValid resolve.now }
     requires well { list_all (λ f. is_well_resource_member (shown_resource_member resolve.now f.now)) functions.now ≡ true }
-    ensures { OnOk result (draft.new ≡ record { line_begun = true; kept = draft.old.kept ++ flat_map (λ f. resource_member_calls emits_docs (shown_resource_member resolve.now f.now)) functions.now }) }
+    ensures calls { Drives O.view O.keeps driver.old (flat_map (λ f. resource_member_calls emits_docs (shown_resource_member resolve.now f.now)) functions.now) driver.new }
 {
     for function in functions {
-        draft_resource_function(draft, emits_docs, resolve, function)?;
+        write_resource_function(driver, emits_docs, resolve, function);
     }
-    Ok(())
 }
 
 /// Functions in a block, or the end of a resource's line where there are none.
-fn draft_resource_body<'a>(
-    draft: &mut Draft<'a>,
+fn write_resource_body<O: Output>(
+    driver: &mut Driver<O>,
     emits_docs: bool,
-    resolve: &'a Resolve,
-    functions: &[&'a Function],
-) -> Result<(), AllocError>
-    requires same_line { draft.old.line_begun ≡ false }
+    resolve: &Resolve,
+    functions: &[&Function],
+)
+    requires same_line { LineIs O.view false driver.old }
     requires valid { IsValid resolve.now }
     requires well { list_all (λ f. is_well_resource_member (shown_resource_member resolve.now f.now)) functions.now ≡ true }
-    ensures { OnOk result (draft.new ≡ record { line_begun = true; kept = draft.old.kept ++ resource_body_calls emits_docs (map (λ f. shown_resource_member resolve.now f.now) functions.now) }) }
+    ensures calls { Drives O.view O.keeps driver.old (resource_body_calls emits_docs (map (λ f. shown_resource_member resolve.now f.now) functions.now)) driver.new }
 {
     if functions.is_empty() {
-        return draft.semicolon();
+        return driver.semicolon();
     }
-    draft.indent_start()?;
-    draft_members(draft, emits_docs, resolve, functions)?;
-    draft.indent_end()
+    driver.indent_start();
+    write_members(driver, emits_docs, resolve, functions);
+    driver.indent_end();
 }
 
 /// A resource's word and name.
-fn draft_resource_name<'a>(draft: &mut Draft<'a>, name: &'a str) -> Result<(), AllocError>
+fn write_resource_name<O: Output>(driver: &mut Driver<O>, name: &str)
     requires { is_label name.now ≡ true }
-    ensures { OnOk result (draft.new ≡ record { line_begun = false; kept = draft.old.kept ++ resource_name_calls name.now }) }
+    ensures calls { Drives O.view O.keeps driver.old (resource_name_calls name.now) driver.new }
+    ensures line { LineIs O.view false driver.new }
 {
-    draft.word("resource", TypeKind::BuiltIn)?;
-    draft.str(" ")?;
-    draft.name(name, TypeKind::Resource)
+    driver.word("resource", TypeKind::BuiltIn);
+    driver.str(" ");
+    driver.name(name, TypeKind::Resource);
 }
 
 /// A resource under its name, with its functions.
-pub(crate) fn draft_resource<'a>(
-    draft: &mut Draft<'a>,
+pub(crate) fn write_resource<O: Output>(
+    driver: &mut Driver<O>,
     emits_docs: bool,
-    resolve: &'a Resolve,
-    name: &'a str,
-    functions: &[&'a Function],
-) -> Result<(), AllocError>
+    resolve: &Resolve,
+    name: &str,
+    functions: &[&Function],
+)
     requires valid { IsValid resolve.now }
     requires well { is_well_declared (ResourceOf name.now (map (λ f. shown_resource_member resolve.now f.now) functions.now)) ≡ true }
-    ensures { OnOk result (draft.new ≡ record { line_begun = true; kept = draft.old.kept ++ declared_calls emits_docs (ResourceOf name.now (map (λ f. shown_resource_member resolve.now f.now) functions.now)) }) }
+    ensures calls { Drives O.view O.keeps driver.old (declared_calls emits_docs (ResourceOf name.now (map (λ f. shown_resource_member resolve.now f.now) functions.now))) driver.new }
 {
-    draft_resource_name(draft, name)?;
-    draft_resource_body(draft, emits_docs, resolve, functions)
+    write_resource_name(driver, name);
+    write_resource_body(driver, emits_docs, resolve, functions);
 }

@@ -1,14 +1,15 @@
-//! Types where they are used, drafted.
+//! Types where they are used, printed.
+#![tactic(auto, using(crate::proofs::Driven::driving))]
 
-ghost use Rattle.std.specs.Prelude.{◌≡◌, ◌++◌, ◌∷◌, ◌≤◌, [], codes, Bool, true, false, List, length, slice_get, option_to_list, IsTrue, OnOk};
+ghost use Rattle.std.specs.Prelude.{◌≡◌, ◌++◌, ◌∷◌, ◌≤◌, [], codes, Bool, true, false, List, length, slice_get, option_to_list, IsTrue};
 ghost use Rattle.std.specs.Fmt.{decimal};
 ghost use Rattle.wit_model.specs.Names.{is_label};
 ghost use Rattle.wit_model.specs.Parts.{member_types, handle_target};
 ghost use Rattle.wit_model.specs.Rules.{in_list, is_named_kind, passes};
 ghost use Rattle.wit_model.specs.Types.{number_of};
 ghost use Rattle.wit_model.specs.Valid.{IsValid};
-ghost use Rattle.wit_print.specs.OutputCall.{OutputCall, is_one_line, has_no_space_first, lines_begun_after, may_follow};
-ghost use Rattle.wit_print.specs.Drafted.{drafted};
+ghost use Rattle.wit_print.specs.Drives.{Drives, LineIs, MayFollow};
+ghost use Rattle.wit_print.specs.OutputCall.{OutputCall, is_one_line, has_no_space_first};
 ghost use Rattle.wit_print.specs.Printable.{is_primitive};
 ghost use Rattle.wit_print.specs.Shown.{present_name, shown_type, type_name, used_type};
 ghost use Rattle.wit_print.specs.Calls.{handle_calls, type_calls};
@@ -16,9 +17,9 @@ ghost use Rattle.wit_print.specs.TypeParts.{carrier_end, carrier_start, comma_ca
 ghost use Rattle.wit_print.specs.Tree.{TypeTree};
 ghost use Rattle.wit_print.specs.WellNamed.{is_well_type};
 
-use crate::draft::Draft;
+use crate::driver::Driver;
+use crate::output::Output;
 use crate::type_kind::TypeKind;
-use std::alloc::AllocError;
 use wit_model::{Handle, Resolve, Result_, Type, TypeDefKind, TypeId};
 
 /// The word of a primitive type.
@@ -48,17 +49,13 @@ fn type_word(ty: &Type) -> &'static str
 }
 
 /// A primitive type.
-pub(crate) fn draft_primitive<'a>(
-    draft: &mut Draft<'a>,
-    resolve: &'a Resolve,
-    ty: &Type,
-) -> Result<(), AllocError>
+pub(crate) fn write_primitive<O: Output>(driver: &mut Driver<O>, resolve: &Resolve, ty: &Type)
     requires { is_primitive ty.now ≡ true }
-    ensures ok { OnOk result (draft.new ≡ record { line_begun = false; kept = draft.old.kept ++ type_calls (shown_type resolve.now ty.now) }) }
-    ensures line { (begun : Bool) → lines_begun_after begun (type_calls (shown_type resolve.now ty.now)) ≡ false }
+    ensures calls { Drives O.view O.keeps driver.old (type_calls (shown_type resolve.now ty.now)) driver.new }
+    ensures line { LineIs O.view false driver.new }
 {
     let _resolve = resolve;
-    draft.word(type_word(ty), TypeKind::BuiltIn)
+    driver.word(type_word(ty), TypeKind::BuiltIn);
 }
 
 /// A name, and the empty text where there is none.
@@ -81,154 +78,147 @@ pub(crate) fn name_of<'a>(resolve: &'a Resolve, id: TypeId) -> &'a str
 }
 
 /// A word, and a resource in angle brackets.
-pub(crate) fn draft_handle_of<'a>(
-    draft: &mut Draft<'a>,
-    word: &'a str,
-    resource: &'a str,
-) -> Result<(), AllocError>
+pub(crate) fn write_handle_of<O: Output>(driver: &mut Driver<O>, word: &str, resource: &str)
     requires one_line { IsTrue (is_one_line word.now) }
     requires front { IsTrue (has_no_space_first word.now) }
     requires label { is_label resource.now ≡ true }
-    ensures { OnOk result (draft.new ≡ record { line_begun = false; kept = draft.old.kept ++ handle_calls word.now resource.now }) }
+    ensures calls { Drives O.view O.keeps driver.old (handle_calls word.now resource.now) driver.new }
+    ensures line { LineIs O.view false driver.new }
 {
-    draft.word(word, TypeKind::BuiltIn)?;
-    draft.generic_args_start()?;
-    draft.name(resource, TypeKind::Resource)?;
-    draft.generic_args_end()
+    driver.word(word, TypeKind::BuiltIn);
+    driver.generic_args_start();
+    driver.name(resource, TypeKind::Resource);
+    driver.generic_args_end();
 }
 
 /// A handle without a name of its own: an owned resource is written as the resource.
-fn draft_handle<'a>(
-    draft: &mut Draft<'a>,
-    resolve: &'a Resolve,
-    handle: &Handle,
-) -> Result<(), AllocError>
+fn write_handle<O: Output>(driver: &mut Driver<O>, resolve: &Resolve, handle: &Handle)
     requires { is_labelled resolve.now (handle_target handle.now) ≡ true }
-    ensures { OnOk result (draft.new ≡ record { line_begun = false; kept = draft.old.kept ++ handle_start resolve.now handle.now }) }
+    ensures calls { Drives O.view O.keeps driver.old (handle_start resolve.now handle.now) driver.new }
+    ensures line { LineIs O.view false driver.new }
 {
     match handle {
-        Handle::Own(id) => draft.name(name_of(resolve, *id), TypeKind::Resource),
-        Handle::Borrow(id) => draft_handle_of(draft, "borrow", name_of(resolve, *id)),
+        Handle::Own(id) => driver.name(name_of(resolve, *id), TypeKind::Resource),
+        Handle::Borrow(id) => write_handle_of(driver, "borrow", name_of(resolve, *id)),
     }
 }
 
 /// A word, and the start of what stands in angle brackets.
-fn draft_word_start<'a>(draft: &mut Draft<'a>, word: &'a str) -> Result<(), AllocError>
+fn write_word_start<O: Output>(driver: &mut Driver<O>, word: &str)
     requires one_line { IsTrue (is_one_line word.now) }
     requires front { IsTrue (has_no_space_first word.now) }
-    ensures { OnOk result (draft.new ≡ record { line_begun = false; kept = draft.old.kept ++ word_start word.now }) }
+    ensures calls { Drives O.view O.keeps driver.old (word_start word.now) driver.new }
+    ensures line { LineIs O.view false driver.new }
 {
-    draft.word(word, TypeKind::BuiltIn)?;
-    draft.generic_args_start()
+    driver.word(word, TypeKind::BuiltIn);
+    driver.generic_args_start();
 }
 
-fn draft_result_start<'a>(draft: &mut Draft<'a>, of: &Result_) -> Result<(), AllocError>
-    ensures { OnOk result (draft.new ≡ record { line_begun = false; kept = draft.old.kept ++ result_start of.now.ok of.now.err }) }
+fn write_result_start<O: Output>(driver: &mut Driver<O>, of: &Result_)
+    ensures calls { Drives O.view O.keeps driver.old (result_start of.now.ok of.now.err) driver.new }
+    ensures line { LineIs O.view false driver.new }
 {
     if of.ok.is_some() {
-        return draft_word_start(draft, "result");
+        return write_word_start(driver, "result");
     }
     if of.err.is_some() {
-        draft_word_start(draft, "result")?;
-        return draft.str("_, ");
+        write_word_start(driver, "result");
+        return driver.str("_, ");
     }
-    draft.word("result", TypeKind::BuiltIn)
+    driver.word("result", TypeKind::BuiltIn);
 }
 
 /// The word of a future or a stream, with what stands before its payload.
-fn draft_carrier_start<'a>(
-    draft: &mut Draft<'a>,
-    alone: &'a str,
-    with: &'a str,
+fn write_carrier_start<O: Output>(
+    driver: &mut Driver<O>,
+    alone: &str,
+    with: &str,
     payload: &Option<Type>,
-) -> Result<(), AllocError>
-    ensures { OnOk result (draft.new ≡ drafted draft.old (carrier_start alone.now with.now payload.now)) }
+)
+    ensures calls { Drives O.view O.keeps driver.old (carrier_start alone.now with.now payload.now) driver.new }
 {
     match payload {
-        Some(_) => draft.push_str(with),
-        None => draft.push_str(alone),
+        Some(_) => driver.push_str(with),
+        None => driver.push_str(alone),
     }
 }
 
 /// What stands before the types of a kind without a name of its own.
-fn draft_kind_start<'a>(
-    draft: &mut Draft<'a>,
-    resolve: &'a Resolve,
-    kind: &TypeDefKind,
-) -> Result<(), AllocError>
+fn write_kind_start<O: Output>(driver: &mut Driver<O>, resolve: &Resolve, kind: &TypeDefKind)
     requires { handles_label resolve.now kind.now ≡ true }
-    ensures { OnOk result (draft.new ≡ drafted draft.old (kind_start resolve.now kind.now)) }
+    ensures calls { Drives O.view O.keeps driver.old (kind_start resolve.now kind.now) driver.new }
 {
     match kind {
-        TypeDefKind::Handle(handle) => draft_handle(draft, resolve, handle),
-        TypeDefKind::Tuple(_) => draft_word_start(draft, "tuple"),
-        TypeDefKind::Option(_) => draft_word_start(draft, "option"),
-        TypeDefKind::Result(of) => draft_result_start(draft, of),
-        TypeDefKind::List(_) => draft_word_start(draft, "list"),
-        TypeDefKind::Map(_, _) => draft_word_start(draft, "map"),
-        TypeDefKind::FixedLengthList(_, _) => draft_word_start(draft, "list"),
-        TypeDefKind::Future(payload) => draft_carrier_start(draft, "future", "future<", payload),
-        TypeDefKind::Stream(payload) => draft_carrier_start(draft, "stream", "stream<", payload),
-        TypeDefKind::Record(_) => Ok(()),
-        TypeDefKind::Resource => Ok(()),
-        TypeDefKind::Flags(_) => Ok(()),
-        TypeDefKind::Variant(_) => Ok(()),
-        TypeDefKind::Enum(_) => Ok(()),
-        TypeDefKind::Type_(_) => Ok(()),
+        TypeDefKind::Handle(handle) => write_handle(driver, resolve, handle),
+        TypeDefKind::Tuple(_) => write_word_start(driver, "tuple"),
+        TypeDefKind::Option(_) => write_word_start(driver, "option"),
+        TypeDefKind::Result(of) => write_result_start(driver, of),
+        TypeDefKind::List(_) => write_word_start(driver, "list"),
+        TypeDefKind::Map(_, _) => write_word_start(driver, "map"),
+        TypeDefKind::FixedLengthList(_, _) => write_word_start(driver, "list"),
+        TypeDefKind::Future(payload) => write_carrier_start(driver, "future", "future<", payload),
+        TypeDefKind::Stream(payload) => write_carrier_start(driver, "stream", "stream<", payload),
+        TypeDefKind::Record(_) => {}
+        TypeDefKind::Resource => {}
+        TypeDefKind::Flags(_) => {}
+        TypeDefKind::Variant(_) => {}
+        TypeDefKind::Enum(_) => {}
+        TypeDefKind::Type_(_) => {}
     }
 }
 
-fn draft_result_end<'a>(draft: &mut Draft<'a>, of: &Result_) -> Result<(), AllocError>
-    requires { IsTrue (may_follow draft.old.line_begun (result_end of.now.ok of.now.err)) }
-    ensures { OnOk result (draft.new ≡ drafted draft.old (result_end of.now.ok of.now.err)) }
+fn write_result_end<O: Output>(driver: &mut Driver<O>, of: &Result_)
+    requires { MayFollow O.view driver.old (result_end of.now.ok of.now.err) }
+    ensures calls { Drives O.view O.keeps driver.old (result_end of.now.ok of.now.err) driver.new }
 {
     match of.ok {
-        Some(_) => draft.generic_args_end(),
+        Some(_) => driver.generic_args_end(),
         None => match of.err {
-            Some(_) => draft.generic_args_end(),
-            None => Ok(()),
+            Some(_) => driver.generic_args_end(),
+            None => {}
         },
     }
 }
 
-fn draft_carrier_end<'a>(draft: &mut Draft<'a>, payload: &Option<Type>) -> Result<(), AllocError>
-    ensures { OnOk result (draft.new ≡ drafted draft.old (carrier_end payload.now)) }
+fn write_carrier_end<O: Output>(driver: &mut Driver<O>, payload: &Option<Type>)
+    ensures calls { Drives O.view O.keeps driver.old (carrier_end payload.now) driver.new }
 {
     match payload {
-        Some(_) => draft.push_str(">"),
-        None => Ok(()),
+        Some(_) => driver.push_str(">"),
+        None => {}
     }
 }
 
-fn draft_length<'a>(draft: &mut Draft<'a>, length: u32) -> Result<(), AllocError>
-    requires { draft.old.line_begun ≡ false }
-    ensures { OnOk result (draft.new ≡ record { line_begun = false; kept = draft.old.kept ++ OutputCall.PushStr (codes ", " ++ decimal length) ∷ OutputCall.GenericArgsEnd ∷ [] }) }
+fn write_length<O: Output>(driver: &mut Driver<O>, length: u32)
+    requires { LineIs O.view false driver.old }
+    ensures calls { Drives O.view O.keeps driver.old (OutputCall.PushStr (codes ", " ++ decimal length) ∷ OutputCall.GenericArgsEnd ∷ []) driver.new }
+    ensures line { LineIs O.view false driver.new }
 {
-    draft.push_length(length)?;
-    draft.generic_args_end()
+    driver.push_length(length);
+    driver.generic_args_end();
 }
 
 /// What stands behind the types of a kind without a name of its own.
-fn draft_kind_end<'a>(draft: &mut Draft<'a>, kind: &TypeDefKind) -> Result<(), AllocError>
-    requires { IsTrue (may_follow draft.old.line_begun (kind_end kind.now)) }
-    ensures { OnOk result (draft.new ≡ drafted draft.old (kind_end kind.now)) }
+fn write_kind_end<O: Output>(driver: &mut Driver<O>, kind: &TypeDefKind)
+    requires { MayFollow O.view driver.old (kind_end kind.now) }
+    ensures calls { Drives O.view O.keeps driver.old (kind_end kind.now) driver.new }
 {
     match kind {
-        TypeDefKind::Tuple(_) => draft.generic_args_end(),
-        TypeDefKind::Option(_) => draft.generic_args_end(),
-        TypeDefKind::Result(of) => draft_result_end(draft, of),
-        TypeDefKind::List(_) => draft.generic_args_end(),
-        TypeDefKind::Map(_, _) => draft.generic_args_end(),
-        TypeDefKind::FixedLengthList(_, length) => draft_length(draft, *length),
-        TypeDefKind::Future(payload) => draft_carrier_end(draft, payload),
-        TypeDefKind::Stream(payload) => draft_carrier_end(draft, payload),
-        TypeDefKind::Handle(_) => Ok(()),
-        TypeDefKind::Record(_) => Ok(()),
-        TypeDefKind::Resource => Ok(()),
-        TypeDefKind::Flags(_) => Ok(()),
-        TypeDefKind::Variant(_) => Ok(()),
-        TypeDefKind::Enum(_) => Ok(()),
-        TypeDefKind::Type_(_) => Ok(()),
+        TypeDefKind::Tuple(_) => driver.generic_args_end(),
+        TypeDefKind::Option(_) => driver.generic_args_end(),
+        TypeDefKind::Result(of) => write_result_end(driver, of),
+        TypeDefKind::List(_) => driver.generic_args_end(),
+        TypeDefKind::Map(_, _) => driver.generic_args_end(),
+        TypeDefKind::FixedLengthList(_, length) => write_length(driver, *length),
+        TypeDefKind::Future(payload) => write_carrier_end(driver, payload),
+        TypeDefKind::Stream(payload) => write_carrier_end(driver, payload),
+        TypeDefKind::Handle(_) => {}
+        TypeDefKind::Record(_) => {}
+        TypeDefKind::Resource => {}
+        TypeDefKind::Flags(_) => {}
+        TypeDefKind::Variant(_) => {}
+        TypeDefKind::Enum(_) => {}
+        TypeDefKind::Type_(_) => {}
     }
 }
 
@@ -281,14 +271,13 @@ fn kind_type(kind: &TypeDefKind, number: usize) -> Option<Type>
 }
 
 /// A comma before each type but the first.
-#[tactic(auto, using(crate::proofs::Drafts::fronts))]
-fn draft_comma<'a>(draft: &mut Draft<'a>, number: usize) -> Result<(), AllocError>
-    ensures { OnOk result (draft.new ≡ drafted draft.old (comma_calls number)) }
+#[tactic(auto, using(crate::proofs::Driven::driving, crate::proofs::Fronts::fronts))]
+fn write_comma<O: Output>(driver: &mut Driver<O>, number: usize)
+    ensures calls { Drives O.view O.keeps driver.old (comma_calls number) driver.new }
 {
-    if number == 0 {
-        return Ok(());
+    if number != 0 {
+        driver.str(", ");
     }
-    draft.str(", ")
 }
 
 /// How many values an option holds.
@@ -325,58 +314,47 @@ fn kind_length(kind: &TypeDefKind) -> usize
 
 /// The kind of a type number that is written without its name, if it has one. No call is deeper than the kind has unnamed levels.
 #[cycle(types)]
-pub(crate) fn draft_unnamed<'a>(
-    draft: &mut Draft<'a>,
-    resolve: &'a Resolve,
-    id: TypeId,
-) -> Result<(), AllocError>
+pub(crate) fn write_unnamed<O: Output>(driver: &mut Driver<O>, resolve: &Resolve, id: TypeId)
     requires valid { IsValid resolve.now }
     requires in_range { in_list resolve.now.types.items id.0 ≡ true }
     requires unnamed { may_be_unnamed resolve.now id ≡ true }
-    ensures { OnOk result (draft.new ≡ drafted draft.old (kind_calls resolve.now id)) }
+    ensures calls { Drives O.view O.keeps driver.old (kind_calls resolve.now id) driver.new }
 {
     let def = &resolve.types[id.0 as usize];
-    draft_kind_start(draft, resolve, &def.kind)?;
+    write_kind_start(driver, resolve, &def.kind);
     for number in 0..kind_length(&def.kind) {
         let part = kind_type(&def.kind, number).unwrap();
-        draft_comma(draft, number)?;
-        draft_type_name(draft, resolve, &part)?;
+        write_comma(driver, number);
+        write_type_name(driver, resolve, &part);
     }
-    draft_kind_end(draft, &def.kind)
+    write_kind_end(driver, &def.kind);
 }
 
 /// A type where it is used: its name, or else its kind.
 #[cycle(types)]
-pub(crate) fn draft_type_name<'a>(
-    draft: &mut Draft<'a>,
-    resolve: &'a Resolve,
-    ty: &Type,
-) -> Result<(), AllocError>
+pub(crate) fn write_type_name<O: Output>(driver: &mut Driver<O>, resolve: &Resolve, ty: &Type)
     requires valid { IsValid resolve.now }
     requires in_range { passes (in_list resolve.now.types.items) (number_of ty.now) ≡ true }
-    ensures { OnOk result (draft.new ≡ drafted draft.old (type_calls (shown_type resolve.now ty.now))) }
+    ensures calls { Drives O.view O.keeps driver.old (type_calls (shown_type resolve.now ty.now)) driver.new }
 {
     let id = match ty {
         Type::Id(id) => *id,
-        _ => return draft_primitive(draft, resolve, ty),
+        _ => return write_primitive(driver, resolve, ty),
     };
     let def = &resolve.types[id.0 as usize];
     match &def.name {
-        Some(name) => draft.name(name, TypeKind::Other),
-        None => draft_unnamed(draft, resolve, id),
+        Some(name) => driver.name(name, TypeKind::Other),
+        None => write_unnamed(driver, resolve, id),
     }
 }
 
 /// A type behind other text in its line.
-pub(crate) fn draft_type<'a>(
-    draft: &mut Draft<'a>,
-    resolve: &'a Resolve,
-    ty: &Type,
-) -> Result<(), AllocError>
-    requires same_line { draft.old.line_begun ≡ false }
+pub(crate) fn write_type<O: Output>(driver: &mut Driver<O>, resolve: &Resolve, ty: &Type)
+    requires same_line { LineIs O.view false driver.old }
     requires valid { IsValid resolve.now }
     requires well { is_well_type (shown_type resolve.now ty.now) ≡ true }
-    ensures { OnOk result (draft.new ≡ record { line_begun = false; kept = draft.old.kept ++ type_calls (shown_type resolve.now ty.now) }) }
+    ensures calls { Drives O.view O.keeps driver.old (type_calls (shown_type resolve.now ty.now)) driver.new }
+    ensures line { LineIs O.view false driver.new }
 {
-    draft_type_name(draft, resolve, ty)
+    write_type_name(driver, resolve, ty);
 }

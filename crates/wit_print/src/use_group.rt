@@ -1,4 +1,5 @@
 //! Types that are used from other interfaces, in groups.
+#![tactic(auto, using(crate::proofs::Driven::driving))]
 
 ghost use Rattle.std.specs.Prelude.{◌≡◌, ◌++◌, ◌∷◌, ◌&&◌, ◌||◌, [], codes, true, false, option_map, IfOk, IfSome, IsOkUnless, OnErr, OnOk};
 ghost use Rattle.std.specs.List.{list_all};
@@ -14,6 +15,7 @@ ghost use Rattle.wit_model.specs.Text.{text_eq, text_of};
 ghost use Rattle.wit_model.specs.Types.{number_of as number_of_lem};
 ghost use Rattle.wit_model.specs.Uses.{alias_target};
 ghost use Rattle.wit_model.specs.Valid.{IsValid};
+ghost use Rattle.wit_print.specs.Drives.{Drives, LineIs};
 ghost use Rattle.wit_print.specs.OutputCall.{OutputCall, Moves, Begins};
 ghost use Rattle.wit_print.specs.Keyword.{escaped};
 ghost use Rattle.wit_print.specs.Shown.{own_name, same_gates as same_gates_lem, same_group as same_group_lem, shown_external_id, shown_gates, shown_path, used_of};
@@ -22,15 +24,15 @@ ghost use Rattle.wit_print.specs.Calls.{members_calls, path_calls, printed_after
 ghost use Rattle.wit_print.specs.UseGroups.{group_end_calls, group_start_calls, is_listed_type, is_printable_use, listed_of, listed_use, listed_use_calls, more_names_calls, new_group_calls, open_end_calls, shown_use, use_after, use_from as use_from_lem, use_members, use_run_calls};
 ghost use Rattle.wit_print.specs.WellNamed.{is_well_path};
 
-use crate::draft::Draft;
-use crate::gates::draft_gates;
+use crate::driver::Driver;
+use crate::gates::write_gates;
 use crate::output::Output;
-use crate::path::draft_path;
-use crate::prefix::draft_external_id;
+use crate::path::write_path;
+use crate::prefix::write_external_id;
 use crate::type_kind::TypeKind;
 use crate::type_name::present;
 use semver::Version;
-use std::alloc::{AllocError, Global};
+use std::alloc::Global;
 use wit_model::{
     Error, InterfaceId, PackageId, Resolve, Stability, Type, TypeDef, TypeDefKind, TypeId,
     TypeOwner,
@@ -268,142 +270,138 @@ fn same_group(a: Use, b: Use) -> bool
 // ---- calls
 
 /// What a used type is called here, where that is another name.
-fn draft_own_name<'a>(draft: &mut Draft<'a>, own: &'a str) -> Result<(), AllocError>
-    requires same_line { draft.old.line_begun ≡ false }
+fn write_own_name<O: Output>(driver: &mut Driver<O>, own: &str)
+    requires same_line { LineIs O.view false driver.old }
     requires label { is_label own.now ≡ true }
-    ensures { OnOk result (draft.new ≡ record { line_begun = false; kept = draft.old.kept ++ space ∷ OutputCall.Keyword (codes "as") ∷ space ∷ OutputCall.Ty (escaped own.now) TypeKind.TypeAlias ∷ [] }) }
+    ensures calls { Drives O.view O.keeps driver.old (space ∷ OutputCall.Keyword (codes "as") ∷ space ∷ OutputCall.Ty (escaped own.now) TypeKind.TypeAlias ∷ []) driver.new }
+    ensures line { LineIs O.view false driver.new }
 {
-    draft.str(" ")?;
-    draft.keyword_and_blank("as")?;
-    draft.name(own, TypeKind::TypeAlias)
+    driver.str(" ");
+    driver.keyword_and_blank("as");
+    driver.name(own, TypeKind::TypeAlias);
 }
 
 /// A name of a group.
-fn draft_used_name<'a>(
-    draft: &mut Draft<'a>,
-    own: &'a str,
-    other: &'a str,
-) -> Result<(), AllocError>
+fn write_used_name<O: Output>(driver: &mut Driver<O>, own: &str, other: &str)
     requires own { is_label own.now ≡ true }
     requires other { is_label other.now ≡ true }
-    ensures { OnOk result (draft.new ≡ record { line_begun = false; kept = draft.old.kept ++ used_name_calls (record { other = other.now; own = own_name own.now other.now }) }) }
+    ensures calls { Drives O.view O.keeps driver.old (used_name_calls (record { other = other.now; own = own_name own.now other.now })) driver.new }
+    ensures line { LineIs O.view false driver.new }
 {
-    draft.name(other, TypeKind::TypeImport)?;
+    driver.name(other, TypeKind::TypeImport);
     if same_text(own, other) {
-        return Ok(());
+        return;
     }
-    draft_own_name(draft, own)
+    write_own_name(driver, own);
 }
 
 /// The path of a group, up to its names.
-fn draft_use_path<'a>(
-    draft: &mut Draft<'a>,
-    resolve: &'a Resolve,
+fn write_use_path<O: Output>(
+    driver: &mut Driver<O>,
+    resolve: &Resolve,
     here: PackageId,
     interface: InterfaceId,
-) -> Result<(), AllocError>
+)
     requires valid { IsValid resolve.now }
     requires in_range { in_list resolve.now.interfaces.items interface.0 ≡ true }
     requires well { is_well_path (shown_path resolve.now here interface) ≡ true }
-    ensures { OnOk result (draft.new ≡ record { line_begun = false; kept = draft.old.kept ++ OutputCall.Keyword (codes "use") ∷ space ∷ (path_calls (shown_path resolve.now here interface) ++ (OutputCall.Str (codes ".{") ∷ [])) }) }
+    ensures calls { Drives O.view O.keeps driver.old (OutputCall.Keyword (codes "use") ∷ space ∷ (path_calls (shown_path resolve.now here interface) ++ (OutputCall.Str (codes ".{") ∷ []))) driver.new }
+    ensures line { LineIs O.view false driver.new }
 {
-    draft.keyword_and_blank("use")?;
-    draft_path(draft, resolve, here, interface)?;
-    draft.str(".{")
+    driver.keyword_and_blank("use");
+    write_path(driver, resolve, here, interface);
+    driver.str(".{");
 }
 
 /// What stands before the names of a group: gates, an external id and a path.
-fn draft_group_start<'a>(
-    draft: &mut Draft<'a>,
-    resolve: &'a Resolve,
+fn write_group_start<O: Output>(
+    driver: &mut Driver<O>,
+    resolve: &Resolve,
     here: PackageId,
-    used: Use<'a>,
-) -> Result<(), AllocError>
-    requires begun { draft.old.line_begun ≡ true }
+    used: Use,
+)
     requires valid { IsValid resolve.now }
     requires printable { is_printable_use resolve.now here used ≡ true }
-    ensures { OnOk result (draft.new ≡ record { line_begun = false; kept = draft.old.kept ++ group_start_calls (shown_use used.entry).prefix (shown_path resolve.now here used.entry.interface) }) }
+    ensures calls { Drives O.view O.keeps driver.old (group_start_calls (shown_use used.entry).prefix (shown_path resolve.now here used.entry.interface)) driver.new }
+    ensures line { LineIs O.view false driver.new }
 {
-    draft_gates(draft, &used.def.stability)?;
-    draft_external_id(draft, &used.def.external_id)?;
-    draft_use_path(draft, resolve, here, used.interface)
+    write_gates(driver, &used.def.stability);
+    write_external_id(driver, &used.def.external_id);
+    write_use_path(driver, resolve, here, used.interface);
 }
 
 /// A use that begins a group.
-fn draft_new_group<'a>(
-    draft: &mut Draft<'a>,
-    resolve: &'a Resolve,
-    here: PackageId,
-    used: Use<'a>,
-) -> Result<(), AllocError>
-    requires begun { draft.old.line_begun ≡ true }
+fn write_new_group<O: Output>(driver: &mut Driver<O>, resolve: &Resolve, here: PackageId, used: Use)
     requires valid { IsValid resolve.now }
     requires printable { is_printable_use resolve.now here used ≡ true }
-    ensures { OnOk result (draft.new ≡ record { line_begun = false; kept = draft.old.kept ++ new_group_calls (shown_path resolve.now here) (shown_use used.entry) }) }
+    ensures calls { Drives O.view O.keeps driver.old (new_group_calls (shown_path resolve.now here) (shown_use used.entry)) driver.new }
+    ensures line { LineIs O.view false driver.new }
 {
-    draft_group_start(draft, resolve, here, used)?;
-    draft_used_name(draft, used.own, used.other)
+    write_group_start(driver, resolve, here, used);
+    write_used_name(driver, used.own, used.other);
 }
 
 /// A use that joins the group of the use before it.
-fn draft_one_more<'a>(draft: &mut Draft<'a>, used: Use<'a>) -> Result<(), AllocError>
+fn write_one_more<O: Output>(driver: &mut Driver<O>, used: Use)
     requires own { is_label used.own.now ≡ true }
     requires other { is_label used.other.now ≡ true }
-    ensures { OnOk result (draft.new ≡ record { line_begun = false; kept = draft.old.kept ++ more_names_calls (shown_use used.entry).names }) }
+    ensures calls { Drives O.view O.keeps driver.old (more_names_calls (shown_use used.entry).names) driver.new }
+    ensures line { LineIs O.view false driver.new }
 {
-    draft.str(", ")?;
-    draft_used_name(draft, used.own, used.other)
+    driver.str(", ");
+    write_used_name(driver, used.own, used.other);
 }
 
 /// The end of a group.
-fn draft_group_end<'a>(draft: &mut Draft<'a>) -> Result<(), AllocError>
-    ensures { OnOk result (draft.new ≡ record { line_begun = true; kept = draft.old.kept ++ group_end_calls }) }
+fn write_group_end<O: Output>(driver: &mut Driver<O>)
+    ensures calls { Drives O.view O.keeps driver.old group_end_calls driver.new }
 {
-    draft.str("}")?;
-    draft.semicolon()
+    driver.str("}");
+    driver.semicolon();
 }
 
 /// A use that begins a group behind another.
-fn draft_next_group<'a>(
-    draft: &mut Draft<'a>,
-    resolve: &'a Resolve,
+fn write_next_group<O: Output>(
+    driver: &mut Driver<O>,
+    resolve: &Resolve,
     here: PackageId,
-    used: Use<'a>,
-) -> Result<(), AllocError>
+    used: Use,
+)
     requires valid { IsValid resolve.now }
     requires printable { is_printable_use resolve.now here used ≡ true }
-    ensures { OnOk result (draft.new ≡ record { line_begun = false; kept = draft.old.kept ++ (group_end_calls ++ new_group_calls (shown_path resolve.now here) (shown_use used.entry)) }) }
+    ensures calls { Drives O.view O.keeps driver.old (group_end_calls ++ new_group_calls (shown_path resolve.now here) (shown_use used.entry)) driver.new }
+    ensures line { LineIs O.view false driver.new }
 {
-    draft_group_end(draft)?;
-    draft_new_group(draft, resolve, here, used)
+    write_group_end(driver);
+    write_new_group(driver, resolve, here, used);
 }
 
 /// A use behind the use before it, or the first.
-fn draft_use<'a>(
-    draft: &mut Draft<'a>,
-    resolve: &'a Resolve,
+fn write_use<O: Output>(
+    driver: &mut Driver<O>,
+    resolve: &Resolve,
     here: PackageId,
-    before: Option<Use<'a>>,
-    used: Use<'a>,
-) -> Result<(), AllocError>
-    requires begun { draft.old.line_begun ≡ true }
+    before: Option<Use>,
+    used: Use,
+)
     requires valid { IsValid resolve.now }
     requires before { passes (is_printable_use resolve.now here) before ≡ true }
     requires printable { is_printable_use resolve.now here used ≡ true }
-    ensures { OnOk result (draft.new ≡ record { line_begun = false; kept = draft.old.kept ++ use_run_calls (shown_path resolve.now here) (option_map shown_use before.entry) (shown_use used.entry) }) }
+    ensures calls { Drives O.view O.keeps driver.old (use_run_calls (shown_path resolve.now here) (option_map shown_use before.entry) (shown_use used.entry)) driver.new }
+    ensures line { LineIs O.view false driver.new }
 {
     let other = match before {
         Some(other) => other,
-        None => return draft_new_group(draft, resolve, here, used),
+        None => return write_new_group(driver, resolve, here, used),
     };
     if same_group(other, used) {
-        return draft_one_more(draft, used);
+        return write_one_more(driver, used);
     }
-    draft_next_group(draft, resolve, here, used)
+    write_next_group(driver, resolve, here, used);
 }
 
 /// A use behind the use before it, or the first.
-#[tactic(auto, using(crate::proofs::Moves::moving))]
+#[tactic(auto, using(crate::proofs::Driven::finishing))]
 fn print_use<'a, O: Output>(
     output: &mut O,
     alloc: Global,
@@ -419,20 +417,20 @@ fn print_use<'a, O: Output>(
     ensures err { OnErr result (Begins O.keeps (O.view output.old) (use_run_calls (shown_path resolve.now here) (option_map shown_use before.entry) (shown_use used.entry)) (O.view output.new)) }
     ensures memory { IsOkUnless result Memory }
 {
-    let mut draft = Draft::new(alloc);
-    draft_use(&mut draft, resolve, here, before, used)?;
-    draft.make(output)
+    let mut driver = Driver::new(output, alloc);
+    write_use(&mut driver, resolve, here, before, used);
+    driver.finish()
 }
 
-#[tactic(auto, using(crate::proofs::Moves::moving))]
+#[tactic(auto, using(crate::proofs::Driven::finishing))]
 fn print_group_end<O: Output>(output: &mut O, alloc: Global) -> Result<(), Error>
     ensures ok { OnOk result (Moves O.keeps (O.view output.old) group_end_calls (O.view output.new)) }
     ensures err { OnErr result (Begins O.keeps (O.view output.old) group_end_calls (O.view output.new)) }
     ensures memory { IsOkUnless result Memory }
 {
-    let mut draft = Draft::new(alloc);
-    draft_group_end(&mut draft)?;
-    draft.make(output)
+    let mut driver = Driver::new(output, alloc);
+    write_group_end(&mut driver);
+    driver.finish()
 }
 
 /// The end of the group of this use, if there is one.

@@ -1,0 +1,15 @@
+-- What text may stand in front of a line.
+use Rattle.std.proofs.Common.{◌≡◌, ◌&&◌, Bool, true, false, IsTrue, List, ℕ, refl, sym, subst}
+use Rattle.wit_model.proofs.Lists.{second_true}
+use Rattle.wit_print.specs.OutputCall.{is_one_line, has_no_space_first, may_begin}
+
+-- text that equals what a call may print may stand there
+pub front_of : (begun : Bool) (text other : List ℕ) → IsTrue (is_one_line text && may_begin begun text) → other ≡ text → IsTrue (may_begin begun other)
+front_of begun text other h e = subst (λ t. IsTrue (may_begin begun t)) (sym e) (second_true (is_one_line text) (may_begin begun text) h)
+
+-- text without a space at its front may stand anywhere
+pub front_anywhere : (b : Bool) (text : List ℕ) → IsTrue (has_no_space_first text) → IsTrue (may_begin b text)
+front_anywhere true text h = h
+front_anywhere false text h = refl
+
+pub ruleset fronts = (front_anywhere)

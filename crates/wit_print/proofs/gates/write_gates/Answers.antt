@@ -1,0 +1,22 @@
+use Rattle.std.proofs.Common.{◌≡◌, ap, sym, subst, true}
+use Rattle.std.specs.Prelude.{codes}
+use Rattle.semver.specs.Identifiers.{version_text}
+use Rattle.wit_model.proofs.Lists.{second_true}
+use Rattle.wit_model.specs.Lookup.{optional_version_text}
+use Rattle.wit_model.specs.Names.{is_label, is_version_text}
+use Rattle.wit_model.specs.Text.{text_of}
+use Rattle.wit_print.specs.Calls.{deprecated_calls, gates_calls, version_attribute_calls}
+use Rattle.wit_print.specs.Shown.{shown_gates}
+use Rattle.wit_print.specs.WellNamed.{is_well_gates}
+use Rattle.wit_print.proofs.Moves.{on_ok}
+use Rattle.wit_print.proofs.Driven.{driven_on}
+use Rattle.wit_print.proofs.gates.write_gates.Goals as goal
+
+pub write_deprecated-requires : goal.write_deprecated-requires
+write_deprecated-requires g c = record { version = second_true (is_version_text (version_text c.in-Stable.since)) _ (subst (λ s. is_well_gates (shown_gates s) ≡ true) c.in-Stable.is c.requires.well) }
+
+pub write_deprecated-requires-in-Unstable : goal.write_deprecated-requires-in-Unstable
+write_deprecated-requires-in-Unstable g c = record { version = second_true (is_label (text_of c.in-Unstable.feature)) _ (subst (λ s. is_well_gates (shown_gates s) ≡ true) c.in-Unstable.is c.requires.well) }
+
+pub returns-in-Stable : goal.returns-in-Stable
+returns-in-Stable g c = record { calls = driven_on c.write_version_attribute.ensures.calls c.write_deprecated.ensures.calls (ap (λ s. gates_calls (shown_gates s)) (sym c.in-Stable.is)) }

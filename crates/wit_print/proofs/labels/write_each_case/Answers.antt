@@ -1,0 +1,22 @@
+use Rattle.std.proofs.Common.{◌≡◌, ap, sym, subst, true}
+use Rattle.std.specs.List.{list_all}
+use Rattle.wit_model.proofs.Lists.{second_true}
+use Rattle.wit_model.specs.Names.{is_label}
+use Rattle.wit_print.specs.OutputCall.{is_one_line}
+use Rattle.wit_print.specs.Shown.{shown_docs, shown_enum_case}
+use Rattle.wit_print.specs.WellNamed.{is_well_label}
+use Rattle.wit_print.proofs.Runs.{passes_at}
+use Rattle.wit_print.specs.Calls.{label_calls}
+use Rattle.wit_print.proofs.Driven.{driven_as, one_run}
+use Rattle.wit_print.proofs.labels.write_each_case.Goals as goal
+
+pub write_label-requires : goal.write_label-requires
+write_label-requires g c =
+    record {
+      label =
+          let well = passes_at (λ x. is_well_label (shown_enum_case x)) c.args.cases.now c.loop-case.case-index c.case-item.result c.requires.well c.loop-case-test.true c.case-item.is in
+          subst (λ text. is_label text ≡ true) (sym c.deref.ensures) (second_true (list_all is_one_line (shown_docs c.case-item.result.docs)) _ well);
+    }
+
+pub loop-case-preserved : goal.loop-case-preserved
+loop-case-preserved g c = record { calls = one_run (λ case. label_calls c.args.emits_docs (shown_enum_case case)) _ _ _ c.loop-case.invariant.calls c.loop-case-test.true c.case-item.is (driven_as c.write_label.ensures.calls (ap (λ name. label_calls c.args.emits_docs (record { docs = shown_docs c.case-item.result.docs; name = name })) c.deref.ensures)) }

@@ -1,0 +1,36 @@
+use Rattle.std.proofs.Common.{◌≡◌, [], ◌∷◌, List, ◌++◌, ◌∙◌, ap, sym, subst, map, true}
+use Rattle.std.specs.Prelude.{codes}
+use Rattle.std.specs.List.{flat_map, list_all}
+use Rattle.std.proofs.lemmas.List.Folds.{flat_map-map}
+use Rattle.wit_print.specs.OutputCall.{OutputCall, View}
+use Rattle.wit_print.specs.OutputCall.OutputCall.{IndentEnd}
+use Rattle.wit_print.specs.Shown.{shown_enum_case}
+use Rattle.wit_print.specs.Calls.{label_calls}
+use Rattle.wit_print.specs.DeclaredCalls.{block_start_calls}
+use Rattle.wit_print.specs.declared.type_kind.TypeKind.TheVariants.{Enum}
+use Rattle.wit_print.proofs.Moves.{on_ok}
+use Rattle.wit_model.specs.Names.{is_label}
+use Rattle.wit_print.specs.WellNamed.{is_well_label}
+use Rattle.wit_print.proofs.ByteTests.{left_of}
+use Rattle.wit_print.proofs.Declared.{block_members}
+use Rattle.wit_print.proofs.Driven.{driven3}
+use Rattle.wit_print.proofs.labels.write_enum.Goals as goal
+
+pub write_block_start-requires-clause-label : goal.write_block_start-requires-clause-label
+write_block_start-requires-clause-label g c = left_of _ _ c.requires.well
+
+pub write_each_case-requires : goal.write_each_case-requires
+write_each_case-requires g c =
+    record {
+      well =
+          subst (λ xs. list_all (λ x. is_well_label (shown_enum_case x)) xs ≡ true) (sym c.deref.ensures.value) (block_members is_well_label shown_enum_case (is_label c.args.name.now) c.args.of.now.cases.items c.requires.well);
+    }
+
+pub returns : goal.returns
+returns g c =
+    let members = c.deref.result.now in
+    let start = block_start_calls (codes "enum") c.args.name.now Enum in
+    record {
+      calls = driven3 c.write_block_start.ensures.calls c.write_each_case.ensures.calls c.indent_end.ensures.calls
+          (ap (λ x. start ++ (x ++ (IndentEnd ∷ []))) (sym (flat_map-map (label_calls c.args.emits_docs) shown_enum_case members) ∙ ap (λ xs. flat_map (label_calls c.args.emits_docs) (map shown_enum_case xs)) c.deref.ensures.value));
+    }

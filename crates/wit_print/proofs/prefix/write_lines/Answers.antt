@@ -1,0 +1,21 @@
+use Rattle.std.proofs.Common.{length, [], ◌∷◌, sym}
+use Rattle.std.proofs.lemmas.Iterator.Splits.{YieldsList-from_lines}
+use Rattle.std.proofs.lemmas.Iterator.Consumers.{YieldsList-turn, YieldsList-end}
+use Rattle.wit_print.proofs.DocLines.{line_one_line, lines_driven}
+use Rattle.std.proofs.lemmas.List.{map-append}
+use Rattle.wit_print.specs.OutputCall.OutputCall.{Doc}
+use Rattle.wit_print.proofs.Driven.{driven_on}
+use Rattle.wit_print.proofs.prefix.write_lines.Goals as goal
+
+pub doc-requires : goal.doc-requires
+doc-requires g c =
+    let t = YieldsList-turn (YieldsList-from_lines c.args.contents.now cc) c.loop-line.yielded _ c.loop-line.yielded_by _ _ c.in-Some.line c.in-Some.is c.next.ensures.steps in
+    line_one_line c.args.contents.now (length c.loop-line.yielded) c.in-Some.line.now t.0 t.1
+
+pub loop-line-preserved : goal.loop-line-preserved
+loop-line-preserved g c = record { calls = driven_on c.loop-line.invariant.calls c.doc.ensures.calls (sym (map-append (λ line. Doc line.now) c.loop-line.yielded (c.in-Some.line ∷ []))) }
+
+pub returns : goal.returns
+returns g c =
+    let t = YieldsList-end (YieldsList-from_lines c.args.contents.now cc) c.loop-line.yielded _ c.loop-line.yielded_by _ _ c.in-None.is c.next.ensures.steps in
+    record { calls = lines_driven _ _ c.loop-line.invariant.calls t.0 }

@@ -1,0 +1,10 @@
+-- The lines so far are printed.
+use Rattle.std.proofs.Common.{◌≡◌, ◌++◌, map, true}
+use Rattle.wit_print.specs.OutputCall.{OutputCall}
+use Rattle.wit_print.specs.Drives.{Drives}
+use Rattle.wit_print.proofs.prefix.write_lines.Given as goal
+
+abbrev pub invariant-loop-line : goal.invariant-loop-line
+invariant-loop-line g l = record {
+  calls : Drives g.O.Output.view g.O.Output.keeps l.fn.driver (map (λ line. OutputCall.Doc line.now) l.yielded) l.driver;
+}

@@ -1,0 +1,12 @@
+-- Those so far are printed.
+use Rattle.std.proofs.Common.{◌≡◌, ◌++◌, take, true}
+use Rattle.std.specs.List.{flat_map}
+use Rattle.wit_print.specs.Shown.{shown_resource_member}
+use Rattle.wit_print.specs.Calls.{resource_member_calls}
+use Rattle.wit_print.specs.Drives.{Drives}
+use Rattle.wit_print.proofs.resource.write_members.Given as goal
+
+abbrev pub invariant-loop-function : goal.invariant-loop-function
+invariant-loop-function g l = record {
+  calls : Drives g.O.Output.view g.O.Output.keeps l.fn.driver (flat_map (λ f. resource_member_calls l.emits_docs (shown_resource_member l.resolve f.now)) (take l.function-index l.functions)) l.driver;
+}
