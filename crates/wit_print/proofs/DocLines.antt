@@ -1,5 +1,5 @@
 -- The lines of a text have no line end in them.
-use Rattle.std.proofs.Common.{◌≡◌, refl, sym, ◌<◌, ◌-◌, ℕ, zero, suc, Bool, true, false, IsTrue, ◌&&◌, ◌==◌, cond, List, [], ◌∷◌, length, take, get_or, subst, if◌then◌else◌, slice_index, map, ap, ◌∙◌, ◌++◌, Bor}
+use Rattle.std.proofs.Common.{◌≡◌, refl, sym, ◌<◌, ◌-◌, ℕ, zero, suc, Bool, true, false, IsTrue, ◌&&◌, ◌==◌, cond, List, [], ◌∷◌, length, take, get_or, subst, if◌then◌else◌, slice_index, map, ap, ◌∙◌, Bor}
 use Rattle.std.specs.List.{list_all, slice_split, onto_first}
 use Rattle.std.specs.Str.Lines.{lines, lines_of_parts}
 use Rattle.std.proofs.lemmas.List.Sums.{AllPass-from_list_all}

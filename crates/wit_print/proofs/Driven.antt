@@ -1,11 +1,11 @@
 -- Calls of a driver: one call, calls after calls, and what they come to at the end.
-use Rattle.std.proofs.Common.{Result, Ok, Err, OnOk, OnErr, ◌≡◌, ◌<◌, ◌+◌, ℕ, Bool, true, false, List, [], ◌∷◌, ◌++◌, refl, sym, subst, ◌∙◌, ap, inl, take, get_or, length, add-one, append-nil, append_assoc}
+use Rattle.std.proofs.Common.{Result, Ok, Err, OnOk, OnErr, ◌≡◌, ◌<◌, ◌+◌, ℕ, Bool, true, false, List, [], ◌∷◌, ◌++◌, refl, sym, subst, ◌∙◌, ap, inl, take, get_or, length, append-nil, append_assoc}
 use Rattle.std.specs.Prelude.{is_err}
 use Rattle.std.proofs.lemmas.Bool.{false≢true, true≢false}
 use Rattle.std.specs.List.{flat_map}
 use Rattle.wit_print.specs.OutputCall.{OutputCall, View, after, lines_begun_after, Counts, Reaches, Moves, Begins, body_calls}
 use Rattle.wit_print.specs.OutputCall.Moves.{nothing_moved, then_moved}
-use Rattle.wit_print.specs.OutputCall.Begins.{nothing_begun, begun_in, then_begun}
+use Rattle.wit_print.specs.OutputCall.Begins.{nothing_begun, begun_in}
 use Rattle.wit_print.specs.declared.driver.Driver.{Driver}
 use Rattle.wit_print.specs.Drives.{Runs, Drives}
 use Rattle.wit_print.specs.Drives.Runs.{all_made, one_refused, none_made}

@@ -23,7 +23,7 @@ use Rattle.wit_model.specs.Types.{grow, number_of}
 use Rattle.wit_model.specs.Uses.{alias_target}
 use Rattle.wit_model.specs.Valid.{IsValid}
 use Rattle.wit_model.proofs.Tables.{grow_at}
-use Rattle.wit_print.specs.OutputCall.{OutputCall, View, lines_begun_after, line_begun_after, may_follow}
+use Rattle.wit_print.specs.OutputCall.{OutputCall, lines_begun_after, line_begun_after, may_follow}
 use Rattle.wit_print.specs.Tree.{TypeTree, TypeTrees}
 use Rattle.wit_print.specs.Tree.TypeTree.{PrimitiveType, Name, Handle, Own, Borrow, TupleOf, OptionOf, ListOf, FixedListOf, MapOf, Result, ResultOk, ResultErr, ResultOf, Future, FutureOf, Stream, StreamOf}
 use Rattle.wit_print.specs.Tree.TypeTrees.{NoTypes, AndTypes}

@@ -1,6 +1,7 @@
 //! Names as ids of WIT text.
 
-ghost use Rattle.std.specs.Prelude.{◌≡◌, ◌∷◌, List, ℕ, IfOk};
+ghost use Rattle.std.specs.Prelude.{◌≡◌, ◌∷◌, true, false, List, ℕ, IfOk};
+ghost use Rattle.std.specs.String.{string_bytes};
 ghost use Rattle.std.specs.List.{list_any};
 ghost use Rattle.std.specs.Cow.{cow_str_bytes};
 ghost use Rattle.wit_model.specs.Text.{text_eq};
@@ -101,7 +102,7 @@ fn is_among(word: &str, words: &[&str]) -> bool
 }
 
 /// Whether a word is a keyword of WIT text.
-fn is_keyword(word: &str) -> bool
+pub(crate) fn is_keyword(word: &str) -> bool
     ensures { result ≡ is_keyword_lem word.now }
 {
     match word.as_bytes().first() {
@@ -110,16 +111,24 @@ fn is_keyword(word: &str) -> bool
     }
 }
 
-/// A label as an id: with `%` in front where it is a keyword. Only then is text made.
-pub(crate) fn escape<'a>(alloc: Global, label: &'a str) -> Result<CowStr<'a>, AllocError>
-    ensures { IfOk result (λ text. cow_str_bytes text ≡ escaped label.now) }
+/// A keyword as an id: with `%` in front.
+#[inline(never)]
+pub(crate) fn escape(alloc: Global, word: &str) -> Result<String, AllocError>
+    requires { is_keyword_lem word.now ≡ true }
+    ensures { IfOk result (λ text. string_bytes text ≡ escaped word.now) }
 {
-    if !is_keyword(label) {
-        return Ok(CowStr::Borrowed(label));
-    }
     let mut text = String::from_str(alloc, "%")?;
-    text.push_str(label)?;
-    Ok(CowStr::Owned(text))
+    text.push_str(word)?;
+    Ok(text)
+}
+
+/// A label that is no keyword, which is its own id.
+#[inline(always)]
+pub(crate) fn unescaped<'a>(label: &'a str) -> &'a str
+    requires { is_keyword_lem label.now ≡ false }
+    ensures { result.now ≡ escaped label.now }
+{
+    label
 }
 
 /// Whether a character stands for itself in a string: ASCII letters, digits and a few marks.

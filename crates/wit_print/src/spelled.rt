@@ -9,7 +9,7 @@ ghost use Rattle.wit_print.specs.OutputCall.{OutputCall, Moves, Begins, may_stan
 ghost use Rattle.wit_print.specs.Calls.{character_call};
 ghost use Rattle.wit_print.specs.Keyword.{escaped};
 
-use crate::escape::{escape, escape_character};
+use crate::escape::{escape, escape_character, is_keyword, unescaped};
 use crate::output::Output;
 use crate::type_kind::TypeKind;
 use semver::Version;
@@ -30,8 +30,11 @@ pub(crate) fn print_name<O: Output>(
     ensures err { OnErr result (Begins O.keeps (O.view output.old) (OutputCall.Ty (escaped label.now) kind ∷ []) (O.view output.new)) }
     ensures memory { IsOkUnless result Memory }
 {
-    let text = escape(alloc, label)?;
-    output.ty(text.as_str(), kind)
+    if is_keyword(label) {
+        let text = escape(alloc, label)?;
+        return output.ty(text.as_str(), kind);
+    }
+    output.ty(unescaped(label), kind)
 }
 
 /// The name of a parameter or a field, as an id.
@@ -47,8 +50,11 @@ pub(crate) fn print_param<O: Output>(
     ensures err { OnErr result (Begins O.keeps (O.view output.old) (OutputCall.Param (escaped label.now) ∷ []) (O.view output.new)) }
     ensures memory { IsOkUnless result Memory }
 {
-    let text = escape(alloc, label)?;
-    output.param(text.as_str())
+    if is_keyword(label) {
+        let text = escape(alloc, label)?;
+        return output.param(text.as_str());
+    }
+    output.param(unescaped(label))
 }
 
 /// The name of a case or a flag, as an id.
@@ -60,8 +66,11 @@ pub(crate) fn print_case<O: Output>(output: &mut O, alloc: Global, label: &str) 
     ensures err { OnErr result (Begins O.keeps (O.view output.old) (OutputCall.Case (escaped label.now) ∷ []) (O.view output.new)) }
     ensures memory { IsOkUnless result Memory }
 {
-    let text = escape(alloc, label)?;
-    output.case(text.as_str())
+    if is_keyword(label) {
+        let text = escape(alloc, label)?;
+        return output.case(text.as_str());
+    }
+    output.case(unescaped(label))
 }
 
 /// The name of a feature, as an id.
@@ -77,8 +86,11 @@ pub(crate) fn print_feature<O: Output>(
     ensures err { OnErr result (Begins O.keeps (O.view output.old) (OutputCall.Str (escaped label.now) ∷ []) (O.view output.new)) }
     ensures memory { IsOkUnless result Memory }
 {
-    let text = escape(alloc, label)?;
-    output.str(text.as_str())
+    if is_keyword(label) {
+        let text = escape(alloc, label)?;
+        return output.str(text.as_str());
+    }
+    output.str(unescaped(label))
 }
 
 /// The length of a list as it stands behind the type of its elements.

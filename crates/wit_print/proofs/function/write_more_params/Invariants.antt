@@ -1,5 +1,5 @@
 -- The parameters so far are printed.
-use Rattle.std.proofs.Common.{◌≡◌, ◌++◌, ◌∷◌, take, false}
+use Rattle.std.proofs.Common.{◌∷◌, take, false}
 use Rattle.std.specs.Prelude.{codes}
 use Rattle.std.specs.List.{flat_map}
 use Rattle.wit_print.specs.OutputCall.{OutputCall}

@@ -1,6 +1,6 @@
-use Rattle.std.proofs.Common.{◌≡◌, ◌∷◌, ap, subst, true, map, ◌∙◌, sym}
+use Rattle.std.proofs.Common.{◌≡◌, ap, subst, true, map, ◌∙◌, sym}
 use Rattle.std.specs.Prelude.{codes}
-use Rattle.std.specs.List.{list_all, flat_map}
+use Rattle.std.specs.List.{list_all}
 use Rattle.std.proofs.lemmas.List.{nil_from_length}
 use Rattle.wit_model.proofs.Lists.{first_true, second_true}
 use Rattle.wit_print.specs.OutputCall.OutputCall.{Str}

@@ -4,12 +4,11 @@ use Rattle.std.specs.List.{list_all}
 use Rattle.std.proofs.lemmas.List.Folds.{list_all-map}
 use Rattle.wit_model.specs.Lookup.{is_async}
 use Rattle.wit_print.specs.OutputCall.OutputCall.{Keyword}
-use Rattle.wit_print.specs.Shown.{shown_param, shown_signature, shown_type}
-use Rattle.wit_print.specs.Calls.{async_calls, params_calls, signature_calls}
+use Rattle.wit_print.specs.Shown.{shown_param, shown_type}
+use Rattle.wit_print.specs.Calls.{async_calls, params_calls}
 use Rattle.wit_print.specs.ItemCalls.{written_params}
 use Rattle.wit_print.specs.WellNamed.{is_well_param}
 use Rattle.wit_print.proofs.ByteTests.{left_of}
-use Rattle.wit_print.proofs.Moves.{on_ok}
 use Rattle.wit_print.proofs.Driven.{driven, driven_on}
 use Rattle.wit_print.proofs.function.write_signature.Goals as goal
 

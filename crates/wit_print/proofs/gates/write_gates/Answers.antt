@@ -1,14 +1,11 @@
 use Rattle.std.proofs.Common.{◌≡◌, ap, sym, subst, true}
-use Rattle.std.specs.Prelude.{codes}
 use Rattle.semver.specs.Identifiers.{version_text}
 use Rattle.wit_model.proofs.Lists.{second_true}
-use Rattle.wit_model.specs.Lookup.{optional_version_text}
 use Rattle.wit_model.specs.Names.{is_label, is_version_text}
 use Rattle.wit_model.specs.Text.{text_of}
-use Rattle.wit_print.specs.Calls.{deprecated_calls, gates_calls, version_attribute_calls}
+use Rattle.wit_print.specs.Calls.{gates_calls}
 use Rattle.wit_print.specs.Shown.{shown_gates}
 use Rattle.wit_print.specs.WellNamed.{is_well_gates}
-use Rattle.wit_print.proofs.Moves.{on_ok}
 use Rattle.wit_print.proofs.Driven.{driven_on}
 use Rattle.wit_print.proofs.gates.write_gates.Goals as goal
 

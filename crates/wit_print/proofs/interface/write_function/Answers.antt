@@ -1,15 +1,14 @@
-use Rattle.std.proofs.Common.{◌≡◌, [], ◌∷◌, ◌++◌, ◌∙◌, ap, sym, subst, append_assoc, true}
+use Rattle.std.proofs.Common.{◌≡◌, ◌++◌, ◌∙◌, ap, sym, subst, append_assoc, true}
 use Rattle.wit_model.specs.Names.{is_label}
 use Rattle.wit_model.specs.Text.{text_of}
-use Rattle.wit_print.specs.Shown.{function_prefix, shown_function, shown_signature}
-use Rattle.wit_print.specs.Calls.{members_calls, prefix_calls}
+use Rattle.wit_print.specs.Shown.{function_prefix, shown_signature}
+use Rattle.wit_print.specs.Calls.{prefix_calls}
 use Rattle.wit_print.specs.ItemCalls.{named_calls}
 use Rattle.wit_print.specs.Printable.{line_between}
 use Rattle.wit_print.specs.WellNamed.{is_well_prefix}
 use Rattle.wit_print.specs.declared.type_kind.TypeKind.TheVariants.{FunctionFreestanding}
 use Rattle.wit_print.proofs.ByteTests.{left_of, right_of}
 use Rattle.wit_print.proofs.Functions.{function_alone}
-use Rattle.wit_print.proofs.Moves.{on_ok}
 use Rattle.wit_print.proofs.Driven.{driven, driven_on}
 use Rattle.wit_print.proofs.interface.write_function.Goals as goal
 

@@ -1,4 +1,4 @@
-use Rattle.std.proofs.Common.{◌≡◌, [], ◌∷◌, ◌∙◌, ap, List}
+use Rattle.std.proofs.Common.{[], ◌∷◌, ◌∙◌, ap, List}
 use Rattle.std.specs.Prelude.{codes}
 use Rattle.wit_model.specs.Text.{text_of}
 use Rattle.wit_print.specs.OutputCall.{OutputCall}

@@ -1,5 +1,5 @@
 -- The lines so far are printed.
-use Rattle.std.proofs.Common.{◌≡◌, ◌++◌, map, true}
+use Rattle.std.proofs.Common.{map}
 use Rattle.wit_print.specs.OutputCall.{OutputCall}
 use Rattle.wit_print.specs.Drives.{Drives}
 use Rattle.wit_print.proofs.prefix.write_lines.Given as goal

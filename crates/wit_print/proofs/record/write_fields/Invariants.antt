@@ -1,5 +1,5 @@
 -- Those so far are printed.
-use Rattle.std.proofs.Common.{◌≡◌, ◌++◌, take, true}
+use Rattle.std.proofs.Common.{take}
 use Rattle.std.specs.List.{flat_map}
 use Rattle.wit_print.specs.Shown.{shown_field}
 use Rattle.wit_print.specs.Calls.{field_calls}

@@ -1,8 +1,4 @@
-use Rattle.wit_print.specs.Shown.{function_prefix, shown_resource_member}
-use Rattle.wit_print.specs.Calls.{prefix_calls, resource_member_calls}
-use Rattle.wit_print.specs.DeclaredCalls.{bare_member_calls}
 use Rattle.wit_print.proofs.Constructors.{member_prefix, member_whole}
-use Rattle.wit_print.proofs.Moves.{on_ok}
 use Rattle.wit_print.proofs.Driven.{driven_on}
 use Rattle.wit_print.proofs.resource.write_resource_function.Goals as goal
 

@@ -11,7 +11,7 @@ use Rattle.wit_print.specs.OutputCall.{OutputCall, may_follow}
 use Rattle.wit_print.specs.Keyword.{escaped}
 use Rattle.wit_print.specs.Shown.{shown_type, type_trees}
 use Rattle.wit_print.specs.Calls.{type_calls}
-use Rattle.wit_print.specs.TypeParts.{comma_calls, kind_calls, kind_end, kind_start, types_from}
+use Rattle.wit_print.specs.TypeParts.{comma_calls, kind_end, kind_start, types_from}
 use Rattle.wit_print.specs.declared.type_kind.TypeKind.TheVariants.{Other}
 use Rattle.wit_print.proofs.ByPlace.{one_there}
 use Rattle.wit_print.proofs.Driven.{driven, driven_as, driven_on, line_driven, driving_first, driving_next, driving_done}

@@ -1,14 +1,12 @@
-use Rattle.std.proofs.Common.{◌≡◌, [], ◌∷◌, List, ◌++◌, ◌∙◌, ap, sym, subst, map, true}
+use Rattle.std.proofs.Common.{◌≡◌, [], ◌∷◌, ◌++◌, ◌∙◌, ap, sym, subst, map, true}
 use Rattle.std.specs.Prelude.{codes}
 use Rattle.std.specs.List.{flat_map, list_all}
 use Rattle.std.proofs.lemmas.List.Folds.{flat_map-map}
-use Rattle.wit_print.specs.OutputCall.{OutputCall, View}
 use Rattle.wit_print.specs.OutputCall.OutputCall.{IndentEnd}
 use Rattle.wit_print.specs.Shown.{shown_case}
 use Rattle.wit_print.specs.Calls.{case_calls}
 use Rattle.wit_print.specs.DeclaredCalls.{block_start_calls}
 use Rattle.wit_print.specs.declared.type_kind.TypeKind.TheVariants.{Variant}
-use Rattle.wit_print.proofs.Moves.{on_ok}
 use Rattle.wit_model.specs.Names.{is_label}
 use Rattle.wit_print.specs.WellNamed.{is_well_case}
 use Rattle.wit_print.proofs.ByteTests.{left_of}
