@@ -1,0 +1,4 @@
+pub mod KeyTexts
+pub mod Kept
+pub mod Putting
+pub mod FunctionKeys

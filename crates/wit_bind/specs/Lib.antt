@@ -1,0 +1,5 @@
+pub mod Keys
+pub mod Encodings
+pub mod Functions
+pub mod KeyTests
+pub mod KeyLists
