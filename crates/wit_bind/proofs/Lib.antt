@@ -2,3 +2,4 @@ pub mod KeyTexts
 pub mod Kept
 pub mod Putting
 pub mod FunctionKeys
+pub mod ValidKeys

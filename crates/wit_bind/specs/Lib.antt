@@ -3,3 +3,4 @@ pub mod Encodings
 pub mod Functions
 pub mod KeyTests
 pub mod KeyLists
+pub mod KeyLaws

@@ -3,6 +3,7 @@
 
 mod encodings;
 mod keys;
+pub mod laws;
 mod metadata;
 
 pub use encodings::EncodingMap;
