@@ -8,7 +8,7 @@ ghost use Rattle.wit_bind.specs.Keys.{function_key};
 ghost use Rattle.wit_bind.specs.Encodings.{encoding_under};
 ghost use Rattle.wit_bind.specs.KeyLists.{Puts};
 
-use crate::keys::is_function_key;
+use crate::keys::{is_function_key, short_key};
 use indexmap::IndexMap;
 use std::alloc::Global;
 use std::marker::Model;
@@ -41,9 +41,8 @@ impl EncodingMap {
         }
     }
 
-    /// The encoding of a function, by the key under which it, or its interface, is imported or exported and by its name. None where the map has
-    /// none, or the key is of an interface without a path. Takes one pass over the keys of the map, and no memory.
-    pub fn get(&self, resolve: &Resolve, key: &WorldKey, func: &str) -> Option<StringEncoding>
+    // Goes along the keys, and compares each with the parts of the one that is looked for.
+    fn search(&self, resolve: &Resolve, key: &WorldKey, func: &str) -> Option<StringEncoding>
         ensures { result ≡ encoding_under self.now (function_key resolve.now key.now func.now) }
     {
         for (text, encoding) in &self.encodings {
@@ -52,6 +51,18 @@ impl EncodingMap {
             }
         }
         None
+    }
+
+    /// The encoding of a function, by the key under which it, or its interface, is imported or exported and by its name. None where the map has
+    /// none, or the key is of an interface without a path. Takes no memory, and one pass over the texts, expected, or over all keys of the map where
+    /// the function has no key, or one of more than 256 bytes.
+    pub fn get(&self, resolve: &Resolve, key: &WorldKey, func: &str) -> Option<StringEncoding>
+        ensures { result ≡ encoding_under self.now (function_key resolve.now key.now func.now) }
+    {
+        match short_key(resolve, key, func) {
+            Some(text) => self.encodings.get(text.as_str()).copied(),
+            None => self.search(resolve, key, func),
+        }
     }
 
     /// Puts an encoding under a key. A refusal, `Memory` alone, leaves the map as it was.

@@ -1,15 +1,16 @@
 //! The texts under which the encodings of functions are kept.
 
-ghost use Rattle.std.specs.Prelude.{◌≡◌, ◌++◌, option_map, IfOk, IfErr};
+ghost use Rattle.std.specs.Prelude.{◌≡◌, ◌++◌, option_map, IfOk, IfErr, IfSome, Some};
 ghost use Rattle.std.specs.Option.{option_copied};
 ghost use Rattle.wit_model.specs.declared.error.Error.TheVariants.{Memory};
 ghost use Rattle.wit_model.specs.Paths.{full_name as full_name_lem};
 ghost use Rattle.wit_model.specs.Text.{optional_text, text_of};
 ghost use Rattle.wit_model.specs.Names.{path_in};
 ghost use Rattle.wit_model.specs.Rules.{after_prefix as after_prefix_lem};
-ghost use Rattle.wit_bind.specs.Keys.{function_key as function_key_lem, text_under, unversioned};
+ghost use Rattle.wit_bind.specs.Keys.{function_key as function_key_lem, scope_of, text_under, unversioned};
 ghost use Rattle.wit_bind.specs.KeyTests.{after_scope as after_scope_lem, after_slash, is_key_of};
 
+use arrayvec::ArrayString;
 use std::alloc::Global;
 use wit_model::{Error, InterfaceId, PackageName, Resolve, WorldKey, after_prefix};
 
@@ -65,6 +66,63 @@ pub(crate) fn function_key(
             None => Ok(None),
         },
     }
+}
+
+// ---- made on the stack
+
+/// A text of 256 bytes at most, which takes no memory.
+pub(crate) type ShortText = ArrayString<256>;
+
+fn push(text: &mut ShortText, part: &str) -> Option<()>
+    ensures { IfSome result (λ _. text.new.bytes ≡ text.old.bytes ++ part.now) }
+{
+    match text.try_push_str(part) {
+        Ok(()) => Some(()),
+        Err(_) => None,
+    }
+}
+
+// The path of an interface, without version.
+fn short_path(own: &PackageName, name: &str) -> Option<ShortText>
+    ensures { IfSome result (λ text. text.bytes ≡ path_in (unversioned own.now) name.now) }
+{
+    let mut text = ShortText::new();
+    push(&mut text, &own.namespace)?;
+    push(&mut text, ":")?;
+    push(&mut text, &own.name)?;
+    push(&mut text, "/")?;
+    push(&mut text, name)?;
+    Some(text)
+}
+
+fn short_label(label: &str) -> Option<ShortText>
+    ensures { IfSome result (λ text. text.bytes ≡ label.now) }
+{
+    let mut text = ShortText::new();
+    push(&mut text, label)?;
+    Some(text)
+}
+
+fn short_scope(resolve: &Resolve, key: &WorldKey) -> Option<ShortText>
+    ensures { IfSome result (λ text. scope_of resolve.now key.now ≡ Some text.bytes) }
+{
+    match key {
+        WorldKey::Name(label) => short_label(label),
+        WorldKey::Interface(id) => {
+            let (own, name) = full_name(resolve, *id)?;
+            short_path(own, name)
+        }
+    }
+}
+
+/// The key of a function, where it is short: none where it is longer, or there is none. Takes one pass over the texts, and no memory.
+pub(crate) fn short_key(resolve: &Resolve, key: &WorldKey, function: &str) -> Option<ShortText>
+    ensures { IfSome result (λ text. function_key_lem resolve.now key.now function.now ≡ Some text.bytes) }
+{
+    let mut text = short_scope(resolve, key)?;
+    push(&mut text, "/")?;
+    push(&mut text, function)?;
+    Some(text)
 }
 
 // ---- compared

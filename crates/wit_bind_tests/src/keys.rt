@@ -187,6 +187,34 @@ fn equal_keys(rt: HostRuntime) -> Result<(), Fail> {
     assert_all(&rt, rt.alloc(), &WORLD, &QUESTIONS)
 }
 
+// Keys of 255 and of 257 bytes, on both sides of those that are looked up at once.
+#[test]
+fn long_keys(rt: HostRuntime) -> Result<(), Fail> {
+    const SHORT: &str =
+        "kkkkkkkkkkkkkkkkkkkkkkkkkkkkkkkkkkkkkkkkkkkkkkkkkkkkkkkkkkkkkkkkkkkkkkkkkkkkkkkkkkkkkkkkkkkkkkkkkkkkkkkkkkkkkkkkkkkkkkkkkkkkkkk";
+    const LONG: &str =
+        "kkkkkkkkkkkkkkkkkkkkkkkkkkkkkkkkkkkkkkkkkkkkkkkkkkkkkkkkkkkkkkkkkkkkkkkkkkkkkkkkkkkkkkkkkkkkkkkkkkkkkkkkkkkkkkkkkkkkkkkkkkkkkkkk";
+    static WORLD: Items = Items {
+        imports: &[
+            Entry::Function(SHORT),
+            Entry::Function(LONG),
+            Entry::Path(VERSIONED),
+        ],
+        exports: &[Entry::Label(LONG, VERSIONED)],
+    };
+    static QUESTIONS: [Question; 8] = [
+        (Key::Label(SHORT), SHORT, true, false),
+        (Key::Label(SHORT), LONG, false, false),
+        (Key::Label(LONG), LONG, true, false),
+        (Key::Label(LONG), SHORT, false, false),
+        (Key::Label(LONG), "f", false, true),
+        (Key::Label(LONG), "[static]r.s", false, true),
+        (Key::Path(VERSIONED), LONG, false, false),
+        (Key::Path(INLINE), LONG, false, false),
+    ];
+    assert_all(&rt, rt.alloc(), &WORLD, &QUESTIONS)
+}
+
 // A new map, and those of no module, have no encodings.
 #[test]
 fn nothing(rt: HostRuntime) -> Result<(), Fail> {

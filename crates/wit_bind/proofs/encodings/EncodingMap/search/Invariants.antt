@@ -2,7 +2,7 @@ use Rattle.std.proofs.Common.{◌≡◌}
 use Rattle.wit_bind.specs.Keys.{function_key}
 use Rattle.wit_bind.specs.Encodings.{encoding_under}
 use Rattle.wit_bind.proofs.Kept.{among}
-use Rattle.wit_bind.proofs.encodings.EncodingMap.get.Given as goal
+use Rattle.wit_bind.proofs.encodings.EncodingMap.search.Given as goal
 
 -- what is looked for is among the entries that are left, or nowhere
 abbrev pub invariant-loop-text : goal.invariant-loop-text
