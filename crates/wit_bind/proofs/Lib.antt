@@ -1,0 +1,5 @@
+pub mod KeyTexts
+pub mod Kept
+pub mod Putting
+pub mod FunctionKeys
+pub mod ValidKeys

@@ -1,0 +1,77 @@
+//! String encodings by the keys of functions.
+
+ghost use Rattle.std.specs.Prelude.{◌≡◌, [], ◌∷◌, IfErr, OnErr, OnOk};
+ghost use Rattle.std.specs.FinMap.{empty};
+ghost use Rattle.wit_model.specs.declared.error.Error.TheVariants.{Memory};
+ghost use Rattle.wit_model.specs.Text.{text_of};
+ghost use Rattle.wit_bind.specs.Keys.{function_key};
+ghost use Rattle.wit_bind.specs.Encodings.{encoding_under};
+ghost use Rattle.wit_bind.specs.KeyLists.{Puts};
+
+use crate::keys::{is_function_key, short_key};
+use indexmap::IndexMap;
+use std::alloc::Global;
+use std::marker::Model;
+use wit_model::{Error, Resolve, StringEncoding, WorldKey};
+
+/// The string encodings of functions that are imported, or exported, by their keys. A function item under the label `k` has the key `k/k`; a function
+/// `f` of an interface has `label/f` where the interface stands under a label, and else `namespace:name/interface/f`, without version.
+#[derive(Drop)]
+pub struct EncodingMap {
+    encodings: IndexMap<String, StringEncoding>,
+}
+
+impl Model for EncodingMap {
+    ghost use Rattle.wit_bind.specs.Encodings.{Encodings, encodings_code, kept_encodings};
+
+    ghost Value = { Encodings };
+
+    ghost coded = { encodings_code };
+
+    ghost view = { λ m. kept_encodings m.encodings.entries };
+}
+
+impl EncodingMap {
+    /// No encodings. Takes no memory.
+    pub fn new(alloc: Global) -> EncodingMap
+        ensures { result ≡ empty }
+    {
+        EncodingMap {
+            encodings: IndexMap::new(alloc),
+        }
+    }
+
+    // Goes along the keys, and compares each with the parts of the one that is looked for.
+    fn search(&self, resolve: &Resolve, key: &WorldKey, func: &str) -> Option<StringEncoding>
+        ensures { result ≡ encoding_under self.now (function_key resolve.now key.now func.now) }
+    {
+        for (text, encoding) in &self.encodings {
+            if is_function_key(resolve, key, func, text) {
+                return Some(*encoding);
+            }
+        }
+        None
+    }
+
+    /// The encoding of a function, by the key under which it, or its interface, is imported or exported and by its name. None where the map has
+    /// none, or the key is of an interface without a path. Takes no memory, and one pass over the texts, expected, or over all keys of the map where
+    /// the function has no key, or one of more than 256 bytes.
+    pub fn get(&self, resolve: &Resolve, key: &WorldKey, func: &str) -> Option<StringEncoding>
+        ensures { result ≡ encoding_under self.now (function_key resolve.now key.now func.now) }
+    {
+        match short_key(resolve, key, func) {
+            Some(text) => self.encodings.get(text.as_str()).copied(),
+            None => self.search(resolve, key, func),
+        }
+    }
+
+    /// Puts an encoding under a key. A refusal, `Memory` alone, leaves the map as it was.
+    pub(crate) fn put(&mut self, key: String, encoding: StringEncoding) -> Result<(), Error>
+        ensures ok { OnOk result (Puts (text_of key ∷ []) encoding self.old self.new) }
+        ensures err { OnErr result (self.new ≡ self.old) }
+        ensures refuses { IfErr result (λ e. e ≡ Memory) }
+    {
+        self.encodings.insert(key, encoding)?;
+        Ok(())
+    }
+}

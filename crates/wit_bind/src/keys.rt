@@ -1,0 +1,168 @@
+//! The texts under which the encodings of functions are kept.
+
+ghost use Rattle.std.specs.Prelude.{◌≡◌, ◌++◌, option_map, IfOk, IfErr, IfSome, Some};
+ghost use Rattle.std.specs.Option.{option_copied};
+ghost use Rattle.wit_model.specs.declared.error.Error.TheVariants.{Memory};
+ghost use Rattle.wit_model.specs.Paths.{full_name as full_name_lem};
+ghost use Rattle.wit_model.specs.Text.{optional_text, text_of};
+ghost use Rattle.wit_model.specs.Names.{path_in};
+ghost use Rattle.wit_model.specs.Rules.{after_prefix as after_prefix_lem};
+ghost use Rattle.wit_bind.specs.Keys.{function_key as function_key_lem, scope_of, text_under, unversioned};
+ghost use Rattle.wit_bind.specs.KeyTests.{after_scope as after_scope_lem, after_slash, is_key_of};
+
+use arrayvec::ArrayString;
+use std::alloc::Global;
+use wit_model::{Error, InterfaceId, PackageName, Resolve, WorldKey, after_prefix};
+
+// The name of an interface's package and its own, where it has both.
+fn full_name(resolve: &Resolve, id: InterfaceId) -> Option<(&PackageName, &String)>
+    ensures { option_map (λ e. (e.0.now, e.1.now)) result ≡ full_name_lem resolve.now id.0 }
+{
+    let interface = resolve.interfaces.get(id.0 as usize)?;
+    let name = interface.name.as_ref()?;
+    let home = interface.package?;
+    let owner = resolve.packages.get(home.0 as usize)?;
+    Some((&owner.name, name))
+}
+
+// ---- made
+
+fn key_under(alloc: Global, scope: &str, function: &str) -> Result<String, Error>
+    ensures ok { IfOk result (λ key. text_of key ≡ text_under scope.now function.now) }
+    ensures refuses { IfErr result (λ e. e ≡ Memory) }
+{
+    Ok(format!(in alloc; "{scope}/{function}")?)
+}
+
+fn path_key(
+    alloc: Global,
+    own: &PackageName,
+    interface: &str,
+    function: &str,
+) -> Result<String, Error>
+    ensures ok { IfOk result (λ key. text_of key ≡ text_under (path_in (unversioned own.now) interface.now) function.now) }
+    ensures refuses { IfErr result (λ e. e ≡ Memory) }
+{
+    let namespace = &own.namespace;
+    let name = &own.name;
+    Ok(format!(in alloc; "{namespace}:{name}/{interface}/{function}")?)
+}
+
+/// The key of a function: `label/function`, or `namespace:name/interface/function`. None where the key of the world is of an interface
+/// without a path. Takes one pass over the texts. Refuses `Memory` alone.
+pub(crate) fn function_key(
+    alloc: Global,
+    resolve: &Resolve,
+    key: &WorldKey,
+    function: &str,
+) -> Result<Option<String>, Error>
+    ensures ok { IfOk result (λ text. optional_text text ≡ function_key_lem resolve.now key.now function.now) }
+    ensures refuses { IfErr result (λ e. e ≡ Memory) }
+{
+    match key {
+        WorldKey::Name(label) => Ok(Some(key_under(alloc, label, function)?)),
+        WorldKey::Interface(id) => match full_name(resolve, *id) {
+            Some((own, name)) => Ok(Some(path_key(alloc, own, name, function)?)),
+            None => Ok(None),
+        },
+    }
+}
+
+// ---- made on the stack
+
+/// A text of 256 bytes at most, which takes no memory.
+pub(crate) type ShortText = ArrayString<256>;
+
+fn push(text: &mut ShortText, part: &str) -> Option<()>
+    ensures { IfSome result (λ _. text.new.bytes ≡ text.old.bytes ++ part.now) }
+{
+    match text.try_push_str(part) {
+        Ok(()) => Some(()),
+        Err(_) => None,
+    }
+}
+
+// The path of an interface, without version.
+fn short_path(own: &PackageName, name: &str) -> Option<ShortText>
+    ensures { IfSome result (λ text. text.bytes ≡ path_in (unversioned own.now) name.now) }
+{
+    let mut text = ShortText::new();
+    push(&mut text, &own.namespace)?;
+    push(&mut text, ":")?;
+    push(&mut text, &own.name)?;
+    push(&mut text, "/")?;
+    push(&mut text, name)?;
+    Some(text)
+}
+
+fn short_label(label: &str) -> Option<ShortText>
+    ensures { IfSome result (λ text. text.bytes ≡ label.now) }
+{
+    let mut text = ShortText::new();
+    push(&mut text, label)?;
+    Some(text)
+}
+
+fn short_scope(resolve: &Resolve, key: &WorldKey) -> Option<ShortText>
+    ensures { IfSome result (λ text. scope_of resolve.now key.now ≡ Some text.bytes) }
+{
+    match key {
+        WorldKey::Name(label) => short_label(label),
+        WorldKey::Interface(id) => {
+            let (own, name) = full_name(resolve, *id)?;
+            short_path(own, name)
+        }
+    }
+}
+
+/// The key of a function, where it is short: none where it is longer, or there is none. Takes one pass over the texts, and no memory.
+pub(crate) fn short_key(resolve: &Resolve, key: &WorldKey, function: &str) -> Option<ShortText>
+    ensures { IfSome result (λ text. function_key_lem resolve.now key.now function.now ≡ Some text.bytes) }
+{
+    let mut text = short_scope(resolve, key)?;
+    push(&mut text, "/")?;
+    push(&mut text, function)?;
+    Some(text)
+}
+
+// ---- compared
+
+// What follows a text and a mark.
+fn after_marked<'a>(front: &str, mark: &str, text: &'a str) -> Option<&'a str>
+    ensures { option_copied result ≡ after_prefix_lem (front.now ++ mark.now) text.entry.now }
+{
+    let rest = after_prefix(front, text)?;
+    after_prefix(mark, rest)
+}
+
+// What follows the path of an interface, without version, and a slash.
+fn after_path<'a>(own: &PackageName, name: &str, text: &'a str) -> Option<&'a str>
+    ensures { option_copied result ≡ after_slash (path_in (unversioned own.now) name.now) text.entry.now }
+{
+    let rest = after_marked(&own.namespace, ":", text)?;
+    let rest = after_marked(&own.name, "/", rest)?;
+    after_marked(name, "/", rest)
+}
+
+// What follows the scope of a key and a slash.
+fn after_scope<'a>(resolve: &Resolve, key: &WorldKey, text: &'a str) -> Option<&'a str>
+    ensures { option_copied result ≡ after_scope_lem resolve.now key.now text.entry.now }
+{
+    match key {
+        WorldKey::Name(label) => after_marked(label, "/", text),
+        WorldKey::Interface(id) => {
+            let (own, name) = full_name(resolve, *id)?;
+            after_path(own, name, text)
+        }
+    }
+}
+
+/// Whether a text is the key of a function. Takes one pass over the text at most, and no memory.
+pub(crate) fn is_function_key(resolve: &Resolve, key: &WorldKey, function: &str, text: &str) -> bool
+    ensures { result ≡ is_key_of resolve.now key.now function.now text.now }
+{
+    match after_scope(resolve, key, text) {
+        Some(rest) => function == rest,
+        None => false,
+    }
+}

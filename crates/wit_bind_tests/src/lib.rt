@@ -1,0 +1,9 @@
+//! Tests of string encodings by the keys of functions, over the public calls.
+#![tactic(auto)]
+
+#[cfg(test)]
+mod keys;
+#[cfg(test)]
+mod refusals;
+#[cfg(test)]
+mod worlds;
