@@ -1,5 +1,6 @@
 pub mod Moves
 pub mod Driven
+pub mod Blocks
 pub mod RenderLaws
 mod ReadingExamples
 mod TextExamples

@@ -1,4 +1,4 @@
--- The calls for parts of declared types that are drafted by themselves.
+-- The calls for parts of declared types that are printed by themselves.
 use Rattle.std.specs.Prelude.{Bool, true, false, List, [], ◌∷◌, ◌++◌, ℕ, Option, None, Some, codes}
 use Rattle.std.specs.Fmt.{decimal}
 use Rattle.wit_model.specs.Text.{Text}

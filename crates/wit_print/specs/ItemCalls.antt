@@ -1,4 +1,4 @@
--- The calls for parts of items that are drafted by themselves.
+-- The calls for parts of items that are printed by themselves.
 use Rattle.std.specs.Prelude.{Bool, false, List, ◌∷◌, ◌++◌, [], codes, drop, is_some, if◌then◌else◌}
 use Rattle.std.specs.Option.{option_map_or}
 use Rattle.wit_model.specs.declared.model.Resolve.{Resolve}

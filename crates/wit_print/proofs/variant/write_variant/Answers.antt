@@ -1,8 +1,6 @@
-use Rattle.std.proofs.Common.{◌≡◌, [], ◌∷◌, ◌++◌, ◌∙◌, ap, sym, subst, map, true}
+use Rattle.std.proofs.Common.{◌≡◌, sym, subst, true}
 use Rattle.std.specs.Prelude.{codes}
-use Rattle.std.specs.List.{flat_map, list_all}
-use Rattle.std.proofs.lemmas.List.Folds.{flat_map-map}
-use Rattle.wit_print.specs.OutputCall.OutputCall.{IndentEnd}
+use Rattle.std.specs.List.{list_all}
 use Rattle.wit_print.specs.Shown.{shown_case}
 use Rattle.wit_print.specs.Calls.{case_calls}
 use Rattle.wit_print.specs.DeclaredCalls.{block_start_calls}
@@ -11,7 +9,7 @@ use Rattle.wit_model.specs.Names.{is_label}
 use Rattle.wit_print.specs.WellNamed.{is_well_case}
 use Rattle.wit_print.proofs.ByteTests.{left_of}
 use Rattle.wit_print.proofs.Declared.{block_members}
-use Rattle.wit_print.proofs.Driven.{driven3}
+use Rattle.wit_print.proofs.Blocks.{block_driven}
 use Rattle.wit_print.proofs.variant.write_variant.Goals as goal
 
 pub write_block_start-requires-clause-label : goal.write_block_start-requires-clause-label
@@ -23,9 +21,5 @@ write_cases-requires-clause-well g c =
 
 pub returns : goal.returns
 returns g c =
-    let members = c.deref.result.now in
     let start = block_start_calls (codes "variant") c.args.name.now Variant in
-    record {
-      calls = driven3 c.write_block_start.ensures.calls c.write_cases.ensures.calls c.indent_end.ensures.calls
-          (ap (λ x. start ++ (x ++ (IndentEnd ∷ []))) (sym (flat_map-map (case_calls c.args.emits_docs) (shown_case c.args.resolve.now) members) ∙ ap (λ xs. flat_map (case_calls c.args.emits_docs) (map (shown_case c.args.resolve.now) xs)) c.deref.ensures.value));
-    }
+    record { calls = block_driven start (case_calls c.args.emits_docs) (shown_case c.args.resolve.now) _ _ c.write_block_start.ensures.calls c.write_cases.ensures.calls c.indent_end.ensures.calls c.deref.ensures.value }
