@@ -22,3 +22,7 @@ pub use Rattle.wit_print.specs.Calls
 pub use Rattle.wit_print.specs.Reading
 pub use Rattle.wit_print.specs.Render
 pub use Rattle.wit_print.specs.Shown
+pub use Rattle.wit_bind.specs.Encodings
+pub use Rattle.wit_bind.specs.Functions
+pub use Rattle.wit_bind.specs.Keys
+pub use Rattle.wit_metadata.specs.Carried

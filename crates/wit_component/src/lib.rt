@@ -1,10 +1,11 @@
 //! WIT packages as data, as bytes and as text: the names of all crates below under one, and the laws that join them.
 //!
 //! A `Resolve` is checked (`Check`), encoded (`encode`) and decoded (`decode`, `decode_world`), printed (`WitPrinter`) and compared (`semver_check`,
-//! `same_sense`).
+//! `same_sense`). What a module carries of a world is encoded by `metadata::encode`; `ModuleMetadata` has the encodings of its functions.
 #![tactic(auto)]
 
 pub mod laws;
+pub mod metadata;
 mod normal;
 
 pub use comp_bytes::Alias;
@@ -27,6 +28,8 @@ pub use comp_bytes::write_index;
 pub use comp_bytes::write_name;
 pub use comp_bytes::write_u32;
 pub use normal::normalized;
+pub use wit_bind::EncodingMap;
+pub use wit_bind::ModuleMetadata;
 pub use wit_check::Check;
 pub use wit_compat::Place;
 pub use wit_compat::Senses;
@@ -70,6 +73,7 @@ pub use wit_encode::interface_type;
 pub use wit_encode::key_of;
 pub use wit_encode::maybe_import_type;
 pub use wit_encode::stands_alone;
+pub use wit_encode::wrapped_world;
 pub use wit_model::Case;
 pub use wit_model::Cause;
 pub use wit_model::ClashKind;

@@ -33,10 +33,10 @@ use Rattle.wit_encode.proofs.WholePackages.{are-worlds, no-worlds_yet}
 
 -- ---- component types and their exports
 
-abbrev type-extent : Text × Declarations → ℕ
+abbrev pub type-extent : Text × Declarations → ℕ
 type-extent x = 41 + (length x.0 + length (declarations_bytes x.1))
 
-one-short : (n : ℕ) (x : Text × Declarations) → parts_extent (one_exported n x) ≤ type-extent x
+pub one-short : (n : ℕ) (x : Text × Declarations) → parts_extent (one_exported n x) ≤ type-extent x
 one-short n x =
     let typed = Part.top_type (TopType.component x.1) in
     let export = Part.top_export (plain_export x.0 n) in
@@ -59,7 +59,7 @@ exporting-short n (x ∷ xs) =
     let next = sum_by-cons type-extent x xs in
     omega arith
 
-wrapper-short : (path : Text) (inner : Declarations) → length (declarations_bytes (wrapper path inner)) ≤ 21 + (length path + length (declarations_bytes inner))
+pub wrapper-short : (path : Text) (inner : Declarations) → length (declarations_bytes (wrapper path inner)) ≤ 21 + (length path + length (declarations_bytes inner))
 wrapper-short path inner =
     let count = u32-short (declaration_count inner) in
     let body = length-append (u32_bytes (declaration_count inner)) (declarations_bytes inner) in
@@ -70,7 +70,7 @@ wrapper-short path inner =
     let whole = length-append (1 ∷ 0x41 ∷ (u32_bytes (declaration_count inner) ++ declarations_bytes inner)) ((4 ∷ ((0 ∷ name_bytes path) ++ (4 ∷ u32_bytes 0))) ++ []) in
     omega arith
 
-extent-is : (ds : Declarations) → declared_extent ds ≡ length (declarations_bytes ds)
+pub extent-is : (ds : Declarations) → declared_extent ds ≡ length (declarations_bytes ds)
 unfolding declared_extent
 extent-is ds = refl
 

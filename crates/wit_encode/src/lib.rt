@@ -11,7 +11,7 @@ mod world;
 
 pub use component_types::interface_type;
 pub use interface::{Foreign, InterfaceEncoder, InterfaceEncoderOf, OpenInterface};
-pub use package::{encode, encode_component};
+pub use package::{encode, encode_component, wrapped_world};
 pub use uses::stands_alone;
 pub use wit_encode_types::{
     FunctionKey, LendsMaps, ParamSignatures, Slot, Table, TableOf, TypeEncodingMaps,

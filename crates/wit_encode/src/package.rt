@@ -95,8 +95,11 @@ fn interfaces_component(
     Ok(builder)
 }
 
-// The wrapper of a world of the package of this name: its component type, exported under the world's path, which is never canonical.
-fn world_type(
+/// The wrapper of a world (Component Model WIT.md, "Package Format"): a component type that defines the world's component type, and exports it
+/// under the path that the world has in a package of this name and version. That path is never canonical.
+///
+/// Takes as long as `encode_world`, and refuses what it does; `Size` only where the path and the world weigh more than 4,294,967,295.
+pub fn wrapped_world(
     alloc: Global,
     resolve: &Resolve,
     package: &PackageName,
@@ -132,7 +135,7 @@ fn add_world(
     ensures size { result ≡ Err Size → LacksWorld resolve.now (identity_of «package».now) (name.now, world) builder.old }
     ensures refuses { IfErr result (RefusesWorldAt resolve.now world.0 canonical_names) }
 {
-    let component = world_type(alloc, resolve, package, world, canonical_names)?;
+    let component = wrapped_world(alloc, resolve, package, world, canonical_names)?;
     export_component_type(builder, name, &component)
 }
 

@@ -9,8 +9,7 @@ use crate::refusal::Refusal;
 use crate::worlds::world_of;
 use std::alloc::Global;
 use std::io::Read;
-use wit_compat::semver_check;
-use wit_model::{Error, PackageId, Resolve};
+use wit_component::{Error, PackageId, Resolve, semver_check};
 
 /// What comes of two names of worlds.
 #[derive(Clone, Copy)]

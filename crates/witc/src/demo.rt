@@ -10,11 +10,9 @@ use crate::hex::hex_lines;
 use crate::print::text_of_package;
 use crate::refusal::Refusal;
 use std::alloc::Global;
-use wit_check::Check;
-use wit_encode::encode;
-use wit_model::{
-    Docs, Error, Function, FunctionKind, Map, Package, PackageId, PackageName, Resolve, Stability,
-    World, WorldId, WorldItem, WorldKey,
+use wit_component::{
+    Check, Docs, Error, Function, FunctionKind, Map, Package, PackageId, PackageName, Resolve,
+    Stability, World, WorldId, WorldItem, WorldKey, encode,
 };
 
 /// The package's number in `package`.

@@ -2,11 +2,7 @@
 
 use std::alloc::Global;
 use std::test::Fail;
-use wit_check::Check;
-use wit_decode::decode;
-use wit_encode::encode;
-use wit_model::*;
-use wit_print::{OutputToString, WitPrinter};
+use wit_component::*;
 
 /// The text of the package that the bytes of a component mean.
 fn text_of(alloc: Global, bytes: &[u8]) -> Result<String, Error> {

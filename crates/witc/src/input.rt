@@ -8,8 +8,7 @@ ghost use Rattle.witc.specs.Input.{IsUnread, ReadsPart, ReadsWhole};
 use crate::refusal::Refusal;
 use std::alloc::{AllocError, Global};
 use std::io::{ErrorKind, Read};
-use wit_decode::decode;
-use wit_model::{PackageId, Resolve};
+use wit_component::{PackageId, Resolve, decode};
 
 /// So many calls of a reader are made at most.
 const MOST_CALLS: u64 = 4_294_967_296;

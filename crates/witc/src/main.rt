@@ -21,7 +21,7 @@ use answer::refuse;
 use refusal::Refusal;
 use run::run;
 use std::process::ExitCode;
-use wit_model::Error;
+use wit_component::Error;
 
 fn main(rt: HostRuntime) -> ExitCode {
     let alloc = rt.alloc();

@@ -3,9 +3,9 @@
 use std::alloc::Global;
 use std::process::Abort;
 use std::test::Fail;
-use wit_check::Check;
-use wit_encode::encode;
-use wit_model::{Error, Function, FunctionKind, PackageId, Resolve, Type, WorldItem};
+use wit_component::{
+    Check, Error, Function, FunctionKind, PackageId, Resolve, Type, WorldItem, encode,
+};
 use wit_samples::drafts::{add_package, add_world, empty, export, import, nullary, param};
 
 /// A function.

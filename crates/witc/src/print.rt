@@ -10,8 +10,7 @@ use crate::input::decode_input;
 use crate::refusal::Refusal;
 use std::alloc::Global;
 use std::io::Read;
-use wit_model::{Error, PackageId, Resolve};
-use wit_print::{OutputToString, WitPrinter};
+use wit_component::{Error, OutputToString, PackageId, Resolve, WitPrinter};
 
 /// The text of a package, with no others nested in it.
 pub fn text_of_package(alloc: Global, resolve: &Resolve, id: PackageId) -> Result<Vec<u8>, Error>

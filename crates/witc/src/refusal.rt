@@ -1,7 +1,7 @@
 //! Why a command is refused.
 
 use std::alloc::{AllocError, AllocFailed};
-use wit_model::{Error, Fault};
+use wit_component::{Error, Fault};
 
 /// Why a command is refused.
 #[derive(Debug, Drop, thiserror::Error)]

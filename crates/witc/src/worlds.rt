@@ -4,7 +4,7 @@ ghost use Rattle.std.specs.Prelude.{◌<◌, length};
 ghost use Rattle.wit_model.specs.Valid.{IsValid};
 ghost use Rattle.witc.specs.Named.{NamesWorld};
 
-use wit_model::{PackageId, Resolve, WorldId};
+use wit_component::{PackageId, Resolve, WorldId};
 
 /// The world of this name in a package. Names are compared by bytes.
 pub fn world_of(resolve: &Resolve, id: PackageId, name: &str) -> Option<WorldId>

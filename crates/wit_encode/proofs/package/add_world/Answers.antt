@@ -21,7 +21,7 @@ returns-clause-adds c =
     c.deref.ensures more))
 
 pub returns-in_err-component-clause-size : goal.returns-in_err-component-clause-size
-returns-in_err-component-clause-size c = λ h. inl (c.world_type.ensures.size (search rules))
+returns-in_err-component-clause-size c = λ h. inl (c.wrapped_world.ensures.size (search rules))
 
 pub returns-clause-size : goal.returns-clause-size
 returns-clause-size c = λ h.

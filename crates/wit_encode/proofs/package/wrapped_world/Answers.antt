@@ -10,7 +10,7 @@ use Rattle.wit_shown.specs.PackageTypes.{wrapper}
 use Rattle.wit_encode.specs.Packages.{WrapsWorld}
 use Rattle.wit_encode.proofs.Packages.{world-passed}
 use Rattle.wit_model.specs.Weight.{world_weight}
-use Rattle.wit_encode.proofs.package.world_type.Goals as goal
+use Rattle.wit_encode.proofs.package.wrapped_world.Goals as goal
 
 pub returns-in_err-component-clause-refuses : goal.returns-in_err-component-clause-refuses
 returns-in_err-component-clause-refuses c =

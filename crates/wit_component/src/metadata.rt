@@ -1,0 +1,3 @@
+//! Worlds as modules carry them in custom sections.
+
+pub use wit_metadata::encode;

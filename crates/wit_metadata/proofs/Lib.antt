@@ -1,0 +1,4 @@
+mod Carrying
+mod Homes
+mod ModuleLaws
+mod Weighing

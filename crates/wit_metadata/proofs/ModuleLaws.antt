@@ -1,0 +1,267 @@
+-- Sections in front of bytes, those behind them, and those that carry no world.
+use Rattle.std.proofs.Common.{◌≡◌, ◌≤◌, ◌<◌, ◌+◌, ◌∙◌, refl, sym, ap, subst, ℕ, suc, ◌==◌, nat_eq, Bool, true, false, List, [], ◌∷◌, ◌++◌, append_assoc, append-nil, length, drop, take, Option, Some, None, Ok, Err, arith}
+use Rattle.std.specs.Prelude.{◌-◌, Result, slice_range}
+use Rattle.std.specs.List.{AllByRecursion, flat_map, starts_with}
+use Rattle.std.proofs.lemmas.Bool.{eq-eqb, true≢false}
+use Rattle.std.proofs.lemmas.Bool.Decides.{Decides-eqb}
+use Rattle.std.proofs.lemmas.Slice.Eq.{starts_is}
+use Rattle.std.proofs.lemmas.List.{length-append, take_at, take-append-drop}
+use Rattle.std.proofs.Math.Seq.{drop-append_seam}
+use Rattle.wit_model.specs.Text.{Text}
+use Rattle.wit_model.specs.declared.error.Error.{Error}
+use Rattle.wit_model.specs.declared.error.Error.TheVariants as errors
+use Rattle.comp_bytes.specs.declared.frames.Section.{Section}
+use Rattle.comp_bytes.specs.Form.{Are, Joined, Sequence}
+use Rattle.comp_bytes.specs.Answer.{Refuses}
+use Rattle.comp_bytes.specs.Frames.{IsCustom, IsFrame, IsNext, ReadsCustom, Unread}
+use Rattle.comp_bytes.specs.Reading.{frame_at, name_at}
+use Rattle.comp_bytes.specs.Writing.{framed}
+use Rattle.comp_bytes.proofs.ComponentLaws.{frame_law}
+use Rattle.comp_bytes.proofs.PartLaws.{name_law}
+use Rattle.wit_model.proofs.OnePath.{some-same}
+use Rattle.wit_metadata.specs.Modules.{AreOthers, Carries, Framed, IsFrontless, IsInFront, IsModule, IsNamed, IsStripped, IsUnbound, RefusesModule, TellsCarrying, carrying_name, module_bytes, module_preamble}
+
+-- ---- one section
+
+-- the contents of a custom section have one name
+pub one-name : (contents : List ℕ) (c d : List ℕ × List ℕ) → IsCustom c contents → IsCustom d contents → c.0 ≡ d.0
+one-name contents c d (front, rest, parts, spelled, is) (other, more, halves, written, are) =
+    let first : name_at contents ≡ Some (c.0, rest) = ap name_at parts ∙ name_law.again c.0 front rest spelled in
+    let second : name_at contents ≡ Some (d.0, more) = ap name_at halves ∙ name_law.again d.0 other more written in
+    ap (λ (x : List ℕ × List ℕ). x.0) (some-same (c.0, rest) (d.0, more) (sym first ∙ second))
+
+-- one section stands in front of bytes
+pub one-frame : (f g : Framed) (front rest other more : List ℕ) → IsFrame f front → IsFrame g other → front ++ rest ≡ other ++ more → let x : Framed × List ℕ = (f, rest) in x ≡ (g, more)
+one-frame f g front rest other more spelled written same =
+    some-same (f, rest) (g, more) (sym (frame_law.again f front rest spelled) ∙ (ap frame_at same ∙ frame_law.again g other more written))
+
+-- ---- a section more
+
+pub sequence-end : (fs : List Framed) (text : List ℕ) → Sequence IsFrame fs text → (f : Framed) (front : List ℕ) → IsFrame f front → Sequence IsFrame (fs ++ f ∷ []) (text ++ front)
+sequence-end [] text none f front spelled = (front, [], ap (λ (t : List ℕ). t ++ front) none ∙ sym (append-nil front), spelled, refl)
+sequence-end (g ∷ fs) text (here, rest, parts, first, others) f front spelled =
+    (here, rest ++ front, ap (λ (t : List ℕ). t ++ front) parts ∙ append_assoc here rest front, first, sequence-end fs rest others f front spelled)
+
+pub named-end : (fs : List Framed) → AllByRecursion IsNamed fs → (f : Framed) → IsNamed f → AllByRecursion IsNamed (fs ++ f ∷ [])
+named-end [] all f named = (named, tt)
+named-end (g ∷ fs) all f named = (all.0, named-end fs all.1 f named)
+
+pub others-end : (fs others : List Framed) → AreOthers fs others → (f : Framed) → (Carries f → ⊥) → AreOthers (fs ++ f ∷ []) (others ++ f ∷ [])
+others-end fs others AreOthers.none f carries = AreOthers.other f [] [] carries AreOthers.none
+others-end fs others (AreOthers.carrying g gs os h are) f carries = AreOthers.carrying g (gs ++ f ∷ []) (os ++ f ∷ []) h (others-end gs os are f carries)
+others-end fs others (AreOthers.other g gs os h are) f carries = AreOthers.other g (gs ++ f ∷ []) (os ++ f ∷ []) h (others-end gs os are f carries)
+
+pub carried-end : (fs others : List Framed) → AreOthers fs others → (f : Framed) → Carries f → AreOthers (fs ++ f ∷ []) others
+carried-end fs others AreOthers.none f carries = AreOthers.carrying f [] [] carries AreOthers.none
+carried-end fs others (AreOthers.carrying g gs os h are) f carries = AreOthers.carrying g (gs ++ f ∷ []) os h (carried-end gs os are f carries)
+carried-end fs others (AreOthers.other g gs os h are) f carries = AreOthers.other g (gs ++ f ∷ []) os h (carried-end gs os are f carries)
+
+bytes-end : (fs : List Framed) (f : Framed) → flat_map (λ (g : Framed). framed g.0 g.1) (fs ++ f ∷ []) ≡ flat_map (λ (g : Framed). framed g.0 g.1) fs ++ framed f.0 f.1
+bytes-end [] f = append-nil (framed f.0 f.1)
+bytes-end (g ∷ fs) f = ap (λ (t : List ℕ). framed g.0 g.1 ++ t) (bytes-end fs f) ∙ sym (append_assoc (framed g.0 g.1) (flat_map (λ (h : Framed). framed h.0 h.1) fs) (framed f.0 f.1))
+
+pub module-end : (fs : List Framed) (f : Framed) → module_bytes (fs ++ f ∷ []) ≡ module_bytes fs ++ framed f.0 f.1
+module-end fs f = ap (λ (t : List ℕ). module_preamble ++ t) (bytes-end fs f)
+
+one-longer : (fs : List Framed) (f : Framed) → length (fs ++ f ∷ []) ≡ suc (length fs)
+one-longer fs f = let both = length-append fs (f ∷ []) in omega arith
+
+-- no fewer sections than others
+no-more : (fs others : List Framed) → AreOthers fs others → length others ≤ length fs
+no-more fs others AreOthers.none = omega arith
+no-more fs others (AreOthers.carrying g gs os h are) = let rest = no-more gs os are in omega arith
+no-more fs others (AreOthers.other g gs os h are) = let rest = no-more gs os are in omega arith
+
+-- ---- sections that have been read
+
+-- how many of the sections are others: fewer, or all
+abbrev pub AreTold : Bool → List Framed → List Framed → Type 0
+AreTold true fs others = length others < length fs
+AreTold false fs others = others ≡ fs
+
+pub record IsRead (bytes rest kept : List ℕ) (bound : Bool) : Type 0 where
+  pub sections : List Framed
+  pub front : List ℕ
+  pub parts : bytes ≡ module_preamble ++ (front ++ rest)
+  pub spelled : Sequence IsFrame sections front
+  pub named_ : AllByRecursion IsNamed sections
+  pub others : List Framed
+  pub are : AreOthers sections others
+  pub told : AreTold bound sections others
+  pub kept_are : kept ≡ module_bytes others
+
+pub nothing-read : (bytes rest kept : List ℕ) → bytes ≡ module_preamble ++ rest → kept ≡ module_preamble → IsRead bytes rest kept false
+nothing-read bytes rest kept parts is = record {
+  sections = [];
+  front = [];
+  parts = parts;
+  spelled = refl;
+  named_ = tt;
+  others = [];
+  are = AreOthers.none;
+  told = refl;
+  kept_are = is ∙ sym (append-nil module_preamble);
+}
+
+module _ (bytes rest kept : List ℕ) (bound : Bool) (h : IsRead bytes rest kept bound) (f : Framed) (behind : List ℕ) (stands : IsInFront rest f behind) where
+  parts-on : bytes ≡ module_preamble ++ ((h.front ++ stands.front) ++ behind)
+  parts-on = h.parts ∙ ap (λ (t : List ℕ). module_preamble ++ t) (ap (λ (t : List ℕ). h.front ++ t) stands.parts ∙ sym (append_assoc h.front stands.front behind))
+
+  -- a section that carries a world is left out
+  pub carried-read : Carries f → IsRead bytes behind kept true
+  carried-read carries = record {
+    sections = h.sections ++ f ∷ [];
+    front = h.front ++ stands.front;
+    parts = parts-on;
+    spelled = sequence-end h.sections h.front h.spelled f stands.front stands.framed_;
+    named_ = named-end h.sections h.named_ f stands.named_;
+    others = h.others;
+    are = carried-end h.sections h.others h.are f carries;
+    told = let longer = one-longer h.sections f in let few = no-more h.sections h.others h.are in omega (arith, longer, few);
+    kept_are = h.kept_are;
+  }
+
+  told-on : (b : Bool) → AreTold b h.sections h.others → AreTold b (h.sections ++ f ∷ []) (h.others ++ f ∷ [])
+  told-on true fewer = let a = one-longer h.sections f in let b = one-longer h.others f in omega (arith, a, b, fewer)
+  told-on false same = ap (λ (fs : List Framed). fs ++ f ∷ []) same
+
+  -- any other is kept
+  pub other-read : (Carries f → ⊥) → (new : List ℕ) → new ≡ kept ++ framed f.0 f.1 → IsRead bytes behind new bound
+  other-read carries new is = record {
+    sections = h.sections ++ f ∷ [];
+    front = h.front ++ stands.front;
+    parts = parts-on;
+    spelled = sequence-end h.sections h.front h.spelled f stands.front stands.framed_;
+    named_ = named-end h.sections h.named_ f stands.named_;
+    others = h.others ++ f ∷ [];
+    are = others-end h.sections h.others h.are f carries;
+    told = told-on bound h.told;
+    kept_are = is ∙ (ap (λ (t : List ℕ). t ++ framed f.0 f.1) h.kept_are ∙ sym (module-end h.others f));
+  }
+
+-- ---- the end
+
+no-bytes : (text : List ℕ) → length text ≡ 0 → text ≡ []
+no-bytes [] e = refl
+no-bytes (b ∷ text) e = absurd (omega (arith, e))
+
+module _ (bytes rest kept : List ℕ) (empty : length rest ≡ 0) where
+  all-read : (bound : Bool) (h : IsRead bytes rest kept bound) → IsModule h.sections bytes
+  all-read bound h = (h.front, h.parts ∙ ap (λ (t : List ℕ). module_preamble ++ t) (ap (λ (t : List ℕ). h.front ++ t) (no-bytes rest empty) ∙ append-nil h.front), (h.spelled, h.named_))
+
+  pub unbound-read : IsRead bytes rest kept false → IsUnbound bytes
+  unbound-read h = record { sections = h.sections; is = all-read false h; others = subst (λ (os : List Framed). AreOthers h.sections os) h.told h.are }
+
+  pub stripped-read : IsRead bytes rest kept true → IsStripped bytes kept
+  stripped-read h = record {
+    sections = h.sections;
+    is = all-read true h;
+    others = h.others;
+    are = h.are;
+    fewer = h.told;
+    kept_are = h.kept_are;
+  }
+
+-- ---- refusals
+
+-- behind sections stands nothing that is none
+module _ (rest : List ℕ) (filled : length rest ≡ 0 → ⊥) (none : IsFrontless rest) where
+  stuck : (done fs : List Framed) (front : List ℕ) → Sequence IsFrame done front → Sequence IsFrame fs (front ++ rest) → AllByRecursion IsNamed fs → ⊥
+  stuck done [] front spelled ended named =
+      let long = length-append front rest in
+      let is = ap length ended in
+      filled (omega (arith, long, is))
+  stuck [] (g ∷ gs) front spelled (here, more, parts, first, others) named =
+      none g more (record { front = here; parts = ap (λ (t : List ℕ). t ++ rest) (sym spelled) ∙ parts; framed_ = first; named_ = named.0 })
+  stuck (d ∷ ds) (g ∷ gs) front (here, behind, halves, one, more_done) (there, more, parts, first, others) named =
+      let same : here ++ (behind ++ rest) ≡ there ++ more = sym (append_assoc here behind rest) ∙ (ap (λ (t : List ℕ). t ++ rest) (sym halves) ∙ parts) in
+      let after : behind ++ rest ≡ more = ap (λ (x : Framed × List ℕ). x.1) (one-frame d g here (behind ++ rest) there more one first same) in
+      stuck ds gs behind more_done (subst (λ (t : List ℕ). Sequence IsFrame gs t) (sym after) others) named.1
+
+  pub no-module : (bytes kept : List ℕ) (bound : Bool) → IsRead bytes rest kept bound → (fs : List Framed) → IsModule fs bytes → ⊥
+  no-module bytes kept bound h fs (text, is, (spelled, named)) =
+      let same : h.front ++ rest ≡ text =
+      sym (drop-append_seam module_preamble (h.front ++ rest)) ∙ (ap (drop 8) (sym h.parts ∙ is) ∙ drop-append_seam module_preamble text) in
+      stuck h.sections fs h.front h.spelled (subst (λ (t : List ℕ). Sequence IsFrame fs t) (sym same) spelled) named
+
+-- ---- the section in front, as the reader of sections answers it
+
+abbrev unread : List ℕ → Unread
+unread bytes = record { bytes = bytes; at = 0; refused = None }
+
+empty-frontless : (bytes : List ℕ) → 0 ≡ length bytes → IsFrontless bytes
+empty-frontless bytes none f rest h =
+    let whole = ap length h.parts ∙ length-append h.front rest in
+    let first : length h.front ≡ suc (length h.framed_.0) = ap length h.framed_.1 in
+    omega (arith, whole, first, none)
+
+unframed-frontless : (bytes : List ℕ) → ((f : Framed) (end : ℕ) → IsFrame f (slice_range bytes 0 end) → ⊥) → IsFrontless bytes
+unframed-frontless bytes none f rest h =
+    let zero-less : length h.front - 0 ≡ length h.front = omega arith in
+    let whole : slice_range bytes 0 (length h.front) ≡ h.front = ap (λ (n : ℕ). take n bytes) zero-less ∙ (ap (take (length h.front)) h.parts ∙ take_at h.front rest (length h.front) refl) in
+    none f (length h.front) (subst (IsFrame f) (sym whole) h.framed_)
+
+module _ (bytes : List ℕ) (old new : Unread) (start : old ≡ unread bytes) where
+  from-start : (answer : Result (Option Section) Error) → (old.refused ≡ None → IsNext old new answer) → IsNext (unread bytes) new answer
+  from-start answer next = subst (λ (u : Unread). IsNext u new answer) start (next (ap (λ (u : Unread). u.refused) start))
+
+  pub frame-found : (s : Section) (rest : List ℕ) → (old.refused ≡ None → IsNext old new (Ok (Some s))) → rest ≡ drop (s.start + length s.contents.now) bytes → (front : List ℕ) × (bytes ≡ front ++ rest) × IsFrame (s.id, s.contents.now) front
+  frame-found s rest next is =
+      let stands = (from-start (Ok (Some s)) next).0 in
+      let zero-less : new.at - 0 ≡ new.at = omega arith in
+      let behind : drop new.at bytes ≡ rest = ap (λ (n : ℕ). drop n bytes) (sym stands.ends) ∙ sym is in (
+        slice_range bytes 0 new.at,
+        sym (take-append-drop new.at bytes) ∙ (ap (λ (t : List ℕ). take new.at bytes ++ t) behind ∙ ap (λ (n : ℕ). take n bytes ++ rest) (sym zero-less)),
+        stands.spelled,
+      )
+
+  pub ended-frontless : (old.refused ≡ None → IsNext old new (Ok None)) → IsFrontless bytes
+  ended-frontless next = empty-frontless bytes (from-start (Ok None) next).0
+
+  pub refused-frontless : (e : Error) → (old.refused ≡ None → IsNext old new (Err e)) → IsFrontless bytes
+  refused-frontless (errors.NoReading cause offset) next = unframed-frontless bytes (from-start (Err (errors.NoReading cause offset)) next).none
+  refused-frontless _ next = absurd (next (ap (λ (u : Unread). u.refused) start))
+
+-- a section in front that has no name where it wants one
+pub nameless-frontless : (bytes : List ℕ) (f : Framed) (front rest : List ℕ) → bytes ≡ front ++ rest → IsFrame f front → (IsNamed f → ⊥) → IsFrontless bytes
+nameless-frontless bytes f front rest parts spelled nameless g more h =
+    let same : f ≡ g = ap (λ (x : Framed × List ℕ). x.0) (one-frame f g front rest h.front more spelled h.framed_ (sym parts ∙ h.parts)) in
+    nameless (subst IsNamed (sym same) h.named_)
+
+-- ---- whether a section carries a world
+
+module _ (f : Framed) (custom : f.0 ≡ 0) where
+  pub told-by_name : (name rest : List ℕ) (begins : Bool) → IsCustom (name, rest) f.1 → begins ≡ starts_with nat_eq name carrying_name → TellsCarrying f (Ok begins)
+  told-by_name name rest true read is = (λ e. ((name, rest), read), (custom, ((name, rest), read, sym is)))
+  told-by_name name rest false read is = (
+    λ e. ((name, rest), read),
+    λ carries.
+        let same : name ≡ carries.1.0.0 = one-name f.1 (name, rest) carries.1.0 read carries.1.1 in
+        true≢false (sym carries.1.2 ∙ (ap (λ (t : List ℕ). starts_with nat_eq t carrying_name) (sym same) ∙ sym is)),
+  )
+
+  pub name-refused : (e : Error) → ReadsCustom f.1 (Err e) → TellsCarrying f (Err e)
+  name-refused e refused named = let c = named custom in none-read e refused c.0 c.1
+    where
+      none-read : (e : Error) → Refuses e f.1 ((c : List ℕ × List ℕ) → IsCustom c f.1 → ⊥) → (c : List ℕ × List ℕ) → IsCustom c f.1 → ⊥
+      none-read (errors.NoReading cause offset) r = r.1
+      none-read _ r = absurd r
+
+-- ---- the whole module
+
+-- what begins as a module has other bytes behind its preamble, and nothing else does
+pub behind-preamble : (bytes rest : List ℕ) → starts_with nat_eq bytes module_preamble ≡ true → rest ≡ drop 8 bytes → bytes ≡ module_preamble ++ rest
+behind-preamble bytes rest begins is = (starts_is Decides-eqb bytes module_preamble _ refl).0 begins ∙ ap (λ (t : List ℕ). module_preamble ++ t) (sym is)
+
+pub other-preamble : (bytes : List ℕ) → starts_with nat_eq bytes module_preamble ≡ false → RefusesModule bytes errors.NotAModule
+other-preamble bytes begins rest is = true≢false (sym ((starts_is Decides-eqb bytes module_preamble _ refl).1 rest is) ∙ begins)
+
+pub some-left : (rest : List ℕ) → false ≡ (length rest == 0) → length rest ≡ 0 → ⊥
+some-left rest e none = true≢false (sym (e ∙ eq-eqb (length rest) 0 none))
+
+pub refused-at : (bytes rest kept : List ℕ) (bound : Bool) → IsRead bytes rest kept bound → (length rest ≡ 0 → ⊥) → IsFrontless rest → RefusesModule bytes (errors.BadModule (length bytes - length rest))
+refused-at bytes rest kept bound h filled none = (
+  omega arith,
+  (h.front ++ rest, h.parts),
+  no-module rest filled none bytes kept bound h,
+)

@@ -1,0 +1,106 @@
+-- A component in which a world has no room: the world, carried so, is too heavy.
+use Rattle.std.proofs.Common.{◌≡◌, ◌≤◌, ◌<◌, ◌+◌, ◌&&◌, ◌⊎◌, inl, inr, ◌∙◌, sym, ap, ℕ, Bool, true, false, List, [], ◌∷◌, ◌++◌, length, option_map, option_to_list, Option, Some, arith, refl}
+use Rattle.std.specs.Prelude.{option_and_then, sum_by}
+use Rattle.std.specs.Option.{option_map_or}
+use Rattle.std.proofs.lemmas.List.Sums.{sum_by-cons, sum_by-append}
+use Rattle.wit_model.specs.Text.{Text, text_of}
+use Rattle.wit_model.specs.Names.{path_in}
+use Rattle.wit_model.specs.Lookup.{identity_of, package_at, path_in_package, path_of_world, world_at}
+use Rattle.wit_model.specs.Weight.{exported_weight, unit_of, world_package_weight, world_weight, wrapped_weight}
+use Rattle.wit_model.specs.declared.model.Package.{Package}
+use Rattle.wit_model.specs.declared.model.PackageId.{PackageId}
+use Rattle.wit_model.specs.declared.model.Resolve.{Resolve}
+use Rattle.wit_model.specs.declared.model.World.{World}
+use Rattle.comp_bytes.specs.Raw.{Declarations, TopType}
+use Rattle.comp_bytes.specs.Parts.{Part, fits_component}
+use Rattle.component_exports.specs.ExportedParts.{one_exported}
+use Rattle.wit_encode_types.specs.Room.{limit}
+use Rattle.wit_encode.specs.PackageRoom.{IsHeavyWorld, part_extent, parts_extent}
+use Rattle.wit_encode.specs.Packages.{WrapsWorld}
+use Rattle.wit_encode.proofs.Lengths.{long-component}
+use Rattle.wit_encode.proofs.PackageWeighing.{extent-is, one-short, type-extent, wrapper-short}
+use Rattle.wit_metadata.specs.Encodings.{contents_of, section_name}
+use Rattle.wit_metadata.specs.Carried.{HasHome}
+use Rattle.wit_model.specs.declared.model.StringEncoding.{StringEncoding}
+
+-- the custom section in front
+abbrev pub says : StringEncoding → Part
+says e = Part.custom section_name (contents_of e)
+
+says-extent : (e : StringEncoding) → part_extent (says e) ≡ 35
+says-extent e = refl
+
+-- it fits by itself
+pub says-fits : (e : StringEncoding) (n : ℕ) → fits_component (says e ∷ []) ≡ false → limit < n
+says-fits e n h =
+    let long = long-component (says e ∷ []) h in
+    let one = sum_by-cons part_extent (says e) [] in
+    let here = says-extent e in
+    absurd (omega (arith, long, one, here))
+
+either-false : (a b : Bool) → (a && b) ≡ false → (a ≡ false) ⊎ (b ≡ false)
+either-false false b h = inl refl
+either-false true b h = inr h
+
+module _ (r : Resolve) (n : ℕ) (w : World) (there : world_at r n ≡ Some w) (home : HasHome r w) where
+  abbrev path : Text
+  path = path_in (identity_of home.package_.name) (text_of w.name)
+
+  path-is : path_of_world r w ≡ Some path
+  path-is =
+      ap (λ (o : Option PackageId). option_and_then (λ q. path_in_package r q.0 (text_of w.name)) o) home.in_package
+      ∙ ap (λ (o : Option Package). option_map (λ q. path_in (identity_of q.name) (text_of w.name)) o) home.stands
+
+  one-text : (t : Text) → unit_of (t ∷ []) ≡ 64 + length t
+  one-text t = let one = sum_by-cons length t [] in omega arith
+
+  weight-is : world_package_weight r n ≡ 64 + exported_weight (text_of w.name) (64 + (unit_of (path ∷ []) + world_weight r n))
+  unfolding world_package_weight
+  weight-is =
+      ap (λ (o : Option World). option_map_or (λ u. 64 + exported_weight (text_of u.name) (wrapped_weight r n)) o 0) there
+      ∙ ap (λ (ts : List Text). 64 + exported_weight (text_of w.name) (64 + (unit_of ts + world_weight r n)))
+      (ap (λ (o : Option World). option_to_list (option_and_then (path_of_world r) o)) there ∙ ap option_to_list path-is)
+
+  -- a world that is too heavy with its path
+  pub heavy-world : IsHeavyWorld r (identity_of home.package_.name) n → limit < world_package_weight r n
+  heavy-world h =
+      let over = h w there in
+      let is = weight-is in
+      let text = one-text path in
+      omega (arith, over, is, text)
+
+  module _ (e : StringEncoding) (ds : Declarations) (wraps : WrapsWorld r (identity_of home.package_.name) n w ds) where
+    short : parts_extent (says e ∷ one_exported 0 (text_of w.name, ds)) + 8 ≤ world_package_weight r n
+    short =
+        let front = sum_by-cons part_extent (says e) (one_exported 0 (text_of w.name, ds)) in
+        let here = says-extent e in
+        let rest = one-short 0 (text_of w.name, ds) in
+        let wrapped = wrapper-short path wraps.inner in
+        let is : type-extent (text_of w.name, ds) ≡ type-extent (text_of w.name, Rattle.wit_shown.specs.PackageTypes.wrapper path wraps.inner) = ap (λ (x : Declarations). type-extent (text_of w.name, x)) wraps.is in
+        let inner = extent-is wraps.inner in
+        let light = wraps.light in
+        let whole = weight-is in
+        let text = one-text path in
+        let name = one-text (text_of w.name) in
+        omega (arith, front, here, rest, wrapped, is, inner, light, whole, text, name)
+
+    -- the type has no room, or its export has none
+    pub long-export : (fits_component (says e ∷ Part.top_type (TopType.component ds) ∷ []) && fits_component (says e ∷ one_exported 0 (text_of w.name, ds))) ≡ false → limit < world_package_weight r n
+    long-export h = go (either-false _ _ h)
+      where
+        go : (fits_component (says e ∷ Part.top_type (TopType.component ds) ∷ []) ≡ false) ⊎ (fits_component (says e ∷ one_exported 0 (text_of w.name, ds)) ≡ false) → limit < world_package_weight r n
+        go (inl first) =
+            let long = long-component (says e ∷ Part.top_type (TopType.component ds) ∷ []) first in
+            let both = sum_by-append part_extent (says e ∷ Part.top_type (TopType.component ds) ∷ []) (Part.top_export (Rattle.comp_bytes.specs.Parts.plain_export (text_of w.name) 0) ∷ []) in
+            let all = short in
+            omega (arith, long, both, all)
+        go (inr second) =
+            let long = long-component (says e ∷ one_exported 0 (text_of w.name, ds)) second in
+            let all = short in
+            omega (arith, long, all)
+
+    pub long-whole : fits_component (says e ∷ one_exported 0 (text_of w.name, ds)) ≡ false → limit < world_package_weight r n
+    long-whole h =
+        let long = long-component (says e ∷ one_exported 0 (text_of w.name, ds)) h in
+        let all = short in
+        omega (arith, long, all)

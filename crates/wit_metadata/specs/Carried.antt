@@ -1,0 +1,46 @@
+-- What a component says that a module carries: a world, and how its strings pass (wit-component README, "Custom Section Format").
+use Rattle.std.specs.Prelude.{◌≡◌, ◌↔◌, ◌-◌, ℕ, if◌then◌else◌, List, [], ◌∷◌, length, Option, Some, slice_get}
+use Rattle.std.specs.List.{flat_map}
+use Rattle.wit_model.specs.declared.model.Package.{Package}
+use Rattle.wit_model.specs.declared.model.PackageId.{PackageId}
+use Rattle.wit_model.specs.declared.model.Resolve.{Resolve}
+use Rattle.wit_model.specs.declared.model.World.{World}
+use Rattle.wit_model.specs.Lookup.{package_at}
+use Rattle.wit_model.specs.declared.model.StringEncoding.{StringEncoding}
+use Rattle.wit_model.specs.Meaning.{WorldPackage}
+use Rattle.wit_model.specs.Meant.{MeantWorld}
+use Rattle.wit_model.specs.Text.{Text, text_eq}
+use Rattle.comp_bytes.specs.Raw.{Section}
+use Rattle.comp_bytes.specs.Spelling.{IsComponent}
+use Rattle.comp_meaning.specs.Reads.{ReadsWorld}
+use Rattle.wit_metadata.specs.Encodings.{contents_of, section_name}
+
+-- a world has a package, which stands in the list
+pub record HasHome (r : Resolve) (w : World) : Type 0 where
+  pub home : PackageId
+  pub in_package : w.package ≡ Some home
+  pub package_ : Package
+  pub stands : package_at r home.0 ≡ Some package_
+
+-- the contents of the custom sections of a name, in order
+abbrev pub contents_under : Text → List Section → List (List ℕ)
+contents_under name sections = flat_map contents sections
+  where
+    contents : Section → List (List ℕ)
+    contents (Section.custom other bytes) = if text_eq name other then bytes ∷ [] else []
+    contents (Section.types ts) = []
+    contents (Section.exports es) = []
+
+-- the last of a list
+abbrev pub last_of : List (List ℕ) → Option (List ℕ)
+last_of xs = slice_get xs (length xs - 1)
+
+-- The bytes are a component whose last custom section of that name says this encoding.
+pub record CarriesEncoding (e : StringEncoding) (bytes : List ℕ) : Type 0 where
+  pub sections : List Section
+  pub spelled : IsComponent sections bytes
+  pub says : last_of (contents_under section_name sections) ≡ Some (contents_of e)
+
+-- The bytes mean just what world n means, by itself.
+abbrev pub MeansWorld : Resolve → ℕ → List ℕ → Type 0
+MeansWorld r n bytes = (m : WorldPackage) → MeantWorld r n m ↔ ReadsWorld bytes m

@@ -1,0 +1,12 @@
+//! What modules carry in custom sections: a world as a component, with the encoding in which its strings pass (wit-component README, "Custom
+//! Section Format").
+#![tactic(auto)]
+
+mod encodings;
+pub mod laws;
+mod modules;
+mod worlds;
+
+pub use encodings::{encoding_byte, encoding_of};
+pub use modules::stripped;
+pub use worlds::encode;
