@@ -1,7 +1,6 @@
 -- The package of a world.
-use Rattle.std.proofs.Common.{◌≡◌, ◌∙◌, ◌&&◌, sym, subst, ap, ℕ, ◌<◌, true, Some, length}
+use Rattle.std.proofs.Common.{◌≡◌, ◌∙◌, sym, subst, ap, ℕ, ◌<◌, Some, length}
 use Rattle.std.specs.Prelude.{is_some, option_and_then}
-use Rattle.std.specs.Option.{option_map_or}
 use Rattle.std.proofs.lemmas.Option.{slice_get_within}
 use Rattle.wit_model.specs.Lookup.{package_at, world_at}
 use Rattle.wit_model.specs.Meant.{package_of_world}

@@ -1,4 +1,6 @@
 mod Carrying
+mod FrameLaws
 mod Homes
 mod ModuleLaws
+mod SaidLaws
 mod Weighing

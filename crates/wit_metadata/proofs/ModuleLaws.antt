@@ -1,19 +1,17 @@
 -- Sections in front of bytes, those behind them, and those that carry no world.
-use Rattle.std.proofs.Common.{◌≡◌, ◌≤◌, ◌<◌, ◌+◌, ◌∙◌, refl, sym, ap, subst, ℕ, suc, ◌==◌, nat_eq, Bool, true, false, List, [], ◌∷◌, ◌++◌, append_assoc, append-nil, length, drop, take, Option, Some, None, Ok, Err, arith}
-use Rattle.std.specs.Prelude.{◌-◌, Result, slice_range}
+use Rattle.std.proofs.Common.{◌≡◌, ◌≤◌, ◌<◌, ◌∙◌, refl, sym, ap, subst, ℕ, suc, ◌==◌, nat_eq, Bool, true, false, List, [], ◌∷◌, ◌++◌, append_assoc, append-nil, length, drop, Some, Ok, Err, arith}
+use Rattle.std.specs.Prelude.{◌-◌}
 use Rattle.std.specs.List.{AllByRecursion, flat_map, starts_with}
-use Rattle.std.proofs.lemmas.Bool.{eq-eqb, true≢false}
+use Rattle.std.proofs.lemmas.Bool.{eq-eqb, eqb-true, true≢false}
 use Rattle.std.proofs.lemmas.Bool.Decides.{Decides-eqb}
 use Rattle.std.proofs.lemmas.Slice.Eq.{starts_is}
-use Rattle.std.proofs.lemmas.List.{length-append, take_at, take-append-drop}
+use Rattle.std.proofs.lemmas.List.{length-append}
 use Rattle.std.proofs.Math.Seq.{drop-append_seam}
-use Rattle.wit_model.specs.Text.{Text}
 use Rattle.wit_model.specs.declared.error.Error.{Error}
 use Rattle.wit_model.specs.declared.error.Error.TheVariants as errors
-use Rattle.comp_bytes.specs.declared.frames.Section.{Section}
-use Rattle.comp_bytes.specs.Form.{Are, Joined, Sequence}
+use Rattle.comp_bytes.specs.Form.{Sequence}
 use Rattle.comp_bytes.specs.Answer.{Refuses}
-use Rattle.comp_bytes.specs.Frames.{IsCustom, IsFrame, IsNext, ReadsCustom, Unread}
+use Rattle.comp_bytes.specs.Frames.{IsCustom, IsFrame, ReadsCustom}
 use Rattle.comp_bytes.specs.Reading.{frame_at, name_at}
 use Rattle.comp_bytes.specs.Writing.{framed}
 use Rattle.comp_bytes.proofs.ComponentLaws.{frame_law}
@@ -23,12 +21,16 @@ use Rattle.wit_metadata.specs.Modules.{AreOthers, Carries, Framed, IsFrontless, 
 
 -- ---- one section
 
--- the contents of a custom section have one name
-pub one-name : (contents : List ℕ) (c d : List ℕ × List ℕ) → IsCustom c contents → IsCustom d contents → c.0 ≡ d.0
-one-name contents c d (front, rest, parts, spelled, is) (other, more, halves, written, are) =
+-- the contents of a custom section have one name, and one text behind it
+pub one-custom : (contents : List ℕ) (c d : List ℕ × List ℕ) → IsCustom c contents → IsCustom d contents → c ≡ d
+one-custom contents c d (front, rest, parts, spelled, is) (other, more, halves, written, are) =
     let first : name_at contents ≡ Some (c.0, rest) = ap name_at parts ∙ name_law.again c.0 front rest spelled in
     let second : name_at contents ≡ Some (d.0, more) = ap name_at halves ∙ name_law.again d.0 other more written in
-    ap (λ (x : List ℕ × List ℕ). x.0) (some-same (c.0, rest) (d.0, more) (sym first ∙ second))
+    let same = some-same (c.0, rest) (d.0, more) (sym first ∙ second) in
+    λ j. (ap (λ (x : List ℕ × List ℕ). x.0) same j, (sym is ∙ (ap (λ (x : List ℕ × List ℕ). x.1) same ∙ are)) j)
+
+one-name : (contents : List ℕ) (c d : List ℕ × List ℕ) → IsCustom c contents → IsCustom d contents → c.0 ≡ d.0
+one-name contents c d first second = ap (λ (x : List ℕ × List ℕ). x.0) (one-custom contents c d first second)
 
 -- one section stands in front of bytes
 pub one-frame : (f g : Framed) (front rest other more : List ℕ) → IsFrame f front → IsFrame g other → front ++ rest ≡ other ++ more → let x : Framed × List ℕ = (f, rest) in x ≡ (g, more)
@@ -184,45 +186,9 @@ module _ (rest : List ℕ) (filled : length rest ≡ 0 → ⊥) (none : IsFrontl
       sym (drop-append_seam module_preamble (h.front ++ rest)) ∙ (ap (drop 8) (sym h.parts ∙ is) ∙ drop-append_seam module_preamble text) in
       stuck h.sections fs h.front h.spelled (subst (λ (t : List ℕ). Sequence IsFrame fs t) (sym same) spelled) named
 
--- ---- the section in front, as the reader of sections answers it
+-- ---- the section in front
 
-abbrev unread : List ℕ → Unread
-unread bytes = record { bytes = bytes; at = 0; refused = None }
-
-empty-frontless : (bytes : List ℕ) → 0 ≡ length bytes → IsFrontless bytes
-empty-frontless bytes none f rest h =
-    let whole = ap length h.parts ∙ length-append h.front rest in
-    let first : length h.front ≡ suc (length h.framed_.0) = ap length h.framed_.1 in
-    omega (arith, whole, first, none)
-
-unframed-frontless : (bytes : List ℕ) → ((f : Framed) (end : ℕ) → IsFrame f (slice_range bytes 0 end) → ⊥) → IsFrontless bytes
-unframed-frontless bytes none f rest h =
-    let zero-less : length h.front - 0 ≡ length h.front = omega arith in
-    let whole : slice_range bytes 0 (length h.front) ≡ h.front = ap (λ (n : ℕ). take n bytes) zero-less ∙ (ap (take (length h.front)) h.parts ∙ take_at h.front rest (length h.front) refl) in
-    none f (length h.front) (subst (IsFrame f) (sym whole) h.framed_)
-
-module _ (bytes : List ℕ) (old new : Unread) (start : old ≡ unread bytes) where
-  from-start : (answer : Result (Option Section) Error) → (old.refused ≡ None → IsNext old new answer) → IsNext (unread bytes) new answer
-  from-start answer next = subst (λ (u : Unread). IsNext u new answer) start (next (ap (λ (u : Unread). u.refused) start))
-
-  pub frame-found : (s : Section) (rest : List ℕ) → (old.refused ≡ None → IsNext old new (Ok (Some s))) → rest ≡ drop (s.start + length s.contents.now) bytes → (front : List ℕ) × (bytes ≡ front ++ rest) × IsFrame (s.id, s.contents.now) front
-  frame-found s rest next is =
-      let stands = (from-start (Ok (Some s)) next).0 in
-      let zero-less : new.at - 0 ≡ new.at = omega arith in
-      let behind : drop new.at bytes ≡ rest = ap (λ (n : ℕ). drop n bytes) (sym stands.ends) ∙ sym is in (
-        slice_range bytes 0 new.at,
-        sym (take-append-drop new.at bytes) ∙ (ap (λ (t : List ℕ). take new.at bytes ++ t) behind ∙ ap (λ (n : ℕ). take n bytes ++ rest) (sym zero-less)),
-        stands.spelled,
-      )
-
-  pub ended-frontless : (old.refused ≡ None → IsNext old new (Ok None)) → IsFrontless bytes
-  ended-frontless next = empty-frontless bytes (from-start (Ok None) next).0
-
-  pub refused-frontless : (e : Error) → (old.refused ≡ None → IsNext old new (Err e)) → IsFrontless bytes
-  refused-frontless (errors.NoReading cause offset) next = unframed-frontless bytes (from-start (Err (errors.NoReading cause offset)) next).none
-  refused-frontless _ next = absurd (next (ap (λ (u : Unread). u.refused) start))
-
--- a section in front that has no name where it wants one
+-- a frame that stands in front of bytes is the one that was read
 pub nameless-frontless : (bytes : List ℕ) (f : Framed) (front rest : List ℕ) → bytes ≡ front ++ rest → IsFrame f front → (IsNamed f → ⊥) → IsFrontless bytes
 nameless-frontless bytes f front rest parts spelled nameless g more h =
     let same : f ≡ g = ap (λ (x : Framed × List ℕ). x.0) (one-frame f g front rest h.front more spelled h.framed_ (sym parts ∙ h.parts)) in
@@ -258,6 +224,9 @@ other-preamble bytes begins rest is = true≢false (sym ((starts_is Decides-eqb 
 
 pub some-left : (rest : List ℕ) → false ≡ (length rest == 0) → length rest ≡ 0 → ⊥
 some-left rest e none = true≢false (sym (e ∙ eq-eqb (length rest) 0 none))
+
+pub none-left : (rest : List ℕ) → true ≡ (length rest == 0) → length rest ≡ 0
+none-left rest e = eqb-true (length rest) 0 (sym e)
 
 pub refused-at : (bytes rest kept : List ℕ) (bound : Bool) → IsRead bytes rest kept bound → (length rest ≡ 0 → ⊥) → IsFrontless rest → RefusesModule bytes (errors.BadModule (length bytes - length rest))
 refused-at bytes rest kept bound h filled none = (

@@ -1,11 +1,11 @@
 -- A component in which a world has no room: the world, carried so, is too heavy.
-use Rattle.std.proofs.Common.{◌≡◌, ◌≤◌, ◌<◌, ◌+◌, ◌&&◌, ◌⊎◌, inl, inr, ◌∙◌, sym, ap, ℕ, Bool, true, false, List, [], ◌∷◌, ◌++◌, length, option_map, option_to_list, Option, Some, arith, refl}
-use Rattle.std.specs.Prelude.{option_and_then, sum_by}
+use Rattle.std.proofs.Common.{◌≡◌, ◌≤◌, ◌<◌, ◌+◌, ◌&&◌, ◌⊎◌, inl, inr, ◌∙◌, ap, ℕ, Bool, true, false, List, [], ◌∷◌, length, option_map, option_to_list, Option, Some, arith, refl}
+use Rattle.std.specs.Prelude.{option_and_then}
 use Rattle.std.specs.Option.{option_map_or}
 use Rattle.std.proofs.lemmas.List.Sums.{sum_by-cons, sum_by-append}
 use Rattle.wit_model.specs.Text.{Text, text_of}
 use Rattle.wit_model.specs.Names.{path_in}
-use Rattle.wit_model.specs.Lookup.{identity_of, package_at, path_in_package, path_of_world, world_at}
+use Rattle.wit_model.specs.Lookup.{identity_of, path_in_package, path_of_world, world_at}
 use Rattle.wit_model.specs.Weight.{exported_weight, unit_of, world_package_weight, world_weight, wrapped_weight}
 use Rattle.wit_model.specs.declared.model.Package.{Package}
 use Rattle.wit_model.specs.declared.model.PackageId.{PackageId}

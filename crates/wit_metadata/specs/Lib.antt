@@ -1,3 +1,4 @@
 pub mod Carried
 pub mod Encodings
 pub mod Modules
+pub mod Said

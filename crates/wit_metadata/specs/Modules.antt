@@ -1,13 +1,13 @@
 -- The sections of a core module, and a module without those that carry worlds (core specification, "Binary Format", "Modules" and "Custom
 -- Section"; wit-component README, "Custom Section Format").
-use Rattle.std.specs.Prelude.{◌≡◌, ◌≤◌, ◌<◌, ◌⊎◌, ◌-◌, ℕ, nat_eq, Bool, true, false, List, [], ◌∷◌, ◌++◌, codes, length, Option, Some, None, Result, Ok, Err, Vec}
+use Rattle.std.specs.Prelude.{◌≡◌, ◌≤◌, ◌<◌, ℕ, nat_eq, Bool, true, false, List, [], ◌∷◌, ◌++◌, codes, length, Option, Some, None, Result, Ok, Err, Vec}
 use Rattle.std.specs.List.{AllByRecursion, flat_map, starts_with}
 use Rattle.std.specs.Borrow.{Bor}
 use Rattle.std.specs.declared.alloc.Global.{Global}
 use Rattle.wit_model.specs.declared.error.Error.{Error}
 use Rattle.wit_model.specs.declared.error.Error.TheVariants as errors
 use Rattle.wit_model.specs.Text.{Text}
-use Rattle.comp_bytes.specs.Form.{Are, Joined, Sequence}
+use Rattle.comp_bytes.specs.Form.{Sequence}
 use Rattle.comp_bytes.specs.Frames.{IsCustom, IsFrame}
 use Rattle.comp_bytes.specs.Writing.{framed}
 use Rattle.comp_bytes.specs.declared.frames.Section.{Section}
@@ -75,6 +75,11 @@ RefusesModule bytes (errors.BadModule offset) =
     (offset ≤ length bytes) × ((rest : List ℕ) × (bytes ≡ module_preamble ++ rest)) × ((fs : List Framed) → IsModule fs bytes → ⊥)
 RefusesModule bytes errors.Memory = Unit {0}
 RefusesModule bytes _ = ⊥
+
+-- the frame in front of bytes, and the bytes behind it, or none
+abbrev pub IsFrameOf : List ℕ → Result (Section × Bor (List ℕ)) Error → Type 0
+IsFrameOf bytes (Ok x) = (front : List ℕ) × (bytes ≡ front ++ x.1.now) × IsFrame (x.0.id, x.0.contents.now) front
+IsFrameOf bytes (Err e) = (f : Framed) (front rest : List ℕ) → bytes ≡ front ++ rest → IsFrame f front → ⊥
 
 -- What stands in front of bytes: a section, whether it carries a world, and the bytes behind it; or no section.
 pub record IsInFront (bytes : List ℕ) (f : Framed) (rest : List ℕ) : Type 0 where

@@ -3,10 +3,13 @@
 #![tactic(auto)]
 
 mod encodings;
+mod frames;
 pub mod laws;
 mod modules;
+mod said;
 mod worlds;
 
 pub use encodings::{encoding_byte, encoding_of};
 pub use modules::stripped;
+pub use said::encoding_in;
 pub use worlds::encode;

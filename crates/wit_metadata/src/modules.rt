@@ -6,9 +6,10 @@ ghost use Rattle.comp_bytes.specs.Writing.{framed};
 ghost use Rattle.wit_model.specs.declared.error.Error.TheVariants.{BadModule, Size};
 ghost use Rattle.wit_metadata.specs.Modules.{IsFrontSection, RefusesModule, StripsModule, TellsCarrying};
 
-use comp_bytes::{Section, Sections, custom_name, write_u32};
+use crate::frames::frame_of;
+use comp_bytes::{Section, custom_name, write_u32};
 use std::alloc::Global;
-use wit_model::{Cause, Error};
+use wit_model::Error;
 
 /// The bytes with which a core module begins.
 const PREAMBLE: [u8; 8] = [0x00, 0x61, 0x73, 0x6d, 0x01, 0x00, 0x00, 0x00];
@@ -30,16 +31,11 @@ fn carries_world(id: u8, contents: &[u8]) -> Result<bool, Error>
 fn section_of(bytes: &[u8]) -> Result<(Section<'_>, bool, &[u8]), Error>
     ensures { IsFrontSection bytes.now result }
 {
-    let mut sections = Sections::new(bytes, 0);
-    match sections.next() {
-        Ok(Some(section)) => {
-            let end = section.start + section.contents.len();
-            match carries_world(section.id, section.contents) {
-                Ok(carries) => Ok((section, carries, bytes.split_at(end).1)),
-                Err(error) => Err(error),
-            }
-        }
-        Ok(None) => Err(Error::NoReading(Cause::Truncated, 0)),
+    match frame_of(bytes) {
+        Ok((section, rest)) => match carries_world(section.id, section.contents) {
+            Ok(carries) => Ok((section, carries, rest)),
+            Err(error) => Err(error),
+        },
         Err(error) => Err(error),
     }
 }

@@ -5,7 +5,7 @@ use std::process::Abort;
 use std::test::Fail;
 use whole_samples::{clashing, host_and_guest};
 use wit_check::Check;
-use wit_metadata::{encode, encoding_of};
+use wit_metadata::{encode, encoding_in, encoding_of};
 use wit_model::{Error, Resolve, StringEncoding, WorldId};
 
 /// The component that carries the world `foo` of `a:b`, which imports `host: func()` and exports `guest: func()`, and whose strings are UTF-8.
@@ -32,6 +32,7 @@ fn assert_carried(
     let bytes = encode(alloc, resolve, WorldId(0), encoding, false)?;
     assert_eq!(rt; bytes.as_slice(), expected.as_slice());
     assert!(rt; encoding_of(code) == Some(encoding));
+    assert!(rt; encoding_in(&bytes)? == encoding);
     Ok(())
 }
 

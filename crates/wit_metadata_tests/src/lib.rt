@@ -5,3 +5,5 @@
 mod carried;
 #[cfg(test)]
 mod modules;
+#[cfg(test)]
+mod said;

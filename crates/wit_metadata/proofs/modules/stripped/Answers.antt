@@ -1,4 +1,4 @@
-use Rattle.std.proofs.Common.{◌≡◌, refl, sym, subst, Ok}
+use Rattle.std.proofs.Common.{refl, sym, subst, Ok}
 use Rattle.wit_metadata.specs.Modules.{TellsCarrying}
 use Rattle.wit_metadata.proofs.ModuleLaws.{carried-read, nothing-read, other-read, refused-at, behind-preamble, some-left}
 use Rattle.wit_metadata.proofs.modules.stripped.Goals as goal

@@ -1,0 +1,170 @@
+-- What the custom sections of a component say, section by section.
+use Rattle.std.proofs.Common.{◌≡◌, ◌∙◌, refl, sym, ap, subst, ℕ, suc, Bool, true, false, List, [], ◌∷◌, ◌++◌, append_assoc, append-nil, length, drop, Option, Some, None, Ok, option_map, arith}
+use Rattle.std.specs.Prelude.{◌<◌, ◌-◌, slice_get}
+use Rattle.std.specs.Borrow.{Bor}
+use Rattle.std.proofs.lemmas.Grind.{flat_map-append}
+use Rattle.std.proofs.lemmas.List.{length-append}
+use Rattle.std.proofs.Math.Seq.{drop-append_seam}
+use Rattle.wit_model.specs.Text.{Text, text_eq}
+use Rattle.wit_model.proofs.VersionLaws.{same_text, text_same}
+use Rattle.wit_model.specs.declared.model.StringEncoding.{StringEncoding}
+use Rattle.wit_model.specs.declared.model.StringEncoding.TheVariants as encodings
+use Rattle.comp_bytes.specs.Form.{Sequence}
+use Rattle.comp_bytes.specs.Frames.{IsCustom, IsFrame}
+use Rattle.comp_bytes.specs.Raw.{Section}
+use Rattle.comp_bytes.specs.Spelling.{IsComponent, IsSection, preamble}
+use Rattle.wit_metadata.specs.Carried.{contents_under, last_of}
+use Rattle.wit_metadata.specs.Encodings.{contents_of, section_name}
+use Rattle.wit_metadata.specs.Modules.{Framed}
+use Rattle.wit_metadata.specs.Said.{EncodingsAreReadBack, IsSaidIn, said_by}
+use Rattle.wit_metadata.proofs.FrameLaws.{IsFrameless}
+use Rattle.wit_metadata.proofs.ModuleLaws.{one-custom, one-frame}
+
+-- ---- one section
+
+-- the contents that were found, if any
+abbrev pub contents_found : Option (Bor (List ℕ)) → List (List ℕ)
+contents_found (Some found) = found.now ∷ []
+contents_found None = []
+
+-- the frame of a section, in which what it says is found
+pub record IsFrameFor (s : Section) (front : List ℕ) : Type 0 where
+  pub frame : Framed
+  pub framed_ : IsFrame frame front
+  pub says : (found : Option (Bor (List ℕ))) → IsSaidIn frame found → contents_under section_name (s ∷ []) ≡ contents_found found
+
+custom-says : (name text contents : List ℕ) → IsCustom (name, text) contents → (found : Option (Bor (List ℕ))) → IsSaidIn (0, contents) found → contents_under section_name (Section.custom name text ∷ []) ≡ contents_found found
+custom-says name text contents custom (Some found) is =
+    let same = one-custom contents (section_name, found.now) (name, text) is.1 custom in
+    let named : text_eq section_name name ≡ true = same_text section_name name (ap (λ (c : List ℕ × List ℕ). c.0) same) in
+    rw named (ap (λ (c : List ℕ × List ℕ). c.1 ∷ []) (sym same))
+custom-says name text contents custom None none = by-test (text_eq section_name name) refl
+  where
+    by-test : (b : Bool) → text_eq section_name name ≡ b → contents_under section_name (Section.custom name text ∷ []) ≡ []
+    by-test false e = rw e refl
+    by-test true e = absurd (none refl text (subst (λ (t : Text). IsCustom (t, text) contents) (sym (text_same section_name name e)) custom))
+
+pub frame-for : (s : Section) (front : List ℕ) → IsSection s front → IsFrameFor s front
+frame-for (Section.custom name text) front (contents, framed, custom) = record {
+  frame = (0, contents);
+  framed_ = framed;
+  says = custom-says name text contents (custom.0, custom.1, custom.2, custom.3, custom.4);
+}
+frame-for (Section.types ts) front (contents, framed, types) = record { frame = (7, contents); framed_ = framed; says = none-said }
+  where
+    none-said : (found : Option (Bor (List ℕ))) → IsSaidIn (7, contents) found → [] ≡ contents_found found
+    none-said (Some found) is = let wrong : ⊥ = omega (arith, is.0) in absurd wrong
+    none-said None is = refl
+frame-for (Section.exports es) front (contents, framed, exports) = record { frame = (0x0b, contents); framed_ = framed; says = none-said }
+  where
+    none-said : (found : Option (Bor (List ℕ))) → IsSaidIn (0x0b, contents) found → [] ≡ contents_found found
+    none-said (Some found) is = let wrong : ⊥ = omega (arith, is.0) in absurd wrong
+    none-said None is = refl
+
+-- ---- the last of what was found
+
+under-end : (done : List Section) (s : Section) → contents_under section_name (done ++ s ∷ []) ≡ contents_under section_name done ++ contents_under section_name (s ∷ [])
+under-end done s = flat_map-append _ done (s ∷ [])
+
+last-found : (xs : List (List ℕ)) (x : List ℕ) → slice_get (xs ++ x ∷ []) (length xs) ≡ Some x
+last-found [] x = refl
+last-found (y ∷ xs) x = last-found xs x
+
+last-is : (xs : List (List ℕ)) (x : List ℕ) → last_of (xs ++ x ∷ []) ≡ Some x
+last-is xs x =
+    let long = length-append xs (x ∷ []) in
+    let at : length (xs ++ x ∷ []) - 1 ≡ length xs = omega arith in
+    ap (slice_get (xs ++ x ∷ [])) at ∙ last-found xs x
+
+-- ---- sections that have been read
+
+abbrev pub now_of : Option (Bor (List ℕ)) → Option (List ℕ)
+now_of last = option_map (λ (b : Bor (List ℕ)). b.now) last
+
+-- the first of the sections have been read, and the rest spells the others
+pub record IsPartly (sections : List Section) (rest : List ℕ) (last : Option (Bor (List ℕ))) : Type 0 where
+  pub done : List Section
+  pub more : List Section
+  pub are : sections ≡ done ++ more
+  pub spelled : Sequence IsSection more rest
+  pub says : now_of last ≡ last_of (contents_under section_name done)
+
+abbrev pub IsPartlyRead : List ℕ → List ℕ → Option (Bor (List ℕ)) → Type 0
+IsPartlyRead bytes rest last = (sections : List Section) → IsComponent sections bytes → IsPartly sections rest last
+
+pub none-read : (bytes rest : List ℕ) → rest ≡ drop 8 bytes → IsPartlyRead bytes rest None
+none-read bytes rest is sections ((front, text, parts, begins, spelled), short) =
+    let whole : bytes ≡ preamble ++ text = parts ∙ ap (λ (t : List ℕ). t ++ text) begins in
+    let same : rest ≡ text = is ∙ (ap (drop 8) whole ∙ drop-append_seam preamble text) in
+    record { done = []; more = sections; are = refl; spelled = subst (Sequence IsSection sections) (sym same) spelled; says = refl }
+
+pub too-short : (bytes : List ℕ) → length bytes < 8 → (sections : List Section) → IsComponent sections bytes → ⊥
+too-short bytes less sections ((front, text, parts, begins, spelled), short) =
+    let whole = ap length (parts ∙ ap (λ (t : List ℕ). t ++ text) begins) in
+    let long = length-append preamble text in
+    omega (arith, less, whole, long)
+
+-- what is known after a section in which this was found
+abbrev pub later : Option (Bor (List ℕ)) → Option (Bor (List ℕ)) → Option (Bor (List ℕ))
+later (Some found) last = Some found
+later None last = last
+
+later-says : (found last : Option (Bor (List ℕ))) (xs ys : List (List ℕ)) → ys ≡ contents_found found → now_of last ≡ last_of xs → now_of (later found last) ≡ last_of (xs ++ ys)
+later-says (Some found) last xs ys is says = sym (ap (λ (zs : List (List ℕ)). last_of (xs ++ zs)) is ∙ last-is xs found.now)
+later-says None last xs ys is says = says ∙ sym (ap (λ (zs : List (List ℕ)). last_of (xs ++ zs)) is ∙ ap last_of (append-nil xs))
+
+module _ (bytes rest : List ℕ) (last : Option (Bor (List ℕ))) (h : IsPartlyRead bytes rest last) (filled : length rest ≡ 0 → ⊥) where
+  pub one-more : (f : Framed) (behind front : List ℕ) → rest ≡ front ++ behind → IsFrame f front → (found : Option (Bor (List ℕ))) → IsSaidIn f found → IsPartlyRead bytes behind (later found last)
+  one-more f behind front parts framed found is sections component = go known.more refl known.spelled
+    where
+      known : IsPartly sections rest last
+      known = h sections component
+
+      go : (more : List Section) → known.more ≡ more → Sequence IsSection more rest → IsPartly sections behind (later found last)
+      go [] e ended = absurd (filled (ap length ended))
+      go (s ∷ ss) e (here, after, halves, spelled, others) =
+          let frame = frame-for s here spelled in
+          let same = one-frame f frame.frame front behind here after framed frame.framed_ (sym parts ∙ halves) in
+          let says = frame.says found (subst (λ (g : Framed). IsSaidIn g found) (ap (λ (x : Framed × List ℕ). x.0) same) is) in
+          record {
+            done = known.done ++ s ∷ [];
+            more = ss;
+            are = known.are ∙ (ap (λ (ms : List Section). known.done ++ ms) e ∙ sym (append_assoc known.done (s ∷ []) ss));
+            spelled = subst (Sequence IsSection ss) (sym (ap (λ (x : Framed × List ℕ). x.1) same)) others;
+            says = later-says found last (contents_under section_name known.done) (contents_under section_name (s ∷ [])) says known.says ∙ ap last_of (sym (under-end known.done s));
+          }
+
+  pub none-framed : IsFrameless rest → (sections : List Section) → IsComponent sections bytes → ⊥
+  none-framed none sections component = go known.more known.spelled
+    where
+      known : IsPartly sections rest last
+      known = h sections component
+
+      go : (more : List Section) → Sequence IsSection more rest → ⊥
+      go [] ended = filled (ap length ended)
+      go (s ∷ ss) (here, after, halves, spelled, others) = let frame = frame-for s here spelled in none frame.frame here after halves frame.framed_
+
+-- nothing is left
+pub all-read : (bytes rest : List ℕ) (last : Option (Bor (List ℕ))) → IsPartlyRead bytes rest last → length rest ≡ 0 → (sections : List Section) → IsComponent sections bytes → now_of last ≡ last_of (contents_under section_name sections)
+all-read bytes rest last h empty sections component = go known.more refl known.spelled
+  where
+    known : IsPartly sections rest last
+    known = h sections component
+
+    go : (more : List Section) → known.more ≡ more → Sequence IsSection more rest → now_of last ≡ last_of (contents_under section_name sections)
+    go [] e ended = known.says ∙ ap (λ (ss : List Section). last_of (contents_under section_name ss)) (sym (known.are ∙ (ap (λ (ms : List Section). known.done ++ ms) e ∙ append-nil known.done)))
+    go (s ∷ ss) e (here, after, halves, spelled, others) =
+        let frame = frame-for s here spelled in
+        let first : length here ≡ suc (length frame.framed_.0) = ap length frame.framed_.1 in
+        let whole = ap length halves ∙ length-append here after in
+        absurd (omega (arith, first, whole, empty))
+
+-- ---- encodings that are carried
+
+contents-say : (e : StringEncoding) → said_by (Some (contents_of e)) ≡ Ok e
+contents-say encodings.UTF8 = refl
+contents-say encodings.UTF16 = refl
+contents-say encodings.CompactUTF16 = refl
+
+pub read-back : EncodingsAreReadBack
+read-back e bytes answer carried answers = answers carried.sections carried.spelled ∙ (ap said_by carried.says ∙ contents-say e)
