@@ -3,3 +3,4 @@ pub mod Kept
 pub mod Putting
 pub mod FunctionKeys
 pub mod ValidKeys
+mod Roots

@@ -4,3 +4,4 @@ pub mod Functions
 pub mod KeyTests
 pub mod KeyLists
 pub mod KeyLaws
+pub mod Roots

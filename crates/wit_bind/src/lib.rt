@@ -1,10 +1,12 @@
-//! What is bound to a core module: the string encoding of each function that it imports or exports.
+//! What is bound to a core module: a world, and the string encoding of each function that it imports or exports.
 #![tactic(auto)]
 
+mod bindgen;
 mod encodings;
 mod keys;
 pub mod laws;
 mod metadata;
 
+pub use bindgen::Bindgen;
 pub use encodings::EncodingMap;
 pub use metadata::ModuleMetadata;

@@ -6,4 +6,6 @@ mod keys;
 #[cfg(test)]
 mod refusals;
 #[cfg(test)]
+mod roots;
+#[cfg(test)]
 mod worlds;

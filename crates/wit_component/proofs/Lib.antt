@@ -1,3 +1,4 @@
 pub mod Nothing
 pub mod ReadBackLaws
 pub mod Refusing
+mod SectionLaws

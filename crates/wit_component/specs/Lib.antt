@@ -1,4 +1,5 @@
 pub mod ReadBack
+pub mod SectionBindings
 -- ---- definitions of the crates below that clauses of callers cite
 
 pub use Rattle.wit_model.specs.Lookup
@@ -25,4 +26,6 @@ pub use Rattle.wit_print.specs.Shown
 pub use Rattle.wit_bind.specs.Encodings
 pub use Rattle.wit_bind.specs.Functions
 pub use Rattle.wit_bind.specs.Keys
+pub use Rattle.wit_bind.specs.Roots
 pub use Rattle.wit_metadata.specs.Carried
+pub use Rattle.wit_metadata.specs.Said

@@ -1,6 +1,7 @@
 //! Laws that join the crates.
 
 ghost use Rattle.wit_component.specs.ReadBack.{DecodedHaveMembers, DecodingGivesThatMeaning, EncodingKeepsMeaning, MemoryAloneIsRefused};
+ghost use Rattle.wit_component.specs.SectionBindings.{CarriedWorldsAreBound};
 
 pub use comp_meaning::laws::one_meaning;
 
@@ -17,4 +18,10 @@ pub fn decoding_gives_that_meaning()
 pub fn encoding_keeps_that_meaning()
     ensures encoded { EncodingKeepsMeaning }
     ensures members { DecodedHaveMembers }
+{}
+
+/// Of bytes that mean exactly what a world of a `Resolve` does and carry an encoding, as those that `metadata::encode` answers: what they bind is a
+/// world that means the same and nothing else, and that encoding.
+pub fn carried_worlds_are_bound()
+    ensures { CarriedWorldsAreBound }
 {}

@@ -1,7 +1,8 @@
 //! WIT packages as data, as bytes and as text: the names of all crates below under one, and the laws that join them.
 //!
 //! A `Resolve` is checked (`Check`), encoded (`encode`) and decoded (`decode`, `decode_world`), printed (`WitPrinter`) and compared (`semver_check`,
-//! `same_sense`). What a module carries of a world is encoded by `metadata::encode`; `ModuleMetadata` has the encodings of its functions.
+//! `same_sense`). What a module carries of a world is encoded by `metadata::encode`, and decoded
+//! to a `Bindgen` by `metadata::decode_section`.
 #![tactic(auto)]
 
 pub mod laws;
@@ -28,6 +29,7 @@ pub use comp_bytes::write_index;
 pub use comp_bytes::write_name;
 pub use comp_bytes::write_u32;
 pub use normal::normalized;
+pub use wit_bind::Bindgen;
 pub use wit_bind::EncodingMap;
 pub use wit_bind::ModuleMetadata;
 pub use wit_check::Check;

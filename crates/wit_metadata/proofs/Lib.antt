@@ -2,5 +2,5 @@ mod Carrying
 mod FrameLaws
 mod Homes
 mod ModuleLaws
-mod SaidLaws
+pub mod SaidLaws
 mod Weighing

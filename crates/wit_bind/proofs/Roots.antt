@@ -1,0 +1,117 @@
+-- The `Resolve` of the empty root world is valid, and means it.
+use Rattle.std.proofs.Common.{◌≡◌, ◌∙◌, refl, sym, ap, subst, ℕ, zero, suc, List, [], ◌∷◌, Some, None, Option, String, string_eq}
+use Rattle.std.specs.Prelude.{◌↔◌, option_and_then, option_map, slice_get}
+use Rattle.indexmap.specs.IndexMap.{IsUnique}
+use Rattle.wit_model.specs.declared.model.Interface.{Interface}
+use Rattle.wit_model.specs.declared.model.Package.{Package}
+use Rattle.wit_model.specs.declared.model.Resolve.{Resolve}
+use Rattle.wit_model.specs.declared.model.World.{World}
+use Rattle.wit_model.specs.Lookup.{interface_at, package_at, world_at}
+use Rattle.wit_model.specs.Meaning.{WorldPackage}
+use Rattle.wit_model.specs.Meant.{MeantWorld, package_of_world, world_package}
+use Rattle.wit_model.specs.Valid.{HasDistinctKeys, IsValid, Keeps, KeepsRules, key_eq, numbers_in_range, package_names, places, labels, order_of_types, owners, shapes, named_kinds, handles, depths, function_names, world_items, order_of_items, names_in_packages}
+use Rattle.wit_model.proofs.OnePath.{some-same}
+use Rattle.wit_bind.specs.Roots.{IsRootPackage, IsRootResolve, IsRootWorld, root_meaning}
+
+-- the one entry of a list
+only : {A : Type 0} (xs : List A) (x y : A) (n : ℕ) → xs ≡ x ∷ [] → slice_get xs n ≡ Some y → y ≡ x
+only xs x y zero is at = sym (some-same x y (sym (ap (λ (l : List _). slice_get l 0) is) ∙ at))
+only xs x y (suc n) is at = let wrong : None ≡ Some y = sym (ap (λ (l : List _). slice_get l (suc n)) is) ∙ at in let no : ⊥ = cc in absurd no
+
+module _ (r : Resolve) (h : IsRootResolve r) where
+  abbrev p : Package
+  p = h.package_
+
+  abbrev w : World
+  w = h.world
+
+  distinct : HasDistinctKeys r
+  distinct = record {
+    packages = λ n q at. subst (λ (x : Package). IsUnique string_eq x.interfaces × IsUnique string_eq x.worlds) (sym (only r.packages.items p q n h.packages at)) h.is_package.distinct;
+    interfaces = λ n i at. let wrong : None ≡ Some i = sym (ap (λ (l : List Interface). slice_get l n) h.no_interfaces) ∙ at in let no : ⊥ = cc in absurd no;
+    worlds = λ n q at. subst (λ (x : World). IsUnique key_eq x.imports × IsUnique key_eq x.exports) (sym (only r.worlds.items w q n h.worlds at)) h.is_world.distinct;
+  }
+
+  in-range : Keeps numbers_in_range r
+  unfolding numbers_in_range
+  in-range = simp (h.packages, h.worlds, h.no_interfaces, h.no_types, h.is_package.no_interfaces, h.is_package.lists, h.is_world.no_imports, h.is_world.no_exports, h.is_world.home)
+
+  named : Keeps package_names r
+  unfolding package_names
+  named = simp (h.packages, h.worlds, h.no_interfaces, h.no_types, h.is_package.namespace, h.is_package.name, h.is_package.unversioned)
+
+  placed : Keeps places r
+  unfolding places
+  placed = simp (h.packages, h.worlds, h.no_interfaces, h.no_types, h.is_package.no_interfaces, h.is_package.lists, h.is_package.labelled, h.is_world.named_, h.is_world.home)
+
+  labelled : Keeps labels r
+  unfolding labels
+  labelled = simp (h.packages, h.worlds, h.no_interfaces, h.no_types, h.is_world.named_, h.is_world.no_imports, h.is_world.no_exports, h.is_world.unknown)
+
+  ordered : Keeps order_of_types r
+  unfolding order_of_types
+  ordered = simp (h.packages, h.worlds, h.no_interfaces, h.no_types, h.is_world.no_imports)
+
+  owned : Keeps owners r
+  unfolding owners
+  owned = simp (h.packages, h.worlds, h.no_interfaces, h.no_types, h.is_world.no_imports, h.is_world.no_exports)
+
+  shaped : Keeps shapes r
+  unfolding shapes
+  shaped = simp (h.packages, h.worlds, h.no_interfaces, h.no_types)
+
+  named-kinds : Keeps named_kinds r
+  unfolding named_kinds
+  named-kinds = simp (h.packages, h.worlds, h.no_interfaces, h.no_types)
+
+  handled : Keeps handles r
+  unfolding handles
+  handled = simp (h.packages, h.worlds, h.no_interfaces, h.no_types, h.is_world.no_imports, h.is_world.no_exports)
+
+  shallow : Keeps depths r
+  unfolding depths
+  shallow = simp (h.packages, h.worlds, h.no_interfaces, h.no_types, h.is_world.no_imports, h.is_world.no_exports)
+
+  functions-named : Keeps function_names r
+  unfolding function_names
+  functions-named = simp (h.packages, h.worlds, h.no_interfaces, h.no_types, h.is_world.no_imports, h.is_world.no_exports)
+
+  items-stand : Keeps world_items r
+  unfolding world_items
+  items-stand = simp (h.packages, h.worlds, h.no_interfaces, h.no_types, h.is_world.no_imports, h.is_world.no_exports)
+
+  items-ordered : Keeps order_of_items r
+  unfolding order_of_items
+  items-ordered = simp (h.packages, h.worlds, h.no_interfaces, h.no_types, h.is_world.no_imports, h.is_world.no_exports)
+
+  names-stand : Keeps names_in_packages r
+  unfolding names_in_packages
+  names-stand = simp (h.packages, h.worlds, h.no_interfaces, h.no_types, h.is_package.no_interfaces, h.is_package.lists, h.is_package.labelled, h.is_world.named_)
+
+  pub root-valid : IsValid r
+  root-valid = record {
+    distinct_keys = distinct;
+    rules = record {
+      numbers_in_range = in-range;
+      package_names = named;
+      places = placed;
+      labels = labelled;
+      order_of_types = ordered;
+      owners = owned;
+      shapes = shaped;
+      named_kinds = named-kinds;
+      handles = handled;
+      depths = shallow;
+      function_names = functions-named;
+      world_items = items-stand;
+      order_of_items = items-ordered;
+      names_in_packages = names-stand;
+    };
+  }
+
+  meant : option_and_then (λ (u : World). option_map (λ (q : Package). world_package r q u) (package_of_world r u)) (world_at r 0) ≡ Some root_meaning
+  meant = simp (h.packages, h.worlds, h.is_world.home, h.is_package.namespace, h.is_package.name, h.is_package.unversioned, h.is_world.named_, h.is_world.no_imports, h.is_world.no_exports)
+
+  pub root-means : (m : WorldPackage) → MeantWorld r 0 m ↔ (root_meaning ≡ m)
+  unfolding MeantWorld
+  root-means m = (λ e. some-same root_meaning m (sym meant ∙ e), λ e. meant ∙ ap Some e)

@@ -1,0 +1,22 @@
+use Rattle.std.proofs.Common.{◌≡◌, refl, subst, ℕ, List, ◌∷◌, arith, Err}
+use Rattle.wit_model.specs.declared.error.Cause.TheVariants.{Truncated}
+use Rattle.wit_component.specs.SectionBindings.{RefusesSection}
+use Rattle.wit_component.proofs.Refusing.{passed_on}
+use Rattle.wit_component.proofs.SectionLaws.{none-means, unread-section}
+use Rattle.wit_component.proofs.metadata.decode_section.Goals as goal
+
+pub returns-in_default-clause-refuses : goal.returns-in_default-clause-refuses
+returns-in_default-clause-refuses c = RefusesSection.unread Truncated 0 refl (omega arith) (none-means c.args.section.now c.in_default.ensures.cases)
+
+pub returns-then-first-eq3-clause-refuses : goal.returns-then-first-eq3-clause-refuses
+returns-then-first-eq3-clause-refuses c =
+    RefusesSection.historical c.in-Some.field-0-1.now (subst (λ (n : ℕ). c.args.section.now ≡ n ∷ c.in-Some.field-0-1.now) c.if-first-eq3.true c.in-Some.ensures.cases.0) refl
+
+pub returns-in_err-resolve-clause-refuses : goal.returns-in_err-resolve-clause-refuses
+returns-in_err-resolve-clause-refuses c =
+    passed_on (RefusesSection c.args.section.now) c.in_err-resolve.field-0.0 c.from_residual.result (unread-section c.args.section.now c.in_err-resolve.field-0.0 c.in_err-resolve.ensures.refuses) c.from_residual.ensures.1
+
+pub returns-in_err-encoding-clause-refuses : goal.returns-in_err-encoding-clause-refuses
+returns-in_err-encoding-clause-refuses c =
+    passed_on (RefusesSection c.args.section.now) c.in_err-encoding.field-0.0 c.from_residual-in_err-encoding.result
+    (RefusesSection.unsaid c.in_ok-resolve.ensures.decoded.meaning c.in_ok-resolve.ensures.decoded.read c.in_err-encoding.ensures) c.from_residual-in_err-encoding.ensures.1
