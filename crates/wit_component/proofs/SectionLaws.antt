@@ -22,11 +22,22 @@ none-means bytes none m read =
     let begins : length spelled.0 ≡ 8 = ap length spelled.3 in
     omega (arith, whole, begins, none)
 
+-- nothing begins with 3, nor does what begins with another byte
+pub none-begins : (bytes : List ℕ) → length bytes ≡ 0 → (rest : List ℕ) → bytes ≡ 3 ∷ rest → ⊥
+none-begins bytes none rest is = let long = ap length is in omega (arith, none, long)
+
+pub other-begins : (bytes : List ℕ) (first : ℕ) (behind : List ℕ) → bytes ≡ first ∷ behind → (first ≡ 3 → ⊥) → (rest : List ℕ) → bytes ≡ 3 ∷ rest → ⊥
+other-begins bytes first behind begins other rest is = other (ap first-of (sym begins ∙ is))
+  where
+    first-of : List ℕ → ℕ
+    first-of [] = 0
+    first-of (b ∷ bs) = b
+
 -- what refuses bytes as one world refuses them as a section
-pub unread-section : (bytes : List ℕ) (e : Error) → RefusesWorldBytes bytes e → RefusesSection bytes e
-unread-section bytes (errors.NoReading cause offset) r = RefusesSection.unread cause offset refl r.0 r.1
-unread-section bytes errors.Memory r = RefusesSection.memory refl
-unread-section bytes _ r = absurd r
+pub unread-section : (bytes : List ℕ) (e : Error) → ((rest : List ℕ) → bytes ≡ 3 ∷ rest → ⊥) → RefusesWorldBytes bytes e → RefusesSection bytes e
+unread-section bytes (errors.NoReading cause offset) other r = RefusesSection.unread other cause offset refl r.0 r.1
+unread-section bytes errors.Memory other r = RefusesSection.memory refl
+unread-section bytes _ other r = absurd r
 
 error-same : {A : Type 0} (a b : A) {E : Type 0} → (let x : Result A E = Ok a in x) ≡ Ok b → a ≡ b
 error-same a b {E} e = ap (ok-or a) e

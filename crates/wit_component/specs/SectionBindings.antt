@@ -22,11 +22,11 @@ pub record IsBoundBy (bytes : List ℕ) (b : Bindgen) : Type 0 where
   pub imports : MapsFunctions b.resolve (imports_of b.resolve b.world.0) encoding b.metadata.import_encodings
   pub exports : MapsFunctions b.resolve (exports_of b.resolve b.world.0) encoding b.metadata.export_encodings
 
--- Why data binds nothing: it is in the format of before there were versions; it means no one world; it means one, and says no encoding; or memory
--- was wanting.
+-- Why data binds nothing: it is in the format of before there were versions, which begins with 3; it is not, and means no one world; it means one, and says
+-- no encoding; or memory was wanting.
 pub data RefusesSection (bytes : List ℕ) (e : Error) : Type 0 where
   historical : (rest : List ℕ) → bytes ≡ 3 ∷ rest → e ≡ errors.Historical → RefusesSection bytes e
-  unread : (cause : Cause) (offset : ℕ) → e ≡ errors.NoReading cause offset → offset ≤ length bytes → MeansNoWorld bytes → RefusesSection bytes e
+  unread : ((rest : List ℕ) → bytes ≡ 3 ∷ rest → ⊥) → (cause : Cause) (offset : ℕ) → e ≡ errors.NoReading cause offset → offset ≤ length bytes → MeansNoWorld bytes → RefusesSection bytes e
   unsaid : (m : WorldPackage) → ReadsWorld bytes m → AnswersSaid bytes (Err e) → RefusesSection bytes e
   memory : e ≡ errors.Memory → RefusesSection bytes e
 

@@ -7,3 +7,5 @@ mod bytes;
 mod meaning;
 #[cfg(test)]
 mod packages;
+#[cfg(test)]
+mod sections;
