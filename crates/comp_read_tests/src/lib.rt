@@ -1,13 +1,9 @@
-//! The tests of the readers of forms.
+//! The tests of decoding.
 #![tactic(auto)]
 
 #[cfg(test)]
-mod components;
+mod one_world;
 #[cfg(test)]
-mod defining;
+mod packages;
 #[cfg(test)]
-mod following;
-#[cfg(test)]
-mod forms;
-#[cfg(test)]
-mod sections;
+mod worlds;

@@ -6,9 +6,9 @@ use Rattle.wit_model.specs.Text.{Text, text_eq}
 use Rattle.wit_model.specs.Names.{is_label, is_identity, is_optional_version}
 use Rattle.wit_model.specs.Rules.{passes, are_distinct}
 use Rattle.wit_model.proofs.Lists.{first_true, second_true}
-use Rattle.read_plan.specs.Plan.{PlannedPackage, PlannedInterface}
-use Rattle.read_plan.specs.PlanRules.{names_of, members_differ, interface_labels}
-use Rattle.read_plan.proofs.Lists.{all_weaker, both, no_true}
+use Rattle.plan_meaning.specs.Plan.{PlannedPackage, PlannedInterface}
+use Rattle.plan_meaning.specs.PlanRules.{names_of, members_differ, interface_labels}
+use Rattle.plan_meaning.proofs.Lists.{all_weaker, both, no_true}
 use Rattle.plan_build.specs.Buildable.{PlansAreBuildable, has_version, package_differs, interface_differs}
 
 first_missed : (a b : Bool) → not (a || b) ≡ true → not a ≡ true

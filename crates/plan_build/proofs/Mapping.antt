@@ -7,7 +7,7 @@ use Rattle.std.proofs.lemmas.Option.{slice_get-get_or}
 use Rattle.indexmap.specs.IndexMap.{insert_entry}
 use Rattle.indexmap.proofs.MapLemmas.{insert_entry-absent}
 use Rattle.wit_model.proofs.Lists.{first_true, second_true}
-use Rattle.read_plan.proofs.Lists.{get_of_map, map_of_map, no_true}
+use Rattle.plan_meaning.proofs.Lists.{get_of_map, map_of_map, no_true}
 use Rattle.plan_build.proofs.Listing.{one_more}
 
 none_of : (a b : Bool) → (a || b) ≡ false → (a ≡ false) × (b ≡ false)

@@ -10,10 +10,10 @@ use Rattle.wit_model.specs.declared.model.WorldKey.TheVariants as key
 use Rattle.wit_model.specs.Text.{Text, text_of, text_eq}
 use Rattle.wit_model.specs.Rules.{are_distinct}
 use Rattle.wit_model.proofs.Distinct.{either_way, text_eq_flip}
-use Rattle.read_plan.specs.Plan.{PlannedKey, PlannedItem, label, path_of}
-use Rattle.read_plan.specs.PlanRules.{names_of, same_key, keys_differ}
-use Rattle.read_plan.specs.Built.{planned_key}
-use Rattle.read_plan.proofs.Lists.{any_of_map, map_of_map}
+use Rattle.plan_meaning.specs.Plan.{PlannedKey, PlannedItem, label, path_of}
+use Rattle.plan_meaning.specs.PlanRules.{names_of, same_key, keys_differ}
+use Rattle.plan_meaning.specs.Built.{planned_key}
+use Rattle.plan_meaning.proofs.Lists.{any_of_map, map_of_map}
 use Rattle.plan_build.specs.PlanOf.{stated_entry, stated_number, built_number}
 use Rattle.plan_build.specs.declared.plan.PlannedKey.{PlannedKey as GivenKey}
 use Rattle.plan_build.specs.declared.plan.PlannedItem.{PlannedItem as GivenItem}

@@ -3,8 +3,8 @@ use Rattle.std.specs.Prelude.{◌≡◌, Bool, true, ◌&&◌}
 use Rattle.std.specs.List.{list_all}
 use Rattle.wit_model.specs.Names.{is_optional_version}
 use Rattle.wit_model.specs.Rules.{are_distinct}
-use Rattle.read_plan.specs.Plan.{Plan, PlannedPackage, PlannedInterface, PlannedWorld}
-use Rattle.read_plan.specs.PlanRules.{IsPlan, names_of, keys_differ}
+use Rattle.plan_meaning.specs.Plan.{Plan, PlannedPackage, PlannedInterface, PlannedWorld}
+use Rattle.plan_meaning.specs.PlanRules.{IsPlan, names_of, keys_differ}
 
 -- the version is one of Semantic Versioning 2.0.0
 abbrev pub has_version : PlannedPackage → Bool

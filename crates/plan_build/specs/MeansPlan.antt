@@ -3,9 +3,9 @@ use Rattle.std.specs.Prelude.{◌≡◌, ◌↔◌, Some}
 use Rattle.wit_model.specs.declared.model.Resolve.{Resolve}
 use Rattle.wit_model.specs.Meaning.{PackageMeaning, WorldPackage}
 use Rattle.wit_model.specs.Meant.{Meant, MeantWorld}
-use Rattle.read_plan.specs.Plan.{Plan}
-use Rattle.read_plan.specs.PlanMeaning.{plan_meaning, plan_world_meaning}
-use Rattle.read_plan.specs.PlanRules.{IsPackagePlan, IsWorldPlan}
+use Rattle.plan_meaning.specs.Plan.{Plan}
+use Rattle.plan_meaning.specs.PlanMeaning.{plan_meaning, plan_world_meaning}
+use Rattle.plan_meaning.specs.PlanRules.{IsPackagePlan, IsWorldPlan}
 
 -- Its main package means exactly what the plan of a package means, and its one world what the plan of a world means.
 pub record MeansPlan (p : Plan) (r : Resolve) : Type 0 where

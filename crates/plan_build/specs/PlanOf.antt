@@ -9,9 +9,9 @@ use Rattle.wit_model.specs.declared.model.Param.{Param}
 use Rattle.wit_model.specs.Names.{PackageIdentity}
 use Rattle.wit_model.specs.Text.{Text, text_of}
 use Rattle.wit_model.specs.Tree.{Form}
-use Rattle.read_plan.specs.Plan as plan
-use Rattle.read_plan.specs.Plan.{resource, alias, formed, label, path_of, interface, function, declares}
-use Rattle.read_plan.specs.Built.{part_of, given_parts, planned_function}
+use Rattle.plan_meaning.specs.Plan as plan
+use Rattle.plan_meaning.specs.Plan.{resource, alias, formed, label, path_of, interface, function, declares}
+use Rattle.plan_meaning.specs.Built.{part_of, given_parts, planned_function}
 use Rattle.plan_build.specs.declared.plan.Plan.{Plan}
 use Rattle.plan_build.specs.declared.plan.PlannedPackage.{PlannedPackage}
 use Rattle.plan_build.specs.declared.plan.PlannedInterface.{PlannedInterface}

@@ -4,7 +4,7 @@ ghost use Rattle.std.specs.List.{list_all};
 ghost use Rattle.std.specs.Prelude.{◌≡◌, map, true, IfOk};
 ghost use Rattle.indexmap.specs.IndexMap.{values};
 ghost use Rattle.wit_model.specs.Rules.{are_distinct};
-ghost use Rattle.read_plan.specs.Built.{is_bare_function, planned_function};
+ghost use Rattle.plan_meaning.specs.Built.{is_bare_function, planned_function};
 ghost use Rattle.plan_build.specs.PlanOf.{built_function, built_param, named_function, stated_function, stated_params};
 
 use crate::plan::PlannedFunction;

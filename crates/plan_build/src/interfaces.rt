@@ -2,7 +2,7 @@
 
 ghost use Rattle.std.specs.List.{list_all};
 ghost use Rattle.std.specs.Prelude.{◌≡◌, map, true, IfOk};
-ghost use Rattle.read_plan.specs.Built.{is_bare_interface, planned_interface};
+ghost use Rattle.plan_meaning.specs.Built.{is_bare_interface, planned_interface};
 ghost use Rattle.plan_build.specs.Buildable.{interface_differs};
 ghost use Rattle.plan_build.specs.PlanOf.{stated_interface};
 

@@ -2,7 +2,7 @@
 
 ghost use Rattle.std.specs.List.{list_all};
 ghost use Rattle.std.specs.Prelude.{◌≡◌, map, true, IfOk, IsOkUnless};
-ghost use Rattle.read_plan.specs.Built.{is_undocumented, planned_package};
+ghost use Rattle.plan_meaning.specs.Built.{is_undocumented, planned_package};
 ghost use Rattle.wit_model.specs.Lookup.{identity_of, optional_version_text};
 ghost use Rattle.wit_model.specs.Names.{is_optional_version, is_version, is_version_text};
 ghost use Rattle.wit_model.specs.Rules.{passes};

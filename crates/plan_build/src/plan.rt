@@ -1,5 +1,5 @@
 //! A plan: what a package or a world is read as, in the numbers that it gets in the `Resolve`, before that is made. What a plan states, in
-//! the words of `read_plan`, is `stated_plan`.
+//! the words of `plan_meaning`, is `stated_plan`.
 //!
 //! Each list stands in the order of the numbers, and each may be filled entry by entry as its entries are met. Texts are parts of the
 //! input, or of texts that whoever fills the plan keeps.

@@ -2,8 +2,8 @@
 
 ghost use Rattle.std.specs.List.{list_all};
 ghost use Rattle.std.specs.Prelude.{◌≡◌, true, IfOk, IsOkUnless};
-ghost use Rattle.read_plan.specs.Built.{IsBuilt};
-ghost use Rattle.read_plan.specs.PlanRules.{IsPlan};
+ghost use Rattle.plan_meaning.specs.Built.{IsBuilt};
+ghost use Rattle.plan_meaning.specs.PlanRules.{IsPlan};
 ghost use Rattle.wit_model.specs.declared.error.Error.TheVariants as errors;
 ghost use Rattle.wit_model.specs.Valid.{IsValid};
 ghost use Rattle.plan_build.specs.Buildable.{has_version, IsBuildable};

@@ -1,7 +1,7 @@
 //! Texts, each copied.
 
 ghost use Rattle.std.specs.Prelude.{◌≡◌, true, IfOk};
-ghost use Rattle.read_plan.specs.Built.{is_undocumented};
+ghost use Rattle.plan_meaning.specs.Built.{is_undocumented};
 ghost use Rattle.wit_model.specs.Text.{optional_text, text_of};
 ghost use Rattle.plan_build.specs.PlanOf.{stated_text};
 

@@ -1,50 +1,54 @@
--- What is shown of what was read obeys the rules (WIT.md, "Types" and "Functions"; Component Model WIT.md, "Package Format").
-use Rattle.std.specs.Prelude.{◌≡◌, ◌<◌, ◌+◌, ℕ, Bool, true, List, Option, Some, slice_get}
-use Rattle.std.specs.List.{AllByRecursion, AllZip, flat_map}
-use Rattle.wit_model.specs.declared.model.TypeOwner.{TypeOwner}
+-- What is shown obeys the rules of reading, each as it is seen from its place (WIT.md, "Types", "Functions", "Interfaces" and "Worlds").
+use Rattle.std.specs.Prelude.{◌≡◌, ◌+◌, ℕ, true, List, [], map}
+use Rattle.std.specs.List.{AllByRecursion, list_all}
 use Rattle.wit_model.specs.Names.{is_label}
 use Rattle.wit_model.specs.Text.{Text}
 use Rattle.comp_meaning.specs.Reads as reads
 use Rattle.comp_meaning.specs.Rules as rules
-use Rattle.read_plan.specs.FollowedNumbers.{AreMembersIn}
-use Rattle.read_plan.specs.NumberedMembers.{Homes, HomesStand, IsMember}
-use Rattle.read_plan.specs.NumberedViews.{AllOf, AreTables, Tables, declaration_of, place_at}
-use Rattle.read_plan.specs.Plan.{Plan, place_in}
-use Rattle.read_plan.specs.Shapes.{named_shape}
-use Rattle.plan_gather.specs.Marks.{is_marked}
-use Rattle.plan_members.specs.declared.members.Member.{Member}
-use Rattle.plan_members.specs.Members.{numbered_members}
+use Rattle.plan_meaning.specs.FollowedNumbers.{IsNameOf}
+use Rattle.plan_meaning.specs.NumberedMembers.{Homes, IsKnownSight, are_interfaces, sights_of_members}
+use Rattle.plan_meaning.specs.NumberedRules.{Fact}
+use Rattle.plan_meaning.specs.NumberedViews.{NumberedSight, Tables, declaration_of, place_at, view_of}
+use Rattle.plan_meaning.specs.NumberedWorlds.{seen_of}
+use Rattle.read_rules.specs.Scopes.{numbered_seen}
+use Rattle.read_exports.specs.Members.{numbered_members}
+use Rattle.read_exports.specs.declared.members.Member.{Member}
+use Rattle.read_exports.specs.declared.members.Part.{Part}
+use Rattle.read_exports.specs.declared.members.Part.TheVariants as parts
 use Rattle.plan_types.specs.Showings.{NumberedShowing, showings_of_members, signatures_of_members}
-use Rattle.plan_laws.specs.PlanTypes.{NamesObey}
-use Rattle.plan_laws.specs.ShownForms.{FindsShown}
-use Rattle.plan_laws.specs.ShownMarks.{PartNames}
-use Rattle.plan_laws.specs.UsedParts.{ShowingObeys, SignatureObeys}
-use Rattle.plan_laws.specs.MembersStand.{MembersStand}
+use Rattle.plan_package.specs.Views.{views_of_members}
+use Rattle.plan_type_laws.specs.UsedParts.{SignatureObeys}
+use Rattle.plan_laws.specs.ShownNames.{IsInput}
 
--- A type that is shown is a name of its place, a label, and stands behind what it is declared as, which is what may be declared there.
-pub record ShowingIsName (t : Tables) (s : NumberedShowing) : Type 0 where
-  pub number : ℕ
-  pub home : ℕ
-  pub name : Text
-  pub part : s.part ≡ 14 + number
-  pub there : slice_get t.shapes number ≡ Some (named_shape home name)
-  pub behind : AllOf (λ k. k < 14 + number) s.declared
-  pub label : is_label name ≡ true
-  pub obeys : rules.is_declared (place_at t home) (declaration_of t s.declared) ≡ true
+module _ (t : Tables) where
+  -- the view is what an interface may have whose names stand in its place
+  abbrev pub ViewObeys : NumberedSight → Type 0
+  ViewObeys s = rules.is_interface (place_at t s.place) (view_of t s.view) ≡ true
 
--- each type and each function that is shown obeys the rules
-pub record RulesHold (t : Tables) (showings : List NumberedShowing) (signatures : List ℕ) : Type 0 where
-  pub names : AllByRecursion (ShowingIsName t) showings
-  pub declared : AllByRecursion (ShowingObeys t) showings
-  pub called : AllByRecursion (SignatureObeys t) signatures
+  -- A type is shown under a label of its place, as what may be declared there.
+  pub record TypeObeys (y : NumberedShowing) : Type 0 where
+    pub place : ℕ
+    pub name : Text
+    pub number : ℕ
+    pub part : y.part ≡ 14 + number
+    pub is : IsNameOf t place name y.declared number
+    pub label : is_label name ≡ true
+    pub obeys : rules.is_declared (place_at t place) (declaration_of t y.declared) ≡ true
 
--- Where the parts at the top are well-formed, and the views of interfaces may be ones, all that they show obeys the rules.
+  -- a world imports and exports what one may have
+  abbrev pub PartObeys : Part → Type 0
+  PartObeys (parts.World w) =
+      (rules.are_imports [] (map (seen_of t) (map numbered_seen w.imports.now)) ≡ true) × (list_all (λ s. rules.is_item [] s.key s.shown) (map (seen_of t) (map numbered_seen w.exports.now)) ≡ true)
+  PartObeys (parts.Interface p v imports) = Unit {0}
+
+-- All views, all types, all worlds and the types of all functions obey the rules.
+pub record RulesAreObeyed (t : Tables) (ms : List Member) : Type 0 where
+  pub views : AllByRecursion (ViewObeys t) (views_of_members (numbered_members ms))
+  pub types : AllByRecursion (TypeObeys t) (showings_of_members ms)
+  pub worlds : AllByRecursion (λ (m : Member). PartObeys t m.part) ms
+  pub signatures : AllByRecursion (SignatureObeys t) (signatures_of_members ms)
+
+-- They do where each interface with a path obeys the rules by what is known of its parts.
 abbrev pub ShownObeysRules : Type 0
-ShownObeysRules = (t : Tables) → AreTables t → (h : Homes) → HomesStand t h → (ms : List Member) (members : List reads.Member) → AllZip (IsMember t h) (numbered_members ms) members → MembersStand members
-    → reads.are_interfaces (flat_map reads.sights members) ≡ true → AreMembersIn t (numbered_members ms) → AllByRecursion (λ (m : Member). PartNames t m.part) ms → RulesHold t (showings_of_members ms) (signatures_of_members ms)
-
--- Then each name that is used obeys them too, where its place is its owner's.
-abbrev pub NamesObeyRules : Type 0
-NamesObeyRules = (t : Tables) → AreTables t → (showings : List NumberedShowing) → AllByRecursion (ShowingIsName t) showings → (find : ℕ → Option NumberedShowing) → FindsShown showings find
-    → (p : Plan) (owners : ℕ → TypeOwner) (marks : List Bool) → ((n q : ℕ) (name : Text) → is_marked marks n ≡ true → slice_get t.shapes n ≡ Some (named_shape q name) → place_in p (owners q) ≡ place_at t q)
-    → NamesObey t p owners find marks
+ShownObeysRules = (t : Tables) (h : Homes) (ms : List Member) (members : List reads.Member) → IsInput t h ms members → (known : ℕ → Fact) → AllByRecursion (IsKnownSight t known) (sights_of_members t (numbered_members ms))
+    → are_interfaces t known (sights_of_members t (numbered_members ms)) ≡ true → RulesAreObeyed t ms

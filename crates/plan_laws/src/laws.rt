@@ -1,66 +1,132 @@
 //! Laws over definitions alone.
 
-ghost use Rattle.plan_laws.specs.FormsObeyed.{FormsAreObeyed};
-ghost use Rattle.plan_laws.specs.KeptMarks.{MarksAreKept};
-ghost use Rattle.plan_laws.specs.MembersStand.{MembersStandTogether};
-ghost use Rattle.plan_laws.specs.PlanTypes.{PlannedTypesAreKept};
-ghost use Rattle.plan_laws.specs.ReadTypes.{PlannedTypesAreRead};
-ghost use Rattle.plan_laws.specs.ShownForms.{FirstsAreFound};
-ghost use Rattle.plan_laws.specs.ShownMarks.{NamesAreMarked};
-ghost use Rattle.plan_laws.specs.ShownRules.{NamesObeyRules, ShownObeysRules};
-ghost use Rattle.plan_laws.specs.UsedParts.{UsedPartsAreFine};
+ghost use Rattle.plan_laws.specs.Apart.{WholeStandsApart};
+ghost use Rattle.plan_laws.specs.OneWorld.{WorldPlanIsWhole};
+ghost use Rattle.plan_laws.specs.Owners.{PlannedTypesAreOwned};
+ghost use Rattle.plan_laws.specs.ShownAlike.{WholeIsShownAlike};
+ghost use Rattle.plan_laws.specs.ShownNames.{UsedNamesAreShown};
+ghost use Rattle.plan_laws.specs.ShownRules.{ShownObeysRules};
+ghost use Rattle.plan_laws.specs.ShownWhole.{WholeIsShown};
+ghost use Rattle.plan_laws.specs.ViewedInterfaces.{PlannedInterfacesAreViewed};
+ghost use Rattle.plan_laws.specs.WholeCondition.{WholeMayBePlanned};
+ghost use Rattle.plan_laws.specs.WholeFunctions.{PlannedFunctionsAreRead, WorldFunctionsAreRead};
+ghost use Rattle.plan_laws.specs.WholeOrder.{PlannedOrderIsRead};
+ghost use Rattle.plan_laws.specs.WholePlaces.{WholePlacesAreRead};
+ghost use Rattle.plan_laws.specs.WholePlan.{PlanIsWhole};
+ghost use Rattle.plan_laws.specs.WholeReasons.{WholeIsKeptForReasons};
+ghost use Rattle.plan_laws.specs.WholeReasonsForeign.{ForeignHasReasons};
+ghost use Rattle.plan_laws.specs.WholeTypes.{PackagesAreRuled, PlannedTypesAreWhole};
+ghost use Rattle.plan_laws.specs.WholeWorlds.{PlannedWorldsAreRead};
+ghost use Rattle.plan_laws.specs.WorldItems.{PlannedWorldsStand};
 
-/// Where what is shown obeys the rules, each unnamed type that is used is one that a type may have as its part, and isn't too deep.
-pub fn used_parts_are_fine()
-    ensures { UsedPartsAreFine }
+/// Each name that a plan's types use is shown in its own place, by a view or by an import of a world.
+pub fn used_names_are_shown()
+    ensures { UsedNamesAreShown }
 {}
 
-/// The types that are made of those that are used, where what is shown obeys the rules, are those of a plan that was read.
-pub fn planned_types_are_kept()
-    ensures { PlannedTypesAreKept }
+/// Each type of the plan is the owner's of its place, and is seen from there.
+pub fn planned_types_are_owned()
+    ensures { PlannedTypesAreOwned }
 {}
 
-/// Where the parts at the top are well-formed, each form that they show is one that a definition may have (Binary.md, "Type Definitions"): it has
-/// its items, a fixed length from 1 below 2^32, or a key.
-pub fn forms_are_obeyed()
-    ensures { FormsAreObeyed }
+/// Each interface of the plan is read by the types of the first view of its place and the functions of the first that shows some, and uses interfaces
+/// that stand before it.
+pub fn planned_interfaces_are_viewed()
+    ensures { PlannedInterfacesAreViewed }
 {}
 
-/// The marks of what is shown tell which types of a plan are resources: a handle is of one, and nothing else has one as a part.
-pub fn marks_are_kept()
-    ensures { MarksAreKept }
+/// Each world of the plan has its own place, and what it imports and exports is as it was followed: instances of the plan's interfaces, and types of
+/// its own.
+pub fn planned_worlds_stand()
+    ensures { PlannedWorldsStand }
 {}
 
-/// Where the parts at the top are well-formed, and each name is a resource wherever it is met, or nowhere, marks tell which names are resources:
-/// those of a handle are, and nothing else is over one (Explainer.md, "Type Definitions"; WIT.md, "Interfaces: use").
-pub fn names_are_marked()
-    ensures { NamesAreMarked }
+/// The packages, the interfaces and the worlds of the plan are read as such, each place under an owner of its own, and each inline interface is an
+/// item of one world (WIT.md, "Packages", "Interfaces" and "Worlds").
+pub fn whole_places_are_read()
+    ensures { WholePlacesAreRead }
 {}
 
-/// The first showing of a type is a showing of it, also as a table tells it.
-pub fn firsts_are_found()
-    ensures { FirstsAreFound }
+/// Where all is shown alike and the functions of the plan are read, each unnamed type of it is a part of another or of a function, and each package
+/// but the main one has the home of a place (Component Model WIT.md, "Package Format").
+pub fn whole_is_kept_for_reasons()
+    ensures { WholeIsKeptForReasons }
 {}
 
-/// Where the parts at the top are well-formed, and the views of interfaces may be ones, all that they show obeys the rules: each type is a label of
-/// its place, behind what it is declared as, which may be declared there, and each function's type is one that may be there (WIT.md, "Types" and
-/// "Functions").
-pub fn shown_obeys()
+/// What is shown obeys the rules of reading, each as it is seen from its place (WIT.md, "Types", "Functions", "Interfaces" and "Worlds").
+pub fn shown_obeys_rules()
     ensures { ShownObeysRules }
 {}
 
-/// Each name that is used is a label, and what it is shown as may be declared in its place, behind which it stands.
-pub fn names_obey()
-    ensures { NamesObeyRules }
+/// What was followed of a package obeys the rules of reading.
+pub fn packages_are_ruled()
+    ensures { PackagesAreRuled }
 {}
 
-/// The types that are made of those that are used, each as it is shown first, are those of a plan that was read, and marks tell which of them are
-/// resources, where what is exported was followed and read.
-pub fn planned_types_are_read()
-    ensures { PlannedTypesAreRead }
+/// The types of the plan of what obeys the rules are those that were read, and its owners stand for the places.
+pub fn planned_types_are_whole()
+    ensures { PlannedTypesAreWhole }
 {}
 
-/// Parts at the top that are well-formed each alone are so together: each name that is met was shown before it, by the same part or by one before it.
-pub fn members_stand_together()
-    ensures { MembersStandTogether }
+/// Where the worlds of the plan show what worlds at the top do, each interface of another package is shown by a world, or imported by the component
+/// type of an interface, and only a world or the package itself shows functions (Component Model WIT.md, "Package Format").
+pub fn foreign_has_reasons()
+    ensures { ForeignHasReasons }
+{}
+
+/// Each function of a world that is planned is read in the world's own place.
+pub fn world_functions_are_read()
+    ensures { WorldFunctionsAreRead }
+{}
+
+/// In what was followed of a package each type is declared as one and the same wherever it is shown, and views of a place that show functions show the
+/// same ones (Component Model WIT.md, "Package Format").
+pub fn whole_is_shown_alike()
+    ensures { WholeIsShownAlike }
+{}
+
+/// The worlds of the plan show what worlds at the top do, each view shows the types by which its place is read, and what the component type of an
+/// interface imports is reached (WIT.md, "Worlds"; Component Model WIT.md, "Package Format").
+pub fn whole_is_shown()
+    ensures { WholeIsShown }
+{}
+
+/// A plan can be made of what was followed of a package, where what the component types of interfaces import shows no functions: parts stand before
+/// what they are parts of, and all that is shown is over the types that are used.
+pub fn whole_may_be_planned()
+    ensures { WholeMayBePlanned }
+{}
+
+/// Where views of a place that show functions show the same ones, each function of the plan is read, of an interface or of a world, in its own place.
+pub fn planned_functions_are_read()
+    ensures { PlannedFunctionsAreRead }
+{}
+
+/// Where the functions of the plan are read, so is each of its worlds, by what the member at the top shows: each item under its key, each function
+/// behind the types that it is over and the resource that it belongs to, and each type behind all that is imported before it (WIT.md, "Worlds").
+pub fn planned_worlds_are_read()
+    ensures { PlannedWorldsAreRead }
+{}
+
+/// Then the plan's order is that in which all was read: each name that is kept was shown by the interface of its place, or imported by the world.
+pub fn planned_order_is_read()
+    ensures { PlannedOrderIsRead }
+{}
+
+/// In what was followed of a package an inline interface is viewed once, no place of a view is a world's, and each world has a place of its own (WIT.md,
+/// "Worlds" and "Interfaces"): so views are in order, where the names of each first one rise in the table.
+pub fn whole_stands_apart()
+    ensures { WholeStandsApart }
+{}
+
+/// The plan of what was followed of a package is read as a package, whole, so that a `Resolve` that is built from it is valid and holds nothing
+/// without a reason; and it means what was followed (Component Model WIT.md, "Package Format").
+pub fn plan_is_whole()
+    ensures { PlanIsWhole }
+{}
+
+/// Where what was followed of one world, beside the interfaces of its package that it shows, is a package, the plan of that is the plan of one
+/// world, which shows each interface that has a name; and it means what the world does (WIT.md, "Worlds"; Component Model WIT.md, "Package Format").
+pub fn world_plan_is_whole()
+    ensures { WorldPlanIsWhole }
 {}

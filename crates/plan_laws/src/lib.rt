@@ -1,4 +1,4 @@
-//! Laws of plans that are made of what was followed; no code.
+//! Laws of whole plans: that what was followed and planned is a plan that was read; no code.
 #![tactic(auto)]
 
 pub mod laws;

@@ -4,7 +4,7 @@ use Rattle.std.proofs.lemmas.List.{map-append, take_all, take_more}
 use Rattle.std.proofs.lemmas.List.Folds.{list_any-append}
 use Rattle.std.specs.List.{flat_map}
 use Rattle.wit_model.specs.Uses.{has}
-use Rattle.plan_gather.specs.Marks.{is_marked}
+use Rattle.plan_parts.specs.Marks.{is_marked}
 use Rattle.plan_types.specs.Used.{Marks}
 
 or_line : (a b c : Bool) → ((a || b) || c) ≡ (a || (b || c))

@@ -3,12 +3,12 @@ use Rattle.std.proofs.Common.{◌≡◌, refl, sym, ap, ◌∙◌, ℕ, zero, su
 use Rattle.std.proofs.Math.ListN.{drop_of_length-le}
 use Rattle.std.proofs.lemmas.List.{drop_more}
 use Rattle.std.specs.List.{flat_map}
-use Rattle.plan_members.specs.declared.members.Part.{Part}
-use Rattle.plan_members.specs.declared.members.Part.TheVariants as parts
-use Rattle.plan_members.specs.Members.{numbered_part}
-use Rattle.plan_read.specs.declared.reached.ImportedView.{ImportedView}
-use Rattle.plan_read.specs.declared.views.View.{View}
-use Rattle.plan_read.specs.Reached.{numbered_import}
+use Rattle.read_exports.specs.declared.members.Part.{Part}
+use Rattle.read_exports.specs.declared.members.Part.TheVariants as parts
+use Rattle.read_exports.specs.Members.{numbered_part}
+use Rattle.read_rules.specs.declared.reached.ImportedView.{ImportedView}
+use Rattle.read_rules.specs.declared.views.View.{View}
+use Rattle.read_rules.specs.Reached.{numbered_import}
 use Rattle.plan_types.specs.Orders.{joined, joined_all, places_of_part}
 
 drop_mapped : {A B : Type 0} (f : A → B) (i : ℕ) (xs : List A) → drop i (map f xs) ≡ map f (drop i xs)

@@ -6,12 +6,12 @@ use Rattle.wit_model.specs.declared.model.TypeOwner.{TypeOwner}
 use Rattle.wit_model.specs.declared.model.TypeOwner.TheVariants as owner
 use Rattle.wit_model.specs.Text.{Text}
 use Rattle.wit_model.proofs.Elements.{same-some, zip-push}
-use Rattle.read_plan.specs.NumberedRules.{name_in}
-use Rattle.read_plan.specs.NumberedViews.{Tables}
-use Rattle.read_plan.specs.Shapes.{Shape}
+use Rattle.plan_meaning.specs.NumberedRules.{name_in}
+use Rattle.plan_meaning.specs.NumberedViews.{Tables}
+use Rattle.plan_meaning.specs.Shapes.{Shape}
 use Rattle.plan_build.specs.declared.plan.PlannedType.{PlannedType}
 use Rattle.plan_build.specs.PlanOf.{stated_type}
-use Rattle.plan_gather.specs.Kinds.{IsFormed, IsFormOver, IsKindFor, MayBeDeclared}
+use Rattle.plan_parts.specs.Kinds.{IsFormed, IsFormOver, IsKindFor, MayBeDeclared}
 use Rattle.plan_types.specs.PlannedTypes.{MayBePlanned, PlansType, a_form, a_name, unnamed, named}
 use Rattle.plan_types.specs.Showings.{NumberedShowing}
 

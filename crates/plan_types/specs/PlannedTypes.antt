@@ -5,11 +5,11 @@ use Rattle.wit_model.specs.declared.model.TypeOwner.{TypeOwner}
 use Rattle.wit_model.specs.declared.model.TypeOwner.TheVariants as owner
 use Rattle.wit_model.specs.Text.{Text}
 use Rattle.wit_model.specs.Valid.{as_interface, as_world}
-use Rattle.read_plan.specs.NumberedRules.{name_in}
-use Rattle.read_plan.specs.NumberedViews.{Tables}
-use Rattle.read_plan.specs.Plan.{PlannedType}
-use Rattle.read_plan.specs.Shapes.{Shape}
-use Rattle.plan_gather.specs.Kinds.{IsFormed, IsFormOver, IsKindFor, MayBeDeclared}
+use Rattle.plan_meaning.specs.NumberedRules.{name_in}
+use Rattle.plan_meaning.specs.NumberedViews.{Tables}
+use Rattle.plan_meaning.specs.Plan.{PlannedType}
+use Rattle.plan_meaning.specs.Shapes.{Shape}
+use Rattle.plan_parts.specs.Kinds.{IsFormed, IsFormOver, IsKindFor, MayBeDeclared}
 use Rattle.plan_types.specs.Showings.{NumberedShowing}
 
 -- ---- owners

@@ -4,9 +4,9 @@ use Rattle.std.specs.List.{flat_map}
 use Rattle.std.specs.Option.{option_map_or}
 use Rattle.wit_model.specs.Text.{Text}
 use Rattle.wit_model.specs.Uses.{has}
-use Rattle.read_plan.specs.NumberedRules.{is_form, shape_at}
-use Rattle.read_plan.specs.NumberedViews.{FunctionShape, Tables, function_at}
-use Rattle.plan_gather.specs.Marks.{is_marked, IsUsed, PartsFall}
+use Rattle.plan_meaning.specs.NumberedRules.{is_form, shape_at}
+use Rattle.plan_meaning.specs.NumberedViews.{FunctionShape, Tables, function_at}
+use Rattle.plan_parts.specs.Marks.{is_marked, IsUsed, PartsFall}
 use Rattle.plan_types.specs.Showings.{NumberedShowing}
 
 -- the parts of a part that is a form

@@ -1,14 +1,14 @@
 //! The places of interfaces and of worlds, in the order in which they are met.
 
 ghost use Rattle.std.specs.Prelude.{◌≡◌, ◌++◌, ◌∷◌, [], map, OnOk, IfOk};
-ghost use Rattle.plan_members.specs.Members.{numbered_members, numbered_part};
-ghost use Rattle.plan_read.specs.Reached.{numbered_import};
-ghost use Rattle.plan_read.specs.Scopes.{numbered_instance};
+ghost use Rattle.read_exports.specs.Members.{numbered_members, numbered_part};
+ghost use Rattle.read_rules.specs.Reached.{numbered_import};
+ghost use Rattle.read_rules.specs.Scopes.{numbered_instance};
 ghost use Rattle.plan_types.specs.Orders.{home_of_part, homes_met, joined, joined_all, places_met, places_of_part};
 
 use indexmap::IndexSet;
-use plan_members::{Member, Part};
-use plan_read::{ImportedView, Instance};
+use read_exports::{Member, Part};
+use read_rules::{ImportedView, Instance};
 use std::alloc::{AllocError, Global};
 
 /// Adds a place behind the others, unless it is there.

@@ -2,12 +2,12 @@
 
 ghost use Rattle.std.specs.List.{flat_map};
 ghost use Rattle.std.specs.Prelude.{◌≡◌, ◌++◌, map, IfOk};
-ghost use Rattle.plan_read.specs.Views.{numbered_function, numbered_slot, numbered_type};
-ghost use Rattle.plan_gather.specs.Interfaces.{slot_part};
+ghost use Rattle.read_rules.specs.Views.{numbered_function, numbered_slot, numbered_type};
+ghost use Rattle.plan_parts.specs.Interfaces.{slot_part};
 ghost use Rattle.plan_types.specs.Showings.{numbered_showing, showing_of, showings_of_import, showings_of_members as showings_of_members_lem, showings_of_part, showings_of_seen, signatures_of_members as signatures_of_members_lem, signatures_of_part, signatures_of_seen};
 
-use plan_members::{Member, Part};
-use plan_read::{ImportedView, Seen, Shown, TypeSlot, ViewFunction, ViewType};
+use read_exports::{Member, Part};
+use read_rules::{ImportedView, Seen, Shown, TypeSlot, ViewFunction, ViewType};
 use std::alloc::{AllocError, Global};
 
 /// A type that is shown.

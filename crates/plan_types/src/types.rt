@@ -3,10 +3,10 @@
 ghost use Rattle.std.specs.List.{AllByRecursion, AllZip};
 ghost use Rattle.std.specs.Prelude.{◌≡◌, ◌<◌, length, map, option_map, slice_get, IfOk, None, Some};
 ghost use Rattle.wit_model.specs.declared.model.TypeOwner.TheVariants as owner;
-ghost use Rattle.read_plan.specs.NumberedRules.{name_in as name_in_lem};
+ghost use Rattle.plan_meaning.specs.NumberedRules.{name_in as name_in_lem};
 ghost use Rattle.plan_build.specs.PlanOf.{stated_kind, stated_type};
-ghost use Rattle.plan_gather.specs.Kinds.{IsFormed, IsFormOver, IsKindFor, MayBeDeclared};
-ghost use Rattle.plan_read.specs.Tables.{given_text, numbered_shape, numbered_tables};
+ghost use Rattle.plan_parts.specs.Kinds.{IsFormed, IsFormOver, IsKindFor, MayBeDeclared};
+ghost use Rattle.read_rules.specs.Tables.{given_text, numbered_shape, numbered_tables};
 ghost use Rattle.plan_types.specs.FirstShown.{showing_at};
 ghost use Rattle.plan_types.specs.PlannedTypes.{number_in, owner_in, MayBePlanned, PlansType};
 ghost use Rattle.plan_types.specs.Showings.{numbered_showing};
@@ -14,8 +14,8 @@ ghost use Rattle.plan_types.specs.Showings.{numbered_showing};
 use crate::showings::Showing;
 use indexmap::IndexSet;
 use plan_build::PlannedType;
-use plan_gather::{Kept, kind_of_declared, kind_of_form};
-use plan_read::{Tables, TypeShape, name_in};
+use plan_parts::{Kept, kind_of_declared, kind_of_form};
+use read_rules::{Tables, TypeShape, name_in};
 use std::alloc::{AllocError, Global};
 use wit_model::{InterfaceId, TypeOwner, WorldId};
 

@@ -3,14 +3,14 @@
 ghost use Rattle.std.specs.List.{flat_map};
 ghost use Rattle.std.specs.Prelude.{◌≡◌, ◌∷◌, ◌++◌, [], false, ℕ, length, map, option_to_list, IfOk};
 ghost use Rattle.wit_model.specs.Text.{Text};
-ghost use Rattle.plan_gather.specs.Marks.{is_marked, parts_of};
-ghost use Rattle.plan_read.specs.Tables.{numbered_function_type, numbered_shape, numbered_tables, param_of};
+ghost use Rattle.plan_parts.specs.Marks.{is_marked, parts_of};
+ghost use Rattle.read_rules.specs.Tables.{numbered_function_type, numbered_shape, numbered_tables, param_of};
 ghost use Rattle.plan_types.specs.Showings.{numbered_showing};
 ghost use Rattle.plan_types.specs.Used.{declared_parts, function_parts, showing_parts, signature_parts, used_parts, AreUsed, Marks, TypesFall};
 
 use crate::showings::Showing;
-use plan_gather::close;
-use plan_read::{FunctionType, Tables, TypeShape, function_at, shape_at};
+use plan_parts::close;
+use read_rules::{FunctionType, Tables, TypeShape, function_at, shape_at};
 use std::alloc::{AllocError, Global};
 
 /// Marks a part, if it is a type of the table.

@@ -17,8 +17,8 @@ use Rattle.comp_bytes.specs.Refusal.{IsMemoryOrSize}
 use Rattle.comp_bytes.specs.Spelling.{preamble}
 use Rattle.comp_meaning.specs.Follow.{is_filled}
 use Rattle.comp_meaning.specs.Reads.{Reads}
-use Rattle.wit_decode.specs.Decoded.{IsDecoded, RefusesBytes}
-use Rattle.world_names.specs.Clashes.{RefusesNames, RefusesPaths}
+use Rattle.comp_read.specs.Decoded.{IsDecoded, RefusesBytes}
+use Rattle.encode_names.specs.Clashes.{RefusesNames, RefusesPaths}
 use Rattle.wit_encode.specs.Packages.{HasMembers, HasNoMembers, MeansPackage, RefusesPackage, RefusesWorldAt}
 use Rattle.wit_encode.specs.Scopes.{RefusesInterface}
 use Rattle.wit_encode.specs.WholeWorlds.{RefusesWorld}

@@ -9,7 +9,7 @@ use Rattle.wit_model.specs.Meaning.{WorldPackage}
 use Rattle.comp_bytes.specs.Spelling.{preamble}
 use Rattle.comp_meaning.specs.Reads.{ReadsWorld}
 use Rattle.wit_bind.specs.declared.bindgen.Bindgen.{Bindgen}
-use Rattle.wit_decode.specs.DecodedWorlds.{IsDecodedWorld, MeansNoWorld, RefusesWorldBytes}
+use Rattle.comp_read.specs.DecodedWorlds.{IsDecodedWorld, MeansNoWorld, RefusesWorldBytes}
 use Rattle.wit_metadata.specs.Said.{AnswersSaid}
 use Rattle.wit_metadata.proofs.SaidLaws.{read-back}
 use Rattle.wit_component.specs.SectionBindings.{CarriedWorldsAreBound, IsBoundBy, RefusesSection}

@@ -12,10 +12,10 @@ pub use Rattle.wit_model.specs.Valid
 pub use Rattle.wit_model.specs.Weight
 pub use Rattle.comp_bytes.specs.Spelling
 pub use Rattle.comp_meaning.specs.Reads
-pub use Rattle.read_plan.specs.Built
-pub use Rattle.read_plan.specs.NothingElse
-pub use Rattle.wit_decode.specs.Decoded
-pub use Rattle.wit_decode.specs.DecodedWorlds
+pub use Rattle.plan_meaning.specs.Built
+pub use Rattle.plan_meaning.specs.NothingElse
+pub use Rattle.comp_read.specs.Decoded
+pub use Rattle.comp_read.specs.DecodedWorlds
 pub use Rattle.wit_encode.specs.Packages
 pub use Rattle.wit_compat.specs.Compatible
 pub use Rattle.wit_compat.specs.Senses

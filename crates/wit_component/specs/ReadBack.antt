@@ -9,9 +9,9 @@ use Rattle.wit_model.specs.Meaning.{PackageMeaning}
 use Rattle.wit_model.specs.Meant.{Meant}
 use Rattle.wit_model.specs.Valid.{IsValid}
 use Rattle.comp_meaning.specs.Reads.{Reads}
-use Rattle.read_plan.specs.Built.{IsBare}
-use Rattle.read_plan.specs.NothingElse.{HoldsPackageAlone}
-use Rattle.wit_decode.specs.Decoded.{IsDecoded, RefusesBytes}
+use Rattle.plan_meaning.specs.Built.{IsBare}
+use Rattle.plan_meaning.specs.NothingElse.{HoldsPackageAlone}
+use Rattle.comp_read.specs.Decoded.{IsDecoded, RefusesBytes}
 use Rattle.wit_encode.specs.Packages.{HasMembers, HasNoMembers, MeansPackage}
 
 -- Package n of r has a meaning, and package k of s has the same and no other.

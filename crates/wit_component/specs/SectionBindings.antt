@@ -10,7 +10,7 @@ use Rattle.wit_model.specs.Meant.{MeantWorld}
 use Rattle.comp_meaning.specs.Reads.{ReadsWorld}
 use Rattle.wit_bind.specs.declared.bindgen.Bindgen.{Bindgen}
 use Rattle.wit_bind.specs.Functions.{MapsFunctions, exports_of, imports_of}
-use Rattle.wit_decode.specs.DecodedWorlds.{IsDecodedWorld, MeansNoWorld}
+use Rattle.comp_read.specs.DecodedWorlds.{IsDecodedWorld, MeansNoWorld}
 use Rattle.wit_metadata.specs.Carried.{CarriesEncoding, MeansWorld}
 use Rattle.wit_metadata.specs.Said.{AnswersSaid}
 

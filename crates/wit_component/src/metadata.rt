@@ -3,9 +3,9 @@
 ghost use Rattle.std.specs.Prelude.{IfErr, IfOk};
 ghost use Rattle.wit_component.specs.SectionBindings.{IsBoundBy, RefusesSection};
 
+use comp_read::decode_world;
 use std::alloc::Global;
 use wit_bind::{Bindgen, ModuleMetadata};
-use wit_decode::decode_world;
 pub use wit_metadata::encode;
 use wit_metadata::encoding_in;
 use wit_model::{Cause, Error};

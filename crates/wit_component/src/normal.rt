@@ -8,8 +8,8 @@ ghost use Rattle.wit_model.specs.declared.model.Package.{Package as PackageValue
 ghost use Rattle.wit_model.specs.declared.error.Error.TheVariants.{Size};
 ghost use Rattle.wit_component.specs.ReadBack.{IsReadBack, RefusesReadBack};
 
+use comp_read::decode;
 use std::alloc::Global;
-use wit_decode::decode;
 use wit_encode::encode;
 use wit_model::{Error, PackageId, Resolve};
 

@@ -26,14 +26,14 @@ use Rattle.wit_model.specs.declared.model.TypeId.{TypeId}
 use Rattle.wit_model.specs.declared.model.«Type».{«Type» as ValueType}
 use Rattle.comp_bytes.specs.Raw.{Alias, ExternName, Declaration, Declarations, append, declaration_count, from_list}
 use Rattle.comp_bytes.specs.Writing.{u32_bytes, declaration_bytes, declarations_bytes}
-use Rattle.wit_encode_types.specs.declared.maps.TypeEncodingMaps.{TypeEncodingMaps}
-use Rattle.wit_encode_types.specs.Extents.{function_extent, given_length, import_extent, known_extent, name_extent, number_extent, signature_extent}
-use Rattle.wit_encode_types.specs.Known.{Around, ReachesAround, alias_declared, as_before, aliased}
-use Rattle.wit_encode_types.specs.Maps.{IsOnce, LearnsOnly}
-use Rattle.wit_encode_types.specs.MetKinds.{ReachedFrom, referred}
-use Rattle.wit_encode_types.proofs.Lists.{none-in}
-use Rattle.wit_encode_types.proofs.Pairs.{pairs-map}
-use Rattle.wit_encode_types.proofs.Paths.{some-same}
+use Rattle.encode_types.specs.declared.maps.TypeEncodingMaps.{TypeEncodingMaps}
+use Rattle.encode_types.specs.Extents.{function_extent, given_length, import_extent, known_extent, name_extent, number_extent, signature_extent}
+use Rattle.encode_types.specs.Known.{Around, ReachesAround, alias_declared, as_before, aliased}
+use Rattle.encode_types.specs.Maps.{IsOnce, LearnsOnly}
+use Rattle.encode_types.specs.MetKinds.{ReachedFrom, referred}
+use Rattle.encode_types.proofs.Lists.{none-in}
+use Rattle.encode_types.proofs.Pairs.{pairs-map}
+use Rattle.encode_types.proofs.Paths.{some-same}
 use Rattle.wit_encode.specs.declared.interface.OpenInterface.{OpenInterface}
 use Rattle.wit_encode.specs.Encoders.{declared_after}
 use Rattle.wit_encode.specs.Instance.{declared_extent, extent_in, placed_function}
@@ -41,9 +41,9 @@ use Rattle.wit_encode.specs.Order.{functions_in_order}
 use Rattle.wit_encode.specs.WorldRoom.{IsMetAmong, entries_in}
 use Rattle.wit_encode.specs.Extents.{instance_extent, item_extent}
 use Rattle.wit_encode.specs.WrittenBytes.{AddsBytes, AddsLearnt, TakesFew, imports_extent, items_extent, types_extent, whole_extent}
-use Rattle.wit_shown.specs.Views.{AreReached}
-use Rattle.world_names.specs.WorldNames.{name_of_interface, name_of_item}
-use Rattle.world_names.specs.WorldSteps.{Entry}
+use Rattle.encode_shown.specs.Views.{AreReached}
+use Rattle.encode_names.specs.WorldNames.{name_of_interface, name_of_item}
+use Rattle.encode_names.specs.WorldSteps.{Entry}
 use Rattle.wit_encode.proofs.ComponentExtents.{components-light, worlds-light}
 use Rattle.wit_encode.proofs.ImportLoop.{numbers-next}
 use Rattle.wit_encode.proofs.Extents.{bytes-few}

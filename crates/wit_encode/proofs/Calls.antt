@@ -20,14 +20,14 @@ use Rattle.comp_bytes.specs.Held.{type_slots}
 use Rattle.comp_bytes.specs.Reading.{◌>>=◌}
 use Rattle.comp_meaning.specs.Follow as follow
 use Rattle.comp_meaning.specs.Follow.{Slot, InstanceScope, ShownType, new_instance, definition, function_signature, named_type, is_foreign_name, is_simple, show_type, instance_step, in_instance}
-use Rattle.wit_encode_types.specs.Slots.{Standing, tree, function, SlotAdded, SlotsGrow, Follows, FollowsFunction, Defines, DefinesFunction}
-use Rattle.wit_encode_types.specs.Resources.{Names, is_resource_tree}
-use Rattle.wit_encode_types.specs.Scope.{Scope, IsDeclared, DeclaresSlot, DeclaresResource, exported_name}
-use Rattle.wit_encode_types.specs.Formed.{IsFormed, IsFormedSignature, is_formed}
-use Rattle.wit_encode_types.specs.Counts.{one_type_more, one_function_more, ExportsOne}
+use Rattle.encode_types.specs.Slots.{Standing, tree, function, SlotAdded, SlotsGrow, Follows, FollowsFunction, Defines, DefinesFunction}
+use Rattle.encode_types.specs.Resources.{Names, is_resource_tree}
+use Rattle.encode_types.specs.Scope.{Scope, IsDeclared, DeclaresSlot, DeclaresResource, exported_name}
+use Rattle.encode_types.specs.Formed.{IsFormed, IsFormedSignature, is_formed}
+use Rattle.encode_types.specs.Counts.{one_type_more, one_function_more, ExportsOne}
 use Rattle.wit_encode.specs.Instance.{standing_at, SlotsStand, is_slot_of, Contents, no_view, outer_slots, inner_scope, inner_contents, is_value_type, is_function_type, place_in, resources_in, scope_with, definitions_with}
-use Rattle.wit_encode_types.specs.Known.{Around}
-use Rattle.wit_encode_types.proofs.Defining.{count-push}
+use Rattle.encode_types.specs.Known.{Around}
+use Rattle.encode_types.proofs.Defining.{count-push}
 use Rattle.wit_encode.proofs.Strict.{bind, definition-strict, function-strict, follows-once, signature-once}
 use Rattle.wit_encode.proofs.Contents.{IsOf, Grew, grew-adds, grew-grows, same-grows, grew-scope}
 use Rattle.wit_encode.proofs.Declaring.{DeclaredAs, declared-slot, declared-resource}

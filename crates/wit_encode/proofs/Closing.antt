@@ -12,10 +12,10 @@ use Rattle.wit_model.specs.declared.model.InterfaceId.{InterfaceId}
 use Rattle.wit_model.specs.declared.model.TypeId.{TypeId}
 use Rattle.comp_bytes.specs.Raw.{Declaration, Declarations, append, from_list}
 use Rattle.comp_bytes.specs.Held.{type_slots_of}
-use Rattle.wit_shown.specs.Views.{ShowsInterface, ShowsTypes, functions_of}
-use Rattle.wit_shown.proofs.Interfaces.{interface-means, types-mean}
-use Rattle.wit_encode_types.specs.Distinct.{DefinesKeys, DefinesTypes}
-use Rattle.wit_encode_types.specs.Known.{Around, GrowsAround}
+use Rattle.encode_shown.specs.Views.{ShowsInterface, ShowsTypes, functions_of}
+use Rattle.encode_shown.proofs.Interfaces.{interface-means, types-mean}
+use Rattle.encode_types.specs.Distinct.{DefinesKeys, DefinesTypes}
+use Rattle.encode_types.specs.Known.{Around, GrowsAround}
 use Rattle.wit_encode.specs.declared.interface.Foreign.{Foreign}
 use Rattle.wit_encode.specs.Order.{functions_in_order}
 use Rattle.wit_encode.specs.Instance.{around_at, keyed, placed_function, meaning_of, EncodesInterface, EncodesDependency, EncodesPart, IsInstance}

@@ -21,8 +21,8 @@ use Rattle.wit_model.specs.declared.model.Interface.{Interface}
 use Rattle.wit_model.specs.declared.model.Function.{Function}
 use Rattle.wit_model.specs.declared.model.TypeOwner.TheVariants as owner
 use Rattle.wit_model.proofs.Lists.{first_true}
-use Rattle.wit_encode_types.specs.KeyLaws.{text_same}
-use Rattle.world_names.specs.WorldNames.{written_path, written_suffix, name_of_interface}
+use Rattle.encode_types.specs.KeyLaws.{text_same}
+use Rattle.encode_names.specs.WorldNames.{written_path, written_suffix, name_of_interface}
 use Rattle.wit_encode.specs.WorldRoom.{entries_in, functions_among, type_ids_among}
 use Rattle.wit_encode.specs.Extents.{given_length, name_extent, number_extent, instance_extent, item_extent, ComponentsAreLight, WorldsAreLight}
 use Rattle.wit_encode.proofs.DependencyWeighing as dependency

@@ -8,7 +8,7 @@ use Rattle.comp_bytes.specs.Reading.{◌>>=◌}
 use Rattle.wit_model.specs.Tree.{Place}
 use Rattle.std.specs.Prelude.{not, ◌==◌}
 use Rattle.std.specs.List.{list_any}
-use Rattle.wit_encode_types.proofs.Defining.{count-push}
+use Rattle.encode_types.proofs.Defining.{count-push}
 use Rattle.comp_meaning.specs.Follow.{View, Shown, Key, key_text, interface_of, place_of, used_view, Slot, Scope, Seen, Direction, import_, export_, see, when, definition, function_signature, function_in, named_type, exported_slot, key_of, see_instance, see_function, see_type, in_scope, component_step, component_steps, flat}
 use Rattle.wit_encode.specs.Instance.{count_declared}
 use Rattle.wit_encode.proofs.Steps.{unbind, unprovided}

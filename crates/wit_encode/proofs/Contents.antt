@@ -6,10 +6,10 @@ use Rattle.wit_model.specs.declared.model.Resolve.{Resolve}
 use Rattle.wit_model.specs.declared.model.InterfaceId.{InterfaceId}
 use Rattle.wit_model.proofs.Lists.{second_true}
 use Rattle.comp_meaning.specs.Follow.{Slot}
-use Rattle.wit_encode_types.specs.Slots.{Standing, Adds, SlotAdded, SlotsGrow}
+use Rattle.encode_types.specs.Slots.{Standing, Adds, SlotAdded, SlotsGrow}
 use Rattle.wit_encode.specs.Instance.{standing_at, SlotsStand, is_slot_of, Contents, resources_in, standing_instances, scope_from, scope_with}
-use Rattle.wit_encode_types.specs.Known.{Around}
-use Rattle.wit_encode_types.proofs.Lists.{both}
+use Rattle.encode_types.specs.Known.{Around}
+use Rattle.encode_types.proofs.Lists.{both}
 
 -- ---- one slot more
 

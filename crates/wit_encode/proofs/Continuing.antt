@@ -8,14 +8,14 @@ use Rattle.wit_model.specs.declared.model.Function.{Function}
 use Rattle.wit_model.specs.declared.model.«Type».{«Type» as ValueType}
 use Rattle.comp_bytes.specs.Raw.{Declarations}
 use Rattle.comp_meaning.specs.Follow.{Slot}
-use Rattle.wit_encode_types.specs.declared.maps.TypeEncodingMaps.{TypeEncodingMaps}
+use Rattle.encode_types.specs.declared.maps.TypeEncodingMaps.{TypeEncodingMaps}
 use Rattle.wit_encode.specs.declared.interface.OpenInterface.{OpenInterface}
-use Rattle.wit_encode_types.specs.Maps.{MapsAgree}
-use Rattle.wit_encode_types.specs.Scope.{Scope, IsImportable, IsDeclared}
-use Rattle.wit_encode_types.specs.Fits.{CanEncode}
+use Rattle.encode_types.specs.Maps.{MapsAgree}
+use Rattle.encode_types.specs.Scope.{Scope, IsImportable, IsDeclared}
+use Rattle.encode_types.specs.Fits.{CanEncode}
 use Rattle.wit_encode.specs.Instance.{SlotsStand, is_slot_of, resources_in, own_of, around_of, standing_instances, scope_from, contents_of, encoder_scope, ShowsFunction, with_functions, Continues, CanEncodeFunction}
-use Rattle.wit_encode_types.specs.Known.{GrowsAround}
-use Rattle.wit_encode_types.proofs.Around.{around-same, around-trans}
+use Rattle.encode_types.specs.Known.{GrowsAround}
+use Rattle.encode_types.proofs.Around.{around-same, around-trans}
 
 -- ---- what is asked of a scope doesn't hang on the functions
 

@@ -27,23 +27,23 @@ use Rattle.wit_model.specs.declared.model.TypeDefKind.{TypeDefKind}
 use Rattle.wit_model.specs.declared.model.Function.{Function}
 use Rattle.wit_model.specs.declared.model.«Type».{«Type» as ValueType}
 use Rattle.comp_bytes.specs.Raw.{Declaration, Declarations}
-use Rattle.wit_encode_types.specs.declared.key.FunctionKey.{FunctionKey}
-use Rattle.wit_encode_types.specs.declared.maps.TypeEncodingMaps.{TypeEncodingMaps}
+use Rattle.encode_types.specs.declared.key.FunctionKey.{FunctionKey}
+use Rattle.encode_types.specs.declared.maps.TypeEncodingMaps.{TypeEncodingMaps}
 use Rattle.wit_encode.specs.declared.interface.OpenInterface.{OpenInterface}
 use Rattle.wit_encode.specs.declared.interface.Foreign.{Foreign}
-use Rattle.wit_encode_types.specs.Key.{IsKeyOf}
-use Rattle.wit_encode_types.specs.Kinds.{has_definition}
-use Rattle.wit_encode_types.specs.Plan.{foreign_owner}
-use Rattle.wit_encode_types.specs.Codes.{IsTable, kind_code, names_of, lists_of}
-use Rattle.wit_encode_types.specs.Maps.{IsOnce, IsKnown}
-use Rattle.wit_encode_types.specs.Scope.{Scope}
-use Rattle.wit_encode_types.specs.MetKinds.{AreMetKinds, referred}
-use Rattle.wit_encode_types.specs.Counts.{Definitions, names_defined, is_defined_by_name, is_defined_under_name, own_name, name_of_own, Shows, AddsKey, AddsTypes, AddsFunction}
-use Rattle.wit_encode_types.specs.Distinct.{Key, key_of, key_view, are_same, KnowsKey, defined_under_names, AddsFunctions, DefinesKeys, DefinesTypes, is_value_type, is_function_type}
+use Rattle.encode_types.specs.Key.{IsKeyOf}
+use Rattle.encode_types.specs.Kinds.{has_definition}
+use Rattle.encode_types.specs.Plan.{foreign_owner}
+use Rattle.encode_types.specs.Codes.{IsTable, kind_code, names_of, lists_of}
+use Rattle.encode_types.specs.Maps.{IsOnce, IsKnown}
+use Rattle.encode_types.specs.Scope.{Scope}
+use Rattle.encode_types.specs.MetKinds.{AreMetKinds, referred}
+use Rattle.encode_types.specs.Counts.{Definitions, names_defined, is_defined_by_name, is_defined_under_name, own_name, name_of_own, Shows, AddsKey, AddsTypes, AddsFunction}
+use Rattle.encode_types.specs.Distinct.{Key, key_of, key_view, are_same, KnowsKey, defined_under_names, AddsFunctions, DefinesKeys, DefinesTypes, is_value_type, is_function_type}
 use Rattle.wit_encode.specs.Instance.{own_of, contents_of, inner_contents, encoder_scope, definitions_with, opened, ShowsFunction}
-use Rattle.wit_encode_types.proofs.Lists.{contains-map}
-use Rattle.wit_encode_types.proofs.Pairs.{pairs-map}
-use Rattle.wit_encode_types.proofs.Tables.{kept-in, new-in, one-more-in}
+use Rattle.encode_types.proofs.Lists.{contains-map}
+use Rattle.encode_types.proofs.Pairs.{pairs-map}
+use Rattle.encode_types.proofs.Tables.{kept-in, new-in, one-more-in}
 use Rattle.wit_encode.proofs.Naming.{or-second}
 use Rattle.wit_encode.proofs.HeldKeys.{both-ways, any-at, same_equiv, HasList, alike, grown, shrunk, knows-same, knows-along, knows-none, keyed}
 

@@ -10,10 +10,10 @@ use Rattle.comp_bytes.specs.Reading.{◌>>=◌}
 use Rattle.comp_bytes.specs.declared.forms.ComponentTypeRef.{ComponentTypeRef}
 use Rattle.comp_bytes.specs.declared.forms.ComponentTypeRef.TheVariants as refs
 use Rattle.comp_meaning.specs.Follow.{Slot, declared_by, named_like, named_type}
-use Rattle.wit_encode_types.specs.Slots.{tree}
-use Rattle.wit_encode_types.specs.Resources.{is_resource_tree, is_resource_declaration}
-use Rattle.wit_encode_types.specs.Scope.{Scope, DeclaresSlot, DeclaresResource}
-use Rattle.wit_encode_types.specs.Standing.{SlotsStand, is_slot_of, standing_at}
+use Rattle.encode_types.specs.Slots.{tree}
+use Rattle.encode_types.specs.Resources.{is_resource_tree, is_resource_declaration}
+use Rattle.encode_types.specs.Scope.{Scope, DeclaresSlot, DeclaresResource}
+use Rattle.encode_types.specs.Standing.{SlotsStand, is_slot_of, standing_at}
 use Rattle.wit_encode.proofs.Strict.{bind, slot-at}
 
 -- The slot of the name, in a place with these slots.

@@ -12,13 +12,13 @@ use Rattle.comp_bytes.specs.Raw.{Declaration, Declarations, ExternName, append, 
 use Rattle.comp_bytes.specs.Held.{fits_counts, type_slots_of}
 use Rattle.comp_bytes.specs.Fits.{fits_name}
 use Rattle.comp_bytes.specs.declared.forms.ComponentTypeRef.TheVariants as refs
-use Rattle.interface_reach.specs.Reach.{reached_in_order}
-use Rattle.wit_shown.proofs.Zips.{zip-append}
-use Rattle.wit_encode_types.specs.Distinct.{is_value_type, is_function_type}
-use Rattle.wit_encode_types.specs.Known.{Around, GrowsAround, known_instance}
-use Rattle.wit_encode_types.specs.Room.{limit}
-use Rattle.wit_encode_types.proofs.Paths.{some-of}
-use Rattle.world_names.specs.WorldNames.{name_of_interface}
+use Rattle.encode_reach.specs.Reach.{reached_in_order}
+use Rattle.encode_shown.proofs.Zips.{zip-append}
+use Rattle.encode_types.specs.Distinct.{is_value_type, is_function_type}
+use Rattle.encode_types.specs.Known.{Around, GrowsAround, known_instance}
+use Rattle.encode_types.specs.Room.{limit}
+use Rattle.encode_types.proofs.Paths.{some-of}
+use Rattle.encode_names.specs.WorldNames.{name_of_interface}
 use Rattle.wit_encode.specs.Dependencies.{HasImported, ImportsTypes, with_export}
 use Rattle.wit_encode.specs.DependencyCounts.{DefinesComponent, DefinesImports, DefinesTypesOf}
 use Rattle.wit_encode.specs.DependencyRoom.{HoldsImports, LacksImport, its_types, its_path, a_place, ImportsLackRoom, an_interface, a_path, too_many, ComponentLacksRoom, of_imports, of_interface, of_path, TypesLackRoom}

@@ -24,13 +24,13 @@ use Rattle.wit_model.specs.declared.model.TypeOwner.{TypeOwner}
 use Rattle.wit_model.specs.declared.model.TypeOwner.TheVariants as owner
 use Rattle.wit_model.proofs.Lists.{second_true}
 use Rattle.comp_bytes.specs.Fits.{fits_name}
-use Rattle.wit_shown.specs.Views.{AreReached, AreUsed}
-use Rattle.wit_shown.proofs.Reach.{Chain, chain-reached, further, used-chain}
-use Rattle.wit_encode_types.specs.MetKinds.{ReachedFrom, referred}
-use Rattle.wit_encode_types.specs.Room.{IsUnfit, LacksOne, a_type, a_request, limit}
-use Rattle.wit_encode_types.proofs.Lists.{contains-map, none-in}
-use Rattle.wit_encode_types.proofs.Paths.{found-in}
-use Rattle.world_names.specs.WorldNames.{name_of_interface}
+use Rattle.encode_shown.specs.Views.{AreReached, AreUsed}
+use Rattle.encode_shown.proofs.Reach.{Chain, chain-reached, further, used-chain}
+use Rattle.encode_types.specs.MetKinds.{ReachedFrom, referred}
+use Rattle.encode_types.specs.Room.{IsUnfit, LacksOne, a_type, a_request, limit}
+use Rattle.encode_types.proofs.Lists.{contains-map, none-in}
+use Rattle.encode_types.proofs.Paths.{found-in}
+use Rattle.encode_names.specs.WorldNames.{name_of_interface}
 use Rattle.wit_encode.specs.DependencyRoom.{TypesLackRoom, ImportsLackRoom, an_interface, a_path, too_many, ComponentLacksRoom, of_imports, of_interface, of_path, LackingComponentsAreHeavy}
 use Rattle.wit_encode.specs.WorldRoom.{IsNamedTypeOf}
 use Rattle.wit_encode.proofs.Counting.{from-filter}

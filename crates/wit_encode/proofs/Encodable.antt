@@ -30,17 +30,17 @@ use Rattle.wit_model.specs.declared.model.«Type».TheVariants as ty
 use Rattle.wit_model.proofs.Lists.{first_true, second_true}
 use Rattle.wit_model.proofs.Shown.{deps_pass}
 use Rattle.comp_bytes.specs.Raw.{Declarations}
-use Rattle.wit_encode_types.specs.KeyLaws.{text_same}
-use Rattle.wit_encode_types.specs.Resources.{is_met_owner}
-use Rattle.wit_encode_types.specs.Fits.{CanEncode}
-use Rattle.wit_encode_types.specs.Scope.{Scope}
-use Rattle.wit_encode_types.specs.Known.{UsedStand}
+use Rattle.encode_types.specs.KeyLaws.{text_same}
+use Rattle.encode_types.specs.Resources.{is_met_owner}
+use Rattle.encode_types.specs.Fits.{CanEncode}
+use Rattle.encode_types.specs.Scope.{Scope}
+use Rattle.encode_types.specs.Known.{UsedStand}
 use Rattle.wit_encode.specs.Instance.{CanEncodeFunction, CanEncodeInterface, encoder_scope, opened, keyed, standing_instances, around_at}
 use Rattle.wit_model.specs.declared.model.«Type».{«Type» as ValueType}
-use Rattle.wit_encode_types.specs.Plan.{Reaches, itself, through}
-use Rattle.wit_encode_types.proofs.Lists.{all-contained, both, contains-map, one-contained}
+use Rattle.encode_types.specs.Plan.{Reaches, itself, through}
+use Rattle.encode_types.proofs.Lists.{all-contained, both, contains-map, one-contained}
 use Rattle.wit_encode.proofs.Owned.{same-owner, or-cases}
-use Rattle.wit_encode_types.proofs.Paths.{equal-numbers, found-in, some-of, some-same}
+use Rattle.encode_types.proofs.Paths.{equal-numbers, found-in, some-of, some-same}
 use Rattle.wit_encode.proofs.Naming.{or-first, or-second, one-home, valid-listed}
 use Rattle.wit_encode.specs.OwnerScope.{IsScopeOf, IsUsedBy, UsesStand, IsTypeOf, InterfaceUses, functions_of}
 use Rattle.wit_encode.proofs.OwnerScope.{types_encode, types_use, functions_encode, functions_use}

@@ -34,22 +34,22 @@ use Rattle.wit_model.specs.declared.model.«Type».TheVariants as ty
 use Rattle.wit_model.specs.declared.model.TypeOwner.{TypeOwner}
 use Rattle.wit_model.proofs.Lists.{first_true, second_true}
 use Rattle.wit_model.proofs.Owners.{function_home}
-use Rattle.wit_encode_types.specs.declared.maps.TypeEncodingMaps.{TypeEncodingMaps}
-use Rattle.wit_encode_types.specs.Kinds.{parts_of}
-use Rattle.wit_encode_types.specs.Maps.{IsKnown, IsReady, IsOnce, MapsGrow, LearnsOnly, by_number}
-use Rattle.wit_encode_types.specs.Plan.{foreign_owner, Meets, at_once, further, MetFrom}
-use Rattle.wit_encode_types.specs.Scope.{Scope}
-use Rattle.wit_encode_types.specs.Counts.{Definitions, Shows, own_name, name_of_own}
+use Rattle.encode_types.specs.declared.maps.TypeEncodingMaps.{TypeEncodingMaps}
+use Rattle.encode_types.specs.Kinds.{parts_of}
+use Rattle.encode_types.specs.Maps.{IsKnown, IsReady, IsOnce, MapsGrow, LearnsOnly, by_number}
+use Rattle.encode_types.specs.Plan.{foreign_owner, Meets, at_once, further, MetFrom}
+use Rattle.encode_types.specs.Scope.{Scope}
+use Rattle.encode_types.specs.Counts.{Definitions, Shows, own_name, name_of_own}
 use Rattle.wit_encode.specs.Instance.{declarations_in}
 use Rattle.wit_encode.specs.Exports.{AreTypesOf, ShowsFirst, AllKnown, KnowsUsed, UsesListed}
-use Rattle.wit_encode_types.proofs.Lists.{all-contained, contains-filter_map, contains-map, contains-one, one-contained, none-in}
+use Rattle.encode_types.proofs.Lists.{all-contained, contains-filter_map, contains-map, contains-one, one-contained, none-in}
 use Rattle.wit_encode.proofs.Owned.{same-owner, valid-references}
 use Rattle.wit_encode.proofs.Validity.{interface_passes}
 use Rattle.wit_encode.proofs.Numbers.{same-some, same-number, equal, contains-get, contains-later, contains-flat, has-contains, once-before, gives-none, gives-one, nothing-mapped, one-mapped}
 use Rattle.wit_encode.proofs.ListedTypes.{IsListedType, numbers, owned-listed, listed-type, type-there, number-there, listed-once, listed-key, uses-before}
 use Rattle.wit_encode.proofs.Meeting.{AllMeetKnown, part-uses, meets-unnamed}
-use Rattle.wit_encode_types.proofs.Pairs.{pairs-across, pairs-right}
-use Rattle.wit_encode_types.proofs.Tables.{pairs-permuted}
+use Rattle.encode_types.proofs.Pairs.{pairs-across, pairs-right}
+use Rattle.encode_types.proofs.Tables.{pairs-permuted}
 
 -- ---- what is learnt
 

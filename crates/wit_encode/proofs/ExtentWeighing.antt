@@ -17,10 +17,10 @@ use Rattle.wit_model.specs.declared.model.TypeId.{TypeId}
 use Rattle.wit_model.specs.declared.model.TypeOwner.{TypeOwner}
 use Rattle.wit_model.specs.declared.model.TypeOwner.TheVariants as owner
 use Rattle.indexmap.specs.IndexMap.{values}
-use Rattle.wit_encode_types.specs.Kinds.{kind_tree}
-use Rattle.wit_encode_types.specs.MetKinds.{ReachedFrom, referred}
-use Rattle.wit_encode_types.specs.Plan.{foreign_owner}
-use Rattle.wit_encode_types.specs.Table.{interface_of_owner}
+use Rattle.encode_types.specs.Kinds.{kind_tree}
+use Rattle.encode_types.specs.MetKinds.{ReachedFrom, referred}
+use Rattle.encode_types.specs.Plan.{foreign_owner}
+use Rattle.encode_types.specs.Table.{interface_of_owner}
 use Rattle.wit_encode.specs.Order.{functions_in_order}
 use Rattle.wit_encode.specs.Extents.{own_name_extent, import_extent, number_extent, function_extent, tree_extent, InstancesAreLight, DependenciesAreLight}
 use Rattle.wit_encode.proofs.Extents.{functions-light, types-light, given-texts}

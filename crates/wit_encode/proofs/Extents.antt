@@ -38,12 +38,12 @@ use Rattle.comp_bytes.specs.Raw.{Declaration, ExternName}
 use Rattle.comp_bytes.specs.RawOf.{raw_defined, raw_function, labeled, text_of as raw_text}
 use Rattle.comp_bytes.specs.Spelling.{attribute, attributes}
 use Rattle.comp_bytes.specs.Writing.{u32_bytes, type_index_bytes, positive_bytes, name_bytes, value_bytes, optional_bytes, field_bytes, case_bytes, vector_bytes, result_list_bytes, attribute_bytes, attributed_bytes, extern_name_bytes, description_bytes, declaration_bytes}
-use Rattle.wit_encode_types.specs.Slots.{Pairs, StandsFor, NamedStands, CaseStands, Follows, FollowsFunction, texts}
-use Rattle.wit_encode_types.specs.Kinds.{kind_tree}
-use Rattle.wit_encode_types.specs.Scope.{exported_name}
-use Rattle.wit_encode_types.specs.Standing.{SlotsStand}
-use Rattle.wit_encode_types.proofs.Encoding.{tabled}
-use Rattle.wit_encode_types.proofs.Lists.{contains-one}
+use Rattle.encode_types.specs.Slots.{Pairs, StandsFor, NamedStands, CaseStands, Follows, FollowsFunction, texts}
+use Rattle.encode_types.specs.Kinds.{kind_tree}
+use Rattle.encode_types.specs.Scope.{exported_name}
+use Rattle.encode_types.specs.Standing.{SlotsStand}
+use Rattle.encode_types.proofs.Encoding.{tabled}
+use Rattle.encode_types.proofs.Lists.{contains-one}
 use Rattle.wit_encode.specs.Extents.{labels_extent, tree_extent, signature_extent, given_length, name_extent, own_name_extent, BytesAreFew, TypesAreLight, FunctionsAreLight}
 use Rattle.wit_encode.proofs.Lengths.{u32-short, name-short}
 use Rattle.wit_encode.proofs.Reached.{part-at}

@@ -15,10 +15,10 @@ use Rattle.wit_model.specs.declared.model.Handle.TheVariants as handle
 use Rattle.wit_model.specs.declared.model.«Type».{«Type» as ValueType}
 use Rattle.wit_model.specs.declared.model.«Type».TheVariants as ty
 use Rattle.comp_meaning.specs.Follow.{is_key, is_filled}
-use Rattle.wit_encode_types.specs.Kinds.{parts_of, has_definition, kind_tree}
-use Rattle.wit_encode_types.specs.Resources.{Names, is_resource_tree, is_resource_declaration}
-use Rattle.wit_encode_types.proofs.Lists.{both}
-use Rattle.wit_encode_types.specs.Formed.{are_values, is_formed}
+use Rattle.encode_types.specs.Kinds.{parts_of, has_definition, kind_tree}
+use Rattle.encode_types.specs.Resources.{Names, is_resource_tree, is_resource_declaration}
+use Rattle.encode_types.proofs.Lists.{both}
+use Rattle.encode_types.specs.Formed.{are_values, is_formed}
 use Rattle.wit_model.proofs.Lists.{first_true, second_true}
 
 -- ---- children

@@ -10,15 +10,15 @@ use Rattle.wit_model.specs.declared.model.Resolve.{Resolve}
 use Rattle.wit_model.specs.declared.model.Function.{Function}
 use Rattle.wit_model.specs.declared.model.TypeId.{TypeId}
 use Rattle.comp_bytes.specs.Raw.{Declarations}
-use Rattle.wit_encode_types.specs.declared.maps.TypeEncodingMaps.{TypeEncodingMaps}
+use Rattle.encode_types.specs.declared.maps.TypeEncodingMaps.{TypeEncodingMaps}
 use Rattle.wit_encode.specs.declared.interface.OpenInterface.{OpenInterface}
-use Rattle.wit_encode_types.specs.Maps.{IsKnown, IsOnce, MapsGrow, LearnsOnly, by_number}
-use Rattle.wit_encode_types.specs.Plan.{MetFrom}
-use Rattle.wit_encode_types.specs.Scope.{Scope}
-use Rattle.wit_encode_types.specs.Counts.{Shows}
+use Rattle.encode_types.specs.Maps.{IsKnown, IsOnce, MapsGrow, LearnsOnly, by_number}
+use Rattle.encode_types.specs.Plan.{MetFrom}
+use Rattle.encode_types.specs.Scope.{Scope}
+use Rattle.encode_types.specs.Counts.{Shows}
 use Rattle.wit_encode.specs.Exports.{AllKnown, KnowsUsed, UsesListed}
 use Rattle.wit_encode.specs.Instance.{keyed, own_of, contents_of, encoder_scope, definitions_with, ShowsFunction, exports_in}
-use Rattle.wit_encode_types.proofs.Lists.{contains-map}
+use Rattle.encode_types.proofs.Lists.{contains-map}
 use Rattle.wit_encode.proofs.Exporting.{shows-nothing, function-unnamed, contains-mapped}
 
 -- a function: its type, and then its export

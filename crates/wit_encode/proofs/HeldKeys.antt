@@ -15,17 +15,17 @@ use mathlib.Core.Bool.{beq}
 use Rattle.wit_model.proofs.Lists.{first_true, second_true}
 use Rattle.wit_model.specs.Text.{Text, text_of, text_eq}
 use Rattle.wit_model.specs.declared.model.Param.{Param}
-use Rattle.wit_encode_types.specs.declared.key.FunctionKey.{FunctionKey}
-use Rattle.wit_encode_types.specs.declared.maps.TypeEncodingMaps.{TypeEncodingMaps}
-use Rattle.wit_encode_types.specs.Key.{same_type, same_param}
-use Rattle.wit_encode_types.specs.KeyLaws.{type_equiv, param_equiv, text_same}
-use Rattle.wit_encode_types.specs.Codes.{type_code, optional_code, Names, IsTable, AreListed, async_code, IsListed, names_of, lists_of}
-use Rattle.wit_encode_types.specs.Maps.{IsSomeKeyList, IsOnce, NamesGrow}
-use Rattle.wit_encode_types.specs.Distinct.{Key, key_view, are_same, KnowsKey}
-use Rattle.wit_encode_types.proofs.Lists.{none-in}
-use Rattle.wit_encode_types.proofs.KindLaws.{same_types, optional_same}
-use Rattle.wit_encode_types.proofs.EqualLists.{keys-of-lists, lists-of-keys, key-shrink}
-use Rattle.wit_encode_types.proofs.Tables.{key-grow}
+use Rattle.encode_types.specs.declared.key.FunctionKey.{FunctionKey}
+use Rattle.encode_types.specs.declared.maps.TypeEncodingMaps.{TypeEncodingMaps}
+use Rattle.encode_types.specs.Key.{same_type, same_param}
+use Rattle.encode_types.specs.KeyLaws.{type_equiv, param_equiv, text_same}
+use Rattle.encode_types.specs.Codes.{type_code, optional_code, Names, IsTable, AreListed, async_code, IsListed, names_of, lists_of}
+use Rattle.encode_types.specs.Maps.{IsSomeKeyList, IsOnce, NamesGrow}
+use Rattle.encode_types.specs.Distinct.{Key, key_view, are_same, KnowsKey}
+use Rattle.encode_types.proofs.Lists.{none-in}
+use Rattle.encode_types.proofs.KindLaws.{same_types, optional_same}
+use Rattle.encode_types.proofs.EqualLists.{keys-of-lists, lists-of-keys, key-shrink}
+use Rattle.encode_types.proofs.Tables.{key-grow}
 use Rattle.wit_encode.proofs.Naming.{or-second}
 
 -- ---- lists and members

@@ -8,7 +8,7 @@ use Rattle.std.proofs.lemmas.List.{take_all}
 use Rattle.std.proofs.lemmas.Bool.{ltb-false}
 use Rattle.std.proofs.lemmas.Map.Steps.{length-le_from_distinct_below}
 use Rattle.wit_model.proofs.Lists.{first_true}
-use Rattle.wit_shown.proofs.Zips.{any-contains}
+use Rattle.encode_shown.proofs.Zips.{any-contains}
 use Rattle.wit_encode.proofs.Validity.{interface_passes}
 use Rattle.wit_model.specs.Lookup.{interface_at, interface_path, path_of_interface}
 use Rattle.wit_model.specs.Uses.{direct_deps}
@@ -17,9 +17,9 @@ use Rattle.wit_model.specs.declared.model.Resolve.{Resolve}
 use Rattle.wit_model.specs.declared.model.Interface.{Interface}
 use Rattle.wit_model.specs.declared.model.InterfaceId.{InterfaceId}
 use Rattle.wit_model.proofs.Elements.{equal, none-in, same-number, same-some}
-use Rattle.wit_shown.specs.Views.{AreReached, AreUsed, UseEarlier}
-use Rattle.wit_encode_types.specs.Known.{Around, UsedStand, known_instance, standing_instances}
-use Rattle.wit_encode_types.proofs.Paths.{found-in, some-of}
+use Rattle.encode_shown.specs.Views.{AreReached, AreUsed, UseEarlier}
+use Rattle.encode_types.specs.Known.{Around, UsedStand, known_instance, standing_instances}
+use Rattle.encode_types.proofs.Paths.{found-in, some-of}
 use Rattle.comp_bytes.specs.Raw.{Declarations}
 use Rattle.wit_encode.specs.Dependencies.{AreImportable, HasImported, ImportsTypes, with_import}
 use Rattle.wit_encode.specs.DependencyCounts.{DefinesImports}

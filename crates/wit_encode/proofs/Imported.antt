@@ -27,14 +27,14 @@ use Rattle.comp_bytes.specs.declared.forms.ComponentTypeRef.TheVariants as refs
 use Rattle.comp_meaning.specs.Follow as follow
 use Rattle.comp_meaning.specs.Follow.{Direction, import_, export_, Instance, Key, Scope, Slot, View, component_scope, component_step, in_scope, instance_types, instance_view, is_foreign_name, new_scope, provided, see, used_view}
 use Rattle.comp_bytes.specs.Raw.{ExternName}
-use Rattle.wit_shown.specs.Views.{ShowsImport}
-use Rattle.world_names.specs.WorldNames.{name_of_interface}
-use Rattle.world_names.specs.WorldSteps.{declared_towards, seen_instance, with_instance}
-use Rattle.world_names.proofs.PathsRead.{path-key}
-use Rattle.world_names.proofs.WorldSteps.{below-more, instance-step, slot-behind, types-appended, unused}
-use Rattle.wit_encode_types.specs.Known.{Aliased, AreAliases, Around, IsAlias, are_right, known_instance, known_slot, outer_scope, outer_slots, with_alias, with_aliases}
-use Rattle.wit_encode_types.proofs.Lists.{both}
-use Rattle.wit_encode_types.proofs.Tables.{equal-is}
+use Rattle.encode_shown.specs.Views.{ShowsImport}
+use Rattle.encode_names.specs.WorldNames.{name_of_interface}
+use Rattle.encode_names.specs.WorldSteps.{declared_towards, seen_instance, with_instance}
+use Rattle.encode_names.proofs.PathsRead.{path-key}
+use Rattle.encode_names.proofs.WorldSteps.{below-more, instance-step, slot-behind, types-appended, unused}
+use Rattle.encode_types.specs.Known.{Aliased, AreAliases, Around, IsAlias, are_right, known_instance, known_slot, outer_scope, outer_slots, with_alias, with_aliases}
+use Rattle.encode_types.proofs.Lists.{both}
+use Rattle.encode_types.proofs.Tables.{equal-is}
 use Rattle.wit_encode.specs.Instance.{EncodesPart}
 use Rattle.wit_encode.specs.Dependencies.{AliasesLeaveImports, ExportsEnd, HasImported, ImportsGrow, NothingIsImported, imported_instance, seen_import, with_export, with_import}
 use Rattle.wit_encode.proofs.Components.{steps-count, steps-instance, steps-more}

@@ -27,16 +27,16 @@ use Rattle.comp_bytes.specs.Held.{type_slots, type_slots_of}
 use Rattle.comp_bytes.specs.Raw.{Alias, Declaration, Declarations, append}
 use Rattle.comp_meaning.specs.Same.{same_place}
 use Rattle.comp_meaning.specs.Follow.{Slot, Instance, find_type, is_foreign_name}
-use Rattle.wit_encode_types.specs.KeyLaws.{text_same}
+use Rattle.encode_types.specs.KeyLaws.{text_same}
 use Rattle.wit_encode.specs.declared.interface.OpenInterface.{OpenInterface}
 use Rattle.wit_encode.specs.declared.interface.Foreign.{Foreign}
-use Rattle.wit_encode_types.specs.Slots.{tree, Keeps, SlotAdded}
-use Rattle.wit_encode_types.specs.Resources.{is_named_interface, named_resources}
-use Rattle.wit_encode_types.specs.Known.{Around, Aliased, alias_declared, with_alias, with_aliases, IsAlias, AreAliases, IsSource, ReachesAround, as_before, aliased, known_slot, known_instance, is_name_slot, is_slot_for, is_named_of, is_instance_of, shows_type, is_standing, stands_around, are_right, below}
-use Rattle.wit_encode_types.specs.Scope.{Scope, IsImportable}
+use Rattle.encode_types.specs.Slots.{tree, Keeps, SlotAdded}
+use Rattle.encode_types.specs.Resources.{is_named_interface, named_resources}
+use Rattle.encode_types.specs.Known.{Around, Aliased, alias_declared, with_alias, with_aliases, IsAlias, AreAliases, IsSource, ReachesAround, as_before, aliased, known_slot, known_instance, is_name_slot, is_slot_for, is_named_of, is_instance_of, shows_type, is_standing, stands_around, are_right, below}
+use Rattle.encode_types.specs.Scope.{Scope, IsImportable}
 use Rattle.wit_encode.specs.Instance.{standing_at, SlotsStand, is_slot_of, outer_slots, outer_instances, is_owner_in, resources_in, is_sound_in, place_in, Contents, standing_instances, scope_from, scope_with, inner_contents, contents_of, around_at, encoder_scope, definitions_with}
-use Rattle.wit_encode_types.proofs.Lists.{both, all-contained}
-use Rattle.wit_encode_types.proofs.Tables.{equal-self, at-some, number-found}
+use Rattle.encode_types.proofs.Lists.{both, all-contained}
+use Rattle.encode_types.proofs.Tables.{equal-self, at-some, number-found}
 use Rattle.wit_encode.proofs.Contents.{slots-kept}
 use Rattle.wit_encode.proofs.Calls.{Calls, alias-inside}
 use Rattle.wit_encode.proofs.Wider.{get-left, Widened, widened, contents-wider}

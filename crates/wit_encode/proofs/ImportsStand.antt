@@ -22,14 +22,14 @@ use Rattle.wit_model.specs.declared.model.TypeOwner.TheVariants as owner
 use Rattle.wit_model.proofs.Elements.{contains-get, same-some}
 use Rattle.wit_model.proofs.Lists.{first_true, second_true}
 use Rattle.comp_meaning.specs.Follow.{View, find_type}
-use Rattle.wit_shown.specs.Views.{ShowsImport, ShowsInterface, functions_of, home_of, name_slot}
-use Rattle.wit_shown.proofs.Parts.{named-tree}
-use Rattle.wit_shown.proofs.Zips.{contains-filter}
-use Rattle.world_names.proofs.TypesFound.{types_are_found}
-use Rattle.wit_encode_types.specs.Resources.{is_named_interface, named_resources}
-use Rattle.wit_encode_types.specs.Known.{Around, below, is_instance_of, is_known_as, is_named_of, is_slot_for, is_standing, outer_instances, shows_type, standing_instances, stands_around}
-use Rattle.wit_encode_types.proofs.Lists.{both}
-use Rattle.wit_encode_types.proofs.Paths.{some-of}
+use Rattle.encode_shown.specs.Views.{ShowsImport, ShowsInterface, functions_of, home_of, name_slot}
+use Rattle.encode_shown.proofs.Parts.{named-tree}
+use Rattle.encode_shown.proofs.Zips.{contains-filter}
+use Rattle.encode_names.proofs.TypesFound.{types_are_found}
+use Rattle.encode_types.specs.Resources.{is_named_interface, named_resources}
+use Rattle.encode_types.specs.Known.{Around, below, is_instance_of, is_known_as, is_named_of, is_slot_for, is_standing, outer_instances, shows_type, standing_instances, stands_around}
+use Rattle.encode_types.proofs.Lists.{both}
+use Rattle.encode_types.proofs.Paths.{some-of}
 use Rattle.wit_encode.proofs.Naming.{HaveHomes, names-agree, one-home, or-second, place-alike}
 use Rattle.wit_encode.proofs.Owned.{same-owner}
 use Rattle.wit_encode.specs.Dependencies.{HasImported, ImportsStand, imported_instance}

@@ -6,7 +6,7 @@ use Rattle.std.proofs.lemmas.Bool.{lt-ltb, ltb-true, ltb-false, true≢false}
 use Rattle.comp_bytes.specs.Raw.{Section}
 use Rattle.comp_bytes.specs.Writing.{u32_bytes, unsigned_bytes, name_bytes, vector_bytes, top_type_bytes, top_export_bytes, framed, section_bytes, component_bytes}
 use Rattle.comp_bytes.specs.Parts.{Part, with_part, sections_of_parts, fits_component}
-use Rattle.wit_encode_types.specs.Room.{limit}
+use Rattle.encode_types.specs.Room.{limit}
 use Rattle.wit_encode.specs.PackageRoom.{part_extent, parts_extent}
 
 -- ---- numbers and names

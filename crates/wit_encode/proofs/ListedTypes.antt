@@ -25,13 +25,13 @@ use Rattle.wit_model.proofs.Lists.{first_true, second_true}
 use Rattle.wit_model.proofs.Listed.{misfit}
 use Rattle.wit_model.proofs.Listings.{given_all, given_found}
 use Rattle.wit_model.proofs.InOrder.{found_stands}
-use Rattle.wit_encode_types.specs.KeyLaws.{text_same}
-use Rattle.wit_encode_types.specs.Kinds.{parts_of}
-use Rattle.wit_encode_types.specs.Plan.{foreign_owner}
-use Rattle.wit_encode_types.specs.Table.{interface_of_owner}
-use Rattle.wit_encode_types.proofs.Lists.{all-contained}
+use Rattle.encode_types.specs.KeyLaws.{text_same}
+use Rattle.encode_types.specs.Kinds.{parts_of}
+use Rattle.encode_types.specs.Plan.{foreign_owner}
+use Rattle.encode_types.specs.Table.{interface_of_owner}
+use Rattle.encode_types.proofs.Lists.{all-contained}
 use Rattle.wit_encode.proofs.Owned.{same-owner, alias-part, own-interface, not-false, or-cases, owner-kept as kept-of-owner}
-use Rattle.wit_encode_types.proofs.Paths.{given-test, found-in}
+use Rattle.encode_types.proofs.Paths.{given-test, found-in}
 use Rattle.wit_encode.proofs.Validity.{type_passes, interface_passes}
 use Rattle.wit_encode.proofs.Numbers.{same-number, has-contains, get-contains, after-at}
 

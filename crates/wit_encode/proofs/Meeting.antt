@@ -16,14 +16,14 @@ use Rattle.wit_model.specs.declared.model.InterfaceId.{InterfaceId}
 use Rattle.wit_model.specs.declared.model.«Type».{«Type» as ValueType}
 use Rattle.wit_model.specs.declared.model.«Type».TheVariants as ty
 use Rattle.wit_model.proofs.Owners.{met_step}
-use Rattle.wit_encode_types.specs.declared.maps.TypeEncodingMaps.{TypeEncodingMaps}
-use Rattle.wit_encode_types.specs.Kinds.{parts_of}
-use Rattle.wit_encode_types.specs.Maps.{IsKnown}
-use Rattle.wit_encode_types.specs.Plan.{foreign_owner, Meets, at_once, further}
-use Rattle.wit_encode_types.specs.Scope.{Scope}
-use Rattle.wit_encode_types.specs.Counts.{own_name, name_of_own}
-use Rattle.wit_encode_types.proofs.Lists.{contains-one}
-use Rattle.wit_encode_types.proofs.Planning.{part-number}
+use Rattle.encode_types.specs.declared.maps.TypeEncodingMaps.{TypeEncodingMaps}
+use Rattle.encode_types.specs.Kinds.{parts_of}
+use Rattle.encode_types.specs.Maps.{IsKnown}
+use Rattle.encode_types.specs.Plan.{foreign_owner, Meets, at_once, further}
+use Rattle.encode_types.specs.Scope.{Scope}
+use Rattle.encode_types.specs.Counts.{own_name, name_of_own}
+use Rattle.encode_types.proofs.Lists.{contains-one}
+use Rattle.encode_types.proofs.Planning.{part-number}
 use Rattle.wit_encode.proofs.Numbers.{contains-flat}
 
 module _ (r : Resolve) (below : Keeps references r) where

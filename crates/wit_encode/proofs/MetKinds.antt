@@ -13,15 +13,15 @@ use Rattle.wit_model.specs.declared.model.TypeDefKind.{TypeDefKind}
 use Rattle.wit_model.specs.declared.model.InterfaceId.{InterfaceId}
 use Rattle.wit_model.specs.declared.model.«Type».{«Type» as ValueType}
 use Rattle.wit_model.proofs.Lists.{first_true, second_true}
-use Rattle.wit_encode_types.specs.declared.maps.TypeEncodingMaps.{TypeEncodingMaps}
-use Rattle.wit_encode_types.specs.Key.{same_type, same_param}
-use Rattle.wit_encode_types.specs.Codes.{kind_code, lists_of}
-use Rattle.wit_encode_types.specs.Maps.{same_kind, IsKnown, IsReady, AllReady, IsOnce, LearnsOnly}
-use Rattle.wit_encode_types.specs.Plan.{Reaches, itself, through}
-use Rattle.wit_encode_types.specs.MetKinds.{ReachedFrom, IsMetKind, HasSame, AreMetKinds, IsKnownKind, IsHeld, Learns, MetKindsAreHeld}
-use Rattle.wit_encode_types.proofs.Lists.{none-in}
-use Rattle.wit_encode_types.proofs.EqualLists.{kinds-of-lists, lists-of-kinds}
-use Rattle.wit_encode_types.proofs.KindLaws.{same_types}
+use Rattle.encode_types.specs.declared.maps.TypeEncodingMaps.{TypeEncodingMaps}
+use Rattle.encode_types.specs.Key.{same_type, same_param}
+use Rattle.encode_types.specs.Codes.{kind_code, lists_of}
+use Rattle.encode_types.specs.Maps.{same_kind, IsKnown, IsReady, AllReady, IsOnce, LearnsOnly}
+use Rattle.encode_types.specs.Plan.{Reaches, itself, through}
+use Rattle.encode_types.specs.MetKinds.{ReachedFrom, IsMetKind, HasSame, AreMetKinds, IsKnownKind, IsHeld, Learns, MetKindsAreHeld}
+use Rattle.encode_types.proofs.Lists.{none-in}
+use Rattle.encode_types.proofs.EqualLists.{kinds-of-lists, lists-of-kinds}
+use Rattle.encode_types.proofs.KindLaws.{same_types}
 use Rattle.wit_encode.proofs.OwnerScope.{unnamed-home}
 use Rattle.wit_encode.proofs.Validity.{valid-unnamed}
 

@@ -22,12 +22,12 @@ use Rattle.wit_model.proofs.Lists.{first_true, second_true}
 use Rattle.wit_model.proofs.Distinct.{either_way}
 use Rattle.wit_model.proofs.Entries.{each_from_at, lists_pass}
 use Rattle.comp_meaning.specs.Same.{same_place}
-use Rattle.wit_encode_types.specs.KeyLaws.{text_same}
-use Rattle.wit_encode_types.specs.Resources.{is_named_interface, is_resource_entry, resource_names}
-use Rattle.wit_encode_types.specs.Table.{is_met_owner, has_named_owner}
-use Rattle.wit_encode_types.proofs.Lists.{both}
+use Rattle.encode_types.specs.KeyLaws.{text_same}
+use Rattle.encode_types.specs.Resources.{is_named_interface, is_resource_entry, resource_names}
+use Rattle.encode_types.specs.Table.{is_met_owner, has_named_owner}
+use Rattle.encode_types.proofs.Lists.{both}
 use Rattle.wit_encode.proofs.Owned.{same-owner}
-use Rattle.wit_encode_types.proofs.Paths.{found-in, given-test, one-number, named-path, path-once}
+use Rattle.encode_types.proofs.Paths.{found-in, given-test, one-number, named-path, path-once}
 
 -- ---- numbered lists
 

@@ -9,8 +9,8 @@ use Rattle.std.proofs.lemmas.List.Sums.{sum_by-cons}
 use Rattle.wit_model.specs.Uses.{has}
 use Rattle.wit_model.specs.Rules.{each_after}
 use Rattle.wit_model.proofs.Lists.{first_true, second_true}
-use Rattle.wit_encode_types.proofs.Pairs.{pairs-head, pairs-tail}
-use Rattle.wit_encode_types.proofs.Lists.{none-in}
+use Rattle.encode_types.proofs.Pairs.{pairs-head, pairs-tail}
+use Rattle.encode_types.proofs.Lists.{none-in}
 
 pub same-some : {A : Type 0} (x y : A) → Some x ≡ Some y → x ≡ y
 same-some x y e = ap (λ o. unwrap_or o x) e

@@ -2,7 +2,7 @@
 use Rattle.std.proofs.Common.{◌≡◌, refl, sym, ap, ◌∙◌, true, List, [], ◌++◌, Option, Some, None, Result, Ok, Err, ℕ, ◌∷◌, Contains, subst}
 use Rattle.std.proofs.lemmas.Map.Views.{All-map-IsPermutation}
 use Rattle.std.proofs.lemmas.List.Elements.{All-contains_itself, All-contains}
-use Rattle.wit_encode_types.proofs.Lists.{contains-map}
+use Rattle.encode_types.proofs.Lists.{contains-map}
 use Rattle.std.specs.Prelude.{IsPermutation, IfOk, OnOk, map, String}
 use Rattle.std.specs.Borrow.{Bor}
 use Rattle.std.specs.declared.alloc.Global.{Global}
@@ -26,22 +26,22 @@ use Rattle.wit_model.proofs.Lists.{first_true, second_true}
 use Rattle.comp_bytes.specs.Raw.{Declaration, Declarations, append, from_list}
 use Rattle.comp_bytes.specs.Reading.{◌>>=◌}
 use Rattle.comp_meaning.specs.Follow.{View, instance_view}
-use Rattle.wit_encode_types.specs.declared.maps.TypeEncodingMaps.{TypeEncodingMaps}
+use Rattle.encode_types.specs.declared.maps.TypeEncodingMaps.{TypeEncodingMaps}
 use Rattle.wit_encode.specs.declared.interface.OpenInterface.{OpenInterface}
 use Rattle.wit_encode.specs.declared.interface.Foreign.{Foreign}
 use Rattle.std.proofs.Common.{Bool, false, OnErr, if◌then◌else◌, filter, length, slice_get, arith}
 use Rattle.std.proofs.lemmas.List.Elements.{filter_passes}
 use Rattle.comp_meaning.specs.Follow as follow
 use Rattle.comp_meaning.specs.Follow.{Slot, new_scope, in_scope}
-use Rattle.wit_encode_types.specs.Known.{Around, GrowsAround, known_instance, is_standing, stands_around, are_right, below, outer_scope, outer_instances}
+use Rattle.encode_types.specs.Known.{Around, GrowsAround, known_instance, is_standing, stands_around, are_right, below, outer_scope, outer_instances}
 use Rattle.wit_encode.proofs.Components.{steps-instance}
-use Rattle.wit_encode_types.specs.Scope.{Scope}
+use Rattle.encode_types.specs.Scope.{Scope}
 use Rattle.wit_encode.specs.Exports.{AreTypesOf}
-use Rattle.wit_encode_types.proofs.Paths.{some-same}
+use Rattle.encode_types.proofs.Paths.{some-same}
 use Rattle.indexmap.specs.IndexMap.{values}
 use Rattle.wit_encode.proofs.ShownSlots.{interface-shown}
 use Rattle.wit_encode.specs.Instance.{is_slot_of, no_view, outer_slots, inner_contents, outer_contents, stands_in, SlotsStand, own_of, around_at, around_of, standing_instances, resources_in, contents_of, encoder_scope, opened, keyed, placed_function, is_sound_in, IsInstance, Continues, definitions_with}
-use Rattle.wit_encode_types.specs.Slots.{Keeps}
+use Rattle.encode_types.specs.Slots.{Keeps}
 use Rattle.wit_encode.proofs.Calls.{InnerAt, inner-at}
 use Rattle.wit_encode.proofs.Outside.{instance-keeps}
 use Rattle.wit_encode.proofs.Importing.{grown-keeps, grown-stands, right-more}

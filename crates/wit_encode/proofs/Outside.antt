@@ -13,10 +13,10 @@ use Rattle.comp_bytes.specs.RawOf.{raw_defined, raw_function}
 use Rattle.comp_bytes.specs.Held.{type_slots_of}
 use Rattle.comp_meaning.specs.Follow as follow
 use Rattle.comp_meaning.specs.Follow.{Slot, new_scope, definition, function_signature, component_step, in_scope}
-use Rattle.wit_encode_types.specs.Slots.{Standing, Keeps, Follows, FollowsFunction, Defines, DefinesFunction}
-use Rattle.wit_encode_types.specs.Formed.{IsFormed, IsFormedSignature}
-use Rattle.wit_encode_types.specs.Known.{no_around}
-use Rattle.wit_encode_types.specs.Counts.{one_type_more, one_function_more}
+use Rattle.encode_types.specs.Slots.{Standing, Keeps, Follows, FollowsFunction, Defines, DefinesFunction}
+use Rattle.encode_types.specs.Formed.{IsFormed, IsFormedSignature}
+use Rattle.encode_types.specs.Known.{no_around}
+use Rattle.encode_types.specs.Counts.{one_type_more, one_function_more}
 use Rattle.wit_encode.specs.Instance.{SlotsStand, is_slot_of, Contents, outer_scope, outer_contents, is_value_type, is_function_type, resources_in, scope_with, definitions_with}
 use Rattle.wit_encode.proofs.Strict.{bind, definition-strict, function-strict}
 use Rattle.wit_encode.proofs.Contents.{Grew, slots-kept}

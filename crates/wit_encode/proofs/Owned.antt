@@ -26,11 +26,11 @@ use Rattle.wit_model.proofs.Entries.{each_from_at, lists_pass, types_keep, each_
 use Rattle.wit_model.proofs.TreeTable.{kept_numbers}
 use Rattle.wit_model.proofs.Functions.{all_flat}
 use Rattle.wit_model.proofs.Owners.{named_met, unnamed_met, owned_stays}
-use Rattle.wit_encode_types.specs.Kinds.{parts_of}
-use Rattle.wit_encode_types.specs.Plan.{foreign_owner}
-use Rattle.wit_encode_types.specs.Table.{interface_of_owner}
-use Rattle.wit_encode_types.proofs.Lists.{all-contained, one-contained}
-use Rattle.wit_encode_types.proofs.Planning.{part-number}
+use Rattle.encode_types.specs.Kinds.{parts_of}
+use Rattle.encode_types.specs.Plan.{foreign_owner}
+use Rattle.encode_types.specs.Table.{interface_of_owner}
+use Rattle.encode_types.proofs.Lists.{all-contained, one-contained}
+use Rattle.encode_types.proofs.Planning.{part-number}
 
 -- ---- owners
 

@@ -38,17 +38,17 @@ use Rattle.wit_model.proofs.Lists.{first_true, second_true, list_all_filter_map}
 use Rattle.wit_model.proofs.Entries.{each_from_at, lists_pass}
 use Rattle.wit_model.proofs.Owners.{named_met}
 use Rattle.wit_model.proofs.Functions.{all_flat}
-use Rattle.wit_encode_types.specs.Kinds.{parts_of}
-use Rattle.wit_encode_types.specs.Plan.{foreign_owner, AllInRange, Reaches, itself, through}
-use Rattle.wit_encode_types.specs.Resources.{is_named_interface, is_met_owner}
-use Rattle.wit_encode_types.specs.Fits.{FitsScope, CanEncode}
-use Rattle.wit_encode_types.specs.Scope.{Scope, IsDeclared, IsImportable}
-use Rattle.wit_encode_types.specs.Table.{interface_of_owner, has_named_owner}
+use Rattle.encode_types.specs.Kinds.{parts_of}
+use Rattle.encode_types.specs.Plan.{foreign_owner, AllInRange, Reaches, itself, through}
+use Rattle.encode_types.specs.Resources.{is_named_interface, is_met_owner}
+use Rattle.encode_types.specs.Fits.{FitsScope, CanEncode}
+use Rattle.encode_types.specs.Scope.{Scope, IsDeclared, IsImportable}
+use Rattle.encode_types.specs.Table.{interface_of_owner, has_named_owner}
 use Rattle.wit_encode.specs.OwnerScope.{IsScopeOf, IsMet, IsOfInstance, NamesStand, InstancesStand, IsUsedBy, UsesStand, IsTypeOf, functions_of, NamesEncode, TypesEncode, FunctionsEncode, TypesUse, FunctionsUse, TableScope}
-use Rattle.wit_encode_types.proofs.Lists.{all-contained, one-contained, both, contains-one, contains-filter_map}
+use Rattle.encode_types.proofs.Lists.{all-contained, one-contained, both, contains-one, contains-filter_map}
 use Rattle.wit_encode.proofs.Forming.{Agree}
 use Rattle.wit_encode.proofs.Owned.{same-owner, valid-references, stays, part-met, own-interface, alias-part}
-use Rattle.wit_encode_types.proofs.Paths.{equal-numbers, some-of, some-same}
+use Rattle.encode_types.proofs.Paths.{equal-numbers, some-of, some-same}
 use Rattle.wit_encode.proofs.Naming.{or-first, or-second, one-home, named-owner, names-agree}
 use Rattle.wit_encode.proofs.Validity.{OwnersMet, valid-layered, valid-unnamed, valid-ownerless, valid-formed, signature-formed, interface_passes, has-name, named-agree, named-parts, named-alike, foreign-interface, declared-there}
 

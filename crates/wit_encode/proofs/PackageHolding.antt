@@ -7,9 +7,9 @@ use Rattle.wit_model.specs.declared.model.Resolve.{Resolve}
 use Rattle.wit_model.specs.declared.model.World.{World}
 use Rattle.comp_bytes.specs.Raw.{Declarations, TopType}
 use Rattle.comp_bytes.specs.Parts.{Part, fits_component, plain_export, top_slots}
-use Rattle.component_exports.specs.ExportedParts.{one_exported}
-use Rattle.component_exports.proofs.Exports.{one_more}
-use Rattle.wit_encode_types.specs.Room.{limit}
+use Rattle.encode_exports.specs.ExportedParts.{one_exported}
+use Rattle.encode_exports.proofs.Exports.{one_more}
+use Rattle.encode_types.specs.Room.{limit}
 use Rattle.wit_model.specs.Weight.{interface_weight}
 use Rattle.wit_encode.specs.Dependencies.{ShowsComponent}
 use Rattle.wit_encode.specs.DependencyCounts.{DefinesComponent}

@@ -20,10 +20,10 @@ use Rattle.wit_model.proofs.OnePath.{found-in}
 use Rattle.comp_bytes.specs.Raw.{Declarations, TopType, declaration_count}
 use Rattle.comp_bytes.specs.Parts.{Part, fits_component, plain_export}
 use Rattle.comp_bytes.specs.Writing.{u32_bytes, name_bytes, declarations_bytes}
-use Rattle.component_exports.specs.ExportedParts.{exporting_from, one_exported}
-use Rattle.wit_shown.proofs.Owning.{own-world}
-use Rattle.wit_shown.specs.PackageTypes.{wrapper}
-use Rattle.wit_encode_types.specs.Room.{limit}
+use Rattle.encode_exports.specs.ExportedParts.{exporting_from, one_exported}
+use Rattle.encode_shown.proofs.Owning.{own-world}
+use Rattle.encode_shown.specs.PackageTypes.{wrapper}
+use Rattle.encode_types.specs.Room.{limit}
 use Rattle.wit_encode.specs.Instance.{declared_extent}
 use Rattle.wit_encode.specs.PackageRoom.{AreLong, InterfacesLackRoom, WorldsLackRoom, part_extent, parts_extent}
 use Rattle.wit_encode.specs.Packages.{HoldsInterfaces, HoldsMembers, HoldsPackage, IsTypeOf, IsWrapperOf, Listed, ListedWorld}

@@ -13,7 +13,7 @@ use Rattle.wit_model.proofs.Elements.{contains-one, none-in, one-contained, zip-
 use Rattle.comp_bytes.specs.Raw.{Declarations}
 use Rattle.comp_bytes.specs.Parts.{Part}
 use Rattle.comp_bytes.specs.Refusal.{IsMemoryOrSize}
-use Rattle.component_exports.specs.ExportedParts.{exporting}
+use Rattle.encode_exports.specs.ExportedParts.{exporting}
 use Rattle.wit_encode.specs.Dependencies.{ShowsComponent}
 use Rattle.wit_encode.specs.DependencyCounts.{DefinesComponent}
 use Rattle.wit_encode.specs.Scopes.{HasNoEqualPaths, RefusesInterface}

@@ -14,8 +14,8 @@ use Rattle.wit_model.specs.declared.model.TypeOwner.{TypeOwner}
 use Rattle.wit_model.proofs.Lists.{first_true, second_true}
 use Rattle.comp_bytes.specs.Raw.{Declaration, Declarations, append, declaration_count}
 use Rattle.comp_bytes.specs.Held.{type_slots_of}
-use Rattle.wit_encode_types.specs.Known.{Aliased, AreAliases, Around, GrowsAround, IsAlias, alias_declared, below, known_instance, known_slot, with_alias, with_aliases}
-use Rattle.wit_encode_types.proofs.Lists.{both, none-in}
+use Rattle.encode_types.specs.Known.{Aliased, AreAliases, Around, GrowsAround, IsAlias, alias_declared, below, known_instance, known_slot, with_alias, with_aliases}
+use Rattle.encode_types.proofs.Lists.{both, none-in}
 use Rattle.wit_encode.specs.Encoders.{declared_after}
 use Rattle.wit_encode.specs.Instance.{count_declared}
 use Rattle.wit_encode.specs.WorldCounts.{instances_declared}

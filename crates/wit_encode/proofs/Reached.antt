@@ -33,18 +33,18 @@ use Rattle.wit_model.proofs.Tables.{grow_at}
 use Rattle.wit_model.proofs.Checks.{below_at}
 use Rattle.wit_model.proofs.InOrder.{found_stands}
 use Rattle.wit_model.proofs.Owners.{named_met}
-use Rattle.wit_encode_types.specs.Kinds.{parts_of}
-use Rattle.wit_encode_types.specs.Plan.{foreign_owner, Reaches, itself, through}
-use Rattle.wit_encode_types.specs.MetKinds.{ReachedFrom, referred}
-use Rattle.wit_encode_types.specs.Table.{interface_of_owner}
-use Rattle.wit_shown.proofs.Items.{typed-item}
-use Rattle.wit_shown.proofs.Zips.{given-contains}
+use Rattle.encode_types.specs.Kinds.{parts_of}
+use Rattle.encode_types.specs.Plan.{foreign_owner, Reaches, itself, through}
+use Rattle.encode_types.specs.MetKinds.{ReachedFrom, referred}
+use Rattle.encode_types.specs.Table.{interface_of_owner}
+use Rattle.encode_shown.proofs.Items.{typed-item}
+use Rattle.encode_shown.proofs.Zips.{given-contains}
 use Rattle.wit_encode.specs.OwnerScope.{IsTypeOf, functions_of}
-use Rattle.wit_encode_types.proofs.Lists.{all-contained, contains-one, one-contained, none-in}
+use Rattle.encode_types.proofs.Lists.{all-contained, contains-one, one-contained, none-in}
 use Rattle.wit_encode.proofs.Counting.{from-map}
 use Rattle.wit_encode.proofs.Numbers.{contains-flat, contains-get, has-contains, same-some}
-use Rattle.wit_encode_types.proofs.Planning.{part-number}
-use Rattle.wit_encode_types.proofs.Paths.{found-in}
+use Rattle.encode_types.proofs.Planning.{part-number}
+use Rattle.encode_types.proofs.Paths.{found-in}
 use Rattle.wit_encode.proofs.Owned.{same-owner, valid-references, stays, part-met, own-interface, alias-part, named-listed, not-false}
 use Rattle.wit_encode.proofs.ListedTypes.{owned-listed, listed-type}
 use Rattle.wit_encode.proofs.OwnerScope.{function-ranges, function-refers, type-stays, types-stay}

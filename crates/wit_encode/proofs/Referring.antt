@@ -22,23 +22,23 @@ use Rattle.wit_model.specs.declared.model.«Type».{«Type» as ValueType}
 use Rattle.wit_model.specs.declared.model.«Type».TheVariants as ty
 use Rattle.wit_model.proofs.Lists.{first_true, second_true}
 use Rattle.comp_bytes.specs.Raw.{Declaration}
-use Rattle.wit_encode_types.specs.declared.key.FunctionKey.{FunctionKey}
-use Rattle.wit_encode_types.specs.declared.maps.TypeEncodingMaps.{TypeEncodingMaps}
-use Rattle.wit_encode_types.specs.Plan.{Reaches}
-use Rattle.wit_encode_types.specs.Scope.{Scope}
-use Rattle.wit_encode_types.specs.Counts.{Definitions}
-use Rattle.wit_encode_types.specs.Key.{same_type, same_param}
-use Rattle.wit_encode_types.specs.Maps.{IsKnown, AllReady, IsOnce}
+use Rattle.encode_types.specs.declared.key.FunctionKey.{FunctionKey}
+use Rattle.encode_types.specs.declared.maps.TypeEncodingMaps.{TypeEncodingMaps}
+use Rattle.encode_types.specs.Plan.{Reaches}
+use Rattle.encode_types.specs.Scope.{Scope}
+use Rattle.encode_types.specs.Counts.{Definitions}
+use Rattle.encode_types.specs.Key.{same_type, same_param}
+use Rattle.encode_types.specs.Maps.{IsKnown, AllReady, IsOnce}
 use Rattle.wit_encode.specs.Exports.{AllKnown}
-use Rattle.wit_encode_types.specs.Codes.{names_of}
-use Rattle.wit_encode_types.specs.Distinct.{key_of, key_view, are_same, AddsFunctions, DefinesTypes}
-use Rattle.wit_encode_types.specs.MetKinds.{referred, IsMetKind, AreMetKinds, LearnsMet, LearnsFrom, key_types}
-use Rattle.wit_encode_types.proofs.Lists.{contains-map, none-in}
-use Rattle.wit_encode_types.proofs.KindLaws.{optional_same}
-use Rattle.wit_encode_types.proofs.Encoding.{meets-reaches, learns-nothing}
+use Rattle.encode_types.specs.Codes.{names_of}
+use Rattle.encode_types.specs.Distinct.{key_of, key_view, are_same, AddsFunctions, DefinesTypes}
+use Rattle.encode_types.specs.MetKinds.{referred, IsMetKind, AreMetKinds, LearnsMet, LearnsFrom, key_types}
+use Rattle.encode_types.proofs.Lists.{contains-map, none-in}
+use Rattle.encode_types.proofs.KindLaws.{optional_same}
+use Rattle.encode_types.proofs.Encoding.{meets-reaches, learns-nothing}
 use Rattle.wit_encode.proofs.HeldKeys.{any-at, same_equiv, alike}
 use Rattle.wit_encode.proofs.Counting.{Began, HeldKinds, from-map}
-use Rattle.wit_encode_types.proofs.Learning.{learns-none, learns-then}
+use Rattle.encode_types.proofs.Learning.{learns-none, learns-then}
 use Rattle.wit_encode.proofs.MetKinds.{met-kinds, params-same}
 use Rattle.wit_encode.proofs.Numbers.{contains-flat}
 use Rattle.wit_encode.proofs.Opening.{permuted-contains}

@@ -23,14 +23,14 @@ use Rattle.comp_bytes.specs.RawOf.{raw_defined, raw_function, labeled, text_of}
 use Rattle.comp_bytes.specs.Held.{described_slots, declaration_slots, type_slots, type_slots_of, fits_counts, fits_next, fits_added}
 use Rattle.comp_bytes.specs.Fits.{fits_length, fits_label, fits_labels, fits_names, fits_defined, fits_declaration}
 use Rattle.wit_encode.specs.declared.interface.OpenInterface.{OpenInterface}
-use Rattle.wit_encode_types.specs.declared.maps.TypeEncodingMaps.{TypeEncodingMaps}
-use Rattle.wit_encode_types.specs.Slots.{Pairs, StandsFor, NamedStands, CaseStands, Follows, FollowsFunction, texts}
-use Rattle.wit_encode_types.specs.Room.{Request, IsUnfit, LacksRoomBehind, its_definition, its_name, its_import, LacksOne, a_type, a_request, FindsNoRoom, HasNoRoom, fits_tree, fits_type_name, limit, value_type, function_type, export_name, import_of, function_name, function_requests}
+use Rattle.encode_types.specs.declared.maps.TypeEncodingMaps.{TypeEncodingMaps}
+use Rattle.encode_types.specs.Slots.{Pairs, StandsFor, NamedStands, CaseStands, Follows, FollowsFunction, texts}
+use Rattle.encode_types.specs.Room.{Request, IsUnfit, LacksRoomBehind, its_definition, its_name, its_import, LacksOne, a_type, a_request, FindsNoRoom, HasNoRoom, fits_tree, fits_type_name, limit, value_type, function_type, export_name, import_of, function_name, function_requests}
 use Rattle.wit_model.specs.declared.model.TypeId.{TypeId}
 use Rattle.wit_model.specs.Meant.{type_meaning}
-use Rattle.wit_encode_types.specs.Scope.{exported_name}
-use Rattle.wit_encode_types.specs.Kinds.{kind_tree}
-use Rattle.wit_encode_types.specs.MetKinds.{ReachedFrom, referred}
+use Rattle.encode_types.specs.Scope.{exported_name}
+use Rattle.encode_types.specs.Kinds.{kind_tree}
+use Rattle.encode_types.specs.MetKinds.{ReachedFrom, referred}
 use Rattle.wit_encode.specs.Instance.{held_in, lacks_room_in, placed_function}
 
 pub on-size : {A : Type 0} (res : Result A Error) (P : Type 0) → OnErr res P → res ≡ Err errors.Size → P

@@ -5,8 +5,8 @@ use Rattle.wit_model.specs.declared.error.Error.{Error}
 use Rattle.wit_model.specs.declared.error.Error.TheVariants as errors
 use Rattle.wit_model.specs.declared.model.Resolve.{Resolve}
 use Rattle.wit_model.specs.declared.model.InterfaceId.{InterfaceId}
-use Rattle.interface_reach.specs.Reach.{reached_in_order}
-use Rattle.world_names.specs.Clashes.{RefusesPaths}
+use Rattle.encode_reach.specs.Reach.{reached_in_order}
+use Rattle.encode_names.specs.Clashes.{RefusesPaths}
 use Rattle.wit_encode.specs.Scopes.{RefusesInterface}
 
 abbrev numbers : List InterfaceId → List ℕ

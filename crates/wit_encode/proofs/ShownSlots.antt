@@ -24,10 +24,10 @@ use Rattle.comp_bytes.specs.declared.forms.ComponentTypeRef.{ComponentTypeRef}
 use Rattle.comp_bytes.specs.declared.forms.ComponentTypeRef.TheVariants as refs
 use Rattle.comp_bytes.specs.Raw.{Declaration, Alias, ExternName}
 use Rattle.comp_meaning.specs.Follow.{Slot, ShownType, InstanceScope, is_simple, in_instance, definition, function_signature, function_in, declared_by, named_like, named_type, show_type, show_function, instance_step, instance_steps, new_instance}
-use Rattle.wit_shown.specs.Views.{name_slot, shown_type, types_of}
-use Rattle.wit_encode_types.specs.Resources.{Names, is_met_owner, resource_names}
-use Rattle.wit_encode_types.specs.Standing.{is_slot_of}
-use Rattle.wit_encode_types.proofs.Paths.{some-same}
+use Rattle.encode_shown.specs.Views.{name_slot, shown_type, types_of}
+use Rattle.encode_types.specs.Resources.{Names, is_met_owner, resource_names}
+use Rattle.encode_types.specs.Standing.{is_slot_of}
+use Rattle.encode_types.proofs.Paths.{some-same}
 use Rattle.wit_encode.proofs.Steps.{unbind, unwhen, unprovided}
 use Rattle.wit_encode.proofs.Owned.{same-owner}
 use Rattle.wit_encode.proofs.Numbers.{same-number}

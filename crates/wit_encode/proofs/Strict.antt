@@ -17,9 +17,9 @@ use Rattle.comp_bytes.specs.RawOf.{labeled, raw_defined, raw_function}
 use Rattle.comp_bytes.specs.Reading.{◌>>=◌}
 use Rattle.comp_meaning.specs.Follow as follow
 use Rattle.comp_meaning.specs.Follow.{Slot, each, provided, primitive_of_type, value_in, resource_in, value_type, field_type, case_type, definition, function_signature, is_key, is_filled}
-use Rattle.wit_encode_types.specs.Slots.{tree, primitive_of, StandsFor, StandsForOptional, NamedStands, CaseStands, texts, Follows, FollowsFunction}
-use Rattle.wit_encode_types.specs.Resources.{Names, is_resource_tree}
-use Rattle.wit_encode_types.specs.Formed.{are_values, is_formed}
+use Rattle.encode_types.specs.Slots.{tree, primitive_of, StandsFor, StandsForOptional, NamedStands, CaseStands, texts, Follows, FollowsFunction}
+use Rattle.encode_types.specs.Resources.{Names, is_resource_tree}
+use Rattle.encode_types.specs.Formed.{are_values, is_formed}
 use Rattle.wit_encode.specs.Instance.{standing_at, SlotsStand, is_slot_of}
 
 primitive-same : (x : PrimitiveValType) → primitive_of x ≡ primitive_of_type x

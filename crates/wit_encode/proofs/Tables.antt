@@ -21,21 +21,21 @@ use Rattle.wit_model.specs.declared.model.TypeOwner.{TypeOwner}
 use Rattle.wit_model.specs.declared.model.TypeOwner.TheVariants as owner
 use Rattle.wit_model.specs.declared.model.InterfaceId.{InterfaceId}
 use Rattle.wit_model.specs.declared.model.«Type».{«Type» as ValueType}
-use Rattle.wit_encode_types.specs.declared.maps.TypeEncodingMaps.{TypeEncodingMaps}
-use Rattle.wit_encode_types.specs.declared.table.TableOf.{TableOf}
-use Rattle.wit_encode_types.specs.Fits.{CanEncode}
-use Rattle.wit_encode_types.specs.Kinds.{parts_of, has_definition, kind_tree}
-use Rattle.wit_encode_types.specs.Formed.{IsFormed, IsFormedSignature, are_values}
-use Rattle.wit_encode_types.specs.Plan.{InRange, AllInRange, foreign_owner}
-use Rattle.wit_encode_types.specs.Maps.{MapsAgree}
-use Rattle.wit_encode_types.specs.Slots.{SlotsGrow}
-use Rattle.wit_encode_types.specs.Scope.{Scope, IsImportable}
-use Rattle.wit_encode_types.specs.Leaves.{Leaves}
-use Rattle.wit_encode_types.specs.Table.{table_scope, table_view, interface_of_owner, is_met_by, has_named_owner, IsTable, TableReads, IsDefined, AllDefined}
-use Rattle.wit_encode_types.proofs.Lists.{both, one-contained}
+use Rattle.encode_types.specs.declared.maps.TypeEncodingMaps.{TypeEncodingMaps}
+use Rattle.encode_types.specs.declared.table.TableOf.{TableOf}
+use Rattle.encode_types.specs.Fits.{CanEncode}
+use Rattle.encode_types.specs.Kinds.{parts_of, has_definition, kind_tree}
+use Rattle.encode_types.specs.Formed.{IsFormed, IsFormedSignature, are_values}
+use Rattle.encode_types.specs.Plan.{InRange, AllInRange, foreign_owner}
+use Rattle.encode_types.specs.Maps.{MapsAgree}
+use Rattle.encode_types.specs.Slots.{SlotsGrow}
+use Rattle.encode_types.specs.Scope.{Scope, IsImportable}
+use Rattle.encode_types.specs.Leaves.{Leaves}
+use Rattle.encode_types.specs.Table.{table_scope, table_view, interface_of_owner, is_met_by, has_named_owner, IsTable, TableReads, IsDefined, AllDefined}
+use Rattle.encode_types.proofs.Lists.{both, one-contained}
 use Rattle.wit_encode.proofs.Forming.{optional-values}
-use Rattle.wit_encode_types.proofs.Paths.{found-in, some-of}
-use Rattle.wit_encode_types.proofs.Planning.{part-smaller}
+use Rattle.encode_types.proofs.Paths.{found-in, some-of}
+use Rattle.encode_types.proofs.Planning.{part-smaller}
 use Rattle.wit_encode.proofs.Validity.{valid-layered, valid-resource, valid-formed, signature-formed, table-agree, all-met, named-met, foreign-interface, importable}
 use Rattle.wit_encode.specs.OwnerScope.{NamesStand, IsOfInstance}
 use Rattle.wit_encode.proofs.OwnerScope.{names_encode, table_is_scope}

@@ -20,11 +20,11 @@ use Rattle.wit_model.specs.declared.model.«Type».TheVariants as ty
 use Rattle.wit_model.specs.declared.model.TypeOwner.TheVariants as owner
 use Rattle.wit_model.proofs.Elements.{all-contained, contains-flat, contains-get, contains-one, none-in, same-number}
 use Rattle.wit_model.proofs.Lists.{second_true}
-use Rattle.wit_shown.proofs.Basics.{type-passes, valid-references}
-use Rattle.wit_shown.proofs.Interfaces.{contains-mapped}
-use Rattle.wit_shown.proofs.Reach.{once_from}
-use Rattle.wit_shown.proofs.Zips.{filter-contains, given-contains}
-use Rattle.wit_encode_types.proofs.Paths.{named-path, some-of, some-same}
+use Rattle.encode_shown.proofs.Basics.{type-passes, valid-references}
+use Rattle.encode_shown.proofs.Interfaces.{contains-mapped}
+use Rattle.encode_shown.proofs.Reach.{once_from}
+use Rattle.encode_shown.proofs.Zips.{filter-contains, given-contains}
+use Rattle.encode_types.proofs.Paths.{named-path, some-of, some-same}
 use Rattle.wit_encode.proofs.ListedTypes.{listed-type}
 use Rattle.wit_encode.proofs.Meeting.{named-meets}
 use Rattle.wit_encode.proofs.Owned.{owner-kept, same-owner, or-cases}

@@ -34,19 +34,19 @@ use Rattle.std.proofs.lemmas.Bool.{lt-ltb}
 use Rattle.wit_model.specs.declared.model.TypeDefKind.{TypeDefKind}
 use Rattle.wit_model.specs.declared.model.TypeDefKind.TheVariants as kind
 use Rattle.wit_model.specs.declared.model.Handle.TheVariants as handle
-use Rattle.wit_encode_types.specs.Plan.{IsLayered, InRange, AllInRange, foreign_owner, is_interface}
-use Rattle.wit_encode_types.specs.Scope.{IsImportable, Scope}
+use Rattle.encode_types.specs.Plan.{IsLayered, InRange, AllInRange, foreign_owner, is_interface}
+use Rattle.encode_types.specs.Scope.{IsImportable, Scope}
 use Rattle.wit_encode.specs.OwnerScope.{NamesAgree}
-use Rattle.wit_encode_types.specs.Table.{table_scope, below, interface_of_owner, declaration_in, named_declaration, is_met_by, is_met_owner, has_named_owner}
-use Rattle.wit_encode_types.proofs.Lists.{contains-one, all-contained}
+use Rattle.encode_types.specs.Table.{table_scope, below, interface_of_owner, declaration_in, named_declaration, is_met_by, is_met_owner, has_named_owner}
+use Rattle.encode_types.proofs.Lists.{contains-one, all-contained}
 use Rattle.wit_encode.proofs.Owned.{same-owner, valid-references}
-use Rattle.wit_encode_types.proofs.Planning.{part-smaller}
-use Rattle.wit_encode_types.proofs.Paths.{found-in}
+use Rattle.encode_types.proofs.Planning.{part-smaller}
+use Rattle.encode_types.proofs.Paths.{found-in}
 use Rattle.wit_encode.proofs.Naming.{HaveHomes, or-first, or-second, named-owner, valid-owner_in_range, one-home, names-agree}
 use Rattle.wit_model.proofs.Resources.{resource_step}
-use Rattle.wit_encode_types.specs.Kinds.{parts_of, has_definition, kind_tree}
-use Rattle.wit_encode_types.specs.Resources.{Names, is_resource_tree, is_resource_declaration, is_named_interface, resource_names}
-use Rattle.wit_encode_types.specs.Formed.{is_formed, are_values, IsFormedSignature}
+use Rattle.encode_types.specs.Kinds.{parts_of, has_definition, kind_tree}
+use Rattle.encode_types.specs.Resources.{Names, is_resource_tree, is_resource_declaration, is_named_interface, resource_names}
+use Rattle.encode_types.specs.Formed.{is_formed, are_values, IsFormedSignature}
 use Rattle.wit_encode.proofs.Forming.{Agree, kind-formed, kind-alike, values-of, optional-values}
 use Rattle.wit_model.specs.declared.model.TypeOwner.TheVariants as owner
 use Rattle.wit_model.specs.declared.model.«Type».TheVariants as ty

@@ -32,9 +32,9 @@ use Rattle.wit_model.specs.declared.model.«Type».{«Type» as ValueType}
 use Rattle.wit_model.specs.declared.model.«Type».TheVariants as ty
 use Rattle.wit_model.proofs.Lists.{first_true, second_true}
 use Rattle.comp_bytes.specs.Fits.{fits_length, fits_names, fits_given, fits_name}
-use Rattle.wit_encode_types.specs.Kinds.{kind_tree}
+use Rattle.encode_types.specs.Kinds.{kind_tree}
 use Rattle.wit_encode.specs.Order.{is_function_of, by_resource, functions_in_order}
-use Rattle.wit_encode_types.specs.Room.{Request, IsUnfit, LacksPart, its_definition, its_name, its_import, LacksOne, a_type, a_request, fits_tree, fits_request, limit, function_type, function_name, function_requests}
+use Rattle.encode_types.specs.Room.{Request, IsUnfit, LacksPart, its_definition, its_name, its_import, LacksOne, a_type, a_request, fits_tree, fits_request, limit, function_type, function_name, function_requests}
 use Rattle.wit_encode.specs.Encoders.{InterfaceLacksRoom}
 use Rattle.wit_model.specs.declared.model.Handle.TheVariants as handle
 use Rattle.std.proofs.lemmas.List.Sums.{get_or-le-sum_by}
@@ -44,19 +44,19 @@ use Rattle.wit_model.specs.Text.{text_eq}
 use Rattle.wit_model.specs.Rules.{is_member}
 use Rattle.wit_model.specs.Valid.{function_names}
 use Rattle.std.proofs.lemmas.List.Filters.{sum_by-filter_both}
-use Rattle.wit_encode_types.specs.KeyLaws.{text_same}
-use Rattle.wit_encode_types.specs.Plan.{foreign_owner}
-use Rattle.wit_encode_types.specs.Table.{interface_of_owner}
-use Rattle.wit_encode_types.specs.MetKinds.{ReachedFrom, referred}
+use Rattle.encode_types.specs.KeyLaws.{text_same}
+use Rattle.encode_types.specs.Plan.{foreign_owner}
+use Rattle.encode_types.specs.Table.{interface_of_owner}
+use Rattle.encode_types.specs.MetKinds.{ReachedFrom, referred}
 use Rattle.wit_encode.specs.RoomLaws.{LackingInterfacesAreHeavy}
 use Rattle.wit_encode.proofs.Validity.{type_passes, interface_passes, valid-layered}
-use Rattle.wit_encode_types.proofs.Encoding.{tabled}
+use Rattle.encode_types.proofs.Encoding.{tabled}
 use Rattle.wit_encode.proofs.Counting.{contains-filter, from-filter, from-map}
-use Rattle.wit_encode_types.proofs.Lists.{all-contained, contains-map, contains-one, none-in}
+use Rattle.encode_types.proofs.Lists.{all-contained, contains-map, contains-one, none-in}
 use Rattle.wit_encode.proofs.Numbers.{contains-later, same-number, equal}
 use Rattle.wit_encode.proofs.Refusing.{two-each, listed, map-twice}
 use Rattle.wit_encode.proofs.Reached.{from-flat, part-at, IsOwner, IsCounted, Stays, met-counted, counted-in, named-own, all-numbers, interface-owner}
-use Rattle.wit_encode_types.proofs.Pairs.{pairs-head, pairs-tail}
+use Rattle.encode_types.proofs.Pairs.{pairs-head, pairs-tail}
 
 -- ---- texts that don't fit are long
 

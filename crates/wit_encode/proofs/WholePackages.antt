@@ -23,11 +23,11 @@ use Rattle.comp_bytes.specs.Parts.{Part, sections_of_parts}
 use Rattle.comp_bytes.specs.Spelling.{IsComponent, preamble}
 use Rattle.comp_bytes.specs.Refusal.{IsMemoryOrSize}
 use Rattle.comp_meaning.specs.Follow.{is_filled}
-use Rattle.component_exports.specs.ExportedParts.{exporting}
-use Rattle.component_exports.proofs.Exports.{all_exported}
-use Rattle.wit_shown.specs.PackageTypes.{ArePackageTypes, IsInterfaceType, IsListedWorldType}
-use Rattle.wit_shown.proofs.Owning.{own-path}
-use Rattle.wit_shown.proofs.PackageTypes as shown
+use Rattle.encode_exports.specs.ExportedParts.{exporting}
+use Rattle.encode_exports.proofs.Exports.{all_exported}
+use Rattle.encode_shown.specs.PackageTypes.{ArePackageTypes, IsInterfaceType, IsListedWorldType}
+use Rattle.encode_shown.proofs.Owning.{own-path}
+use Rattle.encode_shown.proofs.PackageTypes as shown
 use Rattle.wit_encode.specs.Packages.{AddsWorlds, AreNamed, AreWorlds, HasMembers, HasNoClashes, HasNoMembers, HaveNoEqualPaths, HoldsInterfaces, HoldsMembers, HoldsPackage, IsTypeOf, IsWrapperOf, Listed, ListedWorld, MeansPackage, RefusesInterfaces, RefusesPackage, RefusesWorlds}
 
 -- ---- what stands in a package

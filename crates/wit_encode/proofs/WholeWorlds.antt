@@ -8,10 +8,10 @@ use Rattle.wit_model.specs.declared.model.Resolve.{Resolve}
 use Rattle.wit_model.specs.declared.model.World.{World}
 use Rattle.comp_bytes.specs.Refusal.{IsMemoryOrSize}
 use Rattle.comp_meaning.specs.Follow.{export_}
-use Rattle.wit_shown.proofs.Worlds.{world-obeys}
-use Rattle.wit_shown.proofs.WorldMeans.{world-means, world-package-means}
-use Rattle.world_names.specs.Clashes.{HasNoClash, RefusesNames}
-use Rattle.world_names.proofs.WorldSteps.{worlds_are_shown}
+use Rattle.encode_shown.proofs.Worlds.{world-obeys}
+use Rattle.encode_shown.proofs.WorldMeans.{world-means, world-package-means}
+use Rattle.encode_names.specs.Clashes.{HasNoClash, RefusesNames}
+use Rattle.encode_names.proofs.WorldSteps.{worlds_are_shown}
 use Rattle.wit_encode.specs.WholeWorlds.{RefusesWorld, ShowsWorldType}
 use Rattle.wit_encode.specs.WorldItems.{HasShown, ended}
 use Rattle.wit_encode.specs.Worlds.{WorldEncoder}

@@ -6,13 +6,13 @@ use Rattle.comp_bytes.specs.Raw.{Alias, Declaration}
 use Rattle.comp_bytes.specs.Held.{type_slots_of}
 use Rattle.comp_meaning.specs.Follow as follow
 use Rattle.comp_meaning.specs.Follow.{Slot, Instance, InstanceScope, new_instance, new_scope, provided, in_scope, find_type, exported_slot, component_step, instance_step, instance_steps}
-use Rattle.wit_encode_types.specs.Known.{Around, Aliased, alias_declared, with_alias}
+use Rattle.encode_types.specs.Known.{Around, Aliased, alias_declared, with_alias}
 use Rattle.wit_encode.specs.Instance.{no_view, outer_scope, outer_slots, outer_instances, inner_scope, inner_contents}
 use Rattle.wit_encode.proofs.Strict.{bind}
 use Rattle.wit_encode.proofs.Steps.{unbind}
 use Rattle.wit_encode.proofs.Components.{steps-count, steps-more}
 use Rattle.wit_encode.proofs.Calls.{inner-at}
-use Rattle.wit_encode_types.proofs.Paths.{some-same}
+use Rattle.encode_types.proofs.Paths.{some-same}
 
 pub get-left : {X : Type 0} (xs : List X) (y : X) (k : ℕ) (x : X) → slice_get xs k ≡ Some x → slice_get (xs ++ y ∷ []) k ≡ Some x
 get-left [] y k x e = absurd (let z : ⊥ = cc in z)

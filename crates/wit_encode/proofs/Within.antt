@@ -10,10 +10,10 @@ use Rattle.comp_bytes.specs.Raw.{Declaration, Declarations, ExternName, append}
 use Rattle.comp_bytes.specs.RawOf.{raw_defined, raw_function}
 use Rattle.comp_bytes.specs.Held.{type_slots, type_slots_of}
 use Rattle.wit_encode.specs.declared.interface.OpenInterface.{OpenInterface}
-use Rattle.wit_encode_types.specs.Slots.{Standing, tree, Follows, FollowsFunction, Defines, DefinesFunction}
-use Rattle.wit_encode_types.specs.Scope.{DeclaresSlot, DeclaresResource}
-use Rattle.wit_encode_types.specs.Formed.{IsFormed, IsFormedSignature}
-use Rattle.wit_encode_types.specs.Counts.{one_type_more, one_function_more, ExportsOne}
+use Rattle.encode_types.specs.Slots.{Standing, tree, Follows, FollowsFunction, Defines, DefinesFunction}
+use Rattle.encode_types.specs.Scope.{DeclaresSlot, DeclaresResource}
+use Rattle.encode_types.specs.Formed.{IsFormed, IsFormedSignature}
+use Rattle.encode_types.specs.Counts.{one_type_more, one_function_more, ExportsOne}
 use Rattle.wit_encode.specs.Instance.{SlotsStand, around_at, contents_of, encoder_scope, definitions_with}
 use Rattle.wit_encode.proofs.Calls.{Calls, defined-inside, function-inside, type-inside, resource-inside}
 use Rattle.wit_encode.proofs.Outside.{defined-outside, function-outside}

@@ -5,14 +5,14 @@ use Rattle.wit_model.specs.declared.model.Resolve.{Resolve}
 use Rattle.wit_model.specs.declared.model.World.{World}
 use Rattle.wit_model.specs.declared.model.WorldId.{WorldId}
 use Rattle.comp_bytes.specs.Raw.{Declarations}
-use Rattle.wit_encode_types.specs.declared.maps.TypeEncodingMaps.{TypeEncodingMaps}
-use Rattle.wit_encode_types.specs.Known.{Aliased, AreAliases, alias_declared, Around, GrowsAround, IsAlias, aliased, outer_slots, standing_instances, with_alias, with_aliases}
-use Rattle.wit_encode_types.specs.Scope.{Scope, IsImportable}
-use Rattle.wit_encode_types.specs.Slots.{Keeps}
-use Rattle.wit_encode_types.specs.Standing.{SlotsStand}
-use Rattle.wit_encode_types.specs.View.{Grows}
-use Rattle.wit_encode_types.proofs.Around.{around-same}
-use Rattle.world_names.specs.WorldSteps.{Entry, Entries}
+use Rattle.encode_types.specs.declared.maps.TypeEncodingMaps.{TypeEncodingMaps}
+use Rattle.encode_types.specs.Known.{Aliased, AreAliases, alias_declared, Around, GrowsAround, IsAlias, aliased, outer_slots, standing_instances, with_alias, with_aliases}
+use Rattle.encode_types.specs.Scope.{Scope, IsImportable}
+use Rattle.encode_types.specs.Slots.{Keeps}
+use Rattle.encode_types.specs.Standing.{SlotsStand}
+use Rattle.encode_types.specs.View.{Grows}
+use Rattle.encode_types.proofs.Around.{around-same}
+use Rattle.encode_names.specs.WorldSteps.{Entry, Entries}
 use Rattle.wit_encode.specs.declared.interface.Foreign.{Foreign}
 use Rattle.wit_encode.specs.Instance.{around_at}
 use Rattle.wit_encode.specs.Worlds.{WorldEncoder, is_sound_outside, world_around, world_definitions, world_scope, world_view_of}

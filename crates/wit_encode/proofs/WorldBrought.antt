@@ -11,8 +11,8 @@ use Rattle.wit_model.specs.declared.model.TypeId.{TypeId}
 use Rattle.wit_model.proofs.Lists.{first_true, second_true}
 use Rattle.comp_bytes.specs.Raw.{Declarations, declaration_count}
 use Rattle.comp_bytes.specs.Held.{type_slots_of}
-use Rattle.wit_encode_types.specs.Known.{Aliased, Around, IsAlias, ReachesAround, as_before, aliased, below, known_slot, with_alias}
-use Rattle.wit_encode_types.proofs.Lists.{both}
+use Rattle.encode_types.specs.Known.{Aliased, Around, IsAlias, ReachesAround, as_before, aliased, below, known_slot, with_alias}
+use Rattle.encode_types.proofs.Lists.{both}
 use Rattle.wit_encode.specs.Worlds.{brought_numbers, held_beside, is_brought, is_of_listed}
 use Rattle.wit_encode.proofs.Imported.{at-same, other-slot}
 use Rattle.wit_encode.proofs.Importing.{new-slot}

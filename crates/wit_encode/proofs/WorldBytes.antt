@@ -4,8 +4,8 @@ use Rattle.comp_bytes.specs.Raw.{ExternName}
 use Rattle.comp_bytes.specs.Writing.{declaration_bytes}
 use Rattle.comp_bytes.specs.declared.forms.ComponentTypeRef.{ComponentTypeRef}
 use Rattle.comp_meaning.specs.Follow.{Direction, import_, export_}
-use Rattle.world_names.specs.WorldSteps.{declared_towards}
-use Rattle.wit_encode_types.specs.Extents.{name_extent}
+use Rattle.encode_names.specs.WorldSteps.{declared_towards}
+use Rattle.encode_types.specs.Extents.{name_extent}
 use Rattle.wit_encode.proofs.Extents.{bytes-few}
 
 pub declared-few : (direction : Direction) (name : ExternName) (described : ComponentTypeRef) → length (declaration_bytes (declared_towards direction name described)) ≤ name_extent name

@@ -26,19 +26,19 @@ use Rattle.comp_bytes.specs.Held.{type_slots_of}
 use Rattle.comp_meaning.specs.Same.{same_place}
 use Rattle.comp_meaning.specs.Follow as follow
 use Rattle.comp_meaning.specs.Follow.{import_, Seen, Slot, component_step, definition, function_signature, in_scope, instance_types, is_foreign_name, is_simple, named_type, new_scope, see}
-use Rattle.wit_encode_types.specs.declared.maps.TypeEncodingMaps.{TypeEncodingMaps}
-use Rattle.wit_encode_types.specs.Slots.{Standing, tree, Follows, FollowsFunction, Defines, DefinesFunction}
-use Rattle.wit_encode_types.specs.Resources.{is_met_owner, is_named_interface, named_resources}
-use Rattle.wit_encode_types.specs.Scope.{Scope, IsDeclared, DeclaresSlot, DeclaresResource, IsImportable, exported_name}
-use Rattle.wit_encode_types.specs.Formed.{IsFormed, IsFormedSignature}
-use Rattle.wit_encode_types.specs.Counts.{one_type_more, one_function_more, ExportsOne}
-use Rattle.wit_encode_types.specs.Distinct.{is_value_type, is_function_type}
-use Rattle.wit_encode_types.specs.Known.{Around, Aliased, IsAlias, IsSource, ReachesAround, as_before, aliased, alias_declared, are_right, is_slot_for, known_slot, outer_scope, outer_slots, standing_instances, with_alias}
-use Rattle.wit_encode_types.specs.Standing.{SlotsStand, is_slot_of, standing_at}
-use Rattle.wit_encode_types.specs.View.{View, Grows}
-use Rattle.wit_encode_types.proofs.Around.{around-same}
-use Rattle.world_names.specs.WorldSteps.{seen_type}
-use Rattle.world_names.proofs.WorldSteps.{named-slot as named-plain, type-step}
+use Rattle.encode_types.specs.declared.maps.TypeEncodingMaps.{TypeEncodingMaps}
+use Rattle.encode_types.specs.Slots.{Standing, tree, Follows, FollowsFunction, Defines, DefinesFunction}
+use Rattle.encode_types.specs.Resources.{is_met_owner, is_named_interface, named_resources}
+use Rattle.encode_types.specs.Scope.{Scope, IsDeclared, DeclaresSlot, DeclaresResource, IsImportable, exported_name}
+use Rattle.encode_types.specs.Formed.{IsFormed, IsFormedSignature}
+use Rattle.encode_types.specs.Counts.{one_type_more, one_function_more, ExportsOne}
+use Rattle.encode_types.specs.Distinct.{is_value_type, is_function_type}
+use Rattle.encode_types.specs.Known.{Around, Aliased, IsAlias, IsSource, ReachesAround, as_before, aliased, alias_declared, are_right, is_slot_for, known_slot, outer_scope, outer_slots, standing_instances, with_alias}
+use Rattle.encode_types.specs.Standing.{SlotsStand, is_slot_of, standing_at}
+use Rattle.encode_types.specs.View.{View, Grows}
+use Rattle.encode_types.proofs.Around.{around-same}
+use Rattle.encode_names.specs.WorldSteps.{seen_type}
+use Rattle.encode_names.proofs.WorldSteps.{named-slot as named-plain, type-step}
 use Rattle.wit_encode.specs.Encoders.{declared_after}
 use Rattle.wit_encode.specs.WrittenNames.{described_name, instance_declarations, instance_name}
 use Rattle.wit_encode.specs.Worlds.{declared_type, is_sound_outside, world_definitions, world_resources, world_scope, world_view}

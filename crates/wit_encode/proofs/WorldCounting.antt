@@ -22,19 +22,19 @@ use Rattle.comp_bytes.specs.Raw.{Declaration, Declarations, ExternName}
 use Rattle.comp_bytes.specs.declared.forms.ComponentTypeRef.{ComponentTypeRef}
 use Rattle.comp_bytes.specs.declared.forms.ComponentTypeRef.TheVariants as refs
 use Rattle.comp_meaning.specs.Follow.{Direction, import_, export_}
-use Rattle.wit_encode_types.specs.declared.key.FunctionKey.{FunctionKey}
-use Rattle.wit_encode_types.specs.declared.maps.TypeEncodingMaps.{TypeEncodingMaps}
-use Rattle.wit_encode_types.specs.Codes.{kind_code, lists_of}
-use Rattle.wit_encode_types.specs.Counts.{AddsTypes, AddsFunction, is_defined_by_name, names_defined}
-use Rattle.wit_encode_types.specs.Distinct.{key_of, are_same, is_value_type, is_function_type, defined_under_names, AddsFunctions}
-use Rattle.wit_encode_types.specs.Key.{IsKeyOf}
-use Rattle.wit_encode_types.specs.Known.{Aliased, AreAliases, Around, GrowsAround, with_aliases}
-use Rattle.wit_encode_types.specs.Maps.{IsKnown, IsOnce}
-use Rattle.wit_encode_types.specs.MetKinds.{LearnsFrom, LearnsMet}
-use Rattle.wit_encode_types.specs.Scope.{Scope}
-use Rattle.wit_encode_types.proofs.Lists.{contains-map}
-use Rattle.wit_encode_types.proofs.Rooms.{only-more}
-use Rattle.world_names.specs.WorldSteps.{Entry, Entries, declared_towards, interfaces_among}
+use Rattle.encode_types.specs.declared.key.FunctionKey.{FunctionKey}
+use Rattle.encode_types.specs.declared.maps.TypeEncodingMaps.{TypeEncodingMaps}
+use Rattle.encode_types.specs.Codes.{kind_code, lists_of}
+use Rattle.encode_types.specs.Counts.{AddsTypes, AddsFunction, is_defined_by_name, names_defined}
+use Rattle.encode_types.specs.Distinct.{key_of, are_same, is_value_type, is_function_type, defined_under_names, AddsFunctions}
+use Rattle.encode_types.specs.Key.{IsKeyOf}
+use Rattle.encode_types.specs.Known.{Aliased, AreAliases, Around, GrowsAround, with_aliases}
+use Rattle.encode_types.specs.Maps.{IsKnown, IsOnce}
+use Rattle.encode_types.specs.MetKinds.{LearnsFrom, LearnsMet}
+use Rattle.encode_types.specs.Scope.{Scope}
+use Rattle.encode_types.proofs.Lists.{contains-map}
+use Rattle.encode_types.proofs.Rooms.{only-more}
+use Rattle.encode_names.specs.WorldSteps.{Entry, Entries, declared_towards, interfaces_among}
 use Rattle.wit_encode.specs.Encoders.{declared_after}
 use Rattle.wit_encode.specs.Instance.{count_declared}
 use Rattle.wit_encode.specs.WorldItems.{HasShown, all_done, types_among}

@@ -26,18 +26,18 @@ use Rattle.comp_bytes.specs.Raw.{Declarations}
 use Rattle.comp_bytes.specs.declared.forms.ComponentTypeRef.TheVariants as refs
 use Rattle.comp_meaning.specs.Follow as follow
 use Rattle.comp_meaning.specs.Follow.{Direction, import_, export_, Seen, Slot, function_in, new_scope, see}
-use Rattle.wit_encode_types.specs.Counts.{Shows, own_name}
-use Rattle.wit_encode_types.specs.Known.{Around, are_right, below, outer_instances, outer_scope, outer_slots, standing_instances, stands_around}
-use Rattle.wit_encode_types.specs.Leaves.{Leaves}
-use Rattle.wit_encode_types.specs.Maps.{IsKnown, LearnsOnly, MapsAgree, by_number}
-use Rattle.wit_encode_types.specs.Plan.{MetFrom}
-use Rattle.wit_encode_types.specs.Slots.{function}
-use Rattle.wit_encode_types.specs.Standing.{SlotsStand, standing_at}
-use Rattle.world_names.specs.WorldNames.{name_of_item}
-use Rattle.world_names.specs.WorldSteps.{Entry, Entries, IsEntryOf, declared_towards, interfaces_among, seen_function, with_entry}
-use Rattle.world_names.proofs.WorldSteps.{functions_are_shown, nothing_is_shown}
-use Rattle.wit_encode_types.proofs.Lists.{none-in}
-use Rattle.wit_encode_types.specs.View.{Agrees}
+use Rattle.encode_types.specs.Counts.{Shows, own_name}
+use Rattle.encode_types.specs.Known.{Around, are_right, below, outer_instances, outer_scope, outer_slots, standing_instances, stands_around}
+use Rattle.encode_types.specs.Leaves.{Leaves}
+use Rattle.encode_types.specs.Maps.{IsKnown, LearnsOnly, MapsAgree, by_number}
+use Rattle.encode_types.specs.Plan.{MetFrom}
+use Rattle.encode_types.specs.Slots.{function}
+use Rattle.encode_types.specs.Standing.{SlotsStand, standing_at}
+use Rattle.encode_names.specs.WorldNames.{name_of_item}
+use Rattle.encode_names.specs.WorldSteps.{Entry, Entries, IsEntryOf, declared_towards, interfaces_among, seen_function, with_entry}
+use Rattle.encode_names.proofs.WorldSteps.{functions_are_shown, nothing_is_shown}
+use Rattle.encode_types.proofs.Lists.{none-in}
+use Rattle.encode_types.specs.View.{Agrees}
 use Rattle.wit_encode.specs.Encoders.{declared_after}
 use Rattle.wit_encode.specs.Instance.{CanEncodeFunction}
 use Rattle.wit_encode.specs.OwnerScope.{IsScopeOf}

@@ -33,18 +33,18 @@ use Rattle.comp_bytes.specs.Fits.{fits_declaration, fits_name}
 use Rattle.comp_bytes.specs.declared.forms.ComponentTypeRef.{ComponentTypeRef}
 use Rattle.comp_bytes.specs.declared.forms.ComponentTypeRef.TheVariants as refs
 use Rattle.comp_meaning.specs.Follow.{Direction, import_, export_}
-use Rattle.wit_encode_types.specs.declared.maps.TypeEncodingMaps.{TypeEncodingMaps}
-use Rattle.wit_encode_types.specs.Known.{Around, below, known_instance}
-use Rattle.wit_encode_types.specs.Maps.{IsKnown, IsOnce}
-use Rattle.wit_encode_types.specs.MetKinds.{LearnsMet, ReachedFrom}
-use Rattle.wit_encode_types.specs.Room.{Request, IsUnfit, LacksPart, its_definition, its_name, its_import, LacksOne, a_type, a_request, FindsNoRoom, HoldsFor, LacksRoomBehind, value_type, export_name, import_of, function_type, limit}
-use Rattle.wit_encode_types.specs.Kinds.{kind_tree}
-use Rattle.wit_encode_types.specs.Scope.{exported_name}
-use Rattle.wit_encode_types.proofs.Lists.{none-in, one-contained}
-use Rattle.wit_encode_types.proofs.Pairs.{pairs-head, pairs-map, pairs-tail}
-use Rattle.wit_encode_types.proofs.Rooms.{only-reached}
-use Rattle.world_names.specs.WorldNames.{name_of_item}
-use Rattle.world_names.specs.WorldSteps.{Entry, Entries, declared_towards, interfaces_among}
+use Rattle.encode_types.specs.declared.maps.TypeEncodingMaps.{TypeEncodingMaps}
+use Rattle.encode_types.specs.Known.{Around, below, known_instance}
+use Rattle.encode_types.specs.Maps.{IsKnown, IsOnce}
+use Rattle.encode_types.specs.MetKinds.{LearnsMet, ReachedFrom}
+use Rattle.encode_types.specs.Room.{Request, IsUnfit, LacksPart, its_definition, its_name, its_import, LacksOne, a_type, a_request, FindsNoRoom, HoldsFor, LacksRoomBehind, value_type, export_name, import_of, function_type, limit}
+use Rattle.encode_types.specs.Kinds.{kind_tree}
+use Rattle.encode_types.specs.Scope.{exported_name}
+use Rattle.encode_types.proofs.Lists.{none-in, one-contained}
+use Rattle.encode_types.proofs.Pairs.{pairs-head, pairs-map, pairs-tail}
+use Rattle.encode_types.proofs.Rooms.{only-reached}
+use Rattle.encode_names.specs.WorldNames.{name_of_item}
+use Rattle.encode_names.specs.WorldSteps.{Entry, Entries, declared_towards, interfaces_among}
 use Rattle.wit_encode.specs.Encoders.{declared_after}
 use Rattle.wit_encode.specs.WorldCounts.{HasDefined}
 use Rattle.wit_encode.specs.WorldHolds.{HoldsFew}

@@ -17,16 +17,16 @@ use Rattle.comp_bytes.specs.Held.{fits_counts, type_slots_of}
 use Rattle.comp_bytes.specs.Fits.{fits_name}
 use Rattle.comp_bytes.specs.declared.forms.ComponentTypeRef.TheVariants as refs
 use Rattle.comp_meaning.specs.Follow.{Direction, import_, export_}
-use Rattle.wit_shown.proofs.Zips.{zip-append}
-use Rattle.wit_encode_types.specs.declared.maps.TypeEncodingMaps.{TypeEncodingMaps}
-use Rattle.wit_encode_types.specs.Distinct.{is_value_type, is_function_type}
-use Rattle.wit_encode_types.specs.Known.{Aliased, Around, GrowsAround, alias_declared, known_instance}
-use Rattle.wit_encode_types.specs.Maps.{IsOnce}
-use Rattle.wit_encode_types.specs.MetKinds.{LearnsFrom}
-use Rattle.wit_encode_types.specs.Room.{limit}
-use Rattle.wit_encode_types.proofs.Lists.{none-in}
-use Rattle.world_names.specs.WorldNames.{name_of_item}
-use Rattle.world_names.specs.WorldSteps.{Entry, Entries, declared_towards, interfaces_among}
+use Rattle.encode_shown.proofs.Zips.{zip-append}
+use Rattle.encode_types.specs.declared.maps.TypeEncodingMaps.{TypeEncodingMaps}
+use Rattle.encode_types.specs.Distinct.{is_value_type, is_function_type}
+use Rattle.encode_types.specs.Known.{Aliased, Around, GrowsAround, alias_declared, known_instance}
+use Rattle.encode_types.specs.Maps.{IsOnce}
+use Rattle.encode_types.specs.MetKinds.{LearnsFrom}
+use Rattle.encode_types.specs.Room.{limit}
+use Rattle.encode_types.proofs.Lists.{none-in}
+use Rattle.encode_names.specs.WorldNames.{name_of_item}
+use Rattle.encode_names.specs.WorldSteps.{Entry, Entries, declared_towards, interfaces_among}
 use Rattle.wit_encode.specs.Encoders.{InterfaceLacksRoom, declared_after}
 use Rattle.wit_encode.specs.Instance.{EncodesInterface, LacksInstanceRoom, count_declared}
 use Rattle.wit_encode.specs.WorldCounts.{instances_declared, DefinesInterface, HasDefined, no_interface}

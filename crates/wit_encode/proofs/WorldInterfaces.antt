@@ -27,17 +27,17 @@ use Rattle.comp_bytes.specs.Held.{type_slots_of}
 use Rattle.comp_bytes.specs.declared.forms.ComponentTypeRef.TheVariants as refs
 use Rattle.comp_meaning.specs.Follow as follow
 use Rattle.comp_meaning.specs.Follow.{Direction, import_, export_, Instance, Key, Seen, Slot, View, in_scope, instance_view, interface_of, new_scope, see}
-use Rattle.wit_shown.specs.Views.{ShowsInterface, home_of, instance_key}
-use Rattle.wit_encode_types.specs.Known.{Around, GrowsAround, UsedStand, are_right, is_standing, outer_instances, outer_scope, outer_slots, standing_instances}
-use Rattle.wit_encode_types.specs.Maps.{standing_of}
-use Rattle.wit_encode_types.specs.Standing.{SlotsStand, is_slot_of}
-use Rattle.wit_encode_types.proofs.Lists.{all-contained, both}
-use Rattle.wit_encode_types.proofs.Paths.{found-in, some-of, some-same}
-use Rattle.wit_encode_types.proofs.Tables.{equal-self}
-use Rattle.world_names.specs.WorldNames.{name_of_item}
-use Rattle.world_names.specs.WorldSteps.{Entry, Entries, IsTurnOf, StandsAs, StepsTo, declared_towards, interfaces_among, seen_instance, with_entry, with_instance}
-use Rattle.world_names.proofs.InstancesStand.{instances_stand}
-use Rattle.world_names.proofs.WorldSteps.{interfaces_are_shown}
+use Rattle.encode_shown.specs.Views.{ShowsInterface, home_of, instance_key}
+use Rattle.encode_types.specs.Known.{Around, GrowsAround, UsedStand, are_right, is_standing, outer_instances, outer_scope, outer_slots, standing_instances}
+use Rattle.encode_types.specs.Maps.{standing_of}
+use Rattle.encode_types.specs.Standing.{SlotsStand, is_slot_of}
+use Rattle.encode_types.proofs.Lists.{all-contained, both}
+use Rattle.encode_types.proofs.Paths.{found-in, some-of, some-same}
+use Rattle.encode_types.proofs.Tables.{equal-self}
+use Rattle.encode_names.specs.WorldNames.{name_of_item}
+use Rattle.encode_names.specs.WorldSteps.{Entry, Entries, IsTurnOf, StandsAs, StepsTo, declared_towards, interfaces_among, seen_instance, with_entry, with_instance}
+use Rattle.encode_names.proofs.InstancesStand.{instances_stand}
+use Rattle.encode_names.proofs.WorldSteps.{interfaces_are_shown}
 use Rattle.wit_encode.specs.declared.interface.Foreign.{Foreign}
 use Rattle.wit_encode.specs.Encoders.{declared_after}
 use Rattle.wit_encode.specs.Instance.{EncodesInterface, around_at}

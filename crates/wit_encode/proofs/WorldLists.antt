@@ -3,7 +3,7 @@ use Rattle.std.proofs.Common.{◌≡◌, refl, sym, subst, ap, ◌∙◌, append
 use Rattle.wit_model.specs.declared.model.Resolve.{Resolve}
 use Rattle.wit_model.specs.declared.model.World.{World}
 use Rattle.comp_meaning.specs.Follow.{Direction, import_, export_}
-use Rattle.world_names.specs.WorldSteps.{Entry, Entries, with_entry}
+use Rattle.encode_names.specs.WorldSteps.{Entry, Entries, with_entry}
 use Rattle.wit_encode.specs.Worlds.{WorldEncoder}
 use Rattle.wit_encode.specs.WrittenNames.{NamesMore}
 use Rattle.wit_encode.specs.WorldCounts.{DefinesAll, HasDefined}

@@ -9,16 +9,16 @@ use Rattle.wit_model.specs.declared.model.WorldId.{WorldId}
 use Rattle.wit_model.proofs.Lists.{first_true, second_true}
 use Rattle.comp_meaning.specs.Follow as follow
 use Rattle.comp_meaning.specs.Follow.{Seen, Slot, in_scope, instance_types}
-use Rattle.wit_encode_types.specs.declared.maps.TypeEncodingMaps.{TypeEncodingMaps}
-use Rattle.wit_encode_types.specs.Slots.{Standing}
-use Rattle.wit_encode_types.specs.Known.{Around, are_right, below, outer_instances, outer_scope, outer_slots, standing_instances, stands_around}
-use Rattle.wit_encode_types.specs.Standing.{is_slot_of}
-use Rattle.wit_encode_types.specs.View.{View, AddsSlot, Grows}
-use Rattle.wit_encode_types.proofs.Around.{around-same}
-use Rattle.wit_encode_types.proofs.Lists.{both}
-use Rattle.world_names.specs.Rebuilt.{is_type_shown, others_seen}
-use Rattle.world_names.proofs.Rebuilt.{others-before}
-use Rattle.world_names.proofs.WorldSteps.{types-appended}
+use Rattle.encode_types.specs.declared.maps.TypeEncodingMaps.{TypeEncodingMaps}
+use Rattle.encode_types.specs.Slots.{Standing}
+use Rattle.encode_types.specs.Known.{Around, are_right, below, outer_instances, outer_scope, outer_slots, standing_instances, stands_around}
+use Rattle.encode_types.specs.Standing.{is_slot_of}
+use Rattle.encode_types.specs.View.{View, AddsSlot, Grows}
+use Rattle.encode_types.proofs.Around.{around-same}
+use Rattle.encode_types.proofs.Lists.{both}
+use Rattle.encode_names.specs.Rebuilt.{is_type_shown, others_seen}
+use Rattle.encode_names.proofs.Rebuilt.{others-before}
+use Rattle.encode_names.proofs.WorldSteps.{types-appended}
 use Rattle.wit_encode.specs.Instance.{Contents, no_view}
 use Rattle.wit_encode.specs.WrittenNames.{instance_declarations, instances_around}
 use Rattle.wit_encode.specs.Worlds.{declared_type, is_sound_outside, others_of, seen_imports, world_resources, world_scope, world_view}

@@ -10,15 +10,15 @@ use Rattle.wit_model.specs.Lookup.{world_at}
 use Rattle.wit_model.specs.declared.model.Resolve.{Resolve}
 use Rattle.wit_model.specs.declared.model.World.{World}
 use Rattle.comp_meaning.specs.Follow.{Seen, Shown, instance_types}
-use Rattle.wit_shown.specs.Views.{ShowsItem}
-use Rattle.wit_encode_types.specs.Counts.{own_name}
-use Rattle.wit_encode_types.specs.Known.{outer_slots, standing_instances}
-use Rattle.wit_encode_types.specs.Maps.{IsKnown}
-use Rattle.wit_encode_types.specs.Scope.{Others, Scope}
-use Rattle.wit_encode_types.specs.View.{Agrees, Grows}
-use Rattle.world_names.specs.Rebuilt.{others_seen, types_seen}
-use Rattle.world_names.specs.WorldSteps.{AddsTypes, Entry, Entries, interfaces_among}
-use Rattle.world_names.proofs.EntriesRebuilt.{entries_are_rebuilt}
+use Rattle.encode_shown.specs.Views.{ShowsItem}
+use Rattle.encode_types.specs.Counts.{own_name}
+use Rattle.encode_types.specs.Known.{outer_slots, standing_instances}
+use Rattle.encode_types.specs.Maps.{IsKnown}
+use Rattle.encode_types.specs.Scope.{Others, Scope}
+use Rattle.encode_types.specs.View.{Agrees, Grows}
+use Rattle.encode_names.specs.Rebuilt.{others_seen, types_seen}
+use Rattle.encode_names.specs.WorldSteps.{AddsTypes, Entry, Entries, interfaces_among}
+use Rattle.encode_names.proofs.EntriesRebuilt.{entries_are_rebuilt}
 use Rattle.wit_encode.specs.Worlds.{WorldEncoder, declared_type, is_sound_outside, seen_imports, world_around, world_definitions, world_view_of}
 use Rattle.wit_encode.specs.WorldItems.{HasShown, all_done, types_among}
 use Rattle.wit_encode.proofs.WorldScope.{SoundOutside, sound-outside}

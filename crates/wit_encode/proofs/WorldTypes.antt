@@ -26,17 +26,17 @@ use Rattle.wit_model.specs.declared.model.«Type».{«Type» as ValueType}
 use Rattle.wit_model.specs.declared.model.«Type».TheVariants as ty
 use Rattle.wit_model.proofs.Lists.{first_true, second_true}
 use Rattle.comp_meaning.specs.Follow.{Direction, import_, export_, Shown, View}
-use Rattle.wit_shown.proofs.Used.{contains-flat-from}
-use Rattle.wit_encode_types.specs.Counts.{Shows, own_name, name_of_own}
-use Rattle.wit_encode_types.specs.Kinds.{parts_of}
-use Rattle.wit_encode_types.specs.Leaves.{Leaves}
-use Rattle.wit_encode_types.specs.Maps.{IsKnown, IsReady, LearnsOnly, by_number}
-use Rattle.wit_encode_types.specs.Plan.{foreign_owner, Meets, at_once, further, MetFrom}
-use Rattle.wit_encode_types.specs.Fits.{CanEncode}
-use Rattle.wit_encode_types.specs.Table.{declaration_in, named_declaration}
-use Rattle.wit_encode_types.proofs.Lists.{contains-one, none-in, one-contained}
-use Rattle.wit_encode_types.proofs.Pairs.{pairs-right}
-use Rattle.world_names.specs.WorldSteps.{Entry, Entries, with_entry}
+use Rattle.encode_shown.proofs.Used.{contains-flat-from}
+use Rattle.encode_types.specs.Counts.{Shows, own_name, name_of_own}
+use Rattle.encode_types.specs.Kinds.{parts_of}
+use Rattle.encode_types.specs.Leaves.{Leaves}
+use Rattle.encode_types.specs.Maps.{IsKnown, IsReady, LearnsOnly, by_number}
+use Rattle.encode_types.specs.Plan.{foreign_owner, Meets, at_once, further, MetFrom}
+use Rattle.encode_types.specs.Fits.{CanEncode}
+use Rattle.encode_types.specs.Table.{declaration_in, named_declaration}
+use Rattle.encode_types.proofs.Lists.{contains-one, none-in, one-contained}
+use Rattle.encode_types.proofs.Pairs.{pairs-right}
+use Rattle.encode_names.specs.WorldSteps.{Entry, Entries, with_entry}
 use Rattle.wit_encode.specs.OwnerScope.{IsTypeOf}
 use Rattle.wit_encode.specs.WorldItems.{HasShown, IsNext, all_done, types_among}
 use Rattle.wit_encode.specs.Worlds.{WorldEncoder, world_definitions, world_encoder_view, world_view_of}

@@ -29,15 +29,15 @@ use Rattle.wit_model.specs.declared.model.«Type».{«Type» as ValueType}
 use Rattle.wit_model.specs.declared.model.«Type».TheVariants as ty
 use Rattle.wit_model.proofs.Lists.{first_true, second_true}
 use Rattle.wit_model.proofs.Owners.{met_step}
-use Rattle.wit_shown.proofs.Items.{typed-item}
-use Rattle.wit_shown.proofs.Zips.{given-contains}
-use Rattle.wit_encode_types.specs.Kinds.{parts_of}
-use Rattle.wit_encode_types.specs.Resources.{is_named_interface}
-use Rattle.wit_encode_types.specs.Plan.{foreign_owner, Reaches, itself, through}
-use Rattle.wit_encode_types.specs.KeyLaws.{text_same}
-use Rattle.wit_encode_types.specs.Scope.{Scope}
-use Rattle.wit_encode_types.proofs.Lists.{all-contained, contains-filter_map, contains-one, none-in, one-contained}
-use Rattle.wit_encode_types.proofs.Paths.{found-in, some-of, some-same}
+use Rattle.encode_shown.proofs.Items.{typed-item}
+use Rattle.encode_shown.proofs.Zips.{given-contains}
+use Rattle.encode_types.specs.Kinds.{parts_of}
+use Rattle.encode_types.specs.Resources.{is_named_interface}
+use Rattle.encode_types.specs.Plan.{foreign_owner, Reaches, itself, through}
+use Rattle.encode_types.specs.KeyLaws.{text_same}
+use Rattle.encode_types.specs.Scope.{Scope}
+use Rattle.encode_types.proofs.Lists.{all-contained, contains-filter_map, contains-one, none-in, one-contained}
+use Rattle.encode_types.proofs.Paths.{found-in, some-of, some-same}
 use Rattle.wit_encode.specs.OwnerScope.{IsScopeOf, InstancesStand, IsTypeOf, functions_of}
 use Rattle.wit_encode.specs.WorldUses.{item_types, interfaces_before, StandBefore, ItemsMeetStanding}
 use Rattle.wit_encode.proofs.Counting.{contains-filter}

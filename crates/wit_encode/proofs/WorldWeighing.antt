@@ -37,16 +37,16 @@ use Rattle.wit_model.specs.declared.model.TypeOwner.{TypeOwner}
 use Rattle.wit_model.specs.declared.model.TypeOwner.TheVariants as owner
 use Rattle.wit_model.proofs.Lists.{first_true, second_true}
 use Rattle.wit_model.proofs.PathParts.{canonical_paths_join}
-use Rattle.wit_shown.proofs.Items.{typed-item}
-use Rattle.wit_shown.proofs.Zips.{given-contains}
+use Rattle.encode_shown.proofs.Items.{typed-item}
+use Rattle.encode_shown.proofs.Zips.{given-contains}
 use Rattle.comp_bytes.specs.Raw.{ExternName}
 use Rattle.comp_bytes.specs.Fits.{fits_name}
-use Rattle.wit_encode_types.specs.KeyLaws.{text_same}
-use Rattle.wit_encode_types.specs.Room.{limit}
-use Rattle.wit_encode_types.proofs.Lists.{all-contained, contains-filter_map, contains-map, contains-one, none-in}
-use Rattle.wit_encode_types.proofs.Paths.{found-in}
-use Rattle.world_names.specs.WorldNames.{written_path, written_suffix, name_of_item}
-use Rattle.world_names.specs.WorldSteps.{Entry, interfaces_among}
+use Rattle.encode_types.specs.KeyLaws.{text_same}
+use Rattle.encode_types.specs.Room.{limit}
+use Rattle.encode_types.proofs.Lists.{all-contained, contains-filter_map, contains-map, contains-one, none-in}
+use Rattle.encode_types.proofs.Paths.{found-in}
+use Rattle.encode_names.specs.WorldNames.{written_path, written_suffix, name_of_item}
+use Rattle.encode_names.specs.WorldSteps.{Entry, interfaces_among}
 use Rattle.wit_encode.specs.WorldItems.{types_among}
 use Rattle.wit_encode.specs.WorldRoom.{functions_among, type_ids_among, IsMetAmong, IsTypeAmong, count_among, entries_in, WorldLacksRoom, an_interface, a_name, a_type, a_function, too_many, LackingWorldsAreHeavy}
 use Rattle.wit_encode.proofs.Counting.{from-filter, from-map}

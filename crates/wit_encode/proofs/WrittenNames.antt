@@ -11,9 +11,9 @@ use Rattle.wit_model.specs.declared.model.TypeId.{TypeId}
 use Rattle.comp_bytes.specs.Raw.{Declaration, Declarations, ExternName, append}
 use Rattle.comp_bytes.specs.declared.forms.ComponentTypeRef.TheVariants as refs
 use Rattle.comp_meaning.specs.Follow.{Direction, import_, export_}
-use Rattle.wit_encode_types.specs.Known.{Aliased, AreAliases, Around, GrowsAround, with_alias, with_aliases}
-use Rattle.world_names.specs.WorldNames.{name_of_item}
-use Rattle.world_names.specs.WorldSteps.{Entry, declared_towards}
+use Rattle.encode_types.specs.Known.{Aliased, AreAliases, Around, GrowsAround, with_alias, with_aliases}
+use Rattle.encode_names.specs.WorldNames.{name_of_item}
+use Rattle.encode_names.specs.WorldSteps.{Entry, declared_towards}
 use Rattle.wit_encode.specs.Encoders.{declared_after}
 use Rattle.wit_encode.specs.Instance.{EncodesInterface}
 use Rattle.wit_encode.specs.WrittenNames.{NamesMore, if_named, instance_declarations, instance_name, instance_names, instances_around, names_among}

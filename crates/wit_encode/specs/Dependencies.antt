@@ -14,9 +14,9 @@ use Rattle.wit_model.specs.declared.model.InterfaceId.{InterfaceId}
 use Rattle.comp_bytes.specs.Raw.{Declaration, Declarations, append}
 use Rattle.comp_bytes.specs.declared.forms.ComponentTypeRef.TheVariants as refs
 use Rattle.comp_meaning.specs.Follow.{Instance, Key, Scope, Seen, Shown, View, component_scope, instance_types}
-use Rattle.wit_shown.specs.Views.{AreReached, ShowsDependencies, ShowsImport, UseEarlier}
-use Rattle.world_names.specs.WorldNames.{name_of_interface}
-use Rattle.wit_encode_types.specs.Known.{Around, GrowsAround, UsedStand, are_right, known_instance, no_around, outer_scope, outer_slots, standing_instances}
+use Rattle.encode_shown.specs.Views.{AreReached, ShowsDependencies, ShowsImport, UseEarlier}
+use Rattle.encode_names.specs.WorldNames.{name_of_interface}
+use Rattle.encode_types.specs.Known.{Around, GrowsAround, UsedStand, are_right, known_instance, no_around, outer_scope, outer_slots, standing_instances}
 use Rattle.wit_encode.specs.Instance.{EncodesDependency, EncodesInterface}
 
 -- an interface that is imported by its path, with this view

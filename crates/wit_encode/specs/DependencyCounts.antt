@@ -7,8 +7,8 @@ use Rattle.wit_model.specs.Lookup.{interface_at}
 use Rattle.wit_model.specs.declared.model.Resolve.{Resolve}
 use Rattle.wit_model.specs.declared.model.Interface.{Interface}
 use Rattle.comp_bytes.specs.Raw.{Declaration, Declarations, from_list}
-use Rattle.interface_reach.specs.Reach.{reached_in_order}
-use Rattle.wit_encode_types.specs.Distinct.{is_value_type, is_function_type, DefinesTypes}
+use Rattle.encode_reach.specs.Reach.{reached_in_order}
+use Rattle.encode_types.specs.Distinct.{is_value_type, is_function_type, DefinesTypes}
 use Rattle.wit_encode.specs.Instance.{count_declared}
 use Rattle.wit_encode.specs.WorldCounts.{instances_declared, DefinesInterface}
 

@@ -11,11 +11,11 @@ use Rattle.wit_model.specs.declared.model.Interface.{Interface}
 use Rattle.wit_model.specs.declared.model.InterfaceId.{InterfaceId}
 use Rattle.comp_bytes.specs.Fits.{fits_name}
 use Rattle.comp_bytes.specs.Raw.{declaration_count}
-use Rattle.wit_shown.specs.Views.{AreReached}
-use Rattle.wit_encode_types.specs.Known.{Around, GrowsAround}
-use Rattle.wit_encode_types.specs.MetKinds.{referred}
-use Rattle.wit_encode_types.specs.Room.{HasNoRoom, limit}
-use Rattle.world_names.specs.WorldNames.{name_of_interface}
+use Rattle.encode_shown.specs.Views.{AreReached}
+use Rattle.encode_types.specs.Known.{Around, GrowsAround}
+use Rattle.encode_types.specs.MetKinds.{referred}
+use Rattle.encode_types.specs.Room.{HasNoRoom, limit}
+use Rattle.encode_names.specs.WorldNames.{name_of_interface}
 use Rattle.wit_encode.specs.Encoders.{InterfaceLacksRoom}
 use Rattle.wit_encode.specs.WorldRoom.{AreSome, IsNamedTypeOf}
 use Rattle.wit_encode.specs.Worlds.{brought_numbers}

@@ -16,20 +16,20 @@ use Rattle.wit_model.specs.Valid.{IsValid}
 use Rattle.wit_model.specs.declared.model.TypeId.{TypeId}
 use Rattle.wit_model.specs.declared.model.Function.{Function}
 use Rattle.wit_model.specs.declared.model.«Type».{«Type» as ValueType}
-use Rattle.wit_encode_types.specs.Counts.{names_defined}
-use Rattle.wit_encode_types.specs.Distinct.{defined_under_names}
+use Rattle.encode_types.specs.Counts.{names_defined}
+use Rattle.encode_types.specs.Distinct.{defined_under_names}
 use Rattle.wit_encode.specs.Exports.{AreTypesOf}
-use Rattle.wit_encode_types.specs.MetKinds.{LearnsFrom}
+use Rattle.encode_types.specs.MetKinds.{LearnsFrom}
 use Rattle.wit_encode.specs.Order.{functions_in_order}
-use Rattle.wit_encode_types.specs.declared.maps.TypeEncodingMaps.{TypeEncodingMaps}
+use Rattle.encode_types.specs.declared.maps.TypeEncodingMaps.{TypeEncodingMaps}
 use Rattle.wit_encode.specs.declared.interface.InterfaceEncoderOf.{InterfaceEncoderOf}
-use Rattle.wit_encode_types.specs.Known.{Around, GrowsAround, UsedStand}
-use Rattle.wit_encode_types.specs.Scope.{Scope}
-use Rattle.wit_encode_types.specs.Room.{Request, HasNoRoom, function_requests}
-use Rattle.wit_encode_types.specs.MetKinds.{referred}
-use Rattle.wit_encode_types.specs.Leaves.{LacksRoom}
+use Rattle.encode_types.specs.Known.{Around, GrowsAround, UsedStand}
+use Rattle.encode_types.specs.Scope.{Scope}
+use Rattle.encode_types.specs.Room.{Request, HasNoRoom, function_requests}
+use Rattle.encode_types.specs.MetKinds.{referred}
+use Rattle.encode_types.specs.Leaves.{LacksRoom}
 use Rattle.indexmap.specs.IndexMap.{values}
-use Rattle.wit_encode_types.specs.View.{View, Agrees, HoldsLearnt, WritesLearnt}
+use Rattle.encode_types.specs.View.{View, Agrees, HoldsLearnt, WritesLearnt}
 use Rattle.wit_encode.specs.Instance.{own_of, ShowsFunction, placed_function, meaning_of, Contents, contents_of, encoder_scope, around_of, around_at, slots_in, stands_in, defined_in, opened, standing_instances, Continues, EncodesInterface, EncodesDependency, EncodesPart, held_in, extent_in, lacks_room_in, LacksInstanceRoom}
 
 abbrev pub InterfaceEncoder : Type 0

@@ -9,10 +9,10 @@ use Rattle.wit_model.specs.declared.model.Interface.{Interface}
 use Rattle.wit_model.specs.declared.model.InterfaceId.{InterfaceId}
 use Rattle.wit_model.specs.declared.model.TypeId.{TypeId}
 use Rattle.wit_model.specs.declared.model.Function.{Function}
-use Rattle.wit_encode_types.specs.declared.maps.TypeEncodingMaps.{TypeEncodingMaps}
-use Rattle.wit_encode_types.specs.Maps.{IsKnown}
-use Rattle.wit_encode_types.specs.Scope.{Scope}
-use Rattle.wit_encode_types.specs.Counts.{Definitions, own_name}
+use Rattle.encode_types.specs.declared.maps.TypeEncodingMaps.{TypeEncodingMaps}
+use Rattle.encode_types.specs.Maps.{IsKnown}
+use Rattle.encode_types.specs.Scope.{Scope}
+use Rattle.encode_types.specs.Counts.{Definitions, own_name}
 
 -- the types of the interface, in the order of its list
 pub record AreTypesOf (r : Resolve) (interface : Option InterfaceId) (types : List TypeId) : Type 0 where

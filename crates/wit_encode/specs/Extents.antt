@@ -27,16 +27,16 @@ use Rattle.comp_bytes.specs.Raw.{Alias, Declaration, ExternName}
 use Rattle.comp_bytes.specs.RawOf.{raw_defined, raw_function}
 use Rattle.comp_bytes.specs.Writing.{declaration_bytes}
 use Rattle.comp_meaning.specs.Follow.{Slot}
-use Rattle.wit_encode_types.specs.Slots.{Follows, FollowsFunction}
-use Rattle.wit_encode_types.specs.Standing.{SlotsStand}
-use Rattle.wit_shown.specs.Views.{AreReached}
-use Rattle.world_names.specs.WorldNames.{name_of_interface, name_of_item}
+use Rattle.encode_types.specs.Slots.{Follows, FollowsFunction}
+use Rattle.encode_types.specs.Standing.{SlotsStand}
+use Rattle.encode_shown.specs.Views.{AreReached}
+use Rattle.encode_names.specs.WorldNames.{name_of_interface, name_of_item}
 use Rattle.wit_encode.specs.Order.{functions_in_order}
 use Rattle.wit_encode.specs.WorldRoom.{entries_in, IsMetAmong}
-use Rattle.wit_encode_types.specs.Kinds.{kind_tree}
-use Rattle.wit_encode_types.specs.MetKinds.{ReachedFrom, referred}
-use Rattle.wit_encode_types.specs.Room.{function_name}
-pub use Rattle.wit_encode_types.specs.Extents.{labels_extent, tree_extent, signature_extent, given_length, name_extent, own_name_extent, import_extent, number_extent, function_extent}
+use Rattle.encode_types.specs.Kinds.{kind_tree}
+use Rattle.encode_types.specs.MetKinds.{ReachedFrom, referred}
+use Rattle.encode_types.specs.Room.{function_name}
+pub use Rattle.encode_types.specs.Extents.{labels_extent, tree_extent, signature_extent, given_length, name_extent, own_name_extent, import_extent, number_extent, function_extent}
 
 -- ---- laws
 

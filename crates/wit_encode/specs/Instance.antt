@@ -20,7 +20,7 @@ use Rattle.comp_bytes.specs.Raw.{Declaration, Declarations, append, declaration_
 use Rattle.comp_bytes.specs.Writing.{declarations_bytes}
 use Rattle.comp_meaning.specs.Reads.{interface_meaning}
 use Rattle.comp_meaning.specs.Follow.{Slot, View, InstanceScope, instance_view, instance_steps, new_instance}
-use Rattle.wit_shown.specs.Views.{ShowsInterface, ShowsTypes, types_of}
+use Rattle.encode_shown.specs.Views.{ShowsInterface, ShowsTypes, types_of}
 use Rattle.wit_encode.specs.declared.interface.OpenInterface.{OpenInterface}
 use Rattle.wit_encode.specs.declared.interface.Foreign.{Foreign}
 use Rattle.std.specs.List.{Contains}
@@ -29,24 +29,24 @@ use Rattle.wit_model.specs.declared.model.Interface.{Interface}
 use Rattle.wit_model.specs.declared.model.TypeId.{TypeId}
 use Rattle.wit_model.specs.declared.model.«Type».TheVariants as ty
 use Rattle.comp_bytes.specs.Held.{type_slots_of, fits_added}
-use Rattle.wit_encode_types.specs.Slots.{Pairs}
-use Rattle.wit_encode_types.specs.Room.{Refusals, value_type, function_type, export_name, import_of, LacksRoomBehind}
-use Rattle.wit_encode_types.specs.Resources.{Names, is_met_owner, is_named_interface, resource_names}
-pub use Rattle.wit_encode_types.specs.Standing.{standing_at, SlotsStand, is_slot_of}
-use Rattle.wit_encode_types.specs.Known.{Around, GrowsAround, no_around}
-pub use Rattle.wit_encode_types.specs.Known.{outer_scope, outer_slots, outer_instances, standing_instances}
+use Rattle.encode_types.specs.Slots.{Pairs}
+use Rattle.encode_types.specs.Room.{Refusals, value_type, function_type, export_name, import_of, LacksRoomBehind}
+use Rattle.encode_types.specs.Resources.{Names, is_met_owner, is_named_interface, resource_names}
+pub use Rattle.encode_types.specs.Standing.{standing_at, SlotsStand, is_slot_of}
+use Rattle.encode_types.specs.Known.{Around, GrowsAround, no_around}
+pub use Rattle.encode_types.specs.Known.{outer_scope, outer_slots, outer_instances, standing_instances}
 use Rattle.wit_model.specs.declared.model.Function.{Function}
 use Rattle.wit_model.specs.Meant.{signature_of, function_meaning}
 use Rattle.wit_model.specs.Parts.{function_types}
-use Rattle.wit_encode_types.specs.declared.maps.TypeEncodingMaps.{TypeEncodingMaps}
-use Rattle.wit_encode_types.specs.Maps.{MapsAgree}
-use Rattle.wit_encode_types.specs.Formed.{IsFormedSignature}
-use Rattle.wit_encode_types.specs.Fits.{CanEncode}
-use Rattle.wit_encode_types.specs.Scope.{Scope, no_others}
+use Rattle.encode_types.specs.declared.maps.TypeEncodingMaps.{TypeEncodingMaps}
+use Rattle.encode_types.specs.Maps.{MapsAgree}
+use Rattle.encode_types.specs.Formed.{IsFormedSignature}
+use Rattle.encode_types.specs.Fits.{CanEncode}
+use Rattle.encode_types.specs.Scope.{Scope, no_others}
 use Rattle.wit_encode.specs.Order.{functions_in_order}
-pub use Rattle.wit_encode_types.specs.Distinct.{is_value_type, is_function_type}
-use Rattle.wit_encode_types.specs.Distinct.{key_of, are_same, DefinesKeys, DefinesTypes}
-use Rattle.wit_encode_types.specs.Counts.{Definitions}
+pub use Rattle.encode_types.specs.Distinct.{is_value_type, is_function_type}
+use Rattle.encode_types.specs.Distinct.{key_of, are_same, DefinesKeys, DefinesTypes}
+use Rattle.encode_types.specs.Counts.{Definitions}
 
 -- ---- what has been declared in a scope
 

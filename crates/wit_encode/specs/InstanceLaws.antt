@@ -3,7 +3,7 @@ use Rattle.std.specs.Prelude.{ℕ, ◌<◌, List, [], ◌∷◌, length}
 use Prim.Native.Nat.{zero, suc}
 use Rattle.std.proofs.Common.{arith}
 use Rattle.comp_meaning.specs.Follow.{Slot}
-use Rattle.wit_encode_types.specs.Slots.{Standing}
+use Rattle.encode_types.specs.Slots.{Standing}
 use Rattle.wit_encode.specs.Instance.{SlotsStand}
 
 pub slots-in_range : (xs : List Slot) (i : ℕ) (m : Standing) → SlotsStand xs i m → i < length xs

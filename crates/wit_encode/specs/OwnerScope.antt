@@ -20,13 +20,13 @@ use Rattle.wit_model.specs.declared.model.TypeOwner.{TypeOwner}
 use Rattle.wit_model.specs.declared.model.TypeOwner.TheVariants as owner
 use Rattle.wit_model.specs.declared.model.«Type».{«Type» as ValueType}
 use Rattle.wit_model.specs.declared.model.«Type».TheVariants as ty
-use Rattle.wit_encode_types.specs.Scope.{Scope}
-use Rattle.wit_encode_types.specs.Plan.{AllInRange, foreign_owner}
-use Rattle.wit_encode_types.specs.MetKinds.{ReachedFrom}
-use Rattle.wit_encode_types.specs.Resources.{Names, is_named_interface, is_met_owner}
-use Rattle.wit_encode_types.specs.Fits.{CanEncode}
+use Rattle.encode_types.specs.Scope.{Scope}
+use Rattle.encode_types.specs.Plan.{AllInRange, foreign_owner}
+use Rattle.encode_types.specs.MetKinds.{ReachedFrom}
+use Rattle.encode_types.specs.Resources.{Names, is_named_interface, is_met_owner}
+use Rattle.encode_types.specs.Fits.{CanEncode}
 use Rattle.wit_encode.specs.Instance.{CanEncodeFunction}
-use Rattle.wit_encode_types.specs.Table.{interface_of_owner, table_scope}
+use Rattle.encode_types.specs.Table.{interface_of_owner, table_scope}
 
 -- The names of the types of owners that are met stand for resources exactly where the types are resources.
 abbrev pub NamesAgree : Resolve → Names → (TypeOwner → Bool) → Type 0

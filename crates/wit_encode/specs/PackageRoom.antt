@@ -10,7 +10,7 @@ use Rattle.wit_model.specs.declared.model.Resolve.{Resolve}
 use Rattle.wit_model.specs.declared.model.World.{World}
 use Rattle.comp_bytes.specs.Parts.{Part}
 use Rattle.comp_bytes.specs.Writing.{top_type_bytes, top_export_bytes}
-use Rattle.wit_encode_types.specs.Room.{limit}
+use Rattle.encode_types.specs.Room.{limit}
 use Rattle.wit_encode.specs.Packages.{HoldsInterfaces, HoldsMembers, Listed, ListedWorld}
 
 -- ---- how long parts are

@@ -20,9 +20,9 @@ use Rattle.wit_model.specs.Meant.{Meant}
 use Rattle.wit_model.specs.Meaning.{PackageMeaning}
 use Rattle.comp_meaning.specs.Follow.{is_filled}
 use Rattle.comp_meaning.specs.Reads.{Reads}
-use Rattle.wit_shown.specs.PackageTypes.{ArePackageTypes, wrapper}
-use Rattle.world_names.specs.Clashes.{HasNoClash}
-use Rattle.component_exports.specs.ExportedParts.{exporting}
+use Rattle.encode_shown.specs.PackageTypes.{ArePackageTypes, wrapper}
+use Rattle.encode_names.specs.Clashes.{HasNoClash}
+use Rattle.encode_exports.specs.ExportedParts.{exporting}
 use Rattle.wit_model.specs.Weight.{interface_weight, world_weight}
 use Rattle.wit_encode.specs.Dependencies.{ShowsComponent}
 use Rattle.wit_encode.specs.DependencyCounts.{DefinesComponent}

@@ -6,7 +6,7 @@ use Rattle.wit_model.specs.Weight.{whole_instance_weight}
 use Rattle.wit_model.specs.declared.model.Resolve.{Resolve}
 use Rattle.wit_model.specs.declared.model.Interface.{Interface}
 use Rattle.wit_model.specs.declared.model.InterfaceId.{InterfaceId}
-use Rattle.wit_encode_types.specs.Room.{limit}
+use Rattle.encode_types.specs.Room.{limit}
 use Rattle.wit_encode.specs.Encoders.{InterfaceLacksRoom}
 
 -- An interface that has no room in an instance type weighs more than the largest number of 32 bits.

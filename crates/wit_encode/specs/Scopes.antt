@@ -3,8 +3,8 @@ use Rattle.std.specs.Prelude.{◌≡◌, ℕ, Bool, true}
 use Rattle.wit_model.specs.declared.error.Error.{Error}
 use Rattle.wit_model.specs.declared.model.Resolve.{Resolve}
 use Rattle.comp_bytes.specs.Refusal.{IsMemoryOrSize}
-use Rattle.interface_reach.specs.Reach.{reached_in_order}
-use Rattle.world_names.specs.Clashes.{canonical_paths_of, AreDifferent, RefusesPaths}
+use Rattle.encode_reach.specs.Reach.{reached_in_order}
+use Rattle.encode_names.specs.Clashes.{canonical_paths_of, AreDifferent, RefusesPaths}
 
 -- no two of the interfaces that interface n reaches have one canonical path
 abbrev pub HasNoEqualPaths : Resolve → ℕ → Type 0

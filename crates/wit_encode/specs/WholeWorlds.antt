@@ -14,8 +14,8 @@ use Rattle.comp_bytes.specs.Refusal.{IsMemoryOrSize}
 use Rattle.comp_meaning.specs.Follow.{Scope, component_scope}
 use Rattle.comp_meaning.specs.Reads.{world_meaning, world_with}
 use Rattle.comp_meaning.specs.Rules.{is_world}
-use Rattle.wit_shown.specs.Views.{ShowsWorld}
-use Rattle.world_names.specs.Clashes.{HasNoClash, RefusesNames}
+use Rattle.encode_shown.specs.Views.{ShowsWorld}
+use Rattle.encode_names.specs.Clashes.{HasNoClash, RefusesNames}
 
 -- The declarations, every index followed, show the imports and the exports of the world in order, obey the rules of worlds, and mean the
 -- world; by themselves, the world of its package.

@@ -10,13 +10,13 @@ use Rattle.wit_model.specs.declared.model.Interface.{Interface}
 use Rattle.wit_model.specs.declared.model.TypeDefKind.{TypeDefKind}
 use Rattle.wit_model.specs.declared.model.TypeOwner.TheVariants as owner
 use Rattle.comp_bytes.specs.Raw.{Declaration, Declarations, from_list}
-use Rattle.wit_encode_types.specs.declared.maps.TypeEncodingMaps.{TypeEncodingMaps}
-use Rattle.wit_encode_types.specs.Counts.{Definitions}
-use Rattle.wit_encode_types.specs.Distinct.{Key, key_of, are_same, is_value_type, is_function_type, defined_under_names, AddsFunctions, DefinesKeys, DefinesTypes}
-use Rattle.wit_encode_types.specs.MetKinds.{AreMetKinds, LearnsFrom}
-use Rattle.wit_encode_types.specs.Scope.{Scope}
-use Rattle.wit_encode_types.specs.Table.{table_scope}
-use Rattle.world_names.specs.WorldSteps.{Entry, interfaces_among}
+use Rattle.encode_types.specs.declared.maps.TypeEncodingMaps.{TypeEncodingMaps}
+use Rattle.encode_types.specs.Counts.{Definitions}
+use Rattle.encode_types.specs.Distinct.{Key, key_of, are_same, is_value_type, is_function_type, defined_under_names, AddsFunctions, DefinesKeys, DefinesTypes}
+use Rattle.encode_types.specs.MetKinds.{AreMetKinds, LearnsFrom}
+use Rattle.encode_types.specs.Scope.{Scope}
+use Rattle.encode_types.specs.Table.{table_scope}
+use Rattle.encode_names.specs.WorldSteps.{Entry, interfaces_among}
 use Rattle.wit_encode.specs.declared.world.Placed.{Placed}
 use Rattle.wit_encode.specs.Instance.{count_declared}
 use Rattle.wit_encode.specs.WorldItems.{entry_of}

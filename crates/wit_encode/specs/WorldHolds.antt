@@ -10,8 +10,8 @@ use Rattle.comp_bytes.specs.Fits.{fits_declaration}
 use Rattle.comp_bytes.specs.Held.{declaration_slots, fits_added}
 use Rattle.comp_bytes.specs.Raw.{Declaration, Declarations, declaration_count}
 use Rattle.comp_meaning.specs.Follow.{Direction}
-use Rattle.wit_encode_types.specs.Known.{known_instance}
-use Rattle.world_names.specs.WorldSteps.{Entry, Entries, interfaces_among}
+use Rattle.encode_types.specs.Known.{known_instance}
+use Rattle.encode_names.specs.WorldSteps.{Entry, Entries, interfaces_among}
 use Rattle.wit_encode.specs.declared.world.Placed.{Placed}
 use Rattle.wit_encode.specs.Encoders.{InterfaceLacksRoom}
 use Rattle.wit_encode.specs.Instance.{LacksInstanceRoom}

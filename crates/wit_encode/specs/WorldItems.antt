@@ -11,11 +11,11 @@ use Rattle.wit_model.specs.declared.model.Interface.{Interface}
 use Rattle.wit_model.specs.declared.model.InterfaceId.{InterfaceId}
 use Rattle.comp_meaning.specs.Follow as follow
 use Rattle.comp_meaning.specs.Follow.{Direction, import_, export_}
-use Rattle.wit_encode_types.specs.Counts.{own_name}
-use Rattle.wit_encode_types.specs.Known.{outer_scope, standing_instances}
-use Rattle.wit_encode_types.specs.Maps.{IsKnown}
-use Rattle.wit_encode_types.specs.View.{Agrees}
-use Rattle.world_names.specs.WorldSteps.{Entry, Entries, ShowsEntries, interfaces_among, with_entry}
+use Rattle.encode_types.specs.Counts.{own_name}
+use Rattle.encode_types.specs.Known.{outer_scope, standing_instances}
+use Rattle.encode_types.specs.Maps.{IsKnown}
+use Rattle.encode_types.specs.View.{Agrees}
+use Rattle.encode_names.specs.WorldSteps.{Entry, Entries, ShowsEntries, interfaces_among, with_entry}
 use Rattle.wit_encode.specs.declared.world.Direction.{Direction as RustDirection}
 use Rattle.wit_encode.specs.declared.world.Direction.TheVariants as directions
 use Rattle.wit_encode.specs.declared.world.Placed.{Placed}

@@ -18,10 +18,10 @@ use Rattle.wit_model.specs.declared.model.TypeId.{TypeId}
 use Rattle.wit_model.specs.declared.model.TypeOwner.TheVariants as owner
 use Rattle.wit_model.specs.declared.model.«Type».{«Type» as ValueType}
 use Rattle.comp_bytes.specs.Fits.{fits_name}
-use Rattle.wit_encode_types.specs.MetKinds.{ReachedFrom, referred}
-use Rattle.wit_encode_types.specs.Room.{function_type, IsUnfit, LacksPart, limit}
-use Rattle.world_names.specs.WorldNames.{name_of_item}
-use Rattle.world_names.specs.WorldSteps.{Entry, interfaces_among}
+use Rattle.encode_types.specs.MetKinds.{ReachedFrom, referred}
+use Rattle.encode_types.specs.Room.{function_type, IsUnfit, LacksPart, limit}
+use Rattle.encode_names.specs.WorldNames.{name_of_item}
+use Rattle.encode_names.specs.WorldSteps.{Entry, interfaces_among}
 use Rattle.wit_encode.specs.Encoders.{InterfaceLacksRoom}
 use Rattle.wit_encode.specs.WorldItems.{types_among}
 

@@ -13,7 +13,7 @@ use Rattle.wit_model.specs.declared.model.WorldItem.TheVariants as item
 use Rattle.wit_model.specs.declared.model.TypeOwner.TheVariants as owner
 use Rattle.wit_model.specs.declared.model.«Type».{«Type» as ValueType}
 use Rattle.wit_model.specs.declared.model.«Type».TheVariants as ty
-use Rattle.wit_encode_types.specs.Scope.{Scope}
+use Rattle.encode_types.specs.Scope.{Scope}
 use Rattle.wit_encode.specs.OwnerScope.{IsScopeOf, InstancesStand}
 
 -- the types that an item refers to in the scope of its world

@@ -13,17 +13,17 @@ use Rattle.wit_model.specs.declared.model.WorldId.{WorldId}
 use Rattle.wit_model.specs.declared.model.TypeOwner.TheVariants as owner
 use Rattle.comp_bytes.specs.Raw.{Declarations, declaration_count}
 use Rattle.comp_meaning.specs.Follow.{Seen, Shown, instance_types}
-use Rattle.wit_encode_types.specs.declared.maps.TypeEncodingMaps.{TypeEncodingMaps}
-use Rattle.wit_encode_types.specs.Counts.{Definitions}
-use Rattle.wit_encode_types.specs.Distinct.{is_value_type, is_function_type}
-use Rattle.wit_encode_types.specs.Known.{Around, are_right, below, known_instance, known_slot, outer_instances, outer_scope, outer_slots, standing_instances}
-use Rattle.wit_encode_types.specs.Resources.{Names, resource_names, is_met_owner}
-use Rattle.wit_encode_types.specs.Room.{LacksRoomBehind}
-use Rattle.wit_encode_types.specs.Scope.{Others, Scope}
-use Rattle.wit_encode_types.specs.Standing.{SlotsStand, is_slot_of}
-use Rattle.wit_encode_types.specs.Table.{table_scope}
-use Rattle.wit_encode_types.specs.View.{View}
-use Rattle.world_names.specs.Rebuilt.{others_seen}
+use Rattle.encode_types.specs.declared.maps.TypeEncodingMaps.{TypeEncodingMaps}
+use Rattle.encode_types.specs.Counts.{Definitions}
+use Rattle.encode_types.specs.Distinct.{is_value_type, is_function_type}
+use Rattle.encode_types.specs.Known.{Around, are_right, below, known_instance, known_slot, outer_instances, outer_scope, outer_slots, standing_instances}
+use Rattle.encode_types.specs.Resources.{Names, resource_names, is_met_owner}
+use Rattle.encode_types.specs.Room.{LacksRoomBehind}
+use Rattle.encode_types.specs.Scope.{Others, Scope}
+use Rattle.encode_types.specs.Standing.{SlotsStand, is_slot_of}
+use Rattle.encode_types.specs.Table.{table_scope}
+use Rattle.encode_types.specs.View.{View}
+use Rattle.encode_names.specs.Rebuilt.{others_seen}
 use Rattle.wit_encode.specs.Instance.{around_at, count_declared, declared_extent}
 use Rattle.wit_encode.specs.WrittenNames.{instances_around}
 use Rattle.wit_encode.specs.declared.world.WorldEncoderOf.{WorldEncoderOf}

@@ -9,11 +9,11 @@ use Rattle.wit_model.specs.declared.model.Function.{Function}
 use Rattle.wit_model.specs.declared.model.InterfaceId.{InterfaceId}
 use Rattle.wit_model.specs.declared.model.«Type».{«Type» as ValueType}
 use Rattle.comp_bytes.specs.Raw.{Declarations}
-use Rattle.wit_encode_types.specs.Extents.{function_extent, known_extent, number_extent}
-use Rattle.wit_encode_types.specs.MetKinds.{ReachedFrom}
-use Rattle.wit_encode_types.specs.declared.maps.TypeEncodingMaps.{TypeEncodingMaps}
-use Rattle.world_names.specs.WorldNames.{name_of_interface}
-use Rattle.world_names.specs.WorldSteps.{Entry}
+use Rattle.encode_types.specs.Extents.{function_extent, known_extent, number_extent}
+use Rattle.encode_types.specs.MetKinds.{ReachedFrom}
+use Rattle.encode_types.specs.declared.maps.TypeEncodingMaps.{TypeEncodingMaps}
+use Rattle.encode_names.specs.WorldNames.{name_of_interface}
+use Rattle.encode_names.specs.WorldSteps.{Entry}
 use Rattle.wit_encode.specs.Extents.{instance_extent, item_extent}
 use Rattle.wit_encode.specs.Instance.{declared_extent}
 

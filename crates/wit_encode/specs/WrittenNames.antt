@@ -7,9 +7,9 @@ use Rattle.wit_model.specs.declared.model.World.{World}
 use Rattle.comp_bytes.specs.Raw.{Declaration, Declarations, ExternName}
 use Rattle.comp_bytes.specs.declared.forms.ComponentTypeRef.{ComponentTypeRef}
 use Rattle.comp_bytes.specs.declared.forms.ComponentTypeRef.TheVariants as refs
-use Rattle.wit_encode_types.specs.Known.{Around}
-use Rattle.world_names.specs.WorldNames.{name_of_item}
-use Rattle.world_names.specs.WorldSteps.{Entry}
+use Rattle.encode_types.specs.Known.{Around}
+use Rattle.encode_names.specs.WorldNames.{name_of_item}
+use Rattle.encode_names.specs.WorldSteps.{Entry}
 
 abbrev pub described_name : ExternName → ComponentTypeRef → List ExternName
 described_name name (refs.Instance n) = name ∷ []

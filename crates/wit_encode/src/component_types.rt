@@ -9,7 +9,7 @@ ghost use Rattle.wit_model.specs.Text.{Text};
 ghost use Rattle.wit_model.specs.declared.error.Error.TheVariants.{Size};
 ghost use Rattle.wit_model.specs.Valid.{IsValid};
 ghost use Rattle.wit_model.specs.Weight.{interface_weight, types_instance_weight};
-ghost use Rattle.world_names.specs.WorldNames.{name_of_interface};
+ghost use Rattle.encode_names.specs.WorldNames.{name_of_interface};
 ghost use Rattle.wit_encode.specs.Encoders.{outside, UsedAround};
 ghost use Rattle.wit_encode.specs.Dependencies.{AreImportable, HasImported, ImportsTypes, ShowsComponent};
 ghost use Rattle.wit_encode.specs.DependencyCounts.{DefinesComponent, DefinesImports};
@@ -21,10 +21,10 @@ ghost use Rattle.wit_encode.specs.WrittenBytes.{AddsBytes, imports_extent};
 
 use crate::interface::{InterfaceEncoder, InterfaceEncoderOf};
 use comp_bytes::{ComponentType, ComponentTypeRef};
-use interface_reach::interfaces_reached;
+use encode_names::{interface_name, refuse_equal_paths};
+use encode_reach::interfaces_reached;
 use std::alloc::Global;
 use wit_model::{Error, InterfaceId, Resolve};
-use world_names::{interface_name, refuse_equal_paths};
 
 // Imports the types of an interface by its path, as the instance of this number.
 fn import_dependency<'a>(

@@ -6,10 +6,10 @@ ghost use Rattle.std.specs.List.{Contains};
 ghost use Rattle.std.specs.BTreeMap.{insert_entry};
 ghost use Rattle.std.specs.Ordering.{nat_cmp};
 ghost use Rattle.comp_bytes.specs.Raw.{Alias as RawAlias, Declaration, Declarations, append, declaration_count, from_list};
-ghost use Rattle.wit_encode_types.specs.Known.{known_slot, known_instance, IsSource, ReachesAround};
+ghost use Rattle.encode_types.specs.Known.{known_slot, known_instance, IsSource, ReachesAround};
 ghost use Rattle.wit_encode.specs.Instance.{around_at, around_of};
 ghost use Rattle.wit_encode.specs.Encoders.{declared_after, DeclaresInside, DeclaresOutside, AddsInstance};
-ghost use Rattle.wit_encode_types.specs.Room.{fits_type_name};
+ghost use Rattle.encode_types.specs.Room.{fits_type_name};
 ghost use Rattle.wit_model.specs.Text.{text_of};
 ghost use Rattle.comp_bytes.specs.RawOf.{raw_defined, raw_function, raw_name};
 ghost use Rattle.comp_bytes.specs.Held.{type_slots, type_slots_of, fits_next, fits_added};
@@ -22,12 +22,12 @@ use comp_bytes::{
     Alias, ComponentDefinedType, ComponentExternName, ComponentFuncType, ComponentType,
     ComponentTypeRef, InstanceType,
 };
+use encode_types::{
+    LendsMaps, TypeEncodingMaps, ValtypeEncoder, encode_func_type, encode_valtype, name_of,
+};
 use std::alloc::Global;
 use std::collections::BTreeMap;
 use std::mem;
-use wit_encode_types::{
-    LendsMaps, TypeEncodingMaps, ValtypeEncoder, encode_func_type, encode_valtype, name_of,
-};
 use wit_model::{Error, Function, InterfaceId, Resolve, Type, TypeId};
 
 /// What stands of other interfaces in a component type.
@@ -328,29 +328,29 @@ impl<'a> ValtypeEncoder<'a> for InterfaceEncoderOf<'a, TypeEncodingMaps<'a>> {
 impl<'a> InterfaceEncoderOf<'a, TypeEncodingMaps<'a>> {
     ghost use Rattle.wit_model.specs.Meaning.{Signature};
     ghost use Rattle.comp_meaning.specs.Follow.{is_simple};
-    ghost use Rattle.wit_encode_types.specs.Slots.{Keeps, function};
+    ghost use Rattle.encode_types.specs.Slots.{Keeps, function};
     ghost use Rattle.wit_model.specs.Meant.{function_meaning};
     ghost use Rattle.wit_model.specs.Valid.{IsValid};
-    ghost use Rattle.wit_encode_types.specs.View.{Agrees, HoldsMore, HoldsLearnt, Writes};
-    ghost use Rattle.wit_encode_types.specs.Extents.{function_extent, name_extent};
+    ghost use Rattle.encode_types.specs.View.{Agrees, HoldsMore, HoldsLearnt, Writes};
+    ghost use Rattle.encode_types.specs.Extents.{function_extent, name_extent};
     ghost use Rattle.wit_encode.specs.WrittenBytes.{AddsBytes, TakesFew, types_extent, whole_extent};
     ghost use Rattle.wit_encode.specs.Instance.{declared_extent};
-    ghost use Rattle.wit_encode_types.specs.Leaves.{Leaves, CountsTypes, CountsFunctions, LacksRoom};
-    ghost use Rattle.wit_encode_types.specs.Fits.{CanEncode};
-    ghost use Rattle.wit_encode_types.specs.Counts.{names_defined};
+    ghost use Rattle.encode_types.specs.Leaves.{Leaves, CountsTypes, CountsFunctions, LacksRoom};
+    ghost use Rattle.encode_types.specs.Fits.{CanEncode};
+    ghost use Rattle.encode_types.specs.Counts.{names_defined};
     ghost use Rattle.std.specs.Set.{distinct_count};
     ghost use Rattle.std.specs.Prelude.{nat_eq, sum_by};
-    ghost use Rattle.wit_encode_types.specs.Distinct.{DefinesKeys, DefinesTypes, defined_under_names};
+    ghost use Rattle.encode_types.specs.Distinct.{DefinesKeys, DefinesTypes, defined_under_names};
     ghost use Rattle.wit_model.specs.Valid.{IsValid};
-    ghost use Rattle.wit_encode_types.specs.MetKinds.{LearnsFrom, referred};
+    ghost use Rattle.encode_types.specs.MetKinds.{LearnsFrom, referred};
     ghost use Rattle.wit_model.specs.Parts.{function_types};
     ghost use Rattle.std.specs.List.{flat_map};
     ghost use Rattle.wit_encode.specs.Exports.{AreTypesOf, AllKnown, KnowsUsed, UsesListed};
     ghost use Rattle.wit_model.specs.declared.model.«Type».TheVariants as ValueType;
     ghost use Rattle.wit_encode.specs.Instance.{ShowsFunction, CanEncodeFunction, IsInstance, placed_function, meaning_of, own_of, declarations_in};
     ghost use Rattle.wit_encode.specs.Encoders.{encoder_view, view_of, contents_in, shown_as, scope_within, outside, GoesOn, Reaches, InstancesStay, UsedAround, EncodesAs, EncodesPlaced, EncodesTypesAs, LacksDependency, LacksInstance, LacksWithin, plain, requests_of, meanings_of, ShowsAs, ShowsMore, HoldsInside, LacksInside, TypesStay, NamesStay, LearnsInside, WritesInside, DefinesNames, IsEncoding, Begins};
-    ghost use Rattle.wit_encode_types.specs.Room.{export_name, function_requests};
-    ghost use Rattle.wit_encode_types.specs.Maps.{MapsGrow};
+    ghost use Rattle.encode_types.specs.Room.{export_name, function_requests};
+    ghost use Rattle.encode_types.specs.Maps.{MapsGrow};
 
     /// An encoder with an empty component type. Takes constant time and no memory.
     pub fn new(alloc: Global, resolve: &'a Resolve) -> InterfaceEncoder<'a>

@@ -1,6 +1,6 @@
 //! Laws of the scopes in which types and functions are encoded, for whoever brings an encoder of their own.
 
-ghost use Rattle.wit_encode_types.specs.MetKinds.{MetKindsAreHeld};
+ghost use Rattle.encode_types.specs.MetKinds.{MetKindsAreHeld};
 ghost use Rattle.wit_encode.specs.RoomLaws.{LackingInterfacesAreHeavy};
 ghost use Rattle.wit_encode.specs.Dependencies.{AliasesLeaveImports, ExportsEnd, ImportsGrow, ImportsStand, NothingIsImported};
 ghost use Rattle.wit_encode.specs.Extents.{BytesAreFew, ComponentsAreLight, DependenciesAreLight, FunctionsAreLight, InstancesAreLight, TypesAreLight, WorldsAreLight};
@@ -8,7 +8,7 @@ ghost use Rattle.wit_encode.specs.OwnerScope.{FunctionsEncode, FunctionsUse, Int
 ghost use Rattle.wit_encode.specs.WorldRoom.{LackingWorldsAreHeavy};
 ghost use Rattle.wit_encode.specs.WorldUses.{ItemsMeetStanding};
 
-pub use wit_encode_types::laws::equal_lists;
+pub use encode_types::laws::equal_lists;
 
 /// Types can be encoded in the scope of an owner, where each name that is met is of the place, or of a named interface whose instance stands.
 pub fn names_encode()

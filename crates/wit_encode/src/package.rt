@@ -10,7 +10,7 @@ ghost use Rattle.wit_model.specs.declared.model.Package.{Package as PackageValue
 ghost use Rattle.wit_model.specs.declared.model.World.{World as WorldValue};
 ghost use Rattle.comp_bytes.specs.Spelling.{preamble};
 ghost use Rattle.wit_model.specs.declared.error.Error.TheVariants.{Size};
-ghost use Rattle.wit_shown.specs.PackageTypes.{wrapper};
+ghost use Rattle.encode_shown.specs.PackageTypes.{wrapper};
 ghost use Rattle.wit_encode.specs.Scopes.{HasNoEqualPaths, RefusesInterface};
 ghost use Rattle.wit_encode.specs.PackageRoom.{InterfacesLackRoom, IsHeavyWorld, LacksInterface, LacksWorld, WorldsLackRoom};
 ghost use Rattle.wit_encode.specs.Packages.{AddsInterface, AddsWorld, AddsWorlds, AreNamed, AreWorlds, HasMembers, HasNoClashAt, HasNoClashes, HasNoMembers, HoldsMembers, Listed, HaveNoClash, HaveNoEqualPaths, HoldsInterfaces, HoldsPackage, MeansPackage, RefusesInterfaces, RefusesPackage, RefusesWorldAt, RefusesWorlds, SpellsPackage, WrapsWorld};
@@ -18,7 +18,7 @@ ghost use Rattle.wit_encode.specs.Packages.{AddsInterface, AddsWorld, AddsWorlds
 use crate::component_types::interface_type;
 use crate::world::encode_world;
 use comp_bytes::{ComponentBuilder, ComponentExternName, ComponentType, ComponentTypeRef};
-use component_exports::export_component_type;
+use encode_exports::export_component_type;
 use std::alloc::Global;
 use std::borrow::CowStr;
 use wit_model::{Error, InterfaceId, Map, PackageId, PackageName, Resolve, WorldId};

@@ -14,9 +14,9 @@ ghost use Rattle.wit_model.specs.Valid.{IsValid};
 ghost use Rattle.wit_model.specs.Weight.{world_weight};
 ghost use Rattle.wit_model.specs.declared.model.World.{World as WorldValue};
 ghost use Rattle.wit_model.specs.declared.model.WorldItem.TheVariants as item_kinds;
-ghost use Rattle.world_names.specs.WorldSteps.{declared_towards};
-ghost use Rattle.world_names.specs.Clashes.{HasNoClash};
-ghost use Rattle.wit_encode_types.specs.Known.{standing_instances, UsedStand};
+ghost use Rattle.encode_names.specs.WorldSteps.{declared_towards};
+ghost use Rattle.encode_names.specs.Clashes.{HasNoClash};
+ghost use Rattle.encode_types.specs.Known.{standing_instances, UsedStand};
 ghost use Rattle.wit_encode.specs.Encoders.{declared_after, DeclaresOutside};
 ghost use Rattle.wit_encode.specs.WorldCounts.{Defines, DefinesAll, DefinesOnce, HasDefined};
 ghost use Rattle.wit_encode.specs.WorldHolds.{HoldsAll, HoldsFew, HoldsOn, LacksDeclaration, LacksInstanceHere, LacksRoomTowards, LacksWorldRoom};
@@ -34,15 +34,13 @@ use crate::interface::{
 use comp_bytes::{
     ComponentDefinedType, ComponentExternName, ComponentFuncType, ComponentType, ComponentTypeRef,
 };
+use encode_names::{item_name, refuse_clashes};
+use encode_types::{LendsMaps, TypeEncodingMaps, ValtypeEncoder, encode_func_type, encode_valtype};
 use std::alloc::Global;
 use std::mem;
-use wit_encode_types::{
-    LendsMaps, TypeEncodingMaps, ValtypeEncoder, encode_func_type, encode_valtype,
-};
 use wit_model::{
     Error, Function, InterfaceId, Map, Resolve, Type, TypeId, WorldId, WorldItem, WorldKey,
 };
-use world_names::{item_name, refuse_clashes};
 
 /// Whether a declaration is an import or an export.
 #[derive(Clone, Copy)]

@@ -13,12 +13,12 @@ use Rattle.wit_model.specs.declared.model.Param.{Param}
 use Rattle.wit_model.specs.declared.model.Function.{Function}
 use Rattle.wit_model.specs.declared.model.«Type».{«Type» as ValueType}
 use Rattle.wit_model.specs.declared.model.«Type».TheVariants as ty
-use Rattle.wit_encode_types.specs.Fits.{CanEncode}
-use Rattle.wit_encode_types.specs.Formed.{IsFormedSignature}
-use Rattle.wit_encode_types.specs.Plan.{Reaches, itself, through}
-use Rattle.wit_encode_types.specs.Resources.{is_resource_tree}
-use Rattle.wit_encode_types.specs.Scope.{Scope}
-use Rattle.wit_encode_types.proofs.Lists.{both, one-contained}
+use Rattle.encode_types.specs.Fits.{CanEncode}
+use Rattle.encode_types.specs.Formed.{IsFormedSignature}
+use Rattle.encode_types.specs.Plan.{Reaches, itself, through}
+use Rattle.encode_types.specs.Resources.{is_resource_tree}
+use Rattle.encode_types.specs.Scope.{Scope}
+use Rattle.encode_types.proofs.Lists.{both, one-contained}
 use Rattle.wit_encode.proofs.Validity.{valid-layered, signature-formed}
 
 abbrev pub AreNumbers : List ValueType → Type 0

@@ -6,10 +6,10 @@ ghost use Rattle.std.specs.List.{list_all};
 ghost use Rattle.wit_model.specs.Parts.{function_types};
 ghost use Rattle.wit_model.specs.Valid.{IsValid};
 ghost use Rattle.wit_model.specs.Lookup.{interface_at, type_at};
-ghost use Rattle.wit_encode_types.specs.Kinds.{parts_of, has_definition, kind_tree};
-ghost use Rattle.wit_encode_types.specs.Formed.{IsFormed};
-ghost use Rattle.wit_encode_types.specs.Plan.{InRange, AllInRange, foreign_owner};
-ghost use Rattle.wit_encode_types.specs.Table.{has_named_owner, is_met_by, table_scope, IsDefined, AllDefined, IsTable};
+ghost use Rattle.encode_types.specs.Kinds.{parts_of, has_definition, kind_tree};
+ghost use Rattle.encode_types.specs.Formed.{IsFormed};
+ghost use Rattle.encode_types.specs.Plan.{InRange, AllInRange, foreign_owner};
+ghost use Rattle.encode_types.specs.Table.{has_named_owner, is_met_by, table_scope, IsDefined, AllDefined, IsTable};
 
 use super::packages::{OWN, text};
 use super::shown::{put, shown};

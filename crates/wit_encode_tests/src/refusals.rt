@@ -2,7 +2,7 @@
 //! The runner refuses an allocation where it is told to (`rt try --test --fail-alloc N`); without that the first calls succeed.
 
 ghost use Rattle.std.specs.Prelude.{IfOk, IfSome};
-ghost use Rattle.wit_encode_types.specs.Table.{IsTable};
+ghost use Rattle.encode_types.specs.Table.{IsTable};
 
 use super::encoded::{Call, answer, table_of};
 use super::steps::{Added, Kind, TYPE_0, TYPE_1, TYPE_2, TYPE_3, TYPE_4, resolve_of};

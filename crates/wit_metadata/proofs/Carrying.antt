@@ -10,11 +10,11 @@ use Rattle.wit_model.specs.declared.model.World.{World}
 use Rattle.comp_bytes.specs.Raw.{Declarations}
 use Rattle.comp_bytes.specs.Parts.{Part, sections_of_parts, top_slots}
 use Rattle.comp_bytes.specs.Spelling.{IsComponent}
-use Rattle.component_exports.specs.ExportedParts.{one_exported}
-use Rattle.component_exports.proofs.Exports.{all_exported}
-use Rattle.wit_shown.specs.PackageTypes.{IsWorldType}
-use Rattle.wit_shown.proofs.PackageTypes.{world-bytes-mean}
-use Rattle.wit_shown.proofs.WorldMeans.{world-label}
+use Rattle.encode_exports.specs.ExportedParts.{one_exported}
+use Rattle.encode_exports.proofs.Exports.{all_exported}
+use Rattle.encode_shown.specs.PackageTypes.{IsWorldType}
+use Rattle.encode_shown.proofs.PackageTypes.{world-bytes-mean}
+use Rattle.encode_shown.proofs.WorldMeans.{world-label}
 use Rattle.wit_encode.specs.Packages.{WrapsWorld}
 use Rattle.wit_metadata.specs.Carried.{CarriesEncoding, HasHome, MeansWorld}
 use Rattle.wit_metadata.specs.Encodings.{code_of, section_name}

@@ -12,7 +12,7 @@ use Rattle.wit_model.specs.declared.model.Resolve.{Resolve}
 use Rattle.wit_model.specs.declared.model.World.{World}
 use Rattle.wit_model.proofs.Lists.{first_true, second_true}
 use Rattle.wit_model.proofs.OnePath.{found-in, some-of, some-same}
-use Rattle.wit_shown.proofs.Basics.{world-passes}
+use Rattle.encode_shown.proofs.Basics.{world-passes}
 use Rattle.wit_metadata.specs.Carried.{HasHome}
 
 pub world-home : (r : Resolve) → IsValid r → (n : ℕ) (w : World) → world_at r n ≡ Some w → HasHome r w

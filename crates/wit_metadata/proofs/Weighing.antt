@@ -13,8 +13,8 @@ use Rattle.wit_model.specs.declared.model.Resolve.{Resolve}
 use Rattle.wit_model.specs.declared.model.World.{World}
 use Rattle.comp_bytes.specs.Raw.{Declarations, TopType}
 use Rattle.comp_bytes.specs.Parts.{Part, fits_component}
-use Rattle.component_exports.specs.ExportedParts.{one_exported}
-use Rattle.wit_encode_types.specs.Room.{limit}
+use Rattle.encode_exports.specs.ExportedParts.{one_exported}
+use Rattle.encode_types.specs.Room.{limit}
 use Rattle.wit_encode.specs.PackageRoom.{IsHeavyWorld, part_extent, parts_extent}
 use Rattle.wit_encode.specs.Packages.{WrapsWorld}
 use Rattle.wit_encode.proofs.Lengths.{long-component}
@@ -76,7 +76,7 @@ module _ (r : Resolve) (n : ℕ) (w : World) (there : world_at r n ≡ Some w) (
         let here = says-extent e in
         let rest = one-short 0 (text_of w.name, ds) in
         let wrapped = wrapper-short path wraps.inner in
-        let is : type-extent (text_of w.name, ds) ≡ type-extent (text_of w.name, Rattle.wit_shown.specs.PackageTypes.wrapper path wraps.inner) = ap (λ (x : Declarations). type-extent (text_of w.name, x)) wraps.is in
+        let is : type-extent (text_of w.name, ds) ≡ type-extent (text_of w.name, Rattle.encode_shown.specs.PackageTypes.wrapper path wraps.inner) = ap (λ (x : Declarations). type-extent (text_of w.name, x)) wraps.is in
         let inner = extent-is wraps.inner in
         let light = wraps.light in
         let whole = weight-is in

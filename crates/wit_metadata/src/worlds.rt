@@ -11,7 +11,7 @@ ghost use Rattle.wit_metadata.specs.Carried.{CarriesEncoding, HasHome, MeansWorl
 
 use crate::encodings::encoding_byte;
 use comp_bytes::ComponentBuilder;
-use component_exports::export_component_type;
+use encode_exports::export_component_type;
 use std::alloc::Global;
 use wit_encode::wrapped_world;
 use wit_model::{Error, PackageName, Resolve, StringEncoding, WorldId};

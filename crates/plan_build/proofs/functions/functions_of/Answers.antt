@@ -3,7 +3,7 @@ use Rattle.std.specs.Prelude.{string_eq}
 use Rattle.indexmap.specs.IndexMap.{values}
 use Rattle.wit_model.specs.Text.{text_of, text_eq}
 use Rattle.wit_model.proofs.Distinct.{text_eq_flip}
-use Rattle.read_plan.specs.Built.{is_bare_function, planned_function}
+use Rattle.plan_meaning.specs.Built.{is_bare_function, planned_function}
 use Rattle.plan_build.specs.PlanOf.{named_function}
 use Rattle.plan_build.proofs.Listing.{all_more}
 use Rattle.plan_build.proofs.Mapping.{entry_more, goes_last, values_more}

@@ -2,7 +2,7 @@ use Rattle.std.proofs.Common.{◌≡◌, true, map, take}
 use Rattle.std.specs.List.{list_all}
 use Rattle.indexmap.specs.IndexMap.{values}
 use Rattle.wit_model.specs.Rules.{are_distinct}
-use Rattle.read_plan.specs.Built.{is_bare_function}
+use Rattle.plan_meaning.specs.Built.{is_bare_function}
 use Rattle.plan_build.specs.PlanOf.{built_function, named_function}
 use Rattle.plan_build.proofs.functions.functions_of.Given as goal
 

@@ -3,9 +3,9 @@ use Rattle.std.specs.List.{list_all}
 use Rattle.indexmap.specs.IndexMap.{values}
 use Rattle.wit_model.specs.Rules.{are_distinct}
 use Rattle.wit_model.proofs.Lists.{first_true, second_true}
-use Rattle.read_plan.specs.PlanRules.{names_of}
-use Rattle.read_plan.specs.Built.{is_bare_function, is_undocumented}
-use Rattle.read_plan.proofs.Lists.{both}
+use Rattle.plan_meaning.specs.PlanRules.{names_of}
+use Rattle.plan_meaning.specs.Built.{is_bare_function, is_undocumented}
+use Rattle.plan_meaning.proofs.Lists.{both}
 use Rattle.plan_build.specs.Buildable.{interface_differs}
 use Rattle.plan_build.specs.PlanOf.{named_function, stated_interface}
 use Rattle.plan_build.specs.declared.plan.PlannedFunction.{PlannedFunction}

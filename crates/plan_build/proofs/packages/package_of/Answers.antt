@@ -1,7 +1,7 @@
 use Rattle.std.proofs.Common.{◌≡◌, true}
 use Rattle.wit_model.specs.Rules.{are_distinct}
 use Rattle.wit_model.proofs.Lists.{first_true, second_true}
-use Rattle.read_plan.specs.PlanRules.{names_of}
+use Rattle.plan_meaning.specs.PlanRules.{names_of}
 use Rattle.plan_build.specs.Buildable.{package_differs}
 use Rattle.plan_build.specs.PlanOf.{stated_package}
 use Rattle.plan_build.specs.declared.plan.PlannedPackage.{PlannedPackage}

@@ -1,6 +1,6 @@
 use Rattle.std.proofs.Common.{◌≡◌, true, map, take}
 use Rattle.std.specs.List.{list_all}
-use Rattle.read_plan.specs.Built.{is_undocumented}
+use Rattle.plan_meaning.specs.Built.{is_undocumented}
 use Rattle.plan_build.specs.PlanOf.{marked_case, stated_case}
 use Rattle.plan_build.proofs.types.cases_of.Given as goal
 

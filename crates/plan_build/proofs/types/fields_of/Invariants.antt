@@ -1,7 +1,7 @@
 use Rattle.std.proofs.Common.{◌≡◌, true, map, take}
 use Rattle.std.specs.List.{list_all}
 use Rattle.wit_model.specs.Text.{text_of}
-use Rattle.read_plan.specs.Built.{is_undocumented, part_of}
+use Rattle.plan_meaning.specs.Built.{is_undocumented, part_of}
 use Rattle.plan_build.proofs.types.fields_of.Given as goal
 
 abbrev pub invariant-loop-field : goal.invariant-loop-field

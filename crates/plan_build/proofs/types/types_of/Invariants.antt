@@ -1,6 +1,6 @@
 use Rattle.std.proofs.Common.{◌≡◌, true, map, take}
 use Rattle.std.specs.List.{list_all}
-use Rattle.read_plan.specs.Built.{is_bare_type, planned_type}
+use Rattle.plan_meaning.specs.Built.{is_bare_type, planned_type}
 use Rattle.plan_build.specs.PlanOf.{stated_type}
 use Rattle.plan_build.proofs.types.types_of.Given as goal
 

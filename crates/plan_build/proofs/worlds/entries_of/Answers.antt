@@ -1,6 +1,6 @@
 use Rattle.indexmap.specs.IndexMap.{values}
-use Rattle.read_plan.specs.PlanRules.{same_key}
-use Rattle.read_plan.specs.Built.{is_bare_item, planned_item, planned_key}
+use Rattle.plan_meaning.specs.PlanRules.{same_key}
+use Rattle.plan_meaning.specs.Built.{is_bare_item, planned_item, planned_key}
 use Rattle.plan_build.specs.PlanOf.{stated_entry}
 use Rattle.plan_build.proofs.Listing.{all_more}
 use Rattle.plan_build.proofs.Mapping.{entry_more, goes_last, values_more}

@@ -1,6 +1,6 @@
 use Rattle.std.proofs.Common.{◌≡◌, true, map, take}
 use Rattle.std.specs.List.{list_all}
-use Rattle.read_plan.specs.Built.{is_bare_world, planned_world}
+use Rattle.plan_meaning.specs.Built.{is_bare_world, planned_world}
 use Rattle.plan_build.specs.Buildable.{world_differs}
 use Rattle.plan_build.specs.PlanOf.{stated_world}
 use Rattle.plan_build.proofs.worlds.worlds_of.Given as goal

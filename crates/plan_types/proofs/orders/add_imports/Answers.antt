@@ -1,4 +1,4 @@
-use Rattle.plan_read.specs.Reached.{numbered_import}
+use Rattle.read_rules.specs.Reached.{numbered_import}
 use Rattle.plan_types.proofs.OrderLaws.{all_joined, one_joined}
 use Rattle.plan_types.proofs.orders.add_imports.Goals as goal
 

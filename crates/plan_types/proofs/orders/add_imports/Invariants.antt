@@ -1,5 +1,5 @@
 use Rattle.std.proofs.Common.{◌≡◌, map, drop}
-use Rattle.plan_read.specs.Reached.{numbered_import}
+use Rattle.read_rules.specs.Reached.{numbered_import}
 use Rattle.plan_types.specs.Orders.{joined_all}
 use Rattle.plan_types.proofs.orders.add_imports.Given as goal
 

@@ -1,4 +1,4 @@
-use Rattle.plan_read.specs.Scopes.{numbered_instance}
+use Rattle.read_rules.specs.Scopes.{numbered_instance}
 use Rattle.plan_types.proofs.OrderLaws.{all_joined, one_joined}
 use Rattle.plan_types.proofs.orders.add_instances.Goals as goal
 

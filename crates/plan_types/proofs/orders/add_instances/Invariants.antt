@@ -1,5 +1,5 @@
 use Rattle.std.proofs.Common.{◌≡◌, map, drop}
-use Rattle.plan_read.specs.Scopes.{numbered_instance}
+use Rattle.read_rules.specs.Scopes.{numbered_instance}
 use Rattle.plan_types.specs.Orders.{joined_all}
 use Rattle.plan_types.proofs.orders.add_instances.Given as goal
 

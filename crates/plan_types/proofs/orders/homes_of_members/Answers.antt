@@ -1,6 +1,6 @@
 use Rattle.std.proofs.Common.{[], ap, ◌∙◌}
 use Rattle.std.specs.List.{flat_map}
-use Rattle.plan_members.specs.Members.{numbered_member, numbered_part}
+use Rattle.read_exports.specs.Members.{numbered_member, numbered_part}
 use Rattle.plan_types.specs.Orders.{home_of_part, joined_all}
 use Rattle.plan_types.proofs.MarkLaws.{flat_mapped}
 use Rattle.plan_types.proofs.OrderLaws.{all_places, one_place}

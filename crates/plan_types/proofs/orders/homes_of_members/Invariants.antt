@@ -1,6 +1,6 @@
 use Rattle.std.proofs.Common.{◌≡◌, drop}
 use Rattle.std.specs.List.{flat_map}
-use Rattle.plan_members.specs.Members.{numbered_members, numbered_part}
+use Rattle.read_exports.specs.Members.{numbered_members, numbered_part}
 use Rattle.plan_types.specs.Orders.{homes_met, home_of_part, joined_all}
 use Rattle.plan_types.proofs.orders.homes_of_members.Given as goal
 

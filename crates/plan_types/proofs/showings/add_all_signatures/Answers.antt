@@ -1,5 +1,5 @@
 use Rattle.plan_types.specs.Showings.{signatures_of_seen}
-use Rattle.plan_read.proofs.SightLaws.{all_added, one_added}
+use Rattle.read_rules.proofs.SightLaws.{all_added, one_added}
 use Rattle.plan_types.proofs.showings.add_all_signatures.Goals as goal
 
 pub loop-item-preserved : goal.loop-item-preserved

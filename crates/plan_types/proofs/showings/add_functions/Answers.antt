@@ -1,6 +1,6 @@
 use Rattle.std.proofs.Common.{refl}
-use Rattle.plan_read.specs.Views.{numbered_function}
-use Rattle.plan_members.proofs.WalkLaws.{all_mapped, one_pushed}
+use Rattle.read_rules.specs.Views.{numbered_function}
+use Rattle.read_exports.proofs.WalkLaws.{all_mapped, one_pushed}
 use Rattle.plan_types.proofs.showings.add_functions.Goals as goal
 
 pub loop-function-preserved : goal.loop-function-preserved

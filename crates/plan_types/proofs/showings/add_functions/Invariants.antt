@@ -1,5 +1,5 @@
 use Rattle.std.proofs.Common.{◌≡◌, ◌++◌, map, drop}
-use Rattle.plan_read.specs.Views.{numbered_function}
+use Rattle.read_rules.specs.Views.{numbered_function}
 use Rattle.plan_types.proofs.showings.add_functions.Given as goal
 
 -- those that were added, and those that are left, are all

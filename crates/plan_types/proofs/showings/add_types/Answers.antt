@@ -1,7 +1,7 @@
 use Rattle.std.proofs.Common.{map, refl}
-use Rattle.plan_read.specs.Views.{numbered_type}
+use Rattle.read_rules.specs.Views.{numbered_type}
 use Rattle.plan_types.specs.Showings.{numbered_showing, showing_of}
-use Rattle.plan_members.proofs.WalkLaws.{all_mapped, one_mapped}
+use Rattle.read_exports.proofs.WalkLaws.{all_mapped, one_mapped}
 use Rattle.plan_types.proofs.showings.add_types.Goals as goal
 
 pub loop-ty-preserved : goal.loop-ty-preserved

@@ -1,5 +1,5 @@
 use Rattle.std.proofs.Common.{◌≡◌, ◌++◌, map, drop}
-use Rattle.plan_read.specs.Views.{numbered_type}
+use Rattle.read_rules.specs.Views.{numbered_type}
 use Rattle.plan_types.specs.Showings.{numbered_showing, showing_of}
 use Rattle.plan_types.proofs.showings.add_types.Given as goal
 

@@ -1,6 +1,6 @@
 use Rattle.std.proofs.Common.{map}
 use Rattle.plan_types.specs.Showings.{numbered_showing, showings_of_part}
-use Rattle.plan_read.proofs.SightLaws.{all_added, one_added}
+use Rattle.read_rules.proofs.SightLaws.{all_added, one_added}
 use Rattle.plan_types.proofs.showings.showings_of_members.Goals as goal
 
 pub loop-member-preserved : goal.loop-member-preserved

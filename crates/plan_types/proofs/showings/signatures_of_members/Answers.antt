@@ -1,5 +1,5 @@
 use Rattle.plan_types.specs.Showings.{signatures_of_part}
-use Rattle.plan_read.proofs.SightLaws.{all_added, one_added}
+use Rattle.read_rules.proofs.SightLaws.{all_added, one_added}
 use Rattle.plan_types.proofs.showings.signatures_of_members.Goals as goal
 
 pub loop-member-preserved : goal.loop-member-preserved

@@ -1,6 +1,6 @@
 use Rattle.std.proofs.Common.{ap, sym, ◌∙◌, option_map}
-use Rattle.plan_members.proofs.WalkLaws.{none_left}
-use Rattle.plan_read.specs.Tables.{name_of, numbered_shape, numbered_tables}
+use Rattle.read_exports.proofs.WalkLaws.{none_left}
+use Rattle.read_rules.specs.Tables.{name_of, numbered_shape, numbered_tables}
 use Rattle.plan_types.specs.FirstShown.{showing_at}
 use Rattle.plan_types.specs.PlannedTypes.{owner_in}
 use Rattle.plan_types.specs.Showings.{numbered_showing}

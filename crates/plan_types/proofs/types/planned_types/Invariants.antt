@@ -1,7 +1,7 @@
 use Rattle.std.proofs.Common.{map, take}
 use Rattle.std.specs.List.{AllZip}
 use Rattle.plan_build.specs.PlanOf.{stated_type}
-use Rattle.plan_read.specs.Tables.{numbered_tables}
+use Rattle.read_rules.specs.Tables.{numbered_tables}
 use Rattle.plan_types.specs.FirstShown.{showing_at}
 use Rattle.plan_types.specs.PlannedTypes.{owner_in, PlansType}
 use Rattle.plan_types.proofs.types.planned_types.Given as goal

@@ -1,4 +1,4 @@
-use Rattle.plan_read.specs.Tables.{numbered_tables}
+use Rattle.read_rules.specs.Tables.{numbered_tables}
 use Rattle.plan_types.specs.Used.{function_parts}
 use Rattle.plan_types.proofs.MarkLaws.{marks_all, marks_next, marks_none}
 use Rattle.plan_types.proofs.used.mark_functions.Goals as goal

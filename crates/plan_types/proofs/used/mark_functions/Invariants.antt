@@ -1,6 +1,6 @@
 use Rattle.std.proofs.Common.{take}
 use Rattle.std.specs.List.{flat_map}
-use Rattle.plan_read.specs.Tables.{numbered_tables}
+use Rattle.read_rules.specs.Tables.{numbered_tables}
 use Rattle.plan_types.specs.Used.{function_parts, Marks}
 use Rattle.plan_types.proofs.used.mark_functions.Given as goal
 

@@ -2,7 +2,7 @@ use Rattle.std.proofs.Common.{subst}
 use Rattle.plan_types.specs.Used.{Marks}
 use Rattle.std.proofs.Common.{ℕ}
 use Rattle.wit_model.specs.Text.{Text}
-use Rattle.plan_read.specs.Tables.{param_of}
+use Rattle.read_rules.specs.Tables.{param_of}
 use Rattle.plan_types.proofs.MarkLaws.{marks_none, part_all, part_next, twice_mapped}
 use Rattle.plan_types.proofs.used.mark_params.Goals as goal
 

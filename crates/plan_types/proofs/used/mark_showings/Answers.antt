@@ -1,5 +1,5 @@
 use Rattle.std.proofs.Common.{subst}
-use Rattle.plan_read.specs.Tables.{numbered_tables}
+use Rattle.read_rules.specs.Tables.{numbered_tables}
 use Rattle.plan_types.specs.Showings.{numbered_showing}
 use Rattle.plan_types.specs.Used.{showing_parts, Marks}
 use Rattle.plan_types.proofs.MarkLaws.{flat_mapped, marks_all, marks_next, marks_none}

@@ -1,5 +1,5 @@
 use Rattle.std.proofs.Common.{◌≡◌, ℕ, false, length}
-use Rattle.plan_gather.specs.Marks.{is_marked}
+use Rattle.plan_parts.specs.Marks.{is_marked}
 use Rattle.plan_types.proofs.used.no_marks.Given as goal
 
 -- so many marks, none of them set

@@ -1,6 +1,6 @@
 use Rattle.std.proofs.Common.{◌≡◌, map, take}
-use Rattle.plan_gather.specs.Marks.{parts_of}
-use Rattle.plan_read.specs.Tables.{numbered_shape}
+use Rattle.plan_parts.specs.Marks.{parts_of}
+use Rattle.read_rules.specs.Tables.{numbered_shape}
 use Rattle.plan_types.proofs.used.parts_of_types.Given as goal
 
 -- those of so many

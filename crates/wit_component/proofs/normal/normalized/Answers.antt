@@ -1,6 +1,6 @@
 use Rattle.std.proofs.Common.{sym, subst, ◌∙◌, ℕ, List}
 use Rattle.std.proofs.lemmas.Result.{IfErr-weaker, IfOk-weaker}
-use Rattle.wit_decode.specs.Decoded.{IsDecoded, RefusesBytes}
+use Rattle.comp_read.specs.Decoded.{IsDecoded, RefusesBytes}
 use Rattle.wit_encode.specs.Packages.{MeansPackage}
 use Rattle.wit_component.specs.ReadBack.{IsReadBack, RefusesReadBack}
 use Rattle.wit_component.proofs.Refusing.{handed_on, memory_or_size, never_too_large, passed_on, read_back, refused_decoding, refused_encoding, stands}

@@ -8,8 +8,8 @@ use Rattle.wit_model.specs.declared.model.Resolve.{Resolve}
 use Rattle.wit_model.specs.declared.model.InterfaceId.{InterfaceId}
 use Rattle.comp_bytes.specs.Raw.{Declaration, Declarations, append}
 use Rattle.comp_bytes.specs.declared.forms.ComponentTypeRef.TheVariants as refs
-use Rattle.wit_encode_types.specs.Known.{Around, UsedStand, standing_instances}
-use Rattle.wit_encode_types.proofs.Paths.{found-in}
+use Rattle.encode_types.specs.Known.{Around, UsedStand, standing_instances}
+use Rattle.encode_types.proofs.Paths.{found-in}
 use Rattle.wit_encode.specs.DependencyCounts.{DefinesImports}
 use Rattle.wit_encode.specs.DependencyRoom.{ImportsLackRoom, of_imports}
 use Rattle.wit_encode.specs.Encoders.{InterfaceLacksRoom, outside}
@@ -24,7 +24,7 @@ use Rattle.wit_encode.proofs.Scopes.{paths-fit, refused-by_paths}
 use Rattle.wit_encode.proofs.component_types.interface_type.Goals as goal
 use Rattle.wit_encode.proofs.BytesWritten.{adds-described, component-few}
 use Rattle.wit_encode.proofs.Extents.{bytes-few}
-use Rattle.world_names.specs.WorldNames.{name_of_interface}
+use Rattle.encode_names.specs.WorldNames.{name_of_interface}
 use Rattle.wit_encode.specs.WrittenBytes.{AddsBytes, imports_extent}
 use Rattle.wit_model.specs.Weight.{whole_instance_weight}
 

@@ -2,12 +2,12 @@ use Rattle.std.proofs.Common.{◌≡◌, refl, sym, ap, ◌∙◌, ◌&&◌, tru
 use Rattle.std.proofs.lemmas.Option.{slice_get_read}
 use Rattle.wit_model.specs.Lookup.{type_at}
 use Rattle.wit_model.specs.declared.model.TypeDef.{TypeDef}
-use Rattle.wit_encode_types.specs.Known.{IsAlias, known_slot}
+use Rattle.encode_types.specs.Known.{IsAlias, known_slot}
 use Rattle.std.specs.Option.{option_map_or}
 use Rattle.wit_model.specs.Text.{optional_text}
 use Rattle.comp_bytes.specs.Held.{fits_added}
 use Rattle.comp_bytes.specs.Fits.{fits_length, fits_given}
-use Rattle.wit_encode_types.specs.Room.{fits_type_name}
+use Rattle.encode_types.specs.Room.{fits_type_name}
 use Rattle.wit_encode.specs.Instance.{around_at}
 use Rattle.wit_encode.proofs.Importing.{source-listed, source-alias, made-slot, made-reaches}
 use Rattle.wit_encode.proofs.interface.reach.Goals as goal

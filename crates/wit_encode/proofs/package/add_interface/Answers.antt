@@ -1,7 +1,7 @@
 use Rattle.std.proofs.Common.{◌≡◌, ◌++◌, ◌∷◌, [], subst, List, false, ◌&&◌, inl, rules}
 use Rattle.wit_model.specs.Text.{Text}
 use Rattle.comp_bytes.specs.Raw.{Declarations, TopType}
-use Rattle.component_exports.specs.ExportedParts.{exporting, one_exported}
+use Rattle.encode_exports.specs.ExportedParts.{exporting, one_exported}
 use Rattle.wit_encode.proofs.Packages.{type-added, on-ok}
 use Rattle.comp_bytes.specs.Parts.{Part, fits_component, top_slots}
 use Rattle.wit_encode.proofs.PackageHolding.{interface-long}

@@ -4,7 +4,7 @@ use Rattle.wit_model.specs.Text.{Text}
 use Rattle.wit_model.specs.Lookup.{identity_of}
 use Rattle.wit_model.proofs.OnePath.{found-in}
 use Rattle.comp_bytes.specs.Raw.{Declarations, TopType}
-use Rattle.component_exports.specs.ExportedParts.{exporting, one_exported}
+use Rattle.encode_exports.specs.ExportedParts.{exporting, one_exported}
 use Rattle.wit_encode.proofs.Packages.{on-ok, world-added}
 use Rattle.comp_bytes.specs.Parts.{Part, fits_component, top_slots}
 use Rattle.wit_encode.proofs.PackageHolding.{world-long}

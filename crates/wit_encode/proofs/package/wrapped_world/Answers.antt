@@ -6,7 +6,7 @@ use Rattle.wit_model.specs.Names.{path_in}
 use Rattle.wit_model.specs.Lookup.{identity_of, world_at}
 use Rattle.wit_model.specs.declared.model.World.{World}
 use Rattle.wit_model.proofs.OnePath.{some-same}
-use Rattle.wit_shown.specs.PackageTypes.{wrapper}
+use Rattle.encode_shown.specs.PackageTypes.{wrapper}
 use Rattle.wit_encode.specs.Packages.{WrapsWorld}
 use Rattle.wit_encode.proofs.Packages.{world-passed}
 use Rattle.wit_model.specs.Weight.{world_weight}

@@ -2,8 +2,8 @@ use Rattle.std.proofs.Common.{◌≡◌, ◌∙◌, sym, subst, refl, Some}
 use Rattle.std.proofs.lemmas.Option.{slice_get_read}
 use Rattle.wit_model.specs.Lookup.{world_at}
 use Rattle.wit_model.specs.declared.model.World.{World}
-use Rattle.world_names.specs.Clashes.{HasNoClash, RefusesNames}
-use Rattle.wit_encode_types.proofs.Paths.{some-same}
+use Rattle.encode_names.specs.Clashes.{HasNoClash, RefusesNames}
+use Rattle.encode_types.proofs.Paths.{some-same}
 use Rattle.wit_encode.proofs.WholeWorlds.{clash-fits, names-refused, none-clash, room-refused}
 use Rattle.wit_encode.proofs.world.encode_world.Goals as goal
 use Rattle.wit_encode.proofs.world.encode_world.Goals.{After-index-def}

@@ -1,7 +1,7 @@
 use Rattle.std.proofs.Common.{subst, map, List}
 use Rattle.std.proofs.lemmas.List.{take_all}
 use Rattle.wit_model.specs.declared.model.Param.{Param}
-use Rattle.wit_encode_types.specs.Table.{AllDefined}
+use Rattle.encode_types.specs.Table.{AllDefined}
 use Rattle.wit_encode.proofs.Tables.{more-defined, none-defined}
 use Rattle.wit_encode_tests.proofs.encoded.are_defined.Goals as goal
 

@@ -1,5 +1,5 @@
 use Rattle.std.proofs.Common.{map, take}
-use Rattle.wit_encode_types.specs.Table.{AllDefined}
+use Rattle.encode_types.specs.Table.{AllDefined}
 use Rattle.wit_encode_tests.proofs.encoded.are_defined.Given as goal
 
 abbrev pub invariant-loop-param : goal.invariant-loop-param

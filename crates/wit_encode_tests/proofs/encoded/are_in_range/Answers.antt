@@ -1,7 +1,7 @@
 use Rattle.std.proofs.Common.{subst, map, List}
 use Rattle.std.proofs.lemmas.List.{take_all}
 use Rattle.wit_model.specs.declared.model.Param.{Param}
-use Rattle.wit_encode_types.specs.Plan.{AllInRange}
+use Rattle.encode_types.specs.Plan.{AllInRange}
 use Rattle.wit_encode.proofs.Tables.{more-in_range, none-in_range}
 use Rattle.wit_encode_tests.proofs.encoded.are_in_range.Goals as goal
 

@@ -1,5 +1,5 @@
 use Rattle.std.proofs.Common.{map, take}
-use Rattle.wit_encode_types.specs.Plan.{AllInRange}
+use Rattle.encode_types.specs.Plan.{AllInRange}
 use Rattle.wit_encode_tests.proofs.encoded.are_in_range.Given as goal
 
 abbrev pub invariant-loop-param : goal.invariant-loop-param

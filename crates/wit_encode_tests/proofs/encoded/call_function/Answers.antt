@@ -1,7 +1,7 @@
 use Rattle.std.proofs.Common.{refl, subst, List, map}
 use Rattle.wit_model.specs.declared.model.Param.{Param}
-use Rattle.wit_encode_types.specs.Plan.{AllInRange}
-use Rattle.wit_encode_types.specs.Table.{AllDefined}
+use Rattle.encode_types.specs.Plan.{AllInRange}
+use Rattle.encode_types.specs.Table.{AllDefined}
 use Rattle.wit_encode.proofs.Tables.{table-encodes, table-signature, both-in_range, both-defined}
 use Rattle.wit_encode_tests.proofs.encoded.call_function.Goals as goal
 

@@ -1,7 +1,7 @@
 use Rattle.std.proofs.Common.{refl, sym, subst, Option}
 use Rattle.std.specs.Prelude.{option_to_list}
 use Rattle.wit_model.specs.declared.model.«Type».{«Type» as ValueType}
-use Rattle.wit_encode_types.specs.Plan.{AllInRange}
+use Rattle.encode_types.specs.Plan.{AllInRange}
 use Rattle.wit_encode.proofs.Tables.{table-encodes}
 use Rattle.wit_encode_tests.proofs.encoded.call_optional.Goals as goal
 

@@ -1,5 +1,5 @@
 use Rattle.std.proofs.Common.{refl, ◌∙◌}
-use Rattle.wit_encode_types.proofs.Lists.{one-contained}
+use Rattle.encode_types.proofs.Lists.{one-contained}
 use Rattle.wit_encode.proofs.Tables.{table-encodes}
 use Rattle.wit_encode_tests.proofs.encoded.call_valtype.Goals as goal
 

@@ -1,6 +1,6 @@
 use Rattle.std.proofs.Common.{refl, subst, ap}
-use Rattle.wit_encode_types.specs.Kinds.{parts_of}
-use Rattle.wit_encode_types.specs.Plan.{AllInRange}
+use Rattle.encode_types.specs.Kinds.{parts_of}
+use Rattle.encode_types.specs.Plan.{AllInRange}
 use Rattle.wit_encode.proofs.Tables.{table-encodes, formed-as}
 use Rattle.wit_encode_tests.proofs.encoded.encode_kind.Goals as goal
 

@@ -1,6 +1,6 @@
 use Rattle.std.proofs.Common.{◌≡◌, refl, sym, subst}
 use Rattle.wit_model.specs.declared.model.Resolve.{Resolve}
-use Rattle.wit_encode_types.specs.View.{Agrees}
+use Rattle.encode_types.specs.View.{Agrees}
 use Rattle.wit_encode.specs.Encoders.{encoder_view}
 use Rattle.wit_encode_tests.proofs.fresh.future_slot.Goals as goal
 

@@ -7,7 +7,7 @@ use Rattle.wit_model.specs.declared.model.PackageName.{PackageName}
 use Rattle.comp_bytes.specs.Parts.{Part, fits_component, sections_of_parts, top_slots}
 use Rattle.comp_bytes.specs.Raw.{TopType}
 use Rattle.comp_bytes.specs.Spelling.{IsComponent}
-use Rattle.component_exports.specs.ExportedParts.{one_exported}
+use Rattle.encode_exports.specs.ExportedParts.{one_exported}
 use Rattle.wit_encode.specs.PackageRoom.{IsHeavyWorld}
 use Rattle.wit_metadata.specs.Carried.{CarriesEncoding, MeansWorld}
 use Rattle.wit_metadata.proofs.Carrying.{built, encoding-carried, said, world-meant, wrapped-at}

@@ -1,5 +1,5 @@
 use Rattle.std.proofs.Common.{subst}
-use Rattle.wit_decode.specs.Decoded.{RefusesBytes}
+use Rattle.comp_read.specs.Decoded.{RefusesBytes}
 use Rattle.witc.specs.Decodes.{RefusesInput, bytes}
 use Rattle.witc.specs.declared.refusal.Refusal.TheVariants as refusals
 use Rattle.witc.proofs.RefusedLaws.{from-reading, passed}

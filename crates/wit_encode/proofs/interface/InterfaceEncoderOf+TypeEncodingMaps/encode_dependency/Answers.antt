@@ -5,7 +5,7 @@ use Rattle.wit_model.specs.Lookup.{interface_at}
 use Rattle.wit_model.specs.declared.model.TypeId.{TypeId}
 use Rattle.wit_encode.specs.Encoders.{outside}
 use Rattle.wit_encode.specs.Instance.{CanEncodeInterface, EncodesDependency, EncodesPart}
-use Rattle.wit_encode_types.proofs.Paths.{some-same}
+use Rattle.encode_types.proofs.Paths.{some-same}
 use Rattle.indexmap.specs.IndexMap.{values}
 use Rattle.wit_model.specs.declared.model.Interface.{Interface}
 use Rattle.wit_encode.proofs.Refusing.{room-listed}
@@ -15,7 +15,7 @@ use Rattle.wit_encode.proofs.Closing.{types-alone}
 use Rattle.wit_encode.proofs.interface.InterfaceEncoderOf+TypeEncodingMaps.encode_dependency.Goals as goal
 use Rattle.wit_encode.proofs.interface.InterfaceEncoderOf+TypeEncodingMaps.encode_dependency.Goals.{After-index-def}
 use Rattle.wit_encode.proofs.BytesWritten.{types-few}
-use Rattle.wit_encode_types.proofs.Agree.{on_ok}
+use Rattle.encode_types.proofs.Agree.{on_ok}
 
 there : (c : After-index-def) → interface_at c.args.self.now.resolve.now c.args.interface.0 ≡ Some c.index-def.result.now
 there c = slice_get_read _ _ _ _ refl c.requires.in_range c.index-def.ensures

@@ -1,13 +1,13 @@
 use Rattle.std.proofs.Common.{◌≡◌, refl, sym, subst, ap, ◌∙◌, OnOk}
 use Rattle.wit_model.specs.declared.model.Resolve.{Resolve}
-use Rattle.wit_encode_types.specs.Scope.{Scope}
+use Rattle.encode_types.specs.Scope.{Scope}
 use Rattle.wit_encode.specs.Instance.{encoder_scope, exports_in}
-use Rattle.wit_encode_types.specs.declared.maps.TypeEncodingMaps.{TypeEncodingMaps}
-use Rattle.wit_encode_types.specs.Maps.{MapsGrow}
+use Rattle.encode_types.specs.declared.maps.TypeEncodingMaps.{TypeEncodingMaps}
+use Rattle.encode_types.specs.Maps.{MapsGrow}
 use Rattle.wit_model.specs.Text.{text_of}
 use Rattle.wit_model.specs.Meant.{signature_of, function_meaning}
 use Rattle.comp_bytes.specs.RawOf.{raw_name}
-use Rattle.wit_encode_types.specs.MetKinds.{LearnsFrom}
+use Rattle.encode_types.specs.MetKinds.{LearnsFrom}
 use Rattle.wit_encode.proofs.Referring.{on-any, from-met}
 use Rattle.wit_model.specs.Parts.{function_types}
 use Rattle.wit_encode.specs.Instance.{own_of}
@@ -17,14 +17,14 @@ use Rattle.wit_encode.proofs.FunctionExports.{function-stays}
 use Rattle.std.proofs.Common.{rules, arith, ◌∷◌, []}
 use Rattle.std.proofs.lemmas.List.Elements.{Contains-append_left, Contains-append_right}
 use Rattle.wit_encode.specs.Encoders.{encoder_view}
-use Rattle.wit_encode_types.proofs.Rooms.{holds-same, room-more, room-after, only-reached, lacks-request}
-use Rattle.wit_encode_types.specs.Room.{Request, export_name, function_type, function_name}
+use Rattle.encode_types.proofs.Rooms.{holds-same, room-more, room-after, only-reached, lacks-request}
+use Rattle.encode_types.specs.Room.{Request, export_name, function_type, function_name}
 use Rattle.wit_encode.proofs.Refusing.{function-named}
 use Rattle.wit_encode.proofs.interface.InterfaceEncoderOf+TypeEncodingMaps.encode_function.Goals as goal
 use Rattle.wit_encode.proofs.interface.InterfaceEncoderOf+TypeEncodingMaps.encode_function.Goals.{After-export_function}
-use Rattle.wit_encode_types.proofs.Agree.{on_ok}
-use Rattle.wit_encode_types.proofs.Writing.{writes-beside}
-use Rattle.wit_encode_types.specs.Extents.{name_extent}
+use Rattle.encode_types.proofs.Agree.{on_ok}
+use Rattle.encode_types.proofs.Writing.{writes-beside}
+use Rattle.encode_types.specs.Extents.{name_extent}
 use Rattle.std.proofs.Common.{◌≤◌, ◌+◌}
 
 pub encode_func_type-requires : goal.encode_func_type-requires

@@ -4,23 +4,23 @@ use Rattle.std.proofs.lemmas.Grind.{common_steps}
 use Rattle.wit_model.specs.declared.model.Function.{Function}
 use Rattle.wit_encode.specs.Instance.{own_of}
 use Rattle.wit_encode.proofs.Referring.{from-function, from-functions}
-use Rattle.wit_encode_types.proofs.Lists.{contains-at}
+use Rattle.encode_types.proofs.Lists.{contains-at}
 use Rattle.wit_encode.proofs.Counting.{functions-counted, functions-all, names-after}
 use Rattle.wit_encode.proofs.Continuing.{function-continues, continues-trans}
 use Rattle.std.proofs.lemmas.List.{take_all}
 use Rattle.wit_encode.specs.Instance.{placed_function, meaning_of, contents_of, encoder_scope}
 use Rattle.wit_encode.proofs.FunctionExports.{used-kept}
-use Rattle.wit_encode_types.proofs.Lists.{contains-map}
+use Rattle.encode_types.proofs.Lists.{contains-map}
 use Rattle.std.proofs.Math.ListN.{length-map}
 use Rattle.wit_model.specs.Parts.{function_types}
-use Rattle.wit_encode_types.specs.Room.{function_requests}
+use Rattle.encode_types.specs.Room.{function_requests}
 use Rattle.wit_encode.proofs.Numbers.{contains-flat}
 use Rattle.wit_encode.proofs.Refusing.{two-each}
-use Rattle.wit_encode_types.proofs.Rooms.{holds-most, holds-then, room-after, only-more, flat-taken}
+use Rattle.encode_types.proofs.Rooms.{holds-most, holds-then, room-after, only-more, flat-taken}
 use Rattle.wit_encode.proofs.interface.InterfaceEncoderOf+TypeEncodingMaps.encode_functions.Goals as goal
 use Rattle.wit_encode.proofs.BytesWritten.{functions-next, functions-whole}
-use Rattle.wit_encode_types.proofs.Writing.{writes-along, writes-most, writes-nothing}
-use Rattle.wit_encode_types.specs.Extents.{function_extent}
+use Rattle.encode_types.proofs.Writing.{writes-along, writes-most, writes-nothing}
+use Rattle.encode_types.specs.Extents.{function_extent}
 use Rattle.wit_encode.specs.Encoders.{encoder_view}
 
 pub encode_function-requires-clause-encodable : goal.encode_function-requires-clause-encodable

@@ -1,15 +1,15 @@
 use Rattle.std.proofs.Common.{◌≡◌, ◌≤◌, ◌*◌, ◌++◌, map, take, length}
-use Rattle.wit_encode_types.specs.View.{HoldsLearnt, WritesLearnt}
+use Rattle.encode_types.specs.View.{HoldsLearnt, WritesLearnt}
 use Rattle.wit_encode.specs.Encoders.{encoder_view}
 use Rattle.std.specs.List.{flat_map}
 use Rattle.std.specs.Prelude.{sum_by}
-use Rattle.wit_encode_types.specs.Extents.{function_extent}
+use Rattle.encode_types.specs.Extents.{function_extent}
 use Rattle.wit_model.specs.Parts.{function_types}
-use Rattle.wit_encode_types.specs.MetKinds.{LearnsFrom}
-use Rattle.wit_encode_types.specs.Counts.{names_defined}
-use Rattle.wit_encode_types.specs.Distinct.{AddsFunctions}
+use Rattle.encode_types.specs.MetKinds.{LearnsFrom}
+use Rattle.encode_types.specs.Counts.{names_defined}
+use Rattle.encode_types.specs.Distinct.{AddsFunctions}
 use Rattle.wit_encode.specs.Instance.{placed_function, meaning_of, own_of, contents_of, encoder_scope, definitions_with, Continues, exports_in}
-use Rattle.wit_encode_types.specs.Maps.{MapsGrow}
+use Rattle.encode_types.specs.Maps.{MapsGrow}
 use Rattle.wit_encode.proofs.interface.InterfaceEncoderOf+TypeEncodingMaps.encode_functions.Given as goal
 
 abbrev pub invariant-loop-entry : goal.invariant-loop-entry

@@ -1,14 +1,14 @@
 use Rattle.std.proofs.Common.{◌≡◌, sym, subst, ap, ◌∙◌, ◌++◌, ◌∷◌, [], List, map, Option, Some, rules, refl, length}
 use Rattle.wit_model.specs.declared.model.«Type».TheVariants as ty
 use Rattle.wit_model.specs.declared.model.Function.{Function}
-use Rattle.wit_encode_types.specs.declared.maps.TypeEncodingMaps.{TypeEncodingMaps}
+use Rattle.encode_types.specs.declared.maps.TypeEncodingMaps.{TypeEncodingMaps}
 use Rattle.wit_encode.specs.declared.interface.OpenInterface.{OpenInterface}
-use Rattle.wit_encode_types.specs.Fits.{CanEncode}
-use Rattle.wit_encode_types.specs.Distinct.{AddsFunctions}
+use Rattle.encode_types.specs.Fits.{CanEncode}
+use Rattle.encode_types.specs.Distinct.{AddsFunctions}
 use Rattle.wit_encode.specs.Instance.{encoder_scope, contents_of, definitions_with, CanEncodeFunction, Continues, placed_function, meaning_of, exports_in, opened, around_at}
 use Rattle.wit_encode.proofs.Referring.{interface-kinds}
 use Rattle.wit_encode.proofs.Opening.{closed-instance, closed-around, listed-there, opened-exports, opened-with}
-use Rattle.wit_encode_types.specs.Known.{GrowsAround}
+use Rattle.encode_types.specs.Known.{GrowsAround}
 use Rattle.wit_encode.proofs.Counting.{Began, Counted, closed-counts}
 use Rattle.wit_encode.proofs.Refusing.{no-room}
 use Rattle.wit_encode.proofs.interface.InterfaceEncoderOf+TypeEncodingMaps.encode_inside.Goals as goal

@@ -8,7 +8,7 @@ use Rattle.std.specs.Prelude.{map, IsPermutation}
 use Rattle.indexmap.specs.IndexMap.{values}
 use Rattle.wit_encode.specs.Instance.{placed_function}
 use Rattle.wit_encode.proofs.Encodable.{valid-encodable}
-use Rattle.wit_encode_types.proofs.Lists.{contains-map}
+use Rattle.encode_types.proofs.Lists.{contains-map}
 use Rattle.wit_encode.specs.Encoders.{outside}
 use Rattle.wit_encode.proofs.Closing.{whole}
 use Rattle.wit_encode.proofs.Opening.{ok-then, permuted-contains}
@@ -22,7 +22,7 @@ use Rattle.wit_encode.proofs.Refusing.{room-listed}
 use Rattle.wit_encode.proofs.interface.InterfaceEncoderOf+TypeEncodingMaps.encode_instance.Goals as goal
 use Rattle.wit_encode.proofs.interface.InterfaceEncoderOf+TypeEncodingMaps.encode_instance.Goals.{After-index-def}
 use Rattle.wit_encode.proofs.BytesWritten.{whole-few}
-use Rattle.wit_encode_types.proofs.Agree.{on_ok}
+use Rattle.encode_types.proofs.Agree.{on_ok}
 
 there : (c : After-index-def) → interface_at c.args.self.now.resolve.now c.args.interface.0 ≡ Some c.index-def.result.now
 there c = slice_get_read _ _ _ _ refl c.requires.in_range c.index-def.ensures

@@ -2,19 +2,19 @@ use Rattle.std.proofs.Common.{refl, subst, map, arith, rules}
 use Rattle.std.specs.List.{flat_map}
 use Rattle.wit_model.specs.Parts.{function_types}
 use Rattle.wit_model.specs.declared.model.«Type».TheVariants as ty
-use Rattle.wit_encode_types.proofs.Rooms.{room-more, room-after, only-more, reached-left, reached-right}
-use Rattle.wit_encode_types.specs.Scope.{Scope}
+use Rattle.encode_types.proofs.Rooms.{room-more, room-after, only-more, reached-left, reached-right}
+use Rattle.encode_types.specs.Scope.{Scope}
 use Rattle.wit_encode.specs.Instance.{CanEncodeFunction, Continues, own_of, declarations_in}
 use Rattle.std.proofs.Common.{ap}
-use Rattle.wit_encode_types.proofs.Agree.{on_ok, known-grow}
+use Rattle.encode_types.proofs.Agree.{on_ok, known-grow}
 use Rattle.wit_encode.proofs.Referring.{from-then}
 use Rattle.wit_encode.proofs.Continuing.{same-scope, after-types, continues-trans}
 use Rattle.wit_encode.proofs.Counting.{parts-counted, parts-named}
 use Rattle.wit_encode.proofs.FunctionExports.{listed-used, exported-after}
 use Rattle.wit_encode.proofs.interface.InterfaceEncoderOf+TypeEncodingMaps.encode_parts.Goals as goal
 use Rattle.wit_encode.proofs.interface.InterfaceEncoderOf+TypeEncodingMaps.encode_parts.Goals.{After-encode_types}
-use Rattle.wit_encode_types.proofs.Lists.{none-in}
-use Rattle.wit_encode_types.proofs.Writing.{writes-most, writes-then}
+use Rattle.encode_types.proofs.Lists.{none-in}
+use Rattle.encode_types.proofs.Writing.{writes-most, writes-then}
 
 pub encode_functions-requires-clause-encodable : goal.encode_functions-requires-clause-encodable
 encode_functions-requires-clause-encodable c = λ f h. subst (λ (s : Scope). CanEncodeFunction c.args.resolve.now s f.2.now)

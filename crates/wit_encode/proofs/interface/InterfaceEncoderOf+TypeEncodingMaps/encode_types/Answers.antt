@@ -1,24 +1,24 @@
 use Rattle.std.proofs.Common.{◌≡◌, inl, inr, List, take, refl, sym, subst, ap, arith, [], ◌∷◌, get_or, map, rules}
 use Rattle.wit_encode.specs.Encoders.{encoder_view}
-use Rattle.wit_encode_types.proofs.Lists.{one-contained, contains-map}
-use Rattle.wit_encode_types.proofs.Rooms.{holds-none, holds-then, room-after, only-more, map-taken}
+use Rattle.encode_types.proofs.Lists.{one-contained, contains-map}
+use Rattle.encode_types.proofs.Rooms.{holds-none, holds-then, room-after, only-more, map-taken}
 use Rattle.std.proofs.lemmas.Option.{slice_get-get_or}
 use Rattle.wit_model.specs.declared.model.Resolve.{Resolve}
 use Rattle.std.proofs.lemmas.List.Elements.{Contains-get_or}
 use Rattle.wit_model.specs.declared.model.«Type».TheVariants as ty
 use Rattle.wit_model.specs.declared.model.TypeId.{TypeId}
-use Rattle.wit_encode_types.specs.Scope.{Scope}
-use Rattle.wit_encode_types.specs.Fits.{CanEncode}
+use Rattle.encode_types.specs.Scope.{Scope}
+use Rattle.encode_types.specs.Fits.{CanEncode}
 use Rattle.wit_encode.specs.Instance.{own_of, declarations_in, contents_of, encoder_scope, definitions_with}
 use Rattle.wit_encode.proofs.Referring.{from-none, from-type, from-types}
-use Rattle.wit_encode_types.proofs.Defining.{leaves-kept, leaves-trans, counts-none, counts-trans}
+use Rattle.encode_types.proofs.Defining.{leaves-kept, leaves-trans, counts-none, counts-trans}
 use Rattle.std.specs.List.{Contains}
 use Rattle.std.proofs.lemmas.List.{take_all}
-use Rattle.wit_encode_types.proofs.Around.{around-same}
+use Rattle.encode_types.proofs.Around.{around-same}
 use Rattle.wit_encode.proofs.Counting.{exact-names}
 use Rattle.wit_encode.proofs.Exporting.{exports-start, exports-next, exports-end}
 use Rattle.wit_encode.proofs.interface.InterfaceEncoderOf+TypeEncodingMaps.encode_types.Goals as goal
-use Rattle.wit_encode_types.proofs.Writing.{writes-nothing, writes-then}
+use Rattle.encode_types.proofs.Writing.{writes-nothing, writes-then}
 
 pub loop-id-init : goal.loop-id-init
 loop-id-init c = record {

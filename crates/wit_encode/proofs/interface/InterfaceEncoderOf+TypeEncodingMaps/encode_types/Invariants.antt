@@ -1,10 +1,10 @@
 use Rattle.std.proofs.Common.{map, take}
 use Rattle.wit_model.specs.declared.model.«Type».TheVariants as ty
-use Rattle.wit_encode_types.specs.MetKinds.{LearnsFrom}
+use Rattle.encode_types.specs.MetKinds.{LearnsFrom}
 use Rattle.wit_encode.specs.Instance.{own_of}
-use Rattle.wit_encode_types.specs.Leaves.{Leaves, CountsTypes}
+use Rattle.encode_types.specs.Leaves.{Leaves, CountsTypes}
 use Rattle.wit_encode.specs.Exports.{ShowsFirst}
-use Rattle.wit_encode_types.specs.View.{HoldsLearnt, WritesLearnt}
+use Rattle.encode_types.specs.View.{HoldsLearnt, WritesLearnt}
 use Rattle.wit_encode.specs.Encoders.{encoder_view}
 use Rattle.wit_encode.proofs.interface.InterfaceEncoderOf+TypeEncodingMaps.encode_types.Given as goal
 

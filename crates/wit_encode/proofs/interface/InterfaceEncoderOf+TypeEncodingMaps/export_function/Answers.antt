@@ -8,7 +8,7 @@ use Rattle.wit_encode.proofs.Refusing.{on-size, name-inside, held-inside, one-pu
 use Rattle.wit_encode.proofs.interface.InterfaceEncoderOf+TypeEncodingMaps.export_function.Goals as goal
 use Rattle.wit_encode.proofs.Extents.{bytes-few}
 use Rattle.wit_encode.proofs.BytesWritten.{inside-more}
-use Rattle.wit_encode_types.proofs.Agree.{on_ok}
+use Rattle.encode_types.proofs.Agree.{on_ok}
 
 pub returns-clause-ok : goal.returns-clause-ok
 returns-clause-ok c = λ s h. shows-within c.export.result c.args.self.now.resolve.now c.args.self.now.outer c.args.self.now.inner c.in-Some.current c.export.new.self (raw_name c.args.name) c.args.index s c.in-Some.is c.requires.sound c.requires.simple c.export.ensures.ok h

@@ -1,4 +1,4 @@
-use Rattle.wit_encode_types.proofs.Agree.{empty-agrees}
+use Rattle.encode_types.proofs.Agree.{empty-agrees}
 use Rattle.wit_encode.proofs.Outside.{fresh-sound}
 use Rattle.wit_encode.proofs.interface.InterfaceEncoderOf+TypeEncodingMaps.new.Goals as goal
 

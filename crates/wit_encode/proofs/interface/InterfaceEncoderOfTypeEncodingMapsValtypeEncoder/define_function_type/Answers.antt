@@ -1,6 +1,6 @@
 use Rattle.std.proofs.Common.{inl, sym, ap, ◌∙◌}
 use Rattle.wit_encode.specs.Instance.{around_of}
-use Rattle.wit_encode_types.proofs.Around.{slots-grow}
+use Rattle.encode_types.proofs.Around.{slots-grow}
 use Rattle.wit_encode.proofs.Within.{function-within, function-without}
 use Rattle.wit_encode.specs.Instance.{stands_in}
 use Rattle.wit_encode.proofs.Refusing.{function-inside, function-outside, held-inside, held-outside}

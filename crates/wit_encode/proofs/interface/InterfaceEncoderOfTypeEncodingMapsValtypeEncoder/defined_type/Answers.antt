@@ -1,6 +1,6 @@
 use Rattle.std.proofs.Common.{inl, sym, ap, ◌∙◌}
 use Rattle.wit_encode.specs.Instance.{around_of}
-use Rattle.wit_encode_types.proofs.Around.{slots-grow}
+use Rattle.encode_types.proofs.Around.{slots-grow}
 use Rattle.wit_encode.proofs.Within.{defined-within, defined-without}
 use Rattle.wit_encode.specs.Instance.{stands_in}
 use Rattle.wit_encode.proofs.Refusing.{value-inside, value-outside, held-inside, held-outside}

@@ -1,6 +1,6 @@
 use Rattle.std.proofs.Common.{inl, sym, ap}
 use Rattle.wit_encode.specs.Instance.{around_of}
-use Rattle.wit_encode_types.proofs.Around.{slots-grow}
+use Rattle.encode_types.proofs.Around.{slots-grow}
 use Rattle.wit_encode.proofs.Within.{resource-within}
 use Rattle.comp_bytes.specs.declared.forms.ComponentTypeRef.TheVariants as refs
 use Rattle.wit_encode.proofs.Refusing.{name-inside, held-inside}

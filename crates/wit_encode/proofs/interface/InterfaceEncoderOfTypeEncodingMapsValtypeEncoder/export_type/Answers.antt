@@ -3,7 +3,7 @@ use Rattle.wit_model.specs.declared.error.Error.{Error}
 use Rattle.comp_bytes.specs.RawOf.{raw_name}
 use Rattle.wit_encode.specs.Instance.{encoder_scope}
 use Rattle.wit_encode.specs.Instance.{around_of}
-use Rattle.wit_encode_types.proofs.Around.{slots-grow}
+use Rattle.encode_types.proofs.Around.{slots-grow}
 use Rattle.wit_encode.proofs.Within.{type-within}
 use Rattle.comp_bytes.specs.declared.forms.ComponentTypeRef.TheVariants as refs
 use Rattle.wit_encode.proofs.Refusing.{name-inside, held-inside}

@@ -1,10 +1,10 @@
 use Rattle.std.proofs.Common.{inl, sym, ap, ◌∙◌, subst, arith, Option, Some, rules}
 use Rattle.std.proofs.lemmas.Option.{slice_get_within}
 use Rattle.wit_encode.specs.declared.interface.OpenInterface.{OpenInterface}
-use Rattle.wit_encode_types.specs.Scope.{IsImportable}
-use Rattle.wit_encode_types.specs.Known.{Around, GrowsAround}
+use Rattle.encode_types.specs.Scope.{IsImportable}
+use Rattle.encode_types.specs.Known.{Around, GrowsAround}
 use Rattle.wit_encode.specs.Instance.{encoder_scope, scope_with, inner_contents, place_in, around_at, around_of}
-use Rattle.wit_encode_types.proofs.Around.{reaches-grows}
+use Rattle.encode_types.proofs.Around.{reaches-grows}
 use Rattle.wit_encode.proofs.Importing.{ImportsTo, imported, imported-stands, import-source, none-outside}
 use Rattle.wit_encode.proofs.Refusing.{alias-inside, alias-outside, held-inside}
 use Rattle.wit_encode.proofs.interface.InterfaceEncoderOfTypeEncodingMapsValtypeEncoder.import_type.Goals as goal

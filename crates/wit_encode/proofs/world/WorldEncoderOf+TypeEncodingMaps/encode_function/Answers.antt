@@ -1,11 +1,11 @@
 use Rattle.std.proofs.Common.{◌≡◌, ◌∙◌, ap, sym, subst, refl, ℕ, Result, Ok, Err, OnOk, rules}
 use Rattle.wit_model.specs.declared.error.Error.{Error}
 use Rattle.wit_model.specs.declared.error.Error.TheVariants as errors
-use Rattle.wit_encode_types.specs.Scope.{Scope}
+use Rattle.encode_types.specs.Scope.{Scope}
 use Rattle.wit_model.specs.declared.model.WorldItem.{WorldItem}
 use Rattle.comp_bytes.specs.declared.forms.ComponentTypeRef.TheVariants as refs
-use Rattle.world_names.specs.WorldNames.{name_of_item}
-use Rattle.world_names.specs.WorldSteps.{declared_towards, with_entry}
+use Rattle.encode_names.specs.WorldNames.{name_of_item}
+use Rattle.encode_names.specs.WorldSteps.{declared_towards, with_entry}
 use Rattle.wit_encode.specs.Encoders.{declared_after}
 use Rattle.wit_encode.specs.Worlds.{world_encoder_view}
 use Rattle.wit_encode.specs.WorldItems.{HasShown, IsNext, entry_of, towards}
@@ -18,7 +18,7 @@ use Rattle.wit_encode.proofs.BytesWritten.{function-item, learnt-more, learnt-mo
 use Rattle.wit_encode.proofs.WorldBytes.{declared-few}
 use Rattle.std.proofs.Common.{arith}
 use Rattle.wit_model.specs.Meant.{signature_of}
-use Rattle.wit_encode_types.specs.Extents.{name_extent, signature_extent}
+use Rattle.encode_types.specs.Extents.{name_extent, signature_extent}
 use Rattle.wit_encode.specs.WrittenBytes.{AddsLearnt}
 
 pub encode_func_type-requires : goal.encode_func_type-requires

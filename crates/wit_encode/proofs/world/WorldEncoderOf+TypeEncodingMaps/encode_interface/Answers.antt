@@ -4,8 +4,8 @@ use Rattle.wit_model.specs.declared.error.Error.{Error}
 use Rattle.wit_model.specs.declared.error.Error.TheVariants as errors
 use Rattle.wit_model.specs.declared.model.Resolve.{Resolve}
 use Rattle.comp_bytes.specs.declared.forms.ComponentTypeRef.TheVariants as refs
-use Rattle.world_names.specs.WorldSteps.{declared_towards}
-use Rattle.wit_encode_types.specs.Known.{UsedStand, standing_instances}
+use Rattle.encode_names.specs.WorldSteps.{declared_towards}
+use Rattle.encode_types.specs.Known.{UsedStand, standing_instances}
 use Rattle.wit_encode.specs.Encoders.{InterfaceLacksRoom, declared_after}
 use Rattle.wit_encode.specs.Instance.{EncodesInterface, LacksInstanceRoom}
 use Rattle.wit_encode.specs.WorldItems.{entry_of, towards}
@@ -21,7 +21,7 @@ use Rattle.wit_encode.proofs.BytesWritten.{adds-described, interface-item, learn
 use Rattle.wit_encode.proofs.WorldBytes.{declared-few}
 use Rattle.std.proofs.Common.{arith}
 use Rattle.wit_encode.specs.WrittenBytes.{AddsBytes, AddsLearnt, items_extent, whole_extent}
-use Rattle.world_names.specs.WorldNames.{name_of_item}
+use Rattle.encode_names.specs.WorldNames.{name_of_item}
 use Rattle.wit_model.specs.Weight.{whole_instance_weight}
 
 pub define_instance-requires-clause-in_range : goal.define_instance-requires-clause-in_range

@@ -2,7 +2,7 @@ use Rattle.std.proofs.Common.{◌≡◌, ◌∙◌, ap, refl, Result, Err, rules
 use Rattle.wit_model.specs.declared.error.Error.{Error}
 use Rattle.wit_model.specs.declared.error.Error.TheVariants as errors
 use Rattle.comp_bytes.specs.declared.forms.ComponentValType.{ComponentValType}
-use Rattle.wit_encode_types.specs.Scope.{Scope}
+use Rattle.encode_types.specs.Scope.{Scope}
 use Rattle.wit_encode.specs.WorldItems.{entry_of, towards}
 use Rattle.wit_encode.specs.Worlds.{world_encoder_view}
 use Rattle.wit_encode.proofs.WorldCounting.{none-made, type-defined}

@@ -1,5 +1,5 @@
 use Rattle.std.proofs.Common.{refl}
-use Rattle.wit_encode_types.proofs.Agree.{empty-agrees}
+use Rattle.encode_types.proofs.Agree.{empty-agrees}
 use Rattle.wit_encode.proofs.WorldCounting.{none-defined}
 use Rattle.wit_encode.proofs.WorldHolding.{none-held}
 use Rattle.wit_encode.proofs.WorldFunctions.{starts}

@@ -1,11 +1,11 @@
 use Rattle.std.proofs.Common.{◌≡◌, refl, None}
-use Rattle.wit_encode_types.specs.Known.{outer_slots}
-use Rattle.wit_encode_types.specs.Standing.{SlotsStand}
+use Rattle.encode_types.specs.Known.{outer_slots}
+use Rattle.encode_types.specs.Standing.{SlotsStand}
 use Rattle.wit_encode.specs.Worlds.{world_around, world_definitions, world_encoder_view, world_view}
 use Rattle.wit_encode.proofs.WorldBrought.{beside-more}
 use Rattle.wit_encode.proofs.WorldScope.{WorldCalls}
-use Rattle.wit_encode_types.specs.Counts.{one_function_more}
-use Rattle.wit_encode_types.specs.Slots.{DefinesFunction}
+use Rattle.encode_types.specs.Counts.{one_function_more}
+use Rattle.encode_types.specs.Slots.{DefinesFunction}
 use Rattle.wit_encode.proofs.Refusing.{function-outside}
 use Rattle.wit_encode.proofs.WorldCalls.{after_declaring, defines-function}
 use Rattle.wit_encode.proofs.world.WorldEncoderOfTypeEncodingMapsValtypeEncoder.define_function_type.Goals as goal

@@ -1,11 +1,11 @@
 use Rattle.std.proofs.Common.{◌≡◌, refl, None}
-use Rattle.wit_encode_types.specs.Known.{outer_slots}
-use Rattle.wit_encode_types.specs.Standing.{SlotsStand}
+use Rattle.encode_types.specs.Known.{outer_slots}
+use Rattle.encode_types.specs.Standing.{SlotsStand}
 use Rattle.wit_encode.specs.Worlds.{world_around, world_definitions, world_encoder_view, world_view}
 use Rattle.wit_encode.proofs.WorldBrought.{beside-more}
 use Rattle.wit_encode.proofs.WorldScope.{WorldCalls}
-use Rattle.wit_encode_types.specs.Counts.{one_type_more}
-use Rattle.wit_encode_types.specs.Slots.{Defines}
+use Rattle.encode_types.specs.Counts.{one_type_more}
+use Rattle.encode_types.specs.Slots.{Defines}
 use Rattle.wit_encode.proofs.Refusing.{value-outside}
 use Rattle.wit_encode.proofs.WorldCalls.{after_declaring, defines-value}
 use Rattle.wit_encode.proofs.world.WorldEncoderOfTypeEncodingMapsValtypeEncoder.defined_type.Goals as goal

@@ -2,8 +2,8 @@ use Rattle.std.proofs.Common.{◌≡◌}
 use Rattle.wit_model.specs.Tree.{here, named}
 use Rattle.comp_bytes.specs.RawOf.{raw_name}
 use Rattle.comp_bytes.specs.declared.forms.ComponentTypeRef.TheVariants as refs
-use Rattle.wit_encode_types.specs.Counts.{ExportsOne}
-use Rattle.wit_encode_types.specs.Slots.{tree}
+use Rattle.encode_types.specs.Counts.{ExportsOne}
+use Rattle.encode_types.specs.Slots.{tree}
 use Rattle.wit_encode.specs.Worlds.{world_around, world_definitions, world_encoder_view, world_scope, world_view}
 use Rattle.wit_encode.proofs.Refusing.{name-outside}
 use Rattle.wit_encode.proofs.WorldCalls.{after_declaring, imports-resource}

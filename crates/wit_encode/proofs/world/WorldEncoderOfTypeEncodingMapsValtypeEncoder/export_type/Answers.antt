@@ -6,8 +6,8 @@ use Rattle.wit_model.specs.declared.error.Error.{Error}
 use Rattle.wit_model.specs.declared.error.Error.TheVariants as errors
 use Rattle.comp_bytes.specs.RawOf.{raw_name}
 use Rattle.comp_bytes.specs.declared.forms.ComponentTypeRef.TheVariants as refs
-use Rattle.wit_encode_types.specs.Counts.{ExportsOne}
-use Rattle.wit_encode_types.specs.Slots.{tree}
+use Rattle.encode_types.specs.Counts.{ExportsOne}
+use Rattle.encode_types.specs.Slots.{tree}
 use Rattle.wit_encode.specs.Encoders.{declared_after}
 use Rattle.wit_encode.specs.Worlds.{world_around, world_definitions, world_encoder_view, world_scope, world_view}
 use Rattle.wit_encode.proofs.Refusing.{name-outside}

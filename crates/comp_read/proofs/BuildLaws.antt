@@ -1,0 +1,160 @@
+-- What is built of the plan of a package.
+use Rattle.std.proofs.Common.{◌≡◌, ◌⊎◌, inl, inr, refl, sym, ap, subst, ◌∙◌, ℕ, zero, suc, ◌+◌, ◌<◌, ◌≤◌, arith, Bool, true, false, List, [], ◌∷◌, map, length, slice_get, Option, Some, None, is_some, option_map}
+use Rattle.std.proofs.lemmas.List.{length-map}
+use Rattle.wit_model.specs.declared.model.Package.{Package}
+use Rattle.wit_model.specs.declared.model.Resolve.{Resolve}
+use Rattle.wit_model.specs.Lookup.{package_at}
+use Rattle.wit_model.specs.Meaning.{PackageMeaning}
+use Rattle.wit_model.specs.Meant.{Meant}
+use Rattle.wit_model.specs.Valid.{IsValid}
+use Rattle.plan_meaning.specs.Built.{IsBuilt, planned_package, planned_type}
+use Rattle.plan_meaning.specs.NumberedViews.{Tables}
+use Rattle.plan_meaning.specs.Plan.{Plan, PlannedPackage, package_in}
+use Rattle.plan_meaning.specs.PlanMeaning.{package_meaning, plan_meaning}
+use Rattle.plan_meaning.specs.PlanRules.{IsPlan}
+use Rattle.plan_meaning.specs.Shapes.{Shape}
+use Rattle.plan_meaning.proofs.GatheredPlan.{all_at}
+use Rattle.plan_meaning.proofs.Lists.{get_back}
+use Rattle.plan_meaning.proofs.NothingElse.{package_holds_alone}
+use Rattle.plan_build.specs.Buildable.{IsBuildable}
+use Rattle.plan_build.specs.MeansPlan.{MeansPlan}
+use Rattle.plan_build.proofs.BuildableLaws.{plans_are_buildable}
+use Rattle.plan_parts.specs.Kept.{AreMarked}
+use Rattle.plan_parts.specs.Marks.{is_marked, IsUsed, PartsFall, marked, part}
+use Rattle.plan_type_laws.proofs.KeptKinds.{zip_length}
+use Rattle.plan_type_laws.proofs.ShownForms.{mark_there}
+use Rattle.read_exports.specs.declared.members.Member.{Member}
+use Rattle.plan_types.specs.PlannedTypes.{PlansType}
+use Rattle.plan_types.specs.Used.{TypesFall}
+use Rattle.plan_package.specs.PlanWhole.{owners_in, shown_first, PlansWhole}
+use Rattle.plan_package.specs.WholeInterfaces.{Home}
+use Rattle.wit_model.specs.Names.{PackageIdentity}
+use Rattle.comp_read.specs.Decoded.{HoldsFound}
+use Rattle.comp_read.specs.Planned.{IsBuiltOf, MeansFound, PlansMean}
+
+-- ---- what it holds
+
+pub there : {A : Type 0} (o : Option A) → is_some o ≡ true → (x : A) × (o ≡ Some x)
+there None e = let wrong : false ≡ true = e in absurd cc
+there (Some x) e = (x, refl)
+
+means_some : (p : Plan) (k : PlannedPackage) → package_in p p.main ≡ Some k → plan_meaning p ≡ Some (package_meaning p k)
+unfolding plan_meaning
+means_some p k at = ap (option_map (package_meaning p)) at
+
+both : (r : Resolve) (n : ℕ) (m : PackageMeaning) (a b : Option PackageMeaning) → a ≡ b → (Meant r n m → a ≡ Some m) × ((a ≡ Some m) → Meant r n m) → (Meant r n m → b ≡ Some m) × ((b ≡ Some m) → Meant r n m)
+both r n m a b same is = subst (λ (o : Option PackageMeaning). (Meant r n m → o ≡ Some m) × ((o ≡ Some m) → Meant r n m)) same is
+
+module _ (p : Plan) (r : Resolve) (found : Option PackageMeaning) (is : MeansFound found p) (built : IsBuildable p → IsBuilt p r) (valid : IsPlan p → IsValid r) (meant : MeansPlan p r) where
+  are_built : IsBuilt p r
+  are_built = built (plans_are_buildable p is.plan.plan)
+
+  main : (k : PlannedPackage) × (package_in p p.main ≡ Some k)
+  main = there (package_in p p.main) is.plan.main
+
+  stands : (q : Package) × (package_at r p.main ≡ Some q) × (planned_package q ≡ main.0)
+  stands = get_back planned_package r.packages.items p.main main.0 (ap (λ (ks : List PlannedPackage). slice_get ks p.main) are_built.packages ∙ main.1)
+
+  pub holds : HoldsFound found r p.main
+  holds = record {
+    valid = valid is.plan.plan;
+    bare = are_built.bare;
+    package_ = stands.0;
+    stands = stands.1;
+    alone = package_holds_alone p r is.plan are_built stands.0 stands.1;
+    meaning = package_meaning p main.0;
+    is = sym is.means ∙ means_some p main.0 main.1;
+    meant = λ m. both r p.main m (plan_meaning p) found is.means (meant.package_ is.plan m);
+  }
+
+-- ---- how many types there are
+
+mark_within : (xs : List Bool) (n : ℕ) → is_marked xs n ≡ true → n < length xs
+mark_within [] zero e = let wrong : false ≡ true = e in absurd cc
+mark_within [] (suc n) e = let wrong : false ≡ true = e in absurd cc
+mark_within (x ∷ xs) zero e = omega arith
+mark_within (x ∷ xs) (suc n) e = let later = mark_within xs n e in omega (arith, later)
+
+-- a type that is used is one of the table
+used_within : (parts : List (List ℕ)) → PartsFall parts → (roots : List Bool) → length roots ≡ length parts → (n : ℕ) → IsUsed parts roots n → n < length parts
+used_within parts fall roots many n (marked m e) = let within = mark_within roots n e in omega (arith, within, many)
+used_within parts fall roots many n (part m k ks used at in_parts) =
+    let whole = used_within parts fall roots many m used in
+    let low : 14 + n < 14 + m = all_at (λ k. k < 14 + m) ks (fall m ks at) (14 + n) in_parts in
+    omega (arith, whole, low)
+
+earlier : {A : Type 0} (xs : List A) (j : ℕ) (x : A) → slice_get xs (suc j) ≡ Some x → (y : A) × (slice_get xs j ≡ Some y)
+earlier [] j x e = let wrong : None ≡ Some x = e in absurd cc
+earlier (z ∷ xs) zero x e = (z, refl)
+earlier (z ∷ xs) (suc j) x e = earlier xs j x e
+
+last_of : {A : Type 0} (x : A) (xs : List A) → (y : A) × (slice_get (x ∷ xs) (length xs) ≡ Some y)
+last_of x [] = (x, refl)
+last_of x (z ∷ xs) = last_of z xs
+
+below_or : (k n : ℕ) → (k < n) ⊎ (n ≤ k)
+below_or k zero = inr (omega arith)
+below_or zero (suc n) = inl (omega arith)
+below_or (suc k) (suc n) = elim (below_or k n) [
+  | inl low ↦ inl (omega (arith, low))
+  | inr high ↦ inr (omega (arith, high))
+]
+
+module _ (marks : List Bool) (kept : List ℕ) (are : AreMarked marks kept) where
+  rises : (j m n : ℕ) → slice_get kept j ≡ Some m → slice_get kept (suc j) ≡ Some n → m < n
+  rises j m n a b = elim (below_or m n) [
+    | inl less ↦ less
+    | inr more ↦ absurd (elim (below_or n m) [
+      | inl behind ↦ (let before = are.rise (suc j) j n m b a behind in omega (arith, before))
+      | inr less ↦ (let same : m ≡ n = omega (arith, more, less) in let one = are.once j (suc j) n (a ∙ ap Some same) b in omega (arith, one))
+    ])
+  ]
+
+  pub at_least : (j n : ℕ) → slice_get kept j ≡ Some n → j ≤ n
+  at_least zero n e = omega arith
+  at_least (suc j) n e =
+      let before = earlier kept j n e in
+      let less = at_least j before.0 before.1 in
+      let rise = rises j before.0 n before.1 e in
+      omega (arith, less, rise)
+
+few_kept : (marks : List Bool) (kept : List ℕ) → AreMarked marks kept → (bound : ℕ) → ((n : ℕ) → is_marked marks n ≡ true → n < bound) → length kept ≤ bound
+few_kept marks [] are bound below = omega arith
+few_kept marks (x ∷ kept) are bound below =
+    let last = last_of x kept in
+    let least = at_least marks (x ∷ kept) are (length kept) last.0 last.1 in
+    let low = below last.0 (mark_there marks last.0 (are.among (length kept) last.0 last.1)) in
+    omega (arith, least, low)
+
+module _ (t : Tables) (fall : TypesFall t) (packages : List PackageIdentity) (homes : ℕ → Option Home) (main : ℕ) (ms : List Member) (p : Plan) (planned : PlansWhole t packages homes main ms p) where
+  abbrev all_parts : List (List ℕ)
+  all_parts = map (λ (s : Shape). s.parts) t.shapes
+
+  many_parts : length all_parts ≡ length t.shapes
+  many_parts = length-map t.shapes (λ (s : Shape). s.parts)
+
+  pub few_planned : length p.types ≤ length t.shapes
+  few_planned =
+      let used = planned.kept_for.used in
+      let many = zip_length (PlansType t planned.kept (shown_first ms) (owners_in ms)) planned.kept p.types planned.types in
+      let few = few_kept planned.kept_for.marks planned.kept planned.kept_for.marked (length t.shapes) (λ n e.
+      let within = used_within all_parts fall used.roots (used.many ∙ sym many_parts) n ((used.marked n).0 e) in
+      subst (λ (k : ℕ). n < k) many_parts within) in
+      omega (arith, many, few)
+
+  pub few_built : (r : Resolve) → IsBuilt p r → length r.types.items ≤ length t.shapes
+  few_built r built =
+      let same : length r.types.items ≡ length p.types = sym (length-map r.types.items planned_type) ∙ ap length built.types in
+      omega (arith, same, few_planned)
+
+-- ---- what is built of members that are a package
+
+module _ (t : Tables) (packages : List PackageIdentity) (homes : ℕ → Option Home) (n : ℕ) (ms : List Member) (r : Resolve) (main : ℕ) (is : IsBuiltOf t packages homes n ms r main) (found : Option PackageMeaning) (mean : PlansMean t packages homes n ms found) where
+  meant_found : MeansFound found is.plan
+  meant_found = mean is.plan is.planned is.fits
+
+  pub package_built : HoldsFound found r main
+  package_built = subst (HoldsFound found r) is.main_is (holds is.plan r found meant_found is.built is.valid is.meant)
+
+  pub few_in_package : TypesFall t → length r.types.items ≤ length t.shapes
+  few_in_package fall = few_built t fall packages homes n ms is.plan is.planned r (is.built (plans_are_buildable is.plan meant_found.plan.plan))

@@ -1,0 +1,115 @@
+-- The package of members that were read of what was followed.
+use Rattle.std.proofs.Common.{◌≡◌, sym, ap, subst, ◌∙◌, ℕ, true, false, List, [], ◌∷◌, map, Option, Some, None, slice_get}
+use Rattle.std.specs.Borrow.{Bor}
+use Rattle.std.specs.List.{AllZip}
+use Rattle.wit_model.specs.Names.{PackageIdentity}
+use Rattle.comp_bytes.specs.Levels.{Piece}
+use Rattle.comp_meaning.specs.ByLevels.{package_of_pieces}
+use Rattle.comp_meaning.specs.Follow.{provided}
+use Rattle.plan_meaning.specs.NumberedMembers.{Homes, HomesStand, NumberedMember, are_package, home_at, package_shown}
+use Rattle.plan_meaning.specs.NumberedRules.{Fact}
+use Rattle.plan_meaning.specs.NumberedViews.{Tables}
+use Rattle.read_homes.specs.Homes.{ArePackages, HaveReasons, IsHomeOf, given_home}
+use Rattle.plan_meaning.proofs.Lists.{map_of_map}
+use Rattle.read_parts.specs.declared.following.Followed.{Followed}
+use Rattle.read_parts.specs.declared.members.Member.{Member as FollowedMember}
+use Rattle.read_parts.specs.Input.{IsFollowed}
+use Rattle.read_exports.specs.declared.members.Member.{Member}
+use Rattle.read_exports.specs.Members.{homes_in, numbered_members}
+use Rattle.read_rules.specs.declared.tables.Fact.{Fact as KeptFact}
+use Rattle.plan_package.specs.PlanWhole.{MayBeWhole}
+use Rattle.read_numbers.specs.FactLaws.{known_by}
+use Rattle.read_numbers.specs.KnownScopes.{AreKnown}
+use Rattle.read_numbers.specs.NumberedInput.{tables_of}
+use Rattle.read_members.specs.Decided.{ArePackageDecided, are_one_package}
+use Rattle.read_members.specs.declared.reading.ReadMember.{ReadMember}
+use Rattle.read_members.specs.ReadMembers.{lent_member, read_member, AreForMembers, AreRead}
+use Rattle.read_members.proofs.DecidedLaws.{packages_are_decided}
+use Rattle.read_laws.specs.ReadPackages.{IsReadPackage}
+use Rattle.read_laws.proofs.ReadPackages.{read_may_be_planned, read_packages_have_sources, read_plans_are_meant}
+use Rattle.comp_read.specs.MembersRead.{AreReadOf, IsMain}
+use Rattle.comp_read.specs.Planned.{PlansMean}
+
+-- ---- the package of the first member
+
+abbrev Given : Type 0
+Given = List (Option (ℕ × Bor (List ℕ)))
+
+pub of_first : (t : Tables) (h : Homes) (known : ℕ → Fact) (ms : List Member) (m : Member) → Some m ≡ slice_get ms 0 → are_package t h known m.package_number (numbered_members ms) ≡ are_one_package t h known (numbered_members ms)
+of_first t h known [] m e = absurd cc
+of_first t h known (x ∷ ms) m e = let same : m ≡ x = cc in ap (λ (y : Member). are_package t h known y.package_number (numbered_members (x ∷ ms))) same
+
+-- ---- members that are a package
+
+module _ (x : Followed) (t : Tables) (facts : List KeptFact) (h : Homes) (ms : List Member) (read : AreReadOf x t facts h (map lent_member ms)) (pieces : List Piece) (followed : IsFollowed pieces x) where
+  module _ (n : ℕ) (obeys : are_package t h (known_by facts) n (numbered_members ms) ≡ true) where
+    is_package : IsReadPackage pieces x t facts h n ms
+    is_package = record {
+      tables = read.tables;
+      followed = followed;
+      known = read.known;
+      stand = read.stand;
+      homes = read.homes;
+      packages = read.packages;
+      sources = read_packages_have_sources read.first h.packages h.homes ms read.reasons read.members;
+      read = read.read;
+      obeys = obeys;
+    }
+
+    pub may_be_whole : MayBeWhole t ms
+    may_be_whole = read_may_be_planned pieces x t facts h n ms is_package
+
+    pub plans_mean : PlansMean t h.packages (home_at h) n ms (package_of_pieces pieces)
+    plans_mean p planned fits =
+        let is = read_plans_are_meant pieces x t facts h n ms is_package p planned fits in
+        record { plan = is.plan; means = is.means }
+
+  -- ---- members that are none
+
+  pub over_followed : (P : Tables → Type 0) → P t → P (tables_of x)
+  over_followed P is = subst P read.tables is
+
+  none_decided : (u : Tables) (ks : List NumberedMember) → ArePackageDecided pieces u h (known_by facts) ks → are_one_package u h (known_by facts) ks ≡ false → package_of_pieces pieces ≡ None
+  none_decided u [] d e = d
+  none_decided u (k ∷ ks) d e = d.decided ∙ ap (λ b. provided b (package_shown d.identity d.members)) e
+
+  pub no_package : are_one_package t h (known_by facts) (numbered_members ms) ≡ false → package_of_pieces pieces ≡ None
+  no_package none =
+      let decided = packages_are_decided pieces x followed facts read.known h (over_followed (λ (u : Tables). HomesStand u h) read.stand) (map lent_member ms) (over_followed (λ (u : Tables). AreRead u (known_by facts) h x.members.items (map lent_member ms)) read.read) in
+      none_decided (tables_of x) (numbered_members ms) (subst (ArePackageDecided pieces (tables_of x) h (known_by facts)) (map_of_map (λ (m : NumberedMember × List (Option ℕ)). m.0) lent_member ms) decided)
+      (over_followed (λ (u : Tables). are_one_package u h (known_by facts) (numbered_members ms) ≡ false) none)
+
+-- ---- members as they are read
+
+module _ (x : Followed) (t : Tables) (tables : t ≡ tables_of x) (facts : List KeptFact) (known : AreKnown x facts) (old first packages : List PackageIdentity) (empty : old ≡ []) (homes : Given)
+    (are_homes : AllZip (IsHomeOf first) t.paths (map given_home homes)) (reasons : HaveReasons old first (map given_home homes)) (stand : HomesStand (tables_of x) (homes_in packages homes)) (are : ArePackages packages)
+    (rs : List ReadMember) (sources : AreForMembers first packages (map read_member rs)) (lent : Given) (lent_is : lent ≡ homes) (members : List FollowedMember) (all : members ≡ x.members.items)
+    (read : AreRead t (known_by facts) (homes_in packages lent) members (map read_member rs)) where
+  read_here : AreReadOf x t facts (homes_in packages homes) (map read_member rs)
+  read_here = record {
+    tables = tables;
+    known = known;
+    stand = subst (λ (u : Tables). HomesStand u (homes_in packages homes)) (sym tables) stand;
+    homes = (first, are_homes);
+    packages = are;
+    first = first;
+    reasons = subst (λ (ps : List PackageIdentity). HaveReasons ps first (map given_home homes)) empty reasons;
+    members = sources;
+    read =
+        subst (λ (hs : Given). AreRead t (known_by facts) (homes_in packages hs) x.members.items (map read_member rs)) lent_is
+        (subst (λ (ms : List FollowedMember). AreRead t (known_by facts) (homes_in packages lent) ms (map read_member rs)) all read);
+  }
+
+  pub are_read_of : (again : Given) → again ≡ homes → (those : List ReadMember) → those ≡ rs → AreReadOf x t facts (homes_in packages again) (map read_member those)
+  are_read_of again again_is those those_are =
+      subst (λ (hs : Given). AreReadOf x t facts (homes_in packages hs) (map read_member those)) (sym again_is)
+      (subst (λ (ks : List ReadMember). AreReadOf x t facts (homes_in packages homes) (map read_member ks)) (sym those_are) read_here)
+
+-- ---- the package that is looked for
+
+module _ (t : Tables) (h : Homes) (known : ℕ → Fact) (given ms : List Member) (same : given ≡ ms) (o : Option ℕ) where
+  pub main_is : (n : ℕ) → o ≡ Some n → IsMain t h known (numbered_members given) o → are_package t h known n (numbered_members ms) ≡ true
+  main_is n e is = subst (λ (ys : List Member). are_package t h known n (numbered_members ys) ≡ true) same (subst (IsMain t h known (numbered_members given)) e is)
+
+  pub none_is : o ≡ None → IsMain t h known (numbered_members given) o → are_one_package t h known (numbered_members ms) ≡ false
+  none_is e is = subst (λ (ys : List Member). are_one_package t h known (numbered_members ys) ≡ false) same (subst (IsMain t h known (numbered_members given)) e is)

@@ -1,0 +1,67 @@
+-- What is built of the plan of one world.
+use Rattle.std.proofs.Common.{◌≡◌, ap, subst, ◌∙◌, ℕ, ◌≤◌, true, false, List, length, Option, Some, None, slice_get}
+use Rattle.std.proofs.lemmas.Bool.{eqb-true}
+use Rattle.wit_model.specs.declared.model.Resolve.{Resolve}
+use Rattle.wit_model.specs.declared.model.World.{World}
+use Rattle.wit_model.specs.Lookup.{world_at}
+use Rattle.wit_model.specs.Meaning.{WorldPackage}
+use Rattle.wit_model.specs.Meant.{MeantWorld}
+use Rattle.wit_model.specs.Names.{PackageIdentity}
+use Rattle.wit_model.specs.Rules.{is_id}
+use Rattle.wit_model.specs.Valid.{IsValid}
+use Rattle.plan_meaning.specs.Built.{IsBuilt, planned_world}
+use Rattle.plan_meaning.specs.NumberedViews.{Tables}
+use Rattle.plan_meaning.specs.Plan.{Plan, PlannedWorld}
+use Rattle.plan_meaning.specs.PlanMeaning.{plan_world_meaning}
+use Rattle.plan_meaning.specs.PlanRules.{IsPlan}
+use Rattle.plan_meaning.proofs.Lists.{get_back}
+use Rattle.plan_meaning.proofs.NothingElse.{world_holds_alone}
+use Rattle.plan_build.specs.Buildable.{IsBuildable}
+use Rattle.plan_build.specs.MeansPlan.{MeansPlan}
+use Rattle.plan_build.proofs.BuildableLaws.{plans_are_buildable}
+use Rattle.read_exports.specs.declared.members.Member.{Member}
+use Rattle.plan_types.specs.Used.{TypesFall}
+use Rattle.plan_package.specs.WholeInterfaces.{Home}
+use Rattle.comp_read.specs.DecodedWorlds.{HoldsWorldFound}
+use Rattle.comp_read.specs.Planned.{IsBuiltOf, MeansWorldFound, WorldPlansMean}
+use Rattle.comp_read.proofs.BuildLaws.{few_built}
+
+id_is : (n : ℕ) (o : Option ℕ) → is_id n o ≡ true → o ≡ Some n
+id_is n None e = let wrong : false ≡ true = e in absurd cc
+id_is n (Some m) e = ap Some (eqb-true m n e)
+
+both : (r : Resolve) (m : WorldPackage) (a b : Option WorldPackage) → a ≡ b → (MeantWorld r 0 m → a ≡ Some m) × ((a ≡ Some m) → MeantWorld r 0 m) → (MeantWorld r 0 m → b ≡ Some m) × ((b ≡ Some m) → MeantWorld r 0 m)
+both r m a b same is = subst (λ (o : Option WorldPackage). (MeantWorld r 0 m → o ≡ Some m) × ((o ≡ Some m) → MeantWorld r 0 m)) same is
+
+module _ (p : Plan) (r : Resolve) (found : Option WorldPackage) (is : MeansWorldFound found p) (built : IsBuildable p → IsBuilt p r) (valid : IsPlan p → IsValid r) (meant : MeansPlan p r) where
+  are_built : IsBuilt p r
+  are_built = built (plans_are_buildable p is.plan.plan)
+
+  -- the one world
+  stands : (w : World) × (world_at r 0 ≡ Some w) × (planned_world w ≡ is.plan.world)
+  stands = get_back planned_world r.worlds.items 0 is.plan.world (ap (λ (ws : List PlannedWorld). slice_get ws 0) (are_built.worlds ∙ is.plan.alone))
+
+  pub holds_world : HoldsWorldFound found r p.main
+  holds_world = record {
+    valid = valid is.plan.plan;
+    bare = are_built.bare;
+    world = stands.0;
+    stands = stands.1;
+    home = ap (λ (w : PlannedWorld). w.package_) stands.2 ∙ id_is p.main is.plan.world.package_ is.plan.home;
+    alone = world_holds_alone p r is.plan are_built stands.0 stands.1;
+    meaning = is.meaning;
+    is = is.is;
+    meant = λ m. both r m (plan_world_meaning p) found is.means (meant.world is.plan m);
+  }
+
+-- ---- what is built of members that are one
+
+module _ (t : Tables) (packages : List PackageIdentity) (homes : ℕ → Option Home) (n : ℕ) (ms : List Member) (r : Resolve) (main : ℕ) (is : IsBuiltOf t packages homes n ms r main) (found : Option WorldPackage) (mean : WorldPlansMean t packages homes n ms found) where
+  meant_found : MeansWorldFound found is.plan
+  meant_found = mean is.plan is.planned is.fits
+
+  pub world_built : HoldsWorldFound found r main
+  world_built = subst (HoldsWorldFound found r) is.main_is (holds_world is.plan r found meant_found is.built is.valid is.meant)
+
+  pub few_in_world : TypesFall t → length r.types.items ≤ length t.shapes
+  few_in_world fall = few_built t fall packages homes n ms is.plan is.planned r (is.built (plans_are_buildable is.plan meant_found.plan.plan))

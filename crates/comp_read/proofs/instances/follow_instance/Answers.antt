@@ -1,9 +1,0 @@
-use Rattle.std.proofs.Common.{refl}
-use Rattle.comp_read.specs.InstanceScopes.{tables_of}
-use Rattle.comp_read.proofs.StepLaws.{viewed}
-use Rattle.comp_read.proofs.instances.follow_instance.Goals as goal
-
-pub returns-in-Ok-clause-shown : goal.returns-in-Ok-clause-shown
-returns-in-Ok-clause-shown c =
-    viewed c.args.marks.now c.args.here (tables_of c.args.table.now c.args.functions.now) c.requires.tables c.args.outer.now c.requires.outer c.args.body
-    c.follow_body.new.table c.follow_body.new.functions c.in-Ok.scope (record { types = c.in-Ok.scope.types; functions = c.in-Ok.scope.functions }) refl refl c.in-Ok.ensures.followed

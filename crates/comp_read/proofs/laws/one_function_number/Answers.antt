@@ -1,5 +1,0 @@
-use Rattle.comp_read.proofs.DefiningLaws.{one_function}
-use Rattle.comp_read.proofs.laws.one_function_number.Goals as goal
-
-pub returns : goal.returns
-returns c = λ place distinct shapes table. one_function place distinct shapes table

@@ -1,5 +1,0 @@
-use Rattle.comp_read.proofs.SectionLaws.{frame_shorter}
-use Rattle.comp_read.proofs.sections.front_piece.Goals as goal
-
-pub returns-in-Ok-piece_of-clause-shorter : goal.returns-in-Ok-piece_of-clause-shorter
-returns-in-Ok-piece_of-clause-shorter c = frame_shorter c.args.bytes.now (c.in-Ok.section.id, c.in-Ok.section.contents.now) c.in-Ok.rest.now c.in-Ok.ensures

@@ -1,6 +1,0 @@
-use Rattle.std.proofs.Common.{List, subst}
-use Rattle.read_plan.specs.Shapes.{Shape, IsTable}
-use Rattle.comp_read.proofs.table.Table.is_well_formed.Goals as goal
-
-pub returns : goal.returns
-returns c = subst (λ (ss : List Shape). IsTable ss) c.self.view_is c.self.invariant.table

@@ -1,0 +1,62 @@
+-- What is decoded of bytes (Component Model WIT.md, "Package Format"; Binary.md, "Component Definitions").
+use Rattle.std.specs.Prelude.{◌≡◌, ◌≤◌, ◌↔◌, ℕ, ◌-◌, List, length, Option, Some}
+use Rattle.wit_model.specs.declared.error.Error.{Error}
+use Rattle.wit_model.specs.declared.error.Error.TheVariants as errors
+use Rattle.wit_model.specs.declared.model.Package.{Package}
+use Rattle.wit_model.specs.declared.model.Resolve.{Resolve}
+use Rattle.wit_model.specs.Lookup.{package_at}
+use Rattle.wit_model.specs.Meaning.{PackageMeaning}
+use Rattle.wit_model.specs.Meant.{Meant}
+use Rattle.wit_model.specs.Valid.{IsValid}
+use Rattle.comp_bytes.specs.Levels.{levels_of}
+use Rattle.comp_bytes.specs.Reading.{◌>>=◌}
+use Rattle.comp_meaning.specs.ByLevels.{package_of_pieces}
+use Rattle.comp_meaning.specs.Reads.{Reads}
+use Rattle.read_follow.specs.declared.refusal.Refusal.{Refusal}
+use Rattle.read_follow.specs.declared.refusal.Refusal.TheVariants as refusals
+use Rattle.plan_meaning.specs.Built.{IsBare}
+use Rattle.plan_meaning.specs.NothingElse.{HoldsPackageAlone}
+
+-- what bytes mean, by what their sections do
+abbrev pub package_found : List ℕ → Option PackageMeaning
+package_found bytes = levels_of bytes >>= package_of_pieces
+
+-- The `Resolve` is valid, without documentation and with no stability known; its package of this number means just what was found, and nothing stands
+-- there beyond that.
+pub record HoldsFound (found : Option PackageMeaning) (r : Resolve) (n : ℕ) : Type 0 where
+  pub valid : IsValid r
+  pub bare : IsBare r
+  pub package_ : Package
+  pub stands : package_at r n ≡ Some package_
+  pub alone : HoldsPackageAlone r n package_
+  pub meaning : PackageMeaning
+  pub is : found ≡ Some meaning
+  pub meant : (m : PackageMeaning) → Meant r n m ↔ (found ≡ Some m)
+
+-- The bytes mean a package, and the `Resolve` is valid, without documentation and with no stability known; its package of this number means just what
+-- they do, nothing stands there beyond that, and it has no more types than there are bytes.
+pub record IsDecoded (bytes : List ℕ) (r : Resolve) (n : ℕ) : Type 0 where
+  pub valid : IsValid r
+  pub bare : IsBare r
+  pub package_ : Package
+  pub stands : package_at r n ≡ Some package_
+  pub alone : HoldsPackageAlone r n package_
+  pub meaning : PackageMeaning
+  pub read : Reads bytes meaning
+  pub meant : (m : PackageMeaning) → Meant r n m ↔ Reads bytes m
+  pub few : length r.types.items ≤ length bytes
+
+-- they mean no package
+abbrev pub MeansNothing : List ℕ → Type 0
+MeansNothing bytes = (m : PackageMeaning) → Reads bytes m → ⊥
+
+-- Bytes that mean no package are refused with an offset among them, and all others for want of memory alone.
+abbrev pub RefusesBytes : List ℕ → Error → Type 0
+RefusesBytes bytes (errors.NoReading cause offset) = (offset ≤ length bytes) × MeansNothing bytes
+RefusesBytes bytes errors.Memory = Unit {0}
+RefusesBytes bytes _ = ⊥
+
+-- the error of a refusal, for an input of this length
+abbrev pub error_from : Refusal → ℕ → Error
+error_from refusals.Memory many = errors.Memory
+error_from (refusals.Absent cause left) many = errors.NoReading cause (many - left)

@@ -1,0 +1,63 @@
+-- What is decoded of bytes as one world (WIT.md, "Worlds"; Component Model WIT.md, "Package Format").
+use Rattle.std.specs.Prelude.{◌≡◌, ◌≤◌, ◌↔◌, ℕ, List, length, Option, Some, option_map}
+use Rattle.wit_model.specs.declared.error.Error.{Error}
+use Rattle.wit_model.specs.declared.error.Error.TheVariants as errors
+use Rattle.wit_model.specs.declared.model.Resolve.{Resolve}
+use Rattle.wit_model.specs.declared.model.World.{World}
+use Rattle.wit_model.specs.Lookup.{world_at}
+use Rattle.wit_model.specs.Meaning.{WorldPackage}
+use Rattle.wit_model.specs.Meant.{MeantWorld}
+use Rattle.wit_model.specs.Valid.{IsValid}
+use Rattle.comp_bytes.specs.Levels.{levels_of}
+use Rattle.comp_bytes.specs.Reading.{◌>>=◌}
+use Rattle.comp_meaning.specs.ByLevels.{world_of_pieces}
+use Rattle.comp_meaning.specs.Reads.{ReadsWorld}
+use Rattle.plan_meaning.specs.Built.{IsBare}
+use Rattle.plan_meaning.specs.NothingElse.{HoldsWorldAlone}
+
+-- what bytes mean as one world, by what their sections do
+abbrev pub world_found : List ℕ → Option WorldPackage
+world_found bytes = levels_of bytes >>= world_of_pieces
+
+-- the number of the package of a world
+abbrev pub package_of : World → Option ℕ
+package_of w = option_map (λ id. id.0) w.package
+
+-- The `Resolve` is valid, without documentation and with no stability known; its world of number 0, in the package of this number, means just what was
+-- found, and nothing stands there beyond that.
+pub record HoldsWorldFound (found : Option WorldPackage) (r : Resolve) (n : ℕ) : Type 0 where
+  pub valid : IsValid r
+  pub bare : IsBare r
+  pub world : World
+  pub stands : world_at r 0 ≡ Some world
+  pub home : package_of world ≡ Some n
+  pub alone : HoldsWorldAlone r n world
+  pub meaning : WorldPackage
+  pub is : found ≡ Some meaning
+  pub meant : (m : WorldPackage) → MeantWorld r 0 m ↔ (found ≡ Some m)
+
+-- The bytes mean one world, and the `Resolve` is valid, without documentation and with no stability known; its world of this number, which is 0, means
+-- just what they do, nothing stands there beyond that, and it has no more types than there are bytes.
+pub record IsDecodedWorld (bytes : List ℕ) (r : Resolve) (n : ℕ) : Type 0 where
+  pub first : n ≡ 0
+  pub valid : IsValid r
+  pub bare : IsBare r
+  pub world : World
+  pub stands : world_at r n ≡ Some world
+  pub package_ : ℕ
+  pub home : package_of world ≡ Some package_
+  pub alone : HoldsWorldAlone r package_ world
+  pub meaning : WorldPackage
+  pub read : ReadsWorld bytes meaning
+  pub meant : (m : WorldPackage) → MeantWorld r n m ↔ ReadsWorld bytes m
+  pub few : length r.types.items ≤ length bytes
+
+-- they mean no one world
+abbrev pub MeansNoWorld : List ℕ → Type 0
+MeansNoWorld bytes = (m : WorldPackage) → ReadsWorld bytes m → ⊥
+
+-- Bytes that mean no one world are refused with an offset among them, and all others for want of memory alone.
+abbrev pub RefusesWorldBytes : List ℕ → Error → Type 0
+RefusesWorldBytes bytes (errors.NoReading cause offset) = (offset ≤ length bytes) × MeansNoWorld bytes
+RefusesWorldBytes bytes errors.Memory = Unit {0}
+RefusesWorldBytes bytes _ = ⊥

@@ -1,0 +1,13 @@
+-- Laws of the canonical names that repeat.
+use Rattle.std.specs.Prelude.{◌≡◌}
+use Rattle.wit_model.specs.Text.{Text}
+use Rattle.wit_model.specs.declared.model.Resolve.{Resolve}
+use Rattle.wit_model.specs.declared.model.World.{World}
+use Rattle.encode_names.specs.Clashes.{HasNoClash, IsClash}
+
+-- A world clashes at one name at most, and at none where it has no clash.
+abbrev pub OneClash : Type 0
+OneClash = (r : Resolve) (w : World) (x y : Text) → IsClash r w x → IsClash r w y → x ≡ y
+
+abbrev pub NoClashWithout : Type 0
+NoClashWithout = (r : Resolve) (w : World) (x : Text) → HasNoClash r w → IsClash r w x → ⊥

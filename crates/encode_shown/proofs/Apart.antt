@@ -1,0 +1,45 @@
+-- Lists of texts in which none stands twice.
+use Rattle.std.proofs.Common.{◌≡◌, refl, ap, ◌∙◌, Bool, true, false, not, ◌||◌, List, [], ◌∷◌, ◌++◌, arith}
+use Rattle.std.specs.Prelude.{IsPermutation}
+use Rattle.std.specs.List.{Contains, AllByRecursion, IsDistinct, list_any}
+use Rattle.std.proofs.lemmas.Map.Keys.{IsDistinct-IsPermutation}
+use Rattle.std.proofs.lemmas.List.Folds.{list_any-append}
+use Rattle.std.proofs.lemmas.Cmp.{nat_list_eq_equiv}
+use Rattle.wit_model.specs.Text.{Text, text_eq}
+use Rattle.wit_model.proofs.Lists.{first_true, second_true}
+use Rattle.wit_model.proofs.Elements.{both, contains-later}
+use Rattle.comp_meaning.specs.Rules.{distinct}
+use Rattle.encode_shown.proofs.Basics.{no-longer}
+
+none-any : (t : Text) (ts : List Text) → AllByRecursion (λ y. text_eq t y ≡ false) ts → list_any (text_eq t) ts ≡ false
+none-any t [] h = refl
+none-any t (x ∷ xs) h = ap (λ b. b || list_any (text_eq t) xs) h.0 ∙ none-any t xs h.1
+
+any-none : (t : Text) (ts : List Text) → list_any (text_eq t) ts ≡ false → AllByRecursion (λ y. text_eq t y ≡ false) ts
+any-none t [] h = tt
+any-none t (x ∷ xs) h = go (any-none t xs) (text_eq t x) refl h
+  where
+    go : (list_any (text_eq t) xs ≡ false → AllByRecursion (λ y. text_eq t y ≡ false) xs) → (b : Bool) → text_eq t x ≡ b → (b || list_any (text_eq t) xs) ≡ false → AllByRecursion (λ y. text_eq t y ≡ false) (x ∷ xs)
+    go more true e h = let wrong : ⊥ = cc in absurd wrong
+    go more false e h = (e, more h)
+
+pub distinct-from : (ts : List Text) → IsDistinct text_eq ts → distinct ts ≡ true
+unfolding IsDistinct
+distinct-from [] d = refl
+distinct-from (t ∷ ts) d = both _ _ (ap not (none-any t ts d.0)) (distinct-from ts d.1)
+
+pub from-distinct : (ts : List Text) → distinct ts ≡ true → IsDistinct text_eq ts
+unfolding IsDistinct
+from-distinct [] h = tt
+from-distinct (t ∷ ts) h = (any-none t ts (no-longer (list_any (text_eq t) ts) (first_true _ _ h)), from-distinct ts (second_true (not (list_any (text_eq t) ts)) _ h))
+
+-- so it is in another order
+pub distinct-permuted : (xs ys : List Text) → IsPermutation xs ys → distinct xs ≡ true → distinct ys ≡ true
+distinct-permuted xs ys p h = distinct-from ys (IsDistinct-IsPermutation text_eq nat_list_eq_equiv.symm xs ys p (from-distinct xs h))
+
+-- two lists, none of whose texts are the same
+pub distinct-both : (xs ys : List Text) → distinct xs ≡ true → distinct ys ≡ true → ((x : Text) → Contains xs x → list_any (text_eq x) ys ≡ false) → distinct (xs ++ ys) ≡ true
+distinct-both [] ys h g apart = g
+distinct-both (x ∷ xs) ys h g apart =
+    both _ _ (ap not (list_any-append (text_eq x) xs ys ∙ (λ i. no-longer (list_any (text_eq x) xs) (first_true _ _ h) i || apart x (0, omega arith, refl) i)))
+    (distinct-both xs ys (second_true (not (list_any (text_eq x) xs)) _ h) g (λ y c. apart y (contains-later x xs y c)))

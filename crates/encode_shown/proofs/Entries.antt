@@ -1,0 +1,142 @@
+-- What validity says of an import and of an export of a world.
+use Rattle.std.proofs.Common.{◌≡◌, refl, sym, ap, ◌∙◌, ℕ, Bool, true, false, ◌&&◌, ◌++◌, Option, Some, None}
+use Rattle.std.specs.Prelude.{is_some, option_to_list}
+use Rattle.std.specs.List.{Contains, list_all}
+use Rattle.std.specs.Option.{option_map_or}
+use Rattle.std.proofs.lemmas.List.Elements.{Contains-append_left, Contains-append_right}
+use Rattle.indexmap.specs.IndexMap.{values}
+use Rattle.wit_model.specs.Text.{text_of}
+use Rattle.wit_model.specs.Names.{is_label}
+use Rattle.wit_model.specs.Lookup.{world_at, interface_path}
+use Rattle.wit_model.specs.Parts.{function_types}
+use Rattle.wit_model.specs.Uses.{items_of, item_interface}
+use Rattle.wit_model.specs.Rules.{passes, in_list, is_id, key_in_range, item_in_range, entries_in_range, key_label, item_labels, entries_labels, is_name_key, is_member, is_stability, function_stays, is_shallow, is_interface_key, is_own_type, item_type, import_stands, export_stands, is_export_item, is_freestanding, package_number}
+use Rattle.wit_model.specs.Valid.{IsValid, as_world, is_place, item_function, functions_of_world, numbers_in_range, labels, owners, depths, function_names, world_items}
+use Rattle.wit_model.specs.declared.model.Resolve.{Resolve}
+use Rattle.wit_model.specs.declared.model.World.{World}
+use Rattle.wit_model.specs.declared.model.WorldKey.{WorldKey}
+use Rattle.wit_model.specs.declared.model.WorldKey.TheVariants as key
+use Rattle.wit_model.specs.declared.model.WorldItem.{WorldItem}
+use Rattle.wit_model.specs.declared.model.WorldItem.TheVariants as item
+use Rattle.wit_model.specs.declared.model.Function.{Function}
+use Rattle.wit_model.proofs.Lists.{first_true, second_true, list_all_filter_map}
+use Rattle.wit_model.proofs.Elements.{all-contained, contains-map}
+use Rattle.wit_model.proofs.OnePath.{found-in, named-path}
+use Rattle.encode_shown.proofs.Basics.{world-passes}
+
+-- a key that is an interface is that of the item
+abbrev pub key_stands : Resolve → WorldKey → WorldItem → Bool
+key_stands r (key.Interface id) i = is_interface_key r id.0 i
+key_stands r (key.Name name) i = true
+
+pub record IsEntry (r : Resolve) (n : ℕ) (e : WorldKey × WorldItem) : Type 0 where
+  pub key_range : key_in_range r e.0 ≡ true
+  pub item_range : item_in_range r e.1 ≡ true
+  pub key_labelled : key_label e.0 e.1 ≡ true
+  pub item_labelled : item_labels e.1 ≡ true
+  pub named_ : passes (λ f. is_name_key (text_of f.name) e.0 && is_member r (as_world n) f) (item_function e.1) ≡ true
+  pub stays : passes (function_stays r (as_world n)) (item_function e.1) ≡ true
+  pub flat : passes (λ f. list_all (is_shallow r) (function_types f)) (item_function e.1) ≡ true
+  pub keyed : key_stands r e.0 e.1 ≡ true
+  pub typed : passes (is_own_type r n e.0) (item_type e.1) ≡ true
+
+given-list : {A : Type 0} (p : A → Bool) (o : Option A) → list_all p (option_to_list o) ≡ true → passes p o ≡ true
+given-list p None h = refl
+given-list p (Some x) h = first_true _ _ h
+
+-- an interface is no type
+interface-item : (k : ℕ) (i : WorldItem) → is_id k (item_interface i) ≡ true → item_type i ≡ None
+interface-item k (item.Interface id stability docs external_id) h = refl
+interface-item k (item.Function f) h = refl
+interface-item k (item.Type_ id) h = let wrong : ⊥ = cc in absurd wrong
+
+import-keyed : (r : Resolve) (n : ℕ) (k : WorldKey) (i : WorldItem) → import_stands r n k i ≡ true → key_stands r k i ≡ true
+import-keyed r n (key.Interface id) i h = h
+import-keyed r n (key.Name name) i h = refl
+
+import-typed : (r : Resolve) (n : ℕ) (k : WorldKey) (i : WorldItem) → import_stands r n k i ≡ true → passes (is_own_type r n k) (item_type i) ≡ true
+import-typed r n (key.Interface id) i h = ap (passes (is_own_type r n (key.Interface id))) (interface-item id.0 i (first_true (is_id id.0 (item_interface i)) _ h))
+import-typed r n (key.Name name) i h = h
+
+export-keyed : (r : Resolve) (k : WorldKey) (i : WorldItem) → export_stands r k i ≡ true → key_stands r k i ≡ true
+export-keyed r (key.Interface id) i h = h
+export-keyed r (key.Name name) i h = refl
+
+no-export-type : (i : WorldItem) → is_export_item i ≡ true → item_type i ≡ None
+no-export-type (item.Interface id stability docs external_id) h = refl
+no-export-type (item.Function f) h = refl
+no-export-type (item.Type_ id) h = let wrong : ⊥ = cc in absurd wrong
+
+export-typed : (r : Resolve) (n : ℕ) (k : WorldKey) (i : WorldItem) → export_stands r k i ≡ true → passes (is_own_type r n k) (item_type i) ≡ true
+export-typed r n (key.Interface id) i h = ap (passes (is_own_type r n (key.Interface id))) (interface-item id.0 i (first_true (is_id id.0 (item_interface i)) _ h))
+export-typed r n (key.Name name) i h = ap (passes (is_own_type r n (key.Name name))) (no-export-type i h)
+
+-- an exported function is of no resource
+export-free : (r : Resolve) (k : WorldKey) (i : WorldItem) → export_stands r k i ≡ true → passes (λ f. is_freestanding f.kind) (item_function i) ≡ true
+export-free r k (item.Interface id stability docs external_id) h = refl
+export-free r k (item.Type_ id) h = refl
+export-free r (key.Name name) (item.Function f) h = h
+export-free r (key.Interface id) (item.Function f) h = let wrong : ⊥ = cc in absurd wrong
+
+module _ (r : Resolve) (v : IsValid r) (n : ℕ) (w : World) (there : world_at r n ≡ Some w) where
+  -- what holds of each function of the world
+  of-function : (p : Function → Bool) → list_all p (functions_of_world w) ≡ true → (i : WorldItem) → Contains (items_of w) i → passes p (item_function i) ≡ true
+  of-function p h i c = given-list p (item_function i) (all-contained (λ i. list_all p (option_to_list (item_function i))) (items_of w) i (sym (list_all_filter_map p item_function (items_of w)) ∙ h) c)
+
+  module _ (e : WorldKey × WorldItem) (c : Contains (items_of w) e.1) (d : Contains (w.imports.entries ++ w.exports.entries) e) where
+    abbrev in_range : Type 0
+    in_range = (key_in_range r e.0 && item_in_range r e.1) ≡ true
+
+    of-entry : (key_in_range r e.0 && item_in_range r e.1) ≡ true → (key_label e.0 e.1 && item_labels e.1) ≡ true → key_stands r e.0 e.1 ≡ true → passes (is_own_type r n e.0) (item_type e.1) ≡ true → IsEntry r n e
+    unfolding owners depths function_names
+    of-entry range labelled keyed typed = record {
+      key_range = first_true (key_in_range r e.0) _ range;
+      item_range = second_true (key_in_range r e.0) _ range;
+      key_labelled = first_true (key_label e.0 e.1) _ labelled;
+      item_labelled = second_true (key_label e.0 e.1) _ labelled;
+      named_ = all-contained (λ e. passes (λ f. is_name_key (text_of f.name) e.0 && is_member r (as_world n) f) (item_function e.1)) (w.imports.entries ++ w.exports.entries) e (world-passes function_names r v.rules.function_names n w there) d;
+      stays = of-function (function_stays r (as_world n)) (world-passes owners r v.rules.owners n w there) e.1 c;
+      flat = of-function (λ f. list_all (is_shallow r) (function_types f)) (world-passes depths r v.rules.depths n w there) e.1 c;
+      keyed = keyed;
+      typed = typed;
+    }
+
+  ranges : (entries_in_range r w.imports.entries && entries_in_range r w.exports.entries) ≡ true
+  unfolding numbers_in_range
+  ranges = second_true (passes (in_list r.packages.items) (package_number w.package)) _ (second_true (is_place n) _ (world-passes numbers_in_range r v.rules.numbers_in_range n w there))
+
+  names : (entries_labels w.imports.entries && entries_labels w.exports.entries) ≡ true
+  unfolding labels
+  names = second_true (is_stability w.stability) _ (second_true (is_label (text_of w.name)) _ (world-passes labels r v.rules.labels n w there))
+
+  stands : (list_all (λ e. import_stands r n e.0 e.1) w.imports.entries && list_all (λ e. export_stands r e.0 e.1) w.exports.entries) ≡ true
+  unfolding world_items
+  stands = world-passes world_items r v.rules.world_items n w there
+
+  pub import-stands : (e : WorldKey × WorldItem) → Contains w.imports.entries e → import_stands r n e.0 e.1 ≡ true
+  import-stands e c = all-contained (λ e. import_stands r n e.0 e.1) w.imports.entries e (first_true (list_all (λ e. import_stands r n e.0 e.1) w.imports.entries) _ stands) c
+
+  pub export-stands : (e : WorldKey × WorldItem) → Contains w.exports.entries e → export_stands r e.0 e.1 ≡ true
+  export-stands e c = all-contained (λ e. export_stands r e.0 e.1) w.exports.entries e (second_true (list_all (λ e. import_stands r n e.0 e.1) w.imports.entries) _ stands) c
+
+  pub import-entry : (e : WorldKey × WorldItem) → Contains w.imports.entries e → IsEntry r n e
+  import-entry e c = of-entry e (Contains-append_left (values w.imports) (values w.exports) e.1 (contains-map (λ e. e.1) w.imports.entries e c)) (Contains-append_left w.imports.entries w.exports.entries e c)
+      (all-contained (λ e. key_in_range r e.0 && item_in_range r e.1) w.imports.entries e (first_true (entries_in_range r w.imports.entries) _ ranges) c)
+      (all-contained (λ e. key_label e.0 e.1 && item_labels e.1) w.imports.entries e (first_true (entries_labels w.imports.entries) _ names) c)
+      (import-keyed r n e.0 e.1 (import-stands e c)) (import-typed r n e.0 e.1 (import-stands e c))
+
+  pub export-entry : (e : WorldKey × WorldItem) → Contains w.exports.entries e → IsEntry r n e
+  export-entry e c = of-entry e (Contains-append_right (values w.imports) (values w.exports) e.1 (contains-map (λ e. e.1) w.exports.entries e c)) (Contains-append_right w.imports.entries w.exports.entries e c)
+      (all-contained (λ e. key_in_range r e.0 && item_in_range r e.1) w.exports.entries e (second_true (entries_in_range r w.imports.entries) _ ranges) c)
+      (all-contained (λ e. key_label e.0 e.1 && item_labels e.1) w.exports.entries e (second_true (entries_labels w.imports.entries) _ names) c)
+      (export-keyed r e.0 e.1 (export-stands e c)) (export-typed r n e.0 e.1 (export-stands e c))
+
+  pub export-freestanding : (e : WorldKey × WorldItem) → Contains w.exports.entries e → passes (λ f. is_freestanding f.kind) (item_function e.1) ≡ true
+  export-freestanding e c = export-free r e.0 e.1 (export-stands e c)
+
+-- a key that is an interface has a path
+pub interface-key-path : (r : Resolve) → IsValid r → (n : ℕ) (e : WorldKey × WorldItem) → IsEntry r n e → (k : ℕ) → is_interface_key r k e.1 ≡ true → in_list r.interfaces.items k ≡ true → is_some (interface_path r k) ≡ true
+interface-key-path r v n e is k h inside =
+    let found = found-in r.interfaces.items k inside in
+    named-path r v k (ap (λ o. option_map_or (λ other. is_some other.name) o false) found.1
+    ∙ (ap (passes (λ other. is_some other.name)) (sym found.1) ∙ second_true (is_id k (item_interface e.1)) _ h))

@@ -1,0 +1,237 @@
+-- What shows an interface of a valid `Resolve` obeys the rules of interfaces, and means the interface.
+use Rattle.std.proofs.Common.{◌≡◌, refl, sym, subst, ap, ◌∙◌, ℕ, Bool, true, false, not, ◌&&◌, List, [], ◌∷◌, ◌++◌, append-nil, map, Option, Some, None, String, cond, arith}
+use Rattle.std.specs.declared.alloc.Global.{Global}
+use Rattle.std.specs.Prelude.{IsPermutation}
+use Rattle.std.specs.List.{Contains, IsDistinct, list_all, list_any}
+use Rattle.std.specs.Option.{option_map_or}
+use Rattle.std.specs.FinMap.{from_entries}
+use Rattle.std.proofs.lemmas.Simd.{map-map}
+use Rattle.std.proofs.lemmas.Cmp.{nat_list_eq_equiv}
+use Rattle.std.proofs.lemmas.List.Folds.{list_all-map}
+use Rattle.std.proofs.lemmas.List.Sorted.{IsPermutation-map, IsPermutation-sym, Contains-permutation, list_any-IsPermutation}
+use Rattle.indexmap.specs.IndexMap.{keys}
+use Rattle.wit_model.specs.Text.{Text, text_of, text_eq}
+use Rattle.wit_model.specs.Names.{is_label}
+use Rattle.wit_model.specs.Types.{declaration_of, declared_by, trees_of}
+use Rattle.wit_model.specs.Lookup.{interface_at, place_of, type_at}
+use Rattle.wit_model.specs.Parts.{same_owner, function_types}
+use Rattle.wit_model.specs.Meaning.{FunctionMeaning, InterfaceMeaning}
+use Rattle.wit_model.specs.Meant as meant
+use Rattle.wit_model.specs.Meant.{type_meaning, type_meaning_at, function_meaning, signature_of, interface_meaning_at, no_interface}
+use Rattle.wit_model.specs.Rules.{passes, in_list, function_in_range, function_labels, function_stays, is_shallow, is_member, is_resource_itself, is_stability, package_number}
+use Rattle.wit_model.specs.Valid.{IsValid, as_interface, is_place, functions_of_interface, labels, owners, depths, function_names, numbers_in_range}
+use Rattle.wit_model.specs.declared.model.Resolve.{Resolve}
+use Rattle.wit_model.specs.declared.model.Interface.{Interface}
+use Rattle.wit_model.specs.declared.model.Function.{Function}
+use Rattle.wit_model.specs.declared.model.TypeDef.{TypeDef}
+use Rattle.wit_model.specs.declared.model.TypeDefKind.{TypeDefKind}
+use Rattle.wit_model.specs.declared.model.TypeDefKind.TheVariants as kind
+use Rattle.wit_model.specs.declared.model.TypeId.{TypeId}
+use Rattle.wit_model.specs.declared.model.TypeOwner.TheVariants as owner
+use Rattle.wit_model.proofs.Lists.{first_true, second_true}
+use Rattle.wit_model.proofs.AnyOrder.{text-same, distinct-texts, same-map}
+use Rattle.wit_model.proofs.Elements.{both, all-contained, contains-map, contains-later}
+use Rattle.wit_model.proofs.OnePath.{interface-passes}
+use Rattle.comp_meaning.specs.Follow.{View, ShownType}
+use Rattle.comp_meaning.specs.Rules.{distinct, is_interface, is_declared, is_function, resources_of, is_resource}
+use Rattle.comp_meaning.specs.Reads.{interface_meaning}
+use Rattle.encode_shown.specs.Views.{shown_type, home_of, types_of, functions_of, ShowsTypes, ShowsInterface}
+use Rattle.encode_shown.proofs.Basics.{all-from, no-longer}
+use Rattle.encode_shown.proofs.Apart.{distinct-from, distinct-both}
+use Rattle.encode_shown.proofs.Parts.{number-declared}
+use Rattle.encode_shown.proofs.Functions.{IsResourceOf, function-shown}
+use Rattle.encode_shown.proofs.Members.{entry-type, entry-of, meaning-there, name-label}
+
+-- an element of a list that is mapped is that of one that it is from
+pub contains-mapped : {A B : Type 0} (f : A → B) (xs : List A) (y : B) → Contains (map f xs) y → (x : A) × Contains xs x × (f x ≡ y)
+contains-mapped f [] y c = absurd (let l = c.1 in omega (arith, l))
+contains-mapped f (x ∷ xs) y (Prim.Native.Nat.zero, l, e) = (x, (0, omega arith, refl), e)
+contains-mapped f (x ∷ xs) y (Prim.Native.Nat.suc k, l, e) = let rest = contains-mapped f xs y (k, omega (arith, l), e) in (rest.0, contains-later x xs rest.0 rest.1, rest.2)
+
+-- a resource of the list is one of its resources
+pub resource-listed : (ts : List ShownType) (t : ShownType) → Contains ts t → is_resource t.meaning.declaration ≡ true → Contains (resources_of ts) t.name
+resource-listed [] t c h = absurd (let l = c.1 in omega (arith, l))
+resource-listed (x ∷ ts) t (Prim.Native.Nat.zero, l, e) h =
+    let here : is_resource x.meaning.declaration ≡ true = ap (λ (z : ShownType). is_resource z.meaning.declaration) e ∙ h in
+    subst (λ (ns : List Text). Contains ns t.name) (sym (ap (λ b. cond b (x.name ∷ resources_of ts) (resources_of ts)) here)) (0, omega arith, ap (λ (z : ShownType). z.name) e)
+resource-listed (x ∷ ts) t (Prim.Native.Nat.suc k, l, e) h = later (is_resource x.meaning.declaration) (resource-listed ts t (k, omega (arith, l), e) h)
+  where
+    later : (b : Bool) → Contains (resources_of ts) t.name → Contains (cond b (x.name ∷ resources_of ts) (resources_of ts)) t.name
+    later true c = contains-later x.name (resources_of ts) t.name c
+    later false c = c
+
+itself-declared : (r : Resolve) (k : TypeDefKind) → is_resource_itself k ≡ true → is_resource (declared_by (trees_of r) k) ≡ true
+itself-declared r kind.Resource h = refl
+itself-declared r _ h = let wrong : ⊥ = cc in absurd wrong
+
+-- a resource itself is declared as one
+pub resource-declared : (r : Resolve) (n : ℕ) (def : TypeDef) → type_at r n ≡ Some def → is_resource_itself def.kind ≡ true → is_resource (type_meaning_at r n).declaration ≡ true
+resource-declared r n def at h = ap (λ m. is_resource m.declaration) (meaning-there r n def at) ∙ itself-declared r def.kind h
+
+module _ (r : Resolve) (v : IsValid r) (n : ℕ) (i : Interface) (there : interface_at r n ≡ Some i) where
+  -- ---- types
+
+  type-test : (e : String Global × TypeId) → Contains i.types.entries e → (is_label (text_of e.0) && is_declared (home_of r n) (type_meaning_at r e.1.0).declaration) ≡ true
+  type-test e c =
+      let is = entry-type r v n i there e c in
+      both _ _ (ap is_label is.name ∙ name-label r v e.1.0 is.def is.string is.there is.named_)
+      (ap (λ m. is_declared (home_of r n) m.declaration) (meaning-there r e.1.0 is.def is.there)
+      ∙ (λ j. is_declared (place_of r (sym is.owned j)) (declaration_of r is.def))
+      ∙ number-declared r v e.1.0 is.def is.there (ap (λ o. same_owner o owner.None) is.owned))
+
+  types-pass : list_all (λ t. is_label t.name && is_declared (home_of r n) t.meaning.declaration) (types_of r n i) ≡ true
+  types-pass = list_all-map (λ t. is_label t.name && is_declared (home_of r n) t.meaning.declaration) (shown_type r (home_of r n)) i.types.entries
+      ∙ all-from (λ e. is_label (text_of e.0) && is_declared (home_of r n) (type_meaning_at r e.1.0).declaration) i.types.entries type-test
+
+  -- ---- functions
+
+  abbrev resources : List Text
+  resources = resources_of (types_of r n i)
+
+  resource-home : (m : ℕ) (name : Text) → IsResourceOf r v (as_interface n) m name → Contains resources name
+  resource-home m name is =
+      let e = entry-of r v n i there m is.def is.string is.there is.named_ is.owned in
+      let declared : is_resource (type_meaning_at r e.entry.1.0).declaration ≡ true = ap (λ k. is_resource (type_meaning_at r k).declaration) e.number ∙ resource-declared r m is.def is.there is.itself in
+      subst (λ (t : Text). Contains resources t) (e.text ∙ sym is.text)
+      (resource-listed (types_of r n i) (shown_type r (home_of r n) e.entry) (contains-map (shown_type r (home_of r n)) i.types.entries e.entry e.there) declared)
+
+  function-test : (e : String Global × Function) → Contains i.functions.entries e → is_function (home_of r n) resources (text_of e.0) (signature_of r e.1) ≡ true
+  unfolding labels owners depths function_names numbers_in_range
+  function-test e c =
+      let listed = contains-map (λ x. x.1) i.functions.entries e c in
+      let numbers = second_true _ _ (second_true (passes (in_list r.packages.items) (package_number i.package)) _ (second_true (is_place n) _ (interface-passes numbers_in_range r v.rules.numbers_in_range n i there))) in
+      let named = first_true (list_all function_labels (functions_of_interface i)) _ (second_true (is_stability i.stability) _ (second_true (passes (λ name. is_label (text_of name)) i.name) _ (interface-passes labels r v.rules.labels n i there))) in
+      let stay = first_true (list_all (function_stays r (as_interface n)) (functions_of_interface i)) _ (interface-passes owners r v.rules.owners n i there) in
+      let flat = interface-passes depths r v.rules.depths n i there in
+      let keyed = all-contained (λ e. text_eq (text_of e.0) (text_of e.1.name) && is_member r (as_interface n) e.1) i.functions.entries e (interface-passes function_names r v.rules.function_names n i there) c in
+      ap (λ t. is_function (home_of r n) resources t (signature_of r e.1)) (text-same (text_of e.0) (text_of e.1.name) (first_true (text_eq (text_of e.0) (text_of e.1.name)) _ keyed))
+      ∙ function-shown r v (as_interface n) e.1 resources
+      (all-contained (function_in_range r) (functions_of_interface i) e.1 numbers listed)
+      (all-contained function_labels (functions_of_interface i) e.1 named listed)
+      (all-contained (function_stays r (as_interface n)) (functions_of_interface i) e.1 stay listed)
+      (all-contained (λ f. list_all (is_shallow r) (function_types f)) (functions_of_interface i) e.1 flat listed)
+      (second_true (text_eq (text_of e.0) (text_of e.1.name)) _ keyed)
+      (λ m name q is. resource-home m name is)
+
+  -- ---- names
+
+  type-names : map (λ (t : ShownType). t.name) (types_of r n i) ≡ map text_of (keys i.types)
+  type-names = map-map (λ (t : ShownType). t.name) (shown_type r (home_of r n)) i.types.entries ∙ sym (map-map text_of (λ e. e.0) i.types.entries)
+
+  function-names : map (λ f. f.0) (functions_of r i) ≡ map text_of (keys i.functions)
+  function-names = map-map (λ f. f.0) (λ e. (text_of e.0, function_meaning r e.1)) i.functions.entries ∙ sym (map-map text_of (λ e. e.0) i.functions.entries)
+
+  types-distinct : distinct (map (λ (t : ShownType). t.name) (types_of r n i)) ≡ true
+  types-distinct = ap distinct type-names ∙ distinct-from _ (distinct-texts (keys i.types) (v.distinct_keys.interfaces n i there).0)
+
+  pub functions-distinct : IsDistinct text_eq (map (λ f. f.0) (functions_of r i))
+  functions-distinct = subst (IsDistinct text_eq) (sym function-names) (distinct-texts (keys i.functions) (v.distinct_keys.interfaces n i there).1)
+
+  -- a type and a function don't share a name
+  names-apart : (t : Text) → Contains (map (λ (t : ShownType). t.name) (types_of r n i)) t → list_any (text_eq t) (map (λ f. f.0) (functions_of r i)) ≡ false
+  unfolding labels
+  names-apart t c =
+      let rest = second_true (list_all function_labels (functions_of_interface i)) _ (second_true (is_stability i.stability) _ (second_true (passes (λ name. is_label (text_of name)) i.name) _ (interface-passes labels r v.rules.labels n i there))) in
+      let key = contains-mapped text_of (keys i.types) t (subst (λ (ts : List Text). Contains ts t) type-names c) in
+      let one = no-longer (list_any (λ other. text_eq (text_of key.0) (text_of other)) (keys i.functions))
+      (all-contained (λ name. not (list_any (λ other. text_eq (text_of name) (text_of other)) (keys i.functions))) (keys i.types) key.0 rest key.1) in
+      ap (list_any (text_eq t)) function-names ∙ Rattle.wit_model.proofs.Lists.list_any_mapped (text_eq t) text_of (keys i.functions)
+      ∙ ap (λ u. list_any (λ other. text_eq u (text_of other)) (keys i.functions)) (sym key.2) ∙ one
+
+  -- ---- the view
+
+  module _ (view : View) (shows : ShowsInterface r n view) where
+    pub types-are : view.types ≡ types_of r n i
+    types-are = shows.types ∙ ap (λ o. option_map_or (types_of r n) o []) there
+
+    pub functions-are : IsPermutation (functions_of r i) view.functions
+    functions-are = subst (λ (fs : List (Text × FunctionMeaning)). IsPermutation fs view.functions) (ap (λ o. option_map_or (functions_of r) o []) there) shows.functions
+
+    shown-functions : list_all (λ f. is_function (home_of r n) (resources_of view.types) f.0 f.1.signature) view.functions ≡ true
+    shown-functions = all-from (λ f. is_function (home_of r n) (resources_of view.types) f.0 f.1.signature) view.functions (λ f c.
+        let from = contains-mapped (λ e. (text_of e.0, function_meaning r e.1)) i.functions.entries f (Contains-permutation view.functions (functions_of r i) f (IsPermutation-sym (functions_of r i) view.functions functions-are) c) in
+        ap (λ (ts : List ShownType). is_function (home_of r n) (resources_of ts) f.0 f.1.signature) types-are
+        ∙ ap (λ (g : Text × FunctionMeaning). is_function (home_of r n) resources g.0 g.1.signature) (sym from.2) ∙ function-test from.0 from.1)
+
+    shown-names : distinct (map (λ t. t.name) view.types ++ map (λ f. f.0) view.functions) ≡ true
+    shown-names =
+        let order = IsPermutation-map (λ f. f.0) (functions_of r i) view.functions functions-are in
+        ap (λ (ts : List ShownType). distinct (map (λ t. t.name) ts ++ map (λ f. f.0) view.functions)) types-are
+        ∙ distinct-both (map (λ (t : ShownType). t.name) (types_of r n i)) (map (λ f. f.0) view.functions) types-distinct
+        (distinct-from _ (Rattle.std.proofs.lemmas.Map.Keys.IsDistinct-IsPermutation text_eq nat_list_eq_equiv.symm (map (λ f. f.0) (functions_of r i)) (map (λ f. f.0) view.functions) order functions-distinct))
+        (λ t c. sym (list_any-IsPermutation (text_eq t) (map (λ f. f.0) (functions_of r i)) (map (λ f. f.0) view.functions) order) ∙ names-apart t c)
+
+    shown-obeys : is_interface (home_of r n) view ≡ true
+    shown-obeys = both _ _ (both _ _ (ap (list_all (λ t. is_label t.name && is_declared (home_of r n) t.meaning.declaration)) types-are ∙ types-pass) shown-functions) shown-names
+
+    -- its functions, in any order, are the interface's
+    pub functions-mean : (functions : List (Text × FunctionMeaning)) → IsPermutation (functions_of r i) functions → interface_meaning view functions ≡ interface_meaning_at r n
+    functions-mean functions p =
+        let types : map (λ t. (t.name, t.meaning)) view.types ≡ map (λ e. (text_of e.0, type_meaning_at r e.1.0)) i.types.entries =
+        ap (map (λ t. (t.name, t.meaning))) types-are ∙ map-map (λ (t : ShownType). (t.name, t.meaning)) (shown_type r (home_of r n)) i.types.entries in
+        let same : from_entries functions ≡ from_entries (functions_of r i) = same-map (functions_of r i) functions p functions-distinct in
+        (λ j. record { types = types j; functions = same j }) ∙ sym (ap (λ o. option_map_or (meant.interface_meaning r) o no_interface) there)
+
+    shown-means : interface_meaning view view.functions ≡ interface_meaning_at r n
+    shown-means = functions-mean view.functions functions-are
+
+-- ---- the laws
+
+-- an interface out of range is shown as nothing
+module _ (r : Resolve) (n : ℕ) (none : interface_at r n ≡ None) (view : View) (shows : ShowsInterface r n view) where
+  no-types : view.types ≡ []
+  no-types = shows.types ∙ ap (λ o. option_map_or (types_of r n) o []) none
+
+  no-functions : view.functions ≡ []
+  no-functions = empty (subst (λ (fs : List (Text × FunctionMeaning)). IsPermutation fs view.functions) (ap (λ o. option_map_or (functions_of r) o []) none) shows.functions)
+    where
+      empty : {A : Type 0} {xs : List A} → IsPermutation [] xs → xs ≡ []
+      empty {xs = []} p = refl
+      empty {xs = x ∷ xs} p = absurd (let c = Contains-permutation (x ∷ xs) [] x (IsPermutation-sym [] (x ∷ xs) p) (0, omega arith, refl) in let l = c.1 in omega (arith, l))
+
+pub interface-obeys : (r : Resolve) → IsValid r → (n : ℕ) (view : View) → ShowsInterface r n view → is_interface (home_of r n) view ≡ true
+interface-obeys r v n view shows = go (interface_at r n) refl
+  where
+    go : (o : Option Interface) → interface_at r n ≡ o → is_interface (home_of r n) view ≡ true
+    go (Some i) e = shown-obeys r v n i e view shows
+    go None e = λ j. is_interface (home_of r n) (record { types = no-types r n e view shows j; functions = no-functions r n e view shows j })
+
+pub interface-means : (r : Resolve) → IsValid r → (n : ℕ) (view : View) → ShowsInterface r n view → interface_meaning view view.functions ≡ interface_meaning_at r n
+interface-means r v n view shows = go (interface_at r n) refl
+  where
+    go : (o : Option Interface) → interface_at r n ≡ o → interface_meaning view view.functions ≡ interface_meaning_at r n
+    go (Some i) e = shown-means r v n i e view shows
+    go None e = (λ j. interface_meaning (record { types = no-types r n e view shows j; functions = no-functions r n e view shows j }) (no-functions r n e view shows j))
+        ∙ sym (ap (λ o. option_map_or (meant.interface_meaning r) o no_interface) e)
+
+-- ---- types alone
+
+module _ (r : Resolve) (n : ℕ) (view : View) (shows : ShowsTypes r n view) where
+  alone-types : (o : Option Interface) → interface_at r n ≡ o → view.types ≡ option_map_or (types_of r n) o []
+  alone-types o e = shows.types ∙ ap (λ o. option_map_or (types_of r n) o []) e
+
+  abbrev view_of : Option Interface → View
+  view_of o = record { types = option_map_or (types_of r n) o []; functions = [] }
+
+  alone-view : (o : Option Interface) → interface_at r n ≡ o → view ≡ view_of o
+  alone-view o e = λ j. record { types = alone-types o e j; functions = shows.functions j }
+
+  pub types-obey : IsValid r → is_interface (home_of r n) view ≡ true
+  types-obey v = go (interface_at r n) refl
+    where
+      go : (o : Option Interface) → interface_at r n ≡ o → is_interface (home_of r n) view ≡ true
+      go None e = ap (is_interface (home_of r n)) (alone-view None e)
+      go (Some i) e = ap (is_interface (home_of r n)) (alone-view (Some i) e)
+          ∙ both _ _ (both (list_all (λ t. is_label t.name && is_declared (home_of r n) t.meaning.declaration) (types_of r n i)) true (types-pass r v n i e) refl)
+          (ap distinct (append-nil (map (λ (t : ShownType). t.name) (types_of r n i))) ∙ types-distinct r v n i e)
+
+  pub types-mean : interface_meaning view view.functions ≡ meant.types_alone (interface_meaning_at r n)
+  types-mean = go (interface_at r n) refl
+    where
+      alone : Option Interface → InterfaceMeaning
+      alone o = meant.types_alone (option_map_or (meant.interface_meaning r) o no_interface)
+
+      go : (o : Option Interface) → interface_at r n ≡ o → interface_meaning view view.functions ≡ meant.types_alone (interface_meaning_at r n)
+      go None e = ap (λ (w : View). interface_meaning w w.functions) (alone-view None e) ∙ sym (ap alone e)
+      go (Some i) e = ap (λ (w : View). interface_meaning w w.functions) (alone-view (Some i) e)
+          ∙ (λ j. record { types = map-map (λ (t : ShownType). (t.name, t.meaning)) (shown_type r (home_of r n)) i.types.entries j; functions = from_entries [] }) ∙ sym (ap alone e)

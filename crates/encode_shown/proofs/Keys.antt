@@ -1,0 +1,147 @@
+-- The keys of the imports, and of the exports, of a world are texts of which none stands twice.
+use Rattle.std.proofs.Common.{◌≡◌, ◌⊎◌, inl, inr, refl, sym, ap, ◌∙◌, ℕ, Bool, true, false, not, ◌&&◌, ◌||◌, ◌==◌, cond, List, [], ◌∷◌, ◌++◌, map, drop, Option, Some, None, String, unwrap_or, arith}
+use Rattle.std.specs.declared.alloc.Global.{Global}
+use Rattle.std.specs.Prelude.{is_some, is_none}
+use Rattle.std.specs.Char.{is_ascii_alphabetic}
+use Rattle.std.specs.List.{Contains, AllByRecursion, IsDistinct, list_all}
+use Rattle.std.specs.Option.{option_map_or}
+use Rattle.std.proofs.lemmas.Cmp.{nat_list_eq_equiv}
+use Rattle.wit_model.specs.Text.{Text, text_of, text_eq}
+use Rattle.wit_model.specs.Names.{is_label, begins_with_letter, constructor_name, method_name, static_name}
+use Rattle.wit_model.specs.Lookup.{interface_path, key_text, resource_of}
+use Rattle.wit_model.specs.Rules.{passes, after_prefix, is_name_key, is_freestanding, is_member, is_member_of, is_member_name, resource_name}
+use Rattle.wit_model.specs.Valid.{IsValid, key_eq, as_world}
+use Rattle.wit_model.specs.declared.model.Resolve.{Resolve}
+use Rattle.wit_model.specs.declared.model.WorldKey.{WorldKey}
+use Rattle.wit_model.specs.declared.model.WorldKey.TheVariants as key
+use Rattle.wit_model.specs.declared.model.WorldItem.{WorldItem}
+use Rattle.wit_model.specs.declared.model.WorldItem.TheVariants as item
+use Rattle.wit_model.specs.declared.model.Function.{Function}
+use Rattle.wit_model.specs.declared.model.FunctionKind.{FunctionKind}
+use Rattle.wit_model.specs.declared.model.FunctionKind.TheVariants as call
+use Rattle.wit_model.proofs.Lists.{first_true, second_true}
+use Rattle.wit_model.proofs.NameLaws.{label_lacks, identity_namespace}
+use Rattle.wit_model.proofs.AnyOrder.{text-same}
+use Rattle.wit_model.proofs.Elements.{contains-later, same-number, equal}
+use Rattle.wit_model.proofs.OnePath.{has-path, package-name, path-once, some-of}
+use Rattle.encode_shown.proofs.Entries.{IsEntry, interface-key-path}
+
+-- a key is a path, or a label, or the name of a function of a resource
+abbrev pub IsKey : Resolve → WorldKey → Type 0
+IsKey r (key.Interface id) = is_some (interface_path r id.0) ≡ true
+IsKey r (key.Name name) = (is_label (text_of name) ≡ true) ⊎ (begins_with_letter (text_of name) ≡ false)
+
+-- ---- first bytes
+
+front-letter : (xs ys : Text) → begins_with_letter xs ≡ true → begins_with_letter (xs ++ ys) ≡ true
+front-letter [] ys h = let wrong : ⊥ = cc in absurd wrong
+front-letter (x ∷ xs) ys h = h
+
+prefix-first : (p : ℕ) (ps bs : Text) → is_ascii_alphabetic p ≡ false → option_map_or is_label (after_prefix (p ∷ ps) bs) false ≡ true → begins_with_letter bs ≡ false
+prefix-first p ps [] e h = refl
+prefix-first p ps (b ∷ bs) e h = go (p == b) refl h
+  where
+    go : (c : Bool) → (p == b) ≡ c → option_map_or is_label (cond c (after_prefix ps bs) None) false ≡ true → is_ascii_alphabetic b ≡ false
+    go true q h = ap is_ascii_alphabetic (sym (equal p b q)) ∙ e
+    go false q h = let wrong : ⊥ = cc in absurd wrong
+
+colon-there : (xs ys : Text) → list_all (λ b. not (b == 58)) (xs ++ (58 ∷ ys)) ≡ false
+colon-there [] ys = refl
+colon-there (x ∷ xs) ys = go (not (x == 58)) (colon-there xs ys)
+  where
+    go : (b : Bool) {c : Bool} → c ≡ false → (b && c) ≡ false
+    go true e = e
+    go false e = refl
+
+-- the name of a function of a resource is no label
+member-first : (r : Resolve) (m : ℕ) (name : Text) (f : Function) (k : FunctionKind) → is_some (resource_of k) ≡ true → is_member_of r m name f k ≡ true → begins_with_letter (text_of f.name) ≡ false
+member-first r m name f call.Freestanding s h = let wrong : ⊥ = cc in absurd wrong
+member-first r m name f call.AsyncFreestanding s h = let wrong : ⊥ = cc in absurd wrong
+member-first r m name f (call.Method id) s h = prefix-first 91 (drop 1 (method_name name [])) (text_of f.name) refl (first_true (is_member_name (method_name name []) f) _ h)
+member-first r m name f (call.AsyncMethod id) s h = prefix-first 91 (drop 1 (method_name name [])) (text_of f.name) refl (first_true (is_member_name (method_name name []) f) _ h)
+member-first r m name f (call.Static id) s h = prefix-first 91 (drop 1 (static_name name [])) (text_of f.name) refl h
+member-first r m name f (call.AsyncStatic id) s h = prefix-first 91 (drop 1 (static_name name [])) (text_of f.name) refl h
+member-first r m name f (call.Constructor id) s h = ap begins_with_letter (text-same (text_of f.name) (constructor_name name) (first_true (text_eq (text_of f.name) (constructor_name name)) _ h))
+
+-- a key that is a name is this one
+pub named-key : (k : WorldKey) (t : Text) → is_name_key t k ≡ true → (name : String Global) × (k ≡ key.Name name) × (text_of name ≡ t)
+named-key (key.Name name) t h = (name, refl, text-same (text_of name) t h)
+named-key (key.Interface id) t h = let wrong : ⊥ = cc in absurd wrong
+
+module _ (r : Resolve) (v : IsValid r) (n : ℕ) where
+  member-key : (name : String Global) (f : Function) → is_freestanding f.kind ≡ false → text_of name ≡ text_of f.name → is_member r (as_world n) f ≡ true → begins_with_letter (text_of name) ≡ false
+  member-key name f free same h = go (resource_of f.kind) refl h
+    where
+      of-name : (m : ℕ) → resource_of f.kind ≡ Some m → (o : Option Text) → option_map_or (λ t. is_member_of r m t f f.kind) o false ≡ true → begins_with_letter (text_of name) ≡ false
+      of-name m e None h = let wrong : ⊥ = cc in absurd wrong
+      of-name m e (Some t) h = ap begins_with_letter same ∙ member-first r m t f f.kind (ap is_some e) h
+
+      go : (o : Option ℕ) → resource_of f.kind ≡ o → passes (λ m. option_map_or (λ t. is_member_of r m t f f.kind) (resource_name r (as_world n) m) false) o ≡ true → begins_with_letter (text_of name) ≡ false
+      go None e h = let wrong : true ≡ false = sym (ap is_none e) ∙ free in let z : ⊥ = cc in absurd z
+      go (Some m) e h = of-name m e (resource_name r (as_world n) m) h
+
+  -- the key of an import or an export is one
+  pub entry-key : (k : WorldKey) (i : WorldItem) → IsEntry r n (k, i) → IsKey r k
+  entry-key (key.Interface id) i is = interface-key-path r v n (key.Interface id, i) is id.0 is.keyed is.key_range
+  entry-key (key.Name name) (item.Interface id stability docs external_id) is = inl is.key_labelled
+  entry-key (key.Name name) (item.Type_ id) is = inl is.key_labelled
+  entry-key (key.Name name) (item.Function f) is = go (is_freestanding f.kind) refl is.key_labelled
+    where
+      go : (b : Bool) → is_freestanding f.kind ≡ b → (not b || is_label (text_of name)) ≡ true → IsKey r (key.Name name)
+      go true e h = inl h
+      go false e h = inr (member-key name f e (text-same (text_of name) (text_of f.name) (first_true (text_eq (text_of name) (text_of f.name)) _ is.named_)) (second_true (text_eq (text_of name) (text_of f.name)) _ is.named_))
+
+  -- ---- texts
+
+  not-same : (f : Text → Bool) (t u : Text) → f t ≡ true → f u ≡ false → text_eq t u ≡ false
+  not-same f t u h g = go (text_eq t u) refl
+    where
+      go : (b : Bool) → text_eq t u ≡ b → b ≡ false
+      go true e = let wrong : true ≡ false = sym h ∙ ap f (text-same t u e) ∙ g in let z : ⊥ = cc in absurd z
+      go false e = refl
+
+  path-letter : (m : ℕ) (path : Text) → interface_path r m ≡ Some path → begins_with_letter path ≡ true
+  path-letter m path e =
+      let h = has-path r m path e in
+      let p = package-name r v h.home.0 h.package_ h.stands in
+      ap begins_with_letter h.spelled ∙ front-letter (text_of h.package_.name.namespace) _ (first_true _ _ (identity_namespace (Rattle.wit_model.specs.Lookup.identity_of h.package_.name) p.identity))
+
+  path-colon : (m : ℕ) (path : Text) → interface_path r m ≡ Some path → list_all (λ b. not (b == 58)) path ≡ false
+  path-colon m path e = let h = has-path r m path e in ap (list_all (λ b. not (b == 58))) h.spelled ∙ colon-there (text_of h.package_.name.namespace) _
+
+  name-apart : (name : String Global) (m : ℕ) (path : Text) → IsKey r (key.Name name) → interface_path r m ≡ Some path → text_eq (text_of name) path ≡ false
+  name-apart name m path (inl h) e = not-same (list_all (λ b. not (b == 58))) (text_of name) path (label_lacks 58 refl (text_of name) h) (path-colon m path e)
+  name-apart name m path (inr h) e = nat_list_eq_equiv.symm (text_of name) path ∙ not-same begins_with_letter path (text_of name) (path-letter m path e) h
+
+  -- a label is no path
+  pub label-apart : (t : Text) (m : ℕ) (path : Text) → is_label t ≡ true → interface_path r m ≡ Some path → text_eq t path ≡ false
+  label-apart t m path h e = not-same (list_all (λ b. not (b == 58))) t path (label_lacks 58 refl t h) (path-colon m path e)
+
+  keys-apart : (a b : WorldKey) → IsKey r a → IsKey r b → key_eq a b ≡ false → text_eq (key_text r a) (key_text r b) ≡ false
+  keys-apart (key.Name a) (key.Name b) h g e = e
+  keys-apart (key.Name a) (key.Interface b) h g e =
+      let path = some-of (interface_path r b.0) g in
+      ap (λ o. text_eq (text_of a) (unwrap_or o [])) path.1 ∙ name-apart a b.0 path.0 h path.1
+  keys-apart (key.Interface a) (key.Name b) h g e =
+      let path = some-of (interface_path r a.0) h in
+      ap (λ o. text_eq (unwrap_or o []) (text_of b)) path.1 ∙ nat_list_eq_equiv.symm path.0 (text_of b) ∙ name-apart b a.0 path.0 g path.1
+  keys-apart (key.Interface a) (key.Interface b) h g e =
+      let p = some-of (interface_path r a.0) h in
+      let q = some-of (interface_path r b.0) g in
+      (λ j. text_eq (unwrap_or (p.1 j) []) (unwrap_or (q.1 j) [])) ∙ go p.0 q.0 p.1 q.1 (text_eq p.0 q.0) refl
+    where
+      go : (x y : Text) → interface_path r a.0 ≡ Some x → interface_path r b.0 ≡ Some y → (c : Bool) → text_eq x y ≡ c → c ≡ false
+      go x y s t true q =
+          let same : a.0 ≡ b.0 = path-once r v a.0 b.0 x s (t ∙ ap Some (sym (text-same x y q))) in
+          let wrong : true ≡ false = sym (same-number a.0) ∙ ap (λ k. a.0 == k) same ∙ e in
+          let z : ⊥ = cc in absurd z
+      go x y s t false q = refl
+
+  all-apart : (k : WorldKey) (ks : List WorldKey) → IsKey r k → ((l : WorldKey) → Contains ks l → IsKey r l) → AllByRecursion (λ l. key_eq k l ≡ false) ks → AllByRecursion (λ y. text_eq (key_text r k) y ≡ false) (map (key_text r) ks)
+  all-apart k [] h g a = tt
+  all-apart k (l ∷ ks) h g a = (keys-apart k l h (g l (0, omega arith, refl)) a.0, all-apart k ks h (λ m c. g m (contains-later l ks m c)) a.1)
+
+  pub keys-distinct : (ks : List WorldKey) → ((k : WorldKey) → Contains ks k → IsKey r k) → IsDistinct key_eq ks → IsDistinct text_eq (map (key_text r) ks)
+  unfolding IsDistinct
+  keys-distinct [] h d = tt
+  keys-distinct (k ∷ ks) h d = (all-apart k ks (h k (0, omega arith, refl)) (λ l c. h l (contains-later k ks l c)) d.0, keys-distinct ks (λ l c. h l (contains-later k ks l c)) d.1)

@@ -1,0 +1,122 @@
+-- The types of an interface's list: each is a named type of the interface, under its name, and they are all of those.
+use Rattle.std.proofs.Common.{◌≡◌, refl, sym, ap, ◌∙◌, ℕ, Bool, true, false, ◌&&◌, ◌==◌, cond, nat_lt, List, [], ◌∷◌, count_by, slice_get, Some, String, string_bytes, option_map, arith}
+use Rattle.std.specs.declared.alloc.Global.{Global}
+use Rattle.std.specs.Prelude.{is_some}
+use Rattle.std.specs.List.{Contains, list_all}
+use Rattle.std.specs.Option.{option_map_or}
+use Rattle.std.specs.Map.{lookup}
+use Rattle.std.specs.Str.{bytes_eq}
+use Rattle.std.specs.HashMap.{get_by_text}
+use Rattle.indexmap.specs.IndexMap.{values}
+use Rattle.wit_model.specs.Text.{Text, text_of}
+use Rattle.wit_model.specs.Lookup.{type_at, interface_at}
+use Rattle.wit_model.specs.Parts.{kind_numbers, same_owner}
+use Rattle.wit_model.specs.Meant.{type_meaning, type_meaning_at, no_type}
+use Rattle.wit_model.specs.Rules.{passes, in_list, is_id, is_listed, is_listed_in_interface, is_named_of, interface_type_numbers, are_in_order, package_number}
+use Rattle.wit_model.specs.Valid.{IsValid, as_interface, is_place, labels, numbers_in_range, order_of_types}
+use Rattle.wit_model.specs.Names.{is_label}
+use Rattle.wit_model.specs.declared.model.Resolve.{Resolve}
+use Rattle.wit_model.specs.declared.model.Interface.{Interface}
+use Rattle.wit_model.specs.declared.model.TypeDef.{TypeDef}
+use Rattle.wit_model.specs.declared.model.TypeId.{TypeId}
+use Rattle.wit_model.specs.declared.model.TypeOwner.{TypeOwner}
+use Rattle.wit_model.specs.declared.model.TypeOwner.TheVariants as owner
+use Rattle.wit_model.proofs.Lists.{first_true, second_true}
+use Rattle.wit_model.proofs.Listed.{misfit}
+use Rattle.wit_model.proofs.Listings.{given_all, given_found}
+use Rattle.wit_model.proofs.AnyOrder.{text-same}
+use Rattle.wit_model.proofs.Elements.{contains-later, all-contained, contains-get, contains-map, equal, same-number}
+use Rattle.wit_model.proofs.OnePath.{found-in, some-of, given-test, interface-passes}
+use Rattle.encode_shown.proofs.Basics.{type-passes, same-owner}
+
+-- what a look-up by text finds
+pub found-entry : {V : Type 0} (number : V → ℕ) (es : List (String Global × V)) (n : ℕ) (t : Text) → is_id n (option_map number (lookup (λ k. bytes_eq t (text_of k)) es)) ≡ true
+    → (e : String Global × V) × Contains es e × (number e.1 ≡ n) × (text_of e.0 ≡ t)
+found-entry number [] n t h = let wrong : ⊥ = cc in absurd wrong
+found-entry number (e ∷ es) n t h = go (found-entry number es n t) (bytes_eq t (text_of e.0)) refl h
+  where
+    go : (is_id n (option_map number (lookup (λ k. bytes_eq t (text_of k)) es)) ≡ true → (e : String Global × _) × Contains es e × (number e.1 ≡ n) × (text_of e.0 ≡ t)) → (b : Bool) → bytes_eq t (text_of e.0) ≡ b
+        → is_id n (option_map number (cond b (Some e.1) (lookup (λ k. bytes_eq t (text_of k)) es))) ≡ true → (x : String Global × _) × Contains (e ∷ es) x × (number x.1 ≡ n) × (text_of x.0 ≡ t)
+    go more true q h = (e, (0, omega arith, refl), equal (number e.1) n h, sym (text-same t (text_of e.0) q))
+    go more false q h = let rest = more h in (rest.0, contains-later e es rest.0 rest.1, rest.2, rest.3)
+
+-- the entry of a number in the list of an interface's types
+pub record HasEntry (es : List (String Global × TypeId)) (n : ℕ) (t : Text) : Type 0 where
+  pub entry : String Global × TypeId
+  pub there : Contains es entry
+  pub number : entry.1.0 ≡ n
+  pub text : text_of entry.0 ≡ t
+
+-- a named type of an owner, under its name
+pub record IsNamedType (r : Resolve) (o : TypeOwner) (n : ℕ) (text : Text) : Type 0 where
+  pub def : TypeDef
+  pub there : type_at r n ≡ Some def
+  pub string : String Global
+  pub named_ : def.name ≡ Some string
+  pub owned : def.owner ≡ o
+  pub name : text ≡ text_of string
+
+-- what it means
+pub meaning-there : (r : Resolve) (n : ℕ) (def : TypeDef) → type_at r n ≡ Some def → type_meaning_at r n ≡ type_meaning r def
+meaning-there r n def at = ap (λ o. option_map_or (type_meaning r) o no_type) at
+
+module _ (r : Resolve) (v : IsValid r) where
+  -- a named type stands in its owner's list
+  pub valid-listed : (n : ℕ) (def : TypeDef) (name : String Global) → type_at r n ≡ Some def → def.name ≡ Some name → is_listed r n (text_of name) def.owner ≡ true
+  unfolding order_of_types
+  valid-listed n def name is named =
+      given-test (λ name. is_listed r n (text_of name) def.owner) def.name (same_owner def.owner owner.None) name named
+      (second_true (list_all (λ m. nat_lt m n) (kind_numbers def.kind)) _ (type-passes order_of_types r v.rules.order_of_types n def is))
+
+  -- its name is a label
+  pub name-label : (n : ℕ) (def : TypeDef) (name : String Global) → type_at r n ≡ Some def → def.name ≡ Some name → is_label (text_of name) ≡ true
+  unfolding labels
+  name-label n def name at named = ap (passes (λ name. is_label (text_of name))) (sym named) ∙ first_true (passes (λ name. is_label (text_of name)) def.name) _ (type-passes labels r v.rules.labels n def at)
+
+  module _ (i : ℕ) (interface : Interface) (there : interface_at r i ≡ Some interface) where
+    -- a named type of the interface has an entry
+    pub entry-of : (n : ℕ) (def : TypeDef) (name : String Global) → type_at r n ≡ Some def → def.name ≡ Some name → def.owner ≡ as_interface i → HasEntry interface.types.entries n (text_of name)
+    entry-of n def name at named here =
+        let listed : is_listed r n (text_of name) (as_interface i) ≡ true = ap (is_listed r n (text_of name)) (sym here) ∙ valid-listed n def name at named in
+        let at_home : is_listed_in_interface n (text_of name) interface ≡ true = ap (passes (is_listed_in_interface n (text_of name))) (sym there) ∙ listed in
+        let found = found-entry (λ (id : TypeId). id.0) interface.types.entries n (text_of name) (first_true (is_id n (option_map (λ id. id.0) (get_by_text interface.types (text_of name)))) _ at_home) in
+        record { entry = found.0; there = found.1; number = found.2; text = found.3 }
+
+    all-named : list_all (is_named_of r (as_interface i)) (interface_type_numbers interface) ≡ true
+    unfolding order_of_types
+    all-named = first_true (list_all (is_named_of r (as_interface i)) (interface_type_numbers interface)) (are_in_order r (interface_type_numbers interface))
+        (interface-passes order_of_types r v.rules.order_of_types i interface there)
+
+    inside : list_all (λ (id : TypeId). in_list r.types.items id.0) (values interface.types) ≡ true
+    unfolding numbers_in_range
+    inside = first_true _ _ (second_true (passes (in_list r.packages.items) (package_number interface.package)) _ (second_true (is_place i) _ (interface-passes numbers_in_range r v.rules.numbers_in_range i interface there)))
+
+    -- an entry is a named type of the interface, under its name
+    pub entry-type : (e : String Global × TypeId) → Contains interface.types.entries e → IsNamedType r (as_interface i) e.1.0 (text_of e.0)
+    entry-type e c =
+        let id_there = contains-map (λ x. x.1) interface.types.entries e c in
+        let found = found-in r.types.items e.1.0 (all-contained (λ (id : TypeId). in_list r.types.items id.0) (values interface.types) e.1 inside id_there) in
+        let named = all-contained (is_named_of r (as_interface i)) (interface_type_numbers interface) e.1.0 all-named (contains-map (λ (id : TypeId). id.0) (values interface.types) e.1 id_there) in
+        let both_tests = ap (passes (λ (def : TypeDef). is_some def.name && same_owner def.owner (as_interface i))) (sym found.1) ∙ named in
+        let name = some-of found.0.name (first_true (is_some found.0.name) _ both_tests) in
+        let own = same-owner found.0.owner (as_interface i) (second_true (is_some found.0.name) _ both_tests) in
+        record { def = found.0; there = found.1; string = name.0; named_ = name.1; owned = own; name = key found.0 name.0 found.1 name.1 own }
+      where
+        key : (def : TypeDef) (name : String Global) → type_at r e.1.0 ≡ Some def → def.name ≡ Some name → def.owner ≡ as_interface i → text_of e.0 ≡ text_of name
+        key def name at named own = go (bytes_eq (text_of name) (string_bytes e.0)) refl
+          where
+            place : (k : ℕ) × (slice_get interface.types.entries k ≡ Some e)
+            place = contains-get interface.types.entries e c
+
+            listed : is_listed_in_interface e.1.0 (text_of name) interface ≡ true
+            listed = ap (passes (is_listed_in_interface e.1.0 (text_of name))) (sym there) ∙ ap (is_listed r e.1.0 (text_of name)) (sym own) ∙ valid-listed e.1.0 def name at named
+
+            go : (b : Bool) → bytes_eq (text_of name) (string_bytes e.0) ≡ b → text_of e.0 ≡ text_of name
+            go true q = sym (text-same (text_of name) (text_of e.0) q)
+            go false q =
+                let fails =
+                (λ j. option_map_or (λ m. m == e.1.0) (sym (given_found (get_by_text interface.types (text_of name))) j) false &&
+                (count_by (λ m. m == e.1.0) (sym (given_all (values interface.types)) j) == 1))
+                ∙ misfit (λ key. bytes_eq (text_of name) (string_bytes key)) (λ (id : TypeId). Some id.0) e.1.0 interface.types.entries place.0 e place.1 (same-number e.1.0) q in
+                let wrong : true ≡ false = sym listed ∙ fails in
+                let bad : ⊥ = cc in absurd bad

@@ -1,0 +1,219 @@
+-- The sections of a component that exports the component types of a package, or of one world, mean it.
+use Rattle.std.proofs.Common.{◌≡◌, ◌↔◌, ◌⊎◌, inl, inr, map, option_map, refl, sym, subst, ap, ◌∙◌, ℕ, Bool, true, false, List, [], ◌∷◌, ◌++◌, Option, Some, None, String, arith}
+use Rattle.std.specs.declared.alloc.Global.{Global}
+use Rattle.std.specs.Prelude.{option_and_then}
+use Rattle.std.specs.List.{AllZip, Contains}
+use Rattle.std.specs.List.{list_all}
+use Rattle.std.proofs.lemmas.Simd.{map-map}
+use Rattle.std.proofs.lemmas.List.{map-append}
+use Rattle.std.proofs.lemmas.List.Elements.{Contains-append_cases}
+use Rattle.indexmap.specs.IndexMap.{keys}
+use Rattle.wit_model.specs.Text.{Text, text_of, text_eq}
+use Rattle.wit_model.specs.Names.{PackageIdentity, is_label}
+use Rattle.wit_model.specs.Lookup.{package_at, world_at, identity_of}
+use Rattle.wit_model.specs.Meant as meant
+use Rattle.wit_model.specs.Meant.{Meant, MeantWorld, package_of_world}
+use Rattle.wit_model.specs.Meaning.{PackageMeaning, WorldPackage}
+use Rattle.wit_model.specs.Rules.{is_world_name}
+use Rattle.wit_model.proofs.Lists.{list_any_mapped}
+use Rattle.wit_model.proofs.AnyOrder.{distinct-texts}
+use Rattle.wit_model.specs.Valid.{IsValid}
+use Rattle.wit_model.specs.declared.model.Resolve.{Resolve}
+use Rattle.wit_model.specs.declared.model.Package.{Package}
+use Rattle.wit_model.specs.declared.model.PackageId.{PackageId}
+use Rattle.wit_model.specs.declared.model.InterfaceId.{InterfaceId}
+use Rattle.wit_model.specs.declared.model.WorldId.{WorldId}
+use Rattle.wit_model.specs.declared.model.World.{World}
+use Rattle.wit_model.proofs.Elements.{contains-later, same-some}
+use Rattle.comp_bytes.specs.Raw.{Declarations, Section}
+use Rattle.comp_bytes.specs.Spelling.{IsComponent}
+use Rattle.comp_bytes.specs.Reading.{◌>>=◌}
+use Rattle.comp_meaning.specs.Follow.{Scope, each, is_filled, component_scope}
+use Rattle.comp_meaning.specs.Reads.{Member, Part, part_of, member, interface_part, exported_types, package_of_members, world_of_members, Reads, ReadsWorld}
+use Rattle.comp_meaning.specs.Rules.{distinct}
+use Rattle.comp_meaning.proofs.MeaningLaws.{one_meaning, one_world}
+use Rattle.comp_meaning.specs.Reads as reads
+use Rattle.encode_shown.specs.Views.{ShowsInterfaceMember, ShowsWorldMember, ShowsPackage}
+use Rattle.encode_shown.specs.PackageTypes.{IsInterfaceType, IsWorldType, IsListedWorldType, ArePackageTypes}
+use Rattle.encode_shown.proofs.Dependencies.{own-label, interface-part-read, world-read}
+use Rattle.encode_shown.proofs.Apart.{distinct-from, distinct-both}
+use Rattle.encode_shown.proofs.Basics.{all-from}
+use Rattle.encode_shown.proofs.Interfaces.{contains-mapped}
+use Rattle.encode_shown.proofs.Zips.{zip-left, zip-same}
+use Rattle.encode_shown.proofs.Owning.{own-world, no-world-name}
+use Rattle.encode_shown.proofs.Packages.{members-mean}
+use Rattle.encode_shown.proofs.WorldMeans.{world-label, world-package-means}
+
+each-append : {A B : Type 0} (f : A → Option B) (xs ys : List A) (us vs : List B) → each f xs ≡ Some us → each f ys ≡ Some vs → each f (xs ++ ys) ≡ Some (us ++ vs)
+each-append f [] ys us vs e h = h ∙ ap (λ (o : Option (List _)). Some (Rattle.std.proofs.Common.unwrap_or o [] ++ vs)) e
+each-append f (x ∷ xs) ys us vs e h = go (λ ws q. each-append f xs ys ws vs q h) (f x) (each f xs) refl e
+  where
+    go : ((ws : List _) → each f xs ≡ Some ws → each f (xs ++ ys) ≡ Some (ws ++ vs)) → (o : Option _) (p : Option (List _)) → each f xs ≡ p → (o >>= λ y. p >>= λ ys. Some (y ∷ ys)) ≡ Some us → (o >>= λ y. each f (xs ++ ys) >>= λ ys. Some (y ∷ ys)) ≡ Some (us ++ vs)
+    go more None p q e = let wrong : ⊥ = cc in absurd wrong
+    go more (Some y) None q e = let wrong : ⊥ = cc in absurd wrong
+    go more (Some y) (Some ws) q e = ap (λ (o : Option (List _)). o >>= λ ys. Some (y ∷ ys)) (more ws q) ∙ ap (λ (o : Option (List _)). Some (Rattle.std.proofs.Common.unwrap_or o [] ++ vs)) e
+
+-- a component type that is followed is no wrapper
+part-of-interface : (label : Text) (ds : Declarations) (scope : Scope) → component_scope ds ≡ Some scope → part_of label ds ≡ interface_part label ds
+part-of-interface label Declarations.no_more scope e = refl
+part-of-interface label (Declarations.declares d rest) scope e = refl
+part-of-interface label (Declarations.instance inner rest) scope e = refl
+part-of-interface label (Declarations.component inner rest) scope e = let wrong : ⊥ = cc in absurd wrong
+
+abbrev as_member : Text → Option (PackageIdentity × Part) → Option Member
+as_member label o = o >>= λ p. Some (record { label = label; package_ = p.0; part = p.1 })
+
+-- the members that component types are read as
+record AreRead {E : Type 0} (R : E → Member → Type 0) (es : List E) (xs : List (Text × Declarations)) : Type 0 where
+  pub members : List Member
+  pub read : each member xs ≡ Some members
+  pub shown : AllZip R es members
+
+one-read : {E : Type 0} (R : E → Member → Type 0) (e : E) (es : List E) (x : Text × Declarations) (xs : List (Text × Declarations)) (m : Member) → member x ≡ Some m → R e m → AreRead R es xs → AreRead R (e ∷ es) (x ∷ xs)
+one-read R e es x xs m h shown rest = record {
+  members = m ∷ rest.members;
+  read = ap (λ (o : Option Member). o >>= λ y. each member xs >>= λ ys. Some (y ∷ ys)) h ∙ ap (λ (o : Option (List Member)). o >>= λ ys. Some (m ∷ ys)) rest.read;
+  shown = (shown, rest.shown);
+}
+
+module _ (r : Resolve) (v : IsValid r) (n : ℕ) (p : Package) (at : package_at r n ≡ Some p) where
+  abbrev named : PackageIdentity
+  named = identity_of p.name
+
+  interface-read : (e : String Global × InterfaceId) (x : Text × Declarations) → Contains p.interfaces.entries e → (is : IsInterfaceType r p e x) → member x ≡ Some (record { label = text_of e.0; package_ = named; part = Part.interface is.exported is.imports })
+  interface-read e x c is =
+      ap (as_member x.0) (part-of-interface x.0 x.1 is.scope is.follows) ∙ ap (λ t. as_member t (interface_part t x.1)) is.label
+      ∙ ap (as_member (text_of e.0)) (interface-part-read r v n p at e c x.1 is.scope is.imports is.exported is.follows is.shows)
+
+  -- the wrapper of a world is read as a member
+  pub wrapper-read : (m : ℕ) (label : Text) (x : Text × Declarations) (is : IsWorldType r p m label x) → text_of is.world.name ≡ label → member x ≡ Some (record { label = label; package_ = named; part = Part.world is.scope })
+  wrapper-read m label x is name = ap member is.is ∙ ap (as_member label) (world-read r v n p at m is.world is.there label name is.inner is.scope is.follows is.shows)
+
+  interfaces-read : (es : List (String Global × InterfaceId)) (xs : List (Text × Declarations)) → AllZip (IsInterfaceType r p) es xs → ((e : String Global × InterfaceId) → Contains es e → Contains p.interfaces.entries e) → AreRead (ShowsInterfaceMember r named) es xs
+  interfaces-read [] [] z c = record { members = []; read = refl; shown = tt }
+  interfaces-read [] (x ∷ xs) z c = absurd z
+  interfaces-read (e ∷ es) [] z c = absurd z
+  interfaces-read (e ∷ es) (x ∷ xs) z c =
+      one-read (ShowsInterfaceMember r named) e es x xs (record { label = text_of e.0; package_ = named; part = Part.interface z.0.exported z.0.imports }) (interface-read e x (c e (0, omega arith, refl)) z.0)
+      (record { imports = z.0.imports; exported = z.0.exported; reached = z.0.shows.reached; is = refl })
+      (interfaces-read es xs z.1 (λ y d. c y (contains-later e es y d)))
+
+  worlds-read : (es : List (String Global × WorldId)) (xs : List (Text × Declarations)) → AllZip (IsListedWorldType r p) es xs → ((e : String Global × WorldId) → Contains es e → Contains p.worlds.entries e) → AreRead (ShowsWorldMember r named) es xs
+  worlds-read [] [] z c = record { members = []; read = refl; shown = tt }
+  worlds-read [] (x ∷ xs) z c = absurd z
+  worlds-read (e ∷ es) [] z c = absurd z
+  worlds-read (e ∷ es) (x ∷ xs) z c =
+      one-read (ShowsWorldMember r named) e es x xs (record { label = text_of e.0; package_ = named; part = Part.world z.0.scope })
+      (wrapper-read e.1.0 (text_of e.0) x z.0 (own-world r v n p at e (c e (0, omega arith, refl)) z.0.world z.0.there).0)
+      (record { world = z.0.world; there = z.0.there; scope = z.0.scope; shows = z.0.shows; is = refl })
+      (worlds-read es xs z.1 (λ y d. c y (contains-later e es y d)))
+
+  filled-read : (xs : List (Text × Declarations)) (ms : List Member) → each member xs ≡ Some ms → is_filled xs ≡ true → is_filled ms ≡ true
+  filled-read [] ms e h = let wrong : ⊥ = cc in absurd wrong
+  filled-read (x ∷ xs) ms e h = go (member x) (each member xs) e
+    where
+      go : (o : Option Member) (q : Option (List Member)) → (o >>= λ y. q >>= λ ys. Some (y ∷ ys)) ≡ Some ms → is_filled ms ≡ true
+      go None q e = let wrong : ⊥ = cc in absurd wrong
+      go (Some y) None e = let wrong : ⊥ = cc in absurd wrong
+      go (Some y) (Some ys) e = ap (λ (o : Option (List Member)). is_filled (Rattle.std.proofs.Common.unwrap_or o (y ∷ ys))) (sym e)
+
+  pub sections-mean : (xs : List (Text × Declarations)) (sections : List Section) → ArePackageTypes r p xs → is_filled xs ≡ true → exported_types sections ≡ Some xs → reads.package_meaning sections ≡ Some (meant.package_meaning r n p)
+  sections-mean xs sections types some e =
+      let interfaces = interfaces-read p.interfaces.entries types.interface_types types.interfaces (λ e c. c) in
+      let worlds = worlds-read p.worlds.entries types.world_types types.worlds (λ e c. c) in
+      let all : each member xs ≡ Some (interfaces.members ++ worlds.members) =
+      ap (each member) types.are ∙ each-append member types.interface_types types.world_types interfaces.members worlds.members interfaces.read worlds.read in
+      ap (λ (o : Option (List (Text × Declarations))). o >>= λ ts. each member ts >>= λ ms. package_of_members ms) e
+      ∙ ap (λ (o : Option (List Member)). o >>= λ ms. package_of_members ms) all
+      ∙ members-mean r v n p at (interfaces.members ++ worlds.members)
+      (record { interface_members = interfaces.members; world_members = worlds.members; interfaces = interfaces.shown; worlds = worlds.shown; are = refl })
+      (filled-read xs (interfaces.members ++ worlds.members) all some)
+
+-- ---- labels
+
+module _ (r : Resolve) (v : IsValid r) (n : ℕ) (p : Package) (at : package_at r n ≡ Some p) (xs : List (Text × Declarations)) (types : ArePackageTypes r p xs) where
+  interface-names : map (λ x. x.0) types.interface_types ≡ map text_of (keys p.interfaces)
+  interface-names = zip-same (IsInterfaceType r p) (λ e. text_of e.0) (λ (x : Text × Declarations). x.0) (λ e x is. is.label) p.interfaces.entries types.interface_types types.interfaces
+      ∙ sym (map-map text_of (λ e. e.0) p.interfaces.entries)
+
+  world-names : map (λ x. x.0) types.world_types ≡ map text_of (keys p.worlds)
+  world-names = zip-same (IsListedWorldType r p) (λ e. text_of e.0) (λ (x : Text × Declarations). x.0) (λ e x is. ap (λ (y : Text × Declarations). y.0) is.is) p.worlds.entries types.world_types types.worlds
+      ∙ sym (map-map text_of (λ e. e.0) p.worlds.entries)
+
+  names-are : map (λ x. x.0) xs ≡ map text_of (keys p.interfaces) ++ map text_of (keys p.worlds)
+  names-are = ap (map (λ x. x.0)) types.are ∙ map-append (λ (x : Text × Declarations). x.0) types.interface_types types.world_types ∙ (λ j. interface-names j ++ world-names j)
+
+  -- no label stands twice
+  pub labels-apart : distinct (map (λ x. x.0) xs) ≡ true
+  labels-apart = ap distinct names-are ∙ distinct-both (map text_of (keys p.interfaces)) (map text_of (keys p.worlds))
+      (distinct-from _ (distinct-texts (keys p.interfaces) (v.distinct_keys.packages n p at).0)) (distinct-from _ (distinct-texts (keys p.worlds) (v.distinct_keys.packages n p at).1))
+      (λ t c.
+      let key = contains-mapped text_of (keys p.interfaces) t c in
+      let entry = contains-mapped (λ (e : String Global × InterfaceId). e.0) p.interfaces.entries key.0 key.1 in
+      list_any_mapped (text_eq t) text_of (keys p.worlds) ∙ ap (is_world_name p) (sym key.2 ∙ ap text_of (sym entry.2)) ∙ no-world-name r v n p at entry.0 entry.1)
+
+  -- each is a label
+  pub all-labels : list_all (λ x. is_label x.0) xs ≡ true
+  all-labels = all-from (λ x. is_label x.0) xs (λ x c. go x (Contains-append_cases types.interface_types types.world_types x (subst (λ (ys : List (Text × Declarations)). Contains ys x) types.are c)))
+    where
+      go : (x : Text × Declarations) → Contains types.interface_types x ⊎ Contains types.world_types x → is_label x.0 ≡ true
+      go x (inl c) = let e = zip-left (IsInterfaceType r p) p.interfaces.entries types.interface_types x types.interfaces c in ap is_label e.2.label ∙ own-label r v n p at e.0 e.1
+      go x (inr c) =
+          let e = zip-left (IsListedWorldType r p) p.worlds.entries types.world_types x types.worlds c in
+          ap (λ (y : Text × Declarations). is_label y.0) e.2.is ∙ ap is_label (sym (own-world r v n p at e.0 e.1 e.2.world e.2.there).0) ∙ world-label r v e.0.1.0 e.2.world e.2.there e.2.scope e.2.shows
+
+-- ---- one world
+
+pub world-sections-mean : (r : Resolve) → IsValid r → (n : ℕ) (w : World) (p : Package) → world_at r n ≡ Some w → package_of_world r w ≡ Some p → (x : Text × Declarations) (sections : List Section) → IsWorldType r p n (text_of w.name) x
+    → exported_types sections ≡ Some (x ∷ []) → reads.world_package sections ≡ Some (meant.world_package r p w)
+world-sections-mean r v n w p there home x sections is e = go w.package refl home
+  where
+    same : is.world ≡ w
+    same = Rattle.wit_model.proofs.Elements.same-some is.world w (sym is.there ∙ there)
+
+    of-package : (k : ℕ) → package_at r k ≡ Some p → reads.world_package sections ≡ Some (meant.world_package r p w)
+    of-package k at =
+        ap (λ (o : Option (List (Text × Declarations))). o >>= λ ts. each member ts >>= λ ms. world_of_members ms) e
+        ∙ ap (λ (o : Option Member). (o >>= λ y. Some (y ∷ [])) >>= λ ms. world_of_members ms) (wrapper-read r v k p at n (text_of w.name) x is (ap (λ (u : World). text_of u.name) same))
+        ∙ world-package-means r v n w there is.scope (subst (λ (u : World). Rattle.encode_shown.specs.Views.ShowsWorld r u is.scope) same is.shows) p home
+
+    go : (o : Option PackageId) → w.package ≡ o → option_and_then (λ q. package_at r q.0) o ≡ Some p → reads.world_package sections ≡ Some (meant.world_package r p w)
+    go None q h = let wrong : ⊥ = cc in absurd wrong
+    go (Some id) q h = of-package id.0 h
+
+-- ---- bytes
+
+meant-is : (r : Resolve) (n : ℕ) (p : Package) (m : PackageMeaning) → package_at r n ≡ Some p → Meant r n m ↔ (meant.package_meaning r n p ≡ m)
+unfolding Meant
+meant-is r n p m at = (
+  λ h. same-some (meant.package_meaning r n p) m (ap (option_map (meant.package_meaning r n)) (sym at) ∙ h),
+  λ e. ap (option_map (meant.package_meaning r n)) at ∙ ap Some e,
+)
+
+-- The bytes mean what the package means, and nothing else.
+pub bytes-mean : (r : Resolve) → IsValid r → (n : ℕ) (p : Package) → package_at r n ≡ Some p → (xs : List (Text × Declarations)) (sections : List Section) (bytes : List ℕ) → ArePackageTypes r p xs → is_filled xs ≡ true
+    → exported_types sections ≡ Some xs → IsComponent sections bytes → (m : PackageMeaning) → Meant r n m ↔ Reads bytes m
+bytes-mean r v n p at xs sections bytes types some e spelled m =
+    let means = sections-mean r v n p at xs sections types some e in
+    let read : Reads bytes (meant.package_meaning r n p) = record { sections = sections; spelled = spelled; means = means } in (
+      λ h. record { sections = sections; spelled = spelled; means = means ∙ ap Some ((meant-is r n p m at).0 h) },
+      λ other. (meant-is r n p m at).1 (one_meaning bytes (meant.package_meaning r n p) m read other),
+    )
+
+world-meant-is : (r : Resolve) (n : ℕ) (w : World) (p : Package) (m : WorldPackage) → world_at r n ≡ Some w → package_of_world r w ≡ Some p → MeantWorld r n m ↔ (meant.world_package r p w ≡ m)
+unfolding MeantWorld
+world-meant-is r n w p m at home =
+    let is : option_and_then (λ w. option_map (λ p. meant.world_package r p w) (package_of_world r w)) (world_at r n) ≡ Some (meant.world_package r p w) =
+    ap (option_and_then (λ w. option_map (λ p. meant.world_package r p w) (package_of_world r w))) at ∙ ap (option_map (λ p. meant.world_package r p w)) home in (
+      λ h. same-some (meant.world_package r p w) m (sym is ∙ h),
+      λ e. is ∙ ap Some e,
+    )
+
+pub world-bytes-mean : (r : Resolve) → IsValid r → (n : ℕ) (w : World) (p : Package) → world_at r n ≡ Some w → package_of_world r w ≡ Some p → (x : Text × Declarations) (sections : List Section) (bytes : List ℕ) → IsWorldType r p n (text_of w.name) x
+    → exported_types sections ≡ Some (x ∷ []) → IsComponent sections bytes → (m : WorldPackage) → MeantWorld r n m ↔ ReadsWorld bytes m
+world-bytes-mean r v n w p there home x sections bytes is e spelled m =
+    let means = world-sections-mean r v n w p there home x sections is e in
+    let read : ReadsWorld bytes (meant.world_package r p w) = record { sections = sections; spelled = spelled; means = means } in (
+      λ h. record { sections = sections; spelled = spelled; means = means ∙ ap Some ((world-meant-is r n w p m there home).0 h) },
+      λ other. (world-meant-is r n w p m there home).1 (one_world bytes (meant.world_package r p w) m read other),
+    )

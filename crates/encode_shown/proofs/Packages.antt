@@ -1,0 +1,213 @@
+-- The members that show a package of a valid `Resolve` mean the package.
+use Rattle.std.proofs.Common.{◌≡◌, ◌⊎◌, inl, inr, refl, sym, subst, ap, ◌∙◌, ℕ, Bool, true, false, not, ◌&&◌, ◌||◌, List, [], ◌∷◌, ◌++◌, append-nil, map, filter, Option, Some, None, String, unwrap_or, arith}
+use Rattle.std.specs.declared.alloc.Global.{Global}
+use Rattle.std.specs.Prelude.{is_some, flat_map}
+use Rattle.std.specs.Option.{option_map_or}
+use Rattle.std.specs.FinMap.{from_entries}
+use Rattle.std.specs.List.{AllZip, Contains, list_all, list_any}
+use Rattle.std.proofs.lemmas.Grind.{flat_map-append}
+use Rattle.std.proofs.lemmas.List.Folds.{list_any_at}
+use Rattle.std.proofs.lemmas.List.Elements.{Contains-append_cases}
+use Rattle.wit_model.specs.Text.{Text, TextMap, text_of, text_eq}
+use Rattle.wit_model.specs.Names.{PackageIdentity, path_in}
+use Rattle.wit_model.specs.Lookup.{package_at, interface_path, identity_of}
+use Rattle.wit_model.specs.Uses.{reached_by_package, is_shown_in}
+use Rattle.wit_model.specs.Meaning.{InterfaceMeaning, WorldMeaning}
+use Rattle.wit_model.specs.Meant as meant
+use Rattle.wit_model.specs.Meant.{interface_meaning_at, world_meaning_at, foreign_of, foreign_meaning, is_foreign}
+use Rattle.wit_model.specs.Valid.{IsValid}
+use Rattle.wit_model.specs.declared.model.Resolve.{Resolve}
+use Rattle.wit_model.specs.declared.model.Package.{Package}
+use Rattle.wit_model.specs.declared.model.InterfaceId.{InterfaceId}
+use Rattle.wit_model.specs.declared.model.WorldId.{WorldId}
+use Rattle.wit_model.proofs.Elements.{both, contains-map}
+use Rattle.wit_model.proofs.OnePath.{path-once}
+use Rattle.comp_meaning.specs.Follow.{provided, is_filled}
+use Rattle.comp_meaning.specs.Same.{same_identity}
+use Rattle.comp_meaning.specs.Reads.{Sight, Member, sights, is_of, stands_at_top, is_interface_part, seen_meaning, interfaces_of, worlds_of, package_with, package_of_members}
+use Rattle.encode_shown.specs.Views.{ShowsPackage, ShowsInterfaceMember, ShowsWorldMember}
+use Rattle.encode_shown.proofs.Basics.{all-from}
+use Rattle.encode_shown.proofs.Alike.{text-alike, identity-alike}
+use Rattle.encode_shown.proofs.Interfaces.{interface-means, contains-mapped}
+use Rattle.encode_shown.proofs.WorldMeans.{world-means}
+use Rattle.encode_shown.proofs.Owning.{foreign-path, own-listed}
+use Rattle.encode_shown.proofs.Sights.{IsSight, all-sights-agree, all-sights-obey, sight-means}
+use Rattle.encode_shown.proofs.SameEntries.{same-entries}
+use Rattle.encode_shown.proofs.PackageSights.{seen-reached, reached-seen, whole-shown, interface-member}
+use Rattle.encode_shown.proofs.Zips.{zip-all, zip-left, contains-filter, filter-contains}
+
+-- lists, element by element
+zip-flat : {A B C : Type 0} (R : A → B → Type 0) (f : A → C) (g : B → List C) → ((a : A) (b : B) → R a b → g b ≡ f a ∷ []) → (xs : List A) (ys : List B) → AllZip R xs ys → flat_map g ys ≡ map f xs
+zip-flat R f g h [] [] z = refl
+zip-flat R f g h [] (b ∷ ys) z = absurd z
+zip-flat R f g h (a ∷ xs) [] z = absurd z
+zip-flat R f g h (a ∷ xs) (b ∷ ys) z = λ j. h a b z.0 j ++ zip-flat R f g h xs ys z.1 j
+
+zip-empty : {A B C : Type 0} (R : A → B → Type 0) (g : B → List C) → ((a : A) (b : B) → R a b → g b ≡ []) → (xs : List A) (ys : List B) → AllZip R xs ys → flat_map g ys ≡ []
+zip-empty R g h [] [] z = refl
+zip-empty R g h [] (b ∷ ys) z = absurd z
+zip-empty R g h (a ∷ xs) [] z = absurd z
+zip-empty R g h (a ∷ xs) (b ∷ ys) z = λ j. h a b z.0 j ++ zip-empty R g h xs ys z.1 j
+
+module _ (r : Resolve) (v : IsValid r) (n : ℕ) (p : Package) (at : package_at r n ≡ Some p) (members : List Member) (shows : ShowsPackage r p members) where
+  abbrev named : PackageIdentity
+  named = identity_of p.name
+
+  abbrev seen : List Sight
+  seen = flat_map sights members
+
+  -- ---- one package
+
+  one-package : list_all (λ m. same_identity named m.package_) members ≡ true
+  one-package = all-from (λ m. same_identity named m.package_) members (λ m c. go m (Contains-append_cases shows.interface_members shows.world_members m (subst (λ (ms : List Member). Contains ms m) shows.are c)))
+    where
+      go : (m : Member) → Contains shows.interface_members m ⊎ Contains shows.world_members m → same_identity named m.package_ ≡ true
+      go m (inl c) = let e = zip-left (ShowsInterfaceMember r named) p.interfaces.entries shows.interface_members m shows.interfaces c in
+          ap (λ (x : Member). same_identity named x.package_) e.2.is ∙ identity-alike named
+      go m (inr c) = let e = zip-left (ShowsWorldMember r named) p.worlds.entries shows.world_members m shows.worlds c in
+          ap (λ (x : Member). same_identity named x.package_) e.2.is ∙ identity-alike named
+
+  -- ---- sights
+
+  numbered : (ns : List ℕ) × AllZip (IsSight r) ns seen
+  numbered = zip-all (IsSight r) seen (λ s c. let k = seen-reached r v n p at members shows s c in (k.0, k.1.is))
+
+  sight-at-top : (s : Sight) → Contains seen s → stands_at_top named members s ≡ true
+  sight-at-top s c = go (is_of named s.path) refl
+    where
+      go : (b : Bool) → is_of named s.path ≡ b → (not b || list_any (λ m. is_interface_part m.part && text_eq s.path (path_in named m.label)) members) ≡ true
+      go false e = refl
+      go true e =
+          let k = seen-reached r v n p at members shows s c in
+          let own = own-listed r v n p at k.0 s.path k.1.is.has_path e in
+          let found = interface-member r v n p at members shows own.0 own.1 in
+          list_any_at (λ m. is_interface_part m.part && text_eq s.path (path_in named m.label)) members found.1.0 found.0 found.1.1
+          (ap (λ (m : Member). is_interface_part m.part && text_eq s.path (path_in named m.label)) (found.1.2 ∙ found.2.is) ∙ (ap (text_eq s.path) (sym own.3) ∙ text-alike s.path))
+
+  -- ---- interfaces and worlds
+
+  abbrev interface_named : String Global × InterfaceId → Text × InterfaceMeaning
+  interface_named e = (text_of e.0, interface_meaning_at r e.1.0)
+
+  abbrev world_named : String Global × WorldId → Text × WorldMeaning
+  world_named e = (text_of e.0, world_meaning_at r e.1.0)
+
+  interface-meant : (e : String Global × InterfaceId) (m : Member) → ShowsInterfaceMember r named e m → interfaces_of m ≡ interface_named e ∷ []
+  interface-meant e m shown = ap interfaces_of shown.is ∙ (λ j. (text_of e.0, interface-means r v e.1.0 shown.exported shown.reached.shows j) ∷ [])
+
+  no-interface : (e : String Global × WorldId) (m : Member) → ShowsWorldMember r named e m → interfaces_of m ≡ []
+  no-interface e m shown = ap interfaces_of shown.is
+
+  no-world : (e : String Global × InterfaceId) (m : Member) → ShowsInterfaceMember r named e m → worlds_of m ≡ []
+  no-world e m shown = ap worlds_of shown.is
+
+  world-meant : (e : String Global × WorldId) (m : Member) → ShowsWorldMember r named e m → worlds_of m ≡ world_named e ∷ []
+  world-meant e m shown = ap worlds_of shown.is ∙ (λ j. (text_of e.0, (world-means r v e.1.0 shown.world shown.there shown.scope shown.shows ∙ sym (ap (λ o. option_map_or (meant.world_meaning r) o meant.no_world) shown.there)) j) ∷ [])
+
+  interfaces-meant : flat_map interfaces_of members ≡ map interface_named p.interfaces.entries
+  interfaces-meant =
+      ap (flat_map interfaces_of) shows.are ∙ flat_map-append interfaces_of shows.interface_members shows.world_members
+      ∙ (λ j. zip-flat (ShowsInterfaceMember r named) interface_named interfaces_of interface-meant p.interfaces.entries shows.interface_members shows.interfaces j
+      ++ zip-empty (ShowsWorldMember r named) interfaces_of no-interface p.worlds.entries shows.world_members shows.worlds j)
+      ∙ append-nil (map interface_named p.interfaces.entries)
+
+  worlds-meant : flat_map worlds_of members ≡ map world_named p.worlds.entries
+  worlds-meant =
+      ap (flat_map worlds_of) shows.are ∙ flat_map-append worlds_of shows.interface_members shows.world_members
+      ∙ (λ j. zip-empty (ShowsInterfaceMember r named) worlds_of no-world p.interfaces.entries shows.interface_members shows.interfaces j
+      ++ zip-flat (ShowsWorldMember r named) world_named worlds_of world-meant p.worlds.entries shows.world_members shows.worlds j)
+
+  -- ---- interfaces of other packages
+
+  abbrev is_other : Sight → Bool
+  is_other s = not (is_of named s.path)
+
+  abbrev seen_entries : List (Text × InterfaceMeaning)
+  seen_entries = map (seen_meaning seen) (filter is_other seen)
+
+  abbrev foreign_entry : ℕ → Text × InterfaceMeaning
+  foreign_entry m = (unwrap_or (interface_path r m) [], foreign_meaning r p m)
+
+  abbrev foreign_entries : List (Text × InterfaceMeaning)
+  foreign_entries = map foreign_entry (foreign_of r n p)
+
+  not-false : (b : Bool) → not b ≡ true → b ≡ false
+  not-false true h = sym h
+  not-false false h = refl
+
+  -- a sight of an interface of another package means what the package says of it
+  foreign-meant : (s : Sight) (m : ℕ) → IsSight r m s → is_of named s.path ≡ false → seen_meaning seen s ≡ foreign_entry m
+  foreign-meant s m is other =
+      sight-means r v numbered.0 seen numbered.1 m s is (is_shown_in r p m) (whole-shown r v n p at members shows m s.path is.has_path other)
+      ∙ (λ j. (unwrap_or (sym is.has_path j) [], foreign_meaning r p m))
+
+  forth : (q : Text) (x : InterfaceMeaning) → Contains seen_entries (q, x) → Contains foreign_entries (q, x)
+  forth q x c =
+      let from = contains-mapped (seen_meaning seen) (filter is_other seen) (q, x) c in
+      let sight = filter-contains is_other seen from.0 from.1 in
+      let number = seen-reached r v n p at members shows from.0 sight.0 in
+      let foreign : is_foreign r n number.0 ≡ true = foreign-path r v n p at number.0 from.0.path number.1.is.has_path ∙ sight.1 in
+      let there = contains-map foreign_entry (foreign_of r n p) number.0 (contains-filter (is_foreign r n) (reached_by_package r p) number.0 number.1.reached foreign) in
+      subst (λ (e : Text × InterfaceMeaning). Contains foreign_entries e) (sym (foreign-meant from.0 number.0 number.1.is (not-false (is_of named from.0.path) sight.1)) ∙ from.2) there
+
+  -- what is foreign has a path
+  foreign-named : (m : ℕ) → is_foreign r n m ≡ true → (path : Text) × (interface_path r m ≡ Some path)
+  foreign-named m h = go (interface_path r m) refl (Rattle.wit_model.proofs.Lists.first_true (is_some (interface_path r m)) _ h)
+    where
+      go : (o : Option Text) → interface_path r m ≡ o → is_some o ≡ true → (path : Text) × (interface_path r m ≡ Some path)
+      go None e h = let wrong : ⊥ = cc in absurd wrong
+      go (Some path) e h = (path, e)
+
+  back : (q : Text) (x : InterfaceMeaning) → Contains foreign_entries (q, x) → Contains seen_entries (q, x)
+  back q x c =
+      let from = contains-mapped foreign_entry (foreign_of r n p) (q, x) c in
+      let reach = filter-contains (is_foreign r n) (reached_by_package r p) from.0 from.1 in
+      let path = foreign-named from.0 reach.1 in
+      let sight = reached-seen r v n p at members shows from.0 path.0 path.1 reach.0 in
+      let other : is_other sight.sight ≡ true = sym (foreign-path r v n p at from.0 sight.sight.path sight.is.has_path) ∙ reach.1 in
+      subst (λ (e : Text × InterfaceMeaning). Contains seen_entries e) (foreign-meant sight.sight from.0 sight.is (not-false (is_of named sight.sight.path) other) ∙ from.2)
+      (contains-map (seen_meaning seen) (filter is_other seen) sight.sight (contains-filter is_other seen sight.sight sight.there other))
+
+  -- a path has one meaning
+  one-meaning : (q : Text) (x y : InterfaceMeaning) → Contains foreign_entries (q, x) → Contains foreign_entries (q, y) → x ≡ y
+  one-meaning q x y c d =
+      let a = contains-mapped foreign_entry (foreign_of r n p) (q, x) c in
+      let b = contains-mapped foreign_entry (foreign_of r n p) (q, y) d in
+      let s = foreign-named a.0 (filter-contains (is_foreign r n) (reached_by_package r p) a.0 a.1).1 in
+      let t = foreign-named b.0 (filter-contains (is_foreign r n) (reached_by_package r p) b.0 b.1).1 in
+      let one : s.0 ≡ q = sym (ap (λ o. unwrap_or o []) s.1) ∙ ap (λ (e : Text × InterfaceMeaning). e.0) a.2 in
+      let other : t.0 ≡ q = sym (ap (λ o. unwrap_or o []) t.1) ∙ ap (λ (e : Text × InterfaceMeaning). e.0) b.2 in
+      let same : a.0 ≡ b.0 = path-once r v a.0 b.0 q (s.1 ∙ ap Some one) (t.1 ∙ ap Some other) in
+      sym (ap (λ (e : Text × InterfaceMeaning). e.1) a.2) ∙ ap (foreign_meaning r p) same ∙ ap (λ (e : Text × InterfaceMeaning). e.1) b.2
+
+  abbrev foreign_map : List (Text × InterfaceMeaning) → TextMap InterfaceMeaning
+  foreign_map es = from_entries es
+
+  foreign-same : foreign_map seen_entries ≡ foreign_map foreign_entries
+  foreign-same = same-entries seen_entries foreign_entries forth back one-meaning
+
+  -- ---- the package
+
+  pub package-means : package_with named members ≡ Some (meant.package_meaning r n p)
+  package-means =
+      ap (λ b. provided b (record {
+        identity = named;
+        interfaces = flat_map interfaces_of members;
+        worlds = flat_map worlds_of members;
+        foreign = from_entries seen_entries;
+      }))
+      (both _ _ one-package (both _ _ (all-from (stands_at_top named members) seen sight-at-top)
+      (both _ _ (all-sights-agree r v numbered.0 seen numbered.1) (all-sights-obey r v numbered.0 seen numbered.1))))
+      ∙ (λ j. Some (record { identity = named; interfaces = interfaces-meant j; worlds = worlds-meant j; foreign = foreign-same j }))
+
+-- so do they as the members of a component that has one
+pub members-mean : (r : Resolve) → IsValid r → (n : ℕ) (p : Package) → package_at r n ≡ Some p → (members : List Member) → ShowsPackage r p members → is_filled members ≡ true
+    → package_of_members members ≡ Some (meant.package_meaning r n p)
+members-mean r v n p at [] shows h = let wrong : ⊥ = cc in absurd wrong
+members-mean r v n p at (m ∷ ms) shows h =
+    let first : m.package_ ≡ identity_of p.name = go (Contains-append_cases shows.interface_members shows.world_members m (subst (λ (xs : List Member). Contains xs m) shows.are (0, omega arith, refl))) in
+    ap (λ q. package_with q (m ∷ ms)) first ∙ package-means r v n p at (m ∷ ms) shows
+  where
+    go : Contains shows.interface_members m ⊎ Contains shows.world_members m → m.package_ ≡ identity_of p.name
+    go (inl c) = let e = zip-left (ShowsInterfaceMember r (identity_of p.name)) p.interfaces.entries shows.interface_members m shows.interfaces c in ap (λ (x : Member). x.package_) e.2.is
+    go (inr c) = let e = zip-left (ShowsWorldMember r (identity_of p.name)) p.worlds.entries shows.world_members m shows.worlds c in ap (λ (x : Member). x.package_) e.2.is

@@ -1,0 +1,287 @@
+-- The types of an owner, as parts of others: the names in them are of the owner's place.
+use Rattle.std.proofs.Common.{◌≡◌, refl, sym, subst, ap, ◌∙◌, ℕ, zero, suc, ◌<◌, Bool, true, false, not, ◌&&◌, ◌||◌, nat_lt, nat_le, List, [], ◌∷◌, map, length, unwrap_or, Option, Some, None, String, option_to_list, arith}
+use Rattle.std.specs.declared.alloc.Global.{Global}
+use Rattle.std.specs.Prelude.{is_some, filter_map, flat_map}
+use Rattle.std.specs.List.{Contains, list_all}
+use Rattle.std.specs.Option.{option_map_or}
+use Rattle.std.proofs.lemmas.Bool.{ltb-true, lt-ltb}
+use Rattle.std.proofs.lemmas.Option.{slice_get_within}
+use Rattle.std.proofs.lemmas.List.Folds.{list_all-append, list_all-map}
+use Rattle.std.proofs.lemmas.List.Elements.{Contains-append_left, Contains-append_right}
+use Rattle.std.proofs.lemmas.Cmp.{nat_list_eq_equiv}
+use Rattle.wit_model.specs.Text.{Text, text_of, text_eq}
+use Rattle.wit_model.specs.Tree.{Tree, Place, Primitive, Declaration, type_, resource, primitive, named, node, of_interface, here, levels}
+use Rattle.wit_model.specs.Types.{declared_by, tree_of, tree_at, tree_of_declaration, type_tree, number_tree, trees_of, no_tree, number_of, declaration_of}
+use Rattle.wit_model.specs.Lookup.{type_at, place_of}
+use Rattle.wit_model.specs.Parts.{member_types, handled, kind_numbers, met_by, met_of, used_by_type, same_owner, has_owner, is_resource, is_resource_kind, is_resource_type}
+use Rattle.wit_model.specs.Uses.{alias_target}
+use Rattle.wit_model.specs.Rules.{is_named_kind, is_named_number, passes, is_shallow, in_list, is_use, type_stays, kind_labels, are_member_labels}
+use Rattle.wit_model.specs.Rules as rules
+use Rattle.wit_model.specs.Valid.{IsValid, labels, named_kinds, owners, handles, depths}
+use Rattle.wit_model.specs.declared.model.Resolve.{Resolve}
+use Rattle.wit_model.specs.declared.model.TypeDef.{TypeDef}
+use Rattle.wit_model.specs.declared.model.TypeDefKind.{TypeDefKind}
+use Rattle.wit_model.specs.declared.model.TypeDefKind.TheVariants as kind
+use Rattle.wit_model.specs.declared.model.Handle.TheVariants as handle
+use Rattle.wit_model.specs.declared.model.TypeOwner.{TypeOwner}
+use Rattle.wit_model.specs.declared.model.TypeOwner.TheVariants as owner
+use Rattle.wit_model.specs.declared.model.TypeId.{TypeId}
+use Rattle.wit_model.specs.declared.model.«Type».{«Type» as ValueType}
+use Rattle.wit_model.specs.declared.model.«Type».TheVariants as ty
+use Rattle.wit_model.proofs.Lists.{first_true, second_true}
+use Rattle.wit_model.proofs.TreeTable.{kept_numbers, kept_trees_at}
+use Rattle.wit_model.proofs.Resources.{resource_step}
+use Rattle.wit_model.proofs.Functions.{all_flat}
+use Rattle.wit_model.proofs.Owners.{named_met, unnamed_met}
+use Rattle.wit_model.proofs.Elements.{both, all-contained, contains-filter_map, contains-one}
+use Rattle.wit_model.proofs.OnePath.{found-in, some-of}
+use Rattle.comp_meaning.specs.Same.{same_place}
+use Rattle.comp_meaning.specs.Rules.{is_part, is_declared, are_labels, distinct}
+use Rattle.encode_shown.proofs.Basics.{type-passes, valid-references, same-owner, all-from, given-not, or-cases}
+use Rattle.encode_shown.proofs.Children.{child_trees, has_named_form, is_alias, children-are, labels-are, form-unnamed, parts-from, declared-from}
+
+pub place-alike : (a : Place) → same_place a a ≡ true
+place-alike (of_interface p) = nat_list_eq_equiv.refl p
+place-alike here = refl
+
+-- ---- unnamed kinds
+
+abbrev is_node : Declaration → Bool
+is_node (type_ (node form ts)) = true
+is_node _ = false
+
+node-of : (trees : List Tree) (k : TypeDefKind) → is_named_kind k ≡ false → is_node (declared_by trees k) ≡ true
+node-of trees (kind.Record x) e = let wrong : ⊥ = cc in absurd wrong
+node-of trees (kind.Variant x) e = let wrong : ⊥ = cc in absurd wrong
+node-of trees (kind.Flags x) e = let wrong : ⊥ = cc in absurd wrong
+node-of trees (kind.Enum x) e = let wrong : ⊥ = cc in absurd wrong
+node-of trees (kind.Type_ t) e = let wrong : ⊥ = cc in absurd wrong
+node-of trees kind.Resource e = let wrong : ⊥ = cc in absurd wrong
+node-of trees (kind.Handle (handle.Own id)) e = refl
+node-of trees (kind.Handle (handle.Borrow id)) e = refl
+node-of trees _ e = refl
+
+node-part : (place : Place) (d : Declaration) → is_node d ≡ true → has_named_form d ≡ false → list_all (is_part place) (child_trees d) ≡ true → is_part place (tree_of_declaration d) ≡ true
+node-part place resource n f h = let wrong : ⊥ = cc in absurd wrong
+node-part place (type_ (primitive q)) n f h = let wrong : ⊥ = cc in absurd wrong
+node-part place (type_ (named q name)) n f h = let wrong : ⊥ = cc in absurd wrong
+node-part place (type_ (node form ts)) n f h = both _ _ (ap not f) (parts-from place ts h)
+
+unnamed-alias : (k : TypeDefKind) → is_named_kind k ≡ false → is_alias k ≡ false
+unnamed-alias (kind.Type_ t) e = let wrong : ⊥ = cc in absurd wrong
+unnamed-alias _ e = refl
+
+-- a resource, or an alias of one, has a name
+resource-named : (f : ℕ → Bool) (k : TypeDefKind) → is_resource_kind f k ≡ true → is_named_kind k ≡ true
+resource-named f kind.Resource e = refl
+resource-named f (kind.Type_ t) e = refl
+resource-named f (kind.Record x) e = refl
+resource-named f (kind.Variant x) e = refl
+resource-named f (kind.Flags x) e = refl
+resource-named f (kind.Enum x) e = refl
+resource-named f _ e = let wrong : ⊥ = cc in absurd wrong
+
+distinct-same : (ts : List Text) → rules.are_distinct ts ≡ distinct ts
+distinct-same [] = refl
+distinct-same (t ∷ ts) = ap (λ (b : Bool). not (Rattle.std.specs.List.list_any (text_eq t) ts) && b) (distinct-same ts)
+
+none-given : (f : ℕ → Bool) (o : Option ℕ) → o ≡ None → option_map_or f o false ≡ false
+none-given f None e = refl
+none-given f (Some n) e = let wrong : ⊥ = cc in absurd wrong
+
+-- labels that keep the rule
+pub labels-from : (ts : List Text) → are_member_labels ts ≡ true → are_labels ts ≡ true
+labels-from ts h = both _ _ (first_true (rules.are_labels ts) _ h) (sym (distinct-same ts) ∙ second_true (rules.are_labels ts) _ h)
+
+module _ (r : Resolve) (v : IsValid r) where
+  -- ---- trees by number
+
+  named-kind : (n : ℕ) (def : TypeDef) → type_at r n ≡ Some def → is_named_kind def.kind ≡ true → is_some def.name ≡ true
+  unfolding named_kinds
+  named-kind n def at e = given-not (is_named_kind def.kind) (is_some def.name) e (first_true (not (is_named_kind def.kind) || is_some def.name) (passes (is_named_number r) (alias_target def.kind)) (type-passes named_kinds r v.rules.named_kinds n def at))
+
+  unnamed-kind : (n : ℕ) (def : TypeDef) → type_at r n ≡ Some def → def.name ≡ None → is_named_kind def.kind ≡ false
+  unnamed-kind n def at none = go (is_named_kind def.kind) refl
+    where
+      go : (b : Bool) → is_named_kind def.kind ≡ b → b ≡ false
+      go true e = let wrong : true ≡ false = sym (named-kind n def at e) ∙ ap is_some none in let z : ⊥ = cc in absurd z
+      go false e = refl
+
+  -- a named type is its name where it is used
+  pub named-tree : (n : ℕ) (def : TypeDef) (name : String Global) → type_at r n ≡ Some def → def.name ≡ Some name → number_tree r n ≡ named (place_of r def.owner) (text_of name)
+  named-tree n def name at is =
+      ap (λ x. unwrap_or x no_tree) (kept_trees_at r v.rules n def at)
+      ∙ ap (λ o. option_map_or (λ name. named (place_of r def.owner) (text_of name)) o (tree_of_declaration (declared_by (trees_of r) def.kind))) is
+
+  pub unnamed-tree : (n : ℕ) (def : TypeDef) → type_at r n ≡ Some def → def.name ≡ None → number_tree r n ≡ tree_of_declaration (declared_by (trees_of r) def.kind)
+  unnamed-tree n def at none =
+      ap (λ x. unwrap_or x no_tree) (kept_trees_at r v.rules n def at)
+      ∙ ap (λ o. option_map_or (λ name. named (place_of r def.owner) (text_of name)) o (tree_of_declaration (declared_by (trees_of r) def.kind))) none
+
+  -- ---- tests of the parts of a kind
+
+  module _ (test : Tree → Bool) (plain : (q : Primitive) → test (primitive q) ≡ true) where
+    pub value-passes : (t : ValueType) → ((id : TypeId) → t ≡ ty.Id id → test (number_tree r id.0) ≡ true) → test (type_tree r t) ≡ true
+    value-passes (ty.Id id) h = h id refl
+    value-passes ty.Bool h = plain Primitive.bool
+    value-passes ty.U8 h = plain Primitive.u8
+    value-passes ty.U16 h = plain Primitive.u16
+    value-passes ty.U32 h = plain Primitive.u32
+    value-passes ty.U64 h = plain Primitive.u64
+    value-passes ty.S8 h = plain Primitive.s8
+    value-passes ty.S16 h = plain Primitive.s16
+    value-passes ty.S32 h = plain Primitive.s32
+    value-passes ty.S64 h = plain Primitive.s64
+    value-passes ty.F32 h = plain Primitive.f32
+    value-passes ty.F64 h = plain Primitive.f64
+    value-passes ty.Char h = plain Primitive.char
+    value-passes ty.String h = plain Primitive.string
+    value-passes ty.ErrorContext h = plain Primitive.error_context
+
+    values-pass : (ts : List ValueType) → ((m : ℕ) → Contains (filter_map number_of ts) m → test (number_tree r m) ≡ true) → list_all test (map (type_tree r) ts) ≡ true
+    values-pass ts h = list_all-map test (type_tree r) ts ∙ all-from (λ t. test (type_tree r t)) ts (λ t c. value-passes t (λ id e.
+        h id.0 (contains-filter_map number_of ts t id.0 c (subst (λ (u : ValueType). Contains (option_to_list (number_of u)) id.0) (sym e) (contains-one id.0)))))
+
+    children-pass : (k : TypeDefKind) → is_alias k ≡ false → ((m : ℕ) → Contains (kind_numbers k) m → test (number_tree r m) ≡ true) → list_all test (child_trees (declared_by (trees_of r) k)) ≡ true
+    children-pass k e h =
+        ap (list_all test) (children-are (trees_of r) k e)
+        ∙ list_all-append test (map (tree_of (trees_of r)) (member_types k)) (map (tree_at (trees_of r)) (option_to_list (handled k)))
+        ∙ both _ _ (values-pass (member_types k) (λ m c. h m (Contains-append_left (filter_map number_of (member_types k)) _ m c)))
+        (list_all-map test (tree_at (trees_of r)) (option_to_list (handled k))
+        ∙ all-from (λ m. test (tree_at (trees_of r) m)) (option_to_list (handled k)) (λ m c. h m (Contains-append_right (filter_map number_of (member_types k)) _ m (Contains-append_left (option_to_list (handled k)) _ m c))))
+
+  -- ---- what is met
+
+  smaller : (n : ℕ) (def : TypeDef) → type_at r n ≡ Some def → (m : ℕ) → Contains (kind_numbers def.kind) m → m < n
+  smaller n def at m c = ltb-true m n (all-contained (λ m. nat_lt m n) (kind_numbers def.kind) m (kept_numbers r v.rules n def at) c)
+
+  module _ (o : TypeOwner) where
+    abbrev pub all_met : ℕ → Bool
+    all_met n = list_all (has_owner r o) (met_by (met_of r) n)
+
+    -- a type all of whose names are of the owner is a part in its place
+    part-at : (s n : ℕ) → n < s → n < length r.types.items → all_met n ≡ true → is_part (place_of r o) (number_tree r n) ≡ true
+    part-at zero n l inside met = absurd (omega (arith, l))
+    part-at (suc s) n l inside met =
+        let found = found-in r.types.items n (lt-ltb n (length r.types.items) inside) in
+        at-def (part-at s) found.0 found.1 found.0.name refl
+      where
+        at-def : ((m : ℕ) → m < s → m < length r.types.items → all_met m ≡ true → is_part (place_of r o) (number_tree r m) ≡ true) → (def : TypeDef) → type_at r n ≡ Some def → (name : Option (String Global)) → def.name ≡ name → is_part (place_of r o) (number_tree r n) ≡ true
+        at-def more def at (Some name) is =
+            let own : same_owner def.owner o ≡ true = named_met r (valid-references r v) n def at o (ap is_some is) ∙ met in
+            ap (is_part (place_of r o)) (named-tree n def name at is) ∙ ap (λ (a : TypeOwner). same_place (place_of r o) (place_of r a)) (same-owner def.owner o own) ∙ place-alike (place_of r o)
+        at-def more def at None is =
+            let plain = unnamed-kind n def at is in
+            let all : list_all all_met (kind_numbers def.kind) ≡ true = unnamed_met r (valid-references r v) n def at o (ap is_some is) ∙ met in
+            let parts = children-pass (is_part (place_of r o)) (λ q. refl) def.kind (unnamed-alias def.kind plain) (λ m c.
+            let below = smaller n def at m c in
+            more m (omega (arith, l, below)) (omega (arith, inside, below)) (all-contained all_met (kind_numbers def.kind) m all c)) in
+            ap (is_part (place_of r o)) (unnamed-tree n def at is)
+            ∙ node-part (place_of r o) (declared_by (trees_of r) def.kind) (node-of (trees_of r) def.kind plain) (form-unnamed (trees_of r) def.kind plain) parts
+
+    pub number-part : (n : ℕ) → n < length r.types.items → all_met n ≡ true → is_part (place_of r o) (number_tree r n) ≡ true
+    number-part n inside met = let l : n < suc n = omega arith in part-at (suc n) n l inside met
+
+    -- so is what a function takes and gives
+    pub values-part : (ts : List ValueType) → list_all (in_list r.types.items) (filter_map number_of ts) ≡ true
+        → list_all (has_owner r o) (flat_map (met_by (met_of r)) (filter_map number_of ts)) ≡ true → list_all (is_part (place_of r o)) (map (type_tree r) ts) ≡ true
+    values-part ts inside met =
+        let all : list_all all_met (filter_map number_of ts) ≡ true = sym (all_flat (has_owner r o) (met_by (met_of r)) (filter_map number_of ts)) ∙ met in
+        values-pass (is_part (place_of r o)) (λ q. refl) ts (λ m c.
+        number-part m (ltb-true m (length r.types.items) (all-contained (in_list r.types.items) (filter_map number_of ts) m inside c)) (all-contained all_met (filter_map number_of ts) m all c))
+
+  -- ---- what a name is declared as
+
+  -- what a handle is of has a name
+  handled-level : (n : ℕ) (def : TypeDef) → type_at r n ≡ Some def → (m : ℕ) → Contains (option_to_list (handled def.kind)) m → nat_le (levels (number_tree r m)) 100 ≡ true
+  unfolding handles
+  handled-level n def at m c =
+      let passed = second_true (list_all (λ t. not (is_resource_type r t)) (member_types def.kind)) _ (type-passes handles r v.rules.handles n def at) in
+      let is_one : is_resource r m ≡ true = go (handled def.kind) c passed in
+      let below = smaller n def at m (Contains-append_right (filter_map number_of (member_types def.kind)) _ m (Contains-append_left (option_to_list (handled def.kind)) (option_to_list (alias_target def.kind)) m c)) in
+      let inside : n < length r.types.items = slice_get_within r.types.items n def at in
+      let less : m < length r.types.items = omega (arith, below, inside) in
+      let found = found-in r.types.items m (lt-ltb m (length r.types.items) less) in
+      let kind_of = resource-named (is_resource r) found.0.kind (sym (resource_step r (valid-references r v) m found.0 found.1) ∙ is_one) in
+      let name = some-of found.0.name (named-kind m found.0 found.1 kind_of) in
+      ap (λ t. nat_le (levels t) 100) (named-tree m found.0 name.0 found.1 name.1)
+    where
+      go : (o : Option ℕ) → Contains (option_to_list o) m → passes (is_resource r) o ≡ true → is_resource r m ≡ true
+      go None c h = absurd (let l = c.1 in omega (arith, l))
+      go (Some k) c h = subst (λ (j : ℕ). is_resource r j ≡ true) (Rattle.wit_model.proofs.Elements.one-contained k m c) h
+
+  shallow-children : (n : ℕ) (def : TypeDef) → type_at r n ≡ Some def → is_alias def.kind ≡ false → list_all (λ t. nat_le (levels t) 100) (child_trees (declared_by (trees_of r) def.kind)) ≡ true
+  unfolding depths
+  shallow-children n def at e =
+      ap (list_all (λ t. nat_le (levels t) 100)) (children-are (trees_of r) def.kind e)
+      ∙ list_all-append (λ t. nat_le (levels t) 100) (map (tree_of (trees_of r)) (member_types def.kind)) (map (tree_at (trees_of r)) (option_to_list (handled def.kind)))
+      ∙ both _ _ (list_all-map (λ t. nat_le (levels t) 100) (tree_of (trees_of r)) (member_types def.kind) ∙ type-passes depths r v.rules.depths n def at)
+      (list_all-map (λ t. nat_le (levels t) 100) (tree_at (trees_of r)) (option_to_list (handled def.kind)) ∙ all-from (λ m. nat_le (levels (tree_at (trees_of r) m)) 100) (option_to_list (handled def.kind)) (handled-level n def at))
+
+  -- an alias of a primitive or a named type
+  alias-declared : (place : Place) (t : ValueType) → passes (is_named_number r) (number_of t) ≡ true → passes (in_list r.types.items) (number_of t) ≡ true → is_declared place (type_ (type_tree r t)) ≡ true
+  alias-declared place (ty.Id id) h inside =
+      let found = found-in r.types.items id.0 inside in
+      let name = some-of found.0.name (ap (passes (λ def. is_some def.name)) (sym found.1) ∙ h) in
+      ap (λ u. is_declared place (type_ u)) (named-tree id.0 found.0 name.0 found.1 name.1)
+  alias-declared place ty.Bool h i = refl
+  alias-declared place ty.U8 h i = refl
+  alias-declared place ty.U16 h i = refl
+  alias-declared place ty.U32 h i = refl
+  alias-declared place ty.U64 h i = refl
+  alias-declared place ty.S8 h i = refl
+  alias-declared place ty.S16 h i = refl
+  alias-declared place ty.S32 h i = refl
+  alias-declared place ty.S64 h i = refl
+  alias-declared place ty.F32 h i = refl
+  alias-declared place ty.F64 h i = refl
+  alias-declared place ty.Char h i = refl
+  alias-declared place ty.String h i = refl
+  alias-declared place ty.ErrorContext h i = refl
+
+  -- what else a type of an owner uses is the owner's
+  stays : (n : ℕ) (def : TypeDef) → type_at r n ≡ Some def → same_owner def.owner owner.None ≡ false → is_use r def ≡ false → list_all (has_owner r def.owner) (used_by_type r def) ≡ true
+  unfolding owners
+  stays n def at owned plain =
+      or-cases (same_owner def.owner owner.None) (list_all (has_owner r def.owner) (used_by_type r def) || (is_some def.name && is_use r def)) (type-passes owners r v.rules.owners n def at)
+      (λ e. let wrong : true ≡ false = sym e ∙ owned in let z : ⊥ = cc in absurd z)
+      (λ e. or-cases (list_all (has_owner r def.owner) (used_by_type r def)) (is_some def.name && is_use r def) e (λ h. h)
+      (λ h. let wrong : true ≡ false = sym (second_true (is_some def.name) (is_use r def) h) ∙ plain in let z : ⊥ = cc in absurd z))
+
+  no-use : (def : TypeDef) (k : TypeDefKind) → def.kind ≡ k → is_alias k ≡ false → is_use r def ≡ false
+  no-use def (kind.Type_ t) e f = let wrong : ⊥ = cc in absurd wrong
+  no-use def _ e f = none-given _ (alias_target def.kind) (ap alias_target e)
+
+  -- a name of an owner is declared as what it may be, in the owner's place
+  pub number-declared : (n : ℕ) (def : TypeDef) → type_at r n ≡ Some def → same_owner def.owner owner.None ≡ false → is_declared (place_of r def.owner) (declaration_of r def) ≡ true
+  unfolding labels named_kinds
+  number-declared n def at owned = go def.kind refl
+    where
+      form : is_alias def.kind ≡ false → is_declared (place_of r def.owner) (declaration_of r def) ≡ true
+      form e =
+          let used = stays n def at owned (no-use def def.kind refl e) in
+          let all : list_all (all_met def.owner) (kind_numbers def.kind) ≡ true = sym (all_flat (has_owner r def.owner) (met_by (met_of r)) (kind_numbers def.kind)) ∙ used in
+          let inside : n < length r.types.items = slice_get_within r.types.items n def at in
+          let names = second_true (passes (λ name. Rattle.wit_model.specs.Names.is_label (text_of name)) def.name) _ (type-passes labels r v.rules.labels n def at) in
+          declared-from (place_of r def.owner) (declaration_of r def)
+          (ap are_labels (labels-are (trees_of r) def.kind e) ∙ labels-from (kind_labels def.kind) (second_true (rules.is_stability def.stability) _ names))
+          (children-pass (is_part (place_of r def.owner)) (λ q. refl) def.kind e (λ m c.
+          number-part def.owner m (let below = smaller n def at m c in omega (arith, below, inside)) (all-contained (all_met def.owner) (kind_numbers def.kind) m all c)))
+          (shallow-children n def at e)
+
+      alias : (t : ValueType) → def.kind ≡ kind.Type_ t → is_declared (place_of r def.owner) (declaration_of r def) ≡ true
+      alias t e =
+          let target = second_true (not (is_named_kind def.kind) || is_some def.name) (passes (is_named_number r) (alias_target def.kind)) (type-passes named_kinds r v.rules.named_kinds n def at) in
+          ap (λ k. is_declared (place_of r def.owner) (declared_by (trees_of r) k)) e
+          ∙ alias-declared (place_of r def.owner) t (ap (λ k. passes (is_named_number r) (alias_target k)) (sym e) ∙ target) (within t e)
+        where
+          within : (t : ValueType) → def.kind ≡ kind.Type_ t → passes (in_list r.types.items) (number_of t) ≡ true
+          within (ty.Id id) e =
+              let below = smaller n def at id.0 (subst (λ k. Contains (kind_numbers k) id.0) (sym e) (contains-one id.0)) in
+              let inside : n < length r.types.items = slice_get_within r.types.items n def at in
+              lt-ltb id.0 (length r.types.items) (omega (arith, below, inside))
+          within _ e = refl
+
+      go : (k : TypeDefKind) → def.kind ≡ k → is_declared (place_of r def.owner) (declaration_of r def) ≡ true
+      go (kind.Type_ t) e = alias t e
+      go _ e = form (ap is_alias e)

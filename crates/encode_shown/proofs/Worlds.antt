@@ -1,0 +1,184 @@
+-- What shows a world of a valid `Resolve` obeys the rules of worlds.
+use Rattle.std.proofs.Common.{◌≡◌, ◌⊎◌, inl, inr, refl, sym, subst, ap, ◌∙◌, ℕ, true, false, List, [], ◌∷◌, ◌++◌, map, Option, Some, arith}
+use Rattle.std.specs.Prelude.{is_none, option_to_list, filter_map}
+use Rattle.std.specs.List.{AllZip, Contains, IsDistinct, list_all, list_any}
+use Rattle.std.proofs.lemmas.List.{map-append}
+use Rattle.std.proofs.lemmas.List.Elements.{Contains-append_left, Contains-append_right, Contains-append_cases, filter_map-append}
+use Rattle.std.proofs.lemmas.Simd.{map-map}
+use Rattle.std.proofs.lemmas.Cmp.{nat_list_eq_equiv}
+use Rattle.std.proofs.lemmas.Map.Views.{list_any-from_Contains}
+use Rattle.indexmap.specs.IndexMap.{values}
+use Rattle.wit_model.specs.Text.{Text, text_eq}
+use Rattle.wit_model.specs.Lookup.{world_at, interface_path, key_text, resource_of}
+use Rattle.wit_model.specs.Uses.{has, item_interface, direct_deps}
+use Rattle.wit_model.specs.Meant.{type_meaning_at}
+use Rattle.wit_model.specs.Rules.{passes, each_after, is_freestanding, used_interfaces, uses_stand_before}
+use Rattle.wit_model.specs.Valid.{IsValid, as_world, item_function, order_of_items}
+use Rattle.wit_model.specs.declared.model.Resolve.{Resolve}
+use Rattle.wit_model.specs.declared.model.World.{World}
+use Rattle.wit_model.specs.declared.model.WorldKey.{WorldKey}
+use Rattle.wit_model.specs.declared.model.WorldItem.{WorldItem}
+use Rattle.wit_model.specs.declared.model.WorldItem.TheVariants as item
+use Rattle.wit_model.specs.declared.model.Function.{Function}
+use Rattle.wit_model.proofs.Lists.{first_true, second_true}
+use Rattle.wit_model.proofs.Shown.{after_append}
+use Rattle.wit_model.proofs.Elements.{both, all-contained, contains-one, contains-later, one-contained, none-in, has-contains, same-some}
+use Rattle.comp_meaning.specs.Follow.{View, Seen, Shown, Scope, interface_of}
+use Rattle.comp_meaning.specs.Rules.{distinct, is_item, are_imports, stand_earlier, path_seen, resources_seen, used_by, used_by_view, uses, others_than, is_world}
+use Rattle.encode_shown.specs.Views.{instance_key, shown_item, IsViewOf, ShowsItem, ShowsWorld}
+use Rattle.encode_shown.proofs.Basics.{all-from}
+use Rattle.encode_shown.proofs.Apart.{distinct-from}
+use Rattle.encode_shown.proofs.Interfaces.{contains-mapped}
+use Rattle.encode_shown.proofs.Used.{number-used, view-used, others-used}
+use Rattle.encode_shown.proofs.Entries.{IsEntry, import-entry, export-entry, export-freestanding}
+use Rattle.encode_shown.proofs.Keys.{IsKey, entry-key, keys-distinct}
+use Rattle.encode_shown.proofs.Items.{HasHome, instance-home, entry-home, seen-obeys, import-home}
+use Rattle.encode_shown.proofs.Zips.{zip-left, zip-append, zip-same, given-contains}
+
+-- the key of what shows an item
+pub key-seen : (r : Resolve) (e : WorldKey × WorldItem) (s : Seen) → ShowsItem r e s → s.key ≡ key_text r e.0
+key-seen r e s shows = ap (λ (x : Seen). x.key) shows.is
+
+module _ (r : Resolve) (v : IsValid r) (n : ℕ) where
+  abbrev AreEntries : List (WorldKey × WorldItem) → Type 0
+  AreEntries es = (e : WorldKey × WorldItem) → Contains es e → IsEntry r n e
+
+  one-more : (before : List (WorldKey × WorldItem)) (e : WorldKey × WorldItem) → AreEntries before → IsEntry r n e → AreEntries (before ++ e ∷ [])
+  one-more before e entries is x c = go (Contains-append_cases before (e ∷ []) x c)
+    where
+      go : Contains before x ⊎ Contains (e ∷ []) x → IsEntry r n x
+      go (inl c) = entries x c
+      go (inr c) = subst (λ y. IsEntry r n y) (one-contained e x c) is
+
+  -- ---- imports
+
+  imports-obey : (before : List (WorldKey × WorldItem)) (ss : List Seen) → AllZip (ShowsItem r) before ss → AreEntries before → (es : List (WorldKey × WorldItem)) (ts : List Seen) → AllZip (ShowsItem r) es ts
+      → AreEntries es → each_after (uses_stand_before r n) (map (λ e. e.1) before) (map (λ e. e.1) es) ≡ true → are_imports ss ts ≡ true
+  imports-obey before ss z entries [] [] w more h = refl
+  imports-obey before ss z entries [] (t ∷ ts) w more h = absurd w
+  imports-obey before ss z entries (e ∷ es) [] w more h = absurd w
+  imports-obey before ss z entries (e ∷ es) (t ∷ ts) w more h =
+      let this = more e (0, omega arith, refl) in
+      let stands = first_true (uses_stand_before r n (map (λ e. e.1) before) e.1) _ h in
+      let rest : each_after (uses_stand_before r n) (map (λ e. e.1) (before ++ e ∷ [])) (map (λ e. e.1) es) ≡ true =
+      ap (λ bs. each_after (uses_stand_before r n) bs (map (λ e. e.1) es)) (map-append (λ e. e.1) before (e ∷ [])) ∙ second_true (uses_stand_before r n (map (λ e. e.1) before) e.1) _ h in
+      both _ _ (seen-obeys r v n (resources_seen ss) e t this w.0 (import-home r v n before ss z entries e.1 stands))
+      (imports-obey (before ++ e ∷ []) (ss ++ t ∷ []) (zip-append (ShowsItem r) before ss (e ∷ []) (t ∷ []) z (w.0, tt)) (one-more before e entries this) es ts w.1 (λ x c. more x (contains-later e es x c)) rest)
+
+  -- ---- what is used stands earlier
+
+  -- the paths of these interfaces have been seen
+  abbrev ArePaths : List WorldItem → List Text → Type 0
+  ArePaths before earlier = (m : ℕ) (path : Text) → Contains (filter_map item_interface before) m → interface_path r m ≡ Some path → Contains earlier path
+
+  stands-among : (before : List WorldItem) (earlier : List Text) → ArePaths before earlier → (i : WorldItem) → list_all (has (filter_map item_interface before)) (used_interfaces r i) ≡ true
+      → (m : ℕ) (path : Text) → Contains (used_interfaces r i) m → interface_path r m ≡ Some path → list_any (text_eq path) earlier ≡ true
+  stands-among before earlier paths i h m path c e =
+      list_any-from_Contains nat_list_eq_equiv path earlier (paths m path (has-contains _ m (all-contained (has (filter_map item_interface before)) (used_interfaces r i) m h c)) e)
+
+  uses-stand : (before : List WorldItem) (earlier : List Text) → ArePaths before earlier → (k : WorldKey) (i : WorldItem) (view : View) (s : Seen) → IsEntry r n (k, i) → IsViewOf r i view
+      → s.shown ≡ shown_item r k i view → list_all (has (filter_map item_interface before)) (used_interfaces r i) ≡ true → list_all (λ p. list_any (text_eq p) earlier) (uses s) ≡ true
+  uses-stand before earlier paths k (item.Function f) view s is shows e h = subst (λ (sh : Shown). list_all (λ p. list_any (text_eq p) earlier) (uses (record { key = s.key; shown = sh; external_id = s.external_id })) ≡ true) (sym e) refl
+  uses-stand before earlier paths k (item.Type_ id) view s is shows e h =
+      subst (λ (sh : Shown). list_all (λ p. list_any (text_eq p) earlier) (uses (record { key = s.key; shown = sh; external_id = s.external_id })) ≡ true) (sym e)
+      (all-from (λ p. list_any (text_eq p) earlier) (used_by (type_meaning_at r id.0).declaration) (λ p c.
+      let used = number-used r v id.0 p c in
+      stands-among before earlier paths (item.Type_ id) h used.number p (subst (λ (o : Option ℕ). Contains (option_to_list o) used.number) (sym used.is) (contains-one used.number)) used.has_path))
+  uses-stand before earlier paths k (item.Interface id stability docs external_id) view s is shows e h =
+      subst (λ (sh : Shown). list_all (λ p. list_any (text_eq p) earlier) (uses (record { key = s.key; shown = sh; external_id = s.external_id })) ≡ true) (sym e)
+      (all-from (λ p. list_any (text_eq p) earlier) (others_than (interface_of (instance_key k (interface_path r id.0))) (used_by_view view)) (λ p c.
+      let others = others-used (interface_of (instance_key k (interface_path r id.0))) (used_by_view view) p c in
+      of-view p others.1 (view-used r v id.0 view shows.types p others.0)))
+    where
+      of-view : (p : Text) → ((interface_of (instance_key k (interface_path r id.0)) ≡ Some p) → ⊥) → (interface_path r id.0 ≡ Some p) ⊎ ((m : ℕ) × Contains (direct_deps r id.0) m × (interface_path r m ≡ Some p)) → list_any (text_eq p) earlier ≡ true
+      of-view p other (inl own) = absurd (other (instance-home k (interface_path r id.0) (entry-home r v n k (item.Interface id stability docs external_id) is id.0 refl) ∙ own))
+      of-view p other (inr dep) = stands-among before earlier paths (item.Interface id stability docs external_id) h dep.0 p dep.1 dep.2
+
+  -- an interface that is shown has its path among those that have been seen
+  seen-path : (k : WorldKey) (i : WorldItem) (view : View) → IsEntry r n (k, i) → (m : ℕ) (path : Text) → item_interface i ≡ Some m → interface_path r m ≡ Some path → Contains (path_seen (shown_item r k i view)) path
+  seen-path k (item.Function f) view is m path e p = let wrong : ⊥ = cc in absurd wrong
+  seen-path k (item.Type_ id) view is m path e p = let wrong : ⊥ = cc in absurd wrong
+  seen-path k (item.Interface id stability docs external_id) view is m path e p =
+      let here : interface_path r id.0 ≡ Some path = ap (interface_path r) (same-some id.0 m e) ∙ p in
+      subst (λ (o : Option Text). Contains (path_seen (Shown.instance (instance_key k o) view)) path) (sym here) (of-key k)
+    where
+      of-key : (k : WorldKey) → Contains (path_seen (Shown.instance (instance_key k (Some path)) view)) path
+      of-key (Rattle.wit_model.specs.declared.model.WorldKey.TheVariants.Interface j) = contains-one path
+      of-key (Rattle.wit_model.specs.declared.model.WorldKey.TheVariants.Name name) = contains-one path
+
+  more-paths : (before : List WorldItem) (earlier : List Text) → ArePaths before earlier → (e : WorldKey × WorldItem) (t : Seen) → IsEntry r n e → ShowsItem r e t → ArePaths (before ++ e.1 ∷ []) (earlier ++ path_seen t.shown)
+  more-paths before earlier paths e t is shows m path c p = go (Contains-append_cases (filter_map item_interface before) (filter_map item_interface (e.1 ∷ [])) m (subst (λ (ms : List ℕ). Contains ms m) (filter_map-append item_interface before (e.1 ∷ [])) c))
+    where
+      go : Contains (filter_map item_interface before) m ⊎ Contains (filter_map item_interface (e.1 ∷ [])) m → Contains (earlier ++ path_seen t.shown) path
+      go (inl c) = Contains-append_left earlier (path_seen t.shown) path (paths m path c p)
+      go (inr c) =
+          let given = given-contains item_interface (e.1 ∷ []) m c in
+          let at : item_interface e.1 ≡ Some m = ap item_interface (one-contained e.1 given.0 given.1) ∙ given.2 in
+          let shown : t.shown ≡ shown_item r e.0 e.1 shows.view = ap (λ (x : Seen). x.shown) shows.is in
+          Contains-append_right earlier (path_seen t.shown) path (subst (λ (sh : Shown). Contains (path_seen sh) path) (sym shown) (seen-path e.0 e.1 shows.view is m path at p))
+
+  earlier-stand : (before : List WorldItem) (earlier : List Text) → ArePaths before earlier → (es : List (WorldKey × WorldItem)) (ts : List Seen) → AllZip (ShowsItem r) es ts → AreEntries es
+      → each_after (uses_stand_before r n) before (map (λ e. e.1) es) ≡ true → stand_earlier earlier ts ≡ true
+  earlier-stand before earlier paths [] [] z entries h = refl
+  earlier-stand before earlier paths [] (t ∷ ts) z entries h = absurd z
+  earlier-stand before earlier paths (e ∷ es) [] z entries h = absurd z
+  earlier-stand before earlier paths (e ∷ es) (t ∷ ts) z entries h =
+      let is = entries e (0, omega arith, refl) in
+      let stands = first_true (uses_stand_before r n before e.1) _ h in
+      let interfaces : list_all (has (filter_map item_interface before)) (used_interfaces r e.1) ≡ true = first_true (list_all (has (filter_map item_interface before)) (used_interfaces r e.1)) _ stands in
+      both _ _ (uses-stand before earlier paths e.0 e.1 z.0.view t is z.0.is_view (ap (λ (x : Seen). x.shown) z.0.is) interfaces)
+      (earlier-stand (before ++ e.1 ∷ []) (earlier ++ path_seen t.shown) (more-paths before earlier paths e t is z.0) es ts z.1 (λ x c. entries x (contains-later e es x c)) (second_true (uses_stand_before r n before e.1) _ h))
+
+  -- ---- the world
+
+  module _ (w : World) (there : world_at r n ≡ Some w) (scope : Scope) (shows : ShowsWorld r w scope) where
+    pub imports-are : AreEntries w.imports.entries
+    imports-are e c = import-entry r v n w there e c
+
+    pub exports-are : AreEntries w.exports.entries
+    exports-are e c = export-entry r v n w there e c
+
+    order : each_after (uses_stand_before r n) [] (values w.imports ++ values w.exports) ≡ true
+    unfolding order_of_items
+    order = Rattle.encode_shown.proofs.Basics.world-passes order_of_items r v.rules.order_of_items n w there
+
+    imports-pass : are_imports [] scope.imports ≡ true
+    imports-pass = imports-obey [] [] tt (λ e c. none-in e c) w.imports.entries scope.imports shows.imports imports-are
+        (first_true _ _ (sym (after_append (uses_stand_before r n) [] (values w.imports) (values w.exports)) ∙ order))
+
+    exports-pass : list_all (λ s. is_item [] s.key s.shown) scope.exports ≡ true
+    exports-pass = all-from (λ s. is_item [] s.key s.shown) scope.exports (λ s c.
+        let from = zip-left (ShowsItem r) w.exports.entries scope.exports s shows.exports c in
+        seen-obeys r v n [] from.0 s (exports-are from.0 from.1) from.2 (free from.0 (export-freestanding r v n w there from.0 from.1)))
+      where
+        free : (e : WorldKey × WorldItem) → passes (λ f. is_freestanding f.kind) (item_function e.1) ≡ true → HasHome r v n [] e.1
+        free e h f q m name at is =
+            let none : is_none (resource_of f.kind) ≡ true = ap (λ i. passes (λ (g : Function). is_freestanding g.kind) (item_function i)) (sym q) ∙ h in
+            let wrong : false ≡ true = sym (ap is_none at) ∙ none in
+            let z : ⊥ = cc in absurd z
+
+    names : (es : List (WorldKey × WorldItem)) (ss : List Seen) → AllZip (ShowsItem r) es ss → AreEntries es → IsDistinct Rattle.wit_model.specs.Valid.key_eq (map (λ e. e.0) es) → distinct (map (λ s. s.key) ss) ≡ true
+    names es ss z entries d =
+        ap distinct (zip-same (ShowsItem r) (λ e. key_text r e.0) (λ (s : Seen). s.key) (key-seen r) es ss z ∙ sym (map-map (key_text r) (λ e. e.0) es))
+        ∙ distinct-from _ (keys-distinct r v n (map (λ e. e.0) es) (λ k c.
+        let e = contains-mapped (λ (e : WorldKey × WorldItem). e.0) es k c in
+        subst (IsKey r) e.2 (entry-key r v n e.0.0 e.0.1 (entries e.0 e.1))) d)
+
+    pub all-entries : AreEntries (w.imports.entries ++ w.exports.entries)
+    all-entries e c = go (Contains-append_cases w.imports.entries w.exports.entries e c)
+      where
+        go : Contains w.imports.entries e ⊎ Contains w.exports.entries e → IsEntry r n e
+        go (inl c) = imports-are e c
+        go (inr c) = exports-are e c
+
+    pub all-shown : AllZip (ShowsItem r) (w.imports.entries ++ w.exports.entries) (scope.imports ++ scope.exports)
+    all-shown = zip-append (ShowsItem r) w.imports.entries scope.imports w.exports.entries scope.exports shows.imports shows.exports
+
+    earlier : stand_earlier [] (scope.imports ++ scope.exports) ≡ true
+    earlier = earlier-stand [] [] (λ m path c p. none-in m c) (w.imports.entries ++ w.exports.entries) (scope.imports ++ scope.exports) all-shown all-entries
+        (ap (each_after (uses_stand_before r n) []) (map-append (λ e. e.1) w.imports.entries w.exports.entries) ∙ order)
+
+    pub world-obeys : is_world scope ≡ true
+    world-obeys = both _ _ (both _ _ (both _ _ (both _ _ imports-pass exports-pass)
+        (names w.imports.entries scope.imports shows.imports imports-are (v.distinct_keys.worlds n w there).0))
+        (names w.exports.entries scope.exports shows.exports exports-are (v.distinct_keys.worlds n w there).1)) earlier

@@ -1,0 +1,372 @@
+-- Maps that agree with slots, over what a call adds.
+use Rattle.std.proofs.Common.{◌≡◌, refl, sym, subst, ap, ◌∙◌, ℕ, Bool, true, false, List, ◌⊎◌, inl, inr, Result, Ok, Err, OnOk, OnErr, Option, Some, None, nat_eq, arith, [], ◌∷◌, ◌++◌, map, length, get_or, Vec}
+use Rattle.std.specs.Prelude.{is_some, IsSome, IsPermutation}
+use Rattle.std.specs.declared.alloc.Global.{Global}
+use Rattle.std.specs.List.{Contains, AllPairs}
+use Rattle.std.specs.Borrow.{Bor}
+use Rattle.std.proofs.lemmas.Cmp.{nat_eq_equiv}
+use Rattle.std.proofs.lemmas.List.Elements.{Contains-get_or}
+use Rattle.std.proofs.lemmas.List.Quantifiers.{all_pairs_push}
+use Rattle.std.proofs.lemmas.Bool.{eqb-true}
+use Rattle.wit_model.specs.Text.{Text}
+use Rattle.wit_model.specs.Tree.{Declaration}
+use Rattle.wit_model.specs.Rules.{is_named_kind}
+use Rattle.wit_model.specs.Types.{trees_of, tree_of_declaration}
+use Rattle.wit_model.specs.Meaning.{Signature}
+use Rattle.wit_model.specs.declared.model.Resolve.{Resolve}
+use Rattle.wit_model.specs.declared.model.TypeDefKind.{TypeDefKind}
+use Rattle.wit_model.specs.declared.model.TypeId.{TypeId}
+use Rattle.encode_types.specs.declared.maps.TypeEncodingMaps.{TypeEncodingMaps}
+use Rattle.encode_types.specs.declared.key.FunctionKey.{FunctionKey}
+use Rattle.encode_types.specs.Codes.{kind_code, names_of, lists_of, IsKeyList}
+use Rattle.encode_types.specs.Slots.{Pairs, Standing, tree, function, Keeps}
+use Rattle.encode_types.specs.View.{View, SameRest}
+use Rattle.encode_types.specs.Leaves.{Leaves}
+use Rattle.encode_types.specs.Maps.{Known, by_number, by_kind, by_key, by_unit_future, by_unit_stream, Holds, standing_of, IsOnce, IsSomeKeyList, AreNumbered, MapsAgree, MapsGrow, IsKnown, LacksList, LacksKey, StandsAsKind, SameMaps, NamesGrow, AddsNames, LearnsNumber, LearnsList, LearnsKey, LearnsOne}
+use Rattle.encode_types.proofs.Around.{around-same}
+use Rattle.encode_types.proofs.EqualLists.{kinds-of-lists, keys-of-lists, key-shrink}
+use Rattle.encode_types.proofs.KindLaws.{same_tree, same-signature}
+use Rattle.encode_types.proofs.Tables.{kept-in, new-in, one-more-in, pairs-permuted, key-grow, list-lacking}
+
+pub either : {A E : Type 0} (x : Result A E) (P Q : Type 0) → OnOk x P → OnErr x Q → P ⊎ Q
+either (Ok x) P Q p q = inl p
+either (Err e) P Q p q = inr q
+
+pub on_ok : {A E : Type 0} (x : Result A E) (P Q : Type 0) → (P → Q) → OnOk x P → OnOk x Q
+on_ok (Ok x) P Q f p = f p
+on_ok (Err e) P Q f p = p
+
+-- ---- maps with the same entries
+
+-- the same entries, under names that may have been added
+pub adds-holds : (m m' : TypeEncodingMaps) → AddsNames m m' → (k : Known) (i : ℕ) → Holds m k i → Holds m' k i
+adds-holds m m' s (by_number n) i h = subst (λ (xs : List (ℕ × ℕ)). Contains xs (n, i)) (sym s.rest.numbers) h
+adds-holds m m' s (by_kind k) i h = (h.0, subst (λ (xs : List (Vec ℕ Global × ℕ)). Contains (map {B = List ℕ × ℕ} (λ e. (e.0.items, e.1)) xs) (kind_code k, i)) (sym s.rest.kinds) h.1)
+adds-holds m m' s (by_key k) i h = (h.0, key-grow (names_of m.names) (names_of m'.names) k h.0 s.grow h.1, subst (λ (xs : List (Vec ℕ Global × ℕ)). Contains (map {B = List ℕ × ℕ} (λ e. (e.0.items, e.1)) xs) (h.0, i)) (sym s.rest.keys) h.2)
+adds-holds m m' s by_unit_future i h = s.rest.unit_future_ ∙ h
+adds-holds m m' s by_unit_stream i h = s.rest.unit_stream_ ∙ h
+
+-- and back: a key that is found by more names was found before
+adds-back : (m m' : TypeEncodingMaps) → IsOnce m → AddsNames m m' → (k : Known) (i : ℕ) → Holds m' k i → Holds m k i
+adds-back m m' o s (by_number n) i h = subst (λ (xs : List (ℕ × ℕ)). Contains xs (n, i)) s.rest.numbers h
+adds-back m m' o s (by_kind k) i h = (h.0, subst (λ (xs : List (Vec ℕ Global × ℕ)). Contains (map {B = List ℕ × ℕ} (λ e. (e.0.items, e.1)) xs) (kind_code k, i)) s.rest.kinds h.1)
+adds-back m m' o s (by_key k) i h =
+    let c : Contains (lists_of m.func_type_map) (h.0, i) = subst (λ (xs : List (Vec ℕ Global × ℕ)). Contains (map {B = List ℕ × ℕ} (λ e. (e.0.items, e.1)) xs) (h.0, i)) s.rest.keys h.2 in
+    let other = o.key_lists h.0 i c in
+    (h.0, key-shrink (names_of m.names) (names_of m'.names) (s.grow.numbered o.names_).table s.grow.kept k other.key h.0 h.1 other.is, c)
+adds-back m m' o s by_unit_future i h = sym s.rest.unit_future_ ∙ h
+adds-back m m' o s by_unit_stream i h = sym s.rest.unit_stream_ ∙ h
+
+adds-once : (m m' : TypeEncodingMaps) → AddsNames m m' → IsOnce m → IsOnce m'
+adds-once m m' s o = record {
+  numbers = subst (λ (xs : List (ℕ × ℕ)). AllPairs (λ x y. nat_eq x.0 y.0 ≡ false) xs) (sym s.rest.numbers) o.numbers;
+  kinds = subst (λ (xs : List (Vec ℕ Global × ℕ)). AllPairs (λ x y. x.0 ≡ y.0 → ⊥) (map {B = List ℕ × ℕ} (λ e. (e.0.items, e.1)) xs)) (sym s.rest.kinds) o.kinds;
+  keys = subst (λ (xs : List (Vec ℕ Global × ℕ)). AllPairs (λ x y. x.0 ≡ y.0 → ⊥) (map {B = List ℕ × ℕ} (λ e. (e.0.items, e.1)) xs)) (sym s.rest.keys) o.keys;
+  kind_lists = λ xs i c. o.kind_lists xs i (subst (λ (es : List (Vec ℕ Global × ℕ)). Contains (map {B = List ℕ × ℕ} (λ e. (e.0.items, e.1)) es) (xs, i)) s.rest.kinds c);
+  key_lists = λ xs i c.
+      let other = o.key_lists xs i (subst (λ (es : List (Vec ℕ Global × ℕ)). Contains (map {B = List ℕ × ℕ} (λ e. (e.0.items, e.1)) es) (xs, i)) s.rest.keys c) in
+      record { key = other.key; is = key-grow (names_of m.names) (names_of m'.names) other.key xs s.grow other.is };
+  names_ = s.grow.numbered o.names_;
+}
+
+pub same-adds : (m m' : TypeEncodingMaps) → SameMaps m m' → AddsNames m m'
+same-adds m m' s = record {
+  rest = record { numbers = s.numbers; kinds = s.kinds; keys = s.keys; names_ = refl; unit_future_ = s.unit_future_; unit_stream_ = s.unit_stream_ };
+  grow = subst (λ (xs : List (Bor Text × ℕ)). NamesGrow (names_of m.names) (map {B = Text × ℕ} (λ e. (e.0.now, e.1)) xs)) (sym s.names_) (record { kept = λ t n c. c; numbered = λ a. a });
+}
+
+-- what a change of the maps leaves
+pub record Changes (r : Resolve) (m m' : TypeEncodingMaps) (S : Pairs) : Type 0 where
+  pub agree : MapsAgree r m' S
+  pub grow : MapsGrow m m'
+
+pub changes-names : (r : Resolve) (m m' : TypeEncodingMaps) (S : Pairs) → AddsNames m m' → MapsAgree r m S → Changes r m m' S
+changes-names r m m' S s a = record {
+  agree = record { says = λ k i h. a.says k i (adds-back m m' a.once s k i h); once = adds-once m m' s a.once };
+  grow = record { keeps = adds-holds m m' s };
+}
+
+pub changes-same : (r : Resolve) (m m' : TypeEncodingMaps) (S : Pairs) → SameMaps m m' → MapsAgree r m S → Changes r m m' S
+changes-same r m m' S s a = changes-names r m m' S (same-adds m m' s) a
+
+-- ---- one entry more
+
+-- The maps know one thing more: what is held now was held before, or stands as the slot does.
+pub record Learns (r : Resolve) (m m' : TypeEncodingMaps) (i : ℕ) (s : Standing) : Type 0 where
+  pub grow : (k : Known) (j : ℕ) → Holds m k j → Holds m' k j
+  pub only : IsOnce m → (k : Known) (j : ℕ) → Holds m' k j → Holds m k j ⊎ ((standing_of r k ≡ s) × (j ≡ i))
+  pub once : IsOnce m → IsOnce m'
+
+pub changes-learns : (r : Resolve) (m m' : TypeEncodingMaps) (S : Pairs) (i : ℕ) (s : Standing) → Learns r m m' i s → MapsAgree r m S → S i s → Changes r m m' S
+changes-learns r m m' S i s l a h = record {
+  agree = record {
+    says = λ k j c. elim (l.only a.once k j c) [
+      | inl q ↦ a.says k j q
+      | inr e ↦ subst (λ (x : Standing). S j x) (sym e.0) (subst (λ (n : ℕ). S n s) (sym e.1) h)
+    ];
+    once = l.once a.once;
+  };
+  grow = record { keeps = l.grow };
+}
+
+numbers-apart : (x y : ℕ × ℕ) → nat_eq x.0 y.0 ≡ false → nat_eq y.0 x.0 ≡ false
+numbers-apart x y e = nat_eq_equiv.symm y.0 x.0 ∙ e
+
+lists-apart : (x y : List ℕ × ℕ) → (x.0 ≡ y.0 → ⊥) → y.0 ≡ x.0 → ⊥
+lists-apart x y n e = n (sym e)
+
+new-pairs : (xs ys : List (List ℕ × ℕ)) (zs : List ℕ) (i : ℕ) → IsPermutation (xs ++ (zs, i) ∷ []) ys → LacksList xs zs → AllPairs (λ x y. x.0 ≡ y.0 → ⊥) xs → AllPairs (λ x y. x.0 ≡ y.0 → ⊥) ys
+new-pairs xs ys zs i p none h = pairs-permuted (λ (x y : List ℕ × ℕ). x.0 ≡ y.0 → ⊥) lists-apart _ ys p
+    (all_pairs_push (λ x y. x.0 ≡ y.0 → ⊥) xs (zs, i) h (λ k d l e. none (get_or xs k d).1 (subst (λ zs. Contains xs (zs, (get_or xs k d).1)) e (Contains-get_or xs k d l))))
+
+pub learns-number : (r : Resolve) (m m' : TypeEncodingMaps) (id : TypeId) (i : ℕ) → (IsKnown m id.0 → ⊥) → LearnsNumber m m' id i → Learns r m m' i (standing_of r (by_number id.0))
+learns-number r m m' id i fresh l = record { grow = grow; only = λ o. only; once = once }
+  where
+    grow : (k : Known) (j : ℕ) → Holds m k j → Holds m' k j
+    grow (by_number n) j h = kept-in m.id_to_index.entries m'.id_to_index.entries (id.0, i) l.more (n, j) h
+    grow (by_kind k) j h = (h.0, subst (λ (xs : List (Vec ℕ Global × ℕ)). Contains (map {B = List ℕ × ℕ} (λ e. (e.0.items, e.1)) xs) (kind_code k, j)) (sym l.rest.kinds) h.1)
+    grow (by_key k) j h = (
+      h.0,
+      subst (λ (xs : List (Bor Text × ℕ)). IsKeyList (map {B = Text × ℕ} (λ e. (e.0.now, e.1)) xs) k h.0) (sym l.rest.names_) h.1,
+      subst (λ (xs : List (Vec ℕ Global × ℕ)). Contains (map {B = List ℕ × ℕ} (λ e. (e.0.items, e.1)) xs) (h.0, j)) (sym l.rest.keys) h.2,
+    )
+    grow by_unit_future j h = l.rest.unit_future_ ∙ h
+    grow by_unit_stream j h = l.rest.unit_stream_ ∙ h
+
+    only : (k : Known) (j : ℕ) → Holds m' k j → Holds m k j ⊎ ((standing_of r k ≡ standing_of r (by_number id.0)) × (j ≡ i))
+    only (by_number n) j h = elim (one-more-in m.id_to_index.entries m'.id_to_index.entries (id.0, i) l.more (n, j) h) [
+      | inl q ↦ inl q
+      | inr e ↦ inr (ap (λ (p : ℕ × ℕ). standing_of r (by_number p.0)) (sym e), ap (λ (p : ℕ × ℕ). p.1) (sym e))
+    ]
+    only (by_kind k) j h = inl (h.0, subst (λ (xs : List (Vec ℕ Global × ℕ)). Contains (map {B = List ℕ × ℕ} (λ e. (e.0.items, e.1)) xs) (kind_code k, j)) l.rest.kinds h.1)
+    only (by_key k) j h = inl (
+      h.0,
+      subst (λ (xs : List (Bor Text × ℕ)). IsKeyList (map {B = Text × ℕ} (λ e. (e.0.now, e.1)) xs) k h.0) l.rest.names_ h.1,
+      subst (λ (xs : List (Vec ℕ Global × ℕ)). Contains (map {B = List ℕ × ℕ} (λ e. (e.0.items, e.1)) xs) (h.0, j)) l.rest.keys h.2,
+    )
+    only by_unit_future j h = inl (sym l.rest.unit_future_ ∙ h)
+    only by_unit_stream j h = inl (sym l.rest.unit_stream_ ∙ h)
+
+    apart : (e : ℕ × ℕ) → Contains m.id_to_index.entries e → (b : Bool) → nat_eq e.0 id.0 ≡ b → nat_eq e.0 id.0 ≡ false
+    apart e c false q = q
+    apart e c true q = absurd (fresh (e.1, subst (λ (n : ℕ). Contains m.id_to_index.entries (n, e.1)) (eqb-true e.0 id.0 q) c))
+
+    once : IsOnce m → IsOnce m'
+    once o = record {
+      numbers = pairs-permuted (λ (x y : ℕ × ℕ). nat_eq x.0 y.0 ≡ false) numbers-apart _ m'.id_to_index.entries l.more
+          (all_pairs_push (λ x y. nat_eq x.0 y.0 ≡ false) m.id_to_index.entries (id.0, i) o.numbers (λ k d lt. apart _ (Contains-get_or _ k d lt) _ refl));
+      kinds = subst (λ (xs : List (Vec ℕ Global × ℕ)). AllPairs (λ x y. x.0 ≡ y.0 → ⊥) (map {B = List ℕ × ℕ} (λ e. (e.0.items, e.1)) xs)) (sym l.rest.kinds) o.kinds;
+      keys = subst (λ (xs : List (Vec ℕ Global × ℕ)). AllPairs (λ x y. x.0 ≡ y.0 → ⊥) (map {B = List ℕ × ℕ} (λ e. (e.0.items, e.1)) xs)) (sym l.rest.keys) o.keys;
+      kind_lists = λ xs j c. o.kind_lists xs j (subst (λ (es : List (Vec ℕ Global × ℕ)). Contains (map {B = List ℕ × ℕ} (λ e. (e.0.items, e.1)) es) (xs, j)) l.rest.kinds c);
+      key_lists = λ xs j c. subst (λ (ns : List (Bor Text × ℕ)). IsSomeKeyList (map {B = Text × ℕ} (λ e. (e.0.now, e.1)) ns) xs) (sym l.rest.names_)
+          (o.key_lists xs j (subst (λ (es : List (Vec ℕ Global × ℕ)). Contains (map {B = List ℕ × ℕ} (λ e. (e.0.items, e.1)) es) (xs, j)) l.rest.keys c));
+      names_ = subst (λ (ns : List (Bor Text × ℕ)). AreNumbered (map {B = Text × ℕ} (λ e. (e.0.now, e.1)) ns)) (sym l.rest.names_) o.names_;
+    }
+
+pub learns-kind : (r : Resolve) (m m' : TypeEncodingMaps) (kind : TypeDefKind) (xs : List ℕ) (i : ℕ) → is_named_kind kind ≡ false → xs ≡ kind_code kind → LacksList (lists_of m.def_to_index) xs → LearnsList m m' xs i
+    → Learns r m m' i (standing_of r (by_kind kind))
+learns-kind r m m' kind xs i unnamed is lacks l = record { grow = grow; only = λ o. only; once = once }
+  where
+    grow : (k : Known) (j : ℕ) → Holds m k j → Holds m' k j
+    grow (by_number n) j h = subst (λ (es : List (ℕ × ℕ)). Contains es (n, j)) (sym l.rest.numbers) h
+    grow (by_kind k) j h = (h.0, kept-in (lists_of m.def_to_index) (lists_of m'.def_to_index) (xs, i) l.more (kind_code k, j) h.1)
+    grow (by_key k) j h = (
+      h.0,
+      subst (λ (ns : List (Bor Text × ℕ)). IsKeyList (map {B = Text × ℕ} (λ e. (e.0.now, e.1)) ns) k h.0) (sym l.rest.names_) h.1,
+      subst (λ (es : List (Vec ℕ Global × ℕ)). Contains (map {B = List ℕ × ℕ} (λ e. (e.0.items, e.1)) es) (h.0, j)) (sym l.rest.keys) h.2,
+    )
+    grow by_unit_future j h = l.rest.unit_future_ ∙ h
+    grow by_unit_stream j h = l.rest.unit_stream_ ∙ h
+
+    same : (k : TypeDefKind) → is_named_kind k ≡ false → kind_code k ≡ kind_code kind → standing_of r (by_kind k) ≡ standing_of r (by_kind kind)
+    same k n e = ap (λ (d : Declaration). tree (tree_of_declaration d)) (same_tree (trees_of r) k kind n (kinds-of-lists k kind n unnamed e))
+
+    only : (k : Known) (j : ℕ) → Holds m' k j → Holds m k j ⊎ ((standing_of r k ≡ standing_of r (by_kind kind)) × (j ≡ i))
+    only (by_number n) j h = inl (subst (λ (es : List (ℕ × ℕ)). Contains es (n, j)) l.rest.numbers h)
+    only (by_kind k) j h = elim (one-more-in (lists_of m.def_to_index) (lists_of m'.def_to_index) (xs, i) l.more (kind_code k, j) h.1) [
+      | inl q ↦ inl (h.0, q)
+      | inr e ↦ inr (same k h.0 (ap (λ (p : List ℕ × ℕ). p.0) (sym e) ∙ is), ap (λ (p : List ℕ × ℕ). p.1) (sym e))
+    ]
+    only (by_key k) j h = inl (
+      h.0,
+      subst (λ (ns : List (Bor Text × ℕ)). IsKeyList (map {B = Text × ℕ} (λ e. (e.0.now, e.1)) ns) k h.0) l.rest.names_ h.1,
+      subst (λ (es : List (Vec ℕ Global × ℕ)). Contains (map {B = List ℕ × ℕ} (λ e. (e.0.items, e.1)) es) (h.0, j)) l.rest.keys h.2,
+    )
+    only by_unit_future j h = inl (sym l.rest.unit_future_ ∙ h)
+    only by_unit_stream j h = inl (sym l.rest.unit_stream_ ∙ h)
+
+    once : IsOnce m → IsOnce m'
+    once o = record {
+      numbers = subst (λ (es : List (ℕ × ℕ)). AllPairs (λ x y. nat_eq x.0 y.0 ≡ false) es) (sym l.rest.numbers) o.numbers;
+      kinds = new-pairs (lists_of m.def_to_index) (lists_of m'.def_to_index) xs i l.more lacks o.kinds;
+      keys = subst (λ (es : List (Vec ℕ Global × ℕ)). AllPairs (λ x y. x.0 ≡ y.0 → ⊥) (map {B = List ℕ × ℕ} (λ e. (e.0.items, e.1)) es)) (sym l.rest.keys) o.keys;
+      kind_lists = λ ys j c. elim (one-more-in (lists_of m.def_to_index) (lists_of m'.def_to_index) (xs, i) l.more (ys, j) c) [
+        | inl q ↦ o.kind_lists ys j q
+        | inr e ↦ record { kind = kind; unnamed = unnamed; is = ap (λ (p : List ℕ × ℕ). p.0) (sym e) ∙ is }
+      ];
+      key_lists = λ ys j c. subst (λ (ns : List (Bor Text × ℕ)). IsSomeKeyList (map {B = Text × ℕ} (λ e. (e.0.now, e.1)) ns) ys) (sym l.rest.names_)
+          (o.key_lists ys j (subst (λ (es : List (Vec ℕ Global × ℕ)). Contains (map {B = List ℕ × ℕ} (λ e. (e.0.items, e.1)) es) (ys, j)) l.rest.keys c));
+      names_ = subst (λ (ns : List (Bor Text × ℕ)). AreNumbered (map {B = Text × ℕ} (λ e. (e.0.now, e.1)) ns)) (sym l.rest.names_) o.names_;
+    }
+
+pub learns-key : (r : Resolve) (m m' : TypeEncodingMaps) (key : FunctionKey) (i : ℕ) → LacksKey m key → LearnsKey m m' key i → Learns r m m' i (standing_of r (by_key key))
+learns-key r m m' key i lacks l = record { grow = grow; only = only; once = once }
+  where
+    grow : (k : Known) (j : ℕ) → Holds m k j → Holds m' k j
+    grow (by_number n) j h = subst (λ (es : List (ℕ × ℕ)). Contains es (n, j)) (sym l.rest.numbers) h
+    grow (by_kind k) j h = (h.0, subst (λ (es : List (Vec ℕ Global × ℕ)). Contains (map {B = List ℕ × ℕ} (λ e. (e.0.items, e.1)) es) (kind_code k, j)) (sym l.rest.kinds) h.1)
+    grow (by_key k) j h = (h.0, key-grow (names_of m.names) (names_of m'.names) k h.0 l.grow h.1, kept-in (lists_of m.func_type_map) (lists_of m'.func_type_map) (l.list, i) l.more (h.0, j) h.2)
+    grow by_unit_future j h = l.rest.unit_future_ ∙ h
+    grow by_unit_stream j h = l.rest.unit_stream_ ∙ h
+
+    only : IsOnce m → (k : Known) (j : ℕ) → Holds m' k j → Holds m k j ⊎ ((standing_of r k ≡ standing_of r (by_key key)) × (j ≡ i))
+    only o (by_number n) j h = inl (subst (λ (es : List (ℕ × ℕ)). Contains es (n, j)) l.rest.numbers h)
+    only o (by_kind k) j h = inl (h.0, subst (λ (es : List (Vec ℕ Global × ℕ)). Contains (map {B = List ℕ × ℕ} (λ e. (e.0.items, e.1)) es) (kind_code k, j)) l.rest.kinds h.1)
+    only o (by_key k) j h = elim (one-more-in (lists_of m.func_type_map) (lists_of m'.func_type_map) (l.list, i) l.more (h.0, j) h.2) [
+      | inl q ↦
+          let other = o.key_lists h.0 j q in
+          inl (h.0, key-shrink (names_of m.names) (names_of m'.names) (l.grow.numbered o.names_).table l.grow.kept k other.key h.0 h.1 other.is, q)
+      | inr e ↦
+          let q : h.0 ≡ l.list = ap (λ (p : List ℕ × ℕ). p.0) (sym e) in
+          inr (ap (λ (s : Signature). function s) (same-signature r k key (keys-of-lists (names_of m'.names) k key h.0 l.list (l.grow.numbered o.names_).table h.1 l.is q)), ap (λ (p : List ℕ × ℕ). p.1) (sym e))
+    ]
+    only o by_unit_future j h = inl (sym l.rest.unit_future_ ∙ h)
+    only o by_unit_stream j h = inl (sym l.rest.unit_stream_ ∙ h)
+
+    once : IsOnce m → IsOnce m'
+    once o = record {
+      numbers = subst (λ (es : List (ℕ × ℕ)). AllPairs (λ x y. nat_eq x.0 y.0 ≡ false) es) (sym l.rest.numbers) o.numbers;
+      kinds = subst (λ (es : List (Vec ℕ Global × ℕ)). AllPairs (λ x y. x.0 ≡ y.0 → ⊥) (map {B = List ℕ × ℕ} (λ e. (e.0.items, e.1)) es)) (sym l.rest.kinds) o.kinds;
+      keys = new-pairs (lists_of m.func_type_map) (lists_of m'.func_type_map) l.list i l.more (list-lacking m (names_of m'.names) key l.list o l.grow lacks l.is) o.keys;
+      kind_lists = λ ys j c. o.kind_lists ys j (subst (λ (es : List (Vec ℕ Global × ℕ)). Contains (map {B = List ℕ × ℕ} (λ e. (e.0.items, e.1)) es) (ys, j)) l.rest.kinds c);
+      key_lists = λ ys j c. elim (one-more-in (lists_of m.func_type_map) (lists_of m'.func_type_map) (l.list, i) l.more (ys, j) c) [
+        | inl q ↦ let other = o.key_lists ys j q in record { key = other.key; is = key-grow (names_of m.names) (names_of m'.names) other.key ys l.grow other.is }
+        | inr e ↦ record { key = key; is = subst (IsKeyList (names_of m'.names) key) (ap (λ (p : List ℕ × ℕ). p.0) e) l.is }
+      ];
+      names_ = l.grow.numbered o.names_;
+    }
+
+pub learns-unit_future : (r : Resolve) (m m' : TypeEncodingMaps) (i : ℕ) → m.unit_future ≡ None → m' ≡ record m { unit_future = Some i } → Learns r m m' i (standing_of r by_unit_future)
+learns-unit_future r m m' i none is = subst (λ (z : TypeEncodingMaps). Learns r m z i (standing_of r by_unit_future)) (sym is) (record { grow = grow; only = λ o. only; once = λ o. record { numbers = o.numbers; kinds = o.kinds; keys = o.keys; kind_lists = o.kind_lists; key_lists = o.key_lists; names_ = o.names_ } })
+  where
+    grow : (k : Known) (j : ℕ) → Holds m k j → Holds (record m { unit_future = Some i }) k j
+    grow (by_number k) j h = h
+    grow (by_kind k) j h = h
+    grow (by_key k) j h = h
+    grow by_unit_future j h = absurd (let e = sym none ∙ h in let z : ⊥ = cc in z)
+    grow by_unit_stream j h = h
+
+    only : (k : Known) (j : ℕ) → Holds (record m { unit_future = Some i }) k j → Holds m k j ⊎ ((standing_of r k ≡ standing_of r by_unit_future) × (j ≡ i))
+    only (by_number k) j h = inl h
+    only (by_kind k) j h = inl h
+    only (by_key k) j h = inl h
+    only by_unit_future j h = inr (refl, (let e : i ≡ j = cc in sym e))
+    only by_unit_stream j h = inl h
+
+pub learns-unit_stream : (r : Resolve) (m m' : TypeEncodingMaps) (i : ℕ) → m.unit_stream ≡ None → m' ≡ record m { unit_stream = Some i } → Learns r m m' i (standing_of r by_unit_stream)
+learns-unit_stream r m m' i none is = subst (λ (z : TypeEncodingMaps). Learns r m z i (standing_of r by_unit_stream)) (sym is) (record { grow = grow; only = λ o. only; once = λ o. record { numbers = o.numbers; kinds = o.kinds; keys = o.keys; kind_lists = o.kind_lists; key_lists = o.key_lists; names_ = o.names_ } })
+  where
+    grow : (k : Known) (j : ℕ) → Holds m k j → Holds (record m { unit_stream = Some i }) k j
+    grow (by_number k) j h = h
+    grow (by_kind k) j h = h
+    grow (by_key k) j h = h
+    grow by_unit_future j h = h
+    grow by_unit_stream j h = absurd (let e = sym none ∙ h in let z : ⊥ = cc in z)
+
+    only : (k : Known) (j : ℕ) → Holds (record m { unit_stream = Some i }) k j → Holds m k j ⊎ ((standing_of r k ≡ standing_of r by_unit_stream) × (j ≡ i))
+    only (by_number k) j h = inl h
+    only (by_kind k) j h = inl h
+    only (by_key k) j h = inl h
+    only by_unit_future j h = inl h
+    only by_unit_stream j h = inr (refl, (let e : i ≡ j = cc in sym e))
+
+-- ---- a call that writes to the maps alone
+
+pub changes-call : {A E : Type 0} (x : Result A E) (r : Resolve) (m₀ m m₁ m' : TypeEncodingMaps) (S S' : Pairs) (i : ℕ) (s : Standing)
+    → m₀ ≡ m → m' ≡ m₁ → Keeps S S' → OnOk x (Learns r m₀ m₁ i s) → OnErr x (AddsNames m₀ m₁) → MapsAgree r m S → S i s → Changes r m m' S'
+changes-call x r m₀ m m₁ m' S S' i s e e' keeps ok err a h =
+    let b : MapsAgree r m S' = record { says = λ k j c. keeps j (standing_of r k) (a.says k j c); once = a.once } in
+    subst (λ (z : TypeEncodingMaps). Changes r m z S') (sym e')
+    (elim (either x _ _ ok err) [
+      | inl l ↦ changes-learns r m m₁ S' i s (subst (λ (z : TypeEncodingMaps). Learns r z m₁ i s) e l) b (keeps i s h)
+      | inr l ↦ changes-names r m m₁ S' (subst (λ (z : TypeEncodingMaps). AddsNames z m₁) e l) b
+    ])
+
+on_err : {A E : Type 0} (x : Result A E) (P Q : Type 0) → (P → Q) → OnErr x P → OnErr x Q
+on_err (Ok x) P Q f p = p
+on_err (Err e) P Q f p = f p
+
+module _ {E : Type 0} (x : Result (Unit {0}) E) (r : Resolve) (m₀ m m₁ m' : TypeEncodingMaps) (S S' : Pairs) (i : ℕ) (e : m₀ ≡ m) (e' : m' ≡ m₁) (keeps : Keeps S S') (a : MapsAgree r m S) where
+  pub changes-number : (id : TypeId) → (IsKnown m id.0 → ⊥) → OnOk x (LearnsNumber m₀ m₁ id i) → OnErr x (SameMaps m₀ m₁) → S i (standing_of r (by_number id.0)) → Changes r m m' S'
+  changes-number id fresh ok err s = changes-call x r m₀ m m₁ m' S S' i _ e e' keeps
+      (on_ok x _ _ (λ l. subst (λ (z : TypeEncodingMaps). Learns r z m₁ i (standing_of r (by_number id.0))) (sym e) (learns-number r m m₁ id i fresh (subst (λ (z : TypeEncodingMaps). LearnsNumber z m₁ id i) e l))) ok)
+      (on_err x _ _ (λ l. same-adds m₀ m₁ l) err) a s
+
+  pub changes-kind : (xs : List ℕ) → LacksList (lists_of m.def_to_index) xs → OnOk x (LearnsList m₀ m₁ xs i) → OnErr x (SameMaps m₀ m₁) → StandsAsKind r S xs i → Changes r m m' S'
+  changes-kind xs fresh ok err s = changes-call x r m₀ m m₁ m' S S' i _ e e' keeps
+      (on_ok x _ _ (λ l. subst (λ (z : TypeEncodingMaps). Learns r z m₁ i (standing_of r (by_kind s.kind))) (sym e) (learns-kind r m m₁ s.kind xs i s.unnamed s.is fresh (subst (λ (z : TypeEncodingMaps). LearnsList z m₁ xs i) e l))) ok)
+      (on_err x _ _ (λ l. same-adds m₀ m₁ l) err) a s.stands
+
+  pub changes-key : (key : FunctionKey) → LacksKey m key → OnOk x (LearnsKey m₀ m₁ key i) → OnErr x (AddsNames m₀ m₁) → S i (standing_of r (by_key key)) → Changes r m m' S'
+  changes-key key fresh ok err s = changes-call x r m₀ m m₁ m' S S' i _ e e' keeps
+      (on_ok x _ _ (λ l. subst (λ (z : TypeEncodingMaps). Learns r z m₁ i (standing_of r (by_key key))) (sym e) (learns-key r m m₁ key i fresh (subst (λ (z : TypeEncodingMaps). LearnsKey z m₁ key i) e l))) ok) err a s
+
+pub changes-unit : (r : Resolve) (m m' : TypeEncodingMaps) (S S' : Pairs) (k : Known) (i : ℕ) → Keeps S S' → Learns r m m' i (standing_of r k) → MapsAgree r m S → S i (standing_of r k) → Changes r m m' S'
+changes-unit r m m' S S' k i keeps l a s = changes-learns r m m' S' i _ l (record { says = λ k j h. keeps j (standing_of r k) (a.says k j h); once = a.once }) (keeps i (standing_of r k) s)
+
+pub leaves-changed : (r : Resolve) (v v' : View) → SameRest v v' → Changes r v.maps v'.maps v'.stands → Leaves r v v'
+leaves-changed r v v' s c = record { agree = c.agree; maps_grow = c.grow; grows = record { kept = s.kept; more = (let e = s.slot_count_ in omega arith); around_ = around-same s.around_ }; scope_stays = s.scope_ }
+
+pub known-learnt : (m m' : TypeEncodingMaps) (id : TypeId) (i : ℕ) → LearnsNumber m m' id i → IsKnown m' id.0
+known-learnt m m' id i l = (i, new-in m.id_to_index.entries m'.id_to_index.entries (id.0, i) l.more)
+
+pub known-grow : (m m' : TypeEncodingMaps) (n : ℕ) → MapsGrow m m' → IsKnown m n → IsKnown m' n
+known-grow m m' n g k = (k.0, g.keeps (by_number n) k.0 k.1)
+
+pub not-known : (o : Option ℕ) → is_some o ≡ false → IsSome o → ⊥
+not-known o e h = let f : is_some o ≡ true = h in let z : ⊥ = cc in z
+
+pub learnt-one : (m m₁ m' : TypeEncodingMaps) (id : TypeId) (i : ℕ) → m₁.id_to_index.entries ≡ m.id_to_index.entries → LearnsNumber m₁ m' id i → LearnsOne m m' id.0
+learnt-one m m₁ m' id i e l = record { known = known-learnt m₁ m' id i l; only = record { each = only } }
+  where
+    only : (n j : ℕ) → Contains m'.id_to_index.entries (n, j) → Contains m.id_to_index.entries (n, j) ⊎ (n ≡ id.0)
+    only n j c = elim (one-more-in m₁.id_to_index.entries m'.id_to_index.entries (id.0, i) l.more (n, j) c) [
+      | inl q ↦ inl (subst (λ (xs : List (ℕ × ℕ)). Contains xs (n, j)) e q)
+      | inr q ↦ inr (sym (ap (λ (p : ℕ × ℕ). p.0) q))
+    ]
+
+-- maps that hold nothing agree with any slots
+pub empty-agrees : (r : Resolve) (m : TypeEncodingMaps) (S : Pairs) → m.id_to_index.entries ≡ [] → m.def_to_index.entries ≡ [] → m.func_type_map.entries ≡ [] → m.names.entries ≡ [] → m.unit_future ≡ None → m.unit_stream ≡ None → MapsAgree r m S
+empty-agrees r m S ids kinds keys names future stream = record {
+  says = says;
+  once = record {
+    numbers = none-twice (λ x y. nat_eq x.0 y.0 ≡ false) ids;
+    kinds = none-twice (λ x y. x.0 ≡ y.0 → ⊥) kinds';
+    keys = none-twice (λ x y. x.0 ≡ y.0 → ⊥) keys';
+    kind_lists = λ xs i c. none-in kinds' c;
+    key_lists = λ xs i c. none-in keys' c;
+    names_ = record { table = record { one_number = λ t i j c d. none-in names' c; one_text = λ t u i c d. none-in names' c }; below = λ t i c. none-in names' c };
+  };
+}
+  where
+    kinds' : lists_of m.def_to_index ≡ []
+    kinds' = ap (map (λ (e : Vec ℕ Global × ℕ). (e.0.items, e.1))) kinds
+
+    keys' : lists_of m.func_type_map ≡ []
+    keys' = ap (map (λ (e : Vec ℕ Global × ℕ). (e.0.items, e.1))) keys
+
+    names' : names_of m.names ≡ []
+    names' = ap (map (λ (e : Bor Text × ℕ). (e.0.now, e.1))) names
+
+    none-in : {X : Type 0} {xs : List X} {x : X} {P : Type 0} → xs ≡ [] → Contains xs x → P
+    none-in {X} {xs} e (i, l, h) = let z : length xs ≡ 0 = ap length e in absurd (omega (arith, l))
+
+    none-twice : {X : Type 0} {xs : List X} (R : X → X → Type 0) → xs ≡ [] → AllPairs R xs
+    none-twice {X} {xs} R e i j d l n = let z : length xs ≡ 0 = ap length e in absurd (omega (arith, n))
+
+    says : (k : Known) (i : ℕ) → Holds m k i → S i (standing_of r k)
+    says (by_number n) i h = none-in ids h
+    says (by_kind k) i h = none-in kinds' h.1
+    says (by_key k) i h = none-in keys' h.2
+    says by_unit_future i h = absurd (let e = sym future ∙ h in let z : ⊥ = cc in z)
+    says by_unit_stream i h = absurd (let e = sym stream ∙ h in let z : ⊥ = cc in z)

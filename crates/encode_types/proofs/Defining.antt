@@ -1,0 +1,234 @@
+-- What is defined, call by call.
+use Rattle.std.proofs.Common.{◌≡◌, refl, sym, subst, ap, ◌∙◌, ℕ, ◌+◌, inl, inr, append_assoc, append-nil, Bool, true, false, cond, List, [], ◌∷◌, ◌++◌, Result, Ok, Err, IfOk, Option, Some, None, length, length-append, arith, count_by, zero-add, map, Vec}
+use Rattle.std.proofs.lemmas.List.Sums.{sum_by-append}
+use Rattle.wit_model.specs.Rules.{is_named_kind}
+use Rattle.wit_model.specs.Tree.{Tree}
+use Rattle.wit_model.specs.Types.{trees_of, tree_of}
+use Rattle.wit_model.specs.declared.model.Resolve.{Resolve}
+use Rattle.wit_model.specs.declared.model.TypeId.{TypeId}
+use Rattle.wit_model.specs.declared.model.TypeDefKind.{TypeDefKind}
+use Rattle.wit_model.specs.declared.model.TypeDefKind.TheVariants as kind
+use Rattle.wit_model.specs.declared.model.«Type».{«Type» as ValueType}
+use Rattle.std.specs.Borrow.{Bor}
+use Rattle.std.specs.declared.alloc.Global.{Global}
+use Rattle.std.specs.List.{AllZip, Contains, cons_option}
+use Rattle.std.proofs.lemmas.List.{map-append, length-map}
+use Rattle.std.specs.Prelude.{IsPermutation}
+use Rattle.std.proofs.lemmas.List.Sorted.{IsPermutation-refl, IsPermutation-trans, IsPermutation-append_left, length_permutation, sum_by-IsPermutation}
+use Rattle.std.proofs.lemmas.List.Elements.{Contains-append_cases, filter_map-append}
+use Rattle.wit_model.specs.Meaning.{TypeMeaning}
+use Rattle.comp_bytes.specs.Raw.{ExternName}
+use Rattle.comp_bytes.specs.declared.forms.ComponentValType.{ComponentValType}
+use Rattle.comp_bytes.specs.declared.forms.ComponentValType.TheVariants as v
+use Rattle.comp_bytes.specs.declared.forms.ComponentDefinedType.{ComponentDefinedType}
+use Rattle.comp_bytes.specs.declared.forms.ComponentDefinedType.TheVariants as form
+use Rattle.encode_types.specs.declared.maps.TypeEncodingMaps.{TypeEncodingMaps}
+use Rattle.encode_types.specs.Slots.{Pairs, Standing, tree, Keeps, SlotAdded, StandsFor, StandsForOptional, NamedStands, CaseStands, Follows}
+use Rattle.encode_types.specs.Kinds.{kind_tree, has_form}
+use Rattle.encode_types.specs.Maps.{Says, Holds, MapsAgree, IsWritten, HasKind, by_kind, LearnsNumber, LearnsList}
+use Rattle.wit_model.specs.Text.{Text, text_of}
+use Rattle.wit_model.specs.declared.model.Param.{Param}
+use Rattle.encode_types.specs.Definition.{FollowsKind, IsWrittenParam}
+use Rattle.encode_types.proofs.Lists.{zip-along, one-contained, none-in}
+use Rattle.encode_types.specs.Scope.{Scope}
+use Rattle.encode_types.specs.Counts.{Definitions, one_type_more, type_more_if, is_defined_by_name, own_name, names_defined, ExportsOne, Shows, AddsTypes}
+use Rattle.encode_types.specs.Known.{GrowsAround}
+use Rattle.encode_types.proofs.Around.{around-trans}
+use Rattle.encode_types.specs.View.{View, Agrees, Grows}
+use Rattle.encode_types.specs.Leaves.{Leaves}
+use Rattle.encode_types.proofs.Written.{written-stands}
+
+-- ---- more pairs
+
+pub stands-more : (S S' : Pairs) → Keeps S S' → (x : ComponentValType) (t : Tree) → StandsFor S x t → StandsFor S' x t
+stands-more S S' k (v.Primitive p) t h = h
+stands-more S S' k (v.Type_ i) t h = k i (tree t) h
+
+pub optional-more : (S S' : Pairs) → Keeps S S' → (x : Option ComponentValType) (t : Option Tree) → StandsForOptional S x t → StandsForOptional S' x t
+optional-more S S' k None None h = tt
+optional-more S S' k None (Some t) h = h
+optional-more S S' k (Some x) None h = h
+optional-more S S' k (Some x) (Some t) h = stands-more S S' k x t h
+
+pub zip-kept : {A B : Type 0} (R Q : A → B → Type 0) → ((a : A) (b : B) → R a b → Q a b) → (xs : List A) (ys : List B) → AllZip R xs ys → AllZip Q xs ys
+zip-kept R Q k [] [] h = tt
+zip-kept R Q k [] (b ∷ ys) h = h
+zip-kept R Q k (a ∷ xs) [] h = h
+zip-kept R Q k (a ∷ xs) (b ∷ ys) h = (k a b h.0, zip-kept R Q k xs ys h.1)
+
+pub follows-more : (S S' : Pairs) → Keeps S S' → (d : ComponentDefinedType) (t : Tree) → Follows S d t → Follows S' d t
+follows-more S S' k (form.Primitive p) t h = h
+follows-more S S' k (form.Record fields) t h = (h.0, zip-kept (NamedStands S) (NamedStands S') (λ x f w. (w.0, stands-more S S' k x.1 f.1 w.1)) _ _ h.1, h.2)
+follows-more S S' k (form.Variant cases) t h = (h.0, zip-kept (CaseStands S) (CaseStands S') (λ x c w. (w.0, optional-more S S' k x.1 c.1 w.1)) _ _ h.1, h.2)
+follows-more S S' k (form.List x) t h = (h.0, stands-more S S' k x h.0 h.1, h.2)
+follows-more S S' k (form.FixedLengthList x n) t h = (h.0, stands-more S S' k x h.0 h.1, h.2)
+follows-more S S' k (form.Map x y) t h = (h.0, h.1, stands-more S S' k x h.0 h.2, stands-more S S' k y h.1 h.3, h.4)
+follows-more S S' k (form.Tuple xs) t h = (h.0, zip-kept (StandsFor S) (StandsFor S') (λ x u w. stands-more S S' k x u w) _ _ h.1, h.2)
+follows-more S S' k (form.Flags names) t h = h
+follows-more S S' k (form.Enum names) t h = h
+follows-more S S' k (form.Option x) t h = (h.0, stands-more S S' k x h.0 h.1, h.2)
+follows-more S S' k (form.Result x y) t h = (h.0, h.1, optional-more S S' k x h.0 h.2, optional-more S S' k y h.1 h.3, h.4)
+follows-more S S' k (form.Own i) t h = (h.0, k i (tree h.0) h.1, h.2)
+follows-more S S' k (form.Borrow i) t h = (h.0, k i (tree h.0) h.1, h.2)
+follows-more S S' k (form.Stream x) t h = (h.0, optional-more S S' k x h.0 h.1, h.2)
+follows-more S S' k (form.Future x) t h = (h.0, optional-more S S' k x h.0 h.1, h.2)
+
+-- ---- with maps that agree
+
+pub says-kept : (r : Resolve) (m : TypeEncodingMaps) (S : Pairs) → MapsAgree r m S → Keeps (Says r m) S
+says-kept r m S a i s (k, h, e) = subst (λ (z : Standing). S i z) (sym e) (a.says k i h)
+
+pub value-stands : (r : Resolve) (m : TypeEncodingMaps) (S : Pairs) (x : ComponentValType) (t : ValueType) → MapsAgree r m S → IsWritten m x t → StandsFor S x (tree_of (trees_of r) t)
+value-stands r m S x t a w = stands-more (Says r m) S (says-kept r m S a) x _ (written-stands r m x t w)
+
+pub definition-stands : (r : Resolve) (m : TypeEncodingMaps) (S : Pairs) (k : TypeDefKind) (d : ComponentDefinedType) → MapsAgree r m S → FollowsKind m k d → Follows S d (kind_tree r k)
+definition-stands r m S k d a h = follows-more (Says r m) S (says-kept r m S a) d _ (h r)
+
+pub params-stand : (r : Resolve) (m : TypeEncodingMaps) (S : Pairs) (xs : List (Bor Text × ComponentValType)) (ps : List Param) → MapsAgree r m S → AllZip (IsWrittenParam m) xs ps
+    → AllZip (NamedStands S) xs (map (λ p. (text_of p.name, tree_of (trees_of r) p.ty)) ps)
+params-stand r m S xs ps a z = zip-along (IsWrittenParam m) (NamedStands S) (λ p. (text_of p.name, tree_of (trees_of r) p.ty)) (λ x p w. (w.0, value-stands r m S x.1 p.ty a w.1)) xs ps z
+
+pub adds-ok : {E : Type 0} (x : Result ℕ E) (S S' : Pairs) (n n' : ℕ) (P : Standing → Type 0) (m : Standing) → IfOk x (λ i. SlotAdded S S' n n' i P) → P m → IfOk x (λ i. S' i m)
+adds-ok (Ok i) S S' n n' P m h p = h.adds.new m p
+adds-ok (Err e) S S' n n' P m h p = h
+
+-- a kind that is known has the tree
+pub kind-stands : (r : Resolve) (m : TypeEncodingMaps) (S : Pairs) (k : TypeDefKind) (i : ℕ) → MapsAgree r m S → HasKind m k i → S i (tree (kind_tree r k))
+kind-stands r m S k i a h = a.says (by_kind k) i h
+
+pub unnamed-form : (k : TypeDefKind) → is_named_kind k ≡ false → has_form k ≡ true
+unnamed-form kind.Resource n = absurd (let z : ⊥ = cc in z)
+unnamed-form (kind.Type_ t) n = absurd (let z : ⊥ = cc in z)
+unnamed-form _ n = refl
+
+pub own-form : (k : TypeDefKind) → (k ≡ kind.Resource → ⊥) → ((t : ValueType) → k ≡ kind.Type_ t → ⊥) → has_form k ≡ true
+own-form kind.Resource n m = absurd (n refl)
+own-form (kind.Type_ t) n m = absurd (m t refl)
+own-form _ n m = refl
+
+-- ---- counts
+
+-- what has been learnt, step by step
+pub more-then : {X : Type 0} (us vs ws xs ys : List X) → IsPermutation (us ++ xs) vs → IsPermutation (vs ++ ys) ws → IsPermutation (us ++ (xs ++ ys)) ws
+more-then us vs ws xs ys p q = subst (λ zs. IsPermutation zs ws) (append_assoc us xs ys) (IsPermutation-trans ((us ++ xs) ++ ys) (vs ++ ys) ws (IsPermutation-append_left ys (us ++ xs) vs p) q)
+
+pub lists-longer : {K : Type 0} (f : K → List ℕ) (es fs : List (K × ℕ)) (x : List ℕ × ℕ) → IsPermutation (map {B = List ℕ × ℕ} (λ e. (f e.0, e.1)) es ++ x ∷ []) (map {B = List ℕ × ℕ} (λ e. (f e.0, e.1)) fs) → length fs ≡ length es + 1
+lists-longer f es fs x p =
+    sym (length-map fs (λ e. (f e.0, e.1))) ∙ length_permutation _ _ p ∙ length-append (map (λ e. (f e.0, e.1)) es) (x ∷ []) ∙ ap (λ n. n + 1) (length-map es (λ e. (f e.0, e.1)))
+
+pub shows-none : (r : Resolve) (scope : Scope) (m m' : TypeEncodingMaps) (d d' : Definitions) → m'.id_to_index.entries ≡ m.id_to_index.entries → d'.exports ≡ d.exports → Shows r scope m m' d d'
+shows-none r scope m m' d d' e f = record { learnt = []; shown = []; numbers = subst (λ (es : List (ℕ × ℕ)). IsPermutation (m.id_to_index.entries ++ []) es) (append-nil m.id_to_index.entries ∙ sym e) (IsPermutation-refl _); exports = f ∙ sym (append-nil d.exports); declared = λ x c. none-in x c; names = refl }
+
+pub shows-trans : {r : Resolve} {scope : Scope} {a b c : TypeEncodingMaps} {d e f : Definitions} → Shows r scope a b d e → Shows r scope b c e f → Shows r scope a c d f
+shows-trans {r} {scope} {a} {b} {c} {d} {e} {f} p q = record {
+  learnt = p.learnt ++ q.learnt;
+  shown = p.shown ++ q.shown;
+  numbers = more-then a.id_to_index.entries b.id_to_index.entries c.id_to_index.entries p.learnt q.learnt p.numbers q.numbers;
+  exports = q.exports ∙ ap (λ xs. xs ++ q.shown) p.exports ∙ append_assoc d.exports p.shown q.shown;
+  declared = λ x h. elim (Contains-append_cases p.shown q.shown x h) [ inl y ↦ p.declared x y | inr y ↦ q.declared x y ];
+  names = map-append (λ (x : Text × TypeMeaning). x.0) p.shown q.shown ∙ (λ i. p.names i ++ q.names i) ∙ sym (filter_map-append (λ e. own_name r scope e.0) p.learnt q.learnt);
+}
+
+one-name : (o : Option Text) (t : Text) → o ≡ Some t → cons_option o [] ≡ t ∷ []
+one-name o t e = ap (λ x. cons_option x []) e
+
+-- a number that shows nothing
+shows-unshown : (r : Resolve) (scope : Scope) (m m' : TypeEncodingMaps) (d d' : Definitions) (id : TypeId) (i : ℕ) → LearnsNumber m m' id i → own_name r scope id.0 ≡ None → d'.exports ≡ d.exports → Shows r scope m m' d d'
+shows-unshown r scope m m' d d' id i l n e = record {
+  learnt = (id.0, i) ∷ [];
+  shown = [];
+  numbers = l.more;
+  exports = e ∙ sym (append-nil d.exports);
+  declared = λ x c. none-in x c;
+  names = sym (ap (λ x. cons_option x []) n);
+}
+
+-- a number that is shown by its name
+shows-shown : (r : Resolve) (scope : Scope) (m m' : TypeEncodingMaps) (d d₁ d' : Definitions) (id : TypeId) (i : ℕ) (name : ExternName) → LearnsNumber m m' id i → own_name r scope id.0 ≡ Some name.text → d₁.exports ≡ d.exports → ExportsOne scope d₁ d' name → Shows r scope m m' d d'
+shows-shown r scope m m' d d₁ d' id i name l n e x = record {
+  learnt = (id.0, i) ∷ [];
+  shown = x.declaration ∷ [];
+  numbers = l.more;
+  exports = ap (λ (z : Definitions). z.exports) x.one_more ∙ ap (λ xs. xs ++ x.declaration ∷ []) e;
+  declared = λ y c. subst (λ z. Contains scope.declarations z) (one-contained x.declaration y c) x.there;
+  names = ap (λ (z : ExternName). z.text ∷ []) (sym x.named_) ∙ sym (one-name (own_name r scope id.0) name.text n);
+}
+
+pub counts-none : (r : Resolve) (scope : Scope) (m : TypeEncodingMaps) (d : Definitions) → AddsTypes r scope m m d d
+counts-none r scope m d = record { types = refl; functions = refl; keys = record { lists = refl; names_ = refl }; shows = shows-none r scope m m d d refl refl }
+
+pub counts-trans : {r : Resolve} {scope scope' : Scope} {a b c : TypeEncodingMaps} {d e f : Definitions} → scope' ≡ scope → AddsTypes r scope a b d e → AddsTypes r scope' b c e f → AddsTypes r scope a c d f
+counts-trans {r} {scope} {scope'} {a} {b} {c} {d} {e} {f} s p q =
+    let q' : AddsTypes r scope b c e f = subst (λ (z : Scope). AddsTypes r z b c e f) s q in
+    record { types = (let x = p.types in let y = q'.types in omega arith); functions = q'.functions ∙ p.functions; keys = record { lists = q'.keys.lists ∙ p.keys.lists; names_ = q'.keys.names_ ∙ p.keys.names_ }; shows = shows-trans p.shows q'.shows }
+
+pub counts-kind : (r : Resolve) (scope : Scope) (m m' : TypeEncodingMaps) (d d' : Definitions) (xs : List ℕ) (i : ℕ) → LearnsList m m' xs i → d' ≡ one_type_more d → AddsTypes r scope m m' d d'
+counts-kind r scope m m' d d' xs i l e =
+    let a : d'.types ≡ d.types + 1 = ap (λ (z : Definitions). z.types) e in
+    let b : length m'.def_to_index.entries ≡ length m.def_to_index.entries + 1 = lists-longer (λ (v : Vec ℕ Global). v.items) m.def_to_index.entries m'.def_to_index.entries (xs, i) l.more in
+    let c : names_defined r scope m' ≡ names_defined r scope m = ap (count_by (λ q. is_defined_by_name r scope q.0)) l.rest.numbers in
+    record { types = omega arith; functions = ap (λ (z : Definitions). z.functions) e; keys = record { lists = l.rest.keys; names_ = l.rest.names_ }; shows = shows-none r scope m m' d d' l.rest.numbers (ap (λ (z : Definitions). z.exports) e) }
+
+pub count-push : {X : Type 0} (p : X → Bool) (xs : List X) (x : X) → count_by p (xs ++ x ∷ []) ≡ count_by p xs + cond (p x) 1 0
+count-push p xs x = sum_by-append (λ y. cond (p y) 1 0) xs (x ∷ []) ∙ ap (λ n. count_by p xs + n) (zero-add (cond (p x) 1 0))
+
+number-types : {X : Type 0} (b : Bool) (ys xs : List X) (x : X) (p : X → Bool) (n n' : ℕ) (d d' : ℕ) → p x ≡ b → IsPermutation (xs ++ x ∷ []) ys → n' ≡ n → d' ≡ d + cond b 1 0 → d' + (n + count_by p xs) ≡ d + (n' + count_by p ys)
+number-types b ys xs x p n n' d d' q l s e =
+    let c : count_by p ys ≡ count_by p xs + cond b 1 0 = sum_by-IsPermutation (λ y. cond (p y) 1 0) _ ys l ∙ count-push p xs x ∙ ap (λ (z : Bool). count_by p xs + cond z 1 0) q in
+    omega arith
+
+more-types : (b : Bool) (d : Definitions) → (type_more_if b d).types ≡ d.types + cond b 1 0
+more-types true d = refl
+more-types false d = omega arith
+
+more-functions : (b : Bool) (d : Definitions) → (type_more_if b d).functions ≡ d.functions
+more-functions true d = refl
+more-functions false d = refl
+
+more-exports : (b : Bool) (d : Definitions) → (type_more_if b d).exports ≡ d.exports
+more-exports true d = refl
+more-exports false d = refl
+
+counts-learnt : (r : Resolve) (scope : Scope) (m m' : TypeEncodingMaps) (d d₁ d' : Definitions) (id : TypeId) (i : ℕ) → LearnsNumber m m' id i → d₁ ≡ type_more_if (is_defined_by_name r scope id.0) d → d'.types ≡ d₁.types → d'.functions ≡ d₁.functions → Shows r scope m m' d d' → AddsTypes r scope m m' d d'
+counts-learnt r scope m m' d d₁ d' id i l e t f s =
+    let b = is_defined_by_name r scope id.0 in
+    record {
+      types = number-types b m'.id_to_index.entries m.id_to_index.entries (id.0, i) (λ q. is_defined_by_name r scope q.0) (length m.def_to_index.entries) (length m'.def_to_index.entries) d.types d'.types refl l.more (ap length l.rest.kinds)
+          (t ∙ ap (λ (z : Definitions). z.types) e ∙ more-types b d);
+      functions = f ∙ ap (λ (z : Definitions). z.functions) e ∙ more-functions b d;
+      keys = record { lists = l.rest.keys; names_ = l.rest.names_ };
+      shows = s;
+    }
+
+-- a number that is exported under no name
+pub counts-number : (r : Resolve) (scope : Scope) (m m' : TypeEncodingMaps) (d d' : Definitions) (id : TypeId) (i : ℕ) → LearnsNumber m m' id i → own_name r scope id.0 ≡ None → d' ≡ type_more_if (is_defined_by_name r scope id.0) d → AddsTypes r scope m m' d d'
+counts-number r scope m m' d d' id i l n e =
+    counts-learnt r scope m m' d d' d' id i l e refl refl (shows-unshown r scope m m' d d' id i l n (ap (λ (z : Definitions). z.exports) e ∙ more-exports (is_defined_by_name r scope id.0) d))
+
+-- a number that is exported under its name
+pub counts-named : (r : Resolve) (scope : Scope) (m m' : TypeEncodingMaps) (d d₁ d' : Definitions) (id : TypeId) (i : ℕ) (name : ExternName) → LearnsNumber m m' id i → own_name r scope id.0 ≡ Some name.text → d₁ ≡ type_more_if (is_defined_by_name r scope id.0) d → ExportsOne scope d₁ d' name → AddsTypes r scope m m' d d'
+counts-named r scope m m' d d₁ d' id i name l n e x =
+    counts-learnt r scope m m' d d₁ d' id i l e (ap (λ (z : Definitions). z.types) x.one_more) (ap (λ (z : Definitions). z.functions) x.one_more)
+    (shows-shown r scope m m' d d₁ d' id i name l n (ap (λ (z : Definitions). z.exports) e ∙ more-exports (is_defined_by_name r scope id.0) d) x)
+
+-- ---- what calls leave
+
+pub leaves-kept : {r : Resolve} {v v' : View} → Agrees r v → Grows v v' → v'.scope ≡ v.scope → v'.maps ≡ v.maps → Leaves r v v'
+leaves-kept {r} {v} {v'} a g s e = record {
+  agree = subst (λ (z : TypeEncodingMaps). MapsAgree r z v'.stands) (sym e) (record { says = λ k i h. g.kept i _ (a.says k i h); once = a.once });
+  maps_grow = record { keeps = λ k i h. subst (λ (z : TypeEncodingMaps). Holds z k i) (sym e) h };
+  grows = g;
+  scope_stays = s;
+}
+
+pub leaves-trans : {r : Resolve} {v v' v'' : View} → Leaves r v v' → Leaves r v' v'' → Leaves r v v''
+leaves-trans {r} {v} {v'} {v''} p q = record {
+  agree = q.agree;
+  maps_grow = record { keeps = λ k i h. q.maps_grow.keeps k i (p.maps_grow.keeps k i h) };
+  grows = record {
+    kept = λ i x h. q.grows.kept i x (p.grows.kept i x h);
+    more = (let x = p.grows.more in let y = q.grows.more in omega arith);
+    around_ = around-trans p.grows.around_ (subst (λ (z : Scope). GrowsAround z.packages v'.around v''.around) p.scope_stays q.grows.around_);
+  };
+  scope_stays = q.scope_stays ∙ p.scope_stays;
+}

@@ -1,0 +1,261 @@
+-- Equal lists are those of equal kinds, and of equal keys of functions.
+use Rattle.std.proofs.Common.{◌≡◌, refl, sym, subst, ap, ◌∙◌, ℕ, suc, ◌+◌, ◌-◌, ◌≤◌, Bool, true, false, ◌&&◌, List, [], ◌∷◌, ◌++◌, map, length, get_or, Option, Some, None, arith, rules, nat_eq}
+use Rattle.std.specs.List.{Contains}
+use Rattle.std.specs.Option.{option_eq}
+use Rattle.std.specs.Cmp.Lexicographic.{pointwise}
+use Rattle.std.proofs.lemmas.Bool.{eqb-true, eq-eqb}
+use Rattle.std.proofs.lemmas.List.{get_or_past}
+use mathlib.Core.Bool.{beq}
+use Rattle.wit_model.proofs.Lists.{first_true, second_true}
+use Rattle.wit_model.specs.Text.{Text, text_of, text_eq}
+use Rattle.wit_model.specs.Rules.{is_named_kind}
+use Rattle.wit_model.specs.declared.model.Param.{Param}
+use Rattle.wit_model.specs.declared.model.TypeDefKind.{TypeDefKind}
+use Rattle.wit_model.specs.declared.model.TypeDefKind.TheVariants as kind
+use Rattle.wit_model.specs.declared.model.Handle.TheVariants as handle
+use Rattle.wit_model.specs.declared.model.«Type».{«Type» as ValueType}
+use Rattle.wit_model.specs.declared.model.«Type».TheVariants as ty
+use Rattle.encode_types.specs.declared.key.FunctionKey.{FunctionKey}
+use Rattle.encode_types.specs.Key.{same_type, same_param, same_params, same_key}
+use Rattle.encode_types.specs.KeyLaws.{type_equiv, text_same}
+use Rattle.encode_types.specs.Maps.{same_kind}
+use Rattle.encode_types.specs.Codes.{type_code, optional_code, kind_code, Names, IsTable, AreListed, async_code, IsKeyList}
+use Rattle.encode_types.specs.CodeLaws.{EqualKinds, EqualKeys}
+use Rattle.encode_types.proofs.KindLaws.{same_types, optional_same, types_same}
+use Rattle.encode_types.proofs.Lists.{both}
+
+-- ---- types
+
+abbrev primitives : List ValueType
+primitives = ty.Bool ∷ ty.U8 ∷ ty.U16 ∷ ty.U32 ∷ ty.U64 ∷ ty.S8 ∷ ty.S16 ∷ ty.S32 ∷ ty.S64 ∷ ty.F32 ∷ ty.F64 ∷ ty.Char ∷ ty.String ∷ ty.ErrorContext ∷ []
+
+abbrev type_at_code : ℕ → ValueType
+type_at_code n = get_or primitives n (ty.Id (record { 0 = n - 14 }))
+
+code-back : (t : ValueType) → type_at_code (type_code t) ≡ t
+code-back ty.Bool = refl
+code-back ty.U8 = refl
+code-back ty.U16 = refl
+code-back ty.U32 = refl
+code-back ty.U64 = refl
+code-back ty.S8 = refl
+code-back ty.S16 = refl
+code-back ty.S32 = refl
+code-back ty.S64 = refl
+code-back ty.F32 = refl
+code-back ty.F64 = refl
+code-back ty.Char = refl
+code-back ty.String = refl
+code-back ty.ErrorContext = refl
+code-back (ty.Id id) =
+    let e : (14 + id.0) - 14 ≡ id.0 = omega arith in
+    let l : 14 ≤ 14 + id.0 = omega arith in
+    get_or_past primitives (14 + id.0) (ty.Id (record { 0 = (14 + id.0) - 14 })) l ∙ ap (λ n. ty.Id (record { 0 = n })) e
+
+pub type-of-code : (a b : ValueType) → type_code a ≡ type_code b → a ≡ b
+type-of-code a b e = sym (code-back a) ∙ ap type_at_code e ∙ code-back b
+
+head-same : (x y : ℕ) (xs ys : List ℕ) → x ∷ xs ≡ y ∷ ys → x ≡ y
+head-same x y xs ys e = ap (λ l. get_or l 0 x) e
+
+abbrev tail_of : List ℕ → List ℕ
+tail_of [] = []
+tail_of (x ∷ xs) = xs
+
+tail-same : (x y : ℕ) (xs ys : List ℕ) → x ∷ xs ≡ y ∷ ys → xs ≡ ys
+tail-same x y xs ys e = ap tail_of e
+
+same-refl : (a b : ValueType) → a ≡ b → same_type a b ≡ true
+same-refl a b e = subst (λ x. same_type a x ≡ true) e (type_equiv.refl a)
+
+types-of-codes : (xs ys : List ValueType) → map type_code xs ≡ map type_code ys → pointwise same_type xs ys ≡ true
+types-of-codes [] [] e = refl
+types-of-codes [] (y ∷ ys) e = absurd (let z : ⊥ = cc in z)
+types-of-codes (x ∷ xs) [] e = absurd (let z : ⊥ = cc in z)
+types-of-codes (x ∷ xs) (y ∷ ys) e = both _ _ (same-refl x y (type-of-code x y (head-same _ _ _ _ e))) (types-of-codes xs ys (tail-same _ _ _ _ e))
+
+-- what follows an optional part is known from the whole
+optional-of-code : (a b : Option ValueType) (xs ys : List ℕ) → optional_code a ++ xs ≡ optional_code b ++ ys → (option_eq same_type a b ≡ true) × (xs ≡ ys)
+optional-of-code None None xs ys e = (refl, tail-same _ _ _ _ e)
+optional-of-code None (Some b) xs ys e = absurd (let h : 0 ≡ 1 = head-same _ _ _ _ e in omega (arith, h))
+optional-of-code (Some a) None xs ys e = absurd (let h : 1 ≡ 0 = head-same _ _ _ _ e in omega (arith, h))
+optional-of-code (Some a) (Some b) xs ys e =
+    let t = tail-same _ _ _ _ e in
+    (same-refl a b (type-of-code a b (head-same _ _ _ _ t)), tail-same _ _ _ _ t)
+
+optional-alone : (a b : Option ValueType) → optional_code a ≡ optional_code b → option_eq same_type a b ≡ true
+optional-alone None None e = refl
+optional-alone None (Some b) e = absurd (let h : 0 ≡ 1 = head-same _ _ _ _ e in omega (arith, h))
+optional-alone (Some a) None e = absurd (let h : 1 ≡ 0 = head-same _ _ _ _ e in omega (arith, h))
+optional-alone (Some a) (Some b) e = same-refl a b (type-of-code a b (head-same _ _ _ _ (tail-same _ _ _ _ e)))
+
+-- ---- kinds
+
+codes-of-types : (xs ys : List ValueType) → pointwise same_type xs ys ≡ true → map type_code xs ≡ map type_code ys
+codes-of-types xs ys e = ap (map type_code) (types_same xs ys e)
+
+one-number : (n m a b : ℕ) (xs ys : List ℕ) → n ∷ a ∷ xs ≡ m ∷ b ∷ ys → a ≡ b
+one-number n m a b xs ys e = head-same _ _ _ _ (tail-same _ _ _ _ e)
+
+two-numbers : (n m a b c d : ℕ) (xs ys : List ℕ) → n ∷ a ∷ c ∷ xs ≡ m ∷ b ∷ d ∷ ys → c ≡ d
+two-numbers n m a b c d xs ys e = head-same _ _ _ _ (tail-same _ _ _ _ (tail-same _ _ _ _ e))
+
+pub kinds-of-lists : (a b : TypeDefKind) → is_named_kind a ≡ false → is_named_kind b ≡ false → kind_code a ≡ kind_code b → same_kind a b ≡ true
+kinds-of-lists (kind.Handle (handle.Own a)) (kind.Handle (handle.Own b)) n m e = let h : 14 + a.0 ≡ 14 + b.0 = one-number _ _ _ _ _ _ e in eq-eqb a.0 b.0 (omega (arith, h))
+kinds-of-lists (kind.Handle (handle.Borrow a)) (kind.Handle (handle.Borrow b)) n m e = let h : 14 + a.0 ≡ 14 + b.0 = one-number _ _ _ _ _ _ e in eq-eqb a.0 b.0 (omega (arith, h))
+kinds-of-lists (kind.Handle (handle.Own a)) (kind.Handle (handle.Borrow b)) n m e = absurd (let z : ⊥ = cc in z)
+kinds-of-lists (kind.Handle (handle.Borrow a)) (kind.Handle (handle.Own b)) n m e = absurd (let z : ⊥ = cc in z)
+kinds-of-lists _ (kind.Handle (handle.Own b)) n m e = absurd (let z : ⊥ = cc in z)
+kinds-of-lists _ (kind.Handle (handle.Borrow b)) n m e = absurd (let z : ⊥ = cc in z)
+kinds-of-lists (kind.Handle (handle.Own a)) _ n m e = absurd (let z : ⊥ = cc in z)
+kinds-of-lists (kind.Handle (handle.Borrow a)) _ n m e = absurd (let z : ⊥ = cc in z)
+kinds-of-lists (kind.Option a) (kind.Option b) n m e = same-refl a b (type-of-code a b (one-number _ _ _ _ _ _ e))
+kinds-of-lists (kind.Option a) _ n m e = absurd (let z : ⊥ = cc in z)
+kinds-of-lists (kind.List a) (kind.List b) n m e = same-refl a b (type-of-code a b (one-number _ _ _ _ _ _ e))
+kinds-of-lists (kind.List a) _ n m e = absurd (let z : ⊥ = cc in z)
+kinds-of-lists (kind.Tuple a) (kind.Tuple b) n m e = types-of-codes a.types.items b.types.items (tail-same _ _ _ _ e)
+kinds-of-lists (kind.Tuple a) _ n m e = absurd (let z : ⊥ = cc in z)
+kinds-of-lists (kind.Result a) (kind.Result b) n m e =
+    let h = optional-of-code a.ok b.ok (optional_code a.err) (optional_code b.err) (tail-same _ _ _ _ e) in
+    both _ _ h.0 (optional-alone a.err b.err h.1)
+kinds-of-lists (kind.Result a) _ n m e = absurd (let z : ⊥ = cc in z)
+kinds-of-lists (kind.Map a x) (kind.Map b y) n m e = both _ _ (same-refl a b (type-of-code a b (one-number _ _ _ _ _ _ e))) (same-refl x y (type-of-code x y (two-numbers _ _ _ _ _ _ _ _ e)))
+kinds-of-lists (kind.Map a x) _ n m e = absurd (let z : ⊥ = cc in z)
+kinds-of-lists (kind.FixedLengthList a x) (kind.FixedLengthList b y) n m e = both _ _ (same-refl a b (type-of-code a b (one-number _ _ _ _ _ _ e))) (eq-eqb x y (two-numbers _ _ _ _ _ _ _ _ e))
+kinds-of-lists (kind.FixedLengthList a x) _ n m e = absurd (let z : ⊥ = cc in z)
+kinds-of-lists (kind.Future a) (kind.Future b) n m e = optional-alone a b (tail-same _ _ _ _ e)
+kinds-of-lists (kind.Future a) _ n m e = absurd (let z : ⊥ = cc in z)
+kinds-of-lists (kind.Stream a) (kind.Stream b) n m e = optional-alone a b (tail-same _ _ _ _ e)
+kinds-of-lists (kind.Stream a) _ n m e = absurd (let z : ⊥ = cc in z)
+kinds-of-lists _ _ n m e = absurd (let z : ⊥ = cc in z)
+
+pub lists-of-kinds : (a b : TypeDefKind) → is_named_kind a ≡ false → same_kind a b ≡ true → kind_code a ≡ kind_code b
+lists-of-kinds (kind.Option a) (kind.Option b) n e = let h : same_type a b ≡ true = search rules in ap (λ t. kind_code (kind.Option t)) (same_types a b h)
+lists-of-kinds (kind.Option a) _ n e = absurd (let z : ⊥ = cc in z)
+lists-of-kinds (kind.List a) (kind.List b) n e = let h : same_type a b ≡ true = search rules in ap (λ t. kind_code (kind.List t)) (same_types a b h)
+lists-of-kinds (kind.List a) _ n e = absurd (let z : ⊥ = cc in z)
+lists-of-kinds (kind.Handle a) (kind.Handle b) n e = let h : kind.Handle a ≡ kind.Handle b = search rules in ap kind_code h
+lists-of-kinds (kind.Handle a) _ n e = absurd (let z : ⊥ = cc in z)
+lists-of-kinds (kind.Tuple a) (kind.Tuple b) n e = let h : pointwise same_type a.types.items b.types.items ≡ true = search rules in ap (λ xs. 2 ∷ map type_code xs) (types_same _ _ h)
+lists-of-kinds (kind.Tuple a) _ n e = absurd (let z : ⊥ = cc in z)
+lists-of-kinds (kind.Result a) (kind.Result b) n e =
+    let h = optional_same a.ok b.ok (first_true (option_eq same_type a.ok b.ok) (option_eq same_type a.err b.err) e) in
+    let k = optional_same a.err b.err (second_true (option_eq same_type a.ok b.ok) (option_eq same_type a.err b.err) e) in
+    λ i. 4 ∷ (optional_code (h i) ++ optional_code (k i))
+lists-of-kinds (kind.Result a) _ n e = absurd (let z : ⊥ = cc in z)
+lists-of-kinds (kind.Map a x) (kind.Map b y) n e =
+    let h = same_types a b (first_true (same_type a b) (same_type x y) e) in
+    let k = same_types x y (second_true (same_type a b) (same_type x y) e) in
+    λ i. kind_code (kind.Map (h i) (k i))
+lists-of-kinds (kind.Map a x) _ n e = absurd (let z : ⊥ = cc in z)
+lists-of-kinds (kind.FixedLengthList a x) (kind.FixedLengthList b y) n e =
+    let h = same_types a b (first_true (same_type a b) (nat_eq x y) e) in
+    let k = eqb-true x y (second_true (same_type a b) (nat_eq x y) e) in
+    λ i. kind_code (kind.FixedLengthList (h i) (k i))
+lists-of-kinds (kind.FixedLengthList a x) _ n e = absurd (let z : ⊥ = cc in z)
+lists-of-kinds (kind.Future a) (kind.Future b) n e = let h : option_eq same_type a b ≡ true = search rules in ap (λ t. kind_code (kind.Future t)) (optional_same a b h)
+lists-of-kinds (kind.Future a) _ n e = absurd (let z : ⊥ = cc in z)
+lists-of-kinds (kind.Stream a) (kind.Stream b) n e = let h : option_eq same_type a b ≡ true = search rules in ap (λ t. kind_code (kind.Stream t)) (optional_same a b h)
+lists-of-kinds (kind.Stream a) _ n e = absurd (let z : ⊥ = cc in z)
+lists-of-kinds _ _ n e = absurd (let z : ⊥ = cc in z)
+
+pub equal_kinds : EqualKinds
+equal_kinds = λ a b n m. record { same = kinds-of-lists a b n m; equal = lists-of-kinds a b n }
+
+-- ---- keys of functions
+
+text-refl : (t : Text) → text_eq t t ≡ true
+text-refl [] = refl
+text-refl (x ∷ xs) = both _ _ (eq-eqb x x refl) (text-refl xs)
+
+-- lists of equally many parameters, and what follows them
+params-of-lists : (names : Names) → IsTable names → (ps qs : List Param) (xs ys us vs : List ℕ) → AreListed names ps xs → AreListed names qs ys → length ps ≡ length qs → xs ++ us ≡ ys ++ vs
+    → (pointwise same_param ps qs ≡ true) × (us ≡ vs)
+params-of-lists names t [] [] [] [] us vs l k n e = (refl, e)
+params-of-lists names t [] [] (x ∷ xs) ys us vs l k n e = absurd l
+params-of-lists names t [] [] [] (y ∷ ys) us vs l k n e = absurd k
+params-of-lists names t [] (q ∷ qs) xs ys us vs l k n e = absurd (omega (arith, n))
+params-of-lists names t (p ∷ ps) [] xs ys us vs l k n e = absurd (omega (arith, n))
+params-of-lists names t (p ∷ ps) (q ∷ qs) [] ys us vs l k n e = absurd l
+params-of-lists names t (p ∷ ps) (q ∷ qs) (x ∷ []) ys us vs l k n e = absurd l
+params-of-lists names t (p ∷ ps) (q ∷ qs) (x ∷ a ∷ xs) [] us vs l k n e = absurd k
+params-of-lists names t (p ∷ ps) (q ∷ qs) (x ∷ a ∷ xs) (y ∷ []) us vs l k n e = absurd k
+params-of-lists names t (p ∷ ps) (q ∷ qs) (x ∷ a ∷ xs) (y ∷ b ∷ ys) us vs l k n e =
+    let h : x ≡ y = head-same _ _ _ _ e in
+    let r = tail-same _ _ _ _ e in
+    let c : a ≡ b = head-same _ _ _ _ r in
+    let name : text_of p.name ≡ text_of q.name = t.one_text _ _ y (subst (λ m. Contains names (text_of p.name, m)) h l.0) k.0 in
+    let value : p.ty ≡ q.ty = type-of-code p.ty q.ty (sym l.1 ∙ c ∙ k.1) in
+    let more = params-of-lists names t ps qs xs ys us vs l.2 k.2 (omega (arith, n)) (tail-same _ _ _ _ r) in
+    (both _ _ (both _ _ (subst (λ w. text_eq (text_of p.name) w ≡ true) name (text-refl (text_of p.name))) (same-refl p.ty q.ty value)) more.0, more.1)
+
+lists-of-params : (names : Names) → IsTable names → (ps qs : List Param) (xs ys : List ℕ) → AreListed names ps xs → AreListed names qs ys → pointwise same_param ps qs ≡ true → (xs ≡ ys) × (length ps ≡ length qs)
+lists-of-params names t [] [] [] [] l k e = (refl, refl)
+lists-of-params names t [] [] (x ∷ xs) ys l k e = absurd l
+lists-of-params names t [] [] [] (y ∷ ys) l k e = absurd k
+lists-of-params names t [] (q ∷ qs) xs ys l k e = absurd (let z : ⊥ = cc in z)
+lists-of-params names t (p ∷ ps) [] xs ys l k e = absurd (let z : ⊥ = cc in z)
+lists-of-params names t (p ∷ ps) (q ∷ qs) [] ys l k e = absurd l
+lists-of-params names t (p ∷ ps) (q ∷ qs) (x ∷ []) ys l k e = absurd l
+lists-of-params names t (p ∷ ps) (q ∷ qs) (x ∷ a ∷ xs) [] l k e = absurd k
+lists-of-params names t (p ∷ ps) (q ∷ qs) (x ∷ a ∷ xs) (y ∷ []) l k e = absurd k
+lists-of-params names t (p ∷ ps) (q ∷ qs) (x ∷ a ∷ xs) (y ∷ b ∷ ys) l k e =
+    let one = first_true (same_param p q) (pointwise same_param ps qs) e in
+    let name = text_same _ _ (first_true (text_eq (text_of p.name) (text_of q.name)) (same_type p.ty q.ty) one) in
+    let value = same_types p.ty q.ty (second_true (text_eq (text_of p.name) (text_of q.name)) (same_type p.ty q.ty) one) in
+    let number : x ≡ y = t.one_number _ x y (subst (λ w. Contains names (w, x)) name l.0) k.0 in
+    let code : a ≡ b = l.1 ∙ ap type_code value ∙ sym k.1 in
+    let more = lists-of-params names t ps qs xs ys l.2 k.2 (second_true (same_param p q) (pointwise same_param ps qs) e) in
+    (λ i. number i ∷ code i ∷ more.0 i, ap suc more.1)
+
+-- A list that is that of parameters in a table, and of others in a smaller one: so it is that of the first in the smaller one.
+listed-shrink : (names names' : Names) → IsTable names' → ((t : Text) (n : ℕ) → Contains names (t, n) → Contains names' (t, n)) → (ps qs : List Param) (xs ys us vs : List ℕ) → AreListed names' ps xs → AreListed names qs ys
+    → length ps ≡ length qs → xs ++ us ≡ ys ++ vs → AreListed names ps xs
+listed-shrink names names' t g [] qs [] ys us vs l k n e = tt
+listed-shrink names names' t g [] qs (x ∷ xs) ys us vs l k n e = absurd l
+listed-shrink names names' t g (p ∷ ps) [] xs ys us vs l k n e = absurd (omega (arith, n))
+listed-shrink names names' t g (p ∷ ps) (q ∷ qs) [] ys us vs l k n e = absurd l
+listed-shrink names names' t g (p ∷ ps) (q ∷ qs) (x ∷ []) ys us vs l k n e = absurd l
+listed-shrink names names' t g (p ∷ ps) (q ∷ qs) (x ∷ a ∷ xs) [] us vs l k n e = absurd k
+listed-shrink names names' t g (p ∷ ps) (q ∷ qs) (x ∷ a ∷ xs) (y ∷ []) us vs l k n e = absurd k
+listed-shrink names names' t g (p ∷ ps) (q ∷ qs) (x ∷ a ∷ xs) (y ∷ b ∷ ys) us vs l k n e =
+    let h : y ≡ x = sym (head-same _ _ _ _ e) in
+    let there : Contains names (text_of q.name, x) = subst (λ m. Contains names (text_of q.name, m)) h k.0 in
+    let name : text_of q.name ≡ text_of p.name = t.one_text _ _ x (g _ x there) l.0 in
+    (subst (λ w. Contains names (w, x)) name there, l.1, listed-shrink names names' t g ps qs xs ys us vs l.2 k.2 (omega (arith, n)) (tail-same _ _ _ _ (tail-same _ _ _ _ e)))
+
+pub key-shrink : (names names' : Names) → IsTable names' → ((t : Text) (n : ℕ) → Contains names (t, n) → Contains names' (t, n)) → (a b : FunctionKey) (xs : List ℕ) → IsKeyList names' a xs → IsKeyList names b xs → IsKeyList names a xs
+key-shrink names names' t g a b xs l k =
+    let w = sym l.is ∙ k.is in
+    let r = tail-same _ _ _ _ w in
+    record { middle = l.middle; listed = listed-shrink names names' t g a.params.0.now b.params.0.now l.middle k.middle _ _ l.listed k.listed (head-same _ _ _ _ r) (tail-same _ _ _ _ r); is = l.is }
+
+async-back : (a b : Bool) → async_code a ≡ async_code b → beq a b ≡ true
+async-back true true e = refl
+async-back false false e = refl
+async-back true false e = absurd (let z : ⊥ = cc in z)
+async-back false true e = absurd (let z : ⊥ = cc in z)
+
+async-same : (a b : Bool) → beq a b ≡ true → async_code a ≡ async_code b
+async-same true true e = refl
+async-same false false e = refl
+async-same true false e = absurd (let z : ⊥ = cc in z)
+async-same false true e = absurd (let z : ⊥ = cc in z)
+
+pub keys-of-lists : (names : Names) (a b : FunctionKey) (xs ys : List ℕ) → IsTable names → IsKeyList names a xs → IsKeyList names b ys → xs ≡ ys → same_key a b ≡ true
+keys-of-lists names a b xs ys t l k e =
+    let w = sym l.is ∙ e ∙ k.is in
+    let r = tail-same _ _ _ _ w in
+    let m = params-of-lists names t a.params.0.now b.params.0.now l.middle k.middle _ _ l.listed k.listed (head-same _ _ _ _ r) (tail-same _ _ _ _ r) in
+    both _ _ (async-back a.async_ b.async_ (head-same _ _ _ _ w)) (both _ _ m.0 (optional-alone a.result.now b.result.now m.1))
+
+pub lists-of-keys : (names : Names) (a b : FunctionKey) (xs ys : List ℕ) → IsTable names → IsKeyList names a xs → IsKeyList names b ys → same_key a b ≡ true → xs ≡ ys
+lists-of-keys names a b xs ys t l k e =
+    let rest = second_true (beq a.async_ b.async_) (same_params a.params b.params && option_eq same_type a.result.now b.result.now) e in
+    let m = lists-of-params names t a.params.0.now b.params.0.now l.middle k.middle l.listed k.listed (first_true (same_params a.params b.params) (option_eq same_type a.result.now b.result.now) rest) in
+    let s = async-same a.async_ b.async_ (first_true (beq a.async_ b.async_) (same_params a.params b.params && option_eq same_type a.result.now b.result.now) e) in
+    let o = optional_same a.result.now b.result.now (second_true (same_params a.params b.params) (option_eq same_type a.result.now b.result.now) rest) in
+    l.is ∙ (λ i. s i ∷ m.1 i ∷ (m.0 i ++ optional_code (o i))) ∙ sym k.is
+
+pub equal_keys : EqualKeys
+equal_keys = λ names a b xs ys t l k. record { same = keys-of-lists names a b xs ys t l k; equal = lists-of-keys names a b xs ys t l k }

@@ -1,0 +1,74 @@
+-- Types of functions by their keys.
+use Rattle.std.proofs.Common.{◌≡◌, refl, sym, subst, ap, ℕ, ◌+◌, List, [], ◌∷◌, ◌++◌, inl, inr, map, Result, Ok, Err, IfOk, option_map, length, arith, count_by, Vec}
+use Rattle.std.specs.Prelude.{IsPermutation}
+use Rattle.std.specs.Borrow.{Bor}
+use Rattle.std.specs.declared.alloc.Global.{Global}
+use Rattle.std.specs.List.{Contains}
+use Rattle.std.proofs.lemmas.List.Elements.{Contains-append_left, Contains-append_right}
+use Rattle.wit_model.specs.Text.{Text, text_of}
+use Rattle.wit_model.specs.Types.{trees_of, tree_of}
+use Rattle.wit_model.specs.Meant.{signature_of}
+use Rattle.wit_model.specs.Meaning.{Signature}
+use Rattle.wit_model.specs.declared.model.Resolve.{Resolve}
+use Rattle.wit_model.specs.declared.model.Function.{Function}
+use Rattle.wit_model.specs.declared.model.«Type».{«Type» as ValueType}
+use Rattle.encode_types.specs.declared.key.FunctionKey.{FunctionKey}
+use Rattle.encode_types.specs.declared.maps.TypeEncodingMaps.{TypeEncodingMaps}
+use Rattle.encode_types.specs.Key.{IsKeyOf, key_signature}
+use Rattle.encode_types.specs.Maps.{MapsAgree, NamesGrow, HasKey, LacksKey, LearnsKey, by_key}
+use Rattle.encode_types.specs.Slots.{Pairs, function}
+use Rattle.encode_types.specs.Scope.{Scope}
+use Rattle.encode_types.specs.Fits.{CanEncode}
+use Rattle.encode_types.specs.Codes.{names_of, lists_of, IsKeyList}
+use Rattle.encode_types.specs.Counts.{SameKeys, Definitions, one_function_more, AddsTypes, AddsFunction, names_defined, is_defined_by_name}
+use Rattle.encode_types.proofs.Defining.{shows-none, shows-trans, lists-longer}
+
+pub ok-map : {A E : Type 0} (x : Result A E) (P Q : A → Type 0) → ((a : A) → P a → Q a) → IfOk x P → IfOk x Q
+ok-map (Ok a) P Q f p = f a p
+ok-map (Err e) P Q f p = p
+
+pub key-signature : (r : Resolve) (key : FunctionKey) (f : Function) → IsKeyOf key f → key_signature r key ≡ signature_of r f
+key-signature r key f k = λ i. record {
+  is_async = k.async i;
+  params = map (λ p. (text_of p.name, tree_of (trees_of r) p.ty)) (k.params i);
+  result = option_map (tree_of (trees_of r)) (k.result_ i);
+}
+
+-- what a key that is known has as its slot
+pub key-stands : (r : Resolve) (m : TypeEncodingMaps) (S : Pairs) (key : FunctionKey) (f : Function) (i : ℕ) → MapsAgree r m S → IsKeyOf key f → HasKey m key i → S i (function (signature_of r f))
+key-stands r m S key f i a k h = subst (λ (z : Signature). S i (function z)) (key-signature r key f k) (a.says (by_key key) i h)
+
+-- ---- what is asked of parameters and results
+
+pub encode-left : (r : Resolve) (scope : Scope) (xs ys : List ValueType) → CanEncode r scope (xs ++ ys) → CanEncode r scope xs
+encode-left r scope xs ys c = record { packages_ = c.packages_; layered = c.layered; in_range = λ t h. c.in_range t (Contains-append_left xs ys t h); fits = λ t h. c.fits t (Contains-append_left xs ys t h) }
+
+pub encode-right : (r : Resolve) (scope scope' : Scope) (xs ys : List ValueType) → scope' ≡ scope → CanEncode r scope (xs ++ ys) → CanEncode r scope' ys
+encode-right r scope scope' xs ys e c =
+    subst (λ (z : Scope). CanEncode r z ys) (sym e) (record { packages_ = c.packages_; layered = c.layered; in_range = λ t h. c.in_range t (Contains-append_right xs ys t h); fits = λ t h. c.fits t (Contains-append_right xs ys t h) })
+
+-- ---- counts
+
+pub counts-key : (r : Resolve) (scope : Scope) (m m₁ m' : TypeEncodingMaps) (d d₁ d' : Definitions) (key : FunctionKey) (i : ℕ) → LacksKey m key → AddsTypes r scope m m₁ d d₁ → LearnsKey m₁ m' key i → d' ≡ one_function_more d₁ → AddsFunction r scope m m' d d' key i
+counts-key r scope m m₁ m' d d₁ d' key i lacks a l e =
+    let t : d'.types ≡ d₁.types = ap (λ (z : Definitions). z.types) e in
+    let f : d'.functions ≡ d₁.functions + 1 = ap (λ (z : Definitions). z.functions) e in
+    let f₁ : d₁.functions ≡ d.functions = a.functions in
+    let old = a.types in
+    let kinds : length m'.def_to_index.entries ≡ length m₁.def_to_index.entries = ap length l.rest.kinds in
+    let names : names_defined r scope m' ≡ names_defined r scope m₁ = ap (count_by (λ e. is_defined_by_name r scope e.0)) l.rest.numbers in
+    let more : IsPermutation (lists_of m.func_type_map ++ (l.list, i) ∷ []) (lists_of m'.func_type_map) =
+    subst (λ (es : List (Vec ℕ Global × ℕ)). IsPermutation (map {B = List ℕ × ℕ} (λ e. (e.0.items, e.1)) es ++ (l.list, i) ∷ []) (lists_of m'.func_type_map)) a.keys.lists l.more in
+    let many : length m'.func_type_map.entries ≡ length m.func_type_map.entries + 1 = lists-longer (λ (v : Vec ℕ Global). v.items) m.func_type_map.entries m'.func_type_map.entries (l.list, i) more in
+    let grow : NamesGrow (names_of m.names) (names_of m'.names) = subst (λ (ns : List (Bor Text × ℕ)). NamesGrow (map {B = Text × ℕ} (λ e. (e.0.now, e.1)) ns) (names_of m'.names)) a.keys.names_ l.grow in
+    record { types = omega arith; functions = omega arith; keys = inr (lacks, record { grow = grow; list = l.list; is = l.is; more = more }); shows = shows-trans a.shows (shows-none r scope m₁ m' d₁ d' l.rest.numbers (ap (λ (z : Definitions). z.exports) e)) }
+
+pub counts-known : (r : Resolve) (scope : Scope) (m : TypeEncodingMaps) (d : Definitions) (key : FunctionKey) (i : ℕ) → HasKey m key i → AddsFunction r scope m m d d key i
+counts-known r scope m d key i h = record { types = refl; functions = refl; keys = inl (h, record { lists = refl; names_ = refl }); shows = shows-none r scope m m d d refl refl }
+
+pub lacks-same : (m m' : TypeEncodingMaps) (key : FunctionKey) → SameKeys m m' → LacksKey m key → LacksKey m' key
+lacks-same m m' key e l i h = l i (
+  h.0,
+  subst (λ (ns : List (Bor Text × ℕ)). IsKeyList (map {B = Text × ℕ} (λ e. (e.0.now, e.1)) ns) key h.0) e.names_ h.1,
+  subst (λ (es : List (Vec ℕ Global × ℕ)). Contains (map {B = List ℕ × ℕ} (λ e. (e.0.items, e.1)) es) (h.0, i)) e.lists h.2,
+)

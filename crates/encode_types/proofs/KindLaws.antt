@@ -1,0 +1,96 @@
+-- Kinds that are the same declare the same tree.
+use Rattle.std.proofs.Common.{◌≡◌, refl, sym, ap, Bool, true, false, ◌&&◌, rules, List, [], ◌∷◌, map, Option, Some, None, option_map, nat_eq}
+use Rattle.wit_model.specs.declared.model.TypeDefKind.{TypeDefKind}
+use Rattle.wit_model.specs.declared.model.TypeDefKind.TheVariants as kind
+use Rattle.wit_model.specs.declared.model.«Type».{«Type» as ValueType}
+use Rattle.wit_model.specs.Rules.{is_named_kind}
+use Rattle.wit_model.specs.Tree.{Tree, type_, tuple_tree, result_tree, map_tree, fixed_list_tree}
+use Rattle.wit_model.specs.Types.{declared_by, tree_of}
+use Rattle.std.specs.Option.{option_eq}
+use Rattle.std.specs.Cmp.Lexicographic.{pointwise}
+use Rattle.wit_model.proofs.Lists.{first_true, second_true}
+use Rattle.std.proofs.lemmas.Bool.{eqb-true}
+use Rattle.encode_types.specs.Maps.{same_kind}
+use Rattle.encode_types.specs.declared.key.FunctionKey.{FunctionKey}
+use Rattle.encode_types.specs.Key.{same_type, same_param, same_params, same_key, key_signature}
+use Rattle.encode_types.specs.KeyLaws.{text_same}
+use mathlib.Core.Bool.{beq, true≢false}
+use Rattle.wit_model.specs.Text.{Text, text_of, text_eq}
+use Rattle.wit_model.specs.Types.{trees_of}
+use Rattle.wit_model.specs.declared.model.Param.{Param}
+use Rattle.wit_model.specs.declared.model.Resolve.{Resolve}
+
+pub same_types : (a b : ValueType) → same_type a b ≡ true → a ≡ b
+same_types a b e = search rules
+
+pub optional_same : (a b : Option ValueType) → option_eq same_type a b ≡ true → a ≡ b
+optional_same None None e = refl
+optional_same None (Some y) e = absurd (let z : ⊥ = cc in z)
+optional_same (Some x) None e = absurd (let z : ⊥ = cc in z)
+optional_same (Some x) (Some y) e = ap Some (same_types x y e)
+
+pub types_same : (xs ys : List ValueType) → pointwise same_type xs ys ≡ true → xs ≡ ys
+types_same [] [] e = refl
+types_same [] (y ∷ ys) e = absurd (let z : ⊥ = cc in z)
+types_same (x ∷ xs) [] e = absurd (let z : ⊥ = cc in z)
+types_same (x ∷ xs) (y ∷ ys) e =
+    λ i. same_types x y (first_true (same_type x y) (pointwise same_type xs ys) e) i ∷ types_same xs ys (second_true (same_type x y) (pointwise same_type xs ys) e) i
+
+-- an unnamed type is of none of the named kinds
+pub same_tree : (ts : List Tree) (a b : TypeDefKind) → is_named_kind a ≡ false → same_kind a b ≡ true → declared_by ts a ≡ declared_by ts b
+same_tree ts (kind.Option a) (kind.Option b) n e = let h : same_type a b ≡ true = search rules in ap (λ t. declared_by ts (kind.Option t)) (same_types a b h)
+same_tree ts (kind.Option a) _ n e = absurd (let z : ⊥ = cc in z)
+same_tree ts (kind.List a) (kind.List b) n e = let h : same_type a b ≡ true = search rules in ap (λ t. declared_by ts (kind.List t)) (same_types a b h)
+same_tree ts (kind.List a) _ n e = absurd (let z : ⊥ = cc in z)
+same_tree ts (kind.Handle a) (kind.Handle b) n e = let h : kind.Handle a ≡ kind.Handle b = search rules in ap (declared_by ts) h
+same_tree ts (kind.Handle a) _ n e = absurd (let z : ⊥ = cc in z)
+same_tree ts (kind.Tuple a) (kind.Tuple b) n e = let h : pointwise same_type a.types.items b.types.items ≡ true = search rules in ap (λ xs. type_ (tuple_tree (map (tree_of ts) xs))) (types_same _ _ h)
+same_tree ts (kind.Tuple a) _ n e = absurd (let z : ⊥ = cc in z)
+same_tree ts (kind.Result a) (kind.Result b) n e =
+    let h = optional_same a.ok b.ok (first_true (option_eq same_type a.ok b.ok) (option_eq same_type a.err b.err) e) in
+    let k = optional_same a.err b.err (second_true (option_eq same_type a.ok b.ok) (option_eq same_type a.err b.err) e) in
+    λ i. type_ (result_tree (option_map (tree_of ts) (h i)) (option_map (tree_of ts) (k i)))
+same_tree ts (kind.Result a) _ n e = absurd (let z : ⊥ = cc in z)
+same_tree ts (kind.Map a x) (kind.Map b y) n e =
+    let h = same_types a b (first_true (same_type a b) (same_type x y) e) in
+    let k = same_types x y (second_true (same_type a b) (same_type x y) e) in
+    λ i. type_ (map_tree (tree_of ts (h i)) (tree_of ts (k i)))
+same_tree ts (kind.Map a x) _ n e = absurd (let z : ⊥ = cc in z)
+same_tree ts (kind.FixedLengthList a x) (kind.FixedLengthList b y) n e =
+    let h = same_types a b (first_true (same_type a b) (nat_eq x y) e) in
+    let k = eqb-true x y (second_true (same_type a b) (nat_eq x y) e) in
+    λ i. type_ (fixed_list_tree (tree_of ts (h i)) (k i))
+same_tree ts (kind.FixedLengthList a x) _ n e = absurd (let z : ⊥ = cc in z)
+same_tree ts (kind.Future a) (kind.Future b) n e = let h : option_eq same_type a b ≡ true = search rules in ap (λ t. declared_by ts (kind.Future t)) (optional_same a b h)
+same_tree ts (kind.Future a) _ n e = absurd (let z : ⊥ = cc in z)
+same_tree ts (kind.Stream a) (kind.Stream b) n e = let h : option_eq same_type a b ≡ true = search rules in ap (λ t. declared_by ts (kind.Stream t)) (optional_same a b h)
+same_tree ts (kind.Stream a) _ n e = absurd (let z : ⊥ = cc in z)
+same_tree ts _ _ n e = absurd (let z : ⊥ = cc in z)
+
+-- ---- keys of functions
+
+beq-same : (a b : Bool) → beq a b ≡ true → a ≡ b
+beq-same true true h = refl
+beq-same true false h = absurd (true≢false (sym h))
+beq-same false true h = absurd (true≢false (sym h))
+beq-same false false h = refl
+
+params-same : (trees : List Tree) (xs ys : List Param) → pointwise same_param xs ys ≡ true → map {B = Text × Tree} (λ p. (text_of p.name, tree_of trees p.ty)) xs ≡ map {B = Text × Tree} (λ p. (text_of p.name, tree_of trees p.ty)) ys
+params-same trees [] [] h = refl
+params-same trees [] (y ∷ ys) h = absurd (true≢false (sym h))
+params-same trees (x ∷ xs) [] h = absurd (true≢false (sym h))
+params-same trees (x ∷ xs) (y ∷ ys) h =
+    let here = first_true (same_param x y) (pointwise same_param xs ys) h in
+    let name = text_same (text_of x.name) (text_of y.name) (first_true (text_eq (text_of x.name) (text_of y.name)) (same_type x.ty y.ty) here) in
+    let type_ = same_types x.ty y.ty (second_true (text_eq (text_of x.name) (text_of y.name)) (same_type x.ty y.ty) here) in
+    let rest = params-same trees xs ys (second_true (same_param x y) (pointwise same_param xs ys) h) in
+    λ i. (name i, tree_of trees (type_ i)) ∷ rest i
+
+-- equal keys have one signature
+pub same-signature : (r : Resolve) (a b : FunctionKey) → same_key a b ≡ true → key_signature r a ≡ key_signature r b
+same-signature r a b h =
+    let more = second_true (beq a.async_ b.async_) (same_params a.params b.params && option_eq same_type a.result.now b.result.now) h in
+    let async = beq-same a.async_ b.async_ (first_true (beq a.async_ b.async_) (same_params a.params b.params && option_eq same_type a.result.now b.result.now) h) in
+    let params = params-same (trees_of r) a.params.0.now b.params.0.now (first_true (same_params a.params b.params) (option_eq same_type a.result.now b.result.now) more) in
+    let result = optional_same a.result.now b.result.now (second_true (same_params a.params b.params) (option_eq same_type a.result.now b.result.now) more) in
+    λ i. record { is_async = async i; params = params i; result = option_map (tree_of (trees_of r)) (result i) }

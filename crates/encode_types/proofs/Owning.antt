@@ -1,0 +1,46 @@
+-- A type of the place, from what fits the scope.
+use Rattle.std.proofs.Common.{◌≡◌, refl, sym, subst, ap, ◌∙◌, ℕ, true, Some, None}
+use Rattle.std.specs.Prelude.{String}
+use Rattle.std.specs.declared.alloc.Global.{Global}
+use Rattle.std.specs.Option.{option_map_or}
+use Rattle.wit_model.specs.Text.{Text, text_of}
+use Rattle.wit_model.specs.Tree.{Place, named}
+use Rattle.wit_model.specs.Lookup.{place_of}
+use Rattle.wit_model.specs.Types.{number_tree, trees_of, tree_of_definition, declared_by, tree_of_declaration}
+use Rattle.wit_model.specs.Meaning.{TypeMeaning}
+use Rattle.wit_model.specs.Meant.{type_meaning}
+use Rattle.wit_model.specs.declared.model.Resolve.{Resolve}
+use Rattle.wit_model.specs.declared.model.TypeDef.{TypeDef}
+use Rattle.wit_model.specs.declared.model.TypeDefKind.{TypeDefKind}
+use Rattle.wit_model.specs.declared.model.TypeDefKind.TheVariants as kind
+use Rattle.wit_model.specs.declared.model.«Type».{«Type» as ValueType}
+use Rattle.comp_bytes.specs.Raw.{ExternName}
+use Rattle.encode_types.specs.Kinds.{has_definition}
+use Rattle.encode_types.specs.Plan.{foreign_owner}
+use Rattle.encode_types.specs.Scope.{Scope, IsDeclared, DeclaresResource, exported_name}
+use Rattle.encode_types.specs.Fits.{FitsScope}
+
+pub own-definition : (k : TypeDefKind) → (k ≡ kind.Resource → ⊥) → ((t : ValueType) → k ≡ kind.Type_ t → ⊥) → has_definition k ≡ true
+own-definition kind.Resource n m = absurd (n refl)
+own-definition (kind.Type_ t) n m = absurd (m t refl)
+own-definition _ n m = refl
+
+-- a name with an external id and no other attribute
+pub exported-as : (n : ExternName) (t : Text) (m : TypeMeaning) → n.text ≡ t → n.implements ≡ None → n.version_suffix ≡ None → n.external_id ≡ m.external_id → n ≡ exported_name (t, m)
+exported-as n t m a b c d = λ i. record { text = a i; implements = b i; version_suffix = c i; external_id = d i }
+
+pub named-tree : (r : Resolve) (place : Place) (n : ℕ) (def : TypeDef) (label : String Global) (t : Text) → number_tree r n ≡ tree_of_definition r (trees_of r) def → def.name ≡ Some label → place_of r def.owner ≡ place → t ≡ text_of label → number_tree r n ≡ named place t
+named-tree r place n def label t same is p e =
+    same ∙ ap (λ o. option_map_or (λ name. named (place_of r def.owner) (text_of name)) o (tree_of_declaration (declared_by (trees_of r) def.kind))) is
+    ∙ (λ i. named (p i) (sym e i))
+
+pub declared-here : (r : Resolve) (scope : Scope) (n : ℕ) (def : TypeDef) (label : String Global) (t : Text) → FitsScope r scope n def → foreign_owner scope.own_interface def.owner ≡ None → def.name ≡ Some label → t ≡ text_of label → IsDeclared scope (t, type_meaning r def)
+declared-here r scope n def label t f own is e = subst (λ (x : Text). IsDeclared scope (x, type_meaning r def)) (sym e) (f.declared own label is)
+
+pub resource-here : (r : Resolve) (scope : Scope) (def : TypeDef) (name : ExternName) → def.kind ≡ kind.Resource → IsDeclared scope (name.text, type_meaning r def) → name ≡ exported_name (name.text, type_meaning r def) → DeclaresResource scope name
+resource-here r scope def name k d e = record {
+  declaration = (name.text, type_meaning r def);
+  declared = d;
+  is_resource = ap (declared_by (trees_of r)) k;
+  named_ = e;
+}

@@ -1,0 +1,157 @@
+-- The order in which types are defined, made step by step.
+use Rattle.std.proofs.Common.{◌≡◌, refl, sym, subst, ap, ◌∙◌, ℕ, ◌+◌, ◌<◌, ◌≤◌, List, [], ◌∷◌, ◌++◌, ◌⊎◌, inl, inr, Option, Some, None, length, take, get_or, arith, length-append, below_more, true, false, nat_lt, T, ltb→lt, filter_map}
+use Rattle.std.specs.Prelude.{slice_index, option_to_list}
+use Rattle.std.specs.Option.{is_some}
+use Rattle.std.specs.List.{Contains}
+use Rattle.std.proofs.lemmas.List.{take_more, take_all, take-append-le, take_at, get_or_append_left}
+use Rattle.std.proofs.Math.Seq.{get_or-append_seam}
+use Rattle.std.proofs.lemmas.List.Elements.{Contains-append_left, Contains-push_cases, Contains-push}
+use Rattle.wit_model.specs.Lookup.{type_at}
+use Rattle.wit_model.specs.Types.{number_of}
+use Rattle.wit_model.specs.Parts.{kind_numbers, member_types, handled}
+use Rattle.wit_model.specs.Uses.{alias_target}
+use Rattle.wit_model.specs.declared.model.Resolve.{Resolve}
+use Rattle.wit_model.specs.declared.model.TypeDef.{TypeDef}
+use Rattle.wit_model.specs.declared.model.TypeDefKind.{TypeDefKind}
+use Rattle.wit_model.specs.declared.model.TypeDefKind.TheVariants as kind
+use Rattle.wit_model.specs.declared.model.Handle.TheVariants as handle
+use Rattle.wit_model.specs.declared.model.TypeId.{TypeId}
+use Rattle.wit_model.specs.declared.model.InterfaceId.{InterfaceId}
+use Rattle.wit_model.specs.declared.model.«Type».{«Type» as ValueType}
+use Rattle.wit_model.specs.declared.model.«Type».TheVariants as ty
+use Rattle.encode_types.specs.declared.maps.TypeEncodingMaps.{TypeEncodingMaps}
+use Rattle.encode_types.specs.declared.plan.Order.{Order}
+use Rattle.encode_types.specs.Kinds.{parts_of}
+use Rattle.encode_types.specs.Maps.{IsKnown}
+use Rattle.encode_types.specs.Plan.{foreign_owner, Meets, at_once, further, IsLayered, PartsStand, IsOrdered, MetStand, Stands, IsPlanned, IsOrderOf, rank}
+use Rattle.encode_types.proofs.Lists.{contains-filter_map, contains-one, one-contained, all-contained}
+
+none-of : {A : Type 0} (o : Option A) → is_some o ≡ false → o ≡ None
+none-of None e = refl
+none-of (Some x) e = absurd (let z : ⊥ = cc in z)
+
+-- ---- parts have smaller numbers
+
+member-number : (k : TypeDefKind) (id : TypeId) → Contains (member_types k) (ty.Id id) → Contains (kind_numbers k) id.0
+member-number k id c = Contains-append_left (filter_map number_of (member_types k)) (option_to_list (handled k) ++ option_to_list (alias_target k)) id.0
+    (contains-filter_map number_of (member_types k) (ty.Id id) id.0 c (contains-one id.0))
+
+pub part-number : (k : TypeDefKind) (id : TypeId) → Contains (parts_of k) (ty.Id id) → Contains (kind_numbers k) id.0
+part-number (kind.Handle (handle.Own x)) id c = let e = one-contained (ty.Id x) (ty.Id id) c in let e' : x ≡ id = cc in subst (λ (y : TypeId). Contains (x.0 ∷ []) y.0) e' (contains-one x.0)
+part-number (kind.Handle (handle.Borrow x)) id c = let e = one-contained (ty.Id x) (ty.Id id) c in let e' : x ≡ id = cc in subst (λ (y : TypeId). Contains (x.0 ∷ []) y.0) e' (contains-one x.0)
+part-number (kind.Type_ t) id c = subst (λ (u : ValueType). Contains (kind_numbers (kind.Type_ u)) id.0) (sym (one-contained t (ty.Id id) c)) (contains-one id.0)
+part-number (kind.Record x) id c = member-number (kind.Record x) id c
+part-number (kind.Flags x) id c = member-number (kind.Flags x) id c
+part-number (kind.Tuple x) id c = member-number (kind.Tuple x) id c
+part-number (kind.Variant x) id c = member-number (kind.Variant x) id c
+part-number (kind.Enum x) id c = member-number (kind.Enum x) id c
+part-number (kind.Option x) id c = member-number (kind.Option x) id c
+part-number (kind.Result x) id c = member-number (kind.Result x) id c
+part-number (kind.List x) id c = member-number (kind.List x) id c
+part-number (kind.Map x y) id c = member-number (kind.Map x y) id c
+part-number (kind.FixedLengthList x n) id c = member-number (kind.FixedLengthList x n) id c
+part-number (kind.Future x) id c = member-number (kind.Future x) id c
+part-number (kind.Stream x) id c = member-number (kind.Stream x) id c
+part-number kind.Resource id c = member-number kind.Resource id c
+
+pub part-smaller : (r : Resolve) → IsLayered r → (n : ℕ) (def : TypeDef) (id : TypeId) → type_at r n ≡ Some def → Contains (parts_of def.kind) (ty.Id id) → id.0 < n
+part-smaller r l n def id at c =
+    ltb→lt id.0 n (subst T (sym (all-contained (λ m. nat_lt m n) (kind_numbers def.kind) id.0 (l.smaller n def at) (part-number def.kind id c))) tt)
+
+pub rank_below : (n : ℕ) (p : ValueType) → ((id : TypeId) → p ≡ ty.Id id → id.0 < n) → rank p < n + 1
+rank_below n (ty.Id id) h = (let l : id.0 < n = h id refl in omega arith)
+rank_below n _ h = omega arith
+
+-- ---- the order
+
+module _ (r : Resolve) (own : Option InterfaceId) (m : TypeEncodingMaps) where
+  pub planned-start : (order : Order) (ts : List ValueType) → IsOrdered r own m order.numbers.items → MetStand m order → IsPlanned r own m order.numbers.items ts 0 order
+  planned-start order ts o met = record {
+    kept = λ n h. h;
+    added = λ n h. inl h;
+    ordered = o;
+    met = met;
+    stands = λ t h. absurd (omega (arith, h.1));
+  }
+
+  pub planned-step : (before : List ℕ) (ts : List ValueType) (i : ℕ) (mid after : Order) (d : ValueType) → i < length ts → IsPlanned r own m before ts i mid → IsPlanned r own m mid.numbers.items (get_or ts i d ∷ []) 1 after → IsPlanned r own m before ts (i + 1) after
+  planned-step before ts i mid after d lt w p = record {
+    kept = λ n h. p.kept n (w.kept n h);
+    added = λ n h. elim (p.added n h) [
+      | inl h' ↦ elim (w.added n h') [
+        | inl q ↦ inl q
+        | inr q ↦ inr (q.0, subst (λ (xs : List ValueType). Contains xs q.0) (sym (take_more ts i d lt)) (Contains-append_left _ _ q.0 q.1), q.2)
+      ]
+      | inr q ↦ inr (q.0, subst (λ (xs : List ValueType). Contains xs q.0) (sym (take_more ts i d lt)) (subst (λ (x : ValueType). Contains (take i ts ++ get_or ts i d ∷ []) x) (one-contained (get_or ts i d) q.0 q.1) (Contains-push _ (get_or ts i d))), q.2)
+    ];
+    ordered = p.ordered;
+    met = p.met;
+    stands = λ t h. elim (Contains-push_cases _ _ _ (subst (λ (xs : List ValueType). Contains xs t) (take_more ts i d lt) h)) [
+      | inl q ↦ (λ id e. elim (w.stands t q id e) [ inl k ↦ inl k | inr c ↦ inr (p.kept id.0 c) ])
+      | inr e' ↦ (λ id e. p.stands (get_or ts i d) (contains-one (get_or ts i d)) id (e' ∙ e))
+    ];
+  }
+
+  ordered-push : (a : List ℕ) (x : ℕ) → IsOrdered r own m a → PartsStand r own m a x → IsOrdered r own m (a ++ x ∷ [])
+  ordered-push a x o p k lt =
+      below_more (λ k. PartsStand r own m (take k (a ++ x ∷ [])) (slice_index (a ++ x ∷ []) k)) (length a)
+      (λ k q. let q' : k ≤ length a = omega arith in
+      rw (take-append-le k a (x ∷ []) q', get_or_append_left a (x ∷ []) 0 k q) (o k q))
+      (rw (take_at a (x ∷ []) (length a) refl, get_or-append_seam a x [] 0) p)
+      k (let e = length-append a (x ∷ []) in omega arith)
+
+  stands-one : (order : List ℕ) (x : ValueType) → Stands m order x → (t : ValueType) → Contains (x ∷ []) t → Stands m order t
+  stands-one order x s t c id e = s id (one-contained x t c ∙ e)
+
+  pub planned-push : (before a : List ℕ) (after : Order) (id : TypeId) → (IsKnown m id.0 → ⊥) → after.numbers.items ≡ a ++ id.0 ∷ [] → MetStand m after → ((n : ℕ) → Contains before n → Contains a n) → ((n : ℕ) → Contains a n → Contains before n ⊎ Meets r own m (ty.Id id) n) → IsOrdered r own m a → PartsStand r own m a id.0
+      → IsPlanned r own m before (ty.Id id ∷ []) 1 after
+  planned-push before a after id lacks is met kept added o p = record {
+    kept = λ n h. subst (λ (xs : List ℕ). Contains xs n) (sym is) (Contains-append_left a _ n (kept n h));
+    added = λ n h. elim (Contains-push_cases a id.0 n (subst (λ (xs : List ℕ). Contains xs n) is h)) [
+      | inl q ↦ elim (added n q) [ inl b ↦ inl b | inr re ↦ inr (ty.Id id, contains-one (ty.Id id), re) ]
+      | inr e ↦ inr (ty.Id id, contains-one (ty.Id id), subst (λ x. Meets r own m (ty.Id id) x) e (at_once id lacks))
+    ];
+    ordered = subst (λ (xs : List ℕ). IsOrdered r own m xs) (sym is) (ordered-push a id.0 o p);
+    met = met;
+    stands = stands-one after.numbers.items (ty.Id id) (λ id' e. inr (let e' : id ≡ id' = cc in subst (λ (x : TypeId). Contains after.numbers.items x.0) e' (subst (λ (xs : List ℕ). Contains xs id.0) (sym is) (Contains-push a id.0))));
+  }
+
+  pub planned-foreign : (before : List ℕ) (after : Order) (id : TypeId) (def : TypeDef) → (IsKnown m id.0 → ⊥) → after.numbers.items ≡ before ++ id.0 ∷ [] → MetStand m after → IsOrdered r own m before → type_at r id.0 ≡ Some def → is_some (foreign_owner own def.owner) ≡ true
+      → IsPlanned r own m before (ty.Id id ∷ []) 1 after
+  planned-foreign before after id def lacks is met o at f = planned-push before before after id lacks is met (λ n h. h) (λ n h. inl h) o
+      (λ def' p at' f' c. let e : def ≡ def' = cc in let bad : true ≡ false = sym f ∙ ap (λ (x : TypeDef). is_some (foreign_owner own x.owner)) e ∙ ap is_some f' in absurd (let z : ⊥ = cc in z))
+
+  pub planned-own : (before : List ℕ) (mid after : Order) (id : TypeId) (def : TypeDef) (ts : List ValueType) (i : ℕ) → (IsKnown m id.0 → ⊥) → after.numbers.items ≡ mid.numbers.items ++ id.0 ∷ [] → MetStand m after → type_at r id.0 ≡ Some def → is_some (foreign_owner own def.owner) ≡ false → ts ≡ parts_of def.kind → length ts ≤ i
+      → IsPlanned r own m before ts i mid → IsPlanned r own m before (ty.Id id ∷ []) 1 after
+  planned-own before mid after id def ts i lacks is met at f e le w =
+      planned-push before mid.numbers.items after id lacks is met w.kept
+      (λ n h. elim (w.added n h) [
+        | inl q ↦ inl q
+        | inr q ↦ inr (further id def q.0 n lacks at (none-of _ f) (subst (λ (xs : List ValueType). Contains xs q.0) (take_all i ts le ∙ e) q.1) q.2)
+      ])
+      w.ordered
+      (λ def' p at' f' c. let d : def ≡ def' = cc in
+      w.stands (ty.Id p) (subst (λ (xs : List ValueType). Contains xs (ty.Id p)) (ap (λ (x : TypeDef). parts_of x.kind) (sym d) ∙ sym e ∙ sym (take_all i ts le)) c) p refl)
+
+  -- nothing has to be added
+  pub planned-there : (order : Order) (before : List ℕ) (t : ValueType) → order.numbers.items ≡ before → IsOrdered r own m before → MetStand m order → Stands m before t → IsPlanned r own m before (t ∷ []) 1 order
+  planned-there order before t is o met s = record {
+    kept = λ n h. subst (λ (xs : List ℕ). Contains xs n) (sym is) h;
+    added = λ n h. inl (subst (λ (xs : List ℕ). Contains xs n) is h);
+    ordered = subst (λ (xs : List ℕ). IsOrdered r own m xs) (sym is) o;
+    met = met;
+    stands = stands-one order.numbers.items t (subst (λ (xs : List ℕ). Stands m xs t) (sym is) s);
+  }
+
+  pub stands-id : (order : List ℕ) (id : TypeId) → IsKnown m id.0 ⊎ Contains order id.0 → Stands m order (ty.Id id)
+  stands-id order id k id' e = let e' : id ≡ id' = cc in subst (λ (x : TypeId). IsKnown m x.0 ⊎ Contains order x.0) e' k
+
+  pub order-done : (before items : List ℕ) (order : Order) (ts : List ValueType) (i : ℕ) → before ≡ [] → items ≡ order.numbers.items → length ts ≤ i → IsPlanned r own m before ts i order → IsOrderOf r own m ts items
+  order-done before items order ts i e s le p = record {
+    added = λ n h. elim (p.added n (subst (λ (xs : List ℕ). Contains xs n) s h)) [
+      | inl q ↦ absurd (let c : Contains [] n = subst (λ (xs : List ℕ). Contains xs n) e q in let l : c.0 < 0 = c.1 in omega arith)
+      | inr q ↦ (q.0, subst (λ (xs : List ValueType). Contains xs q.0) (take_all i ts le) q.1, q.2)
+    ];
+    ordered = subst (λ (xs : List ℕ). IsOrdered r own m xs) (sym s) p.ordered;
+    stands = λ t c. subst (λ (xs : List ℕ). Stands m xs t) (sym s) (p.stands t (subst (λ (xs : List ValueType). Contains xs t) (sym (take_all i ts le)) c));
+  }

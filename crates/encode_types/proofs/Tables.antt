@@ -1,0 +1,352 @@
+-- Ordered maps as lists of entries: what is found, what isn't, and what is added.
+use Rattle.std.proofs.Common.{◌≡◌, refl, sym, subst, ap, ◌∙◌, ℕ, zero, suc, ◌+◌, ◌<◌, Bool, true, false, List, [], ◌∷◌, ◌++◌, map, length, get_or, take, Option, Some, None, arith, inl, inr, nat_cmp, length-append, append_assoc, Ordering}
+use Rattle.std.specs.Prelude.{IsPermutation, AllPairs, ◌⊎◌, IfSome, IfNone, IsSome, is_some}
+use Rattle.std.specs.Cmp.{IsTotalOrder}
+use Rattle.std.proofs.lemmas.Cmp.{nat_cmp_total, nat_list_cmp_total}
+use Rattle.std.specs.declared.cmp.Ordering.TheVariants.{Less, Equal, Greater}
+use Rattle.std.specs.Ordering.{is_eq, match_ordering, ordering_reverse}
+use Rattle.std.specs.List.{Contains, swap}
+use Rattle.std.specs.Map.{lookup}
+use Rattle.std.specs.BTreeMap.{insert_entry, is_at}
+use Rattle.std.specs.Cmp.Lexicographic.{slice_cmp}
+use Rattle.std.proofs.lemmas.Map.Lookups.{exact_bytes, exact_unsigned}
+use Rattle.std.proofs.lemmas.Bool.{cases_Bool, cond-true, cond-false, cases_lt, cases_eq}
+use Rattle.std.proofs.lemmas.List.Edits.{swapped_from_swap}
+use Rattle.std.proofs.lemmas.List.Elements.{Contains-append_left, Contains-push, Contains-push_cases}
+use Rattle.std.proofs.lemmas.List.Sorted.{IsPermutation-refl, IsPermutation-sym, IsPermutation-cons, IsPermutation-to_front, IsPermutation-trans, IsPermutation-swap, IsPermutation-keeps, length_permutation, Contains-permutation, IsPermutation-map}
+use Rattle.std.proofs.lemmas.List.{map-append, take_more}
+use Rattle.wit_model.specs.Text.{Text, text_of}
+use Rattle.wit_model.specs.declared.model.Param.{Param}
+use Rattle.encode_types.specs.declared.key.FunctionKey.{FunctionKey}
+use Rattle.encode_types.specs.Codes.{names_of, lists_of, Names, IsTable, AreListed, AddsParams, IsKeyList, type_code}
+use Rattle.encode_types.specs.KeyLaws.{key_equiv}
+use Rattle.encode_types.proofs.EqualLists.{lists-of-keys, key-shrink}
+use Rattle.encode_types.specs.Maps.{AreNumbered, NamesGrow, NamesParams, AddsNames, IsOnce, LacksKey, LacksList}
+use Rattle.encode_types.specs.declared.maps.TypeEncodingMaps.{TypeEncodingMaps}
+use Rattle.encode_types.proofs.Lists.{none-in, contains-map}
+
+pub equal-is : (o : Ordering) → is_eq o ≡ true → o ≡ Equal
+equal-is Less h = absurd (let z : ⊥ = cc in z)
+equal-is Equal h = refl
+equal-is Greater h = absurd (let z : ⊥ = cc in z)
+
+module _ {K X : Type 0} (test : K → Bool) where
+  -- what a look-up finds is an entry
+  pub found : (es : List (K × X)) (v : X) → lookup test es ≡ Some v → (k : K) × Contains es (k, v) × (test k ≡ true)
+  found [] v h = absurd (let z : ⊥ = cc in z)
+  found (e ∷ es) v h = elim (cases_Bool (test e.0)) [
+    | inl y ↦ let s : Some e.1 ≡ Some v = sym (cond-true _ _ _ y) ∙ h in let w : e.1 ≡ v = cc in (e.0, (0, (omega arith), ap (λ x. (e.0, x)) w), y)
+    | inr n ↦ let r = found es v (sym (cond-false _ _ _ n) ∙ h) in (r.0, (suc r.1.0, (let l = r.1.1 in omega (arith, l)), r.1.2), r.2)
+  ]
+
+  -- where nothing is found, no entry passes
+  pub absent : (es : List (K × X)) → lookup test es ≡ None → (k : K) (v : X) → Contains es (k, v) → test k ≡ true → ⊥
+  absent [] h k v c t = none-in _ c
+  absent (e ∷ es) h k v (zero, l, x) t =
+      let y : test e.0 ≡ true = ap (λ (z : K × X). test z.0) x ∙ t in
+      let s : Some e.1 ≡ None = sym (cond-true _ _ _ y) ∙ h in
+      let z : ⊥ = cc in z
+  absent (e ∷ es) h k v (suc i, l, x) t = elim (cases_Bool (test e.0)) [
+    | inl y ↦ (let s : Some e.1 ≡ None = sym (cond-true _ _ _ y) ∙ h in let z : ⊥ = cc in z)
+    | inr n ↦ absent es (sym (cond-false _ _ _ n) ∙ h) k v (i, omega (arith, l), x) t
+  ]
+
+-- a new entry goes somewhere among the others
+module _ {K X : Type 0} (cmp : K → K → Ordering) (k : K) (v : X) where
+  placed : (es : List (K × X)) → lookup (is_at (cmp k)) es ≡ None → IsPermutation ((k, v) ∷ es) (insert_entry cmp es k v)
+  placed [] h = IsPermutation-refl _
+  placed (e ∷ es) h = by (cmp k e.0) refl (λ n. placed es (sym (cond-false _ _ _ n) ∙ h))
+    where
+      by : (o : Ordering) → cmp k e.0 ≡ o → (is_eq (cmp k e.0) ≡ false → IsPermutation ((k, v) ∷ es) (insert_entry cmp es k v)) → IsPermutation ((k, v) ∷ e ∷ es) (match_ordering o ((k, v) ∷ e ∷ es) ((e.0, v) ∷ es) (e ∷ insert_entry cmp es k v))
+      by Less q more = IsPermutation-refl _
+      by Equal q more = absurd (let y : is_eq (cmp k e.0) ≡ true = ap is_eq q in let s : Some e.1 ≡ None = sym (cond-true _ _ _ y) ∙ h in let z : ⊥ = cc in z)
+      by Greater q more =
+          let n : is_eq (cmp k e.0) ≡ false = ap is_eq q in
+          IsPermutation-trans ((k, v) ∷ e ∷ es) (e ∷ (k, v) ∷ es) (e ∷ insert_entry cmp es k v) (IsPermutation-swap ((k, v) ∷ e ∷ es) (e ∷ (k, v) ∷ es) 0 1 (omega arith) (omega arith) refl) (IsPermutation-cons e _ _ (more n))
+
+  pub inserted : (es fs : List (K × X)) → lookup (is_at (cmp k)) es ≡ None → fs ≡ insert_entry cmp es k v → IsPermutation (es ++ (k, v) ∷ []) fs
+  inserted es fs h e = subst (IsPermutation (es ++ (k, v) ∷ [])) (sym e) (IsPermutation-trans _ _ _ (IsPermutation-to_front es (k, v)) (placed es h))
+
+-- ---- pairs apart
+
+module _ {X : Type 0} (R : X → X → Type 0) (back : (x y : X) → R x y → R y x) where
+  -- of two different places, whichever comes first
+  abbrev Apart : List X → Type 0
+  Apart xs = (i j : ℕ) (d : X) → (i ≡ j → ⊥) → i < length xs → j < length xs → R (get_or xs i d) (get_or xs j d)
+
+  apart-from : (xs : List X) → AllPairs R xs → Apart xs
+  apart-from xs h i j d n li lj = elim (cases_lt i j) [
+    | inl l ↦ h i j d l lj
+    | inr l ↦ back _ _ (h j i d (omega (arith, n)) li)
+  ]
+
+  pairs-from : (xs : List X) → Apart xs → AllPairs R xs
+  pairs-from xs h i j d l lj = h i j d (λ e. omega (arith, e, l)) (omega (arith, l, lj)) lj
+
+  exchanged : (xs : List X) (a b : ℕ) → a < length xs → b < length xs → Apart xs → Apart (swap xs a b)
+  exchanged xs a b la lb h i j d n li lj =
+      let s = swapped_from_swap xs (swap xs a b) a b d la lb refl in
+      let m : length (swap xs a b) ≡ length xs = length_permutation xs (swap xs a b) (IsPermutation-swap xs (swap xs a b) a b la lb refl) in
+      let place : (k : ℕ) → k < length xs → (p : ℕ) × (get_or (swap xs a b) k d ≡ get_or xs p d) × (p < length xs) × (((k ≡ a) × (p ≡ b)) ⊎ (((k ≡ b) × (p ≡ a)) ⊎ ((k ≡ a → ⊥) × (k ≡ b → ⊥) × (p ≡ k)))) =
+      λ k lk. elim (cases_eq k a) [
+        | inl e ↦ (b, ap (λ z. get_or (swap xs a b) z d) e ∙ s.0, lb, inl (e, refl))
+        | inr e ↦ elim (cases_eq k b) [
+          | inl f ↦ (a, ap (λ z. get_or (swap xs a b) z d) f ∙ s.1, la, inr (inl (f, refl)))
+          | inr f ↦ (k, s.2 k e f, lk, inr (inr (e, f, refl)))
+        ]
+      ] in
+      let p = place i (omega (arith, li, m)) in
+      let q = place j (omega (arith, lj, m)) in
+      rw (p.1, q.1) (h p.0 q.0 d (λ e. differ a b i j p.0 q.0 n p.3 q.3 e) p.2 q.2)
+    where
+      differ : (a b i j p q : ℕ) → (i ≡ j → ⊥) → ((i ≡ a) × (p ≡ b)) ⊎ (((i ≡ b) × (p ≡ a)) ⊎ ((i ≡ a → ⊥) × (i ≡ b → ⊥) × (p ≡ i)))
+          → ((j ≡ a) × (q ≡ b)) ⊎ (((j ≡ b) × (q ≡ a)) ⊎ ((j ≡ a → ⊥) × (j ≡ b → ⊥) × (q ≡ j))) → p ≡ q → ⊥
+      differ a b i j p q n (inl (x, y)) (inl (u, v)) e = n (x ∙ sym u)
+      differ a b i j p q n (inl (x, y)) (inr (inl (u, v))) e = n (x ∙ sym v ∙ sym e ∙ y ∙ sym u)
+      differ a b i j p q n (inl (x, y)) (inr (inr (u, v, w))) e = v (sym w ∙ sym e ∙ y)
+      differ a b i j p q n (inr (inl (x, y))) (inl (u, v)) e = n (x ∙ sym v ∙ sym e ∙ y ∙ sym u)
+      differ a b i j p q n (inr (inl (x, y))) (inr (inl (u, v))) e = n (x ∙ sym u)
+      differ a b i j p q n (inr (inl (x, y))) (inr (inr (u, v, w))) e = u (sym w ∙ sym e ∙ y)
+      differ a b i j p q n (inr (inr (x, y, z))) (inl (u, v)) e = y (sym z ∙ e ∙ v)
+      differ a b i j p q n (inr (inr (x, y, z))) (inr (inl (u, v))) e = x (sym z ∙ e ∙ v)
+      differ a b i j p q n (inr (inr (x, y, z))) (inr (inr (u, v, w))) e = n (sym z ∙ e ∙ w)
+
+  pub pairs-permuted : (xs ys : List X) → IsPermutation xs ys → AllPairs R xs → AllPairs R ys
+  pairs-permuted xs ys p h = pairs-from ys (IsPermutation-keeps xs Apart (apart-from xs h) (λ l i j li lj k. exchanged l i j li lj k) ys p)
+
+-- ---- memberships through permutations
+
+module _ {X : Type 0} (xs ys : List X) (x : X) (p : IsPermutation (xs ++ x ∷ []) ys) where
+  pub kept-in : (y : X) → Contains xs y → Contains ys y
+  kept-in y c = Contains-permutation _ ys y p (Contains-append_left xs (x ∷ []) y c)
+
+  pub new-in : Contains ys x
+  new-in = Contains-permutation _ ys x p (Contains-push xs x)
+
+  pub one-more-in : (y : X) → Contains ys y → Contains xs y ⊎ (x ≡ y)
+  one-more-in y c = Contains-push_cases xs x y (Contains-permutation ys _ y (IsPermutation-sym _ ys p) c)
+
+-- ---- options
+
+pub some-when : {X : Type 0} (o : Option X) (P : X → Type 0) → ((v : X) → o ≡ Some v → P v) → IfSome o P
+some-when None P f = tt
+some-when (Some v) P f = f v refl
+
+pub none-when : {X : Type 0} (o : Option X) (Q : Type 0) → (o ≡ None → Q) → IfNone o Q
+none-when None Q f = f refl
+none-when (Some v) Q f = tt
+
+some-or : {X : Type 0} (o : Option X) → (o ≡ None → ⊥) → IsSome o
+some-or None f = absurd (f refl)
+some-or (Some v) f = refl
+
+none-or : {X : Type 0} (o : Option X) → ((v : X) → o ≡ Some v → ⊥) → o ≡ None
+none-or None f = refl
+none-or (Some v) f = absurd (f v refl)
+
+pub contains-unmap : {X Y : Type 0} (f : X → Y) (xs : List X) (y : Y) → Contains (map f xs) y → (x : X) × Contains xs x × (f x ≡ y)
+contains-unmap f [] y c = none-in y c
+contains-unmap f (x ∷ xs) y (zero, l, e) = (x, (0, omega arith, refl), e)
+contains-unmap f (x ∷ xs) y (suc i, l, e) = let r = contains-unmap f xs y (i, omega (arith, l), e) in (r.0, (suc r.1.0, (let k = r.1.1 in omega (arith, k)), r.1.2), r.2)
+
+-- ---- orders
+
+self-equal : (o : Ordering) → o ≡ ordering_reverse o → o ≡ Equal
+self-equal Less h = absurd (let z : ⊥ = cc in z)
+self-equal Equal h = refl
+self-equal Greater h = absurd (let z : ⊥ = cc in z)
+
+pub equal-self : {K : Type 0} {R : K → K → Ordering} → IsTotalOrder R → (x : K) → R x x ≡ Equal
+equal-self o x = self-equal _ (o.antisymm x x)
+
+pub at-some : {X : Type 0} (o : Option X) (P : X → Type 0) (v : X) → o ≡ Some v → IfSome o P → P v
+at-some o P v e h = rw e at h
+
+pub at-none : {X : Type 0} (o : Option X) (Q : Type 0) → o ≡ None → IfNone o Q → Q
+at-none o Q e h = rw e at h
+
+-- ---- entries by a number
+
+pub number-found : (es : List (ℕ × ℕ)) (n : ℕ) (o : Option ℕ) → o ≡ lookup (is_at (nat_cmp n)) es → IfSome o (λ i. Contains es (n, i))
+number-found es n o q = some-when o _ (λ v e. let f = found (is_at (nat_cmp n)) es v (sym q ∙ e) in subst (λ k. Contains es (k, v)) (sym (exact_unsigned n f.0 (equal-is _ f.2))) f.1)
+
+pub number-known : (es : List (ℕ × ℕ)) (n : ℕ) (o : Option ℕ) → o ≡ lookup (is_at (nat_cmp n)) es → (i : ℕ) → Contains es (n, i) → IsSome o
+number-known es n o q i c = some-or o (λ e. absent (is_at (nat_cmp n)) es (sym q ∙ e) n i c (ap is_eq (equal-self nat_cmp_total n)))
+
+pub number-inserted : (es fs : List (ℕ × ℕ)) (n i : ℕ) → ((j : ℕ) → Contains es (n, j) → ⊥) → fs ≡ insert_entry nat_cmp es n i → IsPermutation (es ++ (n, i) ∷ []) fs
+number-inserted es fs n i lacks e = inserted nat_cmp n i es fs
+    (none-or (lookup (is_at (nat_cmp n)) es) (λ v h. let f = found (is_at (nat_cmp n)) es v h in lacks v (subst (λ k. Contains es (k, v)) (sym (exact_unsigned n f.0 (equal-is _ f.2))) f.1))) e
+
+-- ---- entries by a list of numbers that is read from the key
+
+module _ {K : Type 0} (f : K → List ℕ) where
+  abbrev at_list : List ℕ → K → Bool
+  at_list xs k = is_eq (slice_cmp nat_cmp xs (f k))
+
+  abbrev read : List (K × ℕ) → List (List ℕ × ℕ)
+  read es = map (λ e. (f e.0, e.1)) es
+
+  pub reads : (es : List (K × ℕ)) (xs : List ℕ) (v : ℕ) → lookup (at_list xs) es ≡ Some v → Contains (read es) (xs, v)
+  reads es xs v h =
+      let r = found (at_list xs) es v h in
+      subst (λ ys. Contains (read es) (ys, v)) (sym (exact_bytes xs (f r.0) (equal-is _ r.2))) (contains-map (λ (e : K × ℕ). (f e.0, e.1)) es (r.0, v) r.1)
+
+  pub lacks : (es : List (K × ℕ)) (xs : List ℕ) → lookup (at_list xs) es ≡ None → (i : ℕ) → Contains (read es) (xs, i) → ⊥
+  lacks es xs h i c =
+      let r = contains-unmap (λ (e : K × ℕ). (f e.0, e.1)) es (xs, i) c in
+      let same : f r.0.0 ≡ xs = ap (λ (z : List ℕ × ℕ). z.0) r.2 in
+      absent (at_list xs) es h r.0.0 r.0.1 r.1 (ap is_eq (ap (slice_cmp nat_cmp xs) same ∙ equal-self nat_list_cmp_total xs))
+
+  pub list-found : (es : List (K × ℕ)) (xs : List ℕ) (o : Option ℕ) → o ≡ lookup (at_list xs) es → IfSome o (λ i. Contains (read es) (xs, i))
+  list-found es xs o q = some-when o _ (λ v e. reads es xs v (sym q ∙ e))
+
+  pub list-lacks : (es : List (K × ℕ)) (xs : List ℕ) (o : Option ℕ) → o ≡ lookup (at_list xs) es → IfNone o ((i : ℕ) → Contains (read es) (xs, i) → ⊥)
+  list-lacks es xs o q = none-when o _ (λ e. lacks es xs (sym q ∙ e))
+
+  pub list-there : (es : List (K × ℕ)) (xs : List ℕ) → is_some (lookup (at_list xs) es) ≡ true → (i : ℕ) × Contains (read es) (xs, i)
+  list-there es xs h = go (lookup (at_list xs) es) refl h
+    where
+      go : (o : Option ℕ) → lookup (at_list xs) es ≡ o → is_some o ≡ true → (i : ℕ) × Contains (read es) (xs, i)
+      go None q t = absurd (let z : ⊥ = cc in z)
+      go (Some v) q t = (v, reads es xs v q)
+
+  pub list-missing : (es : List (K × ℕ)) (xs : List ℕ) → is_some (lookup (at_list xs) es) ≡ false → (i : ℕ) → Contains (read es) (xs, i) → ⊥
+  list-missing es xs h = go (lookup (at_list xs) es) refl h
+    where
+      go : (o : Option ℕ) → lookup (at_list xs) es ≡ o → is_some o ≡ false → (i : ℕ) → Contains (read es) (xs, i) → ⊥
+      go None q t = lacks es xs q
+      go (Some v) q t = absurd (let z : ⊥ = cc in z)
+
+  pub list-inserted : (es fs : List (K × ℕ)) (k : K) (i : ℕ) → ((j : ℕ) → Contains (read es) (f k, j) → ⊥) → fs ≡ insert_entry (λ a b. slice_cmp nat_cmp (f a) (f b)) es k i
+      → IsPermutation (read es ++ (f k, i) ∷ []) (read fs)
+  list-inserted es fs k i none e =
+      let p = inserted (λ a b. slice_cmp nat_cmp (f a) (f b)) k i es fs (none-or (lookup (at_list (f k)) es) (λ v h. none v (reads es (f k) v h))) e in
+      subst (λ xs. IsPermutation xs (read fs)) (map-append (λ (e : K × ℕ). (f e.0, e.1)) es ((k, i) ∷ [])) (IsPermutation-map (λ (e : K × ℕ). (f e.0, e.1)) _ _ p)
+
+-- ---- names
+
+pub names-grow : (names names' : Names) (t : Text) → IsPermutation (names ++ (t, length names) ∷ []) names' → ((n : ℕ) → Contains names (t, n) → ⊥) → NamesGrow names names'
+names-grow names names' t p none = record { kept = λ u n c. kept-in names names' (t, length names) p (u, n) c; numbered = numbered }
+  where
+    cases_in : (u : Text) (n : ℕ) → Contains names' (u, n) → Contains names (u, n) ⊎ (◌≡◌ {A = Text × ℕ} (t, length names) (u, n))
+    cases_in u n c = one-more-in names names' (t, length names) p (u, n) c
+
+    text-is : (u : Text) (n : ℕ) → ◌≡◌ {A = Text × ℕ} (t, length names) (u, n) → t ≡ u
+    text-is u n e = ap (λ (z : Text × ℕ). z.0) e
+
+    number-is : (u : Text) (n : ℕ) → ◌≡◌ {A = Text × ℕ} (t, length names) (u, n) → length names ≡ n
+    number-is u n e = ap (λ (z : Text × ℕ). z.1) e
+
+    numbered : AreNumbered names → AreNumbered names'
+    numbered a = record {
+      table = record {
+        one_number = λ u m n c d. elim (cases_in u m c) [
+          | inl c' ↦ elim (cases_in u n d) [
+            | inl d' ↦ a.table.one_number u m n c' d'
+            | inr e ↦ absurd (none m (subst (λ w. Contains names (w, m)) (sym (text-is u n e)) c'))
+          ]
+          | inr e ↦ elim (cases_in u n d) [
+            | inl d' ↦ absurd (none n (subst (λ w. Contains names (w, n)) (sym (text-is u m e)) d'))
+            | inr g ↦ sym (number-is u m e) ∙ number-is u n g
+          ]
+        ];
+        one_text = λ u w n c d. elim (cases_in u n c) [
+          | inl c' ↦ elim (cases_in w n d) [
+            | inl d' ↦ a.table.one_text u w n c' d'
+            | inr e ↦ absurd (let l = a.below u n c' in let k = number-is w n e in omega (arith, l, k))
+          ]
+          | inr e ↦ elim (cases_in w n d) [
+            | inl d' ↦ absurd (let l = a.below w n d' in let k = number-is u n e in omega (arith, l, k))
+            | inr g ↦ sym (text-is u n e) ∙ text-is w n g
+          ]
+        ];
+      };
+      below = λ u n c.
+          let m : length names' ≡ length names + 1 = length_permutation (names ++ (t, length names) ∷ []) names' p ∙ length-append names ((t, length names) ∷ []) in
+          elim (cases_in u n c) [
+            | inl c' ↦ (let l = a.below u n c' in omega (arith, l, m))
+            | inr e ↦ (let k = number-is u n e in omega (arith, k, m))
+          ];
+    }
+
+pub names-same : (names names' : Names) → names' ≡ names → NamesGrow names names'
+names-same names names' e = subst (NamesGrow names) (sym e) (record { kept = λ t n c. c; numbered = λ a. a })
+
+pub names-then : {a b c : Names} → NamesGrow a b → NamesGrow b c → NamesGrow a c
+names-then p q = record { kept = λ t n h. q.kept t n (p.kept t n h); numbered = λ h. q.numbered (p.numbered h) }
+
+-- ---- lists of parameters
+
+pub listed-more : (names : Names) (ps : List Param) (xs : List ℕ) (p : Param) (n : ℕ) → AreListed names ps xs → Contains names (text_of p.name, n) → AreListed names (ps ++ p ∷ []) (xs ++ n ∷ type_code p.ty ∷ [])
+listed-more names [] [] p n h c = (c, refl, tt)
+listed-more names [] (x ∷ xs) p n h c = absurd h
+listed-more names (q ∷ ps) [] p n h c = absurd h
+listed-more names (q ∷ ps) (x ∷ []) p n h c = absurd h
+listed-more names (q ∷ ps) (x ∷ y ∷ xs) p n h c = (h.0, h.1, listed-more names ps xs p n h.2 c)
+
+pub listed-names : (names : Names) (ps : List Param) (xs : List ℕ) (p : Param) → AreListed names ps xs → Contains ps p → (n : ℕ) × Contains names (text_of p.name, n)
+listed-names names [] xs p h c = none-in p c
+listed-names names (q ∷ ps) [] p h c = absurd h
+listed-names names (q ∷ ps) (x ∷ []) p h c = absurd h
+listed-names names (q ∷ ps) (x ∷ y ∷ xs) p h (zero, l, e) = (x, subst (λ (z : Param). Contains names (text_of z.name, x)) e h.0)
+listed-names names (q ∷ ps) (x ∷ y ∷ xs) p h (suc i, l, e) = listed-names names ps xs p h.2 (i, omega (arith, l), e)
+
+pub listed-grow : (names names' : Names) (ps : List Param) (xs : List ℕ) → NamesGrow names names' → AreListed names ps xs → AreListed names' ps xs
+listed-grow names names' [] [] g h = tt
+listed-grow names names' [] (x ∷ xs) g h = absurd h
+listed-grow names names' (q ∷ ps) [] g h = absurd h
+listed-grow names names' (q ∷ ps) (x ∷ []) g h = absurd h
+listed-grow names names' (q ∷ ps) (x ∷ y ∷ xs) g h = (g.kept _ x h.0, h.1, listed-grow names names' ps xs g h.2)
+
+pub key-grow : (names names' : Names) (key : FunctionKey) (xs : List ℕ) → NamesGrow names names' → IsKeyList names key xs → IsKeyList names' key xs
+key-grow names names' key xs g h = record { middle = h.middle; listed = listed-grow names names' key.params.0.now h.middle g h.listed; is = h.is }
+
+-- one more parameter of a loop
+pub named-more : (names names' : Names) (ps : List Param) (i : ℕ) (p : Param) → i < length ps → p ≡ get_or ps i p → NamesGrow names names' → NamesParams names (take i ps) → (n : ℕ) × Contains names' (text_of p.name, n) → NamesParams names' (take (i + 1) ps)
+named-more names names' ps i p l e g h new q c =
+    elim (Contains-push_cases (take i ps) (get_or ps i p) q (subst (λ (xs : List Param). Contains xs q) (take_more ps i p l) c)) [
+      | inl d ↦ let x = h q d in (x.0, g.kept _ x.0 x.1)
+      | inr d ↦ (new.0, subst (λ (z : Param). Contains names' (text_of z.name, new.0)) (e ∙ d) new.1)
+    ]
+
+pub listed-next : (names : Names) (ps : List Param) (i : ℕ) (p : Param) (n : ℕ) (start before between after : List ℕ) → i < length ps → p ≡ get_or ps i p → AddsParams names true start before (take i ps) → Contains names (text_of p.name, n)
+    → between ≡ before ++ n ∷ [] → after ≡ between ++ type_code p.ty ∷ [] → AddsParams names true start after (take (i + 1) ps)
+listed-next names ps i p n start before between after l e (middle, is, h) c b a = (
+  middle ++ n ∷ type_code p.ty ∷ [],
+  a ∙ ap (λ xs. xs ++ type_code p.ty ∷ []) (b ∙ ap (λ xs. xs ++ n ∷ []) is) ∙ append_assoc (start ++ middle) (n ∷ []) (type_code p.ty ∷ []) ∙ append_assoc start middle (n ∷ type_code p.ty ∷ []),
+  subst (λ (xs : List Param). AreListed names xs (middle ++ n ∷ type_code p.ty ∷ [])) (ap (λ z. take i ps ++ z ∷ []) e ∙ sym (take_more ps i p l)) (listed-more names (take i ps) middle p n h c),
+)
+
+-- one key has one list
+pub one-list : (names : Names) (key : FunctionKey) (xs ys : List ℕ) → IsTable names → IsKeyList names key xs → IsKeyList names key ys → xs ≡ ys
+one-list names key xs ys t p q = lists-of-keys names key key xs ys t p q (key_equiv.refl key)
+
+pub adds-names-then : {a b c : TypeEncodingMaps} → AddsNames a b → AddsNames b c → AddsNames a c
+adds-names-then p q = record {
+  rest = record {
+    numbers = q.rest.numbers ∙ p.rest.numbers;
+    kinds = q.rest.kinds ∙ p.rest.kinds;
+    keys = q.rest.keys ∙ p.rest.keys;
+    names_ = refl;
+    unit_future_ = q.rest.unit_future_ ∙ p.rest.unit_future_;
+    unit_stream_ = q.rest.unit_stream_ ∙ p.rest.unit_stream_;
+  };
+  grow = names-then p.grow q.grow;
+}
+
+-- names that all have a number give a list
+listed-all : (names : Names) (ps : List Param) → NamesParams names ps → (xs : List ℕ) × AreListed names ps xs
+listed-all names [] h = ([], tt)
+listed-all names (p ∷ ps) h =
+    let n = h p (0, omega arith, refl) in
+    let r = listed-all names ps (λ q c. h q (suc c.0, (let l = c.1 in omega (arith, l)), c.2)) in
+    (n.0 ∷ type_code p.ty ∷ r.0, (n.1, refl, r.1))
+
+pub key-listed : (names : Names) (key : FunctionKey) → NamesParams names key.params.0.now → (xs : List ℕ) × IsKeyList names key xs
+key-listed names key h = let r = listed-all names key.params.0.now h in (_, record { middle = r.0; listed = r.1; is = refl })
+
+-- a key that the maps lack has a list that they lack, also by more names
+pub list-lacking : (m : TypeEncodingMaps) (names' : Names) (key : FunctionKey) (xs : List ℕ) → IsOnce m → NamesGrow (names_of m.names) names' → LacksKey m key → IsKeyList names' key xs → LacksList (lists_of m.func_type_map) xs
+list-lacking m names' key xs once g none is i c =
+    let other = once.key_lists xs i c in
+    none i (xs, key-shrink (names_of m.names) names' (g.numbered once.names_).table g.kept key other.key xs is other.is, c)

@@ -1,0 +1,113 @@
+-- What is written with the indexes of the maps stands for its tree.
+use Rattle.std.proofs.Common.{◌≡◌, refl, sym, subst, ap, ℕ, ◌<◌, List, [], ◌∷◌, ◌++◌, map, filter_map, option_to_list, option_map, length, get_or, Option, Some, None, Vec}
+use Rattle.std.specs.List.{Contains, AllZip}
+use Rattle.std.proofs.lemmas.List.Elements.{Contains-append_left, Contains-append_right}
+use Rattle.std.specs.Borrow.{Bor}
+use Rattle.std.specs.declared.alloc.Global.{Global}
+use Rattle.wit_model.specs.Text.{Text, text_of}
+use Rattle.wit_model.specs.Tree.{Primitive, primitive, flags_tree, enum_tree}
+use Rattle.wit_model.specs.Types.{trees_of, tree_of, number_tree}
+use Rattle.wit_model.specs.declared.model.Resolve.{Resolve}
+use Rattle.wit_model.specs.declared.model.Record.{Record}
+use Rattle.wit_model.specs.declared.model.Variant.{Variant}
+use Rattle.wit_model.specs.declared.model.Tuple.{Tuple}
+use Rattle.wit_model.specs.declared.model.Flags.{Flags}
+use Rattle.wit_model.specs.declared.model.Enum.{Enum}
+use Rattle.wit_model.specs.declared.model.Result_.{Result_}
+use Rattle.wit_model.specs.declared.model.TypeId.{TypeId}
+use Rattle.wit_model.specs.declared.model.TypeDefKind.TheVariants as kind
+use Rattle.wit_model.specs.declared.model.Handle.TheVariants as handle
+use Rattle.wit_model.specs.declared.model.«Type».{«Type» as ValueType}
+use Rattle.wit_model.specs.declared.model.«Type».TheVariants as ty
+use Rattle.comp_bytes.specs.declared.forms.ComponentValType.{ComponentValType}
+use Rattle.comp_bytes.specs.declared.forms.ComponentDefinedType.TheVariants as form
+use Rattle.encode_types.specs.declared.maps.TypeEncodingMaps.{TypeEncodingMaps}
+use Rattle.encode_types.specs.Slots.{StandsFor, StandsForOptional, texts}
+use Rattle.encode_types.specs.Maps.{Says, by_number, IsWritten, IsReady, AllReady}
+use Rattle.encode_types.specs.Definition.{IsWrittenOptional, IsWrittenField, IsWrittenCase, FollowsKind}
+use Rattle.encode_types.proofs.Lists.{contains-at, contains-map, contains-one, contains-filter_map, zip-along}
+
+pub written-stands : (r : Resolve) (m : TypeEncodingMaps) (x : ComponentValType) (t : ValueType) → IsWritten m x t → StandsFor (Says r m) x (tree_of (trees_of r) t)
+written-stands r m x (ty.Id id) w = subst (λ (y : ComponentValType). StandsFor (Says r m) y (number_tree r id.0)) (sym w.1) (by_number id.0, w.2, refl)
+written-stands r m x ty.Bool w = subst (λ (y : ComponentValType). StandsFor (Says r m) y (primitive Primitive.bool)) (sym w) refl
+written-stands r m x ty.U8 w = subst (λ (y : ComponentValType). StandsFor (Says r m) y (primitive Primitive.u8)) (sym w) refl
+written-stands r m x ty.U16 w = subst (λ (y : ComponentValType). StandsFor (Says r m) y (primitive Primitive.u16)) (sym w) refl
+written-stands r m x ty.U32 w = subst (λ (y : ComponentValType). StandsFor (Says r m) y (primitive Primitive.u32)) (sym w) refl
+written-stands r m x ty.U64 w = subst (λ (y : ComponentValType). StandsFor (Says r m) y (primitive Primitive.u64)) (sym w) refl
+written-stands r m x ty.S8 w = subst (λ (y : ComponentValType). StandsFor (Says r m) y (primitive Primitive.s8)) (sym w) refl
+written-stands r m x ty.S16 w = subst (λ (y : ComponentValType). StandsFor (Says r m) y (primitive Primitive.s16)) (sym w) refl
+written-stands r m x ty.S32 w = subst (λ (y : ComponentValType). StandsFor (Says r m) y (primitive Primitive.s32)) (sym w) refl
+written-stands r m x ty.S64 w = subst (λ (y : ComponentValType). StandsFor (Says r m) y (primitive Primitive.s64)) (sym w) refl
+written-stands r m x ty.F32 w = subst (λ (y : ComponentValType). StandsFor (Says r m) y (primitive Primitive.f32)) (sym w) refl
+written-stands r m x ty.F64 w = subst (λ (y : ComponentValType). StandsFor (Says r m) y (primitive Primitive.f64)) (sym w) refl
+written-stands r m x ty.Char w = subst (λ (y : ComponentValType). StandsFor (Says r m) y (primitive Primitive.char)) (sym w) refl
+written-stands r m x ty.String w = subst (λ (y : ComponentValType). StandsFor (Says r m) y (primitive Primitive.string)) (sym w) refl
+written-stands r m x ty.ErrorContext w = subst (λ (y : ComponentValType). StandsFor (Says r m) y (primitive Primitive.error_context)) (sym w) refl
+
+pub optional-stands : (r : Resolve) (m : TypeEncodingMaps) (x : Option ComponentValType) (t : Option ValueType) → IsWrittenOptional m x t → StandsForOptional (Says r m) x (option_map (tree_of (trees_of r)) t)
+optional-stands r m None None w = w
+optional-stands r m None (Some t) w = w
+optional-stands r m (Some x) None w = w
+optional-stands r m (Some x) (Some t) w = written-stands r m x t w
+
+-- ---- what is asked of the parts
+
+pub ready-of : {X : Type 0} (m : TypeEncodingMaps) (f : X → ValueType) (xs : List X) (i : ℕ) (x : X) → AllReady m (map f xs) → i < length xs → x ≡ get_or xs i x → IsReady m (f x)
+ready-of m f xs i x a l e = a (f x) (contains-map f xs x (contains-at xs i x l e))
+
+pub ready-given : {X : Type 0} (m : TypeEncodingMaps) (f : X → Option ValueType) (xs : List X) (i : ℕ) (x : X) → AllReady m (filter_map f xs) → i < length xs → x ≡ get_or xs i x → AllReady m (option_to_list (f x))
+ready-given m f xs i x a l e t c = a t (contains-filter_map f xs x t (contains-at xs i x l e) c)
+
+pub ready-one : (m : TypeEncodingMaps) (t : ValueType) → AllReady m (t ∷ []) → IsReady m t
+ready-one m t a = a t (contains-one t)
+
+pub ready-left : (m : TypeEncodingMaps) (xs ys : List ValueType) → AllReady m (xs ++ ys) → AllReady m xs
+ready-left m xs ys a t c = a t (Contains-append_left xs ys t c)
+
+pub ready-right : (m : TypeEncodingMaps) (xs ys : List ValueType) → AllReady m (xs ++ ys) → AllReady m ys
+ready-right m xs ys a t c = a t (Contains-append_right xs ys t c)
+
+-- ---- each form
+
+module _ (m : TypeEncodingMaps) where
+  pub record-follows : (q : Record) (xs : Vec (Bor Text × ComponentValType) Global) → AllZip (IsWrittenField m) xs.items q.fields.items → FollowsKind m (kind.Record q) (form.Record xs)
+  record-follows q xs z r = (_, zip-along (IsWrittenField m) _ (λ f. (text_of f.name, tree_of (trees_of r) f.ty)) (λ x f w. (w.0, written-stands r m x.1 f.ty w.1)) _ _ z, refl)
+
+  pub variant-follows : (q : Variant) (xs : Vec (Bor Text × Option ComponentValType) Global) → AllZip (IsWrittenCase m) xs.items q.cases.items → FollowsKind m (kind.Variant q) (form.Variant xs)
+  variant-follows q xs z r = (_, zip-along (IsWrittenCase m) _ (λ c. (text_of c.name, option_map (tree_of (trees_of r)) c.ty)) (λ x c w. (w.0, optional-stands r m x.1 c.ty w.1)) _ _ z, refl)
+
+  pub tuple-follows : (q : Tuple) (xs : Vec ComponentValType Global) → AllZip (IsWritten m) xs.items q.types.items → FollowsKind m (kind.Tuple q) (form.Tuple xs)
+  tuple-follows q xs z r = (_, zip-along (IsWritten m) _ (tree_of (trees_of r)) (λ x t w. written-stands r m x t w) _ _ z, refl)
+
+  pub flags-follows : (q : Flags) (names : Vec (Bor Text) Global) → texts names.items ≡ map (λ f. text_of f.name) q.flags.items → FollowsKind m (kind.Flags q) (form.Flags names)
+  flags-follows q names e r = ap flags_tree (sym e)
+
+  pub enum-follows : (q : Enum) (names : Vec (Bor Text) Global) → texts names.items ≡ map (λ c. text_of c.name) q.cases.items → FollowsKind m (kind.Enum q) (form.Enum names)
+  enum-follows q names e r = ap enum_tree (sym e)
+
+  pub option-follows : (t : ValueType) (x : ComponentValType) → IsWritten m x t → FollowsKind m (kind.Option t) (form.Option x)
+  option-follows t x w r = (_, written-stands r m x t w, refl)
+
+  pub list-follows : (t : ValueType) (x : ComponentValType) → IsWritten m x t → FollowsKind m (kind.List t) (form.List x)
+  list-follows t x w r = (_, written-stands r m x t w, refl)
+
+  pub fixed-follows : (t : ValueType) (n : ℕ) (x : ComponentValType) → IsWritten m x t → FollowsKind m (kind.FixedLengthList t n) (form.FixedLengthList x n)
+  fixed-follows t n x w r = (_, written-stands r m x t w, refl)
+
+  pub map-follows : (k t : ValueType) (x y : ComponentValType) → IsWritten m x k → IsWritten m y t → FollowsKind m (kind.Map k t) (form.Map x y)
+  map-follows k t x y v w r = (_, _, written-stands r m x k v, written-stands r m y t w, refl)
+
+  pub result-follows : (q : Result_) (x y : Option ComponentValType) → IsWrittenOptional m x q.ok → IsWrittenOptional m y q.err → FollowsKind m (kind.Result q) (form.Result x y)
+  result-follows q x y v w r = (_, _, optional-stands r m x q.ok v, optional-stands r m y q.err w, refl)
+
+  pub future-follows : (t : Option ValueType) (x : Option ComponentValType) → IsWrittenOptional m x t → FollowsKind m (kind.Future t) (form.Future x)
+  future-follows t x w r = (_, optional-stands r m x t w, refl)
+
+  pub stream-follows : (t : Option ValueType) (x : Option ComponentValType) → IsWrittenOptional m x t → FollowsKind m (kind.Stream t) (form.Stream x)
+  stream-follows t x w r = (_, optional-stands r m x t w, refl)
+
+  pub own-follows : (id : TypeId) (i : ℕ) → Contains m.id_to_index.entries (id.0, i) → FollowsKind m (kind.Handle (handle.Own id)) (form.Own i)
+  own-follows id i h r = (number_tree r id.0, (by_number id.0, h, refl), refl)
+
+  pub borrow-follows : (id : TypeId) (i : ℕ) → Contains m.id_to_index.entries (id.0, i) → FollowsKind m (kind.Handle (handle.Borrow id)) (form.Borrow i)
+  borrow-follows id i h r = (number_tree r id.0, (by_number id.0, h, refl), refl)

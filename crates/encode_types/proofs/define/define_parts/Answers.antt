@@ -1,0 +1,98 @@
+use Rattle.std.proofs.Common.{refl, ◌≡◌, ◌∙◌, sym, ap, subst, arith, get_or, rules}
+use Rattle.encode_types.specs.Scope.{Scope}
+use Rattle.encode_types.specs.Fits.{Fits}
+use Rattle.encode_types.specs.Plan.{IsOrderOf, foreign_owner, Reaches}
+use Rattle.wit_model.specs.declared.model.«Type».{«Type» as ValueType}
+use Rattle.wit_model.specs.declared.model.«Type».TheVariants as ty
+use Rattle.std.proofs.lemmas.List.Elements.{Contains-get_or}
+use Rattle.encode_types.proofs.Learning.{learns-none, learns-then}
+use Rattle.encode_types.proofs.Around.{around-same}
+use Rattle.encode_types.proofs.Defining.{leaves-trans, leaves-kept, counts-trans, counts-none}
+use Rattle.encode_types.proofs.Encoding.{ready-now, known-more, ready-at-last, reaches-in_range, meets-reaches, learns-more, learns-at-last, learns-nothing}
+use Rattle.encode_types.proofs.Rooms.{holds-none, holds-then, room-after, reaches-then, learns-reached}
+use Rattle.encode_types.proofs.Lists.{one-contained, none-in}
+use Rattle.encode_types.proofs.define.define_parts.Given.{Over}
+use Rattle.encode_types.proofs.define.define_parts.Goals as goal
+use Rattle.encode_types.proofs.define.define_parts.Goals.{After-deref-n-items}
+use Rattle.encode_types.proofs.Writing.{writes-nothing, writes-then}
+
+ordered : (g : Over) (c : After-deref-n-items g) → IsOrderOf c.args.resolve.now (g.E.ValtypeEncoder.view c.args.enc.now).scope.own_interface (g.E.ValtypeEncoder.view c.args.enc.now).maps c.args.types.now c.deref-n-items.result.now
+ordered g c = rw c.deref-n-items.ensures.value c.in_ok-order.ensures.order
+
+pub define_number-requires : goal.define_number-requires
+define_number-requires g c = λ _. (
+  (refl, tt),
+  (let o = ordered g (goal.at.define_number-requires g c).After-deref-n-items in
+      let s : (g.E.ValtypeEncoder.view c.loop-n.enc).scope ≡ (g.E.ValtypeEncoder.view c.args.enc.now).scope = c.loop-n.invariant.leaves.scope_stays in
+      let n = get_or c.deref-n-items.result.now c.loop-n.n-index 0 in
+      let met = o.added n (Contains-get_or _ _ 0 c.loop-n-test.true) in
+      let fits : Fits c.args.resolve.now (g.E.ValtypeEncoder.view c.args.enc.now).scope (get_or c.deref-n-items.result.now c.loop-n.n-index 0) = c.requires.encodable.fits met.0 met.1 n (meets-reaches c.args.resolve.now _ _ met.0 n met.2) in (
+        ap (λ (x : Scope). x.packages) s ∙ c.requires.encodable.packages_,
+        (
+          c.requires.encodable.layered,
+          (
+            reaches-in_range c.args.resolve.now _ c.requires.encodable.layered met.0 n (c.requires.encodable.in_range met.0 met.1) (meets-reaches c.args.resolve.now _ _ met.0 n met.2),
+            (
+              subst (λ (x : Scope). Fits c.args.resolve.now x (get_or c.deref-n-items.result.now c.loop-n.n-index 0)) (sym s) fits,
+              (
+                (λ def at f. ready-now c.args.resolve.now (g.E.ValtypeEncoder.view c.args.enc.now).scope.own_interface (g.E.ValtypeEncoder.view c.args.enc.now).maps (g.E.ValtypeEncoder.view c.loop-n.enc).maps _ c.loop-n.n-index o.ordered c.loop-n-test.true c.loop-n.invariant.leaves.maps_grow c.loop-n.invariant.known def at
+                    (sym (ap (λ (x : Scope). foreign_owner x.own_interface def.owner) s) ∙ f)),
+                c.loop-n.invariant.leaves.agree,
+              ),
+            ),
+          ),
+        ),
+      )),
+)
+
+pub loop-n-preserved : goal.loop-n-preserved
+loop-n-preserved g c = record {
+  known = known-more (g.E.ValtypeEncoder.view c.loop-n.enc).maps (g.E.ValtypeEncoder.view c.define_number.new.enc).maps c.deref-n-items.result.now c.loop-n.n-index c.loop-n-test.true c.define_number.ensures.leaves.maps_grow c.loop-n.invariant.known c.in_ok-define_number.ensures.ok.known;
+  learns = learns-more (g.E.ValtypeEncoder.view c.args.enc.now).maps (g.E.ValtypeEncoder.view c.loop-n.enc).maps (g.E.ValtypeEncoder.view c.define_number.new.enc).maps c.deref-n-items.result.now c.loop-n.n-index c.loop-n-test.true c.loop-n.invariant.learns c.in_ok-define_number.ensures.ok;
+  learnt = learns-then (ap (λ (x : Scope). x.own_interface) c.loop-n.invariant.leaves.scope_stays) c.loop-n.invariant.learnt c.in_ok-define_number.ensures.learns;
+  leaves = leaves-trans c.loop-n.invariant.leaves c.define_number.ensures.leaves;
+  held = holds-then c.loop-n.invariant.held c.in_ok-define_number.ensures.held;
+  written = writes-then c.loop-n.invariant.leaves.scope_stays c.loop-n.invariant.written c.in_ok-define_number.ensures.written;
+  counts = counts-trans c.loop-n.invariant.leaves.scope_stays c.loop-n.invariant.counts c.in_ok-define_number.ensures.counts;
+}
+
+pub returns-clause-ready : goal.returns-clause-ready
+returns-clause-ready g c = ready-at-last c.args.resolve.now (g.E.ValtypeEncoder.view c.args.enc.now).scope.own_interface (g.E.ValtypeEncoder.view c.args.enc.now).maps (g.E.ValtypeEncoder.view c.loop-n.enc).maps c.args.types.now c.deref-n-items.result.now c.loop-n.n-index
+    (ordered g (goal.at.returns-clause-ready g c).After-deref-n-items) c.loop-n-test.false c.loop-n.invariant.leaves.maps_grow c.loop-n.invariant.known
+
+pub returns-clause-learns : goal.returns-clause-learns
+returns-clause-learns g c = record {
+  learns = c.loop-n.invariant.learnt;
+  only = learns-at-last c.args.resolve.now (g.E.ValtypeEncoder.view c.args.enc.now).scope.own_interface (g.E.ValtypeEncoder.view c.args.enc.now).maps (g.E.ValtypeEncoder.view c.loop-n.enc).maps c.args.types.now c.deref-n-items.result.now c.loop-n.n-index
+      (ordered g (goal.at.returns-clause-learns g c).After-deref-n-items) c.loop-n-test.false c.loop-n.invariant.learns;
+}
+
+pub loop-n-init : goal.loop-n-init
+loop-n-init g c = rw c.order_of.ensures.same (record {
+  known = λ j k. none-in j k;
+  learns = learns-nothing _ (g.E.ValtypeEncoder.view c.args.enc.now).maps;
+  learnt = learns-none c.args.resolve.now (g.E.ValtypeEncoder.view c.args.enc.now).scope.own_interface (g.E.ValtypeEncoder.view c.args.enc.now).maps;
+  leaves = leaves-kept c.requires.agree (record { kept = λ i s h. h; more = omega arith; around_ = around-same refl }) refl refl;
+  held = holds-none (g.E.ValtypeEncoder.view c.args.enc.now).maps (g.E.ValtypeEncoder.view c.args.enc.now).held;
+  written = writes-nothing c.args.resolve.now 0 (g.E.ValtypeEncoder.view c.args.enc.now);
+  counts = counts-none c.args.resolve.now (g.E.ValtypeEncoder.view c.args.enc.now).scope (g.E.ValtypeEncoder.view c.args.enc.now).maps (g.E.ValtypeEncoder.view c.args.enc.now).definitions;
+})
+
+pub returns-in_err-define_number-clause-leaves : goal.returns-in_err-define_number-clause-leaves
+returns-in_err-define_number-clause-leaves g c = leaves-trans c.loop-n.invariant.leaves c.define_number.ensures.leaves
+
+pub returns-in_err-define_number-clause-size : goal.returns-in_err-define_number-clause-size
+returns-in_err-define_number-clause-size g c = λ h.
+    let o = ordered g (goal.at.returns-in_err-define_number-clause-size g c).After-deref-n-items in
+    let before = g.E.ValtypeEncoder.view c.args.enc.now in
+    let n = get_or c.deref-n-items.result.now c.loop-n.n-index 0 in
+    let met = o.added n (Contains-get_or _ _ 0 c.loop-n-test.true) in
+    room-after c.loop-n.invariant.held c.loop-n.invariant.leaves.agree.once (ap (λ (x : Scope). x.own_interface) c.loop-n.invariant.leaves.scope_stays)
+    (learns-reached c.args.resolve.now before.scope.own_interface before.maps (g.E.ValtypeEncoder.view c.loop-n.enc).maps c.args.types.now c.deref-n-items.result.now c.loop-n.n-index o c.loop-n.invariant.learns)
+    (λ k reached. (
+      met.0,
+      met.1,
+      reaches-then c.args.resolve.now before.scope.own_interface met.0 n (meets-reaches c.args.resolve.now before.scope.own_interface before.maps met.0 n met.2) k
+          (subst (λ (t : ValueType). Reaches c.args.resolve.now before.scope.own_interface t k) (sym (one-contained (ty.Id (record { 0 = n })) reached.0 reached.1)) reached.2),
+    ))
+    (λ q c. none-in q c) (omega arith) (c.define_number.ensures.size (search rules))

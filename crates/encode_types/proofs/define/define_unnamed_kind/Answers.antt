@@ -1,0 +1,43 @@
+use Rattle.std.proofs.Common.{refl, ◌∙◌, subst, ℕ, List}
+use Rattle.std.specs.List.{Contains}
+use Rattle.encode_types.specs.Codes.{lists_of}
+use Rattle.encode_types.specs.Maps.{HasKind, LacksList}
+use Rattle.encode_types.proofs.Learning.{kind-had}
+use Rattle.encode_types.proofs.Defining.{kind-stands, counts-none}
+use Rattle.encode_types.proofs.define.define_unnamed_kind.Given.{Over}
+use Rattle.encode_types.proofs.define.define_unnamed_kind.Goals as goal
+use Rattle.encode_types.proofs.define.define_unnamed_kind.Goals.{In-Some}
+use Rattle.encode_types.proofs.Writing.{written-none}
+
+had : (g : Over) (c : In-Some g) → HasKind (g.E.ValtypeEncoder.view c.args.enc.now).maps c.args.kind.now c.in-Some.index
+had g c = (c.requires.unnamed, subst (λ (xs : List ℕ). Contains (lists_of (g.E.ValtypeEncoder.view c.args.enc.now).maps.def_to_index) (xs, c.in-Some.index)) (c.as_slice.ensures.value ∙ c.in_ok-list.ensures) c.in-Some.ensures.some)
+
+pub returns-in-Some-clause-ok : goal.returns-in-Some-clause-ok
+returns-in-Some-clause-ok g c = rw c.index_of_kind.ensures.same (kind-stands c.args.resolve.now (g.E.ValtypeEncoder.view c.args.enc.now).maps (g.E.ValtypeEncoder.view c.args.enc.now).stands c.args.kind.now c.in-Some.index c.requires.agree (had g (goal.at.returns-in-Some-clause-ok g c).In-Some))
+
+pub define_new_kind-requires : goal.define_new_kind-requires
+define_new_kind-requires g c = λ _. (
+  (refl, tt),
+  rw c.index_of_kind.ensures.same (
+    c.requires.unnamed,
+    (
+      c.in_ok-list.ensures,
+      (
+        subst (LacksList (lists_of (g.E.ValtypeEncoder.view c.args.enc.now).maps.def_to_index)) (c.as_slice.ensures.value ∙ c.in_ok-list.ensures) (rw c.in_default.is at c.index_of_kind.ensures.none),
+        (c.requires.ready, (c.requires.formed, c.requires.agree)),
+      ),
+    ),
+  ),
+)
+
+pub returns-in-Some-clause-counts : goal.returns-in-Some-clause-counts
+returns-in-Some-clause-counts g c = rw c.index_of_kind.ensures.same (counts-none c.args.resolve.now (g.E.ValtypeEncoder.view c.args.enc.now).scope (g.E.ValtypeEncoder.view c.args.enc.now).maps (g.E.ValtypeEncoder.view c.args.enc.now).definitions)
+
+pub returns-in-Some-clause-kinds : goal.returns-in-Some-clause-kinds
+returns-in-Some-clause-kinds g c = rw c.index_of_kind.ensures.same (kind-had (g.E.ValtypeEncoder.view c.args.enc.now).maps c.args.kind.now c.in-Some.index (had g (goal.at.returns-in-Some-clause-kinds g c).In-Some))
+
+pub returns-in-Some-clause-written : goal.returns-in-Some-clause-written
+returns-in-Some-clause-written g c = rw c.index_of_kind.ensures.same (written-none _ (g.E.ValtypeEncoder.view c.args.enc.now))
+
+pub returns-clause-written : goal.returns-clause-written
+returns-clause-written g c = rw c.index_of_kind.ensures.same at c.define_new_kind.ensures.written

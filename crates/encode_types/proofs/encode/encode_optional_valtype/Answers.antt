@@ -1,0 +1,22 @@
+use Rattle.encode_types.proofs.Learning.{met-nothing, ready-none, ready-single}
+use Rattle.encode_types.proofs.Defining.{counts-none}
+use Rattle.encode_types.proofs.encode.encode_optional_valtype.Goals as goal
+use Rattle.encode_types.proofs.Writing.{writes-nothing}
+
+pub returns-in_ok-value-in-Some-clause-learns : goal.returns-in_ok-value-in-Some-clause-learns
+returns-in_ok-value-in-Some-clause-learns g c = rw c.in-Some.is c.in_ok-value-in-Some.ensures.learns
+
+pub returns-in-None-clause-counts : goal.returns-in-None-clause-counts
+returns-in-None-clause-counts g c = counts-none c.args.resolve.now (g.E.ValtypeEncoder.view c.args.enc.now).scope (g.E.ValtypeEncoder.view c.args.enc.now).maps (g.E.ValtypeEncoder.view c.args.enc.now).definitions
+
+pub returns-in-None-clause-learns : goal.returns-in-None-clause-learns
+returns-in-None-clause-learns g c = met-nothing c.args.resolve.now (g.E.ValtypeEncoder.view c.args.enc.now).scope.own_interface _ (g.E.ValtypeEncoder.view c.args.enc.now).maps
+
+pub returns-in_ok-value-in-Some-clause-knows : goal.returns-in_ok-value-in-Some-clause-knows
+returns-in_ok-value-in-Some-clause-knows g c = rw c.in-Some.is (ready-single (g.E.ValtypeEncoder.view c.encode_valtype.new.enc).maps c.in-Some.ty.now c.in_ok-value-in-Some.ensures.knows)
+
+pub returns-in-None-clause-knows : goal.returns-in-None-clause-knows
+returns-in-None-clause-knows g c = rw c.in-None.is (ready-none (g.E.ValtypeEncoder.view c.args.enc.now).maps)
+
+pub returns-in-None-clause-written : goal.returns-in-None-clause-written
+returns-in-None-clause-written g c = writes-nothing c.args.resolve.now 0 (g.E.ValtypeEncoder.view c.args.enc.now)

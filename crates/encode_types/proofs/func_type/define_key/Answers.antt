@@ -1,0 +1,84 @@
+use Rattle.std.proofs.Common.{refl, ◌∙◌, sym, subst, ap, rules, arith}
+use Rattle.wit_model.specs.Parts.{function_types}
+use Rattle.encode_types.specs.Scope.{Scope}
+use Rattle.encode_types.specs.Room.{function_type}
+use Rattle.encode_types.proofs.Rooms.{room-more, room-after, only-reached, lacks-request}
+use Rattle.wit_model.specs.Meaning.{Signature}
+use Rattle.wit_model.specs.Meant.{signature_of}
+use Rattle.encode_types.specs.declared.maps.TypeEncodingMaps.{TypeEncodingMaps}
+use Rattle.encode_types.specs.Maps.{LearnsKey}
+use Rattle.encode_types.specs.Slots.{function}
+use Rattle.encode_types.proofs.Defining.{leaves-kept, leaves-trans}
+use Rattle.encode_types.proofs.Learning.{met-key}
+use Rattle.encode_types.proofs.Functions.{key-signature, counts-key, lacks-same}
+use Rattle.encode_types.proofs.func_type.define_key.Given.{Over}
+use Rattle.encode_types.proofs.func_type.define_key.Goals as goal
+use Rattle.encode_types.proofs.func_type.define_key.Goals.{In_ok-index}
+use Rattle.encode_types.proofs.Lists.{none-in}
+use Rattle.encode_types.specs.View.{WritesLearnt}
+use Rattle.encode_types.proofs.Writing.{writes-beside, writes-most}
+use Rattle.std.proofs.Common.{◌≤◌, ◌+◌}
+use Rattle.encode_types.specs.Extents.{signature_extent}
+
+pub function_of-requires : goal.function_of-requires
+function_of-requires g c = λ _. ((refl, tt), (c.requires.encodable, (c.requires.is_key.async, c.requires.agree)))
+
+pub define_function_type-requires : goal.define_function_type-requires
+define_function_type-requires g c = λ _. ((refl, tt), (_, c.in_ok-def.ensures.ok, rw c.function_of.ensures.leaves.scope_stays c.requires.formed))
+
+stands : (g : Over) (c : In_ok-index g) → (g.E.ValtypeEncoder.view c.define_function_type.new.self).stands c.in_ok-index.index (function (signature_of c.args.resolve.now c.args.func.now))
+stands g c = c.in_ok-index.ensures.ok.adds.new (function (signature_of c.args.resolve.now c.args.func.now)) c.in_ok-def.ensures.ok
+
+pub remember_key-requires : goal.remember_key-requires
+remember_key-requires g c = λ _. (
+  (refl, tt),
+  (
+    subst (λ (s : Signature). (g.E.ValtypeEncoder.view c.define_function_type.new.self).stands c.in_ok-index.index (function s)) (sym (key-signature c.args.resolve.now c.args.key c.args.func.now c.requires.is_key)) (stands g (goal.at.remember_key-requires g c).In_ok-index),
+    (
+      rw c.define_function_type.ensures.maps_stay (lacks-same (g.E.ValtypeEncoder.view c.args.enc.now).maps (g.E.ValtypeEncoder.view c.function_of.new.enc).maps c.args.key c.in_ok-def.ensures.counts.keys c.requires.lacks),
+      (leaves-kept {v = g.E.ValtypeEncoder.view c.function_of.new.enc} {v' = g.E.ValtypeEncoder.view c.define_function_type.new.self} c.function_of.ensures.leaves.agree c.define_function_type.ensures.grows c.define_function_type.ensures.scope_stays c.define_function_type.ensures.maps_stay).agree,
+    ),
+  ),
+)
+
+pub returns-clause-ok : goal.returns-clause-ok
+returns-clause-ok g c = c.remember_key.ensures.leaves.grows.kept c.in_ok-index.index _ (stands g (goal.at.returns-clause-ok g c).In_ok-index)
+
+pub returns-clause-leaves : goal.returns-clause-leaves
+returns-clause-leaves g c = leaves-trans c.function_of.ensures.leaves (leaves-trans (leaves-kept {v = g.E.ValtypeEncoder.view c.function_of.new.enc} {v' = g.E.ValtypeEncoder.view c.define_function_type.new.self} c.function_of.ensures.leaves.agree c.define_function_type.ensures.grows c.define_function_type.ensures.scope_stays c.define_function_type.ensures.maps_stay) c.remember_key.ensures.leaves)
+
+pub returns-clause-counts : goal.returns-clause-counts
+returns-clause-counts g c =
+    counts-key c.args.resolve.now (g.E.ValtypeEncoder.view c.args.enc.now).scope (g.E.ValtypeEncoder.view c.args.enc.now).maps (g.E.ValtypeEncoder.view c.function_of.new.enc).maps (g.E.ValtypeEncoder.view c.remember_key.new.enc).maps (g.E.ValtypeEncoder.view c.args.enc.now).definitions (g.E.ValtypeEncoder.view c.function_of.new.enc).definitions (g.E.ValtypeEncoder.view c.remember_key.new.enc).definitions c.args.key c.in_ok-index.index
+    c.requires.lacks c.in_ok-def.ensures.counts
+    (subst (λ (z : TypeEncodingMaps). LearnsKey z (g.E.ValtypeEncoder.view c.remember_key.new.enc).maps c.args.key c.in_ok-index.index) c.define_function_type.ensures.maps_stay c.in_ok-remember_key.ensures.ok)
+    (c.remember_key.ensures.counts ∙ c.in_ok-index.ensures.counts)
+
+pub returns-clause-learns : goal.returns-clause-learns
+returns-clause-learns g c = met-key c.args.resolve.now (g.E.ValtypeEncoder.view c.args.enc.now).scope.own_interface (g.E.ValtypeEncoder.view c.args.enc.now).maps (g.E.ValtypeEncoder.view c.function_of.new.enc).maps _ (g.E.ValtypeEncoder.view c.remember_key.new.enc).maps
+    c.args.key c.in_ok-index.index c.args.func.now c.requires.is_key c.in_ok-def.ensures.learns c.in_ok-def.ensures.knows c.define_function_type.ensures.maps_stay c.in_ok-remember_key.ensures.ok c.remember_key.ensures.leaves.maps_grow
+
+pub returns-in_err-index-clause-leaves : goal.returns-in_err-index-clause-leaves
+returns-in_err-index-clause-leaves g c = leaves-trans c.function_of.ensures.leaves (leaves-kept {v = g.E.ValtypeEncoder.view c.function_of.new.enc} {v' = g.E.ValtypeEncoder.view c.define_function_type.new.self} c.function_of.ensures.leaves.agree c.define_function_type.ensures.grows c.define_function_type.ensures.scope_stays c.define_function_type.ensures.maps_stay)
+
+pub returns-in_err-remember_key-clause-leaves : goal.returns-in_err-remember_key-clause-leaves
+returns-in_err-remember_key-clause-leaves g c = leaves-trans c.function_of.ensures.leaves (leaves-trans (leaves-kept {v = g.E.ValtypeEncoder.view c.function_of.new.enc} {v' = g.E.ValtypeEncoder.view c.define_function_type.new.self} c.function_of.ensures.leaves.agree c.define_function_type.ensures.grows c.define_function_type.ensures.scope_stays c.define_function_type.ensures.maps_stay) c.remember_key.ensures.leaves)
+
+pub returns-in_err-def-clause-size : goal.returns-in_err-def-clause-size
+returns-in_err-def-clause-size g c = λ h. room-more refl (λ n x. x) (λ q k. none-in q k) (omega arith) (c.function_of.ensures.size (search rules))
+
+pub returns-in_err-index-clause-size : goal.returns-in_err-index-clause-size
+returns-in_err-index-clause-size g c = λ h.
+    let between = g.E.ValtypeEncoder.view c.function_of.new.enc in
+    let after = g.E.ValtypeEncoder.view c.define_function_type.new.self in
+    room-after c.in_ok-def.ensures.held c.function_of.ensures.leaves.agree.once (ap (λ (s : Scope). s.own_interface) c.function_of.ensures.leaves.scope_stays) (only-reached c.args.resolve.now (g.E.ValtypeEncoder.view c.args.enc.now).scope.own_interface (function_types c.args.func.now) c.in_ok-def.ensures.learns.only) (λ n x. x) (λ q k. k) (omega arith)
+    (lacks-request c.args.resolve.now between.scope.own_interface (function_types c.args.func.now) (function_type (signature_of c.args.resolve.now c.args.func.now)) between.maps between.held after.held after.lacks_room c.define_function_type.ensures.held
+    (c.define_function_type.ensures.size (search rules) (signature_of c.args.resolve.now c.args.func.now) c.in_ok-def.ensures.ok))
+
+pub returns-clause-written : goal.returns-clause-written
+returns-clause-written g c =
+    let one = (c.in_ok-index.ensures.written (signature_of c.args.resolve.now c.args.func.now) c.in_ok-def.ensures.ok).extent in
+    let all : (g.E.ValtypeEncoder.view c.remember_key.new.enc).extent ≤ (g.E.ValtypeEncoder.view c.function_of.new.enc).extent + signature_extent (signature_of c.args.resolve.now c.args.func.now) = (let e = c.remember_key.ensures.written in omega (arith, one, e)) in
+    let w : WritesLearnt c.args.resolve.now (0 + signature_extent (signature_of c.args.resolve.now c.args.func.now)) (g.E.ValtypeEncoder.view c.args.enc.now) (g.E.ValtypeEncoder.view c.remember_key.new.enc) =
+    writes-beside (signature_extent (signature_of c.args.resolve.now c.args.func.now)) c.in_ok-def.ensures.written all (c.in_ok-remember_key.ensures.ok.rest.numbers ∙ ap (λ (z : TypeEncodingMaps). z.id_to_index.entries) c.define_function_type.ensures.maps_stay) in
+    writes-most (omega arith) w

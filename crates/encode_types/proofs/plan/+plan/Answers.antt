@@ -1,0 +1,53 @@
+use Rattle.std.proofs.Common.{rules, ◌≡◌, refl, ◌∙◌, arith, inl, ◌+◌, ◌<◌, length, get_or, subst, Some, true, false, List}
+use Rattle.std.proofs.lemmas.Option.{slice_get_read}
+use Rattle.std.proofs.lemmas.List.Elements.{Contains-get_or}
+use Rattle.std.specs.List.{Contains}
+use Rattle.std.specs.Option.{is_some}
+use Rattle.wit_model.specs.Lookup.{type_at}
+use Rattle.wit_model.specs.declared.model.«Type».{«Type» as ValueType}
+use Rattle.wit_model.specs.declared.model.«Type».TheVariants as ty
+use Rattle.wit_model.specs.declared.model.TypeId.{TypeId}
+use Rattle.encode_types.specs.Kinds.{parts_of}
+use Rattle.encode_types.specs.Maps.{IsKnown}
+use Rattle.encode_types.specs.Plan.{foreign_owner, rank}
+use Rattle.encode_types.proofs.Lists.{some-from}
+use Rattle.encode_types.proofs.Agree.{not-known}
+use Rattle.encode_types.proofs.Planning.{planned-there, planned-foreign, planned-own, planned-step, stands-id, part-smaller, rank_below}
+use Rattle.encode_types.proofs.plan.+plan.Goals as goal
+
+pub returns-then-is_some : goal.returns-then-is_some
+returns-then-is_some t c =
+    let k : IsKnown c.args.maps.now c.in-Id.id.0 = some-from _ c.index_of.result (search rules) c.index_of.ensures.some in
+    rw c.in-Id.is (planned-there c.args.resolve.now c.args.own c.args.maps.now c.mark.new.self c.args.order.now.numbers.items (ty.Id c.in-Id.id) c.mark.ensures.numbers c.requires.ordered c.in_ok-mark.ensures.met
+    (stands-id c.args.resolve.now c.args.own c.args.maps.now c.args.order.now.numbers.items c.in-Id.id (inl k)))
+
+pub returns-then-is_some-2 : goal.returns-then-is_some-2
+returns-then-is_some-2 t c =
+    let at : type_at c.args.resolve.now c.in-Id.id.0 ≡ Some c.index-def.result.now = slice_get_read _ _ _ _ refl (c.requires.in_range c.in-Id.id c.in-Id.is) c.index-def.ensures in
+    let f : is_some (foreign_owner c.args.own c.index-def.result.now.owner) ≡ true = search rules in
+    let lacks : is_some c.index_of.result ≡ false = search rules in
+    rw c.in-Id.is (planned-foreign c.args.resolve.now c.args.own c.args.maps.now c.args.order.now.numbers.items c.push.new.self c.in-Id.id c.index-def.result.now (λ k. not-known c.index_of.result lacks (c.index_of.ensures.none k)) c.in_ok-push.ensures.numbers c.in_ok-push.ensures.met c.requires.ordered at f)
+
+pub plan-requires : goal.plan-requires
+plan-requires t c =
+    let at : type_at c.args.resolve.now c.in-Id.id.0 ≡ Some c.index-def.result.now = slice_get_read _ _ _ _ refl (c.requires.in_range c.in-Id.id c.in-Id.is) c.index-def.ensures in
+    let e = c.deref-part-items.ensures.value ∙ c.in_ok-parts.ensures in
+    let here : Contains (parts_of c.index-def.result.now.kind) (get_or c.deref-part-items.result.now c.loop-part.part-index ty.Bool) =
+    subst (λ (xs : List ValueType). Contains xs (get_or c.deref-part-items.result.now c.loop-part.part-index ty.Bool)) e (Contains-get_or _ _ ty.Bool c.loop-part-test.true) in
+    let below : (id : TypeId) → get_or c.deref-part-items.result.now c.loop-part.part-index ty.Bool ≡ ty.Id id → id.0 < c.in-Id.id.0 =
+    (λ id q. part-smaller c.args.resolve.now c.requires.layered c.in-Id.id.0 c.index-def.result.now id at (subst (λ (x : ValueType). Contains (parts_of c.index-def.result.now.kind) x) q here)) in
+    let fall : rank (get_or c.deref-part-items.result.now c.loop-part.part-index ty.Bool) < c.in-Id.id.0 + 1 = rank_below c.in-Id.id.0 _ below in
+    let inside : c.in-Id.id.0 < length c.args.resolve.now.types.items = c.requires.in_range c.in-Id.id c.in-Id.is in
+    let m : rank c.args.ty.now ≡ t = c.decreases in
+    (rw (← m, c.in-Id.is) fall, (c.requires.layered, ((λ id q. let l : id.0 < c.in-Id.id.0 = below id q in omega arith), (c.loop-part.invariant.ordered, c.loop-part.invariant.met))))
+
+pub loop-part-preserved : goal.loop-part-preserved
+loop-part-preserved t c = planned-step c.args.resolve.now c.args.own c.args.maps.now c.args.order.now.numbers.items c.deref-part-items.result.now c.loop-part.part-index c.loop-part.order c.plan.new.order ty.Bool c.loop-part-test.true c.loop-part.invariant c.in_ok-plan.ensures
+
+pub returns : goal.returns
+returns t c =
+    let at : type_at c.args.resolve.now c.in-Id.id.0 ≡ Some c.index-def.result.now = slice_get_read _ _ _ _ refl (c.requires.in_range c.in-Id.id c.in-Id.is) c.index-def.ensures in
+    let f : is_some (foreign_owner c.args.own c.index-def.result.now.owner) ≡ false = search rules in
+    let lacks : is_some c.index_of.result ≡ false = search rules in
+    let e = c.deref-part-items.ensures.value ∙ c.in_ok-parts.ensures in
+    rw c.in-Id.is (planned-own c.args.resolve.now c.args.own c.args.maps.now c.args.order.now.numbers.items c.loop-part.order c.push-2.new.self c.in-Id.id c.index-def.result.now _ _ (λ k. not-known c.index_of.result lacks (c.index_of.ensures.none k)) c.in_ok-push-2.ensures.numbers c.in_ok-push-2.ensures.met at f e c.loop-part-test.false c.loop-part.invariant)

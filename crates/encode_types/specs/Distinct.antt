@@ -1,0 +1,91 @@
+-- How much the declarations of an instance type define: each function type and each unnamed kind once.
+use Rattle.std.specs.Prelude.{ℕ, ◌≡◌, ◌+◌, ◌&&◌, ◌⊎◌, Bool, true, false, nat_eq, List, map, filter, length, count_by, Option, Some}
+use Rattle.std.specs.List.{IsDistinct, Contains}
+use Rattle.std.specs.Option.{option_eq, option_map_or, is_some, is_none}
+use Rattle.std.specs.Set.{is_member, distinct_count}
+use Rattle.std.specs.Cmp.Lexicographic.{pointwise}
+use mathlib.Core.Bool.{beq}
+use Rattle.comp_bytes.specs.Raw.{Declaration}
+use Rattle.wit_model.specs.Lookup.{is_async, type_at}
+use Rattle.wit_model.specs.declared.model.Resolve.{Resolve}
+use Rattle.wit_model.specs.declared.model.InterfaceId.{InterfaceId}
+use Rattle.wit_model.specs.declared.model.TypeId.{TypeId}
+use Rattle.wit_model.specs.declared.model.TypeDefKind.{TypeDefKind}
+use Rattle.wit_model.specs.declared.model.Param.{Param}
+use Rattle.wit_model.specs.declared.model.Function.{Function}
+use Rattle.wit_model.specs.declared.model.«Type».{«Type» as ValueType}
+use Rattle.encode_types.specs.declared.key.FunctionKey.{FunctionKey}
+use Rattle.encode_types.specs.declared.maps.TypeEncodingMaps.{TypeEncodingMaps}
+use Rattle.encode_types.specs.Codes.{IsListed, names_of, lists_of}
+use Rattle.encode_types.specs.Key.{same_type, same_param}
+use Rattle.encode_types.specs.Kinds.{has_definition}
+use Rattle.encode_types.specs.Plan.{foreign_owner}
+use Rattle.encode_types.specs.Scope.{Scope}
+use Rattle.encode_types.specs.MetKinds.{AreMetKinds, referred}
+use Rattle.encode_types.specs.Counts.{Definitions, names_defined}
+
+-- ---- keys of functions
+
+-- what makes the type of a function: whether it is asynchronous, its parameters by name and type, its result
+pub record Key : Type 0 where
+  pub is_async : Bool
+  pub params : List Param
+  pub result_type : Option ValueType
+
+abbrev pub key_of : Function → Key
+key_of f = record { is_async = is_async f.kind; params = f.params.items; result_type = f.result }
+
+abbrev pub key_view : FunctionKey → Key
+key_view k = record { is_async = k.async_; params = k.params.0.now; result_type = k.result.now }
+
+-- whether two functions share a type
+abbrev pub are_same : Key → Key → Bool
+are_same a b = beq a.is_async b.is_async && (pointwise same_param a.params b.params && option_eq same_type a.result_type b.result_type)
+
+-- the maps hold an equal key
+abbrev pub KnowsKey : TypeEncodingMaps → Key → Type 0
+KnowsKey m key = (xs : List ℕ) × (i : ℕ) × IsListed (names_of m.names) key.is_async key.params key.result_type xs × Contains (lists_of m.func_type_map) (xs, i)
+
+-- ---- named types
+
+-- whether a type is a named one, of no other interface than this one, that has a definition of its own
+abbrev pub has_own_definition : Resolve → Option InterfaceId → ℕ → Bool
+has_own_definition r own n = option_map_or (λ def. is_none (foreign_owner own def.owner) && (is_some def.name && has_definition def.kind)) (type_at r n) false
+
+-- the numbers of these types that have one
+abbrev pub defined_under_names : Resolve → Option InterfaceId → List TypeId → List ℕ
+defined_under_names r own ts = map (λ t. t.0) (filter (λ t. has_own_definition r own t.0) ts)
+
+-- ---- what is learnt
+
+-- What has been defined for functions is what the maps have learnt, and the keys that they have learnt are those of the functions.
+pub record AddsFunctions (r : Resolve) (scope : Scope) (m m' : TypeEncodingMaps) (d d' : Definitions) (functions : List Function) : Type 0 where
+  pub types : d'.types + (length m.def_to_index.entries + names_defined r scope m) ≡ d.types + (length m'.def_to_index.entries + names_defined r scope m')
+  pub functions_ : d'.functions + length m.func_type_map.entries ≡ d.functions + length m'.func_type_map.entries
+  pub known : (key : Key) → KnowsKey m' key → KnowsKey m key ⊎ (is_member are_same (map key_of functions) key ≡ true)
+  pub stay : (key : Key) → KnowsKey m key → KnowsKey m' key
+  pub learnt : (key : Key) → is_member are_same (map key_of functions) key ≡ true → KnowsKey m' key
+
+-- ---- what is declared
+
+abbrev pub is_value_type : Declaration → Bool
+is_value_type (Declaration.defined d) = true
+is_value_type _ = false
+
+abbrev pub is_function_type : Declaration → Bool
+is_function_type (Declaration.function f) = true
+is_function_type _ = false
+
+-- one function type for each of these keys, of which no two are the same: they are the keys of the functions
+pub record DefinesKeys (functions : List Function) (declared : List Declaration) : Type 0 where
+  pub keys : List Key
+  pub count : count_by is_function_type declared ≡ length keys
+  pub different : IsDistinct are_same keys
+  pub same : (key : Key) → is_member are_same keys key ≡ is_member are_same (map key_of functions) key
+
+-- one value type for each kind of unnamed types that the types and functions meet, and for each type of the list that has a definition
+-- of its own under its name
+pub record DefinesTypes (r : Resolve) (i : InterfaceId) (types : List TypeId) (functions : List Function) (declared : List Declaration) : Type 0 where
+  pub kinds : List TypeDefKind
+  pub count : count_by is_value_type declared ≡ length kinds + distinct_count nat_eq (defined_under_names r (Some i) types)
+  pub met : AreMetKinds r (Some i) (referred types functions) kinds

@@ -1,0 +1,62 @@
+-- What a call leaves, also where it is refused, and what it has learnt and defined.
+use Rattle.std.specs.Prelude.{ℕ, ◌≡◌, Bool, List, [], ◌∷◌}
+use Rattle.wit_model.specs.Meant.{signature_of}
+use Rattle.wit_model.specs.Parts.{function_types}
+use Rattle.wit_model.specs.declared.model.TypeDefKind.{TypeDefKind}
+use Rattle.wit_model.specs.declared.model.Resolve.{Resolve}
+use Rattle.wit_model.specs.declared.model.«Type».{«Type» as ValueType}
+use Rattle.wit_model.specs.declared.model.Function.{Function}
+use Rattle.encode_types.specs.declared.key.FunctionKey.{FunctionKey}
+use Rattle.encode_types.specs.MetKinds.{Learns, LearnsMet}
+use Rattle.encode_types.specs.Maps.{MapsGrow}
+use Rattle.encode_types.specs.Counts.{one_type_more, type_more_if, AddsTypes, AddsFunction}
+use Rattle.encode_types.specs.Distinct.{AddsFunctions}
+use Rattle.encode_types.specs.Kinds.{parts_of, kind_tree}
+use Rattle.encode_types.specs.Room.{Request, value_type, function_type, FindsNoRoom}
+use Rattle.encode_types.specs.View.{View, Agrees, Grows}
+
+-- The maps agree with the slots and have lost no entry, old slots stand for what they did, and the surroundings are the same.
+pub record Leaves (r : Resolve) (v v' : View) : Type 0 where
+  pub agree : Agrees r v'
+  pub maps_grow : MapsGrow v.maps v'.maps
+  pub grows : Grows v v'
+  pub scope_stays : v'.scope ≡ v.scope
+
+-- what is met on the way down from these types has been learnt, and nothing else
+abbrev pub LearnsFrom : Resolve → List ValueType → View → View → Type 0
+LearnsFrom r ts v v' = LearnsMet r v.scope.own_interface ts v.maps v'.maps
+
+-- of what has been learnt, the parts are known, and the kind where it has no name
+abbrev pub LearnsParts : Resolve → View → View → Type 0
+LearnsParts r v v' = Learns r v.scope.own_interface v.maps v'.maps
+
+-- a part of a type that is met from these, or one of these requests, has no room, and not much more is held than was
+abbrev pub LacksRoom : Resolve → List ValueType → List Request → View → View → Type 0
+LacksRoom r ts requests v v' = FindsNoRoom r v.scope.own_interface ts requests v.maps v.held v'.held v'.lacks_room
+
+-- the same of the parts of a kind and its definition, and of the types of a function and its own
+abbrev pub KindLacksRoom : Resolve → TypeDefKind → View → View → Type 0
+KindLacksRoom r kind v v' = LacksRoom r (parts_of kind) (value_type (kind_tree r kind) ∷ []) v v'
+
+abbrev pub FunctionLacksRoom : Resolve → Function → View → View → Type 0
+FunctionLacksRoom r f v v' = LacksRoom r (function_types f) (function_type (signature_of r f) ∷ []) v v'
+
+-- what has been defined is what the maps have learnt, and no type of a function is among it
+abbrev pub CountsTypes : Resolve → View → View → Type 0
+CountsTypes r v v' = AddsTypes r v.scope v.maps v'.maps v.definitions v'.definitions
+
+-- the same, and one value type beside it
+abbrev pub CountsOneMore : Resolve → View → View → Type 0
+CountsOneMore r v v' = AddsTypes r v.scope v.maps v'.maps (one_type_more v.definitions) v'.definitions
+
+-- the same with the type of a function, which has this key and stands at this index
+abbrev pub CountsFunction : Resolve → View → View → FunctionKey → ℕ → Type 0
+CountsFunction r v v' key i = AddsFunction r v.scope v.maps v'.maps v.definitions v'.definitions key i
+
+-- the same with the types of these functions
+abbrev pub CountsFunctions : Resolve → View → View → List Function → Type 0
+CountsFunctions r v v' functions = AddsFunctions r v.scope v.maps v'.maps v.definitions v'.definitions functions
+
+-- one value type has been defined where this holds, and nothing else
+abbrev pub DefinesIf : Bool → View → View → Type 0
+DefinesIf b v v' = v'.definitions ≡ type_more_if b v.definitions

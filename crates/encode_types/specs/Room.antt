@@ -1,0 +1,118 @@
+-- What an encoder is asked to add, and what of it has no room: where every count and every length is a number of 32 bits
+-- (Component Model Binary.md, "vec" and the numbers of "Core WebAssembly").
+use Rattle.std.specs.Prelude.{ℕ, ◌≡◌, ◌≤◌, ◌+◌, ◌*◌, ◌⊎◌, Bool, true, false, nat_eq, Some, None, Option, String, List, [], ◌∷◌, ◌++◌, map, length, IsPermutation}
+use Rattle.std.specs.List.{Contains, AllPairs}
+use Rattle.std.specs.Option.{option_map_or}
+use Rattle.std.specs.declared.alloc.Global.{Global}
+use Rattle.wit_model.specs.Text.{Text, text_of, optional_text}
+use Rattle.wit_model.specs.Tree.{Tree, Form, child_list, primitive, named, node, record_of, variant_of, tuple_of, flags_of, enum_of}
+use Rattle.wit_model.specs.Meaning.{Signature}
+use Rattle.wit_model.specs.Meant.{type_meaning, signature_of}
+use Rattle.wit_model.specs.Lookup.{type_at}
+use Rattle.wit_model.specs.declared.model.Resolve.{Resolve}
+use Rattle.wit_model.specs.declared.model.TypeDef.{TypeDef}
+use Rattle.wit_model.specs.declared.model.Function.{Function}
+use Rattle.wit_model.specs.declared.model.InterfaceId.{InterfaceId}
+use Rattle.wit_model.specs.declared.model.«Type».{«Type» as ValueType}
+use Rattle.comp_bytes.specs.Raw.{ExternName}
+use Rattle.comp_bytes.specs.Fits.{fits_length, fits_names, fits_given, fits_name}
+use Rattle.encode_types.specs.declared.maps.TypeEncodingMaps.{TypeEncodingMaps}
+use Rattle.encode_types.specs.Kinds.{kind_tree}
+use Rattle.encode_types.specs.Maps.{IsKnown}
+use Rattle.encode_types.specs.Plan.{foreign_owner}
+use Rattle.encode_types.specs.MetKinds.{ReachedFrom}
+use Rattle.encode_types.specs.Scope.{exported_name}
+
+-- what an encoder is asked to add: a definition of this tree, the type of a function of this signature, an export under this name,
+-- or what stands for a type number of another interface
+pub data Request : Type 0 where
+  value_type : Tree → Request
+  function_type : Signature → Request
+  export_name : ExternName → Request
+  import_of : ℕ → Request
+
+-- which requests have no room
+abbrev pub Refusals : Type 1
+Refusals = Request → Type 0
+
+-- ---- which requests fit: the counts and the lengths of their labels are numbers of 32 bits
+
+abbrev pub fits_form : Form → List Tree → Bool
+fits_form (record_of labels) ts = fits_names labels
+fits_form (variant_of cases) ts = fits_names (map (λ c. c.0) cases)
+fits_form tuple_of ts = fits_length ts
+fits_form (flags_of names) ts = fits_names names
+fits_form (enum_of names) ts = fits_names names
+fits_form _ ts = true
+
+-- a tree at its top
+abbrev pub fits_tree : Tree → Bool
+fits_tree (primitive p) = true
+fits_tree (named place name) = true
+fits_tree (node form ts) = fits_form form (child_list ts)
+
+-- the name of a type, by which an alias brings it
+abbrev pub fits_type_name : Resolve → ℕ → Bool
+fits_type_name r n = option_map_or (λ def. fits_given (optional_text def.name)) (type_at r n) true
+
+abbrev pub fits_request : Resolve → Request → Bool
+fits_request r (value_type t) = fits_tree t
+fits_request r (function_type s) = fits_names (map (λ p. p.0) s.params)
+fits_request r (export_name name) = fits_name name
+fits_request r (import_of n) = fits_type_name r n
+
+abbrev pub IsUnfit : Resolve → Refusals
+IsUnfit r request = fits_request r request ≡ false
+
+-- the largest number of 32 bits
+abbrev pub limit : ℕ
+limit = 4294967295
+
+-- where so many declarations are held: what doesn't fit itself, and all where there can't be one more
+abbrev pub LacksRoomBehind : Resolve → ℕ → Refusals
+LacksRoomBehind r held request = IsUnfit r request ⊎ (limit ≤ held)
+
+-- ---- what types and functions are asked for
+
+-- the name that a function of an interface is exported under
+abbrev pub function_name : Text × Function → ExternName
+function_name f = record { text = f.0; implements = None; version_suffix = None; external_id = optional_text f.1.external_id }
+
+-- a function of an interface: its type and its name
+abbrev pub function_requests : Resolve → Text × Function → List Request
+function_requests r f = function_type (signature_of r f.1) ∷ export_name (function_name f) ∷ []
+
+-- what has been learnt, and what is held: at most two more for each type number that is new in the maps, and so many more
+pub record HoldsFor (m m' : TypeEncodingMaps) (before after more : ℕ) : Type 0 where
+  pub learnt : List (ℕ × ℕ)
+  pub numbers : IsPermutation (m.id_to_index.entries ++ learnt) m'.id_to_index.entries
+  pub held : after ≤ before + (2 * length learnt + more)
+
+-- a part of a type has no room: its definition or its name, or, where it is of another interface, what stands for it
+pub data LacksPart (r : Resolve) (own : Option InterfaceId) (N : Refusals) (number : ℕ) (def : TypeDef) : Type 0 where
+  its_definition : foreign_owner own def.owner ≡ None → N (value_type (kind_tree r def.kind)) → LacksPart r own N number def
+  its_name : foreign_owner own def.owner ≡ None → (name : String Global) → def.name ≡ Some name → N (export_name (exported_name (text_of name, type_meaning r def))) → LacksPart r own N number def
+  its_import : (i : InterfaceId) → foreign_owner own def.owner ≡ Some i → N (import_of number) → LacksPart r own N number def
+
+-- a part of one of these types, or one of these requests, has no room
+pub data LacksOne (r : Resolve) (own : Option InterfaceId) (N : Refusals) (numbers : List ℕ) (requests : List Request) : Type 0 where
+  a_type : (number : ℕ) (def : TypeDef) → Contains numbers number → type_at r number ≡ Some def → LacksPart r own N number def → LacksOne r own N numbers requests
+  a_request : (request : Request) → Contains requests request → N request → LacksOne r own N numbers requests
+
+-- One thing that was asked for has no room: a part of a type that is met from these, or one of these requests. What is held is at most
+-- what was held, two more for each type number that was met and wasn't known, each once, and one for each request.
+pub record FindsNoRoom (r : Resolve) (own : Option InterfaceId) (types : List ValueType) (requests : List Request) (m : TypeEncodingMaps) (before after : ℕ) (N : Refusals) : Type 0 where
+  pub numbers : List ℕ
+  pub different : AllPairs (λ x y. nat_eq x y ≡ false) numbers
+  pub met : (n : ℕ) → Contains numbers n → ReachedFrom r own types n
+  pub unknown : (n : ℕ) → Contains numbers n → IsKnown m n → ⊥
+  pub held : after ≤ before + (2 * length numbers + length requests)
+  pub lacks : LacksOne r own N numbers requests
+
+-- An interface has no room in an instance type: a part of a type that is met from its types and functions, or the type or the name of a
+-- function, doesn't fit. Or there are too many of them: two declarations for each type number that is met, each once, and two for each function.
+pub record HasNoRoom (r : Resolve) (own : Option InterfaceId) (types : List ValueType) (requests : List Request) : Type 0 where
+  pub numbers : List ℕ
+  pub different : AllPairs (λ x y. nat_eq x y ≡ false) numbers
+  pub met : (n : ℕ) → Contains numbers n → ReachedFrom r own types n
+  pub lacks : LacksOne r own (IsUnfit r) numbers requests ⊎ (limit ≤ 2 * length numbers + length requests)

@@ -1,0 +1,109 @@
+-- What an encoder holds.
+use Rattle.std.specs.Prelude.{ℕ, ◌≡◌, ◌≤◌, ◌+◌, Option, Some}
+use Rattle.wit_model.specs.Tree.{Tree, named}
+use Rattle.wit_model.specs.Meaning.{Signature}
+use Rattle.wit_model.specs.Lookup.{type_at}
+use Rattle.wit_model.specs.declared.model.TypeDef.{TypeDef}
+use Rattle.comp_bytes.specs.declared.forms.ComponentDefinedType.{ComponentDefinedType}
+use Rattle.comp_bytes.specs.declared.forms.ComponentFuncType.{ComponentFuncType}
+use Rattle.wit_model.specs.declared.model.Resolve.{Resolve}
+use Rattle.comp_bytes.specs.Raw.{ExternName}
+use Rattle.encode_types.specs.declared.maps.TypeEncodingMaps.{TypeEncodingMaps}
+use Rattle.encode_types.specs.Slots.{Pairs, Standing, tree, Keeps, SlotAdded, NameAdded, Follows, FollowsFunction}
+use Rattle.encode_types.specs.Scope.{Scope}
+use Rattle.encode_types.specs.Known.{Around, GrowsAround}
+use Rattle.encode_types.specs.Maps.{MapsAgree}
+use Rattle.encode_types.specs.Counts.{Definitions, ExportsOne}
+use Rattle.encode_types.specs.Room.{Refusals, HoldsFor, value_type, function_type}
+use Rattle.encode_types.specs.Extents.{tree_extent, signature_extent, import_extent, known_extent}
+
+pub record View : Type 1 where
+  -- what is around
+  pub scope : Scope
+  -- what stands in the scope around it, if there is one: aliases of types of other interfaces are made there
+  pub around : Around
+  -- the number of slots, and what each stands for: after an export without a slot, one slot stands for two trees
+  pub slot_count : ℕ
+  pub stands : Pairs
+  -- how much has been defined, and what has been exported
+  pub definitions : Definitions
+  -- which index stands for what
+  pub maps : TypeEncodingMaps
+  -- how much it holds: a call that defines, exports or imports adds one at most
+  pub held : ℕ
+  -- how much it has written: a call that defines, exports or imports adds no more than the extent of what it is asked to add
+  pub extent : ℕ
+  -- what more it has no room for, in 32 bits
+  pub lacks_room : Refusals
+
+-- There are at least as many slots, and the old ones stand for what they did. Around, nothing has been declared but aliases of types that
+-- had none.
+pub record Grows (v v' : View) : Type 0 where
+  pub kept : Keeps v.stands v'.stands
+  pub more : v.slot_count ≤ v'.slot_count
+  pub around_ : GrowsAround v.scope.packages v.around v'.around
+
+-- slot i is new, and stands for what P holds of
+abbrev pub AddsSlot : View → View → ℕ → (Standing → Type 0) → Type 0
+AddsSlot v v' i P = SlotAdded v.stands v'.stands v.slot_count v'.slot_count i P
+
+-- slot i is new, and stands for a name of the place
+abbrev pub AddsName : View → View → ExternName → ℕ → Type 0
+AddsName v v' name i = AddsSlot v v' i (λ m. m ≡ tree (named v.scope.place name.text))
+
+-- slot i is exported as this tree: the name has a slot of its own, or none
+abbrev pub Exports : View → View → ℕ → Tree → Option ℕ → Type 0
+Exports v v' i t slot = NameAdded v.stands v'.stands v.slot_count v'.slot_count i t slot
+
+-- one declaration of the place has been exported, under this name, and nothing has been defined
+abbrev pub ExportsName : View → View → ExternName → Type 0
+ExportsName v v' name = ExportsOne v.scope v.definitions v'.definitions name
+
+-- a definition, or the type of a function, as it was read before the call, has no room after it
+abbrev pub LacksDefinition : View → View → ComponentDefinedType → Type 0
+LacksDefinition v v' def = (t : Tree) → Follows v.stands def t → v'.lacks_room (value_type t)
+
+abbrev pub LacksFunctionType : View → View → ComponentFuncType → Type 0
+LacksFunctionType v v' def = (s : Signature) → FollowsFunction v.stands def s → v'.lacks_room (function_type s)
+
+-- the maps agree with the slots
+abbrev pub Agrees : Resolve → View → Type 0
+Agrees r v = MapsAgree r v.maps v.stands
+
+-- at most so much more is held
+abbrev pub HoldsMore : ℕ → View → View → Type 0
+HoldsMore n v v' = v'.held ≤ v.held + n
+
+-- at most so much more is held, and two for each type number that has been learnt
+abbrev pub HoldsLearnt : ℕ → View → View → Type 0
+HoldsLearnt n v v' = HoldsFor v.maps v'.maps v.held v'.held n
+
+-- at most so much more has been written
+pub record Writes (n : ℕ) (v v' : View) : Type 0 where
+  pub extent : v'.extent ≤ v.extent + n
+
+-- a definition, or the type of a function, as it was read before the call, has been written
+abbrev pub WritesDefinition : View → View → ComponentDefinedType → Type 0
+WritesDefinition v v' def = (t : Tree) → Follows v.stands def t → Writes (tree_extent t) v v'
+
+abbrev pub WritesFunctionType : View → View → ComponentFuncType → Type 0
+WritesFunctionType v v' def = (s : Signature) → FollowsFunction v.stands def s → Writes (signature_extent s) v v'
+
+-- what stands for a type number of another interface has been written
+abbrev pub WritesImport : View → View → ℕ → Type 0
+WritesImport v v' n = (def : TypeDef) → type_at v.scope.packages n ≡ Some def → Writes (import_extent def) v v'
+
+-- at most so much more has been written, and each type number that has been learnt
+pub record WritesLearnt (r : Resolve) (n : ℕ) (v v' : View) : Type 0 where
+  pub extent : v'.extent + known_extent r v.scope.own_interface v.maps ≤ v.extent + (known_extent r v.scope.own_interface v'.maps + n)
+
+-- all but the maps is the same
+pub record SameRest (v v' : View) : Type 0 where
+  pub scope_ : v'.scope ≡ v.scope
+  pub around_ : v'.around ≡ v.around
+  pub slot_count_ : v'.slot_count ≡ v.slot_count
+  pub definitions_ : v'.definitions ≡ v.definitions
+  pub held_ : v'.held ≡ v.held
+  pub extent_ : v'.extent ≡ v.extent
+  pub kept : Keeps v.stands v'.stands
+  pub back : Keeps v'.stands v.stands

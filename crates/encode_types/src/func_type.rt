@@ -1,0 +1,110 @@
+//! Encodes the types of functions by any encoder that keeps the law.
+
+ghost use Rattle.std.specs.Prelude.{◌≡◌, [], Err, IfOk, OnOk, IfErr};
+ghost use Rattle.comp_bytes.specs.Refusal.{IsMemoryOrSize};
+ghost use Rattle.wit_model.specs.declared.error.Error.TheVariants.{Size};
+ghost use Rattle.wit_model.specs.Meant.{signature_of};
+ghost use Rattle.wit_model.specs.Parts.{function_types};
+ghost use Rattle.encode_types.specs.Slots.{function, FollowsFunction};
+ghost use Rattle.encode_types.specs.Key.{IsKeyOf};
+ghost use Rattle.encode_types.specs.Maps.{AllReady, LacksKey};
+ghost use Rattle.encode_types.specs.Fits.{CanEncode};
+ghost use Rattle.encode_types.specs.Formed.{IsFormedSignature};
+ghost use Rattle.encode_types.specs.Extents.{signature_extent};
+ghost use Rattle.encode_types.specs.View.{Agrees, HoldsLearnt, WritesLearnt};
+ghost use Rattle.encode_types.specs.Leaves.{Leaves, LearnsFrom, CountsTypes, CountsFunction, LacksRoom, FunctionLacksRoom};
+ghost use Rattle.encode_types.specs.declared.key.FunctionKey.{FunctionKey as KeyValue};
+
+use crate::encode::{encode_optional_valtype, encode_params};
+use crate::encoder::ValtypeEncoder;
+use crate::key::{FunctionKey, key_of};
+use crate::lend::{index_of_key, remember_key};
+use comp_bytes::ComponentFuncType;
+use std::alloc::Global;
+use wit_model::{Error, Function, Resolve};
+
+/// The type of a function, over the types of its parameters and its result.
+fn function_of<'a, E: ValtypeEncoder<'a>>(
+    alloc: Global,
+    enc: &mut E,
+    resolve: &'a Resolve,
+    func: &'a Function,
+    async_: bool,
+) -> Result<ComponentFuncType<'a>, Error>
+    requires encodable { CanEncode resolve.now (E.view enc.old).scope (function_types func.now) }
+    requires asynchronous { async_ ≡ (signature_of resolve.now func.now).is_async }
+    requires agree { Agrees resolve.now (E.view enc.old) }
+    ensures ok { IfOk result (λ f. FollowsFunction (E.view enc.new).stands f (signature_of resolve.now func.now)) }
+    ensures learns { OnOk result (LearnsFrom resolve.now (function_types func.now) (E.view enc.old) (E.view enc.new)) }
+    ensures leaves { Leaves resolve.now (E.view enc.old) (E.view enc.new) }
+    ensures counts { OnOk result (CountsTypes resolve.now (E.view enc.old) (E.view enc.new)) }
+    ensures knows { OnOk result (AllReady (E.view enc.new).maps (function_types func.now)) }
+    ensures held { OnOk result (HoldsLearnt 0 (E.view enc.old) (E.view enc.new)) }
+    ensures written { OnOk result (WritesLearnt resolve.now 0 (E.view enc.old) (E.view enc.new)) }
+    ensures size { result ≡ Err Size → LacksRoom resolve.now (function_types func.now) [] (E.view enc.old) (E.view enc.new) }
+    ensures refuses { IfErr result IsMemoryOrSize }
+{
+    let params = encode_params(alloc, enc, resolve, &func.params)?;
+    let result = encode_optional_valtype(alloc, enc, resolve, func.result.as_ref())?;
+    Ok(ComponentFuncType {
+        async_,
+        params,
+        result,
+    })
+}
+
+/// Defines the type of a function whose key the maps lack.
+fn define_key<'a, E: ValtypeEncoder<'a>>(
+    alloc: Global,
+    enc: &mut E,
+    resolve: &'a Resolve,
+    func: &'a Function,
+    key: FunctionKey<'a>,
+) -> Result<u32, Error>
+    requires encodable { CanEncode resolve.now (E.view enc.old).scope (function_types func.now) }
+    requires is_key { IsKeyOf key func.now }
+    requires lacks { LacksKey (E.view enc.old).maps key }
+    requires formed { IsFormedSignature (E.view enc.old).scope (signature_of resolve.now func.now) }
+    requires agree { Agrees resolve.now (E.view enc.old) }
+    ensures ok { IfOk result (λ i. (E.view enc.new).stands i (function (signature_of resolve.now func.now))) }
+    ensures learns { OnOk result (LearnsFrom resolve.now (function_types func.now) (E.view enc.old) (E.view enc.new)) }
+    ensures leaves { Leaves resolve.now (E.view enc.old) (E.view enc.new) }
+    ensures counts { IfOk result (CountsFunction resolve.now (E.view enc.old) (E.view enc.new) key.entry) }
+    ensures held { OnOk result (HoldsLearnt 1 (E.view enc.old) (E.view enc.new)) }
+    ensures written { OnOk result (WritesLearnt resolve.now (signature_extent (signature_of resolve.now func.now)) (E.view enc.old) (E.view enc.new)) }
+    ensures size { result ≡ Err Size → FunctionLacksRoom resolve.now func.now (E.view enc.old) (E.view enc.new) }
+    ensures refuses { IfErr result IsMemoryOrSize }
+{
+    let def = function_of(alloc, enc, resolve, func, key.async_)?;
+    let index = enc.define_function_type(def)?;
+    remember_key(alloc, enc, resolve, key, index)?;
+    Ok(index)
+}
+
+/// Encodes the type of a function, and what it needs before it. A function with an equal key shares it.
+///
+/// Takes as long as its parameters and its result, and one search among the keys.
+pub fn encode_func_type<'a, E: ValtypeEncoder<'a>>(
+    alloc: Global,
+    enc: &mut E,
+    resolve: &'a Resolve,
+    func: &'a Function,
+) -> Result<u32, Error>
+    requires encodable { CanEncode resolve.now (E.view enc.old).scope (function_types func.now) }
+    requires formed { IsFormedSignature (E.view enc.old).scope (signature_of resolve.now func.now) }
+    requires agree { Agrees resolve.now (E.view enc.old) }
+    ensures ok { IfOk result (λ i. (E.view enc.new).stands i (function (signature_of resolve.now func.now))) }
+    ensures learns { OnOk result (LearnsFrom resolve.now (function_types func.now) (E.view enc.old) (E.view enc.new)) }
+    ensures leaves { Leaves resolve.now (E.view enc.old) (E.view enc.new) }
+    ensures counts { IfOk result (λ i. (key : KeyValue) × IsKeyOf key func.now × CountsFunction resolve.now (E.view enc.old) (E.view enc.new) key i) }
+    ensures held { OnOk result (HoldsLearnt 1 (E.view enc.old) (E.view enc.new)) }
+    ensures written { OnOk result (WritesLearnt resolve.now (signature_extent (signature_of resolve.now func.now)) (E.view enc.old) (E.view enc.new)) }
+    ensures size { result ≡ Err Size → FunctionLacksRoom resolve.now func.now (E.view enc.old) (E.view enc.new) }
+    ensures refuses { IfErr result IsMemoryOrSize }
+{
+    let key = key_of(func);
+    if let Some(index) = index_of_key(alloc, enc, &key)? {
+        return Ok(index);
+    }
+    define_key(alloc, enc, resolve, func, key)
+}

@@ -1,0 +1,206 @@
+//! The maps of an encoder: read, where it stays as it is, and written, where the rest of it does.
+
+ghost use Rattle.std.specs.Prelude.{◌≡◌, Err, IfOk, OnOk, IfSome, IfNone, IsSome, map, IfErr};
+ghost use Rattle.std.specs.List.{Contains, AllZip};
+ghost use Rattle.comp_bytes.specs.Refusal.{IsMemoryOrSize};
+ghost use Rattle.wit_model.specs.declared.error.Error.TheVariants.{Size};
+ghost use Rattle.wit_model.specs.Types.{number_tree};
+ghost use Rattle.wit_model.specs.Tree.{future_tree, stream_tree};
+ghost use Rattle.encode_types.specs.Slots.{tree, function};
+ghost use Rattle.encode_types.specs.Key.{key_signature};
+ghost use Rattle.encode_types.specs.Kinds.{kind_of, parts_of};
+ghost use Rattle.encode_types.specs.Codes.{lists_of};
+ghost use Rattle.encode_types.specs.Maps.{IsKnown, HasKey, IsOnce, LacksKey, LacksList, StandsAsKind, IsReady, AllReady, IsWritten, LearnsNumber, LearnsList, LearnsKey};
+ghost use Rattle.encode_types.specs.Definition.{IsWrittenParam, FollowsKind};
+ghost use Rattle.encode_types.specs.Plan.{IsLayered, AllInRange, IsOrderOf};
+ghost use Rattle.encode_types.specs.View.{Agrees};
+ghost use Rattle.encode_types.specs.Leaves.{Leaves};
+
+use crate::definition::{definition, params_in};
+use crate::encoder::ValtypeEncoder;
+use crate::key::FunctionKey;
+use crate::maps::value_in;
+use crate::shape::Shape;
+use comp_bytes::{ComponentDefinedType, ComponentValType};
+use std::alloc::{AllocError, Global};
+use wit_model::{Error, Param, Resolve, Type, TypeId};
+
+// ---- reads
+
+pub(crate) fn index_of<'a, E: ValtypeEncoder<'a>>(enc: &mut E, id: TypeId) -> Option<u32>
+    ensures same { enc.new ≡ enc.old }
+    ensures some { IfSome result (λ i. Contains (E.view enc.old).maps.id_to_index.entries (id.0, i)) }
+    ensures none { IsKnown (E.view enc.old).maps id.0 → IsSome result }
+{
+    enc.type_encoding_maps().index_of(id)
+}
+
+pub(crate) fn index_of_kind<'a, E: ValtypeEncoder<'a>>(enc: &mut E, list: &[u64]) -> Option<u32>
+    ensures same { enc.new ≡ enc.old }
+    ensures some { IfSome result (λ i. Contains (lists_of (E.view enc.old).maps.def_to_index) (list.now, i)) }
+    ensures none { IfNone result (LacksList (lists_of (E.view enc.old).maps.def_to_index) list.now) }
+{
+    enc.type_encoding_maps().index_of_kind(list)
+}
+
+pub(crate) fn index_of_key<'a, E: ValtypeEncoder<'a>>(
+    alloc: Global,
+    enc: &mut E,
+    key: &FunctionKey,
+) -> Result<Option<u32>, AllocError>
+    ensures same { enc.new ≡ enc.old }
+    ensures some { IfOk result (λ o. IfSome o (HasKey (E.view enc.old).maps key.now)) }
+    ensures none { IfOk result (λ o. IfNone o (IsOnce (E.view enc.old).maps → LacksKey (E.view enc.old).maps key.now)) }
+{
+    enc.type_encoding_maps().index_of_key(alloc, key)
+}
+
+pub(crate) fn unit_future<'a, E: ValtypeEncoder<'a>>(enc: &mut E) -> Option<u32>
+    ensures same { enc.new ≡ enc.old }
+    ensures value { result ≡ (E.view enc.old).maps.unit_future }
+{
+    enc.type_encoding_maps().unit_future
+}
+
+pub(crate) fn unit_stream<'a, E: ValtypeEncoder<'a>>(enc: &mut E) -> Option<u32>
+    ensures same { enc.new ≡ enc.old }
+    ensures value { result ≡ (E.view enc.old).maps.unit_stream }
+{
+    enc.type_encoding_maps().unit_stream
+}
+
+pub(crate) fn value_of<'a, E: ValtypeEncoder<'a>>(enc: &mut E, ty: &Type) -> ComponentValType
+    requires { IsReady (E.view enc.old).maps ty.now }
+    ensures same { enc.new ≡ enc.old }
+    ensures value { IsWritten (E.view enc.old).maps result ty.now }
+{
+    value_in(enc.type_encoding_maps(), ty)
+}
+
+pub(crate) fn params_of<'a, E: ValtypeEncoder<'a>>(
+    alloc: Global,
+    enc: &mut E,
+    params: &'a [Param],
+) -> Result<Vec<(&'a str, ComponentValType)>, AllocError>
+    requires { AllReady (E.view enc.old).maps (map (λ p. p.ty) params.now) }
+    ensures same { enc.new ≡ enc.old }
+    ensures value { IfOk result (λ v. AllZip (IsWrittenParam (E.view enc.old).maps) v.items params.now) }
+{
+    params_in(alloc, enc.type_encoding_maps(), params)
+}
+
+pub(crate) fn definition_of<'a, E: ValtypeEncoder<'a>>(
+    alloc: Global,
+    enc: &mut E,
+    shape: Shape<'a, '_>,
+) -> Result<ComponentDefinedType<'a>, AllocError>
+    requires { AllReady (E.view enc.old).maps (parts_of (kind_of shape)) }
+    ensures same { enc.new ≡ enc.old }
+    ensures value { IfOk result (FollowsKind (E.view enc.old).maps (kind_of shape.entry)) }
+{
+    definition(alloc, enc.type_encoding_maps(), shape)
+}
+
+pub(crate) fn order_of<'a, E: ValtypeEncoder<'a>>(
+    alloc: Global,
+    enc: &mut E,
+    resolve: &'a Resolve,
+    types: &[Type],
+) -> Result<Vec<u32>, AllocError>
+    requires layered { IsLayered resolve.now }
+    requires in_range { AllInRange resolve.now types.now }
+    ensures same { enc.new ≡ enc.old }
+    ensures order { IfOk result (λ v. IsOrderOf resolve.now (E.view enc.old).scope.own_interface (E.view enc.old).maps types.now v.items) }
+{
+    let own = enc.interface();
+    crate::plan::order_of(alloc, resolve, enc.type_encoding_maps(), own, types)
+}
+
+// ---- writes
+
+pub(crate) fn remember_id<'a, E: ValtypeEncoder<'a>>(
+    enc: &mut E,
+    resolve: &'a Resolve,
+    id: TypeId,
+    index: u32,
+) -> Result<(), Error>
+    requires stands { (E.view enc.old).stands index (tree (number_tree resolve.now id.0)) }
+    requires fresh { IsKnown (E.view enc.old).maps id.0 → ⊥ }
+    requires agree { Agrees resolve.now (E.view enc.old) }
+    ensures ok { OnOk result (LearnsNumber (E.view enc.old).maps (E.view enc.new).maps id index) }
+    ensures leaves { Leaves resolve.now (E.view enc.old) (E.view enc.new) }
+    ensures counts { (E.view enc.new).definitions ≡ (E.view enc.old).definitions }
+    ensures held { (E.view enc.new).held ≡ (E.view enc.old).held }
+    ensures written { (E.view enc.new).extent ≡ (E.view enc.old).extent }
+    ensures size { result ≡ Err Size → ⊥ }
+    ensures refuses { IfErr result IsMemoryOrSize }
+{
+    enc.type_encoding_maps().remember_id(id, index)
+}
+
+pub(crate) fn remember_kind<'a, E: ValtypeEncoder<'a>>(
+    enc: &mut E,
+    resolve: &'a Resolve,
+    list: Vec<u64>,
+    index: u32,
+) -> Result<(), Error>
+    requires stands { StandsAsKind resolve.now (E.view enc.old).stands list.items index }
+    requires fresh { LacksList (lists_of (E.view enc.old).maps.def_to_index) list.items }
+    requires agree { Agrees resolve.now (E.view enc.old) }
+    ensures ok { OnOk result (LearnsList (E.view enc.old).maps (E.view enc.new).maps list.items index) }
+    ensures leaves { Leaves resolve.now (E.view enc.old) (E.view enc.new) }
+    ensures counts { (E.view enc.new).definitions ≡ (E.view enc.old).definitions }
+    ensures held { (E.view enc.new).held ≡ (E.view enc.old).held }
+    ensures written { (E.view enc.new).extent ≡ (E.view enc.old).extent }
+    ensures size { result ≡ Err Size → ⊥ }
+    ensures refuses { IfErr result IsMemoryOrSize }
+{
+    enc.type_encoding_maps().remember_kind(list, index)
+}
+
+pub(crate) fn remember_key<'a, E: ValtypeEncoder<'a>>(
+    alloc: Global,
+    enc: &mut E,
+    resolve: &'a Resolve,
+    key: FunctionKey<'a>,
+    index: u32,
+) -> Result<(), Error>
+    requires stands { (E.view enc.old).stands index (function (key_signature resolve.now key)) }
+    requires fresh { LacksKey (E.view enc.old).maps key }
+    requires agree { Agrees resolve.now (E.view enc.old) }
+    ensures ok { OnOk result (LearnsKey (E.view enc.old).maps (E.view enc.new).maps key.entry index) }
+    ensures leaves { Leaves resolve.now (E.view enc.old) (E.view enc.new) }
+    ensures counts { (E.view enc.new).definitions ≡ (E.view enc.old).definitions }
+    ensures held { (E.view enc.new).held ≡ (E.view enc.old).held }
+    ensures written { (E.view enc.new).extent ≡ (E.view enc.old).extent }
+    ensures size { result ≡ Err Size → ⊥ }
+    ensures refuses { IfErr result IsMemoryOrSize }
+{
+    enc.type_encoding_maps().remember_key(alloc, key, index)
+}
+
+pub(crate) fn remember_unit_future<'a, E: ValtypeEncoder<'a>>(enc: &mut E, index: u32)
+    requires stands { (E.view enc.old).stands index (tree (future_tree None)) }
+    requires fresh { (E.view enc.old).maps.unit_future ≡ None }
+    requires agree { Agrees (E.view enc.old).scope.packages (E.view enc.old) }
+    ensures value { (E.view enc.new).maps ≡ record (E.view enc.old).maps { unit_future = Some index } }
+    ensures leaves { Leaves (E.view enc.old).scope.packages (E.view enc.old) (E.view enc.new) }
+    ensures counts { (E.view enc.new).definitions ≡ (E.view enc.old).definitions }
+    ensures held { (E.view enc.new).held ≡ (E.view enc.old).held }
+    ensures written { (E.view enc.new).extent ≡ (E.view enc.old).extent }
+{
+    enc.type_encoding_maps().remember_unit_future(index);
+}
+
+pub(crate) fn remember_unit_stream<'a, E: ValtypeEncoder<'a>>(enc: &mut E, index: u32)
+    requires stands { (E.view enc.old).stands index (tree (stream_tree None)) }
+    requires fresh { (E.view enc.old).maps.unit_stream ≡ None }
+    requires agree { Agrees (E.view enc.old).scope.packages (E.view enc.old) }
+    ensures value { (E.view enc.new).maps ≡ record (E.view enc.old).maps { unit_stream = Some index } }
+    ensures leaves { Leaves (E.view enc.old).scope.packages (E.view enc.old) (E.view enc.new) }
+    ensures counts { (E.view enc.new).definitions ≡ (E.view enc.old).definitions }
+    ensures held { (E.view enc.new).held ≡ (E.view enc.old).held }
+    ensures written { (E.view enc.new).extent ≡ (E.view enc.old).extent }
+{
+    enc.type_encoding_maps().remember_unit_stream(index);
+}

@@ -1,5 +1,0 @@
-use Rattle.input_laws.proofs.Whole.{read_is_package_input}
-use Rattle.input_laws.proofs.laws.read_is_package_input.Goals as goal
-
-pub returns : goal.returns
-returns c = read_is_package_input

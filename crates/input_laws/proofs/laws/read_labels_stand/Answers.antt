@@ -1,5 +1,0 @@
-use Rattle.input_laws.proofs.Labels.{read_labels_stand}
-use Rattle.input_laws.proofs.laws.read_labels_stand.Goals as goal
-
-pub returns : goal.returns
-returns c = read_labels_stand

@@ -1,5 +1,0 @@
-use Rattle.input_laws.proofs.ReadPackages.{read_may_be_planned}
-use Rattle.input_laws.proofs.laws.read_may_be_planned.Goals as goal
-
-pub returns : goal.returns
-returns c = read_may_be_planned

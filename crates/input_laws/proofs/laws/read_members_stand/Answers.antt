@@ -1,5 +1,0 @@
-use Rattle.input_laws.proofs.Inputs.{read_members_stand}
-use Rattle.input_laws.proofs.laws.read_members_stand.Goals as goal
-
-pub returns : goal.returns
-returns c = read_members_stand

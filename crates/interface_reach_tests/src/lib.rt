@@ -1,5 +1,0 @@
-//! The tests of what interfaces reach.
-#![tactic(auto)]
-
-#[cfg(test)]
-mod reached;

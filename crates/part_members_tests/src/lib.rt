@@ -1,5 +1,0 @@
-//! The tests of reading members of what was followed.
-#![tactic(auto)]
-
-#[cfg(test)]
-mod demo;

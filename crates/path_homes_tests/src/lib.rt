@@ -1,5 +1,0 @@
-//! The tests of the packages of paths.
-#![tactic(auto)]
-
-#[cfg(test)]
-mod homes;

@@ -1,8 +1,0 @@
-use Rattle.std.proofs.Common.{sym, map}
-use Rattle.std.proofs.lemmas.List.Folds.{list_all-map}
-use Rattle.read_plan.specs.NumberedViews.{agrees_with_first}
-use Rattle.plan_read.specs.Sights.{numbered_sight}
-use Rattle.plan_gather.proofs.sights.each_agrees.Goals as goal
-
-pub loop-sight-init : goal.loop-sight-init
-loop-sight-init c = sym (list_all-map (agrees_with_first (map numbered_sight c.args.sights.now)) numbered_sight c.args.sights.now)

@@ -1,0 +1,297 @@
+-- Each place without a path is that of one view, or of one world.
+use Rattle.std.proofs.Common.{◌≡◌, refl, sym, ap, subst, ◌∙◌, ℕ, zero, suc, ◌+◌, ◌≤◌, ◌⊎◌, inl, inr, arith, Bool, true, false, ◌==◌, cond, filter, List, [], ◌∷◌, ◌++◌, length, length-append, map, Some, None, is_none, slice_get}
+use Rattle.std.specs.List.{Contains, flat_map}
+use Rattle.std.proofs.lemmas.Bool.{eq-eqb, eqb-true}
+use Rattle.std.proofs.lemmas.List.Elements.{Contains-append_cases, Contains-append_left, Contains-append_right, filter-append}
+use Rattle.std.proofs.lemmas.Option.{slice_get_within}
+use Rattle.wit_model.specs.Text.{Text}
+use Rattle.wit_model.specs.Uses.{has}
+use Rattle.wit_model.proofs.Elements.{contains-flat, contains-get, contains-has, contains-later, contains-map, get-contains, has-contains, none-in, one-contained, same-some}
+use Rattle.comp_meaning.specs.Reads as reads
+use Rattle.read_shown.proofs.Lists.{at_front, mapped_get}
+use Rattle.plan_meaning.specs.FollowedNumbers.{IsPartIn, IsViewIn}
+use Rattle.plan_meaning.specs.NumberedMembers.{Homes, NumberedMember}
+use Rattle.plan_meaning.specs.NumberedRules.{Fact}
+use Rattle.plan_meaning.specs.NumberedViews.{NumberedSight, NumberedView, Tables, path_at}
+use Rattle.plan_meaning.specs.NumberedWorlds.{HasPath, NumberedInstance, are_once}
+use Rattle.plan_meaning.proofs.GatheredPlan.{all_at}
+use Rattle.plan_meaning.proofs.Lists.{append_of_map, filter_has, has_filter, map_of_map, no_true}
+use Rattle.read_exports.specs.Members.{numbered_member, numbered_members, numbered_part}
+use Rattle.read_exports.specs.declared.members.Member.{Member}
+use Rattle.read_exports.specs.declared.members.Part.{Part}
+use Rattle.read_exports.specs.declared.members.Part.TheVariants as parts
+use Rattle.read_rules.specs.declared.scopes.Scope.{Scope}
+use Rattle.read_rules.specs.Reached.{numbered_import}
+use Rattle.read_rules.specs.Scopes.{numbered_scope}
+use Rattle.plan_types.specs.Orders as orders
+use Rattle.plan_types.specs.Orders.{home_of_part}
+use Rattle.plan_package.specs.Views.{views_of_members, views_of_part, whole_view}
+use Rattle.plan_package.specs.WholeWorlds.{world_in_part, worlds_in}
+use Rattle.plan_type_laws.specs.ShownMarks.{has_no_path, own_places, places_of_part, places_of_seen}
+use Rattle.plan_laws.specs.Apart.{WholeStandsApart}
+use Rattle.plan_laws.specs.Owners.{homes_in}
+use Rattle.plan_laws.specs.ShownRules.{ViewObeys}
+use Rattle.plan_laws.specs.Whole.{IsPackageInput}
+use Rattle.plan_laws.specs.WorldItems.{WorldsAreApart}
+use Rattle.plan_laws.proofs.Inside.{flat_cases}
+use Rattle.plan_laws.proofs.Origins.{view_among}
+use Rattle.plan_laws.proofs.PartNames.{from_map}
+use Rattle.plan_laws.proofs.PlaceNumbers.{IsOnce, from_joined}
+use Rattle.plan_laws.proofs.Planned.{home_alone, places_of_views}
+use Rattle.plan_laws.proofs.ShownFrom.{IsWorldOf, world_of}
+use Rattle.plan_laws.proofs.WholePlacesInstances.{as_many, one_of}
+use Rattle.plan_laws.proofs.WholePlacesLists.{no_longer}
+use Rattle.plan_laws.proofs.WholeTypes.{packages_are_ruled}
+use Rattle.plan_laws.proofs.WorldItems.{world_member}
+
+-- ---- as many numbers as others, of which none stands twice
+
+abbrev removed : List ℕ → ℕ → List ℕ
+removed [] j = []
+removed (x ∷ xs) zero = xs
+removed (x ∷ xs) (suc j) = x ∷ removed xs j
+
+removed_many : (xs : List ℕ) (j q : ℕ) → slice_get xs j ≡ Some q → length xs ≡ suc (length (removed xs j))
+removed_many [] j q e = let wrong : None ≡ Some q = e in absurd cc
+removed_many (x ∷ xs) zero q e = refl
+removed_many (x ∷ xs) (suc j) q e = ap suc (removed_many xs j q e)
+
+removed_other : (xs : List ℕ) (j k q : ℕ) → slice_get xs k ≡ Some q → (k ≡ j → ⊥) → Contains (removed xs j) q
+removed_other [] j k q e other = let wrong : None ≡ Some q = e in absurd cc
+removed_other (x ∷ xs) zero zero q e other = absurd (other refl)
+removed_other (x ∷ xs) zero (suc k) q e other = get-contains xs k q e
+removed_other (x ∷ xs) (suc j) zero q e other = (0, omega arith, same-some x q e)
+removed_other (x ∷ xs) (suc j) (suc k) q e other = contains-later x (removed xs j) q (removed_other xs j k q e (λ same. other (ap suc same)))
+
+as_many_once : (xs ys : List ℕ) → are_once xs ≡ true → ((x : ℕ) → has xs x ≡ true → Contains ys x) → length ys ≤ length xs → IsOnce ys
+as_many_once xs ys once there many i j q at_i at_j = by (i == j) refl
+  where
+    kept : (i == j) ≡ false → (x : ℕ) → Contains ys x → Contains (removed ys j) x
+    kept apart x c = let k = contains-get ys x c in which k.0 k.1 (k.0 == j) refl
+      where
+        differ : i ≡ j → ⊥
+        differ e = no_true (sym apart ∙ eq-eqb i j e)
+
+        which : (k : ℕ) → slice_get ys k ≡ Some x → (b : Bool) → (k == j) ≡ b → Contains (removed ys j) x
+        which k at true e =
+            let same : q ≡ x = same-some q x (sym at_j ∙ (ap (slice_get ys) (sym (eqb-true k j e)) ∙ at)) in
+            subst (Contains (removed ys j)) same (removed_other ys j i q at_i differ)
+        which k at false e = removed_other ys j k x at (λ same. no_true (sym e ∙ eq-eqb k j same))
+
+    by : (b : Bool) → (i == j) ≡ b → i ≡ j
+    by true e = eqb-true i j e
+    by false e =
+        let low = no_longer xs (removed ys j) once (λ x h. contains-has (removed ys j) x (kept e x (there x h))) in
+        let less = removed_many ys j q at_j in
+        absurd (omega (arith, low, less, many))
+
+-- ---- parts of a list
+
+first_once : (xs ys : List ℕ) → IsOnce (xs ++ ys) → IsOnce xs
+first_once xs ys once i j q at_i at_j = once i j q (at_front xs ys i q at_i) (at_front xs ys j q at_j)
+
+later_get : (xs ys : List ℕ) (n q : ℕ) → slice_get ys n ≡ Some q → (k : ℕ) × (slice_get (xs ++ ys) k ≡ Some q) × (k ≡ length xs + n)
+later_get [] ys n q e = (n, e, omega arith)
+later_get (x ∷ xs) ys n q e = let more = later_get xs ys n q e in (suc more.0, more.1, (let a = more.2 in omega (arith, a)))
+
+second_once : (xs ys : List ℕ) → IsOnce (xs ++ ys) → IsOnce ys
+second_once xs ys once i j q at_i at_j =
+    let a = later_get xs ys i q at_i in
+    let b = later_get xs ys j q at_j in
+    let same = once a.0 b.0 q a.1 b.1 in
+    let c = a.2 in
+    let d = b.2 in
+    omega (arith, same, c, d)
+
+-- nothing stands in both
+both_apart : (xs ys : List ℕ) → IsOnce (xs ++ ys) → (q : ℕ) → Contains xs q → Contains ys q → ⊥
+both_apart xs ys once q c d =
+    let i = contains-get xs q c in
+    let j = contains-get ys q d in
+    let k = later_get xs ys j.0 q j.1 in
+    let same = once i.0 k.0 q (at_front xs ys i.0 q i.1) k.1 in
+    let low = slice_get_within xs i.0 q i.1 in
+    let high = k.2 in
+    omega (arith, same, low, high)
+
+module _ (test : ℕ → Bool) where
+  filtered_there : (ps : List ℕ) (q : ℕ) → Contains ps q → test q ≡ true → Contains (filter test ps) q
+  filtered_there ps q c passes = has-contains (filter test ps) q (has_filter test ps q (contains-has ps q c) passes)
+
+  -- what passes stands once, where it does among those that pass
+  unfiltered_once : (ps : List ℕ) → IsOnce (filter test ps) → (i j q : ℕ) → slice_get ps i ≡ Some q → slice_get ps j ≡ Some q → test q ≡ true → i ≡ j
+  unfiltered_once [] once i j q at_i at_j passes = let wrong : None ≡ Some q = at_i in absurd cc
+  unfiltered_once (p ∷ ps) once i j q at_i at_j passes = by (test p) refl once i j at_i at_j (λ rest k l at_k at_l. unfiltered_once ps rest k l q at_k at_l passes)
+    where
+      twice : IsOnce (p ∷ filter test ps) → p ≡ q → (k : ℕ) → slice_get ps k ≡ Some q → ⊥
+      twice one same k at =
+          let there = contains-get (filter test ps) q (filtered_there ps q (get-contains ps k q at) passes) in
+          let wrong : 0 ≡ suc there.0 = one 0 (suc there.0) q (ap Some same) there.1 in
+          omega (arith, wrong)
+
+      behind : IsOnce (p ∷ filter test ps) → IsOnce (filter test ps)
+      behind one k l r at_k at_l = let same = one (suc k) (suc l) r at_k at_l in omega (arith, same)
+
+      by : (b : Bool) → test p ≡ b → IsOnce (cond b (p ∷ filter test ps) (filter test ps)) → (i j : ℕ) → slice_get (p ∷ ps) i ≡ Some q → slice_get (p ∷ ps) j ≡ Some q
+          → (IsOnce (filter test ps) → (k l : ℕ) → slice_get ps k ≡ Some q → slice_get ps l ≡ Some q → k ≡ l) → i ≡ j
+      by b e one zero zero at_i at_j later = refl
+      by true e one zero (suc j) at_i at_j later = absurd (twice one (same-some p q at_i) j at_j)
+      by true e one (suc i) zero at_i at_j later = absurd (twice one (same-some p q at_j) i at_i)
+      by true e one (suc i) (suc j) at_i at_j later = ap suc (later (behind one) i j at_i at_j)
+      by false e one zero (suc j) at_i at_j later = no_true (sym e ∙ (ap test (same-some p q at_i) ∙ passes))
+      by false e one (suc i) zero at_i at_j later = no_true (sym e ∙ (ap test (same-some p q at_j) ∙ passes))
+      by false e one (suc i) (suc j) at_i at_j later = ap suc (later one i j at_i at_j)
+
+  none_pass : (ps : List ℕ) → ((p : ℕ) → Contains ps p → test p ≡ false) → filter test ps ≡ []
+  none_pass [] none = refl
+  none_pass (p ∷ ps) none = ap (λ b. cond b (p ∷ filter test ps) (filter test ps)) (none p (0, omega arith, refl)) ∙ none_pass ps (λ q c. none q (contains-later p ps q c))
+
+-- ---- all places
+
+module _ (t : Tables) (h : Homes) (known : ℕ → Fact) (n : ℕ) (ms : List Member) (members : List reads.Member) (given : IsPackageInput t h known n ms members) where
+  abbrev own : List ℕ → List ℕ
+  own ps = filter (has_no_path t) ps
+
+  abbrev viewed : List Member → List ℕ
+  viewed xs = map (λ (s : NumberedSight). s.place) (views_of_members (numbered_members xs))
+
+  abbrev homes : List Member → List ℕ
+  homes xs = flat_map (λ (m : NumberedMember). home_of_part m.part) (numbered_members xs)
+
+  world_is : (m : Member) → Contains ms m → (w : Scope) → m.part ≡ parts.World w → IsWorldOf t h ms members given.input given.placed.apart w
+  world_is m c w is = world_of t h ms members given.input given.placed.apart m c w is
+
+  -- as many views and worlds of a member have no path as it has places of its own
+  part_many : (m : Member) → Contains ms m → (a : Part) → m.part ≡ a
+      → length (own (map (λ (s : NumberedSight). s.place) (views_of_part (numbered_part a)))) + length (own (home_of_part (numbered_part a))) ≡ length (own (places_of_part (numbered_part a)))
+  part_many m c (parts.World w) is = by (places_of_seen (numbered_scope w).imports ++ places_of_seen (numbered_scope w).exports) refl (as_many t (numbered_scope w) followed.scope followed.good followed.shows followed.stands.seen)
+    where
+      followed : IsWorldOf t h ms members given.input given.placed.apart w
+      followed = world_is m c w is
+
+      home : has_no_path t w.home ≡ true
+      home = ap is_none followed.good.home
+
+      by : (shown : List ℕ) → places_of_seen (numbered_scope w).imports ++ places_of_seen (numbered_scope w).exports ≡ shown → length (own (map (λ (i : NumberedInstance). i.place) (numbered_scope w).instances)) ≡ length (own shown)
+          → length (own (map (λ (s : NumberedSight). s.place) (map whole_view (numbered_scope w).instances))) + length (own (w.home ∷ [])) ≡ length (own (w.home ∷ (places_of_seen (numbered_scope w).imports ++ places_of_seen (numbered_scope w).exports)))
+      by shown e many =
+          let viewed_many : length (own (map (λ (s : NumberedSight). s.place) (map whole_view (numbered_scope w).instances))) ≡ length (own shown) = ap (λ ps. length (own ps)) (map_of_map (λ (s : NumberedSight). s.place) whole_view (numbered_scope w).instances) ∙ many in
+          let one : length (own (w.home ∷ [])) ≡ 1 = ap (λ b. length (cond b (w.home ∷ []) [])) home in
+          let all : length (own (w.home ∷ (places_of_seen (numbered_scope w).imports ++ places_of_seen (numbered_scope w).exports))) ≡ suc (length (own shown)) =
+          ap (λ ps. length (own (w.home ∷ ps))) e ∙ ap (λ b. length (cond b (w.home ∷ own shown) (own shown))) home in
+          omega (arith, viewed_many, one, all)
+  part_many m c (parts.Interface q v imports) is =
+      let none : own (map (λ (s : NumberedSight). s.place) (views_of_part (numbered_part (parts.Interface q v imports)))) ≡ [] =
+      none_pass (has_no_path t) (map (λ (s : NumberedSight). s.place) (views_of_part (numbered_part (parts.Interface q v imports))))
+      (λ p there. outside p (subst (λ ps. Contains ps p) (places_of_views (numbered_part (parts.Interface q v imports))) there)) in
+      let many = ap length none in
+      omega (arith, many)
+    where
+      good : IsPartIn t (numbered_part (parts.Interface q v imports))
+      good = subst (λ a. IsPartIn t (numbered_part a)) is (all_at (λ (x : NumberedMember). IsPartIn t x.part) (numbered_members ms) given.input.numbers (numbered_member m) (contains-map numbered_member ms m c))
+
+      with_path : (p : ℕ) → HasPath t p → has_no_path t p ≡ false
+      with_path p path = ap is_none path.1
+
+      outside : (p : ℕ) → Contains (orders.places_of_part (numbered_part (parts.Interface q v imports))) p → has_no_path t p ≡ false
+      outside p there = by (Contains-append_cases (map (λ (i : ℕ × NumberedView). i.0) (map numbered_import imports.now)) (q ∷ []) p there)
+        where
+          by : Contains (map (λ (i : ℕ × NumberedView). i.0) (map numbered_import imports.now)) p ⊎ Contains (q ∷ []) p → has_no_path t p ≡ false
+          by (inl among) =
+              let from = from_map (λ (i : ℕ × NumberedView). i.0) (map numbered_import imports.now) p among in
+              ap (has_no_path t) (sym from.2) ∙ with_path from.0.0 (all_at (λ (i : ℕ × NumberedView). HasPath t i.0 × IsViewIn t i.0 i.1) (map numbered_import imports.now) good.1 from.0 from.1).0
+          by (inr last) = ap (has_no_path t) (sym (one-contained q p last)) ∙ with_path q good.0.0
+
+  split_many : (xs ys : List ℕ) → length (own (xs ++ ys)) ≡ length (own xs) + length (own ys)
+  split_many xs ys = ap length (filter-append (has_no_path t) xs ys) ∙ length-append (own xs) (own ys)
+
+  all_many : (xs : List Member) → ((m : Member) → Contains xs m → Contains ms m) → length (own (viewed xs)) + length (own (homes xs)) ≡ length (own_places t (numbered_members xs))
+  all_many [] among = omega arith
+  all_many (m ∷ xs) among =
+      let part = part_many m (among m (0, omega arith, refl)) m.part refl in
+      let rest = all_many xs (λ y c. among y (contains-later m xs y c)) in
+      let a : length (own (viewed (m ∷ xs))) ≡ length (own (map (λ (s : NumberedSight). s.place) (views_of_part (numbered_part m.part)))) + length (own (viewed xs)) =
+      ap (λ ps. length (own ps)) (append_of_map (λ (s : NumberedSight). s.place) (views_of_part (numbered_part m.part)) (views_of_members (numbered_members xs))) ∙ split_many (map (λ (s : NumberedSight). s.place) (views_of_part (numbered_part m.part))) (viewed xs) in
+      let b : length (own (homes (m ∷ xs))) ≡ length (own (home_of_part (numbered_part m.part))) + length (own (homes xs)) = split_many (home_of_part (numbered_part m.part)) (homes xs) in
+      let c : length (own_places t (numbered_members (m ∷ xs))) ≡ length (own (places_of_part (numbered_part m.part))) + length (own_places t (numbered_members xs)) =
+      split_many (places_of_part (numbered_part m.part)) (flat_map (λ (y : NumberedMember). places_of_part y.part) (numbered_members xs)) in
+      omega (arith, part, rest, a, b, c)
+
+  -- each place of its own is that of a view, or of a world
+  place_there : (x : ℕ) → Contains (flat_map (λ (m : NumberedMember). places_of_part m.part) (numbered_members ms)) x → Contains (viewed ms) x ⊎ Contains (homes ms) x
+  place_there x c =
+      let from = flat_cases (λ (m : NumberedMember). places_of_part m.part) (numbered_members ms) x c in
+      let m = from_map numbered_member ms from.0 from.1 in
+      by m.0 m.1 m.0.part refl (subst (λ (y : NumberedMember). Contains (places_of_part y.part) x) (sym m.2) from.2)
+    where
+      by : (m : Member) → Contains ms m → (a : Part) → m.part ≡ a → Contains (places_of_part (numbered_part a)) x → Contains (viewed ms) x ⊎ Contains (homes ms) x
+      by m m_in (parts.Interface q v imports) is there = none-in x there
+      by m m_in (parts.World w) is (zero, low, same) =
+          inr (contains-flat (λ (y : NumberedMember). home_of_part y.part) (numbered_members ms) (numbered_member m) x (contains-map numbered_member ms m m_in)
+          (subst (λ a. Contains (home_of_part (numbered_part a)) x) (sym is) (0, omega arith, same)))
+      by m m_in (parts.World w) is (suc i, low, same) =
+          let followed = world_is m m_in w is in
+          let there = one_of t (numbered_scope w) followed.scope followed.good followed.shows followed.stands.seen x (i, omega (arith, low), same) in
+          let one = from_map (λ (y : NumberedInstance). y.place) (numbered_scope w).instances x there in
+          let sight = subst (λ a. Contains (views_of_part (numbered_part a)) (whole_view one.0)) (sym is) (contains-map whole_view (numbered_scope w).instances one.0 one.1) in
+          inl (subst (Contains (viewed ms)) one.2 (contains-map (λ (s : NumberedSight). s.place) (views_of_members (numbered_members ms)) (whole_view one.0) (view_among ms m m_in (whole_view one.0) sight)))
+
+  all_once : IsOnce (own (viewed ms) ++ own (homes ms))
+  all_once =
+      as_many_once (own_places t (numbered_members ms)) (own (viewed ms) ++ own (homes ms)) given.placed.apart there
+      (let many = all_many ms (λ m c. c) in let split = length-append (own (viewed ms)) (own (homes ms)) in omega (arith, many, split))
+    where
+      there : (x : ℕ) → has (own_places t (numbered_members ms)) x ≡ true → Contains (own (viewed ms) ++ own (homes ms)) x
+      there x is =
+          let both = filter_has (has_no_path t) (flat_map (λ (m : NumberedMember). places_of_part m.part) (numbered_members ms)) x is in
+          side both.1 (place_there x (has-contains (flat_map (λ (m : NumberedMember). places_of_part m.part) (numbered_members ms)) x both.0))
+        where
+          side : has_no_path t x ≡ true → Contains (viewed ms) x ⊎ Contains (homes ms) x → Contains (own (viewed ms) ++ own (homes ms)) x
+          side none (inl c) = Contains-append_left (own (viewed ms)) (own (homes ms)) x (filtered_there (has_no_path t) (viewed ms) x c none)
+          side none (inr c) = Contains-append_right (own (viewed ms)) (own (homes ms)) x (filtered_there (has_no_path t) (homes ms) x c none)
+
+  -- ---- what follows
+
+  viewed_once : (i j : ℕ) (s u : NumberedSight) → slice_get (views_of_members (numbered_members ms)) i ≡ Some s → slice_get (views_of_members (numbered_members ms)) j ≡ Some u → path_at t s.place ≡ None → s.place ≡ u.place → i ≡ j
+  viewed_once i j s u at_i at_j none same =
+      unfiltered_once (has_no_path t) (viewed ms) (first_once (own (viewed ms)) (own (homes ms)) all_once) i j s.place
+      (mapped_get (λ (x : NumberedSight). x.place) (views_of_members (numbered_members ms)) i s at_i) (mapped_get (λ (x : NumberedSight). x.place) (views_of_members (numbered_members ms)) j u at_j ∙ ap Some (sym same)) (ap is_none none)
+
+  views_apart : (s : NumberedSight) → Contains (views_of_members (numbered_members ms)) s → Contains (homes_in ms) s.place → ⊥
+  views_apart s c home = by (from_joined [] (homes ms) s.place home)
+    where
+      none : has_no_path t s.place ≡ true
+      none = ap is_none (home_alone t h ms members given.input s.place home)
+
+      by : Contains [] s.place ⊎ Contains (homes ms) s.place → ⊥
+      by (inl no_home) = none-in s.place no_home
+      by (inr among) =
+          both_apart (own (viewed ms)) (own (homes ms)) all_once s.place (filtered_there (has_no_path t) (viewed ms) s.place (contains-map (λ (x : NumberedSight). x.place) (views_of_members (numbered_members ms)) s c) none)
+          (filtered_there (has_no_path t) (homes ms) s.place among none)
+
+  homes_are : (xs : List Member) → homes xs ≡ map (λ (w : Text × Scope). w.1.home) (worlds_in xs)
+  homes_are [] = refl
+  homes_are (m ∷ xs) = by m.part (homes_are xs)
+    where
+      by : (a : Part) → homes xs ≡ map (λ (w : Text × Scope). w.1.home) (worlds_in xs) → home_of_part (numbered_part a) ++ homes xs ≡ map (λ (w : Text × Scope). w.1.home) (world_in_part m.label.now a ++ worlds_in xs)
+      by (parts.World w) rest = ap (λ hs. w.home ∷ hs) rest
+      by (parts.Interface p v imports) rest = rest
+
+  worlds_apart : WorldsAreApart ms
+  worlds_apart i j w v at_i at_j same =
+      let home = λ (x : Text × Scope). x.1.home in
+      let m = world_member ms w (get-contains (worlds_in ms) i w at_i) in
+      unfiltered_once (has_no_path t) (homes ms) (second_once (own (viewed ms)) (own (homes ms)) all_once) i j w.1.home
+      (ap (λ hs. slice_get hs i) (homes_are ms) ∙ mapped_get home (worlds_in ms) i w at_i) (ap (λ hs. slice_get hs j) (homes_are ms) ∙ (mapped_get home (worlds_in ms) j v at_j ∙ ap Some (sym same)))
+      (ap is_none (world_is m.0 m.1 w.1 m.2).good.home)
+
+pub whole_stands_apart : WholeStandsApart
+whole_stands_apart t h known n ms members given rise = (
+  record {
+    obey = λ s c. all_at (ViewObeys t) (views_of_members (numbered_members ms)) (packages_are_ruled t h known n ms members given).rules.views s c;
+    inline = viewed_once t h known n ms members given;
+    apart = views_apart t h known n ms members given;
+    rising = rise;
+  },
+  worlds_apart t h known n ms members given,
+)

@@ -1,0 +1,116 @@
+-- All views of one place tell the same of types.
+use Rattle.std.proofs.Common.{◌≡◌, refl, sym, ap, subst, ◌∙◌, ℕ, zero, suc, arith, Bool, true, false, not, ◌&&◌, ◌||◌, ◌==◌, cond, List, [], ◌∷◌, map, Option, Some, None}
+use Rattle.std.specs.List.{Contains, find, flat_map, list_all}
+use Rattle.std.specs.Option.{option_map_or}
+use Rattle.std.specs.Cmp.Lexicographic.{pointwise}
+use Rattle.std.proofs.lemmas.Bool.{eq-eqb, eqb-true}
+use Rattle.std.proofs.lemmas.Slice.Eq.{bytes_eq-Decides}
+use Rattle.wit_model.specs.Text.{Text, text_eq}
+use Rattle.wit_model.proofs.Elements.{all-contained, contains-flat, contains-one, none-in, same-number, same-some}
+use Rattle.wit_model.proofs.Lists.{first_true, second_true}
+use Rattle.comp_meaning.specs.Same.{same_option}
+use Rattle.plan_meaning.specs.NumberedMembers.{NumberedMember, NumberedPart, interface, sights_of_members, sights_of_part, world}
+use Rattle.plan_meaning.specs.NumberedViews.{NumberedSight, NumberedType, Tables, agree, agree_in_numbers, first_at, same_functions, same_id, same_number, same_shown}
+use Rattle.plan_meaning.specs.NumberedWorlds.{HasPath, NumberedInstance, sights_of_instance}
+use Rattle.plan_meaning.proofs.Lists.{both}
+use Rattle.plan_package.specs.Views.{views_of_part, whole_view}
+use Rattle.plan_laws.specs.FirstViews.{told}
+use Rattle.plan_laws.proofs.Inside.{flat_cases}
+use Rattle.plan_laws.proofs.PartNames.{from_map}
+
+-- ---- what is told of a type
+
+pub text_same : (a b : Text) → text_eq a b ≡ true → a ≡ b
+text_same a b h = (bytes_eq-Decides a b).0 h
+
+pub option_same : {A : Type 0} (eq : A → A → Bool) → ((a b : A) → eq a b ≡ true → a ≡ b) → (a b : Option A) → same_option eq a b ≡ true → a ≡ b
+option_same eq decides None None h = refl
+option_same eq decides (Some a) (Some b) h = ap Some (decides a b h)
+option_same eq decides None (Some b) h = let wrong : false ≡ true = h in absurd cc
+option_same eq decides (Some a) None h = let wrong : false ≡ true = h in absurd cc
+
+pub same_of_option : {A : Type 0} (eq : A → A → Bool) → ((a : A) → eq a a ≡ true) → (a : Option A) → same_option eq a a ≡ true
+same_of_option eq itself None = refl
+same_of_option eq itself (Some a) = itself a
+
+shown_told : (x y : NumberedType) → same_shown x y ≡ true → told x ≡ told y
+shown_told x y h =
+    let rest = second_true (text_eq x.name y.name) (same_number x.declared y.declared && same_id x.external_id y.external_id) h in
+    let name = text_same x.name y.name (first_true (text_eq x.name y.name) (same_number x.declared y.declared && same_id x.external_id y.external_id) h) in
+    let declared = option_same ◌==◌ eqb-true x.declared y.declared (first_true (same_number x.declared y.declared) (same_id x.external_id y.external_id) rest) in
+    let id = option_same text_eq text_same x.external_id y.external_id (second_true (same_number x.declared y.declared) (same_id x.external_id y.external_id) rest) in
+    λ i. (name i, (declared i, id i))
+
+told_shown : (x y : NumberedType) → told x ≡ told y → same_shown x y ≡ true
+told_shown x y e =
+    let name : x.name ≡ y.name = ap (λ (z : Text × (Option ℕ × Option Text)). z.0) e in
+    let declared : x.declared ≡ y.declared = ap (λ (z : Text × (Option ℕ × Option Text)). z.1.0) e in
+    let id : x.external_id ≡ y.external_id = ap (λ (z : Text × (Option ℕ × Option Text)). z.1.1) e in
+    both (text_eq x.name y.name) (same_number x.declared y.declared && same_id x.external_id y.external_id) ((bytes_eq-Decides x.name y.name).1 name)
+    (both (same_number x.declared y.declared) (same_id x.external_id y.external_id) (ap (same_number x.declared) (sym declared) ∙ same_of_option ◌==◌ same-number x.declared)
+    (ap (same_id x.external_id) (sym id) ∙ same_of_option text_eq (λ a. (bytes_eq-Decides a a).1 refl) x.external_id))
+
+pub types_told : (xs ys : List NumberedType) → pointwise same_shown xs ys ≡ true → map told xs ≡ map told ys
+types_told [] [] h = refl
+types_told [] (y ∷ ys) h = let wrong : false ≡ true = h in absurd cc
+types_told (x ∷ xs) [] h = let wrong : false ≡ true = h in absurd cc
+types_told (x ∷ xs) (y ∷ ys) h =
+    let one = shown_told x y (first_true (same_shown x y) (pointwise same_shown xs ys) h) in
+    let rest = types_told xs ys (second_true (same_shown x y) (pointwise same_shown xs ys) h) in
+    λ i. one i ∷ rest i
+
+pub told_types : (xs ys : List NumberedType) → map told xs ≡ map told ys → pointwise same_shown xs ys ≡ true
+told_types [] [] e = refl
+told_types [] (y ∷ ys) e = let wrong : ⊥ = cc in absurd wrong
+told_types (x ∷ xs) [] e = let wrong : ⊥ = cc in absurd wrong
+told_types (x ∷ xs) (y ∷ ys) e =
+    let one : told x ≡ told y = cc in
+    let rest : map told xs ≡ map told ys = cc in
+    both (same_shown x y) (pointwise same_shown xs ys) (told_shown x y one) (told_types xs ys rest)
+
+-- ---- views that agree
+
+alike : (s u : NumberedSight) → agree s u ≡ true → s.place ≡ u.place → map told s.view.types ≡ map told u.view.types
+alike s u h e =
+    let same : (s.place == u.place) ≡ true = eq-eqb s.place u.place e in
+    let whole = sym (ap (λ b. not b || (pointwise same_shown s.view.types u.view.types && (not (s.whole && u.whole) || same_functions s.view.functions u.view.functions))) same) ∙ h in
+    types_told s.view.types u.view.types (first_true (pointwise same_shown s.view.types u.view.types) (not (s.whole && u.whole) || same_functions s.view.functions u.view.functions) whole)
+
+pub one_told : (all : List NumberedSight) → agree_in_numbers all ≡ true → (s u : NumberedSight) → Contains all s → Contains all u → s.place ≡ u.place → map told s.view.types ≡ map told u.view.types
+one_told [] h s u c d p = none-in s c
+one_told (x ∷ xs) h s u (zero, l, e) (zero, k, f) p = ap (λ (y : NumberedSight). map told y.view.types) (sym e ∙ f)
+one_told (x ∷ xs) h s u (zero, l, e) (suc j, k, f) p =
+    alike s u (ap (λ y. agree y u) (sym e) ∙ all-contained (agree x) xs u (first_true (list_all (agree x) xs) (agree_in_numbers xs) h) (j, omega (arith, k), f)) p
+one_told (x ∷ xs) h s u (suc i, l, e) (zero, k, f) p =
+    sym (alike u s (ap (λ y. agree y s) (sym f) ∙ all-contained (agree x) xs s (first_true (list_all (agree x) xs) (agree_in_numbers xs) h) (i, omega (arith, l), e)) (sym p))
+one_told (x ∷ xs) h s u (suc i, l, e) (suc j, k, f) p = one_told xs (second_true (list_all (agree x) xs) (agree_in_numbers xs) h) s u (i, omega (arith, l), e) (j, omega (arith, k), f) p
+
+-- ---- views with a path
+
+module _ (t : Tables) where
+  instance_sight : (i : NumberedInstance) → HasPath t i.place → Contains (sights_of_instance t i) (whole_view i)
+  instance_sight i path = subst (λ o. Contains (option_map_or (λ p. whole_view i ∷ []) o []) (whole_view i)) (sym path.1) (contains-one (whole_view i))
+
+  pub part_sight : (a : NumberedPart) (s : NumberedSight) → Contains (views_of_part a) s → HasPath t s.place → Contains (sights_of_part t a) s
+  part_sight (world w) s c path =
+      let from = from_map whole_view w.instances s c in
+      let given : HasPath t from.0.place = subst (λ (x : NumberedSight). HasPath t x.place) (sym from.2) path in
+      contains-flat (sights_of_instance t) w.instances from.0 s from.1 (subst (Contains (sights_of_instance t from.0)) from.2 (instance_sight from.0 given))
+  part_sight (interface p v imports) s c path = c
+
+  pub sight_there : (ms : List NumberedMember) (s : NumberedSight) → Contains (flat_map (λ (m : NumberedMember). views_of_part m.part) ms) s → HasPath t s.place → Contains (sights_of_members t ms) s
+  sight_there ms s c path =
+      let from = flat_cases (λ (m : NumberedMember). views_of_part m.part) ms s c in
+      contains-flat (λ (m : NumberedMember). sights_of_part t m.part) ms from.0 s from.1 (part_sight from.0.part s from.2 path)
+
+-- the first view of a place is of it
+pub first_is : (q : ℕ) (all : List NumberedSight) (s : NumberedSight) → first_at q all ≡ Some s → Contains all s × (s.place ≡ q)
+first_is q [] s e = let wrong : None ≡ Some s = e in absurd cc
+first_is q (x ∷ xs) s e = by (q == x.place) refl e (first_is q xs s)
+  where
+    later : Contains xs s → Contains (x ∷ xs) s
+    later (i, low, same) = (suc i, omega (arith, low), same)
+
+    by : (b : Bool) → (q == x.place) ≡ b → cond b (Some x) (find (λ (y : NumberedSight). q == y.place) xs) ≡ Some s → (first_at q xs ≡ Some s → Contains xs s × (s.place ≡ q)) → Contains (x ∷ xs) s × (s.place ≡ q)
+    by true here e deeper = let same : x ≡ s = same-some x s e in ((0, omega arith, same), ap (λ (y : NumberedSight). y.place) (sym same) ∙ sym (eqb-true q x.place here))
+    by false none e deeper = let found = deeper e in (later found.0, found.1)

@@ -1,0 +1,130 @@
+-- A form of what was followed has as many parts as it asks for, and a handle is of a type that is no primitive.
+use Rattle.std.proofs.Common.{◌≡◌, refl, sym, ap, subst, ◌∙◌, ℕ, ◌+◌, ◌≤◌, arith, Bool, true, false, ◌==◌, nat_lt, List, [], ◌∷◌, length, map, Some, None, slice_get}
+use Rattle.std.specs.Prelude.{nat_le}
+use Rattle.std.proofs.lemmas.Bool.{ltb-false, ltb-true}
+use Rattle.std.specs.List.{AllByRecursion, list_all}
+use Rattle.wit_model.specs.Text.{Text}
+use Rattle.wit_model.specs.Tree.{Form}
+use Rattle.wit_model.proofs.Lists.{first_true, second_true}
+use Rattle.comp_meaning.specs.Follow.{is_filled}
+use Rattle.comp_meaning.specs.Reads as reads
+use Rattle.read_shown.specs.Trees.{begins_with_key, count_true, is_formed}
+use Rattle.plan_meaning.specs.KeptResources.{FormIsMarked}
+use Rattle.plan_meaning.specs.NumberedMembers.{Homes}
+use Rattle.plan_meaning.specs.NumberedRules.{name_in}
+use Rattle.plan_meaning.specs.NumberedViews.{Tables, tree_at}
+use Rattle.plan_meaning.specs.PlanRules.{is_handle_form}
+use Rattle.plan_meaning.specs.Shapes.{Shape, form_code, node_shape}
+use Rattle.plan_meaning.proofs.Lists.{length_of_map, no_true}
+use Rattle.plan_meaning.proofs.ShapeLaws.{form_back}
+use Rattle.plan_parts.specs.Kept.{IsKeptPart}
+use Rattle.plan_parts.specs.Kinds.{IsFormOver, given_count, has_count, shape_form}
+use Rattle.read_exports.specs.declared.members.Member.{Member}
+use Rattle.plan_types.specs.Showings.{showings_of_members, signatures_of_members}
+use Rattle.plan_type_laws.specs.ShownForms.{EachForm, FormsHold, itself}
+use Rattle.plan_type_laws.specs.ShownMarks.{MarksStand}
+use Rattle.plan_type_laws.proofs.FormsObeyed.{forms_hold}
+use Rattle.plan_type_laws.proofs.UsedWalk.{form_there}
+use Rattle.plan_laws.specs.ShownNames.{IsInput}
+
+abbrev pub HasCount : Form → List ℕ → Type 0
+HasCount form parts = has_count form (length parts) ≡ true
+
+given_many : (cases : List (Text × Bool)) → count_true (map (λ (c : Text × Bool). c.1) cases) ≡ given_count cases
+given_many [] = refl
+given_many ((l, true) ∷ cases) = let rest = given_many cases in omega (arith, rest)
+given_many ((l, false) ∷ cases) = given_many cases
+
+module _ (t : Tables) where
+  abbrev many : List ℕ → ℕ
+  many parts = length (map (tree_at t) parts)
+
+  same : (parts : List ℕ) (k : ℕ) → (many parts == k) ≡ true → (length parts == k) ≡ true
+  same parts k h = ap (λ (l : ℕ). l == k) (sym (length_of_map (tree_at t) parts)) ∙ h
+
+  form_counts : (form : Form) (parts : List ℕ) (n : ℕ) → slice_get t.shapes n ≡ Some (node_shape form parts) → is_formed form (map (tree_at t) parts) ≡ true → HasCount form parts
+  form_counts (Form.record_of names) parts n at h = same parts (length names) (second_true (is_filled names) (many parts == length names) h)
+  form_counts (Form.variant_of cases) parts n at h =
+      ap (λ k. length parts == k) (sym (given_many cases)) ∙ same parts (count_true (map (λ (c : Text × Bool). c.1) cases)) (second_true (is_filled cases) (many parts == count_true (map (λ (c : Text × Bool). c.1) cases)) h)
+  form_counts Form.list_of parts n at h = same parts 1 h
+  form_counts (Form.fixed_list_of l) parts n at h = same parts 1 (second_true (nat_le 1 l) (many parts == 1) h)
+  form_counts Form.option_of parts n at h = same parts 1 h
+  form_counts Form.own_of parts n at h = same parts 1 h
+  form_counts Form.borrow_of parts n at h = same parts 1 h
+  form_counts Form.map_of parts n at h = same parts 2 (second_true (begins_with_key (map (tree_at t) parts)) (many parts == 2) h)
+  form_counts Form.tuple_of parts n at h = refl
+  form_counts (Form.flags_of names) parts n at h = same parts 0 (second_true (is_filled names) (many parts == 0) h)
+  form_counts (Form.enum_of names) parts n at h = same parts 0 (second_true (is_filled names) (many parts == 0) h)
+  form_counts (Form.result_of true true) parts n at h = same parts 2 h
+  form_counts (Form.result_of true false) parts n at h = same parts 1 h
+  form_counts (Form.result_of false true) parts n at h = same parts 1 h
+  form_counts (Form.result_of false false) parts n at h = same parts 0 h
+  form_counts (Form.future_of true) parts n at h = same parts 1 h
+  form_counts (Form.future_of false) parts n at h = same parts 0 h
+  form_counts (Form.stream_of true) parts n at h = same parts 1 h
+  form_counts (Form.stream_of false) parts n at h = same parts 0 h
+
+pub forms_count : (t : Tables) (h : Homes) (ms : List Member) (members : List reads.Member) → IsInput t h ms members → FormsHold t HasCount (showings_of_members ms) (signatures_of_members ms)
+forms_count t h ms members input = forms_hold t input.tables HasCount (form_counts t) h ms members input.shown input.stand
+
+-- ---- forms by their numbers
+
+low_sort : (form : Form) → 1 ≤ (form_code form).sort
+low_sort (Form.record_of names) = omega arith
+low_sort (Form.variant_of cases) = omega arith
+low_sort Form.list_of = omega arith
+low_sort (Form.fixed_list_of l) = omega arith
+low_sort Form.option_of = omega arith
+low_sort Form.own_of = omega arith
+low_sort Form.borrow_of = omega arith
+low_sort Form.map_of = omega arith
+low_sort Form.tuple_of = omega arith
+low_sort (Form.flags_of names) = omega arith
+low_sort (Form.enum_of names) = omega arith
+low_sort (Form.result_of ok err) = omega arith
+low_sort (Form.future_of some) = omega arith
+low_sort (Form.stream_of some) = omega arith
+
+high_sort : (form : Form) → (form_code form).sort ≤ 14
+high_sort (Form.record_of names) = omega arith
+high_sort (Form.variant_of cases) = omega arith
+high_sort Form.list_of = omega arith
+high_sort (Form.fixed_list_of l) = omega arith
+high_sort Form.option_of = omega arith
+high_sort Form.own_of = omega arith
+high_sort Form.borrow_of = omega arith
+high_sort Form.map_of = omega arith
+high_sort Form.tuple_of = omega arith
+high_sort (Form.flags_of names) = omega arith
+high_sort (Form.enum_of names) = omega arith
+high_sort (Form.result_of ok err) = omega arith
+high_sort (Form.future_of some) = omega arith
+high_sort (Form.stream_of some) = omega arith
+
+-- ---- a form over what is kept
+
+module _ (t : Tables) (h : Homes) (ms : List Member) (members : List reads.Member) (input : IsInput t h ms members) (marks : MarksStand t (showings_of_members ms) (signatures_of_members ms)) where
+  -- a resource is no primitive
+  high_parts : (parts : List ℕ) → list_all marks.marks parts ≡ true → AllByRecursion (λ k. 14 ≤ k) parts
+  high_parts [] h = tt
+  high_parts (k ∷ parts) h = (by (nat_lt k 14) refl, high_parts parts (second_true (marks.marks k) (list_all marks.marks parts) h))
+    where
+      by : (b : Bool) → nat_lt k 14 ≡ b → 14 ≤ k
+      by false high = ltb-false k 14 high
+      by true low = no_true (sym (marks.primitives k (ltb-true k 14 low)) ∙ first_true (marks.marks k) (list_all marks.marks parts) h)
+
+  pub form_over : (kept : List ℕ) (n : ℕ) (s : Shape) → slice_get t.shapes n ≡ Some s → name_in s ≡ None → EachForm t HasCount (14 + n) → EachForm t (FormIsMarked marks.marks) (14 + n) → AllByRecursion (IsKeptPart kept) s.parts → IsFormOver kept s
+  form_over kept n s at none counts marked parts = by (form_there n s none (input.tables.shapes.each n s at))
+    where
+      by : (form : Form) × (parts : List ℕ) × (s ≡ node_shape form parts) → IsFormOver kept s
+      by (form, ks, e) =
+          let there : slice_get t.shapes n ≡ Some (node_shape form ks) = at ∙ ap Some e in
+          let is : shape_form s ≡ form = ap shape_form e ∙ form_back form in
+          let own : s.parts ≡ ks = ap (λ (x : Shape). x.parts) e in
+          record {
+            low = subst (λ (x : Shape). 1 ≤ x.sort) (sym e) (low_sort form);
+            high = subst (λ (x : Shape). x.sort ≤ 14) (sym e) (high_sort form);
+            count = (λ i. has_count (is i) (length (own i))) ∙ counts.holds n form ks (itself (14 + n) n refl) there;
+            parts = parts;
+            handle = λ handles. subst (AllByRecursion (λ k. 14 ≤ k)) (sym own) (high_parts ks ((marked.holds n form ks (itself (14 + n) n refl) there).handle (ap is_handle_form (sym is) ∙ handles)));
+          }

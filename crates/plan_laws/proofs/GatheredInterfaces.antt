@@ -1,0 +1,226 @@
+-- The interfaces of a plan become what each view of their places tells, with the functions of the first that shows some.
+use Rattle.std.proofs.Common.{◌≡◌, refl, sym, ap, subst, ◌∙◌, ℕ, suc, arith, Bool, true, false, not, ◌==◌, cond, List, [], ◌∷◌, ◌++◌, map, Option, Some, None, option_map, slice_get}
+use Rattle.std.specs.Prelude.{option_and_then}
+use Rattle.std.specs.List.{AllZip, Contains}
+use Rattle.std.specs.Option.{option_map_or}
+use Rattle.std.proofs.lemmas.List.Elements.{Contains-append_right}
+use Rattle.wit_model.specs.Rules.{is_id}
+use Rattle.wit_model.specs.Text.{Text}
+use Rattle.wit_model.specs.Valid.{as_interface}
+use Rattle.wit_model.proofs.Elements.{contains-later, contains-map, contains-one, get-contains, same-some}
+use Rattle.comp_meaning.specs.Reads as reads
+use Rattle.plan_meaning.specs.FollowedNumbers.{IsPartIn}
+use Rattle.plan_meaning.specs.GatheredPlan.{InterfaceAt, InterfaceBecomes, InterfacesListed, TypeBecomes, TypeListed, foreign_interface, functions_seen, interfaces_listed, under_path}
+use Rattle.plan_meaning.specs.NumberedMembers.{Homes, NumberedMember, home_at, is_of_package, sights_of_members}
+use Rattle.plan_meaning.specs.NumberedRules.{Fact}
+use Rattle.plan_meaning.specs.NumberedViews.{IsSight, NumberedSight, NumberedType, NumberedView, Tables, first_at, path_at, path_text}
+use Rattle.plan_meaning.specs.NumberedWorlds.{HasPath}
+use Rattle.plan_meaning.specs.Plan.{Plan, PlannedInterface, interface_in, path_of_planned}
+use Rattle.plan_meaning.specs.Plan as plan
+use Rattle.plan_meaning.specs.ReadFunctions.{Beside}
+use Rattle.plan_meaning.proofs.GatheredPlan.{all_at}
+use Rattle.plan_meaning.proofs.Lists.{no_true}
+use Rattle.plan_meaning.proofs.NumberedMembers.{only_sights}
+use Rattle.plan_meaning.proofs.NumberedWorlds.{path_is}
+use Rattle.read_exports.specs.Members.{numbered_member, numbered_members, numbered_part}
+use Rattle.read_exports.specs.declared.members.Member.{Member}
+use Rattle.read_exports.specs.declared.members.Part.{Part}
+use Rattle.read_exports.specs.declared.members.Part.TheVariants as parts
+use Rattle.read_rules.specs.Reached.{numbered_import}
+use Rattle.read_rules.specs.Views.{numbered_view}
+use Rattle.plan_types.specs.PlannedTypes.{number_in}
+use Rattle.plan_package.specs.PlanWhole.{PlansWhole, places_in}
+use Rattle.plan_package.specs.Views.{types_alone, views_of_members, views_of_part}
+use Rattle.plan_package.specs.WholeInterfaces.{PlansPlace}
+use Rattle.plan_package.specs.WholePackages.{ListsPlace, interface_in_part, interfaces_in}
+use Rattle.plan_laws.specs.FirstViews.{ViewsAreOrdered, told}
+use Rattle.plan_laws.specs.Owners.{owners_of}
+use Rattle.plan_laws.specs.ViewedInterfaces.{views_read}
+use Rattle.plan_laws.specs.Whole.{IsPackageInput}
+use Rattle.plan_laws.specs.WholeTypes.{IsRuledInput}
+use Rattle.plan_laws.proofs.FirstTypes.{views_told}
+use Rattle.plan_laws.proofs.FirstViews.{first_is}
+use Rattle.plan_laws.proofs.GatheredSights.{IsGatheredFrom, IsGatheredOne, gathered, gathered_from, left_out}
+use Rattle.plan_laws.proofs.Inside.{flat_cases}
+use Rattle.plan_laws.proofs.ListedFunctions.{functions_listed, seen_same}
+use Rattle.plan_laws.proofs.Origins.{view_among}
+use Rattle.plan_laws.proofs.PlaceNumbers.{number_there, one_owner, owner_numbered, place_number}
+use Rattle.plan_laws.proofs.Planned.{first_there, interface_there, view_met}
+use Rattle.plan_laws.proofs.ShownWhole.{sight_viewed}
+use Rattle.plan_laws.proofs.Viewed.{planned_interfaces_are_viewed}
+use Rattle.plan_laws.proofs.WholePlacesTop.{sight_of_place}
+use Rattle.plan_laws.proofs.WholeTypes.{packages_are_ruled, path_planned}
+
+-- what holds of the elements of each number
+zip_each : {A B : Type 0} (R P : A → B → Type 0) (xs : List A) (ys : List B) → AllZip R xs ys → ((k : ℕ) (x : A) (y : B) → slice_get xs k ≡ Some x → slice_get ys k ≡ Some y → P x y) → AllZip P xs ys
+zip_each R P [] [] zip each = tt
+zip_each R P [] (y ∷ ys) zip each = absurd zip
+zip_each R P (x ∷ xs) [] zip each = absurd zip
+zip_each R P (x ∷ xs) (y ∷ ys) zip each = (each 0 x y refl refl, zip_each R P xs ys zip.1 (λ k a c e f. each (suc k) a c e f))
+
+-- what is told of types alone says what they become
+told_listed : (t : Tables) (kept : List ℕ) (p : Plan) (xs ys : List NumberedType) (es : List (Text × ℕ)) → map told xs ≡ map told ys → AllZip (TypeListed t kept p) xs es → AllZip (TypeListed t kept p) ys es
+told_listed t kept p [] [] es e zip = zip
+told_listed t kept p [] (y ∷ ys) es e zip = let wrong : ⊥ = cc in absurd wrong
+told_listed t kept p (x ∷ xs) [] es e zip = let wrong : ⊥ = cc in absurd wrong
+told_listed t kept p (x ∷ xs) (y ∷ ys) [] e zip = absurd zip
+told_listed t kept p (x ∷ xs) (y ∷ ys) (z ∷ zs) e zip =
+    let one : told x ≡ told y = cc in
+    let rest : map told xs ≡ map told ys = cc in
+    (subst (λ (a : Text × (Option ℕ × Option Text)). (z.0 ≡ a.0) × TypeBecomes t kept p a.1.0 a.1.1 z.1) one zip.0, told_listed t kept p xs ys zs rest zip.1)
+
+module _ (t : Tables) (h : Homes) (known : ℕ → Fact) (n : ℕ) (ms : List Member) (members : List reads.Member) (given : IsPackageInput t h known n ms members) (ordered : ViewsAreOrdered t ms) (p : Plan) (planned : PlansWhole t h.packages (home_at h) n ms p)
+    (b : Beside) (owned : b.owners ≡ owners_of ms) where
+  abbrev places : List ℕ
+  places = places_in ms
+
+  abbrev views : List NumberedSight
+  views = views_of_members (numbered_members ms)
+
+  abbrev sights : List NumberedSight
+  sights = sights_of_members t (numbered_members ms)
+
+  ruled : IsRuledInput t h ms members
+  ruled = packages_are_ruled t h known n ms members given
+
+  -- ---- an interface, by any view of it
+
+  types_listed : (k q : ℕ) → slice_get places k ≡ Some q → (i : PlannedInterface) → interface_in p k ≡ Some i → (first : NumberedSight) → first_at q views ≡ Some first → AllZip (TypeListed t planned.kept p) first.view.types i.types
+  types_listed k q at i there first is_first =
+      let viewed = planned_interfaces_are_viewed t h ms members given.input given.alone ruled.agree ordered n p planned b owned k i there in
+      let place : viewed.read.place ≡ q = one_owner ms b owned viewed.read.place q (as_interface k) viewed.read.owned (ap (λ f. f q) owned ∙ owner_numbered ms q k (place_number ms k q at)) in
+      let view : views_read ms q ≡ viewed.read.view = ap (views_read ms) (sym place) ∙ viewed.viewed in
+      let types : viewed.read.view.types ≡ first.view.types = ap (λ (v : NumberedView). v.types) (sym view) ∙ ap (λ o. option_map_or (λ (s : NumberedSight). s.view.types) o []) is_first in
+      subst (λ xs. AllZip (TypeListed t planned.kept p) xs i.types) types viewed.types
+
+  interface_by : (u : NumberedSight) → Contains views u → (k : ℕ) → number_in places u.place ≡ Some k → (i : PlannedInterface) → interface_in p k ≡ Some i → InterfaceBecomes t planned.kept p u.view (functions_seen u.place views) i
+  interface_by u c k number i there =
+      let at = number_there places u.place k number in
+      let first = first_there t h ms members given.input n p planned k u.place at in
+      let is = first_is u.place views first.0 first.1 in
+      record {
+        types = told_listed t planned.kept p first.0.view.types u.view.types i.types (views_told t h ms members given.input ruled.agree ordered first.0 u is.0 c is.1) (types_listed k u.place at i there first.0 first.1);
+        functions = functions_listed t h known n ms members given p planned b owned k u.place at i there;
+      }
+
+  pub interface_at : (u : NumberedSight) → Contains views u → (k : ℕ) → number_in places u.place ≡ Some k → InterfaceAt t planned.kept p u.view (functions_seen u.place views) k
+  interface_at u c k number =
+      let found = interface_there t h ms members given.input n p planned k u.place (number_there places u.place k number) in
+      record { interface = found.0; stands = found.1; becomes = interface_by u c k number found.0 found.1 }
+
+  -- the path of an interface of the plan
+  pub path_same : (q k : ℕ) → number_in places q ≡ Some k → plan.path_at p k ≡ path_at t q
+  path_same q k number =
+      let at = number_there places q k number in
+      let found = interface_there t h ms members given.input n p planned k q at in
+      let first = first_there t h ms members given.input n p planned k q at in
+      let made = found.2 first.0 first.1 in
+      ap (option_and_then (path_of_planned p)) found.1 ∙ path_planned t h ms members ruled n p planned found.0 q (home_at h q) made.name made.package_ refl (path_at t q) refl
+
+  -- ---- the interfaces at the top
+
+  exported_listed : (xs : List Member) → ((m : Member) → Contains xs m → Contains ms m) → (es : List (Text × ℕ)) → AllZip (ListsPlace places) (interfaces_in xs) es → AllZip (InterfacesListed t planned.kept p sights) (interfaces_listed (numbered_members xs)) es
+  exported_listed [] among es zip = zip
+  exported_listed (m ∷ xs) among es zip = by m.part refl es zip (exported_listed xs (λ y c. among y (contains-later m xs y c)))
+    where
+      by : (a : Part) → m.part ≡ a → (es : List (Text × ℕ)) → AllZip (ListsPlace places) (interface_in_part m.label.now a ++ interfaces_in xs) es
+          → ((fs : List (Text × ℕ)) → AllZip (ListsPlace places) (interfaces_in xs) fs → AllZip (InterfacesListed t planned.kept p sights) (interfaces_listed (numbered_members xs)) fs)
+          → AllZip (InterfacesListed t planned.kept p sights) (interfaces_listed (record { label = m.label.now; package_ = m.package_number; part = numbered_part a } ∷ numbered_members xs)) es
+      by (parts.World w) is es zip more = more es zip
+      by (parts.Interface q v imports) is [] zip more = absurd zip
+      by (parts.Interface q v imports) is (e ∷ es) zip more =
+          let s : NumberedSight = record { place = q; view = numbered_view v; whole = true } in
+          let last : Contains (views_of_part (numbered_part (parts.Interface q v imports))) s = Contains-append_right (map types_alone (map numbered_import imports.now)) (s ∷ []) s (contains-one s) in
+          let viewed : Contains views s = view_among ms m (among m (0, omega arith, refl)) s (subst (λ a. Contains (views_of_part (numbered_part a)) s) (sym is) last) in
+          let path : HasPath t q = (subst (λ a. IsPartIn t (numbered_part a)) is (all_at (λ (x : NumberedMember). IsPartIn t x.part) (numbered_members ms) given.input.numbers (numbered_member m) (contains-map numbered_member ms m (among m (0, omega arith, refl))))).0.0 in (
+            record {
+              name = zip.0.0;
+              there = subst (λ fs. InterfaceAt t planned.kept p (numbered_view v) fs e.1) (seen_same t q path (numbered_members ms)) (interface_at s viewed e.1 zip.0.1);
+            },
+            more es zip.1,
+          )
+
+  pub top_listed : (es : List (Text × ℕ)) → AllZip (ListsPlace places) (interfaces_in ms) es → AllZip (InterfacesListed t planned.kept p sights) (interfaces_listed (numbered_members ms)) es
+  top_listed es zip = exported_listed ms (λ m c. c) es zip
+
+  -- ---- those with a path
+
+  -- Views with a path, one at least of each place that is wanted, which show the functions that all views of their places do.
+  pub record ShowPlaces (wanted : ℕ → Bool) (seen : List NumberedSight) : Type 0 where
+    pub among : (s : NumberedSight) → Contains seen s → Contains sights s
+    pub met : (q : ℕ) → Contains places q → wanted q ≡ true → HasPath t q → (s : NumberedSight) × Contains seen s × (s.place ≡ q)
+    pub functions : (s : NumberedSight) → Contains seen s → functions_seen s.place sights ≡ functions_seen s.place seen
+
+  module _ (wanted : ℕ → Bool) (leaves : PlannedInterface → Bool) (told : (k q : ℕ) → slice_get places k ≡ Some q → HasPath t q → (i : PlannedInterface) → interface_in p k ≡ Some i → leaves i ≡ not (wanted q))
+      (seen : List NumberedSight) (show : ShowPlaces wanted seen) where
+    abbrev pick : PlannedInterface → Option (Text × PlannedInterface)
+    pick i = cond (leaves i) None (under_path p i)
+
+    abbrev IsOne : ℕ → PlannedInterface → Type 0
+    IsOne = IsGatheredOne t planned.kept p seen wanted pick
+
+    one_gathered : (k q : ℕ) → slice_get places k ≡ Some q → (i : PlannedInterface) → interface_in p k ≡ Some i → IsOne q i
+    one_gathered k q at i there = by (path_at t q) refl
+      where
+        number : number_in places q ≡ Some k
+        number = place_number ms k q at
+
+        planned_path : path_of_planned p i ≡ path_at t q
+        planned_path = ap (option_and_then (path_of_planned p)) (sym there) ∙ path_same q k number
+
+        no_path : path_at t q ≡ None → (c : Bool) → cond c None (under_path p i) ≡ None
+        no_path none true = refl
+        no_path none false = ap (option_map (λ (path : Text). (path, i))) (planned_path ∙ none)
+
+        with_path : (path : Text) → path_at t q ≡ Some path → (c : Bool) → wanted q ≡ c → IsOne q i
+        with_path path e false other = left_out (ap (λ c. cond c None (under_path p i)) (told k q at (path, e) i there ∙ ap not other)) (λ passes given_path. no_true (sym other ∙ passes))
+        with_path path e true passes =
+            let found : pick i ≡ Some (path, i) = ap (λ c. cond c None (under_path p i)) (told k q at (path, e) i there ∙ ap not passes) ∙ ap (option_map (λ (y : Text). (y, i))) (planned_path ∙ e) in
+            let view = show.met q (get-contains places k q at) passes (path, e) in
+            let s = view.0 in
+            let becomes = interface_by s (sight_viewed t (numbered_members ms) s (show.among s view.1)) k (ap (number_in places) view.2 ∙ number) i there in
+            let text : path_text t s.place ≡ path = ap (path_text t) view.2 ∙ path_is t q (path, e) in
+            let functions : functions_seen s.place views ≡ functions_seen s.place seen = seen_same t s.place (path, ap (path_at t) view.2 ∙ e) (numbered_members ms) ∙ show.functions s view.1 in
+            gathered s (path, i) view.1 view.2 (ap wanted view.2 ∙ passes) found (text, subst (λ fs. InterfaceBecomes t planned.kept p s.view fs i) functions becomes)
+
+        by : (o : Option Text) → path_at t q ≡ o → IsOne q i
+        by None e = left_out (no_path e (leaves i)) (λ passes path. let wrong : None ≡ Some path.0 = sym e ∙ path.1 in absurd cc)
+        by (Some path) e = with_path path e (wanted q) refl
+
+    -- the place of such a view is met, and has a path
+    seen_met : (s : NumberedSight) → Contains seen s → Contains places s.place × HasPath t s.place
+    seen_met s c =
+        let from = flat_cases (λ (m : NumberedMember). views_of_part m.part) (numbered_members ms) s (sight_viewed t (numbered_members ms) s (show.among s c)) in
+        let is = all_at (IsSight t) sights (only_sights t known sights given.sights) s (show.among s c) in
+        (view_met ms from.0 from.1 s from.2, (is.path, is.home))
+
+    pub all_gathered : IsGatheredFrom t planned.kept p seen wanted pick p.interfaces
+    all_gathered =
+        gathered_from t planned.kept p seen wanted pick places p.interfaces
+        (zip_each (PlansPlace t planned.kept n (home_at h) views) IsOne places p.interfaces planned.interfaces (λ k q i at there. one_gathered k q at i there)) seen_met
+
+  -- ---- those of other packages
+
+  abbrev is_other : ℕ → Bool
+  is_other q = cond (is_of_package h n q) false true
+
+  -- an interface is left out where it is one of the package itself
+  other_told : (k q : ℕ) → slice_get places k ≡ Some q → HasPath t q → (i : PlannedInterface) → interface_in p k ≡ Some i → is_id p.main i.package_ ≡ not (is_other q)
+  other_told k q at path i there =
+      let home = given.input.homes.homes q path.0 path.1 in
+      let found = interface_there t h ms members given.input n p planned k q at in
+      let first = first_there t h ms members given.input n p planned k q at in
+      let package_is : i.package_ ≡ Some home.package_ =
+      ap (λ (x : PlannedInterface). x.package_) (same-some i found.0 (sym there ∙ found.1)) ∙ ((found.2 first.0 first.1).package_ ∙ ap (λ o. Some (option_map_or (λ (x : ℕ × Text). x.0) o n)) home.home) in
+      let main : is_id p.main i.package_ ≡ (home.package_ == n) = ap (is_id p.main) package_is ∙ ap (λ m. home.package_ == m) planned.main in
+      let own : is_of_package h n q ≡ (home.package_ == n) = ap (λ o. option_map_or (λ (x : ℕ × Text). x.0 == n) o false) home.home in
+      main ∙ (twice (home.package_ == n) ∙ ap (λ c. not (cond c false true)) (sym own))
+    where
+      twice : (c : Bool) → c ≡ not (cond c false true)
+      twice true = refl
+      twice false = refl
+
+  pub foreign_gathered : IsGatheredFrom t planned.kept p sights is_other (foreign_interface p) p.interfaces
+  foreign_gathered =
+      all_gathered is_other (λ (i : PlannedInterface). is_id p.main i.package_) other_told sights
+      (record { among = λ s c. c; met = λ q c passes path. sight_of_place t ms q c path; functions = λ s c. refl })

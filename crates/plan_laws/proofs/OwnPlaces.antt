@@ -1,0 +1,327 @@
+-- Each place without a path is of one world, or of one inline interface with one view.
+use Rattle.std.proofs.Common.{◌≡◌, refl, sym, ap, subst, ◌∙◌, ℕ, zero, suc, ◌+◌, ◌⊎◌, inl, inr, arith, Bool, true, false, not, filter, if◌then◌else◌, List, [], ◌∷◌, ◌++◌, length, length-append, map, Option, None, is_none}
+use Rattle.std.specs.List.{AllByRecursion, Contains, flat_map}
+use Rattle.std.proofs.lemmas.Bool.{not-true}
+use Rattle.std.proofs.lemmas.List.Elements.{Contains-append_cases, Contains-append_left, filter-append}
+use Rattle.wit_model.specs.Uses.{has}
+use Rattle.wit_model.proofs.Elements.{contains-has, contains-later, both, contains-map, has-contains, none-in, one-contained}
+use Rattle.wit_model.proofs.Lists.{first_true, second_true}
+use Rattle.comp_meaning.specs.Follow as follow
+use Rattle.comp_meaning.specs.Follow.{Direction, Instance, export_, import_, interface_of}
+use Rattle.read_shown.specs.Instances as shown_instances
+use Rattle.read_shown.specs.Instances.{InstancesAreSeen, going, instances_in}
+use Rattle.wit_model.specs.Text.{Text}
+use Rattle.plan_meaning.specs.FollowedNumbers.{IsOneOf, IsScopeIn, IsSeenIn}
+use Rattle.plan_meaning.specs.NumberedMembers.{NumberedMember, NumberedPart, interface, world}
+use Rattle.plan_meaning.specs.NumberedViews.{NumberedView, Tables, path_at}
+use Rattle.plan_meaning.specs.NumberedWorlds.{HasPath, NumberedInstance, NumberedScope, NumberedSeen, NumberedShown, Shows, are_once, declares, function, implementing, instance, instance_of, label, path, place_of_key, seen_of, shown_of}
+use Rattle.plan_meaning.proofs.GatheredPlan.{all_at}
+use Rattle.plan_meaning.proofs.Lists.{append_of_map}
+use Rattle.plan_type_laws.specs.ShownMarks.{has_no_path, own_places, places_of_part, places_of_seen, places_of_shown}
+use Rattle.plan_laws.proofs.Inside.{flat_cases}
+
+-- ---- what stands at a number that stands once
+
+module _ {X : Type 0} (test : ℕ → Bool) where
+  abbrev numbers : List (ℕ × X) → List ℕ
+  numbers fs = filter test (map (λ (f : ℕ × X). f.0) fs)
+
+  number_among : (fs : List (ℕ × X)) (f : ℕ × X) → Contains fs f → test f.0 ≡ true → Contains (numbers fs) f.0
+  number_among [] f c h = none-in f c
+  number_among (g ∷ fs) f c h = by (test g.0) refl c (λ later. number_among fs f later h)
+    where
+      by : (b : Bool) → test g.0 ≡ b → Contains (g ∷ fs) f → (Contains fs f → Contains (numbers fs) f.0) → Contains (if b then g.0 ∷ numbers fs else numbers fs) f.0
+      by true e (zero, low, same) later = (zero, omega arith, ap (λ (x : ℕ × X). x.0) same)
+      by true e (suc i, low, same) later = contains-later g.0 (numbers fs) f.0 (later (i, omega (arith, low), same))
+      by false e (zero, low, same) later = let wrong : false ≡ true = sym e ∙ (ap (λ (x : ℕ × X). test x.0) same ∙ h) in absurd cc
+      by false e (suc i, low, same) later = later (i, omega (arith, low), same)
+
+  pub one_there : (fs : List (ℕ × X)) → are_once (numbers fs) ≡ true → (f g : ℕ × X) → Contains fs f → Contains fs g → f.0 ≡ g.0 → test f.0 ≡ true → f ≡ g
+  one_there [] once f g c d e h = none-in f c
+  one_there (k ∷ fs) once f g c d e h = by (test k.0) refl once (λ apart i j. one_there fs apart f g i j e h) c d
+    where
+      not_later : (x : ℕ × X) → are_once (k.0 ∷ numbers fs) ≡ true → Contains fs x → test x.0 ≡ true → k.0 ≡ x.0 → ⊥
+      not_later x apart later tested same =
+          let none = not-true (has (numbers fs) k.0) (first_true (not (has (numbers fs) k.0)) (are_once (numbers fs)) apart) in
+          let there = contains-has (numbers fs) x.0 (number_among fs x later tested) in
+          let wrong : false ≡ true = sym none ∙ (ap (has (numbers fs)) same ∙ there) in cc
+
+      by : (b : Bool) → test k.0 ≡ b → are_once (if b then k.0 ∷ numbers fs else numbers fs) ≡ true → (are_once (numbers fs) ≡ true → Contains fs f → Contains fs g → f ≡ g) → Contains (k ∷ fs) f → Contains (k ∷ fs) g → f ≡ g
+      by true t apart more (zero, i_low, i_same) (zero, j_low, j_same) = sym i_same ∙ j_same
+      by true t apart more (zero, i_low, i_same) (suc j, j_low, j_same) = absurd (not_later g apart (j, omega (arith, j_low), j_same) (ap test (sym e) ∙ h) (ap (λ (x : ℕ × X). x.0) i_same ∙ e))
+      by true t apart more (suc i, i_low, i_same) (zero, j_low, j_same) = absurd (not_later f apart (i, omega (arith, i_low), i_same) h (ap (λ (x : ℕ × X). x.0) j_same ∙ sym e))
+      by true t apart more (suc i, i_low, i_same) (suc j, j_low, j_same) = more (second_true (not (has (numbers fs) k.0)) (are_once (numbers fs)) apart) (i, omega (arith, i_low), i_same) (j, omega (arith, j_low), j_same)
+      by false t apart more (zero, i_low, i_same) d_in = let wrong : false ≡ true = sym t ∙ (ap (λ (x : ℕ × X). test x.0) i_same ∙ h) in absurd cc
+      by false t apart more (suc i, i_low, i_same) (zero, j_low, j_same) = let wrong : false ≡ true = sym t ∙ (ap (λ (x : ℕ × X). test x.0) j_same ∙ (ap test (sym e) ∙ h)) in absurd cc
+      by false t apart more (suc i, i_low, i_same) (suc j, j_low, j_same) = more apart (i, omega (arith, i_low), i_same) (j, omega (arith, j_low), j_same)
+
+-- ---- as many, all of which are among others
+
+-- none stands twice
+abbrev pub AreDifferent : {A : Type 0} → List A → Type 0
+AreDifferent [] = Unit {0}
+AreDifferent (x ∷ xs) = (Contains xs x → ⊥) × AreDifferent xs
+
+record Without {A : Type 0} (xs : List A) (x : A) : Type 0 where
+  rest : List A
+  many : length xs ≡ suc (length rest)
+  cases : (y : A) → Contains xs y → (y ≡ x) ⊎ Contains rest y
+
+without : {A : Type 0} (xs : List A) (x : A) → Contains xs x → Without xs x
+without [] x c = none-in x c
+without {A = A} (z ∷ xs) x (zero, low, e) = record { rest = xs; many = refl; cases = by }
+  where
+    by : (y : A) → Contains (z ∷ xs) y → (y ≡ x) ⊎ Contains xs y
+    by y (zero, y_low, same) = inl (sym same ∙ e)
+    by y (suc i, y_low, same) = inr (i, omega (arith, y_low), same)
+without {A = A} (z ∷ xs) x (suc i, low, e) =
+    let less = without xs x (i, omega (arith, low), e) in
+    record { rest = z ∷ less.rest; many = ap suc less.many; cases = by less }
+  where
+    later : (less : Without xs x) (y : A) → (y ≡ x) ⊎ Contains less.rest y → (y ≡ x) ⊎ Contains (z ∷ less.rest) y
+    later less y (inl is) = inl is
+    later less y (inr among) = inr (contains-later z less.rest y among)
+
+    by : (less : Without xs x) (y : A) → Contains (z ∷ xs) y → (y ≡ x) ⊎ Contains (z ∷ less.rest) y
+    by less y (zero, y_low, same) = inr (zero, omega arith, same)
+    by less y (suc j, y_low, same) = later less y (less.cases y (j, omega (arith, y_low), same))
+
+pub all_taken : {A : Type 0} (cs is : List A) → AreDifferent cs → ((c : A) → Contains cs c → Contains is c) → length is ≡ length cs → (x : A) → Contains is x → Contains cs x
+all_taken [] is apart among many x (i, low, e) = absurd (omega (arith, low, many))
+all_taken {A = A} (c ∷ cs) is apart among many x there = by (λ rest each as_many there. all_taken cs rest apart.1 each as_many x there) (without is c (among c (zero, omega arith, refl)))
+  where
+    still : (less : Without is c) (y : A) → Contains cs y → (y ≡ c) ⊎ Contains less.rest y → Contains less.rest y
+    still less y d (inl same) = absurd (apart.0 (subst (Contains cs) same d))
+    still less y d (inr rest) = rest
+
+    which : ((rest : List A) → ((y : A) → Contains cs y → Contains rest y) → length rest ≡ length cs → Contains rest x → Contains cs x) → (less : Without is c) → (x ≡ c) ⊎ Contains less.rest x → Contains (c ∷ cs) x
+    which more less (inl same) = (zero, omega arith, sym same)
+    which more less (inr rest) = contains-later c cs x (more less.rest (λ y d. still less y d (less.cases y (among y (contains-later c cs y d)))) (let a = less.many in omega (arith, a, many)) rest)
+
+    by : ((rest : List A) → ((y : A) → Contains cs y → Contains rest y) → length rest ≡ length cs → Contains rest x → Contains cs x) → Without is c → Contains (c ∷ cs) x
+    by more less = which more less (less.cases x there)
+
+-- ---- what is there in all worlds
+
+-- what has a place of its own: a world, or an inline interface by its view
+pub data Owned : Type 0 where
+  a_world : NumberedScope → Owned
+  a_view : NumberedView → Owned
+
+abbrev pub Frame : Type 0
+Frame = ℕ × Owned
+
+abbrev pub frames_of_shown : NumberedShown → List Frame
+frames_of_shown (instance key v) = (place_of_key key, a_view v) ∷ []
+frames_of_shown (function n) = []
+frames_of_shown (declares d) = []
+
+abbrev pub frames_of_seen : List NumberedSeen → List Frame
+frames_of_seen ss = flat_map (λ (s : NumberedSeen). frames_of_shown s.shown) ss
+
+abbrev pub frames_of_part : NumberedPart → List Frame
+frames_of_part (world w) = (w.home, a_world w) ∷ (frames_of_seen w.imports ++ frames_of_seen w.exports)
+frames_of_part (interface p v imports) = []
+
+abbrev pub frames : List NumberedMember → List Frame
+frames ms = flat_map (λ (m : NumberedMember). frames_of_part m.part) ms
+
+abbrev place_of_frame : Frame → ℕ
+place_of_frame f = f.0
+
+shown_places : (x : NumberedShown) → map place_of_frame (frames_of_shown x) ≡ places_of_shown x
+shown_places (instance key v) = refl
+shown_places (function n) = refl
+shown_places (declares d) = refl
+
+seen_places : (ss : List NumberedSeen) → map place_of_frame (frames_of_seen ss) ≡ places_of_seen ss
+seen_places [] = refl
+seen_places (s ∷ ss) = append_of_map place_of_frame (frames_of_shown s.shown) (frames_of_seen ss) ∙ λ i. shown_places s.shown i ++ seen_places ss i
+
+part_places : (a : NumberedPart) → map place_of_frame (frames_of_part a) ≡ places_of_part a
+part_places (world w) = ap (λ ps. w.home ∷ ps) (append_of_map place_of_frame (frames_of_seen w.imports) (frames_of_seen w.exports) ∙ λ i. seen_places w.imports i ++ seen_places w.exports i)
+part_places (interface p v imports) = refl
+
+all_places : (ms : List NumberedMember) → map place_of_frame (frames ms) ≡ flat_map (λ (m : NumberedMember). places_of_part m.part) ms
+all_places [] = refl
+all_places (m ∷ ms) = append_of_map place_of_frame (frames_of_part m.part) (frames ms) ∙ λ i. part_places m.part i ++ all_places ms i
+
+-- one thing stands in each place without a path
+pub one_owned : (t : Tables) (ms : List NumberedMember) → are_once (own_places t ms) ≡ true → (q : ℕ) → path_at t q ≡ None → (x y : Owned) → Contains (frames ms) (q, x) → Contains (frames ms) (q, y) → x ≡ y
+one_owned t ms apart q none x y c d =
+    ap (λ (f : Frame). f.1) (one_there (has_no_path t) (frames ms) (ap (λ ps. are_once (filter (has_no_path t) ps)) (all_places ms) ∙ apart) (q, x) (q, y) c d refl (ap is_none none))
+
+-- ---- the instances of a world
+
+module _ (t : Tables) where
+  abbrev pub no_path : NumberedInstance → Bool
+  no_path i = is_none (path_at t i.place)
+
+  -- instances that have no path
+  abbrev pub nones : List Instance → ℕ
+  nones xs = length (filter (λ (x : Instance). is_none x.interface) xs)
+
+  -- the inline interfaces among imports and exports
+  abbrev pub inline_of : NumberedShown → List NumberedInstance
+  inline_of (instance (path p) v) = []
+  inline_of (instance (label l p) v) = record { place = p; view = v } ∷ []
+  inline_of (instance (implementing l p) v) = []
+  inline_of (function n) = []
+  inline_of (declares d) = []
+
+  abbrev pub inlines : List NumberedSeen → List NumberedInstance
+  inlines ss = flat_map (λ (s : NumberedSeen). inline_of s.shown) ss
+
+  nones_cons : (x : Instance) (xs : List Instance) → nones (x ∷ xs) ≡ nones (x ∷ []) + nones xs
+  nones_cons x xs = by (is_none x.interface)
+    where
+      by : (b : Bool) → length (if b then x ∷ filter (λ (y : Instance). is_none y.interface) xs else filter (λ (y : Instance). is_none y.interface) xs) ≡ length (if b then x ∷ [] else []) + nones xs
+      by true = omega arith
+      by false = omega arith
+
+  pub both_ways : (seen : List (Direction × Instance)) → nones (map (λ (y : Direction × Instance). y.1) seen) ≡ nones (going import_ seen) + nones (going export_ seen)
+  both_ways [] = refl
+  both_ways ((import_, x) ∷ seen) =
+      let all = nones_cons x (map (λ (y : Direction × Instance). y.1) seen) in
+      let more = nones_cons x (going import_ seen) in
+      let rest = both_ways seen in
+      omega (arith, all, more, rest)
+  both_ways ((export_, x) ∷ seen) =
+      let all = nones_cons x (map (λ (y : Direction × Instance). y.1) seen) in
+      let more = nones_cons x (going export_ seen) in
+      let rest = both_ways seen in
+      omega (arith, all, more, rest)
+
+  pub seen_nones : (ss : List NumberedSeen) → nones (instances_in (map (seen_of t) ss)) ≡ length (inlines ss)
+  seen_nones [] = refl
+  seen_nones (s ∷ ss) = by s.shown (seen_nones ss)
+    where
+      by : (x : NumberedShown) → nones (instances_in (map (seen_of t) ss)) ≡ length (inlines ss) → nones (shown_instances.instance_of (shown_of t x) ++ instances_in (map (seen_of t) ss)) ≡ length (inline_of x ++ inlines ss)
+      by (instance (path p) v) rest = rest
+      by (instance (label l p) v) rest = ap suc rest
+      by (instance (implementing l p) v) rest = rest
+      by (function n) rest = rest
+      by (declares d) rest = rest
+
+  pub kept_nones : (is : List NumberedInstance) → nones (map (instance_of t) is) ≡ length (filter no_path is)
+  kept_nones [] = refl
+  kept_nones (i ∷ is) = by (no_path i) (kept_nones is)
+    where
+      by : (b : Bool) → nones (map (instance_of t) is) ≡ length (filter no_path is)
+          → length (if b then instance_of t i ∷ filter (λ (x : Instance). is_none x.interface) (map (instance_of t) is) else filter (λ (x : Instance). is_none x.interface) (map (instance_of t) is)) ≡ length (if b then i ∷ filter no_path is else filter no_path is)
+      by true rest = ap suc rest
+      by false rest = rest
+
+-- ---- numbers that stand once, in a part of a list
+
+once_behind : (n : ℕ) (ns : List ℕ) → are_once (n ∷ ns) ≡ true → are_once ns ≡ true
+once_behind n ns once = second_true (not (has ns n)) (are_once ns) once
+
+once_last : (xs ys : List ℕ) → are_once (xs ++ ys) ≡ true → are_once ys ≡ true
+once_last [] ys once = once
+once_last (x ∷ xs) ys once = once_last xs ys (once_behind x (xs ++ ys) once)
+
+not_among : (n : ℕ) (ns : List ℕ) → are_once (n ∷ ns) ≡ true → Contains ns n → ⊥
+not_among n ns once c = let wrong : false ≡ true = sym (not-true (has ns n) (first_true (not (has ns n)) (are_once ns) once)) ∙ contains-has ns n c in cc
+
+-- no number of the list is the first
+none_is : (n : ℕ) (ns : List ℕ) → (Contains ns n → ⊥) → has ns n ≡ false
+none_is n ns none = by (has ns n) refl
+  where
+    by : (b : Bool) → has ns n ≡ b → has ns n ≡ false
+    by true e = absurd (none (has-contains ns n e))
+    by false e = e
+
+once_first : (xs ys : List ℕ) → are_once (xs ++ ys) ≡ true → are_once xs ≡ true
+once_first [] ys once = refl
+once_first (x ∷ xs) ys once =
+    both (not (has xs x)) (are_once xs) (ap not (none_is x xs (λ c. not_among x (xs ++ ys) once (Contains-append_left xs ys x c)))) (once_first xs ys (once_behind x (xs ++ ys) once))
+
+pub once_inside : {A : Type 0} (test : ℕ → Bool) (f : A → List ℕ) (xs : List A) → are_once (filter test (flat_map f xs)) ≡ true → (x : A) → Contains xs x → are_once (filter test (f x)) ≡ true
+once_inside test f [] once x c = none-in x c
+once_inside test f (y ∷ xs) once x (zero, low, e) = subst (λ z. are_once (filter test (f z)) ≡ true) e (once_first (filter test (f y)) (filter test (flat_map f xs)) (ap are_once (sym (filter-append test (f y) (flat_map f xs))) ∙ once))
+once_inside test f (y ∷ xs) once x (suc i, low, e) = once_inside test f xs (once_last (filter test (f y)) (filter test (flat_map f xs)) (ap are_once (sym (filter-append test (f y) (flat_map f xs))) ∙ once)) x (i, omega (arith, low), e)
+
+different : {A : Type 0} (f : A → ℕ) (xs : List A) → are_once (map f xs) ≡ true → AreDifferent xs
+different f [] once = tt
+different f (x ∷ xs) once = ((λ c. not_among (f x) (map f xs) once (contains-map f xs x c)), different f xs (once_behind (f x) (map f xs) once))
+
+pub in_filter : {A : Type 0} (test : A → Bool) (xs : List A) (x : A) → Contains xs x → test x ≡ true → Contains (filter test xs) x
+in_filter test [] x c h = none-in x c
+in_filter test (y ∷ xs) x c h = by (test y) refl c (λ later. in_filter test xs x later h)
+  where
+    by : (b : Bool) → test y ≡ b → Contains (y ∷ xs) x → (Contains xs x → Contains (filter test xs) x) → Contains (if b then y ∷ filter test xs else filter test xs) x
+    by true e (zero, low, same) later = (zero, omega arith, same)
+    by true e (suc i, low, same) later = contains-later y (filter test xs) x (later (i, omega (arith, low), same))
+    by false e (zero, low, same) later = let wrong : false ≡ true = sym e ∙ (ap test same ∙ h) in absurd cc
+    by false e (suc i, low, same) later = later (i, omega (arith, low), same)
+
+module _ (t : Tables) (w : NumberedScope) (good : IsScopeIn t w) where
+  abbrev Keyed : NumberedSeen → Type 0
+  Keyed s = IsSeenIn t w.home s
+
+  -- the places of inline interfaces
+  pub inline_places : (ss : List NumberedSeen) → AllByRecursion Keyed ss → map (λ (i : NumberedInstance). i.place) (inlines t ss) ≡ filter (has_no_path t) (places_of_seen ss)
+  inline_places [] all = refl
+  inline_places (s ∷ ss) all = by s.key s.external_id s.shown all.0 (inline_places ss all.1)
+    where
+      dropped : (p : ℕ) → HasPath t p → (is : List NumberedInstance) → map (λ (i : NumberedInstance). i.place) is ≡ filter (has_no_path t) (places_of_seen ss) → map (λ (i : NumberedInstance). i.place) is ≡ filter (has_no_path t) (p ∷ places_of_seen ss)
+      dropped p there is rest = rest ∙ ap (λ o. if is_none o then p ∷ filter (has_no_path t) (places_of_seen ss) else filter (has_no_path t) (places_of_seen ss)) (sym there.1)
+
+      by : (key : Text) (id : Option Text) (x : NumberedShown) → Keyed (record { key = key; shown = x; external_id = id }) → map (λ (i : NumberedInstance). i.place) (inlines t ss) ≡ filter (has_no_path t) (places_of_seen ss)
+          → map (λ (i : NumberedInstance). i.place) (inline_of t x ++ inlines t ss) ≡ filter (has_no_path t) (places_of_shown x ++ places_of_seen ss)
+      by key id (instance (path p) v) seen rest = dropped p seen.0 (inlines t ss) rest
+      by key id (instance (label l p) v) seen rest = ap (λ ps. p ∷ ps) rest ∙ ap (λ o. if is_none o then p ∷ filter (has_no_path t) (places_of_seen ss) else filter (has_no_path t) (places_of_seen ss)) (sym seen.0)
+      by key id (instance (implementing l p) v) seen rest = dropped p seen.0 (inlines t ss) rest
+      by key id (function n) seen rest = rest
+      by key id (declares d) seen rest = rest
+
+  -- each of them is an instance
+  inline_kept : (ss : List NumberedSeen) → AllByRecursion Keyed ss → AllByRecursion (λ (s : NumberedSeen). IsOneOf t w.instances s.shown) ss → (i : NumberedInstance) → Contains (inlines t ss) i → Contains (filter (no_path t) w.instances) i
+  inline_kept ss keyed one i c =
+      let from = flat_cases (λ (s : NumberedSeen). inline_of t s.shown) ss i c in
+      by from.0.key from.0.external_id from.0.shown (all_at Keyed ss keyed from.0 from.1) (all_at (λ (s : NumberedSeen). IsOneOf t w.instances s.shown) ss one from.0 from.1) from.2
+    where
+      by : (key : Text) (id : Option Text) (x : NumberedShown) → Keyed (record { key = key; shown = x; external_id = id }) → IsOneOf t w.instances x → Contains (inline_of t x) i → Contains (filter (no_path t) w.instances) i
+      by key id (instance (path p) v) seen there among = none-in i among
+      by key id (instance (label l p) v) seen there among =
+          subst (Contains (filter (no_path t) w.instances)) (one-contained (record { place = p; view = v }) i among) (in_filter (no_path t) w.instances (record { place = p; view = v }) there (ap is_none seen.0))
+      by key id (instance (implementing l p) v) seen there among = none-in i among
+      by key id (function n) seen there among = none-in i among
+      by key id (declares d) seen there among = none-in i among
+
+  abbrev all_inline : List NumberedInstance
+  all_inline = inlines t w.imports ++ inlines t w.exports
+
+  -- an instance without a path is an inline interface that is imported or exported
+  pub inline_seen : (scope : follow.Scope) → Shows t w scope → InstancesAreSeen scope → are_once (filter (has_no_path t) (places_of_part (world w))) ≡ true → (i : NumberedInstance) → Contains w.instances i → path_at t i.place ≡ None → Contains all_inline i
+  inline_seen scope shows seen apart i c none =
+      all_taken all_inline (filter (no_path t) w.instances) (different (λ (x : NumberedInstance). x.place) all_inline once) kept many i (in_filter (no_path t) w.instances i c (ap is_none none))
+    where
+      places_are : map (λ (x : NumberedInstance). x.place) all_inline ≡ filter (has_no_path t) (places_of_seen w.imports ++ places_of_seen w.exports)
+      places_are =
+          append_of_map (λ (x : NumberedInstance). x.place) (inlines t w.imports) (inlines t w.exports)
+          ∙ ((λ j. inline_places w.imports good.imports j ++ inline_places w.exports good.exports j) ∙ sym (filter-append (has_no_path t) (places_of_seen w.imports) (places_of_seen w.exports)))
+
+      once : are_once (map (λ (x : NumberedInstance). x.place) all_inline) ≡ true
+      once = ap are_once places_are ∙ once_last (filter (has_no_path t) (w.home ∷ [])) (filter (has_no_path t) (places_of_seen w.imports ++ places_of_seen w.exports)) (ap are_once (sym (filter-append (has_no_path t) (w.home ∷ []) (places_of_seen w.imports ++ places_of_seen w.exports))) ∙ apart)
+
+      kept : (x : NumberedInstance) → Contains all_inline x → Contains (filter (no_path t) w.instances) x
+      kept x there = by (Contains-append_cases (inlines t w.imports) (inlines t w.exports) x there)
+        where
+          by : Contains (inlines t w.imports) x ⊎ Contains (inlines t w.exports) x → Contains (filter (no_path t) w.instances) x
+          by (inl among) = inline_kept w.imports good.imports good.imported x among
+          by (inr among) = inline_kept w.exports good.exports good.exported x among
+
+      many : length (filter (no_path t) w.instances) ≡ length all_inline
+      many =
+          let a : nones t (map (instance_of t) w.instances) ≡ length (filter (no_path t) w.instances) = kept_nones t w.instances in
+          let b : nones t scope.instances ≡ nones t (map (instance_of t) w.instances) = ap (nones t) shows.instances in
+          let c : nones t (map (λ (y : Direction × Instance). y.1) seen.seen) ≡ nones t scope.instances = ap (nones t) seen.all in
+          let d = both_ways t seen.seen in
+          let e : nones t (going import_ seen.seen) ≡ nones t (instances_in scope.imports) = ap (nones t) seen.imported in
+          let f : nones t (going export_ seen.seen) ≡ nones t (instances_in scope.exports) = ap (nones t) seen.exported in
+          let g : nones t (instances_in scope.imports) ≡ length (inlines t w.imports) = ap (λ ss. nones t (instances_in ss)) shows.imports ∙ seen_nones t w.imports in
+          let k : nones t (instances_in scope.exports) ≡ length (inlines t w.exports) = ap (λ ss. nones t (instances_in ss)) shows.exports ∙ seen_nones t w.exports in
+          let l : length all_inline ≡ length (inlines t w.imports) + length (inlines t w.exports) = length-append (inlines t w.imports) (inlines t w.exports) in
+          omega (arith, a, b, c, d, e, f, g, k, l)

@@ -1,0 +1,185 @@
+-- Places by their numbers, and the owner of each.
+use Rattle.std.proofs.Common.{◌≡◌, refl, sym, ap, subst, ◌∙◌, ℕ, zero, suc, ◌+◌, ◌<◌, ◌≤◌, ◌⊎◌, inl, inr, arith, Bool, true, false, ◌==◌, nat_lt, cond, List, [], ◌∷◌, ◌++◌, length, Option, Some, None, slice_get, get_or}
+use Rattle.std.specs.List.{Contains, flat_map, position_or_len}
+use Rattle.std.specs.Option.{option_map_or}
+use Rattle.std.proofs.lemmas.Bool.{eqb-true, ltb-false, ltb-true}
+use Rattle.std.proofs.lemmas.List.Elements.{Contains-append_cases, Contains-append_left, Contains-append_right}
+use Rattle.std.proofs.lemmas.List.Sums.{fails_before_first, passes_at_first}
+use Rattle.std.proofs.lemmas.Option.{slice_get-get_or, slice_get_within}
+use Rattle.wit_model.specs.declared.model.TypeOwner.{TypeOwner}
+use Rattle.wit_model.specs.declared.model.TypeOwner.TheVariants as owner
+use Rattle.wit_model.specs.Parts.{same_owner}
+use Rattle.wit_model.specs.Uses.{has}
+use Rattle.wit_model.specs.Valid.{as_interface, as_world}
+use Rattle.wit_model.proofs.Elements.{contains-has, contains-one, get-contains, has-contains, none-in, one-contained, same-number, same-some}
+use Rattle.read_shown.proofs.Lists.{at_end}
+use Rattle.plan_meaning.specs.NumberedMembers.{NumberedMember}
+use Rattle.plan_meaning.specs.ReadFunctions.{Beside}
+use Rattle.plan_meaning.proofs.KeptFunctions.{owner_itself}
+use Rattle.read_exports.specs.Members.{numbered_members}
+use Rattle.read_exports.specs.declared.members.Member.{Member}
+use Rattle.plan_types.specs.Orders.{joined, joined_all, places_of_part}
+use Rattle.plan_types.specs.PlannedTypes.{number_in, owner_in}
+use Rattle.plan_package.specs.PlanWhole.{places_in}
+use Rattle.plan_laws.specs.Owners.{homes_in, owner_of, owners_of}
+
+-- ---- numbers
+
+no_true : {A : Type 0} → false ≡ true → A
+no_true e = absurd cc
+
+module _ (ps : List ℕ) (q : ℕ) where
+  abbrev first : ℕ
+  first = position_or_len (λ x. q == x) ps
+
+  number_by : (b : Bool) → nat_lt first (length ps) ≡ b → (m : ℕ) → cond b (Some first) None ≡ Some m → slice_get ps m ≡ Some q
+  number_by true low m e =
+      let here : first ≡ m = same-some first m e in
+      let within : first < length ps = ltb-true first (length ps) low in
+      let there : q ≡ get_or ps first q = eqb-true q (get_or ps first q) (passes_at_first (λ x. q == x) ps q within) in
+      subst (λ i. slice_get ps i ≡ Some q) here (slice_get-get_or ps first q within ∙ ap Some (sym there))
+  number_by false high m e = let wrong : None ≡ Some m = e in absurd cc
+
+  -- a place stands under its number
+  pub number_there : (m : ℕ) → number_in ps q ≡ Some m → slice_get ps m ≡ Some q
+  number_there m e = number_by (nat_lt first (length ps)) refl m e
+
+  given_by : (b : Bool) → nat_lt first (length ps) ≡ b → Contains ps q → (m : ℕ) × (cond b (Some first) None ≡ Some m)
+  given_by true low c = (first, refl)
+  given_by false high (k, low, e) =
+      let beyond : length ps ≤ first = ltb-false first (length ps) high in
+      let fails : (q == get_or ps k q) ≡ false = fails_before_first (λ x. q == x) ps k q (omega (arith, low, beyond)) in
+      no_true (sym fails ∙ (ap (λ x. q == x) e ∙ same-number q))
+
+  -- each place has one
+  pub number_given : Contains ps q → (m : ℕ) × (number_in ps q ≡ Some m)
+  number_given c = given_by (nat_lt first (length ps)) refl c
+
+-- ---- places that are met
+
+-- none stands twice
+abbrev pub IsOnce : List ℕ → Type 0
+IsOnce ps = (i j q : ℕ) → slice_get ps i ≡ Some q → slice_get ps j ≡ Some q → i ≡ j
+
+module _ (met : List ℕ) (p : ℕ) where
+  joined_by : (b : Bool) → has met p ≡ b → (x : ℕ) → Contains met x ⊎ (p ≡ x) → Contains (cond b met (met ++ p ∷ [])) x
+  joined_by true there x (inl among) = among
+  joined_by true there x (inr same) = subst (Contains met) same (has-contains met p there)
+  joined_by false none x (inl among) = Contains-append_left met (p ∷ []) x among
+  joined_by false none x (inr same) = Contains-append_right met (p ∷ []) x (subst (Contains (p ∷ [])) same (contains-one p))
+
+  joins : (x : ℕ) → Contains met x ⊎ (p ≡ x) → Contains (joined met p) x
+  joins x c = joined_by (has met p) refl x c
+
+  from_by : (b : Bool) → (x : ℕ) → Contains (cond b met (met ++ p ∷ [])) x → Contains met x ⊎ (p ≡ x)
+  from_by true x c = inl c
+  from_by false x c = by (Contains-append_cases met (p ∷ []) x c)
+    where
+      by : Contains met x ⊎ Contains (p ∷ []) x → Contains met x ⊎ (p ≡ x)
+      by (inl among) = inl among
+      by (inr last) = inr (one-contained p x last)
+
+  joined_from : (x : ℕ) → Contains (joined met p) x → Contains met x ⊎ (p ≡ x)
+  joined_from x c = from_by (has met p) x c
+
+  once_by : (b : Bool) → has met p ≡ b → IsOnce met → IsOnce (cond b met (met ++ p ∷ []))
+  once_by true there once i j q at_i at_j = once i j q at_i at_j
+  once_by false none once i j q at_i at_j = by (at_end met p q i at_i) (at_end met p q j at_j)
+    where
+      not_there : (k : ℕ) → slice_get met k ≡ Some q → p ≡ q → ⊥
+      not_there k there same = no_true (sym none ∙ contains-has met p (subst (Contains met) (sym same) (get-contains met k q there)))
+
+      by : (slice_get met i ≡ Some q) ⊎ ((i ≡ length met) × (p ≡ q)) → (slice_get met j ≡ Some q) ⊎ ((j ≡ length met) × (p ≡ q)) → i ≡ j
+      by (inl a) (inl b) = once i j q a b
+      by (inl a) (inr b) = absurd (not_there i a b.1)
+      by (inr a) (inl b) = absurd (not_there j b a.1)
+      by (inr a) (inr b) = a.0 ∙ sym b.0
+
+  joined_once : IsOnce met → IsOnce (joined met p)
+  joined_once once = once_by (has met p) refl once
+
+-- each that is met is among them
+pub all_joined : (met ps : List ℕ) (x : ℕ) → Contains met x ⊎ Contains ps x → Contains (joined_all met ps) x
+all_joined met [] x (inl among) = among
+all_joined met [] x (inr c) = none-in x c
+all_joined met (p ∷ ps) x (inl among) = all_joined (joined met p) ps x (inl (joins met p x (inl among)))
+all_joined met (p ∷ ps) x (inr (zero, low, e)) = all_joined (joined met p) ps x (inl (joins met p x (inr e)))
+all_joined met (p ∷ ps) x (inr (suc i, low, e)) = all_joined (joined met p) ps x (inr (i, omega (arith, low), e))
+
+-- nothing else is
+pub from_joined : (met ps : List ℕ) (x : ℕ) → Contains (joined_all met ps) x → Contains met x ⊎ Contains ps x
+from_joined met [] x c = inl c
+from_joined met (p ∷ ps) x c = by (from_joined (joined met p) ps x c)
+  where
+    here : Contains met x ⊎ (p ≡ x) → Contains met x ⊎ Contains (p ∷ ps) x
+    here (inl among) = inl among
+    here (inr same) = inr (0, omega arith, same)
+
+    later : Contains ps x → Contains (p ∷ ps) x
+    later (k, low, e) = (suc k, omega (arith, low), e)
+
+    by : Contains (joined met p) x ⊎ Contains ps x → Contains met x ⊎ Contains (p ∷ ps) x
+    by (inl among) = here (joined_from met p x among)
+    by (inr after) = inr (later after)
+
+pub all_once : (met ps : List ℕ) → IsOnce met → IsOnce (joined_all met ps)
+all_once met [] once = once
+all_once met (p ∷ ps) once = all_once (joined met p) ps (joined_once met p once)
+
+pub none_twice : IsOnce []
+none_twice i j q at_i at_j = let wrong : None ≡ Some q = at_i in absurd cc
+
+-- a place that is met has its own number
+pub place_number : (ms : List Member) (m q : ℕ) → slice_get (places_in ms) m ≡ Some q → number_in (places_in ms) q ≡ Some m
+place_number ms m q e =
+    let given = number_given (places_in ms) q (get-contains (places_in ms) m q e) in
+    let once : IsOnce (places_in ms) = all_once [] (flat_map (λ (x : NumberedMember). places_of_part x.part) (numbered_members ms)) none_twice in
+    given.1 ∙ ap Some (once given.0 m q (number_there (places_in ms) q given.0 given.1) e)
+
+-- ---- owners
+
+module _ (places homes : List ℕ) where
+  abbrev owner_by : Option ℕ → Option ℕ → ℕ → TypeOwner
+  owner_by place home q = option_map_or as_interface place (option_map_or as_world home (as_interface (length places + q)))
+
+  within : (q m : ℕ) → number_in places q ≡ Some m → m < length places
+  within q m e = slice_get_within places m q (number_there places q m e)
+
+  apart_by : (a c : ℕ) (pa : Option ℕ) → number_in places a ≡ pa → (ha : Option ℕ) → number_in homes a ≡ ha → (pc : Option ℕ) → number_in places c ≡ pc → (hc : Option ℕ) → number_in homes c ≡ hc
+      → same_owner (owner_by pa ha a) (owner_by pc hc c) ≡ true → a ≡ c
+  apart_by a c (Some m) ea ha fa (Some k) ec hc fc h =
+      let one : m ≡ k = eqb-true m k h in
+      same-some a c (sym (number_there places a m ea) ∙ (ap (slice_get places) one ∙ number_there places c k ec))
+  apart_by a c (Some m) ea ha fa None ec (Some k) fc h = no_true h
+  apart_by a c (Some m) ea ha fa None ec None fc h = let one = eqb-true m (length places + c) h in let low = within a m ea in absurd (omega (arith, one, low))
+  apart_by a c None ea (Some m) fa (Some k) ec hc fc h = no_true h
+  apart_by a c None ea (Some m) fa None ec (Some k) fc h =
+      let one : m ≡ k = eqb-true m k h in
+      same-some a c (sym (number_there homes a m fa) ∙ (ap (slice_get homes) one ∙ number_there homes c k fc))
+  apart_by a c None ea (Some m) fa None ec None fc h = no_true h
+  apart_by a c None ea None fa (Some k) ec hc fc h = let one = eqb-true (length places + a) k h in let low = within c k ec in absurd (omega (arith, one, low))
+  apart_by a c None ea None fa None ec (Some k) fc h = no_true h
+  apart_by a c None ea None fa None ec None fc h = let one = eqb-true (length places + a) (length places + c) h in omega (arith, one)
+
+  -- each place has an owner of its own
+  pub owners_apart : (a c : ℕ) → same_owner (owner_of places homes a) (owner_of places homes c) ≡ true → a ≡ c
+  owners_apart a c h = apart_by a c (number_in places a) refl (number_in homes a) refl (number_in places c) refl (number_in homes c) refl h
+
+  -- the owner of a place that is met
+  pub owner_met : (q : ℕ) → Contains places q ⊎ Contains homes q → owner_in places homes q ≡ owner_of places homes q
+  owner_met q (inl among) = let given = number_given places q among in ap (λ o. option_map_or as_interface o (option_map_or as_world (number_in homes q) owner.None)) given.1 ∙ sym (ap (λ o. owner_by o (number_in homes q) q) given.1)
+  owner_met q (inr among) =
+      let given = number_given homes q among in
+      ap (λ o. option_map_or as_interface (number_in places q) (option_map_or as_world o owner.None)) given.1 ∙ sym (ap (λ o. owner_by (number_in places q) o q) given.1)
+
+-- ---- owners of places that are met
+
+-- the owner of a place of this number
+pub owner_numbered : (ms : List Member) (q m : ℕ) → number_in (places_in ms) q ≡ Some m → owners_of ms q ≡ as_interface m
+owner_numbered ms q m e = ap (λ o. option_map_or as_interface o (option_map_or as_world (number_in (homes_in ms) q) (as_interface (length (places_in ms) + q)))) e
+
+-- one place has an owner
+pub one_owner : (ms : List Member) (b : Beside) → b.owners ≡ owners_of ms → (a c : ℕ) (o : TypeOwner) → b.owners a ≡ o → b.owners c ≡ o → a ≡ c
+one_owner ms b is a c o at_a at_c =
+    let owner : (q : ℕ) → b.owners q ≡ o → owners_of ms q ≡ o = λ q at. sym (ap (λ (f : ℕ → TypeOwner). f q) is) ∙ at in
+    owners_apart (places_in ms) (homes_in ms) a c ((λ i. same_owner (owner a at_a i) (owner c at_c i)) ∙ owner_itself o)

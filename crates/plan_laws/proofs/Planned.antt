@@ -1,0 +1,134 @@
+-- What is known of a plan that was made of what was followed: where names are shown, and the interface of each place.
+use Rattle.std.proofs.Common.{◌≡◌, refl, sym, ap, subst, ◌∙◌, ℕ, zero, suc, ◌⊎◌, inl, inr, arith, Bool, true, false, ◌==◌, cond, List, [], ◌∷◌, ◌++◌, map, Some, None, option_map, is_some, slice_get}
+use Rattle.std.specs.List.{AllZip, Contains, find, flat_map}
+use Rattle.std.specs.Option.{option_map_or}
+use Rattle.wit_model.specs.Text.{Text}
+use Rattle.wit_model.proofs.Elements.{contains-flat, contains-map, get-contains, none-in, one-contained, same-number, same-some}
+use Rattle.comp_meaning.specs.Reads as reads
+use Rattle.plan_meaning.specs.FollowedNumbers.{IsPartIn}
+use Rattle.plan_meaning.specs.NumberedMembers.{Homes, NumberedMember, NumberedPart, home_at, interface, world}
+use Rattle.plan_meaning.specs.NumberedViews.{NumberedSight, Tables, first_at, path_at}
+use Rattle.plan_meaning.specs.NumberedWorlds.{HasPath}
+use Rattle.plan_meaning.specs.Plan.{Plan, PlannedInterface, interface_in}
+use Rattle.plan_meaning.specs.PlanRules.{has_name}
+use Rattle.plan_meaning.specs.Shapes.{named_shape}
+use Rattle.plan_meaning.proofs.GatheredPlan.{all_at}
+use Rattle.plan_meaning.proofs.Lists.{append_of_map, map_of_map}
+use Rattle.read_exports.specs.Members.{numbered_member, numbered_members, numbered_part}
+use Rattle.read_exports.specs.declared.members.Member.{Member}
+use Rattle.read_exports.specs.declared.members.Part.TheVariants as parts
+use Rattle.plan_types.specs.Orders.{home_of_part, places_of_part}
+use Rattle.plan_package.specs.Views.{types_alone, views_of_members, views_of_part, whole_view}
+use Rattle.plan_package.specs.WholeInterfaces.{PlansPlace}
+use Rattle.read_rules.specs.declared.scopes.Scope.{Scope}
+use Rattle.plan_type_laws.proofs.ShownForms.{mark_there}
+use Rattle.plan_package.specs.PlanWhole.{PlansWhole, places_in}
+use Rattle.plan_laws.specs.Owners.{homes_in}
+use Rattle.plan_laws.specs.ShownNames.{IsInput, IsShownByPart, by_import, by_view}
+use Rattle.plan_laws.proofs.Inside.{flat_cases}
+use Rattle.plan_laws.proofs.PartNames.{from_map}
+use Rattle.plan_laws.proofs.PlaceNumbers.{all_joined, from_joined}
+use Rattle.plan_laws.proofs.ShownNames.{names_are_shown}
+
+-- ---- lists
+
+pub zip_at : {A B : Type 0} (P : A → B → Type 0) (xs : List A) (ys : List B) → AllZip P xs ys → (j : ℕ) (x : A) → slice_get xs j ≡ Some x → (y : B) × (slice_get ys j ≡ Some y) × P x y
+zip_at P [] ys all j x e = let wrong : None ≡ Some x = e in absurd cc
+zip_at P (z ∷ xs) [] all j x e = absurd all
+zip_at P (z ∷ xs) (y ∷ ys) all zero x e = (y, refl, subst (λ a. P a y) (same-some z x e) all.0)
+zip_at P (z ∷ xs) (y ∷ ys) all (suc j) x e = zip_at P xs ys all.1 j x e
+
+pub found_there : {A : Type 0} (test : A → Bool) (xs : List A) (x : A) → Contains xs x → test x ≡ true → (y : A) × (find test xs ≡ Some y)
+found_there test [] x c h = none-in x c
+found_there {A = A} test (z ∷ xs) x c h = by (test z) refl (λ later. found_there test xs x later h) c
+  where
+    by : (b : Bool) → test z ≡ b → (Contains xs x → (y : A) × (find test xs ≡ Some y)) → Contains (z ∷ xs) x → (y : A) × (find test (z ∷ xs) ≡ Some y)
+    by true e later among = (z, ap (λ v. cond v (Some z) (find test xs)) e)
+    by false e later (zero, low, same) = let wrong : false ≡ true = sym e ∙ (ap test same ∙ h) in absurd cc
+    by false e later (suc i, low, same) = let found = later (i, omega (arith, low), same) in (found.0, ap (λ v. cond v (Some z) (find test xs)) e ∙ found.1)
+
+-- ---- places of views
+
+pub places_of_views : (a : NumberedPart) → map (λ (s : NumberedSight). s.place) (views_of_part a) ≡ places_of_part a
+places_of_views (world w) = map_of_map (λ (s : NumberedSight). s.place) whole_view w.instances
+places_of_views (interface p v imports) =
+    append_of_map (λ (s : NumberedSight). s.place) (map types_alone imports) (record { place = p; view = v; whole = true } ∷ [])
+    ∙ ap (λ ps. ps ++ p ∷ []) (map_of_map (λ (s : NumberedSight). s.place) types_alone imports)
+
+module _ (ms : List Member) where
+  abbrev numbered : List NumberedMember
+  numbered = numbered_members ms
+
+  abbrev views : List NumberedSight
+  views = views_of_members numbered
+
+  -- the place of a view is met
+  pub view_met : (m : NumberedMember) → Contains numbered m → (s : NumberedSight) → Contains (views_of_part m.part) s → Contains (places_in ms) s.place
+  view_met m c s among =
+      let there = subst (λ ps. Contains ps s.place) (places_of_views m.part) (contains-map (λ (x : NumberedSight). x.place) (views_of_part m.part) s among) in
+      all_joined [] (flat_map (λ (x : NumberedMember). places_of_part x.part) numbered) s.place (inr (contains-flat (λ (x : NumberedMember). places_of_part x.part) numbered m s.place c there))
+
+  -- a view of each place that is met
+  pub place_seen : (q : ℕ) → Contains (places_in ms) q → (s : NumberedSight) × Contains views s × (s.place ≡ q)
+  place_seen q c = by (from_joined [] (flat_map (λ (x : NumberedMember). places_of_part x.part) numbered) q c)
+    where
+      by : Contains [] q ⊎ Contains (flat_map (λ (x : NumberedMember). places_of_part x.part) numbered) q → (s : NumberedSight) × Contains views s × (s.place ≡ q)
+      by (inl none) = none-in q none
+      by (inr among) =
+          let from = flat_cases (λ (x : NumberedMember). places_of_part x.part) numbered q among in
+          let sight = from_map (λ (s : NumberedSight). s.place) (views_of_part from.0.part) q (subst (λ ps. Contains ps q) (sym (places_of_views from.0.part)) from.2) in
+          (sight.0, contains-flat (λ (x : NumberedMember). views_of_part x.part) numbered from.0 sight.0 from.1 sight.1, sight.2)
+
+  -- the place of a world is met
+  pub home_met : (m : Member) → Contains ms m → (w : Scope) → m.part ≡ parts.World w → Contains (homes_in ms) w.home
+  home_met m c w is =
+      let there : Contains (home_of_part (numbered_part m.part)) w.home = subst (λ a. Contains (home_of_part (numbered_part a)) w.home) (sym is) (0, omega arith, refl) in
+      all_joined [] (flat_map (λ (x : NumberedMember). home_of_part x.part) numbered) w.home
+      (inr (contains-flat (λ (x : NumberedMember). home_of_part x.part) numbered (numbered_member m) w.home (contains-map numbered_member ms m c) there))
+
+  -- the place of a name that is shown is met
+  pub shown_met : (t : Tables) (m : Member) → Contains ms m → (q n : ℕ) → IsShownByPart t m.part q n → Contains (places_in ms) q ⊎ Contains (homes_in ms) q
+  shown_met t m c q n (by_view shows) = inl (subst (Contains (places_in ms)) shows.place (view_met (numbered_member m) (contains-map numbered_member ms m c) shows.sight shows.among))
+  shown_met t m c q n (by_import w is home imports) = inr (subst (Contains (homes_in ms)) (sym home) (home_met m c w is))
+
+-- the place of a world has no path
+pub home_alone : (t : Tables) (h : Homes) (ms : List Member) (members : List reads.Member) → IsInput t h ms members → (q : ℕ) → Contains (homes_in ms) q → path_at t q ≡ None
+home_alone t h ms members input q c = by (from_joined [] (flat_map (λ (x : NumberedMember). home_of_part x.part) (numbered_members ms)) q c)
+  where
+    of_part : (a : NumberedPart) → IsPartIn t a → Contains (home_of_part a) q → path_at t q ≡ None
+    of_part (world w) good among = ap (path_at t) (sym (one-contained w.home q among)) ∙ good.home
+    of_part (interface p v imports) good among = none-in q among
+
+    by : Contains [] q ⊎ Contains (flat_map (λ (x : NumberedMember). home_of_part x.part) (numbered_members ms)) q → path_at t q ≡ None
+    by (inl none) = none-in q none
+    by (inr among) =
+        let from = flat_cases (λ (x : NumberedMember). home_of_part x.part) (numbered_members ms) q among in
+        of_part from.0.part (all_at (λ (y : NumberedMember). IsPartIn t y.part) (numbered_members ms) input.numbers from.0 from.1) from.2
+
+-- ---- the plan
+
+module _ (t : Tables) (h : Homes) (ms : List Member) (members : List reads.Member) (input : IsInput t h ms members) (main : ℕ) (p : Plan) (planned : PlansWhole t h.packages (home_at h) main ms p) where
+  -- where a name of the plan is shown
+  pub name_shown : (j n q : ℕ) (name : Text) → slice_get planned.kept j ≡ Some n → slice_get t.shapes n ≡ Some (named_shape q name) → (m : Member) × Contains ms m × IsShownByPart t m.part q n
+  name_shown j n q name stands at = names_are_shown t h ms members input planned.kept_for.marks planned.kept_for.used n q name (mark_there planned.kept_for.marks n (planned.kept_for.marked.among j n stands)) at
+
+  pub name_met : (j n q : ℕ) (name : Text) → slice_get planned.kept j ≡ Some n → slice_get t.shapes n ≡ Some (named_shape q name) → Contains (places_in ms) q ⊎ Contains (homes_in ms) q
+  name_met j n q name stands at = let shown = name_shown j n q name stands at in shown_met ms t shown.0 shown.1 q n shown.2
+
+  -- the interface of a place, and the first view of it
+  pub interface_there : (m q : ℕ) → slice_get (places_in ms) m ≡ Some q → (i : PlannedInterface) × (interface_in p m ≡ Some i) × PlansPlace t planned.kept main (home_at h) (views_of_members (numbered_members ms)) q i
+  interface_there m q e = zip_at (PlansPlace t planned.kept main (home_at h) (views_of_members (numbered_members ms))) (places_in ms) p.interfaces planned.interfaces m q e
+
+  pub first_there : (m q : ℕ) → slice_get (places_in ms) m ≡ Some q → (s : NumberedSight) × (first_at q (views_of_members (numbered_members ms)) ≡ Some s)
+  first_there m q e =
+      let seen = place_seen ms q (get-contains (places_in ms) m q e) in
+      found_there (λ (s : NumberedSight). q == s.place) (views_of_members (numbered_members ms)) seen.0 seen.1 (ap (λ x. q == x) seen.2 ∙ same-number q)
+
+  -- that of a place with a path has a name
+  pub named_there : (m q : ℕ) → slice_get (places_in ms) m ≡ Some q → HasPath t q → has_name p m ≡ true
+  named_there m q e path =
+      let found = interface_there m q e in
+      let first = first_there m q e in
+      let home = input.homes.homes q path.0 path.1 in
+      let name : found.0.name ≡ Some home.name = (found.2 first.0 first.1).name ∙ ap (option_map (λ (x : ℕ × Text). x.1)) home.home in
+      ap (λ o. option_map_or (λ (i : PlannedInterface). is_some i.name) o false) found.1 ∙ ap is_some name

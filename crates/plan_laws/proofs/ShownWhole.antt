@@ -1,0 +1,168 @@
+-- The worlds of a plan show what worlds at the top do, and each view shows the types by which its place is read.
+use Rattle.std.proofs.Common.{◌≡◌, refl, sym, ap, subst, ◌∙◌, ℕ, ◌⊎◌, inl, inr, ◌==◌, true, List, [], ◌∷◌, ◌++◌, map, Option, Some, None, slice_get}
+use Rattle.std.specs.List.{AllByRecursion, AllZip, Contains}
+use Rattle.std.specs.Option.{option_map_or}
+use Rattle.std.specs.Cmp.Lexicographic.{pointwise}
+use Rattle.std.proofs.lemmas.List.Elements.{Contains-append_left, Contains-append_right}
+use Rattle.wit_model.specs.Text.{Text}
+use Rattle.wit_model.specs.declared.model.TypeId.{TypeId}
+use Rattle.wit_model.specs.declared.model.TypeOwner.{TypeOwner}
+use Rattle.wit_model.specs.Valid.{as_interface, as_world}
+use Rattle.wit_model.proofs.Elements.{contains-flat, contains-get, contains-map, get-contains, none-in, one-contained, same-number, same-some}
+use Rattle.comp_meaning.specs.Reads as reads
+use Rattle.read_shown.proofs.Lists.{unmapped_get}
+use Rattle.plan_meaning.specs.NumberedMembers.{Homes, NumberedMember, NumberedPart, home_at, interface, sights_of_members, sights_of_part, world}
+use Rattle.plan_meaning.specs.NumberedRules.{Fact}
+use Rattle.plan_meaning.specs.NumberedViews.{NumberedSight, Tables, path_at, same_shown}
+use Rattle.plan_meaning.specs.NumberedWorlds.{NumberedInstance, place_of_key, sights_of_instance}
+use Rattle.plan_meaning.specs.Plan as plan
+use Rattle.plan_meaning.specs.Plan.{Plan, PlannedItem, PlannedKey, PlannedWorld, item_interface, world_in}
+use Rattle.plan_meaning.specs.ReadFunctions.{Beside}
+use Rattle.plan_meaning.specs.ReadPlans.{IsReadPlan}
+use Rattle.plan_meaning.specs.ReadWholes.{IsShownByWorld, place_shown}
+use Rattle.plan_meaning.specs.ReadWorlds.{IsReadItem, IsReadWorld, ReadItem, a_function, a_type, by_label, by_path, implementing_path}
+use Rattle.plan_meaning.proofs.GatheredPlan.{all_at}
+use Rattle.read_exports.specs.Members.{numbered_members}
+use Rattle.read_exports.specs.declared.members.Member.{Member}
+use Rattle.read_exports.specs.declared.members.Part.TheVariants as parts
+use Rattle.read_rules.specs.declared.scopes.Scope.{Scope}
+use Rattle.read_rules.specs.declared.scopes.Seen.{Seen}
+use Rattle.read_rules.specs.Scopes.{numbered_key, numbered_scope, numbered_shown}
+use Rattle.plan_types.specs.PlannedTypes.{number_in}
+use Rattle.plan_package.specs.PlanWhole.{PlansWhole, places_in}
+use Rattle.plan_package.specs.Views.{views_of_members, views_of_part, whole_view}
+use Rattle.plan_package.specs.WholeWorlds as items
+use Rattle.plan_package.specs.WholeWorlds.{PlansItem, PlansWorld, planned_key, worlds_in}
+use Rattle.plan_laws.specs.FirstViews.{ViewsAreOrdered}
+use Rattle.plan_laws.specs.Owners.{owners_of}
+use Rattle.plan_laws.specs.ShownWhole.{WholeIsShown}
+use Rattle.plan_laws.specs.ViewedInterfaces.{views_read}
+use Rattle.plan_laws.specs.Whole.{IsPackageInput}
+use Rattle.plan_laws.specs.WholeTypes.{IsRuledInput}
+use Rattle.plan_laws.proofs.FirstTypes.{views_told}
+use Rattle.plan_laws.proofs.FirstViews.{first_is, told_types}
+use Rattle.plan_laws.proofs.Inside.{flat_cases}
+use Rattle.plan_laws.proofs.InstanceSeen.{instance_seen}
+use Rattle.plan_laws.proofs.PlaceNumbers.{one_owner, owner_numbered}
+use Rattle.plan_laws.proofs.Planned.{found_there, zip_at}
+use Rattle.plan_laws.proofs.ShownFrom.{world_of}
+use Rattle.plan_laws.proofs.WholePlacesLabels.{world_among}
+use Rattle.plan_laws.proofs.WholeTypes.{packages_are_ruled}
+
+-- the view that an instance gives, if its place has a path
+pub view_given : (t : Tables) (i : NumberedInstance) (s : NumberedSight) → Contains (sights_of_instance t i) s → whole_view i ≡ s
+view_given t i s c = by (path_at t i.place) c
+  where
+    by : (o : Option Text) → Contains (option_map_or (λ (path : Text). whole_view i ∷ []) o []) s → whole_view i ≡ s
+    by None there = none-in s there
+    by (Some path) there = one-contained (whole_view i) s there
+
+-- a view with a path that is seen is one of all
+pub sight_viewed : (t : Tables) (ms : List NumberedMember) (s : NumberedSight) → Contains (sights_of_members t ms) s → Contains (views_of_members ms) s
+sight_viewed t ms s c =
+    let from = flat_cases (λ (m : NumberedMember). sights_of_part t m.part) ms s c in
+    contains-flat (λ (m : NumberedMember). views_of_part m.part) ms from.0 s from.1 (of_part from.0.part from.2)
+  where
+    of_part : (a : NumberedPart) → Contains (sights_of_part t a) s → Contains (views_of_part a) s
+    of_part (interface p v imports) there = there
+    of_part (world w) there =
+        let from = flat_cases (sights_of_instance t) w.instances s there in
+        subst (Contains (map whole_view w.instances)) (view_given t from.0 s from.2) (contains-map whole_view w.instances from.0 from.1)
+
+module _ (t : Tables) (h : Homes) (known : ℕ → Fact) (n : ℕ) (ms : List Member) (members : List reads.Member) (given : IsPackageInput t h known n ms members) (ordered : ViewsAreOrdered t ms) (p : Plan)
+    (planned : PlansWhole t h.packages (home_at h) n ms p) (b : Beside) (owned : b.owners ≡ owners_of ms) (read : IsReadPlan t h planned.kept p b (views_read ms)) where
+  abbrev sights : List NumberedSight
+  sights = sights_of_members t (numbered_members ms)
+
+  abbrev all_views : List NumberedSight
+  all_views = views_of_members (numbered_members ms)
+
+  ruled : IsRuledInput t h ms members
+  ruled = packages_are_ruled t h known n ms members given
+
+  -- ---- views
+
+  pub views_agree : (s : NumberedSight) → Contains sights s → pointwise same_shown (views_read ms s.place).types s.view.types ≡ true
+  views_agree s c =
+      let there = sight_viewed t (numbered_members ms) s c in
+      let first = found_there (λ (x : NumberedSight). s.place == x.place) all_views s there (same-number s.place) in
+      let is = first_is s.place all_views first.0 first.1 in
+      ap (λ o. pointwise same_shown (option_map_or (λ (x : NumberedSight). x.view.types) o []) s.view.types) first.1
+      ∙ told_types first.0.view.types s.view.types (views_told t h ms members given.input ruled.agree ordered first.0 s is.0 there is.1)
+
+  -- ---- worlds
+
+  abbrev Read : ℕ → PlannedWorld → Type 0
+  Read = IsReadWorld t planned.kept p b (views_read ms)
+
+  -- the item that is the interface of a place shows the place
+  item_shows : (o : TypeOwner) (home : ℕ) (x : ReadItem) → IsReadItem t planned.kept p b (views_read ms) o home x → (q k : ℕ) → b.owners q ≡ as_interface k → item_interface x.entry.1 ≡ Some k → place_shown x.seen.shown ≡ Some q
+  item_shows o home x is q k own at = by is
+    where
+      one_place : (r m : ℕ) (key : PlannedKey) (id : Option Text) → b.owners r ≡ as_interface m → x.entry ≡ (key, plan.interface m id) → r ≡ q
+      one_place r m key id other entry =
+          let number : m ≡ k = same-some m k (sym (ap (λ (e : PlannedKey × PlannedItem). item_interface e.1) entry) ∙ at) in
+          one_owner ms b owned r q (as_interface k) (other ∙ ap as_interface number) own
+
+      by : IsReadItem t planned.kept p b (views_read ms) o home x → place_shown x.seen.shown ≡ Some q
+      by (by_path r m v id path shows text entry of_place) = ap place_shown shows ∙ ap Some (one_place r m (plan.path_of m) id of_place.owned entry)
+      by (by_label r m v id shows label entry of_place) = ap place_shown shows ∙ ap Some (one_place r m (plan.label x.seen.key) id of_place.owned entry)
+      by (implementing_path r m v id path shows label entry of_place) = ap place_shown shows ∙ ap Some (one_place r m (plan.label x.seen.key) id of_place.owned entry)
+      by (a_function m g shows entry under) = let wrong : ◌≡◌ {A = Option ℕ} None (Some k) = sym (ap (λ (e : PlannedKey × PlannedItem). item_interface e.1) entry) ∙ at in absurd cc
+      by (a_type d m shows entry under) = let wrong : ◌≡◌ {A = Option ℕ} None (Some k) = sym (ap (λ (e : PlannedKey × PlannedItem). item_interface e.1) entry) ∙ at in absurd cc
+
+  -- an instance of the place becomes the interface of its number
+  record IsPlannedAs (q : ℕ) (e : PlannedKey × PlannedItem) : Type 0 where
+    number : ℕ
+    own : b.owners q ≡ as_interface number
+    is : item_interface e.1 ≡ Some number
+
+  owned_as : (q k : ℕ) → number_in (places_in ms) q ≡ Some k → b.owners q ≡ as_interface k
+  owned_as q k e = ap (λ (f : ℕ → TypeOwner). f q) owned ∙ owner_numbered ms q k e
+
+  planned_as : (find : Text → Option TypeId) (s : Seen) (e : PlannedKey × PlannedItem) (q : ℕ) → PlansItem t planned.kept (places_in ms) find s e → place_shown (numbered_shown s.shown) ≡ Some q → IsPlannedAs q e
+  planned_as find s e q (items.an_instance key v shows is) at =
+      let place : place_of_key (numbered_key key) ≡ q = same-some (place_of_key (numbered_key key)) q (sym (ap (λ k. place_shown (numbered_shown k)) shows) ∙ at) in
+      record { number = is.number; own = owned_as q is.number (ap (number_in (places_in ms)) (sym place) ∙ is.found); is = ap (λ (x : PlannedKey × PlannedItem). item_interface x.1) is.is }
+  planned_as find s e q (items.a_function f shows key is) at = let wrong : ◌≡◌ {A = Option ℕ} None (Some q) = sym (ap (λ k. place_shown (numbered_shown k)) shows) ∙ at in absurd cc
+  planned_as find s e q (items.a_type part d k shows entry is) at = let wrong : ◌≡◌ {A = Option ℕ} None (Some q) = sym (ap (λ k. place_shown (numbered_shown k)) shows) ∙ at in absurd cc
+
+  -- what a list of imports or exports is read as shows the place
+  listed_shows : (find : Text → Option TypeId) (o : TypeOwner) (home : ℕ) (ss : List Seen) (es : List (PlannedKey × PlannedItem)) → AllZip (PlansItem t planned.kept (places_in ms) find) ss es → (xs : List ReadItem) → map (λ (x : ReadItem). x.entry) xs ≡ es
+      → AllByRecursion (IsReadItem t planned.kept p b (views_read ms) o home) xs → (q : ℕ) (s : Seen) → Contains ss s → place_shown (numbered_shown s.shown) ≡ Some q → (x : ReadItem) × Contains xs x × (place_shown x.seen.shown ≡ Some q)
+  listed_shows find o home ss es zip xs listed all q s c at =
+      let j = contains-get ss s c in
+      let e = zip_at (PlansItem t planned.kept (places_in ms) find) ss es zip j.0 s j.1 in
+      let becomes = planned_as find s e.0 q e.2 at in
+      let item = unmapped_get (λ (x : ReadItem). x.entry) xs j.0 e.0 (ap (λ ys. slice_get ys j.0) listed ∙ e.1) in
+      let among = get-contains xs j.0 item.0 item.1 in
+      (item.0, among, item_shows o home item.0 (all_at (IsReadItem t planned.kept p b (views_read ms) o home) xs all item.0 among) q becomes.number becomes.own (ap (λ (x : PlannedKey × PlannedItem). item_interface x.1) item.2 ∙ becomes.is))
+
+  pub worlds_show : (m : Member) → Contains ms m → (w : Scope) → m.part ≡ parts.World w → (i : NumberedInstance) → Contains (numbered_scope w).instances i → IsShownByWorld t h planned.kept p b (views_read ms) read i.place
+  worlds_show m c w is i among =
+      let j = contains-get (worlds_in ms) (m.label.now, w) (world_among ms m c w is) in
+      let x = zip_at (PlansWorld t planned.kept (places_in ms) n) (worlds_in ms) p.worlds planned.worlds j.0 (m.label.now, w) j.1 in
+      let seen = instance_seen t h ms members given.input given.placed.apart w (world_of t h ms members given.input given.placed.apart m c w is) i among in
+      by j.0 x.0 x.1 x.2 (read.order.worlds j.0 x.0 x.1) refl seen.seen seen.among seen.place
+    where
+      by : (j : ℕ) (x : PlannedWorld) (there : world_in p j ≡ Some x) → PlansWorld t planned.kept (places_in ms) n (m.label.now, w) x → (r : Read j x) → read.order.worlds j x there ≡ r
+          → (s : Seen) → Contains w.imports.now s ⊎ Contains w.exports.now s → place_shown (numbered_shown s.shown) ≡ Some i.place → IsShownByWorld t h planned.kept p b (views_read ms) read i.place
+      by j x there plans r same s side place = which side
+        where
+          shown_by : (y : ReadItem) → Contains (r.imports ++ r.exports) y → place_shown y.seen.shown ≡ Some i.place → IsShownByWorld t h planned.kept p b (views_read ms) read i.place
+          shown_by y listed shows = record { number = j; world = x; there = there; item = y; listed = subst (λ (z : Read j x). Contains (z.imports ++ z.exports) y) (sym same) listed; shows = shows }
+
+          which : Contains w.imports.now s ⊎ Contains w.exports.now s → IsShownByWorld t h planned.kept p b (views_read ms) read i.place
+          which (inl imported) =
+              let y = listed_shows plans.find (as_world j) r.scope.home w.imports.now x.imports plans.imports r.imports r.imports_listed r.imports_read i.place s imported place in
+              shown_by y.0 (Contains-append_left r.imports r.exports y.0 y.1) y.2
+          which (inr exported) =
+              let y = listed_shows plans.find (as_world j) r.scope.home w.exports.now x.exports plans.exports r.exports r.exports_listed r.exports_read i.place s exported place in
+              shown_by y.0 (Contains-append_right r.imports r.exports y.0 y.1) y.2
+
+pub whole_is_shown : WholeIsShown
+whole_is_shown t h known n ms members given ordered reached p planned b owned read = record {
+  worlds = λ m c w is i among path. worlds_show t h known n ms members given ordered p planned b owned read m c w is i among;
+  agree = views_agree t h known n ms members given ordered p planned b owned read;
+  reached = reached;
+}

@@ -1,0 +1,478 @@
+-- A plan can be made of what was followed: all that is shown is over types that are used.
+use Rattle.std.proofs.Common.{◌≡◌, refl, sym, ap, subst, ◌∙◌, ℕ, ◌+◌, ◌-◌, ◌<◌, ◌≤◌, ◌⊎◌, inl, inr, arith, Bool, true, false, ◌==◌, nat_lt, cond, List, [], ◌∷◌, length, map, option_to_list, Option, Some, None, slice_get}
+use Rattle.std.specs.Prelude.{is_some, not}
+use Rattle.std.specs.List.{AllByRecursion, Contains, flat_map}
+use Rattle.std.specs.Option.{option_map_or}
+use Rattle.std.proofs.lemmas.Bool.{eq-eqb, ltb-false, ltb-true}
+use Rattle.std.proofs.lemmas.List.Elements.{Contains-append_cases, Contains-append_left, Contains-append_right}
+use Rattle.std.proofs.lemmas.Option.{slice_get_within}
+use Rattle.wit_model.specs.Text.{Text}
+use Rattle.wit_model.proofs.Elements.{contains-flat, contains-get, contains-has, contains-map, contains-one, none-in, one-contained, same-some}
+use Rattle.comp_meaning.specs.Reads as reads
+use Rattle.read_shown.proofs.Lists.{mapped_get, recursion_weaker, unmapped_get}
+use Rattle.plan_meaning.specs.FollowedNumbers.{IsMetFrom, IsOneOf, IsScopeIn, IsShownIn}
+use Rattle.plan_meaning.specs.KeptResources.{FormIsMarked}
+use Rattle.plan_meaning.specs.NumberedMembers.{Homes, NumberedMember}
+use Rattle.plan_meaning.specs.NumberedRules.{Fact, is_form, name_at, name_in, shape_at}
+use Rattle.plan_meaning.specs.NumberedViews.{AllOf, FunctionShape, IsPart, NumberedFunction, NumberedSight, NumberedType, NumberedView, PartsOf, Tables, function_at}
+use Rattle.plan_meaning.specs.NumberedWorlds.{NumberedInstance, NumberedSeen, place_of_key}
+use Rattle.plan_meaning.specs.Renumbering.{a_primitive, a_shape}
+use Rattle.plan_meaning.specs.ReadWholes.{place_shown}
+use Rattle.plan_meaning.specs.Shapes as shapes
+use Rattle.plan_meaning.specs.Shapes.{IsShape, Shape, first_label, named_shape}
+use Rattle.plan_meaning.proofs.GatheredPlan.{all_at}
+use Rattle.plan_meaning.proofs.Lists.{no_true}
+use Rattle.plan_meaning.proofs.ShapeLaws.{slice_there}
+use Rattle.plan_parts.specs.Interfaces.{IsFunctionOver, IsKeptSlot, slot_part}
+use Rattle.plan_parts.specs.Kept.{IsKeptPart}
+use Rattle.plan_parts.specs.Kinds.{MayBeDeclared, a_part, nothing, over_parts}
+use Rattle.plan_parts.specs.Marks.{IsUsed, is_marked, marked, part}
+use Rattle.read_exports.specs.Members.{numbered_member, numbered_members, numbered_part}
+use Rattle.read_exports.specs.declared.members.Member.{Member}
+use Rattle.read_exports.specs.declared.members.Part.{Part}
+use Rattle.read_exports.specs.declared.members.Part.TheVariants as parts
+use Rattle.read_rules.specs.declared.reached.ImportedView.{ImportedView}
+use Rattle.read_rules.specs.declared.scopes.Scope.{Scope}
+use Rattle.read_rules.specs.declared.scopes.Seen.{Seen}
+use Rattle.read_rules.specs.declared.scopes.Shown.{Shown}
+use Rattle.read_rules.specs.declared.scopes.Shown.TheVariants as shown
+use Rattle.read_rules.specs.Reached.{numbered_import}
+use Rattle.read_rules.specs.Scopes.{numbered_instance, numbered_key, numbered_scope, numbered_seen, numbered_shown}
+use Rattle.read_rules.specs.Tables.{given_text}
+use Rattle.read_rules.specs.Views.{numbered_view}
+use Rattle.plan_types.specs.PlannedTypes.{MayBePlanned, a_form, a_name}
+use Rattle.plan_types.specs.Showings.{NumberedShowing, showing_of, showings_of_import, showings_of_members, showings_of_part, showings_of_seen, showings_of_shown, showings_of_view, signatures_of_members, signatures_of_part, signatures_of_seen, signatures_of_shown}
+use Rattle.plan_types.specs.Used.{declared_parts, form_parts, function_parts, showing_parts, signature_parts, used_parts}
+use Rattle.plan_package.specs.PlanWhole.{AreKeptFor, IsKeptWhole, MayBeWhole, places_in, shown_first}
+use Rattle.plan_package.specs.Views.{types_alone, views_of_members, views_of_part, whole_view}
+use Rattle.plan_package.specs.WholeInterfaces.{ViewIsKept}
+use Rattle.plan_package.specs.WholeWorlds.{SeenIsKept, SeenIsPlaced, ShownIsKept, ShownIsPlaced, WorldIsKept, WorldIsPlaced, worlds_in}
+use Rattle.plan_type_laws.specs.ShownForms.{EachForm}
+use Rattle.plan_type_laws.specs.ShownMarks.{MarksStand}
+use Rattle.plan_type_laws.specs.UsedParts.{SignatureObeys}
+use Rattle.plan_type_laws.proofs.FirstFound.{firsts_found}
+use Rattle.plan_type_laws.proofs.InnerForms.{name_there}
+use Rattle.plan_type_laws.proofs.ShownForms.{form_unnamed, mark_there, numbered_shape, used_form}
+use Rattle.plan_type_laws.proofs.ShownMarks.{names_marked}
+use Rattle.plan_type_laws.proofs.UsedWalk.{unnamed_node}
+use Rattle.plan_laws.specs.ShownNames.{IsShownByPart, by_import, by_view}
+use Rattle.plan_laws.specs.ShownRules.{TypeObeys}
+use Rattle.plan_laws.specs.Whole.{IsPackageInput}
+use Rattle.plan_laws.specs.WholeCondition.{ImportsAreBare, PartIsBare, WholeMayBePlanned}
+use Rattle.plan_laws.specs.WholeTypes.{IsRuledInput}
+use Rattle.plan_laws.proofs.FormCounts.{HasCount, form_over, forms_count}
+use Rattle.plan_laws.proofs.Inside.{flat_cases, within}
+use Rattle.plan_laws.proofs.InstanceSeen.{instance_seen}
+use Rattle.plan_laws.proofs.Origins.{view_among}
+use Rattle.plan_laws.proofs.PartNames.{from_map}
+use Rattle.plan_laws.proofs.Planned.{found_there, view_met}
+use Rattle.plan_laws.proofs.ShownAlike.{functions_alike, view_good}
+use Rattle.plan_laws.proofs.ShownFrom.{world_of}
+use Rattle.plan_laws.proofs.ShownNames.{names_are_shown}
+use Rattle.plan_laws.proofs.ShownRules.{all_of}
+use Rattle.plan_laws.proofs.Showings.{slot_is}
+use Rattle.plan_laws.proofs.ViewsAgree.{told, views_tell}
+use Rattle.plan_laws.proofs.WholeReasons.{there_marked}
+use Rattle.plan_laws.proofs.WholeTypes.{packages_are_ruled}
+use Rattle.plan_laws.proofs.WorldItems.{world_member}
+
+-- ---- parts of functions
+
+parts_each : (P : ℕ → Type 0) (f : FunctionShape) → ((k : ℕ) → Contains (signature_parts f) k → P k) → PartsOf P f
+parts_each P f each =
+    (params f.params (λ k c. each k (Contains-append_left (map (λ (x : Text × ℕ). x.1) f.params) (option_to_list f.result) k c)), result f.result (λ k c. each k (Contains-append_right (map (λ (x : Text × ℕ). x.1) f.params) (option_to_list f.result) k c)))
+  where
+    params : (xs : List (Text × ℕ)) → ((k : ℕ) → Contains (map (λ (x : Text × ℕ). x.1) xs) k → P k) → AllByRecursion (λ (x : Text × ℕ). P x.1) xs
+    params xs one = all_of (λ (x : Text × ℕ). P x.1) xs (λ x c. one x.1 (contains-map (λ (y : Text × ℕ). y.1) xs x c))
+
+    result : (r : Option ℕ) → ((k : ℕ) → Contains (option_to_list r) k → P k) → AllOf P r
+    result None one = tt
+    result (Some k) one = one k (contains-one k)
+
+-- a part of a function is one of these
+part_of : (P : ℕ → Type 0) (f : FunctionShape) → PartsOf P f → (k : ℕ) → Contains (signature_parts f) k → P k
+part_of P f all k c = by (Contains-append_cases (map (λ (x : Text × ℕ). x.1) f.params) (option_to_list f.result) k c)
+  where
+    result : (r : Option ℕ) → AllOf P r → Contains (option_to_list r) k → P k
+    result None given there = none-in k there
+    result (Some j) given there = subst P (one-contained j k there) given
+
+    by : Contains (map (λ (x : Text × ℕ). x.1) f.params) k ⊎ Contains (option_to_list f.result) k → P k
+    by (inl among) = let from = from_map (λ (x : Text × ℕ). x.1) f.params k among in subst P from.2 (all_at (λ (x : Text × ℕ). P x.1) f.params all.0 from.0 from.1)
+    by (inr last) = result f.result all.1 last
+
+module _ (t : Tables) (h : Homes) (known : ℕ → Fact) (n : ℕ) (ms : List Member) (members : List reads.Member) (given : IsPackageInput t h known n ms members) (bare : ImportsAreBare ms) where
+  abbrev numbered : List NumberedMember
+  numbered = numbered_members ms
+
+  abbrev views : List NumberedSight
+  views = views_of_members numbered
+
+  abbrev showings : List NumberedShowing
+  showings = showings_of_members ms
+
+  abbrev signatures : List ℕ
+  signatures = signatures_of_members ms
+
+  ruled : IsRuledInput t h ms members
+  ruled = packages_are_ruled t h known n ms members given
+
+  marks : MarksStand t showings signatures
+  marks = names_marked t given.input.tables h given.input.homes ms members given.input.shown given.input.stand given.kinds given.input.numbers given.placed
+
+  -- ---- views by which a place is shown
+
+  -- A view of the same place, whose types and functions are among all that is shown.
+  pub record IsShownSo (s : NumberedSight) : Type 0 where
+    pub other : NumberedSight
+    pub among : Contains views other
+    pub place : other.place ≡ s.place
+    pub whole : s.whole ≡ true → other.whole ≡ true
+    pub types : (x : NumberedType) → Contains other.view.types x → Contains showings (showing_of x)
+    pub functions : s.whole ≡ true → (f : Text × NumberedFunction) → Contains other.view.functions f → Contains signatures f.1.signature
+    pub none : s.whole ≡ false → s.view.functions ≡ []
+
+  member_showing : (m : Member) → Contains ms m → (y : NumberedShowing) → Contains (showings_of_part m.part) y → Contains showings y
+  member_showing m c y among = contains-flat (λ (x : Member). showings_of_part x.part) ms m y c among
+
+  member_signature : (m : Member) → Contains ms m → (k : ℕ) → Contains (signatures_of_part m.part) k → Contains signatures k
+  member_signature m c k among = contains-flat (λ (x : Member). signatures_of_part x.part) ms m k c among
+
+  -- what a world imports or exports is shown
+  module _ (m : Member) (c : Contains ms m) (w : Scope) (is : m.part ≡ parts.World w) where
+    seen_showing : (s : Seen) → Contains w.imports.now s ⊎ Contains w.exports.now s → (y : NumberedShowing) → Contains (showings_of_seen s) y → Contains showings y
+    seen_showing s (inl among) y there =
+        member_showing m c y (subst (λ a. Contains (showings_of_part a) y) (sym is) (Contains-append_left (flat_map showings_of_seen w.imports.now) (flat_map showings_of_seen w.exports.now) y (contains-flat showings_of_seen w.imports.now s y among there)))
+    seen_showing s (inr among) y there =
+        member_showing m c y (subst (λ a. Contains (showings_of_part a) y) (sym is) (Contains-append_right (flat_map showings_of_seen w.imports.now) (flat_map showings_of_seen w.exports.now) y (contains-flat showings_of_seen w.exports.now s y among there)))
+
+    seen_signature : (s : Seen) → Contains w.imports.now s ⊎ Contains w.exports.now s → (k : ℕ) → Contains (signatures_of_seen s) k → Contains signatures k
+    seen_signature s (inl among) k there =
+        member_signature m c k (subst (λ a. Contains (signatures_of_part a) k) (sym is) (Contains-append_left (flat_map signatures_of_seen w.imports.now) (flat_map signatures_of_seen w.exports.now) k (contains-flat signatures_of_seen w.imports.now s k among there)))
+    seen_signature s (inr among) k there =
+        member_signature m c k (subst (λ a. Contains (signatures_of_part a) k) (sym is) (Contains-append_right (flat_map signatures_of_seen w.imports.now) (flat_map signatures_of_seen w.exports.now) k (contains-flat signatures_of_seen w.exports.now s k among there)))
+
+    scope_good : IsScopeIn t (numbered_scope w)
+    scope_good = (world_of t h ms members given.input given.placed.apart m c w is).good
+
+    one_of : (s : Seen) → Contains w.imports.now s ⊎ Contains w.exports.now s → IsOneOf t (map numbered_instance w.instances.now) (numbered_shown s.shown)
+    one_of s (inl among) = all_at (λ (x : NumberedSeen). IsOneOf t (map numbered_instance w.instances.now) x.shown) (map numbered_seen w.imports.now) scope_good.imported (numbered_seen s) (contains-map numbered_seen w.imports.now s among)
+    one_of s (inr among) = all_at (λ (x : NumberedSeen). IsOneOf t (map numbered_instance w.instances.now) x.shown) (map numbered_seen w.exports.now) scope_good.exported (numbered_seen s) (contains-map numbered_seen w.exports.now s among)
+
+    instance_view : (i : NumberedInstance) → Contains (map numbered_instance w.instances.now) i → Contains views (whole_view i)
+    instance_view i among = view_among ms m c (whole_view i) (subst (λ a. Contains (views_of_part (numbered_part a)) (whole_view i)) (sym is) (contains-map whole_view (map numbered_instance w.instances.now) i among))
+
+    instance_shown : (i : NumberedInstance) → Contains (map numbered_instance w.instances.now) i → IsShownSo (whole_view i)
+    instance_shown i among =
+        let seen = instance_seen t h ms members given.input given.placed.apart w (world_of t h ms members given.input given.placed.apart m c w is) i among in
+        by seen.seen seen.among seen.seen.shown refl seen.place
+      where
+        by : (s : Seen) → Contains w.imports.now s ⊎ Contains w.exports.now s → (x : Shown) → s.shown ≡ x → place_shown (numbered_shown x) ≡ Some i.place → IsShownSo (whole_view i)
+        by s side (shown.Function f) e at = no_true (ap is_some at)
+        by s side (shown.Declares q d) e at = no_true (ap is_some at)
+        by s side (shown.Instance key v) e at =
+            let j : NumberedInstance = record { place = place_of_key (numbered_key key); view = numbered_view v } in
+            record {
+              other = whole_view j;
+              among = instance_view j (subst (λ x. IsOneOf t (map numbered_instance w.instances.now) (numbered_shown x)) e (one_of s side));
+              place = same-some (place_of_key (numbered_key key)) i.place at;
+              whole = λ f. refl;
+              types = λ x there. seen_showing s side (showing_of x) (subst (λ k. Contains (showings_of_shown k (given_text s.external_id)) (showing_of x)) (sym e) (contains-map showing_of (numbered_view v).types x there));
+              functions = λ f g there. seen_signature s side g.1.signature (subst (λ k. Contains (signatures_of_shown k) g.1.signature) (sym e) (contains-map (λ (y : Text × NumberedFunction). y.1.signature) (numbered_view v).functions g there));
+              none = λ f. no_true (sym f);
+            }
+
+  shown_so : (s : NumberedSight) → Contains views s → IsShownSo s
+  shown_so s c =
+      let from = flat_cases (λ (m : NumberedMember). views_of_part m.part) numbered s c in
+      let m = from_map numbered_member ms from.0 from.1 in
+      by m.0 m.1 m.0.part refl (subst (λ (x : NumberedMember). Contains (views_of_part x.part) s) (sym m.2) from.2)
+    where
+      by : (m : Member) → Contains ms m → (a : Part) → m.part ≡ a → Contains (views_of_part (numbered_part a)) s → IsShownSo s
+      by m m_in (parts.World w) is there =
+          let i = from_map whole_view (map numbered_instance w.instances.now) s there in
+          subst IsShownSo i.2 (instance_shown m m_in w is i.0 i.1)
+      by m m_in (parts.Interface q v imports) is there = side (Contains-append_cases (map types_alone (map numbered_import imports.now)) (record { place = q; view = numbered_view v; whole = true } ∷ []) s there)
+        where
+          own : NumberedSight
+          own = record { place = q; view = numbered_view v; whole = true }
+
+          in_part : (y : NumberedShowing) → Contains (showings_of_part (parts.Interface q v imports)) y → Contains showings y
+          in_part y among = member_showing m m_in y (subst (λ a. Contains (showings_of_part a) y) (sym is) among)
+
+          bare_import : (i : ImportedView) → Contains imports.now i → (numbered_view i.view).functions ≡ []
+          bare_import i among =
+              let all : PartIsBare (numbered_part (parts.Interface q v imports)) =
+              subst (λ a. PartIsBare (numbered_part a)) is (all_at (λ (x : NumberedMember). PartIsBare x.part) numbered bare (numbered_member m) (contains-map numbered_member ms m m_in)) in
+              all_at (λ (x : ℕ × NumberedView). x.1.functions ≡ []) (map numbered_import imports.now) all (numbered_import i) (contains-map numbered_import imports.now i among)
+
+          import_shown : (i : ImportedView) → Contains imports.now i → s ≡ types_alone (numbered_import i) → IsShownSo (types_alone (numbered_import i))
+          import_shown i among e = record {
+            other = types_alone (numbered_import i);
+            among = subst (Contains views) e c;
+            place = refl;
+            whole = λ f. f;
+            types = λ x x_in. in_part (showing_of x)
+                (Contains-append_left (flat_map showings_of_import imports.now) (showings_of_view (numbered_view v)) (showing_of x) (contains-flat showings_of_import imports.now i (showing_of x) among (contains-map showing_of (numbered_view i.view).types x x_in)));
+            functions = λ f. no_true f;
+            none = λ f. bare_import i among;
+          }
+
+          own_shown : s ≡ own → IsShownSo own
+          own_shown e = record {
+            other = own;
+            among = subst (Contains views) e c;
+            place = refl;
+            whole = λ f. f;
+            types = λ x x_in. in_part (showing_of x) (Contains-append_right (flat_map showings_of_import imports.now) (showings_of_view (numbered_view v)) (showing_of x) (contains-map showing_of (numbered_view v).types x x_in));
+            functions = λ f g g_in.
+                member_signature m m_in g.1.signature (subst (λ a. Contains (signatures_of_part a) g.1.signature) (sym is) (contains-map (λ (y : Text × NumberedFunction). y.1.signature) (numbered_view v).functions g g_in));
+            none = λ f. no_true (sym f);
+          }
+
+          side : Contains (map types_alone (map numbered_import imports.now)) s ⊎ Contains (own ∷ []) s → IsShownSo s
+          side (inl import_) =
+              let outer = from_map types_alone (map numbered_import imports.now) s import_ in
+              let i = from_map numbered_import imports.now outer.0 outer.1 in
+              let e : types_alone (numbered_import i.0) ≡ s = ap types_alone i.2 ∙ outer.2 in
+              subst IsShownSo e (import_shown i.0 i.1 (sym e))
+          side (inr last) = let e = one-contained own s last in subst IsShownSo e (own_shown (sym e))
+
+  -- a type of a view is shown
+  type_shown : (s : NumberedSight) → Contains views s → (x : NumberedType) → Contains s.view.types x → (y : NumberedShowing) × Contains showings y × (y.part ≡ slot_part x.slot)
+  type_shown s c x there =
+      let so = shown_so s c in
+      let u = so.other in
+      let tells = views_tell t h ms members given.input given.placed.apart ruled.agree s u c so.among (sym so.place) in
+      let from = from_map told u.view.types (told x) (subst (λ (es : List (Text × Option ℕ)). Contains es (told x)) tells (contains-map told s.view.types x there)) in
+      let z = from.0 in
+      let a = all_at (IsShownIn t s.place) s.view.types (view_good t h known n ms members given s c).types x there in
+      let b = all_at (IsShownIn t u.place) u.view.types (view_good t h known n ms members given u so.among).types z from.1 in
+      let name : z.name ≡ x.name = ap (λ (e : Text × Option ℕ). e.0) from.2 in
+      let one : b.number ≡ a.number = given.input.tables.shapes.apart b.number a.number (named_shape s.place x.name) (b.name.named ∙ (λ i. Some (named_shape (so.place i) (name i)))) a.name.named in
+      let a_part = slot_is t given.input.tables x.slot a.number a.slot in
+      let b_part = slot_is t given.input.tables z.slot b.number b.slot in
+      (showing_of z, so.types z from.1, omega (arith, one, a_part, b_part))
+
+  -- the parts of a type stand before it
+  shape_parts : (m : ℕ) (s : Shape) → slice_get t.shapes m ≡ Some s → AllByRecursion (λ k. k < 14 + m) s.parts
+  shape_parts m s at = by (given.input.tables.shapes.each m s at)
+    where
+      by : IsShape m s → AllByRecursion (λ k. k < 14 + m) s.parts
+      by (shapes.a_name q name e) = subst (λ (x : Shape). AllByRecursion (λ k. k < 14 + m) x.parts) (sym e) tt
+      by (shapes.a_node form ks e low) = subst (λ (x : Shape). AllByRecursion (λ k. k < 14 + m) x.parts) (sym e) low
+
+  -- ---- what is kept
+
+  module _ (kept : List ℕ) (kept_for : AreKeptFor t ms kept) where
+    abbrev all_parts : List ℕ
+    all_parts = used_parts t showings signatures
+
+    abbrev Used : ℕ → Type 0
+    Used k = IsUsed (map (λ (s : Shape). s.parts) t.shapes) kept_for.used.roots k
+
+    used_mark : (k : ℕ) → Used k → is_marked kept_for.marks k ≡ true
+    used_mark k used = (kept_for.used.marked k).1 used
+
+    part_kept : (k : ℕ) → ((m : ℕ) → k ≡ 14 + m → Used m) → IsKeptPart kept k
+    part_kept k used = by (nat_lt k 14) refl
+      where
+        by : (b : Bool) → nat_lt k 14 ≡ b → IsKeptPart kept k
+        by true e = (k, a_primitive (ltb-true k 14 e) refl)
+        by false e =
+            let high : 14 ≤ k = ltb-false k 14 e in
+            let number : k ≡ 14 + (k - 14) = omega (arith, high) in
+            let stands = kept_for.marked.stand (k - 14) (there_marked kept_for.marks (k - 14) (used_mark (k - 14) (used (k - 14) number))) in
+            (14 + stands.0, a_shape (k - 14) stands.0 number stands.1 refl)
+
+    root_used : (k : ℕ) → Contains all_parts k → IsPart t k → (m : ℕ) → k ≡ 14 + m → Used m
+    root_used k c range m e = marked m (kept_for.used.shown m (omega (arith, range, e)) ∙ contains-has all_parts (14 + m) (subst (Contains all_parts) e c))
+
+    root_kept : (k : ℕ) → Contains all_parts k → IsPart t k → IsKeptPart kept k
+    root_kept k c range = part_kept k (root_used k c range)
+
+    -- ---- of what is shown
+
+    showing_root : (y : NumberedShowing) → Contains showings y → (k : ℕ) → Contains (showing_parts t y) k → Contains all_parts k
+    showing_root y c k there = Contains-append_left (flat_map (showing_parts t) showings) (flat_map (function_parts t) signatures) k (contains-flat (showing_parts t) showings y k c there)
+
+    showing_is : (y : NumberedShowing) → Contains showings y → TypeObeys t y
+    showing_is y c = all_at (TypeObeys t) showings ruled.rules.types y c
+
+    showing_kept : (y : NumberedShowing) → Contains showings y → (14 ≤ y.part) × IsKeptPart kept y.part
+    showing_kept y c =
+        let is = showing_is y c in
+        let low = slice_get_within t.shapes is.number (named_shape is.place is.name) is.is.named in
+        let at = is.part in
+        (omega (arith, at), root_kept y.part (showing_root y c y.part (0, omega arith, refl)) (omega (arith, low, at)))
+
+    signature_kept : (k : ℕ) → Contains signatures k → PartsOf (IsKeptPart kept) (function_at t k)
+    signature_kept k c =
+        parts_each (IsKeptPart kept) (function_at t k)
+        (λ j there. root_kept j (Contains-append_right (flat_map (showing_parts t) showings) (flat_map (function_parts t) signatures) j (contains-flat (function_parts t) signatures k j c there))
+        (part_of (IsPart t) (function_at t k) (all_at (SignatureObeys t) signatures ruled.rules.signatures k c).range j there))
+
+    -- ---- forms
+
+    -- the parts of a type that is used
+    inner_kept : (m : ℕ) (s : Shape) → slice_get t.shapes m ≡ Some s → Used m → AllByRecursion (IsKeptPart kept) s.parts
+    inner_kept m s at used =
+        all_of (IsKeptPart kept) s.parts (λ k c. part_kept k (λ i e. part m i s.parts used (mapped_get (λ (x : Shape). x.parts) t.shapes m s at) (subst (Contains s.parts) e c)))
+
+    are_names : AllByRecursion (λ (y : NumberedShowing). (x : ℕ × Text) × (name_at t y.part ≡ Some x)) showings
+    are_names = recursion_weaker (TypeObeys t) (λ (y : NumberedShowing). (x : ℕ × Text) × (name_at t y.part ≡ Some x)) (λ y is. ((is.place, is.name), name_there t y.part is.number is.place is.name is.part is.is.named)) showings ruled.rules.types
+
+    form_kept : (m : ℕ) (s : Shape) → slice_get t.shapes m ≡ Some s → name_in s ≡ None → Used m → MayBePlanned t kept (shown_first ms) m
+    form_kept m s at none used =
+        let mark = used_mark m used in
+        a_form s at none
+        (form_over t h ms members given.input marks kept m s at none
+        (used_form t given.input.tables HasCount showings are_names signatures (forms_count t h ms members given.input) kept_for.marks kept_for.used m s mark at none)
+        (used_form t given.input.tables (FormIsMarked marks.marks) showings are_names signatures marks.inner kept_for.marks kept_for.used m s mark at none) (inner_kept m s at used))
+
+    -- ---- names
+
+    may_declare : (y : NumberedShowing) → Contains showings y → MayBeDeclared t kept y.declared
+    may_declare y c =
+        by y.declared refl (showing_is y c).is.met (all_at (λ (z : NumberedShowing). AllOf (EachForm t HasCount) z.declared) showings (forms_count t h ms members given.input).declared y c)
+        (all_at (λ (z : NumberedShowing). AllOf (EachForm t (FormIsMarked marks.marks)) z.declared) showings marks.inner.declared y c)
+      where
+        in_parts : (k : ℕ) → Contains (declared_parts t y.declared) k → Contains all_parts k
+        in_parts k there = showing_root y c k (Contains-append_right (y.part ∷ []) (declared_parts t y.declared) k there)
+
+        of_form : (k : ℕ) → y.declared ≡ Some k → is_form t k ≡ true → EachForm t HasCount k → EachForm t (FormIsMarked marks.marks) k → (o : Option Shape) → shape_at t k ≡ o → option_map_or (λ (s : Shape). not (s.sort == 0)) o false ≡ true → MayBeDeclared t kept (Some k)
+        of_form k e form counts held None at is = no_true is
+        of_form k e form counts held (Some s) at is =
+            let number = numbered_shape t k s at in
+            let low = slice_get_within t.shapes number.0 s number.2 in
+            let inner : (j : ℕ) → Contains s.parts j → IsKeptPart kept j = λ j there.
+            let below = all_at (λ i. i < 14 + number.0) s.parts (shape_parts number.0 s number.2) j there in
+            root_kept j
+            (in_parts j (subst (λ d. Contains (declared_parts t d) j) (sym e) (subst (λ b. Contains (cond b (form_parts t k) (k ∷ [])) j) (sym form) (subst (λ o. Contains (option_map_or (λ (x : Shape). x.parts) o []) j) (sym at) there))))
+            (omega (arith, low, below)) in
+            over_parts k s refl form at
+            (form_over t h ms members given.input marks kept number.0 s number.2 (form_unnamed s is) (subst (EachForm t HasCount) number.1 counts) (subst (EachForm t (FormIsMarked marks.marks)) number.1 held) (all_of (IsKeptPart kept) s.parts inner))
+
+        by : (d : Option ℕ) → y.declared ≡ d → AllOf (IsMetFrom t (showing_is y c).place) d → AllOf (EachForm t HasCount) d → AllOf (EachForm t (FormIsMarked marks.marks)) d → MayBeDeclared t kept d
+        by None e met counts held = nothing refl
+        by (Some k) e met counts held = which (is_form t k) refl
+          where
+            which : (b : Bool) → is_form t k ≡ b → MayBeDeclared t kept (Some k)
+            which true form = of_form k e form counts held (shape_at t k) refl form
+            which false fails =
+                a_part k refl fails
+                (root_kept k (in_parts k (subst (λ d. Contains (declared_parts t d) k) (sym e) (subst (λ b. Contains (cond b (form_parts t k) (k ∷ [])) k) (sym fails) (contains-one k)))) met.range)
+
+    -- a name that is used is shown
+    name_showing : (m q : ℕ) (name : Text) → slice_get t.shapes m ≡ Some (named_shape q name) → Used m → (y : NumberedShowing) × Contains showings y × (y.part ≡ 14 + m)
+    name_showing m q name at used =
+        let found = names_are_shown t h ms members given.input kept_for.marks kept_for.used m q name (used_mark m used) at in
+        by found.0 found.1 found.2
+      where
+        by : (x : Member) → Contains ms x → IsShownByPart t x.part q m → (y : NumberedShowing) × Contains showings y × (y.part ≡ 14 + m)
+        by x c (by_view shows) =
+            let y = type_shown shows.sight (view_among ms x c shows.sight shows.among) shows.type_ shows.there in
+            (y.0, y.1, y.2 ∙ slot_is t given.input.tables shows.type_.slot m shows.slot)
+        by x c (by_import w is home imports) =
+            let y : NumberedShowing = record { part = 14 + m; declared = imports.declared; external_id = given_text imports.seen.external_id } in
+            (y, seen_showing x c w is imports.seen (inl imports.among) y (subst (λ k. Contains (showings_of_shown k (given_text imports.seen.external_id)) y) (sym imports.shown) (contains-one y)), refl)
+
+    type_kept : (m : ℕ) → Contains kept m → MayBePlanned t kept (shown_first ms) m
+    type_kept m c =
+        let j = contains-get kept m c in
+        let mark = mark_there kept_for.marks m (kept_for.marked.among j.0 m j.1) in
+        let used : Used m = (kept_for.used.marked m).0 mark in
+        let shape = slice_there t.shapes m (used_within m used) in
+        by shape.0 shape.1 used (name_in shape.0) refl
+      where
+        used_within : (k : ℕ) → Used k → k < length t.shapes
+        used_within k (marked i is) = (let root = within kept_for.used.roots i is in let many = kept_for.used.many in omega (arith, root, many))
+        used_within k (part i j ks before at there) =
+            let shape = unmapped_get (λ (s : Shape). s.parts) t.shapes i ks at in
+            let low = slice_get_within t.shapes i shape.0 shape.1 in
+            let below = all_at (λ x. x < 14 + i) ks (subst (AllByRecursion (λ x. x < 14 + i)) shape.2 (shape_parts i shape.0 shape.1)) (14 + j) there in
+            omega (arith, low, below)
+
+        by : (s : Shape) → slice_get t.shapes m ≡ Some s → Used m → (o : Option (ℕ × Text)) → name_in s ≡ o → MayBePlanned t kept (shown_first ms) m
+        by s at used None none = form_kept m s at none used
+        by s at used (Some x) is = of_shape (given.input.tables.shapes.each m s at)
+          where
+            of_shape : IsShape m s → MayBePlanned t kept (shown_first ms) m
+            of_shape (shapes.a_node form ks e low) = let wrong : ◌≡◌ {A = Option (ℕ × Text)} None (Some x) = sym (unnamed_node form ks) ∙ (sym (ap name_in e) ∙ is) in absurd cc
+            of_shape (shapes.a_name q name e) =
+                let y = name_showing m q name (at ∙ ap Some e) used in
+                let first = found_there (λ (z : NumberedShowing). 14 + m == z.part) showings y.0 y.1 (eq-eqb (14 + m) y.0.part (sym y.2)) in
+                a_name s x.0 x.1 first.0 at is first.1 (may_declare first.0 ((firsts_found showings).0 m first.0 first.1).0)
+
+    -- ---- views and worlds
+
+    view_kept : (s : NumberedSight) → Contains views s → ViewIsKept t kept s.view
+    view_kept s c = record {
+      types = all_of (IsKeptSlot kept) s.view.types (λ x there.
+          let y = type_shown s c x there in
+          let is = showing_kept y.0 y.1 in
+          (subst (λ k. 14 ≤ k) y.2 is.0, subst (IsKeptPart kept) y.2 is.1));
+      functions = by s.whole refl;
+    }
+      where
+        by : (b : Bool) → s.whole ≡ b → AllByRecursion (IsFunctionOver t kept) s.view.functions
+        by true e =
+            let so = shown_so s c in
+            all_of (IsFunctionOver t kept) s.view.functions
+            (λ f there. signature_kept f.1.signature (so.functions e f (functions_alike t h known n ms members given s so.other c so.among (sym so.place) e (so.whole e) f there)))
+        by false e = subst (AllByRecursion (IsFunctionOver t kept)) (sym ((shown_so s c).none e)) tt
+
+    world_kept : (w : Text × Scope) → Contains (worlds_in ms) w → WorldIsKept t kept w.1
+    world_kept w c =
+        let m = world_member ms w c in
+        record {
+          imports = all_of (SeenIsKept t kept) w.1.imports.now (λ s among. by m.0 m.1 m.2 s (inl among) s.shown refl);
+          exports = all_of (SeenIsKept t kept) w.1.exports.now (λ s among. by m.0 m.1 m.2 s (inr among) s.shown refl);
+        }
+      where
+        by : (m : Member) → Contains ms m → m.part ≡ parts.World w.1 → (s : Seen) → Contains w.1.imports.now s ⊎ Contains w.1.exports.now s → (x : Shown) → s.shown ≡ x → ShownIsKept t kept s.shown
+        by m m_in is s side (shown.Instance key v) e = subst (ShownIsKept t kept) (sym e) tt
+        by m m_in is s side (shown.Function f) e =
+            subst (ShownIsKept t kept) (sym e) (signature_kept f (seen_signature m m_in w.1 is s side f (subst (λ k. Contains (signatures_of_shown k) f) (sym e) (contains-one f))))
+        by m m_in is s side (shown.Declares q d) e =
+            let y : NumberedShowing = record { part = q; declared = d; external_id = given_text s.external_id } in
+            subst (ShownIsKept t kept) (sym e) (showing_kept y (seen_showing m m_in w.1 is s side y (subst (λ k. Contains (showings_of_shown k (given_text s.external_id)) y) (sym e) (contains-one y))))
+
+    kept_whole : IsKeptWhole t ms kept
+    kept_whole = record {
+      types = all_of (MayBePlanned t kept (shown_first ms)) kept type_kept;
+      views = all_of (λ (s : NumberedSight). ViewIsKept t kept s.view) views view_kept;
+      worlds = all_of (λ (w : Text × Scope). WorldIsKept t kept w.1) (worlds_in ms) world_kept;
+    }
+
+  -- ---- places
+
+  world_placed : (w : Text × Scope) → Contains (worlds_in ms) w → WorldIsPlaced (places_in ms) w.1
+  world_placed w c =
+      let m = world_member ms w c in
+      record {
+        imports = all_of (SeenIsPlaced (places_in ms)) w.1.imports.now (λ s among. by m.0 m.1 m.2 s (inl among) s.shown refl);
+        exports = all_of (SeenIsPlaced (places_in ms)) w.1.exports.now (λ s among. by m.0 m.1 m.2 s (inr among) s.shown refl);
+      }
+    where
+      by : (m : Member) → Contains ms m → m.part ≡ parts.World w.1 → (s : Seen) → Contains w.1.imports.now s ⊎ Contains w.1.exports.now s → (x : Shown) → s.shown ≡ x → ShownIsPlaced (places_in ms) s.shown
+      by m m_in is s side (shown.Function f) e = subst (ShownIsPlaced (places_in ms)) (sym e) tt
+      by m m_in is s side (shown.Declares q d) e = subst (ShownIsPlaced (places_in ms)) (sym e) tt
+      by m m_in is s side (shown.Instance key v) e =
+          let i : NumberedInstance = record { place = place_of_key (numbered_key key); view = numbered_view v } in
+          let one = subst (λ x. IsOneOf t (map numbered_instance w.1.instances.now) (numbered_shown x)) e (one_of m m_in w.1 is s side) in
+          let viewed : Contains (views_of_part (numbered_part m.part)) (whole_view i) = subst (λ a. Contains (views_of_part (numbered_part a)) (whole_view i)) (sym is) (contains-map whole_view (map numbered_instance w.1.instances.now) i one) in
+          subst (ShownIsPlaced (places_in ms)) (sym e) (contains-has (places_in ms) i.place (view_met ms (numbered_member m) (contains-map numbered_member ms m m_in) (whole_view i) viewed))
+
+  parts_fall : (m : ℕ) (ks : List ℕ) → slice_get (map (λ (s : Shape). s.parts) t.shapes) m ≡ Some ks → AllByRecursion (λ k. k < 14 + m) ks
+  parts_fall m ks at = let shape = unmapped_get (λ (s : Shape). s.parts) t.shapes m ks at in subst (AllByRecursion (λ k. k < 14 + m)) shape.2 (shape_parts m shape.0 shape.1)
+
+  pub may_be_whole : MayBeWhole t ms
+  may_be_whole = record {
+    fall = parts_fall;
+    kept = kept_whole;
+    placed = all_of (λ (w : Text × Scope). WorldIsPlaced (places_in ms) w.1) (worlds_in ms) world_placed;
+  }
+
+pub whole_may_be_planned : WholeMayBePlanned
+whole_may_be_planned t h known n ms members given bare = may_be_whole t h known n ms members given bare

@@ -1,0 +1,346 @@
+-- The functions of a whole plan are those that were read.
+use Rattle.std.proofs.Common.{◌≡◌, refl, sym, ap, subst, ◌∙◌, ℕ, zero, ◌+◌, ◌⊎◌, inl, inr, arith, Bool, true, false, ◌||◌, filter_map, List, [], ◌∷◌, ◌++◌, map, Option, Some, None, slice_get}
+use Rattle.std.specs.List.{AllByRecursion, AllZip, Contains, cons_option, flat_map, list_any}
+use Rattle.std.proofs.lemmas.List.Elements.{Contains-append_cases, Contains-append_left, Contains-append_right}
+use Rattle.std.proofs.lemmas.Slice.Eq.{bytes_eq-Decides}
+use Rattle.wit_model.specs.declared.model.TypeId.{TypeId}
+use Rattle.wit_model.specs.Text.{Text, text_eq}
+use Rattle.wit_model.proofs.Elements.{all-contained, contains-flat, contains-get, contains-later, contains-map, contains-one, get-contains, none-in, one-contained, same-some}
+use Rattle.wit_model.specs.declared.model.TypeOwner.{TypeOwner}
+use Rattle.wit_model.specs.Tree.{Declaration}
+use Rattle.wit_model.proofs.Lists.{first_true, second_true}
+use Rattle.comp_meaning.specs.Follow as follow
+use Rattle.comp_meaning.specs.Follow.{place_of}
+use Rattle.comp_meaning.specs.Reads as reads
+use Rattle.comp_meaning.specs.Rules as rules
+use Rattle.comp_meaning.specs.Rules.{distinct}
+use Rattle.plan_meaning.specs.FollowedNumbers.{IsCalledIn, IsSeenIn, IsShownIn}
+use Rattle.plan_meaning.specs.GatheredPlan.{FunctionBecomes}
+use Rattle.plan_meaning.specs.KeptFunctions.{IsResource}
+use Rattle.plan_meaning.specs.NumberedMembers.{Homes, NumberedMember, home_at}
+use Rattle.plan_meaning.specs.NumberedRules.{Fact, is_no_part}
+use Rattle.plan_meaning.specs.NumberedViews.{NumberedType, PartsOf, Tables, value, function_at, path_at, place_at, signature_at}
+use Rattle.plan_meaning.specs.NumberedWorlds as worlds
+use Rattle.plan_meaning.specs.NumberedWorlds.{NumberedScope, NumberedSeen, NumberedShown, seen_of, shown_of}
+use Rattle.plan_meaning.specs.Plan.{Plan, PlannedFunction, PlannedItem, PlannedKey, PlannedWorld, item_function, items_of}
+use Rattle.plan_meaning.specs.PlanRules.{world_functions}
+use Rattle.plan_meaning.specs.ReadFunctions.{Beside, IsReadFunction}
+use Rattle.plan_meaning.specs.Renumbering.{IsPart, a_primitive, a_shape}
+use Rattle.plan_meaning.specs.Shapes.{Shape, first_label, named_shape}
+use Rattle.plan_meaning.proofs.GatheredPlan.{all_at}
+use Rattle.plan_parts.specs.Interfaces.{AreResources, IsPlannedFunction, slot_part}
+use Rattle.read_exports.specs.Members.{numbered_members}
+use Rattle.read_exports.specs.declared.members.Member.{Member}
+use Rattle.read_exports.specs.declared.members.Part.{Part}
+use Rattle.read_exports.specs.declared.members.Part.TheVariants as parts
+use Rattle.read_rules.specs.declared.scopes.Scope.{Scope}
+use Rattle.read_rules.specs.declared.scopes.Seen.{Seen}
+use Rattle.read_rules.specs.declared.scopes.Shown.{Shown}
+use Rattle.read_rules.specs.declared.scopes.Shown.TheVariants as shown
+use Rattle.read_rules.specs.Scopes.{numbered_scope, numbered_seen, numbered_shown}
+use Rattle.read_rules.specs.Tables.{given_text}
+use Rattle.plan_types.specs.Showings.{NumberedShowing, showings_of_members, signatures_of_members, signatures_of_part, signatures_of_seen, signatures_of_shown}
+use Rattle.plan_package.specs.PlanWhole.{PlansWhole, places_in, shown_first}
+use Rattle.plan_package.specs.WholeWorlds.{PlansItem, a_function, a_type, an_instance, types_seen, types_shown, world_in_part, worlds_in}
+use Rattle.plan_type_laws.proofs.FirstFound.{firsts_found}
+use Rattle.plan_type_laws.proofs.KeptKinds.{zip_get}
+use Rattle.plan_laws.specs.Owners.{owners_of}
+use Rattle.plan_laws.specs.ShownNames.{DeclaresName, IsInput}
+use Rattle.plan_laws.specs.ShownRules.{PartObeys}
+use Rattle.plan_laws.specs.WholeFunctions.{WorldFunctionsAreRead, beside_tables}
+use Rattle.plan_laws.specs.WholeTypes.{IsRuledInput, TypesAreWhole}
+use Rattle.plan_laws.proofs.Inside.{flat_cases}
+use Rattle.plan_laws.proofs.OwnPlaces.{Owned, a_view, a_world, frames, one_owned}
+use Rattle.plan_laws.proofs.PartNames.{from_map}
+use Rattle.plan_laws.proofs.ReadFunction.{function_becomes, read_function, resource_at, told}
+use Rattle.plan_laws.proofs.Showings.{slot_is}
+use Rattle.plan_laws.proofs.ShownFrom.{IsFrom, IsWorldOf, home_frame, of_import, of_view, shown_from, view_frame, world_of}
+use Rattle.plan_laws.proofs.WorldKeys.{declared_in, is_world_owned, keys_apart, one_key, one_world}
+
+-- ---- lists
+
+abbrev second : PlannedKey × PlannedItem → PlannedItem
+second e = e.1
+
+all_filtered : {X Y : Type 0} (P : Y → Type 0) (f : X → Option Y) (xs : List X) → ((x : X) → Contains xs x → (y : Y) → f x ≡ Some y → P y) → AllByRecursion P (filter_map f xs)
+all_filtered P f [] each = tt
+all_filtered {X = X} {Y = Y} P f (x ∷ xs) each = by (f x) refl (all_filtered P f xs (λ z c y e. each z (contains-later x xs z c) y e))
+  where
+    by : (o : Option Y) → f x ≡ o → AllByRecursion P (filter_map f xs) → AllByRecursion P (filter_map f (x ∷ xs))
+    by None e rest = subst (AllByRecursion P) (ap (λ o. cons_option o (filter_map f xs)) (sym e)) rest
+    by (Some y) e rest = subst (AllByRecursion P) (ap (λ o. cons_option o (filter_map f xs)) (sym e)) (each x (zero, omega arith, refl) y e, rest)
+
+-- ---- resources among imports
+
+pub record IsResourceIn (ss : List follow.Seen) (r : Text) : Type 0 where
+  pub seen : follow.Seen
+  pub among : Contains ss seen
+  pub shown : seen.shown ≡ follow.Shown.declares Declaration.resource
+  pub named : r ≡ seen.key
+
+resource_in : (r : Text) (ss : List follow.Seen) → list_any (text_eq r) (rules.resources_seen ss) ≡ true → IsResourceIn ss r
+resource_in r [] any = let wrong : false ≡ true = any in absurd cc
+resource_in r (s ∷ ss) any = by s.shown refl any (λ more. later (resource_in r ss more))
+  where
+    later : IsResourceIn ss r → IsResourceIn (s ∷ ss) r
+    later is = record { seen = is.seen; among = contains-later s ss is.seen is.among; shown = is.shown; named = is.named }
+
+    which : (b : Bool) → text_eq r s.key ≡ b → s.shown ≡ follow.Shown.declares Declaration.resource → (b || list_any (text_eq r) (rules.resources_seen ss)) ≡ true → (list_any (text_eq r) (rules.resources_seen ss) ≡ true → IsResourceIn (s ∷ ss) r) → IsResourceIn (s ∷ ss) r
+    which true e is any more = record { seen = s; among = (zero, omega arith, refl); shown = is; named = (bytes_eq-Decides r s.key).0 e }
+    which false e is any more = more any
+
+    by : (k : follow.Shown) → s.shown ≡ k → list_any (text_eq r) (rules.resources_seen (record { key = s.key; shown = k; external_id = s.external_id } ∷ ss)) ≡ true → (list_any (text_eq r) (rules.resources_seen ss) ≡ true → IsResourceIn (s ∷ ss) r) → IsResourceIn (s ∷ ss) r
+    by (follow.Shown.instance key view) e any more = more any
+    by (follow.Shown.function f) e any more = more any
+    by (follow.Shown.declares Declaration.resource) e any more = which (text_eq r s.key) refl e any more
+    by (follow.Shown.declares (Declaration.type_ tree)) e any more = more any
+
+-- An import or an export that may stand behind resources among these.
+pub record IsItemAmong (ss : List follow.Seen) (key : Text) (x : follow.Shown) : Type 0 where
+  pub resources : List Text
+  pub is : rules.is_item resources key x ≡ true
+  pub from : (r : Text) → list_any (text_eq r) resources ≡ true → IsResourceIn ss r
+
+wider : (xs ys : List follow.Seen) (r : Text) → ((s : follow.Seen) → Contains xs s → Contains ys s) → IsResourceIn xs r → IsResourceIn ys r
+wider xs ys r into is = record { seen = is.seen; among = into is.seen is.among; shown = is.shown; named = is.named }
+
+import_items : (all earlier ss : List follow.Seen) → rules.are_imports earlier ss ≡ true → ((s : follow.Seen) → Contains earlier s → Contains all s) → ((s : follow.Seen) → Contains ss s → Contains all s)
+    → AllByRecursion (λ (s : follow.Seen). IsItemAmong all s.key s.shown) ss
+import_items all earlier [] ok before behind = tt
+import_items all earlier (s ∷ ss) ok before behind =
+    let first : rules.is_item (rules.resources_seen earlier) s.key s.shown ≡ true = first_true (rules.is_item (rules.resources_seen earlier) s.key s.shown) (rules.are_imports (earlier ++ s ∷ []) ss) ok in
+    let rest : rules.are_imports (earlier ++ s ∷ []) ss ≡ true = second_true (rules.is_item (rules.resources_seen earlier) s.key s.shown) (rules.are_imports (earlier ++ s ∷ []) ss) ok in (
+      record { resources = rules.resources_seen earlier; is = first; from = λ r any. wider earlier all r before (resource_in r earlier any) },
+      import_items all (earlier ++ s ∷ []) ss rest (λ z c. either z (Contains-append_cases earlier (s ∷ []) z c)) (λ z c. behind z (contains-later s ss z c)),
+    )
+  where
+    either : (z : follow.Seen) → Contains earlier z ⊎ Contains (s ∷ []) z → Contains all z
+    either z (inl c) = before z c
+    either z (inr c) = behind z (subst (Contains (s ∷ ss)) (one-contained s z c) (zero, omega arith, refl))
+
+-- a part that is kept has its number
+pub kept_number : (kept : List ℕ) (k n j : ℕ) → k ≡ 14 + n → IsPart kept k (14 + j) → slice_get kept j ≡ Some n
+kept_number kept k n j is (a_primitive low e) = absurd (omega (arith, is, low))
+kept_number kept k n j is (a_shape m i at stands e) =
+    let number : m ≡ n = omega (arith, is, at) in
+    let place : i ≡ j = omega (arith, e) in
+    ap (slice_get kept) (sym place) ∙ (stands ∙ ap Some number)
+
+pub nothing_declared : (d : Option ℕ) → is_no_part d ≡ true → d ≡ None
+nothing_declared None h = refl
+nothing_declared (Some k) h = absurd cc
+
+module _ (t : Tables) (h : Homes) (ms : List Member) (members : List reads.Member) (ruled : IsRuledInput t h ms members) (main : ℕ) (p : Plan) (planned : PlansWhole t h.packages (home_at h) main ms p) (whole : TypesAreWhole t planned.kept ms p) (known : ℕ → Fact) where
+  abbrev input : IsInput t h ms members
+  input = ruled.input
+
+  abbrev numbered : List NumberedMember
+  numbered = numbered_members ms
+
+  abbrev From : NumberedShowing → Type 0
+  From = IsFrom t h ms members input ruled.placed.apart
+
+  -- what a type is shown as first is shown
+  first_from : (n : ℕ) (y : NumberedShowing) → shown_first ms n ≡ Some y → From y × (y.part ≡ 14 + n)
+  first_from n y first = let found = (firsts_found (showings_of_members ms)).0 n y first in (shown_from t h ms members input ruled.placed.apart y found.0, found.1)
+
+  -- ---- a world
+
+  module _ (m : Member) (c : Contains ms m) (w : Scope) (is_world : m.part ≡ parts.World w) where
+    abbrev is : IsWorldOf t h ms members input ruled.placed.apart w
+    is = world_of t h ms members input ruled.placed.apart m c w is_world
+
+    -- the name of an import in the table
+    import_number : (s : Seen) → Contains w.imports.now s → (part : ℕ) (d : Option ℕ) → s.shown ≡ shown.Declares part d → (n : ℕ) × (part ≡ 14 + n) × (slice_get t.shapes n ≡ Some (named_shape w.home s.key.now))
+    import_number s among part d e = subst (λ (x : Shown). DeclaresName t w.home (record { key = s.key; shown = x; external_id = s.external_id })) e (all_at (DeclaresName t w.home) w.imports.now is.declares s among)
+
+    -- a type that it imports is first shown so
+    first_import : (s : Seen) → Contains w.imports.now s → (part : ℕ) (d : Option ℕ) → s.shown ≡ shown.Declares part d → (n : ℕ) → part ≡ 14 + n → (y : NumberedShowing) → shown_first ms n ≡ Some y → y.declared ≡ d
+    first_import s among part d e n number y first = let from = first_from n y first in by from.0 from.1
+      where
+        there : slice_get t.shapes n ≡ Some (named_shape w.home s.key.now)
+        there = let at = import_number s among part d e in let one : at.0 ≡ n = (let a = at.1 in omega (arith, a, number)) in subst (λ k. slice_get t.shapes k ≡ Some (named_shape w.home s.key.now)) one at.2
+
+        same_name : (q : ℕ) (name : Text) → slice_get t.shapes n ≡ Some (named_shape q name) → (q ≡ w.home) × (name ≡ s.key.now)
+        same_name q name at =
+            let shape = same-some (named_shape q name) (named_shape w.home s.key.now) (sym at ∙ there) in
+            (ap (λ (x : Shape). x.number) shape, ap (λ (x : Shape). first_label x.labels) shape)
+
+        home_none : path_at t w.home ≡ None
+        home_none = is.good.home
+
+        by : From y → y.part ≡ 14 + n → y.declared ≡ d
+        by (of_view sight in_views good x in_types shows) at =
+            let stands = all_at (IsShownIn t sight.place) sight.view.types good.types x in_types in
+            let own = slot_is t input.tables x.slot stands.number stands.slot in
+            let part_is : slot_part x.slot ≡ y.part = ap (λ (z : NumberedShowing). z.part) shows in
+            let one : stands.number ≡ n = omega (arith, own, part_is, at) in
+            let same = same_name sight.place x.name (sym (ap (slice_get t.shapes) one) ∙ stands.name.named) in
+            let view_there = view_frame t h ms members input ruled.placed.apart sight in_views (ap (path_at t) same.0 ∙ home_none) in
+            let owned = one_owned t numbered ruled.placed.apart w.home home_none (a_view sight.view) (a_world (numbered_scope w)) (subst (λ q. Contains {X = ℕ × Owned} (frames numbered) (q, a_view sight.view)) same.0 view_there) (home_frame t h ms members input ruled.placed.apart m c w is_world) in
+            let wrong : false ≡ true = ap is_world_owned owned in absurd cc
+        by (of_import m2 c2 w2 is2 s2 among2 e2) at =
+            let other = world_of t h ms members input ruled.placed.apart m2 c2 w2 is2 in
+            let named = subst (λ (x : Shown). DeclaresName t w2.home (record { key = s2.key; shown = x; external_id = s2.external_id })) e2 (all_at (DeclaresName t w2.home) w2.imports.now other.declares s2 among2) in
+            let one : named.0 ≡ n = (let a = named.1 in omega (arith, a, at)) in
+            let same = same_name w2.home s2.key.now (sym (ap (slice_get t.shapes) one) ∙ named.2) in
+            let scopes_same = one_world t h ms members input ruled.placed.apart m2 m c2 c w2 w is2 is_world same.0 in
+            let here : Contains (map numbered_seen w.imports.now) (numbered_seen s2) = subst (λ (x : NumberedScope). Contains x.imports (numbered_seen s2)) scopes_same (contains-map numbered_seen w2.imports.now s2 among2) in
+            let one_seen = one_key (map numbered_seen w.imports.now) (keys_apart t h ms members input ruled.placed.apart w is) (numbered_seen s2) (numbered_seen s) here (contains-map numbered_seen w.imports.now s among) same.1 in
+            let shown_same : worlds.declares y.declared ≡ worlds.declares d = sym (ap numbered_shown e2) ∙ (ap (λ (x : NumberedSeen). x.shown) one_seen ∙ ap numbered_shown e) in
+            ap (declared_in d) shown_same
+
+    -- the resources that it imports are types of the plan
+    module _ (b : Beside) (owned : b.owners ≡ owners_of ms) (find : Text → Option TypeId) (have : AreResources planned.kept (flat_map types_seen w.imports.now) find) where
+      type_seen : (s : Seen) (x : NumberedType) → Contains (types_seen s) x → (part : ℕ) × (d : Option ℕ) × (s.shown ≡ shown.Declares part d) × (slot_part x.slot ≡ part) × (x.declared ≡ d) × (x.name ≡ s.key.now)
+      type_seen s x among = by s.shown (given_text s.external_id) among
+        where
+          by : (k : Shown) (id : Option Text) → Contains (types_shown s.key.now id k) x → (part : ℕ) × (d : Option ℕ) × (k ≡ shown.Declares part d) × (slot_part x.slot ≡ part) × (x.declared ≡ d) × (x.name ≡ s.key.now)
+          by (shown.Instance key v) id there = none-in x there
+          by (shown.Function f) id there = none-in x there
+          by (shown.Declares part d) id there =
+              let same = one-contained (record { name = s.key.now; declared = d; external_id = id; slot = value part }) x there in
+              (part, d, refl, ap (λ (z : NumberedType). slot_part z.slot) (sym same), ap (λ (z : NumberedType). z.declared) (sym same), ap (λ (z : NumberedType). z.name) (sym same))
+
+      resource_is : (r : Text) (id : TypeId) → find r ≡ Some id → IsResource t (told t w.home) planned.kept p (owners_of ms w.home) w.home r id.0
+      resource_is r id found =
+          let at = have.among r id found in
+          let from = flat_cases types_seen w.imports.now at.1 (get-contains (flat_map types_seen w.imports.now) at.0 at.1 at.2) in
+          let seen = type_seen from.0 at.1 from.2 in
+          let number = import_number from.0 from.1 seen.0 seen.1 seen.2 in
+          let stands = kept_number planned.kept (slot_part at.1.slot) number.0 id.0 (seen.3 ∙ number.1) at.5 in
+          let none : seen.1 ≡ None = sym seen.4 ∙ nothing_declared at.1.declared at.3 in
+          let name : from.0.key.now ≡ r = sym seen.5 ∙ at.4 in
+          resource_at t h ms members input main p planned (told t w.home) w.home id.0 number.0 r stands (number.2 ∙ ap (λ (x : Text). Some (named_shape w.home x)) name)
+          (λ y first. first_import from.0 from.1 seen.0 seen.1 seen.2 number.0 number.1 y first ∙ none)
+
+      -- each resource among the imports is found
+      resource_found : (r : Text) → IsResourceIn (map (seen_of t) (map numbered_seen w.imports.now)) r → (id : TypeId) × (find r ≡ Some id)
+      resource_found r among =
+          let outer = from_map (seen_of t) (map numbered_seen w.imports.now) among.seen among.among in
+          let from = from_map numbered_seen w.imports.now outer.0 outer.1 in
+          let same : seen_of t (numbered_seen from.0) ≡ among.seen = ap (seen_of t) from.2 ∙ outer.2 in
+          by from.0 from.1 from.0.shown refl (ap (λ (s : follow.Seen). s.shown) same ∙ among.shown) (ap (λ (s : follow.Seen). s.key) same ∙ sym among.named)
+        where
+          by : (s : Seen) → Contains w.imports.now s → (x : Shown) → s.shown ≡ x → shown_of t (numbered_shown x) ≡ follow.Shown.declares Declaration.resource → s.key.now ≡ r → (id : TypeId) × (find r ≡ Some id)
+          by s in_it (shown.Instance key v) e is name = let wrong : ⊥ = cc in absurd wrong
+          by s in_it (shown.Function f) e is name = let wrong : ⊥ = cc in absurd wrong
+          by s in_it (shown.Declares part (Some k)) e is name = let wrong : ⊥ = cc in absurd wrong
+          by s in_it (shown.Declares part None) e is name =
+              let x : NumberedType = record { name = s.key.now; declared = None; external_id = given_text s.external_id; slot = value part } in
+              let here : Contains (types_seen s) x = subst (λ k. Contains (types_shown s.key.now (given_text s.external_id) k) x) (sym e) (contains-one x) in
+              let at = contains-get (flat_map types_seen w.imports.now) x (contains-flat types_seen w.imports.now s x in_it here) in
+              let found = have.found at.0 x at.1 refl in
+              (found.0, sym (ap find name) ∙ found.1)
+
+      -- ---- a function
+
+      module _ (s : Seen) (f : ℕ) (g : PlannedFunction) (called : IsCalledIn t w.home f) (item : IsItemAmong (map (seen_of t) (map numbered_seen w.imports.now)) s.key.now (follow.Shown.function (signature_at t f)))
+          (made : IsPlannedFunction t planned.kept find (s.key.now, record { signature = f; external_id = given_text s.external_id }) (s.key.now, g)) where
+        resource_own : (r : Text) (id : TypeId) → find r ≡ Some id → IsResource t (told t w.home) planned.kept p (b.owners w.home) w.home r id.0
+        resource_own r id found = subst (λ (os : ℕ → TypeOwner). IsResource t (told t w.home) planned.kept p (os w.home) w.home r id.0) (sym owned) (resource_is r id found)
+
+        rule : rules.is_function (place_at t w.home) item.resources s.key.now (signature_at t f) ≡ true
+        rule = ap (λ place. rules.is_function place item.resources s.key.now (signature_at t f)) (ap place_of is.good.home) ∙ item.is
+
+        function_read : PartsOf (λ k. b.marks k ≡ false) (function_at t f) → IsReadFunction t planned.kept p b (b.owners w.home) g
+        function_read values =
+            read_function t h ms members input main p planned b w.home find item.resources (λ r any. resource_found r (item.from r any)) resource_own (s.key.now, record { signature = f; external_id = given_text s.external_id }) (s.key.now, g) made called.parts rule values
+
+        function_made : FunctionBecomes t planned.kept p (function_at t f) (given_text s.external_id) g
+        function_made =
+            function_becomes t h ms members input main p planned b w.home find item.resources (λ r any. resource_found r (item.from r any)) resource_own (s.key.now, record { signature = f; external_id = given_text s.external_id }) (s.key.now, g) made called.parts rule
+
+      -- what it imports or exports
+      abbrev all_imports : List follow.Seen
+      all_imports = map (seen_of t) (map numbered_seen w.imports.now)
+
+      abbrev SeenItem : Seen → Type 0
+      SeenItem s = IsItemAmong all_imports s.key.now (shown_of t (numbered_shown s.shown))
+
+      part_obeys : PartObeys t (parts.World w)
+      part_obeys = subst (PartObeys t) is_world (all_at (λ (x : Member). PartObeys t x.part) ms ruled.rules.worlds m c)
+
+      import_item : (s : Seen) → Contains w.imports.now s → SeenItem s
+      import_item s among =
+          all_at (λ (x : follow.Seen). IsItemAmong all_imports x.key x.shown) all_imports (import_items all_imports [] all_imports part_obeys.0 (λ x none. none-in x none) (λ x there. there)) (seen_of t (numbered_seen s))
+          (contains-map (seen_of t) (map numbered_seen w.imports.now) (numbered_seen s) (contains-map numbered_seen w.imports.now s among))
+
+      export_item : (s : Seen) → Contains w.exports.now s → SeenItem s
+      export_item s among = record {
+        resources = [];
+        is = all-contained (λ (x : follow.Seen). rules.is_item [] x.key x.shown) (map (seen_of t) (map numbered_seen w.exports.now)) (seen_of t (numbered_seen s)) part_obeys.1
+            (contains-map (seen_of t) (map numbered_seen w.exports.now) (numbered_seen s) (contains-map numbered_seen w.exports.now s among));
+        from = λ r any. let wrong : false ≡ true = any in absurd cc;
+      }
+
+      -- what a function that it imports or exports becomes
+      pub seen_becomes : (s : Seen) → Contains w.imports.now s ⊎ Contains w.exports.now s → (f : ℕ) → s.shown ≡ shown.Function f → (g : PlannedFunction)
+          → IsPlannedFunction t planned.kept find (s.key.now, record { signature = f; external_id = given_text s.external_id }) (s.key.now, g) → FunctionBecomes t planned.kept p (function_at t f) (given_text s.external_id) g
+      seen_becomes s side f shows g made = by side
+        where
+          called : IsSeenIn t w.home (numbered_seen s) → IsCalledIn t w.home f
+          called seen = subst (λ (x : Shown). IsSeenIn t w.home (record { key = s.key.now; shown = numbered_shown x; external_id = given_text s.external_id })) shows seen
+
+          may : SeenItem s → IsItemAmong all_imports s.key.now (follow.Shown.function (signature_at t f))
+          may item = subst (λ (x : Shown). IsItemAmong all_imports s.key.now (shown_of t (numbered_shown x))) shows item
+
+          by : Contains w.imports.now s ⊎ Contains w.exports.now s → FunctionBecomes t planned.kept p (function_at t f) (given_text s.external_id) g
+          by (inl among) = function_made s f g (called (all_at (IsSeenIn t w.home) (map numbered_seen w.imports.now) is.good.imports (numbered_seen s) (contains-map numbered_seen w.imports.now s among))) (may (import_item s among)) made
+          by (inr among) = function_made s f g (called (all_at (IsSeenIn t w.home) (map numbered_seen w.exports.now) is.good.exports (numbered_seen s) (contains-map numbered_seen w.exports.now s among))) (may (export_item s among)) made
+
+      module _ (marks_are : b.marks ≡ whole.marks.marks) where
+        values_of : (f : ℕ) → Contains (signatures_of_part (parts.World w)) f → PartsOf (λ k. b.marks k ≡ false) (function_at t f)
+        values_of f among =
+            subst (λ (marks : ℕ → Bool). PartsOf (λ k. marks k ≡ false) (function_at t f)) (sym marks_are)
+            (all_at (λ n. PartsOf (λ k. whole.marks.marks k ≡ false) (function_at t n)) (signatures_of_members ms) whole.marks.values f
+            (contains-flat (λ (x : Member). signatures_of_part x.part) ms m f c (subst (λ a. Contains (signatures_of_part a) f) (sym is_world) among)))
+
+        abbrev ItemRead : PlannedKey × PlannedItem → Type 0
+        ItemRead e = (g : PlannedFunction) → item_function e.1 ≡ Some g → IsReadFunction t planned.kept p b (b.owners w.home) g
+
+        -- the item of an import or an export
+        item_read : (s : Seen) → IsSeenIn t w.home (numbered_seen s) → SeenItem s → ((f : ℕ) → Contains (signatures_of_seen s) f → PartsOf (λ k. b.marks k ≡ false) (function_at t f)) → (e : PlannedKey × PlannedItem) → PlansItem t planned.kept (places_in ms) find s e → ItemRead e
+        item_read s seen item values e (an_instance key v shown_is made) g function = let wrong : None ≡ Some g = sym (ap (λ (x : PlannedKey × PlannedItem). item_function x.1) made.is) ∙ function in absurd cc
+        item_read s seen item values e (a_type part d n shown_is made kept) g function = let wrong : None ≡ Some g = sym (ap (λ (x : PlannedKey × PlannedItem). item_function x.1) made) ∙ function in absurd cc
+        item_read s seen item values e (a_function n shown_is key_is made) g function =
+            let same : made.function ≡ g = same-some made.function g (sym (ap item_function made.is) ∙ function) in
+            let called = subst (λ (x : Shown). IsSeenIn t w.home (record { key = s.key.now; shown = numbered_shown x; external_id = given_text s.external_id })) shown_is seen in
+            let may = subst (λ (x : Shown). IsItemAmong all_imports s.key.now (shown_of t (numbered_shown x))) shown_is item in
+            let there : Contains (signatures_of_seen s) n = subst (λ (x : Shown). Contains (signatures_of_shown x) n) (sym shown_is) (contains-one n) in
+            subst (IsReadFunction t planned.kept p b (b.owners w.home)) same (function_read s n made.function called may made.planned (values n there))
+
+        items_read : (cs : List Seen) → AllByRecursion (IsSeenIn t w.home) (map numbered_seen cs) → ((s : Seen) → Contains cs s → SeenItem s) → ((f : ℕ) → Contains (flat_map signatures_of_seen cs) f → PartsOf (λ k. b.marks k ≡ false) (function_at t f))
+            → (es : List (PlannedKey × PlannedItem)) → AllZip (PlansItem t planned.kept (places_in ms) find) cs es → (e : PlannedKey × PlannedItem) → Contains es e → ItemRead e
+        items_read cs seen items values es made e among =
+            let at = contains-get es e among in
+            let from = zip_get (PlansItem t planned.kept (places_in ms) find) cs es made at.0 e at.1 in
+            let there = get-contains cs at.0 from.0 from.1 in
+            item_read from.0 (all_at (IsSeenIn t w.home) (map numbered_seen cs) seen (numbered_seen from.0) (contains-map numbered_seen cs from.0 there)) (items from.0 there)
+            (λ f in_it. values f (contains-flat signatures_of_seen cs from.0 f there in_it)) e from.2
+
+        pub world_read : (x : PlannedWorld) → AllZip (PlansItem t planned.kept (places_in ms) find) w.imports.now x.imports → AllZip (PlansItem t planned.kept (places_in ms) find) w.exports.now x.exports
+            → AllByRecursion (IsReadFunction t planned.kept p b (b.owners w.home)) (world_functions x)
+        world_read x imports exports = all_filtered (IsReadFunction t planned.kept p b (b.owners w.home)) item_function (items_of x) (λ i among g e. by i g e (Contains-append_cases (map second x.imports) (map second x.exports) i among))
+          where
+            of_list : (es : List (PlannedKey × PlannedItem)) → ((e : PlannedKey × PlannedItem) → Contains es e → ItemRead e) → (i : PlannedItem) (g : PlannedFunction) → item_function i ≡ Some g → Contains (map second es) i → IsReadFunction t planned.kept p b (b.owners w.home) g
+            of_list es each i g e there = let from = from_map second es i there in each from.0 from.1 g (ap item_function from.2 ∙ e)
+
+            by : (i : PlannedItem) (g : PlannedFunction) → item_function i ≡ Some g → Contains (map second x.imports) i ⊎ Contains (map second x.exports) i → IsReadFunction t planned.kept p b (b.owners w.home) g
+            by i g e (inl there) =
+                of_list x.imports (items_read w.imports.now is.good.imports import_item (λ f among. values_of f (Contains-append_left (flat_map signatures_of_seen w.imports.now) (flat_map signatures_of_seen w.exports.now) f among)) x.imports imports) i g e there
+            by i g e (inr there) =
+                of_list x.exports (items_read w.exports.now is.good.exports export_item (λ f among. values_of f (Contains-append_right (flat_map signatures_of_seen w.imports.now) (flat_map signatures_of_seen w.exports.now) f among)) x.exports exports) i g e there
+
+-- a world that is exported
+world_there : (ms : List Member) (w : Text × Scope) → Contains (worlds_in ms) w → (m : Member) × Contains ms m × (m.part ≡ parts.World w.1)
+world_there ms w c = let from = flat_cases (λ (m : Member). world_in_part m.label.now m.part) ms w c in (from.0, from.1, by from.0.label.now from.0.part from.2)
+  where
+    by : (label : Text) (a : Part) → Contains (world_in_part label a) w → a ≡ parts.World w.1
+    by label (parts.World v) there = ap (λ (x : Text × Scope). parts.World x.1) (one-contained (label, v) w there)
+    by label (parts.Interface q v imports) there = none-in w there
+
+pub world_functions_are_read : WorldFunctionsAreRead
+world_functions_are_read t h ms members ruled main p planned whole known w among x made =
+    let there = world_there ms w among in
+    world_read t h ms members ruled main p planned whole known there.0 there.1 w.1 there.2 (beside_tables known whole.marks.marks ms) refl made.find made.resources refl x made.imports made.exports

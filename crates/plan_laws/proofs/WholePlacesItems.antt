@@ -1,0 +1,169 @@
+-- The interfaces that worlds import and export, by the numbers of their places: no inline one is an item twice.
+use Rattle.std.proofs.Common.{◌≡◌, refl, sym, ap, subst, ◌∙◌, ℕ, ◌||◌, ◌==◌, Bool, true, false, not, cond, List, [], ◌∷◌, ◌++◌, filter, filter_map, map, Option, Some}
+use Rattle.std.specs.List.{AllZip, cons_option, flat_map}
+use Rattle.std.proofs.lemmas.Bool.{eq-eqb, eqb-true}
+use Rattle.std.proofs.lemmas.List.Elements.{filter-append, filter_map-append}
+use Rattle.wit_model.specs.declared.model.TypeId.{TypeId}
+use Rattle.wit_model.specs.Text.{Text}
+use Rattle.wit_model.specs.Uses.{has}
+use Rattle.wit_model.proofs.Elements.{same-some}
+use Rattle.wit_model.proofs.Lists.{first_true, second_true}
+use Rattle.plan_meaning.specs.NumberedMembers.{NumberedMember}
+use Rattle.plan_meaning.specs.NumberedViews.{Tables}
+use Rattle.plan_meaning.specs.NumberedWorlds.{are_once, place_of_key}
+use Rattle.plan_meaning.specs.Plan.{Plan, PlannedItem, PlannedKey, PlannedWorld, item_interface, items_of}
+use Rattle.plan_meaning.specs.PlanRules.{has_name}
+use Rattle.plan_meaning.specs.ReadPlaces.{inline_shown}
+use Rattle.plan_meaning.proofs.Lists.{both, no_true}
+use Rattle.plan_meaning.proofs.ReadLists.{never, not_true}
+use Rattle.plan_type_laws.specs.ShownMarks.{has_no_path, places_of_part, places_of_seen, places_of_shown}
+use Rattle.read_exports.specs.Members.{numbered_members, numbered_part}
+use Rattle.read_exports.specs.declared.members.Member.{Member}
+use Rattle.read_exports.specs.declared.members.Part.{Part}
+use Rattle.read_exports.specs.declared.members.Part.TheVariants as parts
+use Rattle.read_rules.specs.declared.scopes.Scope.{Scope}
+use Rattle.read_rules.specs.declared.scopes.Seen.{Seen}
+use Rattle.read_rules.specs.Scopes.{numbered_key, numbered_seen, numbered_shown}
+use Rattle.plan_types.specs.PlannedTypes.{number_in}
+use Rattle.plan_package.specs.WholeWorlds.{PlansItem, PlansWorld, a_function, a_type, an_instance, world_in_part, worlds_in}
+use Rattle.plan_laws.proofs.PlaceNumbers.{number_there}
+
+zip_both : {A B : Type 0} (R : A → B → Type 0) (xs : List A) (ys : List B) (zs : List A) (ws : List B) → AllZip R xs ys → AllZip R zs ws → AllZip R (xs ++ zs) (ys ++ ws)
+zip_both R [] [] zs ws a b = b
+zip_both R [] (y ∷ ys) zs ws a b = absurd a
+zip_both R (x ∷ xs) [] zs ws a b = absurd a
+zip_both R (x ∷ xs) (y ∷ ys) zs ws a b = (a.0, zip_both R xs ys zs ws a.1 b)
+
+module _ (places : List ℕ) where
+  -- the place has the number
+  abbrev pub IsNumbered : ℕ → ℕ → Type 0
+  IsNumbered q m = number_in places q ≡ Some m
+
+  -- ---- the items of a world
+
+  module _ (t : Tables) (kept : List ℕ) where
+    side : (find : Text → Option TypeId) (ss : List Seen) (es : List (PlannedKey × PlannedItem)) → AllZip (PlansItem t kept places find) ss es
+        → AllZip IsNumbered (places_of_seen (map numbered_seen ss)) (filter_map item_interface (map (λ (e : PlannedKey × PlannedItem). e.1) es))
+    side find [] [] all = tt
+    side find [] (e ∷ es) all = absurd all
+    side find (s ∷ ss) [] all = absurd all
+    side find (s ∷ ss) (e ∷ es) all = by all.0 (side find ss es all.1)
+      where
+        by : PlansItem t kept places find s e → AllZip IsNumbered (places_of_seen (map numbered_seen ss)) (filter_map item_interface (map (λ (x : PlannedKey × PlannedItem). x.1) es))
+            → AllZip IsNumbered (places_of_shown (numbered_shown s.shown) ++ places_of_seen (map numbered_seen ss)) (cons_option (item_interface e.1) (filter_map item_interface (map (λ (x : PlannedKey × PlannedItem). x.1) es)))
+        by (an_instance key v is found) rest =
+            subst (λ a. AllZip IsNumbered (places_of_shown (numbered_shown a) ++ places_of_seen (map numbered_seen ss)) (cons_option (item_interface e.1) (filter_map item_interface (map (λ (x : PlannedKey × PlannedItem). x.1) es)))) (sym is)
+            (subst (λ i. AllZip IsNumbered (place_of_key (numbered_key key) ∷ places_of_seen (map numbered_seen ss)) (cons_option (item_interface i) (filter_map item_interface (map (λ (x : PlannedKey × PlannedItem). x.1) es))))
+            (sym (ap (λ (x : PlannedKey × PlannedItem). x.1) found.is)) (found.found, rest))
+        by (a_function n is key f) rest =
+            subst (λ a. AllZip IsNumbered (places_of_shown (numbered_shown a) ++ places_of_seen (map numbered_seen ss)) (cons_option (item_interface e.1) (filter_map item_interface (map (λ (x : PlannedKey × PlannedItem). x.1) es)))) (sym is)
+            (subst (λ i. AllZip IsNumbered (places_of_seen (map numbered_seen ss)) (cons_option (item_interface i) (filter_map item_interface (map (λ (x : PlannedKey × PlannedItem). x.1) es)))) (sym f.is) rest)
+        by (a_type part d n is entry part_is) rest =
+            subst (λ a. AllZip IsNumbered (places_of_shown (numbered_shown a) ++ places_of_seen (map numbered_seen ss)) (cons_option (item_interface e.1) (filter_map item_interface (map (λ (x : PlannedKey × PlannedItem). x.1) es)))) (sym is)
+            (subst (λ i. AllZip IsNumbered (places_of_seen (map numbered_seen ss)) (cons_option (item_interface i) (filter_map item_interface (map (λ (x : PlannedKey × PlannedItem). x.1) es))))
+            (sym (ap (λ (x : PlannedKey × PlannedItem). x.1) entry)) rest)
+
+    pub items_numbered : (main : ℕ) (w : Text × Scope) (x : PlannedWorld) → PlansWorld t kept places main w x
+        → AllZip IsNumbered (places_of_seen (map numbered_seen w.1.imports.now) ++ places_of_seen (map numbered_seen w.1.exports.now)) (filter_map item_interface (items_of x))
+    items_numbered main w x is =
+        let imports = map (λ (e : PlannedKey × PlannedItem). e.1) x.imports in
+        let exports = map (λ (e : PlannedKey × PlannedItem). e.1) x.exports in
+        subst (AllZip IsNumbered (places_of_seen (map numbered_seen w.1.imports.now) ++ places_of_seen (map numbered_seen w.1.exports.now))) (sym (filter_map-append item_interface imports exports))
+        (zip_both IsNumbered (places_of_seen (map numbered_seen w.1.imports.now)) (filter_map item_interface imports) (places_of_seen (map numbered_seen w.1.exports.now)) (filter_map item_interface exports)
+        (side is.find w.1.imports.now x.imports is.imports) (side is.find w.1.exports.now x.exports is.exports))
+
+  -- ---- numbers of some of the places
+
+  data AreListed : List ℕ → List ℕ → Type 0 where
+    none : AreListed [] []
+    left_out : (q : ℕ) (qs ns : List ℕ) → AreListed qs ns → AreListed (q ∷ qs) ns
+    listed : (q m : ℕ) (qs ns : List ℕ) → IsNumbered q m → AreListed qs ns → AreListed (q ∷ qs) (m ∷ ns)
+
+  listed_both : (qs ns rs ms : List ℕ) → AreListed qs ns → AreListed rs ms → AreListed (qs ++ rs) (ns ++ ms)
+  listed_both qs ns rs ms none more = more
+  listed_both qs ns rs ms (left_out q a b rest) more = left_out q (a ++ rs) (b ++ ms) (listed_both a b rs ms rest more)
+  listed_both qs ns rs ms (listed q m a b is rest) more = listed q m (a ++ rs) (b ++ ms) is (listed_both a b rs ms rest more)
+
+  listed_has : (qs ns : List ℕ) → AreListed qs ns → (m : ℕ) → has ns m ≡ true → (q : ℕ) × (has qs q ≡ true) × IsNumbered q m
+  listed_has qs ns none m e = no_true e
+  listed_has qs ns (left_out q a b rest) m e = let found = listed_has a b rest m e in (found.0, ap (λ c. (q == found.0) || c) found.1 ∙ or_true (q == found.0), found.2)
+    where
+      or_true : (b : Bool) → (b || true) ≡ true
+      or_true true = refl
+      or_true false = refl
+  listed_has qs ns (listed q k a b is rest) m e = by (k == m) refl (listed_has a b rest m)
+    where
+      or_true : (b : Bool) → (b || true) ≡ true
+      or_true true = refl
+      or_true false = refl
+
+      by : (c : Bool) → (k == m) ≡ c → (has b m ≡ true → (r : ℕ) × (has a r ≡ true) × IsNumbered r m) → (r : ℕ) × (has (q ∷ a) r ≡ true) × IsNumbered r m
+      by true f later = (q, ap (λ c. c || has a q) (eq-eqb q q refl), is ∙ ap Some (eqb-true k m f))
+      by false f later = let found = later (sym (ap (λ c. c || has b m) f) ∙ e) in (found.0, ap (λ c. (q == found.0) || c) found.1 ∙ or_true (q == found.0), found.2)
+
+  -- places that differ have numbers that do
+  listed_once : (qs ns : List ℕ) → AreListed qs ns → are_once qs ≡ true → are_once ns ≡ true
+  listed_once qs ns none e = refl
+  listed_once qs ns (left_out q a b rest) e = listed_once a b rest (second_true (not (has a q)) (are_once a) e)
+  listed_once qs ns (listed q m a b is rest) e =
+      both (not (has b m)) (are_once b) (ap not (absent (has b m) refl)) (listed_once a b rest (second_true (not (has a q)) (are_once a) e))
+    where
+      absent : (c : Bool) → has b m ≡ c → c ≡ false
+      absent false f = refl
+      absent true f =
+          let found = listed_has a b rest m f in
+          let same : found.0 ≡ q = same-some found.0 q (sym (number_there places found.0 m found.2) ∙ number_there places q m is) in
+          never (has a q) (ap (has a) (sym same) ∙ found.1) (not_true (has a q) (first_true (not (has a q)) (are_once a) e))
+
+  -- those that pass a test
+  module _ (f g : ℕ → Bool) (tell : (q m : ℕ) → IsNumbered q m → f q ≡ g m) where
+    passing : (qs ns : List ℕ) → AllZip IsNumbered qs ns → AreListed (filter f qs) (filter g ns)
+    passing [] [] all = none
+    passing [] (m ∷ ns) all = absurd all
+    passing (q ∷ qs) [] all = absurd all
+    passing (q ∷ qs) (m ∷ ns) all = by (f q) (g m) (tell q m all.0) (passing qs ns all.1)
+      where
+        by : (b c : Bool) → b ≡ c → AreListed (filter f qs) (filter g ns) → AreListed (cond b (q ∷ filter f qs) (filter f qs)) (cond c (m ∷ filter g ns) (filter g ns))
+        by true true e rest = listed q m (filter f qs) (filter g ns) all.0 rest
+        by false false e rest = rest
+        by true false e rest = no_true (sym e)
+        by false true e rest = no_true e
+
+  -- ---- all worlds
+
+  module _ (t : Tables) (kept : List ℕ) (main : ℕ) (p : Plan) (tell : (q m : ℕ) → IsNumbered q m → has_no_path t q ≡ not (has_name p m)) where
+    abbrev own : List ℕ → List ℕ
+    own qs = filter (has_no_path t) qs
+
+    own_listed : (ms : List Member) (ws : List PlannedWorld) → AllZip (PlansWorld t kept places main) (worlds_in ms) ws
+        → AreListed (own (flat_map (λ (m : NumberedMember). places_of_part m.part) (numbered_members ms))) (flat_map (inline_shown p) ws)
+    own_listed [] [] all = none
+    own_listed [] (x ∷ ws) all = absurd all
+    own_listed (m ∷ ms) ws all = by m.part all (λ vs a. own_listed ms vs a)
+      where
+        home_too : (b : Bool) (q : ℕ) (qs ns : List ℕ) → AreListed qs ns → AreListed (cond b (q ∷ qs) qs) ns
+        home_too true q qs ns more = left_out q qs ns more
+        home_too false q qs ns more = more
+
+        of_world : (w : Scope) (vs : List PlannedWorld) → AllZip (PlansWorld t kept places main) ((m.label.now, w) ∷ worlds_in ms) vs
+            → ((us : List PlannedWorld) → AllZip (PlansWorld t kept places main) (worlds_in ms) us → AreListed (own (flat_map (λ (n : NumberedMember). places_of_part n.part) (numbered_members ms))) (flat_map (inline_shown p) us))
+            → AreListed (own (places_of_part (numbered_part (parts.World w)) ++ flat_map (λ (n : NumberedMember). places_of_part n.part) (numbered_members ms))) (flat_map (inline_shown p) vs)
+        of_world w [] a more = absurd a
+        of_world w (x ∷ vs) a more =
+            let shown = places_of_seen (map numbered_seen w.imports.now) ++ places_of_seen (map numbered_seen w.exports.now) in
+            let others = flat_map (λ (n : NumberedMember). places_of_part n.part) (numbered_members ms) in
+            home_too (has_no_path t w.home) w.home (own (shown ++ others)) (inline_shown p x ++ flat_map (inline_shown p) vs)
+            (subst (λ qs. AreListed qs (inline_shown p x ++ flat_map (inline_shown p) vs)) (sym (filter-append (has_no_path t) shown others))
+            (listed_both (own shown) (inline_shown p x) (own others) (flat_map (inline_shown p) vs)
+            (passing (has_no_path t) (λ n. not (has_name p n)) tell shown (filter_map item_interface (items_of x)) (items_numbered t kept main (m.label.now, w) x a.0))
+            (more vs a.1)))
+
+        by : (a : Part) → AllZip (PlansWorld t kept places main) (world_in_part m.label.now a ++ worlds_in ms) ws
+            → ((us : List PlannedWorld) → AllZip (PlansWorld t kept places main) (worlds_in ms) us → AreListed (own (flat_map (λ (n : NumberedMember). places_of_part n.part) (numbered_members ms))) (flat_map (inline_shown p) us))
+            → AreListed (own (places_of_part (numbered_part a) ++ flat_map (λ (n : NumberedMember). places_of_part n.part) (numbered_members ms))) (flat_map (inline_shown p) ws)
+        by (parts.World w) a more = of_world w ws a more
+        by (parts.Interface q v imports) a more = more ws a
+
+    pub inline_once : (ms : List Member) (ws : List PlannedWorld) → AllZip (PlansWorld t kept places main) (worlds_in ms) ws
+        → are_once (own (flat_map (λ (m : NumberedMember). places_of_part m.part) (numbered_members ms))) ≡ true → are_once (flat_map (inline_shown p) ws) ≡ true
+    inline_once ms ws all once = listed_once (own (flat_map (λ (m : NumberedMember). places_of_part m.part) (numbered_members ms))) (flat_map (inline_shown p) ws) (own_listed ms ws all) once

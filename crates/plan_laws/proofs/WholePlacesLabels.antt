@@ -1,0 +1,126 @@
+-- What is exported at the top, by labels of which none stands twice.
+use Rattle.std.proofs.Common.{◌≡◌, refl, sym, ap, subst, ◌∙◌, ℕ, Bool, true, false, List, [], ◌∷◌, ◌++◌, map, Some, slice_get}
+use Rattle.std.specs.Borrow.{Bor}
+use Rattle.std.specs.List.{Contains, list_any}
+use Rattle.std.proofs.lemmas.Slice.Eq.{bytes_eq-Decides}
+use Rattle.wit_model.specs.Text.{Text, text_eq}
+use Rattle.wit_model.proofs.Elements.{contains-flat, contains-get, contains-one, get-contains, none-in, one-contained, same-some}
+use Rattle.comp_meaning.specs.Rules.{distinct}
+use Rattle.read_shown.proofs.Lists.{mapped_get, one_place}
+use Rattle.plan_meaning.specs.PlanRules.{names_of}
+use Rattle.plan_meaning.proofs.Lists.{any_get, get_back}
+use Rattle.read_rules.specs.declared.reached.ImportedView.{ImportedView}
+use Rattle.read_rules.specs.declared.scopes.Scope.{Scope}
+use Rattle.read_rules.specs.declared.views.View.{View}
+use Rattle.read_exports.specs.declared.members.Member.{Member}
+use Rattle.read_exports.specs.declared.members.Part.{Part}
+use Rattle.read_exports.specs.declared.members.Part.TheVariants as parts
+use Rattle.plan_package.specs.WholePackages.{interface_in_part, interfaces_in}
+use Rattle.plan_package.specs.WholeWorlds.{world_in_part, worlds_in}
+use Rattle.plan_laws.proofs.Inside.{flat_cases}
+use Rattle.plan_laws.proofs.WholePlacesLists.{AreSome, left_out, none, some_differ, taken}
+
+abbrev pub labels_of : List Member → List Text
+labels_of ms = map (λ (m : Member). m.label.now) ms
+
+-- ---- some of the labels
+
+pub interface_labels : (ms : List Member) → AreSome (names_of (interfaces_in ms)) (labels_of ms)
+interface_labels [] = none
+interface_labels (m ∷ ms) = by m.part (interface_labels ms)
+  where
+    by : (a : Part) → AreSome (names_of (interfaces_in ms)) (labels_of ms) → AreSome (names_of (interface_in_part m.label.now a ++ interfaces_in ms)) (m.label.now ∷ labels_of ms)
+    by (parts.World w) rest = left_out m.label.now (names_of (interfaces_in ms)) (labels_of ms) rest
+    by (parts.Interface q v imports) rest = taken m.label.now (names_of (interfaces_in ms)) (labels_of ms) rest
+
+pub world_labels : (ms : List Member) → AreSome (names_of (worlds_in ms)) (labels_of ms)
+world_labels [] = none
+world_labels (m ∷ ms) = by m.part (world_labels ms)
+  where
+    by : (a : Part) → AreSome (names_of (worlds_in ms)) (labels_of ms) → AreSome (names_of (world_in_part m.label.now a ++ worlds_in ms)) (m.label.now ∷ labels_of ms)
+    by (parts.World w) rest = taken m.label.now (names_of (worlds_in ms)) (labels_of ms) rest
+    by (parts.Interface q v imports) rest = left_out m.label.now (names_of (worlds_in ms)) (labels_of ms) rest
+
+-- ---- what is exported under a label
+
+-- an interface of the place
+pub record IsInterfaceOf (ms : List Member) (x : Text × ℕ) : Type 0 where
+  pub member : Member
+  pub among : Contains ms member
+  pub label : member.label.now ≡ x.0
+  pub view : View
+  pub imports : Bor (List ImportedView)
+  pub is : member.part ≡ parts.Interface x.1 view imports
+
+pub record IsWorldOf (ms : List Member) (x : Text × Scope) : Type 0 where
+  pub member : Member
+  pub among : Contains ms member
+  pub label : member.label.now ≡ x.0
+  pub is : member.part ≡ parts.World x.1
+
+pub interface_of : (ms : List Member) (x : Text × ℕ) → Contains (interfaces_in ms) x → IsInterfaceOf ms x
+interface_of ms x c =
+    let from = flat_cases (λ (m : Member). interface_in_part m.label.now m.part) ms x c in
+    by from.0 from.1 from.0.part refl from.2
+  where
+    by : (m : Member) → Contains ms m → (a : Part) → m.part ≡ a → Contains (interface_in_part m.label.now a) x → IsInterfaceOf ms x
+    by m among (parts.World w) is there = none-in x there
+    by m among (parts.Interface q v imports) is there =
+        let same : (m.label.now, q) ≡ x = one-contained (m.label.now, q) x there in
+        record { member = m; among = among; label = ap (λ (y : Text × ℕ). y.0) same; view = v; imports = imports; is = is ∙ ap (λ (y : Text × ℕ). parts.Interface y.1 v imports) same }
+
+pub world_of : (ms : List Member) (x : Text × Scope) → Contains (worlds_in ms) x → IsWorldOf ms x
+world_of ms x c =
+    let from = flat_cases (λ (m : Member). world_in_part m.label.now m.part) ms x c in
+    by from.0 from.1 from.0.part refl from.2
+  where
+    by : (m : Member) → Contains ms m → (a : Part) → m.part ≡ a → Contains (world_in_part m.label.now a) x → IsWorldOf ms x
+    by m among (parts.Interface q v imports) is there = none-in x there
+    by m among (parts.World w) is there =
+        let same : (m.label.now, w) ≡ x = one-contained (m.label.now, w) x there in
+        record { member = m; among = among; label = ap (λ (y : Text × Scope). y.0) same; is = is ∙ ap (λ (y : Text × Scope). parts.World y.1) same }
+
+pub interface_among : (ms : List Member) (m : Member) → Contains ms m → (q : ℕ) (v : View) (imports : Bor (List ImportedView)) → m.part ≡ parts.Interface q v imports → Contains (interfaces_in ms) (m.label.now, q)
+interface_among ms m c q v imports is =
+    contains-flat (λ (x : Member). interface_in_part x.label.now x.part) ms m (m.label.now, q) c
+    (subst (λ a. Contains (interface_in_part m.label.now a) (m.label.now, q)) (sym is) (contains-one (m.label.now, q)))
+
+pub world_among : (ms : List Member) (m : Member) → Contains ms m → (w : Scope) → m.part ≡ parts.World w → Contains (worlds_in ms) (m.label.now, w)
+world_among ms m c w is =
+    contains-flat (λ (x : Member). world_in_part x.label.now x.part) ms m (m.label.now, w) c
+    (subst (λ a. Contains (world_in_part m.label.now a) (m.label.now, w)) (sym is) (contains-one (m.label.now, w)))
+
+module _ (ms : List Member) (differ : distinct (labels_of ms) ≡ true) where
+  -- one member has a label
+  one_member : (a b : Member) → Contains ms a → Contains ms b → a.label.now ≡ b.label.now → a ≡ b
+  one_member a b c d same =
+      let i = contains-get ms a c in
+      let j = contains-get ms b d in
+      let first = mapped_get (λ (m : Member). m.label.now) ms i.0 a i.1 in
+      let second = mapped_get (λ (m : Member). m.label.now) ms j.0 b j.1 in
+      let one : i.0 ≡ j.0 = one_place (labels_of ms) differ i.0 j.0 a.label.now first (second ∙ ap Some (sym same)) in
+      same-some a b (sym i.1 ∙ (ap (slice_get ms) one ∙ j.1))
+
+  pub interfaces_differ : distinct (names_of (interfaces_in ms)) ≡ true
+  interfaces_differ = some_differ (names_of (interfaces_in ms)) (labels_of ms) (interface_labels ms) differ
+
+  pub worlds_differ : distinct (names_of (worlds_in ms)) ≡ true
+  worlds_differ = some_differ (names_of (worlds_in ms)) (labels_of ms) (world_labels ms) differ
+
+  -- no world has the label of an interface
+  pub no_world : (x : Text × ℕ) → Contains (interfaces_in ms) x → list_any (text_eq x.0) (names_of (worlds_in ms)) ≡ false
+  no_world x c = by (list_any (text_eq x.0) (names_of (worlds_in ms))) refl
+    where
+      by : (b : Bool) → list_any (text_eq x.0) (names_of (worlds_in ms)) ≡ b → b ≡ false
+      by false e = refl
+      by true e =
+          let found = any_get (text_eq x.0) (names_of (worlds_in ms)) e in
+          let back = get_back (λ (w : Text × Scope). w.0) (worlds_in ms) found.0 found.1 found.2 in
+          let there = interface_of ms x c in
+          let world = world_of ms back.0 (get-contains (worlds_in ms) found.0 back.0 back.1) in
+          let label : x.0 ≡ back.0.0 = (bytes_eq-Decides x.0 found.1).0 found.3 ∙ sym back.2 in
+          let one : there.member ≡ world.member = one_member there.member world.member there.among world.among (there.label ∙ (label ∙ sym world.label)) in
+          other (sym there.is ∙ (ap (λ (m : Member). m.part) one ∙ world.is))
+        where
+          other : {q : ℕ} {v : View} {i : Bor (List ImportedView)} {w : Scope} → parts.Interface q v i ≡ parts.World w → true ≡ false
+          other e = absurd cc

@@ -1,0 +1,226 @@
+-- Unnamed types stand in a plan as parts of others or of functions, and packages for the places whose homes they are.
+use Rattle.std.proofs.Common.{◌≡◌, refl, sym, ap, subst, ◌∙◌, ℕ, zero, suc, ◌+◌, ◌⊎◌, inl, inr, arith, Bool, true, false, not, ◌==◌, cond, List, [], ◌∷◌, ◌++◌, length, map, Option, Some, None, slice_get}
+use Rattle.std.specs.Prelude.{is_some, unwrap_or}
+use Rattle.std.specs.List.{Contains, flat_map}
+use Rattle.std.specs.Option.{option_map_or}
+use Rattle.std.proofs.lemmas.List.Elements.{Contains-append_cases, Contains-append_left}
+use Rattle.std.proofs.lemmas.Option.{slice_get_within}
+use Rattle.wit_model.specs.declared.model.TypeOwner.{TypeOwner}
+use Rattle.wit_model.specs.Text.{Text}
+use Rattle.wit_model.specs.Uses.{has}
+use Rattle.wit_model.specs.Valid.{as_interface, as_world}
+use Rattle.wit_model.proofs.Elements.{contains-flat, contains-has, has-contains, none-in, one-contained, same-some}
+use Rattle.comp_meaning.specs.Reads as reads
+use Rattle.read_homes.specs.Homes.{HasPlace}
+use Rattle.read_shown.proofs.Lists.{unmapped_get}
+use Rattle.plan_meaning.specs.GatheredPlan.{DeclaresKind, a_form, a_name, a_resource}
+use Rattle.plan_meaning.specs.NumberedMembers.{Homes, home_at}
+use Rattle.plan_meaning.specs.NumberedRules.{Fact, is_form, name_in, shape_at}
+use Rattle.plan_meaning.specs.NumberedViews.{Tables, path_at}
+use Rattle.plan_meaning.specs.NumberedWorlds.{HasPath}
+use Rattle.plan_meaning.specs.Plan.{Plan, PlannedPackage, PlannedType, package_in}
+use Rattle.plan_meaning.specs.ReadFunctions.{Beside, FunctionsAreRead}
+use Rattle.plan_meaning.specs.ReadWholes.{HasHomes, IsKeptForReasons, IsPartOfKept, of_type}
+use Rattle.plan_meaning.specs.Shapes.{IsShape, Shape, named_shape, node_shape}
+use Rattle.plan_meaning.specs.Shapes as shapes
+use Rattle.plan_meaning.proofs.Lists.{no_true}
+use Rattle.plan_meaning.proofs.NumberedRules.{no_name, shape_there}
+use Rattle.plan_parts.specs.Kinds.{shape_form}
+use Rattle.plan_parts.specs.Marks.{IsUsed, is_marked, marked, part}
+use Rattle.plan_parts.proofs.DeclaredKinds.{parts_become}
+use Rattle.plan_type_laws.proofs.FirstFound.{firsts_found}
+use Rattle.plan_type_laws.proofs.KeptKinds.{zip_get, zip_length}
+use Rattle.plan_type_laws.proofs.ShownForms.{mark_there}
+use Rattle.read_exports.specs.declared.members.Member.{Member}
+use Rattle.plan_types.specs.PlannedTypes.{PlansType, named, number_in, unnamed}
+use Rattle.plan_types.specs.Showings.{NumberedShowing, showings_of_members, signatures_of_members}
+use Rattle.plan_types.specs.Used.{declared_parts, form_parts, function_parts, showing_parts, used_parts}
+use Rattle.plan_package.specs.PlanWhole.{PlansWhole, owners_in, places_in, shown_first}
+use Rattle.plan_laws.specs.Owners.{homes_in, owners_of}
+use Rattle.plan_laws.specs.Whole.{IsPackageInput}
+use Rattle.plan_laws.specs.WholeReasons.{AreShownAlike, HavePlaces}
+use Rattle.plan_laws.proofs.Inside.{flat_cases}
+use Rattle.plan_laws.proofs.Owned.{planned_name}
+use Rattle.plan_laws.proofs.PlaceNumbers.{number_given, number_there}
+use Rattle.plan_laws.proofs.Planned.{interface_there, zip_at}
+use Rattle.plan_laws.proofs.Showings.{IsNamed, showings_named}
+use Rattle.plan_laws.proofs.WholeReasonsFunctions.{by_function}
+
+pub there_marked : (marks : List Bool) (n : ℕ) → is_marked marks n ≡ true → slice_get marks n ≡ Some true
+there_marked [] n e = no_true e
+there_marked (b ∷ marks) zero e = ap Some e
+there_marked (b ∷ marks) (suc n) e = there_marked marks n e
+
+-- what has no name is a form
+is_form_at : (t : Tables) (k n : ℕ) (s : Shape) → k ≡ 14 + n → slice_get t.shapes n ≡ Some s → name_in s ≡ None → is_form t k ≡ true
+is_form_at t k n s is at none = ap (λ o. option_map_or (λ (x : Shape). not (x.sort == 0)) o false) (shape_there t k n s is at) ∙ by (s.sort == 0) refl
+  where
+    by : (b : Bool) → (s.sort == 0) ≡ b → not b ≡ true
+    by false e = refl
+    by true e = no_true (ap is_some (sym none ∙ ap (λ (b : Bool). cond b (Some (s.number, shapes.first_label s.labels)) None) e))
+
+module _ (t : Tables) (h : Homes) (known : ℕ → Fact) (n : ℕ) (ms : List Member) (members : List reads.Member) (given : IsPackageInput t h known n ms members) (alike : AreShownAlike ms) (p : Plan)
+    (planned : PlansWhole t h.packages (home_at h) n ms p) (b : Beside) (read : FunctionsAreRead t planned.kept p b) where
+  abbrev kept : List ℕ
+  kept = planned.kept
+
+  abbrev Kept : ℕ → Type 0
+  Kept old = IsPartOfKept t h kept p b old
+
+  abbrev Used : ℕ → Type 0
+  Used k = IsUsed (map (λ (s : Shape). s.parts) t.shapes) planned.kept_for.used.roots k
+
+  abbrev Type_ : ℕ → PlannedType → Type 0
+  Type_ = PlansType t kept (shown_first ms) (owners_in ms)
+
+  many : length p.types ≡ length kept
+  many = zip_length Type_ kept p.types planned.types
+
+  -- the type of the plan for one that is used
+  pub record HasType (k : ℕ) : Type 0 where
+    pub number : ℕ
+    pub stands : slice_get kept number ≡ Some k
+    pub type_ : PlannedType
+    pub there : slice_get p.types number ≡ Some type_
+    pub planned_as : Type_ k type_
+
+  used_type : (k : ℕ) → Used k → HasType k
+  used_type k used =
+      let j = planned.kept_for.marked.stand k (there_marked planned.kept_for.marks k ((planned.kept_for.used.marked k).1 used)) in
+      let x = zip_at Type_ kept p.types planned.types j.0 k j.1 in
+      record { number = j.0; stands = j.1; type_ = x.0; there = x.1; planned_as = x.2 }
+
+  -- ---- parts of forms
+
+  no_parts : (s : Shape) (k : ℕ) (q : ℕ) (name : Text) → s ≡ named_shape q name → Contains s.parts k → Kept k
+  no_parts s k q name e c = none-in k (subst (λ (x : Shape). Contains x.parts k) e c)
+
+  inside : (m k : ℕ) (s : Shape) → slice_get t.shapes m ≡ Some s → Contains s.parts k → HasType m → Kept k
+  inside m k s at c has = by has.planned_as
+    where
+      by : Type_ m has.type_ → Kept k
+      by (unnamed r r_at none a d e formed) =
+          let same : r ≡ s = same-some r s (sym r_at ∙ at) in
+          of_type has.number has.type_ (shape_form r) r.parts formed.news has.there formed.is (parts_become t given.input.tables kept p many r.parts formed.news formed.parts) (subst (λ (x : Shape). Contains x.parts k) (sym same) c)
+      by (named r q name y r_at is first a d e kind) = of_shape (given.input.tables.shapes.each m s at)
+        where
+          of_shape : IsShape m s → Kept k
+          of_shape (shapes.a_name place other f) = no_parts s k place other f c
+          of_shape (shapes.a_node form parts f low) =
+              let same : r ≡ node_shape form parts = same-some r (node_shape form parts) (sym r_at ∙ (at ∙ ap Some f)) in
+              let none : name_in r ≡ None = ap name_in same ∙ ap (λ (x : Bool). cond x (Some ((node_shape form parts).number, shapes.first_label (node_shape form parts).labels)) None) (no_name form) in
+              no_true (ap is_some (sym none ∙ is))
+
+  -- ---- parts of what names are declared as
+
+  in_form : (m k o : ℕ) (x : PlannedType) (j : ℕ) → slice_get p.types j ≡ Some x → DeclaresKind t kept p (Some o) x.kind → is_form t o ≡ true → Contains (form_parts t o) k → Kept k
+  in_form m k o x j there (a_resource none is) form c = no_true (ap is_some (sym none))
+  in_form m k o x j there (a_name old new d fails becomes is) form c = no_true (sym (ap (is_form t) (same-some o old d) ∙ fails) ∙ form)
+  in_form m k o x j there (a_form old i form olds news d is at zip kind) is_one c =
+      let same : shape_at t o ≡ Some (node_shape form olds) = ap (shape_at t) (same-some o old d) ∙ shape_there t old i (node_shape form olds) is at in
+      of_type j x form olds news there kind zip (subst (λ (s : Option Shape). Contains (option_map_or (λ (y : Shape). y.parts) s []) k) same c)
+
+  by_showing : (k : ℕ) (s : Shape) → slice_get t.shapes k ≡ Some s → name_in s ≡ None → (y : NumberedShowing) → Contains (showings_of_members ms) y → Contains (showing_parts t y) (14 + k) → Kept (14 + k)
+  by_showing k s at none y among c = by (Contains-append_cases (y.part ∷ []) (declared_parts t y.declared) (14 + k) c)
+    where
+      is : IsNamed t given.input.tables y
+      is = showings_named t given.input.tables h ms members given.input y among
+
+      itself : y.part ≡ 14 + k → Kept (14 + k)
+      itself e =
+          let one : is.number ≡ k = (let a = is.part in omega (arith, a, e)) in
+          let shape : named_shape is.place is.name ≡ s = same-some (named_shape is.place is.name) s (sym is.is.named ∙ (ap (slice_get t.shapes) one ∙ at)) in
+          no_true (ap is_some (sym none ∙ ap name_in (sym shape)))
+
+      root : Used is.number
+      root =
+          let among_parts : Contains (used_parts t (showings_of_members ms) (signatures_of_members ms)) (14 + is.number) =
+          subst (Contains (used_parts t (showings_of_members ms) (signatures_of_members ms))) is.part
+          (front (flat_map (showing_parts t) (showings_of_members ms)) (flat_map (function_parts t) (signatures_of_members ms)) y.part
+          (contains-flat (showing_parts t) (showings_of_members ms) y y.part among (0, omega arith, refl))) in
+          marked is.number (planned.kept_for.used.shown is.number (slice_get_within t.shapes is.number (named_shape is.place is.name) is.is.named) ∙ contains-has (used_parts t (showings_of_members ms) (signatures_of_members ms)) (14 + is.number) among_parts)
+        where
+          front : (xs ys : List ℕ) (x : ℕ) → Contains xs x → Contains (xs ++ ys) x
+          front = Contains-append_left
+
+      declared_as : (o : ℕ) → y.declared ≡ Some o → (f : Bool) → is_form t o ≡ f → Contains (cond f (form_parts t o) (o ∷ [])) (14 + k) → Kept (14 + k)
+      declared_as o d false e there = no_true (sym e ∙ (ap (is_form t) (one-contained o (14 + k) there) ∙ is_form_at t (14 + k) k s refl at none))
+      declared_as o d true e there =
+          let type_ = used_type is.number root in
+          let name = planned_name t h ms members given.input n p planned type_.number is.number type_.type_ is.place is.name type_.there type_.stands is.is.named in
+          let found = (firsts_found (showings_of_members ms)).0 is.number name.showing name.first in
+          let same : name.showing.declared ≡ Some o = alike.types name.showing y found.0 among (found.1 ∙ sym is.part) ∙ d in
+          in_form is.number (14 + k) o type_.type_ type_.number type_.there (subst (λ (x : Option ℕ). DeclaresKind t kept p x type_.type_.kind) same name.kind) e there
+
+      of_declared : (d : Option ℕ) → y.declared ≡ d → Contains (declared_parts t d) (14 + k) → Kept (14 + k)
+      of_declared None e there = none-in (14 + k) there
+      of_declared (Some o) e there = declared_as o e (is_form t o) refl there
+
+      by : Contains (y.part ∷ []) (14 + k) ⊎ Contains (declared_parts t y.declared) (14 + k) → Kept (14 + k)
+      by (inl first) = itself (one-contained y.part (14 + k) first)
+      by (inr later) = of_declared y.declared refl later
+
+  -- ---- all that is used
+
+  by_root : (k : ℕ) (s : Shape) → slice_get t.shapes k ≡ Some s → name_in s ≡ None → Contains (used_parts t (showings_of_members ms) (signatures_of_members ms)) (14 + k) → Kept (14 + k)
+  by_root k s at none c = by (Contains-append_cases (flat_map (showing_parts t) (showings_of_members ms)) (flat_map (function_parts t) (signatures_of_members ms)) (14 + k) c)
+    where
+      by : Contains (flat_map (showing_parts t) (showings_of_members ms)) (14 + k) ⊎ Contains (flat_map (function_parts t) (signatures_of_members ms)) (14 + k) → Kept (14 + k)
+      by (inl among) = let y = flat_cases (showing_parts t) (showings_of_members ms) (14 + k) among in by_showing k s at none y.0 y.1 y.2
+      by (inr among) =
+          let f = flat_cases (function_parts t) (signatures_of_members ms) (14 + k) among in
+          by_function t h known n ms members given alike p planned b read (14 + k) f.0 f.1 f.2
+
+  by_used : (k : ℕ) (s : Shape) → slice_get t.shapes k ≡ Some s → name_in s ≡ None → Used k → Kept (14 + k)
+  by_used k s at none (marked i is) =
+      by_root k s at none (has-contains (used_parts t (showings_of_members ms) (signatures_of_members ms)) (14 + k) (sym (planned.kept_for.used.shown k (slice_get_within t.shapes k s at)) ∙ is))
+  by_used k s at none (part m i ks before there c) =
+      let shape = unmapped_get (λ (x : Shape). x.parts) t.shapes m ks there in
+      inside m (14 + k) shape.0 shape.1 (subst (λ ps. Contains ps (14 + k)) (sym shape.2) c) (used_type m before)
+
+  types_kept : (j k : ℕ) (x : PlannedType) → slice_get p.types j ≡ Some x → slice_get kept j ≡ Some k → x.name ≡ None → Kept (14 + k)
+  types_kept j k x there stands none =
+      let from = zip_get Type_ kept p.types planned.types j x there in
+      let used = (planned.kept_for.used.marked k).0 (mark_there planned.kept_for.marks k (planned.kept_for.marked.among j k stands)) in
+      by used (subst (λ m. Type_ m x) (same-some from.0 k (sym from.1 ∙ stands)) from.2)
+    where
+      by : Used k → Type_ k x → Kept (14 + k)
+      by used (unnamed s at no_name a d e formed) = by_used k s at no_name used
+      by used (named s q name y at is first a d e kind) = no_true (ap is_some (sym none ∙ a))
+
+  -- ---- packages
+
+  module _ (have : HavePlaces t h n ms) (owned : b.owners ≡ owners_of ms) where
+    with_place : (c : ℕ) → HasPlace h.homes c → HasHomes t h kept p b c
+    with_place c is =
+        let home : home_at h is.place ≡ Some (c, is.name) = ap (λ o. unwrap_or o None) is.home in
+        let path = path_given is.place (c, is.name) home in
+        let number = number_given (places_in ms) is.place (have.met is.place path) in
+        let there = interface_there t h ms members given.input n p planned number.0 is.place (number_there (places_in ms) is.place number.0 number.1) in
+        record {
+          place = is.place;
+          path = path;
+          name = is.name;
+          home = home;
+          number = number.0;
+          owned = ap (λ (f : ℕ → TypeOwner). f is.place) owned ∙ ap (λ o. option_map_or as_interface o (option_map_or as_world (number_in (homes_in ms) is.place) (as_interface (length (places_in ms) + is.place)))) number.1;
+          interface = there.0;
+          there = there.1;
+        }
+      where
+        path_given : (q : ℕ) (x : ℕ × Text) → home_at h q ≡ Some x → HasPath t q
+        path_given q x home = by (path_at t q) refl
+          where
+            by : (o : Option Text) → path_at t q ≡ o → HasPath t q
+            by (Some path) e = (path, e)
+            by None e = no_true (ap is_some (sym (given.alone q e) ∙ home))
+
+    packages_kept : (c : ℕ) (k : PlannedPackage) → package_in p c ≡ Some k → (c ≡ p.main) ⊎ HasHomes t h kept p b c
+    packages_kept c k there = by (have.packages c (let low = slice_get_within p.packages c k there in let as_many = planned.packages.many in omega (arith, low, as_many)))
+      where
+        by : (c ≡ n) ⊎ HasPlace h.homes c → (c ≡ p.main) ⊎ HasHomes t h kept p b c
+        by (inl own) = inl (own ∙ sym planned.main)
+        by (inr is) = inr (with_place c is)
+
+    pub kept_for_reasons : IsKeptForReasons t h kept p b
+    kept_for_reasons = record { types = types_kept; packages = packages_kept }

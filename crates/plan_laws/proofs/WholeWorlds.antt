@@ -1,0 +1,351 @@
+-- The worlds of a whole plan are those that were read.
+use Rattle.std.proofs.Common.{◌≡◌, refl, sym, ap, subst, ◌∙◌, ℕ, ◌+◌, ◌<◌, ◌⊎◌, inl, inr, arith, Bool, true, false, not, ◌&&◌, List, [], ◌++◌, length, map, option_to_list, Option, Some, None, slice_get}
+use Rattle.std.specs.List.{AllByRecursion, Contains, list_all}
+use Rattle.std.proofs.Math.ListN.{length-map}
+use Rattle.std.proofs.lemmas.List.Elements.{Contains-append_left, Contains-append_right}
+use Rattle.std.proofs.lemmas.Option.{slice_get_within}
+use Rattle.wit_model.specs.declared.model.TypeId.{TypeId}
+use Rattle.wit_model.specs.Lookup.{resource_of}
+use Rattle.wit_model.specs.Names.{is_label}
+use Rattle.wit_model.specs.Text.{Text}
+use Rattle.wit_model.specs.Valid.{as_world}
+use Rattle.wit_model.proofs.Elements.{contains-filter_map, contains-map, contains-one, get-contains, same-some}
+use Rattle.comp_meaning.specs.Reads as reads
+use Rattle.comp_meaning.specs.Rules.{distinct}
+use Rattle.read_shown.specs.Scopes as scopes
+use Rattle.read_shown.proofs.Lists.{mapped_get, one_place, unmapped_get}
+use Rattle.plan_meaning.specs.FollowedNumbers.{IsCalledIn, IsMetFrom, IsSeenIn}
+use Rattle.plan_meaning.specs.KeptFunctions.{IsKindOf, IsResource, a_constructor, a_method, a_static, an_async_method, an_async_static, of_none}
+use Rattle.plan_meaning.specs.NumberedMembers.{Homes, NumberedMember, home_at}
+use Rattle.plan_meaning.specs.NumberedRules.{Fact, is_function}
+use Rattle.plan_meaning.specs.NumberedViews.{PartsOf, Tables, function_at}
+use Rattle.plan_meaning.specs.NumberedWorlds as worlds
+use Rattle.plan_meaning.specs.NumberedWorlds.{KeyStands, NumberedScope, NumberedSeen, NumberedShown, ScopeStands, are_imports, is_item, is_world, place_of_key, resources_seen, shown_of, stand_earlier}
+use Rattle.plan_meaning.specs.Plan as plan
+use Rattle.plan_meaning.specs.Plan.{Plan, PlannedFunction, PlannedItem, PlannedKey, PlannedWorld, item_function, items_of, world_in}
+use Rattle.plan_meaning.specs.PlanRules.{world_functions}
+use Rattle.plan_meaning.specs.ReadFunctions.{Beside, FunctionsAreRead, IsReadFunction}
+use Rattle.plan_meaning.specs.ReadWorlds.{IsInterfaceOf, IsReadItem, IsReadUnder, IsReadWorld, ReadItem, by_label, by_path, implementing_path, is_type_seen, types_follow}
+use Rattle.plan_meaning.specs.ReadWorlds as read
+use Rattle.plan_meaning.specs.Shapes.{named_shape}
+use Rattle.plan_meaning.proofs.GatheredPlan.{all_at}
+use Rattle.plan_meaning.proofs.KeptTypes.{all_by_number}
+use Rattle.plan_meaning.proofs.Lists.{no_true}
+use Rattle.plan_meaning.proofs.NumberedWorlds.{worlds_in_numbers}
+use Rattle.plan_meaning.proofs.ShapeLaws.{slice_there}
+use Rattle.plan_parts.specs.Functions.{TakesAndGives}
+use Rattle.plan_parts.proofs.FunctionLaws.{IsNamedAfter, constructor_after, method_after, resource_among, static_after}
+use Rattle.plan_type_laws.proofs.KeptKinds.{zip_get, zip_length}
+use Rattle.read_exports.specs.Members.{numbered_member, numbered_members, numbered_part}
+use Rattle.read_exports.specs.declared.members.Member.{Member}
+use Rattle.read_exports.specs.declared.members.Part.TheVariants as parts
+use Rattle.read_rules.specs.Scopes.{numbered_key, numbered_scope, numbered_seen, numbered_shown}
+use Rattle.read_rules.specs.Tables.{given_text}
+use Rattle.read_rules.specs.Views.{numbered_view}
+use Rattle.read_rules.specs.declared.scopes.InstanceKey.{InstanceKey}
+use Rattle.read_rules.specs.declared.scopes.InstanceKey.TheVariants as keys
+use Rattle.read_rules.specs.declared.scopes.Scope.{Scope}
+use Rattle.read_rules.specs.declared.scopes.Seen.{Seen}
+use Rattle.read_rules.specs.declared.scopes.Shown.{Shown}
+use Rattle.read_rules.specs.declared.scopes.Shown.TheVariants as shown
+use Rattle.read_rules.specs.declared.views.View.{View}
+use Rattle.plan_package.specs.PlanWhole.{PlansWhole, places_in}
+use Rattle.plan_package.specs.WholeWorlds.{PlansFunction, PlansInstance, PlansItem, PlansWorld, a_function, a_type, an_instance, worlds_in}
+use Rattle.plan_laws.specs.FirstViews.{ViewsAreOrdered}
+use Rattle.plan_laws.specs.Owners.{owners_of}
+use Rattle.plan_laws.specs.ViewedInterfaces.{views_read}
+use Rattle.plan_laws.specs.Whole.{IsPackageInput, PartIsKnown}
+use Rattle.plan_laws.specs.WholeTypes.{IsRuledInput}
+use Rattle.plan_laws.specs.WholeWorlds.{IsCounted, IsLastType, IsReadAs, IsUnderKey, PlannedWorldsAreRead, WorldIsFollowed, WorldsAreFollowed, WorldsAreReadAs}
+use Rattle.plan_laws.specs.WorldItems.{KeysAreApart, WorldIsPlanned, WorldsAreApart}
+use Rattle.plan_laws.proofs.FollowedItems.{items, items_at, items_behind, items_listed, items_seen, parts_back, seen_resource, types_behind}
+use Rattle.plan_laws.proofs.PlaceNumbers.{one_owner}
+use Rattle.plan_laws.proofs.ShownFrom.{IsWorldOf, world_of}
+use Rattle.plan_laws.proofs.ShownRules.{no_types}
+use Rattle.plan_laws.proofs.Showings.{all_given}
+use Rattle.plan_laws.proofs.ViewNames.{parts_weaker}
+use Rattle.plan_laws.proofs.WholeTypes.{packages_are_ruled}
+use Rattle.plan_laws.proofs.WorldItems.{planned_worlds_stand, world_member}
+
+-- the first and the third of five tests
+first_and_third : (a b c d e : Bool) → (a && b && c && d && e) ≡ true → (a ≡ true) × (c ≡ true)
+first_and_third true true true d e h = (refl, refl)
+first_and_third true true false d e h = absurd cc
+first_and_third true false c d e h = absurd cc
+first_and_third false b c d e h = absurd cc
+
+module _ (t : Tables) (h : Homes) (known : ℕ → Fact) (n : ℕ) (ms : List Member) (members : List reads.Member) (given : IsPackageInput t h known n ms members) (ordered : ViewsAreOrdered t ms) (worlds_apart : WorldsAreApart ms) (followed : WorldsAreFollowed t ms)
+    (p : Plan) (planned : PlansWhole t h.packages (home_at h) n ms p) (b : Beside) (beside_known : b.known ≡ known) (beside_owners : b.owners ≡ owners_of ms) (functions : FunctionsAreRead t planned.kept p b) where
+  abbrev kept : List ℕ
+  kept = planned.kept
+
+  ruled : IsRuledInput t h ms members
+  ruled = packages_are_ruled t h known n ms members given
+
+  module _ (m : ℕ) (x : PlannedWorld) (there : world_in p m ≡ Some x) (w : Text × Scope) (at : slice_get (worlds_in ms) m ≡ Some w) (made : PlansWorld t kept (places_in ms) n w x) where
+    abbrev scope : NumberedScope
+    scope = numbered_scope w.1
+
+    member : (y : Member) × Contains ms y × (y.part ≡ parts.World w.1)
+    member = world_member ms w (get-contains (worlds_in ms) m w at)
+
+    world : IsWorldOf t h ms members given.input given.placed.apart w.1
+    world = world_of t h ms members given.input given.placed.apart member.0 member.1 w.1 member.2
+
+    stands : WorldIsPlanned t ms kept p b m w.1
+    stands = planned_worlds_stand t h ms members given.input ruled.agree ordered worlds_apart n p planned b beside_owners m w at
+
+    was : WorldIsFollowed t scope
+    was = all_at (λ (y : Text × Scope). WorldIsFollowed t (numbered_scope y.1)) (worlds_in ms) followed w (get-contains (worlds_in ms) m w at)
+
+    is_known : ScopeStands t known scope
+    is_known = subst (λ a. PartIsKnown t known (numbered_part a)) member.2 (all_at (λ (y : NumberedMember). PartIsKnown t known y.part) (numbered_members ms) given.scopes (numbered_member member.0) (contains-map numbered_member ms member.0 member.1))
+
+    obeys : is_world t known scope ≡ true
+    obeys = sym (worlds_in_numbers t given.input.tables known scope world.scope is_known world.shows) ∙ world.stands.obeys
+
+    rules_hold : (are_imports t known scope.home [] scope.imports ≡ true) × (distinct (map (λ (s : NumberedSeen). s.key) scope.imports) ≡ true)
+    rules_hold =
+        first_and_third (are_imports t known scope.home [] scope.imports) (list_all (λ (s : NumberedSeen). is_item t known scope.home [] s.key s.shown) scope.exports) (distinct (map (λ (s : NumberedSeen). s.key) scope.imports))
+        (distinct (map (λ (s : NumberedSeen). s.key) scope.exports)) (stand_earlier t [] (scope.imports ++ scope.exports)) obeys
+
+    keys_apart : KeysAreApart w.1
+    keys_apart i j a c at_a at_c same =
+        let key : (k : ℕ) (s : Seen) → slice_get w.1.imports.now k ≡ Some s → slice_get (map (λ (y : NumberedSeen). y.key) scope.imports) k ≡ Some s.key.now =
+        λ k s e. mapped_get (λ (y : NumberedSeen). y.key) scope.imports k (numbered_seen s) (mapped_get numbered_seen w.1.imports.now k s e) in
+        one_place (map (λ (y : NumberedSeen). y.key) scope.imports) rules_hold.1 i j c.key.now (key i a at_a ∙ ap Some same) (key j c at_c)
+
+    -- ---- functions
+
+    abbrev Item : ReadItem → Type 0
+    Item = IsReadItem t kept p b (views_read ms) (as_world m) scope.home
+
+    abbrev Under : Text → ℕ → PlannedFunction → Type 0
+    Under = IsReadUnder t kept p b (views_read ms) (as_world m) scope.home
+
+    -- a resource of the world has a number below
+    abbrev ResourceBelow : Text → ℕ → Type 0
+    ResourceBelow key c = (r : Text) → IsNamedAfter key r → (k : ℕ) → slice_get t.shapes k ≡ Some (named_shape scope.home r) → k < c
+
+    function_under : (key : Text) (f c : ℕ) (g : PlannedFunction) → Contains (world_functions x) g → g.name ≡ key → TakesAndGives kept (function_at t f) g → PartsOf (λ k. k < 14 + c) (function_at t f) → ResourceBelow key c → Under key c g
+    function_under key f c g among named takes parts below = record { read = is_read; named = named; parts = parts_back t kept p (λ k. k < 14 + c) (function_at t f) is_read.shape is_read.external_id g takes is_read.kept_function.becomes parts; resource = resource }
+      where
+        is_read : IsReadFunction t kept p b (as_world m) g
+        is_read = all_at (IsReadFunction t kept p b (as_world m)) (world_functions x) (functions.of_worlds m x there) g among
+
+        home : is_read.place ≡ scope.home
+        home = one_owner ms b beside_owners is_read.place scope.home (as_world m) is_read.owned stands.owned
+
+        name : is_read.name ≡ key
+        name = sym is_read.kept_function.named ∙ named
+
+        resource : (i k : ℕ) → resource_of g.kind ≡ Some i → slice_get kept i ≡ Some k → k < c
+        resource i k of_kind stands_at = by is_read.kept_function.kind
+          where
+            found : (id : TypeId) (r : Text) → resource_of g.kind ≡ Some id.0 → IsResource t b.known kept p (as_world m) is_read.place r id.0 → IsNamedAfter is_read.name r → k < c
+            found id r is res after =
+                let one : i ≡ id.0 = same-some i id.0 (sym of_kind ∙ is) in
+                let same : k ≡ res.shape = same-some k res.shape (sym stands_at ∙ (ap (slice_get kept) one ∙ res.stands)) in
+                below r (subst (λ z. IsNamedAfter z r) name after) k (ap (slice_get t.shapes) same ∙ (res.shape_is ∙ ap (λ q. Some (named_shape q r)) home))
+
+            by : IsKindOf t b.known kept p (as_world m) is_read.place is_read.name is_read.shape g.kind → k < c
+            by (of_none label none) = let wrong : None ≡ Some i = sym none ∙ of_kind in absurd cc
+            by (a_constructor id r is res after gives) = found id r (ap resource_of is) res (constructor_after after)
+            by (a_method id r is res after takes_self) = found id r (ap resource_of is) res (method_after after)
+            by (an_async_method id r is res after takes_self) = found id r (ap resource_of is) res (method_after after)
+            by (a_static id r is res after) = found id r (ap resource_of is) res (static_after after)
+            by (an_async_static id r is res after) = found id r (ap resource_of is) res (static_after after)
+
+    -- a resource that a function is named after is imported before it
+    imported_below : (j c : ℕ) (s : NumberedSeen) (f : ℕ) → slice_get scope.imports j ≡ Some s → slice_get was.counted.counts j ≡ Some c → s.shown ≡ worlds.function f → ResourceBelow s.key c
+    imported_below j c s f at_s at_c shows r after k shape =
+        let behind = items_behind t known scope.home scope.imports [] scope.imports refl rules_hold.0 j s at_s in
+        let rule : is_function t known scope.home (resources_seen behind.before) s.key (function_at t f) ≡ true = subst (λ y. is_item t known scope.home (resources_seen behind.before) s.key y ≡ true) shows behind.is in
+        let res = seen_resource behind.before r (resource_among t known scope.home s.key (function_at t f) (resources_seen behind.before) rule r after) in
+        let earlier = behind.there res.number res.seen res.at in
+        let low : res.number < j = (let l : res.number < 0 + j = earlier.0 in omega (arith, l)) in
+        let many : length was.counted.counts ≡ length scope.imports = was.counted.many in
+        let within = slice_get_within scope.imports res.number res.seen earlier.1 in
+        let count = slice_there was.counted.counts res.number (omega (arith, many, within)) in
+        let last : IsLastType t scope.home was.counted.counts res.number count.0 res.seen.key = subst (IsCounted t scope.home was.counted.counts res.number count.0 res.seen.key) res.shown (was.counted.counted res.number count.0 res.seen earlier.1 count.1) in
+        let one : last.number ≡ k = given.input.tables.shapes.apart last.number k (named_shape scope.home r) (last.shape ∙ ap (λ z. Some (named_shape scope.home z)) res.key) shape in
+        let below = was.counted.rising res.number j count.0 c count.1 at_c low in
+        let is = last.last in
+        omega (arith, one, below, is)
+
+    -- ---- instances
+
+    instance_item : (s : Seen) → Contains w.1.imports.now s ⊎ Contains w.1.exports.now s → IsSeenIn t scope.home (numbered_seen s) → IsUnderKey t s.key.now (numbered_shown s.shown) → (key : InstanceKey) (v : View) → s.shown ≡ shown.Instance key v
+        → (e : PlannedKey × PlannedItem) → PlansInstance (places_in ms) (numbered_key key) (given_text s.external_id) e → (c : ℕ) → Item (record { seen = numbered_seen s; entry = e; count = c })
+    instance_item s side seen under key v shows e plans c =
+        by key shows plans (subst (λ y. IsSeenIn t scope.home (record { key = s.key.now; shown = numbered_shown y; external_id = given_text s.external_id })) shows seen).0 (subst (λ y. IsUnderKey t s.key.now (numbered_shown y)) shows under)
+        (stands.instances s side key v shows plans.number plans.found)
+      where
+        by : (k : InstanceKey) → s.shown ≡ shown.Instance k v → (made : PlansInstance (places_in ms) (numbered_key k) (given_text s.external_id) e) → KeyStands t (numbered_key k) → IsUnderKey t s.key.now (worlds.instance (numbered_key k) (numbered_view v))
+            → IsInterfaceOf t kept p b (views_read ms) (as_world m) scope.home (place_of_key (numbered_key k)) (numbered_view v) made.number → Item (record { seen = numbered_seen s; entry = e; count = c })
+        by (keys.Path q) is made path named of = by_path q made.number (numbered_view v) (given_text s.external_id) path (ap numbered_shown is) named made.is of
+        by (keys.Label l q) is made none named of =
+            by_label q made.number (numbered_view v) (given_text s.external_id) (ap numbered_shown is ∙ ap (λ z. worlds.instance (worlds.label z q) (numbered_view v)) (sym named.0)) (ap is_label named.0 ∙ named.1)
+            (made.is ∙ ap (λ z. (plan.label z, plan.interface made.number (given_text s.external_id))) (sym named.0)) of
+        by (keys.Implementing l q) is made path named of =
+            implementing_path q made.number (numbered_view v) (given_text s.external_id) path (ap numbered_shown is ∙ ap (λ z. worlds.instance (worlds.implementing z q) (numbered_view v)) (sym named.0)) (ap is_label named.0 ∙ named.1)
+            (made.is ∙ ap (λ z. (plan.label z, plan.interface made.number (given_text s.external_id))) (sym named.0)) of
+
+    -- ---- items
+
+    abbrev Plans : Seen → PlannedKey × PlannedItem → Type 0
+    Plans = PlansItem t kept (places_in ms) made.find
+
+    function_item : (s : Seen) (f : ℕ) → s.shown ≡ shown.Function f → (e : PlannedKey × PlannedItem) → Contains (items_of x) e.1 → e.0 ≡ plan.label s.key.now → PlansFunction t kept made.find s.key.now f (given_text s.external_id) e.1
+        → (c : ℕ) → PartsOf (λ k. k < 14 + c) (function_at t f) → ResourceBelow s.key.now c → Item (record { seen = numbered_seen s; entry = e; count = c })
+    function_item s f shows e e_in key plans c parts below =
+        let g = plans.function in
+        let among : Contains (world_functions x) g = contains-filter_map item_function (items_of x) e.1 g e_in (subst (λ i. Contains (option_to_list (item_function i)) g) (sym plans.is) (contains-one g)) in
+        read.a_function f g (ap numbered_shown shows) (λ i. (key i, plans.is i)) (function_under s.key.now f c g among plans.planned.named plans.planned.parts parts below)
+
+    import_item : (j : ℕ) (s : Seen) → slice_get w.1.imports.now j ≡ Some s → (e : PlannedKey × PlannedItem) → Contains (items_of x) e.1 → Plans s e → (c : ℕ) → slice_get was.counted.counts j ≡ Some c → Item (record { seen = numbered_seen s; entry = e; count = c })
+    import_item j s at_s e e_in plans c at_c = by plans
+      where
+        in_it : Contains w.1.imports.now s
+        in_it = get-contains w.1.imports.now j s at_s
+
+        in_scope : Contains scope.imports (numbered_seen s)
+        in_scope = contains-map numbered_seen w.1.imports.now s in_it
+
+        at_scope : slice_get scope.imports j ≡ Some (numbered_seen s)
+        at_scope = mapped_get numbered_seen w.1.imports.now j s at_s
+
+        seen : IsSeenIn t scope.home (numbered_seen s)
+        seen = all_at (IsSeenIn t scope.home) scope.imports world.good.imports (numbered_seen s) in_scope
+
+        under : IsUnderKey t s.key.now (numbered_shown s.shown)
+        under = all_at (λ (y : NumberedSeen). IsUnderKey t y.key y.shown) scope.imports was.imports (numbered_seen s) in_scope
+
+        counted : IsCounted t scope.home was.counted.counts j c s.key.now (numbered_shown s.shown)
+        counted = was.counted.counted j c (numbered_seen s) at_scope at_c
+
+        by : Plans s e → Item (record { seen = numbered_seen s; entry = e; count = c })
+        by (an_instance key v shows instance_plans) = instance_item s (inl in_it) seen under key v shows e instance_plans c
+        by (a_function f shows key function_plans) =
+            function_item s f shows e e_in key function_plans c (subst (IsCounted t scope.home was.counted.counts j c s.key.now) (ap numbered_shown shows) counted) (imported_below j c (numbered_seen s) f at_scope at_c (ap numbered_shown shows))
+        by (a_type part d i shows is part_is) =
+            let type_ = stands.types keys_apart s in_it part d shows i part_is in
+            let last : IsLastType t scope.home was.counted.counts j c s.key.now = subst (IsCounted t scope.home was.counted.counts j c s.key.now) (ap numbered_shown shows) counted in
+            let one : last.number ≡ type_.0 = given.input.tables.shapes.apart last.number type_.0 (named_shape scope.home s.key.now) last.shape type_.2 in
+            read.a_type d i (ap numbered_shown shows) is (record { number = type_.0; stands = type_.1; shape = type_.2; becomes = type_.3; last = last.last ∙ ap (λ k. k + 1) one })
+
+    none_exported : AllByRecursion (λ (c : Seen). scopes.is_type (shown_of t (numbered_shown c.shown)) ≡ false) w.1.exports.now
+    none_exported = no_types t given.input.tables w.1 world.scope world.shows world.good world.declares world.stands
+
+    export_item : (j : ℕ) (s : Seen) → slice_get w.1.exports.now j ≡ Some s → (e : PlannedKey × PlannedItem) → Contains (items_of x) e.1 → Plans s e → Item (record { seen = numbered_seen s; entry = e; count = length t.shapes })
+    export_item j s at_s e e_in plans = by plans
+      where
+        in_it : Contains w.1.exports.now s
+        in_it = get-contains w.1.exports.now j s at_s
+
+        in_scope : Contains scope.exports (numbered_seen s)
+        in_scope = contains-map numbered_seen w.1.exports.now s in_it
+
+        seen : IsSeenIn t scope.home (numbered_seen s)
+        seen = all_at (IsSeenIn t scope.home) scope.exports world.good.exports (numbered_seen s) in_scope
+
+        under : IsUnderKey t s.key.now (numbered_shown s.shown)
+        under = all_at (λ (y : NumberedSeen). IsUnderKey t y.key y.shown) scope.exports was.exports (numbered_seen s) in_scope
+
+        by : Plans s e → Item (record { seen = numbered_seen s; entry = e; count = length t.shapes })
+        by (an_instance key v shows instance_plans) = instance_item s (inr in_it) seen under key v shows e instance_plans (length t.shapes)
+        by (a_function f shows key function_plans) =
+            let called : IsCalledIn t scope.home f = subst (λ y. IsSeenIn t scope.home (record { key = s.key.now; shown = numbered_shown y; external_id = given_text s.external_id })) shows seen in
+            function_item s f shows e e_in key function_plans (length t.shapes) (parts_weaker (IsMetFrom t scope.home) (λ k. k < 14 + length t.shapes) (λ k met. met.range) (function_at t f) called.parts)
+            (λ r after k shape. slice_get_within t.shapes k (named_shape scope.home r) shape)
+        by (a_type part d i shows is part_is) =
+            no_true (sym (all_at (λ (c : Seen). scopes.is_type (shown_of t (numbered_shown c.shown)) ≡ false) w.1.exports.now none_exported s in_it) ∙ ap (λ y. scopes.is_type (shown_of t (numbered_shown y))) shows)
+
+    -- ---- the world
+
+    abbrev imported : List ReadItem
+    imported = items scope.imports x.imports was.counted.counts
+
+    abbrev counts : List ℕ
+    counts = map (λ (s : NumberedSeen). length t.shapes) scope.exports
+
+    abbrev exported : List ReadItem
+    exported = items scope.exports x.exports counts
+
+    imports_read : AllByRecursion Item imported
+    imports_read = all_given Item imported (λ j y e.
+        let is = items_at scope.imports x.imports was.counted.counts j y e in
+        let from = zip_get Plans w.1.imports.now x.imports made.imports j y.entry is.1 in
+        let seen : numbered_seen from.0 ≡ y.seen = same-some (numbered_seen from.0) y.seen (sym (mapped_get numbered_seen w.1.imports.now j from.0 from.1) ∙ is.0) in
+        let among = Contains-append_left (map (λ (z : PlannedKey × PlannedItem). z.1) x.imports) (map (λ (z : PlannedKey × PlannedItem). z.1) x.exports) y.entry.1 (contains-map (λ (z : PlannedKey × PlannedItem). z.1) x.imports y.entry (get-contains x.imports j y.entry is.1)) in
+        subst (λ (z : NumberedSeen). Item (record { seen = z; entry = y.entry; count = y.count })) seen (import_item j from.0 from.1 y.entry among from.2 y.count is.2))
+
+    exports_read : AllByRecursion Item exported
+    exports_read = all_given Item exported (λ j y e.
+        let is = items_at scope.exports x.exports counts j y e in
+        let from = zip_get Plans w.1.exports.now x.exports made.exports j y.entry is.1 in
+        let seen : numbered_seen from.0 ≡ y.seen = same-some (numbered_seen from.0) y.seen (sym (mapped_get numbered_seen w.1.exports.now j from.0 from.1) ∙ is.0) in
+        let among = Contains-append_right (map (λ (z : PlannedKey × PlannedItem). z.1) x.imports) (map (λ (z : PlannedKey × PlannedItem). z.1) x.exports) y.entry.1 (contains-map (λ (z : PlannedKey × PlannedItem). z.1) x.exports y.entry (get-contains x.exports j y.entry is.1)) in
+        let count = unmapped_get (λ (s : NumberedSeen). length t.shapes) scope.exports j y.count is.2 in
+        subst (λ (c : ℕ). Item (record { seen = y.seen; entry = y.entry; count = c })) count.2
+        (subst (λ (z : NumberedSeen). Item (record { seen = z; entry = y.entry; count = length t.shapes })) seen (export_item j from.0 from.1 y.entry among from.2)))
+
+    follows : types_follow imported ≡ true
+    follows = types_behind imported (λ i j a y at_a at_y low typed.
+        let is_a = items_at scope.imports x.imports was.counted.counts i a at_a in
+        let is_y = items_at scope.imports x.imports was.counted.counts j y at_y in
+        let shows = type_there y.seen.shown typed in
+        let last : IsLastType t scope.home was.counted.counts j y.count y.seen.key = subst (IsCounted t scope.home was.counted.counts j y.count y.seen.key) shows.1 (was.counted.counted j y.count y.seen is_y.0 is_y.2) in
+        last.behind i a.count is_a.2 low)
+      where
+        type_there : (y : NumberedShown) → is_type_seen y ≡ true → (d : Option ℕ) × (y ≡ worlds.declares d)
+        type_there (worlds.instance k v) e = no_true e
+        type_there (worlds.function f) e = no_true e
+        type_there (worlds.declares d) e = (d, refl)
+
+    no_type : list_all (λ (s : NumberedSeen). not (is_type_seen s.shown)) scope.exports ≡ true
+    no_type = all_by_number (λ (s : NumberedSeen). not (is_type_seen s.shown)) scope.exports (λ j y e.
+        let c = unmapped_get numbered_seen w.1.exports.now j y e in
+        subst (λ (s : NumberedSeen). not (is_type_seen s.shown) ≡ true) c.2
+        (by c.0.shown (all_at (λ (s : Seen). scopes.is_type (shown_of t (numbered_shown s.shown)) ≡ false) w.1.exports.now none_exported c.0 (get-contains w.1.exports.now j c.0 c.1))))
+      where
+        by : (y : Shown) → scopes.is_type (shown_of t (numbered_shown y)) ≡ false → not (is_type_seen (numbered_shown y)) ≡ true
+        by (shown.Instance k v) e = refl
+        by (shown.Function f) e = refl
+        by (shown.Declares part d) e = no_true (sym e)
+
+    world_read : (y : IsReadWorld t kept p b (views_read ms) m x) × IsReadAs ms m y.scope
+    world_read =
+        let imports_many : length x.imports ≡ length scope.imports = zip_length Plans w.1.imports.now x.imports made.imports ∙ sym (length-map w.1.imports.now numbered_seen) in
+        let exports_many : length x.exports ≡ length scope.exports = zip_length Plans w.1.exports.now x.exports made.exports ∙ sym (length-map w.1.exports.now numbered_seen) in
+        let counts_many : length counts ≡ length scope.exports = length-map scope.exports (λ (s : NumberedSeen). length t.shapes) in (
+          record {
+            scope = scope;
+            owned = stands.owned;
+            imports = imported;
+            exports = exported;
+            imports_seen = items_seen scope.imports x.imports was.counted.counts imports_many was.counted.many;
+            exports_seen = items_seen scope.exports x.exports counts exports_many counts_many;
+            imports_listed = items_listed scope.imports x.imports was.counted.counts imports_many was.counted.many;
+            exports_listed = items_listed scope.exports x.exports counts exports_many counts_many;
+            imports_read = imports_read;
+            exports_read = exports_read;
+            follow = follows;
+            no_types = no_type;
+            obeys = ap (λ k. is_world t k scope) beside_known ∙ obeys;
+          },
+          record { world = w; there = at; same = refl },
+        )
+
+  -- ---- all worlds
+
+  each_read : (m : ℕ) (x : PlannedWorld) → world_in p m ≡ Some x → (y : IsReadWorld t kept p b (views_read ms) m x) × IsReadAs ms m y.scope
+  each_read m x e =
+      let from = zip_get (PlansWorld t kept (places_in ms) n) (worlds_in ms) p.worlds planned.worlds m x e in
+      world_read m x e from.0 from.1 from.2
+
+  pub worlds_are_read : WorldsAreReadAs t ms kept p b (views_read ms)
+  worlds_are_read = record { worlds = λ m x e. (each_read m x e).0; followed = λ m x e. (each_read m x e).1 }
+
+pub planned_worlds_are_read : PlannedWorldsAreRead
+planned_worlds_are_read t h known n ms members given ordered apart followed p planned b known_is owned functions = worlds_are_read t h known n ms members given ordered apart followed p planned b known_is owned functions

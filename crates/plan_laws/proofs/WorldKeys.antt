@@ -1,0 +1,67 @@
+-- The imports of a world stand under keys that differ, and a world has a place of its own.
+use Rattle.std.proofs.Common.{◌≡◌, refl, sym, ap, subst, ◌∙◌, ℕ, Bool, true, false, ◌&&◌, List, [], ◌++◌, map, Option, Some, slice_get}
+use Rattle.std.specs.List.{Contains, list_all}
+use Rattle.wit_model.proofs.Elements.{contains-get, same-some}
+use Rattle.comp_meaning.specs.Follow as follow
+use Rattle.comp_meaning.specs.Reads as reads
+use Rattle.comp_meaning.specs.Rules as rules
+use Rattle.comp_meaning.specs.Rules.{distinct}
+use Rattle.read_shown.proofs.Lists.{mapped_get, one_place}
+use Rattle.plan_meaning.specs.NumberedMembers.{Homes}
+use Rattle.plan_meaning.specs.NumberedViews.{Tables}
+use Rattle.plan_meaning.specs.NumberedWorlds as worlds
+use Rattle.plan_meaning.specs.NumberedWorlds.{NumberedScope, NumberedSeen, NumberedShown, are_once, seen_of}
+use Rattle.plan_meaning.proofs.Lists.{map_of_map}
+use Rattle.read_exports.specs.Members.{numbered_members}
+use Rattle.read_exports.specs.declared.members.Member.{Member}
+use Rattle.read_exports.specs.declared.members.Part.TheVariants as parts
+use Rattle.read_rules.specs.declared.scopes.Scope.{Scope}
+use Rattle.read_rules.specs.Scopes.{numbered_scope, numbered_seen}
+use Rattle.plan_type_laws.specs.ShownMarks.{own_places}
+use Rattle.plan_laws.specs.ShownNames.{IsInput}
+use Rattle.plan_laws.proofs.OwnPlaces.{Owned, a_view, a_world, frames, one_owned}
+use Rattle.plan_laws.proofs.ShownFrom.{IsWorldOf, home_frame, world_of}
+
+third_of : (a b c d e : Bool) → (a && b && c && d && e) ≡ true → c ≡ true
+third_of true true true d e h = refl
+third_of true true false d e h = absurd cc
+third_of true false c d e h = absurd cc
+third_of false b c d e h = absurd cc
+
+-- the import of a key is one
+pub one_key : (ss : List NumberedSeen) → distinct (map (λ (s : NumberedSeen). s.key) ss) ≡ true → (a b : NumberedSeen) → Contains ss a → Contains ss b → a.key ≡ b.key → a ≡ b
+one_key ss apart a b c d e =
+    let i = contains-get ss a c in
+    let j = contains-get ss b d in
+    let same : i.0 ≡ j.0 = one_place (map (λ (s : NumberedSeen). s.key) ss) apart i.0 j.0 b.key (mapped_get (λ (s : NumberedSeen). s.key) ss i.0 a i.1 ∙ ap Some e) (mapped_get (λ (s : NumberedSeen). s.key) ss j.0 b j.1) in
+    same-some a b (sym i.1 ∙ (ap (slice_get ss) same ∙ j.1))
+
+abbrev pub declared_in : Option ℕ → NumberedShown → Option ℕ
+declared_in default (worlds.declares d) = d
+declared_in default (worlds.function n) = default
+declared_in default (worlds.instance key v) = default
+
+abbrev pub is_world_owned : Owned → Bool
+is_world_owned (a_world w) = true
+is_world_owned (a_view v) = false
+
+abbrev pub world_owned : NumberedScope → Owned → NumberedScope
+world_owned default (a_world w) = w
+world_owned default (a_view v) = default
+
+module _ (t : Tables) (h : Homes) (ms : List Member) (members : List reads.Member) (input : IsInput t h ms members) (apart : are_once (own_places t (numbered_members ms)) ≡ true) where
+  pub keys_apart : (w : Scope) → IsWorldOf t h ms members input apart w → distinct (map (λ (s : NumberedSeen). s.key) (map numbered_seen w.imports.now)) ≡ true
+  keys_apart w is =
+      let scope = is.scope in
+      let tree = third_of (rules.are_imports [] scope.imports) (list_all (λ (s : follow.Seen). rules.is_item [] s.key s.shown) scope.exports) (distinct (map (λ (s : follow.Seen). s.key) scope.imports)) (distinct (map (λ (s : follow.Seen). s.key) scope.exports))
+      (rules.stand_earlier [] (scope.imports ++ scope.exports)) is.stands.obeys in
+      ap distinct (sym (ap (map (λ (s : follow.Seen). s.key)) is.shows.imports ∙ map_of_map (λ (s : follow.Seen). s.key) (seen_of t) (map numbered_seen w.imports.now))) ∙ tree
+
+  -- worlds of one place show the same
+  pub one_world : (m n : Member) → Contains ms m → Contains ms n → (w v : Scope) → m.part ≡ parts.World w → n.part ≡ parts.World v → w.home ≡ v.home → numbered_scope w ≡ numbered_scope v
+  one_world m n c d w v is_w is_v same =
+      let scope = numbered_scope v in
+      let owned : a_world (numbered_scope w) ≡ a_world scope =
+      one_owned t (numbered_members ms) apart v.home (world_of t h ms members input apart n d v is_v).good.home (a_world (numbered_scope w)) (a_world scope)
+      (subst (λ q. Contains {X = ℕ × Owned} (frames (numbered_members ms)) (q, a_world (numbered_scope w))) same (home_frame t h ms members input apart m c w is_w)) (home_frame t h ms members input apart n d v is_v) in
+      ap (world_owned scope) owned

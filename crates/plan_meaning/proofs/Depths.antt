@@ -1,0 +1,50 @@
+-- Types of values have at most so many unnamed levels.
+use Rattle.std.proofs.Common.{◌≡◌, refl, sym, ap, ◌∙◌, ℕ, Bool, true, nat_le}
+use Rattle.std.specs.List.{list_all}
+use Rattle.wit_model.specs.declared.model.Resolve.{Resolve}
+use Rattle.wit_model.specs.declared.model.TypeDefKind.{TypeDefKind}
+use Rattle.wit_model.specs.declared.model.TypeOwner.{TypeOwner}
+use Rattle.wit_model.specs.declared.model.Function.{Function}
+use Rattle.wit_model.specs.declared.model.«Type».{«Type» as ValueType}
+use Rattle.wit_model.specs.Tree.{levels}
+use Rattle.wit_model.specs.Types.{trees_of}
+use Rattle.wit_model.specs.Parts.{member_types, function_types}
+use Rattle.wit_model.specs.Rules as rules
+use Rattle.wit_model.specs.Valid.{Keeps, depths}
+use Rattle.wit_model.proofs.Checks.{keeps_three}
+use Rattle.plan_meaning.specs.Shapes.{part_tree}
+use Rattle.plan_meaning.specs.Plan.{PlannedKind, resource, alias, formed}
+use Rattle.plan_meaning.specs.PlanRules as planned
+use Rattle.plan_meaning.specs.PlanRules.{IsPlan}
+use Rattle.plan_meaning.specs.Built.{part_of, planned_kind, planned_type, planned_function}
+use Rattle.plan_meaning.proofs.Lists.{each_from_built}
+use Rattle.plan_meaning.proofs.Words.{plan_of, part_tree_is, trees_are, function_parts_are}
+use Rattle.plan_meaning.proofs.FunctionRules.{interfaces_pass, worlds_pass, formed_pass, parts_pass, members_pass}
+
+module _ (r : Resolve) (m : ℕ) (is : IsPlan (plan_of r m)) where
+  shallow_is : (t : ValueType) → planned.is_shallow (plan_of r m) (part_of t) ≡ rules.is_shallow r t
+  shallow_is t = ap (λ trees. nat_le (levels (part_tree trees (part_of t))) 100) (trees_are r m) ∙ ap (λ x. nat_le (levels x) 100) (part_tree_is (trees_of r) t)
+
+  shallow : (t : ValueType) → planned.is_shallow (plan_of r m) (part_of t) ≡ true → rules.is_shallow r t ≡ true
+  shallow t h = sym (shallow_is t) ∙ h
+
+  abbrev function_shallow : TypeOwner → Function → Bool
+  function_shallow o f = list_all (rules.is_shallow r) (function_types f)
+
+  function_passes : (o : TypeOwner) (f : Function) → planned.function_is_shallow (plan_of r m) (planned_function f) ≡ true → function_shallow o f ≡ true
+  function_passes o f h = parts_pass (planned.is_shallow (plan_of r m)) (rules.is_shallow r) shallow (function_types f) (ap (list_all (planned.is_shallow (plan_of r m))) (sym (function_parts_are f)) ∙ h)
+
+  as_formed : (k : PlannedKind) → planned.parts_are_shallow (plan_of r m) k ≡ formed_pass (planned.is_shallow (plan_of r m)) k
+  as_formed resource = refl
+  as_formed (alias k) = refl
+  as_formed (formed form ks) = refl
+
+  kind_passes : (k : TypeDefKind) → planned.parts_are_shallow (plan_of r m) (planned_kind k) ≡ true → list_all (rules.is_shallow r) (member_types k) ≡ true
+  kind_passes k h = members_pass (planned.is_shallow (plan_of r m)) (rules.is_shallow r) shallow k (sym (as_formed (planned_kind k)) ∙ h)
+
+  pub depths_kept : Keeps depths r
+  unfolding depths
+  depths_kept = keeps_three depths r refl
+      (interfaces_pass r m (λ o f. planned.function_is_shallow (plan_of r m) f) function_shallow function_passes is.functions_shallow)
+      (worlds_pass r m (λ o f. planned.function_is_shallow (plan_of r m) f) function_shallow function_passes is.functions_shallow)
+      (each_from_built planned_type (λ t. planned.parts_are_shallow (plan_of r m) t.kind) (λ def. list_all (rules.is_shallow r) (member_types def.kind)) (λ def h. kind_passes def.kind h) r.types.items is.depths)

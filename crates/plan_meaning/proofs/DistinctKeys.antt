@@ -1,0 +1,100 @@
+-- No map of a built `Resolve` has a key twice.
+use Rattle.std.proofs.Common.{◌≡◌, refl, sym, ap, ◌∙◌, ℕ, Bool, true, false, ◌&&◌, ◌||◌, not, List, [], ◌∷◌, ◌++◌, map, option_map, Some, String}
+use Rattle.std.specs.Prelude.{string_eq}
+use Rattle.std.specs.declared.alloc.Global.{Global}
+use Rattle.std.specs.List.{list_any, IsDistinct, AllByRecursion}
+use Rattle.std.specs.Map.{keys_of}
+use Rattle.std.proofs.lemmas.List.Folds.{list_any-append}
+use Rattle.indexmap.specs.IndexMap.{IsUnique}
+use Rattle.wit_model.specs.declared.model.Resolve.{Resolve}
+use Rattle.wit_model.specs.declared.model.Package.{Package}
+use Rattle.wit_model.specs.declared.model.Interface.{Interface}
+use Rattle.wit_model.specs.declared.model.World.{World}
+use Rattle.wit_model.specs.declared.model.WorldKey.{WorldKey}
+use Rattle.wit_model.specs.declared.model.WorldKey.TheVariants as key
+use Rattle.wit_model.specs.declared.model.WorldItem.{WorldItem}
+use Rattle.wit_model.specs.Text.{Text, text_of, text_eq, optional_text}
+use Rattle.wit_model.specs.Names.{is_label}
+use Rattle.wit_model.specs.Lookup.{package_at, interface_at, world_at}
+use Rattle.wit_model.specs.Rules.{passes, are_distinct}
+use Rattle.wit_model.specs.Valid.{HasDistinctKeys, key_eq}
+use Rattle.wit_model.proofs.Lists.{first_true, second_true}
+use Rattle.plan_meaning.specs.PlanRules as planned
+use Rattle.plan_meaning.specs.PlanRules.{IsPlan, names_of, members_differ, same_key, keys_differ}
+use Rattle.plan_meaning.specs.Built.{planned_function, planned_package, planned_interface, planned_world, planned_key, planned_entries}
+use Rattle.plan_meaning.proofs.Lists.{get_of_map, all_get, both, no_true}
+use Rattle.plan_meaning.proofs.Words.{plan_of}
+use Rattle.plan_meaning.proofs.Labels.{names_are}
+
+-- ---- parts of a list whose names differ
+
+first_missed : (a b : Bool) → not (a || b) ≡ true → not a ≡ true
+first_missed false b h = refl
+first_missed true b h = no_true h
+
+front_distinct : (xs ys : List Text) → are_distinct (xs ++ ys) ≡ true → are_distinct xs ≡ true
+front_distinct [] ys h = refl
+front_distinct (x ∷ xs) ys h =
+    both _ _ (first_missed (list_any (text_eq x) xs) (list_any (text_eq x) ys) (ap not (sym (list_any-append (text_eq x) xs ys)) ∙ first_true _ _ h)) (front_distinct xs ys (second_true (not (list_any (text_eq x) (xs ++ ys))) _ h))
+
+back_distinct : (xs ys : List Text) → are_distinct (xs ++ ys) ≡ true → are_distinct ys ≡ true
+back_distinct [] ys h = h
+back_distinct (x ∷ xs) ys h = back_distinct xs ys (second_true (not (list_any (text_eq x) (xs ++ ys))) _ h)
+
+none_same : (a b : Bool) → not (a || b) ≡ true → (a ≡ false) × (not b ≡ true)
+none_same false b h = (refl, h)
+none_same true b h = no_true h
+
+others_differ : (x : String Global) (ks : List (String Global)) → not (list_any (text_eq (text_of x)) (map text_of ks)) ≡ true → AllByRecursion (λ y. string_eq x y ≡ false) ks
+others_differ x [] h = tt
+others_differ x (k ∷ ks) h = let split = none_same (text_eq (text_of x) (text_of k)) (list_any (text_eq (text_of x)) (map text_of ks)) h in (split.0, others_differ x ks split.1)
+
+strings_distinct : (ks : List (String Global)) → are_distinct (map text_of ks) ≡ true → IsDistinct string_eq ks
+unfolding IsDistinct
+strings_distinct [] h = tt
+strings_distinct (k ∷ ks) h = (others_differ k ks (first_true _ _ h), strings_distinct ks (second_true (not (list_any (text_eq (text_of k)) (map text_of ks))) _ h))
+
+both_distinct : {A B C D : Type 0} (f : A → C) (g : B → D) (es : List (String Global × A)) (fs : List (String Global × B))
+    → are_distinct (names_of (map (λ e. (text_of e.0, f e.1)) es) ++ names_of (map (λ e. (text_of e.0, g e.1)) fs)) ≡ true → IsDistinct string_eq (keys_of es) × IsDistinct string_eq (keys_of fs)
+both_distinct f g es fs h = (
+  strings_distinct (keys_of es) (ap are_distinct (sym (names_are f es)) ∙ front_distinct (names_of (map (λ e. (text_of e.0, f e.1)) es)) (names_of (map (λ e. (text_of e.0, g e.1)) fs)) h),
+  strings_distinct (keys_of fs) (ap are_distinct (sym (names_are g fs)) ∙ back_distinct (names_of (map (λ e. (text_of e.0, f e.1)) es)) (names_of (map (λ e. (text_of e.0, g e.1)) fs)) h),
+)
+
+-- ---- keys of worlds
+
+same_key_is : (a b : WorldKey) → same_key (planned_key a) (planned_key b) ≡ key_eq a b
+same_key_is (key.Name a) (key.Name b) = refl
+same_key_is (key.Name a) (key.Interface b) = refl
+same_key_is (key.Interface a) (key.Name b) = refl
+same_key_is (key.Interface a) (key.Interface b) = refl
+
+other_keys : (k : WorldKey) (es : List (WorldKey × WorldItem)) → not (list_any (λ other. same_key (planned_key k) other.0) (planned_entries es)) ≡ true → AllByRecursion (λ y. key_eq k y ≡ false) (keys_of es)
+other_keys k [] h = tt
+other_keys k (e ∷ es) h =
+    let split = none_same (same_key (planned_key k) (planned_key e.0)) (list_any (λ other. same_key (planned_key k) other.0) (planned_entries es)) h in (sym (same_key_is k e.0) ∙ split.0, other_keys k es split.1)
+
+keys_distinct : (es : List (WorldKey × WorldItem)) → keys_differ (planned_entries es) ≡ true → IsDistinct key_eq (keys_of es)
+unfolding IsDistinct
+keys_distinct [] h = tt
+keys_distinct (e ∷ es) h = (other_keys e.0 es (first_true _ _ h), keys_distinct es (second_true (not (list_any (λ other. same_key (planned_key e.0) other.0) (planned_entries es))) _ h))
+
+module _ (r : Resolve) (m : ℕ) (is : IsPlan (plan_of r m)) where
+  package_keys : (n : ℕ) (p : Package) → package_at r n ≡ Some p → IsUnique string_eq p.interfaces × IsUnique string_eq p.worlds
+  package_keys n p e =
+      both_distinct (λ id. id.0) (λ id. id.0) p.interfaces.entries p.worlds.entries
+      (all_get members_differ (map planned_package r.packages.items) n (planned_package p) is.members_differ (get_of_map planned_package r.packages.items n ∙ ap (option_map planned_package) e))
+
+  interface_keys : (n : ℕ) (i : Interface) → interface_at r n ≡ Some i → IsUnique string_eq i.types × IsUnique string_eq i.functions
+  interface_keys n i e =
+      both_distinct (λ id. id.0) planned_function i.types.entries i.functions.entries
+      (second_true (passes is_label (optional_text i.name)) _
+      (all_get planned.interface_labels (map planned_interface r.interfaces.items) n (planned_interface i) is.interface_labels (get_of_map planned_interface r.interfaces.items n ∙ ap (option_map planned_interface) e)))
+
+  world_keys : (n : ℕ) (w : World) → world_at r n ≡ Some w → IsUnique key_eq w.imports × IsUnique key_eq w.exports
+  world_keys n w e =
+      let differ = all_get (λ x. keys_differ x.imports && keys_differ x.exports) (map planned_world r.worlds.items) n (planned_world w) is.keys_differ (get_of_map planned_world r.worlds.items n ∙ ap (option_map planned_world) e) in
+      (keys_distinct w.imports.entries (first_true _ _ differ), keys_distinct w.exports.entries (second_true (keys_differ (planned_entries w.imports.entries)) _ differ))
+
+  pub keys_are_distinct : HasDistinctKeys r
+  keys_are_distinct = record { packages = package_keys; interfaces = interface_keys; worlds = world_keys }

@@ -1,0 +1,247 @@
+-- Functions stand under their names, and those of a resource are named and shaped after it.
+use Rattle.std.proofs.Common.{◌≡◌, refl, sym, ap, ◌∙◌, ℕ, Bool, true, false, ◌&&◌, ◌||◌, [], ◌∷◌, ◌++◌, option_and_then, Option, Some, None, slice_get, is_none, is_some, String, codes}
+use Rattle.std.specs.Prelude.{if◌then◌else◌}
+use Rattle.std.specs.declared.alloc.Global.{Global}
+use Rattle.std.specs.List.{list_all}
+use Rattle.std.specs.Option.{option_map_or}
+use Rattle.std.proofs.lemmas.List.Folds.{list_all-append, list_all-map}
+use Rattle.wit_model.specs.declared.model.Resolve.{Resolve}
+use Rattle.wit_model.specs.declared.model.World.{World}
+use Rattle.wit_model.specs.declared.model.WorldKey.{WorldKey}
+use Rattle.wit_model.specs.declared.model.WorldKey.TheVariants as key
+use Rattle.wit_model.specs.declared.model.WorldItem.{WorldItem}
+use Rattle.wit_model.specs.declared.model.WorldItem.TheVariants as item
+use Rattle.wit_model.specs.declared.model.TypeDef.{TypeDef}
+use Rattle.wit_model.specs.declared.model.TypeDefKind.{TypeDefKind}
+use Rattle.wit_model.specs.declared.model.TypeDefKind.TheVariants as kind
+use Rattle.wit_model.specs.declared.model.TypeOwner.{TypeOwner}
+use Rattle.wit_model.specs.declared.model.Handle.TheVariants as handle
+use Rattle.wit_model.specs.declared.model.Param.{Param}
+use Rattle.wit_model.specs.declared.model.«Type».{«Type» as ValueType}
+use Rattle.wit_model.specs.declared.model.Function.{Function}
+use Rattle.wit_model.specs.declared.model.FunctionKind.{FunctionKind}
+use Rattle.wit_model.specs.declared.model.FunctionKind.TheVariants as call
+use Rattle.wit_model.specs.Text.{Text, text_of, text_eq, optional_text}
+use Rattle.wit_model.specs.Tree.{Form}
+use Rattle.wit_model.specs.Names.{constructor_name, method_name}
+use Rattle.wit_model.specs.Lookup.{type_at, resource_of}
+use Rattle.wit_model.specs.Types.{number_of}
+use Rattle.wit_model.specs.Parts.{same_owner}
+use Rattle.wit_model.specs.Rules as rules
+use Rattle.wit_model.specs.Rules.{passes, is_id, is_name_key}
+use Rattle.wit_model.specs.Valid.{Keeps, function_names, as_interface, as_world, functions_of_interface, functions_of_world, item_function}
+use Rattle.wit_model.proofs.Lists.{first_true, second_true}
+use Rattle.wit_model.proofs.Checks.{keeps_two}
+use Rattle.plan_meaning.specs.Plan as plan
+use Rattle.plan_meaning.specs.Plan.{PlannedType, PlannedFunction, part_number, type_in}
+use Rattle.plan_meaning.specs.PlanRules as planned
+use Rattle.plan_meaning.specs.PlanRules.{IsPlan}
+use Rattle.plan_meaning.specs.Built.{part_of, given_parts, planned_kind, planned_type, planned_function, planned_interface, planned_world, planned_key, planned_item}
+use Rattle.plan_meaning.proofs.Lists.{get_of_map, then_of_map, or_of_map, same_then, same_or, all_built, each_built, each_from_built, all_two, each_two, both, no_true}
+use Rattle.plan_meaning.proofs.Words.{plan_of, behind, number_part}
+use Rattle.plan_meaning.proofs.FunctionRules.{interfaces_pass, worlds_pass, entries_pass}
+
+unnamed : (o : Option (String Global)) → is_none (optional_text o) ≡ is_none o
+unnamed None = refl
+unnamed (Some s) = refl
+
+own_is : (n : ℕ) (k : TypeDefKind) → planned.is_own_kind n (planned_kind k) ≡ rules.is_own_kind n k
+own_is n (kind.Handle (handle.Own id)) = ap (is_id n) (behind id.0)
+own_is n (kind.Handle (handle.Borrow id)) = refl
+own_is n kind.Resource = refl
+own_is n (kind.Record x) = refl
+own_is n (kind.Flags x) = refl
+own_is n (kind.Tuple x) = refl
+own_is n (kind.Variant x) = refl
+own_is n (kind.Enum x) = refl
+own_is n (kind.Option t) = refl
+own_is n (kind.Result x) = refl
+own_is n (kind.List t) = refl
+own_is n (kind.Map k v) = refl
+own_is n (kind.FixedLengthList t l) = refl
+own_is n (kind.Future t) = refl
+own_is n (kind.Stream t) = refl
+own_is n (kind.Type_ t) = refl
+
+borrow_is : (n : ℕ) (k : TypeDefKind) → planned.is_borrow_kind n (planned_kind k) ≡ rules.is_borrow_kind n k
+borrow_is n (kind.Handle (handle.Borrow id)) = ap (is_id n) (behind id.0)
+borrow_is n (kind.Handle (handle.Own id)) = refl
+borrow_is n kind.Resource = refl
+borrow_is n (kind.Record x) = refl
+borrow_is n (kind.Flags x) = refl
+borrow_is n (kind.Tuple x) = refl
+borrow_is n (kind.Variant x) = refl
+borrow_is n (kind.Enum x) = refl
+borrow_is n (kind.Option t) = refl
+borrow_is n (kind.Result x) = refl
+borrow_is n (kind.List t) = refl
+borrow_is n (kind.Map k v) = refl
+borrow_is n (kind.FixedLengthList t l) = refl
+borrow_is n (kind.Future t) = refl
+borrow_is n (kind.Stream t) = refl
+borrow_is n (kind.Type_ t) = refl
+
+resource_itself : (k : TypeDefKind) → planned.is_resource_kind (planned_kind k) ≡ rules.is_resource_itself k
+resource_itself kind.Resource = refl
+resource_itself (kind.Handle (handle.Own id)) = refl
+resource_itself (kind.Handle (handle.Borrow id)) = refl
+resource_itself (kind.Record x) = refl
+resource_itself (kind.Flags x) = refl
+resource_itself (kind.Tuple x) = refl
+resource_itself (kind.Variant x) = refl
+resource_itself (kind.Enum x) = refl
+resource_itself (kind.Option t) = refl
+resource_itself (kind.Result x) = refl
+resource_itself (kind.List t) = refl
+resource_itself (kind.Map k v) = refl
+resource_itself (kind.FixedLengthList t l) = refl
+resource_itself (kind.Future t) = refl
+resource_itself (kind.Stream t) = refl
+resource_itself (kind.Type_ t) = refl
+
+own_of_is : (n : ℕ) (def : TypeDef) → planned.is_own_of n (planned_type def) ≡ rules.is_own_of n def
+own_of_is n def = λ i. unnamed def.name i && own_is n def.kind i
+
+borrow_of_is : (n : ℕ) (def : TypeDef) → planned.is_borrow_of n (planned_type def) ≡ rules.is_borrow_of n def
+borrow_of_is n def = λ i. unnamed def.name i && borrow_is n def.kind i
+
+module _ (r : Resolve) (m : ℕ) where
+  -- a test of the type that a part is
+  module _ (test : PlannedType → Bool) (rule : TypeDef → Bool) (same : (def : TypeDef) → test (planned_type def) ≡ rule def) where
+    type_there : (n : ℕ) → option_map_or test (type_in (plan_of r m) n) false ≡ option_map_or rule (type_at r n) false
+    type_there n = ap (λ o. option_map_or test o false) (get_of_map planned_type r.types.items n) ∙ (or_of_map test planned_type false (type_at r n) ∙ same_or (λ def. test (planned_type def)) rule false same (type_at r n))
+
+    part_is : (t : ValueType) → planned.part_is (plan_of r m) test (part_of t) ≡ rules.type_is r rule t
+    part_is t =
+        ap (λ o. option_map_or (λ n. option_map_or test (type_in (plan_of r m) n) false) o false) (number_part t)
+        ∙ same_or (λ n. option_map_or test (type_in (plan_of r m) n) false) (λ n. option_map_or rule (type_at r n) false) false type_there (number_of t)
+
+  own_ok : (n : ℕ) (ok err : Option ValueType) → planned.has_own_ok (plan_of r m) n (plan.formed (Form.result_of (is_some ok) (is_some err)) (given_parts (ok ∷ err ∷ []))) ≡ option_map_or (rules.type_is r (rules.is_own_of n)) ok false
+  own_ok n None err = refl
+  own_ok n (Some t) err = part_is (planned.is_own_of n) (rules.is_own_of n) (own_of_is n) t
+
+  has_own_ok_is : (n : ℕ) (k : TypeDefKind) → planned.has_own_ok (plan_of r m) n (planned_kind k) ≡ rules.has_own_ok r n k
+  has_own_ok_is n (kind.Result result) = own_ok n result.ok result.err
+  has_own_ok_is n (kind.Handle (handle.Own id)) = refl
+  has_own_ok_is n (kind.Handle (handle.Borrow id)) = refl
+  has_own_ok_is n kind.Resource = refl
+  has_own_ok_is n (kind.Record x) = refl
+  has_own_ok_is n (kind.Flags x) = refl
+  has_own_ok_is n (kind.Tuple x) = refl
+  has_own_ok_is n (kind.Variant x) = refl
+  has_own_ok_is n (kind.Enum x) = refl
+  has_own_ok_is n (kind.Option t) = refl
+  has_own_ok_is n (kind.List t) = refl
+  has_own_ok_is n (kind.Map k v) = refl
+  has_own_ok_is n (kind.FixedLengthList t l) = refl
+  has_own_ok_is n (kind.Future t) = refl
+  has_own_ok_is n (kind.Stream t) = refl
+  has_own_ok_is n (kind.Type_ t) = refl
+
+  result_of_own_is : (n : ℕ) (def : TypeDef) → planned.is_result_of_own (plan_of r m) n (planned_type def) ≡ rules.is_result_of_own r n def
+  result_of_own_is n def = λ i. unnamed def.name i && has_own_ok_is n def.kind i
+
+  constructs_is : (n : ℕ) (f : Function) → planned.constructs (plan_of r m) n (planned_function f) ≡ rules.constructs r n f
+  constructs_is n f =
+      or_of_map (λ k. planned.part_is (plan_of r m) (planned.is_own_of n) k || planned.part_is (plan_of r m) (planned.is_result_of_own (plan_of r m) n) k) part_of false f.result
+      ∙ same_or (λ t. planned.part_is (plan_of r m) (planned.is_own_of n) (part_of t) || planned.part_is (plan_of r m) (planned.is_result_of_own (plan_of r m) n) (part_of t))
+      (λ t. rules.type_is r (rules.is_own_of n) t || rules.type_is r (rules.is_result_of_own r n) t) false
+      (λ t i. part_is (planned.is_own_of n) (rules.is_own_of n) (own_of_is n) t i || part_is (planned.is_result_of_own (plan_of r m) n) (rules.is_result_of_own r n) (result_of_own_is n) t i) f.result
+
+  takes_self_is : (n : ℕ) (f : Function) → planned.takes_self (plan_of r m) n (planned_function f) ≡ rules.takes_self r n f
+  takes_self_is n f =
+      ap (λ o. option_map_or (λ (x : Text × ℕ). text_eq x.0 (codes "self") && planned.part_is (plan_of r m) (planned.is_borrow_of n) x.1) o false) (get_of_map (λ (x : Param). (text_of x.name, part_of x.ty)) f.params.items 0)
+      ∙ (or_of_map (λ (x : Text × ℕ). text_eq x.0 (codes "self") && planned.part_is (plan_of r m) (planned.is_borrow_of n) x.1) (λ (x : Param). (text_of x.name, part_of x.ty)) false (slice_get f.params.items 0)
+      ∙ same_or (λ (x : Param). text_eq (text_of x.name) (codes "self") && planned.part_is (plan_of r m) (planned.is_borrow_of n) (part_of x.ty)) (λ p. text_eq (text_of p.name) (codes "self") && rules.type_is r (rules.is_borrow_of n) p.ty) false
+      (λ x. ap (λ b. text_eq (text_of x.name) (codes "self") && b) (part_is (planned.is_borrow_of n) (rules.is_borrow_of n) (borrow_of_is n) x.ty)) (slice_get f.params.items 0))
+
+  member_of_is : (n : ℕ) (name : Text) (f : Function) (k : FunctionKind) → planned.is_member_of (plan_of r m) n name (planned_function f) k ≡ rules.is_member_of r n name f k
+  member_of_is n name f (call.Constructor id) = ap (λ b. text_eq (text_of f.name) (constructor_name name) && b) (constructs_is n f)
+  member_of_is n name f (call.Method id) = ap (λ b. rules.is_member_name (method_name name []) f && b) (takes_self_is n f)
+  member_of_is n name f (call.AsyncMethod id) = ap (λ b. rules.is_member_name (method_name name []) f && b) (takes_self_is n f)
+  member_of_is n name f (call.Static id) = refl
+  member_of_is n name f (call.AsyncStatic id) = refl
+  member_of_is n name f call.Freestanding = refl
+  member_of_is n name f call.AsyncFreestanding = refl
+
+  resource_by : (o : TypeOwner) (def : TypeDef) → (if planned.is_resource_kind (planned_kind def.kind) && same_owner def.owner o then optional_text def.name else None) ≡ (if rules.is_resource_itself def.kind && same_owner def.owner o then optional_text def.name else None)
+  resource_by o def = ap (λ b. if b && same_owner def.owner o then optional_text def.name else None) (resource_itself def.kind)
+
+  resource_name_is : (o : TypeOwner) (n : ℕ) → planned.resource_name (plan_of r m) o n ≡ rules.resource_name r o n
+  resource_name_is o n =
+      ap (option_and_then (λ t. if planned.is_resource_kind t.kind && same_owner t.owner o then t.name else None)) (get_of_map planned_type r.types.items n)
+      ∙ (then_of_map (λ t. if planned.is_resource_kind t.kind && same_owner t.owner o then t.name else None) planned_type (type_at r n)
+      ∙ same_then (λ def. if planned.is_resource_kind (planned_kind def.kind) && same_owner def.owner o then optional_text def.name else None)
+      (λ def. if rules.is_resource_itself def.kind && same_owner def.owner o then optional_text def.name else None) (resource_by o) (type_at r n))
+
+  pub member_is : (o : TypeOwner) (f : Function) → planned.is_member (plan_of r m) o (planned_function f) ≡ rules.is_member r o f
+  member_is o f = ap (λ test. passes test (resource_of f.kind)) (λ i n. at n i)
+    where
+      at : (n : ℕ) → option_map_or (λ name. planned.is_member_of (plan_of r m) n name (planned_function f) f.kind) (planned.resource_name (plan_of r m) o n) false ≡ option_map_or (λ name. rules.is_member_of r n name f f.kind) (rules.resource_name r o n) false
+      at n =
+          ap (λ x. option_map_or (λ name. planned.is_member_of (plan_of r m) n name (planned_function f) f.kind) x false) (resource_name_is o n)
+          ∙ same_or (λ name. planned.is_member_of (plan_of r m) n name (planned_function f) f.kind) (λ name. rules.is_member_of r n name f f.kind) false (λ name. member_of_is n name f f.kind) (rules.resource_name r o n)
+
+  pub belongs : (o : TypeOwner) (f : Function) → planned.is_member (plan_of r m) o (planned_function f) ≡ true → rules.is_member r o f ≡ true
+  belongs o f h = sym (member_is o f) ∙ h
+
+  -- ---- keys
+
+  import_key : (n : ℕ) (k : WorldKey) (x : WorldItem) → planned.import_stands (plan_of r m) n (planned_key k, planned_item x) ≡ true → passes (λ f. is_name_key (text_of f.name) k) (item_function x) ≡ true
+  import_key n (key.Interface id) (item.Interface other stability docs external_id) h = refl
+  import_key n (key.Interface id) (item.Function f) h = no_true h
+  import_key n (key.Interface id) (item.Type_ other) h = refl
+  import_key n (key.Name name) (item.Interface id stability docs external_id) h = refl
+  import_key n (key.Name name) (item.Function f) h = first_true (text_eq (text_of name) (text_of f.name)) _ h
+  import_key n (key.Name name) (item.Type_ id) h = refl
+
+  export_key : (k : WorldKey) (x : WorldItem) → planned.export_stands (plan_of r m) (planned_key k, planned_item x) ≡ true → passes (λ f. is_name_key (text_of f.name) k) (item_function x) ≡ true
+  export_key (key.Interface id) (item.Interface other stability docs external_id) h = refl
+  export_key (key.Interface id) (item.Function f) h = no_true h
+  export_key (key.Interface id) (item.Type_ other) h = refl
+  export_key (key.Name name) (item.Interface id stability docs external_id) h = refl
+  export_key (key.Name name) (item.Function f) h = first_true (text_eq (text_of name) (text_of f.name)) _ (first_true (planned.is_function_key (text_of name) (planned_function f)) _ h)
+  export_key (key.Name name) (item.Type_ id) h = refl
+
+  passes_both : (p q : Function → Bool) (o : Option Function) → passes p o ≡ true → passes q o ≡ true → passes (λ f. p f && q f) o ≡ true
+  passes_both p q None h k = refl
+  passes_both p q (Some f) h k = both _ _ h k
+
+  module _ (is : IsPlan (plan_of r m)) where
+    abbrev imports_right : ℕ → World → Bool
+    imports_right n w = list_all (λ e. passes (λ f. is_name_key (text_of f.name) e.0) (item_function e.1)) w.imports.entries
+
+    abbrev exports_right : World → Bool
+    exports_right w = list_all (λ e. passes (λ f. is_name_key (text_of f.name) e.0) (item_function e.1)) w.exports.entries
+
+    abbrev all_belong : ℕ → World → Bool
+    all_belong n w = list_all (rules.is_member r (as_world n)) (functions_of_world w)
+
+    together : (n : ℕ) (e : WorldKey × WorldItem) → passes (λ f. is_name_key (text_of f.name) e.0) (item_function e.1) ≡ true → passes (rules.is_member r (as_world n)) (item_function e.1) ≡ true
+        → passes (λ f. is_name_key (text_of f.name) e.0 && rules.is_member r (as_world n) f) (item_function e.1) ≡ true
+    together n e a b = passes_both (λ f. is_name_key (text_of f.name) e.0) (rules.is_member r (as_world n)) (item_function e.1) a b
+
+    world_passes : (n : ℕ) (w : World) → (imports_right n w && exports_right w) ≡ true → all_belong n w ≡ true
+        → list_all (λ e. passes (λ f. is_name_key (text_of f.name) e.0 && rules.is_member r (as_world n) f) (item_function e.1)) (w.imports.entries ++ w.exports.entries) ≡ true
+    world_passes n w h functions =
+        let members = entries_pass (rules.is_member r (as_world n)) w functions in
+        list_all-append (λ e. passes (λ f. is_name_key (text_of f.name) e.0 && rules.is_member r (as_world n) f) (item_function e.1)) w.imports.entries w.exports.entries
+        ∙ both _ _ (all_two (λ e. passes (λ f. is_name_key (text_of f.name) e.0) (item_function e.1)) (λ e. passes (rules.is_member r (as_world n)) (item_function e.1)) (λ e. passes (λ f. is_name_key (text_of f.name) e.0 && rules.is_member r (as_world n) f) (item_function e.1)) (together n) w.imports.entries (first_true _ _ h) members.0) (all_two (λ e. passes (λ f. is_name_key (text_of f.name) e.0) (item_function e.1)) (λ e. passes (rules.is_member r (as_world n)) (item_function e.1)) (λ e. passes (λ f. is_name_key (text_of f.name) e.0 && rules.is_member r (as_world n) f) (item_function e.1)) (together n) w.exports.entries (second_true (imports_right n w) _ h) members.1)
+
+    pub function_names_kept : Keeps function_names r
+    unfolding function_names
+    function_names_kept = keeps_two function_names r refl refl
+        (each_two (λ n i. list_all (λ e. text_eq (text_of e.0) (text_of e.1.name)) i.functions.entries) (λ n i. list_all (rules.is_member r (as_interface n)) (functions_of_interface i))
+        (λ n i. function_names.interface_ r n i)
+        (λ n i a b. all_two (λ e. text_eq (text_of e.0) (text_of e.1.name)) (λ e. rules.is_member r (as_interface n) e.1) (λ e. text_eq (text_of e.0) (text_of e.1.name) && rules.is_member r (as_interface n) e.1) (λ e x y. both _ _ x y) i.functions.entries a
+        (sym (list_all-map (rules.is_member r (as_interface n)) (λ e. e.1) i.functions.entries) ∙ b)) 0 r.interfaces.items
+        (each_from_built planned_interface (λ i. list_all (λ e. text_eq e.0 e.1.name) i.functions) (λ i. list_all (λ e. text_eq (text_of e.0) (text_of e.1.name)) i.functions.entries)
+        (λ i h. all_built (λ e. (text_of e.0, planned_function e.1)) (λ (e : Text × PlannedFunction). text_eq e.0 e.1.name) (λ e. text_eq (text_of e.0) (text_of e.1.name)) (λ e k. k) i.functions.entries h) r.interfaces.items is.function_keys)
+        (interfaces_pass r m (planned.is_member (plan_of r m)) (rules.is_member r) belongs is.functions_belong))
+        (each_two (λ n w. imports_right n w && exports_right w) all_belong (λ n w. function_names.world_ r n w) world_passes 0 r.worlds.items
+        (each_two imports_right (λ n w. exports_right w) (λ n w. imports_right n w && exports_right w) (λ n w a b. both _ _ a b) 0 r.worlds.items
+        (each_built planned_world (λ n w. list_all (planned.import_stands (plan_of r m) n) w.imports) imports_right
+        (λ n w h. all_built (λ e. (planned_key e.0, planned_item e.1)) (planned.import_stands (plan_of r m) n) (λ e. passes (λ f. is_name_key (text_of f.name) e.0) (item_function e.1)) (λ e k. import_key n e.0 e.1 k) w.imports.entries h) r.worlds.items is.imports_stand)
+        (each_from_built planned_world (λ w. list_all (planned.export_stands (plan_of r m)) w.exports) exports_right
+        (λ w h. all_built (λ e. (planned_key e.0, planned_item e.1)) (planned.export_stands (plan_of r m)) (λ e. passes (λ f. is_name_key (text_of f.name) e.0) (item_function e.1)) (λ e k. export_key e.0 e.1 k) w.exports.entries h) r.worlds.items is.exports_stand))
+        (worlds_pass r m (planned.is_member (plan_of r m)) (rules.is_member r) belongs is.functions_belong))

@@ -1,0 +1,127 @@
+-- The functions of a plan's interfaces and worlds are those of the `Resolve`, and so are its items.
+use Rattle.std.proofs.Common.{◌≡◌, refl, sym, ap, ◌∙◌, ℕ, Bool, true, false, ◌&&◌, List, [], ◌∷◌, ◌++◌, map, filter_map, option_to_list, Option, Some, None}
+use Rattle.std.specs.List.{list_all, cons_option}
+use Rattle.indexmap.specs.IndexMap.{values}
+use Rattle.wit_model.specs.declared.model.Resolve.{Resolve}
+use Rattle.wit_model.specs.declared.model.Interface.{Interface}
+use Rattle.wit_model.specs.declared.model.World.{World}
+use Rattle.wit_model.specs.declared.model.WorldKey.{WorldKey}
+use Rattle.wit_model.specs.declared.model.WorldItem.{WorldItem}
+use Rattle.wit_model.specs.declared.model.WorldItem.TheVariants as item
+use Rattle.wit_model.specs.declared.model.TypeDefKind.{TypeDefKind}
+use Rattle.wit_model.specs.declared.model.TypeDefKind.TheVariants as kind
+use Rattle.wit_model.specs.declared.model.TypeOwner.{TypeOwner}
+use Rattle.wit_model.specs.declared.model.«Type».{«Type» as ValueType}
+use Rattle.wit_model.specs.declared.model.Function.{Function}
+use Rattle.wit_model.specs.Text.{Text, text_of}
+use Rattle.wit_model.specs.Parts.{member_types}
+use Rattle.wit_model.specs.Uses.{items_of}
+use Rattle.std.proofs.lemmas.List.Folds.{list_all-append, list_all-map}
+use Rattle.wit_model.specs.Rules.{each_from, passes}
+use Rattle.wit_model.proofs.Lists.{first_true, second_true, list_all_filter_map}
+use Rattle.wit_model.specs.Valid.{as_interface, as_world, functions_of_interface, functions_of_world, item_function}
+use Rattle.plan_meaning.specs.Plan as plan
+use Rattle.plan_meaning.specs.Plan.{PlannedKind, PlannedKey, PlannedItem, PlannedFunction, resource, alias, formed}
+use Rattle.plan_meaning.specs.PlanRules.{FunctionsPass, functions_of, world_functions}
+use Rattle.plan_meaning.specs.Built.{part_of, given_parts, planned_kind, planned_function, planned_interface, planned_item, planned_entries, planned_world}
+use Rattle.plan_meaning.proofs.Lists.{map_of_map, append_of_map, all_built, each_built, same_all}
+use Rattle.plan_meaning.proofs.Words.{plan_of, given_all}
+
+-- ---- functions and items
+
+pub functions_are : (i : Interface) → functions_of (planned_interface i) ≡ map planned_function (functions_of_interface i)
+functions_are i =
+    map_of_map (λ (e : Text × PlannedFunction). e.1) (λ e. (text_of e.0, planned_function e.1)) i.functions.entries ∙ sym (map_of_map planned_function (λ e. e.1) i.functions.entries)
+
+pub values_are : (es : List (WorldKey × WorldItem)) → map (λ e. e.1) (planned_entries es) ≡ map planned_item (map (λ e. e.1) es)
+values_are [] = refl
+values_are (e ∷ es) = ap (λ xs. planned_item e.1 ∷ xs) (values_are es)
+
+pub items_are : (w : World) → plan.items_of (planned_world w) ≡ map planned_item (items_of w)
+items_are w = (λ i. values_are w.imports.entries i ++ values_are w.exports.entries i) ∙ sym (append_of_map planned_item (values w.imports) (values w.exports))
+
+picked : (x : WorldItem) (fs : List Function) → cons_option (plan.item_function (planned_item x)) (map planned_function fs) ≡ map planned_function (cons_option (item_function x) fs)
+picked (item.Interface id stability docs external_id) fs = refl
+picked (item.Function f) fs = refl
+picked (item.Type_ id) fs = refl
+
+pub item_functions_are : (xs : List WorldItem) → filter_map plan.item_function (map planned_item xs) ≡ map planned_function (filter_map item_function xs)
+item_functions_are [] = refl
+item_functions_are (x ∷ xs) = ap (cons_option (plan.item_function (planned_item x))) (item_functions_are xs) ∙ picked x (filter_map item_function xs)
+
+pub world_functions_are : (w : World) → world_functions (planned_world w) ≡ map planned_function (functions_of_world w)
+world_functions_are w = ap (filter_map plan.item_function) (items_are w) ∙ item_functions_are (items_of w)
+
+module _ (r : Resolve) (m : ℕ) (test : TypeOwner → PlannedFunction → Bool) (rule : TypeOwner → Function → Bool)
+    (weaker : (o : TypeOwner) (f : Function) → test o (planned_function f) ≡ true → rule o f ≡ true) (pass : FunctionsPass (plan_of r m) test) where
+  pub interfaces_pass : each_from (λ n i. list_all (rule (as_interface n)) (functions_of_interface i)) 0 r.interfaces.items ≡ true
+  interfaces_pass = each_built planned_interface (λ n i. list_all (test (as_interface n)) (functions_of i)) (λ n i. list_all (rule (as_interface n)) (functions_of_interface i))
+      (λ n i h. all_built planned_function (test (as_interface n)) (rule (as_interface n)) (weaker (as_interface n)) (functions_of_interface i) (ap (list_all (test (as_interface n))) (sym (functions_are i)) ∙ h))
+      r.interfaces.items pass.of_interfaces
+
+  pub worlds_pass : each_from (λ n w. list_all (rule (as_world n)) (functions_of_world w)) 0 r.worlds.items ≡ true
+  worlds_pass = each_built planned_world (λ n w. list_all (test (as_world n)) (world_functions w)) (λ n w. list_all (rule (as_world n)) (functions_of_world w))
+      (λ n w h. all_built planned_function (test (as_world n)) (rule (as_world n)) (weaker (as_world n)) (functions_of_world w) (ap (list_all (test (as_world n))) (sym (world_functions_are w)) ∙ h))
+      r.worlds.items pass.of_worlds
+
+-- ---- the parts of a kind
+
+-- each part of a form passes
+abbrev pub formed_pass : (ℕ → Bool) → PlannedKind → Bool
+formed_pass p resource = true
+formed_pass p (alias k) = true
+formed_pass p (formed form ks) = list_all p ks
+
+module _ (p : ℕ → Bool) (q : ValueType → Bool) (weaker : (t : ValueType) → p (part_of t) ≡ true → q t ≡ true) where
+  pub parts_pass : (ts : List ValueType) → list_all p (map part_of ts) ≡ true → list_all q ts ≡ true
+  parts_pass ts h = all_built part_of p q weaker ts h
+
+  result_pass : (ok err : Option ValueType) → list_all p (given_parts (ok ∷ err ∷ [])) ≡ true → list_all q (option_to_list ok ++ option_to_list err) ≡ true
+  result_pass None None h = refl
+  result_pass None (Some t) h = parts_pass (t ∷ []) h
+  result_pass (Some s) None h = parts_pass (s ∷ []) h
+  result_pass (Some s) (Some t) h = parts_pass (s ∷ t ∷ []) h
+
+  option_pass : (o : Option ValueType) → list_all p (given_parts (o ∷ [])) ≡ true → list_all q (option_to_list o) ≡ true
+  option_pass None h = refl
+  option_pass (Some t) h = parts_pass (t ∷ []) h
+
+  pub members_pass : (k : TypeDefKind) → formed_pass p (planned_kind k) ≡ true → list_all q (member_types k) ≡ true
+  members_pass (kind.Record record_) h = parts_pass (map (λ f. f.ty) record_.fields.items) (ap (list_all p) (map_of_map part_of (λ f. f.ty) record_.fields.items) ∙ h)
+  members_pass kind.Resource h = refl
+  members_pass (kind.Handle x) h = refl
+  members_pass (kind.Flags flags) h = refl
+  members_pass (kind.Tuple tuple) h = parts_pass tuple.types.items h
+  members_pass (kind.Variant variant) h = parts_pass (filter_map (λ c. c.ty) variant.cases.items) (ap (list_all p) (sym (given_all (λ c. c.ty) variant.cases.items)) ∙ h)
+  members_pass (kind.Enum enum) h = refl
+  members_pass (kind.Option t) h = parts_pass (t ∷ []) h
+  members_pass (kind.Result result) h = result_pass result.ok result.err h
+  members_pass (kind.List t) h = parts_pass (t ∷ []) h
+  members_pass (kind.Map k v) h = parts_pass (k ∷ v ∷ []) h
+  members_pass (kind.FixedLengthList t n) h = parts_pass (t ∷ []) h
+  members_pass (kind.Future t) h = option_pass t h
+  members_pass (kind.Stream t) h = option_pass t h
+  members_pass (kind.Type_ t) h = refl
+
+-- ---- the functions among the entries of a world
+
+module _ (p : Function → Bool) where
+  given_passes : (o : Option Function) → list_all p (option_to_list o) ≡ passes p o
+  given_passes None = refl
+  given_passes (Some f) = and_true (p f)
+    where
+      and_true : (b : Bool) → (b && true) ≡ b
+      and_true true = refl
+      and_true false = refl
+
+  items_pass : (xs : List WorldItem) → list_all p (filter_map item_function xs) ≡ list_all (λ x. passes p (item_function x)) xs
+  items_pass xs = list_all_filter_map p item_function xs ∙ same_all (λ x. list_all p (option_to_list (item_function x))) (λ x. passes p (item_function x)) (λ x. given_passes (item_function x)) xs
+
+  pub entries_pass : (w : World) → list_all p (functions_of_world w) ≡ true
+      → (list_all (λ e. passes p (item_function e.1)) w.imports.entries ≡ true) × (list_all (λ e. passes p (item_function e.1)) w.exports.entries ≡ true)
+  entries_pass w h =
+      let split : (list_all (λ x. passes p (item_function x)) (values w.imports) && list_all (λ x. passes p (item_function x)) (values w.exports)) ≡ true =
+      sym (list_all-append (λ x. passes p (item_function x)) (values w.imports) (values w.exports)) ∙ (sym (items_pass (items_of w)) ∙ h) in (
+        sym (list_all-map (λ x. passes p (item_function x)) (λ e. e.1) w.imports.entries) ∙ first_true _ _ split,
+        sym (list_all-map (λ x. passes p (item_function x)) (λ e. e.1) w.exports.entries) ∙ second_true (list_all (λ x. passes p (item_function x)) (values w.imports)) _ split,
+      )

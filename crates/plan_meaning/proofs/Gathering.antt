@@ -1,0 +1,122 @@
+-- One view of each path is enough.
+use Rattle.std.proofs.Common.{◌≡◌, refl, sym, ap, subst, ◌∙◌, zero, suc, Bool, true, false, ◌&&◌, ◌||◌, not, cond, List, [], ◌∷◌, ◌++◌, map, arith}
+use Rattle.std.specs.List.{Contains, list_all, list_any}
+use Rattle.std.specs.Cmp.Lexicographic.{pointwise}
+use Rattle.std.specs.FinMap.{from_entries}
+use Rattle.std.proofs.lemmas.Bool.{and_from}
+use Rattle.std.proofs.lemmas.Slice.Eq.{bytes_eq-Decides}
+use Rattle.wit_model.specs.Text.{Text, TextMap, text_eq}
+use Rattle.wit_model.specs.Meaning.{FunctionMeaning, TypeMeaning, InterfaceMeaning}
+use Rattle.wit_model.specs.Tree.{Place}
+use Rattle.wit_model.proofs.Lists.{first_true, second_true}
+use Rattle.wit_model.proofs.Elements.{all-contained, contains-map}
+use Rattle.wit_model.proofs.Maps.{one_map}
+use Rattle.comp_meaning.specs.Follow.{ShownType}
+use Rattle.comp_meaning.specs.Rules.{distinct, is_interface}
+use Rattle.comp_meaning.specs.SameLaws.{HaveDistinctNames, named_meaning}
+use Rattle.comp_meaning.specs.Reads.{Sight, same_shown, same_functions, agree, all_agree, are_interfaces, functions_of, seen_meaning}
+use Rattle.comp_meaning.proofs.FunctionLists.{functions_make_one_map}
+use Rattle.comp_meaning.proofs.SameLaws.{shown_types_decide}
+use Rattle.plan_meaning.specs.Gathering.{ViewsMeanOne, OneViewIsEnough}
+use Rattle.plan_meaning.proofs.Lists.{map_from}
+
+-- what a view shows of types
+abbrev types_of : Sight → List (Text × TypeMeaning)
+types_of s = map named_meaning s.view.types
+
+alike : (s t : Sight) → agree s t ≡ true → s.path ≡ t.path → types_of s ≡ types_of t
+alike s t h e =
+    let same : text_eq s.path t.path ≡ true = (bytes_eq-Decides s.path t.path).1 e in
+    let both = sym (ap (λ b. not b || (pointwise same_shown s.view.types t.view.types && (not (s.whole && t.whole) || same_functions s.view.functions t.view.functions))) same) ∙ h in
+    (shown_types_decide s.view.types t.view.types).0 (first_true (pointwise same_shown s.view.types t.view.types) _ both)
+
+one_types : (all : List Sight) → all_agree all ≡ true → (s t : Sight) → Contains all s → Contains all t → s.path ≡ t.path → types_of s ≡ types_of t
+one_types [] h s t (i, l, e) d p = absurd (omega (arith, l))
+one_types (x ∷ xs) h s t (zero, l, e) (zero, k, f) p = ap types_of (sym e ∙ f)
+one_types (x ∷ xs) h s t (zero, l, e) (suc j, k, f) p =
+    alike s t (ap (λ y. agree y t) (sym e) ∙ all-contained (agree x) xs t (first_true (list_all (agree x) xs) _ h) (j, omega (arith, k), f)) p
+one_types (x ∷ xs) h s t (suc i, l, e) (zero, k, f) p =
+    sym (alike t s (ap (λ y. agree y s) (sym f) ∙ all-contained (agree x) xs s (first_true (list_all (agree x) xs) _ h) (i, omega (arith, l), e)) (sym p))
+one_types (x ∷ xs) h s t (suc i, l, e) (suc j, k, f) p =
+    one_types xs (second_true (list_all (agree x) xs) _ h) s t (i, omega (arith, l), e) (j, omega (arith, k), f) p
+
+-- ---- functions
+
+pub distinct_behind : (xs ys : List Text) → distinct (xs ++ ys) ≡ true → distinct ys ≡ true
+distinct_behind [] ys e = e
+distinct_behind (x ∷ xs) ys e = distinct_behind xs ys (second_true (not (list_any (text_eq x) (xs ++ ys))) (distinct (xs ++ ys)) e)
+
+-- no function stands twice in a view of an interface
+functions_once : (all : List Sight) → are_interfaces all ≡ true → (s : Sight) → Contains all s → HaveDistinctNames s.view.functions
+functions_once all h s c =
+    distinct_behind (map (λ (t : ShownType). t.name) s.view.types) (map (λ (f : Text × FunctionMeaning). f.0) s.view.functions)
+    (second_true _ (distinct (map (λ (t : ShownType). t.name) s.view.types ++ map (λ (f : Text × FunctionMeaning). f.0) s.view.functions))
+    (all-contained (λ (x : Sight). is_interface (Place.of_interface x.path) x.view) all s h c))
+
+-- the functions of two views of one path that show them make one map
+same_whole : (s t : Sight) → agree s t ≡ true → s.path ≡ t.path → s.whole ≡ true → t.whole ≡ true → same_functions s.view.functions t.view.functions ≡ true
+same_whole s t h e p q =
+    let same : text_eq s.path t.path ≡ true = (bytes_eq-Decides s.path t.path).1 e in
+    let both = sym (ap (λ b. not b || (pointwise same_shown s.view.types t.view.types && (not (s.whole && t.whole) || same_functions s.view.functions t.view.functions))) same) ∙ h in
+    let rest = second_true (pointwise same_shown s.view.types t.view.types) (not (s.whole && t.whole) || same_functions s.view.functions t.view.functions) both in
+    sym (ap (λ b. not b || same_functions s.view.functions t.view.functions) (and_from s.whole t.whole p q)) ∙ rest
+
+-- these make the map of the view's functions
+abbrev MeanThose : Sight → List (Text × FunctionMeaning) → Type 0
+MeanThose s fs = ◌≡◌ {A = TextMap FunctionMeaning} (from_entries fs) (from_entries s.view.functions)
+
+-- Where all views agree, a view that shows functions shows those that the first of its path does.
+pub functions_mean_one : (all : List Sight) → all_agree all ≡ true → are_interfaces all ≡ true → (s : Sight) → Contains all s → s.whole ≡ true
+    → MeanThose s (functions_of s.path all)
+functions_mean_one [] h i s (k, l, e) whole = absurd (omega (arith, l))
+functions_mean_one (x ∷ xs) h i s c whole =
+    by (text_eq s.path x.path && x.whole) refl c
+    (λ d. functions_mean_one xs (second_true (list_all (agree x) xs) (all_agree xs) h) (second_true (is_interface (Place.of_interface x.path) x.view) (are_interfaces xs) i) s d whole)
+  where
+    once : (y : Sight) → Contains (x ∷ xs) y → HaveDistinctNames y.view.functions
+    once y d = functions_once (x ∷ xs) i y d
+
+    this : (text_eq s.path x.path && x.whole) ≡ true → Contains (x ∷ xs) s → MeanThose s x.view.functions
+    this first (zero, l, e) = ap (λ (y : Sight). from_entries y.view.functions) e
+    this first (suc j, l, e) =
+        let path : x.path ≡ s.path = sym ((bytes_eq-Decides s.path x.path).0 (first_true (text_eq s.path x.path) x.whole first)) in
+        (functions_make_one_map x.view.functions s.view.functions (once x (0, omega arith, refl)) (once s (suc j, l, e))).0
+        (same_whole x s (all-contained (agree x) xs s (first_true (list_all (agree x) xs) (all_agree xs) h) (j, omega (arith, l), e)) path (second_true (text_eq s.path x.path) x.whole first) whole)
+
+    by : (b : Bool) → (text_eq s.path x.path && x.whole) ≡ b → Contains (x ∷ xs) s → (Contains xs s → MeanThose s (functions_of s.path xs)) → MeanThose s (cond b x.view.functions (functions_of s.path xs))
+    by true first d later = this first d
+    by false first (zero, l, e) later =
+        let own : text_eq s.path x.path ≡ true = (bytes_eq-Decides s.path x.path).1 (ap (λ (y : Sight). y.path) (sym e)) in
+        let shows : x.whole ≡ true = ap (λ (y : Sight). y.whole) e ∙ whole in
+        let wrong : false ≡ true = sym first ∙ and_from (text_eq s.path x.path) x.whole own shows in absurd cc
+    by false first (suc j, l, e) later = later (j, omega (arith, l), e)
+
+-- ---- views
+
+pub views_mean_one : ViewsMeanOne
+views_mean_one all h s t c d p =
+    let types = one_types all h s t c d p in
+    λ i. (p i, record { types = types i; functions = from_entries (functions_of (p i) all) })
+
+pub one_view_is_enough : OneViewIsEnough
+one_view_is_enough all chosen shown h among enough = one_map (map (seen_meaning all) chosen) (map (seen_meaning all) shown) (record { one_value = one_value; there = there; here = here })
+  where
+    there : (k : Text) (x : InterfaceMeaning) → Contains (map (seen_meaning all) chosen) (k, x) → Contains (map (seen_meaning all) shown) (k, x)
+    there k x c =
+        let s = map_from (seen_meaning all) chosen (k, x) c in
+        subst (λ (q : Text × InterfaceMeaning). Contains (map (seen_meaning all) shown) q) s.2 (contains-map (seen_meaning all) shown s.0 (enough.among s.0 s.1))
+
+    here : (k : Text) (x : InterfaceMeaning) → Contains (map (seen_meaning all) shown) (k, x) → Contains (map (seen_meaning all) chosen) (k, x)
+    here k x c =
+        let s = map_from (seen_meaning all) shown (k, x) c in
+        let t = enough.each s.0 s.1 in
+        let same : seen_meaning all t.0 ≡ (k, x) = views_mean_one all h t.0 s.0 (among t.0 (enough.among t.0 t.1)) (among s.0 s.1) t.2 ∙ s.2 in
+        subst (λ (q : Text × InterfaceMeaning). Contains (map (seen_meaning all) chosen) q) same (contains-map (seen_meaning all) chosen t.0 t.1)
+
+    one_value : (k : Text) (x y : InterfaceMeaning) → Contains (map (seen_meaning all) chosen) (k, x) → Contains (map (seen_meaning all) chosen) (k, y) → x ≡ y
+    one_value k x y c d =
+        let s = map_from (seen_meaning all) chosen (k, x) c in
+        let t = map_from (seen_meaning all) chosen (k, y) d in
+        let path : s.0.path ≡ t.0.path = ap (λ (q : Text × InterfaceMeaning). q.0) s.2 ∙ sym (ap (λ (q : Text × InterfaceMeaning). q.0) t.2) in
+        let same = views_mean_one all h s.0 t.0 (among s.0 (enough.among s.0 s.1)) (among t.0 (enough.among t.0 t.1)) path in
+        ap (λ (q : Text × InterfaceMeaning). q.1) (sym s.2 ∙ (same ∙ t.2))

@@ -1,0 +1,63 @@
+-- What an item of a world uses stands before it.
+use Rattle.std.proofs.Common.{◌≡◌, refl, sym, ap, ◌∙◌, ℕ, ◌&&◌, List, [], map, filter, filter_map, option_to_list, Option}
+use Rattle.std.specs.List.{list_all}
+use Rattle.std.specs.Option.{option_map_or}
+use Rattle.wit_model.specs.declared.model.Resolve.{Resolve}
+use Rattle.wit_model.specs.declared.model.World.{World}
+use Rattle.wit_model.specs.declared.model.WorldItem.{WorldItem}
+use Rattle.wit_model.specs.declared.model.WorldItem.TheVariants as item
+use Rattle.wit_model.specs.Lookup.{type_at}
+use Rattle.wit_model.specs.Parts as parts
+use Rattle.wit_model.specs.Parts.{used_by_type, used_by_function, met_by, met_of}
+use Rattle.wit_model.specs.Uses as uses
+use Rattle.wit_model.specs.Uses.{has, items_of}
+use Rattle.wit_model.specs.Rules as rules
+use Rattle.wit_model.specs.Rules.{each_after, used_by_number}
+use Rattle.wit_model.specs.Valid.{Keeps, order_of_items, as_world}
+use Rattle.wit_model.proofs.Entries.{worlds_keep}
+use Rattle.plan_meaning.specs.Plan as plan
+use Rattle.plan_meaning.specs.Plan.{kind_numbers, function_numbers, used_by_numbers, type_in}
+use Rattle.plan_meaning.specs.PlanRules as planned
+use Rattle.plan_meaning.specs.PlanRules.{IsPlan}
+use Rattle.plan_meaning.specs.Built.{planned_kind, planned_type, planned_world, planned_item}
+use Rattle.plan_meaning.proofs.Lists.{filter_of_map, get_of_map, or_of_map, same_or, after_of_map, each_built}
+use Rattle.plan_meaning.proofs.Words.{plan_of, function_numbers_are, has_owner_is, used_are, used_by_kind_is, interface_used_is, direct_uses_are}
+use Rattle.plan_meaning.proofs.FunctionRules.{items_are}
+use Rattle.plan_meaning.proofs.WorldItems.{item_interface_is}
+use Rattle.plan_meaning.proofs.TypeOrder.{item_types_are}
+
+pub item_interfaces_are : (xs : List WorldItem) → filter_map plan.item_interface (map planned_item xs) ≡ filter_map uses.item_interface xs
+item_interfaces_are xs = filter_of_map plan.item_interface planned_item xs ∙ ap (λ (h : WorldItem → Option ℕ). filter_map h xs) (λ i x. item_interface_is x i)
+
+module _ (r : Resolve) (m : ℕ) where
+  interfaces_are : (x : WorldItem) → planned.used_interfaces (plan_of r m) (planned_item x) ≡ rules.used_interfaces r x
+  interfaces_are (item.Interface id stability docs external_id) = direct_uses_are r m id.0
+  interfaces_are (item.Function f) = refl
+  interfaces_are (item.Type_ id) = ap option_to_list (interface_used_is r m id.0)
+
+  used_number_is : (n : ℕ) → option_map_or (λ t. used_by_numbers (plan_of r m) (kind_numbers t.kind)) (type_in (plan_of r m) n) [] ≡ used_by_number r n
+  used_number_is n =
+      ap (λ o. option_map_or (λ t. used_by_numbers (plan_of r m) (kind_numbers t.kind)) o []) (get_of_map planned_type r.types.items n)
+      ∙ (or_of_map (λ t. used_by_numbers (plan_of r m) (kind_numbers t.kind)) planned_type [] (type_at r n)
+      ∙ same_or (λ def. used_by_numbers (plan_of r m) (kind_numbers (planned_kind def.kind))) (used_by_type r) [] (λ def. used_by_kind_is r m def.kind) (type_at r n))
+
+  types_are : (w : ℕ) (x : WorldItem) → planned.used_types (plan_of r m) w (planned_item x) ≡ rules.used_types r w x
+  types_are w (item.Interface id stability docs external_id) = refl
+  types_are w (item.Function f) =
+      ap (λ ns. filter (plan.has_owner (plan_of r m) (as_world w)) (used_by_numbers (plan_of r m) ns)) (function_numbers_are f)
+      ∙ (λ i. filter (λ n. has_owner_is r m (as_world w) n i) (used_are r m (parts.function_numbers f) i))
+  types_are w (item.Type_ id) = λ i. filter (λ n. has_owner_is r m (as_world w) n i) (used_number_is id.0 i)
+
+  before_is : (w : ℕ) (before : List WorldItem) (x : WorldItem) → planned.uses_stand_before (plan_of r m) w (map planned_item before) (planned_item x) ≡ rules.uses_stand_before r w before x
+  before_is w before x = λ i. list_all (has (item_interfaces_are before i)) (interfaces_are x i) && list_all (has (item_types_are before i)) (types_are w x i)
+
+  world_is : (n : ℕ) (w : World) → each_after (planned.uses_stand_before (plan_of r m) n) [] (plan.items_of (planned_world w)) ≡ each_after (rules.uses_stand_before r n) [] (items_of w)
+  world_is n w =
+      ap (each_after (planned.uses_stand_before (plan_of r m) n) []) (items_are w)
+      ∙ (after_of_map (planned.uses_stand_before (plan_of r m) n) planned_item [] (items_of w)
+      ∙ ap (λ test. each_after test [] (items_of w)) (λ i before x. before_is n before x i))
+
+  pub order_of_items_kept : IsPlan (plan_of r m) → Keeps order_of_items r
+  unfolding order_of_items
+  order_of_items_kept is = worlds_keep (λ r n w. each_after (rules.uses_stand_before r n) [] (items_of w)) r
+      (each_built planned_world (λ n w. each_after (planned.uses_stand_before (plan_of r m) n) [] (plan.items_of w)) (λ n w. each_after (rules.uses_stand_before r n) [] (items_of w)) (λ n w h. sym (world_is n w) ∙ h) r.worlds.items is.items_in_order)

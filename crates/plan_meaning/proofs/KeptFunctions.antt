@@ -1,0 +1,365 @@
+-- Functions whose types are those of kept shapes pass the tests on their types and their resource.
+use Rattle.std.proofs.Common.{◌≡◌, inl, inr, refl, sym, ap, subst, ◌∙◌, ℕ, ◌+◌, ◌-◌, ◌<◌, arith, Bool, true, false, not, ◌&&◌, ◌||◌, ◌==◌, cond, List, [], ◌∷◌, ◌++◌, length, map, drop, filter_map, Option, Some, None, option_map, option_to_list, is_none, slice_get, codes}
+use Rattle.std.specs.Prelude.{nat_le, nat_eq, option_and_then}
+use Rattle.std.specs.List.{AllZip, cons_option, list_all, starts_with}
+use Rattle.std.specs.Option.{option_map_or}
+use Rattle.std.proofs.lemmas.Bool.{eqb-true, eq-eqb, lt-ltb, or_right}
+use Rattle.std.proofs.lemmas.Option.{slice_get_within}
+use Rattle.wit_model.specs.declared.model.TypeOwner.{TypeOwner}
+use Rattle.wit_model.specs.declared.model.TypeOwner.TheVariants as owner
+use Rattle.wit_model.specs.declared.model.FunctionKind.{FunctionKind}
+use Rattle.wit_model.specs.declared.model.FunctionKind.TheVariants as call
+use Rattle.wit_model.specs.Text.{Text, text_eq}
+use Rattle.wit_model.specs.Names.{is_label, constructor_name, method_name, static_name}
+use Rattle.wit_model.specs.Tree.{Place, Form, Tree, levels}
+use Rattle.wit_model.specs.Lookup.{resource_of}
+use Rattle.wit_model.specs.Parts.{same_owner}
+use Rattle.wit_model.specs.Rules.{after_prefix, are_member_labels, in_list, is_freestanding, is_id, passes}
+use Rattle.wit_model.proofs.Elements.{same-some, same-number}
+use Rattle.wit_model.proofs.Lists.{first_true, second_true}
+use Rattle.wit_model.proofs.VersionLaws.{same_text, text_same}
+use Rattle.comp_meaning.specs.Rules as rules
+use Rattle.comp_meaning.specs.Rules.{are_labels, is_label_behind, most_levels}
+use Rattle.plan_meaning.specs.Shapes.{Shape, first_label, form_code, named_shape, node_shape, IsShape, a_name, a_node}
+use Rattle.plan_meaning.specs.Plan.{Plan, PlannedType, PlannedFunction, formed, function_parts, part_number, type_in}
+use Rattle.plan_meaning.specs.PlanRules as plan
+use Rattle.plan_meaning.specs.PlanRules.{function_in_range, function_labels, function_is_shallow, is_borrow_of, is_member, is_member_of, is_member_name, is_own_of, is_result_of_own, is_shallow, names_of, part_is, resource_name, takes_self}
+use Rattle.plan_meaning.specs.Renumbering.{IsPart, a_primitive, a_shape}
+use Rattle.plan_meaning.specs.NumberedViews.{FunctionShape, Tables, tree_at, AreTables}
+use Rattle.plan_meaning.specs.NumberedRules.{Fact, shape_at, name_in, only_of, held_in, own_sort, borrow_sort, ok_in, begins_with_self, constructs, is_handle, is_name}
+use Rattle.plan_meaning.specs.GatheredPlan.{Becomes, BecomesIfGiven, ParamBecomes}
+use Rattle.plan_meaning.specs.KeptTypes.{IsKeptType, unnamed, declared, TypesAreKept}
+use Rattle.plan_meaning.specs.KeptFunctions.{IsResource, IsKindOf, of_none, a_constructor, a_method, an_async_method, a_static, an_async_static, IsKeptFunction, FunctionPasses, KeptFunctionsPass}
+use Rattle.plan_meaning.proofs.GatheredPlan.{part_kept}
+use Rattle.plan_meaning.proofs.KeptTypes.{keeps, member_labels}
+use Rattle.plan_meaning.proofs.Lists.{both, map_of_map, no_true}
+use Rattle.plan_meaning.proofs.NumberedRules.{no_name, no_shape, shape_there}
+use Rattle.plan_meaning.proofs.ShapeLaws.{slice_there, split_part}
+use Rattle.plan_meaning.proofs.Words.{behind}
+
+-- ---- names
+
+behind_label : (ps bs : Text) → is_label_behind ps bs ≡ true → option_map_or is_label (after_prefix ps bs) false ≡ true
+behind_label [] bs h = h
+behind_label (p ∷ ps) [] h = no_true h
+behind_label (p ∷ ps) (b ∷ bs) h = by (p == b) refl (behind_label ps bs) h
+  where
+    by : (v : Bool) → (p == b) ≡ v → (is_label_behind ps bs ≡ true → option_map_or is_label (after_prefix ps bs) false ≡ true) → is_label_behind (p ∷ ps) (b ∷ bs) ≡ true
+        → option_map_or is_label (cond v (after_prefix ps bs) None) false ≡ true
+    by true e more h = more (sym (ap (λ v. (v && starts_with nat_eq bs ps) && is_label (drop (length ps) bs)) e) ∙ h)
+    by false e more h = no_true (sym (ap (λ v. (v && starts_with nat_eq bs ps) && is_label (drop (length ps) bs)) e) ∙ h)
+
+pub owner_itself : (o : TypeOwner) → same_owner o o ≡ true
+owner_itself (owner.World id) = same-number id.0
+owner_itself (owner.Interface id) = same-number id.0
+owner_itself owner.None = refl
+
+-- ---- forms by their numbers
+
+own_form : (f : Form) → ((form_code f).sort == own_sort) ≡ true → f ≡ Form.own_of
+own_form Form.own_of h = refl
+own_form _ h = no_true h
+
+borrow_form : (f : Form) → ((form_code f).sort == borrow_sort) ≡ true → f ≡ Form.borrow_of
+borrow_form Form.borrow_of h = refl
+borrow_form _ h = no_true h
+
+-- what is the one number
+only_is : (ks : List ℕ) (k : ℕ) → only_of ks ≡ Some k → ks ≡ k ∷ []
+only_is [] k h = absurd cc
+only_is (l ∷ []) k h = ap (λ x. x ∷ []) (same-some l k h)
+only_is (l ∷ m ∷ ks) k h = absurd cc
+
+-- a result that gives something where it succeeds
+result_form : (form : Form) (olds : List ℕ) (i : ℕ) → ok_in (node_shape form olds) ≡ Some i → (err : Bool) × (rest : List ℕ) × (form ≡ Form.result_of true err) × (olds ≡ i ∷ rest)
+result_form (Form.result_of true true) (k ∷ ks) i h = (true, ks, refl, ap (λ x. x ∷ ks) (same-some k i h))
+result_form (Form.result_of true false) (k ∷ ks) i h = (false, ks, refl, ap (λ x. x ∷ ks) (same-some k i h))
+result_form (Form.result_of true true) [] i h = absurd cc
+result_form (Form.result_of true false) [] i h = absurd cc
+result_form (Form.result_of false true) olds i h = absurd cc
+result_form (Form.result_of false false) olds i h = absurd cc
+result_form _ olds i h = absurd cc
+
+module _ (t : Tables) (tables : AreTables t) (known : ℕ → Fact) (kept : List ℕ) (p : Plan) (are : TypesAreKept t kept p) where
+  -- ---- parts
+
+  range_of : (n : ℕ) → n < 14 + length p.types → (ms : List ℕ) → list_all (in_list p.types) ms ≡ true → list_all (in_list p.types) (cons_option (part_number n) ms) ≡ true
+  range_of n h ms more = elim (split_part n) [
+    | inl low ↦ ap (λ b. list_all (in_list p.types) (cons_option (cond b None (Some (n - 14))) ms)) (lt-ltb n 14 low) ∙ more
+    | inr j ↦
+        ap (λ k. list_all (in_list p.types) (cons_option (part_number k) ms)) j.1
+        ∙ (ap (λ x. list_all (in_list p.types) (cons_option x ms)) (behind j.0) ∙ both (in_list p.types j.0) (list_all (in_list p.types) ms) (lt-ltb j.0 (length p.types) (let is = j.1 in omega (arith, h, is))) more)
+  ]
+
+  abbrev Becoming : ℕ → ℕ → Type 0
+  Becoming = Becomes t kept p
+
+  one_new : (k : ℕ) (olds news : List ℕ) → AllZip Becoming (k ∷ olds) news → (new : ℕ) × (rest : List ℕ) × (news ≡ new ∷ rest) × Becoming k new
+  one_new k olds [] z = absurd z
+  one_new k olds (new ∷ news) z = (new, news, refl, z.0)
+
+  -- the type that a shape becomes
+  kept_there : (old new m j : ℕ) → old ≡ 14 + m → slice_get kept j ≡ Some m → new ≡ 14 + j → Becoming old new → (x : PlannedType) × (type_in p j ≡ Some x) × IsKeptType t kept p m x
+  kept_there old new m j from stands to b =
+      let range = b.range in
+      let found = slice_there p.types j (omega (arith, range, to)) in
+      let is = are.each j found.0 found.1 in
+      let number : is.0 ≡ m = same-some is.0 m (sym is.1 ∙ stands) in
+      (found.0, found.1, subst (λ k. IsKeptType t kept p k found.0) number is.2)
+
+  params_in_range : (xs ys : List (Text × ℕ)) → AllZip (ParamBecomes t kept p) xs ys → (zs : List ℕ) → list_all (in_list p.types) (filter_map part_number zs) ≡ true → list_all (in_list p.types) (filter_map part_number (map (λ (y : Text × ℕ). y.1) ys ++ zs)) ≡ true
+  params_in_range [] [] z zs more = more
+  params_in_range [] (y ∷ ys) z zs more = absurd z
+  params_in_range (x ∷ xs) [] z zs more = absurd z
+  params_in_range (x ∷ xs) (y ∷ ys) z zs more = range_of y.1 z.0.1.range (filter_map part_number (map (λ (u : Text × ℕ). u.1) ys ++ zs)) (params_in_range xs ys z.1 zs more)
+
+  result_in_range : (a b : Option ℕ) → BecomesIfGiven t kept p a b → list_all (in_list p.types) (filter_map part_number (option_to_list b)) ≡ true
+  result_in_range None None h = refl
+  result_in_range (Some a) (Some b) h = range_of b h.range [] refl
+  result_in_range None (Some b) h = absurd h
+  result_in_range (Some a) None h = absurd h
+
+  all_in_both : (xs ys : List ℕ) → list_all (in_list p.types) xs ≡ true → list_all (in_list p.types) ys ≡ true → list_all (in_list p.types) (xs ++ ys) ≡ true
+  all_in_both [] ys h k = k
+  all_in_both (x ∷ xs) ys h k =
+      both (in_list p.types x) (list_all (in_list p.types) (xs ++ ys)) (first_true (in_list p.types x) (list_all (in_list p.types) xs) h) (all_in_both xs ys (second_true (in_list p.types x) (list_all (in_list p.types) xs) h) k)
+
+  -- ---- levels
+
+  shallow_part : (place : Place) (old new : ℕ) → Becoming old new → rules.is_parameter_type place (tree_at t old) ≡ true → is_shallow p new ≡ true
+  shallow_part place old new b h =
+      ap (λ x. nat_le (levels x) most_levels) (part_kept t tables kept p (keeps t tables kept p are) old new b) ∙ second_true (rules.is_part place (tree_at t old)) (nat_le (levels (tree_at t old)) most_levels) h
+
+  params_shallow : (place : Place) (xs ys : List (Text × ℕ)) → AllZip (ParamBecomes t kept p) xs ys → list_all (λ (x : Text × Tree). rules.is_parameter_type place x.1) (map (λ (x : Text × ℕ). (x.0, tree_at t x.1)) xs) ≡ true
+      → (zs : List ℕ) → list_all (is_shallow p) zs ≡ true → list_all (is_shallow p) (map (λ (y : Text × ℕ). y.1) ys ++ zs) ≡ true
+  params_shallow place [] [] z h zs more = more
+  params_shallow place [] (y ∷ ys) z h zs more = absurd z
+  params_shallow place (x ∷ xs) [] z h zs more = absurd z
+  params_shallow place (x ∷ xs) (y ∷ ys) z h zs more =
+      let first = first_true (rules.is_parameter_type place (tree_at t x.1)) (list_all (λ (u : Text × Tree). rules.is_parameter_type place u.1) (map (λ (u : Text × ℕ). (u.0, tree_at t u.1)) xs)) h in
+      let rest = second_true (rules.is_parameter_type place (tree_at t x.1)) (list_all (λ (u : Text × Tree). rules.is_parameter_type place u.1) (map (λ (u : Text × ℕ). (u.0, tree_at t u.1)) xs)) h in
+      both (is_shallow p y.1) (list_all (is_shallow p) (map (λ (u : Text × ℕ). u.1) ys ++ zs)) (shallow_part place x.1 y.1 z.0.1 first) (params_shallow place xs ys z.1 rest zs more)
+
+  result_shallow : (place : Place) (a b : Option ℕ) → BecomesIfGiven t kept p a b → rules.is_result_type place (option_map (tree_at t) a) ≡ true → list_all (is_shallow p) (option_to_list b) ≡ true
+  result_shallow place None None b h = refl
+  result_shallow place (Some a) (Some c) b h = both (is_shallow p c) true (shallow_part place a c b h) refl
+  result_shallow place None (Some c) b h = absurd b
+  result_shallow place (Some a) None b h = absurd b
+
+  -- ---- labels
+
+  names_kept : (xs ys : List (Text × ℕ)) → AllZip (ParamBecomes t kept p) xs ys → map (λ (y : Text × ℕ). y.0) ys ≡ map (λ (x : Text × ℕ). x.0) xs
+  names_kept [] [] z = refl
+  names_kept [] (y ∷ ys) z = absurd z
+  names_kept (x ∷ xs) [] z = absurd z
+  names_kept (x ∷ xs) (y ∷ ys) z = λ i. z.0.0 i ∷ names_kept xs ys z.1 i
+
+  module _ (o : TypeOwner) (q : ℕ) where
+    -- ---- resources
+
+    module _ (name : Text) (n : ℕ) (is : IsResource t known kept p o q name n) where
+      resource_has_name : resource_name p o n ≡ Some name
+      resource_has_name =
+          ap (option_and_then (λ x. cond (plan.is_resource_kind x.kind && same_owner x.owner o) x.name None)) is.there
+          ∙ (ap (λ b. cond b is.type_.name None) (both (plan.is_resource_kind is.type_.kind) (same_owner is.type_.owner o) (ap plan.is_resource_kind is.kind) (ap (λ x. same_owner x o) is.owned ∙ owner_itself o)) ∙ is.named)
+
+      resource_in_range : in_list p.types n ≡ true
+      resource_in_range = lt-ltb n (length p.types) (slice_get_within p.types n is.type_ is.there)
+
+      -- the shape of a name in the place
+      name_shape : (k : ℕ) → is_name t known q name k ≡ true → k ≡ 14 + is.shape
+      name_shape k h = elim (split_part k) [
+        | inl low ↦ no_true (sym (ap (λ o. option_map_or (λ (x : ℕ × Text). x.0 == q && text_eq x.1 name) (option_and_then name_in o) false) (no_shape t k low)) ∙ h)
+        | inr m ↦ by m.0 m.1 (slice_get t.shapes m.0) refl
+      ]
+        where
+          named : (m : ℕ) (s : Shape) → slice_get t.shapes m ≡ Some s → option_map_or (λ (x : ℕ × Text). x.0 == q && text_eq x.1 name) (name_in s) false ≡ true → IsShape m s → m ≡ is.shape
+          named m s there h (a_name place label same) =
+              let test : ((place == q) && text_eq label name) ≡ true = sym (ap (λ (x : Shape). option_map_or (λ (y : ℕ × Text). y.0 == q && text_eq y.1 name) (name_in x) false) same) ∙ h in
+              let places = eqb-true place q (first_true (place == q) (text_eq label name) test) in
+              let labels = text_same label name (second_true (place == q) (text_eq label name) test) in
+              tables.shapes.apart m is.shape (named_shape q name) (there ∙ (ap Some same ∙ (λ i. Some (named_shape (places i) (labels i))))) is.shape_is
+          named m s there h (a_node form ks same low) =
+              no_true (sym (ap (λ (x : Shape). option_map_or (λ (y : ℕ × Text). y.0 == q && text_eq y.1 name) (name_in x) false) same
+              ∙ ap (λ b. option_map_or (λ (y : ℕ × Text). y.0 == q && text_eq y.1 name) (cond b (Some ((form_code form).number, first_label (form_code form).labels)) None) false) (no_name form)) ∙ h)
+
+          by : (m : ℕ) → k ≡ 14 + m → (found : Option Shape) → slice_get t.shapes m ≡ found → k ≡ 14 + is.shape
+          by m e None there =
+              let nothing : shape_at t k ≡ None = ap (shape_at t) e ∙ (ap (option_and_then (slice_get t.shapes)) (behind m) ∙ there) in
+              no_true (sym (ap (λ o. option_map_or (λ (x : ℕ × Text). x.0 == q && text_eq x.1 name) (option_and_then name_in o) false) nothing) ∙ h)
+          by m e (Some s) there =
+              let test = sym (ap (λ o. option_map_or (λ (x : ℕ × Text). x.0 == q && text_eq x.1 name) (option_and_then name_in o) false) (shape_there t k m s e there)) ∙ h in
+              e ∙ ap (λ i. 14 + i) (named m s there test (tables.shapes.each m s there))
+
+      -- the name becomes the number of the resource
+      name_becomes : (k new : ℕ) → is_name t known q name k ≡ true → Becoming k new → is_id n (part_number new) ≡ true
+      name_becomes k new h b = by b.part
+        where
+          shape_is : k ≡ 14 + is.shape
+          shape_is = name_shape k h
+
+          by : IsPart kept k new → is_id n (part_number new) ≡ true
+          by (a_primitive low same) = absurd (omega (arith, low, shape_is))
+          by (a_shape m j from stands to) =
+              let shapes : m ≡ is.shape = omega (arith, from, shape_is) in
+              let numbers : j ≡ n = are.once j n is.shape (stands ∙ ap Some shapes) is.stands in
+              ap (is_id n) (ap part_number to ∙ behind j) ∙ eq-eqb j n numbers
+
+      -- ---- handles
+
+      module _ (handle : Form) (sort : ℕ) (by_sort : (f : Form) → ((form_code f).sort == sort) ≡ true → f ≡ handle) (not_name : (0 == sort) ≡ false) where
+        -- the parts of a shape that is a handle of the resource
+        handle_parts : (form : Form) (olds : List ℕ) → option_map_or (is_name t known q name) (held_in sort (node_shape form olds)) false ≡ true → (k : ℕ) × (form ≡ handle) × (olds ≡ k ∷ []) × (is_name t known q name k ≡ true)
+        handle_parts form olds h = by ((form_code form).sort == sort) refl (only_of olds) refl h
+          where
+            by : (b : Bool) → ((form_code form).sort == sort) ≡ b → (found : Option ℕ) → only_of olds ≡ found → option_map_or (is_name t known q name) (cond b found None) false ≡ true
+                → (k : ℕ) × (form ≡ handle) × (olds ≡ k ∷ []) × (is_name t known q name k ≡ true)
+            by true e (Some k) f h = (k, by_sort form e, only_is olds k f, h)
+            by true e None f h = no_true h
+            by false e found f h = no_true h
+
+        -- the type of a handle of the resource
+        record IsHandleType (x : PlannedType) : Type 0 where
+          none : x.name ≡ None
+          part : ℕ
+          rest : List ℕ
+          kind : x.kind ≡ formed handle (part ∷ rest)
+          number : is_id n (part_number part) ≡ true
+
+        handle_type : (old m : ℕ) → old ≡ 14 + m → is_handle t known q sort name old ≡ true → (x : PlannedType) → IsKeptType t kept p m x → IsHandleType x
+        handle_type old m e h x (declared place label d there named home kind before good obeys) =
+            no_true (sym (ap (λ o. option_map_or (is_name t known q name) (option_and_then (held_in sort) o) false) (shape_there t old m (named_shape place label) e there)
+            ∙ ap (λ c. option_map_or (is_name t known q name) (cond c (only_of []) None) false) not_name) ∙ h)
+        handle_type old m e h x (unnamed place form olds news there z none unowned kind part low) =
+            let here = sym (ap (λ o. option_map_or (is_name t known q name) (option_and_then (held_in sort) o) false) (shape_there t old m (node_shape form olds) e there)) ∙ h in
+            let parts = handle_parts form olds here in
+            let first = one_new parts.0 [] news (subst (λ (ks : List ℕ). AllZip Becoming ks news) parts.2 z) in
+            record { none = none; part = first.0; rest = first.1; kind = kind ∙ (λ i. formed (parts.1 i) (first.2 i)); number = name_becomes parts.0 first.0 parts.3 first.3 }
+
+        handle_becomes : (test : PlannedType → Bool) → ((x : PlannedType) → IsHandleType x → test x ≡ true) → (old new : ℕ) → is_handle t known q sort name old ≡ true → Becoming old new → part_is p test new ≡ true
+        handle_becomes test passes_test old new h b = by b.part
+          where
+            by : IsPart kept old new → part_is p test new ≡ true
+            by (a_primitive low same) = no_true (sym (ap (λ o. option_map_or (is_name t known q name) (option_and_then (held_in sort) o) false) (no_shape t old low)) ∙ h)
+            by (a_shape m j from stands to) =
+                let there = kept_there old new m j from stands to b in
+                ap (λ o. option_map_or (λ k. option_map_or test (type_in p k) false) o false) (ap part_number to ∙ behind j)
+                ∙ (ap (λ o. option_map_or test o false) there.1 ∙ passes_test there.0 (handle_type old m from h there.0 there.2))
+
+      own_becomes : (old new : ℕ) → is_handle t known q own_sort name old ≡ true → Becoming old new → part_is p (is_own_of n) new ≡ true
+      own_becomes = handle_becomes Form.own_of own_sort own_form refl (is_own_of n) (λ x is_type. both (is_none x.name) (plan.is_own_kind n x.kind) (ap is_none is_type.none) (ap (plan.is_own_kind n) is_type.kind ∙ is_type.number))
+
+      borrow_becomes : (old new : ℕ) → is_handle t known q borrow_sort name old ≡ true → Becoming old new → part_is p (is_borrow_of n) new ≡ true
+      borrow_becomes = handle_becomes Form.borrow_of borrow_sort borrow_form refl (is_borrow_of n) (λ x is_type. both (is_none x.name) (plan.is_borrow_kind n x.kind) (ap is_none is_type.none) (ap (plan.is_borrow_kind n) is_type.kind ∙ is_type.number))
+
+      -- ---- constructors and methods
+
+      result_type : (old m i : ℕ) → old ≡ 14 + m → option_and_then ok_in (shape_at t old) ≡ Some i → is_handle t known q own_sort name i ≡ true → (x : PlannedType) → IsKeptType t kept p m x → is_result_of_own p n x ≡ true
+      result_type old m i e ok h x (declared place label d there named home kind before good obeys) =
+          let nothing : None ≡ Some i = sym (ap (option_and_then ok_in) (shape_there t old m (named_shape place label) e there)) ∙ ok in absurd cc
+      result_type old m i e ok h x (unnamed place form olds news there z none unowned kind part low) =
+          let made = result_form form olds i (sym (ap (option_and_then ok_in) (shape_there t old m (node_shape form olds) e there)) ∙ ok) in
+          let first = one_new i made.1 news (subst (λ (ks : List ℕ). AllZip Becoming ks news) made.3 z) in
+          both (is_none x.name) (plan.has_own_ok p n x.kind) (ap is_none none)
+          (ap (plan.has_own_ok p n) (kind ∙ (λ j. formed (made.2 j) (first.2 j))) ∙ own_becomes i first.0 h first.3)
+
+      result_becomes : (old new i : ℕ) → option_and_then ok_in (shape_at t old) ≡ Some i → is_handle t known q own_sort name i ≡ true → Becoming old new → part_is p (is_result_of_own p n) new ≡ true
+      result_becomes old new i ok h b = by b.part
+        where
+          by : IsPart kept old new → part_is p (is_result_of_own p n) new ≡ true
+          by (a_primitive low same) = let nothing : None ≡ Some i = sym (ap (option_and_then ok_in) (no_shape t old low)) ∙ ok in absurd cc
+          by (a_shape m j from stands to) =
+              let there = kept_there old new m j from stands to b in
+              ap (λ o. option_map_or (λ k. option_map_or (is_result_of_own p n) (type_in p k) false) o false) (ap part_number to ∙ behind j)
+              ∙ (ap (λ o. option_map_or (is_result_of_own p n) o false) there.1 ∙ result_type old m i from ok h there.0 there.2)
+
+      constructs_becomes : (a b : Option ℕ) → BecomesIfGiven t kept p a b → constructs t known q name a ≡ true → option_map_or (λ k. part_is p (is_own_of n) k || part_is p (is_result_of_own p n) k) b false ≡ true
+      constructs_becomes None b becomes h = no_true h
+      constructs_becomes (Some old) None becomes h = absurd becomes
+      constructs_becomes (Some old) (Some new) becomes h = by (option_and_then ok_in (shape_at t old)) refl h
+        where
+          by : (found : Option ℕ) → option_and_then ok_in (shape_at t old) ≡ found → option_map_or (is_handle t known q own_sort name) found (is_handle t known q own_sort name old) ≡ true
+              → (part_is p (is_own_of n) new || part_is p (is_result_of_own p n) new) ≡ true
+          by None e h = ap (λ c. c || part_is p (is_result_of_own p n) new) (own_becomes old new h becomes)
+          by (Some i) e h = or_right (part_is p (is_own_of n) new) (part_is p (is_result_of_own p n) new) (result_becomes old new i e h becomes)
+
+      self_becomes : (xs ys : List (Text × ℕ)) → AllZip (ParamBecomes t kept p) xs ys → begins_with_self t known q name xs ≡ true
+          → option_map_or (λ (y : Text × ℕ). text_eq y.0 (codes "self") && part_is p (is_borrow_of n) y.1) (slice_get ys 0) false ≡ true
+      self_becomes [] ys z h = no_true h
+      self_becomes (x ∷ xs) [] z h = absurd z
+      self_becomes (x ∷ xs) (y ∷ ys) z h =
+          both (text_eq y.0 (codes "self")) (part_is p (is_borrow_of n) y.1) (ap (λ u. text_eq u (codes "self")) z.0.0 ∙ first_true (text_eq x.0 (codes "self")) (is_handle t known q borrow_sort name x.1) h)
+          (borrow_becomes x.1 y.1 (second_true (text_eq x.0 (codes "self")) (is_handle t known q borrow_sort name x.1) h) z.0.1)
+
+      member_is : (g : PlannedFunction) (kind : FunctionKind) → g.kind ≡ kind → resource_of kind ≡ Some n → is_member_of p n name g kind ≡ true → is_member p o g ≡ true
+      member_is g kind e own h =
+          ap (λ k. passes (λ m. option_map_or (λ r. is_member_of p m r g k) (resource_name p o m) false) (resource_of k)) e
+          ∙ (ap (passes (λ m. option_map_or (λ r. is_member_of p m r g kind) (resource_name p o m) false)) own ∙ (ap (λ x. option_map_or (λ r. is_member_of p n r g kind) x false) resource_has_name ∙ h))
+
+      number_is : (kind : FunctionKind) → resource_of kind ≡ Some n → list_all (in_list p.types) (option_to_list (resource_of kind)) ≡ true
+      number_is kind e = ap (λ x. list_all (in_list p.types) (option_to_list x)) e ∙ both (in_list p.types n) true resource_in_range refl
+
+    -- ---- a function
+
+    module _ (name : Text) (f : FunctionShape) (id : Option Text) (g : PlannedFunction) (is : IsKeptFunction t known kept p o q name f id g) where
+      name_behind : (front : Text) → is_label_behind front name ≡ true → is_member_name front g ≡ true
+      name_behind front h = behind_label front g.name (ap (is_label_behind front) is.named ∙ h)
+
+      belongs : IsKindOf t known kept p o q name f g.kind → is_member p o g ≡ true
+      belongs (of_none label e) = ap (passes (λ m. option_map_or (λ r. is_member_of p m r g g.kind) (resource_name p o m) false)) e
+      belongs (a_constructor id r e there named made) =
+          member_is r id.0 there g (call.Constructor id) e refl (both (text_eq g.name (constructor_name r)) (plan.constructs p id.0 g) (same_text g.name (constructor_name r) (is.named ∙ named)) (constructs_becomes r id.0 there f.result g.result is.becomes.result made))
+      belongs (a_method id r e there named self) =
+          member_is r id.0 there g (call.Method id) e refl (both (is_member_name (method_name r []) g) (takes_self p id.0 g) (name_behind (method_name r []) named) (self_becomes r id.0 there f.params g.params is.becomes.params self))
+      belongs (an_async_method id r e there named self) =
+          member_is r id.0 there g (call.AsyncMethod id) e refl (both (is_member_name (method_name r []) g) (takes_self p id.0 g) (name_behind (method_name r []) named) (self_becomes r id.0 there f.params g.params is.becomes.params self))
+      belongs (a_static id r e there named) = member_is r id.0 there g (call.Static id) e refl (name_behind (static_name r []) named)
+      belongs (an_async_static id r e there named) = member_is r id.0 there g (call.AsyncStatic id) e refl (name_behind (static_name r []) named)
+
+      resource_number : IsKindOf t known kept p o q name f g.kind → list_all (in_list p.types) (option_to_list (resource_of g.kind)) ≡ true
+      resource_number (of_none label e) = ap (λ x. list_all (in_list p.types) (option_to_list x)) e
+      resource_number (a_constructor id r e there named made) = number_is r id.0 there g.kind (ap resource_of e)
+      resource_number (a_method id r e there named self) = number_is r id.0 there g.kind (ap resource_of e)
+      resource_number (an_async_method id r e there named self) = number_is r id.0 there g.kind (ap resource_of e)
+      resource_number (a_static id r e there named) = number_is r id.0 there g.kind (ap resource_of e)
+      resource_number (an_async_static id r e there named) = number_is r id.0 there g.kind (ap resource_of e)
+
+      name_is_label : IsKindOf t known kept p o q name f g.kind → (not (is_freestanding g.kind) || is_label g.name) ≡ true
+      name_is_label (of_none label e) = or_right (not (is_freestanding g.kind)) (is_label g.name) (ap is_label is.named ∙ label)
+      name_is_label (a_constructor id r e there named made) = ap (λ k. not (is_freestanding k) || is_label g.name) e
+      name_is_label (a_method id r e there named self) = ap (λ k. not (is_freestanding k) || is_label g.name) e
+      name_is_label (an_async_method id r e there named self) = ap (λ k. not (is_freestanding k) || is_label g.name) e
+      name_is_label (a_static id r e there named) = ap (λ k. not (is_freestanding k) || is_label g.name) e
+      name_is_label (an_async_static id r e there named) = ap (λ k. not (is_freestanding k) || is_label g.name) e
+
+      abbrev trees_of : List (Text × Tree)
+      trees_of = map (λ (x : Text × ℕ). (x.0, tree_at t x.1)) f.params
+
+      abbrev good_labels : Bool
+      good_labels = are_labels (map (λ (x : Text × Tree). x.0) trees_of)
+
+      abbrev good_params : Bool
+      good_params = list_all (λ (x : Text × Tree). rules.is_parameter_type is.place x.1) trees_of
+
+      params_obey : (good_labels && good_params) ≡ true
+      params_obey = first_true (good_labels && good_params) (rules.is_result_type is.place (option_map (tree_at t) f.result)) is.obeys
+
+      result_obeys : rules.is_result_type is.place (option_map (tree_at t) f.result) ≡ true
+      result_obeys = second_true (good_labels && good_params) (rules.is_result_type is.place (option_map (tree_at t) f.result)) is.obeys
+
+      labels_obey : are_member_labels (names_of g.params) ≡ true
+      labels_obey =
+          member_labels (names_of g.params)
+          (ap are_labels (names_kept f.params g.params is.becomes.params ∙ sym (map_of_map (λ (x : Text × Tree). x.0) (λ (x : Text × ℕ). (x.0, tree_at t x.1)) f.params)) ∙ first_true good_labels good_params params_obey)
+
+      function_passes : FunctionPasses p o g
+      function_passes = record {
+        in_range = all_in_both (filter_map part_number (function_parts g)) (option_to_list (resource_of g.kind))
+            (params_in_range f.params g.params is.becomes.params (option_to_list g.result) (result_in_range f.result g.result is.becomes.result)) (resource_number is.kind);
+        labels = both (not (is_freestanding g.kind) || is_label g.name) (are_member_labels (names_of g.params)) (name_is_label is.kind) labels_obey;
+        shallow = params_shallow is.place f.params g.params is.becomes.params (second_true good_labels good_params params_obey) (option_to_list g.result) (result_shallow is.place f.result g.result is.becomes.result result_obeys);
+        belongs = belongs is.kind;
+      }
+
+pub kept_functions_pass : KeptFunctionsPass
+kept_functions_pass t tables known kept p are o q name f id g is = function_passes t tables known kept p are o q name f id g is

@@ -1,0 +1,276 @@
+-- What holds names of one place stays with the owner of that place.
+use Rattle.std.proofs.Common.{◌≡◌, inl, inr, refl, sym, ap, subst, ◌∙◌, ℕ, zero, suc, ◌+◌, ◌-◌, ◌<◌, arith, Bool, true, false, not, ◌&&◌, ◌||◌, ◌==◌, cond, List, [], ◌∷◌, ◌++◌, length, map, take, filter_map, Option, Some, None, option_to_list, option_map, is_some, slice_get, unwrap_or}
+use Rattle.std.specs.Prelude.{nat_le}
+use Rattle.std.specs.List.{AllZip, AllByRecursion, Contains, cons_option, flat_map, list_all}
+use Rattle.std.specs.Option.{option_map_or}
+use Rattle.std.proofs.lemmas.Bool.{eqb-true, eq-eqb, lt-ltb, or_right}
+use Rattle.std.proofs.lemmas.List.Folds.{list_all-append}
+use Rattle.wit_model.specs.declared.model.TypeOwner.{TypeOwner}
+use Rattle.wit_model.specs.declared.model.TypeOwner.TheVariants as owner
+use Rattle.wit_model.specs.Text.{Text}
+use Rattle.wit_model.specs.Tree.{Place, Form, Tree, children, deepest}
+use Rattle.wit_model.specs.Types.{no_tree}
+use Rattle.wit_model.specs.Parts.{met_by, numbered_from, same_owner}
+use Rattle.wit_model.specs.Uses.{owner_interface}
+use Rattle.wit_model.proofs.Elements.{contains-later, get-contains, same-some}
+use Rattle.wit_model.proofs.Lists.{first_true, second_true}
+use Rattle.wit_model.proofs.Tables.{grow_at}
+use Rattle.comp_meaning.specs.Rules as rules
+use Rattle.comp_meaning.specs.Rules.{are_labels, are_parts, form_labels, is_named_form, most_levels}
+use Rattle.comp_meaning.proofs.SameLaws.{places_decide}
+use Rattle.plan_meaning.specs.Shapes.{Shape, node_shape, named_shape, shape_trees}
+use Rattle.plan_meaning.specs.Plan.{Plan, PlannedKind, PlannedType, PlannedFunction, formed, kind_numbers, part_number, alias_number, met_at, met_in, has_owner, type_in}
+use Rattle.plan_meaning.specs.Plan as plan
+use Rattle.plan_meaning.specs.PlanRules.{function_stays, has_name, is_use, type_stays}
+use Rattle.plan_meaning.specs.Renumbering.{IsPart, a_primitive, a_shape}
+use Rattle.plan_meaning.specs.NumberedViews.{FunctionShape, Tables, place_at, tree_at, signature_over, declaration_of, AllOf, PartsOf, AreTables, itself, inside}
+use Rattle.plan_meaning.specs.NumberedRules.{IsSeenFrom}
+use Rattle.plan_meaning.specs.GatheredPlan as gathered
+use Rattle.plan_meaning.specs.GatheredPlan.{Becomes, BecomesIfGiven, DeclaresKind, a_resource, a_form, FunctionBecomes, ParamBecomes}
+use Rattle.plan_meaning.specs.KeptTypes.{IsKeptType, unnamed, declared, TypesAreKept}
+use Rattle.plan_meaning.specs.KeptOwners.{IsNamedInterface, AreOwned, OwnersStand, KeptOwnersStand, of_name}
+use Rattle.plan_meaning.proofs.GatheredPlan.{all_at, form_tree}
+use Rattle.plan_meaning.proofs.KeptFunctions.{owner_itself}
+use Rattle.plan_meaning.proofs.KeptTypes.{all_by_number, form_obeys, keeps, parts_before}
+use Rattle.plan_meaning.proofs.Lists.{both, no_true}
+use Rattle.plan_meaning.proofs.NumberedRules.{no_name, shape_there}
+use Rattle.plan_meaning.proofs.ShapeLaws.{name_tree, part_behind, slice_take, slice_there, tree_at_number}
+use Rattle.plan_meaning.proofs.Words.{behind}
+
+pub numbered_there : {A : Type 0} (k : ℕ) (xs : List A) (n : ℕ) (x : A) → slice_get xs n ≡ Some x → slice_get (numbered_from k xs) n ≡ Some (k + n, x)
+numbered_there k [] n x e = absurd cc
+numbered_there k (y ∷ ys) zero x e = let same : y ≡ x = same-some y x e in let here : k ≡ k + 0 = omega arith in λ i. Some (here i, same i)
+numbered_there k (y ∷ ys) (suc n) x e = let next : (k + 1) + n ≡ k + suc n = omega arith in numbered_there (k + 1) ys n x e ∙ ap (λ m. Some (m, x)) next
+
+-- what is met at a type, by what is met at smaller numbers
+pub met_there : (p : Plan) (j : ℕ) (x : PlannedType) → slice_get p.types j ≡ Some x → met_by (met_in p) j ≡ met_at (take j (met_in p)) (j, x)
+unfolding met_in
+met_there p j x e =
+    let zero_more : 0 + j ≡ j = omega arith in
+    ap (λ o. unwrap_or o []) (grow_at met_at (numbered_from 0 p.types) j (j, x) (numbered_there 0 p.types j x e ∙ ap (λ m. Some (m, x)) zero_more))
+
+module _ (t : Tables) (tables : AreTables t) (kept : List ℕ) (p : Plan) (are : TypesAreKept t kept p) (owners : ℕ → TypeOwner) (owned : AreOwned t kept p owners) where
+  abbrev all_met : List (List ℕ)
+  all_met = met_in p
+
+  name_there : (n q : ℕ) (name : Text) → slice_get t.shapes n ≡ Some (named_shape q name) → tree_at t (14 + n) ≡ Tree.named (place_at t q) name
+  name_there n q name e =
+      let trees = shape_trees (place_at t) t.shapes in
+      part_behind trees n ∙ (ap (λ o. unwrap_or o no_tree) (tree_at_number (place_at t) t.shapes tables.shapes n (named_shape q name) e) ∙ name_tree (place_at t) trees q name)
+
+  module _ (q : ℕ) where
+    abbrev IsOwn : List ℕ → Type 0
+    IsOwn ns = list_all (has_owner p (owners q)) ns ≡ true
+
+    own_both : (xs ys : List ℕ) → IsOwn xs → IsOwn ys → IsOwn (xs ++ ys)
+    own_both xs ys h k = list_all-append (has_owner p (owners q)) xs ys ∙ both (list_all (has_owner p (owners q)) xs) (list_all (has_owner p (owners q)) ys) h k
+
+    -- ---- a part, by a table of what is met
+
+    -- what is met at the number that a part becomes is the owner's
+    abbrev IsMetAs : List (List ℕ) → ℕ → Type 0
+    IsMetAs table new = (ms : List ℕ) → IsOwn (flat_map (met_by table) ms) → IsOwn (flat_map (met_by table) (cons_option (part_number new) ms))
+
+    -- what may be a part, as it is seen from the place
+    record IsPartHere (k : ℕ) : Type 0 where
+      part : rules.is_part (place_at t q) (tree_at t k) ≡ true
+      seen : IsSeenFrom t q k
+
+    abbrev Smaller : ℕ → Type 0
+    Smaller j = (i n : ℕ) → i < j → i < length p.types → slice_get kept i ≡ Some n → IsPartHere (14 + n) → IsOwn (met_by all_met i)
+
+    met_low : (table : List (List ℕ)) (new : ℕ) → new < 14 → IsMetAs table new
+    met_low table new low ms more = ap (λ c. list_all (has_owner p (owners q)) (flat_map (met_by table) (cons_option (cond c None (Some (new - 14))) ms))) (lt-ltb new 14 low) ∙ more
+
+    met_number : (table : List (List ℕ)) (new i : ℕ) → new ≡ 14 + i → IsOwn (met_by table i) → IsMetAs table new
+    met_number table new i to own ms more =
+        ap (λ o. list_all (has_owner p (owners q)) (flat_map (met_by table) (cons_option o ms))) (ap part_number to ∙ behind i) ∙ own_both (met_by table i) (flat_map (met_by table) ms) own more
+
+    parts_met : (table : List (List ℕ)) (olds news : List ℕ) → ((old new : ℕ) → Contains olds old → Becomes t kept p old new → IsMetAs table new) → AllZip (Becomes t kept p) olds news → IsOwn (flat_map (met_by table) (filter_map part_number news))
+    parts_met table [] [] each z = refl
+    parts_met table [] (new ∷ news) each z = absurd z
+    parts_met table (old ∷ olds) [] each z = absurd z
+    parts_met table (old ∷ olds) (new ∷ news) each z =
+        each old new (get-contains (old ∷ olds) 0 old refl) z.0 (filter_map part_number news) (parts_met table olds news (λ a b c. each a b (contains-later old olds a c)) z.1)
+
+    part_of_form : (place : Place) (ks : List ℕ) → are_parts place (children (map (tree_at t) ks)) ≡ true → (k : ℕ) → Contains ks k → rules.is_part place (tree_at t k) ≡ true
+    part_of_form place [] h k (i, low, e) = absurd (omega (arith, low))
+    part_of_form place (l ∷ ks) h k (zero, low, e) = ap (λ m. rules.is_part place (tree_at t m)) (sym e) ∙ first_true (rules.is_part place (tree_at t l)) (are_parts place (children (map (tree_at t) ks))) h
+    part_of_form place (l ∷ ks) h k (suc i, low, e) = part_of_form place ks (second_true (rules.is_part place (tree_at t l)) (are_parts place (children (map (tree_at t) ks))) h) k (i, omega (arith, low), e)
+
+    -- ---- a type of the plan
+
+    named_here : (j n : ℕ) (x : PlannedType) (r : ℕ) (name : Text) → slice_get p.types j ≡ Some x → slice_get kept j ≡ Some n → slice_get t.shapes n ≡ Some (named_shape r name) → r ≡ q → has_owner p (owners q) j ≡ true
+    named_here j n x r name e stands there same =
+        ap (λ o. option_map_or (λ y. same_owner y.owner (owners q)) o false) e
+        ∙ (ap (λ y. same_owner y (owners q)) (owned.owned j n x r name e stands there ∙ ap owners same) ∙ owner_itself (owners q))
+
+    -- the parts of a form
+    form_met : (table : List (List ℕ)) (n : ℕ) (form : Form) (olds news : List ℕ) → slice_get t.shapes n ≡ Some (node_shape form olds) → AllZip (Becomes t kept p) olds news
+        → are_parts (place_at t q) (children (map (tree_at t) olds)) ≡ true → ((old : ℕ) → Contains olds old → IsSeenFrom t q old)
+        → ((i m : ℕ) → slice_get kept i ≡ Some m → m < n → i < length p.types → IsPartHere (14 + m) → IsOwn (met_by table i)) → IsOwn (flat_map (met_by table) (filter_map part_number news))
+    form_met table n form olds news there z parts seen lookup = parts_met table olds news one z
+      where
+        one : (old new : ℕ) → Contains olds old → Becomes t kept p old new → IsMetAs table new
+        one old new c b = by b.part
+          where
+            by : IsPart kept old new → IsMetAs table new
+            by (a_primitive small same) = met_low table new (omega (arith, small, same))
+            by (a_shape m i from at to) =
+                let low_old : old < 14 + n = all_at (λ k. k < 14 + n) olds (parts_before t tables kept p are n form olds there) old c in
+                let range = b.range in
+                met_number table new i to
+                (lookup i m at (omega (arith, from, low_old)) (omega (arith, range, to)) (subst IsPartHere from (record { part = part_of_form (place_at t q) olds parts old c; seen = seen old c })))
+
+    type_met : (j n : ℕ) → Smaller j → (x : PlannedType) → slice_get p.types j ≡ Some x → slice_get kept j ≡ Some n → IsKeptType t kept p n x → IsPartHere (14 + n) → IsOwn (met_at (take j all_met) (j, x))
+    type_met j n smaller x e stands (declared r name d there named home kind before good obeys) here =
+        let same_place : place_at t q ≡ place_at t r =
+        (places_decide (place_at t q) (place_at t r)).0 (sym (ap (rules.is_part (place_at t q)) (name_there n r name there)) ∙ here.part) in
+        let same : r ≡ q = here.seen r (itself (14 + n) n r name refl there) (sym same_place) in
+        ap (λ o. list_all (has_owner p (owners q)) (option_map_or (λ y. j ∷ []) o (flat_map (met_by (take j all_met)) (kind_numbers x.kind)))) named
+        ∙ both (has_owner p (owners q) j) true (named_here j n x r name e stands there same) refl
+    type_met j n smaller x e stands (unnamed place form olds news there z name unowned kind part low) here =
+        let parts : are_parts (place_at t q) (children (map (tree_at t) olds)) ≡ true =
+        second_true (not (is_named_form form)) (are_parts (place_at t q) (children (map (tree_at t) olds))) (sym (ap (rules.is_part (place_at t q)) (form_tree t tables kept p (keeps t tables kept p are) (14 + n) n form olds refl there)) ∙ here.part) in
+        ap (λ o. list_all (has_owner p (owners q)) (option_map_or (λ y. j ∷ []) o (flat_map (met_by (take j all_met)) (kind_numbers x.kind)))) name
+        ∙ (ap (λ k. list_all (has_owner p (owners q)) (flat_map (met_by (take j all_met)) (kind_numbers k))) kind
+        ∙ form_met (take j all_met) n form olds news there z parts (λ old c r has. here.seen r (inside (14 + n) n old r form olds refl there c has))
+        (λ i m at less range here_old.
+        let before : i < j = are.rise i j m n at stands less in
+        ap (λ o. list_all (has_owner p (owners q)) (unwrap_or o [])) (slice_take all_met j i before) ∙ smaller i m before range at here_old))
+
+    all_own : (fuel j n : ℕ) → j < fuel → j < length p.types → slice_get kept j ≡ Some n → IsPartHere (14 + n) → IsOwn (met_by all_met j)
+    all_own zero j n h low stands here = absurd (omega (arith, h))
+    all_own (suc fuel) j n h low stands here =
+        let found = slice_there p.types j low in
+        let from = are.each j found.0 found.1 in
+        let number : from.0 ≡ n = same-some from.0 n (sym from.1 ∙ stands) in
+        ap (list_all (has_owner p (owners q))) (met_there p j found.0 found.1)
+        ∙ type_met j n (λ i m less range at here_m. all_own fuel i m (omega (arith, less, h)) range at here_m) found.0 found.1 stands (subst (λ k. IsKeptType t kept p k found.0) number from.2) here
+
+    part_met : (old new : ℕ) → IsPartHere old → Becomes t kept p old new → IsMetAs all_met new
+    part_met old new here b = by b.part
+      where
+        by : IsPart kept old new → IsMetAs all_met new
+        by (a_primitive small same) = met_low all_met new (omega (arith, small, same))
+        by (a_shape m i from at to) = let range = b.range in met_number all_met new i to (all_own (suc i) i m (omega arith) (omega (arith, range, to)) at (subst IsPartHere from here))
+
+    -- ---- functions
+
+    params_met : (xs ys : List (Text × ℕ)) → AllZip (ParamBecomes t kept p) xs ys → AllByRecursion (λ (x : Text × ℕ). IsSeenFrom t q x.1) xs
+        → list_all (λ (x : Text × Tree). rules.is_parameter_type (place_at t q) x.1) (map (λ (x : Text × ℕ). (x.0, tree_at t x.1)) xs) ≡ true
+        → (zs : List ℕ) → IsOwn (flat_map (met_by all_met) (filter_map part_number zs)) → IsOwn (flat_map (met_by all_met) (filter_map part_number (map (λ (y : Text × ℕ). y.1) ys ++ zs)))
+    params_met [] [] z seen h zs more = more
+    params_met [] (y ∷ ys) z seen h zs more = absurd z
+    params_met (x ∷ xs) [] z seen h zs more = absurd z
+    params_met (x ∷ xs) (y ∷ ys) z seen h zs more =
+        let rest_test = list_all (λ (u : Text × Tree). rules.is_parameter_type (place_at t q) u.1) (map (λ (u : Text × ℕ). (u.0, tree_at t u.1)) xs) in
+        let one = first_true (rules.is_parameter_type (place_at t q) (tree_at t x.1)) rest_test h in
+        part_met x.1 y.1 (record { part = first_true (rules.is_part (place_at t q) (tree_at t x.1)) _ one; seen = seen.0 }) z.0.1 (filter_map part_number (map (λ (u : Text × ℕ). u.1) ys ++ zs))
+        (params_met xs ys z.1 seen.1 (second_true (rules.is_parameter_type (place_at t q) (tree_at t x.1)) rest_test h) zs more)
+
+    result_met : (a b : Option ℕ) → BecomesIfGiven t kept p a b → AllOf (IsSeenFrom t q) a → rules.is_result_type (place_at t q) (option_map (tree_at t) a) ≡ true → IsOwn (flat_map (met_by all_met) (filter_map part_number (option_to_list b)))
+    result_met None None b seen h = refl
+    result_met (Some a) (Some c) b seen h = part_met a c (record { part = first_true (rules.is_part (place_at t q) (tree_at t a)) _ h; seen = seen }) b [] refl
+    result_met None (Some c) b seen h = absurd b
+    result_met (Some a) None b seen h = absurd b
+
+    function_own : (f : FunctionShape) (id : Option Text) (g : PlannedFunction) → FunctionBecomes t kept p f id g → PartsOf (IsSeenFrom t q) f → rules.is_signature (place_at t q) (signature_over (tree_at t) f) ≡ true
+        → function_stays p (owners q) g ≡ true
+    function_own f id g b seen h =
+        let trees = map (λ (x : Text × ℕ). (x.0, tree_at t x.1)) f.params in
+        let front = are_labels (map (λ (x : Text × Tree). x.0) trees) in
+        let params = list_all (λ (x : Text × Tree). rules.is_parameter_type (place_at t q) x.1) trees in
+        let result = rules.is_result_type (place_at t q) (option_map (tree_at t) f.result) in
+        params_met f.params g.params b.params seen.0 (second_true front params (first_true (front && params) result h)) (option_to_list g.result)
+        (result_met f.result g.result b.result seen.1 (second_true (front && params) result h))
+
+  -- ---- types
+
+  -- what a type refers to is its owner's, or it is another name of another interface's
+  abbrev IsFine : PlannedType → Type 0
+  IsFine x = (list_all (has_owner p x.owner) (flat_map (met_by all_met) (kind_numbers x.kind)) || (is_some x.name && is_use p x)) ≡ true
+
+  module _ (j n : ℕ) (x : PlannedType) (planned_there : slice_get p.types j ≡ Some x) (kept_there : slice_get kept j ≡ Some n) (r : ℕ) (name : Text) (there : slice_get t.shapes n ≡ Some (named_shape r name)) (named : x.name ≡ Some name) (home : x.owner ≡ owners r) where
+    own_numbers : IsOwn r (flat_map (met_by all_met) (kind_numbers x.kind)) → IsFine x
+    own_numbers h = ap (λ b. b || (is_some x.name && is_use p x)) (ap (λ o. list_all (has_owner p o) (flat_map (met_by all_met) (kind_numbers x.kind))) home ∙ h)
+
+    alias_fine : (old new m i : ℕ) → x.kind ≡ plan.alias new → DeclaresKind t kept p (Some (14 + m)) x.kind → new ≡ 14 + i → (u : PlannedType) → slice_get p.types i ≡ Some u → slice_get kept i ≡ Some m
+        → (s : ℕ) (other : Text) → slice_get t.shapes m ≡ Some (named_shape s other) → u.name ≡ Some other → IsFine x
+    alias_fine old new m i k kind to u e stands s other at called = by (s == r) refl
+      where
+        owner_of : u.owner ≡ owners s
+        owner_of = owned.owned i m u s other e stands at
+
+        apart : (s == r) ≡ false → same_owner (owners s) (owners r) ≡ false
+        apart none = no (same_owner (owners s) (owners r)) refl
+          where
+            no : (b : Bool) → same_owner (owners s) (owners r) ≡ b → b ≡ false
+            no false h = refl
+            no true h = no_true (sym none ∙ eq-eqb s r (owned.apart s r h))
+
+        a_use : (s == r) ≡ false → IsNamedInterface p (owners s) → is_use p x ≡ true
+        a_use none is =
+            ap (λ k. option_map_or (λ m. option_map_or (λ u. not (same_owner u.owner x.owner) && option_map_or (has_name p) (owner_interface u.owner) false) (type_in p m) false) (alias_number k) false) k
+            ∙ (ap (λ o. option_map_or (λ m. option_map_or (λ u. not (same_owner u.owner x.owner) && option_map_or (has_name p) (owner_interface u.owner) false) (type_in p m) false) o false) (ap part_number to ∙ behind i)
+            ∙ (ap (λ o. option_map_or (λ u. not (same_owner u.owner x.owner) && option_map_or (has_name p) (owner_interface u.owner) false) o false) e
+            ∙ both (not (same_owner u.owner x.owner)) (option_map_or (has_name p) (owner_interface u.owner) false)
+            ((λ j. not (same_owner (owner_of j) (home j))) ∙ ap not (apart none))
+            (ap (λ y. option_map_or (has_name p) (owner_interface y) false) (owner_of ∙ is.is) ∙ is.named)))
+
+        by : (b : Bool) → (s == r) ≡ b → IsFine x
+        by true same =
+            let met : met_by all_met i ≡ i ∷ [] = met_there p i u e ∙ ap (λ o. option_map_or (λ y. i ∷ []) o (flat_map (met_by (take i all_met)) (kind_numbers u.kind))) called in
+            let own : IsOwn r (met_by all_met i) = ap (list_all (has_owner p (owners r))) met ∙ both (has_owner p (owners r) i) true (named_here r i m u s other e stands at (eqb-true s r same)) refl in
+            own_numbers (ap (λ k. list_all (has_owner p (owners r)) (flat_map (met_by all_met) (kind_numbers k))) k ∙ met_number r all_met new i to own [] refl)
+        by false none = elim (owned.used j n x r name m s other planned_there kept_there there kind at) [
+          | inl same ↦ no_true (sym none ∙ eq-eqb s r same)
+          | inr path ↦
+              or_right (list_all (has_owner p x.owner) (flat_map (met_by all_met) (kind_numbers x.kind))) (is_some x.name && is_use p x)
+              (both (is_some x.name) (is_use p x) (ap is_some named) (a_use none (owned.outside s path (of_name i m u other e stands at))))
+        ]
+
+    kind_fine : (d : Option ℕ) → rules.is_declared (place_at t r) (declaration_of t d) ≡ true → DeclaresKind t kept p d x.kind → IsFine x
+    kind_fine d obeys (a_resource none k) = own_numbers (ap (λ y. list_all (has_owner p (owners r)) (flat_map (met_by all_met) (kind_numbers y))) k)
+    kind_fine d obeys (a_form old m form olds news some from at z k) =
+        let whole = a_form old m form olds news some from at z k in
+        let seen_old : IsSeenFrom t r old = subst (AllOf (IsSeenFrom t r)) some (owned.seen j n x r name d planned_there kept_there there whole) in
+        let labels = are_labels (form_labels form) in
+        let parts = are_parts (place_at t r) (children (map (tree_at t) olds)) in
+        let low = nat_le (deepest (children (map (tree_at t) olds))) most_levels in
+        let good : parts ≡ true = second_true labels parts (first_true (labels && parts) low (form_obeys t tables kept p are old m form olds from at (place_at t r) d some obeys)) in
+        own_numbers (ap (λ y. list_all (has_owner p (owners r)) (flat_map (met_by all_met) (kind_numbers y))) k
+        ∙ form_met r all_met m form olds news at z good (λ part c s has. seen_old s (inside old m part s form olds from at c has)) (λ i l stands less range here. all_own r (suc i) i l (omega arith) range stands here))
+    kind_fine d obeys (gathered.a_name old new some no_form b k) = by b.part
+      where
+        by : IsPart kept old new → IsFine x
+        by (a_primitive small same) =
+            own_numbers (ap (λ y. list_all (has_owner p (owners r)) (flat_map (met_by all_met) (kind_numbers y))) k ∙ met_low r all_met new (omega (arith, small, same)) [] refl)
+        by (a_shape m i from stands to) =
+            let range = b.range in
+            let found = slice_there p.types i (omega (arith, range, to)) in
+            let is = are.each i found.0 found.1 in
+            let number : is.0 ≡ m = same-some is.0 m (sym is.1 ∙ stands) in
+            target (subst (λ l. IsKeptType t kept p l found.0) number is.2) found.1
+          where
+            target : {u : PlannedType} → IsKeptType t kept p m u → slice_get p.types i ≡ Some u → IsFine x
+            target {u = u} (declared s other e at called home_u kind_u before good obeys_u) there_u =
+                alias_fine old new m i k (subst (λ y. DeclaresKind t kept p y x.kind) (some ∙ ap Some from) (gathered.a_name old new some no_form b k)) to u there_u stands s other at called
+            target {u = u} (unnamed place form olds news at z none unowned kind_u part low) there_u =
+                no_true (sym no_form ∙ (ap (λ o. option_map_or (λ (y : Shape). not (y.sort == 0)) o false) (shape_there t old m (node_shape form olds) from at) ∙ ap not (no_name form)))
+
+  type_fine : (j n : ℕ) (x : PlannedType) → slice_get p.types j ≡ Some x → slice_get kept j ≡ Some n → IsKeptType t kept p n x → type_stays p x ≡ true
+  type_fine j n x e stands (unnamed place form olds news there z name unowned kind part low) =
+      ap (λ b. b || (list_all (has_owner p x.owner) (flat_map (met_by all_met) (kind_numbers x.kind)) || (is_some x.name && is_use p x))) (ap (λ o. same_owner o owner.None) unowned)
+  type_fine j n x e stands (declared r name d there named home kind before good obeys) =
+      or_right (same_owner x.owner owner.None) (list_all (has_owner p x.owner) (flat_map (met_by all_met) (kind_numbers x.kind)) || (is_some x.name && is_use p x))
+      (kind_fine j n x e stands r name there named (owned.owned j n x r name e stands there) d obeys kind)
+
+  stand : OwnersStand t kept p owners
+  stand = record {
+    types = all_by_number (type_stays p) p.types (λ j x e. let is = are.each j x e in type_fine j is.0 x e is.1 is.2);
+    functions = λ q f id g b seen h. function_own q f id g b seen h;
+  }
+
+pub kept_owners_stand : KeptOwnersStand
+kept_owners_stand t tables kept p are owners owned = stand t tables kept p are owners owned

@@ -1,0 +1,144 @@
+-- The numbers of a plan that are resources are those of the parts that are marked.
+use Rattle.std.proofs.Common.{◌≡◌, refl, sym, ap, subst, ◌∙◌, ℕ, zero, suc, ◌+◌, ◌-◌, ◌<◌, arith, Bool, true, false, not, cond, List, [], ◌∷◌, ◌++◌, length, map, take, filter_map, Option, Some, None, option_to_list, slice_get, unwrap_or}
+use Rattle.std.specs.List.{AllZip, AllByRecursion, cons_option, list_all}
+use Rattle.std.specs.Option.{option_map_or}
+use Rattle.std.proofs.lemmas.Bool.{lt-ltb}
+use Rattle.wit_model.specs.Text.{Text}
+use Rattle.wit_model.specs.Tree.{Form}
+use Rattle.wit_model.proofs.Elements.{same-some}
+use Rattle.wit_model.proofs.Lists.{first_true, second_true}
+use Rattle.wit_model.proofs.Tables.{grow_at}
+use Rattle.plan_meaning.specs.Plan.{Plan, PlannedKind, resource, alias, formed, PlannedType, part_number, marked_at, resource_marks, is_resource}
+use Rattle.plan_meaning.specs.PlanRules.{handles_resources, is_handle_form}
+use Rattle.plan_meaning.specs.Renumbering.{IsPart, a_primitive, a_shape}
+use Rattle.plan_meaning.specs.Shapes.{named_shape}
+use Rattle.plan_meaning.specs.NumberedViews.{Tables, AreTables, AllOf}
+use Rattle.plan_meaning.specs.GatheredPlan as gathered
+use Rattle.plan_meaning.specs.GatheredPlan.{Becomes, BecomesIfGiven, DeclaresKind, a_resource, a_form, FunctionBecomes, ParamBecomes}
+use Rattle.plan_meaning.specs.KeptTypes.{IsKeptForm, alone, of_name, IsKeptType, unnamed, declared, TypesAreKept}
+use Rattle.plan_meaning.specs.KeptResources.{MarkedBy, FormIsMarked, AreMarked, ResourcesStand, KeptResourcesStand}
+use Rattle.plan_meaning.proofs.KeptTypes.{all_by_number, form_of_name}
+use Rattle.plan_meaning.proofs.Lists.{both}
+use Rattle.plan_meaning.proofs.ShapeLaws.{slice_take, slice_there}
+use Rattle.plan_meaning.proofs.Words.{behind}
+
+module _ (t : Tables) (tables : AreTables t) (kept : List ℕ) (p : Plan) (are : TypesAreKept t kept p) (marks : ℕ → Bool) (marked : AreMarked t kept p marks) where
+  abbrev all_marks : List Bool
+  all_marks = resource_marks p
+
+  -- the mark of a kind, from those of smaller numbers
+  marked_kind : List Bool → PlannedKind → Bool
+  marked_kind table resource = true
+  marked_kind table (alias k) = option_map_or (λ m. unwrap_or (slice_get table m) false) (part_number k) false
+  marked_kind table (formed form ks) = false
+
+  mark_there : (j : ℕ) (x : PlannedType) → slice_get p.types j ≡ Some x → is_resource p j ≡ marked_kind (take j all_marks) x.kind
+  unfolding resource_marks marked_kind
+  mark_there j x e = ap (λ o. unwrap_or o false) (grow_at marked_at p.types j x e)
+
+  -- each smaller number has the mark of the part that it comes from
+  abbrev Smaller : ℕ → Type 0
+  Smaller j = (i n : ℕ) → i < j → i < length p.types → slice_get kept i ≡ Some n → is_resource p i ≡ marks (14 + n)
+
+  module _ (j n : ℕ) (smaller : Smaller j) (x : PlannedType) (e : slice_get p.types j ≡ Some x) (stands : slice_get kept j ≡ Some n) where
+    alias_mark : (old new : ℕ) → old < 14 + n → Becomes t kept p old new → option_map_or (λ m. unwrap_or (slice_get (take j all_marks) m) false) (part_number new) false ≡ marks old
+    alias_mark old new low b = by b.part
+      where
+        by : IsPart kept old new → option_map_or (λ m. unwrap_or (slice_get (take j all_marks) m) false) (part_number new) false ≡ marks old
+        by (a_primitive small same) =
+            ap (λ c. option_map_or (λ m. unwrap_or (slice_get (take j all_marks) m) false) (cond c None (Some (new - 14))) false) (lt-ltb new 14 (omega (arith, small, same))) ∙ sym (marked.primitives old small)
+        by (a_shape m i from there to) =
+            let before : i < j = are.rise i j m n there stands (omega (arith, from, low)) in
+            let range = b.range in
+            ap (λ o. option_map_or (λ k. unwrap_or (slice_get (take j all_marks) k) false) o false) (ap part_number to ∙ behind i)
+            ∙ (ap (λ o. unwrap_or o false) (slice_take all_marks j i before) ∙ (smaller i m before (omega (arith, range, to)) there ∙ ap marks (sym from)))
+
+    kind_mark : (d : Option ℕ) → AllOf (λ k. k < 14 + n) d → DeclaresKind t kept p d x.kind → MarkedBy t kept p marks x.kind (marks (14 + n)) → marked_kind (take j all_marks) x.kind ≡ marks (14 + n)
+    unfolding marked_kind
+    kind_mark d low (a_resource none k) is = ap (marked_kind (take j all_marks)) k ∙ sym (subst (λ kind. MarkedBy t kept p marks kind (marks (14 + n))) k is)
+    kind_mark d low (gathered.a_name old new some no_form b k) is =
+        let before : old < 14 + n = subst (AllOf (λ y. y < 14 + n)) some low in
+        let same : marks (14 + n) ≡ marks old = subst (λ kind. MarkedBy t kept p marks kind (marks (14 + n))) k is old b in
+        ap (marked_kind (take j all_marks)) k ∙ (alias_mark old new before b ∙ sym same)
+    kind_mark d low (a_form old m form olds news some from there z k) is = ap (marked_kind (take j all_marks)) k ∙ sym (subst (λ kind. MarkedBy t kept p marks kind (marks (14 + n))) k is)
+
+    type_mark : IsKeptType t kept p n x → marked_kind (take j all_marks) x.kind ≡ marks (14 + n)
+    unfolding marked_kind
+    type_mark (unnamed place form olds news there z name owner kind part low) = ap (marked_kind (take j all_marks)) kind ∙ sym (marked.forms n form olds (alone j x e stands) there).0
+    type_mark (declared q name d there named home kind before good obeys) = kind_mark d before kind (marked.names j n x q name e stands there)
+
+  marks_are : (fuel j n : ℕ) → j < fuel → j < length p.types → slice_get kept j ≡ Some n → is_resource p j ≡ marks (14 + n)
+  marks_are zero j n h low stands = absurd (omega (arith, h))
+  marks_are (suc fuel) j n h low stands =
+      let found = slice_there p.types j low in
+      let from = are.each j found.0 found.1 in
+      let number : from.0 ≡ n = same-some from.0 n (sym from.1 ∙ stands) in
+      mark_there j found.0 found.1
+      ∙ type_mark j n (λ i m less within there. marks_are fuel i m (omega (arith, less, h)) within there) found.0 found.1 stands (subst (λ k. IsKeptType t kept p k found.0) number from.2)
+
+  -- ---- parts
+
+  module _ (test : Bool → Bool) where
+    part_tested : (old new : ℕ) → Becomes t kept p old new → test (marks old) ≡ true → (ms : List ℕ) → list_all (λ m. test (is_resource p m)) ms ≡ true → list_all (λ m. test (is_resource p m)) (cons_option (part_number new) ms) ≡ true
+    part_tested old new b h ms more = by b.part
+      where
+        by : IsPart kept old new → list_all (λ m. test (is_resource p m)) (cons_option (part_number new) ms) ≡ true
+        by (a_primitive small same_part) = ap (λ c. list_all (λ m. test (is_resource p m)) (cons_option (cond c None (Some (new - 14))) ms)) (lt-ltb new 14 (omega (arith, small, same_part))) ∙ more
+        by (a_shape m i from there to) =
+            let range = b.range in
+            let is : is_resource p i ≡ marks old = marks_are (suc i) i m (omega arith) (omega (arith, range, to)) there ∙ ap marks (sym from) in
+            ap (λ o. list_all (λ k. test (is_resource p k)) (cons_option o ms)) (ap part_number to ∙ behind i) ∙ both (test (is_resource p i)) (list_all (λ k. test (is_resource p k)) ms) (ap test is ∙ h) more
+
+    parts_tested : (olds news : List ℕ) → AllZip (Becomes t kept p) olds news → list_all (λ k. test (marks k)) olds ≡ true → list_all (λ m. test (is_resource p m)) (filter_map part_number news) ≡ true
+    parts_tested [] [] z h = refl
+    parts_tested [] (new ∷ news) z h = absurd z
+    parts_tested (old ∷ olds) [] z h = absurd z
+    parts_tested (old ∷ olds) (new ∷ news) z h =
+        part_tested old new z.0 (first_true (test (marks old)) (list_all (λ k. test (marks k)) olds) h) (filter_map part_number news) (parts_tested olds news z.1 (second_true (test (marks old)) (list_all (λ k. test (marks k)) olds) h))
+
+  form_handles : (form : Form) (olds news : List ℕ) → AllZip (Becomes t kept p) olds news → FormIsMarked marks form olds → handles_resources p (formed form news) ≡ true
+  form_handles form olds news z is = by (is_handle_form form) refl
+    where
+      by : (b : Bool) → is_handle_form form ≡ b → cond (is_handle_form form) (list_all (is_resource p) (filter_map part_number news)) (list_all (λ m. not (is_resource p m)) (filter_map part_number news)) ≡ true
+      by true e =
+          ap (λ b. cond b (list_all (is_resource p) (filter_map part_number news)) (list_all (λ m. not (is_resource p m)) (filter_map part_number news))) e ∙ parts_tested (λ b. b) olds news z (is.handle e)
+      by false e =
+          ap (λ b. cond b (list_all (is_resource p) (filter_map part_number news)) (list_all (λ m. not (is_resource p m)) (filter_map part_number news))) e ∙ parts_tested not olds news z (is.other e)
+
+  module _ (j n : ℕ) (x : PlannedType) (e : slice_get p.types j ≡ Some x) (stands : slice_get kept j ≡ Some n) where
+    kind_handles : (q : ℕ) (name : Text) → slice_get t.shapes n ≡ Some (named_shape q name) → (d : Option ℕ) → DeclaresKind t kept p d x.kind → handles_resources p x.kind ≡ true
+    kind_handles q name there d kind = by kind
+      where
+        by : DeclaresKind t kept p d x.kind → handles_resources p x.kind ≡ true
+        by (a_resource none k) = ap (handles_resources p) k
+        by (gathered.a_name old new some no_form b k) = ap (handles_resources p) k
+        by (a_form old m form olds news some from there_form z k) =
+            ap (handles_resources p) k ∙ form_handles form olds news z (marked.forms m form olds (form_of_name t tables kept p are j n x e stands q name there d kind old m some from) there_form).1
+
+    type_handles : IsKeptType t kept p n x → handles_resources p x.kind ≡ true
+    type_handles (unnamed place form olds news there z name owner kind part low) = ap (handles_resources p) kind ∙ form_handles form olds news z (marked.forms n form olds (alone j x e stands) there).1
+    type_handles (declared q name d there named home kind before good obeys) = kind_handles q name there d kind
+
+  -- ---- functions
+
+  params_values : (xs ys : List (Text × ℕ)) → AllZip (ParamBecomes t kept p) xs ys → AllByRecursion (λ (x : Text × ℕ). marks x.1 ≡ false) xs → (zs : List ℕ) → list_all (λ m. not (is_resource p m)) (filter_map part_number zs) ≡ true
+      → list_all (λ m. not (is_resource p m)) (filter_map part_number (map (λ (y : Text × ℕ). y.1) ys ++ zs)) ≡ true
+  params_values [] [] z h zs more = more
+  params_values [] (y ∷ ys) z h zs more = absurd z
+  params_values (x ∷ xs) [] z h zs more = absurd z
+  params_values (x ∷ xs) (y ∷ ys) z h zs more = part_tested not x.1 y.1 z.0.1 (ap not h.0) (filter_map part_number (map (λ (u : Text × ℕ). u.1) ys ++ zs)) (params_values xs ys z.1 h.1 zs more)
+
+  result_values : (a b : Option ℕ) → BecomesIfGiven t kept p a b → AllOf (λ k. marks k ≡ false) a → list_all (λ m. not (is_resource p m)) (filter_map part_number (option_to_list b)) ≡ true
+  result_values None None h v = refl
+  result_values (Some a) (Some b) h v = part_tested not a b h (ap not v) [] refl
+  result_values None (Some b) h v = absurd h
+  result_values (Some a) None h v = absurd h
+
+  stand : ResourcesStand t kept p marks
+  stand = record {
+    handles = all_by_number (λ x. handles_resources p x.kind) p.types (λ j x e. let is = are.each j x e in type_handles j is.0 x e is.1 is.2);
+    functions = λ f id g b v. params_values f.params g.params b.params v.0 (option_to_list g.result) (result_values f.result g.result b.result v.1);
+  }
+
+pub kept_resources_stand : KeptResourcesStand
+kept_resources_stand t tables kept p are marks marked = stand t tables kept p are marks marked

@@ -1,0 +1,286 @@
+-- Types of a plan that are those of kept shapes pass the tests on types.
+use Rattle.std.proofs.Common.{◌≡◌, refl, sym, ap, subst, ◌∙◌, ℕ, zero, suc, ◌+◌, ◌-◌, ◌<◌, ◌≤◌, arith, Bool, true, false, not, ◌&&◌, ◌||◌, ◌==◌, cond, List, [], ◌∷◌, length, map, filter_map, Option, Some, None, is_some, slice_get}
+use Rattle.std.specs.Prelude.{nat_le, nat_lt}
+use Rattle.std.specs.List.{AllByRecursion, AllZip, cons_option, list_all, list_any}
+use Rattle.std.specs.Option.{option_map_or}
+use Rattle.std.proofs.lemmas.Bool.{eq-eqb, lt-ltb, le-leb, leb-true}
+use Rattle.std.proofs.lemmas.List.Folds.{list_all-map}
+use Rattle.wit_model.specs.Text.{Text, text_eq}
+use Rattle.wit_model.specs.Names.{is_label}
+use Rattle.wit_model.specs.Tree.{Place, Form, Tree, Declaration, children, deepest, levels}
+use Rattle.wit_model.specs.Rules.{each_from, are_distinct, are_member_labels, has_items, passes}
+use Rattle.wit_model.proofs.Elements.{same-some, zip-weaker}
+use Rattle.wit_model.proofs.Lists.{first_true, second_true}
+use Rattle.comp_meaning.specs.Rules as rules
+use Rattle.comp_meaning.specs.Rules.{are_labels, are_parts, distinct, form_labels, is_named_form, most_levels}
+use Rattle.comp_meaning.specs.Follow.{is_key_primitive}
+use Rattle.plan_meaning.specs.Shapes.{Shape, form_code, node_shape, named_shape, part_tree, primitives, IsShape, a_name, a_node}
+use Rattle.plan_meaning.specs.Plan.{Plan, PlannedKind, PlannedType, part_number, kind_numbers, alias_number, trees_in}
+use Rattle.plan_meaning.specs.PlanRules.{is_form, is_key_part, begins_with_key, type_labels, kind_labels, has_shape, is_named_kind, is_named_number, kind_is_named, is_shallow, parts_are_shallow}
+use Rattle.plan_meaning.specs.Renumbering.{IsPart, a_primitive, a_shape, IsTypeOf, of_form, of_name}
+use Rattle.plan_meaning.specs.NumberedViews.{Tables, place_at, tree_at, declaration_of, AllOf, AreTables}
+use Rattle.plan_meaning.specs.NumberedRules as numbered
+use Rattle.plan_meaning.specs.GatheredPlan as gathered
+use Rattle.plan_meaning.specs.GatheredPlan.{Becomes, DeclaresKind, a_resource, a_form, Keeps}
+use Rattle.plan_meaning.specs.KeptTypes.{IsKeptForm, alone, of_name, IsKeptType, unnamed, declared, TypesAreKept, TypesPass, KeptTypesPass}
+use Rattle.plan_meaning.proofs.Lists.{both, each_by_number, no_true}
+use Rattle.plan_meaning.proofs.GatheredPlan.{parts_kept, form_tree}
+use Rattle.plan_meaning.proofs.NumberedRules.{no_name, shape_there}
+use Rattle.plan_meaning.proofs.ShapeLaws.{slice_there}
+use Rattle.plan_meaning.proofs.Words.{behind}
+
+-- ---- lists
+
+pub all_by_number : {A : Type 0} (test : A → Bool) (xs : List A) → ((n : ℕ) (x : A) → slice_get xs n ≡ Some x → test x ≡ true) → list_all test xs ≡ true
+all_by_number test [] h = refl
+all_by_number test (x ∷ xs) h = both (test x) (list_all test xs) (h 0 x refl) (all_by_number test xs (λ n y e. h (suc n) y e))
+
+pub distinct_same : (ts : List Text) → are_distinct ts ≡ distinct ts
+distinct_same [] = refl
+distinct_same (t ∷ ts) = ap (λ b. not (list_any (text_eq t) ts) && b) (distinct_same ts)
+
+pub member_labels : (ts : List Text) → are_labels ts ≡ true → are_member_labels ts ≡ true
+member_labels ts h = ap (λ b. list_all is_label ts && b) (distinct_same ts) ∙ h
+
+-- ---- levels
+
+shallow_parts : (ts : List Tree) (most : ℕ) → deepest (children ts) ≤ most → list_all (λ x. nat_le (levels x) most) ts ≡ true
+shallow_parts [] most h = refl
+shallow_parts (x ∷ ts) most h = both (nat_le (levels x) most) (list_all (λ y. nat_le (levels y) most) ts) (le-leb (levels x) most (omega (arith, h))) (shallow_parts ts most (omega (arith, h)))
+
+-- ---- forms
+
+no_labels : (form : Form) → not (is_named_form form) ≡ true → form_labels form ≡ []
+no_labels (Form.record_of names) h = no_true h
+no_labels (Form.variant_of cases) h = no_true h
+no_labels (Form.flags_of names) h = no_true h
+no_labels (Form.enum_of names) h = no_true h
+no_labels _ h = refl
+
+slice_past : {X : Type 0} (xs : List X) (n : ℕ) → length xs ≤ n → slice_get xs n ≡ None
+slice_past [] n h = refl
+slice_past (x ∷ xs) zero h = absurd (omega (arith, h))
+slice_past (x ∷ xs) (suc n) h = slice_past xs n (omega (arith, h))
+
+-- a number of the table is no key
+no_key : (k n : ℕ) → k ≡ 14 + n → is_key_part k ≡ false
+no_key k n e =
+    let many : length primitives ≡ 14 = refl in
+    ap (λ o. option_map_or is_key_primitive o false) (slice_past primitives k (omega (arith, e, many)))
+
+module _ (t : Tables) (kept : List ℕ) (p : Plan) where
+  items_same : (olds news : List ℕ) → AllZip (Becomes t kept p) olds news → has_items olds ≡ true → has_items news ≡ true
+  items_same [] news z h = no_true h
+  items_same (old ∷ olds) [] z h = absurd z
+  items_same (old ∷ olds) (new ∷ news) z h = refl
+
+  key_part : (old new : ℕ) → IsPart kept old new → is_key_part old ≡ true → is_key_part new ≡ true
+  key_part old new (a_primitive low same) h = ap is_key_part same ∙ h
+  key_part old new (a_shape n j is stands to) h = no_true (sym (no_key old n is) ∙ h)
+
+  key_same : (olds news : List ℕ) → AllZip (Becomes t kept p) olds news → begins_with_key olds ≡ true → begins_with_key news ≡ true
+  key_same [] news z h = no_true h
+  key_same (old ∷ olds) [] z h = absurd z
+  key_same (old ∷ olds) (new ∷ news) z h = key_part old new z.0.part h
+
+  form_same : (form : Form) (olds news : List ℕ) → AllZip (Becomes t kept p) olds news → is_form form olds ≡ true → is_form form news ≡ true
+  form_same Form.tuple_of olds news z h = items_same olds news z h
+  form_same Form.map_of olds news z h = key_same olds news z h
+  form_same (Form.record_of names) olds news z h = h
+  form_same (Form.variant_of cases) olds news z h = h
+  form_same (Form.flags_of names) olds news z h = h
+  form_same (Form.enum_of names) olds news z h = h
+  form_same (Form.fixed_list_of n) olds news z h = h
+  form_same _ olds news z h = refl
+
+module _ (t : Tables) (tables : AreTables t) (kept : List ℕ) (p : Plan) (are : TypesAreKept t kept p) where
+  -- ---- parts stand before
+
+  pub parts_before : (n : ℕ) (form : Form) (olds : List ℕ) → slice_get t.shapes n ≡ Some (node_shape form olds) → AllByRecursion (λ k. k < 14 + n) olds
+  parts_before n form olds e = by (tables.shapes.each n (node_shape form olds) e)
+    where
+      by : IsShape n (node_shape form olds) → AllByRecursion (λ k. k < 14 + n) olds
+      by (a_name q name is) =
+          let sort : (form_code form).sort ≡ 0 = ap (λ (s : Shape). s.sort) is in
+          no_true (sym (no_name form) ∙ eq-eqb (form_code form).sort 0 sort)
+      by (a_node other ks is low) = subst (AllByRecursion (λ k. k < 14 + n)) (sym (ap (λ (s : Shape). s.parts) is)) low
+
+  wider : (m n : ℕ) (ks : List ℕ) → m ≤ n → AllByRecursion (λ k. k < 14 + m) ks → AllByRecursion (λ k. k < 14 + n) ks
+  wider m n [] h all = tt
+  wider m n (k ∷ ks) h all = (let low = all.0 in omega (arith, low, h), wider m n ks h all.1)
+
+  module _ (j n : ℕ) (stands : slice_get kept j ≡ Some n) where
+    part_falls : (old new : ℕ) → IsPart kept old new → old < 14 + n → (ms : List ℕ) → list_all (λ m. nat_lt m j) ms ≡ true → list_all (λ m. nat_lt m j) (cons_option (part_number new) ms) ≡ true
+    part_falls old new (a_primitive low same) h ms more =
+        ap (λ b. list_all (λ m. nat_lt m j) (cons_option (cond b None (Some (new - 14))) ms)) (lt-ltb new 14 (omega (arith, low, same))) ∙ more
+    part_falls old new (a_shape m i is there to) h ms more =
+        let low : i < j = are.rise i j m n there stands (omega (arith, is, h)) in
+        ap (λ o. list_all (λ k. nat_lt k j) (cons_option o ms)) (ap part_number to ∙ behind i) ∙ both (nat_lt i j) (list_all (λ k. nat_lt k j) ms) (lt-ltb i j low) more
+
+    parts_fall : (olds news : List ℕ) → AllZip (Becomes t kept p) olds news → AllByRecursion (λ k. k < 14 + n) olds → list_all (λ m. nat_lt m j) (filter_map part_number news) ≡ true
+    parts_fall [] [] z low = refl
+    parts_fall [] (new ∷ news) z low = absurd z
+    parts_fall (old ∷ olds) [] z low = absurd z
+    parts_fall (old ∷ olds) (new ∷ news) z low = part_falls old new z.0.part low.0 (filter_map part_number news) (parts_fall olds news z.1 low.1)
+
+    kind_falls : (d : Option ℕ) (kind : PlannedKind) → AllOf (λ k. k < 14 + n) d → DeclaresKind t kept p d kind → list_all (λ m. nat_lt m j) (kind_numbers kind) ≡ true
+    kind_falls d kind low (a_resource e k) = ap (λ x. list_all (λ m. nat_lt m j) (kind_numbers x)) k
+    kind_falls d kind low (gathered.a_name old new e no_form b k) =
+        let before : old < 14 + n = subst (AllOf (λ x. x < 14 + n)) e low in
+        ap (λ x. list_all (λ m. nat_lt m j) (kind_numbers x)) k ∙ part_falls old new b.part before [] refl
+    kind_falls d kind low (a_form old m form olds news e is there z k) =
+        let before : old < 14 + n = subst (AllOf (λ x. x < 14 + n)) e low in
+        ap (λ x. list_all (λ i. nat_lt i j) (kind_numbers x)) k ∙ parts_fall olds news z (wider m n olds (omega (arith, before, is)) (parts_before m form olds there))
+
+    type_falls : (x : PlannedType) → IsKeptType t kept p n x → list_all (λ m. nat_lt m j) (kind_numbers x.kind) ≡ true
+    type_falls x (unnamed place form olds news there z name owner kind part low) = ap (λ k. list_all (λ m. nat_lt m j) (kind_numbers k)) kind ∙ parts_fall olds news z (parts_before n form olds there)
+    type_falls x (declared q name d there named home kind before good obeys) = kind_falls d x.kind before kind
+
+  fall : each_from (λ n x. list_all (λ m. nat_lt m n) (kind_numbers x.kind)) 0 p.types ≡ true
+  fall = each_by_number (λ n x. list_all (λ m. nat_lt m n) (kind_numbers x.kind)) p.types (λ j x e. let is = are.each j x e in type_falls j is.0 is.1 x is.2)
+
+  -- ---- the types of the shapes
+
+  type_of : (n : ℕ) (x : PlannedType) → IsKeptType t kept p n x → (s : Shape) × (slice_get t.shapes n ≡ Some s) × IsTypeOf (place_at t) kept p s x
+  type_of n x (unnamed place form olds news there z name owner kind part low) =
+      (node_shape form olds, there, of_form form olds news refl (zip-weaker (Becomes t kept p) (IsPart kept) (λ a b h. h.part) olds news z) name kind)
+  type_of n x (declared q name d there named home kind before good obeys) = (named_shape q name, there, of_name q name refl named home)
+
+  pub keeps : Keeps t kept p
+  keeps = record {
+    types = record { types = λ j x e. let is = are.each j x e in let made = type_of is.0 x is.2 in (is.0, made.0, is.1, made.1, made.2) };
+    fall = fall;
+  }
+
+  -- ---- what an unnamed type is
+
+  abbrev tree : ℕ → Tree
+  tree n = tree_at t (14 + n)
+
+  module _ (n : ℕ) (form : Form) (olds : List ℕ) (there : slice_get t.shapes n ≡ Some (node_shape form olds)) where
+    unnamed_form : (place : Place) → rules.is_part place (tree n) ≡ true → not (is_named_form form) ≡ true
+    unnamed_form place h =
+        first_true (not (is_named_form form)) (are_parts place (children (map (tree_at t) olds))) (sym (ap (rules.is_part place) (form_tree t tables kept p keeps (14 + n) n form olds refl there)) ∙ h)
+
+    shallow_form : nat_le (levels (tree n)) most_levels ≡ true → deepest (children (map (tree_at t) olds)) ≤ most_levels
+    shallow_form h =
+        let low = leb-true (levels (tree n)) most_levels h in
+        let same : levels (tree n) ≡ deepest (children (map (tree_at t) olds)) + 1 = ap levels (form_tree t tables kept p keeps (14 + n) n form olds refl there) in
+        omega (arith, low, same)
+
+  parts_shallow : (olds news : List ℕ) → AllZip (Becomes t kept p) olds news → deepest (children (map (tree_at t) olds)) ≤ most_levels → list_all (is_shallow p) news ≡ true
+  parts_shallow olds news z h =
+      sym (list_all-map (λ x. nat_le (levels x) most_levels) (part_tree (trees_in p)) news)
+      ∙ (ap (list_all (λ x. nat_le (levels x) most_levels)) (parts_kept t tables kept p keeps olds news z) ∙ shallow_parts (map (tree_at t) olds) most_levels h)
+
+  -- ---- what is declared as a form
+
+  module _ (old n : ℕ) (form : Form) (olds : List ℕ) (is : old ≡ 14 + n) (there : slice_get t.shapes n ≡ Some (node_shape form olds)) (place : Place) (d : Option ℕ) (e : d ≡ Some old)
+      (obeys : rules.is_declared place (declaration_of t d) ≡ true) where
+    pub form_obeys : (are_labels (form_labels form) && are_parts place (children (map (tree_at t) olds)) && nat_le (deepest (children (map (tree_at t) olds))) most_levels) ≡ true
+    form_obeys = sym (ap (λ x. rules.is_declared place (declaration_of t x)) e ∙ ap (λ x. rules.is_declared place (Declaration.type_ x)) (form_tree t tables kept p keeps old n form olds is there)) ∙ obeys
+
+    form_has_labels : are_labels (form_labels form) ≡ true
+    form_has_labels =
+        first_true (are_labels (form_labels form)) (are_parts place (children (map (tree_at t) olds)))
+        (first_true (are_labels (form_labels form) && are_parts place (children (map (tree_at t) olds))) (nat_le (deepest (children (map (tree_at t) olds))) most_levels) form_obeys)
+
+    form_is_shallow : deepest (children (map (tree_at t) olds)) ≤ most_levels
+    form_is_shallow =
+        leb-true (deepest (children (map (tree_at t) olds))) most_levels
+        (second_true (are_labels (form_labels form) && are_parts place (children (map (tree_at t) olds))) (nat_le (deepest (children (map (tree_at t) olds))) most_levels) form_obeys)
+
+  -- ---- shapes
+
+  module _ (j n : ℕ) (x : PlannedType) (e : slice_get p.types j ≡ Some x) (stands : slice_get kept j ≡ Some n) where
+    -- what the name is declared as
+    pub form_of_name : (q : ℕ) (name : Text) → slice_get t.shapes n ≡ Some (named_shape q name) → (d : Option ℕ) → DeclaresKind t kept p d x.kind → (old m : ℕ) → d ≡ Some old → old ≡ 14 + m → IsKeptForm t kept p m
+    form_of_name q name there d kind old m some is = of_name j n x q name e stands there (subst (λ o. DeclaresKind t kept p o x.kind) (some ∙ ap Some is) kind)
+
+    kind_shaped : (q : ℕ) (name : Text) → slice_get t.shapes n ≡ Some (named_shape q name) → (d : Option ℕ) → DeclaresKind t kept p d x.kind → has_shape x.kind ≡ true
+    kind_shaped q name there d kind = by kind
+      where
+        by : DeclaresKind t kept p d x.kind → has_shape x.kind ≡ true
+        by (a_resource none k) = ap has_shape k
+        by (gathered.a_name old new some no_form b k) = ap has_shape k
+        by (a_form old m form olds news some is form_there z k) = ap has_shape k ∙ form_same t kept p form olds news z (are.forms m form olds (form_of_name q name there d kind old m some is) form_there)
+
+    type_shaped : IsKeptType t kept p n x → has_shape x.kind ≡ true
+    type_shaped (unnamed place form olds news there z name owner kind part low) = ap has_shape kind ∙ form_same t kept p form olds news z (are.forms n form olds (alone j x e stands) there)
+    type_shaped (declared q name d there named home kind before good obeys) = kind_shaped q name there d kind
+
+  -- ---- labels
+
+  kind_has_labels : (place : Place) (d : Option ℕ) (kind : PlannedKind) → rules.is_declared place (declaration_of t d) ≡ true → DeclaresKind t kept p d kind → are_member_labels (kind_labels kind) ≡ true
+  kind_has_labels place d kind obeys (a_resource e k) = ap (λ x. are_member_labels (kind_labels x)) k
+  kind_has_labels place d kind obeys (gathered.a_name old new e no_form b k) = ap (λ x. are_member_labels (kind_labels x)) k
+  kind_has_labels place d kind obeys (a_form old m form olds news e is there z k) = ap (λ x. are_member_labels (kind_labels x)) k ∙ member_labels (form_labels form) (form_has_labels old m form olds is there place d e obeys)
+
+  type_has_labels : (n : ℕ) (x : PlannedType) → IsKeptType t kept p n x → type_labels x ≡ true
+  type_has_labels n x (unnamed place form olds news there z name owner kind part low) =
+      both (passes is_label x.name) (are_member_labels (kind_labels x.kind)) (ap (passes is_label) name)
+      (ap (λ k. are_member_labels (kind_labels k)) kind ∙ ap are_member_labels (no_labels form (unnamed_form n form olds there place part)))
+  type_has_labels n x (declared q name d there named home kind before good obeys) =
+      both (passes is_label x.name) (are_member_labels (kind_labels x.kind)) (ap (passes is_label) named ∙ good) (kind_has_labels (place_at t q) d x.kind obeys kind)
+
+  -- ---- levels
+
+  kind_is_shallow : (place : Place) (d : Option ℕ) (kind : PlannedKind) → rules.is_declared place (declaration_of t d) ≡ true → DeclaresKind t kept p d kind → parts_are_shallow p kind ≡ true
+  kind_is_shallow place d kind obeys (a_resource e k) = ap (parts_are_shallow p) k
+  kind_is_shallow place d kind obeys (gathered.a_name old new e no_form b k) = ap (parts_are_shallow p) k
+  kind_is_shallow place d kind obeys (a_form old m form olds news e is there z k) = ap (parts_are_shallow p) k ∙ parts_shallow olds news z (form_is_shallow old m form olds is there place d e obeys)
+
+  type_is_shallow : (n : ℕ) (x : PlannedType) → IsKeptType t kept p n x → parts_are_shallow p x.kind ≡ true
+  type_is_shallow n x (unnamed place form olds news there z name owner kind part low) = ap (parts_are_shallow p) kind ∙ parts_shallow olds news z (shallow_form n form olds there low)
+  type_is_shallow n x (declared q name d there named home kind before good obeys) = kind_is_shallow (place_at t q) d x.kind obeys kind
+
+  -- ---- names
+
+  -- the type of a shape that is no form has a name
+  named_type : (old n : ℕ) → old ≡ 14 + n → numbered.is_form t old ≡ false → (x : PlannedType) → IsKeptType t kept p n x → is_some x.name ≡ true
+  named_type old n is no_form x (declared q name d there named home kind before good obeys) = ap is_some named
+  named_type old n is no_form x (unnamed place form olds news there z name owner kind part low) =
+      let form_there : numbered.is_form t old ≡ true = ap (λ o. option_map_or (λ (s : Shape). not (s.sort == 0)) o false) (shape_there t old n (node_shape form olds) is there) ∙ ap not (no_name form) in
+      no_true (sym no_form ∙ form_there)
+
+  alias_named : (old new : ℕ) → numbered.is_form t old ≡ false → Becomes t kept p old new → passes (is_named_number p) (part_number new) ≡ true
+  alias_named old new no_form b = by b.part
+    where
+      by : IsPart kept old new → passes (is_named_number p) (part_number new) ≡ true
+      by (a_primitive low same) = ap (λ c. passes (is_named_number p) (cond c None (Some (new - 14)))) (lt-ltb new 14 (omega (arith, low, same)))
+      by (a_shape m i is stands to) =
+          let range = b.range in
+          let found = slice_there p.types i (omega (arith, range, to)) in
+          let from = are.each i found.0 found.1 in
+          let number : from.0 ≡ m = same-some from.0 m (sym from.1 ∙ stands) in
+          let named : is_some found.0.name ≡ true = named_type old from.0 (is ∙ ap (λ k. 14 + k) (sym number)) no_form found.0 from.2 in
+          ap (passes (is_named_number p)) (ap part_number to ∙ behind i) ∙ (ap (λ o. option_map_or (λ (x : PlannedType). is_some x.name) o false) found.1 ∙ named)
+
+  alias_is_named : (d : Option ℕ) (kind : PlannedKind) → DeclaresKind t kept p d kind → passes (is_named_number p) (alias_number kind) ≡ true
+  alias_is_named d kind (a_resource e k) = ap (λ x. passes (is_named_number p) (alias_number x)) k
+  alias_is_named d kind (gathered.a_name old new e no_form b k) = ap (λ x. passes (is_named_number p) (alias_number x)) k ∙ alias_named old new no_form b
+  alias_is_named d kind (a_form old m form olds news e is there z k) = ap (λ x. passes (is_named_number p) (alias_number x)) k
+
+  or_true : (b : Bool) → (b || true) ≡ true
+  or_true true = refl
+  or_true false = refl
+
+  type_is_named : (n : ℕ) (x : PlannedType) → IsKeptType t kept p n x → kind_is_named p x ≡ true
+  type_is_named n x (unnamed place form olds news there z name owner kind part low) =
+      both (not (is_named_kind x.kind) || is_some x.name) (passes (is_named_number p) (alias_number x.kind))
+      (ap (λ k. not (is_named_kind k) || is_some x.name) kind ∙ ap (λ b. b || is_some x.name) (unnamed_form n form olds there place part)) (ap (λ k. passes (is_named_number p) (alias_number k)) kind)
+  type_is_named n x (declared q name d there named home kind before good obeys) =
+      both (not (is_named_kind x.kind) || is_some x.name) (passes (is_named_number p) (alias_number x.kind))
+      (ap (λ o. not (is_named_kind x.kind) || is_some o) named ∙ or_true (not (is_named_kind x.kind))) (alias_is_named d x.kind kind)
+
+  pass : TypesPass p
+  pass = record {
+    types_fall = fall;
+    type_labels = all_by_number type_labels p.types (λ j x e. let is = are.each j x e in type_has_labels is.0 x is.2);
+    types_shaped = all_by_number (λ x. has_shape x.kind) p.types (λ j x e. let is = are.each j x e in type_shaped j is.0 x e is.1 is.2);
+    kinds_named = all_by_number (kind_is_named p) p.types (λ j x e. let is = are.each j x e in type_is_named is.0 x is.2);
+    depths = all_by_number (λ x. parts_are_shallow p x.kind) p.types (λ j x e. let is = are.each j x e in type_is_shallow is.0 x is.2);
+  }
+
+pub kept_types_pass : KeptTypesPass
+kept_types_pass t tables kept p are = (keeps t tables kept p are, pass t tables kept p are)

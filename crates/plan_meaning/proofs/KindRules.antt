@@ -1,0 +1,118 @@
+-- Shapes of kinds, and which kinds have names.
+use Rattle.std.proofs.Common.{◌≡◌, refl, sym, ap, ◌∙◌, ℕ, ◌+◌, ◌≤◌, true, false, ◌&&◌, ◌||◌, not, List, [], ◌∷◌, map, Option, Some, None, option_map, is_some, String, arith}
+use Rattle.std.specs.declared.alloc.Global.{Global}
+use Rattle.std.specs.Option.{option_map_or}
+use Rattle.std.proofs.lemmas.Option.{slice_get_past}
+use Rattle.wit_model.specs.declared.model.Resolve.{Resolve}
+use Rattle.wit_model.specs.declared.model.TypeDef.{TypeDef}
+use Rattle.wit_model.specs.declared.model.TypeDefKind.{TypeDefKind}
+use Rattle.wit_model.specs.declared.model.TypeDefKind.TheVariants as kind
+use Rattle.wit_model.specs.declared.model.Handle.TheVariants as handle
+use Rattle.wit_model.specs.declared.model.«Type».{«Type» as ValueType}
+use Rattle.wit_model.specs.declared.model.«Type».TheVariants as ty
+use Rattle.wit_model.specs.Text.{optional_text, text_of}
+use Rattle.wit_model.specs.Lookup.{type_at}
+use Rattle.wit_model.specs.Uses.{alias_target}
+use Rattle.wit_model.specs.Rules as rules
+use Rattle.wit_model.specs.Rules.{has_items, passes}
+use Rattle.wit_model.specs.Valid.{Keeps, shapes, named_kinds}
+use Rattle.wit_model.proofs.Lists.{first_true, second_true}
+use Rattle.wit_model.proofs.Entries.{types_keep}
+use Rattle.comp_meaning.specs.Follow.{is_key_primitive}
+use Rattle.plan_meaning.specs.Shapes.{primitives}
+use Rattle.plan_meaning.specs.Plan.{alias_number}
+use Rattle.plan_meaning.specs.PlanRules as planned
+use Rattle.plan_meaning.specs.PlanRules.{IsPlan, is_key_part}
+use Rattle.plan_meaning.specs.Built.{part_of, planned_kind, planned_type}
+use Rattle.plan_meaning.proofs.Lists.{get_of_map, each_from_built, both, no_true}
+use Rattle.plan_meaning.proofs.Words.{plan_of, alias_is}
+
+items_of_map : {A B : Type 0} (g : A → B) (xs : List A) → has_items (map g xs) ≡ has_items xs
+items_of_map g [] = refl
+items_of_map g (x ∷ xs) = refl
+
+key_is : (t : ValueType) → is_key_part (part_of t) ≡ rules.is_map_key t
+key_is ty.Bool = refl
+key_is ty.U8 = refl
+key_is ty.U16 = refl
+key_is ty.U32 = refl
+key_is ty.U64 = refl
+key_is ty.S8 = refl
+key_is ty.S16 = refl
+key_is ty.S32 = refl
+key_is ty.S64 = refl
+key_is ty.F32 = refl
+key_is ty.F64 = refl
+key_is ty.Char = refl
+key_is ty.String = refl
+key_is ty.ErrorContext = refl
+key_is (ty.Id id) =
+    let past : 14 ≤ 14 + id.0 = omega arith in
+    ap (λ o. option_map_or is_key_primitive o false) (slice_get_past primitives (14 + id.0) past)
+
+shape_is : (k : TypeDefKind) → planned.has_shape (planned_kind k) ≡ rules.has_shape k
+shape_is (kind.Record record_) = items_of_map (λ f. text_of f.name) record_.fields.items
+shape_is kind.Resource = refl
+shape_is (kind.Handle (handle.Own id)) = refl
+shape_is (kind.Handle (handle.Borrow id)) = refl
+shape_is (kind.Flags flags) = items_of_map (λ f. text_of f.name) flags.flags.items
+shape_is (kind.Tuple tuple) = items_of_map part_of tuple.types.items
+shape_is (kind.Variant variant) = items_of_map (λ c. (text_of c.name, is_some c.ty)) variant.cases.items
+shape_is (kind.Enum enum) = items_of_map (λ c. text_of c.name) enum.cases.items
+shape_is (kind.Option t) = refl
+shape_is (kind.Result result) = refl
+shape_is (kind.List t) = refl
+shape_is (kind.Map k v) = key_is k
+shape_is (kind.FixedLengthList t n) = refl
+shape_is (kind.Future t) = refl
+shape_is (kind.Stream t) = refl
+shape_is (kind.Type_ t) = refl
+
+named_is : (k : TypeDefKind) → planned.is_named_kind (planned_kind k) ≡ rules.is_named_kind k
+named_is (kind.Record record_) = refl
+named_is kind.Resource = refl
+named_is (kind.Handle (handle.Own id)) = refl
+named_is (kind.Handle (handle.Borrow id)) = refl
+named_is (kind.Flags flags) = refl
+named_is (kind.Tuple tuple) = refl
+named_is (kind.Variant variant) = refl
+named_is (kind.Enum enum) = refl
+named_is (kind.Option t) = refl
+named_is (kind.Result result) = refl
+named_is (kind.List t) = refl
+named_is (kind.Map k v) = refl
+named_is (kind.FixedLengthList t n) = refl
+named_is (kind.Future t) = refl
+named_is (kind.Stream t) = refl
+named_is (kind.Type_ t) = refl
+
+pub has_text : (o : Option (String Global)) → is_some (optional_text o) ≡ is_some o
+has_text None = refl
+has_text (Some s) = refl
+
+module _ (r : Resolve) (m : ℕ) (is : IsPlan (plan_of r m)) where
+  pub shapes_kept : Keeps shapes r
+  unfolding shapes
+  shapes_kept = types_keep (λ r n def. rules.has_shape def.kind) r
+      (each_from_built planned_type (λ t. planned.has_shape t.kind) (λ def. rules.has_shape def.kind) (λ def h. sym (shape_is def.kind) ∙ h) r.types.items is.types_shaped)
+
+  named_there : (o : Option TypeDef) → option_map_or (λ t. is_some t.name) (option_map planned_type o) false ≡ true → passes (λ def. is_some def.name) o ≡ true
+  named_there None h = no_true h
+  named_there (Some def) h = sym (has_text def.name) ∙ h
+
+  target_named : (o : Option ℕ) → passes (planned.is_named_number (plan_of r m)) o ≡ true → passes (rules.is_named_number r) o ≡ true
+  target_named None h = refl
+  target_named (Some n) h = named_there (type_at r n) (sym (ap (λ o. option_map_or (λ t. is_some t.name) o false) (get_of_map planned_type r.types.items n)) ∙ h)
+
+  kind_named : (def : TypeDef) → planned.kind_is_named (plan_of r m) (planned_type def) ≡ true
+      → ((not (rules.is_named_kind def.kind) || is_some def.name) && passes (rules.is_named_number r) (alias_target def.kind)) ≡ true
+  kind_named def h =
+      let front = first_true (not (planned.is_named_kind (planned_kind def.kind)) || is_some (optional_text def.name)) (passes (planned.is_named_number (plan_of r m)) (alias_number (planned_kind def.kind))) h in
+      let target = second_true (not (planned.is_named_kind (planned_kind def.kind)) || is_some (optional_text def.name)) (passes (planned.is_named_number (plan_of r m)) (alias_number (planned_kind def.kind))) h in
+      both _ _ ((λ i. not (sym (named_is def.kind) i) || sym (has_text def.name) i) ∙ front)
+      (target_named (alias_target def.kind) (ap (passes (planned.is_named_number (plan_of r m))) (sym (alias_is def.kind)) ∙ target))
+
+  pub named_kinds_kept : Keeps named_kinds r
+  unfolding named_kinds
+  named_kinds_kept = types_keep (λ r n def. (not (rules.is_named_kind def.kind) || is_some def.name) && passes (rules.is_named_number r) (alias_target def.kind)) r
+      (each_from_built planned_type (planned.kind_is_named (plan_of r m)) (λ def. (not (rules.is_named_kind def.kind) || is_some def.name) && passes (rules.is_named_number r) (alias_target def.kind)) kind_named r.types.items is.kinds_named)

@@ -1,0 +1,204 @@
+-- Names are labels, and lists of members don't repeat one.
+use Rattle.std.proofs.Common.{◌≡◌, refl, sym, ap, ◌∙◌, ℕ, Bool, true, false, ◌&&◌, ◌||◌, not, List, [], ◌∷◌, ◌++◌, map, option_to_list, Option, Some, None, String}
+use Rattle.std.specs.declared.alloc.Global.{Global}
+use Rattle.std.specs.List.{list_all, list_any}
+use Rattle.std.specs.Map.{keys_of}
+use Rattle.std.proofs.lemmas.List.Folds.{list_any-append, list_all-append, list_all-map}
+use Rattle.indexmap.specs.IndexMap.{keys}
+use Rattle.wit_model.specs.declared.model.Resolve.{Resolve}
+use Rattle.wit_model.specs.declared.model.Interface.{Interface}
+use Rattle.wit_model.specs.declared.model.World.{World}
+use Rattle.wit_model.specs.declared.model.WorldKey.{WorldKey}
+use Rattle.wit_model.specs.declared.model.WorldKey.TheVariants as key
+use Rattle.wit_model.specs.declared.model.WorldItem.{WorldItem}
+use Rattle.wit_model.specs.declared.model.WorldItem.TheVariants as item
+use Rattle.wit_model.specs.declared.model.TypeDef.{TypeDef}
+use Rattle.wit_model.specs.declared.model.TypeDefKind.{TypeDefKind}
+use Rattle.wit_model.specs.declared.model.TypeDefKind.TheVariants as kind
+use Rattle.wit_model.specs.declared.model.Handle.TheVariants as handle
+use Rattle.wit_model.specs.declared.model.TypeOwner.{TypeOwner}
+use Rattle.wit_model.specs.declared.model.Function.{Function}
+use Rattle.wit_model.specs.declared.model.Docs.{Docs}
+use Rattle.wit_model.specs.declared.model.Stability.{Stability}
+use Rattle.wit_model.specs.declared.model.Stability.TheVariants as stability
+use Rattle.wit_model.specs.Text.{Text, text_of, text_eq, optional_text}
+use Rattle.wit_model.specs.Names.{is_label}
+use Rattle.wit_model.specs.Rules as rules
+use Rattle.wit_model.specs.Rules.{each_from, passes, are_distinct, are_member_labels, is_freestanding, is_stability, key_label, item_labels, entries_labels}
+use Rattle.wit_model.specs.Valid.{Keeps, labels, functions_of_interface, functions_of_world, item_function}
+use Rattle.wit_model.proofs.Lists.{first_true, second_true}
+use Rattle.wit_model.proofs.Lists.{list_all_filter_map}
+use Rattle.wit_model.proofs.Checks.{keeps_three}
+use Rattle.plan_meaning.specs.PlanRules as planned
+use Rattle.plan_meaning.specs.PlanRules.{IsPlan, names_of}
+use Rattle.plan_meaning.specs.Built.{part_of, planned_kind, planned_type, planned_function, planned_interface, planned_world, planned_key, planned_item, planned_entries, is_unknown, is_undocumented, is_bare, is_bare_type, is_bare_function, is_bare_interface, is_bare_item, is_bare_world, IsBare}
+use Rattle.plan_meaning.proofs.Lists.{map_of_map, any_of_map, all_built, each_built, each_from_built, all_two, each_two, each_all, both, no_true}
+use Rattle.plan_meaning.proofs.Words.{plan_of}
+use Rattle.plan_meaning.proofs.FunctionRules.{interfaces_pass, worlds_pass}
+
+-- ---- stabilities
+
+unknown_is : (s : Stability) → is_unknown s ≡ true → is_stability s ≡ true
+unknown_is stability.Unknown h = refl
+unknown_is (stability.Stable since deprecated) h = no_true h
+unknown_is (stability.Unstable feature deprecated) h = no_true h
+
+bare_stability : (d : Docs) (s : Stability) → is_bare d s ≡ true → is_stability s ≡ true
+bare_stability d s h = unknown_is s (second_true (is_undocumented d) (is_unknown s) h)
+
+-- ---- labels
+
+name_is : (o : Option (String Global)) → passes is_label (optional_text o) ≡ passes (λ name. is_label (text_of name)) o
+name_is None = refl
+name_is (Some s) = refl
+
+kind_labels_are : (k : TypeDefKind) → planned.kind_labels (planned_kind k) ≡ rules.kind_labels k
+kind_labels_are (kind.Record x) = refl
+kind_labels_are kind.Resource = refl
+kind_labels_are (kind.Handle (handle.Own id)) = refl
+kind_labels_are (kind.Handle (handle.Borrow id)) = refl
+kind_labels_are (kind.Flags x) = refl
+kind_labels_are (kind.Tuple x) = refl
+kind_labels_are (kind.Variant x) = map_of_map (λ (c : Text × Bool). c.0) _ x.cases.items
+kind_labels_are (kind.Enum x) = refl
+kind_labels_are (kind.Option t) = refl
+kind_labels_are (kind.Result x) = refl
+kind_labels_are (kind.List t) = refl
+kind_labels_are (kind.Map k v) = refl
+kind_labels_are (kind.FixedLengthList t n) = refl
+kind_labels_are (kind.Future t) = refl
+kind_labels_are (kind.Stream t) = refl
+kind_labels_are (kind.Type_ t) = refl
+
+type_passes : (def : TypeDef) → planned.type_labels (planned_type def) ≡ true → is_bare_type def ≡ true
+    → (passes (λ name. is_label (text_of name)) def.name && (is_stability def.stability && are_member_labels (rules.kind_labels def.kind))) ≡ true
+type_passes def h bare =
+    both _ _ (sym (name_is def.name) ∙ first_true (passes is_label (optional_text def.name)) _ h)
+    (both _ _ (bare_stability def.docs def.stability (first_true (is_bare def.docs def.stability) _ bare))
+    (ap are_member_labels (sym (kind_labels_are def.kind)) ∙ second_true (passes is_label (optional_text def.name)) _ h))
+
+function_passes : (f : Function) → planned.function_labels (planned_function f) ≡ true → is_bare_function f ≡ true → rules.function_labels f ≡ true
+function_passes f h bare =
+    both _ _ (first_true (not (is_freestanding f.kind) || is_label (text_of f.name)) _ h)
+    (both _ _ (ap are_member_labels (sym (map_of_map (λ (x : Text × ℕ). x.0) (λ x. (text_of x.name, part_of x.ty)) f.params.items)) ∙ second_true (not (is_freestanding f.kind) || is_label (text_of f.name)) _ h)
+    (bare_stability f.docs f.stability bare))
+
+-- ---- names that differ
+
+missed : (a b : Bool) → not (a || b) ≡ true → not b ≡ true
+missed false b h = h
+missed true b h = no_true h
+
+-- no name of the first list stands in the second
+pub apart : (xs ys : List Text) → are_distinct (xs ++ ys) ≡ true → list_all (λ x. not (list_any (text_eq x) ys)) xs ≡ true
+apart [] ys h = refl
+apart (x ∷ xs) ys h =
+    both _ _ (missed (list_any (text_eq x) xs) (list_any (text_eq x) ys) (ap not (sym (list_any-append (text_eq x) xs ys)) ∙ first_true _ _ h))
+    (apart xs ys (second_true (not (list_any (text_eq x) (xs ++ ys))) _ h))
+
+pub names_are : {A B : Type 0} (g : A → B) (es : List (String Global × A)) → names_of (map (λ e. (text_of e.0, g e.1)) es) ≡ map text_of (keys_of es)
+names_are g [] = refl
+names_are g (e ∷ es) = ap (λ ts. text_of e.0 ∷ ts) (names_are g es)
+
+pub keys_apart : (ks fs : List (String Global)) → are_distinct (map text_of ks ++ map text_of fs) ≡ true → list_all (λ name. not (list_any (λ other. text_eq (text_of name) (text_of other)) fs)) ks ≡ true
+keys_apart ks fs h =
+    all_built text_of (λ x. not (list_any (text_eq x) (map text_of fs))) (λ name. not (list_any (λ other. text_eq (text_of name) (text_of other)) fs))
+    (λ name k. ap not (sym (any_of_map (text_eq (text_of name)) text_of fs)) ∙ k) ks (apart (map text_of ks) (map text_of fs) h)
+
+module _ (r : Resolve) (m : ℕ) (is : IsPlan (plan_of r m)) (bare : IsBare r) where
+  abbrev labelled : TypeOwner → Function → Bool
+  labelled o f = planned.function_labels (planned_function f)
+
+  interface_passes : (i : Interface) → planned.interface_labels (planned_interface i) ≡ true → is_bare_interface i ≡ true → list_all (λ f. planned.function_labels (planned_function f)) (functions_of_interface i) ≡ true
+      → (passes (λ name. is_label (text_of name)) i.name && (is_stability i.stability && (list_all rules.function_labels (functions_of_interface i)
+      && list_all (λ name. not (list_any (λ other. text_eq (text_of name) (text_of other)) (keys i.functions))) (keys i.types)))) ≡ true
+  interface_passes i h bare functions =
+      both _ _ (sym (name_is i.name) ∙ first_true (passes is_label (optional_text i.name)) _ h)
+      (both _ _ (bare_stability i.docs i.stability (first_true (is_bare i.docs i.stability) _ bare))
+      (both _ _ (all_two (λ f. planned.function_labels (planned_function f)) is_bare_function rules.function_labels function_passes (functions_of_interface i) functions (second_true (is_bare i.docs i.stability) _ bare))
+      (keys_apart (keys i.types) (keys i.functions)
+      (ap are_distinct (λ j. sym (names_are (λ id. id.0) i.types.entries) j ++ sym (names_are planned_function i.functions.entries) j) ∙ second_true (passes is_label (optional_text i.name)) _ h))))
+
+  -- ---- items
+
+  import_key : (n : ℕ) (k : WorldKey) (x : WorldItem) → planned.import_stands (plan_of r m) n (planned_key k, planned_item x) ≡ true → key_label k x ≡ true
+  import_key n (key.Interface id) x h = refl
+  import_key n (key.Name name) (item.Interface id stability docs external_id) h = first_true (is_label (text_of name)) _ h
+  import_key n (key.Name name) (item.Function f) h = second_true (text_eq (text_of name) (text_of f.name)) _ h
+  import_key n (key.Name name) (item.Type_ id) h = first_true (is_label (text_of name)) _ h
+
+  export_key : (k : WorldKey) (x : WorldItem) → planned.export_stands (plan_of r m) (planned_key k, planned_item x) ≡ true → key_label k x ≡ true
+  export_key (key.Interface id) x h = refl
+  export_key (key.Name name) (item.Interface id stability docs external_id) h = first_true (is_label (text_of name)) _ h
+  export_key (key.Name name) (item.Function f) h =
+      second_true (text_eq (text_of name) (text_of f.name)) _ (first_true (text_eq (text_of name) (text_of f.name) && (not (is_freestanding f.kind) || is_label (text_of name))) _ h)
+  export_key (key.Name name) (item.Type_ id) h = no_true h
+
+  item_passes : (x : WorldItem) → list_all (λ f. planned.function_labels (planned_function f)) (option_to_list (item_function x)) ≡ true → is_bare_item x ≡ true → item_labels x ≡ true
+  item_passes (item.Interface id stability docs external_id) h bare = bare_stability docs stability bare
+  item_passes (item.Function f) h bare = function_passes f (first_true _ true h) bare
+  item_passes (item.Type_ id) h bare = refl
+
+  abbrev labelled_item : WorldItem → Bool
+  labelled_item x = list_all (λ f. planned.function_labels (planned_function f)) (option_to_list (item_function x))
+
+  entries_pass : (test : WorldKey × WorldItem → Bool) → ((k : WorldKey) (x : WorldItem) → test (k, x) ≡ true → key_label k x ≡ true) → (es : List (WorldKey × WorldItem))
+      → list_all test es ≡ true → list_all labelled_item (map (λ e. e.1) es) ≡ true → list_all is_bare_item (map (λ e. e.1) es) ≡ true → entries_labels es ≡ true
+  entries_pass test keys_pass es h functions bare =
+      all_two test (λ e. item_labels e.1) (λ e. key_label e.0 e.1 && item_labels e.1) (λ e a b. both _ _ (keys_pass e.0 e.1 a) b) es h
+      (sym (list_all-map item_labels (λ e. e.1) es) ∙ all_two labelled_item is_bare_item item_labels item_passes (map (λ e. e.1) es) functions bare)
+
+  module _ (n : ℕ) (w : World) (name : is_label (text_of w.name) ≡ true) (imports : list_all (planned.import_stands (plan_of r m) n) (planned_entries w.imports.entries) ≡ true)
+      (exports : list_all (planned.export_stands (plan_of r m)) (planned_entries w.exports.entries) ≡ true)
+      (functions : list_all (λ f. planned.function_labels (planned_function f)) (functions_of_world w) ≡ true) (bare_world : is_bare_world w ≡ true) where
+    items_labelled : (list_all labelled_item (map (λ e. e.1) w.imports.entries) && list_all labelled_item (map (λ e. e.1) w.exports.entries)) ≡ true
+    items_labelled =
+        sym (list_all-append labelled_item (map (λ e. e.1) w.imports.entries) (map (λ e. e.1) w.exports.entries))
+        ∙ (sym (list_all_filter_map (λ f. planned.function_labels (planned_function f)) item_function (map (λ e. e.1) w.imports.entries ++ map (λ e. e.1) w.exports.entries)) ∙ functions)
+
+    bare_items : (list_all is_bare_item (map (λ e. e.1) w.imports.entries) && list_all is_bare_item (map (λ e. e.1) w.exports.entries)) ≡ true
+    bare_items = second_true (is_bare w.docs w.stability) _ bare_world
+
+    world_passes : (is_label (text_of w.name) && (is_stability w.stability && (entries_labels w.imports.entries && entries_labels w.exports.entries))) ≡ true
+    world_passes =
+        both _ _ name (both _ _ (bare_stability w.docs w.stability (first_true (is_bare w.docs w.stability) _ bare_world))
+        (both _ _
+        (entries_pass (λ e. planned.import_stands (plan_of r m) n (planned_key e.0, planned_item e.1)) (import_key n) w.imports.entries
+        (sym (list_all-map (planned.import_stands (plan_of r m) n) (λ e. (planned_key e.0, planned_item e.1)) w.imports.entries) ∙ imports) (first_true _ _ items_labelled) (first_true _ _ bare_items))
+        (entries_pass (λ e. planned.export_stands (plan_of r m) (planned_key e.0, planned_item e.1)) export_key w.exports.entries
+        (sym (list_all-map (planned.export_stands (plan_of r m)) (λ e. (planned_key e.0, planned_item e.1)) w.exports.entries) ∙ exports)
+        (second_true (list_all labelled_item (map (λ e. e.1) w.imports.entries)) _ items_labelled) (second_true (list_all is_bare_item (map (λ e. e.1) w.imports.entries)) _ bare_items))))
+
+  abbrev stands_right : ℕ → World → Bool
+  stands_right n w = (is_label (text_of w.name) && list_all (planned.import_stands (plan_of r m) n) (planned_entries w.imports.entries))
+      && (list_all (planned.export_stands (plan_of r m)) (planned_entries w.exports.entries) && is_bare_world w)
+
+  all_stand : each_from stands_right 0 r.worlds.items ≡ true
+  all_stand =
+      each_two (λ n w. is_label (text_of w.name) && list_all (planned.import_stands (plan_of r m) n) (planned_entries w.imports.entries))
+      (λ n w. list_all (planned.export_stands (plan_of r m)) (planned_entries w.exports.entries) && is_bare_world w) stands_right (λ n w a b. both _ _ a b) 0 r.worlds.items
+      (each_two (λ n w. is_label (text_of w.name)) (λ n w. list_all (planned.import_stands (plan_of r m) n) (planned_entries w.imports.entries))
+      (λ n w. is_label (text_of w.name) && list_all (planned.import_stands (plan_of r m) n) (planned_entries w.imports.entries)) (λ n w a b. both _ _ a b) 0 r.worlds.items
+      (each_from_built planned_world (λ w. is_label w.name) (λ w. is_label (text_of w.name)) (λ w h. h) r.worlds.items is.world_labels)
+      (each_built planned_world (λ n w. list_all (planned.import_stands (plan_of r m) n) w.imports) (λ n w. list_all (planned.import_stands (plan_of r m) n) (planned_entries w.imports.entries)) (λ n w h. h) r.worlds.items is.imports_stand))
+      (each_two (λ n w. list_all (planned.export_stands (plan_of r m)) (planned_entries w.exports.entries)) (λ n w. is_bare_world w)
+      (λ n w. list_all (planned.export_stands (plan_of r m)) (planned_entries w.exports.entries) && is_bare_world w) (λ n w a b. both _ _ a b) 0 r.worlds.items
+      (each_from_built planned_world (λ w. list_all (planned.export_stands (plan_of r m)) w.exports) (λ w. list_all (planned.export_stands (plan_of r m)) (planned_entries w.exports.entries)) (λ w h. h) r.worlds.items is.exports_stand)
+      (each_all is_bare_world 0 r.worlds.items ∙ bare.worlds))
+
+  pub labels_kept : Keeps labels r
+  unfolding labels
+  labels_kept = keeps_three labels r refl
+      (each_two (λ n i. planned.interface_labels (planned_interface i) && is_bare_interface i) (λ n i. list_all (λ f. planned.function_labels (planned_function f)) (functions_of_interface i))
+      (λ n i. labels.interface_ r n i) (λ n i a b. interface_passes i (first_true _ _ a) (second_true (planned.interface_labels (planned_interface i)) _ a) b) 0 r.interfaces.items
+      (each_two (λ n i. planned.interface_labels (planned_interface i)) (λ n i. is_bare_interface i) (λ n i. planned.interface_labels (planned_interface i) && is_bare_interface i) (λ n i a b. both _ _ a b) 0 r.interfaces.items
+      (each_from_built planned_interface planned.interface_labels (λ i. planned.interface_labels (planned_interface i)) (λ i h. h) r.interfaces.items is.interface_labels) (each_all is_bare_interface 0 r.interfaces.items ∙ bare.interfaces))
+      (interfaces_pass r m (λ o f. planned.function_labels f) labelled (λ o f h. h) is.functions_labelled))
+      (each_two stands_right (λ n w. list_all (λ f. planned.function_labels (planned_function f)) (functions_of_world w)) (λ n w. labels.world_ r n w)
+      (λ n w a b.
+      let front = first_true (is_label (text_of w.name) && list_all (planned.import_stands (plan_of r m) n) (planned_entries w.imports.entries)) _ a in
+      let back = second_true (is_label (text_of w.name) && list_all (planned.import_stands (plan_of r m) n) (planned_entries w.imports.entries)) _ a in
+      world_passes n w (first_true _ _ front) (second_true (is_label (text_of w.name)) _ front) (first_true _ _ back) b (second_true (list_all (planned.export_stands (plan_of r m)) (planned_entries w.exports.entries)) _ back))
+      0 r.worlds.items all_stand (worlds_pass r m (λ o f. planned.function_labels f) labelled (λ o f h. h) is.functions_labelled))
+      (each_two (λ n def. planned.type_labels (planned_type def)) (λ n def. is_bare_type def) (λ n def. labels.type_ r n def) (λ n def a b. type_passes def a b) 0 r.types.items
+      (each_from_built planned_type planned.type_labels (λ def. planned.type_labels (planned_type def)) (λ def h. h) r.types.items is.type_labels) (each_all is_bare_type 0 r.types.items ∙ bare.types))

@@ -1,0 +1,152 @@
+-- What a package lists is in range, of the package, and under its own name; packages are apart.
+use Rattle.std.proofs.Common.{◌≡◌, refl, sym, ap, subst, ◌∙◌, ℕ, zero, suc, ◌+◌, Bool, true, false, ◌&&◌, ◌||◌, not, ◌==◌, nat_lt, List, [], ◌∷◌, length, map, option_map, Option, Some, None, slice_get, unwrap_or, is_some, String, arith}
+use Rattle.std.specs.declared.alloc.Global.{Global}
+use Rattle.std.specs.List.{list_all}
+use Rattle.std.specs.Option.{option_map_or}
+use Rattle.std.proofs.lemmas.Bool.Decides.{nat_tests}
+use Rattle.std.proofs.lemmas.List.Folds.{list_all-map}
+use Rattle.std.proofs.lemmas.Option.{slice_get_within}
+use Rattle.wit_model.specs.declared.model.Resolve.{Resolve}
+use Rattle.wit_model.specs.declared.model.Package.{Package}
+use Rattle.wit_model.specs.declared.model.PackageName.{PackageName}
+use Rattle.wit_model.specs.declared.model.PackageId.{PackageId}
+use Rattle.wit_model.specs.declared.model.InterfaceId.{InterfaceId}
+use Rattle.wit_model.specs.declared.model.WorldId.{WorldId}
+use Rattle.wit_model.specs.Text.{Text, text_of, text_eq, optional_text}
+use Rattle.wit_model.specs.Names.{is_label, is_version, is_identity}
+use Rattle.wit_model.specs.Lookup.{interface_at, world_at, package_at, identity_of}
+use Rattle.wit_model.specs.Rules.{in_list, passes, each_from, is_id, package_number, text_is, same_package_name}
+use Rattle.wit_model.specs.Valid.{Keeps, package_names, names_in_packages}
+use Rattle.wit_model.proofs.Lists.{first_true, second_true}
+use Rattle.wit_model.proofs.Entries.{packages_keep, each_from_at, each_from_all}
+use Rattle.wit_model.proofs.VersionLaws.{same_name}
+use Rattle.comp_meaning.specs.Same.{same_identity}
+use Rattle.comp_meaning.proofs.SameLaws.{identities_decide}
+use Rattle.plan_meaning.specs.PlanRules.{IsPlan, bears, lists_interface, lists_world, lists_members, is_alone}
+use Rattle.plan_meaning.specs.Built.{planned_interface, planned_world, planned_package}
+use Rattle.plan_meaning.proofs.Lists.{get_of_map, each_of_map, all_built, each_built, both, no_true}
+use Rattle.plan_meaning.proofs.Words.{plan_of}
+
+-- ---- a name that stands there
+
+pub bears_is : (name : Option (String Global)) (t : Text) → bears t (optional_text name) ≡ text_is name t
+bears_is None t = refl
+bears_is (Some s) t = refl
+
+-- what is asked of an entry that has to stand there is asked of one that does
+pub there : {A B : Type 0} (g : A → B) (test : B → Bool) (o : Option A) → option_map_or test (option_map g o) false ≡ true → passes (λ x. test (g x)) o ≡ true
+there g test None h = no_true h
+there g test (Some x) h = h
+
+pub some_there : {A B : Type 0} (g : A → B) (test : B → Bool) (o : Option A) → option_map_or test (option_map g o) false ≡ true → is_some o ≡ true
+some_there g test None h = no_true h
+some_there g test (Some x) h = refl
+
+pub in_range : {A : Type 0} (xs : List A) (n : ℕ) → is_some (slice_get xs n) ≡ true → in_list xs n ≡ true
+in_range xs n h = go (slice_get xs n) refl h
+  where
+    go : (o : Option _) → slice_get xs n ≡ o → is_some o ≡ true → nat_lt n (length xs) ≡ true
+    go None e h = no_true h
+    go (Some x) e h = let less = slice_get_within xs n x e in grind (arith, nat_tests, less)
+
+pub passes_weaker : {A : Type 0} (p q : A → Bool) → ((x : A) → p x ≡ true → q x ≡ true) → (o : Option A) → passes p o ≡ true → passes q o ≡ true
+passes_weaker p q weaker None h = refl
+passes_weaker p q weaker (Some x) h = weaker x h
+
+package_is : (n : ℕ) (o : Option PackageId) → is_id n (option_map (λ id. id.0) o) ≡ is_id n (package_number o)
+package_is n o = refl
+
+module _ (r : Resolve) (m : ℕ) (is : IsPlan (plan_of r m)) where
+  -- an interface that a package lists
+  interface_there : (n : ℕ) (e : String Global × InterfaceId) → lists_interface (plan_of r m) n (text_of e.0, e.1.0) ≡ true
+      → option_map_or (λ i. bears (text_of e.0) i.name && is_id n i.package_) (option_map planned_interface (interface_at r e.1.0)) false ≡ true
+  interface_there n e h = sym (ap (λ o. option_map_or (λ i. bears (text_of e.0) i.name && is_id n i.package_) o false) (get_of_map planned_interface r.interfaces.items e.1.0)) ∙ h
+
+  pub interface_listed : (n : ℕ) (e : String Global × InterfaceId) → lists_interface (plan_of r m) n (text_of e.0, e.1.0) ≡ true
+      → (in_list r.interfaces.items e.1.0 ≡ true) × (passes (λ i. text_is i.name (text_of e.0)) (interface_at r e.1.0) ≡ true) × (passes (λ i. is_id n (package_number i.package)) (interface_at r e.1.0) ≡ true)
+  interface_listed n e h =
+      let found = interface_there n e h in
+      let kept = there planned_interface (λ i. bears (text_of e.0) i.name && is_id n i.package_) (interface_at r e.1.0) found in (
+        in_range r.interfaces.items e.1.0 (some_there planned_interface (λ i. bears (text_of e.0) i.name && is_id n i.package_) (interface_at r e.1.0) found),
+        passes_weaker _ (λ i. text_is i.name (text_of e.0)) (λ i k. sym (bears_is i.name (text_of e.0)) ∙ first_true _ _ k) (interface_at r e.1.0) kept,
+        passes_weaker _ (λ i. is_id n (package_number i.package)) (λ i k. second_true (bears (text_of e.0) (optional_text i.name)) _ k) (interface_at r e.1.0) kept,
+      )
+
+  pub world_listed : (n : ℕ) (e : String Global × WorldId) → lists_world (plan_of r m) n (text_of e.0, e.1.0) ≡ true
+      → (in_list r.worlds.items e.1.0 ≡ true) × (passes (λ w. text_eq (text_of w.name) (text_of e.0)) (world_at r e.1.0) ≡ true) × (passes (λ w. is_id n (package_number w.package)) (world_at r e.1.0) ≡ true)
+  world_listed n e h =
+      let found = sym (ap (λ o. option_map_or (λ w. text_eq w.name (text_of e.0) && is_id n w.package_) o false) (get_of_map planned_world r.worlds.items e.1.0)) ∙ h in
+      let kept = there planned_world (λ w. text_eq w.name (text_of e.0) && is_id n w.package_) (world_at r e.1.0) found in (
+        in_range r.worlds.items e.1.0 (some_there planned_world (λ w. text_eq w.name (text_of e.0) && is_id n w.package_) (world_at r e.1.0) found),
+        passes_weaker _ (λ w. text_eq (text_of w.name) (text_of e.0)) (λ w k. first_true _ _ k) (world_at r e.1.0) kept,
+        passes_weaker _ (λ w. is_id n (package_number w.package)) (λ w k. second_true (text_eq (text_of w.name) (text_of e.0)) _ k) (world_at r e.1.0) kept,
+      )
+
+  -- what holds of all that a package lists
+  module _ (q : ℕ → String Global × InterfaceId → Bool) (s : ℕ → String Global × WorldId → Bool)
+      (interfaces : (n : ℕ) (e : String Global × InterfaceId) → lists_interface (plan_of r m) n (text_of e.0, e.1.0) ≡ true → q n e ≡ true)
+      (worlds : (n : ℕ) (e : String Global × WorldId) → lists_world (plan_of r m) n (text_of e.0, e.1.0) ≡ true → s n e ≡ true) where
+    pub members_pass : each_from (λ n p. list_all (q n) p.interfaces.entries && list_all (s n) p.worlds.entries) 0 r.packages.items ≡ true
+    members_pass = each_built planned_package (lists_members (plan_of r m)) (λ n p. list_all (q n) p.interfaces.entries && list_all (s n) p.worlds.entries)
+        (λ n p h. both _ _
+        (all_built (λ e. (text_of e.0, e.1.0)) (lists_interface (plan_of r m) n) (q n) (interfaces n) p.interfaces.entries (first_true _ _ h))
+        (all_built (λ e. (text_of e.0, e.1.0)) (lists_world (plan_of r m) n) (s n) (worlds n) p.worlds.entries (second_true (list_all (lists_interface (plan_of r m) n) (map (λ e. (text_of e.0, e.1.0)) p.interfaces.entries)) _ h)))
+        r.packages.items is.members
+
+  pub names_in_packages_kept : Keeps names_in_packages r
+  unfolding names_in_packages
+  names_in_packages_kept = packages_keep
+      (λ r n p. list_all (λ e. passes (λ i. text_is i.name (text_of e.0)) (interface_at r e.1.0)) p.interfaces.entries && list_all (λ e. passes (λ w. text_eq (text_of w.name) (text_of e.0)) (world_at r e.1.0)) p.worlds.entries) r
+      (members_pass (λ n e. passes (λ i. text_is i.name (text_of e.0)) (interface_at r e.1.0)) (λ n e. passes (λ w. text_eq (text_of w.name) (text_of e.0)) (world_at r e.1.0))
+      (λ n e h. (interface_listed n e h).1) (λ n e h. (world_listed n e h).1))
+
+  -- ---- names of packages
+
+  module _ (versions : list_all (λ k. passes is_version k.name.version) r.packages.items ≡ true) where
+    version_at : (n : ℕ) (p : Package) → package_at r n ≡ Some p → passes is_version p.name.version ≡ true
+    version_at n p e = at r.packages.items n versions e
+      where
+        at : (xs : List Package) (n : ℕ) → list_all (λ k. passes is_version k.name.version) xs ≡ true → slice_get xs n ≡ Some p → passes is_version p.name.version ≡ true
+        at [] n h e = absurd (let wrong : ⊥ = cc in wrong)
+        at (x ∷ xs) zero h e = let same : x ≡ p = ap (λ o. unwrap_or o x) e in ap (λ k. passes is_version k.name.version) (sym same) ∙ first_true _ _ h
+        at (x ∷ xs) (suc n) h e = at xs n (second_true (passes is_version x.name.version) _ h) e
+
+    apart : (a b : PackageName) → passes is_version a.version ≡ true → passes is_version b.version ≡ true → not (same_identity (identity_of a) (identity_of b)) ≡ true → not (same_package_name a b) ≡ true
+    apart a b va vb h = go (same_package_name a b) refl
+      where
+        go : (c : Bool) → same_package_name a b ≡ c → not c ≡ true
+        go false e = refl
+        go true e = let one : same_identity (identity_of a) (identity_of b) ≡ true = (identities_decide (identity_of a) (identity_of b)).1 ((same_name a b va vb).0 e) in ap not (sym one) ∙ h
+
+    either : (a b c : Bool) → (b ≡ true → c ≡ true) → (a || b) ≡ true → (a || c) ≡ true
+    either true b c f h = refl
+    either false b c f h = f h
+
+    named : (n : ℕ) (p : Package) → package_at r n ≡ Some p → is_identity (identity_of p.name) ≡ true → is_alone (plan_of r m) n (planned_package p) ≡ true
+        → ((is_label (text_of p.name.namespace) && (is_label (text_of p.name.name) && passes is_version p.name.version)) && each_from (λ k other. (k == n) || not (same_package_name p.name other.name)) 0 r.packages.items) ≡ true
+    named n p e identity alone =
+        let rest = second_true (is_label (text_of p.name.namespace)) _ identity in
+        both _ _ (both _ _ (first_true _ _ identity) (both _ _ (first_true (is_label (text_of p.name.name)) _ rest) (version_at n p e)))
+        (each_from_all (λ k other. (k == n) || not (same_package_name p.name other.name)) 0 r.packages.items (λ k other f.
+        either (0 + k == n) (not (same_identity (identity_of p.name) (identity_of other.name))) (not (same_package_name p.name other.name))
+        (apart p.name other.name (version_at n p e) (version_at k other f))
+        (each_from_at (λ k other. (k == n) || not (same_identity (identity_of p.name) (identity_of other.name))) 0 r.packages.items k other
+        (sym (each_of_map (λ k other. (k == n) || not (same_identity (identity_of p.name) other.identity)) planned_package 0 r.packages.items) ∙ alone) f)))
+
+    pub package_names_kept : Keeps package_names r
+    unfolding package_names
+    package_names_kept = packages_keep
+        (λ r n p. (is_label (text_of p.name.namespace) && (is_label (text_of p.name.name) && passes is_version p.name.version)) && each_from (λ k other. (k == n) || not (same_package_name p.name other.name)) 0 r.packages.items) r
+        (each_from_all (λ n p. (is_label (text_of p.name.namespace) && (is_label (text_of p.name.name) && passes is_version p.name.version)) && each_from (λ k other. (k == n) || not (same_package_name p.name other.name)) 0 r.packages.items) 0 r.packages.items
+        (λ n p e.
+        let here : n ≡ 0 + n = omega arith in
+        subst (λ k. ((is_label (text_of p.name.namespace) && (is_label (text_of p.name.name) && passes is_version p.name.version)) && each_from (λ j other. (j == k) || not (same_package_name p.name other.name)) 0 r.packages.items) ≡ true) here
+        (named n p e
+        (identity_at r.packages.items n (sym (list_all-map (λ k. is_identity k.identity) planned_package r.packages.items) ∙ is.identities) p e)
+        (let at : 0 + n ≡ n = omega arith in subst (λ k. is_alone (plan_of r m) k (planned_package p) ≡ true) at
+        (each_from_at (λ k x. is_alone (plan_of r m) k (planned_package x)) 0 r.packages.items n p (sym (each_of_map (is_alone (plan_of r m)) planned_package 0 r.packages.items) ∙ is.alone) e)))))
+      where
+        identity_at : (xs : List Package) (n : ℕ) → list_all (λ k. is_identity (identity_of k.name)) xs ≡ true → (p : Package) → slice_get xs n ≡ Some p → is_identity (identity_of p.name) ≡ true
+        identity_at [] n h p e = absurd (let wrong : ⊥ = cc in wrong)
+        identity_at (x ∷ xs) zero h p e = let same : x ≡ p = ap (λ o. unwrap_or o x) e in ap (λ k. is_identity (identity_of k.name)) (sym same) ∙ first_true _ _ h
+        identity_at (x ∷ xs) (suc n) h p e = identity_at xs n (second_true (is_identity (identity_of x.name)) _ h) p e

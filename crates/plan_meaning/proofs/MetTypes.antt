@@ -1,0 +1,61 @@
+-- The named types that numbers of a plan use are under no larger numbers.
+use Rattle.std.proofs.Common.{◌≡◌, ◌⊎◌, inl, inr, refl, sym, ap, subst, ◌∙◌, ◌<◌, ℕ, zero, suc, arith, true, List, [], ◌∷◌, length, take, flat_map, Option, Some, None, unwrap_or, T, ltb→lt}
+use Rattle.std.specs.Prelude.{nat_le, nat_lt}
+use Rattle.std.specs.List.{Contains, list_all}
+use Rattle.std.specs.Option.{option_map_or}
+use Rattle.std.proofs.lemmas.Bool.Decides.{nat_tests}
+use Rattle.std.proofs.lemmas.List.Elements.{Contains-append_cases}
+use Rattle.wit_model.specs.Text.{Text}
+use Rattle.wit_model.specs.Parts.{met_by}
+use Rattle.wit_model.specs.Rules.{each_from}
+use Rattle.wit_model.proofs.Elements.{all-contained, contains-later, none-in}
+use Rattle.wit_model.proofs.Functions.{all_flat}
+use Rattle.plan_meaning.specs.Plan.{Plan, PlannedType, kind_numbers, met_at, met_in, used_by_numbers}
+use Rattle.plan_meaning.proofs.KeptOwners.{met_there}
+use Rattle.plan_meaning.proofs.Lists.{all_weaker, both, each_at}
+use Rattle.plan_meaning.proofs.ShapeLaws.{slice_take, slice_there}
+
+pub flat_among : {A B : Type 0} (f : A → List B) (xs : List A) (y : B) → Contains (flat_map f xs) y → (x : A) × Contains xs x × Contains (f x) y
+flat_among f [] y c = none-in y c
+flat_among f (x ∷ xs) y c = by (Contains-append_cases (f x) (flat_map f xs) y c) (flat_among f xs y)
+  where
+    by : Contains (f x) y ⊎ Contains (flat_map f xs) y → (Contains (flat_map f xs) y → (z : _) × Contains xs z × Contains (f z) y) → (z : _) × Contains (x ∷ xs) z × Contains (f z) y
+    by (inl here) more = (x, (0, omega arith, refl), here)
+    by (inr later) more = let found = more later in (found.0, contains-later x xs found.0 found.1, found.2)
+
+less_than : (n k : ℕ) → nat_lt n k ≡ true → n < k
+less_than n k h = ltb→lt n k (subst T (sym h) tt)
+
+module _ (p : Plan) (fall : each_from (λ n x. list_all (λ m. nat_lt m n) (kind_numbers x.kind)) 0 p.types ≡ true) where
+  abbrev IsLow : ℕ → List ℕ → Type 0
+  IsLow n ns = list_all (λ m. nat_le m n) ns ≡ true
+
+  within : (n : ℕ) (ns : List ℕ) → ((j : ℕ) → j < n → IsLow j (met_by (take n (met_in p)) j)) → list_all (λ j. nat_lt j n) ns ≡ true → IsLow n (flat_map (met_by (take n (met_in p))) ns)
+  within n ns small h =
+      all_flat (λ m. nat_le m n) (met_by (take n (met_in p))) ns
+      ∙ all_weaker (λ j. nat_lt j n) (λ j. list_all (λ m. nat_le m n) (met_by (take n (met_in p)) j))
+      (λ j less. all_weaker (λ m. nat_le m j) (λ m. nat_le m n) (λ m le. let l = less_than j n less in grind (arith, nat_tests, l, le)) (met_by (take n (met_in p)) j) (small j (less_than j n less))) ns h
+
+  at_type : (n : ℕ) (x : PlannedType) → list_all (λ j. nat_lt j n) (kind_numbers x.kind) ≡ true → ((j : ℕ) → j < n → IsLow j (met_by (take n (met_in p)) j)) → IsLow n (met_at (take n (met_in p)) (n, x))
+  at_type n x below small = by x.name
+    where
+      self : nat_le n n ≡ true
+      self = grind (arith, nat_tests)
+
+      by : (name : Option Text) → IsLow n (option_map_or (λ s. n ∷ []) name (flat_map (met_by (take n (met_in p))) (kind_numbers x.kind)))
+      by (Some s) = both (nat_le n n) true self refl
+      by None = within n (kind_numbers x.kind) small below
+
+  low_by : (fuel n : ℕ) → n < fuel → n < length p.types → IsLow n (met_by (met_in p) n)
+  low_by zero n h range = absurd (omega (arith, h))
+  low_by (suc fuel) n h range =
+      let found = slice_there p.types n range in
+      ap (list_all (λ m. nat_le m n)) (met_there p n found.0 found.1)
+      ∙ at_type n found.0 (each_at (λ n x. list_all (λ m. nat_lt m n) (kind_numbers x.kind)) p.types n found.0 fall found.1)
+      (λ j less. ap (λ o. list_all (λ m. nat_le m j) (unwrap_or o [])) (slice_take (met_in p) n j less) ∙ low_by fuel j (omega (arith, less, h)) (omega (arith, less, range)))
+
+  -- a named type that numbers use is used by one of them that isn't smaller
+  pub used_among : (ns : List ℕ) → ((n : ℕ) → Contains ns n → n < length p.types) → (j : ℕ) → Contains (used_by_numbers p ns) j → (n : ℕ) × Contains ns n × (nat_le j n ≡ true)
+  used_among ns range j c =
+      let found = flat_among (met_by (met_in p)) ns j c in
+      (found.0, found.1, all-contained (λ m. nat_le m found.0) (met_by (met_in p) found.0) j (low_by (suc found.0) found.0 (omega arith) (range found.0 found.1)) found.2)

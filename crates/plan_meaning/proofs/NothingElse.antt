@@ -1,0 +1,133 @@
+-- Nothing stands in what is built from a plan but what the plan means.
+use Rattle.std.proofs.Common.{◌≡◌, refl, sym, ap, ◌∙◌, ℕ, Bool, true, false, ◌&&◌, ◌||◌, ◌==◌, List, [], ◌∷◌, map, filter_map, option_map, option_and_then, Option, Some, None, slice_get, unwrap_or, zero, suc, is_some, subst, String}
+use Rattle.std.specs.Prelude.{sum_by}
+use Rattle.std.specs.declared.alloc.Global.{Global}
+use Rattle.std.specs.List.{list_all, list_any}
+use Rattle.std.specs.Option.{option_map_or, option_eq}
+use Rattle.wit_model.specs.declared.model.Resolve.{Resolve}
+use Rattle.wit_model.specs.declared.model.Package.{Package}
+use Rattle.wit_model.specs.declared.model.Interface.{Interface}
+use Rattle.wit_model.specs.declared.model.World.{World}
+use Rattle.wit_model.specs.declared.model.Function.{Function}
+use Rattle.wit_model.specs.Text.{Text, text_of, optional_text}
+use Rattle.wit_model.specs.Lookup.{package_at, interface_at, world_at}
+use Rattle.wit_model.specs.Parts as parts
+use Rattle.wit_model.specs.Uses as uses
+use Rattle.wit_model.specs.Uses.{has, items_of}
+use Rattle.wit_model.specs.Rules.{is_id, in_list, has_items}
+use Rattle.wit_model.specs.Valid.{IsValid, functions_of_interface, functions_of_world}
+use Rattle.wit_model.proofs.Lists.{first_true, second_true}
+use Rattle.plan_meaning.specs.Plan as plan
+use Rattle.plan_meaning.specs.Plan.{Plan, PlannedFunction, PlannedWorld, number_under, package_in}
+use Rattle.plan_meaning.specs.PlanRules as planned
+use Rattle.plan_meaning.specs.PlanRules.{IsPlan, HoldsNoMore, IsPackagePlan, IsWorldPlan}
+use Rattle.plan_meaning.specs.Built.{IsBuilt, planned_kind, planned_type, planned_function, planned_interface, planned_world, planned_package}
+use Rattle.plan_meaning.specs.NothingElse.{is_part_of, TypesAreUsed, PackagesAreUsed, HoldsPackageAlone, HoldsWorldAlone}
+use Rattle.plan_meaning.proofs.Lists.{any_of_map, get_of_map, get_back, any_get, each_of_map, each_at}
+use Rattle.plan_meaning.proofs.Words.{plan_of, kind_numbers_are, function_numbers_are}
+use Rattle.plan_meaning.proofs.KindRules.{has_text}
+use Rattle.plan_meaning.proofs.FunctionRules.{functions_are, world_functions_are}
+use Rattle.plan_meaning.proofs.Reaching.{shown_somewhere, shows_is, world_among, all_reached}
+use Rattle.plan_meaning.proofs.Valid.{plan_is, built_is_valid}
+
+module _ (r : Resolve) (m : ℕ) where
+  -- ---- types and packages
+
+  same_any : {A : Type 0} (p q : A → Bool) → ((x : A) → p x ≡ q x) → (xs : List A) → list_any p xs ≡ list_any q xs
+  same_any p q same xs = ap (λ test. list_any test xs) (λ i x. same x i)
+
+  functions_have : (n : ℕ) (fs : List Function) → list_any (λ f. has (plan.function_numbers f) n) (map planned_function fs) ≡ list_any (λ f. has (parts.function_numbers f) n) fs
+  functions_have n fs =
+      any_of_map (λ f. has (plan.function_numbers f) n) planned_function fs
+      ∙ same_any (λ f. has (plan.function_numbers (planned_function f)) n) (λ f. has (parts.function_numbers f) n) (λ f. ap (λ ns. has ns n) (function_numbers_are f)) fs
+
+  types_have : (n : ℕ) → list_any (λ t. has (plan.kind_numbers t.kind) n) (map planned_type r.types.items) ≡ list_any (λ def. has (parts.kind_numbers def.kind) n) r.types.items
+  types_have n =
+      any_of_map (λ t. has (plan.kind_numbers t.kind) n) planned_type r.types.items
+      ∙ same_any (λ def. has (plan.kind_numbers (planned_kind def.kind)) n) (λ def. has (parts.kind_numbers def.kind) n) (λ def. ap (λ ns. has ns n) (kind_numbers_are def.kind)) r.types.items
+
+  interfaces_have : (n : ℕ) → list_any (λ i. list_any (λ f. has (plan.function_numbers f) n) (planned.functions_of i)) (map planned_interface r.interfaces.items)
+      ≡ list_any (λ i. list_any (λ f. has (parts.function_numbers f) n) (functions_of_interface i)) r.interfaces.items
+  interfaces_have n =
+      any_of_map (λ i. list_any (λ f. has (plan.function_numbers f) n) (planned.functions_of i)) planned_interface r.interfaces.items
+      ∙ same_any (λ i. list_any (λ f. has (plan.function_numbers f) n) (planned.functions_of (planned_interface i))) (λ i. list_any (λ f. has (parts.function_numbers f) n) (functions_of_interface i))
+      (λ i. ap (list_any (λ f. has (plan.function_numbers f) n)) (functions_are i) ∙ functions_have n (functions_of_interface i)) r.interfaces.items
+
+  worlds_have : (n : ℕ) → list_any (λ w. list_any (λ f. has (plan.function_numbers f) n) (planned.world_functions w)) (map planned_world r.worlds.items)
+      ≡ list_any (λ w. list_any (λ f. has (parts.function_numbers f) n) (functions_of_world w)) r.worlds.items
+  worlds_have n =
+      any_of_map (λ w. list_any (λ f. has (plan.function_numbers f) n) (planned.world_functions w)) planned_world r.worlds.items
+      ∙ same_any (λ w. list_any (λ f. has (plan.function_numbers f) n) (planned.world_functions (planned_world w))) (λ w. list_any (λ f. has (parts.function_numbers f) n) (functions_of_world w))
+      (λ w. ap (list_any (λ f. has (plan.function_numbers f) n)) (world_functions_are w) ∙ functions_have n (functions_of_world w)) r.worlds.items
+
+  part_is : (n : ℕ) → planned.is_part (plan_of r m) n ≡ is_part_of r n
+  part_is n = λ i. types_have n i || (interfaces_have n i || worlds_have n i)
+
+  pub types_used : HoldsNoMore (plan_of r m) → TypesAreUsed r
+  types_used more k def e =
+      (λ i. sym (has_text def.name) i || sym (part_is k) i)
+      ∙ each_at (λ n x. is_some (planned_type x).name || planned.is_part (plan_of r m) n) r.types.items k def (sym (each_of_map (λ n t. is_some t.name || planned.is_part (plan_of r m) n) planned_type 0 r.types.items) ∙ more.types) e
+
+  some_items : {A B : Type 0} (g : A → B) (xs : List A) → has_items (map g xs) ≡ has_items xs
+  some_items g [] = refl
+  some_items g (x ∷ xs) = refl
+
+  pub packages_used : HoldsNoMore (plan_of r m) → PackagesAreUsed r m
+  packages_used more k q e =
+      ap (λ b. (k == m) || b) (sym (some_items (λ x. (text_of x.0, x.1.0)) q.interfaces.entries))
+      ∙ each_at (λ n x. (n == m) || has_items (planned_package x).interfaces) r.packages.items k q (sym (each_of_map (λ n x. (n == m) || has_items x.interfaces) planned_package 0 r.packages.items) ∙ more.packages) e
+
+  -- ---- one world
+
+  module _ (is : IsWorldPlan (plan_of r m)) (w : World) (there : world_at r 0 ≡ Some w) (same : planned_world w ≡ is.world) where
+    one_world : r.worlds.items ≡ w ∷ []
+    one_world = go r.worlds.items is.alone there
+      where
+        go : (xs : List World) → map planned_world xs ≡ is.world ∷ [] → slice_get xs 0 ≡ Some w → xs ≡ w ∷ []
+        go [] e h = absurd (let wrong : ⊥ = cc in wrong)
+        go (x ∷ []) e h = ap (λ o. unwrap_or o x ∷ []) h
+        go (x ∷ y ∷ xs) e h = absurd (let wrong : ⊥ = cc in wrong)
+
+    item_by : (n : ℕ) (i : Interface) → interface_at r n ≡ Some i → (name : Option (String Global)) → i.name ≡ name → (test : Text → Bool) (rest : Bool) →
+        option_map_or test (optional_text name) (rest && ((sum_by (planned.times_shown n) (map planned_world r.worlds.items) == 1)
+        && list_all (λ x. (planned.times_shown n x == 0) || option_eq ◌==◌ x.package_ (option_map (λ id. id.0) i.package)) (map planned_world r.worlds.items))) ≡ true
+        → planned.is_shown_in is.world n ≡ true
+    item_by n i e None unnamed test rest h =
+        let somewhere = any_get (λ x. planned.is_shown_in x n) (map planned_world r.worlds.items) (shown_somewhere n (map planned_world r.worlds.items) (first_true _ _ (second_true rest _ h))) in
+        only somewhere.0 somewhere.1 (ap (λ xs. slice_get xs somewhere.0) (sym is.alone) ∙ somewhere.2) somewhere.3
+      where
+        only : (j : ℕ) (x : PlannedWorld) → slice_get (is.world ∷ []) j ≡ Some x → planned.is_shown_in x n ≡ true → planned.is_shown_in is.world n ≡ true
+        only zero x e h = let one : is.world ≡ x = ap (λ o. unwrap_or o is.world) e in ap (λ y. planned.is_shown_in y n) one ∙ h
+        only (suc j) x e h = absurd (let wrong : ⊥ = cc in wrong)
+    item_by n i e (Some s) is_named test rest h = is.shows n (planned_interface i) (get_of_map planned_interface r.interfaces.items n ∙ ap (option_map planned_interface) e) (ap (λ o. is_some (optional_text o)) is_named)
+
+    is_item : (n : ℕ) (i : Interface) → interface_at r n ≡ Some i → has (filter_map uses.item_interface (items_of w)) n ≡ true
+    is_item n i e =
+        sym (shows_is n w)
+        ∙ (ap (λ y. planned.is_shown_in y n) same
+        ∙ item_by n i e i.name refl (λ t. option_map_or (λ k. is_id n (number_under t k.interfaces)) (option_and_then (package_in (plan_of r m)) (option_map (λ id. id.0) i.package)) false)
+        (option_map_or (in_list (map planned_package r.packages.items)) (option_map (λ id. id.0) i.package) false)
+        (each_at (λ k x. planned.is_placed (plan_of r m) k (planned_interface x)) r.interfaces.items n i (sym (each_of_map (planned.is_placed (plan_of r m)) planned_interface 0 r.interfaces.items) ∙ is.plan.interfaces_placed) e))
+
+    pub world_alone : HoldsWorldAlone r m w
+    world_alone = record { one = one_world; interfaces = is_item; packages = packages_used is.no_more; types = types_used is.no_more }
+
+package_alone : (r : Resolve) (m : ℕ) → IsPackagePlan (plan_of r m) → IsValid r → (q : Package) → package_at r m ≡ Some q → HoldsPackageAlone r m q
+package_alone r m is v q at = record {
+  interfaces = all_reached r m is.plan v q at is.worlds is.wanted;
+  worlds = world_among r m is.plan v q at is.worlds;
+  packages = packages_used r m is.no_more;
+  types = types_used r m is.no_more;
+}
+
+pub package_holds_alone : (p : Plan) (r : Resolve) → IsPackagePlan p → IsBuilt p r → (q : Package) → package_at r p.main ≡ Some q → HoldsPackageAlone r p.main q
+package_holds_alone p r is built = package_alone r p.main (subst IsPackagePlan (sym (plan_is p r built)) is) (built_is_valid p r is.plan built)
+
+world_by : (r : Resolve) (m : ℕ) → IsWorldPlan (plan_of r m) → (w : World) → world_at r 0 ≡ Some w → HoldsWorldAlone r m w
+world_by r m is w there =
+    let first = get_back planned_world r.worlds.items 0 is.world (ap (λ xs. slice_get xs 0) is.alone) in
+    let one : first.0 ≡ w = ap (λ o. unwrap_or o first.0) (sym first.1 ∙ there) in
+    world_alone r m is w there (ap planned_world (sym one) ∙ first.2)
+
+pub world_holds_alone : (p : Plan) (r : Resolve) → IsWorldPlan p → IsBuilt p r → (w : World) → world_at r 0 ≡ Some w → HoldsWorldAlone r p.main w
+world_holds_alone p r is built = world_by r p.main (subst IsWorldPlan (sym (plan_is p r built)) is)

@@ -1,0 +1,245 @@
+-- Members are a package, and a world stands alone, exactly where their numbers are.
+use Rattle.std.proofs.Common.{◌≡◌, refl, sym, ap, ◌∙◌, ℕ, Bool, true, false, not, ◌&&◌, ◌||◌, ◌==◌, List, [], ◌∷◌, ◌++◌, map, Option, Some, None, option_map, is_none, slice_get}
+use Rattle.std.specs.List.{AllByRecursion, AllZip, flat_map, list_all, list_any}
+use Rattle.std.specs.Option.{option_map_or}
+use Rattle.std.proofs.lemmas.Bool.{eqb-true, eq-eqb}
+use Rattle.wit_model.specs.Text.{Text, text_eq}
+use Rattle.wit_model.specs.Names.{PackageIdentity, path_in, read_path}
+use Rattle.wit_model.specs.Tree.{Place}
+use Rattle.wit_model.proofs.Distinct.{either_way}
+use Rattle.wit_model.proofs.Elements.{same-some}
+use Rattle.wit_model.proofs.Lists.{first_true, second_true}
+use Rattle.wit_model.proofs.NameLaws.{read_path_is_spelled}
+use Rattle.wit_model.proofs.VersionLaws.{same_text, text_same}
+use Rattle.comp_meaning.specs.Follow.{View, each, is_filled, provided, place_of}
+use Rattle.comp_bytes.specs.Reading.{◌>>=◌}
+use Rattle.comp_meaning.specs.Same.{same_identity}
+use Rattle.comp_meaning.specs.Rules as rules
+use Rattle.comp_meaning.specs.Reads as reads
+use Rattle.comp_meaning.specs.Reads.{Part, Member, Sight, is_of, all_agree, is_interface_part}
+use Rattle.comp_meaning.proofs.SameLaws.{identities_decide}
+use Rattle.plan_meaning.specs.NumberedViews.{Tables, path_text, place_at, AreTables, NumberedView, view_of, shown_function, NumberedSight, sight_of, IsSight, agree_in_numbers}
+use Rattle.plan_meaning.specs.NumberedRules.{Fact}
+use Rattle.plan_meaning.specs.NumberedWorlds.{path, label, implementing, NumberedShown, instance, function, declares, NumberedSeen, shown_of, seen_of, sights_of_scope, HasPath}
+use Rattle.plan_meaning.specs.NumberedMembers.{Homes, IsHomeOf, HomesStand, is_of_package, is_named_in, NumberedPart, world, interface, NumberedMember, sights_of_part, sights_of_members, ShowsInterface, ShowsPart, IsMember, shown_view, imported_view, exported_view, are_interfaces, is_interface_of, stands_at_top, package_shown, world_shown, IsKnownSight, ImportsInNumbers, ExportInNumbers, PackagesInNumbers, OneWorldInNumbers}
+use Rattle.plan_meaning.proofs.Lists.{both, map_of_map, append_of_map}
+use Rattle.plan_meaning.proofs.NumberedRules.{interface_same}
+use Rattle.plan_meaning.proofs.NumberedViews.{all_agree_in_numbers}
+use Rattle.plan_meaning.proofs.NumberedWorlds.{path_is, path_number, sights_in_numbers}
+
+pub only_sights : (t : Tables) (known : ℕ → Fact) (seen : List NumberedSight) → AllByRecursion (IsKnownSight t known) seen → AllByRecursion (IsSight t) seen
+only_sights t known [] all = tt
+only_sights t known (s ∷ seen) all = (all.0.0, only_sights t known seen all.1)
+
+module _ (t : Tables) (tables : AreTables t) (h : Homes) (stand : HomesStand t h) where
+  -- ---- packages
+
+  module _ (n : ℕ) (identity : PackageIdentity) (there : slice_get h.packages n ≡ Some identity) where
+    package_number : (m : ℕ) (other : PackageIdentity) → slice_get h.packages m ≡ Some other → same_identity identity other ≡ (n == m)
+    package_number m other at =
+        either_way (same_identity identity other) (n == m)
+        (λ e. let same : identity ≡ other = (identities_decide identity other).0 e in eq-eqb n m (stand.apart n m other (there ∙ ap Some same) at))
+        (λ e. (identities_decide identity other).1 (same-some identity other (sym there ∙ (ap (slice_get h.packages) (eqb-true n m e) ∙ at))))
+
+    flip : (a b : ℕ) → (a == b) ≡ (b == a)
+    flip a b = either_way (a == b) (b == a) (λ e. eq-eqb b a (sym (eqb-true a b e))) (λ e. eq-eqb a b (sym (eqb-true b a e)))
+
+    of_read : Option (PackageIdentity × Text) → Bool
+    of_read None = false
+    of_read (Some q) = same_identity identity q.0
+
+    pub of_package : (p : ℕ) → HasPath t p → is_of identity (path_text t p) ≡ is_of_package h n p
+    unfolding of_read
+    of_package p x =
+        let home = stand.homes p x.0 x.1 in
+        ap (is_of identity) (path_is t p x)
+        ∙ (ap of_read home.reads
+        ∙ (package_number home.package_ home.identity home.stands
+        ∙ (flip n home.package_ ∙ sym (ap (λ o. option_map_or (λ (y : ℕ × Text). y.0 == n) o false) home.home))))
+
+    -- the path of this name in the package
+    named_in : (name : Text) → read_path (path_in identity name) ≡ Some (identity, name) → (p : ℕ) → HasPath t p → text_eq (path_text t p) (path_in identity name) ≡ is_named_in h n name p
+    named_in name reads p x =
+        let home = stand.homes p x.0 x.1 in
+        either_way (text_eq (path_text t p) (path_in identity name)) ((home.package_ == n) && text_eq home.name name) (into home) (back home)
+        ∙ sym (ap (λ o. option_map_or (λ (y : ℕ × Text). y.0 == n && text_eq y.1 name) o false) home.home)
+      where
+        into : (home : IsHomeOf h p x.0) → text_eq (path_text t p) (path_in identity name) ≡ true → ((home.package_ == n) && text_eq home.name name) ≡ true
+        into home e =
+            let same_path : x.0 ≡ path_in identity name = sym (path_is t p x) ∙ text_same (path_text t p) (path_in identity name) e in
+            let pair : ◌≡◌ {A = PackageIdentity × Text} (home.identity, home.name) (identity, name) = same-some (home.identity, home.name) (identity, name) (sym home.reads ∙ (ap read_path same_path ∙ reads)) in
+            let number : n ≡ home.package_ = stand.apart n home.package_ home.identity (there ∙ ap Some (sym (ap (λ (y : PackageIdentity × Text). y.0) pair))) home.stands in
+            both (home.package_ == n) (text_eq home.name name) (eq-eqb home.package_ n (sym number)) (same_text home.name name (ap (λ (y : PackageIdentity × Text). y.1) pair))
+
+        back : (home : IsHomeOf h p x.0) → ((home.package_ == n) && text_eq home.name name) ≡ true → text_eq (path_text t p) (path_in identity name) ≡ true
+        back home e =
+            let number : home.package_ ≡ n = eqb-true home.package_ n (first_true (home.package_ == n) (text_eq home.name name) e) in
+            let text : home.name ≡ name = text_same home.name name (second_true (home.package_ == n) (text_eq home.name name) e) in
+            let package_ : home.identity ≡ identity = same-some home.identity identity (sym home.stands ∙ (ap (slice_get h.packages) number ∙ there)) in
+            same_text (path_text t p) (path_in identity name) (path_is t p x ∙ ((read_path_is_spelled x.0 home.identity home.name home.reads).spelled ∙ (λ i. path_in (package_ i) (text i))))
+
+  -- ---- members
+
+  -- the path of an interface that is exported
+  exported_path : (m : NumberedMember) (x : Member) → slice_get h.packages m.package_ ≡ Some x.package_ → x.label ≡ m.label → (p : ℕ) (v : NumberedView) (imports : List (ℕ × NumberedView)) (view : View) (views : List (Text × View))
+      → ShowsInterface t h m p v imports view views → path_in x.package_ x.label ≡ path_text t p
+  exported_path m x package_ under p v imports view views is =
+      let home = stand.homes p is.path.0 is.path.1 in
+      let pair : ◌≡◌ {A = ℕ × Text} (home.package_, home.name) (m.package_, m.label) = same-some (home.package_, home.name) (m.package_, m.label) (sym home.home ∙ is.home) in
+      let identity : home.identity ≡ x.package_ = same-some home.identity x.package_ (sym home.stands ∙ (ap (λ (y : ℕ × Text). slice_get h.packages y.0) pair ∙ package_)) in
+      let name : home.name ≡ x.label = ap (λ (y : ℕ × Text). y.1) pair ∙ sym under in
+      sym (path_is t p is.path ∙ ((read_path_is_spelled is.path.0 home.identity home.name home.reads).spelled ∙ (λ i. path_in (identity i) (name i))))
+
+  abbrev imported_sight : Text × View → Sight
+  imported_sight i = record { path = i.0; view = i.1; whole = false }
+
+  part_sights : (m : NumberedMember) (x : Member) → slice_get h.packages m.package_ ≡ Some x.package_ → x.label ≡ m.label → (a : NumberedPart) (b : Part) → ShowsPart t h m a b
+      → reads.sights (record { label = x.label; package_ = x.package_; part = b }) ≡ map (sight_of t) (sights_of_part t a)
+  part_sights m x package_ under (world w) (Part.world scope) is = sights_in_numbers t w scope is
+  part_sights m x package_ under (interface p v imports) (Part.interface view views) is =
+      let front : map imported_sight views ≡ map (sight_of t) (map (λ i. record { place = i.0; view = i.1; whole = false }) imports) =
+      ap (map imported_sight) is.imported
+      ∙ (map_of_map imported_sight (λ (i : ℕ × NumberedView). (path_text t i.0, view_of t i.1)) imports
+      ∙ sym (map_of_map (sight_of t) (λ (i : ℕ × NumberedView). record { place = i.0; view = i.1; whole = false }) imports)) in
+      (λ i. front i ++ record { path = exported_path m x package_ under p v imports view views is i; view = is.shown i; whole = true } ∷ [])
+      ∙ sym (append_of_map (sight_of t) (map (λ (i : ℕ × NumberedView). record { place = i.0; view = i.1; whole = false }) imports) (record { place = p; view = v; whole = true } ∷ []))
+  part_sights m x package_ under (world w) (Part.interface view views) is = absurd is
+  part_sights m x package_ under (interface p v imports) (Part.world scope) is = absurd is
+
+  pub all_sights : (ms : List NumberedMember) (members : List Member) → AllZip (IsMember t h) ms members → flat_map reads.sights members ≡ map (sight_of t) (sights_of_members t ms)
+  all_sights [] [] z = refl
+  all_sights [] (x ∷ members) z = absurd z
+  all_sights (m ∷ ms) [] z = absurd z
+  all_sights (m ∷ ms) (x ∷ members) z =
+      (λ i. part_sights m x z.0.package_ z.0.label m.part x.part z.0.part i ++ all_sights ms members z.1 i) ∙ sym (append_of_map (sight_of t) (sights_of_part t m.part) (sights_of_members t ms))
+
+  -- ---- the rules
+
+  module _ (known : ℕ → Fact) where
+    sight_place : (s : NumberedSight) → IsSight t s → Place.of_interface (path_text t s.place) ≡ place_at t s.place
+    sight_place s x = ap Place.of_interface (path_is t s.place (x.path, x.home)) ∙ sym (ap place_of x.home)
+
+    pub interfaces_same : (seen : List NumberedSight) → AllByRecursion (IsKnownSight t known) seen → reads.are_interfaces (map (sight_of t) seen) ≡ are_interfaces t known seen
+    interfaces_same [] all = refl
+    interfaces_same (s ∷ seen) all =
+        let one = ap (λ place. rules.is_interface place (view_of t s.view)) (sight_place s all.0.0) ∙ interface_same t tables.shapes known s.place s.view all.0.1 in
+        λ i. one i && interfaces_same seen all.1 i
+
+    pub agree_same : (seen : List NumberedSight) → AllByRecursion (IsKnownSight t known) seen → all_agree (map (sight_of t) seen) ≡ agree_in_numbers seen
+    agree_same seen all = all_agree_in_numbers t tables seen (only_sights t known seen all)
+
+    module _ (n : ℕ) (identity : PackageIdentity) (there : slice_get h.packages n ≡ Some identity) where
+      packages_same : (ms : List NumberedMember) (members : List Member) → AllZip (IsMember t h) ms members → list_all (λ x. same_identity identity x.package_) members ≡ list_all (λ m. n == m.package_) ms
+      packages_same [] [] z = refl
+      packages_same [] (x ∷ members) z = absurd z
+      packages_same (m ∷ ms) [] z = absurd z
+      packages_same (m ∷ ms) (x ∷ members) z = λ i. package_number n identity there m.package_ x.package_ z.0.package_ i && packages_same ms members z.1 i
+
+      -- one member is the interface of a place that is seen
+      part_is : (s : NumberedSight) → HasPath t s.place → (m : NumberedMember) (x : Member) → slice_get h.packages m.package_ ≡ Some x.package_ → x.label ≡ m.label → same_identity identity x.package_ ≡ true
+          → (a : NumberedPart) (b : Part) → ShowsPart t h m a b → (is_interface_part b && text_eq (path_text t s.place) (path_in identity x.label)) ≡ is_interface_of s.place a
+      part_is s at m x package_ under same (world w) (Part.world scope) is = refl
+      part_is s at m x package_ under same (interface p v imports) (Part.interface view views) is =
+          ap (text_eq (path_text t s.place)) (ap (λ k. path_in k x.label) ((identities_decide identity x.package_).0 same) ∙ exported_path m x package_ under p v imports view views is)
+          ∙ (path_number t tables s.place p at is.path ∙ flip n identity there p s.place)
+      part_is s at m x package_ under same (world w) (Part.interface view views) is = absurd is
+      part_is s at m x package_ under same (interface p v imports) (Part.world scope) is = absurd is
+
+      one_is : (s : NumberedSight) → HasPath t s.place → (ms : List NumberedMember) (members : List Member) → AllZip (IsMember t h) ms members → list_all (λ x. same_identity identity x.package_) members ≡ true
+          → list_any (λ x. is_interface_part x.part && text_eq (path_text t s.place) (path_in identity x.label)) members ≡ list_any (λ m. is_interface_of s.place m.part) ms
+      one_is s at [] [] z same = refl
+      one_is s at [] (x ∷ members) z same = absurd z
+      one_is s at (m ∷ ms) [] z same = absurd z
+      one_is s at (m ∷ ms) (x ∷ members) z same =
+          let first = first_true (same_identity identity x.package_) (list_all (λ y. same_identity identity y.package_) members) same in
+          let more = second_true (same_identity identity x.package_) (list_all (λ y. same_identity identity y.package_) members) same in
+          λ i. part_is s at m x z.0.package_ z.0.label first m.part x.part z.0.part i || one_is s at ms members z.1 more i
+
+      top_same : (ms : List NumberedMember) (members : List Member) → AllZip (IsMember t h) ms members → list_all (λ x. same_identity identity x.package_) members ≡ true
+          → (seen : List NumberedSight) → AllByRecursion (IsKnownSight t known) seen → list_all (reads.stands_at_top identity members) (map (sight_of t) seen) ≡ list_all (stands_at_top h n ms) seen
+      top_same ms members z same [] all = refl
+      top_same ms members z same (s ∷ seen) all =
+          let at : HasPath t s.place = (all.0.0.path, all.0.0.home) in
+          λ i. (not (of_package n identity there s.place at i) || one_is s at ms members z same i) && top_same ms members z same seen all.1 i
+
+      test_same : (ms : List NumberedMember) (members : List Member) → AllZip (IsMember t h) ms members → (seen : List NumberedSight) → AllByRecursion (IsKnownSight t known) seen
+          → (list_all (λ x. same_identity identity x.package_) members && (list_all (reads.stands_at_top identity members) (map (sight_of t) seen) && (all_agree (map (sight_of t) seen) && reads.are_interfaces (map (sight_of t) seen))))
+          ≡ (list_all (λ m. n == m.package_) ms && (list_all (stands_at_top h n ms) seen && (agree_in_numbers seen && are_interfaces t known seen)))
+      test_same ms members z seen all = by (list_all (λ x. same_identity identity x.package_) members) refl
+        where
+          by : (b : Bool) → list_all (λ x. same_identity identity x.package_) members ≡ b
+              → (list_all (λ x. same_identity identity x.package_) members && (list_all (reads.stands_at_top identity members) (map (sight_of t) seen) && (all_agree (map (sight_of t) seen) && reads.are_interfaces (map (sight_of t) seen))))
+              ≡ (list_all (λ m. n == m.package_) ms && (list_all (stands_at_top h n ms) seen && (agree_in_numbers seen && are_interfaces t known seen)))
+          by true e = λ i. packages_same ms members z i && (top_same ms members z e seen all i && (agree_same seen all i && interfaces_same seen all i))
+          by false e =
+              ap (λ b. b && (list_all (reads.stands_at_top identity members) (map (sight_of t) seen) && (all_agree (map (sight_of t) seen) && reads.are_interfaces (map (sight_of t) seen)))) e
+              ∙ sym (ap (λ b. b && (list_all (stands_at_top h n ms) seen && (agree_in_numbers seen && are_interfaces t known seen))) (sym (packages_same ms members z) ∙ e))
+
+      named_same : (name : Text) → read_path (path_in identity name) ≡ Some (identity, name) → (seen : List NumberedSight) → AllByRecursion (IsKnownSight t known) seen
+          → list_any (λ s. text_eq s.path (path_in identity name)) (map (sight_of t) seen) ≡ list_any (λ s. is_named_in h n name s.place) seen
+      named_same name reads [] all = refl
+      named_same name reads (s ∷ seen) all = λ i. named_in n identity there name reads s.place (all.0.0.path, all.0.0.home) i || named_same name reads seen all.1 i
+
+-- ---- the component type of an interface
+
+filled_same : {A B : Type 0} (f : A → B) (xs : List A) → is_filled (map f xs) ≡ is_filled xs
+filled_same f [] = refl
+filled_same f (x ∷ xs) = refl
+
+provided_map : {A B : Type 0} (f : A → B) (b : Bool) (x : A) → provided b (f x) ≡ option_map f (provided b x)
+provided_map f true x = refl
+provided_map f false x = refl
+
+import_same : (t : Tables) (s : NumberedSeen) → reads.imported_view (seen_of t s) ≡ option_map (shown_view t) (imported_view s)
+import_same t s = by s.shown
+  where
+    by : (x : NumberedShown) → reads.imported_view (record { key = s.key; shown = shown_of t x; external_id = s.external_id }) ≡ option_map (shown_view t) (imported_view (record { key = s.key; shown = x; external_id = s.external_id }))
+    by (instance (path p) v) =
+        ap (λ b. provided (is_none s.external_id && not b) (shown_view t (p, v))) (filled_same (shown_function t) v.functions) ∙ provided_map (shown_view t) (is_none s.external_id && not (is_filled v.functions)) (p, v)
+    by (instance (label l p) v) = refl
+    by (instance (implementing l p) v) = refl
+    by (function n) = refl
+    by (declares d) = refl
+
+imports_same : (t : Tables) (ss : List NumberedSeen) → each reads.imported_view (map (seen_of t) ss) ≡ option_map (map (shown_view t)) (each imported_view ss)
+imports_same t [] = refl
+imports_same t (s ∷ ss) =
+    (λ i. import_same t s i >>= λ y. imports_same t ss i >>= λ ys. Some (y ∷ ys)) ∙ by (imported_view s) (each imported_view ss)
+  where
+    by : (o : Option (ℕ × NumberedView)) (os : Option (List (ℕ × NumberedView)))
+        → (option_map (shown_view t) o >>= λ y. option_map (map (shown_view t)) os >>= λ ys. Some (y ∷ ys)) ≡ option_map (map (shown_view t)) (o >>= λ y. os >>= λ ys. Some (y ∷ ys))
+    by None os = refl
+    by (Some y) None = refl
+    by (Some y) (Some ys) = refl
+
+pub imports_in_numbers : ImportsInNumbers
+imports_in_numbers t w scope shows = ap (each reads.imported_view) shows.imports ∙ imports_same t w.imports
+
+export_same : (t : Tables) (ss : List NumberedSeen) → reads.exported_view (map (seen_of t) ss) ≡ option_map (shown_view t) (exported_view ss)
+export_same t [] = refl
+export_same t (s ∷ r ∷ ss) = refl
+export_same t (s ∷ []) = by s.shown
+  where
+    by : (x : NumberedShown) → reads.exported_view (record { key = s.key; shown = shown_of t x; external_id = s.external_id } ∷ []) ≡ option_map (shown_view t) (exported_view (record { key = s.key; shown = x; external_id = s.external_id } ∷ []))
+    by (instance (path p) v) = provided_map (shown_view t) (is_none s.external_id) (p, v)
+    by (instance (label l p) v) = refl
+    by (instance (implementing l p) v) = refl
+    by (function n) = refl
+    by (declares d) = refl
+
+pub export_in_numbers : ExportInNumbers
+export_in_numbers t w scope shows = ap reads.exported_view shows.exports ∙ export_same t w.exports
+
+-- ---- laws
+
+pub packages_in_numbers : PackagesInNumbers
+packages_in_numbers t tables h stand known n identity there ms members z all =
+    ap (λ test. provided test (package_shown identity members))
+    (ap (λ seen. list_all (λ x. same_identity identity x.package_) members && (list_all (reads.stands_at_top identity members) seen && (all_agree seen && reads.are_interfaces seen))) (all_sights t tables h stand ms members z)
+    ∙ test_same t tables h stand known n identity there ms members z (sights_of_members t ms) all)
+
+pub one_world_in_numbers : OneWorldInNumbers
+one_world_in_numbers t tables h stand known n identity there name reads_ w scope shows all =
+    ap (λ test. provided test (world_shown identity name scope))
+    (ap (λ seen. all_agree seen && (reads.are_interfaces seen && not (list_any (λ s. text_eq s.path (path_in identity name)) seen))) (sights_in_numbers t w scope shows)
+    ∙ λ i. agree_same t tables h stand known (sights_of_scope t w) all i && (interfaces_same t tables h stand known (sights_of_scope t w) all i && not (named_same t tables h stand known n identity there name reads_ (sights_of_scope t w) all i)))

@@ -1,0 +1,263 @@
+-- Each rule of reading on types, functions and interfaces has the same answer in numbers.
+use Rattle.std.proofs.Common.{◌≡◌, refl, sym, ap, subst, ◌∙◌, ℕ, zero, suc, ◌+◌, ◌-◌, ◌<◌, arith, min, Bool, true, false, not, ◌&&◌, ◌||◌, ◌==◌, cond, List, [], ◌∷◌, ◌++◌, map, Option, Some, None, option_map, slice_get, codes}
+use Rattle.std.specs.Prelude.{option_and_then, nat_le}
+use Rattle.std.specs.List.{AllByRecursion, Contains, list_all, list_any}
+use Rattle.std.specs.Option.{option_map_or}
+use Rattle.std.proofs.lemmas.Bool.{eqb-true, eq-eqb, lt-ltb, le-leb, leb-true}
+use Rattle.wit_model.specs.Text.{Text, text_eq}
+use Rattle.wit_model.specs.Names.{is_label, constructor_name, method_name, static_name}
+use Rattle.wit_model.specs.Tree.{Place, Form, Tree, Trees, Declaration, children, deepest, levels}
+use Rattle.wit_model.proofs.Distinct.{either_way}
+use Rattle.wit_model.proofs.Elements.{get-contains}
+use Rattle.wit_model.specs.Meaning.{FunctionMeaning}
+use Rattle.comp_meaning.specs.Follow.{ShownType}
+use Rattle.comp_meaning.specs.Same.{same_place, same_tree, same_trees, same_form}
+use Rattle.comp_meaning.specs.Rules as rules
+use Rattle.comp_meaning.specs.Rules.{are_labels, distinct, form_labels, is_label_behind, most_levels, are_parts, own_name, borrow_name}
+use Rattle.comp_meaning.proofs.SameLaws.{places_decide}
+use Rattle.plan_meaning.specs.Shapes.{Shape, form_code, first_label, named_shape, node_shape, IsTable}
+use Rattle.plan_meaning.specs.NumberedViews.{FunctionShape, Tables, place_at, tree_at, function_at, signature_over, IsPart, AllOf, PartsOf, itself, inside, NumberedType, NumberedFunction, NumberedView, view_of, declaration_of, shown_type, shown_function, TypePasses, FunctionPasses, ViewPasses}
+use Rattle.plan_meaning.specs.NumberedRules.{Fact, most_counted, shape_at, name_in, only_of, held_in, own_sort, borrow_sort, ok_in, is_parameter_type, is_declared_form, is_declared, is_result_type, is_signature, is_name, is_handle, begins_with_self, constructs, is_function_of, is_function, is_type, is_no_part, resources_of, is_interface, IsSeenFrom, IsKnown, EachRuleInNumbers}
+use Rattle.plan_meaning.proofs.Lists.{map_of_map}
+use Rattle.plan_meaning.proofs.ShapeLaws.{PartView, is_primitive, is_name as is_named, is_node, viewed}
+use Rattle.plan_meaning.proofs.Words.{behind}
+
+-- ---- tests
+
+and_true : (b : Bool) → (b && true) ≡ b
+and_true true = refl
+and_true false = refl
+
+and_false : (b : Bool) → (b && false) ≡ false
+and_false true = refl
+and_false false = refl
+
+most_levels_counted : (n : ℕ) → nat_le (min most_counted n) most_levels ≡ nat_le n most_levels
+most_levels_counted n =
+    either_way (nat_le (min most_counted n) most_levels) (nat_le n most_levels)
+    (λ h. let low = leb-true (min most_counted n) most_levels h in le-leb n most_levels (omega (arith, low)))
+    (λ h. let low = leb-true n most_levels h in le-leb (min most_counted n) most_levels (omega (arith, low)))
+
+one_level_more : (n : ℕ) → nat_le (min most_counted (n + 1)) (most_levels + 1) ≡ nat_le n most_levels
+one_level_more n =
+    either_way (nat_le (min most_counted (n + 1)) (most_levels + 1)) (nat_le n most_levels)
+    (λ h. let low = leb-true (min most_counted (n + 1)) (most_levels + 1) h in le-leb n most_levels (omega (arith, low)))
+    (λ h. let low = leb-true n most_levels h in le-leb (min most_counted (n + 1)) (most_levels + 1) (omega (arith, low)))
+
+-- ---- forms by their numbers
+
+own_by_sort : (f : Form) → same_form f Form.own_of ≡ ((form_code f).sort == own_sort)
+own_by_sort Form.own_of = refl
+own_by_sort _ = refl
+
+borrow_by_sort : (f : Form) → same_form f Form.borrow_of ≡ ((form_code f).sort == borrow_sort)
+borrow_by_sort Form.borrow_of = refl
+borrow_by_sort _ = refl
+
+pub no_name : (f : Form) → ((form_code f).sort == 0) ≡ false
+no_name Form.own_of = refl
+no_name _ = refl
+
+-- ---- what stands at a number
+
+pub no_shape : (t : Tables) (k : ℕ) → k < 14 → shape_at t k ≡ None
+no_shape t k small = ap (λ b. option_and_then (slice_get t.shapes) (cond b None (Some (k - 14)))) (lt-ltb k 14 small)
+
+pub shape_there : (t : Tables) (k n : ℕ) (s : Shape) → k ≡ 14 + n → slice_get t.shapes n ≡ Some s → shape_at t k ≡ Some s
+shape_there t k n s is e = ap (shape_at t) is ∙ (ap (option_and_then (slice_get t.shapes)) (behind n) ∙ e)
+
+resources_same : (t : Tables) (xs : List NumberedType) → rules.resources_of (map (shown_type t) xs) ≡ resources_of xs
+resources_same t [] = refl
+resources_same t (x ∷ xs) = by x.declared (resources_same t xs)
+  where
+    by : (d : Option ℕ) → rules.resources_of (map (shown_type t) xs) ≡ resources_of xs
+        → cond (rules.is_resource (declaration_of t d)) (x.name ∷ rules.resources_of (map (shown_type t) xs)) (rules.resources_of (map (shown_type t) xs)) ≡ cond (is_no_part d) (x.name ∷ resources_of xs) (resources_of xs)
+    by None more = ap (λ names. x.name ∷ names) more
+    by (Some k) more = more
+
+module _ (t : Tables) (table : IsTable t.shapes) (known : ℕ → Fact) (p : ℕ) where
+  abbrev here : Place
+  here = place_at t p
+
+  abbrev Known : ℕ → Type 0
+  Known = IsKnown t known p
+
+  -- ---- levels and parts
+
+  parameter_same : (k : ℕ) → Known k → rules.is_parameter_type here (tree_at t k) ≡ is_parameter_type p (known k)
+  parameter_same k h = sym (λ i. h.tells.part i && (ap (λ n. nat_le n most_levels) h.tells.levels ∙ most_levels_counted (levels (tree_at t k))) i)
+
+  form_same : (form : Form) (ts : Trees) (k : ℕ) → Known k → tree_at t k ≡ Tree.node form ts
+      → (are_labels (form_labels form) && are_parts here ts && nat_le (deepest ts) most_levels) ≡ is_declared_form p (known k)
+  form_same form ts k h e =
+      let most : nat_le (known k).levels (most_levels + 1) ≡ nat_le (deepest ts) most_levels = ap (λ n. nat_le n (most_levels + 1)) (h.tells.levels ∙ ap (λ x. min most_counted (levels x)) e) ∙ one_level_more (deepest ts) in
+      λ i. sym (h.tells.labels form ts e) i && sym (h.tells.parts form ts e) i && sym most i
+
+  declared_view : (k : ℕ) → Known k → PartView (place_at t) t.shapes table k (tree_at t k) → rules.is_declared here (declaration_of t (Some k)) ≡ is_declared t known p (Some k)
+  declared_view k h (is_primitive q small e number) =
+      ap (λ x. rules.is_declared here (Declaration.type_ x)) e ∙ sym (ap (λ o. not (option_map_or (λ s. not (s.sort == 0)) o false) || is_declared_form p (known k)) (no_shape t k small))
+  declared_view k h (is_named n q name is there e) =
+      ap (λ x. rules.is_declared here (Declaration.type_ x)) e
+      ∙ sym (ap (λ o. not (option_map_or (λ s. not (s.sort == 0)) o false) || is_declared_form p (known k)) (shape_there t k n (named_shape q name) is there))
+  declared_view k h (is_node n form ks is there e ranges) =
+      ap (λ x. rules.is_declared here (Declaration.type_ x)) e
+      ∙ (form_same form (children (map (tree_at t) ks)) k h e
+      ∙ sym (ap (λ o. not (option_map_or (λ s. not (s.sort == 0)) o false) || is_declared_form p (known k)) (shape_there t k n (node_shape form ks) is there)
+      ∙ ap (λ b. not (not b) || is_declared_form p (known k)) (no_name form)))
+
+  pub declared_same : (d : Option ℕ) → AllOf Known d → rules.is_declared here (declaration_of t d) ≡ is_declared t known p d
+  declared_same None h = refl
+  declared_same (Some k) h = declared_view k h (viewed (place_at t) t.shapes table k h.part)
+
+  -- ---- signatures
+
+  params_same : (ps : List (Text × ℕ)) → AllByRecursion (λ (x : Text × ℕ). Known x.1) ps → list_all (λ (x : Text × Tree). rules.is_parameter_type here x.1) (map (λ (x : Text × ℕ). (x.0, tree_at t x.1)) ps) ≡ list_all (λ (x : Text × ℕ). is_parameter_type p (known x.1)) ps
+  params_same [] h = refl
+  params_same (x ∷ ps) h = λ i. parameter_same x.1 h.0 i && params_same ps h.1 i
+
+  result_same : (r : Option ℕ) → AllOf Known r → rules.is_result_type here (option_map (tree_at t) r) ≡ is_result_type t known p r
+  result_same None h = refl
+  result_same (Some k) h = parameter_same k h
+
+  pub signature_same : (f : FunctionShape) → PartsOf Known f → rules.is_signature here (signature_over (tree_at t) f) ≡ is_signature t known p f
+  signature_same f h = λ i. are_labels (map_of_map (λ (x : Text × Tree). x.0) (λ (x : Text × ℕ). (x.0, tree_at t x.1)) f.params i) && params_same f.params h.0 i && result_same f.result h.1 i
+
+  -- ---- resources
+
+  module _ (resource : Text) where
+    abbrev itself_named : Tree
+    itself_named = Tree.named here resource
+
+    place_number : (q : ℕ) → (place_at t q ≡ here → q ≡ p) → same_place (place_at t q) here ≡ (q == p)
+    place_number q one = either_way (same_place (place_at t q) here) (q == p) (λ h. eq-eqb q p (one ((places_decide (place_at t q) here).0 h))) (λ h. (places_decide (place_at t q) here).1 (ap (place_at t) (eqb-true q p h)))
+
+    name_view : (k : ℕ) → IsSeenFrom t p k → PartView (place_at t) t.shapes table k (tree_at t k) → same_tree (tree_at t k) itself_named ≡ is_name t known p resource k
+    name_view k seen (is_primitive q small e number) =
+        ap (λ x. same_tree x itself_named) e ∙ sym (ap (λ o. option_map_or (λ (x : ℕ × Text). x.0 == p && text_eq x.1 resource) (option_and_then name_in o) false) (no_shape t k small))
+    name_view k seen (is_named n q name is there e) =
+        ap (λ x. same_tree x itself_named) e
+        ∙ (ap (λ b. b && text_eq name resource) (place_number q (seen q (itself k n q name is there)))
+        ∙ sym (ap (λ o. option_map_or (λ (x : ℕ × Text). x.0 == p && text_eq x.1 resource) (option_and_then name_in o) false) (shape_there t k n (named_shape q name) is there)))
+    name_view k seen (is_node n form ks is there e ranges) =
+        ap (λ x. same_tree x itself_named) e
+        ∙ sym (ap (λ o. option_map_or (λ (x : ℕ × Text). x.0 == p && text_eq x.1 resource) (option_and_then name_in o) false) (shape_there t k n (node_shape form ks) is there)
+        ∙ ap (λ b. option_map_or (λ (x : ℕ × Text). x.0 == p && text_eq x.1 resource) (cond b (Some ((form_code form).number, first_label (form_code form).labels)) None) false) (no_name form))
+
+    name_same : (k : ℕ) → IsPart t k → IsSeenFrom t p k → same_tree (tree_at t k) itself_named ≡ is_name t known p resource k
+    name_same k part seen = name_view k seen (viewed (place_at t) t.shapes table k part)
+
+    only_same : (ks : List ℕ) → AllByRecursion (IsPart t) ks → ((m : ℕ) → Contains ks m → IsSeenFrom t p m)
+        → same_trees (children (map (tree_at t) ks)) (Trees.child itself_named Trees.no_children) ≡ option_map_or (is_name t known p resource) (only_of ks) false
+    only_same [] parts seen = refl
+    only_same (k ∷ []) parts seen = and_true (same_tree (tree_at t k) itself_named) ∙ name_same k parts.0 (seen k (get-contains (k ∷ []) 0 k refl))
+    only_same (k ∷ l ∷ ks) parts seen = and_false (same_tree (tree_at t k) itself_named)
+
+    module _ (handle : Form) (sort : ℕ) (by_sort : (f : Form) → same_form f handle ≡ ((form_code f).sort == sort)) (not_name : (0 == sort) ≡ false) where
+      abbrev handle_tree : Tree
+      handle_tree = Tree.node handle (Trees.child itself_named Trees.no_children)
+
+      handle_cases : (a b : Bool) (x : Bool) (o : Option ℕ) → a ≡ b → x ≡ option_map_or (is_name t known p resource) o false → (a && x) ≡ option_map_or (is_name t known p resource) (cond b o None) false
+      handle_cases true true x o e h = h
+      handle_cases true false x o e h = absurd cc
+      handle_cases false true x o e h = absurd cc
+      handle_cases false false x o e h = refl
+
+      handle_view : (k : ℕ) → IsSeenFrom t p k → PartView (place_at t) t.shapes table k (tree_at t k) → same_tree (tree_at t k) handle_tree ≡ is_handle t known p sort resource k
+      handle_view k seen (is_primitive q small e number) =
+          ap (λ x. same_tree x handle_tree) e ∙ sym (ap (λ o. option_map_or (is_name t known p resource) (option_and_then (held_in sort) o) false) (no_shape t k small))
+      handle_view k seen (is_named n q name is there e) =
+          ap (λ x. same_tree x handle_tree) e
+          ∙ sym (ap (λ o. option_map_or (is_name t known p resource) (option_and_then (held_in sort) o) false) (shape_there t k n (named_shape q name) is there)
+          ∙ ap (λ b. option_map_or (is_name t known p resource) (cond b None None) false) not_name)
+      handle_view k seen (is_node n form ks is there e ranges) =
+          ap (λ x. same_tree x handle_tree) e
+          ∙ (handle_cases (same_form form handle) ((form_code form).sort == sort) (same_trees (children (map (tree_at t) ks)) (Trees.child itself_named Trees.no_children)) (only_of ks) (by_sort form)
+          (only_same ks ranges (λ m c q h. seen q (inside k n m q form ks is there c h)))
+          ∙ sym (ap (λ o. option_map_or (is_name t known p resource) (option_and_then (held_in sort) o) false) (shape_there t k n (node_shape form ks) is there)))
+
+      handle_same : (k : ℕ) → IsPart t k → IsSeenFrom t p k → same_tree (tree_at t k) handle_tree ≡ is_handle t known p sort resource k
+      handle_same k part seen = handle_view k seen (viewed (place_at t) t.shapes table k part)
+
+    own_same : (k : ℕ) → IsPart t k → IsSeenFrom t p k → same_tree (tree_at t k) (own_name here resource) ≡ is_handle t known p own_sort resource k
+    own_same k part seen = handle_same Form.own_of own_sort own_by_sort refl k part seen
+
+    borrow_same : (k : ℕ) → IsPart t k → IsSeenFrom t p k → same_tree (tree_at t k) (borrow_name here resource) ≡ is_handle t known p borrow_sort resource k
+    borrow_same k part seen = handle_same Form.borrow_of borrow_sort borrow_by_sort refl k part seen
+
+    begins_same : (ps : List (Text × ℕ)) → AllByRecursion (λ (x : Text × ℕ). Known x.1) ps → rules.begins_with_self (borrow_name here resource) (map (λ x. (x.0, tree_at t x.1)) ps) ≡ begins_with_self t known p resource ps
+    begins_same [] h = refl
+    begins_same (x ∷ ps) h = ap (λ b. text_eq x.0 (codes "self") && b) (borrow_same x.1 h.0.part h.0.seen)
+
+    -- ---- constructors
+
+    ok_same : (form : Form) (ks : List ℕ) (whole : Bool) → ((m : ℕ) → Contains ks m → same_tree (tree_at t m) (own_name here resource) ≡ is_handle t known p own_sort resource m)
+        → same_tree (Tree.node form (children (map (tree_at t) ks))) (own_name here resource) ≡ whole
+        → rules.constructs (own_name here resource) (Some (Tree.node form (children (map (tree_at t) ks)))) ≡ option_map_or (is_handle t known p own_sort resource) (ok_in (node_shape form ks)) whole
+    ok_same (Form.result_of true true) [] whole each e = e
+    ok_same (Form.result_of true false) [] whole each e = e
+    ok_same (Form.result_of true true) (m ∷ ks) whole each e = each m (get-contains (m ∷ ks) 0 m refl)
+    ok_same (Form.result_of true false) (m ∷ ks) whole each e = each m (get-contains (m ∷ ks) 0 m refl)
+    ok_same (Form.result_of false true) ks whole each e = e
+    ok_same (Form.result_of false false) ks whole each e = e
+    ok_same _ ks whole each e = e
+
+    in_range : (ks : List ℕ) → AllByRecursion (IsPart t) ks → (m : ℕ) → Contains ks m → IsPart t m
+    in_range [] all m (i, low, e) = absurd (omega (arith, low))
+    in_range (k ∷ ks) all m (zero, low, e) = subst (IsPart t) e all.0
+    in_range (k ∷ ks) all m (suc i, low, e) = in_range ks all.1 m (i, omega (arith, low), e)
+
+    constructs_view : (k : ℕ) → Known k → PartView (place_at t) t.shapes table k (tree_at t k) → rules.constructs (own_name here resource) (Some (tree_at t k)) ≡ constructs t known p resource (Some k)
+    constructs_view k h (is_primitive q small e number) =
+        ap (λ x. rules.constructs (own_name here resource) (Some x)) e
+        ∙ (sym (ap (λ x. same_tree x (own_name here resource)) e)
+        ∙ (own_same k h.part h.seen ∙ sym (ap (λ o. option_map_or (is_handle t known p own_sort resource) (option_and_then ok_in o) (is_handle t known p own_sort resource k)) (no_shape t k small))))
+    constructs_view k h (is_named n q name is there e) =
+        ap (λ x. rules.constructs (own_name here resource) (Some x)) e
+        ∙ (sym (ap (λ x. same_tree x (own_name here resource)) e)
+        ∙ (own_same k h.part h.seen
+        ∙ sym (ap (λ o. option_map_or (is_handle t known p own_sort resource) (option_and_then ok_in o) (is_handle t known p own_sort resource k)) (shape_there t k n (named_shape q name) is there))))
+    constructs_view k h (is_node n form ks is there e ranges) =
+        ap (λ x. rules.constructs (own_name here resource) (Some x)) e
+        ∙ (ok_same form ks (is_handle t known p own_sort resource k)
+        (λ m c. own_same m (in_range ks ranges m c) (λ q x. h.seen q (inside k n m q form ks is there c x)))
+        (sym (ap (λ x. same_tree x (own_name here resource)) e) ∙ own_same k h.part h.seen)
+        ∙ sym (ap (λ o. option_map_or (is_handle t known p own_sort resource) (option_and_then ok_in o) (is_handle t known p own_sort resource k)) (shape_there t k n (node_shape form ks) is there)))
+
+    constructs_same : (r : Option ℕ) → AllOf Known r → rules.constructs (own_name here resource) (option_map (tree_at t) r) ≡ constructs t known p resource r
+    constructs_same None h = refl
+    constructs_same (Some k) h = constructs_view k h (viewed (place_at t) t.shapes table k h.part)
+
+    function_of_same : (name : Text) (f : FunctionShape) → PartsOf Known f → rules.is_function_of here name (signature_over (tree_at t) f) resource ≡ is_function_of t known p name f resource
+    function_of_same name f h =
+        λ i. (text_eq name (constructor_name resource) && not f.is_async && constructs_same f.result h.1 i)
+        || (is_label_behind (method_name resource []) name && begins_same f.params h.0 i)
+        || is_label_behind (static_name resource []) name
+
+  pub function_same : (resources : List Text) (name : Text) (f : FunctionShape) → PartsOf Known f → rules.is_function here resources name (signature_over (tree_at t) f) ≡ is_function t known p resources name f
+  function_same resources name f h = λ i. signature_same f h i && (is_label name || list_any (λ r. function_of_same r name f h i) resources)
+
+  -- ---- interfaces
+
+  type_same : (xs : List NumberedType) → AllByRecursion (TypePasses Known) xs → list_all (λ x. is_label x.name && rules.is_declared here x.meaning.declaration) (map (shown_type t) xs) ≡ list_all (is_type t known p) xs
+  type_same [] h = refl
+  type_same (x ∷ xs) h = λ i. (is_label x.name && declared_same x.declared h.0 i) && type_same xs h.1 i
+
+  functions_same : (resources : List Text) (fs : List (Text × NumberedFunction)) → AllByRecursion (FunctionPasses t Known) fs
+      → list_all (λ f. rules.is_function here resources f.0 f.1.signature) (map (shown_function t) fs) ≡ list_all (λ f. is_function t known p resources f.0 (function_at t f.1.signature)) fs
+  functions_same resources [] h = refl
+  functions_same resources (f ∷ fs) h = λ i. function_same resources f.0 (function_at t f.1.signature) h.0.1 i && functions_same resources fs h.1 i
+
+  pub interface_same : (v : NumberedView) → ViewPasses t Known v → rules.is_interface here (view_of t v) ≡ is_interface t known p v
+  interface_same v h =
+      let names : (map (λ x. x.name) (map (shown_type t) v.types) ++ map (λ f. f.0) (map (shown_function t) v.functions)) ≡ (map (λ x. x.name) v.types ++ map (λ f. f.0) v.functions) =
+      λ i. map_of_map (λ (x : ShownType). x.name) (shown_type t) v.types i ++ map_of_map (λ (f : Text × FunctionMeaning). f.0) (shown_function t) v.functions i in
+      let functions = ap (λ resources. list_all (λ f. rules.is_function here resources f.0 f.1.signature) (map (shown_function t) v.functions)) (resources_same t v.types) ∙ functions_same (resources_of v.types) v.functions h.functions in
+      λ i. type_same v.types h.types i && functions i && distinct (names i)
+
+pub each_rule_in_numbers : EachRuleInNumbers
+each_rule_in_numbers t table known p = record {
+  declared = declared_same t table known p;
+  signature = signature_same t table known p;
+  function = function_same t table known p;
+  interface = interface_same t table known p;
+}

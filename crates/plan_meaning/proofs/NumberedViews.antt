@@ -1,0 +1,225 @@
+-- Equal numbers are equal trees and equal types of functions, so views agree where their numbers do.
+use Rattle.std.proofs.Common.{◌≡◌, refl, sym, ap, ◌∙◌, ℕ, ◌<◌, Bool, true, false, not, ◌&&◌, ◌||◌, ◌==◌, cond, List, [], ◌∷◌, ◌++◌, length, map, Option, Some, None, option_map, unwrap_or, slice_get}
+use Rattle.std.specs.List.{AllByRecursion, list_all, list_any, find}
+use Rattle.std.specs.Option.{option_map_or}
+use Rattle.std.specs.Cmp.Lexicographic.{pointwise}
+use Rattle.std.proofs.lemmas.Bool.{eqb-true, eq-eqb}
+use Rattle.wit_model.specs.Text.{Text, text_eq}
+use Rattle.wit_model.specs.Tree.{Place, Tree}
+use Rattle.wit_model.specs.Meaning.{Signature}
+use Rattle.wit_model.proofs.Distinct.{either_way}
+use Rattle.wit_model.proofs.VersionLaws.{same_text, text_same}
+use Rattle.comp_meaning.specs.Follow.{place_of}
+use Rattle.comp_meaning.specs.Same.{same_option, same_tree, same_declaration, same_type, same_signature, stand_in}
+use Rattle.comp_meaning.specs.Same as same
+use Rattle.comp_meaning.specs.Reads.{Sight, all_agree}
+use Rattle.comp_meaning.specs.Reads as reads
+use Rattle.comp_meaning.specs.Agreement.{first_of, first_whole, agree_with_first}
+use Rattle.comp_meaning.specs.Agreement as agreement
+use Rattle.comp_meaning.proofs.SameLaws.{trees_decide, signatures_decide}
+use Rattle.plan_meaning.specs.NumberedViews.{FunctionShape, Tables, path_at, path_text, place_at, tree_at, signature_over, function_at, no_function, signature_at, IsPart, AllOf, PartsOf, AreTables, AreApart, IsOutside, NumberedType, NumberedFunction, declaration_of, shown_type, shown_function, NumberedSight, sight_of, same_number, same_shown, same_function, same_functions, same_types, same_whole, agree, agree_in_numbers, first_at, first_whole_at, agrees_with_first, agree_with_first_in_numbers, TypePasses, FunctionPasses, IsOutsidePart, IsSight, NumbersTell, EachNumberTells, ViewsAgreeInNumbers, FirstViewsAgreeInNumbers}
+use Rattle.plan_meaning.proofs.Lists.{length_of_map, append_of_map}
+use Rattle.plan_meaning.proofs.ShapeLaws.{one_number_apart, slice_there}
+
+path_is : (o p : Option Text) (x y : Text) → o ≡ Some x → p ≡ Some y → place_of o ≡ place_of p → o ≡ p
+path_is o p x y eo ep h =
+    let places : Place.of_interface x ≡ Place.of_interface y = sym (ap place_of eo) ∙ (h ∙ ap place_of ep) in
+    let texts : x ≡ y = cc in
+    eo ∙ (ap Some texts ∙ sym ep)
+
+both_parts : (P Q : ℕ → Type 0) (f : FunctionShape) → PartsOf P f → PartsOf Q f → PartsOf (λ k. P k × Q k) f
+both_parts P Q f h g = (along f.params h.0 g.0, given f.result h.1 g.1)
+  where
+    along : (ps : List (Text × ℕ)) → AllByRecursion (λ (p : Text × ℕ). P p.1) ps → AllByRecursion (λ (p : Text × ℕ). Q p.1) ps → AllByRecursion (λ (p : Text × ℕ). P p.1 × Q p.1) ps
+    along [] a b = tt
+    along (p ∷ ps) a b = ((a.0, b.0), along ps a.1 b.1)
+
+    given : (o : Option ℕ) → AllOf P o → AllOf Q o → AllOf (λ k. P k × Q k) o
+    given None a b = tt
+    given (Some k) a b = (a, b)
+
+module _ (t : Tables) (tables : AreTables t) where
+  -- ---- numbers and trees
+
+  outside_apart : (a b : ℕ) → IsOutside t a → IsOutside t b → AreApart (place_at t) t.shapes a b
+  outside_apart a b ha hb p q hp hq e =
+      let first = ha p hp in
+      let second = hb q hq in
+      let same_path = path_is (path_at t p) (path_at t q) first.0 second.0 first.1 second.1 e in
+      tables.paths p q second.0 (same_path ∙ second.1) second.1
+
+  tree_number : (a b : ℕ) → IsPart t a → IsPart t b → AreApart (place_at t) t.shapes a b → same_tree (tree_at t a) (tree_at t b) ≡ (a == b)
+  tree_number a b ha hb apart =
+      either_way (same_tree (tree_at t a) (tree_at t b)) (a == b)
+      (λ h. eq-eqb a b (one_number_apart (place_at t) t.shapes tables.shapes a b ha hb apart ((trees_decide (tree_at t a) (tree_at t b)).0 h)))
+      (λ h. (trees_decide (tree_at t a) (tree_at t b)).1 (ap (tree_at t) (eqb-true a b h)))
+
+  one_outside : (a b : ℕ) → IsOutsidePart t a → IsOutsidePart t b → tree_at t a ≡ tree_at t b → a ≡ b
+  one_outside a b ha hb e = one_number_apart (place_at t) t.shapes tables.shapes a b ha.0 hb.0 (outside_apart a b ha.1 hb.1) e
+
+  outside_number : (a b : ℕ) → IsOutsidePart t a → IsOutsidePart t b → same_tree (tree_at t a) (tree_at t b) ≡ (a == b)
+  outside_number a b ha hb = tree_number a b ha.0 hb.0 (outside_apart a b ha.1 hb.1)
+
+  -- ---- numbers and types of functions
+
+  abbrev param_tree : Text × ℕ → Text × Tree
+  param_tree p = (p.0, tree_at t p.1)
+
+  one_params : (ps qs : List (Text × ℕ)) → AllByRecursion (λ (p : Text × ℕ). IsOutsidePart t p.1) ps → AllByRecursion (λ (p : Text × ℕ). IsOutsidePart t p.1) qs → map param_tree ps ≡ map param_tree qs → ps ≡ qs
+  one_params [] [] hp hq e = refl
+  one_params [] (q ∷ qs) hp hq e = absurd cc
+  one_params (p ∷ ps) [] hp hq e = absurd cc
+  one_params (p ∷ ps) (q ∷ qs) hp hq e =
+      let head : param_tree p ≡ param_tree q = cc in
+      let rest : map param_tree ps ≡ map param_tree qs = cc in
+      let names : p.0 ≡ q.0 = ap (λ (x : Text × Tree). x.0) head in
+      let numbers : p.1 ≡ q.1 = one_outside p.1 q.1 hp.0 hq.0 (ap (λ (x : Text × Tree). x.1) head) in
+      let more : ps ≡ qs = one_params ps qs hp.1 hq.1 rest in
+      λ i. (names i, numbers i) ∷ more i
+
+  one_result : (a b : Option ℕ) → AllOf (IsOutsidePart t) a → AllOf (IsOutsidePart t) b → option_map (tree_at t) a ≡ option_map (tree_at t) b → a ≡ b
+  one_result None None ha hb e = refl
+  one_result None (Some b) ha hb e = absurd cc
+  one_result (Some a) None ha hb e = absurd cc
+  one_result (Some a) (Some b) ha hb e = let trees : tree_at t a ≡ tree_at t b = cc in ap Some (one_outside a b ha hb trees)
+
+  one_function : (f g : FunctionShape) → PartsOf (IsOutsidePart t) f → PartsOf (IsOutsidePart t) g → signature_over (tree_at t) f ≡ signature_over (tree_at t) g → f ≡ g
+  one_function f g hf hg e =
+      let params = one_params f.params g.params hf.0 hg.0 (ap (λ (s : Signature). s.params) e) in
+      let results = one_result f.result g.result hf.1 hg.1 (ap (λ (s : Signature). s.result) e) in
+      let waits = ap (λ (s : Signature). s.is_async) e in
+      λ i. record { is_async = waits i; params = params i; result = results i }
+
+  function_there : (n : ℕ) → n < length t.functions → slice_get t.functions n ≡ Some (function_at t n)
+  function_there n h = let found = slice_there t.functions n h in found.1 ∙ ap Some (sym (ap (λ o. unwrap_or o no_function) found.1))
+
+  function_number : (m n : ℕ) → m < length t.functions → n < length t.functions → PartsOf (IsOutsidePart t) (function_at t m) → PartsOf (IsOutsidePart t) (function_at t n)
+      → same_signature (signature_at t m) (signature_at t n) ≡ (m == n)
+  function_number m n hm hn pm pn =
+      either_way (same_signature (signature_at t m) (signature_at t n)) (m == n)
+      (λ h.
+      let shapes : function_at t m ≡ function_at t n = one_function (function_at t m) (function_at t n) pm pn ((signatures_decide (signature_at t m) (signature_at t n)).0 h) in
+      eq-eqb m n (tables.apart m n (function_at t n) (function_there m hm ∙ ap Some shapes) (function_there n hn)))
+      (λ h. (signatures_decide (signature_at t m) (signature_at t n)).1 (ap (signature_at t) (eqb-true m n h)))
+
+  inside_table : (n : ℕ) → n < length t.functions → PartsOf (IsOutside t) (function_at t n) → PartsOf (IsOutsidePart t) (function_at t n)
+  inside_table n h outside = both_parts (IsPart t) (IsOutside t) (function_at t n) (tables.functions n (function_at t n) (function_there n h)) outside
+
+  pub numbers_tell : NumbersTell t
+  numbers_tell = record { trees = tree_number; signatures = λ m n hm hn pm pn. function_number m n hm hn (inside_table m hm pm) (inside_table n hn pn) }
+
+  -- ---- types that are shown
+
+  declared_number : (a b : Option ℕ) → AllOf (IsOutsidePart t) a → AllOf (IsOutsidePart t) b → same_declaration (declaration_of t a) (declaration_of t b) ≡ same_number a b
+  declared_number None None ha hb = refl
+  declared_number None (Some b) ha hb = refl
+  declared_number (Some a) None ha hb = refl
+  declared_number (Some a) (Some b) ha hb = outside_number a b ha hb
+
+  shown_number : (x y : NumberedType) → TypePasses (IsOutsidePart t) x → TypePasses (IsOutsidePart t) y → reads.same_shown (shown_type t x) (shown_type t y) ≡ same_shown x y
+  shown_number x y hx hy = ap (λ b. text_eq x.name y.name && (b && same_option text_eq x.external_id y.external_id)) (declared_number x.declared y.declared hx hy)
+
+  types_numbers : (xs ys : List NumberedType) → AllByRecursion (TypePasses (IsOutsidePart t)) xs → AllByRecursion (TypePasses (IsOutsidePart t)) ys
+      → pointwise reads.same_shown (map (shown_type t) xs) (map (shown_type t) ys) ≡ pointwise same_shown xs ys
+  types_numbers [] [] hx hy = refl
+  types_numbers [] (y ∷ ys) hx hy = refl
+  types_numbers (x ∷ xs) [] hx hy = refl
+  types_numbers (x ∷ xs) (y ∷ ys) hx hy = λ i. shown_number x y hx.0 hy.0 i && types_numbers xs ys hx.1 hy.1 i
+
+  -- ---- functions that are shown
+
+  abbrev Passes : Text × NumberedFunction → Type 0
+  Passes = FunctionPasses t (IsOutsidePart t)
+
+  function_alike : (f g : Text × NumberedFunction) → Passes f → Passes g
+      → (text_eq f.0 g.0 && same.same_function (shown_function t f).1 (shown_function t g).1) ≡ (text_eq f.0 g.0 && same_function f.1 g.1)
+  function_alike f g hf hg = ap (λ b. text_eq f.0 g.0 && (b && same_option text_eq f.1.external_id g.1.external_id)) (function_number f.1.signature g.1.signature hf.0 hg.0 hf.1 hg.1)
+
+  function_found : (f : Text × NumberedFunction) → Passes f → (gs : List (Text × NumberedFunction)) → AllByRecursion Passes gs
+      → list_any (λ y. text_eq f.0 y.0 && same.same_function (shown_function t f).1 y.1) (map (shown_function t) gs) ≡ list_any (λ y. text_eq f.0 y.0 && same_function f.1 y.1) gs
+  function_found f hf [] hg = refl
+  function_found f hf (g ∷ gs) hg = λ i. function_alike f g hf hg.0 i || function_found f hf gs hg.1 i
+
+  functions_stand : (fs gs : List (Text × NumberedFunction)) → AllByRecursion Passes fs → AllByRecursion Passes gs
+      → stand_in same.same_function (map (shown_function t) fs) (map (shown_function t) gs) ≡ stand_in same_function fs gs
+  functions_stand [] gs hf hg = refl
+  functions_stand (f ∷ fs) gs hf hg = λ i. function_found f hf.0 gs hg i && functions_stand fs gs hf.1 hg i
+
+  functions_numbers : (fs gs : List (Text × NumberedFunction)) → AllByRecursion Passes fs → AllByRecursion Passes gs
+      → reads.same_functions (map (shown_function t) fs) (map (shown_function t) gs) ≡ same_functions fs gs
+  functions_numbers fs gs hf hg = λ i. length_of_map (shown_function t) fs i == length_of_map (shown_function t) gs i && functions_stand fs gs hf hg i
+
+  -- ---- views
+
+  path_shown : (s : NumberedSight) (h : IsSight t s) → path_text t s.place ≡ h.path
+  path_shown s h = ap (λ o. unwrap_or o []) h.home
+
+  path_number : (a b : NumberedSight) → IsSight t a → IsSight t b → text_eq (path_text t a.place) (path_text t b.place) ≡ (a.place == b.place)
+  path_number a b ha hb =
+      either_way (text_eq (path_text t a.place) (path_text t b.place)) (a.place == b.place)
+      (λ h.
+      let texts : ha.path ≡ hb.path = sym (path_shown a ha) ∙ (text_same (path_text t a.place) (path_text t b.place) h ∙ path_shown b hb) in
+      eq-eqb a.place b.place (tables.paths a.place b.place hb.path (ha.home ∙ ap Some texts) hb.home))
+      (λ h. same_text (path_text t a.place) (path_text t b.place) (ap (path_text t) (eqb-true a.place b.place h)))
+
+  same_in_types : (a b : NumberedSight) → IsSight t a → IsSight t b → agreement.same_types (sight_of t a) (sight_of t b) ≡ same_types a b
+  same_in_types a b ha hb = types_numbers a.view.types b.view.types ha.parts.types hb.parts.types
+
+  same_in_functions : (a b : NumberedSight) → IsSight t a → IsSight t b → reads.same_functions (sight_of t a).view.functions (sight_of t b).view.functions ≡ same_whole a b
+  same_in_functions a b ha hb = functions_numbers a.view.functions b.view.functions ha.parts.functions hb.parts.functions
+
+  agree_number : (a b : NumberedSight) → IsSight t a → IsSight t b → reads.agree (sight_of t a) (sight_of t b) ≡ agree a b
+  agree_number a b ha hb = λ i. not (path_number a b ha hb i) || (same_in_types a b ha hb i && (not (a.whole && b.whole) || same_in_functions a b ha hb i))
+
+  agree_with : (s : NumberedSight) → IsSight t s → (rest : List NumberedSight) → AllByRecursion (IsSight t) rest → list_all (reads.agree (sight_of t s)) (map (sight_of t) rest) ≡ list_all (agree s) rest
+  agree_with s hs [] h = refl
+  agree_with s hs (x ∷ rest) h = λ i. agree_number s x hs h.0 i && agree_with s hs rest h.1 i
+
+  pub all_agree_in_numbers : (seen : List NumberedSight) → AllByRecursion (IsSight t) seen → all_agree (map (sight_of t) seen) ≡ agree_in_numbers seen
+  all_agree_in_numbers [] h = refl
+  all_agree_in_numbers (s ∷ rest) h = λ i. agree_with s h.0 rest h.1 i && all_agree_in_numbers rest h.1 i
+
+  -- ---- with the first alone
+
+  found_alike : (test : Sight → Bool) (test_in : NumberedSight → Bool) (holds : Sight → Bool) (holds_in : NumberedSight → Bool)
+      → ((f : NumberedSight) → IsSight t f → test (sight_of t f) ≡ test_in f) → ((f : NumberedSight) → IsSight t f → holds (sight_of t f) ≡ holds_in f)
+      → (earlier : List NumberedSight) → AllByRecursion (IsSight t) earlier → option_map_or holds (find test (map (sight_of t) earlier)) true ≡ option_map_or holds_in (find test_in earlier) true
+  found_alike test test_in holds holds_in alike gives [] h = refl
+  found_alike test test_in holds holds_in alike gives (f ∷ earlier) h = by (test (sight_of t f)) (test_in f) (alike f h.0) (found_alike test test_in holds holds_in alike gives earlier h.1)
+    where
+      by : (a b : Bool) → a ≡ b → option_map_or holds (find test (map (sight_of t) earlier)) true ≡ option_map_or holds_in (find test_in earlier) true
+          → option_map_or holds (cond a (Some (sight_of t f)) (find test (map (sight_of t) earlier))) true ≡ option_map_or holds_in (cond b (Some f) (find test_in earlier)) true
+      by true true e more = gives f h.0
+      by true false e more = absurd cc
+      by false true e more = absurd cc
+      by false false e more = more
+
+  first_alike : (earlier : List NumberedSight) (s : NumberedSight) → AllByRecursion (IsSight t) earlier → IsSight t s → agreement.agrees_with_first (map (sight_of t) earlier) (sight_of t s) ≡ agrees_with_first earlier s
+  first_alike earlier s h hs =
+      let types : option_map_or (λ f. agreement.same_types f (sight_of t s)) (first_of (path_text t s.place) (map (sight_of t) earlier)) true ≡ option_map_or (λ f. same_types f s) (first_at s.place earlier) true =
+      found_alike (λ f. text_eq (path_text t s.place) f.path) (λ f. s.place == f.place) (λ f. agreement.same_types f (sight_of t s)) (λ f. same_types f s)
+      (λ f hf. path_number s f hs hf) (λ f hf. same_in_types f s hf hs) earlier h in
+      let functions : option_map_or (λ f. reads.same_functions f.view.functions (sight_of t s).view.functions) (first_whole (path_text t s.place) (map (sight_of t) earlier)) true ≡ option_map_or (λ f. same_whole f s) (first_whole_at s.place earlier) true =
+      found_alike (λ f. text_eq (path_text t s.place) f.path && f.whole) (λ f. s.place == f.place && f.whole) (λ f. reads.same_functions f.view.functions (sight_of t s).view.functions) (λ f. same_whole f s)
+      (λ f hf. ap (λ b. b && f.whole) (path_number s f hs hf)) (λ f hf. same_in_functions f s hf hs) earlier h in
+      λ i. types i && (not s.whole || functions i)
+
+  all_with_one : (earlier : List NumberedSight) (s : NumberedSight) → AllByRecursion (IsSight t) earlier → IsSight t s → AllByRecursion (IsSight t) (earlier ++ s ∷ [])
+  all_with_one [] s h hs = (hs, tt)
+  all_with_one (x ∷ earlier) s h hs = (h.0, all_with_one earlier s h.1 hs)
+
+  pub first_agree_in_numbers : (earlier seen : List NumberedSight) → AllByRecursion (IsSight t) earlier → AllByRecursion (IsSight t) seen
+      → agree_with_first (map (sight_of t) earlier) (map (sight_of t) seen) ≡ agree_with_first_in_numbers earlier seen
+  first_agree_in_numbers earlier [] he h = refl
+  first_agree_in_numbers earlier (s ∷ seen) he h =
+      ap (λ xs. agreement.agrees_with_first (map (sight_of t) earlier) (sight_of t s) && agree_with_first xs (map (sight_of t) seen)) (sym (append_of_map (sight_of t) earlier (s ∷ [])))
+      ∙ λ i. first_alike earlier s he h.0 i && first_agree_in_numbers (earlier ++ s ∷ []) seen (all_with_one earlier s he h.0) h.1 i
+
+pub each_number_tells : EachNumberTells
+each_number_tells t tables = numbers_tell t tables
+
+pub views_agree_in_numbers : ViewsAgreeInNumbers
+views_agree_in_numbers t tables seen h = all_agree_in_numbers t tables seen h
+
+pub first_views_agree_in_numbers : FirstViewsAgreeInNumbers
+first_views_agree_in_numbers t tables seen h = first_agree_in_numbers t tables [] seen tt h

@@ -1,0 +1,319 @@
+-- What uses what, and what a world may have, has the same answer in numbers.
+use Rattle.std.proofs.Common.{◌≡◌, refl, sym, ap, ◌∙◌, ℕ, Bool, true, false, not, ◌&&◌, ◌||◌, ◌==◌, cond, List, [], ◌∷◌, ◌++◌, map, Option, Some, None, unwrap_or}
+use Rattle.std.specs.Prelude.{option_and_then}
+use Rattle.std.specs.List.{AllByRecursion, flat_map, list_all, list_any}
+use Rattle.std.specs.Option.{option_map_or}
+use Rattle.std.proofs.lemmas.Bool.{eqb-true, eq-eqb}
+use Rattle.wit_model.specs.Text.{Text, text_eq}
+use Rattle.wit_model.specs.Names.{is_label}
+use Rattle.wit_model.specs.Tree.{Place, Tree, Declaration}
+use Rattle.wit_model.specs.Uses.{has}
+use Rattle.wit_model.proofs.Distinct.{either_way}
+use Rattle.wit_model.proofs.VersionLaws.{same_text, text_same}
+use Rattle.comp_meaning.specs.Follow.{View, Seen, interface_of, place_of}
+use Rattle.comp_meaning.specs.Rules as rules
+use Rattle.comp_meaning.specs.Rules.{distinct}
+use Rattle.comp_meaning.specs.Reads as reads
+use Rattle.plan_meaning.specs.Shapes.{form_code, first_label, named_shape, node_shape}
+use Rattle.plan_meaning.specs.NumberedViews.{Tables, path_at, path_text, place_at, tree_at, signature_at, function_at, IsPart, AllOf, AreTables, NumberedType, NumberedView, view_of, declaration_of, shown_type, sight_of}
+use Rattle.plan_meaning.specs.NumberedRules.{Fact, name_in, name_at, IsKnown}
+use Rattle.plan_meaning.specs.NumberedWorlds.{NumberedKey, path, label, implementing, place_of_key, key_of, NumberedShown, instance, function, declares, NumberedSeen, shown_of, seen_of, NumberedInstance, instance_of, sights_of_instance, if_outside, used_by, used_by_view, others_than, uses_of, path_seen, stand_earlier, are_reached, are_once, resources_seen, is_resource_seen, is_item, are_imports, HasPath, KeyStands, ItemStands, DeclaresParts, UsesInNumbers, ReachedInNumbers, PathsInNumbers, WorldsInNumbers, SightsInNumbers}
+use Rattle.plan_meaning.proofs.Lists.{map_of_map, append_of_map}
+use Rattle.plan_meaning.proofs.ShapeLaws.{PartView, is_primitive, is_name, is_node, viewed}
+use Rattle.plan_meaning.proofs.NumberedRules.{no_shape, shape_there, no_name, declared_same, function_same, interface_same}
+
+all_in_both : {X : Type 0} (P : X → Type 0) (xs ys : List X) → AllByRecursion P xs → AllByRecursion P ys → AllByRecursion P (xs ++ ys)
+all_in_both P [] ys h k = k
+all_in_both P (x ∷ xs) ys h k = (h.0, all_in_both P xs ys h.1 k)
+
+pub path_is : (t : Tables) (p : ℕ) (h : HasPath t p) → path_text t p ≡ h.0
+path_is t p h = ap (λ o. unwrap_or o []) h.1
+
+module _ (t : Tables) (tables : AreTables t) where
+  -- ---- paths and their numbers
+
+  pub path_number : (p q : ℕ) → HasPath t p → HasPath t q → text_eq (path_text t p) (path_text t q) ≡ (q == p)
+  path_number p q hp hq =
+      either_way (text_eq (path_text t p) (path_text t q)) (q == p)
+      (λ h. let texts : hp.0 ≡ hq.0 = sym (path_is t p hp) ∙ (text_same (path_text t p) (path_text t q) h ∙ path_is t q hq) in eq-eqb q p (tables.paths q p hp.0 (hq.1 ∙ ap Some (sym texts)) hp.1))
+      (λ h. same_text (path_text t p) (path_text t q) (ap (path_text t) (sym (eqb-true q p h))))
+
+  pub has_path : (ps : List ℕ) (p : ℕ) → AllByRecursion (HasPath t) ps → HasPath t p → list_any (text_eq (path_text t p)) (map (path_text t) ps) ≡ has ps p
+  has_path [] p hs h = refl
+  has_path (q ∷ ps) p hs h = λ i. path_number p q h hs.0 i || has_path ps p hs.1 h i
+
+  pub paths_once : (ps : List ℕ) → AllByRecursion (HasPath t) ps → distinct (map (path_text t) ps) ≡ are_once ps
+  paths_once [] hs = refl
+  paths_once (p ∷ ps) hs = λ i. not (has_path ps p hs.1 hs.0 i) && paths_once ps hs.1 i
+
+  -- ---- what a declaration uses
+
+  if_outside_paths : (p : ℕ) → AllByRecursion (HasPath t) (if_outside t p)
+  if_outside_paths p = by (path_at t p) refl
+    where
+      by : (o : Option Text) → path_at t p ≡ o → AllByRecursion (HasPath t) (option_map_or (λ x. p ∷ []) o [])
+      by None e = tt
+      by (Some x) e = ((x, e), tt)
+
+  used_paths : (d : Option ℕ) → AllByRecursion (HasPath t) (used_by t d)
+  used_paths None = tt
+  used_paths (Some k) = by (name_at t k)
+    where
+      by : (o : Option (ℕ × Text)) → AllByRecursion (HasPath t) (option_map_or (λ (x : ℕ × Text). if_outside t x.0) o [])
+      by None = tt
+      by (Some x) = if_outside_paths x.0
+
+  name_used : (q : ℕ) (name : Text) → rules.used_by (Declaration.type_ (Tree.named (place_at t q) name)) ≡ map (path_text t) (if_outside t q)
+  name_used q name = by (path_at t q) refl
+    where
+      by : (o : Option Text) → path_at t q ≡ o → rules.used_by (Declaration.type_ (Tree.named (place_of o) name)) ≡ map (path_text t) (option_map_or (λ x. q ∷ []) o [])
+      by None e = refl
+      by (Some x) e = ap (λ y. y ∷ []) (sym (ap (λ o. unwrap_or o []) e))
+
+  abbrev places_named : Option (ℕ × Text) → List ℕ
+  places_named o = option_map_or (λ (x : ℕ × Text). if_outside t x.0) o []
+
+  used_view : (k : ℕ) → PartView (place_at t) t.shapes tables.shapes k (tree_at t k) → rules.used_by (Declaration.type_ (tree_at t k)) ≡ map (path_text t) (used_by t (Some k))
+  used_view k (is_primitive q small e number) =
+      ap (λ x. rules.used_by (Declaration.type_ x)) e ∙ sym (ap (λ o. map (path_text t) (places_named (option_and_then name_in o))) (no_shape t k small))
+  used_view k (is_name n q name is there e) =
+      ap (λ x. rules.used_by (Declaration.type_ x)) e
+      ∙ (name_used q name ∙ sym (ap (λ o. map (path_text t) (places_named (option_and_then name_in o))) (shape_there t k n (named_shape q name) is there)))
+  used_view k (is_node n form ks is there e ranges) =
+      ap (λ x. rules.used_by (Declaration.type_ x)) e
+      ∙ sym (ap (λ o. map (path_text t) (places_named (option_and_then name_in o))) (shape_there t k n (node_shape form ks) is there)
+      ∙ ap (λ b. map (path_text t) (places_named (cond b (Some ((form_code form).number, first_label (form_code form).labels)) None))) (no_name form))
+
+  used_same : (d : Option ℕ) → AllOf (IsPart t) d → rules.used_by (declaration_of t d) ≡ map (path_text t) (used_by t d)
+  used_same None h = refl
+  used_same (Some k) h = used_view k (viewed (place_at t) t.shapes tables.shapes k h)
+
+  -- ---- what a view uses
+
+  used_by_types : (xs : List NumberedType) → AllByRecursion (λ (x : NumberedType). AllOf (IsPart t) x.declared) xs
+      → flat_map (λ x. rules.used_by x.meaning.declaration) (map (shown_type t) xs) ≡ map (path_text t) (flat_map (λ x. used_by t x.declared) xs)
+  used_by_types [] h = refl
+  used_by_types (x ∷ xs) h = (λ i. used_same x.declared h.0 i ++ used_by_types xs h.1 i) ∙ sym (append_of_map (path_text t) (used_by t x.declared) (flat_map (λ y. used_by t y.declared) xs))
+
+  pub view_uses : (v : NumberedView) → DeclaresParts t v → rules.used_by_view (view_of t v) ≡ map (path_text t) (used_by_view t v)
+  view_uses v h = used_by_types v.types h
+
+  types_paths : (xs : List NumberedType) → AllByRecursion (HasPath t) (flat_map (λ x. used_by t x.declared) xs)
+  types_paths [] = tt
+  types_paths (x ∷ xs) = all_in_both (HasPath t) (used_by t x.declared) (flat_map (λ y. used_by t y.declared) xs) (used_paths x.declared) (types_paths xs)
+
+  pub view_paths : (v : NumberedView) → AllByRecursion (HasPath t) (used_by_view t v)
+  view_paths v = types_paths v.types
+
+  -- ---- others than the own
+
+  others_paths : (own : ℕ) (ps : List ℕ) → AllByRecursion (HasPath t) ps → AllByRecursion (HasPath t) (others_than own ps)
+  others_paths own [] hs = tt
+  others_paths own (p ∷ ps) hs = by (p == own) (others_paths own ps hs.1)
+    where
+      by : (b : Bool) → AllByRecursion (HasPath t) (others_than own ps) → AllByRecursion (HasPath t) (cond b (others_than own ps) (p ∷ others_than own ps))
+      by true more = more
+      by false more = (hs.0, more)
+
+  others_of_path : (own : ℕ) (h : HasPath t own) (ps : List ℕ) → AllByRecursion (HasPath t) ps → rules.others_than (Some (path_text t own)) (map (path_text t) ps) ≡ map (path_text t) (others_than own ps)
+  others_of_path own h [] hs = refl
+  others_of_path own h (p ∷ ps) hs = by (text_eq (path_text t own) (path_text t p)) (p == own) (path_number own p h hs.0) (others_of_path own h ps hs.1)
+    where
+      by : (a b : Bool) → a ≡ b → rules.others_than (Some (path_text t own)) (map (path_text t) ps) ≡ map (path_text t) (others_than own ps)
+          → cond a (rules.others_than (Some (path_text t own)) (map (path_text t) ps)) (path_text t p ∷ rules.others_than (Some (path_text t own)) (map (path_text t) ps)) ≡ map (path_text t) (cond b (others_than own ps) (p ∷ others_than own ps))
+      by true true e more = more
+      by true false e more = absurd cc
+      by false true e more = absurd cc
+      by false false e more = ap (λ xs. path_text t p ∷ xs) more
+
+  -- a place without a path is none of these
+  others_of_none : (own : ℕ) → path_at t own ≡ None → (ps : List ℕ) → AllByRecursion (HasPath t) ps → ps ≡ others_than own ps
+  others_of_none own none [] hs = refl
+  others_of_none own none (p ∷ ps) hs = by (p == own) refl (others_of_none own none ps hs.1)
+    where
+      by : (b : Bool) → (p == own) ≡ b → ps ≡ others_than own ps → p ∷ ps ≡ cond b (others_than own ps) (p ∷ others_than own ps)
+      by true e more = let wrong : Some hs.0.0 ≡ None = sym hs.0.1 ∙ (ap (path_at t) (eqb-true p own e) ∙ none) in absurd cc
+      by false e more = ap (λ xs. p ∷ xs) more
+
+  others_same : (key : NumberedKey) → KeyStands t key → (ps : List ℕ) → AllByRecursion (HasPath t) ps → rules.others_than (interface_of (key_of t key)) (map (path_text t) ps) ≡ map (path_text t) (others_than (place_of_key key) ps)
+  others_same (path p) h ps hs = others_of_path p h ps hs
+  others_same (label l p) h ps hs = ap (map (path_text t)) (others_of_none p h ps hs)
+  others_same (implementing l p) h ps hs = others_of_path p h ps hs
+
+  -- ---- in order
+
+  -- what an item is over: parts of the table, under a key that stands
+  abbrev ItemIsOver : NumberedShown → Type 0
+  ItemIsOver (instance key v) = KeyStands t key × DeclaresParts t v
+  ItemIsOver (function n) = Unit {0}
+  ItemIsOver (declares d) = AllOf (IsPart t) d
+
+  abbrev AreOver : List NumberedSeen → Type 0
+  AreOver ss = AllByRecursion (λ (s : NumberedSeen). ItemIsOver s.shown) ss
+
+  uses_same : (s : NumberedSeen) → ItemIsOver s.shown → rules.uses (seen_of t s) ≡ map (path_text t) (uses_of t s.shown)
+  uses_same s h = by s.shown h
+    where
+      by : (x : NumberedShown) → ItemIsOver x → rules.uses (record { key = s.key; shown = shown_of t x; external_id = s.external_id }) ≡ map (path_text t) (uses_of t x)
+      by (instance key v) h = ap (rules.others_than (interface_of (key_of t key))) (view_uses v h.1) ∙ others_same key h.0 (used_by_view t v) (view_paths v)
+      by (function n) h = refl
+      by (declares d) h = used_same d h
+
+  uses_paths : (x : NumberedShown) → AllByRecursion (HasPath t) (uses_of t x)
+  uses_paths (instance key v) = others_paths (place_of_key key) (used_by_view t v) (view_paths v)
+  uses_paths (function n) = tt
+  uses_paths (declares d) = used_paths d
+
+  seen_same : (x : NumberedShown) → rules.path_seen (shown_of t x) ≡ map (path_text t) (path_seen x)
+  seen_same (instance (path p) v) = refl
+  seen_same (instance (label l p) v) = refl
+  seen_same (instance (implementing l p) v) = refl
+  seen_same (function n) = refl
+  seen_same (declares d) = refl
+
+  seen_paths : (x : NumberedShown) → ItemIsOver x → AllByRecursion (HasPath t) (path_seen x)
+  seen_paths (instance (path p) v) h = (h.0, tt)
+  seen_paths (instance (label l p) v) h = tt
+  seen_paths (instance (implementing l p) v) h = (h.0, tt)
+  seen_paths (function n) h = tt
+  seen_paths (declares d) h = tt
+
+  all_stand : (earlier ps : List ℕ) → AllByRecursion (HasPath t) earlier → AllByRecursion (HasPath t) ps → list_all (λ x. list_any (text_eq x) (map (path_text t) earlier)) (map (path_text t) ps) ≡ list_all (has earlier) ps
+  all_stand earlier [] he hs = refl
+  all_stand earlier (p ∷ ps) he hs = λ i. has_path earlier p he hs.0 i && all_stand earlier ps he hs.1 i
+
+  pub earlier_same : (earlier : List ℕ) (ss : List NumberedSeen) → AllByRecursion (HasPath t) earlier → AreOver ss → rules.stand_earlier (map (path_text t) earlier) (map (seen_of t) ss) ≡ stand_earlier t earlier ss
+  earlier_same earlier [] he h = refl
+  earlier_same earlier (s ∷ ss) he h =
+      let here : list_all (λ x. list_any (text_eq x) (map (path_text t) earlier)) (rules.uses (seen_of t s)) ≡ list_all (has earlier) (uses_of t s.shown) =
+      ap (list_all (λ x. list_any (text_eq x) (map (path_text t) earlier))) (uses_same s h.0) ∙ all_stand earlier (uses_of t s.shown) he (uses_paths s.shown) in
+      let more : map (path_text t) earlier ++ rules.path_seen (shown_of t s.shown) ≡ map (path_text t) (earlier ++ path_seen s.shown) =
+      ap (λ xs. map (path_text t) earlier ++ xs) (seen_same s.shown) ∙ sym (append_of_map (path_text t) earlier (path_seen s.shown)) in
+      let rest = ap (λ xs. rules.stand_earlier xs (map (seen_of t) ss)) more ∙ earlier_same (earlier ++ path_seen s.shown) ss (all_in_both (HasPath t) earlier (path_seen s.shown) he (seen_paths s.shown h.0)) h.1 in
+      λ i. here i && rest i
+
+  -- ---- reached
+
+  abbrev seen_view : ℕ × NumberedView → Text × View
+  seen_view i = (path_text t i.0, view_of t i.1)
+
+  abbrev IsOver : ℕ × NumberedView → Type 0
+  IsOver i = HasPath t i.0 × DeclaresParts t i.1
+
+  later_uses : (ls : List (ℕ × NumberedView)) → AllByRecursion IsOver ls → flat_map (λ l. rules.used_by_view l.1) (map seen_view ls) ≡ map (path_text t) (flat_map (λ l. used_by_view t l.1) ls)
+  later_uses [] h = refl
+  later_uses (l ∷ ls) h = (λ i. view_uses l.1 h.0.1 i ++ later_uses ls h.1 i) ∙ sym (append_of_map (path_text t) (used_by_view t l.1) (flat_map (λ x. used_by_view t x.1) ls))
+
+  later_paths : (ls : List (ℕ × NumberedView)) → AllByRecursion (HasPath t) (flat_map (λ l. used_by_view t l.1) ls)
+  later_paths [] = tt
+  later_paths (l ∷ ls) = all_in_both (HasPath t) (used_by_view t l.1) (flat_map (λ x. used_by_view t x.1) ls) (view_paths l.1) (later_paths ls)
+
+  pub reached_same : (imports : List (ℕ × NumberedView)) (exported : NumberedView) → AllByRecursion IsOver imports → DeclaresParts t exported
+      → reads.are_reached (map seen_view imports) (view_of t exported) ≡ are_reached t imports exported
+  reached_same [] exported h he = refl
+  reached_same (i ∷ later) exported h he =
+      let all : flat_map (λ l. rules.used_by_view l.1) (map seen_view later) ++ rules.used_by_view (view_of t exported) ≡ map (path_text t) (flat_map (λ l. used_by_view t l.1) later ++ used_by_view t exported) =
+      (λ j. later_uses later h.1 j ++ view_uses exported he j) ∙ sym (append_of_map (path_text t) (flat_map (λ l. used_by_view t l.1) later) (used_by_view t exported)) in
+      let one = ap (list_any (text_eq (path_text t i.0))) all
+      ∙ has_path (flat_map (λ l. used_by_view t l.1) later ++ used_by_view t exported) i.0 (all_in_both (HasPath t) (flat_map (λ l. used_by_view t l.1) later) (used_by_view t exported) (later_paths later) (view_paths exported)) h.0.0 in
+      λ j. one j && reached_same later exported h.1 he j
+
+-- ---- worlds
+
+resources_same : (t : Tables) (ss : List NumberedSeen) → rules.resources_seen (map (seen_of t) ss) ≡ resources_seen ss
+resources_same t [] = refl
+resources_same t (s ∷ ss) = by s.shown (resources_same t ss)
+  where
+    by : (x : NumberedShown) → rules.resources_seen (map (seen_of t) ss) ≡ resources_seen ss
+        → rules.resources_seen (record { key = s.key; shown = shown_of t x; external_id = s.external_id } ∷ map (seen_of t) ss) ≡ cond (is_resource_seen x) (s.key ∷ resources_seen ss) (resources_seen ss)
+    by (instance key v) more = more
+    by (function n) more = more
+    by (declares None) more = ap (λ names. s.key ∷ names) more
+    by (declares (Some k)) more = more
+
+module _ (t : Tables) (tables : AreTables t) (known : ℕ → Fact) (home : ℕ) (alone : path_at t home ≡ None) where
+  key_place : (key : NumberedKey) → KeyStands t key → place_of (interface_of (key_of t key)) ≡ place_at t (place_of_key key)
+  key_place (path p) h = ap place_of (ap Some (path_is t p h) ∙ sym h.1)
+  key_place (label l p) h = sym (ap place_of h)
+  key_place (implementing l p) h = ap place_of (ap Some (path_is t p h) ∙ sym h.1)
+
+  home_is : Place.here ≡ place_at t home
+  home_is = sym (ap place_of alone)
+
+  item_same : (resources : List Text) (key : Text) (x : NumberedShown) → ItemStands t known home x → rules.is_item resources key (shown_of t x) ≡ is_item t known home resources key x
+  item_same resources key (instance k v) h = ap (λ place. rules.is_interface place (view_of t v)) (key_place k h.0) ∙ interface_same t tables.shapes known (place_of_key k) v h.1
+  item_same resources key (function n) h = ap (λ place. rules.is_function place resources key (signature_at t n)) home_is ∙ function_same t tables.shapes known home resources key (function_at t n) h
+  item_same resources key (declares d) h = ap (λ b. is_label key && b) (ap (λ place. rules.is_declared place (declaration_of t d)) home_is ∙ declared_same t tables.shapes known home d h)
+
+  abbrev AllStand : List NumberedSeen → Type 0
+  AllStand ss = AllByRecursion (λ (s : NumberedSeen). ItemStands t known home s.shown) ss
+
+  imports_same : (earlier ss : List NumberedSeen) → AllStand ss → rules.are_imports (map (seen_of t) earlier) (map (seen_of t) ss) ≡ are_imports t known home earlier ss
+  imports_same earlier [] h = refl
+  imports_same earlier (s ∷ ss) h =
+      let one = ap (λ resources. rules.is_item resources s.key (shown_of t s.shown)) (resources_same t earlier) ∙ item_same (resources_seen earlier) s.key s.shown h.0 in
+      let rest = ap (λ xs. rules.are_imports xs (map (seen_of t) ss)) (sym (append_of_map (seen_of t) earlier (s ∷ []))) ∙ imports_same (earlier ++ s ∷ []) ss h.1 in
+      λ i. one i && rest i
+
+  exports_same : (ss : List NumberedSeen) → AllStand ss → list_all (λ s. rules.is_item [] s.key s.shown) (map (seen_of t) ss) ≡ list_all (λ s. is_item t known home [] s.key s.shown) ss
+  exports_same [] h = refl
+  exports_same (s ∷ ss) h = λ i. item_same [] s.key s.shown h.0 i && exports_same ss h.1 i
+
+  types_over : (p : ℕ) (xs : List NumberedType) → AllByRecursion (λ (x : NumberedType). AllOf (IsKnown t known p) x.declared) xs → AllByRecursion (λ (x : NumberedType). AllOf (IsPart t) x.declared) xs
+  types_over p [] h = tt
+  types_over p (x ∷ xs) h = (one x.declared h.0, types_over p xs h.1)
+    where
+      one : (d : Option ℕ) → AllOf (IsKnown t known p) d → AllOf (IsPart t) d
+      one None h = tt
+      one (Some k) h = h.part
+
+  declared_over : (d : Option ℕ) → AllOf (IsKnown t known home) d → AllOf (IsPart t) d
+  declared_over None h = tt
+  declared_over (Some k) h = h.part
+
+  item_over : (x : NumberedShown) → ItemStands t known home x → ItemIsOver t tables x
+  item_over (instance key v) h = (h.0, types_over (place_of_key key) v.types h.1.types)
+  item_over (function n) h = tt
+  item_over (declares d) h = declared_over d h
+
+  all_over : (ss : List NumberedSeen) → AllStand ss → AreOver t tables ss
+  all_over [] h = tt
+  all_over (s ∷ ss) h = (item_over s.shown h.0, all_over ss h.1)
+
+  keys_same : (ss : List NumberedSeen) → distinct (map (λ s. s.key) (map (seen_of t) ss)) ≡ distinct (map (λ s. s.key) ss)
+  keys_same ss = ap distinct (map_of_map (λ (s : Seen). s.key) (seen_of t) ss)
+
+  order_same : (is es : List NumberedSeen) → AllStand is → AllStand es → rules.stand_earlier [] (map (seen_of t) is ++ map (seen_of t) es) ≡ stand_earlier t [] (is ++ es)
+  order_same is es hi he =
+      ap (rules.stand_earlier []) (sym (append_of_map (seen_of t) is es))
+      ∙ earlier_same t tables [] (is ++ es) tt (all_in_both (λ (s : NumberedSeen). ItemIsOver t tables s.shown) is es (all_over is hi) (all_over es he))
+
+pub worlds_in_numbers : WorldsInNumbers
+worlds_in_numbers t tables known w scope h shows =
+    (λ i. rules.are_imports [] (shows.imports i) && list_all (λ s. rules.is_item [] s.key s.shown) (shows.exports i) && distinct (map (λ s. s.key) (shows.imports i)) && distinct (map (λ s. s.key) (shows.exports i))
+    && rules.stand_earlier [] (shows.imports i ++ shows.exports i))
+    ∙ (λ i. imports_same t tables known w.home h.home [] w.imports h.imports i && exports_same t tables known w.home h.home w.exports h.exports i && keys_same t tables known w.home h.home w.imports i && keys_same t tables known w.home h.home w.exports i
+    && order_same t tables known w.home h.home w.imports w.exports h.imports h.exports i)
+
+pub uses_in_numbers : UsesInNumbers
+uses_in_numbers t tables v h = view_uses t tables v h
+
+pub reached_in_numbers : ReachedInNumbers
+reached_in_numbers t tables imports exported h he = reached_same t tables imports exported h he
+
+pub paths_in_numbers : PathsInNumbers
+paths_in_numbers t tables ps hs = paths_once t tables ps hs
+
+pub sights_in_numbers : SightsInNumbers
+sights_in_numbers t w scope shows = ap (flat_map reads.of_instance) shows.instances ∙ along w.instances
+  where
+    one : (i : NumberedInstance) → reads.of_instance (instance_of t i) ≡ map (sight_of t) (sights_of_instance t i)
+    one i = by (path_at t i.place) refl
+      where
+        by : (o : Option Text) → path_at t i.place ≡ o → reads.of_instance (record { interface = o; view = view_of t i.view }) ≡ map (sight_of t) (option_map_or (λ x. record { place = i.place; view = i.view; whole = true } ∷ []) o [])
+        by None e = refl
+        by (Some x) e = ap (λ y. record { path = y; view = view_of t i.view; whole = true } ∷ []) (sym (ap (λ o. unwrap_or o []) e))
+
+    along : (is : List NumberedInstance) → flat_map reads.of_instance (map (instance_of t) is) ≡ map (sight_of t) (flat_map (sights_of_instance t) is)
+    along [] = refl
+    along (i ∷ is) = (λ j. one i j ++ along is j) ∙ sym (append_of_map (sight_of t) (sights_of_instance t i) (flat_map (sights_of_instance t) is))

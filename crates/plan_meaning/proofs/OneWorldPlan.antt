@@ -1,0 +1,92 @@
+-- A worked example: the plan of a package of one world with functions means what its bytes mean, as a package and as a world.
+use Rattle.std.proofs.Common.{◌≡◌, refl, ℕ, [], ◌∷◌, Some, None}
+use Rattle.std.specs.Prelude.{codes}
+use Rattle.wit_model.specs.declared.model.FunctionKind.TheVariants as call
+use Rattle.wit_model.specs.Names.{cut as cut_at}
+use Rattle.wit_model.specs.Text.{Text}
+use Rattle.comp_meaning.proofs.Computing.{computes, one_world, meaning, world_meaning_of}
+use Rattle.plan_meaning.specs.Shapes.{part_tree}
+use Rattle.plan_meaning.specs.Plan.{Plan, PlannedFunction, PlannedInterface, function, label, PlannedWorld, met_in, resource_marks, trees_in, interface_in}
+use Rattle.plan_meaning.specs.PlanMeaning.{plan_meaning, plan_world_meaning}
+use Rattle.plan_meaning.specs.PlanRules.{IsPlan, HoldsNoMore, IsPackagePlan, IsWorldPlan}
+
+abbrev unit_function : Text → PlannedFunction
+unit_function name = record { name = name; kind = call.Freestanding; params = []; result = None; external_id = None }
+
+abbrev foo : PlannedWorld
+foo = record {
+  name = codes "foo";
+  package_ = Some 0;
+  imports = (label (codes "host"), function (unit_function (codes "host"))) ∷ [];
+  exports = (label (codes "guest"), function (unit_function (codes "guest"))) ∷ [];
+}
+
+-- package a:b; world foo { import host: func(); export guest: func(); }
+abbrev one_plan : Plan
+one_plan = record {
+  packages = record { identity = record { namespace = codes "a"; name = codes "b"; version = None }; interfaces = []; worlds = (codes "foo", 0) ∷ [] } ∷ [];
+  interfaces = [];
+  worlds = foo ∷ [];
+  types = [];
+  main = 0;
+}
+
+is_plan : IsPlan one_plan
+unfolding met_in resource_marks trees_in part_tree
+is_plan = record {
+  packages_fit = refl;
+  interfaces_fit = refl;
+  worlds_fit = refl;
+  types_fit = refl;
+  identities = refl;
+  alone = refl;
+  members = refl;
+  members_differ = refl;
+  interfaces_placed = refl;
+  interface_labels = refl;
+  interface_types = refl;
+  types_rise = refl;
+  uses_fall = refl;
+  function_keys = refl;
+  worlds_placed = refl;
+  world_labels = refl;
+  imports_stand = refl;
+  exports_stand = refl;
+  keys_differ = refl;
+  world_types_rise = refl;
+  items_in_order = refl;
+  types_fall = refl;
+  types_listed = refl;
+  type_labels = refl;
+  types_stay = refl;
+  types_shaped = refl;
+  kinds_named = refl;
+  handles = refl;
+  depths = refl;
+  functions_in_range = record { of_interfaces = refl; of_worlds = refl };
+  functions_labelled = record { of_interfaces = refl; of_worlds = refl };
+  functions_stay = record { of_interfaces = refl; of_worlds = refl };
+  functions_take_values = record { of_interfaces = refl; of_worlds = refl };
+  functions_shallow = record { of_interfaces = refl; of_worlds = refl };
+  functions_belong = record { of_interfaces = refl; of_worlds = refl };
+}
+
+no_interface : {A : Type 0} (n : ℕ) (i : PlannedInterface) → interface_in one_plan n ≡ Some i → A
+no_interface n i e = let wrong : ⊥ = cc in absurd wrong
+
+no_more : HoldsNoMore one_plan
+no_more = record { types = refl; packages = refl }
+
+is_package_plan : IsPackagePlan one_plan
+is_package_plan = record { plan = is_plan; no_more = no_more; main = refl; worlds = refl; wanted = λ n i e h. no_interface n i e; bare = λ n i e h hidden. no_interface n i e }
+
+is_world_plan : IsWorldPlan one_plan
+is_world_plan = record { plan = is_plan; no_more = no_more; world = foo; alone = refl; home = refl; shows = λ n i e h. no_interface n i e }
+
+means_package : plan_meaning one_plan ≡ meaning one_world
+unfolding computes meaning cut_at plan_meaning trees_in part_tree
+means_package = refl
+
+means_world : plan_world_meaning one_plan ≡ world_meaning_of one_world
+unfolding computes world_meaning_of cut_at plan_world_meaning trees_in part_tree
+means_world = refl

@@ -1,0 +1,89 @@
+-- What is met from types and functions of an owner belongs to it.
+use Rattle.std.proofs.Common.{◌≡◌, refl, sym, ap, ◌∙◌, ℕ, true, false, ◌&&◌, ◌||◌, not, nat_lt, nat_le, filter_map, Some, is_some}
+use Rattle.std.specs.List.{list_all}
+use Rattle.std.specs.Option.{option_map_or}
+use Rattle.indexmap.specs.IndexMap.{values}
+use Rattle.wit_model.specs.declared.model.Resolve.{Resolve}
+use Rattle.wit_model.specs.declared.model.Interface.{Interface}
+use Rattle.wit_model.specs.declared.model.TypeDef.{TypeDef}
+use Rattle.wit_model.specs.declared.model.TypeOwner.{TypeOwner}
+use Rattle.wit_model.specs.declared.model.TypeOwner.TheVariants as owner
+use Rattle.wit_model.specs.declared.model.Function.{Function}
+use Rattle.wit_model.specs.Text.{optional_text}
+use Rattle.wit_model.specs.Lookup.{interface_at, type_at}
+use Rattle.wit_model.specs.Parts as parts
+use Rattle.wit_model.specs.Parts.{same_owner, used_by_type, met_by, met_of}
+use Rattle.wit_model.specs.Types.{number_of}
+use Rattle.wit_model.specs.Uses as uses
+use Rattle.wit_model.specs.Uses.{owner_interface, alias_target, direct_deps}
+use Rattle.wit_model.specs.Rules as rules
+use Rattle.wit_model.specs.Rules.{each_from}
+use Rattle.wit_model.specs.Valid.{Keeps, owners, as_interface, functions_of_interface}
+use Rattle.wit_model.proofs.Lists.{list_all_filter_map}
+use Rattle.wit_model.proofs.Owners.{used_within}
+use Rattle.wit_model.proofs.Checks.{keeps_three}
+use Rattle.plan_meaning.specs.Plan as plan
+use Rattle.plan_meaning.specs.Plan.{part_number, function_parts, type_in, interface_in}
+use Rattle.plan_meaning.specs.PlanRules as planned
+use Rattle.plan_meaning.specs.PlanRules.{IsPlan}
+use Rattle.plan_meaning.specs.Built.{planned_type, planned_function, planned_interface}
+use Rattle.plan_meaning.proofs.Lists.{get_of_map, or_of_map, same_or, each_two, each_from_built, each_of_map, each_at, each_by_number, both}
+use Rattle.plan_meaning.proofs.Words.{plan_of, alias_is, value_numbers_are, has_owner_is, used_are, used_by_kind_is, interfaces_used_are}
+use Rattle.plan_meaning.proofs.KindRules.{has_text}
+use Rattle.plan_meaning.proofs.FunctionRules.{interfaces_pass, worlds_pass}
+
+module _ (r : Resolve) (m : ℕ) where
+  has_name_is : (n : ℕ) → planned.has_name (plan_of r m) n ≡ option_map_or (λ other. is_some other.name) (interface_at r n) false
+  has_name_is n =
+      ap (λ o. option_map_or (λ i. is_some i.name) o false) (get_of_map planned_interface r.interfaces.items n)
+      ∙ (or_of_map (λ i. is_some i.name) planned_interface false (interface_at r n) ∙ same_or (λ i. is_some (optional_text i.name)) (λ i. is_some i.name) false (λ i. has_text i.name) (interface_at r n))
+
+  other_owner : (o : TypeOwner) (def : TypeDef) → (not (same_owner def.owner o) && option_map_or (planned.has_name (plan_of r m)) (owner_interface def.owner) false)
+      ≡ (not (same_owner def.owner o) && option_map_or (λ i. option_map_or (λ other. is_some other.name) (interface_at r i) false) (owner_interface def.owner) false)
+  other_owner o def = ap (λ b. not (same_owner def.owner o) && b) (same_or (planned.has_name (plan_of r m)) (λ i. option_map_or (λ other. is_some other.name) (interface_at r i) false) false has_name_is (owner_interface def.owner))
+
+  target_is : (o : TypeOwner) (n : ℕ) → option_map_or (λ u. not (same_owner u.owner o) && option_map_or (planned.has_name (plan_of r m)) (owner_interface u.owner) false) (type_in (plan_of r m) n) false
+      ≡ option_map_or (λ target. not (same_owner target.owner o) && option_map_or (λ i. option_map_or (λ other. is_some other.name) (interface_at r i) false) (owner_interface target.owner) false) (type_at r n) false
+  target_is o n =
+      ap (λ x. option_map_or (λ u. not (same_owner u.owner o) && option_map_or (planned.has_name (plan_of r m)) (owner_interface u.owner) false) x false) (get_of_map planned_type r.types.items n)
+      ∙ (or_of_map (λ u. not (same_owner u.owner o) && option_map_or (planned.has_name (plan_of r m)) (owner_interface u.owner) false) planned_type false (type_at r n)
+      ∙ same_or (λ def. not (same_owner def.owner o) && option_map_or (planned.has_name (plan_of r m)) (owner_interface def.owner) false)
+      (λ target. not (same_owner target.owner o) && option_map_or (λ i. option_map_or (λ other. is_some other.name) (interface_at r i) false) (owner_interface target.owner) false) false (other_owner o) (type_at r n))
+
+  use_is : (def : TypeDef) → planned.is_use (plan_of r m) (planned_type def) ≡ rules.is_use r def
+  use_is def =
+      ap (λ o. option_map_or (λ n. option_map_or (λ u. not (same_owner u.owner def.owner) && option_map_or (planned.has_name (plan_of r m)) (owner_interface u.owner) false) (type_in (plan_of r m) n) false) o false) (alias_is def.kind)
+      ∙ same_or (λ n. option_map_or (λ u. not (same_owner u.owner def.owner) && option_map_or (planned.has_name (plan_of r m)) (owner_interface u.owner) false) (type_in (plan_of r m) n) false)
+      (λ n. option_map_or (λ target. not (same_owner target.owner def.owner) && option_map_or (λ i. option_map_or (λ other. is_some other.name) (interface_at r i) false) (owner_interface target.owner) false) (type_at r n) false)
+      false (target_is def.owner) (alias_target def.kind)
+
+  type_stays_is : (def : TypeDef) → planned.type_stays (plan_of r m) (planned_type def) ≡ rules.type_stays r def
+  type_stays_is def =
+      λ i. same_owner def.owner owner.None
+      || (list_all (λ n. has_owner_is r m def.owner n i) (used_by_kind_is r m def.kind i) || (has_text def.name i && use_is def i))
+
+  function_stays_is : (o : TypeOwner) (f : Function) → planned.function_stays (plan_of r m) o (planned_function f) ≡ rules.function_stays r o f
+  function_stays_is o f =
+      ap (λ ns. list_all (plan.has_owner (plan_of r m) o) (plan.used_by_numbers (plan_of r m) ns)) (value_numbers_are f)
+      ∙ (λ i. list_all (λ n. has_owner_is r m o n i) (used_are r m (filter_map number_of (parts.function_types f)) i))
+
+  stays : (o : TypeOwner) (f : Function) → planned.function_stays (plan_of r m) o (planned_function f) ≡ true → rules.function_stays r o f ≡ true
+  stays o f h = sym (function_stays_is o f) ∙ h
+
+  module _ (is : IsPlan (plan_of r m)) where
+    falls : (n : ℕ) (i : Interface) → interface_at r n ≡ Some i → list_all (λ k. nat_lt k n) (direct_deps r n) ≡ true
+    falls n i e =
+        sym (used_within r n i e)
+        ∙ (sym (list_all_filter_map (λ k. nat_le k n) (λ id. uses.interface_used_by r id.0) (values i.types))
+        ∙ (ap (list_all (λ k. nat_le k n)) (sym (interfaces_used_are r m i))
+        ∙ each_at (λ k x. list_all (λ j. nat_le j k) (plan.interfaces_used_by (plan_of r m) (planned_interface x))) r.interfaces.items n i
+        (sym (each_of_map (λ k x. list_all (λ j. nat_le j k) (plan.interfaces_used_by (plan_of r m) x)) planned_interface 0 r.interfaces.items) ∙ is.uses_fall) e))
+
+    pub owners_kept : Keeps owners r
+    unfolding owners
+    owners_kept = keeps_three owners r refl
+        (each_two (λ n i. list_all (rules.function_stays r (as_interface n)) (functions_of_interface i)) (λ n i. list_all (λ k. nat_lt k n) (direct_deps r n)) (λ n i. owners.interface_ r n i) (λ n i a b. both _ _ a b) 0 r.interfaces.items
+        (interfaces_pass r m (planned.function_stays (plan_of r m)) (rules.function_stays r) stays is.functions_stay)
+        (each_by_number (λ n i. list_all (λ k. nat_lt k n) (direct_deps r n)) r.interfaces.items falls))
+        (worlds_pass r m (planned.function_stays (plan_of r m)) (rules.function_stays r) stays is.functions_stay)
+        (each_from_built planned_type (planned.type_stays (plan_of r m)) (rules.type_stays r) (λ def h. sym (type_stays_is def) ∙ h) r.types.items is.types_stay)

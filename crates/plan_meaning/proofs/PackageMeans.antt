@@ -1,0 +1,244 @@
+-- A package that is built from a plan of it means what the plan means.
+use Rattle.std.proofs.Common.{◌≡◌, refl, sym, ap, ◌∙◌, ℕ, Bool, true, false, ◌&&◌, not, ◌==◌, List, [], map, filter_map, option_map, option_and_then, option_to_list, Option, Some, None, unwrap_or, is_some, subst, String}
+use Rattle.std.specs.Prelude.{if◌then◌else◌, ◌↔◌}
+use Rattle.std.specs.List.{Contains, list_any}
+use Rattle.std.specs.Option.{option_map_or}
+use Rattle.std.specs.declared.alloc.Global.{Global}
+use Rattle.std.specs.FinMap.{from_entries}
+use Rattle.wit_model.specs.declared.model.Resolve.{Resolve}
+use Rattle.wit_model.specs.declared.model.Package.{Package}
+use Rattle.wit_model.specs.declared.model.PackageId.{PackageId}
+use Rattle.wit_model.specs.declared.model.Interface.{Interface}
+use Rattle.wit_model.specs.declared.model.InterfaceId.{InterfaceId}
+use Rattle.wit_model.specs.declared.model.WorldId.{WorldId}
+use Rattle.wit_model.specs.Text.{Text, TextMap, text_of, optional_text}
+use Rattle.wit_model.specs.Lookup.{package_at, interface_at, interface_path, path_of_interface, path_in_package, identity_of}
+use Rattle.wit_model.specs.Uses.{has, reached_by_package, is_shown_in}
+use Rattle.wit_model.specs.Meaning.{InterfaceMeaning, WorldMeaning, PackageMeaning}
+use Rattle.wit_model.specs.Meant as meant
+use Rattle.wit_model.specs.Meant.{Meant, interface_meaning_at, types_alone, is_foreign, foreign_of, foreign_meaning, no_interface}
+use Rattle.wit_model.specs.Rules.{is_id, package_number}
+use Rattle.wit_model.specs.Valid.{IsValid}
+use Rattle.wit_model.proofs.Lists.{first_true, second_true}
+use Rattle.wit_model.proofs.Elements.{contains-map, contains-filter_map, contains-one, has-contains, contains-has, get-contains, same-some}
+use Rattle.wit_model.proofs.Maps.{one_map}
+use Rattle.wit_model.proofs.OnePath.{has-path, path-once, some-of}
+use Rattle.plan_meaning.specs.Plan.{Plan, path_of_planned}
+use Rattle.plan_meaning.specs.PlanRules as rules
+use Rattle.plan_meaning.specs.PlanRules.{IsPlan, IsPackagePlan}
+use Rattle.plan_meaning.specs.PlanMeaning as planned
+use Rattle.plan_meaning.specs.PlanMeaning.{plan_meaning, foreign_entry}
+use Rattle.plan_meaning.specs.Built.{IsBuilt, planned_interface, planned_world, planned_package}
+use Rattle.plan_meaning.proofs.Lists.{map_of_map, same_map, get_of_map, any_get, has_filter, filter_has, filter_map_from, map_from, get_back, both, no_true}
+use Rattle.plan_meaning.proofs.Words.{plan_of, path_of_planned_is}
+use Rattle.plan_meaning.proofs.Meanings.{planned_function_entry, meant_function_entry, interface_is, interface_at_is, world_at_is, functions_are}
+use Rattle.plan_meaning.proofs.Reaching.{shown_in, all_reached}
+use Rattle.plan_meaning.proofs.Valid.{plan_is, built_is_valid}
+
+-- ---- the path of an interface that stands there
+
+pub path_there : (r : Resolve) (n : ℕ) (i : Interface) → interface_at r n ≡ Some i → interface_path r n ≡ path_of_interface r i
+path_there r n i e = ap (option_and_then (path_of_interface r)) e
+
+pub meaning_there : (r : Resolve) (n : ℕ) (i : Interface) → interface_at r n ≡ Some i → interface_meaning_at r n ≡ meant.interface_meaning r i
+meaning_there r n i e = ap (λ o. option_map_or (meant.interface_meaning r) o no_interface) e
+
+pub some_path : {A : Type 0} (o : Option Text) (f : Text → A) (x : A) → option_map f o ≡ Some x → (path : Text) × (o ≡ Some path) × (f path ≡ x)
+some_path None f x e = absurd (let wrong : ⊥ = cc in wrong)
+some_path (Some path) f x e = (path, refl, same-some _ _ e)
+
+-- an interface with a path has a name
+pub named : (r : Resolve) (i : Interface) (k : Text) → path_of_interface r i ≡ Some k → is_some (planned_interface i).name ≡ true
+named r i k path = go i.name path
+  where
+    go : (o : Option (String Global)) → option_and_then (λ name. option_and_then (λ q. path_in_package r q.0 (text_of name)) i.package) o ≡ Some k → is_some (optional_text o) ≡ true
+    go None h = absurd (let wrong : ⊥ = cc in wrong)
+    go (Some s) h = refl
+
+module _ (r : Resolve) (m : ℕ) where
+  -- what an interface means, under its path
+  abbrev pub under : Interface → Text → Text × InterfaceMeaning
+  under i path = (path, planned.interface_meaning (plan_of r m) (planned_interface i))
+
+  -- an entry of the plan, and what it is
+  pub record IsEntry (i : Interface) (k : Text) (x : InterfaceMeaning) : Type 0 where
+    pub other : is_id m (package_number i.package) ≡ false
+    pub path : path_of_interface r i ≡ Some k
+    pub means : x ≡ meant.interface_meaning r i
+
+  entry_is : (i : Interface) (k : Text) (x : InterfaceMeaning) → foreign_entry (plan_of r m) (planned_interface i) ≡ Some (k, x) → IsEntry i k x
+  entry_is i k x e = go (is_id m (package_number i.package)) refl e
+    where
+      go : (b : Bool) → is_id m (package_number i.package) ≡ b → (if b then None else option_map (under i) (path_of_planned (plan_of r m) (planned_interface i))) ≡ Some (k, x) → IsEntry i k x
+      go true same e = absurd (let wrong : ⊥ = cc in wrong)
+      go false other e =
+          let found = some_path (path_of_planned (plan_of r m) (planned_interface i)) (under i) (k, x) e in
+          record {
+            other = other;
+            path = sym (path_of_planned_is r m i) ∙ (found.1 ∙ ap (λ (q : Text × InterfaceMeaning). Some q.0) found.2);
+            means = ap (λ (q : Text × InterfaceMeaning). q.1) (sym found.2) ∙ interface_is r m i;
+          }
+
+  entry_of : (i : Interface) (k : Text) → is_id m (package_number i.package) ≡ false → path_of_interface r i ≡ Some k → foreign_entry (plan_of r m) (planned_interface i) ≡ Some (k, meant.interface_meaning r i)
+  entry_of i k other path =
+      ap (λ b. if b then None else option_map (under i) (path_of_planned (plan_of r m) (planned_interface i))) other
+      ∙ (ap (option_map (under i)) (path_of_planned_is r m i ∙ path)
+      ∙ ap (λ (y : InterfaceMeaning). Some (k, y)) (interface_is r m i))
+
+  -- the interface's number is of another package
+  foreign_is : (n : ℕ) (i : Interface) → interface_at r n ≡ Some i → is_foreign r m n ≡ (is_some (interface_path r n) && not (option_map_or (λ id. id.0 == m) i.package false))
+  foreign_is n i e = ap (λ o. is_some (interface_path r n) && not (option_map_or (λ x. option_map_or (λ id. id.0 == m) x.package false) o false)) e
+
+  same_test : (o : Option PackageId) → option_map_or (λ id. id.0 == m) o false ≡ is_id m (package_number o)
+  same_test None = refl
+  same_test (Some id) = refl
+
+module _ (r : Resolve) (m : ℕ) (is : IsPackagePlan (plan_of r m)) (v : IsValid r) (p : Package) (at : package_at r m ≡ Some p) where
+  -- without a world that shows it, an interface of another package has no functions
+  bare_means : (n : ℕ) (i : Interface) → interface_at r n ≡ Some i → is_some (interface_path r n) ≡ true → rules.is_foreign (plan_of r m) (planned_interface i) ≡ true → is_shown_in r p n ≡ false → types_alone (meant.interface_meaning r i) ≡ meant.interface_meaning r i
+  bare_means n i e path foreign hidden =
+      let none : list_any (λ w. rules.is_shown_in w n) (map planned_world r.worlds.items) ≡ false = unseen (list_any (λ w. rules.is_shown_in w n) (map planned_world r.worlds.items)) refl in
+      let empty_list : (planned_interface i).functions ≡ [] = is.bare n (planned_interface i) (get_of_map planned_interface r.interfaces.items n ∙ ap (option_map planned_interface) e) foreign none in
+      let listed : map (meant_function_entry r m) i.functions.entries ≡ [] = sym (functions_are r m i) ∙ ap (map (planned_function_entry r m)) empty_list in
+      λ j. record { types = (meant.interface_meaning r i).types; functions = from_entries (sym listed j) }
+    where
+      unseen : (b : Bool) → list_any (λ w. rules.is_shown_in w n) (map planned_world r.worlds.items) ≡ b → b ≡ false
+      unseen false h = refl
+      unseen true h =
+          let w = any_get (λ w. rules.is_shown_in w n) (map planned_world r.worlds.items) h in
+          sym (shown_in r m is.plan v p at is.worlds n w.0 w.1 w.2 w.3 path) ∙ hidden
+
+  foreign_means : (n : ℕ) (i : Interface) → interface_at r n ≡ Some i → is_some (interface_path r n) ≡ true → rules.is_foreign (plan_of r m) (planned_interface i) ≡ true → foreign_meaning r p n ≡ meant.interface_meaning r i
+  foreign_means n i e path foreign = go (is_shown_in r p n) refl
+    where
+      go : (b : Bool) → is_shown_in r p n ≡ b → foreign_meaning r p n ≡ meant.interface_meaning r i
+      go true h = ap (λ b. if b then interface_meaning_at r n else types_alone (interface_meaning_at r n)) h ∙ meaning_there r n i e
+      go false h = ap (λ b. if b then interface_meaning_at r n else types_alone (interface_meaning_at r n)) h ∙ (ap types_alone (meaning_there r n i e) ∙ bare_means n i e path foreign h)
+
+  is_other : (n : ℕ) (i : Interface) → interface_at r n ≡ Some i → (k : Text) → path_of_interface r i ≡ Some k → is_id m (package_number i.package) ≡ false → rules.is_foreign (plan_of r m) (planned_interface i) ≡ true
+  is_other n i e k path other = both _ _ (named r i k path) (ap not other)
+
+  abbrev planned_entries : List (Text × InterfaceMeaning)
+  planned_entries = filter_map (foreign_entry (plan_of r m)) (map planned_interface r.interfaces.items)
+
+  abbrev foreign_at : ℕ → Text × InterfaceMeaning
+  foreign_at n = (unwrap_or (interface_path r n) [], foreign_meaning r p n)
+
+  abbrev meant_entries : List (Text × InterfaceMeaning)
+  meant_entries = map foreign_at (foreign_of r m p)
+
+  record Source (k : Text) (x : InterfaceMeaning) : Type 0 where
+    pub number : ℕ
+    pub from : Interface
+    pub stands : interface_at r number ≡ Some from
+    pub entry : IsEntry r m from k x
+
+  source : (k : Text) (x : InterfaceMeaning) → Contains planned_entries (k, x) → Source k x
+  source k x c =
+      let found = filter_map_from (foreign_entry (plan_of r m)) (map planned_interface r.interfaces.items) (k, x) c in
+      let i = get_back planned_interface r.interfaces.items found.0 found.1 found.2 in
+      record { number = found.0; from = i.0; stands = i.1; entry = entry_is r m i.0 k x (ap (foreign_entry (plan_of r m)) i.2 ∙ found.3) }
+
+  there : (k : Text) (x : InterfaceMeaning) → Contains planned_entries (k, x) → Contains meant_entries (k, x)
+  there k x c =
+      let s = source k x c in
+      let path : interface_path r s.number ≡ Some k = path_there r s.number s.from s.stands ∙ s.entry.path in
+      let some : is_some (interface_path r s.number) ≡ true = ap is_some path in
+      let foreign : is_foreign r m s.number ≡ true = foreign_is r m s.number s.from s.stands ∙ both _ _ some (ap not (same_test r m s.from.package ∙ s.entry.other)) in
+      let among = has-contains (foreign_of r m p) s.number (has_filter (is_foreign r m) (reached_by_package r p) s.number (all_reached r m is.plan v p at is.worlds is.wanted s.number s.from s.stands) foreign) in
+      let means : foreign_meaning r p s.number ≡ x = foreign_means s.number s.from s.stands some (is_other s.number s.from s.stands k s.entry.path s.entry.other) ∙ sym s.entry.means in
+      let same : foreign_at s.number ≡ (k, x) = λ j. (unwrap_or (path j) [], means j) in
+      subst (λ (q : Text × InterfaceMeaning). Contains meant_entries q) same (contains-map foreign_at (foreign_of r m p) s.number among)
+
+  from_number : (n : ℕ) (k : Text) (x : InterfaceMeaning) → has (foreign_of r m p) n ≡ true → foreign_at n ≡ (k, x) → (path : Text) → interface_path r n ≡ Some path → Contains planned_entries (k, x)
+  from_number n k x h e path there =
+      let standing = has-path r n path there in
+      let i = standing.def in
+      let foreign = (filter_has (is_foreign r m) (reached_by_package r p) n h).1 in
+      let outside = second_true (is_some (interface_path r n)) _ (sym (foreign_is r m n i standing.there) ∙ foreign) in
+      let other : is_id m (package_number i.package) ≡ false = sym (same_test r m i.package) ∙ untrue (option_map_or (λ id. id.0 == m) i.package false) outside in
+      let its_path : path_of_interface r i ≡ Some path = sym (path_there r n i standing.there) ∙ there in
+      let means = foreign_means n i standing.there (ap is_some there) (is_other n i standing.there path its_path other) in
+      let key : path ≡ k = ap (λ o. unwrap_or o []) (sym there) ∙ ap (λ (q : Text × InterfaceMeaning). q.0) e in
+      let value : meant.interface_meaning r i ≡ x = sym means ∙ ap (λ (q : Text × InterfaceMeaning). q.1) e in
+      let entry = entry_of r m i path other its_path in
+      let same : ◌≡◌ {A = Text × InterfaceMeaning} (path, meant.interface_meaning r i) (k, x) = λ j. (key j, value j) in
+      let one : option_to_list (Some (path, meant.interface_meaning r i)) ≡ option_to_list (foreign_entry (plan_of r m) (planned_interface i)) = ap option_to_list (sym entry) in
+      subst (λ (q : Text × InterfaceMeaning). Contains planned_entries q) same
+      (contains-filter_map (foreign_entry (plan_of r m)) (map planned_interface r.interfaces.items) (planned_interface i) (path, meant.interface_meaning r i)
+      (contains-map planned_interface r.interfaces.items i (get-contains r.interfaces.items n i standing.there))
+      (subst (λ (xs : List (Text × InterfaceMeaning)). Contains xs (path, meant.interface_meaning r i)) one (contains-one (path, meant.interface_meaning r i))))
+    where
+      untrue : (b : Bool) → not b ≡ true → b ≡ false
+      untrue false h = refl
+      untrue true h = no_true h
+
+  here : (k : Text) (x : InterfaceMeaning) → Contains meant_entries (k, x) → Contains planned_entries (k, x)
+  here k x c =
+      let found = map_from foreign_at (foreign_of r m p) (k, x) c in
+      let h = contains-has (foreign_of r m p) found.0 found.1 in
+      let some = first_true (is_some (interface_path r found.0)) _ (filter_has (is_foreign r m) (reached_by_package r p) found.0 h).1 in
+      let path = some-of (interface_path r found.0) some in
+      from_number found.0 k x h found.2 path.0 path.1
+
+  one_value : (k : Text) (x y : InterfaceMeaning) → Contains planned_entries (k, x) → Contains planned_entries (k, y) → x ≡ y
+  one_value k x y c d =
+      let a = source k x c in
+      let b = source k y d in
+      let numbers = path-once r v a.number b.number k (path_there r a.number a.from a.stands ∙ a.entry.path) (path_there r b.number b.from b.stands ∙ b.entry.path) in
+      let one : a.from ≡ b.from = same-some a.from b.from (sym a.stands ∙ (ap (interface_at r) numbers ∙ b.stands)) in
+      a.entry.means ∙ (ap (meant.interface_meaning r) one ∙ sym b.entry.means)
+
+  foreign_are : ◌≡◌ {A = TextMap InterfaceMeaning} (from_entries planned_entries) (from_entries meant_entries)
+  foreign_are = one_map planned_entries meant_entries (record { one_value = one_value; there = there; here = here })
+
+  -- ---- the package
+
+  abbrev interface_pair : String Global × InterfaceId → Text × ℕ
+  interface_pair e = (text_of e.0, e.1.0)
+
+  abbrev planned_interface_entry : Text × ℕ → Text × InterfaceMeaning
+  planned_interface_entry e = (e.0, planned.interface_meaning_in (plan_of r m) e.1)
+
+  abbrev meant_interface_entry : String Global × InterfaceId → Text × InterfaceMeaning
+  meant_interface_entry e = (text_of e.0, interface_meaning_at r e.1.0)
+
+  interface_entry_is : (e : String Global × InterfaceId) → planned_interface_entry (interface_pair e) ≡ meant_interface_entry e
+  interface_entry_is e = λ i. (text_of e.0, interface_at_is r m e.1.0 i)
+
+  interfaces_are : map planned_interface_entry (planned_package p).interfaces ≡ map meant_interface_entry p.interfaces.entries
+  interfaces_are = map_of_map planned_interface_entry interface_pair p.interfaces.entries ∙ same_map (λ e. planned_interface_entry (interface_pair e)) meant_interface_entry interface_entry_is p.interfaces.entries
+
+  abbrev world_pair : String Global × WorldId → Text × ℕ
+  world_pair e = (text_of e.0, e.1.0)
+
+  abbrev planned_world_entry : Text × ℕ → Text × WorldMeaning
+  planned_world_entry e = (e.0, planned.world_meaning_in (plan_of r m) e.1)
+
+  abbrev meant_world_entry : String Global × WorldId → Text × WorldMeaning
+  meant_world_entry e = (text_of e.0, meant.world_meaning_at r e.1.0)
+
+  world_entry_is : (e : String Global × WorldId) → planned_world_entry (world_pair e) ≡ meant_world_entry e
+  world_entry_is e = λ i. (text_of e.0, world_at_is r m e.1.0 i)
+
+  worlds_are : map planned_world_entry (planned_package p).worlds ≡ map meant_world_entry p.worlds.entries
+  worlds_are = map_of_map planned_world_entry world_pair p.worlds.entries ∙ same_map (λ e. planned_world_entry (world_pair e)) meant_world_entry world_entry_is p.worlds.entries
+
+  pub package_is : planned.package_meaning (plan_of r m) (planned_package p) ≡ meant.package_meaning r m p
+  package_is = λ j. record { identity = identity_of p.name; interfaces = interfaces_are j; worlds = worlds_are j; foreign = foreign_are j }
+
+-- The plan means what its main package means.
+pub plan_means : (r : Resolve) (m : ℕ) → IsPackagePlan (plan_of r m) → IsValid r → plan_meaning (plan_of r m) ≡ option_map (meant.package_meaning r m) (package_at r m)
+unfolding plan_meaning
+plan_means r m is v = ap (option_map (planned.package_meaning (plan_of r m))) (get_of_map planned_package r.packages.items m) ∙ go (package_at r m) refl
+  where
+    go : (o : Option Package) → package_at r m ≡ o → option_map (planned.package_meaning (plan_of r m)) (option_map planned_package o) ≡ option_map (meant.package_meaning r m) o
+    go None e = refl
+    go (Some p) e = ap Some (package_is r m is v p e)
+
+pub package_means : (p : Plan) (r : Resolve) → IsPackagePlan p → IsBuilt p r → (x : PackageMeaning) → Meant r p.main x ↔ (plan_meaning p ≡ Some x)
+unfolding Meant
+package_means p r is built x =
+    let same = plan_means r p.main (subst IsPackagePlan (sym (plan_is p r built)) is) (built_is_valid p r is.plan built) in
+    let whole : plan_meaning p ≡ option_map (meant.package_meaning r p.main) (package_at r p.main) = ap plan_meaning (sym (plan_is p r built)) ∙ same in
+    (λ h. whole ∙ h, λ h. sym whole ∙ h)

@@ -1,0 +1,176 @@
+-- Interfaces and worlds stand in the places that they say.
+use Rattle.std.proofs.Common.{◌≡◌, refl, sym, ap, ◌∙◌, ℕ, ◌+◌, Bool, true, false, ◌&&◌, ◌||◌, ◌==◌, not, cond, List, [], ◌∷◌, ◌++◌, map, option_map, option_and_then, Option, Some, None, is_some, String}
+use Rattle.std.specs.Prelude.{fold, sum_by}
+use Rattle.std.specs.declared.alloc.Global.{Global}
+use Rattle.std.specs.List.{list_all, list_any}
+use Rattle.std.specs.Option.{option_map_or, option_eq}
+use Rattle.std.specs.HashMap.{get_by_text}
+use Rattle.std.proofs.lemmas.List.Folds.{list_all-map}
+use Rattle.std.proofs.lemmas.Slice.Eq.{bytes_eq-Decides}
+use Rattle.indexmap.specs.IndexMap.{keys}
+use Rattle.wit_model.specs.declared.model.Resolve.{Resolve}
+use Rattle.wit_model.specs.declared.model.Package.{Package}
+use Rattle.wit_model.specs.declared.model.PackageId.{PackageId}
+use Rattle.wit_model.specs.declared.model.InterfaceId.{InterfaceId}
+use Rattle.wit_model.specs.declared.model.World.{World}
+use Rattle.wit_model.specs.declared.model.WorldId.{WorldId}
+use Rattle.wit_model.specs.declared.model.WorldItem.{WorldItem}
+use Rattle.wit_model.specs.Text.{Text, text_of, text_eq, optional_text}
+use Rattle.wit_model.specs.Lookup.{package_at, interface_at, world_at}
+use Rattle.wit_model.specs.Uses.{items_of}
+use Rattle.wit_model.specs.Rules as rules
+use Rattle.wit_model.specs.Rules.{each_from, passes, is_id, package_number, text_is, are_distinct, interface_belongs, world_belongs, interface_is_listed, world_is_listed, names_itself, is_world_name}
+use Rattle.wit_model.specs.Valid.{Keeps, places}
+use Rattle.wit_model.proofs.Lists.{first_true, second_true}
+use Rattle.wit_model.proofs.Entries.{free_passes}
+use Rattle.wit_model.proofs.Checks.{keeps_lists}
+use Rattle.plan_meaning.specs.Plan as plan
+use Rattle.plan_meaning.specs.Plan.{PlannedPackage, PlannedWorld, number_under, package_in}
+use Rattle.plan_meaning.specs.PlanRules as planned
+use Rattle.plan_meaning.specs.PlanRules.{IsPlan, names_of, members_differ}
+use Rattle.plan_meaning.specs.Built.{planned_interface, planned_world, planned_package, planned_item}
+use Rattle.plan_meaning.proofs.Lists.{get_of_map, any_of_map, fold_of_map, lookup_of_map, all_of_map, all_get, all_two, each_two, each_built, each_from_built, both, no_true}
+use Rattle.plan_meaning.proofs.Words.{plan_of}
+use Rattle.plan_meaning.proofs.FunctionRules.{items_are}
+use Rattle.plan_meaning.proofs.Listed.{interface_listed, world_listed, members_pass}
+use Rattle.plan_meaning.proofs.Labels.{apart, names_are, keys_apart}
+use Rattle.plan_meaning.proofs.WorldItems.{item_interface_is}
+
+-- ---- what stands under a name
+
+-- what passes for each name passes for one under which something stands
+pub under_passes : (test : Text → Bool) (name : Text) (n : ℕ) (es : List (Text × ℕ)) → is_id n (number_under name es) ≡ true → list_all (λ e. test e.0) es ≡ true → test name ≡ true
+under_passes test name n [] h all = no_true h
+under_passes test name n (e ∷ es) h all = go (text_eq name e.0) refl (under_passes test name n es) h
+  where
+    go : (b : Bool) → text_eq name e.0 ≡ b → (is_id n (number_under name es) ≡ true → list_all (λ x. test x.0) es ≡ true → test name ≡ true) → is_id n (cond b (Some e.1) (number_under name es)) ≡ true → test name ≡ true
+    go true same rest h = let equal : name ≡ e.0 = (bytes_eq-Decides name e.0).0 same in ap test equal ∙ first_true (test e.0) _ all
+    go false same rest h = rest h (second_true (test e.0) _ all)
+
+-- the number under a name of a package's list
+pub interface_number : (p : Package) (name : Text) → number_under name (planned_package p).interfaces ≡ option_map (λ id. id.0) (get_by_text p.interfaces name)
+interface_number p name = lookup_of_map (text_eq name) text_of (λ (id : InterfaceId). id.0) p.interfaces.entries
+
+pub world_number : (p : Package) (name : Text) → number_under name (planned_package p).worlds ≡ option_map (λ id. id.0) (get_by_text p.worlds name)
+world_number p name = lookup_of_map (text_eq name) text_of (λ (id : WorldId). id.0) p.worlds.entries
+
+world_name_is : (p : Package) (name : Text) → list_any (text_eq name) (names_of (planned_package p).worlds) ≡ is_world_name p name
+world_name_is p name = ap (list_any (text_eq name)) (names_are (λ (id : WorldId). id.0) p.worlds.entries) ∙ any_of_map (text_eq name) text_of (keys p.worlds)
+
+-- no name of an interface of a package is that of a world
+no_world : (p : Package) (name : Text) (n : ℕ) → members_differ (planned_package p) ≡ true → is_id n (number_under name (planned_package p).interfaces) ≡ true → not (is_world_name p name) ≡ true
+no_world p name n h is =
+    ap not (sym (world_name_is p name))
+    ∙ under_passes (λ t. not (list_any (text_eq t) (names_of (planned_package p).worlds))) name n (planned_package p).interfaces is
+    (sym (list_all-map (λ t. not (list_any (text_eq t) (names_of (planned_package p).worlds))) (λ e. e.0) (planned_package p).interfaces)
+    ∙ apart (names_of (planned_package p).interfaces) (names_of (planned_package p).worlds) h)
+
+-- ---- how often an interface is shown
+
+times_are : (n : ℕ) (w : World) → planned.times_shown n (planned_world w) ≡ rules.times_shown n w
+times_are n w =
+    ap (fold (λ a x. a + cond (is_id n (plan.item_interface x)) 1 0) 0) (items_are w)
+    ∙ (fold_of_map (λ a x. a + cond (is_id n (plan.item_interface x)) 1 0) planned_item 0 (items_of w)
+    ∙ ap (λ (h : WorldItem → Option ℕ). fold (λ a x. a + cond (is_id n (h x)) 1 0) 0 (items_of w)) (λ i x. item_interface_is x i))
+
+all_times_are : (n : ℕ) (ws : List World) → sum_by (planned.times_shown n) (map planned_world ws) ≡ sum_by (rules.times_shown n) ws
+all_times_are n ws = fold_of_map (λ a w. a + planned.times_shown n w) planned_world 0 ws ∙ ap (λ (h : World → ℕ). fold (λ a w. a + h w) 0 ws) (λ i w. times_are n w i)
+
+passes_both : {A : Type 0} (p q s : A → Bool) → ((x : A) → p x ≡ true → q x ≡ true → s x ≡ true) → (o : Option A) → passes p o ≡ true → passes q o ≡ true → passes s o ≡ true
+passes_both p q s make None h k = refl
+passes_both p q s make (Some x) h k = make x h k
+
+or_first : (a b : Bool) → a ≡ true → (a || b) ≡ true
+or_first a b e = ap (λ c. c || b) e
+
+module _ (r : Resolve) (m : ℕ) (is : IsPlan (plan_of r m)) where
+  -- ---- packages
+
+  name_belongs : (name : Option (String Global)) (t : Text) (b : Bool) → text_is name t ≡ true → b ≡ true → passes (λ s. b && text_eq (text_of s) t) name ≡ true
+  name_belongs None t b h k = refl
+  name_belongs (Some s) t b h k = both _ _ k h
+
+  interface_there : (n : ℕ) (e : String Global × InterfaceId) → planned.lists_interface (plan_of r m) n (text_of e.0, e.1.0) ≡ true → interface_belongs r n e ≡ true
+  interface_there n e h =
+      let found = interface_listed r m is n e h in
+      passes_both (λ i. text_is i.name (text_of e.0)) (λ i. is_id n (package_number i.package)) (λ i. passes (λ name. is_id n (package_number i.package) && text_eq (text_of name) (text_of e.0)) i.name)
+      (λ i a b. name_belongs i.name (text_of e.0) (is_id n (package_number i.package)) a b) (interface_at r e.1.0) found.1 found.2
+
+  world_there : (n : ℕ) (e : String Global × WorldId) → planned.lists_world (plan_of r m) n (text_of e.0, e.1.0) ≡ true → world_belongs r n e ≡ true
+  world_there n e h =
+      let found = world_listed r m is n e h in
+      passes_both (λ w. text_eq (text_of w.name) (text_of e.0)) (λ w. is_id n (package_number w.package)) (λ w. is_id n (package_number w.package) && text_eq (text_of w.name) (text_of e.0)) (λ w a b. both _ _ b a) (world_at r e.1.0) found.1 found.2
+
+  names_differ : (p : Package) → members_differ (planned_package p) ≡ true → list_all (λ e. not (is_world_name p (text_of e.0)) || names_itself r e) p.interfaces.entries ≡ true
+  names_differ p h =
+      all_two (λ e. not (is_world_name p (text_of e.0))) (λ e. true) (λ e. not (is_world_name p (text_of e.0)) || names_itself r e) (λ e a b. or_first _ (names_itself r e) a) p.interfaces.entries
+      (sym (list_all-map (λ name. not (is_world_name p (text_of name))) (λ e. e.0) p.interfaces.entries)
+      ∙ keys_apart (keys p.interfaces) (keys p.worlds) (ap are_distinct (λ j. sym (names_are (λ (id : InterfaceId). id.0) p.interfaces.entries) j ++ sym (names_are (λ (id : WorldId). id.0) p.worlds.entries) j) ∙ h))
+      (always p.interfaces.entries)
+    where
+      always : {A : Type 0} (xs : List A) → list_all (λ x. true) xs ≡ true
+      always [] = refl
+      always (x ∷ xs) = always xs
+
+  packages_placed : each_from (λ n p. list_all (interface_belongs r n) p.interfaces.entries && (list_all (world_belongs r n) p.worlds.entries && list_all (λ e. not (is_world_name p (text_of e.0)) || names_itself r e) p.interfaces.entries)) 0 r.packages.items ≡ true
+  packages_placed =
+      each_two (λ n p. list_all (interface_belongs r n) p.interfaces.entries && list_all (world_belongs r n) p.worlds.entries) (λ n p. list_all (λ e. not (is_world_name p (text_of e.0)) || names_itself r e) p.interfaces.entries)
+      _ (λ n p a b. both _ _ (first_true _ _ a) (both _ _ (second_true (list_all (interface_belongs r n) p.interfaces.entries) _ a) b)) 0 r.packages.items
+      (members_pass r m is (interface_belongs r) (world_belongs r) interface_there world_there)
+      (each_from_built planned_package members_differ (λ p. list_all (λ e. not (is_world_name p (text_of e.0)) || names_itself r e) p.interfaces.entries) names_differ r.packages.items is.members_differ)
+
+  -- ---- interfaces
+
+  differs_at : (q : ℕ) (p : Package) → package_at r q ≡ Some p → members_differ (planned_package p) ≡ true
+  differs_at q p e = all_get members_differ (map planned_package r.packages.items) q (planned_package p) is.members_differ (get_of_map planned_package r.packages.items q ∙ ap (option_map planned_package) e)
+
+  listed_in : (n : ℕ) (name : Text) (p : Package) → members_differ (planned_package p) ≡ true → is_id n (number_under name (planned_package p).interfaces) ≡ true → (interface_is_listed n name p && not (is_world_name p name)) ≡ true
+  listed_in n name p d h = both _ _ (ap (is_id n) (sym (interface_number p name)) ∙ h) (no_world p name n d h)
+
+  named_at : (n : ℕ) (name : Text) (o : Option PackageId) → option_map_or (λ k. is_id n (number_under name k.interfaces)) (option_and_then (package_in (plan_of r m)) (option_map (λ id. id.0) o)) false ≡ true
+      → (is_some o && option_map_or (λ p. interface_is_listed n name p && not (is_world_name p name)) (option_and_then (package_at r) (package_number o)) true) ≡ true
+  named_at n name None h = no_true h
+  named_at n name (Some id) h = go (package_at r id.0) refl (sym (ap (λ o. option_map_or (λ k. is_id n (number_under name k.interfaces)) o false) (get_of_map planned_package r.packages.items id.0)) ∙ h)
+    where
+      go : (o : Option Package) → package_at r id.0 ≡ o → option_map_or (λ k. is_id n (number_under name k.interfaces)) (option_map planned_package o) false ≡ true → option_map_or (λ p. interface_is_listed n name p && not (is_world_name p name)) (package_at r id.0) true ≡ true
+      go None e h = no_true h
+      go (Some p) e h = ap (λ o. option_map_or (λ p. interface_is_listed n name p && not (is_world_name p name)) o true) e ∙ listed_in n name p (differs_at id.0 p e) h
+
+  some_package : (o : Option PackageId) (test : ℕ → Bool) → option_map_or test (option_map (λ id. id.0) o) false ≡ true → is_some o ≡ true
+  some_package None test h = no_true h
+  some_package (Some id) test h = refl
+
+  abbrev shown_once : ℕ → Option PackageId → Bool
+  shown_once n o = (sum_by (rules.times_shown n) r.worlds.items == 1) && list_all (λ w. (rules.times_shown n w == 0) || option_eq ◌==◌ (package_number w.package) (package_number o)) r.worlds.items
+
+  inline_at : (n : ℕ) (o : Option PackageId) →
+      ((sum_by (planned.times_shown n) (map planned_world r.worlds.items) == 1) && list_all (λ w. (planned.times_shown n w == 0) || option_eq ◌==◌ w.package_ (option_map (λ id. id.0) o)) (map planned_world r.worlds.items)) ≡ shown_once n o
+  inline_at n o = λ i. (all_times_are n r.worlds.items i == 1)
+      && all_of_map (λ w. (planned.times_shown n w == 0) || option_eq ◌==◌ w.package_ (option_map (λ id. id.0) o)) (λ w. (rules.times_shown n w == 0) || option_eq ◌==◌ (package_number w.package) (package_number o)) planned_world
+      (λ w. ap (λ t. (t == 0) || option_eq ◌==◌ (package_number w.package) (package_number o)) (times_are n w)) r.worlds.items i
+
+  interface_by : (n : ℕ) (name : Option (String Global)) (o : Option PackageId) →
+      option_map_or (λ t. option_map_or (λ k. is_id n (number_under t k.interfaces)) (option_and_then (package_in (plan_of r m)) (option_map (λ id. id.0) o)) false) (optional_text name)
+      (option_map_or (rules.in_list (map planned_package r.packages.items)) (option_map (λ id. id.0) o) false
+      && ((sum_by (planned.times_shown n) (map planned_world r.worlds.items) == 1) && list_all (λ w. (planned.times_shown n w == 0) || option_eq ◌==◌ w.package_ (option_map (λ id. id.0) o)) (map planned_world r.worlds.items))) ≡ true
+      → (is_some o && option_map_or (λ s. option_map_or (λ p. interface_is_listed n (text_of s) p && not (is_world_name p (text_of s))) (option_and_then (package_at r) (package_number o)) true) name (shown_once n o)) ≡ true
+  interface_by n (Some s) o h = named_at n (text_of s) o h
+  interface_by n None o h = both _ _ (some_package o (rules.in_list (map planned_package r.packages.items)) (first_true _ _ h)) (sym (inline_at n o) ∙ second_true (option_map_or (rules.in_list (map planned_package r.packages.items)) (option_map (λ id. id.0) o) false) _ h)
+
+  -- ---- worlds
+
+  world_by : (n : ℕ) (name : Text) (o : Option PackageId) → option_map_or (λ k. is_id n (number_under name k.worlds)) (option_and_then (package_in (plan_of r m)) (option_map (λ id. id.0) o)) false ≡ true
+      → (is_some o && option_map_or (world_is_listed n name) (option_and_then (package_at r) (package_number o)) true) ≡ true
+  world_by n name None h = no_true h
+  world_by n name (Some id) h = go (package_at r id.0) (sym (ap (λ o. option_map_or (λ k. is_id n (number_under name k.worlds)) o false) (get_of_map planned_package r.packages.items id.0)) ∙ h)
+    where
+      go : (o : Option Package) → option_map_or (λ k. is_id n (number_under name k.worlds)) (option_map planned_package o) false ≡ true → option_map_or (world_is_listed n name) o true ≡ true
+      go None h = no_true h
+      go (Some p) h = ap (is_id n) (sym (world_number p name)) ∙ h
+
+  pub places_kept : Keeps places r
+  unfolding places
+  places_kept = keeps_lists places r packages_placed
+      (each_built planned_interface (planned.is_placed (plan_of r m)) (λ n i. places.interface_ r n i) (λ n i h. interface_by n i.name i.package h) r.interfaces.items is.interfaces_placed)
+      (each_built planned_world (planned.is_world_placed (plan_of r m)) (λ n w. places.world_ r n w) (λ n w h. world_by n (text_of w.name) w.package h) r.worlds.items is.worlds_placed)
+      (free_passes r 0 r.types.items)

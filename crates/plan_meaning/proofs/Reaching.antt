@@ -1,0 +1,201 @@
+-- Each interface of a plan of a package is reached from the package.
+use Rattle.std.proofs.Common.{◌≡◌, ◌⊎◌, inl, inr, refl, sym, ap, ◌∙◌, ℕ, zero, suc, ◌+◌, ◌≤◌, Bool, true, false, ◌&&◌, ◌||◌, ◌==◌, not, cond, List, [], ◌∷◌, ◌++◌, length, map, filter, filter_map, flat_map, count_by, option_map, option_and_then, option_to_list, Option, Some, None, slice_get, is_some, String, subst, arith}
+use Rattle.std.specs.Prelude.{sum_by}
+use Rattle.std.specs.declared.alloc.Global.{Global}
+use Rattle.std.specs.List.{Contains, list_all, list_any, cons_option}
+use Rattle.std.specs.Option.{option_map_or, option_eq}
+use Rattle.std.proofs.lemmas.Bool.{eqb-true, or_left, or_right}
+use Rattle.std.proofs.lemmas.List.Folds.{list_any-append}
+use Rattle.std.proofs.lemmas.List.Sums.{sum_by-cons}
+use Rattle.std.proofs.lemmas.Option.{slice_get_within}
+use Rattle.indexmap.specs.IndexMap.{values}
+use Rattle.wit_model.specs.declared.model.Resolve.{Resolve}
+use Rattle.wit_model.specs.declared.model.Package.{Package}
+use Rattle.wit_model.specs.declared.model.PackageId.{PackageId}
+use Rattle.wit_model.specs.declared.model.Interface.{Interface}
+use Rattle.wit_model.specs.declared.model.InterfaceId.{InterfaceId}
+use Rattle.wit_model.specs.declared.model.World.{World}
+use Rattle.wit_model.specs.declared.model.WorldId.{WorldId}
+use Rattle.wit_model.specs.declared.model.WorldItem.{WorldItem}
+use Rattle.wit_model.specs.declared.model.WorldItem.TheVariants as item
+use Rattle.wit_model.specs.Text.{Text, text_of, optional_text}
+use Rattle.wit_model.specs.Lookup.{package_at, interface_at, world_at, interface_path}
+use Rattle.wit_model.specs.Uses as uses
+use Rattle.wit_model.specs.Uses.{has, once, items_of, direct_deps, interfaces_used_by, interfaces_of_item, interfaces_of_world, worlds_of, reached, reached_by_package, shown_by, is_shown_in}
+use Rattle.wit_model.specs.Rules.{is_id, in_list}
+use Rattle.wit_model.specs.Valid.{IsValid}
+use Rattle.wit_model.specs.Chains.{Chain}
+use Rattle.wit_model.proofs.Lists.{first_true, second_true}
+use Rattle.wit_model.proofs.Elements.{contains-filter_map, contains-one, contains-flat, has-contains, contains-has, contains-get}
+use Rattle.wit_model.proofs.Chains.{uses_fall, chains_reach}
+use Rattle.plan_meaning.specs.Plan as plan
+use Rattle.plan_meaning.specs.Plan.{PlannedInterface, PlannedWorld, PlannedItem, PlannedPackage, number_under, numbers_of, package_in}
+use Rattle.plan_meaning.specs.PlanRules as planned
+use Rattle.plan_meaning.specs.PlanRules.{IsPlan, IsWanted, shown, used}
+use Rattle.plan_meaning.specs.Built.{planned_interface, planned_world, planned_package}
+use Rattle.plan_meaning.proofs.Lists.{map_of_map, get_of_map, each_of_map, each_at, all_get, any_get, get_any, get_back, map_from, has_filter, no_true}
+use Rattle.plan_meaning.proofs.Words.{plan_of, direct_uses_are}
+use Rattle.plan_meaning.proofs.FunctionRules.{items_are}
+use Rattle.plan_meaning.proofs.TypeOrder.{under_has}
+use Rattle.plan_meaning.proofs.ItemOrder.{item_interfaces_are}
+
+-- ---- chains
+
+pub further : (r : Resolve) (k n m j : ℕ) → Chain r k n m → has (direct_deps r m) j ≡ true → Chain r (suc k) n j
+further r zero n m j c h = (j, ap (λ i. has (direct_deps r i) j) c ∙ h, refl)
+further r (suc k) n m j c h = (c.0, c.1, further r k c.0 m j c.2 h)
+
+-- only an interface that stands there uses any
+user_stands : (r : Resolve) (n m : ℕ) → has (direct_deps r n) m ≡ true → (i : Interface) × (interface_at r n ≡ Some i)
+user_stands r n m h = by (interface_at r n) refl
+  where
+    by : (o : Option Interface) → interface_at r n ≡ o → (i : Interface) × (interface_at r n ≡ Some i)
+    by (Some i) is = (i, is)
+    by None none = absurd (let nothing : has (filter (λ k. not (k == n)) (once [])) m ≡ true = sym (ap (λ o. has (filter (λ k. not (k == n)) (once (option_map_or (interfaces_used_by r) o []))) m) none) ∙ h in cc)
+
+-- ---- what is shown once is shown somewhere
+
+neither : (a b : Bool) → (a || b) ≡ false → (a ≡ false) × (b ≡ false)
+neither false b h = (refl, h)
+neither true b h = no_true (sym h)
+
+times_more : (n : ℕ) (o : Option ℕ) (ns : List ℕ) (t : ℕ) → (has ns n ≡ false → t ≡ 0) → has (cons_option o ns) n ≡ false → cond (is_id n o) 1 0 + t ≡ 0
+times_more n None ns t rest h = let none = rest h in omega (arith, none)
+times_more n (Some k) ns t rest h = let split = neither (k == n) (has ns n) h in let none = rest split.1 in ap (λ b. cond b 1 0 + t) split.0 ∙ omega (arith, none)
+
+times_none : (n : ℕ) (xs : List PlannedItem) → has (filter_map plan.item_interface xs) n ≡ false → count_by (λ x. is_id n (plan.item_interface x)) xs ≡ 0
+times_none n [] h = refl
+times_none n (x ∷ xs) h =
+    sum_by-cons (λ y. cond (is_id n (plan.item_interface y)) 1 0) x xs
+    ∙ times_more n (plan.item_interface x) (filter_map plan.item_interface xs) (count_by (λ y. is_id n (plan.item_interface y)) xs) (times_none n xs) h
+
+sum_none : (n : ℕ) (ws : List PlannedWorld) → list_any (λ w. planned.is_shown_in w n) ws ≡ false → sum_by (planned.times_shown n) ws ≡ 0
+sum_none n [] h = refl
+sum_none n (w ∷ ws) h =
+    let split = neither (planned.is_shown_in w n) (list_any (λ x. planned.is_shown_in x n) ws) h in
+    let here = times_none n (plan.items_of w) split.0 in
+    let rest = sum_none n ws split.1 in
+    sum_by-cons (planned.times_shown n) w ws ∙ omega (arith, here, rest)
+
+pub shown_somewhere : (n : ℕ) (ws : List PlannedWorld) → (sum_by (planned.times_shown n) ws == 1) ≡ true → list_any (λ w. planned.is_shown_in w n) ws ≡ true
+shown_somewhere n ws h = go (list_any (λ w. planned.is_shown_in w n) ws) refl
+  where
+    go : (b : Bool) → list_any (λ w. planned.is_shown_in w n) ws ≡ b → b ≡ true
+    go true e = refl
+    go false e = no_true (sym (ap (λ k. k == 1) (sum_none n ws e)) ∙ h)
+
+-- ---- the items of a world
+
+item_among : (r : Resolve) (n : ℕ) (xs : List WorldItem) → has (filter_map uses.item_interface xs) n ≡ true → has (flat_map (interfaces_of_item r) xs) n ≡ true
+item_among r n [] h = no_true h
+item_among r n (item.Interface id stability docs external_id ∷ xs) h = go (id.0 == n) refl h (item_among r n xs)
+  where
+    go : (b : Bool) → (id.0 == n) ≡ b → (b || has (filter_map uses.item_interface xs) n) ≡ true → (has (filter_map uses.item_interface xs) n ≡ true → has (flat_map (interfaces_of_item r) xs) n ≡ true) → ((id.0 == n) || has (flat_map (interfaces_of_item r) xs) n) ≡ true
+    go true e h rest = or_left (id.0 == n) (has (flat_map (interfaces_of_item r) xs) n) e
+    go false e h rest = or_right (id.0 == n) (has (flat_map (interfaces_of_item r) xs) n) (rest h)
+item_among r n (item.Function f ∷ xs) h = item_among r n xs h
+item_among r n (item.Type_ id ∷ xs) h =
+    list_any-append (λ k. k == n) (option_to_list (uses.interface_used_by r id.0)) (flat_map (interfaces_of_item r) xs)
+    ∙ or_right (has (option_to_list (uses.interface_used_by r id.0)) n) (has (flat_map (interfaces_of_item r) xs) n) (item_among r n xs h)
+
+pub shows_is : (n : ℕ) (w : World) → planned.is_shown_in (planned_world w) n ≡ has (filter_map uses.item_interface (items_of w)) n
+shows_is n w = ap (λ xs. has (filter_map plan.item_interface xs) n) (items_are w) ∙ ap (λ ns. has ns n) (item_interfaces_are (items_of w))
+
+-- the number under a name is one of those that a list of a package holds
+listed_number : {A : Type 0} (number : A → ℕ) (es : List (String Global × A)) (name : Text) (n : ℕ) → is_id n (number_under name (map (λ e. (text_of e.0, number e.1)) es)) ≡ true → has (map number (map (λ e. e.1) es)) n ≡ true
+listed_number number es name n h =
+    ap (λ ns. has ns n) (map_of_map number (λ e. e.1) es ∙ sym (map_of_map (λ (e : Text × ℕ). e.1) (λ e. (text_of e.0, number e.1)) es))
+    ∙ under_has name n (map (λ e. (text_of e.0, number e.1)) es) h
+
+module _ (r : Resolve) (m : ℕ) (is : IsPlan (plan_of r m)) (v : IsValid r) (p : Package) (at : package_at r m ≡ Some p)
+    (home : list_all (λ w. is_id m w.package_) (map planned_world r.worlds.items) ≡ true) where
+  -- what stands in the main package
+  main_package : (test : PlannedPackage → Bool) (o : Option PackageId) → is_id m (option_map (λ id. id.0) o) ≡ true → option_map_or test (option_and_then (package_in (plan_of r m)) (option_map (λ id. id.0) o)) false ≡ true → test (planned_package p) ≡ true
+  main_package test None same h = no_true same
+  main_package test (Some id) same h =
+      let number : id.0 ≡ m = eqb-true id.0 m same in
+      let there : slice_get (map planned_package r.packages.items) id.0 ≡ Some (planned_package p) = ap (slice_get (map planned_package r.packages.items)) number ∙ (get_of_map planned_package r.packages.items m ∙ ap (option_map planned_package) at) in
+      ap (λ o. option_map_or test o false) (sym there) ∙ h
+
+  pub world_among : (j : ℕ) (w : World) → world_at r j ≡ Some w → Contains (worlds_of r p) w
+  world_among j w e =
+      let planned_at : slice_get (map planned_world r.worlds.items) j ≡ Some (planned_world w) = get_of_map planned_world r.worlds.items j ∙ ap (option_map planned_world) e in
+      let placed = each_at (λ k x. planned.is_world_placed (plan_of r m) k (planned_world x)) r.worlds.items j w (sym (each_of_map (planned.is_world_placed (plan_of r m)) planned_world 0 r.worlds.items) ∙ is.worlds_placed) e in
+      let listed = main_package (λ k. is_id j (number_under (text_of w.name) k.worlds)) w.package (all_get (λ x. is_id m x.package_) (map planned_world r.worlds.items) j (planned_world w) home planned_at) placed in
+      let stands = map_from (λ (id : WorldId). id.0) (values p.worlds) j (has-contains (map (λ id. id.0) (values p.worlds)) j (listed_number (λ id. id.0) p.worlds.entries (text_of w.name) j listed)) in
+      contains-filter_map (λ id. world_at r id.0) (values p.worlds) stands.0 w stands.1 (let found : world_at r stands.0.0 ≡ Some w = ap (world_at r) stands.2 ∙ e in let one : option_to_list (Some w) ≡ option_to_list (world_at r stands.0.0) = ap option_to_list (sym found) in subst (λ (xs : List World). Contains xs w) one (contains-one w))
+
+  abbrev pub starts : List ℕ
+  starts = map (λ id. id.0) (values p.interfaces) ++ flat_map (interfaces_of_world r) (worlds_of r p)
+
+  listed_starts : (n : ℕ) (name : Text) → is_id n (number_under name (planned_package p).interfaces) ≡ true → has starts n ≡ true
+  listed_starts n name h =
+      list_any-append (λ k. k == n) (map (λ id. id.0) (values p.interfaces)) (flat_map (interfaces_of_world r) (worlds_of r p))
+      ∙ or_left (has (map (λ id. id.0) (values p.interfaces)) n) _ (listed_number (λ (id : InterfaceId). id.0) p.interfaces.entries name n h)
+
+  shown_starts : (n j : ℕ) (w : World) → world_at r j ≡ Some w → has (filter_map uses.item_interface (items_of w)) n ≡ true → has starts n ≡ true
+  shown_starts n j w e h =
+      list_any-append (λ k. k == n) (map (λ id. id.0) (values p.interfaces)) (flat_map (interfaces_of_world r) (worlds_of r p))
+      ∙ or_right (has (map (λ id. id.0) (values p.interfaces)) n) _
+      (contains-has (flat_map (interfaces_of_world r) (worlds_of r p)) n
+      (contains-flat (interfaces_of_world r) (worlds_of r p) w n (world_among j w e) (has-contains (interfaces_of_world r w) n (item_among r n (items_of w) h))))
+
+  -- a plan's world that shows the interface
+  planned_starts : (n j : ℕ) (x : PlannedWorld) → slice_get (map planned_world r.worlds.items) j ≡ Some x → planned.is_shown_in x n ≡ true → has starts n ≡ true
+  planned_starts n j x e h =
+      let w = get_back planned_world r.worlds.items j x e in
+      shown_starts n j w.0 w.1 (sym (shows_is n w.0) ∙ (ap (λ y. planned.is_shown_in y n) w.2 ∙ h))
+
+  -- an interface with a path that a world shows is shown in the package
+  pub shown_in : (n j : ℕ) (x : PlannedWorld) → slice_get (map planned_world r.worlds.items) j ≡ Some x → planned.is_shown_in x n ≡ true → is_some (interface_path r n) ≡ true → is_shown_in r p n ≡ true
+  shown_in n j x e h path =
+      let w = get_back planned_world r.worlds.items j x e in
+      let among = contains-get (worlds_of r p) w.0 (world_among j w.0 w.1) in
+      get_any (λ y. has (shown_by r y) n) (worlds_of r p) among.0 w.0 among.1
+      (has_filter (λ k. is_some (interface_path r k)) (filter_map uses.item_interface (items_of w.0)) n (sym (shows_is n w.0) ∙ (ap (λ y. planned.is_shown_in y n) w.2 ∙ h)) path)
+
+  module _ (wanted : (n : ℕ) (i : PlannedInterface) → plan.interface_in (plan_of r m) n ≡ Some i → planned.is_foreign (plan_of r m) i ≡ true → IsWanted (plan_of r m) n) where
+    -- an interface is a start, or another one uses it
+    abbrev Why : ℕ → Type 0
+    Why n = (has starts n ≡ true) ⊎ ((j : ℕ) × (has (direct_deps r j) n ≡ true))
+
+    by_reason : (n : ℕ) → IsWanted (plan_of r m) n → Why n
+    by_reason n (shown j x e h) = inl (planned_starts n j x e h)
+    by_reason n (used j h) = inr (j, ap (λ ns. has ns n) (sym (direct_uses_are r m j)) ∙ h)
+
+    why_by : (n : ℕ) (i : Interface) → interface_at r n ≡ Some i → (name : Option (String Global)) → i.name ≡ name →
+        option_map_or (λ t. option_map_or (λ k. is_id n (number_under t k.interfaces)) (option_and_then (package_in (plan_of r m)) (option_map (λ id. id.0) i.package)) false) (optional_text name)
+        (option_map_or (in_list (map planned_package r.packages.items)) (option_map (λ id. id.0) i.package) false
+        && ((sum_by (planned.times_shown n) (map planned_world r.worlds.items) == 1) && list_all (λ w. (planned.times_shown n w == 0) || option_eq ◌==◌ w.package_ (option_map (λ id. id.0) i.package)) (map planned_world r.worlds.items))) ≡ true → Why n
+    why_by n i e None unnamed h =
+        let somewhere = any_get (λ w. planned.is_shown_in w n) (map planned_world r.worlds.items)
+        (shown_somewhere n (map planned_world r.worlds.items) (first_true _ _ (second_true (option_map_or (in_list (map planned_package r.packages.items)) (option_map (λ id. id.0) i.package) false) _ h))) in
+        inl (planned_starts n somewhere.0 somewhere.1 somewhere.2 somewhere.3)
+    why_by n i e (Some s) named h = go (is_id m (option_map (λ id. id.0) i.package)) refl
+      where
+        foreign : is_id m (option_map (λ id. id.0) i.package) ≡ false → planned.is_foreign (plan_of r m) (planned_interface i) ≡ true
+        foreign other = λ j. is_some (optional_text (named j)) && not (other j)
+
+        go : (b : Bool) → is_id m (option_map (λ id. id.0) i.package) ≡ b → Why n
+        go true own = inl (listed_starts n (text_of s) (main_package (λ k. is_id n (number_under (text_of s) k.interfaces)) i.package own h))
+        go false other = by_reason n (wanted n (planned_interface i) (get_of_map planned_interface r.interfaces.items n ∙ ap (option_map planned_interface) e) (foreign other))
+
+    why : (n : ℕ) (i : Interface) → interface_at r n ≡ Some i → Why n
+    why n i e = why_by n i e i.name refl (each_at (λ k x. planned.is_placed (plan_of r m) k (planned_interface x)) r.interfaces.items n i (sym (each_of_map (planned.is_placed (plan_of r m)) planned_interface 0 r.interfaces.items) ∙ is.interfaces_placed) e)
+
+    abbrev Leads : ℕ → Type 0
+    Leads n = (s : ℕ) × (k : ℕ) × (has starts s ≡ true) × Chain r k s n
+
+    leads_from : (n : ℕ) → Why n → ((j : ℕ) → has (direct_deps r j) n ≡ true → Leads j) → Leads n
+    leads_from n (inl h) rest = (n, 0, h, refl)
+    leads_from n (inr (j, h)) rest = let lead = rest j h in (lead.0, suc lead.1, lead.2, further r lead.1 lead.0 j n lead.3 h)
+
+    leads_by : (fuel n : ℕ) (i : Interface) → length r.interfaces.items ≤ n + fuel → interface_at r n ≡ Some i → Leads n
+    leads_by zero n i h e = let less = slice_get_within r.interfaces.items n i e in absurd (omega (arith, h, less))
+    leads_by (suc fuel) n i h e =
+        leads_from n (why n i e) (λ j uses_n. let user = user_stands r j n uses_n in let falls = uses_fall r v j n uses_n in leads_by fuel j user.0 (omega (arith, h, falls)) user.1)
+
+    pub all_reached : (n : ℕ) (i : Interface) → interface_at r n ≡ Some i → has (reached_by_package r p) n ≡ true
+    all_reached n i e =
+        let lead = leads_by (length r.interfaces.items) n i (omega arith) e in
+        chains_reach r v starts lead.0 lead.1 n lead.2 lead.3

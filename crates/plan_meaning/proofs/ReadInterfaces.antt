@@ -1,0 +1,123 @@
+-- Interfaces that are read pass the tests of a plan on each interface by itself.
+use Rattle.std.proofs.Common.{◌≡◌, refl, sym, ap, subst, ◌∙◌, ℕ, ◌<◌, true, false, ◌&&◌, T, ltb→lt, List, [], ◌∷◌, ◌++◌, map, Some, slice_get}
+use Rattle.std.specs.Prelude.{nat_lt}
+use Rattle.std.specs.List.{AllZip, list_all}
+use Rattle.std.specs.Option.{option_map_or}
+use Rattle.std.proofs.lemmas.Bool.{eq-eqb, lt-ltb}
+use Rattle.wit_model.specs.Text.{Text, text_eq}
+use Rattle.wit_model.specs.Names.{is_label}
+use Rattle.wit_model.specs.Meaning.{FunctionMeaning}
+use Rattle.wit_model.specs.Parts.{same_owner}
+use Rattle.wit_model.specs.Rules.{are_distinct, passes}
+use Rattle.wit_model.specs.Valid.{as_interface}
+use Rattle.wit_model.proofs.Elements.{same-some}
+use Rattle.wit_model.proofs.Lists.{first_true, second_true}
+use Rattle.wit_model.proofs.VersionLaws.{same_text}
+use Rattle.comp_meaning.specs.Follow.{ShownType}
+use Rattle.comp_meaning.specs.Rules as rules
+use Rattle.comp_meaning.specs.Rules.{distinct}
+use Rattle.plan_meaning.specs.Shapes.{Shape, first_label, form_code, named_shape, node_shape}
+use Rattle.plan_meaning.specs.Plan.{Plan, PlannedType, PlannedFunction, PlannedInterface, numbers_of}
+use Rattle.plan_meaning.specs.PlanRules.{are_rising, bears, interface_labels, is_type_of, names_of}
+use Rattle.plan_meaning.specs.NumberedViews.{Tables, place_at, NumberedType, NumberedFunction, view_of, shown_type, shown_function}
+use Rattle.plan_meaning.specs.KeptTypes.{IsKeptType, unnamed, declared, TypesAreKept}
+use Rattle.plan_meaning.specs.KeptOwners.{AreOwned}
+use Rattle.plan_meaning.specs.ReadFunctions.{Beside}
+use Rattle.plan_meaning.specs.ReadInterfaces.{IsNumberOf, IsKeptAs, HasName, IsNamed, IsReadInterface, ReadInterfacesPass}
+use Rattle.plan_meaning.proofs.KeptFunctions.{owner_itself}
+use Rattle.plan_meaning.proofs.KeptTypes.{all_by_number, distinct_same}
+use Rattle.plan_meaning.proofs.Lists.{both, each_by_number, map_of_map, no_true}
+use Rattle.plan_meaning.proofs.NumberedRules.{no_name}
+use Rattle.plan_meaning.proofs.ShapeLaws.{slice_there}
+
+-- ---- names
+
+type_names : (xs : List NumberedType) (es : List (Text × ℕ)) → AllZip HasName xs es → names_of es ≡ map (λ (x : NumberedType). x.name) xs
+type_names [] [] z = refl
+type_names [] (e ∷ es) z = absurd z
+type_names (x ∷ xs) [] z = absurd z
+type_names (x ∷ xs) (e ∷ es) z = λ i. z.0 i ∷ type_names xs es z.1 i
+
+function_names : (fs : List (Text × NumberedFunction)) (es : List (Text × PlannedFunction)) → AllZip IsNamed fs es → names_of es ≡ map (λ (f : Text × NumberedFunction). f.0) fs
+function_names [] [] z = refl
+function_names [] (e ∷ es) z = absurd z
+function_names (f ∷ fs) [] z = absurd z
+function_names (f ∷ fs) (e ∷ es) z = λ i. z.0.0 i ∷ function_names fs es z.1 i
+
+keys_are_names : (fs : List (Text × NumberedFunction)) (es : List (Text × PlannedFunction)) → AllZip IsNamed fs es → list_all (λ (e : Text × PlannedFunction). text_eq e.0 e.1.name) es ≡ true
+keys_are_names [] [] z = refl
+keys_are_names [] (e ∷ es) z = absurd z
+keys_are_names (f ∷ fs) [] z = absurd z
+keys_are_names (f ∷ fs) (e ∷ es) z = both (text_eq e.0 e.1.name) (list_all (λ (x : Text × PlannedFunction). text_eq x.0 x.1.name) es) (same_text e.0 e.1.name (z.0.0 ∙ sym z.0.1)) (keys_are_names fs es z.1)
+
+module _ (t : Tables) (kept : List ℕ) (p : Plan) (are : TypesAreKept t kept p) where
+  -- ---- order
+
+  later_rise : (n : ℕ) (e : Text × ℕ) → slice_get kept e.1 ≡ Some n → (ns : List ℕ) (es : List (Text × ℕ)) → AllZip (IsKeptAs kept p) ns es → list_all (nat_lt n) ns ≡ true → list_all (nat_lt e.1) (numbers_of es) ≡ true
+  later_rise n e at [] [] z h = refl
+  later_rise n e at [] (x ∷ es) z h = absurd z
+  later_rise n e at (m ∷ ns) [] z h = absurd z
+  later_rise n e at (m ∷ ns) (x ∷ es) z h =
+      let less : n < m = ltb→lt n m (subst T (sym (first_true (nat_lt n m) (list_all (nat_lt n) ns) h)) tt) in
+      both (nat_lt e.1 x.1) (list_all (nat_lt e.1) (numbers_of es)) (lt-ltb e.1 x.1 (are.rise e.1 x.1 n m at z.0.0 less)) (later_rise n e at ns es z.1 (second_true (nat_lt n m) (list_all (nat_lt n) ns) h))
+
+  all_rise : (ns : List ℕ) (es : List (Text × ℕ)) → AllZip (IsKeptAs kept p) ns es → are_rising ns ≡ true → are_rising (numbers_of es) ≡ true
+  all_rise [] [] z h = refl
+  all_rise [] (e ∷ es) z h = absurd z
+  all_rise (n ∷ ns) [] z h = absurd z
+  all_rise (n ∷ ns) (e ∷ es) z h =
+      both (list_all (nat_lt e.1) (numbers_of es)) (are_rising (numbers_of es)) (later_rise n e z.0.0 ns es z.1 (first_true (list_all (nat_lt n) ns) (are_rising ns) h)) (all_rise ns es z.1 (second_true (list_all (nat_lt n) ns) (are_rising ns) h))
+
+  -- ---- types
+
+  pub bears_name : (q n : ℕ) (name : Text) (u : PlannedType) → slice_get t.shapes n ≡ Some (named_shape q name) → IsKeptType t kept p n u → bears name u.name ≡ true
+  bears_name q n name u there (declared r other d at called home_u kind before good obeys) =
+      let one : named_shape r other ≡ named_shape q name = same-some (named_shape r other) (named_shape q name) (sym at ∙ there) in
+      ap (λ o. option_map_or (λ x. text_eq x name) o false) called ∙ same_text other name (ap (λ (s : Shape). first_label s.labels) one)
+  bears_name q n name u there (unnamed place form olds news at z none unowned kind part low) =
+      let one : node_shape form olds ≡ named_shape q name = same-some (node_shape form olds) (named_shape q name) (sym at ∙ there) in
+      let sort : (form_code form).sort ≡ 0 = ap (λ (s : Shape). s.sort) one in
+      no_true (sym (no_name form) ∙ eq-eqb (form_code form).sort 0 sort)
+
+  module _ (b : Beside) (owned : AreOwned t kept p b.owners) (m q : ℕ) (home : b.owners q ≡ as_interface m) where
+    type_is : (x : NumberedType) (n : ℕ) (e : Text × ℕ) → IsNumberOf t q x n → IsKeptAs kept p n e → HasName x e → is_type_of p (as_interface m) e ≡ true
+    type_is x n e there at name =
+        let found = slice_there p.types e.1 at.1 in
+        let is = are.each e.1 found.0 found.1 in
+        let number : is.0 ≡ n = same-some is.0 n (sym is.1 ∙ at.0) in
+        let owner_is = owned.owned e.1 n found.0 q x.name found.1 at.0 there ∙ home in
+        ap (λ o. option_map_or (λ y. bears e.0 y.name && same_owner y.owner (as_interface m)) o false) found.1
+        ∙ both (bears e.0 found.0.name) (same_owner found.0.owner (as_interface m))
+        (ap (λ y. bears y found.0.name) name ∙ bears_name q n x.name found.0 there (subst (λ k. IsKeptType t kept p k found.0) number is.2)) (ap (λ o. same_owner o (as_interface m)) owner_is ∙ owner_itself (as_interface m))
+
+    types_are : (xs : List NumberedType) (ns : List ℕ) (es : List (Text × ℕ)) → AllZip (IsNumberOf t q) xs ns → AllZip (IsKeptAs kept p) ns es → AllZip HasName xs es → list_all (is_type_of p (as_interface m)) es ≡ true
+    types_are xs ns [] y z names = refl
+    types_are [] ns (e ∷ es) y z names = absurd names
+    types_are (x ∷ xs) [] (e ∷ es) y z names = absurd y
+    types_are (x ∷ xs) (n ∷ ns) (e ∷ es) y z names = both (is_type_of p (as_interface m) e) (list_all (is_type_of p (as_interface m)) es) (type_is x n e y.0 z.0 names.0) (types_are xs ns es y.1 z.1 names.1)
+
+  -- ---- one interface
+
+  module _ (b : Beside) (m : ℕ) (i : PlannedInterface) (is : IsReadInterface t kept p b m i) where
+    shown_names : distinct (map (λ (x : NumberedType). x.name) is.view.types ++ map (λ (f : Text × NumberedFunction). f.0) is.view.functions) ≡ true
+    shown_names =
+        sym (ap distinct (λ j. map_of_map (λ (x : ShownType). x.name) (shown_type t) is.view.types j ++ map_of_map (λ (f : Text × FunctionMeaning). f.0) (shown_function t) is.view.functions j))
+        ∙ second_true
+        (list_all (λ x. is_label x.name && rules.is_declared (place_at t is.place) x.meaning.declaration) (view_of t is.view).types
+        && list_all (λ f. rules.is_function (place_at t is.place) (rules.resources_of (view_of t is.view).types) f.0 f.1.signature) (view_of t is.view).functions)
+        (distinct (map (λ x. x.name) (view_of t is.view).types ++ map (λ f. f.0) (view_of t is.view).functions)) is.obeys
+
+    pub has_labels : interface_labels i ≡ true
+    has_labels =
+        both (passes is_label i.name) (are_distinct (names_of i.types ++ names_of i.functions)) is.label
+        (ap are_distinct (λ j. type_names is.view.types i.types is.names j ++ function_names is.view.functions i.functions is.functions j)
+        ∙ (distinct_same (map (λ (x : NumberedType). x.name) is.view.types ++ map (λ (f : Text × NumberedFunction). f.0) is.view.functions) ∙ shown_names))
+
+pub read_interfaces_pass : ReadInterfacesPass
+read_interfaces_pass t tables kept p are b owned read = record {
+  interface_labels = all_by_number interface_labels p.interfaces (λ m i e. has_labels t kept p are b m i (read m i e));
+  interface_types = each_by_number (λ n i. list_all (is_type_of p (as_interface n)) i.types) p.interfaces
+      (λ m i e. let is = read m i e in types_are t kept p are b owned m is.place is.owned is.view.types is.numbers i.types is.shapes is.kept_there is.names);
+  types_rise = all_by_number (λ i. are_rising (numbers_of i.types)) p.interfaces (λ m i e. let is = read m i e in all_rise t kept p are is.numbers i.types is.kept_there is.rise);
+  function_keys = all_by_number (λ i. list_all (λ e. text_eq e.0 e.1.name) i.functions) p.interfaces (λ m i e. let is = read m i e in keys_are_names is.view.functions i.functions is.functions);
+}

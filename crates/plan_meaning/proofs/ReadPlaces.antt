@@ -1,0 +1,213 @@
+-- Packages, and the places of interfaces and worlds, that are read pass the tests of a plan on them.
+use Rattle.std.proofs.Common.{◌≡◌, refl, sym, ap, ◌∙◌, ℕ, ◌+◌, Bool, true, false, not, ◌&&◌, ◌||◌, ◌==◌, List, [], ◌∷◌, filter_map, flat_map, Option, Some, None, option_and_then, is_some, slice_get}
+use Rattle.std.specs.Prelude.{sum_by}
+use Rattle.std.specs.List.{AllByRecursion, list_all, list_any}
+use Rattle.std.specs.Option.{option_map_or, option_eq}
+use Rattle.std.proofs.lemmas.Bool.{eq-eqb}
+use Rattle.std.proofs.lemmas.List.Folds.{list_all-map}
+use Rattle.std.proofs.lemmas.List.Sums.{sum_by-cons}
+use Rattle.std.proofs.lemmas.Slice.Eq.{bytes_eq-Decides}
+use Rattle.wit_model.specs.declared.model.TypeOwner.{TypeOwner}
+use Rattle.wit_model.specs.Text.{Text, text_eq}
+use Rattle.wit_model.specs.Names.{path_in, is_identity, is_label}
+use Rattle.wit_model.specs.Parts.{same_owner}
+use Rattle.wit_model.specs.Uses.{has, owner_interface}
+use Rattle.wit_model.specs.Rules.{are_distinct, in_list, is_id}
+use Rattle.wit_model.specs.Valid.{as_interface}
+use Rattle.wit_model.proofs.Elements.{contains-flat, contains-has, get-contains, has-contains, same-number, same-some}
+use Rattle.wit_model.proofs.Lists.{first_true, second_true}
+use Rattle.wit_model.proofs.NameLaws.{read_path_is_spelled}
+use Rattle.wit_model.proofs.VersionLaws.{same_text}
+use Rattle.comp_meaning.specs.Same.{same_identity}
+use Rattle.comp_meaning.proofs.SameLaws.{identities_decide}
+use Rattle.plan_meaning.specs.Plan.{Plan, PlannedInterface, PlannedWorld, PlannedPackage, package_in, interface_in, world_in, number_under, numbers_of, item_interface, items_of}
+use Rattle.plan_meaning.specs.PlanRules.{bears, has_name, is_alone, is_placed, is_world_placed, lists_interface, lists_members, lists_world, members_differ, names_of, times_shown}
+use Rattle.plan_meaning.specs.NumberedViews.{Tables, path_at, AreTables}
+use Rattle.plan_meaning.specs.NumberedWorlds.{HasPath, are_once}
+use Rattle.plan_meaning.specs.NumberedMembers.{Homes, HomesStand, home_at}
+use Rattle.plan_meaning.specs.ReadPlaces.{inline_shown, IsPlacedInterface, under_path, inline, IsListedInterface, IsListedWorld, PlacesAreRead, PlaceTests, ReadPlacesPass}
+use Rattle.plan_meaning.proofs.KeptFunctions.{owner_itself}
+use Rattle.plan_meaning.proofs.KeptTypes.{all_by_number, distinct_same}
+use Rattle.plan_meaning.proofs.Listed.{in_range}
+use Rattle.plan_meaning.proofs.Lists.{both, each_by_number, has_filter, no_true}
+use Rattle.plan_meaning.proofs.ReadLists.{distinct_both, never, not_true, number_there, times, times_absent, times_both, times_filter, times_of, times_once}
+
+pub one_interface : (m n : ℕ) → as_interface m ≡ as_interface n → m ≡ n
+one_interface m n e = same-some m n (ap owner_interface e)
+
+module _ (t : Tables) (tables : AreTables t) (h : Homes) (homes : HomesStand t h) where
+  -- a place under a path is known by its package and its name
+  pub one_home : (a b n : ℕ) (name : Text) → HasPath t a → HasPath t b → home_at h a ≡ Some (n, name) → home_at h b ≡ Some (n, name) → a ≡ b
+  one_home a b n name pa pb ha hb =
+      let first = homes.homes a pa.0 pa.1 in
+      let second = homes.homes b pb.0 pb.1 in
+      let fx = same-some (first.package_, first.name) (n, name) (sym first.home ∙ ha) in
+      let sx = same-some (second.package_, second.name) (n, name) (sym second.home ∙ hb) in
+      let one : first.identity ≡ second.identity = same-some first.identity second.identity
+      (sym first.stands ∙ (ap (λ (x : ℕ × Text). slice_get h.packages x.0) (fx ∙ sym sx) ∙ second.stands)) in
+      let names : first.name ≡ second.name = ap (λ (x : ℕ × Text). x.1) (fx ∙ sym sx) in
+      let left = (read_path_is_spelled pa.0 first.identity first.name first.reads).spelled in
+      let right = (read_path_is_spelled pb.0 second.identity second.name second.reads).spelled in
+      let path : pa.0 ≡ pb.0 = left ∙ ((λ i. path_in (one i) (names i)) ∙ sym right) in
+      tables.paths a b pa.0 pa.1 (pb.1 ∙ ap Some (sym path))
+
+  module _ (p : Plan) (owners : ℕ → TypeOwner) (read : PlacesAreRead t h p owners) where
+    no_path : (a b : ℕ) → a ≡ b → path_at t a ≡ None → HasPath t b → ⊥
+    no_path a b e none path = no_true (ap is_some (sym none ∙ (ap (path_at t) e ∙ path.1)))
+
+    -- ---- packages
+
+    identity_there : (n : ℕ) (k : PlannedPackage) → package_in p n ≡ Some k → is_identity k.identity ≡ true
+    identity_there n k e = let is = read.packages n k e in (read_path_is_spelled is.path k.identity is.name is.reads).identity
+
+    other_identity : (n : ℕ) (k : PlannedPackage) → package_in p n ≡ Some k → (m : ℕ) (other : PlannedPackage) → package_in p m ≡ Some other → ((m == n) || not (same_identity k.identity other.identity)) ≡ true
+    other_identity n k e m other f = go (same_identity k.identity other.identity) refl
+      where
+        go : (b : Bool) → same_identity k.identity other.identity ≡ b → ((m == n) || not (same_identity k.identity other.identity)) ≡ true
+        go false g = ap (λ b. (m == n) || not b) g ∙ or_true (m == n)
+          where
+            or_true : (b : Bool) → (b || true) ≡ true
+            or_true true = refl
+            or_true false = refl
+        go true g =
+            let same : k.identity ≡ other.identity = (identities_decide k.identity other.identity).0 g in
+            let number : m ≡ n = homes.apart m n other.identity (read.packages m other f).identity ((read.packages n k e).identity ∙ ap Some same) in
+            ap (λ b. b || not (same_identity k.identity other.identity)) (eq-eqb m n number)
+
+    all_interfaces : (n : ℕ) (es : List (Text × ℕ)) → AllByRecursion (IsListedInterface t h p owners n) es → list_all (lists_interface p n) es ≡ true
+    all_interfaces n [] a = refl
+    all_interfaces n (e ∷ es) a = both (lists_interface p n e) (list_all (lists_interface p n) es) (by (read.interfaces e.1 a.0.interface a.0.there)) (all_interfaces n es a.1)
+      where
+        by : IsPlacedInterface t h p owners e.1 a.0.interface → lists_interface p n e ≡ true
+        by (under_path q k name package_ path owned home named of_package there listed) =
+            let place : q ≡ a.0.place = read.apart q a.0.place (ap (same_owner (owners q)) (a.0.owned ∙ sym owned) ∙ owner_itself (owners q)) in
+            let one = same-some (k, name) (n, e.0) (sym home ∙ (ap (home_at h) place ∙ a.0.home)) in
+            ap (λ o. option_map_or (λ (i : PlannedInterface). bears e.0 i.name && is_id n i.package_) o false) a.0.there
+            ∙ ((λ j. bears e.0 (named j) && is_id n (of_package j)) ∙ both (text_eq name e.0) (k == n) (same_text name e.0 (ap (λ (x : ℕ × Text). x.1) one)) (eq-eqb k n (ap (λ (x : ℕ × Text). x.0) one)))
+        by (inline q k w none owned unnamed there shown) =
+            let place : q ≡ a.0.place = read.apart q a.0.place (ap (same_owner (owners q)) (a.0.owned ∙ sym owned) ∙ owner_itself (owners q)) in
+            absurd (no_path q a.0.place place none a.0.path)
+
+    all_worlds : (n : ℕ) (es : List (Text × ℕ)) → AllByRecursion (IsListedWorld t h p owners n) es → list_all (lists_world p n) es ≡ true
+    all_worlds n [] a = refl
+    all_worlds n (e ∷ es) a =
+        both (lists_world p n e) (list_all (lists_world p n) es)
+        (ap (λ o. option_map_or (λ (w : PlannedWorld). text_eq w.name e.0 && is_id n w.package_) o false) a.0.there
+        ∙ ((λ j. text_eq (a.0.named j) e.0 && is_id n (a.0.home j)) ∙ both (text_eq e.0 e.0) (n == n) (same_text e.0 e.0 refl) (same-number n)))
+        (all_worlds n es a.1)
+
+    -- names of interfaces differ, as their numbers do
+    other_names : (n : ℕ) (e : Text × ℕ) → IsListedInterface t h p owners n e → (es : List (Text × ℕ)) → AllByRecursion (IsListedInterface t h p owners n) es → has (numbers_of es) e.1 ≡ false
+        → list_any (text_eq e.0) (names_of es) ≡ false
+    other_names n e is [] a none = refl
+    other_names n e is (x ∷ es) a none = go (text_eq e.0 x.0) refl (other_names n e is es a.1)
+      where
+        rest : (b : Bool) → (b || has (numbers_of es) e.1) ≡ false → has (numbers_of es) e.1 ≡ false
+        rest false g = g
+        rest true g = never true refl g
+
+        go : (b : Bool) → text_eq e.0 x.0 ≡ b → (has (numbers_of es) e.1 ≡ false → list_any (text_eq e.0) (names_of es) ≡ false) → list_any (text_eq e.0) (names_of (x ∷ es)) ≡ false
+        go true f more =
+            let same : e.0 ≡ x.0 = (bytes_eq-Decides e.0 x.0).0 f in
+            let place : is.place ≡ a.0.place = one_home is.place a.0.place n x.0 is.path a.0.path (is.home ∙ ap (λ y. Some (n, y)) same) a.0.home in
+            let number : x.1 ≡ e.1 = one_interface x.1 e.1 (sym a.0.owned ∙ (ap owners (sym place) ∙ is.owned)) in
+            never (has (numbers_of (x ∷ es)) e.1) (ap (λ b. b || has (numbers_of es) e.1) (eq-eqb x.1 e.1 number)) none
+        go false f more = ap (λ b. b || list_any (text_eq e.0) (names_of es)) f ∙ more (rest (x.1 == e.1) none)
+
+    interface_names : (n : ℕ) (es : List (Text × ℕ)) → AllByRecursion (IsListedInterface t h p owners n) es → are_once (numbers_of es) ≡ true → are_distinct (names_of es) ≡ true
+    interface_names n [] a once = refl
+    interface_names n (e ∷ es) a once =
+        both (not (list_any (text_eq e.0) (names_of es))) (are_distinct (names_of es))
+        (ap not (other_names n e a.0 es a.1 (not_true (has (numbers_of es) e.1) (first_true (not (has (numbers_of es) e.1)) (are_once (numbers_of es)) once))))
+        (interface_names n es a.1 (second_true (not (has (numbers_of es) e.1)) (are_once (numbers_of es)) once))
+
+    interfaces_differ : (n : ℕ) (k : PlannedPackage) → package_in p n ≡ Some k → are_distinct (names_of k.interfaces) ≡ true
+    interfaces_differ n k e = let is = read.packages n k e in interface_names n k.interfaces is.interfaces is.once
+
+    worlds_differ : (n : ℕ) (k : PlannedPackage) → package_in p n ≡ Some k → are_distinct (names_of k.worlds) ≡ true
+    worlds_differ n k e = distinct_same (names_of k.worlds) ∙ (read.packages n k e).labels
+
+    all_differ : (n : ℕ) (k : PlannedPackage) → package_in p n ≡ Some k → members_differ k ≡ true
+    all_differ n k e =
+        distinct_both (names_of k.interfaces) (names_of k.worlds) (interfaces_differ n k e) (worlds_differ n k e)
+        (list_all-map (λ x. not (list_any (text_eq x) (names_of k.worlds))) (λ (y : Text × ℕ). y.0) k.interfaces ∙ (read.packages n k e).apart)
+
+    -- ---- interfaces
+
+    shown_times : (m : ℕ) → has_name p m ≡ false → (ws : List PlannedWorld) → sum_by (times_shown m) ws ≡ times m (flat_map (inline_shown p) ws)
+    shown_times m unnamed [] = refl
+    shown_times m unnamed (w ∷ ws) =
+        let here : times_shown m w ≡ times m (inline_shown p w) =
+        times_of item_interface m (items_of w) ∙ sym (times_filter (λ k. not (has_name p k)) m (ap not unnamed) (filter_map item_interface (items_of w))) in
+        sum_by-cons (times_shown m) w ws ∙ ((λ i. here i + shown_times m unnamed ws i) ∙ sym (times_both m (inline_shown p w) (flat_map (inline_shown p) ws)))
+
+    is_inline : (m : ℕ) (i : PlannedInterface) → interface_in p m ≡ Some i → i.name ≡ None → has_name p m ≡ false
+    is_inline m i e none = ap (λ o. option_map_or (λ (x : PlannedInterface). is_some x.name) o false) e ∙ ap is_some none
+
+    same_package : (a b : Option ℕ) → a ≡ b → option_eq ◌==◌ a b ≡ true
+    same_package None b e = ap (option_eq ◌==◌ None) (sym e)
+    same_package (Some a) b e = ap (option_eq ◌==◌ (Some a)) (sym e) ∙ same-number a
+
+    world_is_home : (m : ℕ) (i : PlannedInterface) → interface_in p m ≡ Some i → i.name ≡ None → (n : ℕ) (w : PlannedWorld) → world_in p n ≡ Some w
+        → ((times_shown m w == 0) || option_eq ◌==◌ w.package_ i.package_) ≡ true
+    world_is_home m i e none n w at = go (has (filter_map item_interface (items_of w)) m) refl
+      where
+        go : (b : Bool) → has (filter_map item_interface (items_of w)) m ≡ b → ((times_shown m w == 0) || option_eq ◌==◌ w.package_ i.package_) ≡ true
+        go false f = ap (λ k. (k == 0) || option_eq ◌==◌ w.package_ i.package_) (times_of item_interface m (items_of w) ∙ times_absent m (filter_map item_interface (items_of w)) f)
+        go true f =
+            let home = read.inline_home n w m i at (has-contains (filter_map item_interface (items_of w)) m f) e none in
+            or_second (times_shown m w == 0) (option_eq ◌==◌ w.package_ i.package_) (same_package w.package_ i.package_ (sym home))
+          where
+            or_second : (a b : Bool) → b ≡ true → (a || b) ≡ true
+            or_second true b g = refl
+            or_second false b g = g
+
+    placed : (m : ℕ) (i : PlannedInterface) → interface_in p m ≡ Some i → is_placed p m i ≡ true
+    placed m i e = by (read.interfaces m i e)
+      where
+        by : IsPlacedInterface t h p owners m i → is_placed p m i ≡ true
+        by (under_path q n name k path owned home named of_package there listed) =
+            (λ j. option_map_or (λ x. option_map_or (λ (y : PlannedPackage). is_id m (number_under x y.interfaces)) (option_and_then (package_in p) (of_package j)) false) (named j)
+            (option_map_or (in_list p.packages) i.package_ false
+            && ((sum_by (times_shown m) p.worlds == 1) && list_all (λ w. (times_shown m w == 0) || option_eq ◌==◌ w.package_ i.package_) p.worlds)))
+            ∙ (ap (λ o. option_map_or (λ (y : PlannedPackage). is_id m (number_under name y.interfaces)) o false) there ∙ number_there name m k.interfaces (interfaces_differ n k there) listed)
+        by (inline q n w no_path_there owned none there shown) =
+            let home : i.package_ ≡ w.package_ = read.inline_home n w m i there shown e none in
+            let at = read.worlds n w there in
+            let unnamed = is_inline m i e none in
+            let in_world : has (inline_shown p w) m ≡ true = has_filter (λ k. not (has_name p k)) (filter_map item_interface (items_of w)) m (contains-has (filter_map item_interface (items_of w)) m shown) (ap not unnamed) in
+            let in_all : has (flat_map (inline_shown p) p.worlds) m ≡ true =
+            contains-has (flat_map (inline_shown p) p.worlds) m (contains-flat (inline_shown p) p.worlds w m (get-contains p.worlds n w there) (has-contains (inline_shown p w) m in_world)) in
+            ap (λ o. option_map_or (λ x. option_map_or (λ (y : PlannedPackage). is_id m (number_under x y.interfaces)) (option_and_then (package_in p) i.package_) false) o
+            (option_map_or (in_list p.packages) i.package_ false
+            && ((sum_by (times_shown m) p.worlds == 1) && list_all (λ w. (times_shown m w == 0) || option_eq ◌==◌ w.package_ i.package_) p.worlds))) none
+            ∙ both (option_map_or (in_list p.packages) i.package_ false) ((sum_by (times_shown m) p.worlds == 1) && list_all (λ w. (times_shown m w == 0) || option_eq ◌==◌ w.package_ i.package_) p.worlds)
+            (ap (λ o. option_map_or (in_list p.packages) o false) (home ∙ at.home) ∙ in_range p.packages at.number (ap is_some at.there))
+            (both (sum_by (times_shown m) p.worlds == 1) (list_all (λ w. (times_shown m w == 0) || option_eq ◌==◌ w.package_ i.package_) p.worlds)
+            (ap (λ k. k == 1) (shown_times m unnamed p.worlds ∙ times_once m (flat_map (inline_shown p) p.worlds) read.inline_once in_all))
+            (all_by_number (λ x. (times_shown m x == 0) || option_eq ◌==◌ x.package_ i.package_) p.worlds (λ k x f. world_is_home m i e none k x f)))
+
+    -- ---- worlds
+
+    world_placed : (m : ℕ) (w : PlannedWorld) → world_in p m ≡ Some w → is_world_placed p m w ≡ true
+    world_placed m w e =
+        let at = read.worlds m w e in
+        ap (λ o. option_map_or (λ (k : PlannedPackage). is_id m (number_under w.name k.worlds)) (option_and_then (package_in p) o) false) at.home
+        ∙ (ap (λ o. option_map_or (λ (k : PlannedPackage). is_id m (number_under w.name k.worlds)) o false) at.there
+        ∙ number_there w.name m at.package_.worlds (worlds_differ at.number at.package_ at.there) at.listed)
+
+    pass : PlaceTests p
+    pass = record {
+      identities = all_by_number (λ k. is_identity k.identity) p.packages identity_there;
+      alone = each_by_number (is_alone p) p.packages
+          (λ n k e. each_by_number (λ m other. (m == n) || not (same_identity k.identity other.identity)) p.packages (λ m other f. other_identity n k e m other f));
+      members = each_by_number (lists_members p) p.packages
+          (λ n k e. let is = read.packages n k e in both (list_all (lists_interface p n) k.interfaces) (list_all (lists_world p n) k.worlds) (all_interfaces n k.interfaces is.interfaces) (all_worlds n k.worlds is.worlds));
+      members_differ = all_by_number members_differ p.packages all_differ;
+      interfaces_placed = each_by_number (is_placed p) p.interfaces placed;
+      worlds_placed = each_by_number (is_world_placed p) p.worlds world_placed;
+      world_labels = all_by_number (λ w. is_label w.name) p.worlds (λ m w e. (read.worlds m w e).label);
+    }
+
+pub read_places_pass : ReadPlacesPass
+read_places_pass t tables h homes p owners read = pass t tables h homes p owners read

@@ -1,0 +1,175 @@
+-- Types refer to smaller ones, and stand with their owners in order.
+use Rattle.std.proofs.Common.{◌≡◌, refl, sym, ap, ◌∙◌, ℕ, Bool, true, false, ◌&&◌, ◌||◌, ◌==◌, cond, nat_lt, List, [], ◌∷◌, map, filter_map, option_map, option_and_then, option_to_list, Option, Some, None, is_some, String}
+use Rattle.std.specs.declared.alloc.Global.{Global}
+use Rattle.std.specs.List.{list_all}
+use Rattle.std.specs.Option.{option_map_or}
+use Rattle.std.specs.Map.{lookup}
+use Rattle.std.specs.HashMap.{get_by}
+use Rattle.std.proofs.lemmas.Bool.{or_left, or_right}
+use Rattle.std.proofs.lemmas.List.Folds.{list_all-map}
+use Rattle.indexmap.specs.IndexMap.{values}
+use Rattle.wit_model.specs.declared.model.Resolve.{Resolve}
+use Rattle.wit_model.specs.declared.model.Interface.{Interface}
+use Rattle.wit_model.specs.declared.model.World.{World}
+use Rattle.wit_model.specs.declared.model.WorldKey.{WorldKey}
+use Rattle.wit_model.specs.declared.model.WorldKey.TheVariants as key
+use Rattle.wit_model.specs.declared.model.WorldItem.{WorldItem}
+use Rattle.wit_model.specs.declared.model.WorldItem.TheVariants as item
+use Rattle.wit_model.specs.declared.model.TypeId.{TypeId}
+use Rattle.wit_model.specs.declared.model.TypeOwner.{TypeOwner}
+use Rattle.wit_model.specs.declared.model.TypeOwner.TheVariants as owner
+use Rattle.wit_model.specs.Text.{Text, text_of, text_eq, optional_text}
+use Rattle.wit_model.specs.Lookup.{interface_at, world_at, type_at}
+use Rattle.wit_model.specs.Parts as parts
+use Rattle.wit_model.specs.Parts.{same_owner}
+use Rattle.wit_model.specs.Uses.{has}
+use Rattle.wit_model.specs.Rules as rules
+use Rattle.wit_model.specs.Rules.{passes, is_id, text_is, is_name_key, is_named_of, are_in_order, interface_type_numbers, world_type_numbers, is_listed_in_interface, is_listed_in_world, used_by_number}
+use Rattle.wit_model.specs.Valid.{Keeps, order_of_types, as_interface, as_world}
+use Rattle.wit_model.proofs.Lists.{first_true, second_true, list_all_filter_map}
+use Rattle.wit_model.proofs.Checks.{keeps_three}
+use Rattle.wit_model.proofs.InOrder.{found_stands}
+use Rattle.plan_meaning.specs.Plan as plan
+use Rattle.plan_meaning.specs.Plan.{PlannedInterface, PlannedWorld, number_under, numbers_of}
+use Rattle.plan_meaning.specs.PlanRules as planned
+use Rattle.plan_meaning.specs.PlanRules.{IsPlan, are_rising, is_under_label}
+use Rattle.plan_meaning.specs.Built.{planned_type, planned_interface, planned_world, planned_key, planned_item}
+use Rattle.plan_meaning.proofs.Lists.{map_of_map, filter_of_map, get_of_map, then_of_map, same_then, lookup_of_map, all_get, all_built, each_two, each_built, each_from_built, both, no_true}
+use Rattle.plan_meaning.proofs.Words.{plan_of, kind_numbers_are}
+use Rattle.plan_meaning.proofs.FunctionRules.{values_are}
+use Rattle.plan_meaning.proofs.Listed.{passes_weaker}
+use Rattle.plan_meaning.proofs.WorldItems.{own_type}
+use Rattle.plan_meaning.proofs.ResourceMarks.{references_hold}
+use Rattle.plan_meaning.proofs.Rising.{stands_once, in_order, used_low}
+
+-- ---- the lists of types
+
+pub type_numbers_are : (i : Interface) → numbers_of (planned_interface i).types ≡ interface_type_numbers i
+type_numbers_are i = map_of_map (λ (e : Text × ℕ). e.1) (λ e. (text_of e.0, e.1.0)) i.types.entries ∙ sym (map_of_map (λ (id : TypeId). id.0) (λ e. e.1) i.types.entries)
+
+pub item_type_is : (x : WorldItem) → plan.item_type (planned_item x) ≡ rules.item_type x
+item_type_is (item.Interface id stability docs external_id) = refl
+item_type_is (item.Function f) = refl
+item_type_is (item.Type_ id) = refl
+
+pub item_types_are : (xs : List WorldItem) → filter_map plan.item_type (map planned_item xs) ≡ filter_map rules.item_type xs
+item_types_are xs = filter_of_map plan.item_type planned_item xs ∙ ap (λ h. filter_map h xs) (λ i x. item_type_is x i)
+
+pub world_types_are : (w : World) → plan.world_types (planned_world w) ≡ world_type_numbers w
+world_types_are w = ap (filter_map plan.item_type) (values_are w.imports.entries) ∙ item_types_are (values w.imports)
+
+named_too : (o : Option (String Global)) (t : Text) → text_is o t ≡ true → is_some o ≡ true
+named_too None t h = no_true h
+named_too (Some s) t h = refl
+
+-- a number that stands under a name stands in the list
+pub under_has : (name : Text) (n : ℕ) (es : List (Text × ℕ)) → is_id n (number_under name es) ≡ true → has (numbers_of es) n ≡ true
+under_has name n [] h = no_true h
+under_has name n (e ∷ es) h = go (text_eq name e.0) h (under_has name n es)
+  where
+    go : (b : Bool) → is_id n (cond b (Some e.1) (number_under name es)) ≡ true → (is_id n (number_under name es) ≡ true → has (numbers_of es) n ≡ true) → ((e.1 == n) || has (numbers_of es) n) ≡ true
+    go true h rest = or_left (e.1 == n) (has (numbers_of es) n) h
+    go false h rest = or_right (e.1 == n) (has (numbers_of es) n) (rest h)
+
+given_test : {A : Type 0} (p : A → Bool) (o : Option A) → passes p o ≡ true → list_all p (option_to_list o) ≡ true
+given_test p None h = refl
+given_test p (Some x) h = both _ _ h refl
+
+key_is : (name : Text) (k : WorldKey) → is_under_label name (planned_key k) ≡ is_name_key name k
+key_is name (key.Name s) = refl
+key_is name (key.Interface id) = refl
+
+module _ (r : Resolve) (m : ℕ) (is : IsPlan (plan_of r m)) where
+  named_of : (o : TypeOwner) (t : Text) (n : ℕ) → planned.is_type_of (plan_of r m) o (t, n) ≡ true → is_named_of r o n ≡ true
+  named_of o t n h =
+      passes_weaker (λ def. text_is def.name t && same_owner def.owner o) (λ def. is_some def.name && same_owner def.owner o)
+      (λ def k. both _ _ (named_too def.name t (first_true _ _ k)) (second_true (text_is def.name t) _ k)) (type_at r n) (own_type r m is o t n h)
+
+  ordered : (ns : List ℕ) → are_rising ns ≡ true → are_in_order r ns ≡ true
+  ordered ns rise = in_order (used_by_number r) (used_low r (references_hold r m is)) ns [] ns (λ k. refl) rise
+
+  -- ---- interfaces and worlds
+
+  interface_passes : (n : ℕ) (i : Interface) → list_all (planned.is_type_of (plan_of r m) (as_interface n)) (planned_interface i).types ≡ true → are_rising (numbers_of (planned_interface i).types) ≡ true
+      → (list_all (is_named_of r (as_interface n)) (interface_type_numbers i) && are_in_order r (interface_type_numbers i)) ≡ true
+  interface_passes n i own rise =
+      both _ _
+      (list_all-map (is_named_of r (as_interface n)) (λ id. id.0) (values i.types)
+      ∙ (list_all-map (λ id. is_named_of r (as_interface n) id.0) (λ e. e.1) i.types.entries
+      ∙ all_built (λ e. (text_of e.0, e.1.0)) (planned.is_type_of (plan_of r m) (as_interface n)) (λ e. is_named_of r (as_interface n) e.1.0) (λ e k. named_of (as_interface n) (text_of e.0) e.1.0 k) i.types.entries own))
+      (ordered (interface_type_numbers i) (ap are_rising (sym (type_numbers_are i)) ∙ rise))
+
+  import_named : (n : ℕ) (e : WorldKey × WorldItem) → planned.import_stands (plan_of r m) n (planned_key e.0, planned_item e.1) ≡ true → list_all (is_named_of r (as_world n)) (option_to_list (rules.item_type e.1)) ≡ true
+  import_named n (key.Interface id, item.Interface other stability docs external_id) h = refl
+  import_named n (key.Interface id, item.Function f) h = refl
+  import_named n (key.Interface id, item.Type_ other) h = no_true h
+  import_named n (key.Name name, item.Interface id stability docs external_id) h = refl
+  import_named n (key.Name name, item.Function f) h = refl
+  import_named n (key.Name name, item.Type_ id) h = both _ _ (named_of (as_world n) (text_of name) id.0 (second_true _ _ h)) refl
+
+  world_passes : (n : ℕ) (w : World) → list_all (planned.import_stands (plan_of r m) n) (planned_world w).imports ≡ true → are_rising (plan.world_types (planned_world w)) ≡ true
+      → (list_all (is_named_of r (as_world n)) (world_type_numbers w) && are_in_order r (world_type_numbers w)) ≡ true
+  world_passes n w imports rise =
+      both _ _
+      (list_all_filter_map (is_named_of r (as_world n)) rules.item_type (values w.imports)
+      ∙ (list_all-map (λ x. list_all (is_named_of r (as_world n)) (option_to_list (rules.item_type x))) (λ e. e.1) w.imports.entries
+      ∙ all_built (λ e. (planned_key e.0, planned_item e.1)) (planned.import_stands (plan_of r m) n) (λ e. list_all (is_named_of r (as_world n)) (option_to_list (rules.item_type e.1))) (import_named n) w.imports.entries imports))
+      (ordered (world_type_numbers w) (ap are_rising (sym (world_types_are w)) ∙ rise))
+
+  -- ---- types
+
+  rises_at : (n : ℕ) (i : Interface) → interface_at r n ≡ Some i → are_rising (interface_type_numbers i) ≡ true
+  rises_at n i e =
+      ap are_rising (sym (type_numbers_are i))
+      ∙ all_get (λ x. are_rising (numbers_of x.types)) (map planned_interface r.interfaces.items) n (planned_interface i) is.types_rise (get_of_map planned_interface r.interfaces.items n ∙ ap (option_map planned_interface) e)
+
+  world_rises_at : (n : ℕ) (w : World) → world_at r n ≡ Some w → are_rising (world_type_numbers w) ≡ true
+  world_rises_at n w e =
+      ap are_rising (sym (world_types_are w))
+      ∙ all_get (λ x. are_rising (plan.world_types x)) (map planned_world r.worlds.items) n (planned_world w) is.world_types_rise (get_of_map planned_world r.worlds.items n ∙ ap (option_map planned_world) e)
+
+  in_interface : (n : ℕ) (name : Text) (i : Interface) → are_rising (interface_type_numbers i) ≡ true → is_id n (number_under name (planned_interface i).types) ≡ true → is_listed_in_interface n name i ≡ true
+  in_interface n name i rise h =
+      both _ _ (ap (is_id n) (sym (lookup_of_map (text_eq name) text_of (λ (id : TypeId). id.0) i.types.entries)) ∙ h)
+      (stands_once n (interface_type_numbers i) rise (ap (λ ns. has ns n) (sym (type_numbers_are i)) ∙ under_has name n (planned_interface i).types h))
+
+  in_world : (n : ℕ) (name : Text) (w : World) → are_rising (world_type_numbers w) ≡ true → is_id n (option_and_then plan.item_type (lookup (is_under_label name) (planned_world w).imports)) ≡ true → is_listed_in_world n name w ≡ true
+  in_world n name w rise h =
+      both _ _ found (stands_once n (world_type_numbers w) rise (found_stands (is_name_key name) rules.item_type n w.imports.entries found))
+    where
+      found : is_id n (option_and_then rules.item_type (get_by (is_name_key name) w.imports)) ≡ true
+      found =
+          ap (is_id n) (sym (ap (option_and_then plan.item_type) (lookup_of_map (is_under_label name) planned_key planned_item w.imports.entries ∙ ap (λ test. option_map planned_item (lookup test w.imports.entries)) (λ i k. key_is name k i))
+          ∙ (then_of_map plan.item_type planned_item (lookup (is_name_key name) w.imports.entries) ∙ same_then (λ x. plan.item_type (planned_item x)) rules.item_type item_type_is (lookup (is_name_key name) w.imports.entries)))) ∙ h
+
+  listed_in : (n : ℕ) (name : Text) (o : TypeOwner) → planned.is_listed_in (plan_of r m) n name o ≡ true → rules.is_listed r n name o ≡ true
+  listed_in n name (owner.Interface id) h = go (interface_at r id.0) refl (sym (ap (λ o. option_map_or (λ i. is_id n (number_under name i.types)) o false) (get_of_map planned_interface r.interfaces.items id.0)) ∙ h)
+    where
+      go : (o : Option Interface) → interface_at r id.0 ≡ o → option_map_or (λ i. is_id n (number_under name i.types)) (option_map planned_interface o) false ≡ true → passes (is_listed_in_interface n name) (interface_at r id.0) ≡ true
+      go None e h = no_true h
+      go (Some i) e h = ap (passes (is_listed_in_interface n name)) e ∙ in_interface n name i (rises_at id.0 i e) h
+  listed_in n name (owner.World id) h =
+      go (world_at r id.0) refl (sym (ap (λ o. option_map_or (λ w. is_id n (option_and_then plan.item_type (lookup (is_under_label name) w.imports))) o false) (get_of_map planned_world r.worlds.items id.0)) ∙ h)
+    where
+      go : (o : Option World) → world_at r id.0 ≡ o → option_map_or (λ w. is_id n (option_and_then plan.item_type (lookup (is_under_label name) w.imports))) (option_map planned_world o) false ≡ true → passes (is_listed_in_world n name) (world_at r id.0) ≡ true
+      go None e h = no_true h
+      go (Some w) e h = ap (passes (is_listed_in_world n name)) e ∙ in_world n name w (world_rises_at id.0 w e) h
+  listed_in n name owner.None h = no_true h
+
+  listed_by : (n : ℕ) (name : Option (String Global)) (o : TypeOwner) → option_map_or (λ t. planned.is_listed_in (plan_of r m) n t o) (optional_text name) (same_owner o owner.None) ≡ true
+      → option_map_or (λ s. rules.is_listed r n (text_of s) o) name (same_owner o owner.None) ≡ true
+  listed_by n None o h = h
+  listed_by n (Some s) o h = listed_in n (text_of s) o h
+
+  pub order_of_types_kept : Keeps order_of_types r
+  unfolding order_of_types
+  order_of_types_kept = keeps_three order_of_types r refl
+      (each_two (λ n i. list_all (planned.is_type_of (plan_of r m) (as_interface n)) (planned_interface i).types) (λ n i. are_rising (numbers_of (planned_interface i).types)) (λ n i. order_of_types.interface_ r n i) interface_passes 0 r.interfaces.items
+      (each_built planned_interface (λ n i. list_all (planned.is_type_of (plan_of r m) (as_interface n)) i.types) (λ n i. list_all (planned.is_type_of (plan_of r m) (as_interface n)) (planned_interface i).types) (λ n i h. h) r.interfaces.items is.interface_types)
+      (each_from_built planned_interface (λ i. are_rising (numbers_of i.types)) (λ i. are_rising (numbers_of (planned_interface i).types)) (λ i h. h) r.interfaces.items is.types_rise))
+      (each_two (λ n w. list_all (planned.import_stands (plan_of r m) n) (planned_world w).imports) (λ n w. are_rising (plan.world_types (planned_world w))) (λ n w. order_of_types.world_ r n w) world_passes 0 r.worlds.items
+      (each_built planned_world (λ n w. list_all (planned.import_stands (plan_of r m) n) w.imports) (λ n w. list_all (planned.import_stands (plan_of r m) n) (planned_world w).imports) (λ n w h. h) r.worlds.items is.imports_stand)
+      (each_from_built planned_world (λ w. are_rising (plan.world_types w)) (λ w. are_rising (plan.world_types (planned_world w))) (λ w h. h) r.worlds.items is.world_types_rise))
+      (each_two (λ n def. list_all (λ j. nat_lt j n) (parts.kind_numbers def.kind)) (λ n def. option_map_or (λ s. rules.is_listed r n (text_of s) def.owner) def.name (same_owner def.owner owner.None)) (λ n def. order_of_types.type_ r n def) (λ n def a b. both _ _ a b) 0 r.types.items
+      (each_built planned_type (λ n t. list_all (λ j. nat_lt j n) (plan.kind_numbers t.kind)) (λ n def. list_all (λ j. nat_lt j n) (parts.kind_numbers def.kind)) (λ n def h. ap (list_all (λ j. nat_lt j n)) (sym (kind_numbers_are def.kind)) ∙ h) r.types.items is.types_fall)
+      (each_built planned_type (planned.is_listed (plan_of r m)) (λ n def. option_map_or (λ s. rules.is_listed r n (text_of s) def.owner) def.name (same_owner def.owner owner.None)) (λ n def h. listed_by n def.name def.owner h) r.types.items is.types_listed))

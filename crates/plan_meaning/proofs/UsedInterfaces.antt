@@ -1,0 +1,188 @@
+-- The interfaces that types of a plan use are those of the places that what was read uses.
+use Rattle.std.proofs.Common.{◌≡◌, ◌⊎◌, inl, inr, refl, sym, ap, subst, ◌∙◌, ℕ, zero, suc, ◌+◌, ◌-◌, arith, Bool, true, false, not, ◌==◌, cond, List, [], ◌∷◌, Option, Some, None, option_and_then, option_to_list, is_some, slice_get}
+use Rattle.std.specs.Prelude.{nat_le}
+use Rattle.std.specs.List.{AllZip, Contains, list_all}
+use Rattle.std.specs.Option.{option_map_or}
+use Rattle.std.proofs.lemmas.Bool.{le-leb, lt-ltb}
+use Rattle.wit_model.specs.declared.model.TypeOwner.{TypeOwner}
+use Rattle.wit_model.specs.declared.model.TypeOwner.TheVariants as owner
+use Rattle.wit_model.specs.Text.{Text}
+use Rattle.wit_model.specs.Uses.{owner_interface}
+use Rattle.wit_model.specs.Rules.{each_from}
+use Rattle.wit_model.specs.Valid.{as_interface}
+use Rattle.wit_model.proofs.Elements.{contains-filter_map, contains-flat, contains-get, contains-later, contains-map, get-contains, none-in, one-contained, same-some}
+use Rattle.plan_meaning.specs.Shapes.{Shape, first_label, named_shape, node_shape}
+use Rattle.plan_meaning.specs.Plan as plan
+use Rattle.plan_meaning.specs.Plan.{Plan, PlannedKind, PlannedType, PlannedInterface, interface_in, type_in, alias_number, part_number, interface_used_by, interfaces_used_by, numbers_of}
+use Rattle.plan_meaning.specs.Renumbering.{IsPart, a_primitive, a_shape}
+use Rattle.plan_meaning.specs.NumberedViews.{Tables, path_at, AreTables, NumberedType, NumberedView}
+use Rattle.plan_meaning.specs.NumberedRules as numbered
+use Rattle.plan_meaning.specs.NumberedRules.{name_at, name_in}
+use Rattle.plan_meaning.specs.NumberedWorlds.{HasPath, if_outside, used_by, used_by_view}
+use Rattle.plan_meaning.specs.GatheredPlan as gathered
+use Rattle.plan_meaning.specs.GatheredPlan.{Becomes, DeclaresKind, a_resource, a_form, TypeBecomes, TypeListed}
+use Rattle.plan_meaning.specs.KeptTypes.{IsKeptType, unnamed, declared, TypesAreKept}
+use Rattle.plan_meaning.specs.KeptOwners.{AreOwned}
+use Rattle.plan_meaning.specs.ReadFunctions.{Beside}
+use Rattle.plan_meaning.specs.ReadInterfaces.{IsNumberOf, IsKeptAs}
+use Rattle.plan_meaning.specs.ReadOrder.{IsUsedPlace, itself, smaller, IsViewedInterface, InterfacesAreViewed}
+use Rattle.plan_meaning.proofs.MetTypes.{flat_among}
+use Rattle.plan_meaning.proofs.Lists.{both, each_by_number, filter_map_from, get_back, no_true}
+use Rattle.plan_meaning.proofs.NumberedRules.{no_name, no_shape, shape_there}
+use Rattle.plan_meaning.proofs.ReadPlaces.{one_interface}
+use Rattle.plan_meaning.proofs.ShapeLaws.{slice_there}
+use Rattle.plan_meaning.proofs.Words.{behind}
+
+-- ---- lists
+
+pub all_among : {A : Type 0} (test : A → Bool) (xs : List A) → ((x : A) → Contains xs x → test x ≡ true) → list_all test xs ≡ true
+all_among test [] each = refl
+all_among test (x ∷ xs) each = both (test x) (list_all test xs) (each x (0, omega arith, refl)) (all_among test xs (λ y c. each y (contains-later x xs y c)))
+
+pub zip_at : {A B : Type 0} (R : A → B → Type 0) (xs : List A) (ys : List B) → AllZip R xs ys → (n : ℕ) (y : B) → slice_get ys n ≡ Some y → (x : A) × (slice_get xs n ≡ Some x) × R x y
+zip_at R [] [] z n y e = absurd cc
+zip_at R [] (y ∷ ys) z n w e = absurd z
+zip_at R (x ∷ xs) [] z n w e = absurd z
+zip_at R (x ∷ xs) (y ∷ ys) z zero w e = (x, refl, subst (R x) (same-some y w e) z.0)
+zip_at R (x ∷ xs) (y ∷ ys) z (suc n) w e = zip_at R xs ys z.1 n w e
+
+pub zip_there : {A B : Type 0} (R : A → B → Type 0) (xs : List A) (ys : List B) → AllZip R xs ys → (n : ℕ) (x : A) → slice_get xs n ≡ Some x → (y : B) × (slice_get ys n ≡ Some y) × R x y
+zip_there R [] [] z n x e = absurd cc
+zip_there R [] (y ∷ ys) z n w e = absurd z
+zip_there R (x ∷ xs) [] z n w e = absurd z
+zip_there R (x ∷ xs) (y ∷ ys) z zero w e = (y, refl, subst (λ a. R a y) (same-some x w e) z.0)
+zip_there R (x ∷ xs) (y ∷ ys) z (suc n) w e = zip_there R xs ys z.1 n w e
+
+-- an owner that is an interface
+pub owned_by : (o : TypeOwner) (u : ℕ) → owner_interface o ≡ Some u → o ≡ as_interface u
+owned_by (owner.Interface id) u e = ap as_interface (same-some id.0 u e)
+owned_by (owner.World id) u e = no_true (ap is_some e)
+owned_by owner.None u e = no_true (ap is_some e)
+
+module _ (t : Tables) (tables : AreTables t) (kept : List ℕ) (p : Plan) (are : TypesAreKept t kept p) (b : Beside) (owned : AreOwned t kept p b.owners) where
+  -- The interface whose type a type is another name for: none, that of its own place, or that of a place that it uses.
+  pub data UsedBy (q : ℕ) (d : Option ℕ) (o : Option ℕ) : Type 0 where
+    nothing : o ≡ None → used_by t d ≡ [] → UsedBy q d o
+    own : o ≡ owner_interface (b.owners q) → ((r : ℕ) → Contains (used_by t d) r → r ≡ q) → UsedBy q d o
+    other : (r : ℕ) → used_by t d ≡ r ∷ [] → o ≡ owner_interface (b.owners r) → UsedBy q d o
+
+  uses_outside : (d : Option ℕ) (old k r : ℕ) (name : Text) → d ≡ Some old → old ≡ 14 + k → slice_get t.shapes k ≡ Some (named_shape r name) → used_by t d ≡ if_outside t r
+  uses_outside d old k r name e is there =
+      let named : name_at t old ≡ Some (r, name) = ap (option_and_then name_in) (shape_there t old k (named_shape r name) is there) in
+      ap (used_by t) e ∙ ap (λ o. option_map_or (λ (x : ℕ × Text). if_outside t x.0) o []) named
+
+  used_there : (d : Option ℕ) (old k r : ℕ) (name : Text) → d ≡ Some old → old ≡ 14 + k → slice_get t.shapes k ≡ Some (named_shape r name) → HasPath t r → used_by t d ≡ r ∷ []
+  used_there d old k r name e is there path = uses_outside d old k r name e is there ∙ ap (λ o. option_map_or (λ (s : Text). r ∷ []) o []) path.1
+
+  only_there : (d : Option ℕ) (old k r : ℕ) (name : Text) → d ≡ Some old → old ≡ 14 + k → slice_get t.shapes k ≡ Some (named_shape r name) → (a : ℕ) → Contains (used_by t d) a → a ≡ r
+  only_there d old k r name e is there a c = by (path_at t r) (subst (λ ns. Contains ns a) (uses_outside d old k r name e is there) c)
+    where
+      by : (o : Option Text) → Contains (option_map_or (λ (s : Text). r ∷ []) o []) a → a ≡ r
+      by None c = none-in a c
+      by (Some s) c = sym (one-contained r a c)
+
+  -- what is no name uses nothing
+  no_uses : (d : Option ℕ) (old : ℕ) → d ≡ Some old → name_at t old ≡ None → used_by t d ≡ []
+  no_uses d old e none = ap (used_by t) e ∙ ap (λ o. option_map_or (λ (x : ℕ × Text). if_outside t x.0) o []) none
+
+  -- the type of the number of a name
+  name_used : (n k q : ℕ) (name : Text) (x : PlannedType) → type_in p n ≡ Some x → slice_get kept n ≡ Some k → slice_get t.shapes k ≡ Some (named_shape q name)
+      → (d : Option ℕ) (old new i m : ℕ) → DeclaresKind t kept p d x.kind → d ≡ Some old → numbered.is_form t old ≡ false → Becomes t kept p old new → old ≡ 14 + m → slice_get kept i ≡ Some m → new ≡ 14 + i
+      → UsedBy q d (option_and_then (λ (u : PlannedType). owner_interface u.owner) (type_in p i))
+  name_used n k q name x there at shape d old new i m kind is no_form becomes from stands to =
+      let range = becomes.range in
+      let found = slice_there p.types i (omega (arith, range, to)) in
+      let target = are.each i found.0 found.1 in
+      let number : target.0 ≡ m = same-some target.0 m (sym target.1 ∙ stands) in
+      by found.0 found.1 (subst (λ j. IsKeptType t kept p j found.0) number target.2)
+    where
+      place : {r : ℕ} {label : Text} → option_and_then (λ (u : PlannedType). owner_interface u.owner) (type_in p i) ≡ owner_interface (b.owners r) → slice_get t.shapes m ≡ Some (named_shape r label)
+          → (r ≡ q) ⊎ HasPath t r → UsedBy q d (option_and_then (λ (u : PlannedType). owner_interface u.owner) (type_in p i))
+      place {r = r} {label = label} owner_is name_there (inl same) = own (owner_is ∙ ap (λ a. owner_interface (b.owners a)) same) (λ a c. only_there d old m r label is from name_there a c ∙ same)
+      place {r = r} {label = label} owner_is name_there (inr path) = other r (used_there d old m r label is from name_there path) owner_is
+
+      by : (y : PlannedType) → slice_get p.types i ≡ Some y → IsKeptType t kept p m y → UsedBy q d (option_and_then (λ (u : PlannedType). owner_interface u.owner) (type_in p i))
+      by y e (unnamed place form olds news form_there z none unowned kind_y part low) =
+          let form_is : numbered.is_form t old ≡ true = ap (λ o. option_map_or (λ (s : Shape). not (s.sort == 0)) o false) (shape_there t old m (node_shape form olds) from form_there) ∙ ap not (no_name form) in
+          no_true (sym no_form ∙ form_is)
+      by y e (declared r label c name_there called home kind_y before good obeys) =
+          let owner_is : option_and_then (λ (u : PlannedType). owner_interface u.owner) (type_in p i) ≡ owner_interface (b.owners r) =
+          ap (option_and_then (λ (u : PlannedType). owner_interface u.owner)) e ∙ ap owner_interface (owned.owned i m y r label e stands name_there) in
+          place owner_is name_there (owned.used n k x q name m r label there at shape (subst (λ o. DeclaresKind t kept p o x.kind) (is ∙ ap Some from) kind) name_there)
+
+  pub type_uses : (n k q : ℕ) (name : Text) (d : Option ℕ) (id : Option Text) → slice_get kept n ≡ Some k → slice_get t.shapes k ≡ Some (named_shape q name) → TypeBecomes t kept p d id n → UsedBy q d (interface_used_by p n)
+  type_uses n k q name d id at shape is = subst (UsedBy q d) (sym there) (by is.kind)
+    where
+      abbrev_of : PlannedKind → Option ℕ
+      abbrev_of kind = option_and_then (λ m. option_and_then (λ (u : PlannedType). owner_interface u.owner) (type_in p m)) (alias_number kind)
+
+      there : interface_used_by p n ≡ abbrev_of is.type_.kind
+      there = ap (option_and_then (λ (x : PlannedType). option_and_then (λ m. option_and_then (λ (u : PlannedType). owner_interface u.owner) (type_in p m)) (alias_number x.kind))) is.stands
+
+      by : DeclaresKind t kept p d is.type_.kind → UsedBy q d (abbrev_of is.type_.kind)
+      by (a_resource none kind) = nothing (ap abbrev_of kind) (ap (used_by t) none)
+      by (a_form old m form olds news e from f z kind) =
+          nothing (ap abbrev_of kind) (no_uses d old e (ap (option_and_then name_in) (shape_there t old m (node_shape form olds) from f) ∙ ap (λ v. cond v (Some ((node_shape form olds).number, first_label (node_shape form olds).labels)) None) (no_name form)))
+      by (gathered.a_name old new e no_form becomes kind) = subst (λ x. UsedBy q d (abbrev_of x)) (sym kind) (part becomes.part)
+        where
+          part : IsPart kept old new → UsedBy q d (abbrev_of (plan.alias new))
+          part (a_primitive low same) =
+              nothing (ap (λ c. option_and_then (λ m. option_and_then (λ (u : PlannedType). owner_interface u.owner) (type_in p m)) (cond c None (Some (new - 14)))) (lt-ltb new 14 (omega (arith, low, same))))
+              (no_uses d old e (ap (option_and_then name_in) (no_shape t old low)))
+          part (a_shape m i from stands to) =
+              subst (UsedBy q d) (sym (ap (option_and_then (λ m. option_and_then (λ (u : PlannedType). owner_interface u.owner) (type_in p m))) (ap part_number to ∙ behind i)))
+              (name_used n k q name is.type_ is.stands at shape d old new i m is.kind e no_form becomes from stands to)
+
+  -- ---- the interfaces that an interface uses
+
+  module _ (views : ℕ → NumberedView) (m : ℕ) (i : PlannedInterface) (is : IsViewedInterface t kept p b views m i) where
+    pub interface_uses : (u : ℕ) → Contains (interfaces_used_by p i) u → (u ≡ m) ⊎ ((r : ℕ) × Contains (used_by_view t is.read.view) r × (b.owners r ≡ as_interface u))
+    interface_uses u c =
+        let found = filter_map_from (interface_used_by p) (numbers_of i.types) u c in
+        let entry = get_back (λ (e : Text × ℕ). e.1) i.types found.0 found.1 found.2 in
+        let typed = zip_at (TypeListed t kept p) is.read.view.types i.types is.types found.0 entry.0 entry.1 in
+        let number = zip_at (IsKeptAs kept p) is.read.numbers i.types is.read.kept_there found.0 entry.0 entry.1 in
+        let shape = zip_at (IsNumberOf t is.read.place) is.read.view.types is.read.numbers is.read.shapes found.0 number.0 number.1 in
+        let used : interface_used_by p entry.0.1 ≡ Some u = ap (interface_used_by p) entry.2 ∙ found.3 in
+        by typed.0 (get-contains is.read.view.types found.0 typed.0 typed.1) used
+        (type_uses entry.0.1 number.0 is.read.place shape.0.name typed.0.declared typed.0.external_id number.2.0 shape.2 typed.2.1)
+      where
+        by : (x : NumberedType) → Contains is.read.view.types x → {o : Option ℕ} → o ≡ Some u → UsedBy is.read.place x.declared o
+            → (u ≡ m) ⊎ ((r : ℕ) × Contains (used_by_view t is.read.view) r × (b.owners r ≡ as_interface u))
+        by x there used (nothing none nowhere) = no_true (ap is_some (sym none ∙ used))
+        by x there used (own same only) = inl (one_interface u m (sym (owned_by (b.owners is.read.place) u (sym same ∙ used)) ∙ is.read.owned))
+        by x there used (other r all same) = inr (r, contains-flat (λ (y : NumberedType). used_by t y.declared) is.read.view.types x r there (subst (λ ns. Contains ns r) (sym all) (0, omega arith, refl)), owned_by (b.owners r) u (sym same ∙ used))
+
+    -- the place that a view uses is that of an interface that the interface uses
+    pub interface_uses_back : (r u : ℕ) → Contains (used_by_view t is.read.view) r → (r ≡ is.read.place → ⊥) → b.owners r ≡ as_interface u → Contains (interfaces_used_by p i) u
+    interface_uses_back r u c away at =
+        let found = flat_among (λ (x : NumberedType). used_by t x.declared) is.read.view.types r c in
+        let index = contains-get is.read.view.types found.0 found.1 in
+        let typed = zip_there (TypeListed t kept p) is.read.view.types i.types is.types index.0 found.0 index.1 in
+        let number = zip_at (IsKeptAs kept p) is.read.numbers i.types is.read.kept_there index.0 typed.0 typed.1 in
+        let shape = zip_at (IsNumberOf t is.read.place) is.read.view.types is.read.numbers is.read.shapes index.0 number.0 number.1 in
+        let uses = type_uses typed.0.1 number.0 is.read.place shape.0.name found.0.declared found.0.external_id number.2.0 shape.2 typed.2.1 in
+        contains-filter_map (interface_used_by p) (numbers_of i.types) typed.0.1 u (contains-map (λ (e : Text × ℕ). e.1) i.types typed.0 (get-contains i.types index.0 typed.0 typed.1))
+        (subst (λ o. Contains (option_to_list o) u) (sym (by found.0.declared found.2 uses)) (0, omega arith, refl))
+      where
+        by : (d : Option ℕ) → Contains (used_by t d) r → {o : Option ℕ} → UsedBy is.read.place d o → o ≡ Some u
+        by d c (nothing none nowhere) = none-in r (subst (λ ns. Contains ns r) nowhere c)
+        by d c (own same only) = absurd (away (only r c))
+        by d c (other a all same) = same ∙ (ap (λ q. owner_interface (b.owners q)) (one-contained a r (subst (λ ns. Contains ns r) all c)) ∙ ap owner_interface at)
+
+    low : (u : ℕ) → Contains (interfaces_used_by p i) u → nat_le u m ≡ true
+    low u c = by (interface_uses u c)
+      where
+        used : (r : ℕ) → b.owners r ≡ as_interface u → IsUsedPlace b.owners m is.read.place r → nat_le u m ≡ true
+        used r at (itself same) = let one : u ≡ m = one_interface u m (sym at ∙ (ap b.owners same ∙ is.read.owned)) in le-leb u m (omega (arith, one))
+        used r at (smaller v here less) = let one : u ≡ v = one_interface u v (sym at ∙ here) in le-leb u m (omega (arith, one, less))
+
+        by : (u ≡ m) ⊎ ((r : ℕ) × Contains (used_by_view t is.read.view) r × (b.owners r ≡ as_interface u)) → nat_le u m ≡ true
+        by (inl same) = le-leb u m (omega (arith, same))
+        by (inr (r, c, at)) = used r at (is.uses r c)
+
+    pub all_low : list_all (λ u. nat_le u m) (interfaces_used_by p i) ≡ true
+    all_low = all_among (λ u. nat_le u m) (interfaces_used_by p i) low
+
+  pub uses_are_low : (views : ℕ → NumberedView) → InterfacesAreViewed t kept p b views → each_from (λ n i. list_all (λ m. nat_le m n) (interfaces_used_by p i)) 0 p.interfaces ≡ true
+  uses_are_low views read = each_by_number (λ n i. list_all (λ m. nat_le m n) (interfaces_used_by p i)) p.interfaces (λ m i e. all_low views m i (read m i e))

@@ -1,0 +1,269 @@
+-- The worked plan of two packages, built: valid, and of the plan's meaning. Where values lie in memory is left open.
+use Rattle.std.proofs.Common.{◌≡◌, ℕ, ◌<◌, ◌^◌, List, [], ◌∷◌, length, refl, codes, Vec, String, arith, lit<, Some, None, Option}
+use Rattle.std.specs.declared.alloc.Global.{Global}
+use Rattle.std.specs.declared.hash.FoldHasher.{FoldHasher}
+use Rattle.std.specs.declared.hash.BuildHasherDefault.{BuildHasherDefault}
+use denote.RawPtr.{null_ptr}
+use lib.Utf8.{encode}
+use Rattle.std.specs.Str.{IsUtf8}
+use Rattle.std.specs.Prelude.{◌↔◌}
+use Rattle.indexmap.specs.IndexMap.{IndexMap}
+use Rattle.indexmap.specs.Layout.{hash_map}
+use Rattle.wit_model.specs.declared.model.Resolve.{Resolve}
+use Rattle.wit_model.specs.declared.model.Interface.{Interface}
+use Rattle.wit_model.specs.declared.model.TypeId.{TypeId}
+use Rattle.wit_model.specs.declared.model.TypeDef.{TypeDef}
+use Rattle.wit_model.specs.declared.model.TypeDefKind.{TypeDefKind}
+use Rattle.wit_model.specs.declared.model.TypeDefKind.TheVariants as kind
+use Rattle.wit_model.specs.declared.model.TypeOwner.{TypeOwner}
+use Rattle.wit_model.specs.declared.model.TypeOwner.TheVariants as owner
+use Rattle.wit_model.specs.declared.model.Handle.TheVariants as handle
+use Rattle.wit_model.specs.declared.model.«Type».{«Type» as ValueType}
+use Rattle.wit_model.specs.declared.model.«Type».TheVariants as ty
+use Rattle.wit_model.specs.declared.model.Function.{Function}
+use Rattle.wit_model.specs.declared.model.FunctionKind.{FunctionKind}
+use Rattle.wit_model.specs.declared.model.FunctionKind.TheVariants as call
+use Rattle.wit_model.specs.declared.model.World.{World}
+use Rattle.wit_model.specs.declared.model.WorldKey.TheVariants as key
+use Rattle.wit_model.specs.declared.model.WorldItem.{WorldItem}
+use Rattle.wit_model.specs.declared.model.WorldItem.TheVariants as item
+use Rattle.wit_model.specs.declared.model.Docs.{Docs}
+use Rattle.wit_model.specs.declared.model.Stability.TheVariants as stability
+use Rattle.wit_model.specs.Valid.{IsValid}
+use Rattle.wit_model.specs.Meant.{Meant}
+use Rattle.wit_model.specs.Meaning.{PackageMeaning}
+use Rattle.plan_meaning.specs.PlanMeaning.{plan_meaning}
+use Rattle.plan_meaning.specs.Built.{IsBuilt}
+use Rattle.plan_meaning.proofs.Valid.{built_is_valid}
+use Rattle.plan_meaning.proofs.PackageMeans.{package_means}
+use Rattle.plan_meaning.proofs.WholePlan.{whole_plan, is_plan, is_package_plan}
+
+abbrev vec_of : {X : Type 0} → Global → (xs : List X) → length xs < 2 ^ 63 → Vec X Global
+vec_of alloc xs h = record { ptr = null_ptr; len = length xs; cap = length xs; alloc = alloc; items = xs; ok = (refl, omega arith); small = h }
+
+-- an ASCII text is the UTF-8 of its own bytes
+abbrev string_of : Global → (bs : List ℕ) → length bs < 2 ^ 63 → IsUtf8 bs → String Global
+string_of alloc bs h u = record { bytes = vec_of alloc bs h; ok = ∣ u ∣₁ }
+
+utf8-a : IsUtf8 (codes "a")
+unfolding encode
+utf8-a = (codes "a", (refl, refl))
+
+utf8-b : IsUtf8 (codes "b")
+unfolding encode
+utf8-b = (codes "b", (refl, refl))
+
+utf8-s : IsUtf8 (codes "s")
+unfolding encode
+utf8-s = (codes "s", (refl, refl))
+
+utf8-r : IsUtf8 (codes "r")
+unfolding encode
+utf8-r = (codes "r", (refl, refl))
+
+utf8-i : IsUtf8 (codes "i")
+unfolding encode
+utf8-i = (codes "i", (refl, refl))
+
+utf8-j : IsUtf8 (codes "j")
+unfolding encode
+utf8-j = (codes "j", (refl, refl))
+
+utf8-k : IsUtf8 (codes "k")
+unfolding encode
+utf8-k = (codes "k", (refl, refl))
+
+utf8-t : IsUtf8 (codes "t")
+unfolding encode
+utf8-t = (codes "t", (refl, refl))
+
+utf8-f : IsUtf8 (codes "f")
+unfolding encode
+utf8-f = (codes "f", (refl, refl))
+
+utf8-x : IsUtf8 (codes "x")
+unfolding encode
+utf8-x = (codes "x", (refl, refl))
+
+utf8-h : IsUtf8 (codes "h")
+unfolding encode
+utf8-h = (codes "h", (refl, refl))
+
+utf8-w : IsUtf8 (codes "w")
+unfolding encode
+utf8-w = (codes "w", (refl, refl))
+
+utf8-p : IsUtf8 (codes "p")
+unfolding encode
+utf8-p = (codes "p", (refl, refl))
+
+utf8-pkg : IsUtf8 (codes "pkg")
+unfolding encode
+utf8-pkg = (codes "pkg", (refl, refl))
+
+utf8-self : IsUtf8 (codes "self")
+unfolding encode
+utf8-self = (codes "self", (refl, refl))
+
+utf8-constructor : IsUtf8 (codes "[constructor]r")
+unfolding encode
+utf8-constructor = (codes "[constructor]r", (refl, refl))
+
+utf8-method : IsUtf8 (codes "[method]r.m")
+unfolding encode
+utf8-method = (codes "[method]r.m", (refl, refl))
+
+module _ (alloc : Global) (hasher : BuildHasherDefault FoldHasher) where
+  abbrev map_of : {K X : Type 0} → List (K × X) → IndexMap K X (BuildHasherDefault FoldHasher)
+  map_of es = hash_map es hasher 0
+
+  abbrev no_docs : Docs
+  no_docs = record { contents = None }
+
+  abbrev text-a : String Global
+  text-a = string_of alloc (codes "a") (lit< tt) utf8-a
+
+  abbrev text-b : String Global
+  text-b = string_of alloc (codes "b") (lit< tt) utf8-b
+
+  abbrev text-s : String Global
+  text-s = string_of alloc (codes "s") (lit< tt) utf8-s
+
+  abbrev text-r : String Global
+  text-r = string_of alloc (codes "r") (lit< tt) utf8-r
+
+  abbrev text-i : String Global
+  text-i = string_of alloc (codes "i") (lit< tt) utf8-i
+
+  abbrev text-j : String Global
+  text-j = string_of alloc (codes "j") (lit< tt) utf8-j
+
+  abbrev text-k : String Global
+  text-k = string_of alloc (codes "k") (lit< tt) utf8-k
+
+  abbrev text-t : String Global
+  text-t = string_of alloc (codes "t") (lit< tt) utf8-t
+
+  abbrev text-f : String Global
+  text-f = string_of alloc (codes "f") (lit< tt) utf8-f
+
+  abbrev text-x : String Global
+  text-x = string_of alloc (codes "x") (lit< tt) utf8-x
+
+  abbrev text-h : String Global
+  text-h = string_of alloc (codes "h") (lit< tt) utf8-h
+
+  abbrev text-w : String Global
+  text-w = string_of alloc (codes "w") (lit< tt) utf8-w
+
+  abbrev text-p : String Global
+  text-p = string_of alloc (codes "p") (lit< tt) utf8-p
+
+  abbrev text-pkg : String Global
+  text-pkg = string_of alloc (codes "pkg") (lit< tt) utf8-pkg
+
+  abbrev text-self : String Global
+  text-self = string_of alloc (codes "self") (lit< tt) utf8-self
+
+  abbrev text-constructor : String Global
+  text-constructor = string_of alloc (codes "[constructor]r") (lit< tt) utf8-constructor
+
+  abbrev text-method : String Global
+  text-method = string_of alloc (codes "[method]r.m") (lit< tt) utf8-method
+
+  abbrev type-id : ℕ → TypeId
+  type-id n = record { 0 = n }
+
+  abbrev of_type : ℕ → ValueType
+  of_type n = ty.Id (type-id n)
+
+  abbrev in_interface : ℕ → TypeOwner
+  in_interface n = owner.Interface (record { 0 = n })
+
+  abbrev def : Option (String Global) → TypeDefKind → TypeOwner → TypeDef
+  def name kind_ owner_ = record { name = name; kind = kind_; owner = owner_; docs = no_docs; stability = stability.Unknown; external_id = None }
+
+  abbrev func : String Global → FunctionKind → String Global → ValueType → Option ValueType → Function
+  func name kind_ param t result = record {
+    name = name;
+    kind = kind_;
+    params = vec_of alloc (record { name = param; ty = t } ∷ []) (lit< tt);
+    result = result;
+    docs = no_docs;
+    stability = stability.Unknown;
+    external_id = None;
+  }
+
+  abbrev face : Option (String Global) → ℕ → List (String Global × TypeId) → List (String Global × Function) → Interface
+  face name home types_ functions_ = record {
+    name = name;
+    types = map_of types_;
+    functions = map_of functions_;
+    docs = no_docs;
+    stability = stability.Unknown;
+    «package» = Some (record { 0 = home });
+  }
+
+  abbrev shown : ℕ → WorldItem
+  shown n = item.Interface (record { 0 = n }) stability.Unknown no_docs None
+
+  abbrev world : World
+  world = record {
+    name = text-w;
+    imports = map_of ((key.Name text-p, shown 0) ∷ (key.Name text-t, item.Type_ (type-id 9)) ∷ (key.Name text-f, item.Function (func text-f call.Freestanding text-x (of_type 9) None)) ∷ []);
+    exports = map_of ((key.Name text-h, shown 4)
+        ∷ (key.Name text-t, item.Function (func text-t call.Freestanding text-x (of_type 9) None))
+        ∷ (key.Name text-x, shown 3)
+        ∷ (key.Interface (record { 0 = 3 }), shown 3) ∷ []);
+    docs = no_docs;
+    stability = stability.Unknown;
+    «package» = Some (record { 0 = 1 });
+  }
+
+  abbrev whole : Resolve
+  whole = record {
+    packages = vec_of alloc (
+        record { name = record { namespace = text-s; name = text-r; version = None }; docs = no_docs; interfaces = map_of ((text-j, record { 0 = 0 }) ∷ (text-k, record { 0 = 1 }) ∷ []); worlds = map_of [] }
+        ∷ record {
+          name = record { namespace = text-a; name = text-b; version = None };
+          docs = no_docs;
+          interfaces = map_of ((text-i, record { 0 = 2 }) ∷ (text-s, record { 0 = 3 }) ∷ []);
+          worlds = map_of ((text-w, record { 0 = 0 }) ∷ []);
+        } ∷ []) (lit< tt);
+    interfaces = vec_of alloc (
+        face (Some text-j) 0 ((text-t, type-id 0) ∷ []) ((text-f, func text-f call.Freestanding text-x (of_type 0) None) ∷ [])
+        ∷ face (Some text-k) 0 ((text-t, type-id 1) ∷ []) []
+        ∷ face (Some text-i) 1 ((text-t, type-id 2) ∷ []) ((text-f, func text-f call.Freestanding text-x (of_type 3) None) ∷ [])
+        ∷ face (Some text-s) 1 ((text-r, type-id 4) ∷ (text-h, type-id 6) ∷ [])
+        ((text-constructor, func text-constructor (call.Constructor (type-id 4)) text-x ty.U8 (Some (of_type 7))) ∷ (text-method, func text-method (call.AsyncMethod (type-id 4)) text-self (of_type 8) None) ∷ [])
+        ∷ face None 1 ((text-t, type-id 10) ∷ []) ((text-f, func text-f call.AsyncFreestanding text-x (of_type 10) None) ∷ []) ∷ []) (lit< tt);
+    worlds = vec_of alloc (world ∷ []) (lit< tt);
+    types = vec_of alloc (
+        record { name = Some text-t; kind = kind.Type_ ty.U32; owner = in_interface 0; docs = no_docs; stability = stability.Unknown; external_id = Some text-pkg }
+        ∷ def (Some text-t) (kind.Type_ (of_type 0)) (in_interface 1)
+        ∷ def (Some text-t) (kind.Type_ (of_type 1)) (in_interface 2)
+        ∷ def None (kind.List (of_type 2)) owner.None
+        ∷ def (Some text-r) kind.Resource (in_interface 3)
+        ∷ def None (kind.Handle (handle.Own (type-id 4))) owner.None
+        ∷ def (Some text-h) (kind.Handle (handle.Own (type-id 4))) (in_interface 3)
+        ∷ def None (kind.Result (record { ok = Some (of_type 5); err = None })) owner.None
+        ∷ def None (kind.Handle (handle.Borrow (type-id 4))) owner.None
+        ∷ def (Some text-t) (kind.Type_ (of_type 0)) (owner.World (record { 0 = 0 }))
+        ∷ def (Some text-t) (kind.Type_ (of_type 0)) (in_interface 4) ∷ []) (lit< tt);
+  }
+
+  is_built : IsBuilt whole_plan whole
+  is_built = record {
+    packages = refl;
+    interfaces = refl;
+    worlds = refl;
+    types = refl;
+    versions = refl;
+    bare = record { packages = refl; interfaces = refl; worlds = refl; types = refl };
+  }
+
+  is_valid : IsValid whole
+  is_valid = built_is_valid whole_plan whole is_plan is_built
+
+  is_meant : (m : PackageMeaning) → Meant whole 1 m ↔ (plan_meaning whole_plan ≡ Some m)
+  is_meant = package_means whole_plan whole is_package_plan is_built

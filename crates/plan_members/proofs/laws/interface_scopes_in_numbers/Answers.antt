@@ -1,5 +1,0 @@
-use Rattle.plan_members.proofs.InterfaceLaws.{scopes_are_parts}
-use Rattle.plan_members.proofs.laws.interface_scopes_in_numbers.Goals as goal
-
-pub returns : goal.returns
-returns c = scopes_are_parts

@@ -1,0 +1,148 @@
+-- Places that are met, and numbers of places among some.
+use Rattle.std.proofs.Common.{◌≡◌, refl, ap, subst, ◌∙◌, ℕ, suc, ◌+◌, ◌<◌, arith, Bool, true, false, not, ◌||◌, ◌==◌, cond, List, [], ◌∷◌, ◌++◌, length, map, Some, None, is_some}
+use Rattle.std.proofs.lemmas.Bool.{eqb-true, eq-eqb, lt-ltb}
+use Rattle.std.proofs.lemmas.List.{map-append}
+use Rattle.std.specs.List.{AllByRecursion, flat_map, prefix_len}
+use Rattle.wit_model.specs.Text.{Text}
+use Rattle.wit_model.specs.Uses.{has}
+use Rattle.read_exports.specs.declared.members.Member.{Member}
+use Rattle.read_exports.specs.declared.members.Part.{Part}
+use Rattle.read_exports.specs.declared.members.Part.TheVariants as parts
+use Rattle.read_exports.specs.Members.{numbered_members, numbered_part}
+use Rattle.read_rules.specs.Reached.{numbered_import}
+use Rattle.plan_types.specs.Orders.{joined, joined_all, places_of_part}
+use Rattle.plan_types.specs.PlannedTypes.{number_in}
+use Rattle.plan_meaning.specs.NumberedMembers.{NumberedMember, NumberedPart, interface, world}
+use Rattle.plan_meaning.specs.NumberedViews.{NumberedSight, NumberedView, first_at}
+use Rattle.plan_package.proofs.InterfaceLaws.{flip}
+use Rattle.plan_package.specs.PlanWhole.{places_in}
+use Rattle.plan_package.specs.Views.{types_alone, views_of_members, views_of_part, whole_view}
+use Rattle.plan_package.specs.WholeInterfaces.{AreSeen}
+use Rattle.plan_package.specs.WholePackages.{interface_in_part, interfaces_in, IsPlaced}
+
+-- ---- numbers
+
+low : (p : ℕ) (ps : List ℕ) → has ps p ≡ true → prefix_len (λ q. not (p == q)) ps < length ps
+low p [] h = let wrong : false ≡ true = h in absurd cc
+low p (q ∷ ps) h = by (p == q) (ap (λ b. b || has ps p) (flip p q) ∙ h) (low p ps)
+  where
+    by : (b : Bool) → (b || has ps p) ≡ true → (has ps p ≡ true → prefix_len (λ q. not (p == q)) ps < length ps) → cond (not b) (1 + prefix_len (λ q. not (p == q)) ps) 0 < suc (length ps)
+    by true h later = omega arith
+    by false h later = let less = later h in omega (arith, less)
+
+pub has_number : (places : List ℕ) (p : ℕ) → has places p ≡ true → is_some (number_in places p) ≡ true
+has_number places p h =
+    let n = prefix_len (λ q. not (p == q)) places in
+    ap (λ b. is_some (cond b (Some n) None)) (lt-ltb n (length places) (low p places h))
+
+-- ---- places that are met
+
+or_right : (a : Bool) → (a || true) ≡ true
+or_right true = refl
+or_right false = refl
+
+has_left : (xs ys : List ℕ) (p : ℕ) → has xs p ≡ true → has (xs ++ ys) p ≡ true
+has_left [] ys p h = let wrong : false ≡ true = h in absurd cc
+has_left (x ∷ xs) ys p h = by (x == p) h (has_left xs ys p)
+  where
+    by : (b : Bool) → (b || has xs p) ≡ true → (has xs p ≡ true → has (xs ++ ys) p ≡ true) → (b || has (xs ++ ys) p) ≡ true
+    by true h later = refl
+    by false h later = later h
+
+has_right : (xs ys : List ℕ) (p : ℕ) → has ys p ≡ true → has (xs ++ ys) p ≡ true
+has_right [] ys p h = h
+has_right (x ∷ xs) ys p h = ap (λ b. (x == p) || b) (has_right xs ys p h) ∙ or_right (x == p)
+
+has_own : (ps : List ℕ) (p : ℕ) → has (p ∷ ps) p ≡ true
+has_own ps p = ap (λ b. b || has ps p) (eq-eqb p p refl)
+
+joined_keeps : (met : List ℕ) (p q : ℕ) → has met q ≡ true → has (joined met p) q ≡ true
+joined_keeps met p q h = by (has met p)
+  where
+    by : (b : Bool) → has (cond b met (met ++ p ∷ [])) q ≡ true
+    by true = h
+    by false = has_left met (p ∷ []) q h
+
+joined_has : (met : List ℕ) (p : ℕ) → has (joined met p) p ≡ true
+joined_has met p = by (has met p) refl
+  where
+    by : (b : Bool) → has met p ≡ b → has (cond b met (met ++ p ∷ [])) p ≡ true
+    by true e = e
+    by false e = has_right met (p ∷ []) p (has_own [] p)
+
+all_keep : (ps met : List ℕ) (q : ℕ) → has met q ≡ true → has (joined_all met ps) q ≡ true
+all_keep [] met q h = h
+all_keep (p ∷ ps) met q h = all_keep ps (joined met p) q (joined_keeps met p q h)
+
+all_have : (ps met : List ℕ) (q : ℕ) → has ps q ≡ true → has (joined_all met ps) q ≡ true
+all_have [] met q h = let wrong : false ≡ true = h in absurd cc
+all_have (p ∷ ps) met q h = by (p == q) refl h (all_have ps (joined met p) q)
+  where
+    by : (b : Bool) → (p == q) ≡ b → (b || has ps q) ≡ true → (has ps q ≡ true → has (joined_all (joined met p) ps) q ≡ true) → has (joined_all (joined met p) ps) q ≡ true
+    by true e h later = all_keep ps (joined met p) q (subst (λ (r : ℕ). has (joined met p) r ≡ true) (eqb-true p q e) (joined_has met p))
+    by false e h later = later h
+
+-- ---- the interfaces that are exported are met
+
+interfaces_through : (P : ℕ → Type 0) (ms : List Member) → ((q : ℕ) → has (flat_map (λ m. places_of_part m.part) (numbered_members ms)) q ≡ true → P q) → AllByRecursion (λ (x : Text × ℕ). P x.1) (interfaces_in ms)
+interfaces_through P [] f = tt
+interfaces_through P (m ∷ ms) f = by m.part f (interfaces_through P ms (λ q h. f q (has_right (places_of_part (numbered_part m.part)) (flat_map (λ m. places_of_part m.part) (numbered_members ms)) q h)))
+  where
+    by : (x : Part) → ((q : ℕ) → has (places_of_part (numbered_part x) ++ flat_map (λ m. places_of_part m.part) (numbered_members ms)) q ≡ true → P q) → AllByRecursion (λ (x : Text × ℕ). P x.1) (interfaces_in ms)
+        → AllByRecursion (λ (x : Text × ℕ). P x.1) (interface_in_part m.label.now x ++ interfaces_in ms)
+    by (parts.World w) f rest = rest
+    by (parts.Interface p v imports) f rest =
+        let views = map (λ (i : ℕ × NumberedView). i.0) (map numbered_import imports.now) in
+        (f p (has_left (views ++ p ∷ []) (flat_map (λ m. places_of_part m.part) (numbered_members ms)) p (has_right views (p ∷ []) p (has_own [] p))), rest)
+
+pub exported_are_placed : (ms : List Member) → AllByRecursion (IsPlaced (places_in ms)) (interfaces_in ms)
+exported_are_placed ms = interfaces_through (λ q. has (places_in ms) q ≡ true) ms (λ q h. all_have (flat_map (λ m. places_of_part m.part) (numbered_members ms)) [] q h)
+
+-- ---- all places that are met are seen
+
+module _ (P : ℕ → Type 0) where
+  all_behind : (xs : List ℕ) (y : ℕ) → AllByRecursion P xs → P y → AllByRecursion P (xs ++ y ∷ [])
+  all_behind [] y all own = (own, tt)
+  all_behind (x ∷ xs) y all own = (all.0, all_behind xs y all.1 own)
+
+  all_joined : (ps met : List ℕ) → AllByRecursion P met → AllByRecursion P ps → AllByRecursion P (joined_all met ps)
+  all_joined [] met old new = old
+  all_joined (p ∷ ps) met old new = all_joined ps (joined met p) (by (has met p)) new.1
+    where
+      by : (b : Bool) → AllByRecursion P (cond b met (met ++ p ∷ []))
+      by true = old
+      by false = all_behind met p old new.0
+
+map_twice : {A B C : Type 0} (g : B → C) (f : A → B) (xs : List A) → map g (map f xs) ≡ map (λ x. g (f x)) xs
+map_twice g f [] = refl
+map_twice g f (x ∷ xs) = ap (λ l. g (f x) ∷ l) (map_twice g f xs)
+
+part_placed : (x : NumberedPart) → map (λ (s : NumberedSight). s.place) (views_of_part x) ≡ places_of_part x
+part_placed (world w) = map_twice (λ (s : NumberedSight). s.place) whole_view w.instances
+part_placed (interface p v imports) =
+    map-append (λ (s : NumberedSight). s.place) (map types_alone imports) (record { place = p; view = v; whole = true } ∷ [])
+    ∙ ap (λ l. l ++ p ∷ []) (map_twice (λ (s : NumberedSight). s.place) types_alone imports)
+
+views_placed : (ms : List NumberedMember) → map (λ (s : NumberedSight). s.place) (views_of_members ms) ≡ flat_map (λ m. places_of_part m.part) ms
+views_placed [] = refl
+views_placed (m ∷ ms) =
+    let own = part_placed m.part in
+    let rest = views_placed ms in
+    map-append (λ (s : NumberedSight). s.place) (views_of_part m.part) (views_of_members ms) ∙ (λ i. own i ++ rest i)
+
+still_seen : (s : NumberedSight) (seen : List NumberedSight) (ps : List ℕ) → AreSeen seen ps → AreSeen (s ∷ seen) ps
+still_seen s seen [] all = tt
+still_seen s seen (p ∷ ps) all = (by (p == s.place), still_seen s seen ps all.1)
+  where
+    by : (b : Bool) → is_some (cond b (Some s) (first_at p seen)) ≡ true
+    by true = refl
+    by false = all.0
+
+all_seen : (seen : List NumberedSight) → AreSeen seen (map (λ (s : NumberedSight). s.place) seen)
+all_seen [] = tt
+all_seen (s ∷ seen) = (ap (λ b. is_some (cond b (Some s) (first_at s.place seen))) (eq-eqb s.place s.place refl), still_seen s seen (map (λ (s : NumberedSight). s.place) seen) (all_seen seen))
+
+pub met_are_seen : (ms : List Member) → AreSeen (views_of_members (numbered_members ms)) (places_in ms)
+met_are_seen ms =
+    let seen = views_of_members (numbered_members ms) in
+    all_joined (λ p. is_some (first_at p seen) ≡ true) (flat_map (λ m. places_of_part m.part) (numbered_members ms)) [] tt (subst (AreSeen seen) (views_placed (numbered_members ms)) (all_seen seen))

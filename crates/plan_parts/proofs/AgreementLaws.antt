@@ -1,0 +1,137 @@
+-- Lists that go pair by pair, and functions that are told, added to a set one by one.
+use Rattle.std.proofs.Common.{◌≡◌, refl, sym, ap, ◌∙◌, ℕ, ◌+◌, ◌<◌, ◌≤◌, Bool, true, false, ◌&&◌, ◌||◌, ◌==◌, cond, List, [], ◌∷◌, ◌++◌, map, drop, length, get_or, Option, Some, None, eq-eqb, eqb-true}
+use Rattle.std.proofs.Math.ListN.{drop_of_length-le}
+use Rattle.std.proofs.lemmas.List.{drop_more, map-append}
+use Rattle.std.proofs.lemmas.List.Folds.{list_any-append}
+use Rattle.std.proofs.lemmas.Slice.Eq.{bytes_eq-Decides}
+use Rattle.std.specs.Borrow.{Bor}
+use Rattle.std.specs.Cmp.Lexicographic.{pointwise}
+use Rattle.std.specs.List.{list_all, list_any}
+use Rattle.std.specs.Option.{option_eq}
+use Rattle.wit_model.specs.Text.{Text, text_eq}
+use Rattle.wit_model.proofs.Lists.{first_true, second_true}
+use Rattle.comp_meaning.specs.Same.{stand_in}
+use Rattle.plan_meaning.specs.NumberedViews.{NumberedFunction, same_function, same_functions, same_id}
+use Rattle.plan_meaning.proofs.Lists.{length_of_map}
+use Rattle.read_rules.specs.Tables.{given_text}
+use Rattle.plan_parts.specs.contracts.agreement.ToldFunctionPartialEq.TheImpl as told_eq
+use Rattle.plan_parts.specs.declared.agreement.ToldFunction.{ToldFunction}
+use Rattle.plan_parts.specs.Agreement.{are_told, is_told, told_function, AreTold}
+
+-- ---- pair by pair
+
+module _ {A B : Type 0} (E : B → B → Bool) (g : A → B) (xs ys : List A) (i : ℕ) {v : Bool} (kept : pointwise E (map g (drop i xs)) (map g (drop i ys)) ≡ v) where
+  module _ (d e : A) (more : i < length xs) (more_too : i < length ys) where
+    here : (E (g (get_or xs i d)) (g (get_or ys i e)) && pointwise E (map g (drop (i + 1) xs)) (map g (drop (i + 1) ys))) ≡ v
+    here =
+        sym (ap (λ us. pointwise E (map g us) (map g (get_or ys i e ∷ drop (i + 1) ys))) (drop_more xs i d more))
+        ∙ (sym (ap (λ bs. pointwise E (map g (drop i xs)) (map g bs)) (drop_more ys i e more_too)) ∙ kept)
+
+    pub pair_differs : E (g (get_or xs i d)) (g (get_or ys i e)) ≡ false → false ≡ v
+    pair_differs differs = sym (ap (λ b. b && pointwise E (map g (drop (i + 1) xs)) (map g (drop (i + 1) ys))) differs) ∙ here
+
+    pub pair_same : E (g (get_or xs i d)) (g (get_or ys i e)) ≡ true → pointwise E (map g (drop (i + 1) xs)) (map g (drop (i + 1) ys)) ≡ v
+    pair_same same = sym (ap (λ b. b && pointwise E (map g (drop (i + 1) xs)) (map g (drop (i + 1) ys))) same) ∙ here
+
+  pub pairs_end : length xs ≤ i → length ys ≤ i → true ≡ v
+  pairs_end past past_too =
+      sym (ap (λ us. pointwise E (map g us) (map g [])) (drop_of_length-le xs past)) ∙ (sym (ap (λ bs. pointwise E (map g (drop i xs)) (map g bs)) (drop_of_length-le ys past_too)) ∙ kept)
+
+-- ---- functions that are told
+
+abbrev same_told : ToldFunction → ToldFunction → Bool
+same_told = told_eq.ghosts.eq
+
+same_by : (a b : ToldFunction) → same_told a b ≡ (text_eq a.name.now b.name.now && ((a.signature == b.signature) && option_eq (λ x y. text_eq x.now y.now) a.external_id b.external_id))
+same_by a b = refl
+
+ids_same : (a b : Option (Bor (List ℕ))) → option_eq (λ x y. text_eq x.now y.now) a b ≡ same_id (given_text a) (given_text b)
+ids_same None None = refl
+ids_same None (Some y) = refl
+ids_same (Some x) None = refl
+ids_same (Some x) (Some y) = refl
+
+pub told_alike : (a b : ToldFunction) → same_told a b ≡ (text_eq (told_function a).0 (told_function b).0 && same_function (told_function a).1 (told_function b).1)
+told_alike a b = ap (λ v. text_eq a.name.now b.name.now && ((a.signature == b.signature) && v)) (ids_same a.external_id b.external_id)
+
+given_same : (a b : Option (Bor (List ℕ))) → option_eq (λ x y. text_eq x.now y.now) a b ≡ true → given_text a ≡ given_text b
+given_same None None h = refl
+given_same None (Some y) h = absurd cc
+given_same (Some x) None h = absurd cc
+given_same (Some x) (Some y) h = ap Some ((bytes_eq-Decides x.now y.now).0 h)
+
+told_same : (a b : ToldFunction) → same_told a b ≡ true → told_function a ≡ told_function b
+told_same a b h =
+    let rest = second_true (text_eq a.name.now b.name.now) ((a.signature == b.signature) && option_eq (λ x y. text_eq x.now y.now) a.external_id b.external_id) h in
+    let name = (bytes_eq-Decides a.name.now b.name.now).0 (first_true (text_eq a.name.now b.name.now) ((a.signature == b.signature) && option_eq (λ x y. text_eq x.now y.now) a.external_id b.external_id) h) in
+    let signature = eqb-true a.signature b.signature (first_true (a.signature == b.signature) (option_eq (λ x y. text_eq x.now y.now) a.external_id b.external_id) rest) in
+    let id = given_same a.external_id b.external_id (second_true (a.signature == b.signature) (option_eq (λ x y. text_eq x.now y.now) a.external_id b.external_id) rest) in
+    λ i. (name i, record { signature = signature i; external_id = id i })
+
+absorbed : (a b : Bool) → (b ≡ true → a ≡ true) → a ≡ (a || b)
+absorbed true b h = refl
+absorbed false true h = h refl
+absorbed false false h = refl
+
+or_false : (a : Bool) → (a || false) ≡ a
+or_false true = refl
+or_false false = refl
+
+or_line : (a b c : Bool) → ((a || b) || c) ≡ (a || (b || c))
+or_line true b c = refl
+or_line false b c = refl
+
+second_of : (a b : Bool) → b ≡ true → (a || b) ≡ true
+second_of true b q = refl
+second_of false b q = q
+
+-- what passes is found where it stands
+stands : (test : Text × NumberedFunction → Bool) (a : ToldFunction) (ks : List ToldFunction) → list_any (same_told a) ks ≡ true → test (told_function a) ≡ true → list_any test (map told_function ks) ≡ true
+stands test a [] among passes = absurd cc
+stands test a (k ∷ ks) among passes = go (λ later. stands test a ks later passes) (same_told a k) refl among
+  where
+    go : (list_any (same_told a) ks ≡ true → list_any test (map told_function ks) ≡ true) → (v : Bool) → same_told a k ≡ v → (v || list_any (same_told a) ks) ≡ true → (test (told_function k) || list_any test (map told_function ks)) ≡ true
+    go again true e h = ap (λ b. b || list_any test (map told_function ks)) (ap test (sym (told_same a k e)) ∙ passes)
+    go again false e h = second_of (test (told_function k)) (list_any test (map told_function ks)) (again h)
+
+pub function_added : (test : Text × NumberedFunction → Bool) (ks new : List ToldFunction) (a : ToldFunction) (f : Text × NumberedFunction) → told_function a ≡ f → new ≡ cond (list_any (same_told a) ks) ks (ks ++ a ∷ []) → list_any test (map told_function new) ≡ (list_any test (map told_function ks) || test f)
+function_added test ks new a f is added = go (list_any (same_told a) ks) refl ∙ ap (λ g. list_any test (map told_function ks) || test g) is
+  where
+    go : (v : Bool) → list_any (same_told a) ks ≡ v → list_any test (map told_function new) ≡ (list_any test (map told_function ks) || test (told_function a))
+    go true h =
+        ap (λ xs. list_any test (map told_function xs)) (added ∙ ap (λ b. cond b ks (ks ++ a ∷ [])) h)
+        ∙ absorbed (list_any test (map told_function ks)) (test (told_function a)) (stands test a ks h)
+    go false h =
+        ap (λ xs. list_any test (map told_function xs)) (added ∙ ap (λ b. cond b ks (ks ++ a ∷ [])) h)
+        ∙ (ap (list_any test) (map-append told_function ks (a ∷ []))
+        ∙ (list_any-append test (map told_function ks) (told_function a ∷ []) ∙ ap (λ b. list_any test (map told_function ks) || b) (or_false (test (told_function a)))))
+
+-- those that were added and those that are left
+module _ {A B : Type 0} (test : B → Bool) (g : A → B) (xs : List A) (i : ℕ) {v : Bool} (old : Bool) (kept : (old || list_any test (map g (drop i xs))) ≡ v) where
+  pub one_more : (d : A) → i < length xs → (new : Bool) → new ≡ (old || test (g (get_or xs i d))) → (new || list_any test (map g (drop (i + 1) xs))) ≡ v
+  one_more d more new added =
+      ap (λ b. b || list_any test (map g (drop (i + 1) xs))) added
+      ∙ (or_line old (test (g (get_or xs i d))) (list_any test (map g (drop (i + 1) xs)))
+      ∙ (sym (ap (λ us. old || list_any test (map g us)) (drop_more xs i d more)) ∙ kept))
+
+  pub none_left : length xs ≤ i → old ≡ v
+  none_left past = sym (or_false old) ∙ (sym (ap (λ us. old || list_any test (map g us)) (drop_of_length-le xs past)) ∙ kept)
+
+pub told_among : (a : ToldFunction) (f : Text × NumberedFunction) → told_function a ≡ f → (ks : List ToldFunction) → list_any (same_told a) ks ≡ is_told (map told_function ks) f
+told_among a f is [] = refl
+told_among a f is (k ∷ ks) =
+    ap (λ b. b || list_any (same_told a) ks) (told_alike a k ∙ ap (λ (g : Text × NumberedFunction). text_eq g.0 (told_function k).0 && same_function g.1 (told_function k).1) is)
+    ∙ ap (λ b. (text_eq f.0 (told_function k).0 && same_function f.1 (told_function k).1) || b) (told_among a f is ks)
+
+-- ---- the same functions
+
+pub by_told : (told gs : List (Text × NumberedFunction)) → AreTold told gs → (fs : List (Text × NumberedFunction)) → are_told told fs ≡ list_all (λ f. list_any (λ g. text_eq f.0 g.0 && same_function f.1 g.1) gs) fs
+by_told told gs alike [] = refl
+by_told told gs alike (f ∷ fs) =
+    ap (λ b. b && are_told told fs) (alike (λ g. text_eq f.0 g.0 && same_function f.1 g.1)) ∙ ap (λ b. list_any (λ g. text_eq f.0 g.0 && same_function f.1 g.1) gs && b) (by_told told gs alike fs)
+
+pub as_many : {A B : Type 0} (g : A → B) (xs ys : List A) → length xs ≡ length ys → (length (map g xs) == length (map g ys)) ≡ true
+as_many g xs ys same = eq-eqb (length (map g xs)) (length (map g ys)) (length_of_map g xs ∙ (same ∙ sym (length_of_map g ys)))
+
+pub same_told_functions : (told fs gs : List (Text × NumberedFunction)) → AreTold told gs → (length fs == length gs) ≡ true → are_told told fs ≡ same_functions fs gs
+same_told_functions told fs gs alike many = by_told told gs alike fs ∙ sym (ap (λ b. b && stand_in same_function fs gs) many)

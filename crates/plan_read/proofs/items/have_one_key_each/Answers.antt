@@ -1,6 +1,0 @@
-use Rattle.std.proofs.Common.{◌∙◌}
-use Rattle.plan_read.proofs.WorldLaws.{keys_apart}
-use Rattle.plan_read.proofs.items.have_one_key_each.Goals as goal
-
-pub returns : goal.returns
-returns c = keys_apart c.are_distinct.result c.args.items.now c.deref.result.now (c.deref.ensures.value ∙ c.in_ok-keys.ensures) c.are_distinct.ensures

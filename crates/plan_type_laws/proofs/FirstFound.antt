@@ -1,0 +1,34 @@
+-- What is shown of a type first is a showing of it.
+use Rattle.std.proofs.Common.{◌≡◌, refl, sym, ap, ◌∙◌, ◌+◌, Bool, true, false, ◌==◌, cond, List, [], ◌∷◌, length, Option, Some, None, option_map}
+use Rattle.std.specs.Prelude.{nat_lt}
+use Rattle.std.specs.List.{Contains, find}
+use Rattle.std.proofs.lemmas.Bool.{eqb-true, ltb-false, ltb-true}
+use Rattle.std.proofs.lemmas.List.{get_or_past}
+use Rattle.wit_model.proofs.Elements.{contains-later, get-contains, same-some}
+use Rattle.plan_types.specs.declared.showings.Showing.{Showing}
+use Rattle.plan_types.specs.FirstShown.{TellsFirst, first_showing, showing_at}
+use Rattle.plan_types.specs.Showings.{NumberedShowing, numbered_showing}
+use Rattle.plan_type_laws.specs.ShownForms.{FindsShown, FirstsAreFound}
+
+first_found : {A : Type 0} (test : A → Bool) (xs : List A) (x : A) → find test xs ≡ Some x → Contains xs x × (test x ≡ true)
+first_found test [] x e = let wrong : None ≡ Some x = e in absurd cc
+first_found test (y ∷ xs) x e = by (test y) refl e (first_found test xs x)
+  where
+    by : (b : Bool) → test y ≡ b → cond b (Some y) (find test xs) ≡ Some x → (find test xs ≡ Some x → Contains xs x × (test x ≡ true)) → Contains (y ∷ xs) x × (test x ≡ true)
+    by true h e later = let same : y ≡ x = same-some y x e in (get-contains (y ∷ xs) 0 x e, ap test (sym same) ∙ h)
+    by false h e later = let found = later e in (contains-later y xs x found.0, found.1)
+
+first_is_found : (showings : List NumberedShowing) → FindsShown showings (λ n. first_showing n showings)
+first_is_found showings n s e = let found = first_found (λ (s : NumberedShowing). 14 + n == s.part) showings s e in (found.0, sym (eqb-true (14 + n) s.part found.1))
+
+told_is_found : (showings : List NumberedShowing) (table : List (Option Showing)) → TellsFirst showings table → FindsShown showings (showing_at table)
+told_is_found showings table tells n s e = by (nat_lt n (length table)) refl
+  where
+    by : (b : Bool) → nat_lt n (length table) ≡ b → Contains showings s × (s.part ≡ 14 + n)
+    by true low = first_is_found showings n s (sym (tells n (ltb-true n (length table) low)) ∙ e)
+    by false high =
+        let wrong : ◌≡◌ {A = Option NumberedShowing} None (Some s) = sym (ap (option_map numbered_showing) (get_or_past table n None (ltb-false n (length table) high))) ∙ e in
+        absurd cc
+
+pub firsts_found : FirstsAreFound
+firsts_found showings = (first_is_found showings, told_is_found showings)

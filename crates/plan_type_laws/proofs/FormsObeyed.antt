@@ -1,0 +1,226 @@
+-- Forms of what was followed are as definitions have them.
+use Rattle.std.proofs.Common.{◌≡◌, refl, sym, ap, subst, ◌∙◌, ℕ, Bool, true, false, ◌&&◌, ◌==◌, List, [], ◌∷◌, map, length, Option, Some, None, option_map, slice_get, unwrap_or}
+use Rattle.std.specs.Prelude.{nat_le, nat_lt}
+use Rattle.std.proofs.lemmas.Bool.{lt-ltb}
+use Rattle.std.specs.List.{AllByRecursion, AllZip, Contains, flat_map}
+use Rattle.std.proofs.lemmas.List.Elements.{Contains-append_left, Contains-append_right}
+use Rattle.std.specs.Option.{option_map_or}
+use Rattle.wit_model.specs.Text.{Text}
+use Rattle.wit_model.specs.Tree.{Declaration, Form, Place, Tree}
+use Rattle.wit_model.specs.Meaning.{FunctionMeaning}
+use Rattle.wit_model.specs.Names.{PackageIdentity, path_in}
+use Rattle.wit_model.specs.Rules.{has_items}
+use Rattle.wit_model.specs.Types.{no_tree}
+use Rattle.wit_model.proofs.Elements.{contains-get, contains-one, get-contains}
+use Rattle.wit_model.proofs.Lists.{first_true}
+use Rattle.comp_meaning.specs.Follow.{Instance, Scope, Seen, interface_of, is_filled, is_key, is_key_primitive, place_of}
+use Rattle.comp_meaning.specs.Reads as reads
+use Rattle.read_shown.specs.Parts.{PartStands, instances_of, named_instance}
+use Rattle.read_shown.specs.Scopes.{IsMetInScope, IsShownBefore, ShownStands}
+use Rattle.read_shown.specs.Scopes as scopes
+use Rattle.read_shown.specs.Trees.{AllAt, DeclarationStands, SignatureStands, TreeStands, count_true, is_formed}
+use Rattle.read_shown.specs.Views.{IsMetInView, TypeStands, ViewStands}
+use Rattle.read_shown.proofs.Lists.{recursion_weaker}
+use Rattle.plan_meaning.proofs.Lists.{both, get_of_map, map_of_map, no_true}
+use Rattle.plan_meaning.proofs.ReadOrder.{all_both}
+use Rattle.plan_meaning.proofs.ShapeLaws.{PartView, is_name, is_node, is_primitive, part_front, slice_there}
+use Rattle.plan_meaning.specs.NumberedMembers.{Homes, IsMember, ShowsPart}
+use Rattle.plan_meaning.specs.NumberedViews.{AllOf, AreTables, IsPart, NumberedFunction, NumberedView, PartsOf, Tables, declaration_of, function_at, path_text, place_at, shown_function, shown_type, signature_at, tree_at, view_of}
+use Rattle.plan_meaning.specs.NumberedWorlds.{key_of, seen_of, shown_of}
+use Rattle.plan_meaning.specs.PlanRules.{is_form, is_key_part}
+use Rattle.plan_meaning.specs.Shapes.{node_shape, primitives, shape_trees}
+use Rattle.read_rules.specs.declared.reached.ImportedView.{ImportedView}
+use Rattle.read_rules.specs.declared.scopes.Seen.{Seen as NumberSeen}
+use Rattle.read_rules.specs.declared.scopes.Shown.{Shown as NumberShown}
+use Rattle.read_rules.specs.declared.scopes.Shown.TheVariants as shown
+use Rattle.read_rules.specs.Reached.{numbered_import}
+use Rattle.read_rules.specs.Scopes.{numbered_key, numbered_seen, numbered_shown}
+use Rattle.read_rules.specs.Tables.{given_text}
+use Rattle.read_rules.specs.Views.{numbered_view}
+use Rattle.read_exports.specs.declared.members.Member.{Member}
+use Rattle.read_exports.specs.declared.members.Part.{Part}
+use Rattle.read_exports.specs.declared.members.Part.TheVariants as parts
+use Rattle.read_exports.specs.Members.{numbered_member, numbered_members, numbered_part}
+use Rattle.plan_types.specs.Showings.{NumberedShowing, showing_of, showings_of_import, showings_of_members, showings_of_part, showings_of_seen, showings_of_shown, showings_of_view, signatures_of_members, signatures_of_part, signatures_of_seen, signatures_of_shown, signatures_of_view}
+use Rattle.plan_type_laws.proofs.InnerForms.{child_list_back, form_range, inner_stands, signature_parts_hold, view_part}
+use Rattle.plan_type_laws.proofs.Walks.{all_any, all_flat, all_mapped, at_each}
+use Rattle.plan_type_laws.specs.FormsObeyed.{FormsAreObeyed, LengthsFit}
+use Rattle.plan_type_laws.specs.MembersStand.{MembersStand, all_instances}
+use Rattle.plan_type_laws.specs.ShownForms.{EachForm, FormsHold}
+
+module _ (t : Tables) (tables : AreTables t) (fit : LengthsFit t) where
+  -- ---- forms
+
+  key_part : (k : ℕ) → IsPart t k → is_key (tree_at t k) ≡ true → is_key_part k ≡ true
+  key_part k range key = by (view_part t tables k range)
+    where
+      by : PartView (place_at t) t.shapes tables.shapes k (tree_at t k) → is_key_part k ≡ true
+      by (is_primitive p small stands number) =
+          let found = slice_there primitives k small in
+          let trees = shape_trees (place_at t) t.shapes in
+          let tree : tree_at t k ≡ Tree.primitive found.0 = part_front trees k small ∙ ap (λ o. unwrap_or o no_tree) (get_of_map Tree.primitive primitives k ∙ ap (option_map Tree.primitive) found.1) in
+          ap (λ o. option_map_or is_key_primitive o false) found.1 ∙ (sym (ap is_key tree) ∙ key)
+      by (is_name n q x is at stands) = no_true (sym (ap is_key stands) ∙ key)
+      by (is_node n f ks is at stands parts) = no_true (sym (ap is_key stands) ∙ key)
+
+  filled : {A : Type 0} (xs : List A) (b : Bool) → (is_filled xs && b) ≡ true → has_items xs ≡ true
+  filled [] b h = no_true h
+  filled (x ∷ xs) b h = refl
+
+  tuple_filled : (parts : List ℕ) → is_filled (map (tree_at t) parts) ≡ true → has_items parts ≡ true
+  tuple_filled [] h = no_true h
+  tuple_filled (k ∷ parts) h = refl
+
+  key_first : (parts : List ℕ) → AllByRecursion (IsPart t) parts → is_formed Form.map_of (map (tree_at t) parts) ≡ true → is_form Form.map_of parts ≡ true
+  key_first [] range h = no_true h
+  key_first (k ∷ parts) range h = key_part k range.0 (first_true (is_key (tree_at t k)) (length (map (tree_at t) (k ∷ parts)) == 2) h)
+
+  form_obeys : (form : Form) (parts : List ℕ) (n : ℕ) → slice_get t.shapes n ≡ Some (node_shape form parts) → is_formed form (map (tree_at t) parts) ≡ true → is_form form parts ≡ true
+  form_obeys (Form.record_of names) parts n at h = filled names (length (map (tree_at t) parts) == length names) h
+  form_obeys (Form.variant_of cases) parts n at h = filled cases (length (map (tree_at t) parts) == count_true (map (λ (c : Text × Bool). c.1) cases)) h
+  form_obeys Form.list_of parts n at h = refl
+  form_obeys (Form.fixed_list_of l) parts n at h = both (nat_le 1 l) (nat_lt l 4294967296) (first_true (nat_le 1 l) (length (map (tree_at t) parts) == 1) h) (lt-ltb l 4294967296 (fit n l parts at))
+  form_obeys Form.option_of parts n at h = refl
+  form_obeys Form.own_of parts n at h = refl
+  form_obeys Form.borrow_of parts n at h = refl
+  form_obeys Form.map_of parts n at h = key_first parts (form_range t tables n Form.map_of parts at) h
+  form_obeys Form.tuple_of parts n at h = tuple_filled parts h
+  form_obeys (Form.flags_of names) parts n at h = filled names (length (map (tree_at t) parts) == 0) h
+  form_obeys (Form.enum_of names) parts n at h = filled names (length (map (tree_at t) parts) == 0) h
+  form_obeys (Form.result_of ok err) parts n at h = refl
+  form_obeys (Form.future_of some) parts n at h = refl
+  form_obeys (Form.stream_of some) parts n at h = refl
+
+-- What holds of each form with its parts holds of each form that is shown.
+module _ (t : Tables) (tables : AreTables t) (Obeys : Form → List ℕ → Type 0) (form_obeys : (form : Form) (parts : List ℕ) (n : ℕ) → slice_get t.shapes n ≡ Some (node_shape form parts) → is_formed form (map (tree_at t) parts) ≡ true → Obeys form parts) where
+  -- ---- parts
+
+  part_obeys : (Met : Place → Text → Bool → Type 0) (k : ℕ) → TreeStands Met (tree_at t k) → EachForm t Obeys k
+  part_obeys Met k stands = record {
+    holds = λ n form parts within at.
+        form_obeys form parts n at (ap (is_formed form) (sym (child_list_back (map (tree_at t) parts))) ∙ (inner_stands t tables Met k n form parts stands within at).0);
+  }
+
+  declared_obeys : (Met : Place → Text → Bool → Type 0) (b : Bool) (d : Option ℕ) → DeclarationStands Met (declaration_of t d) b → AllOf (EachForm t Obeys) d
+  declared_obeys Met b None stands = tt
+  declared_obeys Met b (Some k) stands = by (tree_at t k) refl stands
+    where
+      by : (x : Tree) → tree_at t k ≡ x → DeclarationStands Met (Declaration.type_ x) b → EachForm t Obeys k
+      by (Tree.primitive p) e stands = part_obeys Met k (subst (TreeStands Met) (sym e) tt)
+      by (Tree.named place name) e stands = part_obeys (λ p n r. Unit {0}) k (subst (TreeStands (λ p n r. Unit {0})) (sym e) tt)
+      by (Tree.node form ts) e stands = part_obeys Met k (subst (TreeStands Met) (sym e) stands.1)
+
+  any_parts : (n : ℕ) → PartsOf (λ k. Unit {0}) (function_at t n)
+  any_parts n = (all_any (function_at t n).params, by (function_at t n).result)
+    where
+      by : (r : Option ℕ) → AllOf (λ k. Unit {0}) r
+      by None = tt
+      by (Some k) = tt
+
+  signature_obeys : (Met : Place → Text → Bool → Type 0) (n : ℕ) → SignatureStands Met (signature_at t n) → PartsOf (EachForm t Obeys) (function_at t n)
+  signature_obeys Met n stands = signature_parts_hold t tables Met (λ k. Unit {0}) (EachForm t Obeys) (λ k any stand. part_obeys Met k stand) (function_at t n) (any_parts n) stands
+
+  -- ---- views
+
+  abbrev ShowingStands : NumberedShowing → Type 0
+  ShowingStands s = AllOf (EachForm t Obeys) s.declared
+
+  abbrev FunctionStands : ℕ → Type 0
+  FunctionStands n = PartsOf (EachForm t Obeys) (function_at t n)
+
+  view_types : (Outside : Place → Text → Bool → Type 0) (own : Place) (v : NumberedView) → ViewStands Outside own (view_of t v) → AllByRecursion ShowingStands (showings_of_view v)
+  view_types Outside own v stands =
+      all_mapped ShowingStands showing_of v.types
+      (at_each (shown_type t) (TypeStands Outside own (view_of t v)) (λ x. Unit {0}) (λ x. ShowingStands (showing_of x)) v.types
+      (λ n x any is. declared_obeys (IsMetInView Outside own (view_of t v) n) is.is_resource x.declared is.declared) (all_any v.types) stands.types)
+
+  view_functions : (Outside : Place → Text → Bool → Type 0) (own : Place) (v : NumberedView) → ViewStands Outside own (view_of t v) → AllByRecursion FunctionStands (signatures_of_view v)
+  view_functions Outside own v stands =
+      all_mapped FunctionStands (λ (f : Text × NumberedFunction). f.1.signature) v.functions
+      (at_each (shown_function t) (λ n (f : Text × FunctionMeaning). SignatureStands (IsMetInView Outside own (view_of t v) (length (view_of t v).types)) f.1.signature) (λ f. Unit {0}) (λ (f : Text × NumberedFunction). FunctionStands f.1.signature) v.functions
+      (λ n f any is. signature_obeys (IsMetInView Outside own (view_of t v) (length (view_of t v).types)) f.1.signature is) (all_any v.functions) stands.functions)
+
+  -- ---- worlds
+
+  abbrev AreHeld : List NumberedShowing → List ℕ → Type 0
+  AreHeld showings signatures = AllByRecursion ShowingStands showings × AllByRecursion FunctionStands signatures
+
+  module _ (scope : Scope) (stands : scopes.ScopeStands scope) where
+    seen_obeys : (n : ℕ) (s : NumberShown) (external_id : Option Text) → ShownStands scope.instances scope.imports n (shown_of t (numbered_shown s)) → AreHeld (showings_of_shown s external_id) (signatures_of_shown s)
+    seen_obeys n (shown.Instance key v) external_id is =
+        let x : Instance = record { interface = interface_of (key_of t (numbered_key key)); view = view_of t (numbered_view v) } in
+        let view = stands.instances is.0 x is.1 in
+        (view_types (IsShownBefore scope.instances is.0) (place_of x.interface) (numbered_view v) view, view_functions (IsShownBefore scope.instances is.0) (place_of x.interface) (numbered_view v) view)
+    seen_obeys n (shown.Function m) external_id is = (tt, (signature_obeys (IsMetInScope scope.instances scope.imports n) m is, tt))
+    seen_obeys n (shown.Declares part d) external_id is = ((declared_obeys (IsMetInScope scope.instances scope.imports n) is.0 d is.1, tt), tt)
+
+    all_seen : (count : ℕ → ℕ) (ss : List NumberSeen) → AllAt (λ n (s : Seen). ShownStands scope.instances scope.imports (count n) s.shown) (map (seen_of t) (map numbered_seen ss))
+        → AreHeld (flat_map showings_of_seen ss) (flat_map signatures_of_seen ss)
+    all_seen count ss all =
+        let each : AllByRecursion (λ (s : NumberSeen). AreHeld (showings_of_seen s) (signatures_of_seen s)) ss =
+        at_each (λ (s : NumberSeen). seen_of t (numbered_seen s)) (λ n (s : Seen). ShownStands scope.instances scope.imports (count n) s.shown) (λ s. Unit {0}) (λ (s : NumberSeen). AreHeld (showings_of_seen s) (signatures_of_seen s)) ss
+        (λ n s any is. seen_obeys (count n) s.shown (given_text s.external_id) is) (all_any ss)
+        (subst (AllAt (λ n (s : Seen). ShownStands scope.instances scope.imports (count n) s.shown)) (map_of_map (seen_of t) numbered_seen ss) all) in (
+          all_flat ShowingStands showings_of_seen ss (recursion_weaker (λ (s : NumberSeen). AreHeld (showings_of_seen s) (signatures_of_seen s)) (λ (s : NumberSeen). AllByRecursion ShowingStands (showings_of_seen s)) (λ s h. h.0) ss each),
+          all_flat FunctionStands signatures_of_seen ss (recursion_weaker (λ (s : NumberSeen). AreHeld (showings_of_seen s) (signatures_of_seen s)) (λ (s : NumberSeen). AllByRecursion FunctionStands (signatures_of_seen s)) (λ s h. h.1) ss each),
+        )
+
+  -- ---- members
+
+  -- an instance whose view is well-formed behind some of these
+  abbrev StandsAmong : List Instance → Instance → Type 0
+  StandsAmong all x = (n : ℕ) × ViewStands (IsShownBefore all n) (place_of x.interface) x.view
+
+  module _ (h : Homes) (all : List Instance) (m : Member) (label : Text) (identity : PackageIdentity) where
+    part_obeys_all : (part : Part) (y : reads.Part) → ShowsPart t h (numbered_member m) (numbered_part part) y → ((x : Instance) → Contains (instances_of (record { label = label; package_ = identity; part = y })) x → StandsAmong all x)
+        → PartStands y → AreHeld (showings_of_part part) (signatures_of_part part)
+    part_obeys_all (parts.World w) (reads.Part.world scope) is views stands =
+        let holds = stands.stands in
+        let imports = all_seen scope holds (λ n. n) w.imports.now (subst (AllAt (λ n (s : Seen). ShownStands scope.instances scope.imports n s.shown)) is.imports holds.imports) in
+        let exports = all_seen scope holds (λ n. length scope.imports) w.exports.now (subst (AllAt (λ n (s : Seen). ShownStands scope.instances scope.imports (length scope.imports) s.shown)) is.exports holds.exports) in (
+          all_both ShowingStands (flat_map showings_of_seen w.imports.now) (flat_map showings_of_seen w.exports.now) imports.0 exports.0,
+          all_both FunctionStands (flat_map signatures_of_seen w.imports.now) (flat_map signatures_of_seen w.exports.now) imports.1 exports.1,
+        )
+    part_obeys_all (parts.Interface p v imports) (reads.Part.interface view views) is each_stands stands =
+        let front = map named_instance views in
+        let last : Instance = named_instance (path_in identity label, view) in
+        let V = λ (n : ℕ) (x : Instance). StandsAmong all x in
+        let own = each_stands last (Contains-append_right front (last ∷ []) last (contains-one last)) in
+        let own_view = subst (ViewStands (IsShownBefore all own.0) (place_of last.interface)) is.shown own.1 in
+        let before : AllAt V (map (λ (i : ImportedView). named_instance (path_text t i.place, view_of t (numbered_view i.view))) imports.now) =
+        subst (AllAt V) (ap (map named_instance) is.imported ∙ (map_of_map named_instance (λ (i : ℕ × NumberedView). (path_text t i.0, view_of t i.1)) (map numbered_import imports.now)
+        ∙ map_of_map (λ (i : ℕ × NumberedView). named_instance (path_text t i.0, view_of t i.1)) numbered_import imports.now)) (λ n x e. each_stands x (Contains-append_left front (last ∷ []) x (get-contains front n x e))) in
+        let each : AllByRecursion (λ (i : ImportedView). AllByRecursion ShowingStands (showings_of_import i)) imports.now =
+        at_each (λ (i : ImportedView). named_instance (path_text t i.place, view_of t (numbered_view i.view))) V (λ i. Unit {0}) (λ (i : ImportedView). AllByRecursion ShowingStands (showings_of_import i)) imports.now
+        (λ n i any is. view_types (IsShownBefore all is.0) (place_of (Some (path_text t i.place))) (numbered_view i.view) is.1) (all_any imports.now) before in (
+          all_both ShowingStands (flat_map showings_of_import imports.now) (showings_of_view (numbered_view v)) (all_flat ShowingStands showings_of_import imports.now each)
+              (view_types (IsShownBefore all own.0) (place_of last.interface) (numbered_view v) own_view),
+          view_functions (IsShownBefore all own.0) (place_of last.interface) (numbered_view v) own_view,
+        )
+    part_obeys_all (parts.World w) (reads.Part.interface view views) is each_stands stands = absurd is
+    part_obeys_all (parts.Interface p v imports) (reads.Part.world scope) is each_stands stands = absurd is
+
+  members_obey : (h : Homes) (all : List Instance) (ms : List Member) (members : List reads.Member) → AllZip (IsMember t h) (numbered_members ms) members → ((x : Instance) → Contains (all_instances members) x → StandsAmong all x)
+      → AllByRecursion (λ (x : reads.Member). PartStands x.part) members
+      → AllByRecursion (λ (m : Member). AreHeld (showings_of_part m.part) (signatures_of_part m.part)) ms
+  members_obey h all [] [] zip each stand = tt
+  members_obey h all [] (x ∷ members) zip each stand = tt
+  members_obey h all (m ∷ ms) [] zip each stand = absurd zip
+  members_obey h all (m ∷ ms) (x ∷ members) zip each stand = (
+    part_obeys_all h all m x.label x.package_ m.part x.part zip.0.part (λ y c. each y (Contains-append_left (instances_of x) (all_instances members) y c)) stand.0,
+    members_obey h all ms members zip.1 (λ y c. each y (Contains-append_right (instances_of x) (all_instances members) y c)) stand.1,
+  )
+
+  pub forms_hold : (h : Homes) (ms : List Member) (members : List reads.Member) → AllZip (IsMember t h) (numbered_members ms) members → MembersStand members → FormsHold t Obeys (showings_of_members ms) (signatures_of_members ms)
+  forms_hold h ms members zip stand =
+      let all = all_instances members in
+      let each = members_obey h all ms members zip (λ x c. let at = contains-get all x c in (at.0, stand.views at.0 x at.1)) stand.parts in
+      record {
+        declared = all_flat ShowingStands (λ (m : Member). showings_of_part m.part) ms
+            (recursion_weaker (λ (m : Member). AreHeld (showings_of_part m.part) (signatures_of_part m.part)) (λ (m : Member). AllByRecursion ShowingStands (showings_of_part m.part)) (λ m held. held.0) ms each);
+        called = all_flat FunctionStands (λ (m : Member). signatures_of_part m.part) ms
+            (recursion_weaker (λ (m : Member). AreHeld (showings_of_part m.part) (signatures_of_part m.part)) (λ (m : Member). AllByRecursion FunctionStands (signatures_of_part m.part)) (λ m held. held.1) ms each);
+      }
+
+pub forms_obeyed : FormsAreObeyed
+forms_obeyed t tables fit h ms members zip stand = forms_hold t tables (λ form parts. is_form form parts ≡ true) (form_obeys t tables fit) h ms members zip stand

@@ -1,0 +1,38 @@
+-- The marks of what is shown are those of the types of a plan.
+use Rattle.std.proofs.Common.{◌≡◌, sym, ap, subst, ◌∙◌, ℕ, ◌+◌, List, Option, Some}
+use Rattle.wit_model.specs.Text.{Text}
+use Rattle.plan_meaning.proofs.GatheredPlan.{all_at}
+use Rattle.plan_meaning.specs.GatheredPlan.{DeclaresKind, a_form, a_name, a_resource}
+use Rattle.plan_meaning.specs.KeptResources.{FormIsMarked, MarkedBy}
+use Rattle.plan_meaning.specs.NumberedRules.{name_at}
+use Rattle.plan_meaning.specs.NumberedViews.{Tables}
+use Rattle.plan_meaning.specs.Plan.{Plan, PlannedKind}
+use Rattle.plan_types.specs.Showings.{NumberedShowing}
+use Rattle.read_shown.proofs.Lists.{recursion_weaker}
+use Rattle.plan_type_laws.proofs.KeptKinds.{one_old}
+use Rattle.plan_type_laws.proofs.ShownForms.{kept_forms, shown_kind}
+use Rattle.plan_type_laws.specs.KeptMarks.{MarksAreKept}
+use Rattle.plan_type_laws.specs.ShownMarks.{IsMarkedAs, MarksStand, ShowingIsMarked}
+
+module _ (t : Tables) (showings : List NumberedShowing) (signatures : List ℕ) (m : MarksStand t showings signatures) (kept : List ℕ) (p : Plan) where
+  kind_marked : (k : ℕ) (d : Option ℕ) (kind : PlannedKind) → IsMarkedAs m.marks k d → DeclaresKind t kept p d kind → MarkedBy t kept p m.marks kind (m.marks k)
+  kind_marked k d kind is (a_resource e f) = subst (λ x. MarkedBy t kept p m.marks x (m.marks k)) (sym f) (subst (IsMarkedAs m.marks k) e is)
+  kind_marked k d kind is (a_name old new e no_form b f) =
+      subst (λ x. MarkedBy t kept p m.marks x (m.marks k)) (sym f)
+      (λ other becomes. (let one : m.marks k ≡ m.marks old = subst (IsMarkedAs m.marks k) e is in one) ∙ ap m.marks (one_old kept old other new b.part becomes.part))
+  kind_marked k d kind is (a_form old n form olds news e at there z f) =
+      subst (λ x. MarkedBy t kept p m.marks x (m.marks k)) (sym f)
+      ((let one : m.marks k ≡ m.marks old = subst (IsMarkedAs m.marks k) e is in one) ∙ (ap m.marks at ∙ m.forms n form olds there))
+
+pub marks_kept : MarksAreKept
+marks_kept t tables showings signatures m marks used kept are p owners find finds types =
+    let named = recursion_weaker (ShowingIsMarked t m.marks) (λ (s : NumberedShowing). (x : ℕ × Text) × (name_at t s.part ≡ Some x)) (λ s is. (is.name, is.is)) showings m.names in
+    record {
+      primitives = m.primitives;
+      forms = λ n form parts is there. (m.forms n form parts there, kept_forms t tables (FormIsMarked m.marks) showings named signatures m.inner marks used kept are p owners find finds types n form parts is there);
+      names = λ j n x q name at stands there.
+          let y = shown_kind t tables (FormIsMarked m.marks) showings named signatures m.inner marks used kept are p owners find finds types j n x q name at stands there in
+          let found = finds n y.0 y.1 in
+          let marked = (all_at (ShowingIsMarked t m.marks) showings m.names y.0 found.0).marked in
+          kind_marked t showings signatures m kept p (14 + n) y.0.declared x.kind (subst (λ k. IsMarkedAs m.marks k y.0.declared) found.1 marked) y.2;
+    }

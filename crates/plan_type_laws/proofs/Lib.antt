@@ -1,0 +1,17 @@
+pub mod FirstFound
+pub mod FormsObeyed
+pub mod InnerForms
+pub mod KeptKinds
+pub mod KeptMarks
+pub mod MembersStand
+pub mod PartKinds
+pub mod PartPlaces
+pub mod PlanTypes
+pub mod ReadTypes
+pub mod ShownForms
+pub mod ShownMarks
+pub mod ShownRules
+pub mod UsedParts
+pub mod UsedWalk
+pub mod ViewMarks
+pub mod Walks

@@ -1,0 +1,76 @@
+-- Parts that are well-formed each alone are so together.
+use Rattle.std.proofs.Common.{◌≡◌, sym, subst, ℕ, zero, suc, ◌+◌, ◌⊎◌, inl, inr, arith, Bool, List, [], ◌∷◌, ◌++◌, length, Some, slice_get}
+use Rattle.std.specs.List.{AllByRecursion}
+use Rattle.wit_model.specs.Text.{Text}
+use Rattle.wit_model.specs.Tree.{Place}
+use Rattle.comp_meaning.specs.Follow.{Instance, place_of}
+use Rattle.comp_meaning.specs.Reads as reads
+use Rattle.read_shown.specs.Parts.{MemberStands, PartStands, instances_of}
+use Rattle.read_shown.specs.Scopes.{IsShownBefore}
+use Rattle.read_shown.specs.Trees.{AllAt}
+use Rattle.read_shown.specs.Views.{ViewStands}
+use Rattle.read_shown.proofs.Lists.{at_front, recursion_weaker}
+use Rattle.read_shown.proofs.Views.{view_wider}
+use Rattle.plan_type_laws.specs.MembersStand.{MembersStandTogether, all_instances}
+
+-- an item of two lists is one of the first, or one behind them
+pub split_at : {A : Type 0} (xs ys : List A) (n : ℕ) (x : A) → slice_get (xs ++ ys) n ≡ Some x → (slice_get xs n ≡ Some x) ⊎ ((k : ℕ) × (n ≡ length xs + k) × (slice_get ys k ≡ Some x))
+split_at [] ys n x e = inr (n, omega arith, e)
+split_at (z ∷ xs) ys zero x e = inl e
+split_at (z ∷ xs) ys (suc n) x e = elim (split_at xs ys n x e) [
+  | inl here ↦ inl here
+  | inr later ↦ inr (later.0, (let is = later.1 in omega (arith, is)), later.2)
+]
+
+behind_at : {A : Type 0} (xs ys : List A) (n : ℕ) (x : A) → slice_get ys n ≡ Some x → (k : ℕ) × (k ≡ length xs + n) × (slice_get (xs ++ ys) k ≡ Some x)
+behind_at [] ys n x e = (n, omega arith, e)
+behind_at (z ∷ xs) ys n x e = let found = behind_at xs ys n x e in (suc found.0, (let is = found.1 in omega (arith, is)), found.2)
+
+-- The items of a list stand in another one, behind so many.
+abbrev pub StandBehind : {A : Type 0} → ℕ → List A → List A → Type 0
+StandBehind {A} count xs all = (n : ℕ) (x : A) → slice_get xs n ≡ Some x → slice_get all (count + n) ≡ Some x
+
+pub shown_behind : (count : ℕ) (some all : List Instance) → StandBehind count some all → (n : ℕ) (place : Place) (name : Text) (b : Bool) → IsShownBefore some n place name b → IsShownBefore all (count + n) place name b
+shown_behind count some all stand n place name b s = record {
+  number = count + s.number;
+  below = (let below = s.below in omega (arith, below));
+  shown = s.shown;
+  at = stand s.number s.shown s.at;
+  path = s.path;
+  of_path = s.of_path;
+  stands = s.stands;
+  shows = s.shows;
+}
+
+module _ (all : List Instance) where
+  views_behind : (count : ℕ) (members : List reads.Member) → StandBehind count (all_instances members) all → AllByRecursion MemberStands members
+      → AllAt (λ n (x : Instance). ViewStands (IsShownBefore all (count + n)) (place_of x.interface) x.view) (all_instances members)
+  views_behind count [] stand each n x e = absurd cc
+  views_behind count (m ∷ members) stand each n x e = by (views_behind (count + length (instances_of m)) members later each.1) (split_at (instances_of m) (all_instances members) n x e)
+    where
+      here : StandBehind count (instances_of m) all
+      here k y f = stand k y (at_front (instances_of m) (all_instances members) k y f)
+
+      later : StandBehind (count + length (instances_of m)) (all_instances members) all
+      later k y f =
+          let found = behind_at (instances_of m) (all_instances members) k y f in
+          let is = found.1 in
+          let same : count + found.0 ≡ count + length (instances_of m) + k = omega (arith, is) in
+          subst (λ i. slice_get all i ≡ Some y) same (stand found.0 y found.2)
+
+      by : AllAt (λ k (y : Instance). ViewStands (IsShownBefore all (count + length (instances_of m) + k)) (place_of y.interface) y.view) (all_instances members)
+          → (slice_get (instances_of m) n ≡ Some x) ⊎ ((k : ℕ) × (n ≡ length (instances_of m) + k) × (slice_get (all_instances members) k ≡ Some x)) → ViewStands (IsShownBefore all (count + n)) (place_of x.interface) x.view
+      by rest (inl own) = view_wider (IsShownBefore (instances_of m) n) (IsShownBefore all (count + n)) (shown_behind count (instances_of m) all here n) (place_of x.interface) x.view (each.0.views n x own)
+      by rest (inr behind) =
+          let is = behind.1 in
+          let same : count + length (instances_of m) + behind.0 ≡ count + n = omega (arith, is) in
+          subst (λ i. ViewStands (IsShownBefore all i) (place_of x.interface) x.view) same (rest behind.0 x behind.2)
+
+from_start : (n : ℕ) → 0 + n ≡ n
+from_start n = omega arith
+
+pub members_stand_together : MembersStandTogether
+members_stand_together members each = record {
+  views = λ n x e. subst (λ i. ViewStands (IsShownBefore (all_instances members) i) (place_of x.interface) x.view) (from_start n) (views_behind (all_instances members) 0 members (λ k y f. subst (λ i. slice_get (all_instances members) i ≡ Some y) (sym (from_start k)) f) each n x e);
+  parts = recursion_weaker MemberStands (λ (m : reads.Member). PartStands m.part) (λ m is. is.part) members each;
+}

@@ -1,0 +1,257 @@
+-- What is shown of what was read obeys the rules.
+use Rattle.std.proofs.Common.{◌≡◌, sym, ap, subst, ◌∙◌, ℕ, ◌+◌, ◌<◌, arith, Bool, true, false, ◌&&◌, ◌||◌, List, [], ◌∷◌, ◌++◌, map, Option, Some, None, slice_get}
+use Rattle.std.proofs.lemmas.List.Folds.{list_all-append}
+use Rattle.std.proofs.lemmas.Option.{slice_get_within}
+use Rattle.std.specs.List.{AllByRecursion, AllZip, flat_map, list_all, list_any}
+use Rattle.wit_model.specs.Meaning.{FunctionMeaning, Signature}
+use Rattle.wit_model.specs.Names.{PackageIdentity, is_label, path_in}
+use Rattle.wit_model.specs.Text.{Text}
+use Rattle.wit_model.specs.Tree.{Place}
+use Rattle.wit_model.proofs.Elements.{same-some}
+use Rattle.wit_model.proofs.Lists.{first_true, second_true}
+use Rattle.comp_meaning.specs.Follow.{Scope, Seen, ShownType, View, interface_of, place_of}
+use Rattle.comp_meaning.specs.Reads as reads
+use Rattle.comp_meaning.specs.Reads.{Sight}
+use Rattle.comp_meaning.specs.Rules as rules
+use Rattle.comp_meaning.specs.Rules.{distinct}
+use Rattle.read_shown.specs.Parts.{PartStands}
+use Rattle.read_shown.specs.Scopes as scopes
+use Rattle.read_shown.specs.Trees.{AllAt}
+use Rattle.read_shown.proofs.Lists.{recursion_weaker}
+use Rattle.plan_meaning.proofs.GatheredPlan.{all_at}
+use Rattle.plan_meaning.proofs.ReadOrder.{all_both}
+use Rattle.plan_meaning.specs.FollowedNumbers.{AreMembersIn, IsCalledIn, IsMetFrom, IsPartIn, IsScopeIn, IsSeenIn, IsShownIn, IsSlotOf, IsViewIn}
+use Rattle.plan_meaning.specs.NumberedMembers.{Homes, HomesStand, IsMember, ShowsPart}
+use Rattle.plan_meaning.specs.NumberedViews.{AllOf, AreTables, IsPart, NumberedFunction, NumberedSlot, NumberedType, NumberedView, Tables, declaration_of, function_at, path_at, path_text, place_at, resource, shown_function, shown_type, signature_at, value, view_of}
+use Rattle.plan_meaning.specs.NumberedWorlds.{HasPath, Shows, key_of, place_of_key, seen_of, shown_of}
+use Rattle.plan_meaning.specs.Shapes.{Shape, first_label, named_shape}
+use Rattle.plan_parts.specs.Interfaces.{slot_part}
+use Rattle.read_rules.specs.declared.reached.ImportedView.{ImportedView}
+use Rattle.read_rules.specs.declared.scopes.Scope.{Scope as NumberScope}
+use Rattle.read_rules.specs.declared.scopes.Seen.{Seen as NumberSeen}
+use Rattle.read_rules.specs.declared.scopes.Shown.{Shown as NumberShown}
+use Rattle.read_rules.specs.declared.scopes.Shown.TheVariants as shown
+use Rattle.read_rules.specs.Reached.{numbered_import}
+use Rattle.read_rules.specs.Scopes.{numbered_key, numbered_scope, numbered_seen, numbered_shown}
+use Rattle.read_rules.specs.Tables.{given_text}
+use Rattle.read_rules.specs.Views.{numbered_view}
+use Rattle.read_exports.specs.declared.members.Member.{Member}
+use Rattle.read_exports.specs.declared.members.Part.{Part}
+use Rattle.read_exports.specs.declared.members.Part.TheVariants as parts
+use Rattle.read_exports.specs.Members.{numbered_member, numbered_members, numbered_part}
+use Rattle.plan_types.specs.Showings.{NumberedShowing, showing_of, showings_of_import, showings_of_members, showings_of_part, showings_of_seen, showings_of_shown, showings_of_view, signatures_of_members, signatures_of_part, signatures_of_seen, signatures_of_shown, signatures_of_view}
+use Rattle.plan_type_laws.proofs.InnerForms.{name_there}
+use Rattle.plan_type_laws.proofs.PartPlaces.{exported_place, key_place, no_names, parts_weaker, path_place}
+use Rattle.plan_type_laws.specs.ShownMarks.{NamesSeen, NamesShown, PartNames}
+use Rattle.plan_type_laws.specs.ShownRules.{NamesObeyRules, ShowingIsName, ShownObeysRules}
+use Rattle.plan_type_laws.specs.UsedParts.{ShowingObeys, SignatureObeys}
+
+module _ (t : Tables) (tables : AreTables t) where
+  abbrev Hold : List NumberedShowing → List ℕ → Type 0
+  Hold showings signatures = AllByRecursion (ShowingIsName t) showings × AllByRecursion (SignatureObeys t) signatures
+
+  two_hold : (xs ys : List NumberedShowing) (ms ns : List ℕ) → Hold xs ms → Hold ys ns → Hold (xs ++ ys) (ms ++ ns)
+  two_hold xs ys ms ns a b = (all_both (ShowingIsName t) xs ys a.0 b.0, all_both (SignatureObeys t) ms ns a.1 b.1)
+
+  -- ---- functions
+
+  call_obeys : (p n : ℕ) (place : Place) → IsCalledIn t p n → rules.is_signature place (signature_at t n) ≡ true → SignatureObeys t n
+  call_obeys p n place called obeys = record { place = place; range = parts_weaker (IsMetFrom t p) (IsPart t) (λ k met. met.range) (function_at t n) called.parts; obeys = obeys }
+
+  abbrev is_function_of_any : Place → List Text → Text → Signature → Bool
+  is_function_of_any place resources name f = is_label name || list_any (rules.is_function_of place name f) resources
+
+  function_signature : (place : Place) (resources : List Text) (name : Text) (f : Signature) → rules.is_function place resources name f ≡ true → rules.is_signature place f ≡ true
+  function_signature place resources name f h = first_true (rules.is_signature place f) (is_function_of_any place resources name f) h
+
+  functions_obey : (p : ℕ) (place : Place) (resources : List Text) (fs : List (Text × NumberedFunction)) → AllByRecursion (λ (f : Text × NumberedFunction). IsCalledIn t p f.1.signature) fs
+      → list_all (λ (f : Text × FunctionMeaning). rules.is_function place resources f.0 f.1.signature) (map (shown_function t) fs) ≡ true → AllByRecursion (SignatureObeys t) (map (λ (f : Text × NumberedFunction). f.1.signature) fs)
+  functions_obey p place resources [] called h = tt
+  functions_obey p place resources (f ∷ fs) called h =
+      let test = λ (f : Text × FunctionMeaning). rules.is_function place resources f.0 f.1.signature in
+      let one = test (shown_function t f) in
+      let rest = list_all test (map (shown_function t) fs) in
+      (call_obeys p f.1.signature place called.0 (function_signature place resources f.0 (signature_at t f.1.signature) (first_true one rest h)), functions_obey p place resources fs called.1 (second_true one rest h))
+
+  -- ---- types
+
+  slot_number : (s : NumberedSlot) (n : ℕ) → IsSlotOf t s n → slot_part s ≡ 14 + n
+  slot_number (value k) n e = e
+  slot_number (resource k) n e = e
+
+  type_obeys : (p : ℕ) (x : NumberedType) → IsShownIn t p x → (is_label x.name && rules.is_declared (place_at t p) (declaration_of t x.declared)) ≡ true → ShowingIsName t (showing_of x)
+  type_obeys p x is h = record {
+    number = is.number;
+    home = p;
+    name = x.name;
+    part = slot_number x.slot is.number is.slot;
+    there = is.name.named;
+    behind = is.name.behind;
+    label = first_true (is_label x.name) (rules.is_declared (place_at t p) (declaration_of t x.declared)) h;
+    obeys = second_true (is_label x.name) (rules.is_declared (place_at t p) (declaration_of t x.declared)) h;
+  }
+
+  types_obey : (p : ℕ) (xs : List NumberedType) → AllByRecursion (IsShownIn t p) xs → list_all (λ (x : ShownType). is_label x.name && rules.is_declared (place_at t p) x.meaning.declaration) (map (shown_type t) xs) ≡ true
+      → AllByRecursion (ShowingIsName t) (map showing_of xs)
+  types_obey p [] is h = tt
+  types_obey p (x ∷ xs) is h =
+      let test = λ (x : ShownType). is_label x.name && rules.is_declared (place_at t p) x.meaning.declaration in
+      let one = test (shown_type t x) in
+      let rest = list_all test (map (shown_type t) xs) in
+      (type_obeys p x is.0 (first_true one rest h), types_obey p xs is.1 (second_true one rest h))
+
+  -- ---- views
+
+  view_obeys : (p : ℕ) (v : NumberedView) → IsViewIn t p v → (place : Place) → place ≡ place_at t p → rules.is_interface place (view_of t v) ≡ true → Hold (showings_of_view v) (signatures_of_view v)
+  view_obeys p v within place same h =
+      let at : rules.is_interface (place_at t p) (view_of t v) ≡ true = ap (λ q. rules.is_interface q (view_of t v)) (sym same) ∙ h in
+      let types = list_all (λ (x : ShownType). is_label x.name && rules.is_declared (place_at t p) x.meaning.declaration) (view_of t v).types in
+      let resources = rules.resources_of (view_of t v).types in
+      let functions = list_all (λ (f : Text × FunctionMeaning). rules.is_function (place_at t p) resources f.0 f.1.signature) (view_of t v).functions in
+      let apart = distinct (map (λ (x : ShownType). x.name) (view_of t v).types ++ map (λ (f : Text × FunctionMeaning). f.0) (view_of t v).functions) in
+      let both = first_true (types && functions) apart at in
+      (types_obey p v.types within.types (first_true types functions both), functions_obey p (place_at t p) resources v.functions within.functions (second_true types functions both))
+
+  -- ---- worlds
+
+  module _ (home : ℕ) (no_path : path_at t home ≡ None) where
+    name_obeys : (key : Text) (part : ℕ) (d : Option ℕ) (external_id : Option Text) → NamesShown t home key (shown.Declares part d) → IsSeenIn t home (record { key = key; shown = numbered_shown (shown.Declares part d); external_id = external_id })
+        → (is_label key && rules.is_declared Place.here (declaration_of t d)) ≡ true → ShowingIsName t (record { part = part; declared = d; external_id = external_id })
+    name_obeys key part d external_id named within h =
+        let same : within.0 ≡ named.0 = tables.shapes.apart within.0 named.0 (named_shape home key) within.1.named named.2 in
+        record {
+          number = named.0;
+          home = home;
+          name = key;
+          part = named.1;
+          there = named.2;
+          behind = subst (λ n. AllOf (λ k. k < 14 + n) d) same within.1.behind;
+          label = first_true (is_label key) (rules.is_declared Place.here (declaration_of t d)) h;
+          obeys = ap (λ o. rules.is_declared (place_of o) (declaration_of t d)) no_path ∙ second_true (is_label key) (rules.is_declared Place.here (declaration_of t d)) h;
+        }
+
+    item_obeys : (resources : List Text) (key : Text) (s : NumberShown) (external_id : Option Text) → IsSeenIn t home (record { key = key; shown = numbered_shown s; external_id = external_id }) → NamesShown t home key s
+        → rules.is_item resources key (shown_of t (numbered_shown s)) ≡ true → Hold (showings_of_shown s external_id) (signatures_of_shown s)
+    item_obeys resources key (shown.Instance k v) external_id within named h =
+        view_obeys (place_of_key (numbered_key k)) (numbered_view v) within.1 (place_of (interface_of (key_of t (numbered_key k)))) (key_place t (numbered_key k) within.0) h
+    item_obeys resources key (shown.Function n) external_id within named h = (tt, (call_obeys home n Place.here within (function_signature Place.here resources key (signature_at t n) h), tt))
+    item_obeys resources key (shown.Declares part d) external_id within named h = ((name_obeys key part d external_id named within h, tt), tt)
+
+    imports_obey : (earlier : List Seen) (ss : List NumberSeen) → AllByRecursion (IsSeenIn t home) (map numbered_seen ss) → AllByRecursion (NamesSeen t home) ss
+        → rules.are_imports earlier (map (seen_of t) (map numbered_seen ss)) ≡ true → Hold (flat_map showings_of_seen ss) (flat_map signatures_of_seen ss)
+    imports_obey earlier [] within named h = (tt, tt)
+    imports_obey earlier (s ∷ ss) within named h =
+        let x = seen_of t (numbered_seen s) in
+        let one = rules.is_item (rules.resources_seen earlier) x.key x.shown in
+        let rest = rules.are_imports (earlier ++ x ∷ []) (map (seen_of t) (map numbered_seen ss)) in
+        two_hold (showings_of_seen s) (flat_map showings_of_seen ss) (signatures_of_seen s) (flat_map signatures_of_seen ss)
+        (item_obeys (rules.resources_seen earlier) s.key.now s.shown (given_text s.external_id) within.0 named.0 (first_true one rest h)) (imports_obey (earlier ++ x ∷ []) ss within.1 named.1 (second_true one rest h))
+
+    exports_obey : (ss : List NumberSeen) → AllByRecursion (IsSeenIn t home) (map numbered_seen ss) → AllByRecursion (NamesSeen t home) ss
+        → list_all (λ (s : Seen). rules.is_item [] s.key s.shown) (map (seen_of t) (map numbered_seen ss)) ≡ true → Hold (flat_map showings_of_seen ss) (flat_map signatures_of_seen ss)
+    exports_obey [] within named h = (tt, tt)
+    exports_obey (s ∷ ss) within named h =
+        let test = λ (s : Seen). rules.is_item [] s.key s.shown in
+        let one = test (seen_of t (numbered_seen s)) in
+        let rest = list_all test (map (seen_of t) (map numbered_seen ss)) in
+        two_hold (showings_of_seen s) (flat_map showings_of_seen ss) (signatures_of_seen s) (flat_map signatures_of_seen ss)
+        (item_obeys [] s.key.now s.shown (given_text s.external_id) within.0 named.0 (first_true one rest h)) (exports_obey ss within.1 named.1 (second_true one rest h))
+
+  world_obeys : (w : NumberScope) (scope : Scope) → Shows t (numbered_scope w) scope → scopes.ScopeStands scope → rules.is_world scope ≡ true → IsScopeIn t (numbered_scope w) → AllByRecursion (NamesSeen t w.home) w.imports.now
+      → Hold (flat_map showings_of_seen w.imports.now ++ flat_map showings_of_seen w.exports.now) (flat_map signatures_of_seen w.imports.now ++ flat_map signatures_of_seen w.exports.now)
+  world_obeys w scope is stands h within names =
+      let imports = rules.are_imports [] scope.imports in
+      let exports = list_all (λ (s : Seen). rules.is_item [] s.key s.shown) scope.exports in
+      let in_keys = distinct (map (λ (s : Seen). s.key) scope.imports) in
+      let out_keys = distinct (map (λ (s : Seen). s.key) scope.exports) in
+      let earlier = rules.stand_earlier [] (scope.imports ++ scope.exports) in
+      let four = first_true (imports && exports && in_keys && out_keys) earlier h in
+      let three = first_true (imports && exports && in_keys) out_keys four in
+      let two = first_true (imports && exports) in_keys three in
+      let exported = no_names t w.home w.exports.now (subst (AllAt (λ n (s : Seen). scopes.is_type s.shown ≡ false)) is.exports stands.no_types) in
+      two_hold (flat_map showings_of_seen w.imports.now) (flat_map showings_of_seen w.exports.now) (flat_map signatures_of_seen w.imports.now) (flat_map signatures_of_seen w.exports.now)
+      (imports_obey w.home within.home [] w.imports.now within.imports names (ap (rules.are_imports []) (sym is.imports) ∙ first_true imports exports two))
+      (exports_obey w.home within.home w.exports.now within.exports exported (ap (list_all (λ (s : Seen). rules.is_item [] s.key s.shown)) (sym is.exports) ∙ second_true imports exports two))
+
+  -- ---- members
+
+  abbrev may_be : Sight → Bool
+  may_be s = rules.is_interface (Place.of_interface s.path) s.view
+
+  abbrev imported : Text × View → Sight
+  imported i = record { path = i.0; view = i.1; whole = false }
+
+  views_obey : (is : List ImportedView) → AllByRecursion (λ (i : ℕ × NumberedView). HasPath t i.0 × IsViewIn t i.0 i.1) (map numbered_import is)
+      → list_all may_be (map imported (map (λ (i : ℕ × NumberedView). (path_text t i.0, view_of t i.1)) (map numbered_import is))) ≡ true → AllByRecursion (ShowingIsName t) (flat_map showings_of_import is)
+  views_obey [] within h = tt
+  views_obey (i ∷ is) within h =
+      let one = rules.is_interface (Place.of_interface (path_text t i.place)) (view_of t (numbered_view i.view)) in
+      let rest = list_all may_be (map imported (map (λ (i : ℕ × NumberedView). (path_text t i.0, view_of t i.1)) (map numbered_import is))) in
+      all_both (ShowingIsName t) (showings_of_import i) (flat_map showings_of_import is)
+      (view_obeys i.place (numbered_view i.view) within.0.1 (Place.of_interface (path_text t i.place)) (path_place t i.place within.0.0) (first_true one rest h)).0 (views_obey is within.1 (second_true one rest h))
+
+  module _ (h : Homes) (stand : HomesStand t h) (m : Member) (identity : PackageIdentity) (there : slice_get h.packages m.package_number ≡ Some identity) (name : Text) (under : name ≡ m.label.now) where
+    part_obeys : (part : Part) (y : reads.Part) → ShowsPart t h (numbered_member m) (numbered_part part) y → PartStands y
+        → list_all may_be (reads.sights (record { label = name; package_ = identity; part = y })) ≡ true → IsPartIn t (numbered_part part) → PartNames t part → Hold (showings_of_part part) (signatures_of_part part)
+    part_obeys (parts.World w) (reads.Part.world scope) is stands may within names = world_obeys w scope is stands.stands stands.obeys within names
+    part_obeys (parts.Interface p v imports) (reads.Part.interface view views) is stands may within names =
+        let own : Sight = record { path = path_in identity name; view = view; whole = true } in
+        let front = list_all may_be (map imported views) in
+        let split : (front && list_all may_be (own ∷ [])) ≡ true = sym (list_all-append may_be (map imported views) (own ∷ [])) ∙ may in
+        let last = first_true (may_be own) true (second_true front (list_all may_be (own ∷ [])) split) in
+        let view_same : rules.is_interface (Place.of_interface (path_in identity name)) (view_of t (numbered_view v)) ≡ true = ap (rules.is_interface (Place.of_interface (path_in identity name))) (sym is.shown) ∙ last in
+        let shown = view_obeys p (numbered_view v) within.0.1 (Place.of_interface (path_in identity name)) (exported_place t h stand m identity there name under p is.path is.home) view_same in (
+          all_both (ShowingIsName t) (flat_map showings_of_import imports.now) (showings_of_view (numbered_view v))
+              (views_obey imports.now within.1 (ap (λ vs. list_all may_be (map imported vs)) (sym is.imported) ∙ first_true front (list_all may_be (own ∷ [])) split)) shown.0,
+          shown.1,
+        )
+    part_obeys (parts.World w) (reads.Part.interface view views) is stands may within names = absurd is
+    part_obeys (parts.Interface p v imports) (reads.Part.world scope) is stands may within names = absurd is
+
+  members_obey : (h : Homes) → HomesStand t h → (ms : List Member) (members : List reads.Member) → AllZip (IsMember t h) (numbered_members ms) members → AllByRecursion (λ (x : reads.Member). PartStands x.part) members
+      → list_all may_be (flat_map reads.sights members) ≡ true → AreMembersIn t (numbered_members ms) → AllByRecursion (λ (m : Member). PartNames t m.part) ms → Hold (showings_of_members ms) (signatures_of_members ms)
+  members_obey h stand [] [] zip stands may within names = (tt, tt)
+  members_obey h stand [] (x ∷ members) zip stands may within names = (tt, tt)
+  members_obey h stand (m ∷ ms) [] zip stands may within names = absurd zip
+  members_obey h stand (m ∷ ms) (x ∷ members) zip stands may within names =
+      let first = list_all may_be (reads.sights x) in
+      let rest = list_all may_be (flat_map reads.sights members) in
+      let split : (first && rest) ≡ true = sym (list_all-append may_be (reads.sights x) (flat_map reads.sights members)) ∙ may in
+      two_hold (showings_of_part m.part) (showings_of_members ms) (signatures_of_part m.part) (signatures_of_members ms)
+      (part_obeys h stand m x.package_ zip.0.package_ x.label zip.0.label m.part x.part zip.0.part stands.0 (first_true first rest split) within.0 names.0)
+      (members_obey h stand ms members zip.1 stands.1 (second_true first rest split) within.1 names.1)
+
+  -- ---- what follows for each name
+
+  name_is_shown : (s : NumberedShowing) → ShowingIsName t s → ShowingObeys t s
+  name_is_shown s is = record {
+    place = place_at t is.home;
+    name = (is.home, is.name);
+    is = name_there t s.part is.number is.home is.name is.part is.there;
+    range = by s.declared is.behind;
+    obeys = is.obeys;
+  }
+    where
+      by : (d : Option ℕ) → AllOf (λ k. k < 14 + is.number) d → AllOf (IsPart t) d
+      by None low = tt
+      by (Some k) low = let small = slice_get_within t.shapes is.number (named_shape is.home is.name) is.there in omega (arith, low, small)
+
+pub shown_obeys : ShownObeysRules
+shown_obeys t tables h stand ms members zip stands may within names =
+    let held = members_obey t tables h stand ms members zip stands.parts may within names in
+    record { names = held.0; declared = recursion_weaker (ShowingIsName t) (ShowingObeys t) (name_is_shown t tables) (showings_of_members ms) held.0; called = held.1 }
+
+pub names_obey : NamesObeyRules
+names_obey t tables showings are find finds p owners marks homes n q name s mark there found =
+    let shown = finds n s found in
+    let is = all_at (ShowingIsName t) showings are s shown.0 in
+    let number : is.number ≡ n = omega (arith, is.part, shown.1) in
+    let same : named_shape is.home is.name ≡ named_shape q name = same-some (named_shape is.home is.name) (named_shape q name) (sym is.there ∙ (ap (slice_get t.shapes) number ∙ there)) in
+    let home : is.home ≡ q = ap (λ (x : Shape). x.number) same in
+    let called : is.name ≡ name = ap (λ (x : Shape). first_label x.labels) same in
+    record {
+      label = subst (λ x. is_label x ≡ true) called is.label;
+      behind = subst (λ m. AllOf (λ k. k < 14 + m) s.declared) number is.behind;
+      obeys = subst (λ x. rules.is_declared (place_at t x) (declaration_of t s.declared) ≡ true) home is.obeys;
+      home = homes n q name mark there;
+    }

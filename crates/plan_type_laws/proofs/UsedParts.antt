@@ -1,0 +1,158 @@
+-- Types that are used, where what is shown obeys the rules.
+use Rattle.std.proofs.Common.{◌≡◌, refl, sym, ap, subst, ◌∙◌, ℕ, ◌+◌, ◌-◌, ◌<◌, ◌≤◌, arith, Bool, true, false, not, ◌&&◌, ◌||◌, ◌==◌, nat_le, if◌then◌else◌, List, [], ◌∷◌, map, Option, Some, None, option_and_then, option_map, option_to_list, slice_get}
+use Rattle.std.proofs.lemmas.Bool.{eqb-true, le-leb, le-ltb, leb-true, lt-ltb}
+use Rattle.std.proofs.lemmas.Option.{slice_get_within}
+use Rattle.std.specs.List.{AllByRecursion, flat_map, list_all}
+use Rattle.std.specs.Option.{option_map_or}
+use Rattle.wit_model.specs.Text.{Text}
+use Rattle.wit_model.specs.Tree.{Declaration, Form, Place, Tree, children, deepest, levels}
+use Rattle.wit_model.specs.Uses.{has}
+use Rattle.wit_model.proofs.Elements.{same-some}
+use Rattle.wit_model.proofs.Lists.{first_true, second_true}
+use Rattle.comp_meaning.specs.Rules as rules
+use Rattle.comp_meaning.specs.Rules.{are_labels, are_parts, form_labels, is_named_form, most_levels}
+use Rattle.plan_meaning.proofs.ShapeLaws.{PartView, is_name, is_node, is_primitive, viewed}
+use Rattle.plan_meaning.specs.Plan.{part_number}
+use Rattle.plan_meaning.specs.NumberedRules.{is_form, name_at, name_in, shape_at}
+use Rattle.plan_meaning.specs.NumberedViews.{AllOf, AreTables, IsPart, Tables, declaration_of, function_at, place_at, signature_at, tree_at}
+use Rattle.plan_meaning.specs.Shapes.{Shape, first_label, named_shape, node_shape, part_tree, shape_trees}
+use Rattle.plan_types.specs.Showings.{NumberedShowing}
+use Rattle.plan_types.specs.Used.{declared_parts, form_parts, function_parts, showing_parts}
+use Rattle.plan_type_laws.proofs.UsedWalk.{in_both, in_flat, one_there, used_fine}
+use Rattle.plan_type_laws.specs.UsedParts.{IsFinePart, ShowingObeys, SignatureObeys, UsedPartsAreFine}
+
+-- ---- numbers and shapes
+
+part_number_of : (n : ℕ) → part_number (14 + n) ≡ Some n
+part_number_of n = ap (λ b. if b then None else Some ((14 + n) - 14)) (le-ltb (14 + n) 14 (omega arith)) ∙ ap Some (omega arith)
+
+shape_here : (t : Tables) (n : ℕ) (s : Shape) → slice_get t.shapes n ≡ Some s → shape_at t (14 + n) ≡ Some s
+shape_here t n s at = ap (option_and_then (slice_get t.shapes)) (part_number_of n) ∙ at
+
+low_form : (t : Tables) (k : ℕ) → k < 14 → is_form t k ≡ false
+low_form t k small = ap (λ b. option_map_or (λ (s : Shape). not (s.sort == 0)) (option_and_then (slice_get t.shapes) (if b then None else Some (k - 14))) false) (lt-ltb k 14 small)
+
+-- ---- trees
+
+module _ (t : Tables) (tables : AreTables t) where
+  -- a part among the parts of a form that stand in a place, and aren't too deep
+  among_parts : (place : Place) (ks : List ℕ) → are_parts place (children (map (tree_at t) ks)) ≡ true → deepest (children (map (tree_at t) ks)) ≤ most_levels → (k : ℕ) → has ks k ≡ true → IsFinePart t k
+  among_parts place [] h deep k there = let wrong : false ≡ true = there in absurd cc
+  among_parts place (j ∷ ks) h deep k there =
+      by (j == k) refl there (among_parts place ks (second_true (rules.is_part place (tree_at t j)) (are_parts place (children (map (tree_at t) ks))) h) (omega (arith, deep)) k)
+    where
+      by : (b : Bool) → (j == k) ≡ b → (b || has ks k) ≡ true → (has ks k ≡ true → IsFinePart t k) → IsFinePart t k
+      by true e there later = subst (IsFinePart t) (eqb-true j k e) (record {
+        place = place;
+        part = first_true (rules.is_part place (tree_at t j)) (are_parts place (children (map (tree_at t) ks))) h;
+        shallow = le-leb (levels (tree_at t j)) most_levels (omega (arith, deep));
+      })
+      by false e there later = later there
+
+  -- the form of a number
+  node_of : (n : ℕ) (s : Shape) → slice_get t.shapes n ≡ Some s → name_in s ≡ None → (f : Form) × (tree_at t (14 + n) ≡ Tree.node f (children (map (tree_at t) s.parts)))
+  node_of n s at no_name = by (viewed (place_at t) t.shapes tables.shapes (14 + n) (omega (arith, slice_get_within t.shapes n s at)))
+    where
+      by : PartView (place_at t) t.shapes tables.shapes (14 + n) (part_tree (shape_trees (place_at t) t.shapes) (14 + n)) → (f : Form) × (tree_at t (14 + n) ≡ Tree.node f (children (map (tree_at t) s.parts)))
+      by (is_primitive p small stands number) = absurd (omega (arith, small))
+      by (is_name m q x is there stands) =
+          let same : n ≡ m = omega (arith, is) in
+          let wrong : ◌≡◌ {A = Option (ℕ × Text)} None (Some (q, x)) = sym no_name ∙ ap name_in (same-some s (named_shape q x) (sym at ∙ (ap (slice_get t.shapes) same ∙ there))) in absurd cc
+      by (is_node m f ks is there stands range) =
+          let same : n ≡ m = omega (arith, is) in
+          let shape : s ≡ node_shape f ks = same-some s (node_shape f ks) (sym at ∙ (ap (slice_get t.shapes) same ∙ there)) in
+          (f, stands ∙ ap (λ (s : Shape). Tree.node f (children (map (tree_at t) s.parts))) (sym shape))
+
+  -- the parts of a fine part
+  parts_of_fine : (n : ℕ) (s : Shape) → slice_get t.shapes n ≡ Some s → name_in s ≡ None → IsFinePart t (14 + n) → (k : ℕ) → has s.parts k ≡ true → IsFinePart t k
+  parts_of_fine n s at no_name fine k there =
+      let node = node_of n s at no_name in
+      among_parts fine.place s.parts
+      (second_true (not (is_named_form node.0)) (are_parts fine.place (children (map (tree_at t) s.parts))) (sym (ap (rules.is_part fine.place) node.1) ∙ fine.part))
+      (omega (arith, leb-true (levels (tree_at t (14 + n))) most_levels fine.shallow, ap levels node.1)) k there
+
+  -- ---- what is shown
+
+  module _ (n : ℕ) (s : Shape) (at : slice_get t.shapes n ≡ Some s) (no_name : name_in s ≡ None) where
+    sort_named : (b : Bool) → (s.sort == 0) ≡ b → not b ≡ true
+    sort_named true e = let wrong : ◌≡◌ {A = Option (ℕ × Text)} None (Some (s.number, first_label s.labels)) = sym no_name ∙ ap (λ b. if b then Some (s.number, first_label s.labels) else None) e in absurd cc
+    sort_named false e = refl
+
+    has_form : (k : ℕ) → k ≡ 14 + n → is_form t k ≡ true
+    has_form k e = ap (is_form t) e ∙ (ap (λ o. option_map_or (λ (s : Shape). not (s.sort == 0)) o false) (shape_here t n s at) ∙ sort_named (s.sort == 0) refl)
+
+    has_no_name : (k : ℕ) → k ≡ 14 + n → name_at t k ≡ None
+    has_no_name k e = ap (name_at t) e ∙ (ap (option_and_then name_in) (shape_here t n s at) ∙ no_name)
+
+    -- what is declared
+    form_fine : (place : Place) (k : ℕ) → IsPart t k → rules.is_declared place (declaration_of t (Some k)) ≡ true → is_form t k ≡ true → has (form_parts t k) (14 + n) ≡ true → IsFinePart t (14 + n)
+    form_fine place k range obeys form there = by (viewed (place_at t) t.shapes tables.shapes k range)
+      where
+        by : PartView (place_at t) t.shapes tables.shapes k (part_tree (shape_trees (place_at t) t.shapes) k) → IsFinePart t (14 + n)
+        by (is_primitive q small stands number) = let wrong : false ≡ true = sym (low_form t k small) ∙ form in absurd cc
+        by (is_name m q x is at stands) = let wrong : false ≡ true = sym (ap (is_form t) is ∙ ap (λ o. option_map_or (λ (s : Shape). not (s.sort == 0)) o false) (shape_here t m (named_shape q x) at)) ∙ form in absurd cc
+        by (is_node m f ks is at stands parts) =
+            let rule : (are_labels (form_labels f) && are_parts place (children (map (tree_at t) ks)) && nat_le (deepest (children (map (tree_at t) ks))) most_levels) ≡ true = sym (ap (λ x. rules.is_declared place (Declaration.type_ x)) stands) ∙ obeys in
+            among_parts place ks
+            (second_true (are_labels (form_labels f)) (are_parts place (children (map (tree_at t) ks))) (first_true (are_labels (form_labels f) && are_parts place (children (map (tree_at t) ks))) (nat_le (deepest (children (map (tree_at t) ks))) most_levels) rule))
+            (leb-true (deepest (children (map (tree_at t) ks))) most_levels (second_true (are_labels (form_labels f) && are_parts place (children (map (tree_at t) ks))) (nat_le (deepest (children (map (tree_at t) ks))) most_levels) rule))
+            (14 + n) (sym (ap (λ l. has l (14 + n)) (ap (form_parts t) is ∙ ap (λ o. option_map_or (λ (s : Shape). s.parts) o []) (shape_here t m (node_shape f ks) at))) ∙ there)
+
+    declared_fine : (place : Place) (d : Option ℕ) → AllOf (IsPart t) d → rules.is_declared place (declaration_of t d) ≡ true → has (declared_parts t d) (14 + n) ≡ true → IsFinePart t (14 + n)
+    declared_fine place None range obeys there = let wrong : false ≡ true = there in absurd cc
+    declared_fine place (Some k) range obeys there = by (is_form t k) refl there
+      where
+        by : (b : Bool) → is_form t k ≡ b → has (if b then form_parts t k else k ∷ []) (14 + n) ≡ true → IsFinePart t (14 + n)
+        by true form there = form_fine place k range obeys form there
+        by false form there =
+            let same : k ≡ 14 + n = one_there k (14 + n) there in
+            let wrong : false ≡ true = sym form ∙ has_form k same in absurd cc
+
+    showing_fine : (x : NumberedShowing) → ShowingObeys t x → has (showing_parts t x) (14 + n) ≡ true → IsFinePart t (14 + n)
+    showing_fine x obeys there = by (x.part == 14 + n) refl there
+      where
+        by : (b : Bool) → (x.part == 14 + n) ≡ b → (b || has (declared_parts t x.declared) (14 + n)) ≡ true → IsFinePart t (14 + n)
+        by true e there = let wrong : None ≡ Some obeys.name = sym (has_no_name x.part (eqb-true x.part (14 + n) e)) ∙ obeys.is in absurd cc
+        by false e there = declared_fine obeys.place x.declared obeys.range obeys.obeys there
+
+    showings_fine : (xs : List NumberedShowing) → AllByRecursion (ShowingObeys t) xs → has (flat_map (showing_parts t) xs) (14 + n) ≡ true → IsFinePart t (14 + n)
+    showings_fine xs all there = in_flat (showing_parts t) (ShowingObeys t) (14 + n) showing_fine xs all there
+
+    -- functions
+    parameter_fine : (place : Place) (k : ℕ) → rules.is_parameter_type place (tree_at t k) ≡ true → k ≡ 14 + n → IsFinePart t (14 + n)
+    parameter_fine place k h e = subst (IsFinePart t) e (record {
+      place = place;
+      part = first_true (rules.is_part place (tree_at t k)) (nat_le (levels (tree_at t k)) most_levels) h;
+      shallow = second_true (rules.is_part place (tree_at t k)) (nat_le (levels (tree_at t k)) most_levels) h;
+    })
+
+    params_fine : (place : Place) (xs : List (Text × ℕ)) → list_all (λ (x : Text × Tree). rules.is_parameter_type place x.1) (map (λ (p : Text × ℕ). (p.0, tree_at t p.1)) xs) ≡ true → has (map (λ (x : Text × ℕ). x.1) xs) (14 + n) ≡ true → IsFinePart t (14 + n)
+    params_fine place [] h there = let wrong : false ≡ true = there in absurd cc
+    params_fine place (x ∷ xs) h there =
+        by (x.1 == 14 + n) refl there (params_fine place xs (second_true (rules.is_parameter_type place (tree_at t x.1)) (list_all (λ (x : Text × Tree). rules.is_parameter_type place x.1) (map (λ (p : Text × ℕ). (p.0, tree_at t p.1)) xs)) h))
+      where
+        by : (b : Bool) → (x.1 == 14 + n) ≡ b → (b || has (map (λ (x : Text × ℕ). x.1) xs) (14 + n)) ≡ true → (has (map (λ (x : Text × ℕ). x.1) xs) (14 + n) ≡ true → IsFinePart t (14 + n)) → IsFinePart t (14 + n)
+        by true e there later = parameter_fine place x.1 (first_true (rules.is_parameter_type place (tree_at t x.1)) (list_all (λ (x : Text × Tree). rules.is_parameter_type place x.1) (map (λ (p : Text × ℕ). (p.0, tree_at t p.1)) xs)) h) (eqb-true x.1 (14 + n) e)
+        by false e there later = later there
+
+    result_fine : (place : Place) (r : Option ℕ) → rules.is_result_type place (option_map (tree_at t) r) ≡ true → has (option_to_list r) (14 + n) ≡ true → IsFinePart t (14 + n)
+    result_fine place None h there = let wrong : false ≡ true = there in absurd cc
+    result_fine place (Some k) h there = parameter_fine place k h (one_there k (14 + n) there)
+
+    function_fine : (m : ℕ) → SignatureObeys t m → has (function_parts t m) (14 + n) ≡ true → IsFinePart t (14 + n)
+    function_fine m obeys there =
+        let f = function_at t m in
+        let labels = rules.are_labels (map (λ p. p.0) (signature_at t m).params) in
+        let params = list_all (λ (p : Text × Tree). rules.is_parameter_type obeys.place p.1) (signature_at t m).params in
+        let result = rules.is_result_type obeys.place (signature_at t m).result in
+        in_both (map (λ (x : Text × ℕ). x.1) f.params) (option_to_list f.result) (14 + n)
+        (params_fine obeys.place f.params (second_true labels params (first_true (labels && params) result obeys.obeys)))
+        (result_fine obeys.place f.result (second_true (labels && params) result obeys.obeys)) there
+
+    functions_fine : (ms : List ℕ) → AllByRecursion (SignatureObeys t) ms → has (flat_map (function_parts t) ms) (14 + n) ≡ true → IsFinePart t (14 + n)
+    functions_fine ms all there = in_flat (function_parts t) (SignatureObeys t) (14 + n) function_fine ms all there
+
+pub used_are_fine : UsedPartsAreFine
+used_are_fine t tables showings shown signatures called marks used n s is at no_name =
+    used_fine t tables (IsFinePart t) (parts_of_fine t tables) showings signatures (λ m r r_at none. showings_fine t tables m r r_at none showings shown) (λ m r r_at none. functions_fine t tables m r r_at none signatures called)
+    marks used n s is at no_name

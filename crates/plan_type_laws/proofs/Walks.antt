@@ -1,0 +1,52 @@
+-- Walks along what is shown: what holds of each item of a list, by the list that it stands for.
+use Rattle.std.proofs.Common.{◌≡◌, refl, sym, ◌∙◌, ℕ, zero, suc, Bool, true, false, ◌||◌, ◌==◌, List, [], ◌∷◌, ◌++◌, map}
+use Rattle.std.proofs.lemmas.Bool.{eq-eqb, eqb-true}
+use Rattle.std.specs.List.{AllByRecursion, flat_map}
+use Rattle.plan_meaning.proofs.ReadOrder.{all_both}
+use Rattle.read_shown.specs.Trees.{AllAt}
+
+pub all_mapped : {A B : Type 0} (P : B → Type 0) (f : A → B) (xs : List A) → AllByRecursion (λ x. P (f x)) xs → AllByRecursion P (map f xs)
+all_mapped P f [] all = tt
+all_mapped P f (x ∷ xs) all = (all.0, all_mapped P f xs all.1)
+
+pub all_unmapped : {A B : Type 0} (P : B → Type 0) (f : A → B) (xs : List A) → AllByRecursion P (map f xs) → AllByRecursion (λ x. P (f x)) xs
+all_unmapped P f [] all = tt
+all_unmapped P f (x ∷ xs) all = (all.0, all_unmapped P f xs all.1)
+
+pub all_flat : {A B : Type 0} (P : B → Type 0) (f : A → List B) (xs : List A) → AllByRecursion (λ x. AllByRecursion P (f x)) xs → AllByRecursion P (flat_map f xs)
+all_flat P f [] all = tt
+all_flat P f (x ∷ xs) all = all_both P (f x) (flat_map f xs) all.0 (all_flat P f xs all.1)
+
+-- what holds of each item and of what it stands for
+pub at_each : {A B : Type 0} (f : A → B) (P : ℕ → B → Type 0) (R Q : A → Type 0) (xs : List A) → ((n : ℕ) (x : A) → R x → P n (f x) → Q x) → AllByRecursion R xs → AllAt P (map f xs) → AllByRecursion Q xs
+at_each f P R Q [] one all at = tt
+at_each f P R Q (x ∷ xs) one all at = (one zero x all.0 (at zero (f x) refl), at_each f (λ n y. P (suc n) y) R Q xs (λ n y r p. one (suc n) y r p) all.1 (λ n y e. at (suc n) y e))
+
+pub all_any : {A : Type 0} (xs : List A) → AllByRecursion (λ (x : A). Unit {0}) xs
+all_any [] = tt
+all_any (x ∷ xs) = (tt, all_any xs)
+
+pub all_two : {A : Type 0} (P Q : A → Type 0) (xs : List A) → AllByRecursion P xs → AllByRecursion Q xs → AllByRecursion (λ x. P x × Q x) xs
+all_two P Q [] ps qs = tt
+all_two P Q (x ∷ xs) ps qs = ((ps.0, qs.0), all_two P Q xs ps.1 qs.1)
+
+pub all_split : {A : Type 0} (P : A → Type 0) (xs ys : List A) → AllByRecursion P (xs ++ ys) → AllByRecursion P xs × AllByRecursion P ys
+all_split P [] ys all = (tt, all)
+all_split P (x ∷ xs) ys all = let rest = all_split P xs ys all.1 in ((all.0, rest.0), rest.1)
+
+-- ---- tests that fail
+
+pub first_false : (a b : Bool) → (a || b) ≡ false → a ≡ false
+first_false true b h = let wrong : true ≡ false = h in absurd cc
+first_false false b h = refl
+
+pub second_false : (a b : Bool) → (a || b) ≡ false → b ≡ false
+second_false true b h = let wrong : true ≡ false = h in absurd cc
+second_false false b h = h
+
+pub apart_back : (a b : ℕ) → (a == b) ≡ false → (b == a) ≡ false
+apart_back a b none = by (b == a) refl
+  where
+    by : (c : Bool) → (b == a) ≡ c → (b == a) ≡ false
+    by true e = let wrong : true ≡ false = sym (eq-eqb a b (sym (eqb-true b a e))) ∙ none in absurd cc
+    by false e = e

@@ -1,0 +1,23 @@
+-- Parts at the top that are well-formed together: each name that is met was shown before it, by the same part or by one before it (WIT.md, "Package
+-- Format").
+use Rattle.std.specs.Prelude.{List}
+use Rattle.std.specs.List.{AllByRecursion, flat_map}
+use Rattle.comp_meaning.specs.Follow.{Instance, place_of}
+use Rattle.comp_meaning.specs.Reads as reads
+use Rattle.read_shown.specs.Parts.{MemberStands, PartStands, instances_of}
+use Rattle.read_shown.specs.Scopes.{IsShownBefore}
+use Rattle.read_shown.specs.Trees.{AllAt}
+use Rattle.read_shown.specs.Views.{ViewStands}
+
+-- the instances that the parts show, in order
+abbrev pub all_instances : List reads.Member → List Instance
+all_instances members = flat_map instances_of members
+
+-- Each view is well-formed behind those before it, and each world is.
+pub record MembersStand (members : List reads.Member) : Type 0 where
+  pub views : AllAt (λ n (x : Instance). ViewStands (IsShownBefore (all_instances members) n) (place_of x.interface) x.view) (all_instances members)
+  pub parts : AllByRecursion (λ (m : reads.Member). PartStands m.part) members
+
+-- Parts that are well-formed each alone are so together.
+abbrev pub MembersStandTogether : Type 0
+MembersStandTogether = (members : List reads.Member) → AllByRecursion MemberStands members → MembersStand members

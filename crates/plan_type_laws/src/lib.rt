@@ -1,0 +1,4 @@
+//! Laws of plans that are made of what was followed; no code.
+#![tactic(auto)]
+
+pub mod laws;

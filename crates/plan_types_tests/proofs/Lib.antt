@@ -1,2 +1,0 @@
-pub mod KeptTests
-pub mod PartLaws

@@ -1,0 +1,38 @@
+-- The rules on a package and on one world, put together.
+use Rattle.std.proofs.Common.{◌≡◌, refl, sym, ap, ◌∙◌, ℕ, Bool, true, false, not, ◌&&◌, ◌||◌, ◌==◌, List, [], ◌∷◌}
+use Rattle.std.specs.List.{list_all, list_any}
+use Rattle.wit_model.specs.Text.{Text}
+use Rattle.plan_meaning.specs.NumberedMembers.{Homes, NumberedMember, are_interfaces, are_package, is_named_in, is_of_package, is_one_world, sights_of_members, stands_at_top}
+use Rattle.plan_meaning.specs.NumberedRules.{Fact}
+use Rattle.plan_meaning.specs.NumberedViews.{NumberedSight, Tables, agree_in_numbers, agree_with_first_in_numbers}
+use Rattle.plan_meaning.specs.NumberedWorlds.{NumberedScope, sights_of_scope}
+use Rattle.plan_parts.proofs.FirstAgreement.{agree_by_first}
+use Rattle.read_exports.specs.Members.{stands_among, ArePlaces}
+
+and_line : (a b c : Bool) → ((a && b) && c) ≡ (a && (b && c))
+and_line true b c = refl
+and_line false b c = refl
+
+module _ (h : Homes) (n : ℕ) (ms : List NumberedMember) (places : List ℕ) (are : ArePlaces ms places) where
+  one_at_top : (s : NumberedSight) → stands_among h n places s ≡ stands_at_top h n ms s
+  one_at_top s = ap (λ b. not (is_of_package h n s.place) || b) (are s.place)
+
+  all_at_top : (seen : List NumberedSight) → list_all (stands_among h n places) seen ≡ list_all (stands_at_top h n ms) seen
+  all_at_top [] = refl
+  all_at_top (s ∷ seen) = λ i. one_at_top s i && all_at_top seen i
+
+  pub package_decided : (t : Tables) (known : ℕ → Fact) (seen : List NumberedSight) → seen ≡ sights_of_members t ms → (one top do_agree shown : Bool) → one ≡ list_all (λ m. n == m.package_) ms → top ≡ list_all (stands_among h n places) seen
+      → do_agree ≡ agree_with_first_in_numbers [] seen → shown ≡ are_interfaces t known seen → (((one && top) && do_agree) && shown) ≡ are_package t h known n ms
+  package_decided t known seen same one top do_agree shown a b c d =
+      ap (λ x. x && shown) (and_line one top do_agree) ∙ (and_line one (top && do_agree) shown ∙ (ap (λ x. one && x) (and_line top do_agree shown)
+      ∙ ((λ i. a i && ((b ∙ all_at_top seen) i && (c i && d i)))
+      ∙ (ap (λ x. list_all (λ m. n == m.package_) ms && (list_all (stands_at_top h n ms) seen && x)) (sym (agree_by_first t known seen))
+      ∙ ap (λ seen. list_all (λ m. n == m.package_) ms && (list_all (stands_at_top h n ms) seen && (agree_in_numbers seen && are_interfaces t known seen))) same))))
+
+pub world_decided : (t : Tables) (h : Homes) (known : ℕ → Fact) (n : ℕ) (name : Text) (w : NumberedScope) (seen : List NumberedSight) → seen ≡ sights_of_scope t w → (do_agree shown taken : Bool)
+    → do_agree ≡ agree_with_first_in_numbers [] seen → shown ≡ are_interfaces t known seen → taken ≡ list_any (λ s. is_named_in h n name s.place) seen → ((do_agree && shown) && not taken) ≡ is_one_world t h known n name w
+world_decided t h known n name w seen same do_agree shown taken a b c =
+    (λ i. (a i && b i) && not (c i))
+    ∙ (ap (λ x. x && not (list_any (λ s. is_named_in h n name s.place) seen)) (sym (agree_by_first t known seen))
+    ∙ (and_line (agree_in_numbers seen) (are_interfaces t known seen) (not (list_any (λ s. is_named_in h n name s.place) seen))
+    ∙ ap (λ seen. agree_in_numbers seen && (are_interfaces t known seen && not (list_any (λ s. is_named_in h n name s.place) seen))) same))

@@ -1,0 +1,42 @@
+-- What is exported at the top, as the numbers and texts that it stands for (Component Model WIT.md, "Package Format").
+use Rattle.std.specs.Prelude.{◌≡◌, ℕ, Bool, not, ◌||◌, List, [], map, Option}
+use Rattle.std.specs.Borrow.{Bor}
+use Rattle.std.specs.List.{list_any}
+use Rattle.wit_model.specs.Names.{PackageIdentity}
+use Rattle.wit_model.specs.Uses.{has}
+use Rattle.read_homes.specs.Homes.{given_home}
+use Rattle.plan_meaning.specs.NumberedMembers as members
+use Rattle.plan_meaning.specs.NumberedMembers.{Homes, NumberedMember, NumberedPart, is_interface_of, is_of_package}
+use Rattle.plan_meaning.specs.NumberedViews.{NumberedSight}
+use Rattle.read_rules.specs.Reached.{numbered_import}
+use Rattle.read_rules.specs.Scopes.{numbered_scope}
+use Rattle.read_rules.specs.Views.{numbered_view}
+use Rattle.read_exports.specs.declared.members.Member.{Member}
+use Rattle.read_exports.specs.declared.members.Part.{Part}
+use Rattle.read_exports.specs.declared.members.Part.TheVariants as parts
+
+abbrev pub numbered_part : Part → NumberedPart
+numbered_part (parts.World w) = members.world (numbered_scope w)
+numbered_part (parts.Interface p v imports) = members.interface p (numbered_view v) (map numbered_import imports.now)
+
+abbrev pub numbered_member : Member → NumberedMember
+numbered_member m = record { label = m.label.now; package_ = m.package_number; part = numbered_part m.part }
+
+abbrev pub numbered_members : List Member → List NumberedMember
+numbered_members ms = map numbered_member ms
+
+-- these packages, and for each place its package and the name of its interface
+abbrev pub homes_in : List PackageIdentity → List (Option (ℕ × Bor (List ℕ))) → Homes
+homes_in packages homes = record { packages = packages; homes = map given_home homes }
+
+-- the same, where it doesn't matter which packages these are
+abbrev pub homes_alone : List (Option (ℕ × Bor (List ℕ))) → Homes
+homes_alone homes = homes_in [] homes
+
+-- an interface of the package that is seen is among these places
+abbrev pub stands_among : Homes → ℕ → List ℕ → NumberedSight → Bool
+stands_among h n places s = not (is_of_package h n s.place) || has places s.place
+
+-- The numbers are the places of the interfaces at the top.
+abbrev pub ArePlaces : List NumberedMember → List ℕ → Type 0
+ArePlaces ms places = (p : ℕ) → has places p ≡ list_any (λ m. is_interface_of p m.part) ms

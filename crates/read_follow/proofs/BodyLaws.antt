@@ -1,0 +1,61 @@
+-- A body has all the bytes of its items.
+use Rattle.std.proofs.Common.{◌≡◌, refl, sym, ap, ◌∙◌, ℕ, ◌+◌, ◌-◌, ◌≤◌, arith, List, [], ◌++◌, length, take, Option, Some, None, append-nil}
+use Rattle.std.proofs.lemmas.List.{take_at, length-append}
+use Rattle.comp_bytes.specs.Form.{Spellings, Sequence}
+use Rattle.comp_bytes.specs.Laws.{IsReadBy}
+use Rattle.comp_bytes.specs.Reading.{Reader, sequence_at}
+use Rattle.comp_bytes.proofs.PartLaws.{sequence_takes, sequence_again}
+use Rattle.read_follow.specs.declared.bodies.Body.{Body}
+use Rattle.read_follow.specs.Bodies.{behind, items_of, items_in, IsBody}
+
+abbrev followed_by : {A : Type 0} → A → List ℕ → Option (A × List ℕ)
+followed_by x rest = Some (x, rest)
+
+some_is : {A : Type 0} (x y : A) → Some x ≡ Some y → x ≡ y
+some_is x y e = cc
+
+-- what was found where these bytes are behind it
+found_before : {A : Type 0} (found : Option (A × List ℕ)) (rest : List ℕ) → behind found ≡ Some rest → (x : A) × (found ≡ Some (x, rest))
+found_before None rest e = absurd cc
+found_before (Some x) rest e = (x.0, ap (followed_by x.0) (some_is x.1 rest e))
+
+module _ {A : Type 0} {form : A → Spellings} {reader : Reader A} (law : IsReadBy form reader) (n : ℕ) (items rest : List ℕ) (passed : behind (sequence_at reader n items) ≡ Some rest) where
+  read : (xs : List A) × (sequence_at reader n items ≡ Some (xs, rest))
+  read = found_before (sequence_at reader n items) rest passed
+
+  -- the items alone, cut from the bytes
+  alone : sequence_at reader n (take (length items - length rest) items) ≡ Some (read.0, [])
+  alone =
+      let t = sequence_takes law n items read.0 rest read.1 in
+      go t.0.front t.0.parts t.0.spelled t.1
+    where
+      go : (front : List ℕ) → items ≡ front ++ rest → Sequence form read.0 front → length read.0 ≡ n → sequence_at reader n (take (length items - length rest) items) ≡ Some (read.0, [])
+      go front parts spelled many =
+          let whole : length items ≡ length front + length rest = ap length parts ∙ length-append front rest in
+          let k : length items - length rest ≡ length front = omega (arith, whole) in
+          let is : take (length items - length rest) items ≡ front = ap (λ j. take j items) k ∙ (ap (take (length front)) parts ∙ take_at front rest (length front) refl) in
+          ap (λ j. sequence_at reader j (take (length items - length rest) items)) (sym many) ∙ (ap (sequence_at reader (length read.0)) (is ∙ sym (append-nil front)) ∙ sequence_again law read.0 front [] spelled)
+
+  pub shorter : length rest ≤ length items
+  shorter =
+      let t = sequence_takes law n items read.0 rest read.1 in
+      let whole : length items ≡ length t.0.front + length rest = ap length t.0.parts ∙ length-append t.0.front rest in
+      omega (arith, whole)
+
+  module _ (b : Body) (count : b.count ≡ n) (cut : b.bytes.now ≡ take (length items - length rest) items) where
+    body_read : sequence_at reader b.count b.bytes.now ≡ Some (read.0, [])
+    body_read = ap (λ j. sequence_at reader j b.bytes.now) count ∙ (ap (sequence_at reader n) cut ∙ alone)
+
+    items_are : items_in reader b ≡ read.0
+    items_are = ap items_of body_read
+
+    pub is_body : IsBody reader b
+    is_body = body_read ∙ ap (λ xs. Some (xs, [])) (sym items_are)
+
+    pub body_found : sequence_at reader n items ≡ Some (items_in reader b, rest)
+    body_found = read.1 ∙ ap (λ xs. Some (xs, rest)) (sym items_are)
+
+-- nothing is behind nothing
+pub none_found : {A : Type 0} (found : Option (A × List ℕ)) → behind found ≡ None → found ≡ None
+none_found None e = refl
+none_found (Some x) e = absurd cc

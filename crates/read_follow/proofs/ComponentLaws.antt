@@ -1,0 +1,425 @@
+-- One entry of a component type after the other.
+use Rattle.std.proofs.Common.{◌≡◌, inl, inr, refl, sym, ap, ◌∙◌, subst, ℕ, zero, suc, ◌+◌, ◌-◌, ◌<◌, ◌≤◌, ◌==◌, ◌&&◌, arith, Bool, true, false, cond, List, [], ◌∷◌, ◌++◌, map, length, Option, Some, None, slice_get, unwrap_or}
+use Rattle.std.specs.List.{AllByRecursion, list_any}
+use Rattle.std.proofs.Math.ListN.{length-map}
+use Rattle.std.proofs.lemmas.List.{append-nil}
+use Rattle.wit_model.specs.Meaning.{Signature}
+use Rattle.wit_model.specs.Text.{Text, text_eq}
+use Rattle.wit_model.specs.Tree.{Place, Tree}
+use Rattle.comp_bytes.specs.Levels.{Entry as RawEntry, holds, entry_at}
+use Rattle.comp_bytes.specs.Raw.{Alias, Declaration, DefinedType, FunctionType}
+use Rattle.comp_bytes.specs.Reading.{◌>>=◌, Reader, sequence_at}
+use Rattle.comp_meaning.specs.ByLevels.{all_used, entry_scope, entry_step}
+use Rattle.comp_meaning.specs.Follow as follow
+use Rattle.comp_meaning.specs.Follow.{Scope as MeantScope, Slot as Meant, component_step, definition, exported_slot, find_type, function_signature, in_scope, new_scope, provided}
+use Rattle.comp_meaning.specs.Reads.{steps}
+use Rattle.read_follow.specs.declared.bodies.Body.{Body}
+use Rattle.read_follow.specs.declared.refusal.Refusal.{Refusal}
+use Rattle.read_follow.specs.declared.scopes.Instance.{Instance}
+use Rattle.read_follow.specs.declared.slots.Slot.{Slot}
+use Rattle.read_follow.specs.declared.slots.Slot.TheVariants as slots
+use Rattle.read_follow.specs.declared.views.ShownType.{ShownType}
+use Rattle.read_follow.specs.Bodies.{held_declaration_at, items_in, IsBody}
+use Rattle.read_follow.specs.Defining.{AddsForms, Grows, IsDefined, IsDefinedFunction, IsUndefined}
+use Rattle.read_follow.specs.Following.{shown_type, AreTables, IsShownIn, IsSlotIn, IsTypeSlot}
+use Rattle.read_follow.specs.Found.{Refuses}
+use Rattle.read_follow.specs.Functions.{functions_in, signature_in, FunctionShape, IsFunctionIn}
+use Rattle.read_follow.specs.Placed.{apart, HasNoNames, MayMeet, SignatureOver, SlotOver}
+use Rattle.read_follow.specs.Places.{has_path, ArePlacesOf}
+use Rattle.read_follow.specs.Scopes.{are_settled, find_slot, instance_in, meant_at, path_of, slot_of_instance, start_of, taken_from, waiting, weight, weights, world_signatures, world_trees, Goes, IsFollowedTo, IsInstanceIn, IsPlacedWorld, IsScopeOf, IsWorld, Stops, World}
+use Rattle.read_follow.specs.Slots.{no_signature, resource_slot, slot_in, slots_in, AreNames, IsName}
+use Rattle.plan_meaning.specs.Shapes.{Shape, named_shape, node_shape, part_tree, shape_trees, IsTable}
+use Rattle.plan_meaning.proofs.ShapeLaws.{slice_front}
+use Rattle.read_follow.proofs.AddLaws.{mapped_get}
+use Rattle.read_follow.proofs.DefiningLaws.{all_at, longer, no_shapes, same_list}
+use Rattle.read_follow.proofs.FollowingLaws.{functions_wider, joins_all, joins_grow, names_of, ranges_of}
+use Rattle.read_follow.proofs.OverLaws.{definition_over, signature_over}
+use Rattle.read_follow.proofs.PlaceLaws.{below_pathless}
+use Rattle.read_follow.proofs.PlacedLaws.{stood}
+use Rattle.read_follow.proofs.PlacedScopes.{extended_placed, found_over, none_past, path_marked, path_met}
+use Rattle.read_follow.proofs.Refusing.{refused}
+use Rattle.read_follow.proofs.ScopeLaws.{all_before, extended_world, goes_on, plus_slot, waiting_push, waits}
+use Rattle.read_follow.proofs.SlotLaws.{mapped_none}
+use Rattle.read_follow.proofs.StepLaws.{after_first, grow_on, guarded, headed, less, none_left, none_less, peeled, sequence_more, some_same, unread}
+use Rattle.read_follow.proofs.TableGrowth.{found_below}
+
+-- ---- the same step in other words
+
+pub goes_as : (few : ℕ) (f g : MeantScope → Option MeantScope) (old new : World) → ((m : MeantScope) → g m ≡ f m) → Goes few f old new → Goes few g old new
+goes_as few f g old new same s = record {
+  world = s.world;
+  shapes_grow = s.shapes_grow;
+  signatures_grow = s.signatures_grow;
+  paths_grow = s.paths_grow;
+  count = s.count;
+  placed = s.placed;
+  met = s.met;
+  follows = λ place of. same (meant_at place old) ∙ s.follows place of;
+}
+
+pub stops_as : (f g : MeantScope → Option MeantScope) (old : World) (paths : List (Option Text)) (e : Refusal) → ((m : MeantScope) → g m ≡ f m) → Stops f old paths e → Stops g old paths e
+stops_as f g old paths e same h place of = refused e (f (meant_at place old)) (g (meant_at place old)) (λ none. same (meant_at place old) ∙ none) (h place of)
+
+-- ---- a sequence
+
+nothing_read : {A : Type 0} (reader : Reader A) (bytes : List ℕ) (xs : List A × List ℕ) → sequence_at reader zero bytes ≡ Some xs → length xs.0 ≡ 0
+unfolding sequence_at
+nothing_read {A = A} reader bytes xs e = let same : ([], bytes) ≡ xs = some_same ([], bytes) xs e in ap (λ (p : List A × List ℕ). length p.0) (sym same)
+
+sequence_length : {A : Type 0} (reader : Reader A) (n : ℕ) (bytes : List ℕ) (xs : List A × List ℕ) → sequence_at reader n bytes ≡ Some xs → length xs.0 ≡ n
+sequence_length reader zero bytes xs e = nothing_read reader bytes xs e
+sequence_length {A = A} reader (suc n) bytes xs e = by (reader bytes) (sym (sequence_more reader n bytes) ∙ e) (λ behind. sequence_length reader n behind)
+  where
+    more : (x : A) (o : Option (List A × List ℕ)) → ((ys : List A × List ℕ) → o ≡ Some ys → length ys.0 ≡ n) → headed x o ≡ Some xs → length xs.0 ≡ suc n
+    more x None f h = absurd cc
+    more x (Some ys) f h = let same : (x ∷ ys.0, ys.1) ≡ xs = cc in let long = f ys refl in let many : length xs.0 ≡ length (x ∷ ys.0) = ap (λ (p : List A × List ℕ). length p.0) (sym same) in omega (arith, long, many)
+
+    by : (o : Option (A × List ℕ)) → after_first reader n o ≡ Some xs → ((behind : List ℕ) (ys : List A × List ℕ) → sequence_at reader n behind ≡ Some ys → length ys.0 ≡ n) → length xs.0 ≡ suc n
+    by None h f = absurd cc
+    by (Some x) h f = more x.0 (sequence_at reader n x.1) (f x.1) h
+
+-- ---- a slot more
+
+module _ (old : World) (st : IsWorld old) where
+  abbrev with_slots : List Shape → List FunctionShape → List Slot → World
+  with_slots more more_fs ss = record old { shapes = more; signatures = more_fs; slots = ss }
+
+  pushed : (more : List Shape) (more_fs : List FunctionShape) (gs : Grows old.shapes more) (gf : Grows old.signatures more_fs) (tables : AreTables (length old.paths) more more_fs)
+      → (s : Slot) → IsSlotIn more more_fs s
+      → ((base : List Shape) (places : ℕ) → IsPlacedWorld base places old → SlotOver (MayMeet (map has_path old.paths) old.home) (slot_in (shape_trees apart more) (functions_in (shape_trees apart more) more_fs) s))
+      → AddsForms old.shapes more → (few : ℕ) (step : MeantScope → Option MeantScope) (ss : List Slot) → ss ≡ old.slots ++ s ∷ [] → length more + waits s ≤ length old.shapes + few
+      → ((place : ℕ → Place) → ArePlacesOf old.paths place → step (meant_at place old) ≡ Some (in_scope (slot_in (shape_trees place more) (functions_in (shape_trees place more) more_fs) s) (meant_at place old)))
+      → Goes few step old (with_slots more more_fs ss)
+  pushed more more_fs gs gf tables s is over forms few step ss next count follows =
+      goes_on old st more more_fs old.paths gs gf (same_list old.paths) tables (s ∷ []) [] [] [] [] few step (with_slots more more_fs ss)
+      (λ i. record {
+        home = old.home;
+        shapes = more;
+        signatures = more_fs;
+        paths = old.paths;
+        slots = next i;
+        instances = sym (append-nil old.instances) i;
+        imports = sym (append-nil old.imports) i;
+        exports = sym (append-nil old.exports) i;
+        used = sym (append-nil old.used) i;
+      })
+      (extended_world old st more more_fs old.paths gs gf (same_list old.paths) tables (s ∷ []) [] [] [] [] (is, tt) tt tt tt)
+      (λ base places p.
+      extended_placed old st more more_fs old.paths gs gf (same_list old.paths) tables (s ∷ []) [] [] [] [] base places (length old.shapes) p [] (length more) (omega arith) (over base places p, tt) (λ j x at past. absurd (none_past old.instances j x at past)) tt tt tt (tt, tt)
+      (λ j x at past. absurd (none_past old.instances j x at past)) (λ n q name low at. inl (forms.names n q name at)) (λ n form parts low at. forms.formed n form parts at) refl (λ j x c at here past. absurd (none_past old.imports j x at past)))
+      (all_before old.paths (old.instances ++ []))
+      (let same = ap (λ us. waiting us 0 (old.slots ++ s ∷ [])) (append-nil old.used) in
+      let push = waiting_push old.used 0 old.slots s in
+      omega (arith, same, push, count))
+      (λ place of. follows place of ∙ ap Some (plus_slot (meant_at place old) (slot_in (shape_trees place more) (functions_in (shape_trees place more) more_fs) s)))
+
+  names_at : (place : ℕ → Place) → AreNames (world_trees place old) old.slots
+  names_at place = names_of place old.shapes old.signatures old.slots st.tables.table st.slots
+
+  pub defined_goes : (d : DefinedType) (more : List Shape) (ss : List Slot) → IsTable more → IsDefined old.shapes old.slots d more ss
+      → Goes 1 (λ m. component_step m (Declaration.defined d)) old (with_slots more old.signatures ss)
+  defined_goes d more ss table is =
+      let tables : AreTables (length old.paths) more old.signatures = record {
+        table = table;
+        placed = is.placed (length old.paths) st.tables.placed;
+        signatures = functions_wider (length old.shapes) (length more) old.signatures (longer old.shapes more is.grown) st.tables.signatures;
+      } in
+      pushed more old.signatures is.grown (same_list old.signatures) tables (slots.Value is.part) is.range
+      (λ base places p. definition_over (MayMeet (map has_path old.paths) old.home) (meant_at apart old).slots p.slots d (part_tree (shape_trees apart more) is.part) (is.found apart (world_signatures apart old) (names_at apart)))
+      is.forms 1 (λ m. component_step m (Declaration.defined d)) ss is.next
+      (let count = is.count in omega (arith, count))
+      (λ place of. ap (λ o. o >>= λ t. Some (in_scope (follow.value t) (meant_at place old))) (is.found place (world_signatures place old) (names_at place)))
+
+  pub defined_stops : (d : DefinedType) (e : Refusal) → IsUndefined old.shapes old.slots d e → Stops (λ m. component_step m (Declaration.defined d)) old old.paths e
+  defined_stops d e r place of = refused e (definition (meant_at place old).slots d) (component_step (meant_at place old) (Declaration.defined d))
+      (λ none. ap (λ o. o >>= λ t. Some (in_scope (follow.value t) (meant_at place old))) none) (r place (world_signatures place old) (names_at place))
+
+  pub signed_goes : (f : FunctionType) (more_fs : List FunctionShape) (ss : List Slot) → IsDefinedFunction old.signatures old.slots f more_fs ss
+      → Goes 1 (λ m. component_step m (Declaration.function f)) old (with_slots old.shapes more_fs ss)
+  signed_goes f more_fs ss is =
+      let inside : is.number < length more_fs = found_below more_fs is.number is.shape is.at in
+      let grows = joins_grow old.signatures more_fs is.shape is.joins in
+      let tables : AreTables (length old.paths) old.shapes more_fs = record {
+        table = st.tables.table;
+        placed = st.tables.placed;
+        signatures = joins_all (IsFunctionIn (length old.shapes)) old.signatures more_fs is.shape is.joins st.tables.signatures (is.ranges (length old.shapes) (ranges_of old.shapes old.signatures old.slots st.slots));
+      } in
+      pushed old.shapes more_fs (same_list old.shapes) grows tables (slots.Function is.number) inside
+      (λ base places p.
+      subst (λ (s : Signature). SignatureOver (MayMeet (map has_path old.paths) old.home) s) (sym (ap (λ o. unwrap_or o no_signature) (mapped_get (signature_in (world_trees apart old)) more_fs is.number is.shape is.at)))
+      (signature_over (MayMeet (map has_path old.paths) old.home) (meant_at apart old).slots p.slots f (signature_in (world_trees apart old) is.shape) (is.found (world_trees apart old) (world_signatures apart old))))
+      (no_shapes old.shapes) 1 (λ m. component_step m (Declaration.function f)) ss is.next (omega arith)
+      (λ place of.
+      ap (λ o. o >>= λ s. Some (in_scope (follow.function s) (meant_at place old))) (is.found (world_trees place old) (world_signatures place old))
+      ∙ ap (λ s. Some (in_scope (follow.function s) (meant_at place old)))
+      (sym (ap (λ o. unwrap_or o no_signature) (mapped_get (signature_in (world_trees place old)) more_fs is.number is.shape is.at))))
+
+  pub signed_stops : (f : FunctionType) (e : Refusal) → ((T : List Tree) (F : List Signature) → Refuses e (function_signature (slots_in T F old.slots) f)) → Stops (λ m. component_step m (Declaration.function f)) old old.paths e
+  signed_stops f e r place of = refused e (function_signature (meant_at place old).slots f) (component_step (meant_at place old) (Declaration.function f))
+      (λ none. ap (λ o. o >>= λ s. Some (in_scope (follow.function s) (meant_at place old))) none) (r (world_trees place old) (world_signatures place old))
+
+  -- ---- aliases
+
+  module _ (place : ℕ → Place) (of : ArePlacesOf old.paths place) where
+    abbrev T : List Tree
+    T = world_trees place old
+
+    abbrev F : List Signature
+    F = world_signatures place old
+
+    found_meant : (name : Text) (ts : List ShownType) → find_type name (map (shown_type T F) ts) ≡ (find_slot name ts >>= λ s. Some (slot_in T F s))
+    found_meant name [] = refl
+    found_meant name (t ∷ ts) = by (text_eq name t.name.now) (found_meant name ts)
+      where
+        by : (b : Bool) → find_type name (map (shown_type T F) ts) ≡ (find_slot name ts >>= λ s. Some (slot_in T F s))
+            → cond b (Some (slot_in T F t.slot)) (find_type name (map (shown_type T F) ts)) ≡ (cond b (Some t.slot) (find_slot name ts) >>= λ s. Some (slot_in T F s))
+        by true rest = refl
+        by false rest = rest
+
+    path_is : (p : ℕ) → p < length old.paths → has_path (path_of (place p)) ≡ has_path (unwrap_or (slice_get old.paths p) None)
+    path_is p below = by old.paths p below (of p)
+      where
+        same : (o : Option Text) → has_path (path_of (follow.place_of o)) ≡ has_path o
+        same None = refl
+        same (Some path) = refl
+
+        by : (ps : List (Option Text)) (k : ℕ) → k < length ps → ((o : Option Text) → slice_get ps k ≡ Some o → place p ≡ follow.place_of o) → has_path (path_of (place p)) ≡ has_path (unwrap_or (slice_get ps k) None)
+        by [] k h f = absurd (omega (arith, h))
+        by (q ∷ ps) zero h f = ap (λ x. has_path (path_of x)) (f q refl) ∙ same q
+        by (q ∷ ps) (suc k) h f = by ps k (omega (arith, h)) f
+
+    provided_slot : (b : Bool) (o : Option Slot) → ((o >>= λ s. Some (slot_in T F s)) >>= λ slot. provided b slot) ≡ ((o >>= λ s. provided b s) >>= λ s. Some (slot_in T F s))
+    provided_slot b None = refl
+    provided_slot b (Some s) = guarded b s (slot_in T F)
+
+    exported_meant : (name : Text) (m : ℕ) → exported_slot name (slice_get (meant_at place old).instances m) ≡ (slot_of_instance old.paths name (slice_get old.instances m) >>= λ s. Some (slot_in T F s))
+    exported_meant name m = by (slice_get old.instances m) refl
+      where
+        by : (o : Option Instance) → slice_get old.instances m ≡ o → exported_slot name (slice_get (map (instance_in place T F) old.instances) m) ≡ (slot_of_instance old.paths name o >>= λ s. Some (slot_in T F s))
+        by None e = ap (exported_slot name) (mapped_none (instance_in place T F) old.instances m e)
+        by (Some x) e =
+            let inside = all_at (IsInstanceIn old.shapes old.signatures old.paths) old.instances m x st.instances e in
+            ap (exported_slot name) (mapped_get (instance_in place T F) old.instances m x e)
+            ∙ (ap (λ o. o >>= λ slot. provided (has_path (path_of (place x.place))) slot) (found_meant name x.view.types.items)
+            ∙ (provided_slot (has_path (path_of (place x.place))) (find_slot name x.view.types.items)
+            ∙ ap (λ b. (find_slot name x.view.types.items >>= λ s. provided b s) >>= λ s. Some (slot_in T F s)) (path_is x.place inside.place)))
+
+    alias_meant : (a : Alias) → component_step (meant_at place old) (Declaration.alias_of a) ≡ (taken_from old.paths old.instances a >>= λ s. Some (in_scope (slot_in T F s) (meant_at place old)))
+    alias_meant (Alias.of_outer scopes n) = refl
+    alias_meant (Alias.of_export m name) = ap (λ o. o >>= λ slot. Some (in_scope slot (meant_at place old))) (exported_meant name m) ∙ by (slot_of_instance old.paths name (slice_get old.instances m))
+      where
+        by : (o : Option Slot) → ((o >>= λ s. Some (slot_in T F s)) >>= λ slot. Some (in_scope slot (meant_at place old))) ≡ (o >>= λ s. Some (in_scope (slot_in T F s) (meant_at place old)))
+        by None = refl
+        by (Some s) = refl
+
+  found_in : (name : Text) (ts : List ShownType) → AllByRecursion (IsShownIn old.shapes old.signatures) ts → (s : Slot) → find_slot name ts ≡ Some s → IsSlotIn old.shapes old.signatures s × IsTypeSlot s
+  found_in name [] h s e = absurd cc
+  found_in name (t ∷ ts) h s e = by (text_eq name t.name.now) e (found_in name ts h.1 s)
+    where
+      by : (b : Bool) → cond b (Some t.slot) (find_slot name ts) ≡ Some s → (find_slot name ts ≡ Some s → IsSlotIn old.shapes old.signatures s × IsTypeSlot s) → IsSlotIn old.shapes old.signatures s × IsTypeSlot s
+      by true f rest = let same : t.slot ≡ s = cc in (subst (λ (x : Slot). IsSlotIn old.shapes old.signatures x) same h.0.slot, subst (λ (x : Slot). IsTypeSlot x) same h.0.kind)
+      by false f rest = rest f
+
+  taken_in : (a : Alias) (s : Slot) → taken_from old.paths old.instances a ≡ Some s → IsSlotIn old.shapes old.signatures s × IsTypeSlot s
+  taken_in (Alias.of_outer scopes n) s e = absurd cc
+  taken_in (Alias.of_export m name) s e = by (slice_get old.instances m) refl e
+    where
+      kept : (b : Bool) (o : Option Slot) → (o >>= λ x. provided b x) ≡ Some s → o ≡ Some s
+      kept b None e = absurd cc
+      kept true (Some x) e = e
+      kept false (Some x) e = absurd cc
+
+      by : (o : Option Instance) → slice_get old.instances m ≡ o → slot_of_instance old.paths name o ≡ Some s → IsSlotIn old.shapes old.signatures s × IsTypeSlot s
+      by None at f = absurd cc
+      by (Some x) at f =
+          let inside = all_at (IsInstanceIn old.shapes old.signatures old.paths) old.instances m x st.instances at in
+          found_in name x.view.types.items inside.types s (kept (has_path (unwrap_or (slice_get old.paths x.place) None)) (find_slot name x.view.types.items) f)
+
+  -- what an alias takes over is a name of a place with a path
+  taken_over : (base : List Shape) (places : ℕ) → IsPlacedWorld base places old → (a : Alias) (s : Slot) → taken_from old.paths old.instances a ≡ Some s
+      → SlotOver (MayMeet (map has_path old.paths) old.home) (slot_in (world_trees apart old) (world_signatures apart old) s)
+  taken_over base places p (Alias.of_outer scopes n) s e = absurd cc
+  taken_over base places p (Alias.of_export m name) s e = by (slice_get old.instances m) refl e
+    where
+      kept : (b : Bool) (o : Option Slot) → (o >>= λ x. provided b x) ≡ Some s → (b ≡ true) × (o ≡ Some s)
+      kept b None e = absurd cc
+      kept true (Some x) e = (refl, e)
+      kept false (Some x) e = absurd cc
+
+      by : (o : Option Instance) → slice_get old.instances m ≡ o → slot_of_instance old.paths name o ≡ Some s → SlotOver (MayMeet (map has_path old.paths) old.home) (slot_in (world_trees apart old) (world_signatures apart old) s)
+      by None at f = absurd cc
+      by (Some x) at f =
+          let inside = all_at (IsInstanceIn old.shapes old.signatures old.paths) old.instances m x st.instances at in
+          let k = kept (has_path (unwrap_or (slice_get old.paths x.place) None)) (find_slot name x.view.types.items) f in
+          found_over old.shapes st.tables.table old.signatures (MayMeet (map has_path old.paths) old.home) x.place (path_met old.paths old.home x.place (path_marked old.paths x.place k.0))
+          name x.view.types.items inside.types (p.instances m x at).named s k.1
+
+  no_wait : (s : Slot) → IsTypeSlot s → waits s ≡ 0
+  no_wait (slots.Value part) h = refl
+  no_wait (slots.Resource part) h = refl
+  no_wait (slots.Function f) h = absurd h
+  no_wait (slots.Instance b n) h = absurd h
+
+  pub alias_goes : (a : Alias) (s : Slot) (ss : List Slot) → taken_from old.paths old.instances a ≡ Some s → ss ≡ old.slots ++ s ∷ []
+      → Goes 1 (λ m. component_step m (Declaration.alias_of a)) old (with_slots old.shapes old.signatures ss)
+  alias_goes a s ss taken next =
+      let h = taken_in a s taken in
+      let none = no_wait s h.1 in
+      pushed old.shapes old.signatures (same_list old.shapes) (same_list old.signatures) st.tables s h.0 (λ base places p. taken_over base places p a s taken) (no_shapes old.shapes)
+      1 (λ m. component_step m (Declaration.alias_of a)) ss next (omega (arith, none))
+      (λ place of. alias_meant place of a ∙ ap (λ o. o >>= λ x. Some (in_scope (slot_in (world_trees place old) (world_signatures place old) x) (meant_at place old))) taken)
+
+  pub alias_stops : (a : Alias) (e : Refusal) → Refuses e (taken_from old.paths old.instances a) → Stops (λ m. component_step m (Declaration.alias_of a)) old old.paths e
+  alias_stops a e r place of = refused e (taken_from old.paths old.instances a) (component_step (meant_at place old) (Declaration.alias_of a))
+      (λ none. alias_meant place of a ∙ ap (λ o. o >>= λ x. Some (in_scope (slot_in (world_trees place old) (world_signatures place old) x) (meant_at place old))) none) r
+
+  -- ---- instance types
+
+  pub held_goes : (b : Body) (around : ℕ) (ss : List Slot) → IsBody held_declaration_at b → around ≡ length old.slots → ss ≡ old.slots ++ slots.Instance b around ∷ []
+      → Goes (weight (holds (items_in held_declaration_at b))) (λ m. entry_step m (holds (items_in held_declaration_at b))) old (with_slots old.shapes old.signatures ss)
+  held_goes b around ss whole behind next =
+      let many = sequence_length held_declaration_at b.count b.bytes.now (items_in held_declaration_at b, []) whole in
+      pushed old.shapes old.signatures (same_list old.shapes) (same_list old.signatures) st.tables (slots.Instance b around) whole (λ base places p. tt) (no_shapes old.shapes) (length (items_in held_declaration_at b))
+      (λ m. entry_step m (holds (items_in held_declaration_at b))) ss next (omega (arith, many))
+      (λ place of. ap (λ n. Some (in_scope (follow.instance (items_in held_declaration_at b) n) (meant_at place old))) (length-map old.slots (slot_in (world_trees place old) (world_signatures place old)) ∙ sym behind))
+
+-- ---- all entries
+
+abbrev pub place_in : List (Option Text) → ℕ → Place
+place_in paths n = follow.place_of (unwrap_or (slice_get paths n) None)
+
+pub places_are : (paths : List (Option Text)) → ArePlacesOf paths (place_in paths)
+places_are paths n o e = ap (λ x. follow.place_of (unwrap_or x None)) e
+
+places_before : (paths more : List (Option Text)) → Grows paths more → (place : ℕ → Place) → ArePlacesOf more place → ArePlacesOf paths place
+places_before paths more g place of n o e = of n o (ap (λ (ps : List (Option Text)). slice_get ps n) g.is ∙ (slice_front paths g.more n (found_below paths n o e) ∙ e))
+
+module _ (start : World) (b : Body) where
+  abbrev all : List RawEntry
+  all = items_in entry_at b
+
+  abbrev whole_scope : Option MeantScope → Option MeantScope
+  whole_scope o = o >>= λ scope. provided (all_used scope.used 0 scope.slots) scope
+
+  module _ (i : ℕ) (rest : List ℕ) (now : World) (f : IsFollowedTo start b i rest now) (more : i < b.count) where
+    left_here : sequence_at entry_at (suc (b.count - (i + 1))) rest ≡ Some (f.es, [])
+    left_here = ap (λ k. sequence_at entry_at k rest) (sym (less b.count i more)) ∙ f.left
+
+    -- there is an entry
+    pub not_unread : (e : Refusal) → Refuses e (entry_at rest) → Refuses e (entry_scope all)
+    not_unread e r = refused e (entry_at rest) (entry_scope all) (λ none. absurd (unread entry_at (b.count - (i + 1)) rest f.es left_here none)) r
+
+    module _ (x : RawEntry) (behind : List ℕ) (at : entry_at rest ≡ Some (x, behind)) where
+      steps_on : (place : ℕ → Place) → ArePlacesOf now.paths place → (o : Option MeantScope) → entry_step (meant_at place now) x ≡ o
+          → (ys : List RawEntry) → f.es ≡ x ∷ ys → steps entry_step new_scope all ≡ (o >>= λ next. steps entry_step next ys)
+      steps_on place of o e ys same = sym (f.follows place of) ∙ (ap (steps entry_step (meant_at place now)) same ∙ ap (λ p. p >>= λ next. steps entry_step next ys) e)
+
+      pub followed_on : (next : World) → Goes (weight x) (λ m. entry_step m x) now next → IsFollowedTo start b (i + 1) behind next
+      followed_on next g =
+          let p = peeled entry_at (b.count - (i + 1)) rest f.es left_here x behind at in
+          let before = f.count in
+          let step = g.count in
+          let split = ap weights p.2 in
+          record {
+            world = g.world;
+            shapes_grow = grow_on start.shapes now.shapes next.shapes f.shapes_grow g.shapes_grow;
+            signatures_grow = grow_on start.signatures now.signatures next.signatures f.signatures_grow g.signatures_grow;
+            paths_grow = grow_on start.paths now.paths next.paths f.paths_grow g.paths_grow;
+            placed = g.placed start.shapes start.home f.placed;
+            met = g.met (length start.paths) f.met;
+            es = p.0;
+            left = p.1;
+            count = omega (arith, before, step, split);
+            follows = λ place of. sym (steps_on place (places_before now.paths next.paths g.paths_grow place of) (Some (meant_at place next)) (g.follows place of) p.0 p.2);
+          }
+
+      pub nothing_on : (paths : List (Option Text)) (e : Refusal) → Grows now.paths paths → Stops (λ m. entry_step m x) now paths e → Refuses e (entry_scope all)
+      nothing_on paths e grows h =
+          let p = peeled entry_at (b.count - (i + 1)) rest f.es left_here x behind at in
+          let place = place_in paths in
+          refused e (entry_step (meant_at place now) x) (entry_scope all)
+          (λ none. ap whole_scope (steps_on place (places_before now.paths paths grows place (places_are paths)) None none p.0 p.2)) (h place (places_are paths))
+
+  pub followed_whole : (i : ℕ) (rest : List ℕ) (now : World) → IsFollowedTo start b i rest now → i ≤ b.count → b.count ≤ i → IsFollowedTo start b b.count [] now
+  followed_whole i rest now f le ge =
+      let same : i ≡ b.count = omega (arith, le, ge) in
+      let none = none_left entry_at (b.count - i) rest f.es (omega (arith, ge)) f.left in
+      subst (λ (n : ℕ). IsFollowedTo start b n [] now) same (subst (λ (bytes : List ℕ). IsFollowedTo start b i bytes now) none.1 f)
+
+-- nothing has been followed
+pub followed_none : (home : ℕ) (shapes : List Shape) (fs : List FunctionShape) (paths : List (Option Text)) (b : Body) → AreTables (length paths) shapes fs → slice_get paths home ≡ Some None → HasNoNames home shapes → IsBody entry_at b
+    → (new : World) → new ≡ start_of home shapes fs paths → IsFollowedTo (start_of home shapes fs paths) b 0 b.bytes.now new
+followed_none home shapes fs paths b tables own fresh whole new e = subst (λ (w : World). IsFollowedTo (start_of home shapes fs paths) b 0 b.bytes.now w) (sym e) (record {
+  world = record { tables = tables; own = own; slots = tt; instances = tt; imports = tt; exports = tt };
+  shapes_grow = same_list shapes;
+  signatures_grow = same_list fs;
+  paths_grow = same_list paths;
+  placed = record {
+    grows = same_list shapes;
+    within = omega arith;
+    home = omega arith;
+    fresh = fresh;
+    slots = tt;
+    imports = tt;
+    exports = tt;
+    named = tt;
+    imports_keyed = tt;
+    exports_keyed = tt;
+    formed = λ n form parts low at. inl (found_below shapes n (node_shape form parts) at);
+    instances = λ j x at. absurd cc;
+    seen = λ j x at. absurd cc;
+    names = λ n q name low at. inl (found_below shapes n (named_shape q name) at);
+    counts = [];
+    many = refl;
+    counted = λ j s c at here. absurd cc;
+  };
+  met = all_before paths [];
+  es = items_in entry_at b;
+  left = ap (λ n. sequence_at entry_at n b.bytes.now) (none_less b.count) ∙ whole;
+  count = omega arith;
+  follows = λ place of. refl;
+})
+
+-- ---- what is used at the end
+
+settled_meant : (T : List Tree) (F : List Signature) (used : List ℕ) (n : ℕ) (ss : List Slot) → AreNames T ss → all_used used n (slots_in T F ss) ≡ are_settled used n ss
+settled_meant T F used n [] h = refl
+settled_meant T F used n (slots.Value part ∷ ss) h = settled_meant T F used (suc n) ss h
+settled_meant T F used n (slots.Resource part ∷ ss) h = by (part_tree T part) h.0 ∙ settled_meant T F used (suc n) ss h.1
+  where
+    by : (t : Tree) → IsName t → all_used used n (resource_slot t ∷ slots_in T F ss) ≡ all_used used (suc n) (slots_in T F ss)
+    by (Tree.primitive p) h = absurd h
+    by (Tree.named place name) h = refl
+    by (Tree.node form ts) h = absurd h
+settled_meant T F used n (slots.Function f ∷ ss) h = settled_meant T F used (suc n) ss h
+settled_meant T F used n (slots.Instance b around ∷ ss) h = ap (λ v. list_any (λ m. m == n) used && v) (settled_meant T F used (suc n) ss h)
+
+module _ (home : ℕ) (shapes : List Shape) (fs : List FunctionShape) (before paths : List (Option Text)) (own : paths ≡ before ++ None ∷ []) (new_home : home ≡ length before) (b : Body) (now : World) (f : IsFollowedTo (start_of home shapes fs paths) b b.count [] now) where
+  steps_end : (place : ℕ → Place) → ArePlacesOf now.paths place → steps entry_step new_scope (items_in entry_at b) ≡ Some (meant_at place now)
+  steps_end place of =
+      let none = none_left entry_at (b.count - b.count) [] f.es (omega arith) f.left in
+      sym (f.follows place of) ∙ ap (steps entry_step (meant_at place now)) none.0
+
+  scope_is : (place : ℕ → Place) → ArePlacesOf now.paths place → (v : Bool) → are_settled now.used 0 now.slots ≡ v → entry_scope (items_in entry_at b) ≡ provided v (meant_at place now)
+  scope_is place of v e =
+      ap (λ o. o >>= λ scope. provided (all_used scope.used 0 scope.slots) scope) (steps_end place of)
+      ∙ ap (λ w. provided w (meant_at place now))
+      (settled_meant (world_trees place now) (world_signatures place now) now.used 0 now.slots (names_of place now.shapes now.signatures now.slots f.world.tables.table f.world.slots) ∙ e)
+
+  pub scope_shown : are_settled now.used 0 now.slots ≡ true → IsScopeOf shapes fs before b now
+  scope_shown e = record {
+    world = f.world;
+    shapes_grow = f.shapes_grow;
+    signatures_grow = f.signatures_grow;
+    paths_grow = grow_on before paths now.paths (record { more = None ∷ []; is = own }) f.paths_grow;
+    count = (let count = f.count in omega (arith, count));
+    placed = subst (λ (n : ℕ). IsPlacedWorld shapes n now) new_home f.placed;
+    met = λ q path at. elim (f.met q path at) [
+      | inl below ↦ inl (below_pathless before paths own q path (stood paths now.paths f.paths_grow q (Some path) below at))
+      | inr met ↦ inr met
+    ];
+    shows = λ place of. scope_is place of true e;
+  }
+
+  pub no_scope : are_settled now.used 0 now.slots ≡ false → entry_scope (items_in entry_at b) ≡ None
+  no_scope e = scope_is (place_in now.paths) (places_are now.paths) false e

@@ -1,0 +1,269 @@
+-- Types of values and of functions in tables that grow.
+use Rattle.std.proofs.Common.{◌≡◌, ◌⊎◌, refl, sym, ap, ◌∙◌, subst, ℕ, zero, suc, ◌+◌, ◌<◌, ◌≤◌, arith, inl, inr, true, false, List, [], ◌∷◌, ◌++◌, map, length, Option, Some, None, option_map, IfSome, slice_get, unwrap_or, append_assoc, append-nil, length-append}
+use Rattle.std.specs.List.{AllByRecursion}
+use Rattle.std.proofs.lemmas.Bool.{cases_lt}
+use Rattle.std.proofs.lemmas.Option.{slice_get_past}
+use Rattle.wit_model.specs.Meaning.{Signature}
+use Rattle.wit_model.specs.Text.{Text}
+use Rattle.wit_model.specs.Tree.{Form, Place, Tree, children}
+use Rattle.wit_model.specs.Types.{no_tree}
+use Rattle.comp_bytes.specs.Raw.{DefinedType}
+use Rattle.comp_meaning.specs.Follow.{definition, is_key}
+use Rattle.read_follow.specs.declared.refusal.Refusal.{Refusal}
+use Rattle.read_follow.specs.declared.slots.Slot.{Slot}
+use Rattle.read_follow.specs.declared.slots.Slot.TheVariants as slots
+use Rattle.read_follow.specs.Defining.{AddsForms, ArePlacedBelow, Grows, IsDefined, IsPlacedBelow, IsUndefined}
+use Rattle.read_follow.specs.DefinitionKeys.{HasNoKeys, IsNodeOf}
+use Rattle.read_follow.specs.Found.{Refuses}
+use Rattle.read_follow.specs.Functions.{functions_in, param_tree, signature_in, AreApart, AreFunctionsIn, FunctionShape, IsFunctionIn}
+use Rattle.read_follow.specs.Slots.{slots_in, AreInRange, AreNames}
+use Rattle.plan_meaning.specs.PlanRules.{is_form}
+use Rattle.plan_meaning.specs.Shapes.{Shape, code, form_code, form_of, named_shape, node_shape, part_tree, shape_tree, shape_trees, Adds, stays, comes, IsShape, a_name, a_node, IsTable}
+use Rattle.plan_meaning.proofs.ShapeLaws.{form_back, name_tree, node_tree, one_number, part_behind, slice_there, tree_at_number}
+use Rattle.read_follow.proofs.WholeLaws.{all_end}
+use Rattle.read_follow.proofs.TableGrowth.{found_below, last_or, part_kept, trees_length, trees_more}
+
+-- ---- lists that grow
+
+pub same_list : {X : Type 0} (xs : List X) → Grows xs xs
+same_list xs = record { more = []; is = sym (append-nil xs) }
+
+pub one_longer : {X : Type 0} (xs : List X) (x : X) → Grows xs (xs ++ x ∷ [])
+one_longer xs x = record { more = x ∷ []; is = refl }
+
+pub adds_grow : (old new : List Shape) (s : Shape) → Adds old s new → Grows old new
+adds_grow old new s stays = same_list old
+adds_grow old new s (comes fresh) = one_longer old s
+
+pub adds_one : (old new : List Shape) (s : Shape) → Adds old s new → length new ≤ length old + 1
+adds_one old new s stays = omega arith
+adds_one old new s (comes fresh) = let long : length (old ++ s ∷ []) ≡ length old + 1 = length-append old (s ∷ []) in omega (arith, long)
+
+pub adds_placed : (m : ℕ) (old new : List Shape) (s : Shape) → Adds old s new → ArePlacedBelow m old → IsPlacedBelow m s → ArePlacedBelow m new
+adds_placed m old new s stays placed one = placed
+adds_placed m old new s (comes fresh) placed one = all_end (IsPlacedBelow m) old s placed one
+
+-- where no name comes into a table, each stood there
+adds_no_name : (old new : List Shape) (s : Shape) → Adds old s new → (s.sort ≡ 0 → ⊥) → (k q : ℕ) (name : Text) → slice_get new k ≡ Some (named_shape q name) → k < length old
+adds_no_name old new s stays formed k q name e = found_below old k (named_shape q name) e
+adds_no_name old new s (comes fresh) formed k q name e = elim (last_or old s k (named_shape q name) e) [
+  | inl h ↦ h.0
+  | inr h ↦ absurd (formed (ap (λ (x : Shape). x.sort) h.1))
+]
+
+-- either nothing came, or the shape is the last
+pub adds_cases : (old new : List Shape) (s : Shape) → Adds old s new → (new ≡ old) ⊎ (new ≡ old ++ s ∷ [])
+adds_cases old new s stays = inl refl
+adds_cases old new s (comes fresh) = inr refl
+
+-- no form has the number of a name
+no_name : (f : Form) → (form_code f).sort ≡ 0 → ⊥
+no_name (Form.record_of names) e = cc
+no_name (Form.variant_of cases) e = cc
+no_name Form.list_of e = cc
+no_name (Form.fixed_list_of n) e = cc
+no_name Form.option_of e = cc
+no_name Form.own_of e = cc
+no_name Form.borrow_of e = cc
+no_name Form.map_of e = cc
+no_name Form.tuple_of e = cc
+no_name (Form.flags_of names) e = cc
+no_name (Form.enum_of names) e = cc
+no_name (Form.result_of ok err) e = cc
+no_name (Form.future_of some) e = cc
+no_name (Form.stream_of some) e = cc
+
+-- where nothing comes into it
+pub no_shapes : (ss : List Shape) → AddsForms ss ss
+no_shapes ss = record { names = λ n q name e. found_below ss n (named_shape q name) e; formed = λ n form parts e. inl (found_below ss n (node_shape form parts) e) }
+
+-- a shape is of one form
+form_same : (f g : Form) (ks js : List ℕ) → node_shape f ks ≡ node_shape g js → f ≡ g
+form_same f g ks js e = sym (form_back f) ∙ (ap (λ (s : Shape). form_of (code s.sort s.number s.labels)) e ∙ form_back g)
+
+-- each form that comes into a table is one that may
+adds_formed : (old new : List Shape) (s : Shape) → Adds old s new → (f : Form) (ks : List ℕ) → s ≡ node_shape f ks → is_form f ks ≡ true
+    → (n : ℕ) (form : Form) (parts : List ℕ) → slice_get new n ≡ Some (node_shape form parts) → (n < length old) ⊎ (is_form form parts ≡ true)
+adds_formed old new s stays f ks is formed n form parts e = inl (found_below old n (node_shape form parts) e)
+adds_formed old new s (comes fresh) f ks is formed n form parts e = elim (last_or old s n (node_shape form parts) e) [
+  | inl h ↦ inl h.0
+  | inr h ↦
+      let same : node_shape f ks ≡ node_shape form parts = sym is ∙ h.1 in
+      inr (sym (λ i. is_form (form_same f form ks parts same i) (ap (λ (x : Shape). x.parts) same i)) ∙ formed)
+]
+
+-- where a name comes into it
+pub adds_name : (old new : List Shape) (p : ℕ) (name : Text) → Adds old (named_shape p name) new
+    → (n : ℕ) (form : Form) (parts : List ℕ) → slice_get new n ≡ Some (node_shape form parts) → (n < length old) ⊎ (is_form form parts ≡ true)
+adds_name old new p name adds n form parts e = elim (adds_cases old new (named_shape p name) adds) [
+  | inl same ↦ inl (found_below old n (node_shape form parts) (ap (λ (zs : List Shape). slice_get zs n) (sym same) ∙ e))
+  | inr came ↦ elim (last_or old (named_shape p name) n (node_shape form parts) (ap (λ (zs : List Shape). slice_get zs n) (sym came) ∙ e)) [
+    | inl h ↦ inl h.0
+    | inr h ↦ absurd (no_name form (ap (λ (x : Shape). x.sort) (sym h.1)))
+  ]
+]
+
+pub longer : {X : Type 0} (old new : List X) → Grows old new → length old ≤ length new
+longer old new g = let long : length new ≡ length old + length g.more = ap length g.is ∙ length-append old g.more in omega (arith, long)
+
+-- ---- trees of a table that grows
+
+trees_behind : (place : ℕ → Place) (ss us : List Shape) → (U : List Tree) × (shape_trees place (ss ++ us) ≡ shape_trees place ss ++ U)
+trees_behind place ss [] = ([], ap (shape_trees place) (append-nil ss) ∙ sym (append-nil (shape_trees place ss)))
+trees_behind place ss (u ∷ us) =
+    let t = shape_tree place (shape_trees place ss) u in
+    let rest = trees_behind place (ss ++ u ∷ []) us in (
+      t ∷ rest.0,
+      ap (shape_trees place) (sym (append_assoc ss (u ∷ []) us)) ∙ (rest.1 ∙ (ap (λ ts. ts ++ rest.0) (trees_more place ss u) ∙ append_assoc (shape_trees place ss) (t ∷ []) rest.0)),
+    )
+
+module _ (place : ℕ → Place) (ss new : List Shape) (grown : Grows ss new) where
+  -- a part stands for what it did
+  pub part_grown : (k : ℕ) → k < 14 + length ss → part_tree (shape_trees place new) k ≡ part_tree (shape_trees place ss) k
+  part_grown k h =
+      let T = shape_trees place ss in
+      let rest = trees_behind place ss grown.more in
+      let long : length T ≡ length ss = trees_length place ss in
+      ap (λ us. part_tree (shape_trees place us) k) grown.is ∙ (ap (λ U. part_tree U k) rest.1 ∙ part_kept T rest.0 k (omega (arith, h, long)))
+
+  pub parts_grown : (ks : List ℕ) → AllByRecursion (λ k. k < 14 + length ss) ks → map (part_tree (shape_trees place new)) ks ≡ map (part_tree (shape_trees place ss)) ks
+  parts_grown [] h = refl
+  parts_grown (k ∷ ks) h = λ i. part_grown k h.0 i ∷ parts_grown ks h.1 i
+
+  params_grown : (ps : List (Text × ℕ)) → AllByRecursion (λ p. p.1 < 14 + length ss) ps → map (param_tree (shape_trees place new)) ps ≡ map (param_tree (shape_trees place ss)) ps
+  params_grown [] h = refl
+  params_grown (p ∷ ps) h = λ i. (p.0, part_grown p.1 h.0 i) ∷ params_grown ps h.1 i
+
+  outcome_grown : (o : Option ℕ) → IfSome o (λ k. k < 14 + length ss) → option_map (part_tree (shape_trees place new)) o ≡ option_map (part_tree (shape_trees place ss)) o
+  outcome_grown None h = refl
+  outcome_grown (Some k) h = ap Some (part_grown k h)
+
+  signature_grown : (s : FunctionShape) → IsFunctionIn (length ss) s → signature_in (shape_trees place new) s ≡ signature_in (shape_trees place ss) s
+  unfolding signature_in
+  signature_grown s h = λ i. record { is_async = s.is_async; params = params_grown s.params h.params i; result = outcome_grown s.outcome h.outcome i }
+
+  -- the types of functions are what they were
+  pub functions_grown : (fs : List FunctionShape) → AreFunctionsIn (length ss) fs → functions_in (shape_trees place new) fs ≡ functions_in (shape_trees place ss) fs
+  functions_grown [] h = refl
+  functions_grown (f ∷ fs) h = λ i. signature_grown f h.0 i ∷ functions_grown fs h.1 i
+
+-- ---- keys of maps
+
+shape_keyless : (place : ℕ → Place) (T : List Tree) (n : ℕ) (s : Shape) → IsShape n s → is_key (shape_tree place T s) ≡ false
+shape_keyless place T n s (a_name p name is) = ap (λ t. is_key (shape_tree place T t)) is ∙ ap is_key (name_tree place T p name)
+shape_keyless place T n s (a_node f ks is ranges) = ap (λ t. is_key (shape_tree place T t)) is ∙ ap is_key (node_tree place T f ks)
+
+-- no type of a table may be the key of a map
+pub no_keys : (place : ℕ → Place) (ss : List Shape) → IsTable ss → HasNoKeys (shape_trees place ss)
+no_keys place ss table n = ap is_key (part_behind T n) ∙ elim (cases_lt n (length ss)) [
+  | inl inside ↦
+      let found = slice_there ss n inside in
+      ap (λ o. is_key (unwrap_or o no_tree)) (tree_at_number place ss table n found.0 found.1) ∙ shape_keyless place T n found.0 (table.each n found.0 found.1)
+  | inr past ↦
+      let long : length T ≡ length ss = trees_length place ss in
+      ap (λ o. is_key (unwrap_or o no_tree)) (slice_get_past T n (omega (arith, past, long)))
+]
+  where
+    T : List Tree
+    T = shape_trees place ss
+
+-- ---- definitions
+
+-- a primitive
+pub part_defined : (ss : List Shape) (old new : List Slot) (d : DefinedType) (k : ℕ) → k < 14 → new ≡ old ++ slots.Value k ∷ []
+    → ((T : List Tree) (F : List Signature) → definition (slots_in T F old) d ≡ Some (part_tree T k)) → IsDefined ss old d ss new
+part_defined ss old new d k small is found = record {
+  part = k;
+  next = is;
+  range = omega (arith, small);
+  grown = same_list ss;
+  count = omega arith;
+  placed = λ m placed. placed;
+  forms = no_shapes ss;
+  found = λ place F named. found (shape_trees place ss) F;
+}
+
+-- a form, by its number in the table
+pub key_defined : (ss more : List Shape) (old new : List Slot) (d : DefinedType) (s : Shape) (n : ℕ) → IsTable ss → IsTable more → AreInRange (length ss) old → IsNodeOf s old d
+    → slice_get more n ≡ Some s → Adds ss s more → new ≡ old ++ slots.Value (14 + n) ∷ [] → IsDefined ss old d more new
+key_defined ss more old new d s n table wider ranges node at adds is =
+    let inside : n < length more = found_below more n s at in
+    let grown = adds_grow ss more s adds in
+    record {
+      part = 14 + n;
+      next = is;
+      range = omega (arith, inside);
+      grown = grown;
+      count = adds_one ss more s adds;
+      placed = λ m placed. adds_placed m ss more s adds placed (λ none. absurd (no_name node.form (sym (ap (λ (x : Shape). x.sort) node.shape) ∙ none)));
+      forms = record {
+        names = adds_no_name ss more s adds (λ none. absurd (no_name node.form (sym (ap (λ (x : Shape). x.sort) node.shape) ∙ none)));
+        formed = adds_formed ss more s adds node.form node.parts node.shape node.formed;
+      };
+      found = λ place F named.
+          let T = shape_trees place ss in
+          let U = shape_trees place more in
+          let last : part_tree U (14 + n) ≡ Tree.node node.form (children (map (part_tree T) node.parts)) =
+          part_behind U n ∙ (ap (λ o. unwrap_or o no_tree) (tree_at_number place more wider n s at)
+          ∙ (ap (shape_tree place U) node.shape ∙ (node_tree place U node.form node.parts
+          ∙ ap (λ ts. Tree.node node.form (children ts)) (parts_grown place ss more grown node.parts (node.ranges (length ss) ranges))))) in
+          node.found T F named (no_keys place ss table) ∙ ap Some (sym last);
+    }
+
+-- a key of a table is of a shape over the types before it
+pub key_shaped : (ss : List Shape) (old : List Slot) (d : DefinedType) (s : Shape) → AreInRange (length ss) old → IsNodeOf s old d → IsShape (length ss) s
+key_shaped ss old d s ranges node = a_node node.form node.parts node.shape (node.ranges (length ss) ranges)
+
+-- where the definition stands for nothing
+pub undefined : (ss : List Shape) (old : List Slot) (d : DefinedType) (e : Refusal) → IsTable ss
+    → ((T : List Tree) (F : List Signature) → AreNames T old → HasNoKeys T → Refuses e (definition (slots_in T F old) d)) → IsUndefined ss old d e
+undefined ss old d e table r place F named = r (shape_trees place ss) F named (no_keys place ss table)
+
+-- ---- equal signatures
+
+mapped_back : {A B : Type 0} (f : A → B) (xs : List A) (n : ℕ) (y : B) → slice_get (map f xs) n ≡ Some y → (x : A) × (slice_get xs n ≡ Some x) × (f x ≡ y)
+mapped_back f [] n y e = absurd cc
+mapped_back f (x ∷ xs) zero y e = (x, refl, cc)
+mapped_back f (x ∷ xs) (suc n) y e = mapped_back f xs n y e
+
+pub all_at : {A : Type 0} (P : A → Type 0) (xs : List A) (n : ℕ) (x : A) → AllByRecursion P xs → slice_get xs n ≡ Some x → P x
+all_at P [] n x all e = absurd cc
+all_at P (y ∷ xs) zero x all e = let same : y ≡ x = cc in subst P same all.0
+all_at P (y ∷ xs) (suc n) x all e = all_at P xs n x all.1 e
+
+module _ (place : ℕ → Place) (distinct : (p q : ℕ) → place p ≡ place q → p ≡ q) (ss : List Shape) (table : IsTable ss) where
+  abbrev trees : List Tree
+  trees = shape_trees place ss
+
+  one_params : (ps qs : List (Text × ℕ)) → AllByRecursion (λ p. p.1 < 14 + length ss) ps → AllByRecursion (λ p. p.1 < 14 + length ss) qs → map (param_tree trees) ps ≡ map (param_tree trees) qs → ps ≡ qs
+  one_params [] [] hp hq e = refl
+  one_params [] (q ∷ qs) hp hq e = absurd cc
+  one_params (p ∷ ps) [] hp hq e = absurd cc
+  one_params (p ∷ ps) (q ∷ qs) hp hq e =
+      let pair : param_tree trees p ≡ param_tree trees q = cc in
+      let others : map (param_tree trees) ps ≡ map (param_tree trees) qs = cc in
+      let name : p.0 ≡ q.0 = ap (λ (x : Text × Tree). x.0) pair in
+      let part : p.1 ≡ q.1 = one_number place distinct ss table p.1 q.1 hp.0 hq.0 (ap (λ (x : Text × Tree). x.1) pair) in
+      let rest = one_params ps qs hp.1 hq.1 others in
+      λ i. (name i, part i) ∷ rest i
+
+  one_outcome : (o u : Option ℕ) → IfSome o (λ k. k < 14 + length ss) → IfSome u (λ k. k < 14 + length ss) → option_map (part_tree trees) o ≡ option_map (part_tree trees) u → o ≡ u
+  one_outcome None None ho hu e = refl
+  one_outcome None (Some l) ho hu e = absurd cc
+  one_outcome (Some k) None ho hu e = absurd cc
+  one_outcome (Some k) (Some l) ho hu e = let same : part_tree trees k ≡ part_tree trees l = cc in ap Some (one_number place distinct ss table k l ho hu same)
+
+  one_signature : (s t : FunctionShape) → IsFunctionIn (length ss) s → IsFunctionIn (length ss) t → signature_in trees s ≡ signature_in trees t → s ≡ t
+  unfolding signature_in
+  one_signature s t hs ht e =
+      let kind : s.is_async ≡ t.is_async = ap (λ (f : Signature). f.is_async) e in
+      let params = one_params s.params t.params hs.params ht.params (ap (λ (f : Signature). f.params) e) in
+      let outcome = one_outcome s.outcome t.outcome hs.outcome ht.outcome (ap (λ (f : Signature). f.result) e) in
+      λ i. record { is_async = kind i; params = params i; outcome = outcome i }
+
+  pub one_function : (fs : List FunctionShape) → AreFunctionsIn (length ss) fs → AreApart fs → (a b : ℕ) (f : Signature) → slice_get (functions_in trees fs) a ≡ Some f → slice_get (functions_in trees fs) b ≡ Some f → a ≡ b
+  one_function fs ranges apart a b f ea eb =
+      let s = mapped_back (signature_in trees) fs a f ea in
+      let t = mapped_back (signature_in trees) fs b f eb in
+      let same : s.0 ≡ t.0 = one_signature s.0 t.0 (all_at (IsFunctionIn (length ss)) fs a s.0 ranges s.1) (all_at (IsFunctionIn (length ss)) fs b t.0 ranges t.1) (s.2 ∙ sym t.2) in
+      apart a b t.0 (s.1 ∙ ap Some same) t.1

@@ -1,0 +1,33 @@
+-- What a reader from an offset answers at the front is what the function that reads the form finds there.
+use Rattle.std.proofs.Common.{◌≡◌, refl, sym, ap, ◌∙◌, subst, ℕ, ◌-◌, arith, List, length, take, drop, Option, Some, None}
+use Rattle.std.specs.Prelude.{slice_range}
+use Rattle.std.proofs.lemmas.List.{take-append-drop}
+use Rattle.wit_model.specs.declared.error.Error.{Error}
+use Rattle.wit_model.specs.declared.error.Error.TheVariants as errors
+use Rattle.comp_bytes.specs.Answer.{Refuses as RefusesAt}
+use Rattle.comp_bytes.specs.Form.{Spellings}
+use Rattle.comp_bytes.specs.Reading.{Reader}
+use Rattle.comp_bytes.specs.Laws.{IsReadBy}
+use Rattle.std.proofs.lemmas.List.{take_at}
+use Rattle.read_follow.specs.Found.{Refuses, refusal_from}
+
+module _ {A : Type 0} {form : A → Spellings} {reader : Reader A} (law : IsReadBy form reader) where
+  pub found_at : (bytes : List ℕ) (x : A) (end : ℕ) → form x (slice_range bytes 0 end) → reader bytes ≡ Some (x, drop end bytes)
+  found_at bytes x end f =
+      let end_is : end - 0 ≡ end = omega arith in
+      let front : form x (take end bytes) = subst (λ (n : ℕ). form x (take n bytes)) end_is f in
+      let again = law.again x (take end bytes) (drop end bytes) front in
+      subst (λ (text : List ℕ). reader text ≡ Some (x, drop end bytes)) (take-append-drop end bytes) again
+
+  pub none_when : (bytes : List ℕ) (found : Option (A × List ℕ)) → reader bytes ≡ found → ((y : A) (end : ℕ) → form y (slice_range bytes 0 end) → ⊥) → found ≡ None
+  none_when bytes None e absent = refl
+  none_when bytes (Some x) e absent =
+      let t = law.takes bytes x.0 x.1 e in
+      let end_is : length t.front - 0 ≡ length t.front = omega arith in
+      let whole : take (length t.front - 0) bytes ≡ t.front = ap (λ (n : ℕ). take n bytes) end_is ∙ ap (take (length t.front)) t.parts ∙ take_at t.front x.1 (length t.front) refl in
+      absurd (absent x.0 (length t.front) (subst (form x.0) (sym whole) t.spelled))
+
+  -- a refusal of the reader
+  pub refused_at : (bytes : List ℕ) (left : ℕ) (e : Error) → RefusesAt e bytes ((y : A) (end : ℕ) → form y (slice_range bytes 0 end) → ⊥) → Refuses (refusal_from e left) (reader bytes)
+  refused_at bytes left (errors.NoReading cause offset) r = none_when bytes (reader bytes) refl r.1
+  refused_at bytes left _ r = absurd r

@@ -1,0 +1,174 @@
+-- Keys of types of functions are the same exactly where their shapes are; and what a key is made of.
+use Rattle.std.proofs.Common.{◌≡◌, refl, sym, ap, ◌∙◌, subst, ℕ, ◌+◌, ◌<◌, ◌≤◌, Bool, true, ◌&&◌, List, [], ◌∷◌, ◌++◌, drop, map, length, get_or, append-nil, nat_eq, ◌==◌, Option, Some, None, option_map, IfSome}
+use mathlib.Core.Bool.{beq, true≢false}
+use Rattle.std.specs.Borrow.{Bor}
+use Rattle.std.specs.Cmp.Lexicographic.{pointwise}
+use Rattle.std.specs.List.{AllByRecursion}
+use Rattle.std.specs.Option.{option_eq}
+use Rattle.std.proofs.lemmas.Bool.{eqb-true, eq-eqb}
+use Rattle.std.proofs.lemmas.List.{map-append}
+use Rattle.std.proofs.lemmas.Slice.Eq.{bytes_eq-Decides}
+use Rattle.wit_model.specs.Meaning.{Signature}
+use Rattle.wit_model.specs.Text.{Text, text_eq}
+use Rattle.wit_model.specs.Tree.{Tree}
+use Rattle.wit_model.proofs.Lists.{first_true, second_true}
+use Rattle.comp_bytes.specs.declared.forms.ComponentValType.{ComponentValType}
+use Rattle.comp_bytes.specs.Raw.{FunctionType}
+use Rattle.comp_bytes.specs.RawOf.{labeled}
+use Rattle.comp_bytes.specs.Reading.{◌>>=◌}
+use Rattle.comp_meaning.specs.Follow.{each, field_type, function_signature, given, value_type}
+use Rattle.read_follow.specs.contracts.keys.FunctionKeyPartialEq.TheImpl as key_eq
+use Rattle.read_follow.specs.declared.keys.FunctionKey.{FunctionKey}
+use Rattle.read_follow.specs.declared.refusal.Refusal.{Refusal}
+use Rattle.read_follow.specs.declared.slots.Slot.{Slot}
+use Rattle.read_follow.specs.Found.{Refuses}
+use Rattle.read_follow.specs.Functions.{function_shape, param_of, param_tree, signature_in, FunctionShape, IsSignatureOf}
+use Rattle.read_follow.specs.Rows.{behind_rows}
+use Rattle.read_follow.specs.Slots.{slots_in, AreInRange}
+use Rattle.plan_meaning.specs.Shapes.{part_tree}
+use Rattle.read_follow.proofs.KeyLaws.{both, beq_same, beq_again, text_same}
+use Rattle.read_follow.proofs.Refusing.{refused}
+use Rattle.read_follow.proofs.RowLaws.{behind_more, behind_none, none_dropped, raw_at, raw_end}
+
+-- ---- sameness
+
+abbrev pub same_function : FunctionKey → FunctionKey → Bool
+same_function = key_eq.ghosts.eq
+
+abbrev pub same_param : Bor (List ℕ) × ℕ → Bor (List ℕ) × ℕ → Bool
+same_param a b = text_eq a.0.now b.0.now && (a.1 == b.1)
+
+same_by : (a b : FunctionKey) → same_function a b ≡ (beq a.is_async b.is_async && (pointwise same_param a.params.items b.params.items && option_eq nat_eq a.result b.result))
+same_by a b = refl
+
+params_same : (xs ys : List (Bor (List ℕ) × ℕ)) → pointwise same_param xs ys ≡ true → map param_of xs ≡ map param_of ys
+params_same [] [] e = refl
+params_same [] (y ∷ ys) e = absurd (true≢false (sym e))
+params_same (x ∷ xs) [] e = absurd (true≢false (sym e))
+params_same (x ∷ xs) (y ∷ ys) e =
+    let here = first_true (same_param x y) (pointwise same_param xs ys) e in
+    let text = text_same x.0.now y.0.now (first_true (text_eq x.0.now y.0.now) (x.1 == y.1) here) in
+    let part = eqb-true x.1 y.1 (second_true (text_eq x.0.now y.0.now) (x.1 == y.1) here) in
+    let rest = params_same xs ys (second_true (same_param x y) (pointwise same_param xs ys) e) in
+    λ i. (text i, part i) ∷ rest i
+
+params_again : (xs ys : List (Bor (List ℕ) × ℕ)) → map param_of xs ≡ map param_of ys → pointwise same_param xs ys ≡ true
+params_again [] [] e = refl
+params_again [] (y ∷ ys) e = absurd cc
+params_again (x ∷ xs) [] e = absurd cc
+params_again (x ∷ xs) (y ∷ ys) e =
+    let pair : param_of x ≡ param_of y = cc in
+    let text : x.0.now ≡ y.0.now = ap (λ (p : Text × ℕ). p.0) pair in
+    let part : x.1 ≡ y.1 = ap (λ (p : Text × ℕ). p.1) pair in
+    let rest : map param_of xs ≡ map param_of ys = cc in
+    both (same_param x y) (pointwise same_param xs ys)
+    (both (text_eq x.0.now y.0.now) (x.1 == y.1) ((bytes_eq-Decides x.0.now y.0.now).1 text) (eq-eqb x.1 y.1 part))
+    (params_again xs ys rest)
+
+outcomes_same : (a b : Option ℕ) → option_eq nat_eq a b ≡ true → a ≡ b
+outcomes_same None None e = refl
+outcomes_same None (Some y) e = absurd (true≢false (sym e))
+outcomes_same (Some x) None e = absurd (true≢false (sym e))
+outcomes_same (Some x) (Some y) e = ap Some (eqb-true x y e)
+
+outcomes_again : (a b : Option ℕ) → a ≡ b → option_eq nat_eq a b ≡ true
+outcomes_again None None e = refl
+outcomes_again None (Some y) e = absurd cc
+outcomes_again (Some x) None e = absurd cc
+outcomes_again (Some x) (Some y) e = eq-eqb x y cc
+
+pub function_same : (a b : FunctionKey) → same_function a b ≡ true → function_shape a ≡ function_shape b
+function_same a b e =
+    let kind = beq_same a.is_async b.is_async (first_true (beq a.is_async b.is_async) _ e) in
+    let others = second_true (beq a.is_async b.is_async) _ e in
+    let params = params_same a.params.items b.params.items (first_true (pointwise same_param a.params.items b.params.items) (option_eq nat_eq a.result b.result) others) in
+    let outcome = outcomes_same a.result b.result (second_true (pointwise same_param a.params.items b.params.items) (option_eq nat_eq a.result b.result) others) in
+    λ i. record { is_async = kind i; params = params i; outcome = outcome i }
+
+pub function_again : (a b : FunctionKey) → function_shape a ≡ function_shape b → same_function a b ≡ true
+function_again a b e =
+    let kind : a.is_async ≡ b.is_async = ap (λ (s : FunctionShape). s.is_async) e in
+    let params = params_again a.params.items b.params.items (ap (λ (s : FunctionShape). s.params) e) in
+    let outcome = outcomes_again a.result b.result (ap (λ (s : FunctionShape). s.outcome) e) in
+    both (beq a.is_async b.is_async) _ (ap (beq a.is_async) (sym kind) ∙ beq_again a.is_async) (both _ _ params outcome)
+
+-- ---- parameters, one after the other
+
+abbrev pub Params : Type 0
+Params = List (Bor (List ℕ) × ℕ)
+
+-- so many parameters are found, and those behind them decide
+abbrev pub ParamsSoFar : List Slot → List (Bor (List ℕ) × ComponentValType) → ℕ → Params → Type 0
+ParamsSoFar ss all i ks = (T : List Tree) (F : List Signature)
+    → behind_rows (map (param_tree T) (map param_of ks)) (each (field_type (slots_in T F ss)) (drop i (map labeled all))) ≡ each (field_type (slots_in T F ss)) (map labeled all)
+
+pub params_start : (ss : List Slot) (all : List (Bor (List ℕ) × ComponentValType)) (ks : Params) → ks ≡ [] → ParamsSoFar ss all 0 ks
+params_start ss all ks none T F = ap (λ (zs : Params). behind_rows (map (param_tree T) (map param_of zs)) (each (field_type (slots_in T F ss)) (drop 0 (map labeled all)))) none
+    ∙ (behind_none (each (field_type (slots_in T F ss)) (drop 0 (map labeled all))) ∙ ap (each (field_type (slots_in T F ss))) (none_dropped (map labeled all)))
+
+pub none_above : (P : Text × ℕ → Type 0) (ks : Params) → ks ≡ [] → AllByRecursion P (map param_of ks)
+none_above P ks none = subst (λ (zs : Params). AllByRecursion P (map param_of zs)) (sym none) tt
+
+module _ (ss : List Slot) (all : List (Bor (List ℕ) × ComponentValType)) (i : ℕ) (ks : Params) (kept : ParamsSoFar ss all i ks) where
+  module _ (d : Bor (List ℕ) × ComponentValType) (more : i < length all) where
+    head : (T : List Tree) (F : List Signature) (o : Option Tree) → value_type (slots_in T F ss) (get_or all i d).1 ≡ o
+        → each (field_type (slots_in T F ss)) (drop i (map labeled all)) ≡ (o >>= λ t. each (field_type (slots_in T F ss)) (drop (i + 1) (map labeled all)) >>= λ ys. Some (((get_or all i d).0.now, t) ∷ ys))
+    head T F None e = ap (each (field_type (slots_in T F ss))) (raw_at labeled all i d more)
+        ∙ ap (λ o. (o >>= λ t. Some ((get_or all i d).0.now, t)) >>= λ y. each (field_type (slots_in T F ss)) (drop (i + 1) (map labeled all)) >>= λ ys. Some (y ∷ ys)) e
+    head T F (Some t) e = ap (each (field_type (slots_in T F ss))) (raw_at labeled all i d more)
+        ∙ ap (λ o. (o >>= λ t. Some ((get_or all i d).0.now, t)) >>= λ y. each (field_type (slots_in T F ss)) (drop (i + 1) (map labeled all)) >>= λ ys. Some (y ∷ ys)) e
+
+    pub param_row : (k : ℕ) (nks : Params) → ((T : List Tree) (F : List Signature) → value_type (slots_in T F ss) (get_or all i d).1 ≡ Some (part_tree T k))
+        → nks ≡ ks ++ ((get_or all i d).0, k) ∷ [] → ParamsSoFar ss all (i + 1) nks
+    param_row k nks e is T F =
+        let x = get_or all i d in
+        let found = each (field_type (slots_in T F ss)) (drop (i + 1) (map labeled all)) in
+        let y : Text × Tree = (x.0.now, part_tree T k) in
+        let front = map (param_tree T) (map param_of ks) in
+        let grown : map (param_tree T) (map param_of nks) ≡ front ++ y ∷ [] =
+        ap (λ (zs : Params). map (param_tree T) (map param_of zs)) is ∙ (ap (map (param_tree T)) (map-append param_of ks ((x.0, k) ∷ [])) ∙ map-append (param_tree T) (map param_of ks) ((x.0.now, k) ∷ [])) in
+        ap (λ zs. behind_rows zs found) grown ∙ (sym (behind_more front y found) ∙ (ap (behind_rows front) (sym (head T F (Some (part_tree T k)) (e T F))) ∙ kept T F))
+
+    pub param_refused : (e : Refusal) → ((T : List Tree) (F : List Signature) → Refuses e (value_type (slots_in T F ss) (get_or all i d).1))
+        → (T : List Tree) (F : List Signature) → Refuses e (each (field_type (slots_in T F ss)) (map labeled all))
+    param_refused e r T F =
+        refused e (value_type (slots_in T F ss) (get_or all i d).1) (each (field_type (slots_in T F ss)) (map labeled all))
+        (λ none. sym (kept T F) ∙ ap (behind_rows (map (param_tree T) (map param_of ks))) (head T F None none)) (r T F)
+
+  pub param_rows : length all ≤ i → (T : List Tree) (F : List Signature) → each (field_type (slots_in T F ss)) (map labeled all) ≡ Some (map (param_tree T) (map param_of ks))
+  param_rows past T F =
+      sym (kept T F) ∙ (ap (λ rows. behind_rows (map (param_tree T) (map param_of ks)) (each (field_type (slots_in T F ss)) rows)) (raw_end labeled all i past)
+      ∙ ap Some (append-nil (map (param_tree T) (map param_of ks))))
+
+-- ---- the whole type
+
+module _ (ss : List Slot) (f : FunctionType) where
+  abbrev signed : Option (List (Text × Tree)) → Option (Option Tree) → Option Signature
+  signed ps r = ps >>= λ xs. r >>= λ y. Some (record { is_async = f.is_async; params = xs; result = y })
+
+  pub signature_is : (s : FunctionShape) → s.is_async ≡ f.is_async
+      → ((n : ℕ) → AreInRange n ss → AllByRecursion (λ p. p.1 < 14 + n) s.params) → ((n : ℕ) → AreInRange n ss → IfSome s.outcome (λ k. k < 14 + n))
+      → ((T : List Tree) (F : List Signature) → each (field_type (slots_in T F ss)) f.parameters ≡ Some (map (param_tree T) s.params))
+      → ((T : List Tree) (F : List Signature) → given (value_type (slots_in T F ss)) f.result_type ≡ Some (option_map (part_tree T) s.outcome))
+      → IsSignatureOf s ss f
+  unfolding signature_in
+  signature_is s kind hp ho fp fo = record {
+    ranges = λ n ranges. record { params = hp n ranges; outcome = ho n ranges };
+    found = λ T F. (λ i. signed (fp T F i) (fo T F i)) ∙ (λ i. Some (record { is_async = sym kind i; params = map (param_tree T) s.params; result = option_map (part_tree T) s.outcome }));
+  }
+
+  pub no_params : (e : Refusal) (T : List Tree) (F : List Signature) → Refuses e (each (field_type (slots_in T F ss)) f.parameters) → Refuses e (function_signature (slots_in T F ss) f)
+  no_params e T F = refused e (each (field_type (slots_in T F ss)) f.parameters) (function_signature (slots_in T F ss) f) (λ none. ap (λ ps. signed ps (given (value_type (slots_in T F ss)) f.result_type)) none)
+
+  pub no_outcome : (e : Refusal) (T : List Tree) (F : List Signature) → Refuses e (given (value_type (slots_in T F ss)) f.result_type) → Refuses e (function_signature (slots_in T F ss) f)
+  no_outcome e T F = refused e (given (value_type (slots_in T F ss)) f.result_type) (function_signature (slots_in T F ss) f)
+      (λ none. ap (signed (each (field_type (slots_in T F ss)) f.parameters)) none ∙ nothing (each (field_type (slots_in T F ss)) f.parameters))
+    where
+      nothing : (o : Option (List (Text × Tree))) → signed o None ≡ None
+      nothing None = refl
+      nothing (Some xs) = refl
+
+-- the part of an outcome is in range
+pub outcome_in : (o : Option ℕ) (ss : List Slot) → IfSome o (λ k. (n : ℕ) → AreInRange n ss → k < 14 + n) → (n : ℕ) → AreInRange n ss → IfSome o (λ k. k < 14 + n)
+outcome_in None ss h n ranges = tt
+outcome_in (Some k) ss h n ranges = h n ranges

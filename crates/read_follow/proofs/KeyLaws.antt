@@ -1,0 +1,82 @@
+-- Keys are the same exactly where their shapes are.
+use Rattle.std.proofs.Common.{◌≡◌, refl, sym, ap, ◌∙◌, ℕ, Bool, true, false, ◌&&◌, List, [], ◌∷◌, map, nat_eq, ◌==◌}
+use mathlib.Core.Bool.{beq, true≢false}
+use Rattle.std.specs.Borrow.{Bor}
+use Rattle.std.specs.Cmp.Lexicographic.{pointwise}
+use Rattle.std.proofs.lemmas.Bool.{eqb-true, eq-eqb}
+use Rattle.std.proofs.lemmas.Slice.Eq.{bytes_eq-Decides}
+use Rattle.wit_model.specs.Text.{Text, text_eq}
+use Rattle.wit_model.proofs.Lists.{first_true, second_true}
+use Rattle.read_follow.specs.contracts.keys.KeyPartialEq.TheImpl as key_eq
+use Rattle.read_follow.specs.declared.keys.Key.{Key}
+use Rattle.plan_meaning.specs.Shapes.{Shape}
+use Rattle.read_follow.specs.KeyShapes.{shape_of, label_of}
+
+abbrev pub same_key : Key → Key → Bool
+same_key = key_eq.ghosts.eq
+
+abbrev same_label : Bor (List ℕ) × Bool → Bor (List ℕ) × Bool → Bool
+same_label a b = text_eq a.0.now b.0.now && beq a.1 b.1
+
+same_by : (a b : Key) → same_key a b ≡ ((a.sort == b.sort) && ((a.number == b.number) && (pointwise same_label a.labels.items b.labels.items && pointwise nat_eq a.parts.items b.parts.items)))
+same_by a b = refl
+
+pub beq_same : (a b : Bool) → beq a b ≡ true → a ≡ b
+beq_same true true e = refl
+beq_same true false e = absurd (true≢false (sym e))
+beq_same false true e = absurd (true≢false (sym e))
+beq_same false false e = refl
+
+pub beq_again : (a : Bool) → beq a a ≡ true
+beq_again true = refl
+beq_again false = refl
+
+pub both : (a b : Bool) → a ≡ true → b ≡ true → (a && b) ≡ true
+both true true p q = refl
+both true false p q = absurd (true≢false (sym q))
+both false b p q = absurd (true≢false (sym p))
+
+pub text_same : (a b : Text) → text_eq a b ≡ true → a ≡ b
+text_same a b h = (bytes_eq-Decides a b).0 h
+
+labels_same : (xs ys : List (Bor (List ℕ) × Bool)) → pointwise same_label xs ys ≡ true → map label_of xs ≡ map label_of ys
+labels_same [] [] e = refl
+labels_same [] (y ∷ ys) e = absurd (true≢false (sym e))
+labels_same (x ∷ xs) [] e = absurd (true≢false (sym e))
+labels_same (x ∷ xs) (y ∷ ys) e =
+    let here = first_true (same_label x y) (pointwise same_label xs ys) e in
+    let text = text_same x.0.now y.0.now (first_true (text_eq x.0.now y.0.now) (beq x.1 y.1) here) in
+    let mark = beq_same x.1 y.1 (second_true (text_eq x.0.now y.0.now) (beq x.1 y.1) here) in
+    let rest = labels_same xs ys (second_true (same_label x y) (pointwise same_label xs ys) e) in
+    λ i. (text i, mark i) ∷ rest i
+
+labels_again : (xs ys : List (Bor (List ℕ) × Bool)) → map label_of xs ≡ map label_of ys → pointwise same_label xs ys ≡ true
+labels_again [] [] e = refl
+labels_again [] (y ∷ ys) e = absurd cc
+labels_again (x ∷ xs) [] e = absurd cc
+labels_again (x ∷ xs) (y ∷ ys) e =
+    let pair : label_of x ≡ label_of y = cc in
+    let text : x.0.now ≡ y.0.now = ap (λ (p : Text × Bool). p.0) pair in
+    let mark : x.1 ≡ y.1 = ap (λ (p : Text × Bool). p.1) pair in
+    let rest : map label_of xs ≡ map label_of ys = cc in
+    both (same_label x y) (pointwise same_label xs ys)
+    (both (text_eq x.0.now y.0.now) (beq x.1 y.1) ((bytes_eq-Decides x.0.now y.0.now).1 text) (ap (beq x.1) (sym mark) ∙ beq_again x.1))
+    (labels_again xs ys rest)
+
+pub key_same : (a b : Key) → same_key a b ≡ true → shape_of a ≡ shape_of b
+key_same a b e =
+    let sort = eqb-true a.sort b.sort (first_true (a.sort == b.sort) _ e) in
+    let others = second_true (a.sort == b.sort) _ e in
+    let number = eqb-true a.number b.number (first_true (a.number == b.number) _ others) in
+    let lists = second_true (a.number == b.number) _ others in
+    let labels = labels_same a.labels.items b.labels.items (first_true (pointwise same_label a.labels.items b.labels.items) (pointwise nat_eq a.parts.items b.parts.items) lists) in
+    let parts = text_same a.parts.items b.parts.items (second_true (pointwise same_label a.labels.items b.labels.items) (pointwise nat_eq a.parts.items b.parts.items) lists) in
+    λ i. record { sort = sort i; number = number i; labels = labels i; parts = parts i }
+
+pub key_again : (a b : Key) → shape_of a ≡ shape_of b → same_key a b ≡ true
+key_again a b e =
+    let sort : a.sort ≡ b.sort = ap (λ (s : Shape). s.sort) e in
+    let number : a.number ≡ b.number = ap (λ (s : Shape). s.number) e in
+    let labels = labels_again a.labels.items b.labels.items (ap (λ (s : Shape). s.labels) e) in
+    let parts : pointwise nat_eq a.parts.items b.parts.items ≡ true = (bytes_eq-Decides a.parts.items b.parts.items).1 (ap (λ (s : Shape). s.parts) e) in
+    both (a.sort == b.sort) _ (eq-eqb a.sort b.sort sort) (both (a.number == b.number) _ (eq-eqb a.number b.number number) (both _ _ labels parts))

@@ -1,0 +1,315 @@
+-- A scope of a component type in tables that grow, with something more in it.
+use Rattle.std.proofs.Common.{◌≡◌, ◌⊎◌, inl, inr, refl, sym, ap, ◌∙◌, subst, ℕ, zero, suc, ◌+◌, ◌<◌, ◌≤◌, ◌==◌, ◌||◌, arith, Bool, true, false, cond, List, [], ◌∷◌, ◌++◌, map, length, length-append, Option, Some, None, slice_get, unwrap_or, option_map}
+use Rattle.std.specs.List.{AllByRecursion, list_any}
+use Rattle.std.proofs.lemmas.Bool.{eq-eqb}
+use Rattle.std.proofs.lemmas.List.{append-nil, map-append}
+use Rattle.wit_model.specs.Meaning.{Signature}
+use Rattle.wit_model.specs.Tree.{Place, Tree}
+use Rattle.comp_bytes.specs.RawOf.{text_of}
+use Rattle.comp_meaning.specs.Follow.{Scope as MeantScope, Seen as MeantSeen, Shown as MeantShown, Instance as MeantInstance, Slot as Meant, in_scope, see}
+use Rattle.read_follow.specs.declared.instance_keys.InstanceKey.{InstanceKey}
+use Rattle.read_follow.specs.declared.instance_keys.InstanceKey.TheVariants as keys
+use Rattle.read_follow.specs.declared.scopes.Instance.{Instance}
+use Rattle.read_follow.specs.declared.scopes.Seen.{Seen}
+use Rattle.read_follow.specs.declared.scopes.Shown.{Shown}
+use Rattle.read_follow.specs.declared.scopes.Shown.TheVariants as shown
+use Rattle.read_follow.specs.declared.slots.Slot.{Slot}
+use Rattle.read_follow.specs.declared.slots.Slot.TheVariants as slots
+use Rattle.read_follow.specs.declared.views.View.{View}
+use Rattle.read_follow.specs.Defining.{Grows}
+use Rattle.read_follow.specs.Following.{AreSlotsIn, AreTables, IsShownFunctionIn, IsShownIn, IsSlotIn}
+use Rattle.read_follow.specs.Functions.{functions_in, FunctionShape}
+use Rattle.read_follow.specs.Places.{key_at, ArePlacesOf, IsKeyIn}
+use Rattle.read_follow.specs.Scopes.{direction, instance_in, meant_at, seen_in, shown_in, view_in, viewed, waiting, ArePathsMet, AreSeenIn, Goes, IsInstanceIn, IsPlaceMet, IsPlacedWorld, IsShownAs, IsWorld, World}
+use Rattle.read_follow.specs.Slots.{no_signature, slot_in, slots_in}
+use Rattle.plan_meaning.specs.Shapes.{Shape, shape_trees}
+use Rattle.plan_meaning.proofs.ShapeLaws.{slice_front}
+use Rattle.read_follow.proofs.DefiningLaws.{all_at, longer}
+use Rattle.read_follow.proofs.FollowingLaws.{declared_stays, functions_stay, signature_stays, slots_stay, types_stay, wider_declared, wider_functions, wider_number, wider_part, wider_slots, wider_types}
+use Rattle.read_follow.proofs.PlacedLaws.{stands_on, stood}
+use Rattle.read_follow.proofs.TableGrowth.{found_below}
+
+-- ---- what is well-formed stays so
+
+key_wider : (paths more : List (Option (List ℕ))) → Grows paths more → (k : InstanceKey) → IsKeyIn paths k → IsKeyIn more k
+key_wider paths more g k h = by k h
+  where
+    stays : (n : ℕ) (o : Option (List ℕ)) → slice_get paths n ≡ Some o → slice_get more n ≡ Some o
+    stays n o at = ap (λ (ps : List (Option (List ℕ))). slice_get ps n) g.is ∙ (slice_front paths g.more n (found_below paths n o at) ∙ at)
+
+    by : (k : InstanceKey) → IsKeyIn paths k → IsKeyIn more k
+    by (keys.Path p) h = (h.0, stays p (Some h.0) h.1)
+    by (keys.Label l p) h = stays p None h
+    by (keys.Implementing l p) h = (h.0, stays p (Some h.0) h.1)
+
+pub all_both : {A : Type 0} (P : A → Type 0) (xs ys : List A) → AllByRecursion P xs → AllByRecursion P ys → AllByRecursion P (xs ++ ys)
+all_both P [] ys h g = g
+all_both P (x ∷ xs) ys h g = (h.0, all_both P xs ys h.1 g)
+
+-- what a scope stands for, with these more
+abbrev pub plus : MeantScope → List Meant → List MeantInstance → List MeantSeen → List MeantSeen → List ℕ → MeantScope
+plus m ss is im ex us = record { slots = m.slots ++ ss; instances = m.instances ++ is; imports = m.imports ++ im; exports = m.exports ++ ex; used = m.used ++ us }
+
+pub plus_slot : (m : MeantScope) (s : Meant) → in_scope s m ≡ plus m (s ∷ []) [] [] [] []
+plus_slot m s = λ i. record { slots = m.slots ++ s ∷ []; instances = sym (append-nil m.instances) i; imports = sym (append-nil m.imports) i; exports = sym (append-nil m.exports) i; used = sym (append-nil m.used) i }
+
+-- what an import adds to the imports, and an export to the exports
+abbrev pub imported : {X : Type 0} → Bool → X → List X
+imported true x = x ∷ []
+imported false x = []
+
+abbrev pub exported : {X : Type 0} → Bool → X → List X
+exported true x = []
+exported false x = x ∷ []
+
+pub plus_seen : (b : Bool) (m : MeantScope) (s : MeantSeen) → see (direction b) s m ≡ plus m [] [] (imported b s) (exported b s) []
+plus_seen true m s = λ i. record { slots = sym (append-nil m.slots) i; instances = sym (append-nil m.instances) i; imports = m.imports ++ s ∷ []; exports = sym (append-nil m.exports) i; used = sym (append-nil m.used) i }
+plus_seen false m s = λ i. record { slots = sym (append-nil m.slots) i; instances = sym (append-nil m.instances) i; imports = sym (append-nil m.imports) i; exports = m.exports ++ s ∷ []; used = sym (append-nil m.used) i }
+
+pub plus_type : (m : MeantScope) (slot : Meant) (s : MeantSeen) → see (direction true) s (in_scope slot m) ≡ plus m (slot ∷ []) [] (s ∷ []) [] []
+plus_type m slot s = λ i. record { slots = m.slots ++ slot ∷ []; instances = sym (append-nil m.instances) i; imports = m.imports ++ s ∷ []; exports = sym (append-nil m.exports) i; used = sym (append-nil m.used) i }
+
+pub plus_instance : (b : Bool) (m : MeantScope) (x : MeantInstance) (s : MeantSeen) (n : ℕ)
+    → see (direction b) s (record m { instances = m.instances ++ x ∷ []; used = m.used ++ n ∷ [] }) ≡ plus m [] (x ∷ []) (imported b s) (exported b s) (n ∷ [])
+plus_instance true m x s n = λ i. record { slots = sym (append-nil m.slots) i; instances = m.instances ++ x ∷ []; imports = m.imports ++ s ∷ []; exports = sym (append-nil m.exports) i; used = m.used ++ n ∷ [] }
+plus_instance false m x s n = λ i. record { slots = sym (append-nil m.slots) i; instances = m.instances ++ x ∷ []; imports = sym (append-nil m.imports) i; exports = m.exports ++ s ∷ []; used = m.used ++ n ∷ [] }
+
+-- a place that was met stays met
+pub met_still : (is more : List Instance) → Grows is more → (q : ℕ) → IsPlaceMet is q → IsPlaceMet more q
+met_still is more g q h = record { number = h.number; one = h.one; at = stands_on is more g h.number h.one h.at; place = h.place }
+
+-- places that all were there before
+pub all_before : (paths : List (Option (List ℕ))) (is : List Instance) → ArePathsMet (length paths) paths is
+all_before paths is q path at = inl (found_below paths q (Some path) at)
+
+-- places that were met, and more of them
+pub paths_met : (old more : List (Option (List ℕ))) → Grows old more → (is all : List Instance) → Grows is all
+    → ((q : ℕ) (path : List ℕ) → slice_get more q ≡ Some (Some path) → (q < length old) ⊎ IsPlaceMet all q)
+    → (before : ℕ) → ArePathsMet before old is → ArePathsMet before more all
+paths_met old more gp is all gi new before h q path at = elim (new q path at) [
+  | inl below ↦ elim (h q path (stood old more gp q (Some path) below at)) [ inl first ↦ inl first | inr met ↦ inr (met_still is all gi q met) ]
+  | inr met ↦ inr met
+]
+
+-- ---- a scope with something more
+
+module _ (old : World) (st : IsWorld old) (more : List Shape) (more_fs : List FunctionShape) (more_paths : List (Option (List ℕ)))
+    (gs : Grows old.shapes more) (gf : Grows old.signatures more_fs) (gp : Grows old.paths more_paths) (tables : AreTables (length more_paths) more more_fs)
+    (ss : List Slot) (xs : List Instance) (im ex : List Seen) (us : List ℕ) where
+  abbrev pub extended : World
+  extended = record {
+    home = old.home;
+    shapes = more;
+    signatures = more_fs;
+    paths = more_paths;
+    slots = old.slots ++ ss;
+    instances = old.instances ++ xs;
+    imports = old.imports ++ im;
+    exports = old.exports ++ ex;
+    used = old.used ++ us;
+  }
+
+  abbrev m : ℕ
+  m = length old.paths
+
+  wider_instances : (is : List Instance) → AllByRecursion (IsInstanceIn old.shapes old.signatures old.paths) is → AllByRecursion (IsInstanceIn more more_fs more_paths) is
+  wider_instances [] h = tt
+  wider_instances (i ∷ is) h = (
+    record {
+      place = (let below = h.0.place in let long = longer old.paths more_paths gp in omega (arith, below, long));
+      types = wider_types m old.shapes more old.signatures more_fs st.tables gs gf i.view.types.items h.0.types;
+      functions = wider_functions m old.shapes more old.signatures more_fs st.tables gs gf i.view.functions.items h.0.functions;
+    },
+    wider_instances is h.1,
+  )
+
+  more_instances : length old.instances ≤ length (old.instances ++ xs)
+  more_instances = let long = length-append old.instances xs in omega (arith, long)
+
+  wider_shown : (s : Shown) → IsShownAs old.shapes old.signatures old.paths (length old.instances) s → IsShownAs more more_fs more_paths (length (old.instances ++ xs)) s
+  wider_shown (shown.Instance key n) h = (key_wider old.paths more_paths gp key h.0, (let below = h.1 in let long = more_instances in omega (arith, below, long)))
+  wider_shown (shown.Function name f) h = wider_number m old.shapes more old.signatures more_fs st.tables gs gf f h
+  wider_shown (shown.Type name part d) h = (wider_part m old.shapes more old.signatures more_fs st.tables gs gf part h.0, wider_declared m old.shapes more old.signatures more_fs st.tables gs gf d h.1)
+
+  wider_seen : (seen : List Seen) → AreSeenIn old.shapes old.signatures old.paths (length old.instances) seen → AreSeenIn more more_fs more_paths (length (old.instances ++ xs)) seen
+  wider_seen [] h = tt
+  wider_seen (s ∷ seen) h = (wider_shown s.shown h.0, wider_seen seen h.1)
+
+  pub extended_world : AreSlotsIn more more_fs ss → AllByRecursion (IsInstanceIn more more_fs more_paths) xs → AreSeenIn more more_fs more_paths (length (old.instances ++ xs)) im
+      → AreSeenIn more more_fs more_paths (length (old.instances ++ xs)) ex → IsWorld extended
+  extended_world hs hx hi he = record {
+    tables = tables;
+    own = ap (λ (ps : List (Option (List ℕ))). slice_get ps old.home) gp.is ∙ (slice_front old.paths gp.more old.home (found_below old.paths old.home None st.own) ∙ st.own);
+    slots = all_both (IsSlotIn more more_fs) old.slots ss (wider_slots m old.shapes more old.signatures more_fs st.tables gs gf old.slots st.slots) hs;
+    instances = all_both (IsInstanceIn more more_fs more_paths) old.instances xs (wider_instances old.instances st.instances) hx;
+    imports = all_both (λ (s : Seen). IsShownAs more more_fs more_paths (length (old.instances ++ xs)) s.shown) old.imports im (wider_seen old.imports st.imports) hi;
+    exports = all_both (λ (s : Seen). IsShownAs more more_fs more_paths (length (old.instances ++ xs)) s.shown) old.exports ex (wider_seen old.exports st.exports) he;
+  }
+
+  module _ (place : ℕ → Place) where
+    abbrev pub T : List Tree
+    T = shape_trees place old.shapes
+
+    abbrev pub F : List Signature
+    F = functions_in (shape_trees place old.shapes) old.signatures
+
+    abbrev pub U : List Tree
+    U = shape_trees place more
+
+    abbrev pub G : List Signature
+    G = functions_in (shape_trees place more) more_fs
+
+    pub view_stays : (v : View) → AllByRecursion (IsShownIn old.shapes old.signatures) v.types.items → AllByRecursion (IsShownFunctionIn old.signatures) v.functions.items → view_in U G v ≡ view_in T F v
+    view_stays v ht hf = λ i. record {
+      types = types_stay m old.shapes more old.signatures more_fs st.tables gs gf place v.types.items ht i;
+      functions = functions_stay m old.shapes more old.signatures more_fs st.tables gs gf place v.functions.items hf i;
+    }
+
+    instances_stay : (is : List Instance) → AllByRecursion (IsInstanceIn old.shapes old.signatures old.paths) is → map (instance_in place U G) is ≡ map (instance_in place T F) is
+    instances_stay [] h = refl
+    instances_stay (x ∷ is) h = λ i. record { interface = (instance_in place T F x).interface; view = view_stays x.view h.0.types h.0.functions i } ∷ instances_stay is h.1 i
+
+    viewed_same : (o : Option Instance) (n : ℕ) → slice_get old.instances n ≡ o → viewed U G o ≡ viewed T F o
+    viewed_same None n e = refl
+    viewed_same (Some x) n e = let h = all_at (IsInstanceIn old.shapes old.signatures old.paths) old.instances n x st.instances e in view_stays x.view h.types h.functions
+
+    viewed_stays : (n : ℕ) → n < length old.instances → viewed U G (slice_get (old.instances ++ xs) n) ≡ viewed T F (slice_get old.instances n)
+    viewed_stays n below = ap (viewed U G) (slice_front old.instances xs n below) ∙ viewed_same (slice_get old.instances n) n refl
+
+    shown_stays : (s : Shown) → IsShownAs old.shapes old.signatures old.paths (length old.instances) s → shown_in place U G (old.instances ++ xs) s ≡ shown_in place T F old.instances s
+    shown_stays (shown.Instance key n) h = ap (MeantShown.instance (key_at place key)) (viewed_stays n h.1)
+    shown_stays (shown.Function name f) h = ap (λ o. MeantShown.function (unwrap_or o no_signature)) (signature_stays m old.shapes more old.signatures more_fs st.tables gs gf place f h)
+    shown_stays (shown.Type name part d) h = ap MeantShown.declares (declared_stays m old.shapes more old.signatures more_fs st.tables gs gf place d h.1)
+
+    seen_stays : (seen : List Seen) → AreSeenIn old.shapes old.signatures old.paths (length old.instances) seen → map (seen_in place U G (old.instances ++ xs)) seen ≡ map (seen_in place T F old.instances) seen
+    seen_stays [] h = refl
+    seen_stays (s ∷ seen) h = λ i. record { key = (seen_in place T F old.instances s).key; shown = shown_stays s.shown h.0 i; external_id = option_map text_of s.external_id } ∷ seen_stays seen h.1 i
+
+    slots_plus : slots_in U G (old.slots ++ ss) ≡ slots_in T F old.slots ++ slots_in U G ss
+    slots_plus = map-append (slot_in U G) old.slots ss ∙ ap (λ zs. zs ++ slots_in U G ss) (slots_stay m old.shapes more old.signatures more_fs st.tables gs gf place old.slots st.slots)
+
+    instances_plus : map (instance_in place U G) (old.instances ++ xs) ≡ map (instance_in place T F) old.instances ++ map (instance_in place U G) xs
+    instances_plus = map-append (instance_in place U G) old.instances xs ∙ ap (λ zs. zs ++ map (instance_in place U G) xs) (instances_stay old.instances st.instances)
+
+    seen_plus : (before after : List Seen) → AreSeenIn old.shapes old.signatures old.paths (length old.instances) before
+        → map (seen_in place U G (old.instances ++ xs)) (before ++ after) ≡ map (seen_in place T F old.instances) before ++ map (seen_in place U G (old.instances ++ xs)) after
+    seen_plus before after h = map-append (seen_in place U G (old.instances ++ xs)) before after ∙ ap (λ zs. zs ++ map (seen_in place U G (old.instances ++ xs)) after) (seen_stays before h)
+
+    pub extended_meant : meant_at place extended
+        ≡ plus (meant_at place old) (slots_in U G ss) (map (instance_in place U G) xs) (map (seen_in place U G (old.instances ++ xs)) im) (map (seen_in place U G (old.instances ++ xs)) ex) us
+    extended_meant = λ i. record {
+      slots = slots_plus i;
+      instances = instances_plus i;
+      imports = seen_plus old.imports im st.imports i;
+      exports = seen_plus old.exports ex st.exports i;
+      used = old.used ++ us;
+    }
+
+  -- the step of the definition makes the scope that stands for it
+  pub goes_on : (few : ℕ) (step : MeantScope → Option MeantScope) (new : World) → new ≡ extended → IsWorld extended → ((base : List Shape) (places : ℕ) → IsPlacedWorld base places old → IsPlacedWorld base places extended)
+      → ((q : ℕ) (path : List ℕ) → slice_get more_paths q ≡ Some (Some path) → (q < length old.paths) ⊎ IsPlaceMet (old.instances ++ xs) q)
+      → length more + waiting (old.used ++ us) 0 (old.slots ++ ss) ≤ length old.shapes + waiting old.used 0 old.slots + few
+      → ((place : ℕ → Place) → ArePlacesOf more_paths place
+      → step (meant_at place old) ≡ Some (plus (meant_at place old) (slots_in (U place) (G place) ss) (map (instance_in place (U place) (G place)) xs)
+      (map (seen_in place (U place) (G place) (old.instances ++ xs)) im) (map (seen_in place (U place) (G place) (old.instances ++ xs)) ex) us))
+      → Goes few step old new
+  goes_on few step new e world placed met count follows = subst (λ (w : World). Goes few step old w) (sym e) (record {
+    world = world;
+    shapes_grow = gs;
+    signatures_grow = gf;
+    paths_grow = gp;
+    count = count;
+    placed = placed;
+    met = paths_met old.paths more_paths gp old.instances (old.instances ++ xs) (record { more = xs; is = refl }) met;
+    follows = λ place of. follows place of ∙ ap Some (sym (extended_meant place));
+  })
+
+-- ---- what waits
+
+abbrev pub waits : Slot → ℕ
+waits (slots.Value part) = 0
+waits (slots.Resource part) = 0
+waits (slots.Function f) = 0
+waits (slots.Instance b around) = b.count
+
+pub waiting_push : (used : List ℕ) (n : ℕ) (ss : List Slot) (s : Slot) → waiting used n (ss ++ s ∷ []) ≤ waiting used n ss + waits s
+waiting_push used n [] (slots.Value part) = omega arith
+waiting_push used n [] (slots.Resource part) = omega arith
+waiting_push used n [] (slots.Function f) = omega arith
+waiting_push used n [] (slots.Instance b around) = by (list_any (λ m. m == n) used)
+  where
+    by : (u : Bool) → cond u 0 b.count + 0 ≤ 0 + b.count
+    by true = omega arith
+    by false = omega arith
+waiting_push used n (slots.Value part ∷ ss) s = waiting_push used (suc n) ss s
+waiting_push used n (slots.Resource part ∷ ss) s = waiting_push used (suc n) ss s
+waiting_push used n (slots.Function f ∷ ss) s = waiting_push used (suc n) ss s
+waiting_push used n (slots.Instance b around ∷ ss) s = let rest = waiting_push used (suc n) ss s in omega (arith, rest)
+
+any_more : (used : List ℕ) (m n : ℕ) → list_any (λ k. k == n) (used ++ m ∷ []) ≡ (list_any (λ k. k == n) used || (m == n))
+any_more [] m n = by (m == n)
+  where
+    by : (b : Bool) → (b || false) ≡ (false || b)
+    by true = refl
+    by false = refl
+any_more (u ∷ used) m n = ap (λ b. (u == n) || b) (any_more used m n) ∙ by (u == n)
+  where
+    by : (b : Bool) → (b || (list_any (λ k. k == n) used || (m == n))) ≡ ((b || list_any (λ k. k == n) used) || (m == n))
+    by true = refl
+    by false = refl
+
+fewer : (a b : Bool) (k : ℕ) → cond (a || b) 0 k ≤ cond a 0 k
+fewer true b k = omega arith
+fewer false true k = omega arith
+fewer false false k = omega arith
+
+waiting_fewer : (used : List ℕ) (m n : ℕ) (ss : List Slot) → waiting (used ++ m ∷ []) n ss ≤ waiting used n ss
+waiting_fewer used m n [] = omega arith
+waiting_fewer used m n (slots.Value part ∷ ss) = waiting_fewer used m (suc n) ss
+waiting_fewer used m n (slots.Resource part ∷ ss) = waiting_fewer used m (suc n) ss
+waiting_fewer used m n (slots.Function f ∷ ss) = waiting_fewer used m (suc n) ss
+waiting_fewer used m n (slots.Instance b around ∷ ss) =
+    let rest = waiting_fewer used m (suc n) ss in
+    let same = ap (λ u. cond u 0 b.count) (any_more used m n) in
+    let less = fewer (list_any (λ k. k == n) used) (m == n) b.count in
+    omega (arith, rest, same, less)
+
+-- what is used waits no more
+pub waiting_used : (used : List ℕ) (k n : ℕ) (ss : List Slot) (s : Slot) → slice_get ss k ≡ Some s → list_any (λ m. m == n + k) used ≡ false
+    → waiting (used ++ (n + k) ∷ []) n ss + waits s ≤ waiting used n ss
+waiting_used used k n [] s at unused = absurd cc
+waiting_used used zero n (x ∷ ss) s at unused = here x (let same : x ≡ s = cc in same)
+  where
+    zeroth : n + 0 ≡ n
+    zeroth = omega arith
+
+    here : (x : Slot) → x ≡ s → waiting (used ++ (n + 0) ∷ []) n (x ∷ ss) + waits s ≤ waiting used n (x ∷ ss)
+    here (slots.Value part) e = let none = ap waits (sym e) in let rest = waiting_fewer used (n + 0) (suc n) ss in omega (arith, none, rest)
+    here (slots.Resource part) e = let none = ap waits (sym e) in let rest = waiting_fewer used (n + 0) (suc n) ss in omega (arith, none, rest)
+    here (slots.Function f) e = let none = ap waits (sym e) in let rest = waiting_fewer used (n + 0) (suc n) ss in omega (arith, none, rest)
+    here (slots.Instance b around) e =
+        let count = ap waits (sym e) in
+        let rest = waiting_fewer used (n + 0) (suc n) ss in
+        let now = ap (λ u. cond u 0 b.count) (any_more used (n + 0) n ∙ (ap (λ u. list_any (λ m. m == n) used || u) (eq-eqb (n + 0) n zeroth) ∙ last (list_any (λ m. m == n) used))) in
+        let before = ap (λ u. cond u 0 b.count) (ap (λ j. list_any (λ m. m == j) used) (sym zeroth) ∙ unused) in
+        omega (arith, count, rest, now, before)
+      where
+        last : (u : Bool) → (u || true) ≡ true
+        last true = refl
+        last false = refl
+waiting_used used (suc k) n (x ∷ ss) s at unused = there x (waiting_used used k (suc n) ss s at (ap (λ j. list_any (λ m. m == j) used) moved ∙ unused))
+  where
+    moved : suc n + k ≡ n + suc k
+    moved = omega arith
+
+    there : (x : Slot) → waiting (used ++ (suc n + k) ∷ []) (suc n) ss + waits s ≤ waiting used (suc n) ss → waiting (used ++ (n + suc k) ∷ []) n (x ∷ ss) + waits s ≤ waiting used n (x ∷ ss)
+    there x h = by x (subst (λ j. waiting (used ++ j ∷ []) (suc n) ss + waits s ≤ waiting used (suc n) ss) moved h)
+      where
+        by : (x : Slot) → waiting (used ++ (n + suc k) ∷ []) (suc n) ss + waits s ≤ waiting used (suc n) ss → waiting (used ++ (n + suc k) ∷ []) n (x ∷ ss) + waits s ≤ waiting used n (x ∷ ss)
+        by (slots.Value part) h = h
+        by (slots.Resource part) h = h
+        by (slots.Function f) h = h
+        by (slots.Instance b around) h =
+            let same = ap (λ u. cond u 0 b.count) (any_more used (n + suc k) n) in
+            let less = fewer (list_any (λ j. j == n) used) ((n + suc k) == n) b.count in
+            omega (arith, h, same, less)

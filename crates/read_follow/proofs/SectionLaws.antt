@@ -1,0 +1,135 @@
+-- Sections in front of bytes, and those behind them.
+use Rattle.std.proofs.Common.{◌≡◌, refl, sym, ap, subst, ◌∙◌, ℕ, suc, ◌+◌, ◌<◌, ◌≤◌, ◌^◌, arith, Bool, true, false, ◌&&◌, cond, ◌==◌, ltb, nat_eq, List, [], ◌∷◌, ◌++◌, length, map, take, drop, Option, Some, None, Ok, Err, append_assoc, append-nil}
+use Rattle.std.specs.Prelude.{Result}
+use Rattle.std.proofs.lemmas.Bool.{ne_eqb, eq-eqb, eqb-true, false≢true, lt-ltb, ltb-true, false_from_ne_true}
+use Rattle.std.proofs.lemmas.List.{length-append, map-append}
+use Rattle.std.proofs.lemmas.Cmp.{nat_list_eq_equiv}
+use Rattle.std.specs.List.{starts_with}
+use Rattle.wit_model.specs.declared.error.Error.{Error}
+use Rattle.wit_model.specs.declared.error.Error.TheVariants as errors
+use Rattle.comp_bytes.specs.declared.frames.Section.{Section}
+use Rattle.comp_bytes.specs.Frames.{Unread, IsNext}
+use Rattle.comp_bytes.specs.Levels.{Piece, piece_of, pieces_in, levels_of}
+use Rattle.comp_bytes.specs.Reading.{◌>>=◌, frame_at, pair_at, byte_at}
+use Rattle.comp_bytes.specs.Spelling.{preamble}
+use Rattle.comp_bytes.proofs.ComponentLaws.{frame_law}
+use Rattle.comp_bytes.proofs.PieceLaws.{pieces_by_frames}
+use Rattle.read_follow.specs.declared.refusal.Refusal.{Refusal}
+use Rattle.read_follow.specs.declared.refusal.Refusal.TheVariants as refusals
+use Rattle.read_follow.specs.Found.{Refuses, refusal_from}
+use Rattle.read_follow.specs.Pieces.{piece_at, AreAlike}
+use Rattle.read_follow.proofs.FrontReaders.{found_at, none_when}
+
+-- ---- the frame in front, as the reader of sections answers it
+
+-- nothing has been read
+abbrev unread : List ℕ → Unread
+unread bytes = record { bytes = bytes; at = 0; refused = None }
+
+module _ (bytes : List ℕ) (old new : Unread) (start : old ≡ unread bytes) where
+  from_start : (answer : Result (Option Section) Error) → (old.refused ≡ None → IsNext old new answer) → IsNext (unread bytes) new answer
+  from_start answer next = subst (λ (u : Unread). IsNext u new answer) start (next (ap (λ (u : Unread). u.refused) start))
+
+  pub frame_found : (s : Section) (rest : List ℕ) → (old.refused ≡ None → IsNext old new (Ok (Some s))) → rest ≡ drop (s.start + length s.contents.now) bytes → frame_at bytes ≡ Some ((s.id, s.contents.now), rest)
+  frame_found s rest next is =
+      let stands = (from_start (Ok (Some s)) next).0 in
+      found_at frame_law bytes (s.id, s.contents.now) new.at stands.spelled ∙ ap (λ (text : List ℕ). let f : (ℕ × List ℕ) × List ℕ = ((s.id, s.contents.now), text) in Some f) (ap (λ (n : ℕ). drop n bytes) (sym stands.ends) ∙ sym is)
+
+  no_bytes : (text : List ℕ) → 0 ≡ length text → frame_at text ≡ None
+  unfolding frame_at pair_at byte_at
+  no_bytes [] e = refl
+  no_bytes (b ∷ text) e = absurd (omega (arith, e))
+
+  pub frame_ended : (old.refused ≡ None → IsNext old new (Ok None)) → frame_at bytes ≡ None
+  frame_ended next = no_bytes bytes (from_start (Ok None) next).0
+
+  pub frame_refused : (e : Error) (left : ℕ) → (old.refused ≡ None → IsNext old new (Err e)) → Refuses (refusal_from e left) (frame_at bytes)
+  frame_refused (errors.NoReading cause offset) left next = none_when frame_law bytes (frame_at bytes) refl (from_start (Err (errors.NoReading cause offset)) next).none
+  frame_refused _ left next = absurd (next (ap (λ (u : Unread). u.refused) start))
+
+pub frame_shorter : (bytes : List ℕ) (f : ℕ × List ℕ) (rest : List ℕ) → frame_at bytes ≡ Some (f, rest) → length rest < length bytes
+frame_shorter bytes f rest e =
+    let t = frame_law.takes bytes f rest e in
+    let whole : length bytes ≡ length t.front + length rest = ap length t.parts ∙ length-append t.front rest in
+    let first : length t.front ≡ suc (length t.spelled.0) = ap length t.spelled.1 in
+    omega (arith, whole, first)
+
+-- ---- refusals
+
+pub alike : {A : Type 0} (e other : Refusal) (found : Option A) → AreAlike e other → Refuses e found → Refuses other found
+alike refusals.Memory refusals.Memory found a r = tt
+alike (refusals.Absent cause left) (refusals.Absent why more) found a r = r
+alike refusals.Memory (refusals.Absent why more) found a r = absurd a
+alike (refusals.Absent cause left) refusals.Memory found a r = absurd a
+
+-- ---- one section, and those behind it
+
+-- what was found, with these in front
+abbrev pub with_pieces : List Piece → Option (List Piece) → Option (List Piece)
+with_pieces front found = found >>= λ ps. Some (front ++ ps)
+
+pub with_no_pieces : (found : Option (List Piece)) → with_pieces [] found ≡ found
+with_no_pieces None = refl
+with_no_pieces (Some ps) = refl
+
+module _ (bytes : List ℕ) (filled : length bytes ≡ 0 → ⊥) where
+  framed : (o : Option ((ℕ × List ℕ) × List ℕ)) → (o >>= λ frame. piece_of frame.0.0 frame.0.1 >>= λ first. pieces_in frame.1 >>= λ others. Some (first ∷ others))
+      ≡ ((o >>= λ frame. piece_of frame.0.0 frame.0.1 >>= λ p. let q : Piece × List ℕ = (p, frame.1) in Some q) >>= λ p. with_pieces (p.0 ∷ []) (pieces_in p.1))
+  framed None = refl
+  framed (Some frame) = inner (piece_of frame.0.0 frame.0.1)
+    where
+      inner : (o : Option Piece) → (o >>= λ first. pieces_in frame.1 >>= λ others. Some (first ∷ others)) ≡ ((o >>= λ p. let q : Piece × List ℕ = (p, frame.1) in Some q) >>= λ p. with_pieces (p.0 ∷ []) (pieces_in p.1))
+      inner None = refl
+      inner (Some p) = refl
+
+  pub pieces_front : (o : Option (Piece × List ℕ)) → piece_at bytes ≡ o → pieces_in bytes ≡ (o >>= λ p. with_pieces (p.0 ∷ []) (pieces_in p.1))
+  unfolding piece_at
+  pieces_front o e = pieces_by_frames bytes
+      ∙ (ap (λ b. cond b (Some []) (frame_at bytes >>= λ frame. piece_of frame.0.0 frame.0.1 >>= λ first. pieces_in frame.1 >>= λ others. Some (first ∷ others))) (ne_eqb (length bytes) 0 filled)
+      ∙ (framed (frame_at bytes) ∙ ap (λ q. q >>= λ p. with_pieces (p.0 ∷ []) (pieces_in p.1)) e))
+
+pub no_pieces : (bytes : List ℕ) → length bytes ≡ 0 → pieces_in bytes ≡ Some []
+no_pieces bytes e = pieces_by_frames bytes ∙ ap (λ b. cond b (Some []) (frame_at bytes >>= λ frame. piece_of frame.0.0 frame.0.1 >>= λ first. pieces_in frame.1 >>= λ others. Some (first ∷ others))) (eq-eqb (length bytes) 0 e)
+
+further : (front : List Piece) (p : Piece) (found : Option (List Piece)) → with_pieces front (with_pieces (p ∷ []) found) ≡ with_pieces (front ++ p ∷ []) found
+further front p None = refl
+further front p (Some ps) = ap Some (sym (append_assoc front (p ∷ []) ps))
+
+pub some_left : (rest : List ℕ) → false ≡ (length rest == 0) → length rest ≡ 0 → ⊥
+some_left rest e none = false≢true (e ∙ eq-eqb (length rest) 0 none)
+
+pub none_left : (rest : List ℕ) → true ≡ (length rest == 0) → length rest ≡ 0
+none_left rest e = eqb-true (length rest) 0 (sym e)
+
+-- one more section has been read
+pub piece_read : {X : Type 0} (raw : X → Piece) (items new : List X) (x : X) (bytes rest after : List ℕ) → (length rest ≡ 0 → ⊥) → with_pieces (map raw items) (pieces_in rest) ≡ pieces_in bytes
+    → piece_at rest ≡ Some (raw x, after) → new ≡ items ++ x ∷ [] → with_pieces (map raw new) (pieces_in after) ≡ pieces_in bytes
+piece_read raw items new x bytes rest after filled kept e grown =
+    ap (λ ps. with_pieces ps (pieces_in after)) (ap (map raw) grown ∙ map-append raw items (x ∷ []))
+    ∙ (sym (further (map raw items) (raw x) (pieces_in after)) ∙ (ap (with_pieces (map raw items)) (sym (pieces_front rest filled (Some (raw x, after)) e)) ∙ kept))
+
+pub piece_absent : (front : List Piece) (bytes rest : List ℕ) → (length rest ≡ 0 → ⊥) → with_pieces front (pieces_in rest) ≡ pieces_in bytes → piece_at rest ≡ None → pieces_in bytes ≡ None
+piece_absent front bytes rest filled kept e = sym kept ∙ ap (with_pieces front) (pieces_front rest filled None e)
+
+pub pieces_ended : (front : List Piece) (bytes rest : List ℕ) → length rest ≡ 0 → with_pieces front (pieces_in rest) ≡ pieces_in bytes → pieces_in bytes ≡ Some front
+pieces_ended front bytes rest e kept = sym kept ∙ (ap (with_pieces front) (no_pieces rest e) ∙ ap Some (append-nil front))
+
+-- ---- the whole component
+
+module _ (bytes : List ℕ) where
+  -- the sections behind the preamble, where the tests have these outcomes
+  tested : (a b : Bool) → starts_with nat_eq bytes preamble ≡ a → ltb (length bytes) (2 ^ 32) ≡ b → levels_of bytes ≡ cond (a && b) (pieces_in (drop 8 bytes)) None
+  unfolding levels_of
+  tested a b begins short =
+      ap (λ t. cond (t && ltb (length bytes) (2 ^ 32)) (pieces_in (drop 8 bytes)) None) (nat_list_eq_equiv.symm (take 8 bytes) preamble ∙ begins)
+      ∙ ap (λ t. cond (a && t) (pieces_in (drop 8 bytes)) None) short
+
+  pub other_preamble : starts_with nat_eq bytes preamble ≡ false → levels_of bytes ≡ None
+  other_preamble begins = tested false _ begins refl
+
+  pub too_long : starts_with nat_eq bytes preamble ≡ true → 4294967295 < length bytes → levels_of bytes ≡ None
+  too_long begins long = tested true false begins (false_from_ne_true (ltb (length bytes) (2 ^ 32)) (λ e. let short = ltb-true _ _ e in omega (arith, long, short)))
+
+  pub behind_preamble : (rest : List ℕ) (found : Option (List Piece)) → starts_with nat_eq bytes preamble ≡ true → length bytes ≤ 4294967295 → rest ≡ drop 8 bytes → pieces_in rest ≡ found → levels_of bytes ≡ found
+  behind_preamble rest found begins short is e =
+      tested true true begins (lt-ltb _ _ (omega (arith, short))) ∙ (ap pieces_in (sym is) ∙ e)

@@ -1,0 +1,306 @@
+-- What imports, exports and aliases of a component type show.
+use Rattle.std.proofs.Common.{◌≡◌, ◌⊎◌, inl, inr, refl, sym, ap, ◌∙◌, subst, ℕ, ◌+◌, ◌<◌, ◌≤◌, arith, Bool, true, false, cond, List, [], ◌∷◌, ◌++◌, map, length, Option, Some, None, IfSome, slice_get, unwrap_or, Result, Ok, Err, OnOk}
+use Rattle.std.specs.List.{AllByRecursion}
+use Rattle.std.proofs.Math.ListN.{length-map}
+use Rattle.std.proofs.lemmas.Bool.{cases_lt}
+use Rattle.std.proofs.lemmas.List.{append-nil}
+use Rattle.wit_model.specs.Meaning.{Signature}
+use Rattle.wit_model.specs.Text.{Text}
+use Rattle.wit_model.specs.Tree as tree
+use Rattle.wit_model.specs.Tree.{Place, Tree}
+use Rattle.comp_bytes.specs.declared.forms.ComponentTypeRef.{ComponentTypeRef}
+use Rattle.comp_bytes.specs.Reading.{◌>>=◌}
+use Rattle.comp_meaning.specs.Follow as follow
+use Rattle.comp_meaning.specs.Follow.{Scope as MeantScope, Seen as MeantSeen, Instance as MeantInstance, Key, Slot as Meant, View as MeantView, function_in, in_scope, interface_of, is_simple, key_text, named_type, provided, see, see_function, see_instance, see_type, used_view, when}
+use Rattle.read_follow.specs.declared.names.ExternName.{ExternName}
+use Rattle.read_follow.specs.declared.refusal.Refusal.{Refusal}
+use Rattle.read_follow.specs.declared.scopes.Instance.{Instance}
+use Rattle.read_follow.specs.declared.scopes.Seen.{Seen}
+use Rattle.read_follow.specs.declared.scopes.Shown.TheVariants as shown
+use Rattle.read_follow.specs.declared.shows.NewName.{NewName}
+use Rattle.read_follow.specs.declared.slots.Slot.{Slot}
+use Rattle.read_follow.specs.declared.slots.Slot.TheVariants as slots
+use Rattle.read_follow.specs.Defining.{Grows}
+use Rattle.read_follow.specs.ExternNames.{raw_name}
+use Rattle.read_follow.specs.Following.{declared_in, AreTables, IsSlotIn, IsState, State}
+use Rattle.read_follow.specs.Found.{Refuses}
+use Rattle.read_follow.specs.Functions.{functions_in, IsFunctionIn}
+use Rattle.read_follow.specs.InstanceScopes.{name_meant, name_slot, named_by}
+use Rattle.read_follow.specs.Placed.{apart, DeclarationOver, MayMeet, SignatureOver, SlotOver}
+use Rattle.read_follow.specs.Places.{has_path}
+use Rattle.read_follow.specs.Scopes.{direction, meant_at, seen_in, waiting, world_signatures, world_trees, Goes, IsCountedAs, IsImportNamed, IsImportRepeated, IsKeyPlaced, IsLastName, IsPlacedWorld, IsShownAs, IsShownBy, by_instance, by_import, IsWorld, ShownOver, Stops, World}
+use Rattle.read_follow.specs.Slots.{no_signature, slot_in, slots_in, AreInRange, AreNames}
+use Rattle.plan_meaning.specs.Shapes.{Shape, first_label, named_shape, node_shape, shape_trees, Adds, IsTable}
+use Rattle.read_follow.proofs.DefiningLaws.{adds_cases, adds_grow, adds_name, adds_one, adds_placed, all_at, longer, same_list}
+use Rattle.read_follow.proofs.FollowingLaws.{declared_stays, functions_wider, names_of}
+use Rattle.read_follow.proofs.OverLaws.{named_over}
+use Rattle.read_follow.proofs.PlacedLaws.{at_last, stands_on, stood}
+use Rattle.read_follow.proofs.PlacedScopes.{both_pass, counts_below, extended_placed, import_passes, imported_many, none_past, one_counted, seen_passes}
+use Rattle.read_follow.proofs.Refusing.{refused}
+use Rattle.read_follow.proofs.ScopeLaws.{all_before, exported, extended, extended_world, goes_on, imported, plus, plus_seen, plus_type, waiting_push, waits}
+use Rattle.read_follow.proofs.ShowLaws.{declared_range, name_in, name_stands, old_range, own_over}
+use Rattle.read_follow.proofs.SlotLaws.{at_slot}
+use Rattle.read_follow.proofs.TableGrowth.{found_below, last_or}
+
+-- ---- results
+
+pub on_both : {A : Type 0} (P Q R : Type 0) (r : Result A Refusal) → OnOk r P → OnOk r Q → (P → Q → R) → OnOk r R
+on_both P Q R (Ok x) p q f = f p q
+on_both P Q R (Err e) p q f = p
+
+-- ---- imports or exports
+
+abbrev pub added_imports : Bool → List Seen → Seen → List Seen
+added_imports b xs s = cond b (xs ++ s ∷ []) xs
+
+abbrev pub added_exports : Bool → List Seen → Seen → List Seen
+added_exports b xs s = cond b xs (xs ++ s ∷ [])
+
+pub imports_are : (b : Bool) (xs : List Seen) (s : Seen) → added_imports b xs s ≡ xs ++ imported b s
+imports_are true xs s = refl
+imports_are false xs s = sym (append-nil xs)
+
+pub exports_are : (b : Bool) (xs : List Seen) (s : Seen) → added_exports b xs s ≡ xs ++ exported b s
+exports_are true xs s = sym (append-nil xs)
+exports_are false xs s = refl
+
+imported_map : {X Y : Type 0} (f : X → Y) (b : Bool) (x : X) → map f (imported b x) ≡ imported b (f x)
+imported_map f true x = refl
+imported_map f false x = refl
+
+exported_map : {X Y : Type 0} (f : X → Y) (b : Bool) (x : X) → map f (exported b x) ≡ exported b (f x)
+exported_map f true x = refl
+exported_map f false x = refl
+
+pub all_imported : {X : Type 0} (P : X → Type 0) (b : Bool) (x : X) → P x → AllByRecursion P (imported b x)
+all_imported P true x h = (h, tt)
+all_imported P false x h = tt
+
+pub all_exported : {X : Type 0} (P : X → Type 0) (b : Bool) (x : X) → P x → AllByRecursion P (exported b x)
+all_exported P true x h = tt
+all_exported P false x h = (h, tt)
+
+-- what is seen stands where it is imported or exported
+pub seen_plus : (b : Bool) (f : Seen → MeantSeen) (m : MeantScope) (ss : List Meant) (is : List MeantInstance) (us : List ℕ) (s : Seen) (meant : MeantSeen) → f s ≡ meant
+    → plus m ss is (imported b meant) (exported b meant) us ≡ plus m ss is (map f (imported b s)) (map f (exported b s)) us
+seen_plus b f m ss is us s meant e =
+    (λ i. plus m ss is (imported b (sym e i)) (exported b (sym e i)) us) ∙ (λ i. plus m ss is (sym (imported_map f b s) i) (sym (exported_map f b s) i) us)
+
+-- ---- functions
+
+module _ (old : World) (st : IsWorld old) (b : Bool) (name : ExternName) (n : ℕ) where
+  abbrev function_found : MeantScope → Option Signature → Option MeantScope
+  function_found m o = o >>= λ f. provided (is_simple (raw_name name)) (see (direction b) (record { key = name.text.now; shown = follow.Shown.function f; external_id = (raw_name name).external_id }) m)
+
+  pub function_goes : (k : ℕ) → slice_get old.slots n ≡ Some (slots.Function k)
+      → ((T : List Tree) (F : List Signature) → function_in (slice_get (slots_in T F old.slots) n) ≡ Some (unwrap_or (slice_get F k) no_signature)) → is_simple (raw_name name) ≡ true
+      → (new : World) → new ≡ record old { imports = added_imports b old.imports (record { shown = shown.Function name.text k; external_id = name.external_id }); exports = added_exports b old.exports (record { shown = shown.Function name.text k; external_id = name.external_id }) }
+      → Goes 1 (see_function (direction b) (raw_name name) n) old new
+  function_goes k at found simple new e =
+      let s : Seen = record { shown = shown.Function name.text k; external_id = name.external_id } in
+      let gs = same_list old.shapes in
+      let gf = same_list old.signatures in
+      let gp = same_list old.paths in
+      let inside : k < length old.signatures = all_at (IsSlotIn old.shapes old.signatures) old.slots n (slots.Function k) st.slots at in
+      goes_on old st old.shapes old.signatures old.paths gs gf gp st.tables [] [] (imported b s) (exported b s) [] 1 (see_function (direction b) (raw_name name) n) new
+      (e ∙ (λ i. record {
+        home = old.home;
+        shapes = old.shapes;
+        signatures = old.signatures;
+        paths = old.paths;
+        slots = sym (append-nil old.slots) i;
+        instances = sym (append-nil old.instances) i;
+        imports = imports_are b old.imports s i;
+        exports = exports_are b old.exports s i;
+        used = sym (append-nil old.used) i;
+      }))
+      (extended_world old st old.shapes old.signatures old.paths gs gf gp st.tables [] [] (imported b s) (exported b s) [] tt tt (all_imported (λ (x : Seen). IsShownAs old.shapes old.signatures old.paths (length (old.instances ++ [])) x.shown) b s inside) (all_exported (λ (x : Seen). IsShownAs old.shapes old.signatures old.paths (length (old.instances ++ [])) x.shown) b s inside))
+      (λ base places p.
+      let P = MayMeet (map has_path old.paths) old.home in
+      let T = world_trees apart old in
+      let F = world_signatures apart old in
+      let over : SignatureOver P (unwrap_or (slice_get F k) no_signature) = all_at (SlotOver P) (meant_at apart old).slots n (slot_in T F (slots.Function k)) p.slots (at_slot old.slots n T F (slots.Function k) at) in
+      let seen = seen_passes (λ (x : MeantSeen). ShownOver P x.shown) (seen_in apart T F (old.instances ++ [])) b s over in
+      let c = length old.shapes in
+      extended_placed old st old.shapes old.signatures old.paths gs gf gp st.tables [] [] (imported b s) (exported b s) [] base places (length old.shapes) p (imported b c) (length old.shapes) (omega arith) tt (λ j x at past. absurd (none_past old.instances j x at past))
+      seen.0 seen.1 (import_passes (λ (x : Seen). IsImportNamed old.shapes old.home x.shown) b s tt) (both_pass (λ (x : Seen). IsKeyPlaced (old.instances ++ []) x.shown) b s tt)
+      (λ j x at past. absurd (none_past old.instances j x at past)) (λ j q x low e. inl (found_below old.shapes j (named_shape q x) e)) (λ j form parts low e. inl (found_below old.shapes j (node_shape form parts) e)) (imported_many b c s)
+      (one_counted base places (length old.shapes) old p (extended old st old.shapes old.signatures old.paths gs gf gp st.tables [] [] (imported b s) (exported b s) []) b s c refl (omega arith) (omega arith)
+      (λ g here. all_at (IsFunctionIn (length old.shapes)) old.signatures k g st.tables.signatures here)))
+      (all_before old.paths (old.instances ++ []))
+      (let same : waiting (old.used ++ []) 0 (old.slots ++ []) ≡ waiting old.used 0 old.slots = (λ i. waiting (append-nil old.used i) 0 (append-nil old.slots i)) in omega (arith, same))
+      (λ place of.
+      let T = world_trees place old in
+      let F = world_signatures place old in
+      let meant : MeantSeen = record { key = name.text.now; shown = follow.Shown.function (unwrap_or (slice_get F k) no_signature); external_id = (raw_name name).external_id } in
+      ap (function_found (meant_at place old)) (found T F)
+      ∙ (ap (λ v. provided v (see (direction b) meant (meant_at place old))) simple
+      ∙ ap Some (plus_seen b (meant_at place old) meant ∙ seen_plus b (seen_in place T F (old.instances ++ [])) (meant_at place old) [] [] [] s meant refl)))
+
+  pub function_stops : (paths : List (Option Text)) (e : Refusal) → ((T : List Tree) (F : List Signature) → Refuses e (function_in (slice_get (slots_in T F old.slots) n))) → Stops (see_function (direction b) (raw_name name) n) old paths e
+  function_stops paths e r place of = refused e (function_in (slice_get (meant_at place old).slots n)) (see_function (direction b) (raw_name name) n (meant_at place old))
+      (λ none. ap (function_found (meant_at place old)) none) (r (world_trees place old) (world_signatures place old))
+
+-- ---- types
+
+-- the tables of a scope and its slots
+abbrev pub base : World → State
+base w = record { shapes = w.shapes; signatures = w.signatures; slots = w.slots; types = []; functions = [] }
+
+pub base_state : (w : World) → IsWorld w → IsState (length (map has_path w.paths)) (base w)
+base_state w st = subst (λ (n : ℕ). IsState n (base w)) (sym (length-map w.paths has_path)) (record { tables = st.tables; slots = st.slots; types = tt; functions = tt })
+
+module _ (old : World) (st : IsWorld old) (name : ExternName) (kind : ComponentTypeRef) where
+  abbrev type_found : MeantScope → Option (tree.Declaration × Meant) → Option MeantScope
+  type_found m o = o >>= λ found. provided (is_simple (raw_name name)) (see (direction true) (record { key = name.text.now; shown = follow.Shown.declares found.0; external_id = (raw_name name).external_id }) (in_scope found.1 m))
+
+  pub type_stops : (paths : List (Option Text)) (e : Refusal) → ((T : List Tree) (F : List Signature) (place : Place) (x : Text) → AreNames T old.slots → Refuses e (named_type (slots_in T F old.slots) place x kind)) → Stops (see_type (raw_name name) kind) old paths e
+  type_stops paths e r place of = refused e (named_type (meant_at place old).slots Place.here name.text.now kind) (see_type (raw_name name) kind (meant_at place old))
+      (λ none. ap (type_found (meant_at place old)) none)
+      (r (world_trees place old) (world_signatures place old) Place.here name.text.now (names_of place old.shapes old.signatures old.slots st.tables.table st.slots))
+
+  -- the name that is imported, and how many types there are then
+  module _ (first : List Shape) (places : ℕ) (p : IsPlacedWorld first places old) (more : List Shape) (number : ℕ) (at : slice_get more number ≡ Some (named_shape old.home name.text.now)) where
+    module _ (new : World) (s : Seen) (d : Option ℕ) (last : new.imports ≡ old.imports ++ s ∷ []) where
+      type_names : new.home ≡ old.home → s.shown ≡ shown.Type name.text (14 + number) d → Adds old.shapes (named_shape old.home name.text.now) more → IsTable more
+          → (n q : ℕ) (x : Text) → n < length more → slice_get more n ≡ Some (named_shape q x) → (n < length old.shapes) ⊎ IsShownBy new q x (14 + n)
+      type_names own is adds table n q x low e = elim (adds_cases old.shapes more (named_shape old.home name.text.now) adds) [
+        | inl same ↦ inl (found_below old.shapes n (named_shape q x) (ap (λ (zs : List Shape). slice_get zs n) (sym same) ∙ e))
+        | inr came ↦ elim (last_or old.shapes (named_shape old.home name.text.now) n (named_shape q x) (ap (λ (zs : List Shape). slice_get zs n) (sym came) ∙ e)) [
+          | inl h ↦ inl h.0
+          | inr h ↦
+              let one : number ≡ n = table.apart number n (named_shape q x) (at ∙ ap Some h.1) e in
+              inr (by_import (length old.imports) s name.text d (ap (λ (zs : List Seen). slice_get zs (length old.imports)) last ∙ at_last old.imports s)
+              (is ∙ ap (λ m. shown.Type name.text (14 + m) d) one) (ap (λ (y : Shape). first_label y.labels) h.1) (ap (λ (y : Shape). y.number) (sym h.1) ∙ sym own))
+        ]
+      ]
+
+      type_counted : Grows old.shapes more → length more ≤ length old.shapes + 1 → IfSome d (λ k. k < 14 + length old.shapes)
+          → IsCountedAs new (p.counts ++ length more ∷ []) (length old.imports) (length more) (shown.Type name.text (14 + number) d)
+      type_counted gs one range = elim (cases_lt number (length old.shapes)) [ inl below ↦ inl (repeated below) | inr past ↦ inr (behind past) ]
+        where
+          no_path : (o : Option (Option Text)) (path : Text) → o ≡ Some None → o ≡ Some (Some path) → ⊥
+          no_path o path e f = cc
+
+          not_home : (j : ℕ) (x : Instance) → slice_get old.instances j ≡ Some x → x.place ≡ old.home → ⊥
+          not_home j x there is = elim (p.instances j x there).own [
+            | inl path ↦ no_path (slice_get old.paths old.home) path.0 st.own (ap (slice_get old.paths) (sym is) ∙ path.1)
+            | inr inline ↦ inline.not_home is
+          ]
+
+          from_shown : IsShownBy old old.home name.text.now (14 + number) → IsImportRepeated new.imports (length old.imports) name.text.now
+          from_shown (by_instance j x there is among) = absurd (not_home j x there is)
+          from_shown (by_import j y label o there is named own) = record {
+            number = j;
+            earlier = found_below old.imports j y there;
+            seen = y;
+            at = subst (λ (zs : List Seen). slice_get zs j ≡ Some y) (sym last) (stands_on old.imports (old.imports ++ s ∷ []) (record { more = s ∷ []; is = refl }) j y there);
+            label = label;
+            part = 14 + number;
+            declared = o;
+            is = is;
+            same = named;
+          }
+
+          repeated : number < length old.shapes → IsImportRepeated new.imports (length old.imports) name.text.now
+          repeated below =
+              let before = stood old.shapes more gs number (named_shape old.home name.text.now) below at in
+              elim (p.names number old.home name.text.now below before) [
+                | inl h ↦ absurd (p.fresh number name.text.now (stood first old.shapes p.grows number (named_shape old.home name.text.now) h before))
+                | inr by ↦ from_shown by
+              ]
+
+          declared_below : (o : Option ℕ) → length old.shapes ≤ number → IfSome o (λ k. k < 14 + length old.shapes) → IfSome o (λ k. k < 14 + number)
+          declared_below None past h = tt
+          declared_below (Some k) past h = omega (arith, h, past)
+
+          behind : length old.shapes ≤ number → IsLastName (p.counts ++ length more ∷ []) (length old.imports) (length more) (14 + number) d
+          behind past =
+              let inside = found_below more number (named_shape old.home name.text.now) at in
+              record {
+                last = omega (arith, inside, past, one);
+                declared = declared_below d past range;
+                others = λ i b e less.
+                    let was = p.many in
+                    let low = counts_below first places (length old.shapes) old p i b (stood p.counts (p.counts ++ length more ∷ []) (record { more = length more ∷ []; is = refl }) i b (omega (arith, less, was)) e) in
+                    omega (arith, low, inside, past);
+              }
+
+  pub type_goes : (made : NewName) → IfSome made.declared (λ k. (n : ℕ) → AreInRange n old.slots → k < 14 + n)
+      → ((T : List Tree) (F : List Signature) (place : Place) (x : Text) → AreNames T old.slots → named_type (slots_in T F old.slots) place x kind ≡ Some (named_by T place x made))
+      → is_simple (raw_name name) ≡ true
+      → (more : List Shape) (number : ℕ) → slice_get more number ≡ Some (named_shape old.home name.text.now) → Adds old.shapes (named_shape old.home name.text.now) more → IsTable more
+      → (s : Slot) → s ≡ name_slot made.is_resource (14 + number) → (new : World)
+      → new ≡ record old { shapes = more; slots = old.slots ++ s ∷ []; imports = old.imports ++ record { shown = shown.Type name.text (14 + number) made.declared; external_id = name.external_id } ∷ [] }
+      → Goes 1 (see_type (raw_name name) kind) old new
+  type_goes made range found simple more number at adds table s is new e =
+      let seen : Seen = record { shown = shown.Type name.text (14 + number) made.declared; external_id = name.external_id } in
+      let gs = adds_grow old.shapes more (named_shape old.home name.text.now) adds in
+      let gf = same_list old.signatures in
+      let gp = same_list old.paths in
+      let le = longer old.shapes more gs in
+      let marks = map has_path old.paths in
+      let bs = base_state old st in
+      let below : old.home < length old.paths = found_below old.paths old.home None st.own in
+      let tables : AreTables (length old.paths) more old.signatures = record {
+        table = table;
+        placed = adds_placed (length old.paths) old.shapes more (named_shape old.home name.text.now) adds st.tables.placed (λ _. below);
+        signatures = functions_wider (length old.shapes) (length more) old.signatures le st.tables.signatures;
+      } in
+      let inside : IsSlotIn more old.signatures s = subst (λ (x : Slot). IsSlotIn more old.signatures x) (sym is) (name_in marks (base old) bs name old.home kind made.is_resource more number at) in
+      let number_below = found_below more number (named_shape old.home name.text.now) at in
+      let fits : IsShownAs more old.signatures old.paths (length (old.instances ++ [])) seen.shown = (omega (arith, number_below), declared_range marks (base old) bs name old.home kind made.declared more le range) in
+      goes_on old st more old.signatures old.paths gs gf gp tables (s ∷ []) [] (seen ∷ []) [] [] 1 (see_type (raw_name name) kind) new
+      (e ∙ (λ i. record {
+        home = old.home;
+        shapes = more;
+        signatures = old.signatures;
+        paths = old.paths;
+        slots = old.slots ++ s ∷ [];
+        instances = sym (append-nil old.instances) i;
+        imports = old.imports ++ seen ∷ [];
+        exports = sym (append-nil old.exports) i;
+        used = sym (append-nil old.used) i;
+      }))
+      (extended_world old st more old.signatures old.paths gs gf gp tables (s ∷ []) [] (seen ∷ []) [] [] (inside, tt) tt (fits, tt) tt)
+      (λ first places p.
+      let P = MayMeet (map has_path old.paths) old.home in
+      let U = shape_trees apart more in
+      let G = functions_in U old.signatures in
+      let stands : slot_in U G s ≡ name_meant made.is_resource (apart old.home) name.text.now = ap (slot_in U G) is ∙ name_stands marks (base old) bs name old.home kind apart made.is_resource more number table at in
+      let same = declared_stays (length old.paths) old.shapes more old.signatures old.signatures st.tables gs gf apart made.declared (old_range marks (base old) bs name old.home kind made.declared range) in
+      let over : DeclarationOver P (declared_in U made.declared) = subst (λ d. DeclarationOver P d) (sym same)
+      (named_over P (meant_at apart old).slots p.slots (apart old.home) name.text.now kind (named_by (world_trees apart old) (apart old.home) name.text.now made)
+      (found (world_trees apart old) (world_signatures apart old) (apart old.home) name.text.now (names_of apart old.shapes old.signatures old.slots st.tables.table st.slots))) in
+      let c = length more in
+      let new = extended old st more old.signatures old.paths gs gf gp tables (s ∷ []) [] (seen ∷ []) [] [] in
+      extended_placed old st more old.signatures old.paths gs gf gp tables (s ∷ []) [] (seen ∷ []) [] [] first places (length old.shapes) p (c ∷ []) (length more) (omega arith)
+      (subst (λ x. SlotOver P x) (sym stands) (own_over marks (base old) bs name old.home kind made.is_resource), tt)
+      (λ j x e past. absurd (none_past old.instances j x e past)) (over, tt) tt (record { number = number; is = refl; at = at }, tt) ((tt, tt), tt)
+      (λ j x e past. absurd (none_past old.instances j x e past))
+      (type_names first places p more number at new seen made.declared refl refl refl adds table) (λ n form parts low e. adds_name old.shapes more old.home name.text.now adds n form parts e) refl
+      (one_counted first places (length old.shapes) old p new true seen c refl le (omega arith)
+      (type_counted first places p more number at new seen made.declared refl gs (adds_one old.shapes more (named_shape old.home name.text.now) adds) (old_range marks (base old) bs name old.home kind made.declared range))))
+      (all_before old.paths (old.instances ++ []))
+      (let same = ap (λ us. waiting us 0 (old.slots ++ s ∷ [])) (append-nil old.used) in
+      let push = waiting_push old.used 0 old.slots s in
+      let light : waits s ≡ 0 = ap waits is ∙ no_wait made.is_resource (14 + number) in
+      let one = adds_one old.shapes more (named_shape old.home name.text.now) adds in
+      omega (arith, same, push, light, one))
+      (λ place of.
+      let T = world_trees place old in
+      let F = world_signatures place old in
+      let U = shape_trees place more in
+      let G = functions_in U old.signatures in
+      let here : place old.home ≡ Place.here = of old.home None st.own in
+      let stands : slot_in U G s ≡ name_meant made.is_resource Place.here name.text.now = ap (slot_in U G) is ∙ (name_stands marks (base old) bs name old.home kind place made.is_resource more number table at ∙ ap (λ p. name_meant made.is_resource p name.text.now) here) in
+      let declared = declared_stays (length old.paths) old.shapes more old.signatures old.signatures st.tables gs gf place made.declared (old_range marks (base old) bs name old.home kind made.declared range) in
+      let m = meant_at place old in
+      ap (type_found m) (found T F Place.here name.text.now (names_of place old.shapes old.signatures old.slots st.tables.table st.slots))
+      ∙ ((λ i. type_found m (Some (sym declared i, sym stands i)))
+      ∙ (ap (λ v. provided v (see (direction true) (seen_in place U G (old.instances ++ []) seen) (in_scope (slot_in U G s) m))) simple
+      ∙ ap Some (plus_type m (slot_in U G s) (seen_in place U G (old.instances ++ []) seen)))))
+    where
+      no_wait : (r : Bool) (k : ℕ) → waits (name_slot r k) ≡ 0
+      no_wait true k = refl
+      no_wait false k = refl

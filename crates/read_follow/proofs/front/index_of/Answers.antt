@@ -1,0 +1,10 @@
+use Rattle.comp_bytes.proofs.FormLaws.{type_index_law}
+use Rattle.read_follow.proofs.FrontReaders.{found_at, refused_at}
+use Rattle.std.proofs.Common.{◌∙◌, ap, sym, Some}
+use Rattle.read_follow.proofs.front.index_of.Goals as goal
+
+pub returns-in-Ok : goal.returns-in-Ok
+returns-in-Ok c = found_at type_index_law c.args.bytes.now c.in-Ok.number c.in-Ok.end c.in-Ok.ensures.2 ∙ ap (λ rest. Some (c.in-Ok.number, rest)) (sym c.split_at.ensures.back)
+
+pub returns-in-Err : goal.returns-in-Err
+returns-in-Err c = rw c.refusal_of.ensures (refused_at type_index_law c.args.bytes.now _ c.in-Err.error c.in-Err.ensures)

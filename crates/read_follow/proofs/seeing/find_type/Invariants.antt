@@ -1,0 +1,7 @@
+use Rattle.std.proofs.Common.{◌≡◌, drop}
+use Rattle.read_follow.specs.Scopes.{find_slot}
+use Rattle.read_follow.proofs.seeing.find_type.Given as goal
+
+-- what is left decides
+abbrev pub invariant-loop-shown : goal.invariant-loop-shown
+invariant-loop-shown l = find_slot l.name (drop l.shown-index l.types) ≡ find_slot l.name l.types

@@ -1,0 +1,13 @@
+-- The shapes that keys of the table stand for.
+use Rattle.std.specs.Prelude.{ℕ, Bool, List, map}
+use Rattle.std.specs.Borrow.{Bor}
+use Rattle.wit_model.specs.Text.{Text}
+use Rattle.plan_meaning.specs.Shapes.{Shape}
+use Rattle.read_follow.specs.declared.keys.Key.{Key}
+
+abbrev pub label_of : Bor (List ℕ) × Bool → Text × Bool
+label_of p = (p.0.now, p.1)
+
+-- what a key says, without where it lies in memory
+abbrev pub shape_of : Key → Shape
+shape_of k = record { sort = k.sort; number = k.number; labels = map label_of k.labels.items; parts = k.parts.items }

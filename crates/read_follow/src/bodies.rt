@@ -1,0 +1,179 @@
+//! Bodies: declarations that are kept as a part of the input and read again where they are followed.
+
+ghost use Rattle.std.specs.Prelude.{◌≡◌, ◌≤◌, ◌-◌, length, take, IfOk};
+ghost use Rattle.comp_bytes.specs.Raw.{Declaration};
+ghost use Rattle.comp_bytes.specs.Levels.{Entry as RawEntry, entry_at, held_at};
+ghost use Rattle.comp_bytes.specs.Reading.{sequence_at, vector_at};
+ghost use Rattle.read_follow.specs.Bodies.{behind, held_declaration_at, items_in, raw_entry, IsBody, IsWhole};
+ghost use Rattle.read_follow.specs.Declares.{raw_declared};
+ghost use Rattle.read_follow.specs.Found.{Finds, Gives};
+
+use crate::declarations::{Declared, declaration_of};
+use crate::front::u32_of;
+use crate::refusal::Refusal;
+use crate::vector::Form;
+use std::alloc::Global;
+use wit_model::Cause;
+
+/// Declarations behind their number, as a part of the input.
+#[derive(Clone, Copy)]
+pub struct Body<'a> {
+    /// How many declarations there are.
+    pub count: u32,
+    /// Their bytes, and no others.
+    pub bytes: &'a [u8],
+    /// How many bytes of the slice that they were read from stand behind them.
+    pub behind: usize,
+}
+
+/// The bytes behind so many items, each of which is read and dropped.
+fn skip_each<'a, T: Form<'a> + Drop>(
+    alloc: Global,
+    count: u32,
+    bytes: &'a [u8],
+) -> Result<&'a [u8], Refusal>
+    ensures { Gives (λ rest. rest.now) result (behind (sequence_at T.reader count bytes.now)) }
+{
+    let mut rest = bytes;
+    for _ in 0..count {
+        match T::read(alloc, rest) {
+            Ok((_item, after)) => rest = after,
+            Err(refusal) => return Err(refusal),
+        }
+    }
+    Ok(rest)
+}
+
+/// The body of so many items at the front, behind which the rest stands.
+fn cut<'a>(count: u32, bytes: &'a [u8], rest: &[u8]) -> Body<'a>
+    requires { length rest.now ≤ length bytes.now }
+    ensures count { result.count ≡ count }
+    ensures bytes { result.bytes.now ≡ take (length bytes.now - length rest.now) bytes.now }
+    ensures behind { result.behind ≡ length rest.now }
+{
+    let behind = rest.len();
+    Body {
+        count,
+        bytes: bytes.split_at(bytes.len() - behind).0,
+        behind,
+    }
+}
+
+/// A declaration of an instance type, which imports nothing.
+#[derive(Drop)]
+struct Held<'a>(Declared<'a>);
+
+/// The declaration of an instance type in front, and the bytes behind it.
+#[tactic(auto, unfolding(crate::specs::Bodies::held_declaration_at))]
+pub(crate) fn held_declaration_of<'a>(
+    alloc: Global,
+    bytes: &'a [u8],
+) -> Result<(Declared<'a>, &'a [u8]), Refusal>
+    ensures { Finds raw_declared result (held_declaration_at bytes.now) }
+{
+    let (declared, rest) = declaration_of(alloc, bytes)?;
+    match declared {
+        Declared::Import(_, _) => Err(Refusal::Absent(Cause::UnknownForm, bytes.len())),
+        other => Ok((other, rest)),
+    }
+}
+
+impl<'a> Form<'a> for Held<'a> {
+    ghost Raw = { Declaration };
+
+    ghost reader = { held_declaration_at };
+
+    ghost raw = { λ h. raw_declared h.0 };
+
+    ghost whole = { λ _. Unit {0} };
+
+    fn read(alloc: Global, bytes: &'a [u8]) -> Result<(Held<'a>, &'a [u8]), Refusal> {
+        match held_declaration_of(alloc, bytes) {
+            Ok((declared, rest)) => Ok((Held(declared), rest)),
+            Err(refusal) => Err(refusal),
+        }
+    }
+}
+
+/// The body of so many declarations of an instance type, and the bytes behind it.
+fn held_items<'a>(
+    alloc: Global,
+    count: u32,
+    bytes: &'a [u8],
+) -> Result<(Body<'a>, &'a [u8]), Refusal>
+    ensures whole { IfOk result (λ x. IsBody held_declaration_at x.0) }
+    ensures found { Finds (items_in held_declaration_at) result (sequence_at held_declaration_at count bytes.now) }
+{
+    match skip_each::<Held<'a>>(alloc, count, bytes) {
+        Ok(rest) => Ok((cut(count, bytes, rest), rest)),
+        Err(refusal) => Err(refusal),
+    }
+}
+
+/// The body of an instance type, behind its first byte, and the bytes behind it.
+fn held_of<'a>(alloc: Global, bytes: &'a [u8]) -> Result<(Body<'a>, &'a [u8]), Refusal>
+    ensures whole { IfOk result (λ x. IsBody held_declaration_at x.0) }
+    ensures found { Finds (items_in held_declaration_at) result (held_at bytes.now) }
+{
+    match u32_of(bytes) {
+        Ok((count, items)) => held_items(alloc, count, items),
+        Err(refusal) => Err(refusal),
+    }
+}
+
+/// An entry in the type of a world or an interface: a declaration, or an instance type. Texts are parts of the input.
+#[derive(Drop)]
+pub enum Entry<'a> {
+    Plain(Declared<'a>),
+    Holds(Body<'a>),
+}
+
+/// The entry in front, and the bytes behind it. An instance type is read here only to find its end.
+///
+/// Takes time linear in the bytes of the entry, and memory linear in those of its largest declaration. Refuses with `Absent` exactly where
+/// no entry stands in front: as `declaration_of`, and with `UnknownForm` at an import in an instance type; else with `Memory`.
+pub fn entry_of<'a>(alloc: Global, bytes: &'a [u8]) -> Result<(Entry<'a>, &'a [u8]), Refusal>
+    ensures whole { IfOk result (λ x. IsWhole x.0) }
+    ensures found { Finds raw_entry result (entry_at bytes.now) }
+{
+    if bytes.starts_with(&[0x01, 0x42]) {
+        match held_of(alloc, bytes.split_at(2).1) {
+            Ok((body, rest)) => Ok((Entry::Holds(body), rest)),
+            Err(refusal) => Err(refusal),
+        }
+    } else {
+        match declaration_of(alloc, bytes) {
+            Ok((declared, rest)) => Ok((Entry::Plain(declared), rest)),
+            Err(refusal) => Err(refusal),
+        }
+    }
+}
+
+impl<'a> Form<'a> for Entry<'a> {
+    ghost Raw = { RawEntry };
+
+    ghost reader = { entry_at };
+
+    ghost raw = { raw_entry };
+
+    ghost whole = { IsWhole };
+
+    fn read(alloc: Global, bytes: &'a [u8]) -> Result<(Entry<'a>, &'a [u8]), Refusal> {
+        entry_of(alloc, bytes)
+    }
+}
+
+/// The body of so many entries, and the bytes behind it.
+pub(crate) fn entry_items<'a>(
+    alloc: Global,
+    count: u32,
+    bytes: &'a [u8],
+) -> Result<(Body<'a>, &'a [u8]), Refusal>
+    ensures whole { IfOk result (λ x. IsBody entry_at x.0) }
+    ensures found { Finds (items_in entry_at) result (sequence_at entry_at count bytes.now) }
+{
+    match skip_each::<Entry<'a>>(alloc, count, bytes) {
+        Ok(rest) => Ok((cut(count, bytes, rest), rest)),
+        Err(refusal) => Err(refusal),
+    }
+}

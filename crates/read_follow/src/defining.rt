@@ -1,0 +1,79 @@
+//! Definitions that take the next slot of a scope.
+
+ghost use Rattle.std.specs.Prelude.{◌≡◌, length, IfErr, OnErr, OnOk};
+ghost use Rattle.comp_bytes.specs.RawOf.{raw_defined, raw_function};
+ghost use Rattle.comp_meaning.specs.Follow.{function_signature};
+ghost use Rattle.read_follow.specs.Defining.{Grows, IsDefined, IsDefinedFunction, IsUndefined};
+ghost use Rattle.read_follow.specs.Found.{Refuses};
+ghost use Rattle.read_follow.specs.Functions.{AreApart};
+ghost use Rattle.read_follow.specs.Slots.{slots_in, AreInRange};
+ghost use Rattle.plan_meaning.specs.Shapes.{IsTable};
+ghost use Rattle.std.specs.Prelude.{List};
+ghost use Rattle.wit_model.specs.Meaning.{Signature};
+ghost use Rattle.wit_model.specs.Tree.{Tree};
+
+use crate::definition_keys::{Definition, definition_of};
+use crate::functions::Functions;
+use crate::keys::Key;
+use crate::refusal::Refusal;
+use crate::signatures::function_key_of;
+use crate::slots::Slot;
+use crate::table::Table;
+use comp_bytes::{ComponentDefinedType, ComponentFuncType};
+use std::alloc::Global;
+
+/// The definition takes the next slot. What it stands for is in the table from now on.
+///
+/// Takes time and memory linear in the definition. Refuses as `definition_of`; then the slots are as they were, and the table may have a
+/// type more.
+pub fn define<'a>(
+    alloc: Global,
+    table: &mut Table<'a>,
+    slots: &mut Vec<Slot<'a>>,
+    definition: &ComponentDefinedType<'a>,
+) -> Result<(), Refusal>
+    requires { AreInRange (length table.old) slots.old.items }
+    ensures defined { OnOk result (IsDefined table.old slots.old.items (raw_defined definition.now) table.new slots.new.items) }
+    ensures table { IsTable table.old × IsTable table.new }
+    ensures grown { Grows table.old table.new }
+    ensures refused { IfErr result (λ e. IsUndefined table.old slots.old.items (raw_defined definition.now) e) }
+    ensures stays { OnErr result (slots.new.items ≡ slots.old.items) }
+{
+    table.is_well_formed();
+    match definition_of(alloc, slots, definition) {
+        Ok(Definition::Part(part)) => {
+            slots.push(Slot::Value(part))?;
+            Ok(())
+        }
+        Ok(Definition::Keyed(key)) => {
+            let number = table.number_of(alloc, key)?;
+            slots.push(Slot::Value(14 + number))?;
+            Ok(())
+        }
+        Err(refusal) => Err(refusal),
+    }
+}
+
+/// The type of a function takes the next slot. What it stands for is in the table of functions from now on.
+///
+/// Takes time and memory linear in the type. Refuses as `function_key_of`; then the slots are as they were, and the table may have a type
+/// more.
+pub fn define_function<'a>(
+    alloc: Global,
+    functions: &mut Functions<'a>,
+    slots: &mut Vec<Slot<'a>>,
+    function: &ComponentFuncType<'a>,
+) -> Result<(), Refusal>
+    ensures defined { OnOk result (IsDefinedFunction functions.old slots.old.items (raw_function function.now) functions.new slots.new.items) }
+    ensures refused { IfErr result (λ e. (T : List Tree) (F : List Signature) → Refuses e (function_signature (slots_in T F slots.old.items) (raw_function function.now))) }
+    ensures stays { OnErr result (slots.new.items ≡ slots.old.items) }
+{
+    match function_key_of(alloc, slots, function) {
+        Ok(key) => {
+            let number = functions.number_of(key)?;
+            slots.push(Slot::Function(number))?;
+            Ok(())
+        }
+        Err(refusal) => Err(refusal),
+    }
+}

@@ -1,0 +1,39 @@
+//! Numbers, names and single bytes at the front.
+
+ghost use Rattle.std.specs.Prelude.{◌≡◌};
+ghost use Rattle.comp_bytes.specs.Reading.{byte_at, u32_at, type_index_at, name_at};
+ghost use Rattle.read_follow.specs.Found.{Finds};
+
+use crate::refusal::{Refusal, refusal_of};
+use comp_bytes::{read_index, read_name, read_u32};
+use wit_model::Cause;
+
+/// A number of 32 bits, and the bytes behind it.
+pub(crate) fn u32_of(bytes: &[u8]) -> Result<(u32, &[u8]), Refusal>
+    ensures { Finds (λ n. n) result (u32_at bytes.now) }
+{
+    match read_u32(bytes, 0) {
+        Ok((number, end)) => Ok((number, bytes.split_at(end).1)),
+        Err(error) => Err(refusal_of(error, bytes.len())),
+    }
+}
+
+/// The index of a type where a value type stands, and the bytes behind it.
+pub(crate) fn index_of(bytes: &[u8]) -> Result<(u32, &[u8]), Refusal>
+    ensures { Finds (λ n. n) result (type_index_at bytes.now) }
+{
+    match read_index(bytes, 0) {
+        Ok((number, end)) => Ok((number, bytes.split_at(end).1)),
+        Err(error) => Err(refusal_of(error, bytes.len())),
+    }
+}
+
+/// A name, and the bytes behind it. Takes time linear in the name.
+pub(crate) fn name_of(bytes: &[u8]) -> Result<(&str, &[u8]), Refusal>
+    ensures { Finds (λ text. text.now) result (name_at bytes.now) }
+{
+    match read_name(bytes, 0) {
+        Ok((text, end)) => Ok((text, bytes.split_at(end).1)),
+        Err(error) => Err(refusal_of(error, bytes.len())),
+    }
+}

@@ -1,0 +1,165 @@
+-- Packages that each stand once, and what stands of places where there are more of them.
+use Rattle.std.proofs.Common.{◌≡◌, ◌⊎◌, inl, inr, refl, sym, ap, ◌∙◌, subst, ℕ, zero, suc, ◌<◌, arith, Bool, true, false, ◌&&◌, ◌||◌, cond, List, [], ◌∷◌, ◌++◌, map, length, append_assoc, Option, Some, None, option_map, slice_get, OnOk, OnErr, Result, Ok, Err}
+use Rattle.std.specs.Borrow.{Bor}
+use Rattle.std.specs.declared.alloc.AllocError.{AllocError}
+use Rattle.std.specs.List.{AllZip, list_any}
+use Rattle.std.specs.Option.{option_eq}
+use Rattle.std.proofs.lemmas.List.{append-nil, map-append}
+use Rattle.std.proofs.lemmas.Slice.Eq.{bytes_eq-Decides}
+use Rattle.wit_model.specs.Text.{Text, text_eq}
+use Rattle.wit_model.specs.Names.{PackageIdentity}
+use Rattle.wit_model.proofs.Lists.{first_true, second_true}
+use Rattle.comp_bytes.specs.RawOf.{text_of}
+use Rattle.plan_meaning.proofs.ShapeLaws.{slice_front}
+use Rattle.read_homes.specs.contracts.packages.PackageTextsPartialEq.TheImpl as texts_eq
+use Rattle.read_homes.specs.declared.packages.PackageTexts.{PackageTexts}
+use Rattle.read_homes.specs.Homes.{identity_of, AreApart, ArePackages, Grows, IsHomeOf, IsRead, Joins, stays, comes, KeepsHomes}
+
+-- ---- equal texts
+
+pub both : (a b : Bool) → a ≡ true → b ≡ true → (a && b) ≡ true
+both true b p q = q
+both false b p q = p
+
+same_text : (a b : Text) → text_eq a b ≡ true → a ≡ b
+same_text a b h = (bytes_eq-Decides a b).0 h
+
+abbrev pub same_texts : PackageTexts → PackageTexts → Bool
+same_texts = texts_eq.ghosts.eq
+
+same_by : (a b : PackageTexts) → same_texts a b ≡ (text_eq a.namespace.now b.namespace.now && (text_eq a.name.now b.name.now && option_eq (λ x y. text_eq x.now y.now) a.version b.version))
+same_by a b = refl
+
+versions_same : (a b : Option (Bor (List ℕ))) → option_eq (λ x y. text_eq x.now y.now) a b ≡ true → option_map text_of a ≡ option_map text_of b
+versions_same None None e = refl
+versions_same None (Some y) e = absurd cc
+versions_same (Some x) None e = absurd cc
+versions_same (Some x) (Some y) e = ap Some (same_text x.now y.now e)
+
+versions_again : (a b : Option (Bor (List ℕ))) → option_map text_of a ≡ option_map text_of b → option_eq (λ x y. text_eq x.now y.now) a b ≡ true
+versions_again None None e = refl
+versions_again None (Some y) e = absurd cc
+versions_again (Some x) None e = absurd cc
+versions_again (Some x) (Some y) e = let same : x.now ≡ y.now = cc in (bytes_eq-Decides x.now y.now).1 same
+
+pub texts_same : (a b : PackageTexts) → same_texts a b ≡ true → identity_of a ≡ identity_of b
+texts_same a b e =
+    let others = second_true (text_eq a.namespace.now b.namespace.now) (text_eq a.name.now b.name.now && option_eq (λ x y. text_eq x.now y.now) a.version b.version) e in
+    let namespace = same_text a.namespace.now b.namespace.now (first_true (text_eq a.namespace.now b.namespace.now) (text_eq a.name.now b.name.now && option_eq (λ x y. text_eq x.now y.now) a.version b.version) e) in
+    let name = same_text a.name.now b.name.now (first_true (text_eq a.name.now b.name.now) (option_eq (λ x y. text_eq x.now y.now) a.version b.version) others) in
+    let version = versions_same a.version b.version (second_true (text_eq a.name.now b.name.now) (option_eq (λ x y. text_eq x.now y.now) a.version b.version) others) in
+    λ i. record { namespace = namespace i; name = name i; version = version i }
+
+pub texts_again : (a b : PackageTexts) → identity_of a ≡ identity_of b → same_texts a b ≡ true
+texts_again a b e =
+    both (text_eq a.namespace.now b.namespace.now) (text_eq a.name.now b.name.now && option_eq (λ x y. text_eq x.now y.now) a.version b.version)
+    ((bytes_eq-Decides a.namespace.now b.namespace.now).1 (ap (λ (x : PackageIdentity). x.namespace) e))
+    (both (text_eq a.name.now b.name.now) (option_eq (λ x y. text_eq x.now y.now) a.version b.version) ((bytes_eq-Decides a.name.now b.name.now).1 (ap (λ (x : PackageIdentity). x.name) e))
+    (versions_again a.version b.version (ap (λ (x : PackageIdentity). x.version) e)))
+
+-- ---- one package more
+
+pub mapped_get : {A B : Type 0} (f : A → B) (xs : List A) (n : ℕ) (x : A) → slice_get xs n ≡ Some x → slice_get (map f xs) n ≡ Some (f x)
+mapped_get f [] n x e = absurd cc
+mapped_get f (y ∷ ys) zero x e = let same : y ≡ x = cc in ap (λ z. Some (f z)) same
+mapped_get f (y ∷ ys) (suc n) x e = mapped_get f ys n x e
+
+pub last_or : {X : Type 0} (xs : List X) (y : X) (n : ℕ) (x : X) → slice_get (xs ++ y ∷ []) n ≡ Some x → ((n < length xs) × (slice_get xs n ≡ Some x)) ⊎ ((n ≡ length xs) × (y ≡ x))
+last_or [] y zero x e = inr (refl, (let same : y ≡ x = cc in same))
+last_or [] y (suc n) x e = absurd cc
+last_or (z ∷ xs) y zero x e = inl (omega arith, e)
+last_or (z ∷ xs) y (suc n) x e = elim (last_or xs y n x e) [ inl h ↦ inl (omega (arith, h.0), h.1) | inr h ↦ inr (omega (arith, h.0), h.1) ]
+
+found_below : {X : Type 0} (xs : List X) (n : ℕ) (x : X) → slice_get xs n ≡ Some x → n < length xs
+found_below [] n x e = absurd cc
+found_below (y ∷ xs) zero x e = omega arith
+found_below (y ∷ xs) (suc n) x e = omega (arith, found_below xs n x e)
+
+either_true : (a b : Bool) → b ≡ true → (a || b) ≡ true
+either_true true b e = refl
+either_true false b e = e
+
+seen : (ks : List PackageTexts) (k : PackageTexts) (n : ℕ) → slice_get (map identity_of ks) n ≡ Some (identity_of k) → list_any (same_texts k) ks ≡ true
+seen [] k n e = absurd cc
+seen (x ∷ ks) k zero e = let same : identity_of k ≡ identity_of x = cc in ap (λ b. b || list_any (same_texts k) ks) (texts_again k x same)
+seen (x ∷ ks) k (suc n) e = either_true (same_texts k x) (list_any (same_texts k) ks) (seen ks k n e)
+
+-- what is put where it isn't equal to any
+pub joins : (ks new : List PackageTexts) (k : PackageTexts) (b : Bool) → list_any (same_texts k) ks ≡ b → new ≡ cond b ks (ks ++ k ∷ []) → Joins (map identity_of ks) (identity_of k) (map identity_of new)
+joins ks new k true is e = subst (λ xs. Joins (map identity_of ks) (identity_of k) xs) (sym (ap (map identity_of) e)) stays
+joins ks new k false is e = subst (λ xs. Joins (map identity_of ks) (identity_of k) xs) (sym (ap (map identity_of) e ∙ map-append identity_of ks (k ∷ []))) (comes (λ n found. absurd (differs n found)))
+  where
+    differs : (n : ℕ) → slice_get (map identity_of ks) n ≡ Some (identity_of k) → ⊥
+    differs n found = let is_there = seen ks k n found in cc
+
+module _ (old : List PackageIdentity) (x : PackageIdentity) (packages : ArePackages old) where
+  apart_more : ((n : ℕ) → slice_get old n ≡ Some x → ⊥) → AreApart (old ++ x ∷ [])
+  apart_more fresh n m y en em = elim (last_or old x n y en) [
+    | inl h ↦ elim (last_or old x m y em) [
+      | inl k ↦ packages.apart n m y h.1 k.1
+      | inr k ↦ absurd (fresh n (h.1 ∙ ap Some (sym k.1)))
+    ]
+    | inr h ↦ elim (last_or old x m y em) [
+      | inl k ↦ absurd (fresh m (k.1 ∙ ap Some (sym h.1)))
+      | inr k ↦ h.0 ∙ sym k.0
+    ]
+  ]
+
+  pub joined_packages : IsRead x → (new : List PackageIdentity) → Joins old x new → ArePackages new
+  joined_packages read new stays = packages
+  joined_packages read new (comes fresh) = record {
+    apart = apart_more fresh;
+    read = λ n y e. elim (last_or old x n y e) [ inl h ↦ packages.read n y h.1 | inr h ↦ subst IsRead h.1 read ];
+  }
+
+pub joined_grows : (old new : List PackageIdentity) (x : PackageIdentity) → Joins old x new → Grows old new
+joined_grows old new x stays = record { more = []; is = sym (append-nil old) }
+joined_grows old new x (comes fresh) = record { more = x ∷ []; is = refl }
+
+nothing_at : {X : Type 0} (n : ℕ) (x : X) → slice_get [] n ≡ Some x → ⊥
+nothing_at zero x e = cc
+nothing_at (suc n) x e = cc
+
+pub no_packages : ArePackages []
+no_packages = record { apart = λ m n x em en. absurd (nothing_at m x em); read = λ n x e. absurd (nothing_at n x e) }
+
+-- ---- what stands where there are more
+
+pub same_grows : (ps : List PackageIdentity) → Grows ps ps
+same_grows ps = record { more = []; is = sym (append-nil ps) }
+
+pub grows_on : (a b c : List PackageIdentity) → Grows a b → Grows b c → Grows a c
+grows_on a b c x y = record { more = x.more ++ y.more; is = y.is ∙ (ap (λ l. l ++ y.more) x.is ∙ append_assoc a x.more y.more) }
+
+module _ (old new : List PackageIdentity) (grows : Grows old new) where
+  pub stands_on : (n : ℕ) (x : PackageIdentity) → slice_get old n ≡ Some x → slice_get new n ≡ Some x
+  stands_on n x e = ap (λ ps. slice_get ps n) grows.is ∙ (slice_front old grows.more n (found_below old n x e) ∙ e)
+
+  pub home_on : (path : Option Text) (home : Option (ℕ × Text)) → IsHomeOf old path home → IsHomeOf new path home
+  home_on None home h = h
+  home_on (Some path) None h = h
+  home_on (Some path) (Some home) h = (h.0, stands_on home.0 h.0 h.1, h.2)
+
+  pub homes_on : (paths : List (Option Text)) (homes : List (Option (ℕ × Text))) → AllZip (IsHomeOf old) paths homes → AllZip (IsHomeOf new) paths homes
+  homes_on [] [] h = h
+  homes_on [] (x ∷ homes) h = h
+  homes_on (p ∷ paths) [] h = h
+  homes_on (p ∷ paths) (x ∷ homes) h = (home_on p x h.0, homes_on paths homes h.1)
+
+  pub keeps_homes : ArePackages new → KeepsHomes old new
+  keeps_homes packages t homes stand = record {
+    homes = λ p path e. let at = stand.homes p path e in record {
+      package_ = at.package_;
+      name = at.name;
+      identity = at.identity;
+      home = at.home;
+      stands = stands_on at.package_ at.identity at.stands;
+      reads = at.reads;
+    };
+    apart = packages.apart;
+  }
+
+-- what was put among the packages, or left them as they were
+pub put_grows : (r : Result ℕ AllocError) (old new : List PackageTexts) (x : PackageIdentity) → OnOk r (Joins (map identity_of old) x (map identity_of new)) → OnErr r (new ≡ old) → Grows (map identity_of old) (map identity_of new)
+put_grows (Ok n) old new x joined kept = joined_grows (map identity_of old) (map identity_of new) x joined
+put_grows (Err e) old new x joined kept = subst (λ ks. Grows (map identity_of old) (map identity_of ks)) (sym kept) (same_grows (map identity_of old))

@@ -1,0 +1,36 @@
+-- What was followed of an input, as members, and what the rules of reading make of it (Component Model WIT.md, "Package Format").
+use Rattle.std.specs.Prelude.{◌≡◌, ℕ, true, List, Some}
+use Rattle.std.specs.List.{AllZip}
+use Rattle.wit_model.specs.Names.{PackageIdentity}
+use Rattle.comp_bytes.specs.Levels.{Piece}
+use Rattle.comp_bytes.specs.Reading.{◌>>=◌}
+use Rattle.comp_meaning.specs.Follow.{each}
+use Rattle.comp_meaning.specs.Reads as reads
+use Rattle.plan_meaning.specs.NumberedMembers.{Homes, HomesStand, IsMember, are_interfaces, sights_of_members}
+use Rattle.plan_meaning.specs.NumberedRules.{Fact}
+use Rattle.plan_meaning.specs.NumberedViews.{Tables, agree_in_numbers}
+use Rattle.read_parts.specs.declared.following.Followed.{Followed}
+use Rattle.read_parts.specs.Followed.{member_of_scope, scopes_of}
+use Rattle.read_parts.specs.Input.{IsFollowed}
+use Rattle.read_numbers.specs.NumberedInput.{tables_of}
+use Rattle.read_members.specs.PartMembers.{AreMembersOf}
+use Rattle.read_homes.specs.Homes.{IsHomeOf}
+use Rattle.read_exports.specs.Members.{numbered_members}
+use Rattle.read_exports.specs.declared.members.Member.{Member}
+
+-- What was followed of the sections stands, as these members, for those that the rules of reading make of it.
+pub record IsReadInput (pieces : List Piece) (x : Followed) (h : Homes) (ms : List Member) (members : List reads.Member) : Type 0 where
+  pub followed : IsFollowed pieces x
+  pub are : AreMembersOf x ms
+  pub reads : (scopes_of pieces >>= each member_of_scope) ≡ Some members
+  pub homes : HomesStand (tables_of x) h
+  pub shown : AllZip (IsMember (tables_of x) h) (numbered_members ms) members
+
+-- The views of each interface agree, and each is what an interface may have.
+pub record ViewsObey (t : Tables) (known : ℕ → Fact) (ms : List Member) : Type 0 where
+  pub agree : agree_in_numbers (sights_of_members t (numbered_members ms)) ≡ true
+  pub interfaces : are_interfaces t known (sights_of_members t (numbered_members ms)) ≡ true
+
+-- a place has the home of its path in some packages, and one without a path has none
+abbrev pub AreHomesOf : Tables → Homes → Type 0
+AreHomesOf t h = (packages : List PackageIdentity) × AllZip (IsHomeOf packages) t.paths h.homes

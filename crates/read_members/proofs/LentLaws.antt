@@ -1,0 +1,33 @@
+-- Members that are lent of those that are read.
+use Rattle.std.proofs.Common.{◌≡◌, ℕ, List, [], ◌∷◌, map}
+use Rattle.std.specs.List.{AllZip}
+use Rattle.wit_model.specs.Text.{Text}
+use Rattle.read_parts.specs.declared.members.FollowedPart.{FollowedPart}
+use Rattle.read_parts.specs.declared.members.FollowedPart.TheVariants as followed
+use Rattle.read_parts.specs.declared.members.Member.{Member as FollowedMember}
+use Rattle.plan_meaning.specs.NumberedMembers.{Homes}
+use Rattle.plan_meaning.specs.NumberedRules.{Fact}
+use Rattle.plan_meaning.specs.NumberedViews.{Tables}
+use Rattle.read_exports.specs.Members.{numbered_part}
+use Rattle.read_exports.specs.declared.members.Member.{Member}
+use Rattle.read_exports.specs.declared.members.Part.{Part}
+use Rattle.read_exports.specs.declared.members.Part.TheVariants as parts
+use Rattle.read_numbers.specs.NumberedInput.{tables_of}
+use Rattle.read_members.specs.PartMembers.{IsMemberOf, IsPartOf}
+use Rattle.read_members.specs.ReadMembers.{lent_member, parts_followed, parts_lent, IsMemberRead, IsPartRead, LentMembersAreMembers}
+
+module _ (t : Tables) (known : ℕ → Fact) (h : Homes) where
+  part_lent : (label : Text) (x : FollowedPart) (n : ℕ) (p : Part) → IsPartRead t known h label x n (numbered_part p) → parts_lent p ≡ parts_followed x → IsPartOf t x p
+  part_lent label (followed.World path s) n (parts.World w) read same = record { shows = read.0; imports = same }
+  part_lent label (followed.World path s) n (parts.Interface p v is) read same = absurd read
+  part_lent label (followed.Interface s) n (parts.World w) read same = absurd read
+  part_lent label (followed.Interface s) n (parts.Interface p v is) read same = read.0
+
+  all_lent : (xs : List FollowedMember) (ms : List Member) → AllZip (IsMemberRead t known h) xs (map lent_member ms) → AllZip (IsMemberOf t) xs ms
+  all_lent [] [] read = tt
+  all_lent [] (m ∷ ms) read = absurd read
+  all_lent (x ∷ xs) [] read = absurd read
+  all_lent (x ∷ xs) (m ∷ ms) read = ((read.0.label_is, part_lent x.label.now x.part m.package_number m.part read.0.part_is read.0.parts_are), all_lent xs ms read.1)
+
+pub lent_members_are_members : LentMembersAreMembers
+lent_members_are_members x known h ms read = all_lent (tables_of x) known h x.members.items ms read

@@ -1,0 +1,134 @@
+-- The parts at the top as they are followed, over the tables and the places of a whole input.
+use Rattle.std.specs.Prelude.{◌≡◌, ◌<◌, ◌≤◌, ℕ, ◌+◌, true, List, [], ◌∷◌, ◌++◌, length, map, slice_get, Option, Some}
+use Rattle.std.specs.List.{AllByRecursion}
+use Rattle.wit_model.specs.Text.{Text, text_of}
+use Rattle.wit_model.specs.Tree.{Form, Place}
+use Rattle.comp_bytes.specs.Levels.{PartType, wraps, shows}
+use Rattle.comp_bytes.specs.Reading.{◌>>=◌}
+use Rattle.comp_meaning.specs.Follow.{each}
+use Rattle.read_follow.specs.declared.scopes.Instance.{Instance}
+use Rattle.read_follow.specs.declared.scopes.Scope.{Scope}
+use Rattle.read_follow.specs.Defining.{Grows}
+use Rattle.read_follow.specs.Following.{AreTables}
+use Rattle.read_follow.specs.Functions.{FunctionShape}
+use Rattle.read_follow.specs.Places.{ArePlacesOf}
+use Rattle.read_follow.specs.Scopes.{meant_at, weights, world_of, ArePathsMet, IsPlacedAmong, IsPlacedWorld, IsPlaceMet, IsShownBy, IsWorld}
+use Rattle.plan_meaning.specs.PlanRules.{is_form}
+use Rattle.plan_meaning.specs.Shapes.{Shape, named_shape, node_shape}
+use Rattle.read_parts.specs.declared.members.FollowedPart.{FollowedPart}
+use Rattle.read_parts.specs.declared.members.FollowedPart.TheVariants as followed
+use Rattle.read_parts.specs.declared.members.Member.{Member}
+use Rattle.read_parts.specs.Followed.{PartScope, world, interface, labelled_scope, part_scope}
+
+abbrev pub scope_of : FollowedPart → Scope
+scope_of (followed.World path scope) = scope
+scope_of (followed.Interface scope) = scope
+
+-- its places are among the first so many
+pub record ArePlacesBelow (count : ℕ) (p : FollowedPart) : Type 0 where
+  pub home : (scope_of p).home < count
+  pub instances : (j : ℕ) (x : Instance) → slice_get (scope_of p).instances.items j ≡ Some x → x.place < count
+
+-- an instance of one of the parts is of the place
+pub record IsMetBySome (ms : List Member) (q : ℕ) : Type 0 where
+  pub number : ℕ
+  pub member : Member
+  pub at : slice_get ms number ≡ Some member
+  pub met : IsPlaceMet (scope_of member.part).instances.items q
+
+-- each place with a path is met
+abbrev pub ArePlacesMet : List (Option Text) → List Member → Type 0
+ArePlacesMet paths ms = (q : ℕ) (path : Text) → slice_get paths q ≡ Some (Some path) → IsMetBySome ms q
+
+-- each form of the table is one that a definition may have
+abbrev pub AreFormed : List Shape → Type 0
+AreFormed shapes = (n : ℕ) (form : Form) (parts : List ℕ) → slice_get shapes n ≡ Some (node_shape form parts) → is_form form parts ≡ true
+
+-- how many types a part makes at most
+abbrev pub part_weight : PartType → ℕ
+part_weight (wraps es name) = weights es
+part_weight (shows es) = weights es
+
+abbrev pub parts_weight : List (Text × PartType) → ℕ
+parts_weight [] = 0
+parts_weight (x ∷ xs) = part_weight x.1 + parts_weight xs
+
+module _ (shapes : List Shape) (fs : List FunctionShape) (paths : List (Option Text)) where
+  -- the scope of the part is one over the tables
+  abbrev pub StandsIn : FollowedPart → Type 0
+  StandsIn p = IsWorld (world_of shapes fs paths (scope_of p))
+
+  -- what the part stands for
+  abbrev pub part_meant : (ℕ → Place) → FollowedPart → PartScope
+  part_meant place (followed.World path scope) = world (text_of path) (meant_at place (world_of shapes fs paths scope))
+  part_meant place (followed.Interface scope) = interface (meant_at place (world_of shapes fs paths scope))
+
+  abbrev pub member_meant : (ℕ → Place) → Member → Text × PartScope
+  member_meant place m = (m.label.now, part_meant place m.part)
+
+  abbrev pub MembersStand : List Member → Type 0
+  MembersStand ms = AllByRecursion (λ (m : Member). StandsIn m.part) ms
+
+  -- ---- names in their places
+
+  -- one of the first so many parts shows the name, which is this part
+  pub record IsShownBySome (ms : List Member) (upto q : ℕ) (name : Text) (part : ℕ) : Type 0 where
+    pub number : ℕ
+    pub below : number < upto
+    pub member : Member
+    pub at : slice_get ms number ≡ Some member
+    pub by : IsShownBy (world_of shapes fs paths (scope_of member.part)) q name part
+
+  -- A member behind so many others. Names stand in their places; those that stood in the table before it, in its first types, are shown by the others,
+  -- and the places of these are among the first so many.
+  pub record IsPlacedMember (ms : List Member) (i : ℕ) (m : Member) : Type 0 where
+    pub base : List Shape
+    pub count : ℕ
+    pub till : ℕ
+    pub placed : IsPlacedAmong base count till (world_of shapes fs paths (scope_of m.part))
+    pub names : (n q : ℕ) (name : Text) → slice_get base n ≡ Some (named_shape q name) → IsShownBySome ms i q name (14 + n)
+    pub earlier : (k : ℕ) (x : Member) → slice_get ms k ≡ Some x → k < i → ArePlacesBelow count x.part
+
+  abbrev pub AreMembersPlaced : List Member → Type 0
+  AreMembersPlaced ms = (i : ℕ) (m : Member) → slice_get ms i ≡ Some m → IsPlacedMember ms i m
+
+  -- each name of the table is shown
+  abbrev pub AreNamesShown : List Member → Type 0
+  AreNamesShown ms = (n q : ℕ) (name : Text) → slice_get shapes n ≡ Some (named_shape q name) → IsShownBySome ms (length ms) q name (14 + n)
+
+-- ---- one part
+
+-- The tables and the places grow, by no more types than its entries make, names stand in their places, new places with a path are met, and the part
+-- stands for what its type at the top does.
+pub record IsPartFollowed (shapes : List Shape) (fs : List FunctionShape) (paths : List (Option Text)) (raw : PartType)
+    (more : List Shape) (more_fs : List FunctionShape) (more_paths : List (Option Text)) (p : FollowedPart) : Type 0 where
+  pub stands : StandsIn more more_fs more_paths p
+  pub shapes_grow : Grows shapes more
+  pub signatures_grow : Grows fs more_fs
+  pub paths_grow : Grows paths more_paths
+  pub count : length more ≤ length shapes + part_weight raw
+  pub placed : IsPlacedWorld shapes (length paths) (world_of more more_fs more_paths (scope_of p))
+  pub met : ArePathsMet (length paths) more_paths (scope_of p).instances.items
+  pub shows : (place : ℕ → Place) → ArePlacesOf more_paths place → part_scope raw ≡ Some (part_meant more more_fs more_paths place p)
+
+-- ---- all parts
+
+-- what was found, with these in front
+abbrev pub with_front : {A : Type 0} → List A → Option (List A) → Option (List A)
+with_front front found = found >>= λ rest. Some (front ++ rest)
+
+-- Some parts have been followed, over so many types that were there before. Names stand in their places, and each is shown; each place with a path is
+-- met; forms are as definitions have them. Those that are left decide what all stand for.
+pub record AreFollowedTo (before : ℕ) (raws left : List (Text × PartType)) (shapes : List Shape) (fs : List FunctionShape) (paths : List (Option Text)) (ms : List Member) : Type 0 where
+  pub tables : AreTables (length paths) shapes fs
+  pub stand : MembersStand shapes fs paths ms
+  pub count : length shapes + parts_weight left ≤ before + parts_weight raws
+  pub placed : AreMembersPlaced shapes fs paths ms
+  pub names : AreNamesShown shapes fs paths ms
+  pub met : ArePlacesMet paths ms
+  pub formed : AreFormed shapes
+  pub shows : (place : ℕ → Place) → ArePlacesOf paths place → with_front (map (member_meant shapes fs paths place) ms) (each labelled_scope left) ≡ each labelled_scope raws
+
+-- All parts are followed.
+abbrev pub AreFollowed : ℕ → List (Text × PartType) → List Shape → List FunctionShape → List (Option Text) → List Member → Type 0
+AreFollowed before raws shapes fs paths ms = AreFollowedTo before raws [] shapes fs paths ms

@@ -1,6 +1,0 @@
-use Rattle.read_plan.proofs.PackageMeans.{package_means}
-use Rattle.read_plan.proofs.WorldAlone.{world_means}
-use Rattle.read_plan.proofs.laws.plans_are_meant.Goals as goal
-
-pub returns : goal.returns
-returns c = record { package_ = package_means; world = world_means }

@@ -1,0 +1,83 @@
+-- Names of resources, added to a set one by one.
+use Rattle.std.proofs.Common.{◌≡◌, refl, sym, ap, ◌∙◌, ℕ, ◌+◌, ◌<◌, ◌≤◌, Bool, true, false, ◌&&◌, ◌||◌, cond, List, [], ◌∷◌, ◌++◌, map, drop, length, get_or}
+use Rattle.std.proofs.Math.ListN.{drop_of_length-le}
+use Rattle.std.proofs.lemmas.List.{drop_more, map-append}
+use Rattle.std.proofs.lemmas.List.Folds.{list_any-append}
+use Rattle.std.specs.Borrow.{Bor}
+use Rattle.std.specs.List.{list_any}
+use Rattle.wit_model.specs.Text.{Text, text_eq}
+use Rattle.plan_meaning.specs.NumberedRules.{is_no_part, resources_of}
+use Rattle.read_rules.specs.declared.views.ViewType.{ViewType}
+use Rattle.read_rules.specs.Tables.{now_of}
+use Rattle.read_rules.specs.Views.{numbered_type}
+use Rattle.read_rules.proofs.TextLaws.{same_text}
+
+or_no : (a b : Bool) → b ≡ false → a ≡ (a || b)
+or_no true b e = refl
+or_no false b e = sym e
+
+absorbed : (a b : Bool) → (b ≡ true → a ≡ true) → a ≡ (a || b)
+absorbed true b h = refl
+absorbed false true h = h refl
+absorbed false false h = refl
+
+or_line : (a b c : Bool) → ((a || b) || c) ≡ (a || (b || c))
+or_line true b c = refl
+or_line false b c = refl
+
+or_false : (a : Bool) → (a || false) ≡ a
+or_false true = refl
+or_false false = refl
+
+second_of : (a b : Bool) → b ≡ true → (a || b) ≡ true
+second_of true b q = refl
+second_of false b q = q
+
+-- what passes is found where it stands
+stands : (test : Text → Bool) (a : Text) (ks : List (Bor (List ℕ))) → list_any (λ o. text_eq a o.now) ks ≡ true → test a ≡ true → list_any test (map now_of ks) ≡ true
+stands test a [] among passes = absurd (cc)
+stands test a (k ∷ ks) among passes = go (λ later. stands test a ks later passes) (text_eq a k.now) refl among
+  where
+    go : (list_any (λ o. text_eq a o.now) ks ≡ true → list_any test (map now_of ks) ≡ true) → (v : Bool) → text_eq a k.now ≡ v → (v || list_any (λ o. text_eq a o.now) ks) ≡ true → (test k.now || list_any test (map now_of ks)) ≡ true
+    go again true e h = ap (λ b. b || list_any test (map now_of ks)) (ap test (sym (same_text a k.now e)) ∙ passes)
+    go again false e h = second_of (test k.now) (list_any test (map now_of ks)) (again h)
+
+pub nothing_added : (test : Text → Bool) (ks : List (Bor (List ℕ))) (name : Bor (List ℕ)) (r : Bool) → r ≡ false → list_any test (map now_of ks) ≡ (list_any test (map now_of ks) || (r && test name.now))
+nothing_added test ks name r e = or_no (list_any test (map now_of ks)) (r && test name.now) (ap (λ b. b && test name.now) e)
+
+pub name_added : (test : Text → Bool) (ks new : List (Bor (List ℕ))) (name : Bor (List ℕ)) (r : Bool) → r ≡ true → new ≡ cond (list_any (λ o. text_eq name.now o.now) ks) ks (ks ++ name ∷ [])
+    → list_any test (map now_of new) ≡ (list_any test (map now_of ks) || (r && test name.now))
+name_added test ks new name r e added = go (list_any (λ o. text_eq name.now o.now) ks) refl ∙ ap (λ b. list_any test (map now_of ks) || (b && test name.now)) (sym e)
+  where
+    go : (v : Bool) → list_any (λ o. text_eq name.now o.now) ks ≡ v → list_any test (map now_of new) ≡ (list_any test (map now_of ks) || test name.now)
+    go true h =
+        ap (λ xs. list_any test (map now_of xs)) (added ∙ ap (λ b. cond b ks (ks ++ name ∷ [])) h)
+        ∙ absorbed (list_any test (map now_of ks)) (test name.now) (stands test name.now ks h)
+    go false h =
+        ap (λ xs. list_any test (map now_of xs)) (added ∙ ap (λ b. cond b ks (ks ++ name ∷ [])) h)
+        ∙ (ap (list_any test) (map-append now_of ks (name ∷ []))
+        ∙ (list_any-append test (map now_of ks) (name.now ∷ []) ∙ ap (λ b. list_any test (map now_of ks) || b) (or_false (test name.now))))
+
+one_or_none : (test : Text → Bool) (name : Text) (others : List Text) (v : Bool) → list_any test (cond v (name ∷ others) others) ≡ ((v && test name) || list_any test others)
+one_or_none test name others true = refl
+one_or_none test name others false = refl
+
+first_resource : (test : Text → Bool) (x : ViewType) (xs : List ViewType) → list_any test (resources_of (numbered_type x ∷ map numbered_type xs)) ≡ ((is_no_part x.declared && test x.name.now) || list_any test (resources_of (map numbered_type xs)))
+first_resource test x xs = one_or_none test x.name.now (resources_of (map numbered_type xs)) (is_no_part x.declared)
+
+module _ (test : Text → Bool) (xs : List ViewType) (i : ℕ) where
+  abbrev left : ℕ → Bool
+  left n = list_any test (resources_of (map numbered_type (drop n xs)))
+
+  pub resource_turn : (d : ViewType) → i < length xs → (old new : List Text) (r : Bool) → r ≡ is_no_part (get_or xs i d).declared → list_any test new ≡ (list_any test old || (r && test (get_or xs i d).name.now))
+      → {v : Bool} → (list_any test old || left i) ≡ v → (list_any test new || left (i + 1)) ≡ v
+  resource_turn d more old new r is added kept =
+      let x = get_or xs i d in
+      let first : left i ≡ ((r && test x.name.now) || left (i + 1)) =
+      ap (λ ys. list_any test (resources_of (map numbered_type ys))) (drop_more xs i d more)
+      ∙ (first_resource test x (drop (i + 1) xs) ∙ ap (λ b. (b && test x.name.now) || left (i + 1)) (sym is)) in
+      ap (λ b. b || left (i + 1)) added ∙ (or_line (list_any test old) (r && test x.name.now) (left (i + 1)) ∙ (ap (λ b. list_any test old || b) (sym first) ∙ kept))
+
+  pub resources_end : (ks : List Text) → length xs ≤ i → {v : Bool} → (list_any test ks || left i) ≡ v → list_any test ks ≡ v
+  resources_end ks past kept =
+      sym (or_false (list_any test ks)) ∙ (ap (λ ys. list_any test ks || list_any test (resources_of (map numbered_type ys))) (sym (drop_of_length-le xs past)) ∙ kept)

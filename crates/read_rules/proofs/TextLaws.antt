@@ -1,0 +1,87 @@
+-- Texts, none of which stands twice, and tests of one text among several.
+use Rattle.std.proofs.Common.{◌≡◌, refl, sym, ap, ◌∙◌, ℕ, ◌+◌, ◌<◌, ◌≤◌, Bool, true, false, not, ◌&&◌, ◌||◌, cond, List, [], ◌∷◌, ◌++◌, map, drop, length, get_or, Result, Ok, Err, IfOk}
+use Rattle.std.specs.Borrow.{Bor}
+use Rattle.std.specs.List.{list_all, list_any}
+use Rattle.std.proofs.lemmas.Slice.Eq.{bytes_eq-Decides}
+use Rattle.wit_model.specs.Text.{Text, text_eq}
+use Rattle.wit_model.specs.Names.{is_label}
+use Rattle.wit_model.specs.Rules.{are_distinct}
+use Rattle.wit_model.proofs.Distinct.{adds_new, adds_distinct, new_turn, old_turn, last_turn}
+use Rattle.comp_meaning.specs.Rules.{are_labels, distinct}
+use Rattle.read_rules.specs.Tables.{now_of, param_of}
+use Rattle.read_rules.proofs.PlaceLaws.{same_default}
+
+distinct_same : (ts : List Text) → are_distinct ts ≡ distinct ts
+distinct_same [] = refl
+distinct_same (t ∷ ts) = ap (λ b. not (list_any (text_eq t) ts) && b) (distinct_same ts)
+
+adds_all : (ts : List Text) → adds_new text_eq [] ts ≡ distinct ts
+adds_all ts = adds_distinct ts ∙ distinct_same ts
+
+module _ (texts : List (Bor (List ℕ))) (i : ℕ) (d : Bor (List ℕ)) (more : i < length texts) (ks : List (Bor (List ℕ))) (r : Bool)
+    (tells : r ≡ not (list_any (λ o. text_eq (get_or texts i d).now o.now) ks))
+    (kept : adds_new text_eq (map now_of ks) (drop i (map now_of texts)) ≡ adds_new text_eq [] (map now_of texts)) where
+  pub text_seen : r ≡ false → false ≡ distinct (map now_of texts)
+  text_seen old =
+      let x = get_or texts i d in
+      sym (old_turn text_eq now_of now_of texts i x ks x r more (same_default texts i d x more) refl tells old) ∙ (kept ∙ adds_all (map now_of texts))
+
+  pub text_new : (new : List (Bor (List ℕ))) → r ≡ true → new ≡ cond (list_any (λ o. text_eq (get_or texts i d).now o.now) ks) ks (ks ++ get_or texts i d ∷ [])
+      → adds_new text_eq (map now_of new) (drop (i + 1) (map now_of texts)) ≡ adds_new text_eq [] (map now_of texts)
+  text_new new fresh added =
+      let x = get_or texts i d in
+      new_turn text_eq now_of now_of texts i x ks x new r (adds_new text_eq [] (map now_of texts)) more (same_default texts i d x more) refl tells fresh added kept
+
+pub texts_all : (texts : List (Bor (List ℕ))) (i : ℕ) (ks : List (Bor (List ℕ))) → length texts ≤ i → adds_new text_eq (map now_of ks) (drop i (map now_of texts)) ≡ adds_new text_eq [] (map now_of texts) → true ≡ distinct (map now_of texts)
+texts_all texts i ks past kept = sym (last_turn text_eq now_of texts i (map now_of ks) past) ∙ (kept ∙ adds_all (map now_of texts))
+
+-- ---- one text among several
+
+pub same_text : (a b : Text) → text_eq a b ≡ true → a ≡ b
+same_text a b h = (bytes_eq-Decides a b).0 h
+
+one_or : (h q v : Bool) → v ≡ (h && q) → (q || v) ≡ q
+one_or true true v e = refl
+one_or true false v e = e
+one_or false true v e = refl
+one_or false false v e = e
+
+-- of several texts, one alone can be this one
+pub any_same : (a : Text) (q : Text → Bool) (rs : List Text) → list_any (λ r. text_eq a r && q r) rs ≡ (list_any (text_eq a) rs && q a)
+any_same a q [] = refl
+any_same a q (r ∷ rs) = go (any_same a q rs) (text_eq a r) refl
+  where
+    go : list_any (λ x. text_eq a x && q x) rs ≡ (list_any (text_eq a) rs && q a) → (v : Bool) → text_eq a r ≡ v → ((v && q r) || list_any (λ x. text_eq a x && q x) rs) ≡ ((v || list_any (text_eq a) rs) && q a)
+    go again true e =
+        ap (λ t. q t || list_any (λ x. text_eq a x && q x) rs) (sym (same_text a r e))
+        ∙ one_or (list_any (text_eq a) rs) (q a) (list_any (λ x. text_eq a x && q x) rs) again
+    go again false e = again
+
+exchange : (a b c d : Bool) → ((a || b) || (c || d)) ≡ ((a || c) || (b || d))
+exchange true b c d = refl
+exchange false true true d = refl
+exchange false true false d = refl
+exchange false false c d = refl
+
+pub any_either : {A : Type 0} (p q : A → Bool) (xs : List A) → list_any (λ x. p x || q x) xs ≡ (list_any p xs || list_any q xs)
+any_either p q [] = refl
+any_either p q (x ∷ xs) = ap (λ b. (p x || q x) || b) (any_either p q xs) ∙ exchange (p x) (q x) (list_any p xs) (list_any q xs)
+
+pub any_none : {A : Type 0} (p : A → Bool) → ((x : A) → p x ≡ false) → (xs : List A) → list_any p xs ≡ false
+any_none p none [] = refl
+any_none p none (x ∷ xs) = ap (λ b. b || list_any p xs) (none x) ∙ any_none p none xs
+
+-- ---- labels
+
+pub labels_good : {E : Type 0} (r : Result Bool E) (ls : List Text) → list_all is_label ls ≡ true → IfOk r (λ b. b ≡ distinct ls) → IfOk r (λ b. b ≡ are_labels ls)
+labels_good (Ok b) ls all h = h ∙ sym (ap (λ c. c && distinct ls) all)
+labels_good (Err e) ls all h = tt
+
+first_names : (ps : List (Bor (List ℕ) × ℕ)) → map now_of (map (λ x. x.0) ps) ≡ map (λ x. x.0) (map param_of ps)
+first_names [] = refl
+first_names (p ∷ ps) = ap (λ ts. p.0.now ∷ ts) (first_names ps)
+
+pub named_labels : {E : Type 0} (r : Result Bool E) (ps : List (Bor (List ℕ) × ℕ)) (names : List (Bor (List ℕ))) → names ≡ map (λ x. x.0) ps
+    → IfOk r (λ b. b ≡ are_labels (map now_of names)) → IfOk r (λ b. b ≡ are_labels (map (λ x. x.0) (map param_of ps)))
+named_labels (Ok b) ps names e h = h ∙ ap are_labels (ap (map now_of) e ∙ first_names ps)
+named_labels (Err x) ps names e h = tt

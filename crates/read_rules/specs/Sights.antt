@@ -1,0 +1,24 @@
+-- Views of interfaces by their places, as the numbers and texts that they stand for.
+use Rattle.std.specs.Prelude.{◌≡◌, ℕ, Bool, List, ◌++◌, map}
+use Rattle.plan_meaning.specs.NumberedRules.{is_interface}
+use Rattle.plan_meaning.specs.NumberedViews.{NumberedSight, NumberedView}
+use Rattle.read_rules.specs.declared.scopes.Instance.{Instance}
+use Rattle.read_rules.specs.declared.sights.Sight.{Sight}
+use Rattle.read_rules.specs.declared.tables.Tables.{Tables}
+use Rattle.read_rules.specs.Tables.{known_in, numbered_tables}
+use Rattle.read_rules.specs.Views.{numbered_view}
+
+abbrev pub numbered_sight : Sight → NumberedSight
+numbered_sight s = record { place = s.place; view = numbered_view s.view; whole = s.whole }
+
+-- the view is one that the interface of its place may show
+abbrev pub shows_interface : Tables → NumberedSight → Bool
+shows_interface t s = is_interface (numbered_tables t) (known_in t) s.place s.view
+
+-- the place of an instance and what it shows
+abbrev pub placed_view : Instance → ℕ × NumberedView
+placed_view i = (i.place, numbered_view i.view)
+
+-- The new sights are the old ones, and these behind them.
+abbrev pub AreBehind : List Sight → List NumberedSight → List Sight → Type 0
+AreBehind old added new = map numbered_sight new ≡ map numbered_sight old ++ added

@@ -1,0 +1,172 @@
+-- Lists by the numbers of their items, and what is found in each.
+use Rattle.std.proofs.Common.{◌≡◌, ◌⊎◌, inl, inr, refl, sym, ap, subst, ◌∙◌, ℕ, zero, suc, ◌<◌, ◌≤◌, arith, take, length-append, Bool, true, false, not, ◌||◌, List, [], ◌∷◌, ◌++◌, map, length, option_map, Option, Some, None, slice_get, IfSome}
+use Rattle.std.specs.List.{AllByRecursion, list_any}
+use Rattle.std.proofs.lemmas.Bool.{not-true}
+use Rattle.std.proofs.lemmas.Option.{slice_get_within, slice_get-map}
+use Rattle.wit_model.specs.Text.{Text, text_eq}
+use Rattle.wit_model.proofs.Lists.{first_true, second_true}
+use Rattle.wit_model.proofs.VersionLaws.{same_text}
+use Rattle.comp_bytes.specs.Reading.{◌>>=◌}
+use Rattle.comp_bytes.proofs.PartLaws.{some_is}
+use Rattle.comp_bytes.proofs.Readers.{bind_some}
+use Rattle.comp_meaning.specs.Follow.{each, given, is_filled}
+use Rattle.comp_meaning.specs.Rules.{distinct}
+use Rattle.read_shown.specs.Trees.{AllAt}
+
+-- an item of the front
+pub at_front : {A : Type 0} (xs ys : List A) (n : ℕ) (x : A) → slice_get xs n ≡ Some x → slice_get (xs ++ ys) n ≡ Some x
+at_front [] ys n x e = absurd cc
+at_front (z ∷ xs) ys zero x e = e
+at_front (z ∷ xs) ys (suc n) x e = at_front xs ys n x e
+
+-- an item of the front, or the last
+pub at_end : {A : Type 0} (xs : List A) (x y : A) (n : ℕ) → slice_get (xs ++ x ∷ []) n ≡ Some y → (slice_get xs n ≡ Some y) ⊎ ((n ≡ length xs) × (x ≡ y))
+at_end [] x y zero e = inr (refl, some_is x y e)
+at_end [] x y (suc n) e = absurd cc
+at_end (z ∷ zs) x y zero e = inl e
+at_end (z ∷ zs) x y (suc n) e = elim (at_end zs x y n e) [ inl before ↦ inl before | inr last ↦ inr (ap suc last.0, last.1) ]
+
+pub in_front : {A : Type 0} (xs : List A) (k n : ℕ) (x : A) → slice_get (take k xs) n ≡ Some x → slice_get xs n ≡ Some x
+in_front [] zero n x e = absurd cc
+in_front [] (suc k) n x e = absurd cc
+in_front (y ∷ xs) zero n x e = absurd cc
+in_front (y ∷ xs) (suc k) zero x e = e
+in_front (y ∷ xs) (suc k) (suc n) x e = in_front xs k n x e
+
+-- a list that others may come behind
+pub record Front {A : Type 0} (xs ys : List A) : Type 0 where
+  pub kept : (n : ℕ) (x : A) → slice_get xs n ≡ Some x → slice_get ys n ≡ Some x
+  pub long : length xs ≤ length ys
+
+pub front_same : {A : Type 0} (xs : List A) → Front xs xs
+front_same xs = record { kept = λ n x e. e; long = omega arith }
+
+pub front_more : {A : Type 0} (xs ys : List A) → Front xs (xs ++ ys)
+front_more xs ys = record { kept = at_front xs ys; long = (let l = length-append xs ys in omega (arith, l)) }
+
+pub none_at : {A : Type 0} (P : ℕ → A → Type 0) → AllAt P []
+none_at P n x e = absurd cc
+
+pub all_more : {A : Type 0} (P : ℕ → A → Type 0) (xs : List A) (x : A) → AllAt P xs → P (length xs) x → AllAt P (xs ++ x ∷ [])
+all_more P xs x all here n y e = elim (at_end xs x y n e) [
+  | inl before ↦ all n y before
+  | inr last ↦ subst (P n) last.1 (subst (λ (k : ℕ). P k x) (sym last.0) here)
+]
+
+pub all_weaker : {A : Type 0} (P Q : ℕ → A → Type 0) (xs : List A) → ((n : ℕ) (x : A) → n < length xs → P n x → Q n x) → AllAt P xs → AllAt Q xs
+all_weaker P Q xs weaker all n x e = weaker n x (slice_get_within xs n x e) (all n x e)
+
+pub recursion_weaker : {A : Type 0} (P Q : A → Type 0) → ((x : A) → P x → Q x) → (xs : List A) → AllByRecursion P xs → AllByRecursion Q xs
+recursion_weaker P Q weaker [] all = tt
+recursion_weaker P Q weaker (x ∷ xs) all = (weaker x all.0, recursion_weaker P Q weaker xs all.1)
+
+pub some_weaker : {A : Type 0} (P Q : A → Type 0) → ((x : A) → P x → Q x) → (o : Option A) → IfSome o P → IfSome o Q
+some_weaker P Q weaker None h = tt
+some_weaker P Q weaker (Some x) h = weaker x h
+
+-- ---- what is found for each
+
+module _ {A B : Type 0} (f : A → Option B) where
+  pub each_found : (P : B → Type 0) → ((x : A) (y : B) → f x ≡ Some y → P y) → (xs : List A) (ys : List B) → each f xs ≡ Some ys → AllByRecursion P ys
+  each_found P found [] ys e = subst (AllByRecursion P) (some_is [] ys e) tt
+  each_found P found (x ∷ xs) ys e =
+      let first = bind_some (f x) (λ y. each f xs >>= λ zs. Some (y ∷ zs)) ys e in
+      let more = bind_some (each f xs) (λ zs. Some (first.0 ∷ zs)) ys first.2 in
+      subst (AllByRecursion P) (some_is (first.0 ∷ more.0) ys more.2) (found x first.0 first.1, each_found P found xs more.0 more.1)
+
+  pub each_filled : (xs : List A) (ys : List B) → each f xs ≡ Some ys → is_filled xs ≡ true → is_filled ys ≡ true
+  each_filled [] ys e h = absurd cc
+  each_filled (x ∷ xs) ys e h =
+      let first = bind_some (f x) (λ y. each f xs >>= λ zs. Some (y ∷ zs)) ys e in
+      let more = bind_some (each f xs) (λ zs. Some (first.0 ∷ zs)) ys first.2 in
+      ap is_filled (sym (some_is (first.0 ∷ more.0) ys more.2))
+
+  pub given_found : (P : B → Type 0) → ((x : A) (y : B) → f x ≡ Some y → P y) → (o : Option A) (p : Option B) → given f o ≡ Some p → IfSome p P
+  given_found P found None p e = subst (λ q. IfSome q P) (some_is None p e) tt
+  given_found P found (Some x) p e =
+      let one = bind_some (f x) (λ y. Some (Some y)) p e in
+      subst (λ q. IfSome q P) (some_is (Some one.0) p one.2) (found x one.0 one.1)
+
+-- ---- lists in two parts
+
+pub front_get : {A : Type 0} (xs ys : List A) (n : ℕ) → n < length xs → slice_get (xs ++ ys) n ≡ slice_get xs n
+front_get [] ys n h = absurd (omega (arith, h))
+front_get (x ∷ xs) ys zero h = refl
+front_get (x ∷ xs) ys (suc n) h = front_get xs ys n (omega (arith, h))
+
+pub middle_get : {A : Type 0} (xs : List A) (x : A) (ys : List A) → slice_get (xs ++ x ∷ ys) (length xs) ≡ Some x
+middle_get [] x ys = refl
+middle_get (z ∷ xs) x ys = middle_get xs x ys
+
+-- a list that isn't empty has a last item
+pub last_of : {A : Type 0} (x : A) (xs : List A) → (front : List A) × (last : A) × (x ∷ xs ≡ front ++ last ∷ [])
+last_of x [] = ([], x, refl)
+last_of x (y ∷ xs) = let more = last_of y xs in (x ∷ more.0, more.1, ap (λ zs. x ∷ zs) more.2)
+
+-- ---- what stands in a list
+
+pub mapped_get : {A B : Type 0} (f : A → B) (xs : List A) (n : ℕ) (x : A) → slice_get xs n ≡ Some x → slice_get (map f xs) n ≡ Some (f x)
+mapped_get f xs n x e = slice_get-map f xs n ∙ ap (option_map f) e
+
+-- an item of the mapped list is the image of one
+pub unmapped_get : {A B : Type 0} (f : A → B) (xs : List A) (n : ℕ) (y : B) → slice_get (map f xs) n ≡ Some y → (x : A) × (slice_get xs n ≡ Some x) × (f x ≡ y)
+unmapped_get f [] n y e = absurd cc
+unmapped_get f (x ∷ xs) zero y e = (x, refl, some_is (f x) y e)
+unmapped_get f (x ∷ xs) (suc n) y e = unmapped_get f xs n y e
+
+pub any_at : {A : Type 0} (test : A → Bool) (xs : List A) (n : ℕ) (x : A) → slice_get xs n ≡ Some x → test x ≡ true → list_any test xs ≡ true
+any_at test [] n x e h = absurd cc
+any_at test (y ∷ xs) zero x e h = ap (λ b. b || list_any test xs) (ap test (some_is y x e) ∙ h)
+any_at test (y ∷ xs) (suc n) x e h = ap (λ b. test y || b) (any_at test xs n x e h) ∙ or_true (test y)
+  where
+    or_true : (b : Bool) → (b || true) ≡ true
+    or_true true = refl
+    or_true false = refl
+
+-- no text stands twice
+pub twice : (xs : List Text) → distinct xs ≡ true → (i j : ℕ) (x : Text) → i < j → slice_get xs i ≡ Some x → slice_get xs j ≡ Some x → ⊥
+twice [] apart i j x less e f = cc
+twice (y ∷ xs) apart i zero x less e f = omega (arith, less)
+twice (y ∷ xs) apart zero (suc j) x less e f =
+    let none = not-true (list_any (text_eq y) xs) (first_true (not (list_any (text_eq y) xs)) (distinct xs) apart) in
+    let there = any_at (text_eq y) xs j x f (same_text y x (some_is y x e)) in
+    cc
+twice (y ∷ xs) apart (suc i) (suc j) x less e f = twice xs (second_true (not (list_any (text_eq y) xs)) (distinct xs) apart) i j x (omega (arith, less)) e f
+
+-- where no text stands twice, it stands at one number
+pub one_place : (xs : List Text) → distinct xs ≡ true → (i j : ℕ) (x : Text) → slice_get xs i ≡ Some x → slice_get xs j ≡ Some x → i ≡ j
+one_place xs apart i j x e f = by (le_or_gt i j)
+  where
+    le_or_gt : (a b : ℕ) → (a < b) ⊎ ((a ≡ b) ⊎ (b < a))
+    le_or_gt a b = grind arith
+
+    by : (i < j) ⊎ ((i ≡ j) ⊎ (j < i)) → i ≡ j
+    by (inl less) = absurd (twice xs apart i j x less e f)
+    by (inr (inl same)) = same
+    by (inr (inr more)) = absurd (twice xs apart j i x more f e)
+
+-- the first that is found
+abbrev pub or_else : {A : Type 0} → Option A → Option A → Option A
+or_else None rest = rest
+or_else (Some x) rest = Some x
+
+abbrev pub first_some : {A B : Type 0} → (A → Option B) → List A → Option B
+first_some f [] = None
+first_some f (x ∷ xs) = or_else (f x) (first_some f xs)
+
+pub first_found : {A B : Type 0} (f : A → Option B) (xs : List A) (y : B) → first_some f xs ≡ Some y → (n : ℕ) × (x : A) × (slice_get xs n ≡ Some x) × (f x ≡ Some y)
+first_found f [] y e = absurd cc
+first_found {B = B} f (x ∷ xs) y e = by (f x) refl e (first_found f xs y)
+  where
+    by : (o : Option B) → f x ≡ o → or_else o (first_some f xs) ≡ Some y → (first_some f xs ≡ Some y → (n : ℕ) × (w : _) × (slice_get xs n ≡ Some w) × (f w ≡ Some y)) → (n : ℕ) × (w : _) × (slice_get (x ∷ xs) n ≡ Some w) × (f w ≡ Some y)
+    by None is h rest = let r = rest h in (suc r.0, r.1, r.2, r.3)
+    by (Some z) is h rest = (zero, x, refl, is ∙ h)
+
+pub first_there : {A B : Type 0} (f : A → Option B) (xs : List A) (n : ℕ) (x : A) (y : B) → slice_get xs n ≡ Some x → f x ≡ Some y → (z : B) × (first_some f xs ≡ Some z)
+first_there f [] n x y e h = absurd cc
+first_there f (w ∷ xs) zero x y e h = (y, ap (λ o. or_else o (first_some f xs)) (ap f (some_is w x e) ∙ h))
+first_there {B = B} f (w ∷ xs) (suc n) x y e h = by (f w) (first_there f xs n x y e h)
+  where
+    by : (o : Option B) → (z : B) × (first_some f xs ≡ Some z) → (z : B) × (or_else o (first_some f xs) ≡ Some z)
+    by None rest = rest
+    by (Some z) rest = (z, refl)

@@ -1,0 +1,78 @@
+-- What is well-formed in a scope stays so where more instances and more imports are seen.
+use Rattle.std.proofs.Common.{ℕ, ◌≤◌, arith, Bool, List, length}
+use Rattle.wit_model.specs.Text.{Text}
+use Rattle.wit_model.specs.Tree.{Place, Tree, Declaration}
+use Rattle.comp_meaning.specs.Follow.{Slot, Instance, Seen, Shown, place_of}
+use Rattle.read_shown.specs.Trees.{AllAt, SlotStands}
+use Rattle.read_shown.specs.Views.{ViewStands}
+use Rattle.read_shown.specs.Scopes.{IsShownBefore, IsImported, IsDeclared, a_resource, a_value, own_name, name_of_instance, IsMetInScope, by_import, by_instance, ShownStands}
+use Rattle.read_shown.proofs.Lists.{all_weaker, Front}
+use Rattle.read_shown.proofs.Views.{view_wider}
+use Rattle.read_shown.proofs.Wider.{declaration_wider, signature_wider, slot_wider}
+
+pub shown_wider : (instances more : List Instance) → Front instances more → (k m : ℕ) → k ≤ m → (place : Place) (name : Text) (b : Bool) → IsShownBefore instances k place name b → IsShownBefore more m place name b
+shown_wider instances more front k m le place name b s = record {
+  number = s.number;
+  below = (let below = s.below in omega (arith, below, le));
+  shown = s.shown;
+  at = front.kept s.number s.shown s.at;
+  path = s.path;
+  of_path = s.of_path;
+  stands = s.stands;
+  shows = s.shows;
+}
+
+imported_wider : (imports more : List Seen) → Front imports more → (k m : ℕ) → k ≤ m → (name : Text) (d : Declaration) → IsImported imports k name d → IsImported more m name d
+imported_wider imports more front k m le name d i = record {
+  number = i.number;
+  below = (let below = i.below in omega (arith, below, le));
+  seen = i.seen;
+  at = front.kept i.number i.seen i.at;
+  key = i.key;
+  shown = i.shown;
+}
+
+same_number : (n : ℕ) → n ≤ n
+same_number n = omega arith
+
+module _ (instances more_instances : List Instance) (imports more_imports : List Seen) (fi : Front instances more_instances) (fm : Front imports more_imports) where
+  pub declared_wider : {count : ℕ} {name : Text} {b : Bool} (more : ℕ) → count ≤ more → IsDeclared instances imports count name b → IsDeclared more_instances more_imports more name b
+  unfolding imported_wider
+  declared_wider {count} {name} more le (a_resource by) = a_resource (imported_wider imports more_imports fm count more le name Declaration.resource by)
+  declared_wider {count} {name} more le (a_value t no_name by) = a_value t no_name (imported_wider imports more_imports fm count more le name (Declaration.type_ t) by)
+  declared_wider {count} {name} more le (own_name other by of) =
+      own_name other (imported_wider imports more_imports fm count more le name (Declaration.type_ (Tree.named Place.here other)) by) (declared_wider by.number (same_number by.number) of)
+  declared_wider {count} {name} {b} more le (name_of_instance path other by s) =
+      name_of_instance path other (imported_wider imports more_imports fm count more le name (Declaration.type_ (Tree.named (Place.of_interface path) other)) by)
+      (shown_wider instances more_instances fi (length instances) (length more_instances) fi.long (Place.of_interface path) other b s)
+
+  pub met_wider : (k m : ℕ) → k ≤ m → (place : Place) (name : Text) (b : Bool) → IsMetInScope instances imports k place name b → IsMetInScope more_instances more_imports m place name b
+  met_wider k m le place name b (by_import here d) = by_import here (declared_wider m le d)
+  met_wider k m le place name b (by_instance s) = by_instance (shown_wider instances more_instances fi (length instances) (length more_instances) fi.long place name b s)
+
+  pub shown_stands_wider : (k m : ℕ) → k ≤ m → (s : Shown) → ShownStands instances imports k s → ShownStands more_instances more_imports m s
+  shown_stands_wider k m le (Shown.instance key view) h = (h.0, fi.kept h.0 _ h.1)
+  shown_stands_wider k m le (Shown.function f) h = signature_wider (IsMetInScope instances imports k) (IsMetInScope more_instances more_imports m) (met_wider k m le) f h
+  shown_stands_wider k m le (Shown.declares d) h = (h.0, declaration_wider (IsMetInScope instances imports k) (IsMetInScope more_instances more_imports m) (met_wider k m le) d h.0 h.1)
+
+  pub slots_wider : (ss : List Slot) → AllAt (λ n (s : Slot). SlotStands (IsMetInScope instances imports (length imports)) s) ss
+      → AllAt (λ n (s : Slot). SlotStands (IsMetInScope more_instances more_imports (length more_imports)) s) ss
+  slots_wider ss all =
+      all_weaker (λ n (s : Slot). SlotStands (IsMetInScope instances imports (length imports)) s) (λ n s. SlotStands (IsMetInScope more_instances more_imports (length more_imports)) s) ss
+      (λ n s within h. slot_wider (IsMetInScope instances imports (length imports)) (IsMetInScope more_instances more_imports (length more_imports)) (met_wider (length imports) (length more_imports) fm.long) s h) all
+
+  pub instances_wider : (xs : List Instance) → AllAt (λ n (x : Instance). ViewStands (IsShownBefore instances n) (place_of x.interface) x.view) xs
+      → AllAt (λ n (x : Instance). ViewStands (IsShownBefore more_instances n) (place_of x.interface) x.view) xs
+  instances_wider xs all =
+      all_weaker (λ n (x : Instance). ViewStands (IsShownBefore instances n) (place_of x.interface) x.view) (λ n x. ViewStands (IsShownBefore more_instances n) (place_of x.interface) x.view) xs
+      (λ n x within h. view_wider (IsShownBefore instances n) (IsShownBefore more_instances n) (shown_wider instances more_instances fi n n (same_number n)) (place_of x.interface) x.view h) all
+
+  pub imports_wider : (xs : List Seen) → AllAt (λ n (s : Seen). ShownStands instances imports n s.shown) xs → AllAt (λ n (s : Seen). ShownStands more_instances more_imports n s.shown) xs
+  imports_wider xs all =
+      all_weaker (λ n (s : Seen). ShownStands instances imports n s.shown) (λ n s. ShownStands more_instances more_imports n s.shown) xs (λ n s within h. shown_stands_wider n n (same_number n) s.shown h) all
+
+  pub exports_wider : (xs : List Seen) → AllAt (λ n (s : Seen). ShownStands instances imports (length imports) s.shown) xs
+      → AllAt (λ n (s : Seen). ShownStands more_instances more_imports (length more_imports) s.shown) xs
+  exports_wider xs all =
+      all_weaker (λ n (s : Seen). ShownStands instances imports (length imports) s.shown) (λ n s. ShownStands more_instances more_imports (length more_imports) s.shown) xs
+      (λ n s within h. shown_stands_wider (length imports) (length more_imports) fm.long s.shown h) all

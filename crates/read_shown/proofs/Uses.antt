@@ -1,0 +1,61 @@
+-- Each interface that a well-formed view uses was seen before it.
+use Rattle.std.proofs.Common.{◌≡◌, ◌⊎◌, inl, inr, refl, sym, ap, subst, ◌∙◌, ℕ, zero, suc, arith, Bool, true, false, ◌||◌, List, [], ◌∷◌, ◌++◌, flat_map, Option, Some, None, slice_get}
+use Rattle.std.specs.List.{Contains, list_any}
+use Rattle.wit_model.specs.Text.{Text, text_eq}
+use Rattle.wit_model.specs.Tree.{Place, Tree, Declaration}
+use Rattle.wit_model.proofs.Elements.{contains-later, none-in, one-contained}
+use Rattle.wit_model.proofs.VersionLaws.{text_same}
+use Rattle.comp_meaning.specs.Follow.{ShownType, Instance, place_of}
+use Rattle.comp_meaning.specs.Rules.{used_by, used_by_view}
+use Rattle.read_shown.specs.Trees.{DeclarationStands}
+use Rattle.read_shown.specs.Views.{IsMetInView, inside, outside, ViewStands}
+use Rattle.read_shown.specs.Scopes.{IsInstanceBefore, IsShownBefore}
+
+-- ---- what stands in lists
+
+pub in_either : {A : Type 0} (xs ys : List A) (x : A) → Contains (xs ++ ys) x → Contains xs x ⊎ Contains ys x
+in_either [] ys x c = inr c
+in_either (y ∷ xs) ys x (zero, l, e) = inl (0, omega arith, e)
+in_either (y ∷ xs) ys x (suc k, l, e) = elim (in_either xs ys x (k, omega (arith, l), e)) [ inl h ↦ inl (contains-later y xs x h) | inr h ↦ inr h ]
+
+-- what is of one of the lists
+in_flat : {A B : Type 0} (f : A → List B) (xs : List A) (y : B) → Contains (flat_map f xs) y → (n : ℕ) × (x : A) × (slice_get xs n ≡ Some x) × Contains (f x) y
+in_flat f [] y c = none-in y c
+in_flat f (x ∷ xs) y c = elim (in_either (f x) (flat_map f xs) y c) [ inl here ↦ (zero, x, refl, here) | inr later ↦ (let r = in_flat f xs y later in (suc r.0, r.1, r.2, r.3)) ]
+
+pub text_there : (path : Text) (xs : List Text) → list_any (text_eq path) xs ≡ true → Contains xs path
+text_there path [] e = absurd cc
+text_there path (x ∷ xs) e = by (text_eq path x) refl e (text_there path xs)
+  where
+    by : (b : Bool) → text_eq path x ≡ b → (b || list_any (text_eq path) xs) ≡ true → (list_any (text_eq path) xs ≡ true → Contains xs path) → Contains (x ∷ xs) path
+    by true is h rest = (0, omega arith, sym (text_same path x is))
+    by false is h rest = contains-later x xs path (rest h)
+
+-- ---- what a view uses
+
+name_used : (path : Text) (d : Declaration) → Contains (used_by d) path → (name : Text) × (d ≡ Declaration.type_ (Tree.named (Place.of_interface path) name))
+name_used path Declaration.resource c = none-in path c
+name_used path (Declaration.type_ (Tree.primitive p)) c = none-in path c
+name_used path (Declaration.type_ (Tree.named Place.here name)) c = none-in path c
+name_used path (Declaration.type_ (Tree.node form ts)) c = none-in path c
+name_used path (Declaration.type_ (Tree.named (Place.of_interface q) name)) c = (name, ap (λ r. Declaration.type_ (Tree.named (Place.of_interface r) name)) (one-contained q path c))
+
+pub path_once : (p q : Text) → Place.of_interface p ≡ Place.of_interface q → p ≡ q
+path_once p q e = cc
+
+path_there : (o : Option Text) (path : Text) → place_of o ≡ Place.of_interface path → o ≡ Some path
+path_there None path e = absurd cc
+path_there (Some p) path e = let same : p ≡ path = cc in ap Some same
+
+pub use_stands_before : (instances : List Instance) (count : ℕ) (x : Instance) → ViewStands (IsShownBefore instances count) (place_of x.interface) x.view
+    → (path : Text) → Contains (used_by_view x.view) path → (x.interface ≡ Some path) ⊎ IsInstanceBefore instances count path
+use_stands_before instances count x st path c =
+    let t = in_flat (λ (u : ShownType). used_by u.meaning.declaration) x.view.types path c in
+    let name = name_used path t.1.meaning.declaration t.3 in
+    let type_ = st.types t.0 t.1 t.2 in
+    by t.0 name.0 type_.is_resource (subst (λ d. DeclarationStands (IsMetInView (IsShownBefore instances count) (place_of x.interface) x.view t.0) d type_.is_resource) name.1 type_.declared)
+  where
+    by : (n : ℕ) (name : Text) (b : Bool) → IsMetInView (IsShownBefore instances count) (place_of x.interface) x.view n (Place.of_interface path) name b → (x.interface ≡ Some path) ⊎ IsInstanceBefore instances count path
+    by n name b (inside here s) = inl (path_there x.interface path (sym here))
+    by n name b (outside s) =
+        inr (record { number = s.number; below = s.below; shown = s.shown; at = s.at; of_path = s.of_path ∙ ap Some (path_once s.path path (sym s.stands)) })

@@ -1,0 +1,46 @@
+-- What is well-formed stays so where more names are met.
+use Rattle.std.proofs.Common.{Bool, true, false}
+use Rattle.wit_model.specs.Text.{Text}
+use Rattle.wit_model.specs.Tree as tree
+use Rattle.wit_model.specs.Tree.{Place, Form, Tree, Trees}
+use Rattle.wit_model.specs.Meaning.{Signature}
+use Rattle.comp_meaning.specs.Follow.{Slot}
+use Rattle.read_shown.specs.Trees.{is_handle, HandleStands, TreeStands, PartsStand, SignatureStands, DeclarationStands, SlotStands}
+use Rattle.read_shown.proofs.Lists.{recursion_weaker, some_weaker}
+
+module _ (Met More : Place → Text → Bool → Type 0) (wider : (place : Place) (name : Text) (b : Bool) → Met place name b → More place name b) where
+  handle_wider : (ts : Trees) → HandleStands Met ts → HandleStands More ts
+  handle_wider Trees.no_children h = h
+  handle_wider (Trees.child (Tree.primitive p) ts) h = absurd h
+  handle_wider (Trees.child (Tree.named place name) Trees.no_children) h = wider place name true h
+  handle_wider (Trees.child (Tree.named place name) (Trees.child t ts)) h = h
+  handle_wider (Trees.child (Tree.node form us) ts) h = absurd h
+
+  mutual
+    pub tree_wider : (t : Tree) → TreeStands Met t → TreeStands More t
+    tree_wider (Tree.primitive p) h = tt
+    tree_wider (Tree.named place name) h = wider place name false h
+    tree_wider (Tree.node form ts) h = (h.0, parts_wider (is_handle form) ts h.1)
+
+    parts_wider : (handle : Bool) (ts : Trees) → PartsStand Met handle ts → PartsStand More handle ts
+    parts_wider true ts h = handle_wider ts h
+    parts_wider false Trees.no_children h = tt
+    parts_wider false (Trees.child t ts) h = (tree_wider t h.0, parts_wider false ts h.1)
+
+  pub signature_wider : (f : Signature) → SignatureStands Met f → SignatureStands More f
+  signature_wider f h = (
+    recursion_weaker (λ (p : Text × Tree). TreeStands Met p.1) (λ p. TreeStands More p.1) (λ p. tree_wider p.1) f.params h.0,
+    some_weaker (TreeStands Met) (TreeStands More) tree_wider f.result h.1,
+  )
+
+  pub declaration_wider : (d : tree.Declaration) (b : Bool) → DeclarationStands Met d b → DeclarationStands More d b
+  declaration_wider tree.Declaration.resource b h = h
+  declaration_wider (tree.Declaration.type_ (Tree.primitive p)) b h = h
+  declaration_wider (tree.Declaration.type_ (Tree.named place name)) b h = wider place name b h
+  declaration_wider (tree.Declaration.type_ (Tree.node form ts)) b h = (h.0, tree_wider (Tree.node form ts) h.1)
+
+  pub slot_wider : (s : Slot) → SlotStands Met s → SlotStands More s
+  slot_wider (Slot.value t) h = tree_wider t h
+  slot_wider (Slot.resource place name) h = wider place name true h
+  slot_wider (Slot.function f) h = signature_wider f h
+  slot_wider (Slot.instance ds around) h = tt

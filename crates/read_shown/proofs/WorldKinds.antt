@@ -1,0 +1,162 @@
+-- The kind of each name that a world declares: its imports have keys that differ.
+use Rattle.std.proofs.Common.{◌≡◌, refl, sym, ap, subst, ◌∙◌, ℕ, zero, suc, Bool, true, false, cond, List, [], ◌∷◌, map, length, Option, Some, None, slice_get, unwrap_or}
+use Rattle.std.proofs.lemmas.Option.{slice_get_within}
+use Rattle.wit_model.specs.Text.{Text, text_eq}
+use Rattle.wit_model.specs.Tree.{Place, Tree, Declaration}
+use Rattle.wit_model.proofs.VersionLaws.{same_text, text_same}
+use Rattle.comp_bytes.proofs.PartLaws.{some_is}
+use Rattle.comp_meaning.specs.Follow.{Instance, Seen, Shown}
+use Rattle.comp_meaning.specs.Rules.{distinct}
+use Rattle.read_shown.specs.Trees.{AllAt, DeclarationStands}
+use Rattle.read_shown.specs.Scopes.{is_name, is_type, IsShownBefore, IsImported, IsDeclared, a_resource, a_value, own_name, name_of_instance, IsMetInScope, by_import, by_instance, ShownStands}
+use Rattle.read_shown.specs.Kinds.{kind_at, OfKind, ShownHasKind}
+use Rattle.read_shown.proofs.Lists.{mapped_get, one_place}
+use Rattle.read_shown.proofs.Scopes.{declared_last}
+use Rattle.read_shown.proofs.Wider.{declaration_wider, signature_wider}
+
+declared_is : (d e : Declaration) → Shown.declares d ≡ Shown.declares e → d ≡ e
+declared_is d e h = cc
+
+type_is : (t u : Tree) → Declaration.type_ t ≡ Declaration.type_ u → t ≡ u
+type_is t u h = cc
+
+name_is : (p q : Place) (x y : Text) → Tree.named p x ≡ Tree.named q y → x ≡ y
+name_is p q x y h = cc
+
+module _ (instances : List Instance) (imports : List Seen) (apart : distinct (map (λ (s : Seen). s.key) imports) ≡ true)
+    (kinds : Text → Text → Bool) (are : (path name : Text) (b : Bool) → IsShownBefore instances (length instances) (Place.of_interface path) name b → b ≡ kinds path name) where
+  -- one name, one declaration
+  imported_once : (m n : ℕ) (x y : Text) (d e : Declaration) → x ≡ y → IsImported imports m x d → IsImported imports n y e → d ≡ e
+  imported_once m n x y d e same i j =
+      let at_i : slice_get (map (λ (z : Seen). z.key) imports) i.number ≡ Some y = mapped_get (λ (z : Seen). z.key) imports i.number i.seen i.at ∙ ap Some (i.key ∙ same) in
+      let at_j : slice_get (map (λ (z : Seen). z.key) imports) j.number ≡ Some y = mapped_get (λ (z : Seen). z.key) imports j.number j.seen j.at ∙ ap Some j.key in
+      let number : i.number ≡ j.number = one_place (map (λ (z : Seen). z.key) imports) apart i.number j.number y at_i at_j in
+      let seen : i.seen ≡ j.seen = some_is i.seen j.seen (sym i.at ∙ (ap (λ k. slice_get imports k) number ∙ j.at)) in
+      declared_is d e (sym i.shown ∙ (ap (λ (z : Seen). z.shown) seen ∙ j.shown))
+
+  declared_once : {m n : ℕ} {x y : Text} {b c : Bool} → x ≡ y → IsDeclared instances imports m x b → IsDeclared instances imports n y c → b ≡ c
+  declared_once {m} {n} {x} {y} same (a_resource i) (a_resource j) = refl
+  declared_once {m} {n} {x} {y} same (a_resource i) (a_value t plain j) = absurd (let h = imported_once m n x y Declaration.resource (Declaration.type_ t) same i j in cc)
+  declared_once {m} {n} {x} {y} same (a_resource i) (own_name o j d) = absurd (let h = imported_once m n x y Declaration.resource (Declaration.type_ (Tree.named Place.here o)) same i j in cc)
+  declared_once {m} {n} {x} {y} same (a_resource i) (name_of_instance p o j s) = absurd (let h = imported_once m n x y Declaration.resource (Declaration.type_ (Tree.named (Place.of_interface p) o)) same i j in cc)
+  declared_once {m} {n} {x} {y} same (a_value t plain i) (a_resource j) = absurd (let h = imported_once m n x y (Declaration.type_ t) Declaration.resource same i j in cc)
+  declared_once {m} {n} {x} {y} same (a_value t plain i) (a_value u other j) = refl
+  declared_once {m} {n} {x} {y} same (a_value t plain i) (own_name o j d) =
+      absurd (let h : is_name t ≡ true = ap is_name (type_is t (Tree.named Place.here o) (imported_once m n x y (Declaration.type_ t) (Declaration.type_ (Tree.named Place.here o)) same i j)) in cc)
+  declared_once {m} {n} {x} {y} same (a_value t plain i) (name_of_instance p o j s) =
+      absurd (let h : is_name t ≡ true = ap is_name (type_is t (Tree.named (Place.of_interface p) o) (imported_once m n x y (Declaration.type_ t) (Declaration.type_ (Tree.named (Place.of_interface p) o)) same i j)) in cc)
+  declared_once {m} {n} {x} {y} same (own_name o i d) (a_resource j) = absurd (let h = imported_once m n x y (Declaration.type_ (Tree.named Place.here o)) Declaration.resource same i j in cc)
+  declared_once {m} {n} {x} {y} same (own_name o i d) (a_value t plain j) =
+      absurd (let h : is_name t ≡ true = ap is_name (sym (type_is (Tree.named Place.here o) t (imported_once m n x y (Declaration.type_ (Tree.named Place.here o)) (Declaration.type_ t) same i j))) in cc)
+  declared_once {m} {n} {x} {y} same (own_name o i d) (own_name w j e) =
+      declared_once (name_is Place.here Place.here o w (type_is (Tree.named Place.here o) (Tree.named Place.here w) (imported_once m n x y (Declaration.type_ (Tree.named Place.here o)) (Declaration.type_ (Tree.named Place.here w)) same i j))) d e
+  declared_once {m} {n} {x} {y} same (own_name o i d) (name_of_instance p w j s) =
+      absurd (let h = type_is (Tree.named Place.here o) (Tree.named (Place.of_interface p) w) (imported_once m n x y (Declaration.type_ (Tree.named Place.here o)) (Declaration.type_ (Tree.named (Place.of_interface p) w)) same i j) in cc)
+  declared_once {m} {n} {x} {y} same (name_of_instance p o i s) (a_resource j) = absurd (let h = imported_once m n x y (Declaration.type_ (Tree.named (Place.of_interface p) o)) Declaration.resource same i j in cc)
+  declared_once {m} {n} {x} {y} same (name_of_instance p o i s) (a_value t plain j) =
+      absurd (let h : is_name t ≡ true = ap is_name (sym (type_is (Tree.named (Place.of_interface p) o) t (imported_once m n x y (Declaration.type_ (Tree.named (Place.of_interface p) o)) (Declaration.type_ t) same i j))) in cc)
+  declared_once {m} {n} {x} {y} same (name_of_instance p o i s) (own_name w j d) =
+      absurd (let h = type_is (Tree.named (Place.of_interface p) o) (Tree.named Place.here w) (imported_once m n x y (Declaration.type_ (Tree.named (Place.of_interface p) o)) (Declaration.type_ (Tree.named Place.here w)) same i j) in cc)
+  declared_once {m} {n} {x} {y} {b} {c} same (name_of_instance p o i s) (name_of_instance q w j t) =
+      let one = type_is (Tree.named (Place.of_interface p) o) (Tree.named (Place.of_interface q) w) (imported_once m n x y (Declaration.type_ (Tree.named (Place.of_interface p) o)) (Declaration.type_ (Tree.named (Place.of_interface q) w)) same i j) in
+      let path : p ≡ q = cc in
+      let name : o ≡ w = cc in
+      are p o b s ∙ ((λ k. kinds (path k) (name k)) ∙ sym (are q w c t))
+
+  -- ---- the kind of a key, from what its import declares
+
+  kind_shown : (n : ℕ) (s : Shown) → ShownStands instances imports n s → Option Bool
+  kind_shown n (Shown.instance key view) h = None
+  kind_shown n (Shown.function f) h = None
+  kind_shown n (Shown.declares d) h = Some h.0
+
+  kind_shown_is : (n : ℕ) (s : Shown) (h : ShownStands instances imports n s) (d : Declaration) → s ≡ Shown.declares d → (b : Bool) × (kind_shown n s h ≡ Some b) × DeclarationStands (IsMetInScope instances imports n) d b
+  unfolding kind_shown
+  kind_shown_is n (Shown.instance key view) h d e = absurd cc
+  kind_shown_is n (Shown.function f) h d e = absurd cc
+  kind_shown_is n (Shown.declares c) h d e = (h.0, refl, subst (λ (x : Declaration). DeclarationStands (IsMetInScope instances imports n) x h.0) (declared_is c d e) h.1)
+
+  -- what is found for the first import of a key
+  keyed : (xs : List Seen) → ((n : ℕ) (s : Seen) → slice_get xs n ≡ Some s → Option Bool) → Text → Option Bool
+  keyed [] found name = None
+  keyed (s ∷ xs) found name = cond (text_eq name s.key) (found zero s refl) (keyed xs (λ n x e. found (suc n) x e) name)
+
+  keyed_is : (xs : List Seen) (found : (n : ℕ) (s : Seen) → slice_get xs n ≡ Some s → Option Bool) (name : Text) (n : ℕ) (s : Seen) → slice_get xs n ≡ Some s → s.key ≡ name
+      → (k : ℕ) × (x : Seen) × (e : slice_get xs k ≡ Some x) × (x.key ≡ name) × (keyed xs found name ≡ found k x e)
+  unfolding keyed
+  keyed_is [] found name n s at is = absurd cc
+  keyed_is (y ∷ xs) found name zero s at is =
+      let same : y.key ≡ name = ap (λ (z : Seen). z.key) (some_is y s at) ∙ is in
+      (zero, y, refl, same, ap (λ b. cond b (found zero y refl) (keyed xs (λ n x e. found (suc n) x e) name)) (same_text name y.key (sym same)))
+  keyed_is (y ∷ xs) found name (suc n) s at is = by (text_eq name y.key) refl (keyed_is xs (λ k x e. found (suc k) x e) name n s at is)
+    where
+      by : (b : Bool) → text_eq name y.key ≡ b → (k : ℕ) × (x : Seen) × (e : slice_get xs k ≡ Some x) × (x.key ≡ name) × (keyed xs (λ j z h. found (suc j) z h) name ≡ found (suc k) x e)
+          → (k : ℕ) × (x : Seen) × (e : slice_get (y ∷ xs) k ≡ Some x) × (x.key ≡ name) × (cond b (found zero y refl) (keyed xs (λ j z h. found (suc j) z h) name) ≡ found k x e)
+      by true same rest = (zero, y, refl, sym (text_same name y.key same), refl)
+      by false same rest = (suc rest.0, rest.1, rest.2, rest.3, rest.4)
+
+  module _ (stand : AllAt (λ n (s : Seen). ShownStands instances imports n s.shown) imports) where
+    pub own_kind : Text → Bool
+    own_kind name = unwrap_or (keyed imports (λ n s e. kind_shown n s.shown (stand n s e)) name) false
+
+    own_is : {n : ℕ} {name : Text} {b : Bool} → IsDeclared instances imports n name b → b ≡ own_kind name
+    unfolding own_kind
+    own_is {n} {name} {b} d = by (position d)
+      where
+        -- an import declares it
+        position : {k : ℕ} {x : Text} {c : Bool} → IsDeclared instances imports k x c → (e : Declaration) × IsImported imports k x e
+        position (a_resource i) = (Declaration.resource, i)
+        position (a_value t plain i) = (Declaration.type_ t, i)
+        position (own_name o i h) = (Declaration.type_ (Tree.named Place.here o), i)
+        position (name_of_instance p o i s) = (Declaration.type_ (Tree.named (Place.of_interface p) o), i)
+
+        by : (e : Declaration) × IsImported imports n name e → b ≡ own_kind name
+        by (e, i) =
+            let found : (k : ℕ) (s : Seen) → slice_get imports k ≡ Some s → Option Bool = λ k s h. kind_shown k s.shown (stand k s h) in
+            let first = keyed_is imports found name i.number i.seen i.at i.key in
+            let number : first.0 ≡ i.number = one_place (map (λ (z : Seen). z.key) imports) apart first.0 i.number name
+            (mapped_get (λ (z : Seen). z.key) imports first.0 first.1 first.2 ∙ ap Some first.3) (mapped_get (λ (z : Seen). z.key) imports i.number i.seen i.at ∙ ap Some i.key) in
+            let seen : first.1 ≡ i.seen = some_is first.1 i.seen (sym first.2 ∙ (ap (λ k. slice_get imports k) number ∙ i.at)) in
+            let shown : first.1.shown ≡ Shown.declares e = ap (λ (z : Seen). z.shown) seen ∙ i.shown in
+            let kind = kind_shown_is first.0 first.1.shown (stand first.0 first.1 first.2) e shown in
+            let there : IsImported imports (length imports) name e = record {
+              number = first.0;
+              below = slice_get_within imports first.0 first.1 first.2;
+              seen = first.1;
+              at = first.2;
+              key = first.3;
+              shown = shown;
+            } in
+            declared_once refl d (declared_last instances imports (length imports) name e kind.0 there kind.2) ∙ sym (ap (λ o. unwrap_or o false) (first.4 ∙ kind.1))
+
+    pub met_is : (n : ℕ) (place : Place) (name : Text) (b : Bool) → IsMetInScope instances imports n place name b → b ≡ kind_at kinds own_kind place name
+    met_is n place name b (by_import here d) = own_is d ∙ ap (λ p. kind_at kinds own_kind p name) (sym here)
+    met_is n place name b (by_instance s) =
+        are s.path name b (subst (λ p. IsShownBefore instances (length instances) p name b) s.stands s) ∙ ap (λ p. kind_at kinds own_kind p name) (sym s.stands)
+
+    -- what the imports and the exports declare and use
+    pub import_is : (n : ℕ) (s : Seen) → slice_get imports n ≡ Some s → ShownHasKind (kind_at kinds own_kind) s.key s.shown
+    import_is n s at = by s.shown refl (stand n s at)
+      where
+        by : (x : Shown) → s.shown ≡ x → ShownStands instances imports n x → ShownHasKind (kind_at kinds own_kind) s.key x
+        by (Shown.instance key view) e h = tt
+        by (Shown.function f) e h = signature_wider (IsMetInScope instances imports n) (OfKind (kind_at kinds own_kind)) (met_is n) f h
+        by (Shown.declares d) e h =
+            let there : IsImported imports (length imports) s.key d = record {
+              number = n;
+              below = slice_get_within imports n s at;
+              seen = s;
+              at = at;
+              key = refl;
+              shown = e;
+            } in
+            subst (DeclarationStands (OfKind (kind_at kinds own_kind)) d) (own_is (declared_last instances imports (length imports) s.key d h.0 there h.1))
+            (declaration_wider (IsMetInScope instances imports n) (OfKind (kind_at kinds own_kind)) (met_is n) d h.0 h.1)
+
+    pub export_is : (s : Seen) → ShownStands instances imports (length imports) s.shown → is_type s.shown ≡ false → ShownHasKind (kind_at kinds own_kind) s.key s.shown
+    export_is s h plain = by s.shown h plain
+      where
+        by : (x : Shown) → ShownStands instances imports (length imports) x → is_type x ≡ false → ShownHasKind (kind_at kinds own_kind) s.key x
+        by (Shown.instance key view) k e = tt
+        by (Shown.function f) k e = signature_wider (IsMetInScope instances imports (length imports)) (OfKind (kind_at kinds own_kind)) (met_is (length imports)) f k
+        by (Shown.declares d) k e = absurd cc

@@ -1,6 +1,0 @@
-use Rattle.shown_laws.proofs.MeaningKinds.{packages_have_kinds, worlds_have_kinds}
-use Rattle.shown_laws.proofs.MemberKinds.{have_kinds}
-use Rattle.shown_laws.proofs.laws.names_have_kinds.Goals as goal
-
-pub returns : goal.returns
-returns c = record { names = have_kinds; packages = packages_have_kinds; worlds = worlds_have_kinds }

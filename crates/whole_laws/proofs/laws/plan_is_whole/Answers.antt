@@ -1,5 +1,0 @@
-use Rattle.whole_laws.proofs.WholeMeaning as lemmas
-use Rattle.whole_laws.proofs.laws.plan_is_whole.Goals as goal
-
-pub returns : goal.returns
-returns c = lemmas.plan_is_whole

@@ -1,5 +1,0 @@
-use Rattle.whole_laws.proofs.WorldItems as lemmas
-use Rattle.whole_laws.proofs.laws.planned_worlds_stand.Goals as goal
-
-pub returns : goal.returns
-returns c = lemmas.planned_worlds_stand

@@ -1,5 +1,0 @@
-use Rattle.whole_laws.proofs.WholeFunctions as lemmas
-use Rattle.whole_laws.proofs.laws.world_functions_are_read.Goals as goal
-
-pub returns : goal.returns
-returns c = lemmas.world_functions_are_read
