@@ -62,6 +62,16 @@ custom_none contents none c (front, rest, parts, spelled, is) =
     let again : name_at contents ≡ Some (c.0, rest) = ap name_at parts ∙ name_law.again c.0 front rest spelled in
     no_some (c.0, rest) (sym none ∙ again)
 
+-- the frame in front, as the definition finds it
+pub front_found : (bytes : List ℕ) (id : ℕ) (contents rest : List ℕ) → frame_at bytes ≡ Some ((id, contents), rest)
+    → (front : List ℕ) × (bytes ≡ front ++ rest) × IsFrame (id, contents) front
+front_found bytes id contents rest e = let t = frame_law.takes bytes (id, contents) rest e in (t.front, t.parts, t.spelled)
+
+pub front_none : (bytes : List ℕ) → frame_at bytes ≡ None → (f : ℕ × List ℕ) (front rest : List ℕ) → bytes ≡ front ++ rest → IsFrame f front → ⊥
+front_none bytes none f front rest parts spelled =
+    let again : frame_at bytes ≡ Some (f, rest) = ap frame_at parts ∙ frame_law.again f front rest spelled in
+    no_some (f, rest) (sym none ∙ again)
+
 -- where something is left behind the offset, the offset lies before the end
 pub some_left : (bytes rest : List ℕ) (at : ℕ) → rest ≡ drop at bytes → false ≡ (length rest == 0) → at < length bytes
 some_left bytes [] at is empty = absurd (false≢true empty)

@@ -1,6 +1,6 @@
 -- The sections of a component or of a core module, one after the other, without a look into their contents (Component Model Binary.md,
 -- "Component Definitions", which takes them from the core specification, "Binary Format", "Sections").
-use Rattle.std.specs.Prelude.{◌≡◌, ℕ, ◌+◌, ◌≤◌, ◌<◌, List, length, slice_range, Option, Some, None, Result, Ok, Err, IfSome}
+use Rattle.std.specs.Prelude.{◌≡◌, ℕ, ◌+◌, ◌≤◌, ◌<◌, List, ◌++◌, length, slice_range, Option, Some, None, Result, Ok, Err, IfSome}
 use Rattle.wit_model.specs.declared.error.Error.{Error}
 use Rattle.wit_model.specs.declared.error.Error.TheVariants as errors
 use Rattle.wit_model.specs.declared.error.Cause.{Cause}
@@ -54,6 +54,16 @@ abbrev pub IsNext : Unread → Unread → Result (Option Section) Error → Type
 IsNext old new (Ok None) = (old.at ≡ length old.bytes) × (new ≡ old)
 IsNext old new (Ok (Some s)) = IsSectionAt old.bytes old.at new.at s × (new ≡ record { bytes = old.bytes; at = new.at; refused = None })
 IsNext old new (Err e) = IsRefused old new e
+
+-- the section in front of bytes, and the bytes behind it; or no section stands in front, however long
+abbrev pub StandsInFront : List ℕ → Result (Section × Bor (List ℕ)) Error → Type 0
+StandsInFront bytes (Ok x) = (front : List ℕ) × (bytes ≡ front ++ x.1.now) × IsFrame (x.0.id, x.0.contents.now) front
+StandsInFront bytes (Err e) = (f : ℕ × List ℕ) (front rest : List ℕ) → bytes ≡ front ++ rest → IsFrame f front → ⊥
+
+-- it refuses because of the bytes, at their front
+abbrev pub RefusesFront : Error → Type 0
+RefusesFront (errors.NoReading cause offset) = offset ≡ 0
+RefusesFront _ = ⊥
 
 -- the contents of a custom section: its name, and any bytes
 abbrev pub IsCustom : List ℕ × List ℕ → Spellings

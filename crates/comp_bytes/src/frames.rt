@@ -1,10 +1,10 @@
 //! The sections of an input, one after the other, as parts of it.
 
-ghost use Rattle.std.specs.Prelude.{◌≡◌, ◌≤◌, length, None, Err, IfSome};
+ghost use Rattle.std.specs.Prelude.{◌≡◌, ◌≤◌, ◌+◌, length, None, Err, IfErr, IfOk, IfSome};
 ghost use Rattle.wit_model.specs.declared.error.Error.TheVariants.{NoReading};
 ghost use Rattle.comp_bytes.specs.Answer.{Gives, Refuses};
 ghost use Rattle.comp_bytes.specs.Reading.{frame_at};
-ghost use Rattle.comp_bytes.specs.Frames.{IsNext, ReadsCustom, StandsAt};
+ghost use Rattle.comp_bytes.specs.Frames.{IsNext, ReadsCustom, RefusesFront, StandsAt, StandsInFront};
 
 use crate::name::{counted_of, name_of};
 use std::marker::Model;
@@ -71,6 +71,32 @@ fn section_at(bytes: &[u8], at: usize) -> Result<Option<(Section<'_>, usize)>, C
             )))
         }
         Err(cause) => Err(cause),
+    }
+}
+
+/// The section in front of bytes, with its start among them, and the bytes behind it. Takes constant time and no memory.
+///
+/// Refuses with `NoReading` alone, as `Sections::next` does, at the offset 0; also where there are no bytes.
+pub fn front_section(bytes: &[u8]) -> Result<(Section<'_>, &[u8]), Error>
+    ensures found { Gives (λ s. (s.id, s.contents.now)) result (frame_at bytes.now) }
+    ensures stands { StandsInFront bytes.now result }
+    ensures start { IfOk result (λ x. x.0.start + length x.0.contents.now + length x.1.now ≡ length bytes.now) }
+    ensures refuses { IfErr result RefusesFront }
+{
+    match frame_of(bytes) {
+        Ok(((id, contents), rest)) => {
+            let ends = bytes.len() - rest.len();
+            let start = ends - contents.len();
+            Ok((
+                Section {
+                    id,
+                    contents,
+                    start,
+                },
+                rest,
+            ))
+        }
+        Err(cause) => Err(Error::NoReading(cause, 0)),
     }
 }
 

@@ -20,7 +20,7 @@ pub use forms::{
     Alias, ComponentDefinedType, ComponentExternName, ComponentFuncType, ComponentTypeRef,
     ComponentValType, PrimitiveValType,
 };
-pub use frames::{Section, Sections, custom_name};
+pub use frames::{Section, Sections, custom_name, front_section};
 pub use instance::InstanceType;
 pub use name::{read_name, write_name};
 pub use number::{read_index, read_u32, write_index, write_u32};

@@ -26,7 +26,7 @@ use Rattle.encode_types.specs.Scope.{Scope}
 use Rattle.encode_types.specs.Counts.{Definitions, SameKeys, AddsTypes}
 use Rattle.encode_types.specs.MetKinds.{IsKnownKind, IsKnownList, IsReadyKey, KeepsNames, IsHeld, key_types, Learns, LearnsMet, LearnsKindOf}
 use Rattle.encode_types.proofs.Agree.{known-grow}
-use Rattle.encode_types.proofs.Paths.{some-same}
+use Rattle.wit_model.proofs.OnePath.{some-same}
 use Rattle.encode_types.proofs.Lists.{one-contained, none-in}
 use Rattle.encode_types.proofs.Encoding.{learns-nothing, learns-both, learns-same}
 

@@ -12,7 +12,6 @@ pub mod Defining
 pub mod Encoding
 pub mod Owning
 pub mod Functions
-pub mod Paths
 pub mod TableSteps
 pub mod Rooms
 pub mod Learning

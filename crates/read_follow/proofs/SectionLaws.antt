@@ -20,32 +20,11 @@ use Rattle.read_follow.specs.Found.{Refuses, refusal_from}
 use Rattle.read_follow.specs.Pieces.{piece_at, AreAlike}
 use Rattle.read_follow.proofs.FrontReaders.{found_at, none_when}
 
--- ---- the frame in front, as the reader of sections answers it
+-- ---- the frame in front
 
--- nothing has been read
-abbrev unread : List ℕ → Unread
-unread bytes = record { bytes = bytes; at = 0; refused = None }
-
-module _ (bytes : List ℕ) (old new : Unread) (start : old ≡ unread bytes) where
-  from_start : (answer : Result (Option Section) Error) → (old.refused ≡ None → IsNext old new answer) → IsNext (unread bytes) new answer
-  from_start answer next = subst (λ (u : Unread). IsNext u new answer) start (next (ap (λ (u : Unread). u.refused) start))
-
-  pub frame_found : (s : Section) (rest : List ℕ) → (old.refused ≡ None → IsNext old new (Ok (Some s))) → rest ≡ drop (s.start + length s.contents.now) bytes → frame_at bytes ≡ Some ((s.id, s.contents.now), rest)
-  frame_found s rest next is =
-      let stands = (from_start (Ok (Some s)) next).0 in
-      found_at frame_law bytes (s.id, s.contents.now) new.at stands.spelled ∙ ap (λ (text : List ℕ). let f : (ℕ × List ℕ) × List ℕ = ((s.id, s.contents.now), text) in Some f) (ap (λ (n : ℕ). drop n bytes) (sym stands.ends) ∙ sym is)
-
-  no_bytes : (text : List ℕ) → 0 ≡ length text → frame_at text ≡ None
-  unfolding frame_at pair_at byte_at
-  no_bytes [] e = refl
-  no_bytes (b ∷ text) e = absurd (omega (arith, e))
-
-  pub frame_ended : (old.refused ≡ None → IsNext old new (Ok None)) → frame_at bytes ≡ None
-  frame_ended next = no_bytes bytes (from_start (Ok None) next).0
-
-  pub frame_refused : (e : Error) (left : ℕ) → (old.refused ≡ None → IsNext old new (Err e)) → Refuses (refusal_from e left) (frame_at bytes)
-  frame_refused (errors.NoReading cause offset) left next = none_when frame_law bytes (frame_at bytes) refl (from_start (Err (errors.NoReading cause offset)) next).none
-  frame_refused _ left next = absurd (next (ap (λ (u : Unread). u.refused) start))
+pub frame_refused : (bytes : List ℕ) (e : Error) (left : ℕ) → frame_at bytes ≡ None → Refuses (refusal_from e left) (frame_at bytes)
+frame_refused bytes (errors.NoReading cause offset) left none = none
+frame_refused bytes _ left none = tt
 
 pub frame_shorter : (bytes : List ℕ) (f : ℕ × List ℕ) (rest : List ℕ) → frame_at bytes ≡ Some (f, rest) → length rest < length bytes
 frame_shorter bytes f rest e =

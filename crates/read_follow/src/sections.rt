@@ -13,7 +13,7 @@ use crate::names::{ExternName, extern_name_of};
 use crate::part_types::PartType;
 use crate::refusal::{Refusal, refusal_of};
 use crate::vector::{Form, vector_of};
-use comp_bytes::{Section, Sections};
+use comp_bytes::{Section, front_section};
 use std::alloc::Global;
 use wit_model::Cause;
 
@@ -132,13 +132,8 @@ fn piece_of<'a>(
 fn frame_of(bytes: &[u8]) -> Result<(Section<'_>, &[u8]), Refusal>
     ensures { Finds (λ s. (s.id, s.contents.now)) result (frame_at bytes.now) }
 {
-    let mut sections = Sections::new(bytes, 0);
-    match sections.next() {
-        Ok(Some(section)) => {
-            let end = section.start + section.contents.len();
-            Ok((section, bytes.split_at(end).1))
-        }
-        Ok(None) => Err(Refusal::Absent(Cause::Truncated, 0)),
+    match front_section(bytes) {
+        Ok(found) => Ok(found),
         Err(error) => Err(refusal_of(error, bytes.len())),
     }
 }

@@ -3,7 +3,6 @@
 ghost use Rattle.std.specs.Prelude.{◌≡◌, ◌++◌, option_map, IfOk, IfErr, IfSome, Some};
 ghost use Rattle.std.specs.Option.{option_copied};
 ghost use Rattle.wit_model.specs.declared.error.Error.TheVariants.{Memory};
-ghost use Rattle.wit_model.specs.Paths.{full_name as full_name_lem};
 ghost use Rattle.wit_model.specs.Text.{optional_text, text_of};
 ghost use Rattle.wit_model.specs.Names.{path_in};
 ghost use Rattle.wit_model.specs.Rules.{after_prefix as after_prefix_lem};
@@ -12,18 +11,8 @@ ghost use Rattle.wit_bind.specs.KeyTests.{after_scope as after_scope_lem, after_
 
 use arrayvec::ArrayString;
 use std::alloc::Global;
+use wit_model::lookup::full_name;
 use wit_model::{Error, InterfaceId, PackageName, Resolve, WorldKey, after_prefix};
-
-// The name of an interface's package and its own, where it has both.
-fn full_name(resolve: &Resolve, id: InterfaceId) -> Option<(&PackageName, &String)>
-    ensures { option_map (λ e. (e.0.now, e.1.now)) result ≡ full_name_lem resolve.now id.0 }
-{
-    let interface = resolve.interfaces.get(id.0 as usize)?;
-    let name = interface.name.as_ref()?;
-    let home = interface.package?;
-    let owner = resolve.packages.get(home.0 as usize)?;
-    Some((&owner.name, name))
-}
 
 // ---- made
 
@@ -61,7 +50,7 @@ pub(crate) fn function_key(
 {
     match key {
         WorldKey::Name(label) => Ok(Some(key_under(alloc, label, function)?)),
-        WorldKey::Interface(id) => match full_name(resolve, *id) {
+        WorldKey::Interface(id) => match full_name(resolve, id.0 as usize) {
             Some((own, name)) => Ok(Some(path_key(alloc, own, name, function)?)),
             None => Ok(None),
         },
@@ -109,7 +98,7 @@ fn short_scope(resolve: &Resolve, key: &WorldKey) -> Option<ShortText>
     match key {
         WorldKey::Name(label) => short_label(label),
         WorldKey::Interface(id) => {
-            let (own, name) = full_name(resolve, *id)?;
+            let (own, name) = full_name(resolve, id.0 as usize)?;
             short_path(own, name)
         }
     }
@@ -151,7 +140,7 @@ fn after_scope<'a>(resolve: &Resolve, key: &WorldKey, text: &'a str) -> Option<&
     match key {
         WorldKey::Name(label) => after_marked(label, "/", text),
         WorldKey::Interface(id) => {
-            let (own, name) = full_name(resolve, *id)?;
+            let (own, name) = full_name(resolve, id.0 as usize)?;
             after_path(own, name, text)
         }
     }

@@ -6,55 +6,8 @@ ghost use Rattle.wit_model.specs.Text.{Text, text_of};
 
 use indexmap::IndexSet;
 use std::alloc::{AllocError, Global};
-use wit_model::{Case, EnumCase, Field, Flag, Param, is_label};
-
-/// What has a name.
-pub(crate) trait Named {
-    ghost name_of: { Self → Text };
-
-    fn name(&self) -> &str
-        ensures { result.now ≡ name_of self.now };
-}
-
-impl Named for Param {
-    ghost name_of = { λ x. text_of x.name };
-
-    fn name(&self) -> &str {
-        self.name.as_str()
-    }
-}
-
-impl Named for Field {
-    ghost name_of = { λ x. text_of x.name };
-
-    fn name(&self) -> &str {
-        self.name.as_str()
-    }
-}
-
-impl Named for Case {
-    ghost name_of = { λ x. text_of x.name };
-
-    fn name(&self) -> &str {
-        self.name.as_str()
-    }
-}
-
-impl Named for EnumCase {
-    ghost name_of = { λ x. text_of x.name };
-
-    fn name(&self) -> &str {
-        self.name.as_str()
-    }
-}
-
-impl Named for Flag {
-    ghost name_of = { λ x. text_of x.name };
-
-    fn name(&self) -> &str {
-        self.name.as_str()
-    }
-}
+use wit_model::is_label;
+use wit_model::named::Named;
 
 fn are_labels<T: Named>(members: &[T]) -> bool
     ensures { result ≡ are_labels_lem (map T.name_of members.now) }

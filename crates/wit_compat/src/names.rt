@@ -3,24 +3,13 @@
 ghost use Rattle.std.specs.Prelude.{◌≡◌, ◌<◌, ◌==◌, ℕ, if◌then◌else◌, [], true, flat_map, length, map, option_map, unwrap_or, None, Some, IfOk, OnOk};
 ghost use Rattle.wit_compat.specs.Opened.{bare_key, bare_path as bare_path_lem, entries_of_world, interface_name as interface_name_lem, is_item_of, label_among, label_of_key};
 ghost use Rattle.wit_compat.specs.Outline.{interface_names as interface_names_lem, label_noted, NotesMore};
-ghost use Rattle.wit_model.specs.Paths.{full_name as full_name_lem};
 ghost use Rattle.wit_model.specs.Rules.{key_in_range};
 ghost use Rattle.wit_model.specs.Text.{optional_text, text_of};
 
 use indexmap::IndexMap;
 use std::alloc::{AllocError, Global};
+use wit_model::lookup::full_name;
 use wit_model::{InterfaceId, Map, PackageName, Resolve, World, WorldItem, WorldKey};
-
-// The name of an interface's package and its own, where it has both.
-fn full_name(resolve: &Resolve, number: usize) -> Option<(&PackageName, &String)>
-    ensures { option_map (λ e. (e.0.now, e.1.now)) result ≡ full_name_lem resolve.now number }
-{
-    let interface = resolve.interfaces.get(number)?;
-    let name = interface.name.as_ref()?;
-    let home = interface.package?;
-    let owner = resolve.packages.get(home.0 as usize)?;
-    Some((&owner.name, name))
-}
 
 fn bare_path(alloc: Global, resolve: &Resolve, number: usize) -> Result<Option<String>, AllocError>
     ensures { IfOk result (λ path. optional_text path ≡ bare_path_lem resolve.now number) }

@@ -33,7 +33,7 @@ use Rattle.encode_types.specs.Maps.{IsOnce, LearnsOnly}
 use Rattle.encode_types.specs.MetKinds.{ReachedFrom, referred}
 use Rattle.encode_types.proofs.Lists.{none-in}
 use Rattle.encode_types.proofs.Pairs.{pairs-map}
-use Rattle.encode_types.proofs.Paths.{some-same}
+use Rattle.wit_model.proofs.OnePath.{some-same}
 use Rattle.wit_encode.specs.declared.interface.OpenInterface.{OpenInterface}
 use Rattle.wit_encode.specs.Encoders.{declared_after}
 use Rattle.wit_encode.specs.Instance.{declared_extent, extent_in, placed_function}

@@ -17,7 +17,7 @@ use Rattle.encode_shown.proofs.Zips.{zip-append}
 use Rattle.encode_types.specs.Distinct.{is_value_type, is_function_type}
 use Rattle.encode_types.specs.Known.{Around, GrowsAround, known_instance}
 use Rattle.encode_types.specs.Room.{limit}
-use Rattle.encode_types.proofs.Paths.{some-of}
+use Rattle.wit_model.proofs.OnePath.{some-of}
 use Rattle.encode_names.specs.WorldNames.{name_of_interface}
 use Rattle.wit_encode.specs.Dependencies.{HasImported, ImportsTypes, with_export}
 use Rattle.wit_encode.specs.DependencyCounts.{DefinesComponent, DefinesImports, DefinesTypesOf}

@@ -29,7 +29,7 @@ use Rattle.encode_shown.proofs.Reach.{Chain, chain-reached, further, used-chain}
 use Rattle.encode_types.specs.MetKinds.{ReachedFrom, referred}
 use Rattle.encode_types.specs.Room.{IsUnfit, LacksOne, a_type, a_request, limit}
 use Rattle.encode_types.proofs.Lists.{contains-map, none-in}
-use Rattle.encode_types.proofs.Paths.{found-in}
+use Rattle.wit_model.proofs.OnePath.{found-in}
 use Rattle.encode_names.specs.WorldNames.{name_of_interface}
 use Rattle.wit_encode.specs.DependencyRoom.{TypesLackRoom, ImportsLackRoom, an_interface, a_path, too_many, ComponentLacksRoom, of_imports, of_interface, of_path, LackingComponentsAreHeavy}
 use Rattle.wit_encode.specs.WorldRoom.{IsNamedTypeOf}

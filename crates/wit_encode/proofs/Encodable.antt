@@ -40,7 +40,7 @@ use Rattle.wit_model.specs.declared.model.«Type».{«Type» as ValueType}
 use Rattle.encode_types.specs.Plan.{Reaches, itself, through}
 use Rattle.encode_types.proofs.Lists.{all-contained, both, contains-map, one-contained}
 use Rattle.wit_encode.proofs.Owned.{same-owner, or-cases}
-use Rattle.encode_types.proofs.Paths.{equal-numbers, found-in, some-of, some-same}
+use Rattle.wit_model.proofs.OnePath.{equal-numbers, found-in, some-of, some-same}
 use Rattle.wit_encode.proofs.Naming.{or-first, or-second, one-home, valid-listed}
 use Rattle.wit_encode.specs.OwnerScope.{IsScopeOf, IsUsedBy, UsesStand, IsTypeOf, InterfaceUses, functions_of}
 use Rattle.wit_encode.proofs.OwnerScope.{types_encode, types_use, functions_encode, functions_use}

@@ -19,7 +19,7 @@ use Rattle.wit_model.specs.declared.model.InterfaceId.{InterfaceId}
 use Rattle.wit_model.proofs.Elements.{equal, none-in, same-number, same-some}
 use Rattle.encode_shown.specs.Views.{AreReached, AreUsed, UseEarlier}
 use Rattle.encode_types.specs.Known.{Around, UsedStand, known_instance, standing_instances}
-use Rattle.encode_types.proofs.Paths.{found-in, some-of}
+use Rattle.wit_model.proofs.OnePath.{found-in, some-of}
 use Rattle.comp_bytes.specs.Raw.{Declarations}
 use Rattle.wit_encode.specs.Dependencies.{AreImportable, HasImported, ImportsTypes, with_import}
 use Rattle.wit_encode.specs.DependencyCounts.{DefinesImports}

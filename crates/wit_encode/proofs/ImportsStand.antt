@@ -29,7 +29,7 @@ use Rattle.encode_names.proofs.TypesFound.{types_are_found}
 use Rattle.encode_types.specs.Resources.{is_named_interface, named_resources}
 use Rattle.encode_types.specs.Known.{Around, below, is_instance_of, is_known_as, is_named_of, is_slot_for, is_standing, outer_instances, shows_type, standing_instances, stands_around}
 use Rattle.encode_types.proofs.Lists.{both}
-use Rattle.encode_types.proofs.Paths.{some-of}
+use Rattle.wit_model.proofs.OnePath.{some-of}
 use Rattle.wit_encode.proofs.Naming.{HaveHomes, names-agree, one-home, or-second, place-alike}
 use Rattle.wit_encode.proofs.Owned.{same-owner}
 use Rattle.wit_encode.specs.Dependencies.{HasImported, ImportsStand, imported_instance}

@@ -31,7 +31,7 @@ use Rattle.encode_types.specs.Plan.{foreign_owner}
 use Rattle.encode_types.specs.Table.{interface_of_owner}
 use Rattle.encode_types.proofs.Lists.{all-contained}
 use Rattle.wit_encode.proofs.Owned.{same-owner, alias-part, own-interface, not-false, or-cases, owner-kept as kept-of-owner}
-use Rattle.encode_types.proofs.Paths.{given-test, found-in}
+use Rattle.wit_model.proofs.OnePath.{given-test, found-in}
 use Rattle.wit_encode.proofs.Validity.{type_passes, interface_passes}
 use Rattle.wit_encode.proofs.Numbers.{same-number, has-contains, get-contains, after-at}
 

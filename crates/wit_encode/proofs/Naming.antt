@@ -27,7 +27,7 @@ use Rattle.encode_types.specs.Resources.{is_named_interface, is_resource_entry, 
 use Rattle.encode_types.specs.Table.{is_met_owner, has_named_owner}
 use Rattle.encode_types.proofs.Lists.{both}
 use Rattle.wit_encode.proofs.Owned.{same-owner}
-use Rattle.encode_types.proofs.Paths.{found-in, given-test, one-number, named-path, path-once}
+use Rattle.wit_model.proofs.OnePath.{found-in, given-test, one-number, named-path, path-once}
 
 -- ---- numbered lists
 

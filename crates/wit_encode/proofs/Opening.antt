@@ -37,7 +37,7 @@ use Rattle.encode_types.specs.Known.{Around, GrowsAround, known_instance, is_sta
 use Rattle.wit_encode.proofs.Components.{steps-instance}
 use Rattle.encode_types.specs.Scope.{Scope}
 use Rattle.wit_encode.specs.Exports.{AreTypesOf}
-use Rattle.encode_types.proofs.Paths.{some-same}
+use Rattle.wit_model.proofs.OnePath.{some-same}
 use Rattle.indexmap.specs.IndexMap.{values}
 use Rattle.wit_encode.proofs.ShownSlots.{interface-shown}
 use Rattle.wit_encode.specs.Instance.{is_slot_of, no_view, outer_slots, inner_contents, outer_contents, stands_in, SlotsStand, own_of, around_at, around_of, standing_instances, resources_in, contents_of, encoder_scope, opened, keyed, placed_function, is_sound_in, IsInstance, Continues, definitions_with}

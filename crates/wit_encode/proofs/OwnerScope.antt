@@ -48,7 +48,7 @@ use Rattle.wit_encode.specs.OwnerScope.{IsScopeOf, IsMet, IsOfInstance, NamesSta
 use Rattle.encode_types.proofs.Lists.{all-contained, one-contained, both, contains-one, contains-filter_map}
 use Rattle.wit_encode.proofs.Forming.{Agree}
 use Rattle.wit_encode.proofs.Owned.{same-owner, valid-references, stays, part-met, own-interface, alias-part}
-use Rattle.encode_types.proofs.Paths.{equal-numbers, some-of, some-same}
+use Rattle.wit_model.proofs.OnePath.{equal-numbers, some-of, some-same}
 use Rattle.wit_encode.proofs.Naming.{or-first, or-second, one-home, named-owner, names-agree}
 use Rattle.wit_encode.proofs.Validity.{OwnersMet, valid-layered, valid-unnamed, valid-ownerless, valid-formed, signature-formed, interface_passes, has-name, named-agree, named-parts, named-alike, foreign-interface, declared-there}
 

@@ -44,7 +44,7 @@ use Rattle.encode_types.proofs.Lists.{all-contained, contains-one, one-contained
 use Rattle.wit_encode.proofs.Counting.{from-map}
 use Rattle.wit_encode.proofs.Numbers.{contains-flat, contains-get, has-contains, same-some}
 use Rattle.encode_types.proofs.Planning.{part-number}
-use Rattle.encode_types.proofs.Paths.{found-in}
+use Rattle.wit_model.proofs.OnePath.{found-in}
 use Rattle.wit_encode.proofs.Owned.{same-owner, valid-references, stays, part-met, own-interface, alias-part, named-listed, not-false}
 use Rattle.wit_encode.proofs.ListedTypes.{owned-listed, listed-type}
 use Rattle.wit_encode.proofs.OwnerScope.{function-ranges, function-refers, type-stays, types-stay}

@@ -27,7 +27,7 @@ use Rattle.comp_meaning.specs.Follow.{Slot, ShownType, InstanceScope, is_simple,
 use Rattle.encode_shown.specs.Views.{name_slot, shown_type, types_of}
 use Rattle.encode_types.specs.Resources.{Names, is_met_owner, resource_names}
 use Rattle.encode_types.specs.Standing.{is_slot_of}
-use Rattle.encode_types.proofs.Paths.{some-same}
+use Rattle.wit_model.proofs.OnePath.{some-same}
 use Rattle.wit_encode.proofs.Steps.{unbind, unwhen, unprovided}
 use Rattle.wit_encode.proofs.Owned.{same-owner}
 use Rattle.wit_encode.proofs.Numbers.{same-number}

@@ -34,7 +34,7 @@ use Rattle.encode_types.specs.Leaves.{Leaves}
 use Rattle.encode_types.specs.Table.{table_scope, table_view, interface_of_owner, is_met_by, has_named_owner, IsTable, TableReads, IsDefined, AllDefined}
 use Rattle.encode_types.proofs.Lists.{both, one-contained}
 use Rattle.wit_encode.proofs.Forming.{optional-values}
-use Rattle.encode_types.proofs.Paths.{found-in, some-of}
+use Rattle.wit_model.proofs.OnePath.{found-in, some-of}
 use Rattle.encode_types.proofs.Planning.{part-smaller}
 use Rattle.wit_encode.proofs.Validity.{valid-layered, valid-resource, valid-formed, signature-formed, table-agree, all-met, named-met, foreign-interface, importable}
 use Rattle.wit_encode.specs.OwnerScope.{NamesStand, IsOfInstance}

@@ -24,7 +24,7 @@ use Rattle.encode_shown.proofs.Basics.{type-passes, valid-references}
 use Rattle.encode_shown.proofs.Interfaces.{contains-mapped}
 use Rattle.encode_shown.proofs.Reach.{once_from}
 use Rattle.encode_shown.proofs.Zips.{filter-contains, given-contains}
-use Rattle.encode_types.proofs.Paths.{named-path, some-of, some-same}
+use Rattle.wit_model.proofs.OnePath.{named-path, some-of, some-same}
 use Rattle.wit_encode.proofs.ListedTypes.{listed-type}
 use Rattle.wit_encode.proofs.Meeting.{named-meets}
 use Rattle.wit_encode.proofs.Owned.{owner-kept, same-owner, or-cases}

@@ -41,7 +41,7 @@ use Rattle.encode_types.specs.Table.{table_scope, below, interface_of_owner, dec
 use Rattle.encode_types.proofs.Lists.{contains-one, all-contained}
 use Rattle.wit_encode.proofs.Owned.{same-owner, valid-references}
 use Rattle.encode_types.proofs.Planning.{part-smaller}
-use Rattle.encode_types.proofs.Paths.{found-in}
+use Rattle.wit_model.proofs.OnePath.{found-in}
 use Rattle.wit_encode.proofs.Naming.{HaveHomes, or-first, or-second, named-owner, valid-owner_in_range, one-home, names-agree}
 use Rattle.wit_model.proofs.Resources.{resource_step}
 use Rattle.encode_types.specs.Kinds.{parts_of, has_definition, kind_tree}

@@ -12,7 +12,7 @@ use Rattle.wit_encode.proofs.Strict.{bind}
 use Rattle.wit_encode.proofs.Steps.{unbind}
 use Rattle.wit_encode.proofs.Components.{steps-count, steps-more}
 use Rattle.wit_encode.proofs.Calls.{inner-at}
-use Rattle.encode_types.proofs.Paths.{some-same}
+use Rattle.wit_model.proofs.OnePath.{some-same}
 
 pub get-left : {X : Type 0} (xs : List X) (y : X) (k : ℕ) (x : X) → slice_get xs k ≡ Some x → slice_get (xs ++ y ∷ []) k ≡ Some x
 get-left [] y k x e = absurd (let z : ⊥ = cc in z)

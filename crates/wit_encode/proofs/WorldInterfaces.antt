@@ -32,7 +32,7 @@ use Rattle.encode_types.specs.Known.{Around, GrowsAround, UsedStand, are_right, 
 use Rattle.encode_types.specs.Maps.{standing_of}
 use Rattle.encode_types.specs.Standing.{SlotsStand, is_slot_of}
 use Rattle.encode_types.proofs.Lists.{all-contained, both}
-use Rattle.encode_types.proofs.Paths.{found-in, some-of, some-same}
+use Rattle.wit_model.proofs.OnePath.{found-in, some-of, some-same}
 use Rattle.encode_types.proofs.Tables.{equal-self}
 use Rattle.encode_names.specs.WorldNames.{name_of_item}
 use Rattle.encode_names.specs.WorldSteps.{Entry, Entries, IsTurnOf, StandsAs, StepsTo, declared_towards, interfaces_among, seen_instance, with_entry, with_instance}

@@ -37,7 +37,7 @@ use Rattle.encode_types.specs.Plan.{foreign_owner, Reaches, itself, through}
 use Rattle.encode_types.specs.KeyLaws.{text_same}
 use Rattle.encode_types.specs.Scope.{Scope}
 use Rattle.encode_types.proofs.Lists.{all-contained, contains-filter_map, contains-one, none-in, one-contained}
-use Rattle.encode_types.proofs.Paths.{found-in, some-of, some-same}
+use Rattle.wit_model.proofs.OnePath.{found-in, some-of, some-same}
 use Rattle.wit_encode.specs.OwnerScope.{IsScopeOf, InstancesStand, IsTypeOf, functions_of}
 use Rattle.wit_encode.specs.WorldUses.{item_types, interfaces_before, StandBefore, ItemsMeetStanding}
 use Rattle.wit_encode.proofs.Counting.{contains-filter}

@@ -44,7 +44,7 @@ use Rattle.comp_bytes.specs.Fits.{fits_name}
 use Rattle.encode_types.specs.KeyLaws.{text_same}
 use Rattle.encode_types.specs.Room.{limit}
 use Rattle.encode_types.proofs.Lists.{all-contained, contains-filter_map, contains-map, contains-one, none-in}
-use Rattle.encode_types.proofs.Paths.{found-in}
+use Rattle.wit_model.proofs.OnePath.{found-in}
 use Rattle.encode_names.specs.WorldNames.{written_path, written_suffix, name_of_item}
 use Rattle.encode_names.specs.WorldSteps.{Entry, interfaces_among}
 use Rattle.wit_encode.specs.WorldItems.{types_among}

@@ -1,5 +1,4 @@
 mod Carrying
-mod FrameLaws
 mod Homes
 mod ModuleLaws
 pub mod SaidLaws

@@ -17,8 +17,11 @@ use Rattle.wit_metadata.specs.Carried.{contents_under, last_of}
 use Rattle.wit_metadata.specs.Encodings.{contents_of, section_name}
 use Rattle.wit_metadata.specs.Modules.{Framed}
 use Rattle.wit_metadata.specs.Said.{EncodingsAreReadBack, IsSaidIn, said_by}
-use Rattle.wit_metadata.proofs.FrameLaws.{IsFrameless}
 use Rattle.wit_metadata.proofs.ModuleLaws.{one-custom, one-frame}
+
+-- no frame stands in front of these bytes
+abbrev pub IsFrameless : List ℕ → Type 0
+IsFrameless bytes = (f : Framed) (front rest : List ℕ) → bytes ≡ front ++ rest → IsFrame f front → ⊥
 
 -- ---- one section
 

@@ -76,11 +76,6 @@ RefusesModule bytes (errors.BadModule offset) =
 RefusesModule bytes errors.Memory = Unit {0}
 RefusesModule bytes _ = ⊥
 
--- the frame in front of bytes, and the bytes behind it, or none
-abbrev pub IsFrameOf : List ℕ → Result (Section × Bor (List ℕ)) Error → Type 0
-IsFrameOf bytes (Ok x) = (front : List ℕ) × (bytes ≡ front ++ x.1.now) × IsFrame (x.0.id, x.0.contents.now) front
-IsFrameOf bytes (Err e) = (f : Framed) (front rest : List ℕ) → bytes ≡ front ++ rest → IsFrame f front → ⊥
-
 -- What stands in front of bytes: a section, whether it carries a world, and the bytes behind it; or no section.
 pub record IsInFront (bytes : List ℕ) (f : Framed) (rest : List ℕ) : Type 0 where
   pub front : List ℕ

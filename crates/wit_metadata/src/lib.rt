@@ -3,7 +3,6 @@
 #![tactic(auto)]
 
 mod encodings;
-mod frames;
 pub mod laws;
 mod modules;
 mod said;

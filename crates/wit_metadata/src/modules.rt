@@ -6,8 +6,7 @@ ghost use Rattle.comp_bytes.specs.Writing.{framed};
 ghost use Rattle.wit_model.specs.declared.error.Error.TheVariants.{BadModule, Size};
 ghost use Rattle.wit_metadata.specs.Modules.{IsFrontSection, RefusesModule, StripsModule, TellsCarrying};
 
-use crate::frames::frame_of;
-use comp_bytes::{Section, custom_name, write_u32};
+use comp_bytes::{Section, custom_name, front_section, write_u32};
 use std::alloc::Global;
 use wit_model::Error;
 
@@ -31,7 +30,7 @@ fn carries_world(id: u8, contents: &[u8]) -> Result<bool, Error>
 fn section_of(bytes: &[u8]) -> Result<(Section<'_>, bool, &[u8]), Error>
     ensures { IsFrontSection bytes.now result }
 {
-    match frame_of(bytes) {
+    match front_section(bytes) {
         Ok((section, rest)) => match carries_world(section.id, section.contents) {
             Ok(carries) => Ok((section, carries, rest)),
             Err(error) => Err(error),

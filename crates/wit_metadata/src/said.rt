@@ -4,8 +4,7 @@ ghost use Rattle.std.specs.Prelude.{◌≡◌, Some};
 ghost use Rattle.wit_metadata.specs.Said.{AnswersContents, AnswersSaid, IsSaidIn, said_by};
 
 use crate::encodings::encoding_of;
-use crate::frames::frame_of;
-use comp_bytes::custom_name;
+use comp_bytes::{custom_name, front_section};
 use wit_model::{Error, StringEncoding};
 
 // What stands behind the name of a section with this id and these contents, if it is a custom one that says an encoding.
@@ -44,7 +43,7 @@ fn last_contents(bytes: &[u8]) -> Result<Option<&[u8]>, Error>
     }
     let mut rest = bytes.split_at(8).1;
     while !rest.is_empty() {
-        match frame_of(rest) {
+        match front_section(rest) {
             Ok((section, behind)) => {
                 if let Some(found) = said_in(section.id, section.contents) {
                     last = Some(found);

@@ -8,9 +8,9 @@ mod item_names;
 pub mod laws;
 pub mod lookup;
 mod model;
+pub mod named;
 mod names;
 mod paths;
-mod plain;
 mod world_entries;
 
 pub use error::{Cause, ClashKind, EntryList, Error, Fault};
@@ -21,4 +21,3 @@ pub use model::{
     WorldItem, WorldKey,
 };
 pub use names::{after_prefix, is_label, is_version};
-pub use plain::is_plain;

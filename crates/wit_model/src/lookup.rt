@@ -3,13 +3,14 @@
 ghost use Rattle.std.specs.Prelude.{◌≡◌, option_map};
 ghost use Rattle.std.specs.Option.{option_copied};
 ghost use Rattle.wit_model.specs.Lookup.{interface_at as interface_at_lem, package_at as package_at_lem, type_at as type_at_lem, world_at as world_at_lem};
+ghost use Rattle.wit_model.specs.Paths.{full_name as full_name_lem};
 ghost use Rattle.wit_model.specs.Rules.{is_own_kind as is_own_kind_lem, is_own_of as is_own_of_lem, type_is};
 ghost use Rattle.wit_model.specs.Types.{number_of as number_of_lem};
 ghost use Rattle.wit_model.specs.Uses.{alias_target as alias_target_lem, interface_used_by as interface_used_by_lem, owner_interface as owner_interface_lem};
 
 use crate::{
-    Handle, Interface, InterfaceId, Package, PackageId, Resolve, Type, TypeDef, TypeDefKind,
-    TypeId, TypeOwner, World, WorldId,
+    Handle, Interface, InterfaceId, Package, PackageId, PackageName, Resolve, Type, TypeDef,
+    TypeDefKind, TypeId, TypeOwner, World, WorldId,
 };
 
 /// The package of a number.
@@ -38,6 +39,17 @@ pub fn type_at(resolve: &Resolve, id: TypeId) -> Option<&TypeDef>
     ensures { option_copied result ≡ type_at_lem resolve.now id.0 }
 {
     resolve.types.get(id.0 as usize)
+}
+
+/// The name of an interface's package and its own: none where the interface is inline or out of range.
+pub fn full_name(resolve: &Resolve, number: usize) -> Option<(&PackageName, &String)>
+    ensures { option_map (λ e. (e.0.now, e.1.now)) result ≡ full_name_lem resolve.now number }
+{
+    let interface = resolve.interfaces.get(number)?;
+    let name = interface.name.as_ref()?;
+    let home = interface.package?;
+    let owner = resolve.packages.get(home.0 as usize)?;
+    Some((&owner.name, name))
 }
 
 /// The number that a type refers to, if it isn't a primitive.

@@ -9,6 +9,7 @@ ghost use Rattle.wit_model.specs.Names.{canonical_version as canonical_version_l
 ghost use Rattle.wit_model.specs.Paths.{full_name as full_name_lem, suffix_after};
 ghost use Rattle.wit_model.specs.Text.{optional_text, text_of};
 
+use crate::lookup::full_name;
 use crate::names::after_prefix;
 use crate::{Error, InterfaceId, PackageId, PackageName, Resolve, WorldKey};
 use semver::Version;
@@ -85,17 +86,6 @@ fn canonical_path_in(alloc: Global, own: &PackageName, name: &str) -> Result<Str
 
 // ---- interfaces
 
-// The name of an interface's package and its own, where it has both.
-fn full_name(resolve: &Resolve, id: InterfaceId) -> Option<(&PackageName, &String)>
-    ensures { option_map (λ e. (e.0.now, e.1.now)) result ≡ full_name_lem resolve.now id.0 }
-{
-    let interface = resolve.interfaces.get(id.0 as usize)?;
-    let name = interface.name.as_ref()?;
-    let home = interface.package?;
-    let owner = resolve.packages.get(home.0 as usize)?;
-    Some((&owner.name, name))
-}
-
 impl Resolve {
     /// The path of a name in the package of this number, which is in range: `namespace:name/interface`, and `@version` where the
     /// package has one. Takes one pass over the texts. Refuses `Memory` alone.
@@ -115,7 +105,7 @@ impl Resolve {
         ensures ok { IfOk result (λ path. optional_text path ≡ interface_path self.now interface.0) }
         ensures refuses { IfErr result (λ e. e ≡ Memory) }
     {
-        match full_name(self, interface) {
+        match full_name(self, interface.0 as usize) {
             Some((own, name)) => Ok(Some(own.interface_id(alloc, name)?)),
             None => Ok(None),
         }
@@ -132,7 +122,7 @@ impl Resolve {
         ensures ok { IfOk result (λ path. optional_text path ≡ canonical_path self.now interface.0) }
         ensures refuses { IfErr result (λ e. e ≡ Memory) }
     {
-        match full_name(self, interface) {
+        match full_name(self, interface.0 as usize) {
             Some((own, name)) => Ok(Some(canonical_path_in(alloc, own, name)?)),
             None => Ok(None),
         }
@@ -148,7 +138,7 @@ impl Resolve {
         ensures ok { IfOk result (λ suffix. optional_text suffix ≡ canonical_suffix self.now interface.0) }
         ensures refuses { IfErr result (λ e. e ≡ Memory) }
     {
-        match full_name(self, interface) {
+        match full_name(self, interface.0 as usize) {
             Some((own, _)) => match &own.version {
                 Some(version) => version_suffix(alloc, version),
                 None => Ok(None),

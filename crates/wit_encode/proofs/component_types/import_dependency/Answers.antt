@@ -4,7 +4,7 @@ use Rattle.wit_model.specs.declared.error.Error.{Error}
 use Rattle.wit_model.specs.declared.error.Error.TheVariants as errors
 use Rattle.comp_bytes.specs.Raw.{Declaration, Declarations, append}
 use Rattle.comp_bytes.specs.declared.forms.ComponentTypeRef.TheVariants as refs
-use Rattle.encode_types.proofs.Paths.{found-in}
+use Rattle.wit_model.proofs.OnePath.{found-in}
 use Rattle.wit_encode.specs.Encoders.{outside}
 use Rattle.wit_encode.proofs.DependencyHolding.{import-lacks, slot-lacks}
 use Rattle.wit_encode.proofs.component_types.import_dependency.Goals as goal

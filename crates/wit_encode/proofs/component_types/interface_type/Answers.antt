@@ -9,7 +9,7 @@ use Rattle.wit_model.specs.declared.model.InterfaceId.{InterfaceId}
 use Rattle.comp_bytes.specs.Raw.{Declaration, Declarations, append}
 use Rattle.comp_bytes.specs.declared.forms.ComponentTypeRef.TheVariants as refs
 use Rattle.encode_types.specs.Known.{Around, UsedStand, standing_instances}
-use Rattle.encode_types.proofs.Paths.{found-in}
+use Rattle.wit_model.proofs.OnePath.{found-in}
 use Rattle.wit_encode.specs.DependencyCounts.{DefinesImports}
 use Rattle.wit_encode.specs.DependencyRoom.{ImportsLackRoom, of_imports}
 use Rattle.wit_encode.specs.Encoders.{InterfaceLacksRoom, outside}

@@ -4,7 +4,7 @@ use Rattle.wit_model.specs.Lookup.{world_at}
 use Rattle.wit_model.specs.declared.model.World.{World}
 use Rattle.comp_bytes.specs.Raw.{Declarations}
 use Rattle.comp_meaning.specs.Follow.{export_}
-use Rattle.encode_types.proofs.Paths.{some-same}
+use Rattle.wit_model.proofs.OnePath.{some-same}
 use Rattle.wit_encode.specs.WorldCounts.{HasDefined}
 use Rattle.wit_encode.specs.WorldHolds.{HoldsFew}
 use Rattle.wit_encode.specs.WorldItems.{ended}

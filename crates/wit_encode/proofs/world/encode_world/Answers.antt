@@ -3,7 +3,7 @@ use Rattle.std.proofs.lemmas.Option.{slice_get_read}
 use Rattle.wit_model.specs.Lookup.{world_at}
 use Rattle.wit_model.specs.declared.model.World.{World}
 use Rattle.encode_names.specs.Clashes.{HasNoClash, RefusesNames}
-use Rattle.encode_types.proofs.Paths.{some-same}
+use Rattle.wit_model.proofs.OnePath.{some-same}
 use Rattle.wit_encode.proofs.WholeWorlds.{clash-fits, names-refused, none-clash, room-refused}
 use Rattle.wit_encode.proofs.world.encode_world.Goals as goal
 use Rattle.wit_encode.proofs.world.encode_world.Goals.{After-index-def}

@@ -5,7 +5,7 @@ use Rattle.wit_model.specs.Lookup.{interface_at}
 use Rattle.wit_model.specs.declared.model.TypeId.{TypeId}
 use Rattle.wit_encode.specs.Encoders.{outside}
 use Rattle.wit_encode.specs.Instance.{CanEncodeInterface, EncodesDependency, EncodesPart}
-use Rattle.encode_types.proofs.Paths.{some-same}
+use Rattle.wit_model.proofs.OnePath.{some-same}
 use Rattle.indexmap.specs.IndexMap.{values}
 use Rattle.wit_model.specs.declared.model.Interface.{Interface}
 use Rattle.wit_encode.proofs.Refusing.{room-listed}

@@ -2,7 +2,7 @@ use Rattle.std.proofs.Common.{◌≡◌, sym, ap, ◌∙◌, inr, Some, map}
 use Rattle.wit_model.specs.Lookup.{interface_at}
 use Rattle.wit_model.specs.declared.model.Interface.{Interface}
 use Rattle.indexmap.specs.IndexMap.{values}
-use Rattle.encode_types.proofs.Paths.{some-same}
+use Rattle.wit_model.proofs.OnePath.{some-same}
 use Rattle.wit_encode.specs.Instance.{placed_function, EncodesPart}
 use Rattle.wit_encode.specs.Encoders.{outside}
 use Rattle.wit_encode.proofs.Closing.{closes}
