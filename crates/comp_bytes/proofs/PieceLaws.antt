@@ -154,7 +154,7 @@ pieces_out (suc fuel) (b ∷ bytes) (p ∷ ps) e =
 
 -- ---- any bound that is large enough
 
-frame_shorter : (bytes : List ℕ) (f : ℕ × List ℕ) (rest : List ℕ) → frame_at bytes ≡ Some (f, rest) → length rest < length bytes
+pub frame_shorter : (bytes : List ℕ) (f : ℕ × List ℕ) (rest : List ℕ) → frame_at bytes ≡ Some (f, rest) → length rest < length bytes
 frame_shorter bytes f rest e =
     let t = frame_law.takes bytes f rest e in
     let whole : length bytes ≡ length t.front + length rest = ap length t.parts ∙ length-append t.front rest in

@@ -65,7 +65,7 @@ agree_from a b types functions = by (text_eq a.path b.path) refl
 
 -- ---- look-ups
 
-found_contains : {X : Type 0} (p : X → Bool) (xs : List X) (x : X) → find p xs ≡ Some x → (p x ≡ true) × Contains xs x
+pub found_contains : {X : Type 0} (p : X → Bool) (xs : List X) (x : X) → find p xs ≡ Some x → (p x ≡ true) × Contains xs x
 found_contains p [] x e = absurd cc
 found_contains p (y ∷ ys) x e = by (p y) refl (found_contains p ys x) e
   where
@@ -73,7 +73,7 @@ found_contains p (y ∷ ys) x e = by (p y) refl (found_contains p ys x) e
     by true t more h = let same : y ≡ x = cc in (sym (ap p same) ∙ t, (0, omega arith, same))
     by false t more h = let rest = more h in (rest.0, (suc rest.1.0, (let low = rest.1.1 in omega (arith, low)), rest.1.2))
 
-last_of : {X : Type 0} (x y : X) → Contains (x ∷ []) y → x ≡ y
+pub last_of : {X : Type 0} (x y : X) → Contains (x ∷ []) y → x ≡ y
 last_of x y (zero, low, h) = h
 last_of x y (suc i, low, h) = absurd (omega (arith, low))
 
@@ -184,7 +184,7 @@ back (s ∷ rest) earlier known once all =
 
 -- ---- views of interfaces
 
-distinct_behind : (xs ys : List Text) → distinct (xs ++ ys) ≡ true → distinct ys ≡ true
+pub distinct_behind : (xs ys : List Text) → distinct (xs ++ ys) ≡ true → distinct ys ≡ true
 distinct_behind [] ys e = e
 distinct_behind (x ∷ xs) ys e = distinct_behind xs ys (second_true (not (list_any (text_eq x) (xs ++ ys))) (distinct (xs ++ ys)) e)
 

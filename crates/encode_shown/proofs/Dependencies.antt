@@ -55,7 +55,7 @@ use Rattle.encode_shown.proofs.Zips.{zip-right, filter-contains, given-contains}
 
 -- ---- numbers that differ
 
-distinct-front : (xs ys : List ℕ) → IsDistinct (λ a b. a == b) (xs ++ ys) → IsDistinct (λ a b. a == b) xs
+pub distinct-front : (xs ys : List ℕ) → IsDistinct (λ a b. a == b) (xs ++ ys) → IsDistinct (λ a b. a == b) xs
 unfolding IsDistinct
 distinct-front [] ys d = tt
 distinct-front (x ∷ xs) ys d = (front xs d.0, distinct-front xs ys d.1)

@@ -29,7 +29,7 @@ use Rattle.encode_types.specs.Maps.{Says, Holds, MapsAgree, IsWritten, HasKind, 
 use Rattle.wit_model.specs.Text.{Text, text_of}
 use Rattle.wit_model.specs.declared.model.Param.{Param}
 use Rattle.encode_types.specs.Definition.{FollowsKind, IsWrittenParam}
-use Rattle.encode_types.proofs.Lists.{zip-along, one-contained, none-in}
+use Rattle.encode_types.proofs.Lists.{none-in}
 use Rattle.encode_types.specs.Scope.{Scope}
 use Rattle.encode_types.specs.Counts.{Definitions, one_type_more, type_more_if, is_defined_by_name, own_name, names_defined, ExportsOne, Shows, AddsTypes}
 use Rattle.encode_types.specs.Known.{GrowsAround}
@@ -37,6 +37,7 @@ use Rattle.encode_types.proofs.Around.{around-trans}
 use Rattle.encode_types.specs.View.{View, Agrees, Grows}
 use Rattle.encode_types.specs.Leaves.{Leaves}
 use Rattle.encode_types.proofs.Written.{written-stands}
+use Rattle.wit_model.proofs.Elements.{zip-along, one-contained}
 
 -- ---- more pairs
 

@@ -7,82 +7,21 @@ use Rattle.std.specs.Prelude.{IfSome}
 use Rattle.std.proofs.Math.ListN.{get_or-map, length-map}
 use Rattle.std.proofs.lemmas.List.{take_more, get_or_default}
 use Rattle.std.proofs.lemmas.List.Elements.{filter_map-append}
-
-filter_map_one : {X Y : Type 0} (h : X → Option Y) (x : X) → filter_map h (x ∷ []) ≡ option_to_list (h x)
-filter_map_one h x = elim (h x) as (λ o. filter_map (λ y. o) (x ∷ []) ≡ option_to_list o) [ None ↦ refl | Some y ↦ refl ]
-
-pub filter_map_more : {X Y : Type 0} (h : X → Option Y) (xs : List X) (i : ℕ) (x : X) → i < length xs → x ≡ get_or xs i x → filter_map h (take (i + 1) xs) ≡ filter_map h (take i xs) ++ option_to_list (h x)
-filter_map_more h xs i x l e =
-    ap (filter_map h) (take_more xs i x l) ∙ filter_map-append h (take i xs) (get_or xs i x ∷ [])
-    ∙ ap (λ ys. filter_map h (take i xs) ++ ys) (filter_map_one h (get_or xs i x) ∙ ap (λ y. option_to_list (h y)) (sym e))
+use Rattle.wit_model.proofs.Elements.{filter_map_one, given-here, given-later, zip-push}
 
 -- ---- elements
 
 pub contains-at : {X : Type 0} (xs : List X) (i : ℕ) (x : X) → i < length xs → x ≡ get_or xs i x → Contains xs x
 contains-at xs i x l e = (i, l, sym e)
 
-pub contains-map : {X Y : Type 0} (f : X → Y) (xs : List X) (x : X) → Contains xs x → Contains (map f xs) (f x)
-contains-map f xs x (i, l, e) = (i, subst (λ (n : ℕ). i < n) (sym (length-map xs f)) l, get_or-map f xs i x ∙ ap f e)
-
-given-here : {Y : Type 0} (o : Option Y) (ys : List Y) (y : Y) → Contains (option_to_list o) y → Contains (cons_option o ys) y
-given-here None ys y (i, l, e) = absurd (omega (arith, l))
-given-here (Some z) ys y (zero, l, e) = (0, omega arith, e)
-given-here (Some z) ys y (suc i, l, e) = absurd (omega (arith, l))
-
-given-later : {Y : Type 0} (o : Option Y) (ys : List Y) (y : Y) → Contains ys y → Contains (cons_option o ys) y
-given-later None ys y c = c
-given-later (Some z) ys y (i, l, e) = (suc i, omega arith, e)
-
-pub contains-filter_map : {X Y : Type 0} (h : X → Option Y) (xs : List X) (x : X) (y : Y) → Contains xs x → Contains (option_to_list (h x)) y → Contains (filter_map h xs) y
-contains-filter_map h [] x y (i, l, e) d = absurd (omega (arith, l))
-contains-filter_map h (z ∷ xs) x y (zero, l, e) d = given-here (h z) (filter_map h xs) y (subst (λ w. Contains (option_to_list (h w)) y) (sym e) d)
-contains-filter_map h (z ∷ xs) x y (suc i, l, e) d = given-later (h z) (filter_map h xs) y (contains-filter_map h xs x y (i, omega (arith, l), e) d)
-
 -- ---- two lists, place by place
 
-pub zip-push : {A B : Type 0} (R : A → B → Type 0) (xs : List A) (ys : List B) (x : A) (y : B) → AllZip R xs ys → R x y → AllZip R (xs ++ x ∷ []) (ys ++ y ∷ [])
-zip-push R [] [] x y h r = (r, tt)
-zip-push R [] (b ∷ ys) x y h r = absurd h
-zip-push R (a ∷ xs) [] x y h r = absurd h
-zip-push R (a ∷ xs) (b ∷ ys) x y h r = (h.0, zip-push R xs ys x y h.1 r)
-
 -- the loop over the second list
-pub zip-more : {A B : Type 0} (R : A → B → Type 0) (xs : List A) (ys : List B) (i : ℕ) (x : A) (y : B) → i < length ys → y ≡ get_or ys i y → AllZip R xs (take i ys) → R x y → AllZip R (xs ++ x ∷ []) (take (i + 1) ys)
-zip-more R xs ys i x y l e h r =
-    subst (λ (zs : List _). AllZip R (xs ++ x ∷ []) zs) (ap (λ z. take i ys ++ z ∷ []) e ∙ sym (take_more ys i y l)) (zip-push R xs (take i ys) x y h r)
-
-pub zip-along : {A B C : Type 0} (R : A → B → Type 0) (Q : A → C → Type 0) (f : B → C) → ((a : A) (b : B) → R a b → Q a (f b)) → (xs : List A) (ys : List B) → AllZip R xs ys → AllZip Q xs (map f ys)
-zip-along R Q f k [] [] h = tt
-zip-along R Q f k [] (b ∷ ys) h = h
-zip-along R Q f k (a ∷ xs) [] h = h
-zip-along R Q f k (a ∷ xs) (b ∷ ys) h = (k a b h.0, zip-along R Q f k xs ys h.1)
-
-pub zip-weaker : {A B : Type 0} (R Q : A → B → Type 0) → ((a : A) (b : B) → R a b → Q a b) → (xs : List A) (ys : List B) → AllZip R xs ys → AllZip Q xs ys
-zip-weaker R Q k [] [] h = tt
-zip-weaker R Q k [] (b ∷ ys) h = h
-zip-weaker R Q k (a ∷ xs) [] h = h
-zip-weaker R Q k (a ∷ xs) (b ∷ ys) h = (k a b h.0, zip-weaker R Q k xs ys h.1)
 
 -- ---- reads
 
-pub item-at : {X : Type 0} (xs ys : List X) (i : ℕ) (x d : X) → xs ≡ ys → i < length xs → x ≡ get_or xs i x → get_or ys i d ≡ x
-item-at xs ys i x d s l e = ap (λ zs. get_or zs i d) (sym s) ∙ get_or_default xs i d x l ∙ sym e
-
 pub contains-one : {X : Type 0} (x : X) → Contains (x ∷ []) x
 contains-one x = (0, omega arith, refl)
-
-pub one-contained : {X : Type 0} (x y : X) → Contains (x ∷ []) y → x ≡ y
-one-contained x y (zero, l, e) = e
-one-contained x y (suc i, l, e) = absurd (omega (arith, l))
-
-pub all-contained : {X : Type 0} (p : X → Bool) (xs : List X) (x : X) → list_all p xs ≡ true → Contains xs x → p x ≡ true
-all-contained p [] x h (i, l, e) = absurd (omega (arith, l))
-all-contained p (y ∷ xs) x h (zero, l, e) = ap p (sym e) ∙ first_true (p y) (list_all p xs) h
-all-contained p (y ∷ xs) x h (suc i, l, e) = all-contained p xs x (second_true (p y) (list_all p xs) h) (i, omega (arith, l), e)
-
-pub some-from : {X : Type 0} (P : X → Type 0) (o : Option X) → is_some o ≡ true → IfSome o P → (x : X) × P x
-some-from P None e h = absurd (let z : ⊥ = cc in z)
-some-from P (Some x) e h = (x, h)
 
 pub both : (a b : Bool) → a ≡ true → b ≡ true → (a && b) ≡ true
 both true true p q = refl

@@ -24,7 +24,8 @@ use Rattle.encode_types.specs.declared.plan.Order.{Order}
 use Rattle.encode_types.specs.Kinds.{parts_of}
 use Rattle.encode_types.specs.Maps.{IsKnown}
 use Rattle.encode_types.specs.Plan.{foreign_owner, Meets, at_once, further, IsLayered, PartsStand, IsOrdered, MetStand, Stands, IsPlanned, IsOrderOf, rank}
-use Rattle.encode_types.proofs.Lists.{contains-filter_map, contains-one, one-contained, all-contained}
+use Rattle.encode_types.proofs.Lists.{contains-one}
+use Rattle.wit_model.proofs.Elements.{contains-filter_map, one-contained, all-contained}
 
 none-of : {A : Type 0} (o : Option A) → is_some o ≡ false → o ≡ None
 none-of None e = refl

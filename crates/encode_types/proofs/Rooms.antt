@@ -22,13 +22,14 @@ use Rattle.encode_types.specs.Plan.{Reaches, itself, through, IsOrderOf, MetFrom
 use Rattle.encode_types.specs.Maps.{IsKnown, IsOnce, LearnsOnly}
 use Rattle.encode_types.specs.MetKinds.{ReachedFrom}
 use Rattle.encode_types.specs.Room.{Request, Refusals, HoldsFor, LacksPart, LacksOne, a_type, a_request, FindsNoRoom}
-use Rattle.encode_types.proofs.Lists.{one-contained, contains-one, none-in}
+use Rattle.encode_types.proofs.Lists.{contains-one, none-in}
 use Rattle.encode_types.proofs.Encoding.{meets-reaches}
 use Rattle.encode_types.proofs.Pairs.{pairs-across, pairs-head, pairs-map, pairs-right, pairs-tail}
+use Rattle.wit_model.proofs.Elements.{one-contained}
 
 -- ---- lists without repeats
 
-pairs-both : {X : Type 0} (R : X → X → Type 0) (xs ys : List X) → AllPairs R xs → AllPairs R ys → ((x y : X) → Contains xs x → Contains ys y → R x y) → AllPairs R (xs ++ ys)
+pub pairs-both : {X : Type 0} (R : X → X → Type 0) (xs ys : List X) → AllPairs R xs → AllPairs R ys → ((x y : X) → Contains xs x → Contains ys y → R x y) → AllPairs R (xs ++ ys)
 pairs-both R [] ys a b h = b
 pairs-both {X} R (x ∷ xs) ys a b h = AllPairs-cons R x (xs ++ ys) each (pairs-both R xs ys (pairs-tail R x xs a) b (λ y z c d. h y z (later y c) d))
   where

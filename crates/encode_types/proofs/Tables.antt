@@ -23,7 +23,8 @@ use Rattle.encode_types.specs.KeyLaws.{key_equiv}
 use Rattle.encode_types.proofs.EqualLists.{lists-of-keys, key-shrink}
 use Rattle.encode_types.specs.Maps.{AreNumbered, NamesGrow, NamesParams, AddsNames, IsOnce, LacksKey, LacksList}
 use Rattle.encode_types.specs.declared.maps.TypeEncodingMaps.{TypeEncodingMaps}
-use Rattle.encode_types.proofs.Lists.{none-in, contains-map}
+use Rattle.encode_types.proofs.Lists.{none-in}
+use Rattle.wit_model.proofs.Elements.{contains-map}
 
 pub equal-is : (o : Ordering) → is_eq o ≡ true → o ≡ Equal
 equal-is Less h = absurd (let z : ⊥ = cc in z)

@@ -16,7 +16,6 @@ use Rattle.plan_meaning.specs.NumberedWorlds as worlds
 use Rattle.plan_meaning.specs.NumberedWorlds.{NumberedScope, NumberedSeen}
 use Rattle.plan_meaning.specs.Shapes.{Shape, first_label, named_shape}
 use Rattle.plan_meaning.proofs.GatheredPlan.{all_at}
-use Rattle.plan_meaning.proofs.Gathering.{distinct_behind}
 use Rattle.plan_meaning.proofs.Lists.{map_of_map}
 use Rattle.plan_parts.specs.Interfaces.{slot_part}
 use Rattle.read_exports.specs.Members.{numbered_members}
@@ -44,6 +43,7 @@ use Rattle.plan_laws.proofs.Showings.{slot_is}
 use Rattle.plan_laws.proofs.ViewsAgree.{sight_there}
 use Rattle.plan_laws.proofs.WholeTypes.{packages_are_ruled}
 use Rattle.plan_laws.proofs.WorldKeys.{declared_in, keys_apart, one_key, one_world}
+use Rattle.comp_meaning.proofs.AgreementLaws.{distinct_behind}
 
 abbrev pub view_owned : NumberedView → Owned → NumberedView
 view_owned default (a_view v) = v

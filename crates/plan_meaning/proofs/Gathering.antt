@@ -19,6 +19,7 @@ use Rattle.comp_meaning.proofs.FunctionLists.{functions_make_one_map}
 use Rattle.comp_meaning.proofs.SameLaws.{shown_types_decide}
 use Rattle.plan_meaning.specs.Gathering.{ViewsMeanOne, OneViewIsEnough}
 use Rattle.plan_meaning.proofs.Lists.{map_from}
+use Rattle.comp_meaning.proofs.AgreementLaws.{distinct_behind}
 
 -- what a view shows of types
 abbrev types_of : Sight → List (Text × TypeMeaning)
@@ -41,10 +42,6 @@ one_types (x ∷ xs) h s t (suc i, l, e) (suc j, k, f) p =
     one_types xs (second_true (list_all (agree x) xs) _ h) s t (i, omega (arith, l), e) (j, omega (arith, k), f) p
 
 -- ---- functions
-
-pub distinct_behind : (xs ys : List Text) → distinct (xs ++ ys) ≡ true → distinct ys ≡ true
-distinct_behind [] ys e = e
-distinct_behind (x ∷ xs) ys e = distinct_behind xs ys (second_true (not (list_any (text_eq x) (xs ++ ys))) (distinct (xs ++ ys)) e)
 
 -- no function stands twice in a view of an interface
 functions_once : (all : List Sight) → are_interfaces all ≡ true → (s : Sight) → Contains all s → HaveDistinctNames s.view.functions

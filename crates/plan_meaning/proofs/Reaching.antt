@@ -27,7 +27,7 @@ use Rattle.wit_model.specs.Valid.{IsValid}
 use Rattle.wit_model.specs.Chains.{Chain}
 use Rattle.wit_model.proofs.Lists.{first_true, second_true}
 use Rattle.wit_model.proofs.Elements.{contains-filter_map, contains-one, contains-flat, has-contains, contains-has, contains-get}
-use Rattle.wit_model.proofs.Chains.{uses_fall, chains_reach}
+use Rattle.wit_model.proofs.Chains.{uses_fall, chains_reach, user_stands}
 use Rattle.plan_meaning.specs.Plan as plan
 use Rattle.plan_meaning.specs.Plan.{PlannedInterface, PlannedWorld, PlannedItem, PlannedPackage, number_under, numbers_of, package_in}
 use Rattle.plan_meaning.specs.PlanRules as planned
@@ -46,12 +46,6 @@ further r zero n m j c h = (j, ap (λ i. has (direct_deps r i) j) c ∙ h, refl)
 further r (suc k) n m j c h = (c.0, c.1, further r k c.0 m j c.2 h)
 
 -- only an interface that stands there uses any
-user_stands : (r : Resolve) (n m : ℕ) → has (direct_deps r n) m ≡ true → (i : Interface) × (interface_at r n ≡ Some i)
-user_stands r n m h = by (interface_at r n) refl
-  where
-    by : (o : Option Interface) → interface_at r n ≡ o → (i : Interface) × (interface_at r n ≡ Some i)
-    by (Some i) is = (i, is)
-    by None none = absurd (let nothing : has (filter (λ k. not (k == n)) (once [])) m ≡ true = sym (ap (λ o. has (filter (λ k. not (k == n)) (once (option_map_or (interfaces_used_by r) o []))) m) none) ∙ h in cc)
 
 -- ---- what is shown once is shown somewhere
 

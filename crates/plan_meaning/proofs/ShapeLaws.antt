@@ -13,7 +13,7 @@ use Rattle.plan_meaning.proofs.Lists.{get_of_map}
 
 -- ---- forms by their codes
 
-first_marked : (b : Bool) (ls : List Text) → map (λ l. l.0) (marked b ls) ≡ ls
+pub first_marked : (b : Bool) (ls : List Text) → map (λ l. l.0) (marked b ls) ≡ ls
 first_marked b [] = refl
 first_marked b (l ∷ ls) = ap (λ rest. l ∷ rest) (first_marked b ls)
 

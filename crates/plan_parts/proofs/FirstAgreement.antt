@@ -23,6 +23,7 @@ use Rattle.plan_meaning.specs.NumberedMembers.{are_interfaces}
 use Rattle.plan_meaning.specs.NumberedRules.{Fact, is_interface}
 use Rattle.plan_meaning.specs.NumberedViews.{NumberedFunction, NumberedSight, NumberedType, Tables, agree, agree_in_numbers, agree_with_first_in_numbers, agrees_with_first, first_at, first_whole_at, same_function, same_functions, same_number, same_shown, same_types, same_whole}
 use Rattle.plan_meaning.proofs.Lists.{length_of_map}
+use Rattle.comp_meaning.proofs.AgreementLaws.{found_contains, last_of, distinct_behind}
 
 -- ---- numbers as trees of their own
 
@@ -137,18 +138,6 @@ agree_from a b types functions = by ((a.place == b.place)) refl
 
 -- ---- look-ups
 
-found_contains : {X : Type 0} (p : X → Bool) (xs : List X) (x : X) → find p xs ≡ Some x → (p x ≡ true) × Contains xs x
-found_contains p [] x e = absurd cc
-found_contains p (y ∷ ys) x e = by (p y) refl (found_contains p ys x) e
-  where
-    by : (b : Bool) → p y ≡ b → (find p ys ≡ Some x → (p x ≡ true) × Contains ys x) → cond b (Some y) (find p ys) ≡ Some x → (p x ≡ true) × Contains (y ∷ ys) x
-    by true t more h = let same : y ≡ x = cc in (sym (ap p same) ∙ t, (0, omega arith, same))
-    by false t more h = let rest = more h in (rest.0, (suc rest.1.0, (let low = rest.1.1 in omega (arith, low)), rest.1.2))
-
-last_of : {X : Type 0} (x y : X) → Contains (x ∷ []) y → x ≡ y
-last_of x y (zero, low, h) = h
-last_of x y (suc i, low, h) = absurd (omega (arith, low))
-
 -- ---- agreement with each is agreement with the first
 
 into : (rest earlier : List NumberedSight) → ((x : NumberedSight) → Contains earlier x → list_all (agree x) rest ≡ true) → agree_in_numbers rest ≡ true → agree_with_first_in_numbers earlier rest ≡ true
@@ -255,10 +244,6 @@ back (s ∷ rest) earlier known once all =
     )
 
 -- ---- views of interfaces
-
-distinct_behind : (xs ys : List Text) → distinct (xs ++ ys) ≡ true → distinct ys ≡ true
-distinct_behind [] ys e = e
-distinct_behind (x ∷ xs) ys e = distinct_behind xs ys (second_true (not (list_any (text_eq x) (xs ++ ys))) (distinct (xs ++ ys)) e)
 
 none_contained : (x : NumberedSight) → Contains [] x → ⊥
 none_contained x (i, low, h) = omega (arith, low)

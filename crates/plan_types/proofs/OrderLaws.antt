@@ -10,11 +10,7 @@ use Rattle.read_rules.specs.declared.reached.ImportedView.{ImportedView}
 use Rattle.read_rules.specs.declared.views.View.{View}
 use Rattle.read_rules.specs.Reached.{numbered_import}
 use Rattle.plan_types.specs.Orders.{joined, joined_all, places_of_part}
-
-drop_mapped : {A B : Type 0} (f : A → B) (i : ℕ) (xs : List A) → drop i (map f xs) ≡ map f (drop i xs)
-drop_mapped f zero xs = refl
-drop_mapped f (suc i) [] = refl
-drop_mapped f (suc i) (x ∷ xs) = drop_mapped f i xs
+use Rattle.read_exports.proofs.WalkLaws.{drop_mapped}
 
 pub joined_both : (met ps qs : List ℕ) → joined_all met (ps ++ qs) ≡ joined_all (joined_all met ps) qs
 joined_both met [] qs = refl

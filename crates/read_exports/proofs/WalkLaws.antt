@@ -6,20 +6,17 @@ use Rattle.std.specs.List.{list_any}
 use Rattle.comp_bytes.specs.Reading.{◌>>=◌}
 use Rattle.comp_meaning.specs.Follow.{each}
 use Rattle.plan_meaning.specs.NumberedViews.{NumberedSight, NumberedView}
+use Rattle.read_rules.proofs.SightLaws.{append_line}
 
 -- the view of an import, which shows types alone
 abbrev pub imported_sight : ℕ × NumberedView → NumberedSight
 imported_sight i = record { place = i.0; view = i.1; whole = false }
 
-append_line : {A : Type 0} (xs ys zs : List A) → (xs ++ ys) ++ zs ≡ xs ++ (ys ++ zs)
-append_line [] ys zs = refl
-append_line (x ∷ xs) ys zs = ap (λ l. x ∷ l) (append_line xs ys zs)
-
 append_none : {A : Type 0} (xs : List A) → xs ++ [] ≡ xs
 append_none [] = refl
 append_none (x ∷ xs) = ap (λ l. x ∷ l) (append_none xs)
 
-drop_mapped : {A B : Type 0} (f : A → B) (i : ℕ) (xs : List A) → drop i (map f xs) ≡ map f (drop i xs)
+pub drop_mapped : {A B : Type 0} (f : A → B) (i : ℕ) (xs : List A) → drop i (map f xs) ≡ map f (drop i xs)
 drop_mapped f zero xs = refl
 drop_mapped f (suc i) [] = refl
 drop_mapped f (suc i) (x ∷ xs) = drop_mapped f i xs

@@ -18,7 +18,7 @@ use Rattle.plan_meaning.specs.Shapes.{Shape, form_code, marked, primitives, part
 use Rattle.read_follow.specs.KeyShapes.{label_of}
 use Rattle.read_follow.specs.Facts.{places, places_in, is_plain, are_plain, below, labels_of, cap, joined, with_fact, primitive_fact, name_fact, node_fact, fact_at, is_named_sort, AreOf, Tells, FactsHold, Sums}
 use Rattle.read_follow.proofs.AddLaws.{mapped_get}
-use Rattle.plan_meaning.proofs.ShapeLaws.{name_tree, node_tree, part_front, split_part, slice_there}
+use Rattle.plan_meaning.proofs.ShapeLaws.{name_tree, node_tree, part_front, split_part, slice_there, first_marked}
 
 -- ---- places
 
@@ -224,10 +224,6 @@ named_by_sort (Form.enum_of ls) = refl
 named_by_sort (Form.result_of ok err) = refl
 named_by_sort (Form.future_of some) = refl
 named_by_sort (Form.stream_of some) = refl
-
-first_marked : (b : Bool) (ls : List Text) → map (λ l. l.0) (marked b ls) ≡ ls
-first_marked b [] = refl
-first_marked b (l ∷ ls) = ap (λ rest. l ∷ rest) (first_marked b ls)
 
 labels_by_code : (f : Form) → map (λ l. l.0) (form_code f).labels ≡ form_labels f
 labels_by_code (Form.record_of ls) = first_marked true ls

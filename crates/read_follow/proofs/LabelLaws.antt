@@ -7,10 +7,7 @@ use Rattle.wit_model.specs.Names.{is_label}
 use Rattle.wit_model.specs.Rules.{are_distinct}
 use Rattle.wit_model.proofs.Distinct.{adds_new, adds_distinct, new_turn, old_turn, last_turn}
 use Rattle.comp_meaning.specs.Rules.{distinct, are_labels}
-
-distinct_same : (ts : List Text) → are_distinct ts ≡ distinct ts
-distinct_same [] = refl
-distinct_same (t ∷ ts) = ap (λ b. not (list_any (text_eq t) ts) && b) (distinct_same ts)
+use Rattle.plan_meaning.proofs.KeptTypes.{distinct_same}
 
 same_default : {X : Type 0} (xs : List X) (i : ℕ) (d e : X) → i < length xs → get_or xs i d ≡ get_or xs i e
 same_default [] i d e h = absurd (omega (arith, h))

@@ -19,7 +19,6 @@ pub mod OverLaws
 pub mod PartTypeLaws
 pub mod PlacedLaws
 pub mod PlacedScopes
-pub mod PathLaws
 pub mod PlaceLaws
 pub mod Refusing
 pub mod RowLaws

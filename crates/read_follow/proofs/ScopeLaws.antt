@@ -246,7 +246,7 @@ waiting_push used n (slots.Resource part ∷ ss) s = waiting_push used (suc n) s
 waiting_push used n (slots.Function f ∷ ss) s = waiting_push used (suc n) ss s
 waiting_push used n (slots.Instance b around ∷ ss) s = let rest = waiting_push used (suc n) ss s in omega (arith, rest)
 
-any_more : (used : List ℕ) (m n : ℕ) → list_any (λ k. k == n) (used ++ m ∷ []) ≡ (list_any (λ k. k == n) used || (m == n))
+pub any_more : (used : List ℕ) (m n : ℕ) → list_any (λ k. k == n) (used ++ m ∷ []) ≡ (list_any (λ k. k == n) used || (m == n))
 any_more [] m n = by (m == n)
   where
     by : (b : Bool) → (b || false) ≡ (false || b)
@@ -258,7 +258,7 @@ any_more (u ∷ used) m n = ap (λ b. (u == n) || b) (any_more used m n) ∙ by 
     by true = refl
     by false = refl
 
-fewer : (a b : Bool) (k : ℕ) → cond (a || b) 0 k ≤ cond a 0 k
+pub fewer : (a b : Bool) (k : ℕ) → cond (a || b) 0 k ≤ cond a 0 k
 fewer true b k = omega arith
 fewer false true k = omega arith
 fewer false false k = omega arith

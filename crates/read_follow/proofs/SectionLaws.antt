@@ -26,13 +26,6 @@ pub frame_refused : (bytes : List ℕ) (e : Error) (left : ℕ) → frame_at byt
 frame_refused bytes (errors.NoReading cause offset) left none = none
 frame_refused bytes _ left none = tt
 
-pub frame_shorter : (bytes : List ℕ) (f : ℕ × List ℕ) (rest : List ℕ) → frame_at bytes ≡ Some (f, rest) → length rest < length bytes
-frame_shorter bytes f rest e =
-    let t = frame_law.takes bytes f rest e in
-    let whole : length bytes ≡ length t.front + length rest = ap length t.parts ∙ length-append t.front rest in
-    let first : length t.front ≡ suc (length t.spelled.0) = ap length t.spelled.1 in
-    omega (arith, whole, first)
-
 -- ---- refusals
 
 pub alike : {A : Type 0} (e other : Refusal) (found : Option A) → AreAlike e other → Refuses e found → Refuses other found

@@ -42,12 +42,12 @@ home_reason old new packages path (Err e) reads takes = tt
 
 -- ---- one place more
 
-front_more : {X : Type 0} (xs : List X) (y : X) (n : ℕ) (x : X) → slice_get xs n ≡ Some x → slice_get (xs ++ y ∷ []) n ≡ Some x
+pub front_more : {X : Type 0} (xs : List X) (y : X) (n : ℕ) (x : X) → slice_get xs n ≡ Some x → slice_get (xs ++ y ∷ []) n ≡ Some x
 front_more [] y n x e = absurd cc
 front_more (z ∷ xs) y zero x e = e
 front_more (z ∷ xs) y (suc n) x e = front_more xs y n x e
 
-last_there : {X : Type 0} (xs : List X) (y : X) → slice_get (xs ++ y ∷ []) (length xs) ≡ Some y
+pub last_there : {X : Type 0} (xs : List X) (y : X) → slice_get (xs ++ y ∷ []) (length xs) ≡ Some y
 last_there [] y = refl
 last_there (z ∷ xs) y = last_there xs y
 

@@ -10,33 +10,7 @@ use Rattle.comp_meaning.specs.Follow.{Scope, each, is_filled, provided}
 use Rattle.comp_meaning.specs.Reads.{Member, Part, labelled_path}
 use Rattle.comp_meaning.specs.Rules.{is_world}
 use Rattle.read_parts.specs.Followed.{PartScope, world, interface, labelled_scope, member_of_scope, part_of_scope, part_scope, scopes_in, scopes_of, world_path}
-use Rattle.read_parts.proofs.ScopeMeaning.{each_both}
-
-part_law : (label : Text) (p : PartType) → part_by_levels label p ≡ (part_scope p >>= part_of_scope label)
-part_law label (wraps es name) = by (world_path name) (entry_scope es)
-  where
-    nothing : (o : Option PackageIdentity) → (o >>= λ package_. let none : Option (PackageIdentity × Part) = None in none) ≡ None
-    nothing None = refl
-    nothing (Some package_) = refl
-
-    by : (o : Option Text) (s : Option Scope)
-        → (o >>= λ path. labelled_path label path >>= λ package_. s >>= λ scope. provided (is_world scope) (package_, Part.world scope))
-        ≡ ((o >>= λ path. s >>= λ scope. Some (world path scope)) >>= part_of_scope label)
-    by None s = refl
-    by (Some path) None = nothing (labelled_path label path)
-    by (Some path) (Some scope) = refl
-part_law label (shows es) = by (entry_scope es)
-  where
-    by : (s : Option Scope) → (s >>= λ scope. part_of_scope label (interface scope)) ≡ ((s >>= λ scope. Some (interface scope)) >>= part_of_scope label)
-    by None = refl
-    by (Some scope) = refl
-
-member_law : (x : Text × PartType) → member_by_levels x ≡ (labelled_scope x >>= member_of_scope)
-member_law x = ap (λ o. o >>= λ p. Some (record { label = x.0; package_ = p.0; part = p.1 })) (part_law x.0 x.1) ∙ by (part_scope x.1)
-  where
-    by : (o : Option PartScope) → ((o >>= part_of_scope x.0) >>= λ p. Some (record { label = x.0; package_ = p.0; part = p.1 })) ≡ ((o >>= λ p. let y : Text × PartScope = (x.0, p) in Some y) >>= member_of_scope)
-    by None = refl
-    by (Some p) = refl
+use Rattle.read_parts.proofs.ScopeMeaning.{each_both, part_law, member_law}
 
 -- the scopes of these parts are the items of the sections' parts
 pub scopes_found : (pieces : List Piece) (parts : List (Text × PartType)) → exported_parts pieces ≡ Some parts → (scopes : List (Text × PartScope)) → scopes_of pieces ≡ Some scopes → each labelled_scope parts ≡ Some scopes

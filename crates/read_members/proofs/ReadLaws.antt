@@ -19,6 +19,7 @@ use Rattle.plan_meaning.specs.NumberedRules.{Fact}
 use Rattle.plan_meaning.specs.NumberedViews.{Tables}
 use Rattle.read_members.specs.declared.reading.ReadMember.{ReadMember}
 use Rattle.read_members.specs.ReadMembers.{read_member, AreForMembers, AreRead, Because, IsForMember, IsMemberRead, IsPartRead}
+use Rattle.read_homes.proofs.HomeLaws.{front_more, last_there}
 
 -- ---- items by number
 
@@ -75,15 +76,6 @@ joined old new identity (comes fresh) are n at = λ k low.
 
 pub labelled_added : (old new : List PackageIdentity) → ArePackages new → (label path : Text) → Takes old (labelled_path label path) new → (n : ℕ) → IsLabelled new label path (Some n) → (k : ℕ) → k < length new → (k < length old) ⊎ (n ≡ k)
 labelled_added old new are label path takes n is = joined old new is.0 (subst (λ (o : Option PackageIdentity). Takes old o new) is.2 takes) are n is.1
-
-front_more : {X : Type 0} (xs : List X) (y : X) (n : ℕ) (x : X) → slice_get xs n ≡ Some x → slice_get (xs ++ y ∷ []) n ≡ Some x
-front_more [] y n x e = absurd cc
-front_more (z ∷ xs) y zero x e = e
-front_more (z ∷ xs) y (suc n) x e = front_more xs y n x e
-
-last_there : {X : Type 0} (xs : List X) (y : X) → slice_get (xs ++ y ∷ []) (length xs) ≡ Some y
-last_there [] y = refl
-last_there (z ∷ xs) y = last_there xs y
 
 for_more : (first old new : List PackageIdentity) (ms : List (NumberedMember × List (Option ℕ))) (m : NumberedMember × List (Option ℕ)) → AreForMembers first old ms → IsForMember old new m → AreForMembers first new (ms ++ m ∷ [])
 for_more first old new ms m all one k low = elim (one k low) [

@@ -22,6 +22,7 @@ use Rattle.read_parts.specs.Exported.{part_under}
 use Rattle.read_parts.specs.Members.{part_weight, parts_weight}
 use Rattle.read_parts.specs.Tops.{empty_top}
 use Rattle.read_follow.proofs.StepLaws.{some_same}
+use Rattle.read_follow.proofs.ScopeLaws.{any_more, fewer}
 
 -- ---- bytes
 
@@ -218,23 +219,6 @@ left_over used n (p ∷ ps) = cond (list_any (λ m. m == n) used) 0 (part_weight
 all_left : (n : ℕ) (ps : List PartType) → left_over [] n ps ≡ types_weight ps
 all_left n [] = refl
 all_left n (p ∷ ps) = ap (λ k. part_weight p + k) (all_left (suc n) ps)
-
-any_more : (used : List ℕ) (m n : ℕ) → list_any (λ k. k == n) (used ++ m ∷ []) ≡ (list_any (λ k. k == n) used || (m == n))
-any_more [] m n = by (m == n)
-  where
-    by : (b : Bool) → (b || false) ≡ (false || b)
-    by true = refl
-    by false = refl
-any_more (u ∷ used) m n = ap (λ b. (u == n) || b) (any_more used m n) ∙ by (u == n)
-  where
-    by : (b : Bool) → (b || (list_any (λ k. k == n) used || (m == n))) ≡ ((b || list_any (λ k. k == n) used) || (m == n))
-    by true = refl
-    by false = refl
-
-fewer : (a b : Bool) (k : ℕ) → cond (a || b) 0 k ≤ cond a 0 k
-fewer true b k = omega arith
-fewer false true k = omega arith
-fewer false false k = omega arith
 
 less_left : (used : List ℕ) (m n : ℕ) (ps : List PartType) → left_over (used ++ m ∷ []) n ps ≤ left_over used n ps
 less_left used m n [] = omega arith

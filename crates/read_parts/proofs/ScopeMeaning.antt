@@ -27,7 +27,7 @@ each_both {A = A} {B = B} {C = C} f g h same (x ∷ xs) = ap (λ o. o >>= λ z. 
 
 -- ---- one part
 
-part_law : (label : Text) (p : PartType) → part_by_levels label p ≡ (part_scope p >>= part_of_scope label)
+pub part_law : (label : Text) (p : PartType) → part_by_levels label p ≡ (part_scope p >>= part_of_scope label)
 part_law label (wraps es name) = by (world_path name) (entry_scope es)
   where
     nothing : (o : Option PackageIdentity) → (o >>= λ package_. let none : Option (PackageIdentity × Part) = None in none) ≡ None
@@ -46,7 +46,7 @@ part_law label (shows es) = by (entry_scope es)
     by None = refl
     by (Some scope) = refl
 
-member_law : (x : Text × PartType) → member_by_levels x ≡ (labelled_scope x >>= member_of_scope)
+pub member_law : (x : Text × PartType) → member_by_levels x ≡ (labelled_scope x >>= member_of_scope)
 member_law x = ap (λ o. o >>= λ p. Some (record { label = x.0; package_ = p.0; part = p.1 })) (part_law x.0 x.1) ∙ by (part_scope x.1)
   where
     by : (o : Option PartScope) → ((o >>= part_of_scope x.0) >>= λ p. Some (record { label = x.0; package_ = p.0; part = p.1 })) ≡ ((o >>= λ p. let y : Text × PartScope = (x.0, p) in Some y) >>= member_of_scope)

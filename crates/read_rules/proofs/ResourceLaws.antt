@@ -58,7 +58,7 @@ name_added test ks new name r e added = go (list_any (λ o. text_eq name.now o.n
         ∙ (ap (list_any test) (map-append now_of ks (name ∷ []))
         ∙ (list_any-append test (map now_of ks) (name.now ∷ []) ∙ ap (λ b. list_any test (map now_of ks) || b) (or_false (test name.now))))
 
-one_or_none : (test : Text → Bool) (name : Text) (others : List Text) (v : Bool) → list_any test (cond v (name ∷ others) others) ≡ ((v && test name) || list_any test others)
+pub one_or_none : (test : Text → Bool) (name : Text) (others : List Text) (v : Bool) → list_any test (cond v (name ∷ others) others) ≡ ((v && test name) || list_any test others)
 one_or_none test name others true = refl
 one_or_none test name others false = refl
 

@@ -10,10 +10,7 @@ use Rattle.wit_model.proofs.Distinct.{adds_new, adds_distinct, new_turn, old_tur
 use Rattle.comp_meaning.specs.Rules.{are_labels, distinct}
 use Rattle.read_rules.specs.Tables.{now_of, param_of}
 use Rattle.read_rules.proofs.PlaceLaws.{same_default}
-
-distinct_same : (ts : List Text) → are_distinct ts ≡ distinct ts
-distinct_same [] = refl
-distinct_same (t ∷ ts) = ap (λ b. not (list_any (text_eq t) ts) && b) (distinct_same ts)
+use Rattle.plan_meaning.proofs.KeptTypes.{distinct_same}
 
 adds_all : (ts : List Text) → adds_new text_eq [] ts ≡ distinct ts
 adds_all ts = adds_distinct ts ∙ distinct_same ts

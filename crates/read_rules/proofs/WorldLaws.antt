@@ -31,6 +31,7 @@ use Rattle.read_rules.specs.Views.{numbered_type, numbered_view}
 use Rattle.read_rules.specs.Worlds.{IsAdded, may_be_exported, may_be_imported}
 use Rattle.read_rules.proofs.InterfaceLaws.{same_function}
 use Rattle.read_rules.proofs.PlaceLaws.{same_before, stands_earlier}
+use Rattle.read_rules.proofs.ResourceLaws.{one_or_none}
 
 -- ---- resources that were seen
 
@@ -41,10 +42,6 @@ or_false false = refl
 or_line : (a b c : Bool) → ((a || b) || c) ≡ (a || (b || c))
 or_line true b c = refl
 or_line false b c = refl
-
-one_or_none : (test : Text → Bool) (name : Text) (others : List Text) (v : Bool) → list_any test (cond v (name ∷ others) others) ≡ ((v && test name) || list_any test others)
-one_or_none test name others true = refl
-one_or_none test name others false = refl
 
 seen_behind : (test : Text → Bool) (before : List NumberedSeen) (s : NumberedSeen) → list_any test (resources_seen (before ++ s ∷ [])) ≡ (list_any test (resources_seen before) || (is_resource_seen s.shown && test s.key))
 seen_behind test [] s = one_or_none test s.key [] (is_resource_seen s.shown) ∙ or_false (is_resource_seen s.shown && test s.key)

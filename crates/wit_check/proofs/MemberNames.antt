@@ -9,9 +9,6 @@ use Rattle.wit_model.specs.Rules.{after_prefix, each_from}
 use Rattle.wit_model.specs.Valid.{Rule, IsFound}
 
 -- what a walk over the interfaces found
-pub found_interfaces : (rule : Rule) (r : Resolve) (xs : List Interface) → xs ≡ r.interfaces.items → (o : Option ℕ) → MatchOption o (each_from (rule.interface_ r) 0 xs ≡ true) (λ n. option_map (rule.interface_ r n) (slice_get xs n) ≡ Some false) → IsFound rule r lists.Interfaces o
-found_interfaces rule r xs same None h = ap (each_from (rule.interface_ r) 0) (sym same) ∙ h
-found_interfaces rule r xs same (Some n) h = ap (λ ys. option_map (rule.interface_ r n) (slice_get ys n)) (sym same) ∙ h
 
 -- a prefix of two parts is one after the other
 pub after_both : (ps qs bs : Text) → after_prefix (ps ++ qs) bs ≡ option_and_then (after_prefix qs) (after_prefix ps bs)

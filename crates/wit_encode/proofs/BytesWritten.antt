@@ -49,8 +49,7 @@ use Rattle.wit_encode.proofs.ImportLoop.{numbers-next}
 use Rattle.wit_encode.proofs.Extents.{bytes-few}
 use Rattle.wit_encode.proofs.ExtentWeighing.{dependencies-light, instances-light}
 use Rattle.wit_encode.proofs.Lengths.{u32-short}
-use Rattle.wit_encode.proofs.Opening.{Placed}
-use Rattle.wit_encode.proofs.Refusing.{map-twice}
+use Rattle.wit_encode.proofs.Opening.{Placed, map-twice}
 
 -- ---- answers
 
@@ -228,7 +227,7 @@ adds-described n outer between outer' d named name one e l same =
     let is = ap name_extent same in
     record { few = omega (arith, before, after, is) }
 
-abbrev import-extent : Resolve → Bool → ℕ → ℕ
+abbrev pub import-extent : Resolve → Bool → ℕ → ℕ
 import-extent r canonical n = instance_extent (name_of_interface r canonical n) (types_instance_weight r n)
 
 -- one import more

@@ -41,11 +41,11 @@ use Rattle.encode_types.specs.MetKinds.{AreMetKinds, referred}
 use Rattle.encode_types.specs.Counts.{Definitions, names_defined, is_defined_by_name, is_defined_under_name, own_name, name_of_own, Shows, AddsKey, AddsTypes, AddsFunction}
 use Rattle.encode_types.specs.Distinct.{Key, key_of, key_view, are_same, KnowsKey, defined_under_names, AddsFunctions, DefinesKeys, DefinesTypes, is_value_type, is_function_type}
 use Rattle.wit_encode.specs.Instance.{own_of, contents_of, inner_contents, encoder_scope, definitions_with, opened, ShowsFunction}
-use Rattle.encode_types.proofs.Lists.{contains-map}
 use Rattle.encode_types.proofs.Pairs.{pairs-map}
 use Rattle.encode_types.proofs.Tables.{kept-in, new-in, one-more-in}
 use Rattle.wit_encode.proofs.Naming.{or-second}
 use Rattle.wit_encode.proofs.HeldKeys.{both-ways, any-at, same_equiv, HasList, alike, grown, shrunk, knows-same, knows-along, knows-none, keyed}
+use Rattle.wit_model.proofs.Elements.{contains-map}
 
 -- ---- keys
 

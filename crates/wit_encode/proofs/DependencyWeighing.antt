@@ -28,19 +28,21 @@ use Rattle.encode_shown.specs.Views.{AreReached, AreUsed}
 use Rattle.encode_shown.proofs.Reach.{Chain, chain-reached, further, used-chain}
 use Rattle.encode_types.specs.MetKinds.{ReachedFrom, referred}
 use Rattle.encode_types.specs.Room.{IsUnfit, LacksOne, a_type, a_request, limit}
-use Rattle.encode_types.proofs.Lists.{contains-map, none-in}
+use Rattle.encode_types.proofs.Lists.{none-in}
 use Rattle.wit_model.proofs.OnePath.{found-in}
 use Rattle.encode_names.specs.WorldNames.{name_of_interface}
 use Rattle.wit_encode.specs.DependencyRoom.{TypesLackRoom, ImportsLackRoom, an_interface, a_path, too_many, ComponentLacksRoom, of_imports, of_interface, of_path, LackingComponentsAreHeavy}
 use Rattle.wit_encode.specs.WorldRoom.{IsNamedTypeOf}
 use Rattle.wit_encode.proofs.Counting.{from-filter}
-use Rattle.wit_encode.proofs.ImportLoop.{distinct-front, path-in-range}
-use Rattle.wit_encode.proofs.Numbers.{contains-has, has-contains, same-number}
+use Rattle.wit_encode.proofs.ImportLoop.{path-in-range}
+use Rattle.wit_encode.proofs.Numbers.{same-number}
 use Rattle.wit_encode.proofs.Reached.{IsOwner, interface-owner}
 use Rattle.wit_encode.proofs.UsedPaths.{used-path}
 use Rattle.wit_encode.proofs.Validity.{type_passes}
 use Rattle.wit_encode.proofs.Weighing.{Differ, at-least, contains-once, counted-least, counted-once, lacking-heavy, one-of, part-heavy-of, sum-among}
 use Rattle.wit_encode.proofs.WorldWeighing.{each, each-least, long, name-fits, number-least, suffix-long, written-long}
+use Rattle.wit_model.proofs.Elements.{contains-map, has-contains, contains-has}
+use Rattle.encode_shown.proofs.Dependencies.{distinct-front}
 
 -- ---- what is reached
 

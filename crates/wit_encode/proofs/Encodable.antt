@@ -38,8 +38,7 @@ use Rattle.encode_types.specs.Known.{UsedStand}
 use Rattle.wit_encode.specs.Instance.{CanEncodeFunction, CanEncodeInterface, encoder_scope, opened, keyed, standing_instances, around_at}
 use Rattle.wit_model.specs.declared.model.«Type».{«Type» as ValueType}
 use Rattle.encode_types.specs.Plan.{Reaches, itself, through}
-use Rattle.encode_types.proofs.Lists.{all-contained, both, contains-map, one-contained}
-use Rattle.wit_encode.proofs.Owned.{same-owner, or-cases}
+use Rattle.encode_types.proofs.Lists.{both}
 use Rattle.wit_model.proofs.OnePath.{equal-numbers, found-in, some-of, some-same}
 use Rattle.wit_encode.proofs.Naming.{or-first, or-second, one-home, valid-listed}
 use Rattle.wit_encode.specs.OwnerScope.{IsScopeOf, IsUsedBy, UsesStand, IsTypeOf, InterfaceUses, functions_of}
@@ -47,6 +46,8 @@ use Rattle.wit_encode.proofs.OwnerScope.{types_encode, types_use, functions_enco
 use Rattle.wit_encode.proofs.Naming.{names-agree}
 use Rattle.wit_encode.proofs.Opening.{opened-sound, opened-around}
 use Rattle.wit_encode.proofs.Validity.{interface_passes, valid-layered}
+use Rattle.wit_model.proofs.Elements.{contains-map, one-contained, all-contained}
+use Rattle.encode_shown.proofs.Basics.{same-owner, or-cases}
 
 -- ---- look-ups
 

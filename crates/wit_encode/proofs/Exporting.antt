@@ -42,14 +42,15 @@ use Rattle.encode_types.specs.Scope.{Scope}
 use Rattle.encode_types.specs.Counts.{Definitions, Shows, own_name, name_of_own}
 use Rattle.wit_encode.specs.Instance.{declarations_in}
 use Rattle.wit_encode.specs.Exports.{AreTypesOf, ShowsFirst, AllKnown, KnowsUsed, UsesListed}
-use Rattle.encode_types.proofs.Lists.{all-contained, contains-filter_map, contains-map, contains-one, one-contained, none-in}
-use Rattle.wit_encode.proofs.Owned.{same-owner, valid-references}
+use Rattle.encode_types.proofs.Lists.{contains-one, none-in}
 use Rattle.wit_encode.proofs.Validity.{interface_passes}
-use Rattle.wit_encode.proofs.Numbers.{same-some, same-number, equal, contains-get, contains-later, contains-flat, has-contains, once-before, gives-none, gives-one, nothing-mapped, one-mapped}
+use Rattle.wit_encode.proofs.Numbers.{same-some, same-number, equal, once-before, gives-none, gives-one, nothing-mapped, one-mapped}
 use Rattle.wit_encode.proofs.ListedTypes.{IsListedType, numbers, owned-listed, listed-type, type-there, number-there, listed-once, listed-key, uses-before}
 use Rattle.wit_encode.proofs.Meeting.{AllMeetKnown, part-uses, meets-unnamed}
 use Rattle.encode_types.proofs.Pairs.{pairs-across, pairs-right}
 use Rattle.encode_types.proofs.Tables.{pairs-permuted}
+use Rattle.wit_model.proofs.Elements.{contains-map, contains-filter_map, one-contained, all-contained, contains-get, contains-later, contains-flat, has-contains}
+use Rattle.encode_shown.proofs.Basics.{valid-references, same-owner}
 
 -- ---- what is learnt
 

@@ -23,7 +23,7 @@ use Rattle.wit_model.proofs.Lists.{first_true, second_true}
 
 -- ---- children
 
-children-list : (ts : List Tree) → child_list (children ts) ≡ ts
+pub children-list : (ts : List Tree) → child_list (children ts) ≡ ts
 children-list [] = refl
 children-list (t ∷ ts) = ap (λ us. t ∷ us) (children-list ts)
 

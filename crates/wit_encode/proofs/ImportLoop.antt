@@ -28,6 +28,7 @@ use Rattle.wit_encode.proofs.DependencyHolding.{import-defines, import-few, next
 use Rattle.wit_encode.proofs.Imported.{imports_grow}
 use Rattle.wit_encode.proofs.ImportsStand.{imports_stand}
 use Rattle.wit_encode.proofs.UsedPaths.{used-path}
+use Rattle.encode_shown.proofs.Dependencies.{distinct-front}
 
 -- ---- lists
 
@@ -40,15 +41,6 @@ earlier-at r earlier (x ∷ ns) (suc k) n m u e c = subst (λ xs. Contains xs m)
 earlier-front : (r : Resolve) (earlier ns ms : List ℕ) → UseEarlier r earlier (ns ++ ms) → UseEarlier r earlier ns
 earlier-front r earlier [] ms u = tt
 earlier-front r earlier (x ∷ ns) ms u = (u.0, earlier-front r (earlier ++ x ∷ []) ns ms u.1)
-
-pub distinct-front : (xs ys : List ℕ) → IsDistinct (λ a b. a == b) (xs ++ ys) → IsDistinct (λ a b. a == b) xs
-unfolding IsDistinct
-distinct-front [] ys d = tt
-distinct-front (x ∷ xs) ys d = (front xs d.0, distinct-front xs ys d.1)
-  where
-    front : (zs : List ℕ) → AllByRecursion (λ y. (x == y) ≡ false) (zs ++ ys) → AllByRecursion (λ y. (x == y) ≡ false) zs
-    front [] a = tt
-    front (z ∷ zs) a = (a.0, front zs a.1)
 
 -- a number doesn't stand before its place
 not-before : (ns : List ℕ) (k n : ℕ) → IsDistinct (λ a b. a == b) ns → slice_get ns k ≡ Some n → Contains (take k ns) n → ⊥

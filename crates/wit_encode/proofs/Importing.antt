@@ -35,12 +35,13 @@ use Rattle.encode_types.specs.Resources.{is_named_interface, named_resources}
 use Rattle.encode_types.specs.Known.{Around, Aliased, alias_declared, with_alias, with_aliases, IsAlias, AreAliases, IsSource, ReachesAround, as_before, aliased, known_slot, known_instance, is_name_slot, is_slot_for, is_named_of, is_instance_of, shows_type, is_standing, stands_around, are_right, below}
 use Rattle.encode_types.specs.Scope.{Scope, IsImportable}
 use Rattle.wit_encode.specs.Instance.{standing_at, SlotsStand, is_slot_of, outer_slots, outer_instances, is_owner_in, resources_in, is_sound_in, place_in, Contents, standing_instances, scope_from, scope_with, inner_contents, contents_of, around_at, encoder_scope, definitions_with}
-use Rattle.encode_types.proofs.Lists.{both, all-contained}
+use Rattle.encode_types.proofs.Lists.{both}
 use Rattle.encode_types.proofs.Tables.{equal-self, at-some, number-found}
 use Rattle.wit_encode.proofs.Contents.{slots-kept}
 use Rattle.wit_encode.proofs.Calls.{Calls, alias-inside}
 use Rattle.wit_encode.proofs.Wider.{get-left, Widened, widened, contents-wider}
 use Rattle.wit_encode.proofs.Within.{CallsTo}
+use Rattle.wit_model.proofs.Elements.{all-contained}
 
 -- ---- lists
 

@@ -31,8 +31,8 @@ use Rattle.encode_types.specs.Known.{Around, below, is_instance_of, is_known_as,
 use Rattle.encode_types.proofs.Lists.{both}
 use Rattle.wit_model.proofs.OnePath.{some-of}
 use Rattle.wit_encode.proofs.Naming.{HaveHomes, names-agree, one-home, or-second, place-alike}
-use Rattle.wit_encode.proofs.Owned.{same-owner}
 use Rattle.wit_encode.specs.Dependencies.{HasImported, ImportsStand, imported_instance}
+use Rattle.encode_shown.proofs.Basics.{same-owner}
 
 -- ---- lists
 

@@ -29,11 +29,12 @@ use Rattle.encode_types.specs.KeyLaws.{text_same}
 use Rattle.encode_types.specs.Kinds.{parts_of}
 use Rattle.encode_types.specs.Plan.{foreign_owner}
 use Rattle.encode_types.specs.Table.{interface_of_owner}
-use Rattle.encode_types.proofs.Lists.{all-contained}
-use Rattle.wit_encode.proofs.Owned.{same-owner, alias-part, own-interface, not-false, or-cases, owner-kept as kept-of-owner}
+use Rattle.wit_encode.proofs.Owned.{alias-part, own-interface, not-false, owner-kept as kept-of-owner}
 use Rattle.wit_model.proofs.OnePath.{given-test, found-in}
 use Rattle.wit_encode.proofs.Validity.{type_passes, interface_passes}
-use Rattle.wit_encode.proofs.Numbers.{same-number, has-contains, get-contains, after-at}
+use Rattle.wit_encode.proofs.Numbers.{same-number, after-at}
+use Rattle.wit_model.proofs.Elements.{all-contained, get-contains, has-contains}
+use Rattle.encode_shown.proofs.Basics.{same-owner, or-cases}
 
 -- a type of an interface's list
 pub record IsListedType (r : Resolve) (i : ℕ) (e : String Global × TypeId) : Type 0 where

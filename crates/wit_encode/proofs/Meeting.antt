@@ -24,7 +24,7 @@ use Rattle.encode_types.specs.Scope.{Scope}
 use Rattle.encode_types.specs.Counts.{own_name, name_of_own}
 use Rattle.encode_types.proofs.Lists.{contains-one}
 use Rattle.encode_types.proofs.Planning.{part-number}
-use Rattle.wit_encode.proofs.Numbers.{contains-flat}
+use Rattle.wit_model.proofs.Elements.{contains-flat}
 
 module _ (r : Resolve) (below : Keeps references r) where
   -- a named type meets itself

@@ -26,8 +26,8 @@ use Rattle.encode_types.specs.KeyLaws.{text_same}
 use Rattle.encode_types.specs.Resources.{is_named_interface, is_resource_entry, resource_names}
 use Rattle.encode_types.specs.Table.{is_met_owner, has_named_owner}
 use Rattle.encode_types.proofs.Lists.{both}
-use Rattle.wit_encode.proofs.Owned.{same-owner}
 use Rattle.wit_model.proofs.OnePath.{found-in, given-test, one-number, named-path, path-once}
+use Rattle.encode_shown.proofs.Basics.{same-owner}
 
 -- ---- numbered lists
 

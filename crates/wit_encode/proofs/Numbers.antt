@@ -11,6 +11,7 @@ use Rattle.wit_model.specs.Rules.{each_after}
 use Rattle.wit_model.proofs.Lists.{first_true, second_true}
 use Rattle.encode_types.proofs.Pairs.{pairs-head, pairs-tail}
 use Rattle.encode_types.proofs.Lists.{none-in}
+use Rattle.wit_model.proofs.Elements.{contains-later, contains-has}
 
 pub same-some : {A : Type 0} (x y : A) → Some x ≡ Some y → x ≡ y
 same-some x y e = ap (λ o. unwrap_or o x) e
@@ -27,40 +28,11 @@ equal m n e = eqb→eq m n (subst T (sym e) tt)
 
 -- ---- elements
 
-pub contains-get : {X : Type 0} (xs : List X) (x : X) → Contains xs x → (k : ℕ) × (slice_get xs k ≡ Some x)
-contains-get xs x (k, l, e) = (k, slice_get-get_or xs k x l ∙ ap Some e)
-
-pub get-contains : {X : Type 0} (xs : List X) (k : ℕ) (x : X) → slice_get xs k ≡ Some x → Contains xs x
-get-contains [] k x e = let wrong : ⊥ = cc in absurd wrong
-get-contains (y ∷ ys) zero x e = (0, omega arith, same-some y x e)
-get-contains (y ∷ ys) (suc k) x e = let c = get-contains ys k x e in (suc c.0, (let l = c.1 in omega (arith, l)), c.2)
-
-pub contains-later : {X : Type 0} (y : X) (xs : List X) (x : X) → Contains xs x → Contains (y ∷ xs) x
-contains-later y xs x (k, l, e) = (suc k, omega (arith, l), e)
-
-pub contains-flat : {X Y : Type 0} (f : X → List Y) (xs : List X) (x : X) (y : Y) → Contains xs x → Contains (f x) y → Contains (flat_map f xs) y
-contains-flat f [] x y c d = none-in x c
-contains-flat f (z ∷ xs) x y (zero, l, e) d = Contains-append_left (f z) (flat_map f xs) y (subst (λ w. Contains (f w) y) (sym e) d)
-contains-flat f (z ∷ xs) x y (suc k, l, e) d = Contains-append_right (f z) (flat_map f xs) y (contains-flat f xs x y (k, omega (arith, l), e) d)
-
 -- ---- numbers by a test
-
-pub has-contains : (ns : List ℕ) (n : ℕ) → has ns n ≡ true → Contains ns n
-has-contains [] n h = let wrong : ⊥ = cc in absurd wrong
-has-contains (m ∷ ns) n h = go (has-contains ns n) (m == n) refl h
-  where
-    go : (has ns n ≡ true → Contains ns n) → (b : Bool) → (m == n) ≡ b → (b || has ns n) ≡ true → Contains (m ∷ ns) n
-    go rest true e h = (0, omega arith, equal m n e)
-    go rest false e h = contains-later m ns n (rest h)
 
 or-true : (b : Bool) → (b || true) ≡ true
 or-true true = refl
 or-true false = refl
-
-pub contains-has : (ns : List ℕ) (n : ℕ) → Contains ns n → has ns n ≡ true
-contains-has [] n c = none-in n c
-contains-has (m ∷ ns) n (zero, l, e) = ap (λ b. b || has ns n) (subst (λ (k : ℕ). (m == k) ≡ true) e (same-number m))
-contains-has (m ∷ ns) n (suc k, l, e) = ap (λ b. (m == n) || b) (contains-has ns n (k, omega (arith, l), e)) ∙ or-true (m == n)
 
 -- ---- what stands once
 

@@ -2,7 +2,6 @@
 use Rattle.std.proofs.Common.{◌≡◌, refl, sym, ap, ◌∙◌, true, List, [], ◌++◌, Option, Some, None, Result, Ok, Err, ℕ, ◌∷◌, Contains, subst}
 use Rattle.std.proofs.lemmas.Map.Views.{All-map-IsPermutation}
 use Rattle.std.proofs.lemmas.List.Elements.{All-contains_itself, All-contains}
-use Rattle.encode_types.proofs.Lists.{contains-map}
 use Rattle.std.specs.Prelude.{IsPermutation, IfOk, OnOk, map, String}
 use Rattle.std.specs.Borrow.{Bor}
 use Rattle.std.specs.declared.alloc.Global.{Global}
@@ -45,6 +44,7 @@ use Rattle.encode_types.specs.Slots.{Keeps}
 use Rattle.wit_encode.proofs.Calls.{InnerAt, inner-at}
 use Rattle.wit_encode.proofs.Outside.{instance-keeps}
 use Rattle.wit_encode.proofs.Importing.{grown-keeps, grown-stands, right-more}
+use Rattle.wit_model.proofs.Elements.{contains-map}
 
 pub opened-sound : (r : Resolve) (outer : Declarations) (i : InterfaceId) (known : Foreign) → (encoder_scope r outer (opened i known)).is_sound ≡ true
 unfolding inner_contents

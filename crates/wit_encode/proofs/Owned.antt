@@ -29,21 +29,11 @@ use Rattle.wit_model.proofs.Owners.{named_met, unnamed_met, owned_stays}
 use Rattle.encode_types.specs.Kinds.{parts_of}
 use Rattle.encode_types.specs.Plan.{foreign_owner}
 use Rattle.encode_types.specs.Table.{interface_of_owner}
-use Rattle.encode_types.proofs.Lists.{all-contained, one-contained}
 use Rattle.encode_types.proofs.Planning.{part-number}
+use Rattle.encode_shown.proofs.Basics.{valid-references, same-owner, or-cases}
+use Rattle.wit_model.proofs.Elements.{one-contained, all-contained}
 
 -- ---- owners
-
-pub same-owner : (a b : TypeOwner) → same_owner a b ≡ true → a ≡ b
-same-owner (owner.World a) (owner.World b) e = ap (λ k. owner.World (record { 0 = k })) (eqb→eq a.0 b.0 (subst T (sym e) tt))
-same-owner (owner.Interface a) (owner.Interface b) e = ap (λ k. owner.Interface (record { 0 = k })) (eqb→eq a.0 b.0 (subst T (sym e) tt))
-same-owner owner.None owner.None e = refl
-same-owner (owner.World a) (owner.Interface b) e = let wrong : ⊥ = cc in absurd wrong
-same-owner (owner.World a) owner.None e = let wrong : ⊥ = cc in absurd wrong
-same-owner (owner.Interface a) (owner.World b) e = let wrong : ⊥ = cc in absurd wrong
-same-owner (owner.Interface a) owner.None e = let wrong : ⊥ = cc in absurd wrong
-same-owner owner.None (owner.World b) e = let wrong : ⊥ = cc in absurd wrong
-same-owner owner.None (owner.Interface b) e = let wrong : ⊥ = cc in absurd wrong
 
 -- a type that isn't foreign and belongs to an interface belongs to this one
 pub own-interface : (o a : TypeOwner) (i : ℕ) → owner_interface a ≡ Some i → foreign_owner (interface_of_owner o) a ≡ None → same_owner a o ≡ true
@@ -88,21 +78,11 @@ some-of : {A B : Type 0} (f : A → B → Bool) (o : Option A) (b : B) → optio
 some-of f None b h = let wrong : ⊥ = cc in absurd wrong
 some-of f (Some a) b h = refl
 
-pub or-cases : {P : Type 0} (a b : Bool) → (a || b) ≡ true → (a ≡ true → P) → (b ≡ true → P) → P
-or-cases true b h p q = p refl
-or-cases false b h p q = q h
-
 pub not-false : (b : Bool) → not b ≡ true → b ≡ true → ⊥
 not-false true h e = cc
 not-false false h e = cc
 
 -- ---- what is met
-
-pub valid-references : (r : Resolve) → IsValid r → Keeps references r
-unfolding references
-valid-references r v = types_keep (λ r n def. references.type_ r n def) r (each_from_all (references.type_ r) 0 r.types.items (λ n def is.
-    let at : n ≡ 0 + n = omega arith in
-    subst (λ m. references.type_ r m def ≡ true) at (kept_numbers r v.rules n def is)))
 
 -- a type that stands in its owner's list has an owner
 real-owner : (r : Resolve) (n : ℕ) (name : Text) (o : TypeOwner) → is_listed r n name o ≡ true → same_owner o owner.None ≡ false

@@ -45,12 +45,14 @@ use Rattle.encode_types.specs.Fits.{FitsScope, CanEncode}
 use Rattle.encode_types.specs.Scope.{Scope, IsDeclared, IsImportable}
 use Rattle.encode_types.specs.Table.{interface_of_owner, has_named_owner}
 use Rattle.wit_encode.specs.OwnerScope.{IsScopeOf, IsMet, IsOfInstance, NamesStand, InstancesStand, IsUsedBy, UsesStand, IsTypeOf, functions_of, NamesEncode, TypesEncode, FunctionsEncode, TypesUse, FunctionsUse, TableScope}
-use Rattle.encode_types.proofs.Lists.{all-contained, one-contained, both, contains-one, contains-filter_map}
+use Rattle.encode_types.proofs.Lists.{both, contains-one}
 use Rattle.wit_encode.proofs.Forming.{Agree}
-use Rattle.wit_encode.proofs.Owned.{same-owner, valid-references, stays, part-met, own-interface, alias-part}
+use Rattle.wit_encode.proofs.Owned.{stays, part-met, own-interface, alias-part}
 use Rattle.wit_model.proofs.OnePath.{equal-numbers, some-of, some-same}
 use Rattle.wit_encode.proofs.Naming.{or-first, or-second, one-home, named-owner, names-agree}
 use Rattle.wit_encode.proofs.Validity.{OwnersMet, valid-layered, valid-unnamed, valid-ownerless, valid-formed, signature-formed, interface_passes, has-name, named-agree, named-parts, named-alike, foreign-interface, declared-there}
+use Rattle.wit_model.proofs.Elements.{contains-filter_map, one-contained, all-contained}
+use Rattle.encode_shown.proofs.Basics.{valid-references, same-owner}
 
 -- ---- owners
 

@@ -40,15 +40,17 @@ use Rattle.encode_types.specs.Table.{interface_of_owner}
 use Rattle.encode_shown.proofs.Items.{typed-item}
 use Rattle.encode_shown.proofs.Zips.{given-contains}
 use Rattle.wit_encode.specs.OwnerScope.{IsTypeOf, functions_of}
-use Rattle.encode_types.proofs.Lists.{all-contained, contains-one, one-contained, none-in}
+use Rattle.encode_types.proofs.Lists.{contains-one, none-in}
 use Rattle.wit_encode.proofs.Counting.{from-map}
-use Rattle.wit_encode.proofs.Numbers.{contains-flat, contains-get, has-contains, same-some}
+use Rattle.wit_encode.proofs.Numbers.{same-some}
 use Rattle.encode_types.proofs.Planning.{part-number}
 use Rattle.wit_model.proofs.OnePath.{found-in}
-use Rattle.wit_encode.proofs.Owned.{same-owner, valid-references, stays, part-met, own-interface, alias-part, named-listed, not-false}
+use Rattle.wit_encode.proofs.Owned.{stays, part-met, own-interface, alias-part, named-listed, not-false}
 use Rattle.wit_encode.proofs.ListedTypes.{owned-listed, listed-type}
 use Rattle.wit_encode.proofs.OwnerScope.{function-ranges, function-refers, type-stays, types-stay}
 use Rattle.wit_encode.proofs.WorldUses.{own-type}
+use Rattle.wit_model.proofs.Elements.{one-contained, all-contained, contains-get, contains-flat, has-contains}
+use Rattle.encode_shown.proofs.Basics.{valid-references, same-owner}
 
 -- ---- lists
 

@@ -33,15 +33,15 @@ use Rattle.wit_encode.specs.Exports.{AllKnown}
 use Rattle.encode_types.specs.Codes.{names_of}
 use Rattle.encode_types.specs.Distinct.{key_of, key_view, are_same, AddsFunctions, DefinesTypes}
 use Rattle.encode_types.specs.MetKinds.{referred, IsMetKind, AreMetKinds, LearnsMet, LearnsFrom, key_types}
-use Rattle.encode_types.proofs.Lists.{contains-map, none-in}
+use Rattle.encode_types.proofs.Lists.{none-in}
 use Rattle.encode_types.proofs.KindLaws.{optional_same}
 use Rattle.encode_types.proofs.Encoding.{meets-reaches, learns-nothing}
 use Rattle.wit_encode.proofs.HeldKeys.{any-at, same_equiv, alike}
 use Rattle.wit_encode.proofs.Counting.{Began, HeldKinds, from-map}
 use Rattle.encode_types.proofs.Learning.{learns-none, learns-then}
 use Rattle.wit_encode.proofs.MetKinds.{met-kinds, params-same}
-use Rattle.wit_encode.proofs.Numbers.{contains-flat}
 use Rattle.wit_encode.proofs.Opening.{permuted-contains}
+use Rattle.wit_model.proofs.Elements.{contains-map, contains-flat}
 
 -- ---- what is learnt
 

@@ -32,6 +32,7 @@ use Rattle.encode_types.specs.Scope.{exported_name}
 use Rattle.encode_types.specs.Kinds.{kind_tree}
 use Rattle.encode_types.specs.MetKinds.{ReachedFrom, referred}
 use Rattle.wit_encode.specs.Instance.{held_in, lacks_room_in, placed_function}
+use Rattle.wit_encode.proofs.Opening.{map-twice}
 
 pub on-size : {A : Type 0} (res : Result A Error) (P : Type 0) → OnErr res P → res ≡ Err errors.Size → P
 on-size (Ok x) P p h = absurd (let z : ⊥ = cc in z)
@@ -129,10 +130,6 @@ labels-fit {T} {B} R label same xs ys z =
 
     fits-by : (ls : List (Labeled T)) → fits_labels ls ≡ fits_names (map (λ (x : Labeled T). x.label) ls)
     fits-by ls = λ i. nat_lt (count-by ls i) (2 ^ 32) && each-by ls i
-
-pub map-twice : {A B C : Type 0} (f : B → C) (g : A → B) (xs : List A) → map f (map g xs) ≡ map (λ x. f (g x)) xs
-map-twice f g [] = refl
-map-twice f g (x ∷ xs) = ap (λ ys. f (g x) ∷ ys) (map-twice f g xs)
 
 pub listed : (ts : List Tree) → child_list (children ts) ≡ ts
 listed [] = refl

@@ -29,10 +29,10 @@ use Rattle.encode_types.specs.Resources.{Names, is_met_owner, resource_names}
 use Rattle.encode_types.specs.Standing.{is_slot_of}
 use Rattle.wit_model.proofs.OnePath.{some-same}
 use Rattle.wit_encode.proofs.Steps.{unbind, unwhen, unprovided}
-use Rattle.wit_encode.proofs.Owned.{same-owner}
 use Rattle.wit_encode.proofs.Numbers.{same-number}
 use Rattle.wit_encode.proofs.Naming.{or-first, one-home, names-agree}
 use Rattle.wit_encode.proofs.ListedTypes.{listed-type, listed-key}
+use Rattle.encode_shown.proofs.Basics.{same-owner}
 
 module _ (place : Place) where
   -- ---- slots of names

@@ -21,6 +21,7 @@ use Rattle.encode_types.specs.Slots.{tree, primitive_of, StandsFor, StandsForOpt
 use Rattle.encode_types.specs.Resources.{Names, is_resource_tree}
 use Rattle.encode_types.specs.Formed.{are_values, is_formed}
 use Rattle.wit_encode.specs.Instance.{standing_at, SlotsStand, is_slot_of}
+use Rattle.wit_encode.proofs.Forming.{children-list}
 
 primitive-same : (x : PrimitiveValType) → primitive_of x ≡ primitive_of_type x
 primitive-same p.Bool = refl
@@ -54,10 +55,6 @@ not-false true h = sym h
 not-false false h = refl
 
 -- ---- two lists, place by place
-
-children-list : (ts : List Tree) → child_list (children ts) ≡ ts
-children-list [] = refl
-children-list (t ∷ ts) = ap (λ us. t ∷ us) (children-list ts)
 
 zip-filled : {A B C D : Type 0} (R : A → B → Type 0) (f : A → C) (g : B → D) (xs : List A) (ys : List B) → AllZip R xs ys → is_filled (map g ys) ≡ true → is_filled (map f xs) ≡ true
 zip-filled R f g [] [] h e = e

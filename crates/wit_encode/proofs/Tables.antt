@@ -32,17 +32,18 @@ use Rattle.encode_types.specs.Slots.{SlotsGrow}
 use Rattle.encode_types.specs.Scope.{Scope, IsImportable}
 use Rattle.encode_types.specs.Leaves.{Leaves}
 use Rattle.encode_types.specs.Table.{table_scope, table_view, interface_of_owner, is_met_by, has_named_owner, IsTable, TableReads, IsDefined, AllDefined}
-use Rattle.encode_types.proofs.Lists.{both, one-contained}
+use Rattle.encode_types.proofs.Lists.{both}
 use Rattle.wit_encode.proofs.Forming.{optional-values}
 use Rattle.wit_model.proofs.OnePath.{found-in, some-of}
 use Rattle.encode_types.proofs.Planning.{part-smaller}
 use Rattle.wit_encode.proofs.Validity.{valid-layered, valid-resource, valid-formed, signature-formed, table-agree, all-met, named-met, foreign-interface, importable}
 use Rattle.wit_encode.specs.OwnerScope.{NamesStand, IsOfInstance}
 use Rattle.wit_encode.proofs.OwnerScope.{names_encode, table_is_scope}
-use Rattle.wit_encode.proofs.Owned.{same-owner}
 use Rattle.wit_encode.proofs.Naming.{named-owner}
 use Rattle.wit_model.specs.Parts.{same_owner}
 use Rattle.wit_model.proofs.Lists.{first_true, second_true}
+use Rattle.wit_model.proofs.Elements.{one-contained}
+use Rattle.encode_shown.proofs.Basics.{same-owner}
 
 -- each name that is met is of the owner, or of another interface, which has a name
 named-stands : (t : TableOf TypeEncodingMaps) → IsTable t → (ts : List ValueType) → NamesStand t.resolve.now t.owner (table_scope t.resolve.now t.owner) ts

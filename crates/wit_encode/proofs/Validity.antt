@@ -38,8 +38,7 @@ use Rattle.encode_types.specs.Plan.{IsLayered, InRange, AllInRange, foreign_owne
 use Rattle.encode_types.specs.Scope.{IsImportable, Scope}
 use Rattle.wit_encode.specs.OwnerScope.{NamesAgree}
 use Rattle.encode_types.specs.Table.{table_scope, below, interface_of_owner, declaration_in, named_declaration, is_met_by, is_met_owner, has_named_owner}
-use Rattle.encode_types.proofs.Lists.{contains-one, all-contained}
-use Rattle.wit_encode.proofs.Owned.{same-owner, valid-references}
+use Rattle.encode_types.proofs.Lists.{contains-one}
 use Rattle.encode_types.proofs.Planning.{part-smaller}
 use Rattle.wit_model.proofs.OnePath.{found-in}
 use Rattle.wit_encode.proofs.Naming.{HaveHomes, or-first, or-second, named-owner, valid-owner_in_range, one-home, names-agree}
@@ -50,6 +49,8 @@ use Rattle.encode_types.specs.Formed.{is_formed, are_values, IsFormedSignature}
 use Rattle.wit_encode.proofs.Forming.{Agree, kind-formed, kind-alike, values-of, optional-values}
 use Rattle.wit_model.specs.declared.model.TypeOwner.TheVariants as owner
 use Rattle.wit_model.specs.declared.model.«Type».TheVariants as ty
+use Rattle.wit_model.proofs.Elements.{all-contained}
+use Rattle.encode_shown.proofs.Basics.{valid-references, same-owner}
 
 abbrev signature_like : Resolve → Bool → List Param → Option ValueType → Signature
 signature_like r a ps o = record { is_async = a; params = map (λ p. (text_of p.name, type_tree r p.ty)) ps; result = option_map (type_tree r) o }

@@ -52,11 +52,13 @@ use Rattle.wit_encode.specs.RoomLaws.{LackingInterfacesAreHeavy}
 use Rattle.wit_encode.proofs.Validity.{type_passes, interface_passes, valid-layered}
 use Rattle.encode_types.proofs.Encoding.{tabled}
 use Rattle.wit_encode.proofs.Counting.{contains-filter, from-filter, from-map}
-use Rattle.encode_types.proofs.Lists.{all-contained, contains-map, contains-one, none-in}
-use Rattle.wit_encode.proofs.Numbers.{contains-later, same-number, equal}
-use Rattle.wit_encode.proofs.Refusing.{two-each, listed, map-twice}
+use Rattle.encode_types.proofs.Lists.{contains-one, none-in}
+use Rattle.wit_encode.proofs.Numbers.{same-number, equal}
+use Rattle.wit_encode.proofs.Refusing.{two-each, listed}
 use Rattle.wit_encode.proofs.Reached.{from-flat, part-at, IsOwner, IsCounted, Stays, met-counted, counted-in, named-own, all-numbers, interface-owner}
 use Rattle.encode_types.proofs.Pairs.{pairs-head, pairs-tail}
+use Rattle.wit_model.proofs.Elements.{contains-map, all-contained, contains-later}
+use Rattle.wit_encode.proofs.Opening.{map-twice}
 
 -- ---- texts that don't fit are long
 

@@ -32,7 +32,6 @@ use Rattle.encode_types.specs.Known.{Aliased, AreAliases, Around, GrowsAround, w
 use Rattle.encode_types.specs.Maps.{IsKnown, IsOnce}
 use Rattle.encode_types.specs.MetKinds.{LearnsFrom, LearnsMet}
 use Rattle.encode_types.specs.Scope.{Scope}
-use Rattle.encode_types.proofs.Lists.{contains-map}
 use Rattle.encode_types.proofs.Rooms.{only-more}
 use Rattle.encode_names.specs.WorldSteps.{Entry, Entries, declared_towards, interfaces_among}
 use Rattle.wit_encode.specs.Encoders.{declared_after}
@@ -47,6 +46,7 @@ use Rattle.wit_encode.proofs.Counting.{HeldKinds, adds-alike, adds-function, add
 use Rattle.wit_encode.proofs.HeldKeys.{Keyed, both-ways, keyed, knows-none}
 use Rattle.wit_encode.proofs.Referring.{from-met, from-none, from-then, interface-kinds}
 use Rattle.wit_encode.proofs.WrittenNames.{instances-left, no-function-name}
+use Rattle.wit_model.proofs.Elements.{contains-map}
 
 -- ---- instance types
 

@@ -47,11 +47,11 @@ use Rattle.wit_encode.specs.Worlds.{WorldEncoder, is_sound_outside, world_around
 use Rattle.wit_encode.proofs.Components.{steps-more}
 use Rattle.wit_encode.proofs.Exporting.{shows-nothing}
 use Rattle.wit_encode.proofs.Meeting.{meets-unnamed}
-use Rattle.wit_encode.proofs.Owned.{valid-references}
 use Rattle.wit_encode.proofs.OwnerScope.{functions_encode, table_is_scope}
 use Rattle.wit_encode.proofs.WorldScope.{sound-again, sound-outside}
 use Rattle.wit_encode.proofs.WorldShown.{types-shown}
 use Rattle.wit_encode.proofs.WorldUses.{function-listed, function-there, items_meet_standing}
+use Rattle.encode_shown.proofs.Basics.{valid-references}
 
 -- ---- nothing has been encoded
 

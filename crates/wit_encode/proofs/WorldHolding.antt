@@ -40,9 +40,9 @@ use Rattle.encode_types.specs.MetKinds.{LearnsMet, ReachedFrom}
 use Rattle.encode_types.specs.Room.{Request, IsUnfit, LacksPart, its_definition, its_name, its_import, LacksOne, a_type, a_request, FindsNoRoom, HoldsFor, LacksRoomBehind, value_type, export_name, import_of, function_type, limit}
 use Rattle.encode_types.specs.Kinds.{kind_tree}
 use Rattle.encode_types.specs.Scope.{exported_name}
-use Rattle.encode_types.proofs.Lists.{none-in, one-contained}
+use Rattle.encode_types.proofs.Lists.{none-in}
 use Rattle.encode_types.proofs.Pairs.{pairs-head, pairs-map, pairs-tail}
-use Rattle.encode_types.proofs.Rooms.{only-reached}
+use Rattle.encode_types.proofs.Rooms.{only-reached, pairs-both}
 use Rattle.encode_names.specs.WorldNames.{name_of_item}
 use Rattle.encode_names.specs.WorldSteps.{Entry, Entries, declared_towards, interfaces_among}
 use Rattle.wit_encode.specs.Encoders.{declared_after}
@@ -54,6 +54,7 @@ use Rattle.wit_encode.specs.Worlds.{WorldEncoder, brought_numbers, held_beside, 
 use Rattle.wit_encode.proofs.Counting.{from-map}
 use Rattle.wit_encode.proofs.Refusing.{counts-refused, outer-pushed, outer-slots-few}
 use Rattle.wit_encode.proofs.WorldCounting.{referred-front, referred-behind, function-referred, type-referred}
+use Rattle.wit_model.proofs.Elements.{one-contained}
 
 -- ---- how many entries
 
@@ -73,19 +74,6 @@ next-among r w export_ done x n =
     (n.rest, ap (λ es. w.imports.entries ++ es) n.next ∙ (sym (append_assoc w.imports.entries done.1 (x ∷ n.rest)) ∙ ap (λ es. es ++ (x ∷ n.rest)) same))
 
 -- ---- numbers, each once
-
-pairs-both : {X : Type 0} (R : X → X → Type 0) (xs ys : List X) → AllPairs R xs → AllPairs R ys → ((x y : X) → Contains xs x → Contains ys y → R x y) → AllPairs R (xs ++ ys)
-pairs-both R [] ys a b h = b
-pairs-both {X} R (x ∷ xs) ys a b h = AllPairs-cons R x (xs ++ ys) each (pairs-both R xs ys (pairs-tail R x xs a) b (λ y z c d. h y z (later y c) d))
-  where
-    later : (y : X) → Contains xs y → Contains (x ∷ xs) y
-    later y (i, l, e) = (suc i, omega (arith, l), e)
-
-    each : All (R x) (xs ++ ys)
-    each i d l = elim (Contains-append_cases xs ys _ (Contains-get_or (xs ++ ys) i d l)) [
-      | inl c ↦ pairs-head R x xs _ a c
-      | inr c ↦ h x _ (0, omega arith, refl) c
-    ]
 
 below-apart : (n m : ℕ) → n ≤ m → (k : ℕ) → Contains (below n) k → nat_eq m k ≡ false
 below-apart zero m l k c = none-in k c

@@ -31,7 +31,7 @@ use Rattle.encode_shown.specs.Views.{ShowsInterface, home_of, instance_key}
 use Rattle.encode_types.specs.Known.{Around, GrowsAround, UsedStand, are_right, is_standing, outer_instances, outer_scope, outer_slots, standing_instances}
 use Rattle.encode_types.specs.Maps.{standing_of}
 use Rattle.encode_types.specs.Standing.{SlotsStand, is_slot_of}
-use Rattle.encode_types.proofs.Lists.{all-contained, both}
+use Rattle.encode_types.proofs.Lists.{both}
 use Rattle.wit_model.proofs.OnePath.{found-in, some-of, some-same}
 use Rattle.encode_types.proofs.Tables.{equal-self}
 use Rattle.encode_names.specs.WorldNames.{name_of_item}
@@ -54,6 +54,7 @@ use Rattle.wit_encode.proofs.WorldAliases.{aliases-shown, with_outer}
 use Rattle.wit_encode.proofs.WorldFunctions.{done_items, next-entry, next-place, nothing-brought, see-instances, see-slots, stand-before}
 use Rattle.wit_encode.proofs.WorldScope.{SoundOutside, sound-again, sound-outside}
 use Rattle.wit_encode.proofs.WorldUses.{entries-range, interfaces-ready}
+use Rattle.wit_model.proofs.Elements.{all-contained}
 
 -- ---- the interface of an item
 

@@ -34,7 +34,7 @@ use Rattle.encode_types.specs.Maps.{IsKnown, IsReady, LearnsOnly, by_number}
 use Rattle.encode_types.specs.Plan.{foreign_owner, Meets, at_once, further, MetFrom}
 use Rattle.encode_types.specs.Fits.{CanEncode}
 use Rattle.encode_types.specs.Table.{declaration_in, named_declaration}
-use Rattle.encode_types.proofs.Lists.{contains-one, none-in, one-contained}
+use Rattle.encode_types.proofs.Lists.{contains-one, none-in}
 use Rattle.encode_types.proofs.Pairs.{pairs-right}
 use Rattle.encode_names.specs.WorldSteps.{Entry, Entries, with_entry}
 use Rattle.wit_encode.specs.OwnerScope.{IsTypeOf}
@@ -43,12 +43,14 @@ use Rattle.wit_encode.specs.Worlds.{WorldEncoder, world_definitions, world_encod
 use Rattle.wit_encode.proofs.Calls.{some-of}
 use Rattle.wit_encode.proofs.Exporting.{learnt-apart, learnt-one, was-or-learnt}
 use Rattle.wit_encode.proofs.Meeting.{AllMeetKnown, meets-unnamed}
-use Rattle.wit_encode.proofs.Numbers.{same-some, same-number, equal, contains-get, gives-one, once-before, one-mapped}
-use Rattle.wit_encode.proofs.Owned.{named-listed, same-owner, valid-references}
+use Rattle.wit_encode.proofs.Numbers.{same-some, same-number, equal, gives-one, once-before, one-mapped}
+use Rattle.wit_encode.proofs.Owned.{named-listed}
 use Rattle.wit_encode.proofs.OwnerScope.{types_encode}
 use Rattle.wit_encode.proofs.WorldFunctions.{at-length, before-next, done_items, next-entry, next-place, scope-of, second, stand-before, taken-front, types-given}
 use Rattle.wit_encode.proofs.WorldShown.{type_seen, types-shown}
 use Rattle.wit_encode.proofs.WorldUses.{items_meet_standing, no-type-exported, own-type, parts-listed, type-key}
+use Rattle.wit_model.proofs.Elements.{one-contained, contains-get}
+use Rattle.encode_shown.proofs.Basics.{valid-references, same-owner}
 
 module _ (r : Resolve) (v : IsValid r) (w : World) (e : WorldEncoder) (done : Entries) (h : HasShown r w e done) (k : WorldKey) (id : TypeId) (n : IsNext r w import_ done (k, item.Type_ id)) where
   abbrev entry : Entry

@@ -36,7 +36,7 @@ use Rattle.encode_types.specs.Resources.{is_named_interface}
 use Rattle.encode_types.specs.Plan.{foreign_owner, Reaches, itself, through}
 use Rattle.encode_types.specs.KeyLaws.{text_same}
 use Rattle.encode_types.specs.Scope.{Scope}
-use Rattle.encode_types.proofs.Lists.{all-contained, contains-filter_map, contains-one, none-in, one-contained}
+use Rattle.encode_types.proofs.Lists.{contains-one, none-in}
 use Rattle.wit_model.proofs.OnePath.{found-in, some-of, some-same}
 use Rattle.wit_encode.specs.OwnerScope.{IsScopeOf, InstancesStand, IsTypeOf, functions_of}
 use Rattle.wit_encode.specs.WorldUses.{item_types, interfaces_before, StandBefore, ItemsMeetStanding}
@@ -44,10 +44,12 @@ use Rattle.wit_encode.proofs.Counting.{contains-filter}
 use Rattle.wit_encode.proofs.Exporting.{contains-mapped}
 use Rattle.wit_encode.proofs.Meeting.{named-meets, unnamed-meets, part-uses}
 use Rattle.wit_encode.proofs.Naming.{named-owner}
-use Rattle.wit_encode.proofs.Numbers.{after-at, contains-flat, contains-get, get-contains, has-contains}
-use Rattle.wit_encode.proofs.Owned.{part-met, same-owner, valid-references}
+use Rattle.wit_encode.proofs.Numbers.{after-at}
+use Rattle.wit_encode.proofs.Owned.{part-met}
 use Rattle.wit_encode.proofs.OwnerScope.{AllStay, IsUse, Stay, function-refers, given-some, named-stays, target-is, type-stays, types-stay, use-at, use-foreign, world_passes}
 use Rattle.wit_encode.proofs.Validity.{valid-ownerless}
+use Rattle.wit_model.proofs.Elements.{contains-filter_map, one-contained, all-contained, contains-get, get-contains, contains-flat, has-contains}
+use Rattle.encode_shown.proofs.Basics.{valid-references, same-owner}
 
 -- ---- beginnings of lists
 

@@ -43,19 +43,20 @@ use Rattle.comp_bytes.specs.Raw.{ExternName}
 use Rattle.comp_bytes.specs.Fits.{fits_name}
 use Rattle.encode_types.specs.KeyLaws.{text_same}
 use Rattle.encode_types.specs.Room.{limit}
-use Rattle.encode_types.proofs.Lists.{all-contained, contains-filter_map, contains-map, contains-one, none-in}
+use Rattle.encode_types.proofs.Lists.{contains-one, none-in}
 use Rattle.wit_model.proofs.OnePath.{found-in}
 use Rattle.encode_names.specs.WorldNames.{written_path, written_suffix, name_of_item}
 use Rattle.encode_names.specs.WorldSteps.{Entry, interfaces_among}
 use Rattle.wit_encode.specs.WorldItems.{types_among}
 use Rattle.wit_encode.specs.WorldRoom.{functions_among, type_ids_among, IsMetAmong, IsTypeAmong, count_among, entries_in, WorldLacksRoom, an_interface, a_name, a_type, a_function, too_many, LackingWorldsAreHeavy}
 use Rattle.wit_encode.proofs.Counting.{from-filter, from-map}
-use Rattle.wit_encode.proofs.Numbers.{contains-has, contains-later, has-contains, same-number}
+use Rattle.wit_encode.proofs.Numbers.{same-number}
 use Rattle.wit_encode.proofs.OwnerScope.{world_passes}
 use Rattle.wit_encode.proofs.Reached.{from-flat, IsOwner, interface-owner, world-owner}
 use Rattle.wit_encode.proofs.Validity.{type_passes}
 use Rattle.wit_encode.proofs.Weighing.{both-true, fits-text, given-fits, Differ, sum-among, contains-once, at-least, one-of, type-heavy, counted-once, counted-least, part-heavy-of, lacking-heavy}
 use Rattle.wit_encode.proofs.WorldUses.{no-type-exported}
+use Rattle.wit_model.proofs.Elements.{contains-map, contains-filter_map, all-contained, contains-later, has-contains, contains-has}
 
 -- ---- names that don't fit are long
 

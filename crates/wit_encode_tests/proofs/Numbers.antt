@@ -18,8 +18,9 @@ use Rattle.encode_types.specs.Formed.{IsFormedSignature}
 use Rattle.encode_types.specs.Plan.{Reaches, itself, through}
 use Rattle.encode_types.specs.Resources.{is_resource_tree}
 use Rattle.encode_types.specs.Scope.{Scope}
-use Rattle.encode_types.proofs.Lists.{both, one-contained}
+use Rattle.encode_types.proofs.Lists.{both}
 use Rattle.wit_encode.proofs.Validity.{valid-layered, signature-formed}
+use Rattle.wit_model.proofs.Elements.{one-contained}
 
 abbrev pub AreNumbers : List ValueType → Type 0
 AreNumbers ts = (t : ValueType) → Contains ts t → t ≡ ty.U32

@@ -68,7 +68,7 @@ uses_fall_at r v n i is =
     second_true (list_all (function_stays r (as_interface n)) (functions_of_interface i)) (list_all (λ m. nat_lt m n) (direct_deps r n)) passes
 
 -- only an interface that stands there uses any
-user_stands : (r : Resolve) (n m : ℕ) → has (direct_deps r n) m ≡ true → (i : Interface) × (interface_at r n ≡ Some i)
+pub user_stands : (r : Resolve) (n m : ℕ) → has (direct_deps r n) m ≡ true → (i : Interface) × (interface_at r n ≡ Some i)
 user_stands r n m h = by (interface_at r n) refl
   where
     by : (o : Option Interface) → interface_at r n ≡ o → (i : Interface) × (interface_at r n ≡ Some i)

@@ -11,7 +11,7 @@ use Rattle.std.proofs.Math.ListN.{get_or-map, length-map}
 use Rattle.std.proofs.lemmas.List.{take_more, get_or_default}
 use Rattle.std.proofs.lemmas.List.Elements.{filter_map-append, Contains-append_left, Contains-append_right}
 
-filter_map_one : {X Y : Type 0} (h : X → Option Y) (x : X) → filter_map h (x ∷ []) ≡ option_to_list (h x)
+pub filter_map_one : {X Y : Type 0} (h : X → Option Y) (x : X) → filter_map h (x ∷ []) ≡ option_to_list (h x)
 filter_map_one h x = elim (h x) as (λ o. filter_map (λ y. o) (x ∷ []) ≡ option_to_list o) [ None ↦ refl | Some y ↦ refl ]
 
 pub filter_map_more : {X Y : Type 0} (h : X → Option Y) (xs : List X) (i : ℕ) (x : X) → i < length xs → x ≡ get_or xs i x → filter_map h (take (i + 1) xs) ≡ filter_map h (take i xs) ++ option_to_list (h x)
@@ -27,12 +27,12 @@ contains-at xs i x l e = (i, l, sym e)
 pub contains-map : {X Y : Type 0} (f : X → Y) (xs : List X) (x : X) → Contains xs x → Contains (map f xs) (f x)
 contains-map f xs x (i, l, e) = (i, subst (λ (n : ℕ). i < n) (sym (length-map xs f)) l, get_or-map f xs i x ∙ ap f e)
 
-given-here : {Y : Type 0} (o : Option Y) (ys : List Y) (y : Y) → Contains (option_to_list o) y → Contains (cons_option o ys) y
+pub given-here : {Y : Type 0} (o : Option Y) (ys : List Y) (y : Y) → Contains (option_to_list o) y → Contains (cons_option o ys) y
 given-here None ys y (i, l, e) = absurd (omega (arith, l))
 given-here (Some z) ys y (zero, l, e) = (0, omega arith, e)
 given-here (Some z) ys y (suc i, l, e) = absurd (omega (arith, l))
 
-given-later : {Y : Type 0} (o : Option Y) (ys : List Y) (y : Y) → Contains ys y → Contains (cons_option o ys) y
+pub given-later : {Y : Type 0} (o : Option Y) (ys : List Y) (y : Y) → Contains ys y → Contains (cons_option o ys) y
 given-later None ys y c = c
 given-later (Some z) ys y (i, l, e) = (suc i, omega arith, e)
 

@@ -36,15 +36,9 @@ use Rattle.wit_print.proofs.ByteTests.{both, left_of, right_of}
 use Rattle.wit_print.proofs.ByPlace.{all_get}
 use Rattle.wit_print.specs.WellNamed.{is_well_type}
 use Rattle.wit_print.proofs.TypesWell.{is_below, below_of_numbers, IsShownType, type_is_shown, trees_count}
+use Rattle.wit_model.proofs.TreeTable.{slice_get-take}
 
 -- ---- the trees of the type numbers
-
-slice_get-take : {X : Type 0} (xs : List X) (n m : ℕ) → m < n → slice_get (take n xs) m ≡ slice_get xs m
-slice_get-take [] zero m h = refl
-slice_get-take [] (suc n) m h = refl
-slice_get-take (x ∷ xs) zero m h = absurd (omega (arith, h))
-slice_get-take (x ∷ xs) (suc n) zero h = refl
-slice_get-take (x ∷ xs) (suc n) (suc m) h = slice_get-take xs n m (omega (arith, h))
 
 -- the trees are a table
 table : (r : Resolve) (done : List TypeTree) (defs : List TypeDef) → trees_from r done defs ≡ grow (def_tree r) done defs

@@ -8,13 +8,13 @@ use Rattle.encode_types.proofs.Learning.{learns-none, learns-call-foreign}
 use Rattle.encode_types.proofs.Defining.{counts-none}
 use Rattle.encode_types.specs.Room.{its_import}
 use Rattle.encode_types.proofs.Rooms.{holds-none, holds-number, on-both, lacks-number}
-use Rattle.encode_types.proofs.Lists.{some-from}
 use Rattle.encode_types.proofs.Encoding.{learns-nothing, tabled, foreign-undefined, foreign-unshown}
 use Rattle.encode_types.proofs.Agree.{not-known}
 use Rattle.encode_types.proofs.define.define_number.Given.{Over}
 use Rattle.encode_types.proofs.define.define_number.Goals as goal
 use Rattle.encode_types.proofs.define.define_number.Goals.{After-foreign}
 use Rattle.encode_types.proofs.Writing.{writes-nothing, writes-number, foreign-extent, on-three}
+use Rattle.wit_model.proofs.Elements.{some-from}
 
 there : (g : Over) (c : After-foreign g) → type_at c.args.resolve.now c.args.id.0 ≡ Some c.index-def.result.now
 there g c = slice_get_read _ _ _ _ refl c.requires.in_range c.index-def.ensures

@@ -10,11 +10,12 @@ use Rattle.encode_types.proofs.Around.{around-same}
 use Rattle.encode_types.proofs.Defining.{leaves-trans, leaves-kept, counts-trans, counts-none}
 use Rattle.encode_types.proofs.Encoding.{ready-now, known-more, ready-at-last, reaches-in_range, meets-reaches, learns-more, learns-at-last, learns-nothing}
 use Rattle.encode_types.proofs.Rooms.{holds-none, holds-then, room-after, reaches-then, learns-reached}
-use Rattle.encode_types.proofs.Lists.{one-contained, none-in}
+use Rattle.encode_types.proofs.Lists.{none-in}
 use Rattle.encode_types.proofs.define.define_parts.Given.{Over}
 use Rattle.encode_types.proofs.define.define_parts.Goals as goal
 use Rattle.encode_types.proofs.define.define_parts.Goals.{After-deref-n-items}
 use Rattle.encode_types.proofs.Writing.{writes-nothing, writes-then}
+use Rattle.wit_model.proofs.Elements.{one-contained}
 
 ordered : (g : Over) (c : After-deref-n-items g) → IsOrderOf c.args.resolve.now (g.E.ValtypeEncoder.view c.args.enc.now).scope.own_interface (g.E.ValtypeEncoder.view c.args.enc.now).maps c.args.types.now c.deref-n-items.result.now
 ordered g c = rw c.deref-n-items.ensures.value c.in_ok-order.ensures.order

@@ -1,8 +1,8 @@
 use Rattle.wit_model.specs.declared.model.Param.{Param}
 use Rattle.encode_types.specs.Definition.{IsWrittenParam}
-use Rattle.encode_types.proofs.Lists.{zip-more}
 use Rattle.encode_types.proofs.Written.{ready-of}
 use Rattle.encode_types.proofs.definition.params_in.Goals as goal
+use Rattle.wit_model.proofs.Elements.{zip-more}
 
 pub value_in-value-requires : goal.value_in-value-requires
 value_in-value-requires c = ready-of c.args.maps.now (λ (x : Param). x.ty) c.args.params.now c.loop-param.param-index c.param-item.result c.requires c.loop-param-test.true c.param-item.is

@@ -10,10 +10,10 @@ use Rattle.wit_model.specs.declared.model.TypeId.{TypeId}
 use Rattle.encode_types.specs.Kinds.{parts_of}
 use Rattle.encode_types.specs.Maps.{IsKnown}
 use Rattle.encode_types.specs.Plan.{foreign_owner, rank}
-use Rattle.encode_types.proofs.Lists.{some-from}
 use Rattle.encode_types.proofs.Agree.{not-known}
 use Rattle.encode_types.proofs.Planning.{planned-there, planned-foreign, planned-own, planned-step, stands-id, part-smaller, rank_below}
 use Rattle.encode_types.proofs.plan.+plan.Goals as goal
+use Rattle.wit_model.proofs.Elements.{some-from}
 
 pub returns-then-is_some : goal.returns-then-is_some
 returns-then-is_some t c =

@@ -1,6 +1,6 @@
 use Rattle.std.proofs.Common.{sym, ap, ◌∙◌, ◌++◌, option_to_list}
-use Rattle.encode_types.proofs.Lists.{filter_map_more}
 use Rattle.encode_types.proofs.shape.case_types.Goals as goal
+use Rattle.wit_model.proofs.Elements.{filter_map_more}
 
 pub loop-case-preserved : goal.loop-case-preserved
 loop-case-preserved c =

@@ -1,5 +1,5 @@
 use Rattle.std.proofs.lemmas.Str.Pattern.{split_once_first}
-use Rattle.read_homes.proofs.CutLaws.{split_cuts}
+use Rattle.wit_model.proofs.CutLaws.{split_cuts}
 use Rattle.read_homes.proofs.paths.cut_at.Goals as goal
 
 pub returns : goal.returns

@@ -1,7 +1,7 @@
 use Rattle.std.proofs.Common.{rules}
 use Rattle.wit_model.specs.Valid.{function_names}
-use Rattle.wit_check.proofs.MemberNames.{found_interfaces}
 use Rattle.wit_check.proofs.members.first_interface.Goals as goal
+use Rattle.wit_check.proofs.Found.{found_interfaces}
 
 pub returns : goal.returns
 returns c =

@@ -14,7 +14,6 @@ use Rattle.encode_types.proofs.Lists.{contains-map}
 use Rattle.std.proofs.Math.ListN.{length-map}
 use Rattle.wit_model.specs.Parts.{function_types}
 use Rattle.encode_types.specs.Room.{function_requests}
-use Rattle.wit_encode.proofs.Numbers.{contains-flat}
 use Rattle.wit_encode.proofs.Refusing.{two-each}
 use Rattle.encode_types.proofs.Rooms.{holds-most, holds-then, room-after, only-more, flat-taken}
 use Rattle.wit_encode.proofs.interface.InterfaceEncoderOf+TypeEncodingMaps.encode_functions.Goals as goal
@@ -22,6 +21,7 @@ use Rattle.wit_encode.proofs.BytesWritten.{functions-next, functions-whole}
 use Rattle.encode_types.proofs.Writing.{writes-along, writes-most, writes-nothing}
 use Rattle.encode_types.specs.Extents.{function_extent}
 use Rattle.wit_encode.specs.Encoders.{encoder_view}
+use Rattle.wit_model.proofs.Elements.{contains-flat}
 
 pub encode_function-requires-clause-encodable : goal.encode_function-requires-clause-encodable
 encode_function-requires-clause-encodable c = function-continues _ c.loop-entry.invariant.continues (c.requires.encodable c.entry-item.result (contains-at c.args.functions.now c.loop-entry.entry-index c.entry-item.result c.loop-entry-test.true c.entry-item.is))

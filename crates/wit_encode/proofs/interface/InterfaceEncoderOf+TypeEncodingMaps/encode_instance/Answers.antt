@@ -8,7 +8,6 @@ use Rattle.std.specs.Prelude.{map, IsPermutation}
 use Rattle.indexmap.specs.IndexMap.{values}
 use Rattle.wit_encode.specs.Instance.{placed_function}
 use Rattle.wit_encode.proofs.Encodable.{valid-encodable}
-use Rattle.encode_types.proofs.Lists.{contains-map}
 use Rattle.wit_encode.specs.Encoders.{outside}
 use Rattle.wit_encode.proofs.Closing.{whole}
 use Rattle.wit_encode.proofs.Opening.{ok-then, permuted-contains}
@@ -23,6 +22,7 @@ use Rattle.wit_encode.proofs.interface.InterfaceEncoderOf+TypeEncodingMaps.encod
 use Rattle.wit_encode.proofs.interface.InterfaceEncoderOf+TypeEncodingMaps.encode_instance.Goals.{After-index-def}
 use Rattle.wit_encode.proofs.BytesWritten.{whole-few}
 use Rattle.encode_types.proofs.Agree.{on_ok}
+use Rattle.wit_model.proofs.Elements.{contains-map}
 
 there : (c : After-index-def) → interface_at c.args.self.now.resolve.now c.args.interface.0 ≡ Some c.index-def.result.now
 there c = slice_get_read _ _ _ _ refl c.requires.in_range c.index-def.ensures

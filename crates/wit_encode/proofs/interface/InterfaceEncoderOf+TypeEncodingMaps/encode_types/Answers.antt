@@ -1,6 +1,5 @@
 use Rattle.std.proofs.Common.{◌≡◌, inl, inr, List, take, refl, sym, subst, ap, arith, [], ◌∷◌, get_or, map, rules}
 use Rattle.wit_encode.specs.Encoders.{encoder_view}
-use Rattle.encode_types.proofs.Lists.{one-contained, contains-map}
 use Rattle.encode_types.proofs.Rooms.{holds-none, holds-then, room-after, only-more, map-taken}
 use Rattle.std.proofs.lemmas.Option.{slice_get-get_or}
 use Rattle.wit_model.specs.declared.model.Resolve.{Resolve}
@@ -19,6 +18,7 @@ use Rattle.wit_encode.proofs.Counting.{exact-names}
 use Rattle.wit_encode.proofs.Exporting.{exports-start, exports-next, exports-end}
 use Rattle.wit_encode.proofs.interface.InterfaceEncoderOf+TypeEncodingMaps.encode_types.Goals as goal
 use Rattle.encode_types.proofs.Writing.{writes-nothing, writes-then}
+use Rattle.wit_model.proofs.Elements.{contains-map, one-contained}
 
 pub loop-id-init : goal.loop-id-init
 loop-id-init c = record {

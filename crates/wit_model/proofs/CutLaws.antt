@@ -5,7 +5,6 @@ use Rattle.std.specs.Borrow.{Bor}
 use Rattle.std.specs.List.{before_first, after_first, position_or_len}
 use Rattle.wit_model.specs.Names.{cut}
 use Rattle.wit_model.specs.Text.{Text}
-use Rattle.read_homes.specs.Homes.{two_texts}
 
 cut_more : (c x : ℕ) (xs : Text) (b : Bool) → (x == c) ≡ b → cut c (x ∷ xs) ≡ cond b (Some ([], xs)) (option_map (λ p. (x ∷ p.0, p.1)) (cut c xs))
 unfolding cut
@@ -53,7 +52,7 @@ cut_nowhere c (x ∷ xs) h = by (x == c) refl (cut_nowhere c xs)
 -- what splits a text at the first place of a character cuts it
 pub split_cuts : (c : ℕ) (text : Text) (r : Option (Bor (List ℕ) × Bor (List ℕ)))
     → MatchOption r (position_or_len (λ b. eqb b c) text ≡ length text) (λ x. (position_or_len (λ b. eqb b c) text < length text) × (x.0.now ≡ before_first (λ b. eqb b c) text) × (x.1.now ≡ after_first (λ b. eqb b c) text))
-    → two_texts r ≡ cut c text
+    → option_map (λ x. (x.0.now, x.1.now)) r ≡ cut c text
 split_cuts c text None h = sym (cut_nowhere c text h)
 split_cuts c text (Some x) h =
     let before = h.1 in
