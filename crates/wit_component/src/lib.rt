@@ -116,7 +116,6 @@ pub use wit_model::WorldItem;
 pub use wit_model::WorldKey;
 pub use wit_model::after_prefix;
 pub use wit_model::is_label;
-pub use wit_model::is_plain;
 pub use wit_model::is_version;
 pub use wit_model::lookup;
 pub use wit_print::Output;
