@@ -19,9 +19,9 @@ pub use Rattle.comp_read.specs.DecodedWorlds
 pub use Rattle.wit_encode.specs.Packages
 pub use Rattle.wit_compat.specs.Compatible
 pub use Rattle.wit_compat.specs.Senses
-pub use Rattle.wit_print.specs.Calls
-pub use Rattle.wit_print.specs.Reading
-pub use Rattle.wit_print.specs.Render
+pub use Rattle.print_grammar.specs.Calls
+pub use Rattle.print_grammar.specs.Reading
+pub use Rattle.print_output.specs.Render
 pub use Rattle.wit_print.specs.Shown
 pub use Rattle.wit_bind.specs.Encodings
 pub use Rattle.wit_bind.specs.Functions

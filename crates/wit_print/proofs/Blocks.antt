@@ -2,8 +2,8 @@
 use Rattle.std.proofs.Common.{◌≡◌, List, [], ◌∷◌, ◌++◌, ◌∙◌, ap, map, sym}
 use Rattle.std.specs.List.{flat_map}
 use Rattle.std.proofs.lemmas.List.Folds.{flat_map-map}
-use Rattle.wit_print.specs.OutputCall.{OutputCall, View}
-use Rattle.wit_print.specs.OutputCall.OutputCall.{IndentEnd}
+use Rattle.print_output.specs.OutputCall.{OutputCall, View}
+use Rattle.print_output.specs.OutputCall.OutputCall.{IndentEnd}
 use Rattle.wit_print.specs.declared.driver.Driver.{Driver}
 use Rattle.wit_print.specs.Drives.{Drives}
 use Rattle.wit_print.proofs.Driven.{driven3}

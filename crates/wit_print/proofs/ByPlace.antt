@@ -3,7 +3,7 @@ use Rattle.std.proofs.Common.{◌≡◌, refl, ℕ, zero, suc, ◌+◌, ◌<◌,
 use Rattle.std.specs.List.{list_all}
 use Rattle.wit_model.specs.Rules.{each_from}
 use Rattle.wit_model.proofs.Entries.{each_from_at}
-use Rattle.wit_print.proofs.ByteTests.{both, left_of, right_of}
+use Rattle.print_grammar.proofs.ByteTests.{both, left_of, right_of}
 
 -- an element of a list, each of which passes
 pub all_get : {X : Type 0} (p : X → Bool) (xs : List X) (n : ℕ) (x : X) → list_all p xs ≡ true → slice_get xs n ≡ Some x → p x ≡ true

@@ -9,12 +9,12 @@ use Rattle.wit_model.specs.declared.model.TypeDef.{TypeDef}
 use Rattle.wit_model.specs.declared.model.TypeId.{TypeId}
 use Rattle.wit_model.specs.declared.model.TypeOwner.{TypeOwner}
 use Rattle.wit_model.specs.Lookup.{type_at}
-use Rattle.wit_print.specs.Tree.{MemberTree}
-use Rattle.wit_print.specs.Tree.MemberTree.{TypeMember}
+use Rattle.print_grammar.specs.Tree.{MemberTree}
+use Rattle.print_grammar.specs.Tree.MemberTree.{TypeMember}
 use Rattle.wit_print.specs.Shown.{DeclaredWith, Listed, belongs_to, declared_of, present_name, shown_prefix, shown_resource_member, used_of}
 use Rattle.wit_print.specs.GivenTypes.{Functions, functions_under, given_declarations}
 use Rattle.wit_print.specs.UseGroups.{declared_members, listed_declaration}
-use Rattle.wit_print.proofs.ByteTests.{both, left_of, right_of}
+use Rattle.print_grammar.proofs.ByteTests.{both, left_of, right_of}
 use Rattle.wit_print.proofs.ListedTypes.{next_declarations}
 
 module _ {X : Type 0} (test : X → Bool) where

@@ -15,13 +15,13 @@ use Rattle.wit_model.specs.declared.model.«Type».TheVariants as value
 use Rattle.wit_model.specs.Calls.{is_constructor_shorthand, is_shorthand, item_name}
 use Rattle.wit_model.specs.Names.{is_label}
 use Rattle.wit_model.specs.Rules.{is_own_of, type_is}
-use Rattle.wit_print.specs.Tree.{TypeTree}
+use Rattle.print_grammar.specs.Tree.{TypeTree}
 use Rattle.wit_print.specs.Shown.{constructor_result, function_prefix, is_method, shown_param, shown_params, shown_resource_member, shown_signature, shown_type}
-use Rattle.wit_print.specs.Calls.{prefix_calls, resource_body_calls, resource_member_calls}
-use Rattle.wit_print.specs.OutputCall.OutputCall.{IndentEnd, IndentStart}
+use Rattle.print_grammar.specs.Calls.{prefix_calls, resource_body_calls, resource_member_calls}
+use Rattle.print_output.specs.OutputCall.OutputCall.{IndentEnd, IndentStart}
 use Rattle.wit_print.specs.DeclaredCalls.{bare_member_calls}
-use Rattle.wit_print.specs.WellNamed.{is_well_optional, is_well_param, is_well_prefix, is_well_resource_member, is_well_signature, is_well_type}
-use Rattle.wit_print.proofs.ByteTests.{left_of, right_of}
+use Rattle.print_grammar.specs.WellNamed.{is_well_optional, is_well_param, is_well_prefix, is_well_resource_member, is_well_signature, is_well_type}
+use Rattle.print_grammar.proofs.ByteTests.{left_of, right_of}
 
 module _ (r : Resolve) (id : TypeId) where
   owned : (o : Option ValueType) → option_map_or (type_is r (is_own_of id.0)) o false ≡ true → constructor_result r id o ≡ None

@@ -18,15 +18,15 @@ use Rattle.wit_model.specs.Lookup.{interface_at, type_at}
 use Rattle.wit_model.specs.Rules.{in_list}
 use Rattle.wit_model.specs.Text.{text_of}
 use Rattle.wit_model.specs.Valid.{IsValid}
-use Rattle.wit_print.specs.Tree.{Declared, MemberTree, Prefix}
-use Rattle.wit_print.specs.Tree.MemberTree.{FunctionMember, TypeMember, UseMember}
+use Rattle.print_grammar.specs.Tree.{Declared, MemberTree, Prefix}
+use Rattle.print_grammar.specs.Tree.MemberTree.{FunctionMember, TypeMember, UseMember}
 use Rattle.wit_print.specs.Shown.{Listed, listed_functions, listed_types, path_from_owner, shown_declared, shown_interface, shown_prefix, shown_resource_member, shown_uses}
-use Rattle.wit_print.specs.Calls.{declared_calls, function_calls, item_calls, members_calls, prefix_calls, printed_after, use_calls}
+use Rattle.print_grammar.specs.Calls.{declared_calls, function_calls, item_calls, members_calls, prefix_calls, printed_after, use_calls}
 use Rattle.wit_print.specs.Printable.{declaration_of, is_printable_type, line_between, shown_functions}
 use Rattle.wit_print.specs.UseGroups.{declared_members, is_listed_type, type_members}
-use Rattle.wit_print.specs.WellNamed.{is_well_declared, is_well_prefix}
-use Rattle.wit_print.specs.declared.type_kind.TypeKind.TheVariants.{FunctionFreestanding}
-use Rattle.wit_print.proofs.ByteTests.{right_of}
+use Rattle.print_grammar.specs.WellNamed.{is_well_declared, is_well_prefix}
+use Rattle.print_output.specs.declared.type_kind.TypeKind.TheVariants.{FunctionFreestanding}
+use Rattle.print_grammar.proofs.ByteTests.{right_of}
 use Rattle.wit_print.proofs.ValidInterfaces.{in_package, interface_range, interface_types}
 use Rattle.wit_print.proofs.ValidOwners.{is_known_listed}
 use Rattle.wit_print.proofs.WellLists.{all_both}

@@ -20,17 +20,17 @@ use Rattle.wit_model.specs.Rules.{in_list, is_named_kind, is_named_number, passe
 use Rattle.wit_model.specs.Text.{Text, text_of}
 use Rattle.wit_model.specs.Uses.{alias_target}
 use Rattle.wit_model.specs.Valid.{IsValid, named_kinds}
-use Rattle.wit_print.specs.OutputCall.{lines_begun_after}
-use Rattle.wit_print.specs.Tree.{TypeTree}
-use Rattle.wit_print.specs.Tree.TypeTree.{PrimitiveType, Name}
-use Rattle.wit_print.specs.Tree.Declared.{AliasOf}
+use Rattle.print_output.specs.OutputCall.{lines_begun_after}
+use Rattle.print_grammar.specs.Tree.{TypeTree}
+use Rattle.print_grammar.specs.Tree.TypeTree.{PrimitiveType, Name}
+use Rattle.print_grammar.specs.Tree.Declared.{AliasOf}
 use Rattle.wit_print.specs.Shown.{future_tree, kind_tree, shown_type, stream_tree, type_trees}
-use Rattle.wit_print.specs.Calls.{declared_calls, type_calls}
+use Rattle.print_grammar.specs.Calls.{declared_calls, type_calls}
 use Rattle.wit_print.specs.DeclaredCalls.{alias_calls, carrier_calls, is_word}
 use Rattle.wit_print.specs.TypeParts.{handles_label, is_labelled, kind_calls, may_be_unnamed}
-use Rattle.wit_print.specs.WellNamed.{are_well_some, is_well_optional, is_well_type}
-use Rattle.wit_print.specs.declared.type_kind.TypeKind.TheVariants as kind
-use Rattle.wit_print.proofs.ByteTests.{right_of}
+use Rattle.print_grammar.specs.WellNamed.{are_well_some, is_well_optional, is_well_type}
+use Rattle.print_output.specs.declared.type_kind.TypeKind.TheVariants as kind
+use Rattle.print_grammar.proofs.ByteTests.{right_of}
 use Rattle.wit_print.proofs.ByPlace.{one_there}
 use Rattle.wit_print.proofs.TypesWell.{type_rule}
 use Rattle.wit_print.proofs.TypeParts.{handles_at, shown_at, type_stays, well_in_range}

@@ -6,7 +6,7 @@ use Rattle.std.proofs.lemmas.List.Sums.{AllPass-from_list_all}
 use Rattle.std.proofs.lemmas.Simd.{map-map}
 use Rattle.wit_model.proofs.Lists.{first_true, second_true}
 use Rattle.wit_model.specs.Text.{Text}
-use Rattle.wit_print.specs.OutputCall.{OutputCall, View, is_one_line}
+use Rattle.print_output.specs.OutputCall.{OutputCall, View, is_one_line}
 use Rattle.wit_print.specs.declared.driver.Driver.{Driver}
 use Rattle.wit_print.specs.Drives.{Drives}
 use Rattle.wit_print.proofs.Driven.{driven_as}

@@ -3,9 +3,9 @@ use Rattle.std.proofs.Common.{Result, Ok, Err, OnOk, OnErr, ◌≡◌, ◌<◌, 
 use Rattle.std.specs.Prelude.{is_err}
 use Rattle.std.proofs.lemmas.Bool.{false≢true, true≢false}
 use Rattle.std.specs.List.{flat_map}
-use Rattle.wit_print.specs.OutputCall.{OutputCall, View, after, lines_begun_after, Counts, Reaches, Moves, Begins, body_calls}
-use Rattle.wit_print.specs.OutputCall.Moves.{nothing_moved, then_moved}
-use Rattle.wit_print.specs.OutputCall.Begins.{nothing_begun, begun_in}
+use Rattle.print_output.specs.OutputCall.{OutputCall, View, after, lines_begun_after, Counts, Reaches, Moves, Begins, body_calls}
+use Rattle.print_output.specs.OutputCall.Moves.{nothing_moved, then_moved}
+use Rattle.print_output.specs.OutputCall.Begins.{nothing_begun, begun_in}
 use Rattle.wit_print.specs.declared.driver.Driver.{Driver}
 use Rattle.wit_print.specs.Drives.{Runs, Drives}
 use Rattle.wit_print.specs.Drives.Runs.{all_made, one_refused, none_made}

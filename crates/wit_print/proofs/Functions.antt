@@ -13,14 +13,14 @@ use Rattle.wit_model.specs.Lookup.{interface_at}
 use Rattle.wit_model.specs.Rules.{is_freestanding}
 use Rattle.wit_model.specs.Text.{text_of}
 use Rattle.wit_model.specs.Valid.{IsValid}
-use Rattle.wit_print.specs.Tree.{MemberTree}
+use Rattle.print_grammar.specs.Tree.{MemberTree}
 use Rattle.wit_print.specs.Shown.{function_prefix, listed_functions, shown_function, shown_signature}
-use Rattle.wit_print.specs.Calls.{function_calls, item_calls, members_calls, prefix_calls}
+use Rattle.print_grammar.specs.Calls.{function_calls, item_calls, members_calls, prefix_calls}
 use Rattle.wit_print.specs.ItemCalls.{named_calls}
 use Rattle.wit_print.specs.Printable.{is_printable_function, line_between, shown_functions}
-use Rattle.wit_print.specs.WellNamed.{is_well_member}
-use Rattle.wit_print.specs.declared.type_kind.TypeKind.TheVariants.{FunctionFreestanding}
-use Rattle.wit_print.proofs.ByteTests.{weaker_all}
+use Rattle.print_grammar.specs.WellNamed.{is_well_member}
+use Rattle.print_output.specs.declared.type_kind.TypeKind.TheVariants.{FunctionFreestanding}
+use Rattle.print_grammar.proofs.ByteTests.{weaker_all}
 use Rattle.wit_print.proofs.ValidDeclared.{is_known_function}
 use Rattle.wit_print.proofs.ValidInterfaces.{function_well, interface_functions}
 

@@ -11,13 +11,13 @@ use Rattle.wit_model.specs.declared.model.Function.{Function}
 use Rattle.wit_model.specs.declared.model.TypeId.{TypeId}
 use Rattle.wit_model.specs.declared.model.TypeOwner.{TypeOwner}
 use Rattle.wit_model.specs.Text.{Text}
-use Rattle.wit_print.specs.OutputCall.{OutputCall, View, Moves, Begins}
-use Rattle.wit_print.specs.Tree.{MemberTree}
+use Rattle.print_output.specs.OutputCall.{OutputCall, View, Moves, Begins}
+use Rattle.print_grammar.specs.Tree.{MemberTree}
 use Rattle.wit_print.specs.Shown.{Listed}
-use Rattle.wit_print.specs.Calls.{members_calls, printed_after}
+use Rattle.print_grammar.specs.Calls.{members_calls, printed_after}
 use Rattle.wit_print.specs.GivenTypes.{Functions, are_functions_of, behind, functions_under, given_declarations}
 use Rattle.wit_print.specs.UseGroups.{is_listed_function, listed_declaration, listed_of}
-use Rattle.wit_print.proofs.ByteTests.{left_of, right_of}
+use Rattle.print_grammar.proofs.ByteTests.{left_of, right_of}
 use Rattle.wit_print.proofs.Declarations.{members_append, printed_append}
 use Rattle.wit_print.proofs.Moves.{Going, made_on, refused_in}
 

@@ -1,35 +1,12 @@
 pub mod Moves
 pub mod Driven
 pub mod Blocks
-pub mod RenderLaws
-mod ReadingExamples
-mod TextExamples
-mod DeclaredExamples
-pub mod ByteTests
 pub mod ByPlace
-pub mod TokenFacts
-pub mod VersionFacts
-pub mod TextOf
-pub mod Printing
-pub mod TypeReads
-pub mod SignatureReads
-pub mod StringReads
-pub mod PrefixReads
-pub mod PathReads
-pub mod DeclaredReads
-pub mod MemberReads
-pub mod FileReads
-pub mod Keywords
 pub mod Fronts
 pub mod OneLine
 pub mod DocLines
 pub mod Runs
 pub mod WellLists
-pub mod TokensUnique
-pub mod TypeUnique
-pub mod ListsUnique
-pub mod PrefixUnique
-pub mod GrammarUnique
 pub mod PackageCalls
 pub mod ValidPrintable
 pub mod ShownWell

@@ -1,10 +1,10 @@
 -- How calls in turn move a view: one call and then the others, some calls and then some more.
 use Rattle.std.proofs.Common.{◌≡◌, List, [], ◌∷◌, ◌++◌, refl, sym, inl, inr, ◌∙◌, ap, subst, Result, Ok, Err, OnErr, OnOk, append-nil, append_assoc}
 use Rattle.std.specs.List.{flat_map}
-use Rattle.wit_print.specs.OutputCall.{OutputCall, View, after, after_all, body_calls, line_begun_after, Counts, Reaches, Moves, Begins}
-use Rattle.wit_print.specs.OutputCall.Moves.{nothing_moved, then_moved}
-use Rattle.wit_print.specs.OutputCall.Begins.{nothing_begun, begun_in, then_begun}
-use Rattle.wit_print.specs.OutputCall.OutputCall.{PushStr, IndentIfNeeded, IndentStart, IndentEnd, Newline, IndentAndPrint, Keyword, Ty, Param, Case, GenericArgsStart, GenericArgsEnd, Doc, Semicolon, Str}
+use Rattle.print_output.specs.OutputCall.{OutputCall, View, after, after_all, body_calls, line_begun_after, Counts, Reaches, Moves, Begins}
+use Rattle.print_output.specs.OutputCall.Moves.{nothing_moved, then_moved}
+use Rattle.print_output.specs.OutputCall.Begins.{nothing_begun, begun_in, then_begun}
+use Rattle.print_output.specs.OutputCall.OutputCall.{PushStr, IndentIfNeeded, IndentStart, IndentEnd, Newline, IndentAndPrint, Keyword, Ty, Param, Case, GenericArgsStart, GenericArgsEnd, Doc, Semicolon, Str}
 
 module _ {Kept : Type 0} (keeps : View Kept → OutputCall → Kept) where
   -- some calls and then more

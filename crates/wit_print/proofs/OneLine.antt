@@ -15,8 +15,8 @@ use Rattle.semver.specs.Grammar.{is_identifier_byte, is_build_identifier, is_pre
 use Rattle.wit_model.proofs.Lists.{first_true, second_true}
 use Rattle.wit_model.specs.Text.{Text}
 use Rattle.wit_model.specs.Names.{is_lower_byte, is_upper_byte, is_fragment, begins_with_letter, is_label, is_version_text}
-use Rattle.wit_print.specs.Keyword.{escaped, is_keyword}
-use Rattle.wit_print.specs.OutputCall.{is_one_line, has_no_space_first, may_begin}
+use Rattle.print_grammar.specs.Keyword.{escaped, is_keyword}
+use Rattle.print_output.specs.OutputCall.{is_one_line, has_no_space_first, may_begin}
 
 either_true : (a b : Bool) → (a || b) ≡ true → (a ≡ true) ⊎ (b ≡ true)
 either_true true b e = inl refl

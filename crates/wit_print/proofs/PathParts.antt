@@ -14,10 +14,10 @@ use Rattle.wit_model.specs.Rules.{in_list, package_number, passes}
 use Rattle.wit_model.specs.Valid.{IsValid, is_place, numbers_in_range}
 use Rattle.wit_model.proofs.OnePath.{interface-passes}
 use Rattle.wit_print.specs.Shown.{full_path, path_from, present_name, shown_path}
-use Rattle.wit_print.specs.WellNamed.{is_well_path}
-use Rattle.wit_print.specs.Tree.{PathTree}
-use Rattle.wit_print.specs.Tree.PathTree.{Local}
-use Rattle.wit_print.proofs.ByteTests.{left_of, right_of}
+use Rattle.print_grammar.specs.WellNamed.{is_well_path}
+use Rattle.print_grammar.specs.Tree.{PathTree}
+use Rattle.print_grammar.specs.Tree.PathTree.{Local}
+use Rattle.print_grammar.proofs.ByteTests.{left_of, right_of}
 
 module _ (r : Resolve) (here : PackageId) (i : Interface) where
   pub free_path : i.«package» ≡ None → path_from r here i ≡ Local (present_name i.name)

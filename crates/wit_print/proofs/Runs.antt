@@ -5,8 +5,8 @@ use Rattle.std.proofs.Math.Seq.{take-suc, drop-cons}
 use Rattle.std.proofs.lemmas.Grind.{flat_map-append}
 use Rattle.std.proofs.lemmas.List.Sums.{AllPass-from_list_all}
 use Rattle.std.proofs.lemmas.List.Folds.{flat_map-map}
-use Rattle.wit_print.specs.OutputCall.{OutputCall}
-use Rattle.wit_print.specs.Calls.{separated}
+use Rattle.print_output.specs.OutputCall.{OutputCall}
+use Rattle.print_grammar.specs.Calls.{separated}
 
 module _ {X Y : Type 0} (f : X → List Y) where
   pub flat_map-take_next : (xs : List X) (i : ℕ) (x : X) → i < length xs → x ≡ get_or xs i x → flat_map f (take (i + 1) xs) ≡ flat_map f (take i xs) ++ f x

@@ -7,7 +7,7 @@ use Rattle.wit_model.specs.Names.{is_version}
 use Rattle.wit_model.specs.Rules.{same_version}
 use Rattle.wit_model.specs.Text.{text_eq}
 use Rattle.wit_model.proofs.VersionLaws.{one_version, same_text, text_same}
-use Rattle.wit_print.proofs.ByteTests.{both, left_of, right_of}
+use Rattle.print_grammar.proofs.ByteTests.{both, left_of, right_of}
 
 pub both_ways : (p q : Bool) → (p ≡ true → q ≡ true) → (q ≡ true → p ≡ true) → p ≡ q
 both_ways true q f g = sym (f refl)

@@ -23,18 +23,18 @@ use Rattle.wit_model.specs.Types.{grow, number_of}
 use Rattle.wit_model.specs.Uses.{alias_target}
 use Rattle.wit_model.specs.Valid.{IsValid}
 use Rattle.wit_model.proofs.Tables.{grow_at}
-use Rattle.wit_print.specs.OutputCall.{OutputCall, lines_begun_after, line_begun_after, may_follow}
-use Rattle.wit_print.specs.Tree.{TypeTree, TypeTrees}
-use Rattle.wit_print.specs.Tree.TypeTree.{PrimitiveType, Name, Handle, Own, Borrow, TupleOf, OptionOf, ListOf, FixedListOf, MapOf, Result, ResultOk, ResultErr, ResultOf, Future, FutureOf, Stream, StreamOf}
-use Rattle.wit_print.specs.Tree.TypeTrees.{NoTypes, AndTypes}
+use Rattle.print_output.specs.OutputCall.{OutputCall, lines_begun_after, line_begun_after, may_follow}
+use Rattle.print_grammar.specs.Tree.{TypeTree, TypeTrees}
+use Rattle.print_grammar.specs.Tree.TypeTree.{PrimitiveType, Name, Handle, Own, Borrow, TupleOf, OptionOf, ListOf, FixedListOf, MapOf, Result, ResultOk, ResultErr, ResultOf, Future, FutureOf, Stream, StreamOf}
+use Rattle.print_grammar.specs.Tree.TypeTrees.{NoTypes, AndTypes}
 use Rattle.wit_print.specs.Shown.{shown_type, type_name, used_type, used_types, future_tree, stream_tree, result_tree, kind_tree, def_tree, trees_from, type_trees}
-use Rattle.wit_print.specs.Keyword.{escaped}
-use Rattle.wit_print.specs.declared.type_kind.TypeKind.TheVariants.{Other}
-use Rattle.wit_print.specs.Calls.{type_calls, types_calls, more_types_calls}
+use Rattle.print_grammar.specs.Keyword.{escaped}
+use Rattle.print_output.specs.declared.type_kind.TypeKind.TheVariants.{Other}
+use Rattle.print_grammar.specs.Calls.{type_calls, types_calls, more_types_calls}
 use Rattle.wit_print.specs.TypeParts.{kind_start, kind_end, result_start, result_end, carrier_end, types_from, comma_calls, handles_label, may_be_unnamed, kind_calls}
-use Rattle.wit_print.proofs.ByteTests.{both, left_of, right_of}
+use Rattle.print_grammar.proofs.ByteTests.{both, left_of, right_of}
 use Rattle.wit_print.proofs.ByPlace.{all_get}
-use Rattle.wit_print.specs.WellNamed.{is_well_type}
+use Rattle.print_grammar.specs.WellNamed.{is_well_type}
 use Rattle.wit_print.proofs.TypesWell.{is_below, below_of_numbers, IsShownType, type_is_shown, trees_count}
 use Rattle.wit_model.proofs.TreeTable.{slice_get-take}
 

@@ -21,11 +21,11 @@ use Rattle.wit_model.specs.Lookup.{type_at}
 use Rattle.wit_model.specs.Valid.{IsValid, Rule, Keeps, is_place, numbers_in_range, labels, order_of_types, shapes, named_kinds, handles}
 use Rattle.wit_model.proofs.Entries.{each_from_at, lists_pass}
 use Rattle.wit_model.specs.Rules.{passes, has_shape, has_items, is_named_kind}
-use Rattle.wit_print.specs.Tree.{TypeTree}
-use Rattle.wit_print.specs.Tree.TypeTree.{Name}
+use Rattle.print_grammar.specs.Tree.{TypeTree}
+use Rattle.print_grammar.specs.Tree.TypeTree.{Name}
 use Rattle.wit_print.specs.Shown.{present_name, shown_type, type_name, used_type, used_types, future_tree, stream_tree, result_tree, kind_tree, def_tree, trees_from, type_trees}
-use Rattle.wit_print.specs.WellNamed.{is_well_type, are_well_types, are_well_more}
-use Rattle.wit_print.proofs.ByteTests.{both, left_of, right_of}
+use Rattle.print_grammar.specs.WellNamed.{is_well_type, are_well_types, are_well_more}
+use Rattle.print_grammar.proofs.ByteTests.{both, left_of, right_of}
 use Rattle.wit_print.proofs.ByPlace.{all_get, one_there}
 use Rattle.wit_print.proofs.ShownWell.{given_label}
 

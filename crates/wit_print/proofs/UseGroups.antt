@@ -25,16 +25,16 @@ use Rattle.wit_model.specs.Rules.{has_items, in_list, is_stability, passes}
 use Rattle.wit_model.specs.Text.{Text, text_eq, text_of}
 use Rattle.wit_model.specs.Uses.{alias_target}
 use Rattle.wit_model.proofs.VersionLaws.{same_text, text_same}
-use Rattle.wit_print.specs.OutputCall.{OutputCall}
-use Rattle.wit_print.specs.OutputCall.OutputCall.{Keyword, Str}
-use Rattle.wit_print.specs.Tree.{MemberTree, PathTree, UsedName}
-use Rattle.wit_print.specs.Tree.MemberTree.{UseMember}
+use Rattle.print_output.specs.OutputCall.{OutputCall}
+use Rattle.print_output.specs.OutputCall.OutputCall.{Keyword, Str}
+use Rattle.print_grammar.specs.Tree.{MemberTree, PathTree, UsedName}
+use Rattle.print_grammar.specs.Tree.MemberTree.{UseMember}
 use Rattle.wit_print.specs.Shown.{Listed, Used, grouped, grouped_with, same_group, shown_gates, shown_path, used_of}
-use Rattle.wit_print.specs.Calls.{doc_calls, external_id_calls, gates_calls, members_calls, path_calls, printed_after, space, use_calls, used_name_calls}
+use Rattle.print_grammar.specs.Calls.{doc_calls, external_id_calls, gates_calls, members_calls, path_calls, printed_after, space, use_calls, used_name_calls}
 use Rattle.wit_print.specs.UseGroups.{group_end_calls, is_printable_use, joins, listed_use, listed_use_calls, more_names_calls, names_calls, new_group_calls, open_end_calls, use_after, use_from, use_run_calls, uses_calls}
-use Rattle.wit_print.specs.WellNamed.{is_well_gates, is_well_path}
+use Rattle.print_grammar.specs.WellNamed.{is_well_gates, is_well_path}
 use Rattle.wit_print.specs.declared.use_group.Use.{Use}
-use Rattle.wit_print.proofs.ByteTests.{both, left_of, right_of}
+use Rattle.print_grammar.proofs.ByteTests.{both, left_of, right_of}
 use Rattle.wit_print.proofs.SameVersions.{both_ways}
 
 -- ---- a use alone

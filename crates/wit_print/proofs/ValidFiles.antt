@@ -19,19 +19,19 @@ use Rattle.wit_model.specs.Rules.{in_list, passes, is_stability, text_is}
 use Rattle.wit_model.specs.Valid.{IsValid, package_names, labels, names_in_packages}
 use Rattle.wit_model.proofs.OnePath.{package-passes, interface-passes}
 use Rattle.wit_model.proofs.VersionLaws.{text_same}
-use Rattle.wit_print.specs.OutputCall.{View, Moves, is_one_line}
-use Rattle.wit_print.specs.Render.{Written, render, writes, blank}
-use Rattle.wit_print.specs.Calls.{file_calls}
-use Rattle.wit_print.specs.AsRead.{file_as_read}
-use Rattle.wit_print.specs.Reading.{IsOnlyReading}
-use Rattle.wit_print.specs.Tree.ItemTree.{InterfaceItem, WorldItem}
+use Rattle.print_output.specs.OutputCall.{View, Moves, is_one_line}
+use Rattle.print_output.specs.Render.{Written, render, writes, blank}
+use Rattle.print_grammar.specs.Calls.{file_calls}
+use Rattle.print_grammar.specs.AsRead.{file_as_read}
+use Rattle.print_grammar.specs.Reading.{IsOnlyReading}
+use Rattle.print_grammar.specs.Tree.ItemTree.{InterfaceItem, WorldItem}
 use Rattle.wit_print.specs.Shown.{shown_docs, shown_gates, shown_interface, shown_interface_item, shown_world, shown_world_item, shown_package_of, no_package, shown_package, shown_file}
-use Rattle.wit_print.specs.WellNamed.{is_well_gates, is_well_item, is_well_package, is_well_file}
-use Rattle.wit_print.proofs.ByteTests.{both, left_of, right_of}
+use Rattle.print_grammar.specs.WellNamed.{is_well_gates, is_well_item, is_well_package, is_well_file}
+use Rattle.print_grammar.proofs.ByteTests.{both, left_of, right_of}
 use Rattle.wit_print.proofs.ByPlace.{one_there}
 use Rattle.wit_print.proofs.WellLists.{each_well, given_well, joined_well}
-use Rattle.wit_print.proofs.RenderLaws.{Moves-writes}
-use Rattle.wit_print.proofs.FileReads.{file_reads_only}
+use Rattle.print_output.proofs.RenderLaws.{Moves-writes}
+use Rattle.print_grammar.proofs.FileReads.{file_reads_only}
 use Rattle.wit_print.proofs.ShownWell.{docs_well, gates_well, optional_version}
 use Rattle.wit_print.proofs.ValidOwners.{world_rule}
 use Rattle.wit_print.proofs.ValidInterfaces.{interface_well}

@@ -18,10 +18,10 @@ use Rattle.wit_model.specs.Lookup.{interface_at}
 use Rattle.wit_model.specs.Rules.{in_list, passes, package_number, is_stability, is_freestanding, function_in_range, function_labels, is_member}
 use Rattle.wit_model.specs.Valid.{IsValid, is_place, numbers_in_range, places, labels, order_of_types, function_names}
 use Rattle.wit_model.proofs.OnePath.{interface-passes}
-use Rattle.wit_print.specs.Tree.MemberTree.{UseMember, TypeMember}
+use Rattle.print_grammar.specs.Tree.MemberTree.{UseMember, TypeMember}
 use Rattle.wit_print.specs.Shown.{Used, DeclaredWith, shown_uses, shown_declarations, path_from_owner, listed_types, listed_functions, function_prefix, shown_function, shown_interface}
-use Rattle.wit_print.specs.WellNamed.{is_well_prefix, is_well_path, is_well_member}
-use Rattle.wit_print.proofs.ByteTests.{both, left_of, right_of}
+use Rattle.print_grammar.specs.WellNamed.{is_well_prefix, is_well_path, is_well_member}
+use Rattle.print_grammar.proofs.ByteTests.{both, left_of, right_of}
 use Rattle.wit_print.proofs.WellLists.{implied, each_well, kept_well, joined_well}
 use Rattle.wit_print.proofs.FunctionsWell.{signature_well, function_prefix_well}
 use Rattle.wit_print.proofs.ValidDeclared.{is_known_function}

@@ -20,7 +20,7 @@ use Rattle.wit_model.specs.Parts.{same_owner}
 use Rattle.wit_model.specs.Rules.{passes, after_prefix, is_freestanding, function_labels, is_resource_itself, resource_name, takes_self, is_member_name, is_member_of, is_member}
 use Rattle.wit_model.specs.Valid.{IsValid}
 use Rattle.wit_model.proofs.NameLaws.{label_lacks}
-use Rattle.wit_print.proofs.ByteTests.{left_of, right_of}
+use Rattle.print_grammar.proofs.ByteTests.{left_of, right_of}
 use Rattle.wit_print.proofs.WellLists.{joined_well}
 use Rattle.wit_print.proofs.TypesWell.{label_of}
 

@@ -34,7 +34,7 @@ use Rattle.wit_model.proofs.Listings.{interface_fits, misnamed_in_interface_brea
 use Rattle.wit_model.proofs.OnePath.{interface-passes, equal-numbers, given-test}
 use Rattle.wit_model.proofs.VersionLaws.{text_same}
 use Rattle.wit_print.specs.Shown.{Listed}
-use Rattle.wit_print.proofs.ByteTests.{both, left_of, right_of, refuted}
+use Rattle.print_grammar.proofs.ByteTests.{both, left_of, right_of, refuted}
 use Rattle.wit_print.proofs.ByPlace.{one_there}
 use Rattle.wit_print.proofs.TypesWell.{type_rule, label_of}
 

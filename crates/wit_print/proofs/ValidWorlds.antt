@@ -28,13 +28,13 @@ use Rattle.wit_model.specs.Names.{is_label}
 use Rattle.wit_model.specs.Lookup.{interface_at, world_at}
 use Rattle.wit_model.specs.Rules.{in_list, passes, is_id, package_number, is_stability, function_labels, key_in_range, item_in_range, entries_in_range, key_label, item_labels, entries_labels, item_type, is_name_key, is_named_of, is_member, is_interface_key, import_stands, export_stands, is_export_item}
 use Rattle.wit_model.specs.Valid.{IsValid, is_place, item_function, numbers_in_range, labels, order_of_types, function_names, world_items}
-use Rattle.wit_print.specs.OutputCall.{is_one_line}
-use Rattle.wit_print.specs.Tree.ExternTree.{NamedPath, NamedInterface}
-use Rattle.wit_print.specs.Tree.{WorldMember}
-use Rattle.wit_print.specs.Tree.WorldMember.{WorldUse, WorldType}
+use Rattle.print_output.specs.OutputCall.{is_one_line}
+use Rattle.print_grammar.specs.Tree.ExternTree.{NamedPath, NamedInterface}
+use Rattle.print_grammar.specs.Tree.{WorldMember}
+use Rattle.print_grammar.specs.Tree.WorldMember.{WorldUse, WorldType}
 use Rattle.wit_print.specs.Shown.{Entry, Used, shown_docs, shown_gates, shown_path, shown_uses, shown_declarations, shown_interface, function_prefix, extern_docs, extern_prefix, shown_extern, shown_import, shown_export, is_interface_item, is_freestanding_item, function_of_item, type_of_entry, listed_imports, imported_functions, shown_world_in, shown_world}
-use Rattle.wit_print.specs.WellNamed.{is_well_gates, is_well_prefix, is_well_path, is_well_member, is_well_extern, is_well_world_member}
-use Rattle.wit_print.proofs.ByteTests.{both, left_of, right_of, weaker_all}
+use Rattle.print_grammar.specs.WellNamed.{is_well_gates, is_well_prefix, is_well_path, is_well_member, is_well_extern, is_well_world_member}
+use Rattle.print_grammar.proofs.ByteTests.{both, left_of, right_of, weaker_all}
 use Rattle.wit_print.proofs.ByPlace.{one_there}
 use Rattle.wit_print.proofs.WellLists.{all_both, each_well, kept_well, given_well, joined_well}
 use Rattle.wit_print.proofs.ShownWell.{docs_well, gates_well, external_id_well}

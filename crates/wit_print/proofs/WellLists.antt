@@ -5,8 +5,8 @@ use Rattle.std.specs.List.{list_all, cons_option}
 use Rattle.std.proofs.lemmas.Bool.{cases_Bool, lt-ltb}
 use Rattle.std.proofs.lemmas.List.Folds.{list_all-append}
 use Rattle.wit_model.specs.Rules.{passes, has_items}
-use Rattle.wit_print.specs.WellNamed.{are_well_some}
-use Rattle.wit_print.proofs.ByteTests.{both, left_of, right_of}
+use Rattle.print_grammar.specs.WellNamed.{are_well_some}
+use Rattle.print_grammar.proofs.ByteTests.{both, left_of, right_of}
 
 -- what a test asks where another passes
 pub implied : (a b : Bool) → a ≡ true → (not a || b) ≡ true → b ≡ true

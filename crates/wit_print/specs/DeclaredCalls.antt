@@ -2,16 +2,16 @@
 use Rattle.std.specs.Prelude.{Bool, true, false, List, [], ◌∷◌, ◌++◌, ℕ, Option, None, Some, codes}
 use Rattle.std.specs.Fmt.{decimal}
 use Rattle.wit_model.specs.Text.{Text}
-use Rattle.wit_print.specs.Keyword.{escaped}
-use Rattle.wit_print.specs.OutputCall.{OutputCall}
-use Rattle.wit_print.specs.OutputCall.OutputCall.{IndentStart, Newline, Keyword, Ty, Semicolon, Str}
-use Rattle.wit_print.specs.Tree.{TypeTree, SignatureTree, ParamTree, ResourceMember}
-use Rattle.wit_print.specs.Tree.TypeTree.{PrimitiveType, Name}
-use Rattle.wit_print.specs.Tree.ResourceMember.{Constructor, Method, Static}
-use Rattle.wit_print.specs.Calls.{params_calls, signature_calls, space, type_calls}
+use Rattle.print_grammar.specs.Keyword.{escaped}
+use Rattle.print_output.specs.OutputCall.{OutputCall}
+use Rattle.print_output.specs.OutputCall.OutputCall.{IndentStart, Newline, Keyword, Ty, Semicolon, Str}
+use Rattle.print_grammar.specs.Tree.{TypeTree, SignatureTree, ParamTree, ResourceMember}
+use Rattle.print_grammar.specs.Tree.TypeTree.{PrimitiveType, Name}
+use Rattle.print_grammar.specs.Tree.ResourceMember.{Constructor, Method, Static}
+use Rattle.print_grammar.specs.Calls.{params_calls, signature_calls, space, type_calls}
 use Rattle.wit_print.specs.ItemCalls.{named_calls}
-use Rattle.wit_print.specs.declared.type_kind.TypeKind.{TypeKind}
-use Rattle.wit_print.specs.declared.type_kind.TypeKind.TheVariants as kind
+use Rattle.print_output.specs.declared.type_kind.TypeKind.{TypeKind}
+use Rattle.print_output.specs.declared.type_kind.TypeKind.TheVariants as kind
 
 -- a word, a name and the start of a block
 abbrev pub block_start_calls : Text → Text → TypeKind → List OutputCall

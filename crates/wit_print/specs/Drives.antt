@@ -1,6 +1,6 @@
 -- What calls do to a driver, which makes each call of its output at once, and makes no more once one was refused.
 use Rattle.std.specs.Prelude.{◌≡◌, Bool, true, false, List, ℕ, IsTrue}
-use Rattle.wit_print.specs.OutputCall.{OutputCall, View, Moves, Begins, may_begin, may_follow}
+use Rattle.print_output.specs.OutputCall.{OutputCall, View, Moves, Begins, may_begin, may_follow}
 use Rattle.wit_print.specs.declared.driver.Driver.{Driver}
 
 -- By whether a call was refused before, and whether one is refused now: all calls were made, in order; or a beginning of them; or none.

@@ -10,7 +10,7 @@ use Rattle.wit_model.specs.declared.model.PackageId.{PackageId}
 use Rattle.wit_model.specs.declared.model.TypeOwner.{TypeOwner}
 use Rattle.wit_model.specs.declared.model.Function.{Function}
 use Rattle.wit_model.specs.declared.model.TypeId.{TypeId}
-use Rattle.wit_print.specs.Tree.{MemberTree}
+use Rattle.print_grammar.specs.Tree.{MemberTree}
 use Rattle.wit_print.specs.Shown.{Listed, owner_package}
 use Rattle.wit_print.specs.UseGroups.{is_listed_function, listed_declaration, use_members}
 

@@ -6,11 +6,11 @@ use Rattle.wit_model.specs.declared.model.Interface.{Interface}
 use Rattle.wit_model.specs.declared.model.InterfaceId.{InterfaceId}
 use Rattle.wit_model.specs.Lookup.{interface_at}
 use Rattle.wit_model.specs.Text.{Text}
-use Rattle.wit_print.specs.Keyword.{escaped}
-use Rattle.wit_print.specs.OutputCall.{OutputCall}
-use Rattle.wit_print.specs.OutputCall.OutputCall.{Keyword, Newline, Str}
+use Rattle.print_grammar.specs.Keyword.{escaped}
+use Rattle.print_output.specs.OutputCall.{OutputCall}
+use Rattle.print_output.specs.OutputCall.OutputCall.{Keyword, Newline, Str}
 use Rattle.wit_print.specs.Shown.{shown_docs, shown_gates, shown_interface}
-use Rattle.wit_print.specs.Calls.{interface_outer_calls, members_calls}
+use Rattle.print_grammar.specs.Calls.{interface_outer_calls, members_calls}
 
 -- the feature under which an item is unstable, in a line of its own
 abbrev pub feature_calls : Text → List OutputCall

@@ -8,15 +8,15 @@ use Rattle.wit_model.specs.declared.model.Function.{Function}
 use Rattle.wit_model.specs.declared.model.Param.{Param}
 use Rattle.wit_model.specs.Lookup.{interface_at}
 use Rattle.wit_model.specs.Text.{Text}
-use Rattle.wit_print.specs.Keyword.{escaped}
-use Rattle.wit_print.specs.OutputCall.{OutputCall}
-use Rattle.wit_print.specs.OutputCall.OutputCall.{IndentStart, Keyword, Ty, Semicolon, Str}
-use Rattle.wit_print.specs.Tree.{ExternTree, Prefix, SignatureTree}
-use Rattle.wit_print.specs.Tree.ExternTree.{NamedInterface, NamedPath}
+use Rattle.print_grammar.specs.Keyword.{escaped}
+use Rattle.print_output.specs.OutputCall.{OutputCall}
+use Rattle.print_output.specs.OutputCall.OutputCall.{IndentStart, Keyword, Ty, Semicolon, Str}
+use Rattle.print_grammar.specs.Tree.{ExternTree, Prefix, SignatureTree}
+use Rattle.print_grammar.specs.Tree.ExternTree.{NamedInterface, NamedPath}
 use Rattle.wit_print.specs.Shown.{is_method, shown_interface, shown_path}
-use Rattle.wit_print.specs.Calls.{prefix_calls, signature_calls, space}
-use Rattle.wit_print.specs.declared.type_kind.TypeKind.{TypeKind}
-use Rattle.wit_print.specs.declared.type_kind.TypeKind.TheVariants as kind
+use Rattle.print_grammar.specs.Calls.{prefix_calls, signature_calls, space}
+use Rattle.print_output.specs.declared.type_kind.TypeKind.{TypeKind}
+use Rattle.print_output.specs.declared.type_kind.TypeKind.TheVariants as kind
 
 -- a function under a name
 abbrev pub named_calls : Text → TypeKind → SignatureTree → List OutputCall

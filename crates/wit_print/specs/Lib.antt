@@ -1,16 +1,5 @@
-pub mod OutputCall
 pub mod Drives
-pub mod Render
-pub mod Keyword
-pub mod Tree
-pub mod AsRead
-pub mod Calls
 pub mod Shown
-pub mod Expansion
-pub mod Token
-pub mod Grammar
-pub mod Reading
-pub mod WellNamed
 pub mod Documentation
 pub mod TypeParts
 pub mod Heads

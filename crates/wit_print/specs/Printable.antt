@@ -22,16 +22,16 @@ use Rattle.wit_model.specs.Text.{Text, text_of}
 use Rattle.wit_model.specs.Names.{is_label}
 use Rattle.wit_model.specs.Lookup.{type_at, world_at}
 use Rattle.wit_model.specs.Rules.{in_list, is_export_item, is_freestanding, has_items, is_id, item_in_range, key_in_range, package_number, passes}
-use Rattle.wit_print.specs.declared.type_kind.TypeKind.TheVariants.{WorldDeclaration}
-use Rattle.wit_print.specs.OutputCall.{OutputCall}
-use Rattle.wit_print.specs.OutputCall.OutputCall.{IndentStart, IndentEnd, Keyword, Newline, Ty}
-use Rattle.wit_print.specs.Keyword.{escaped}
-use Rattle.wit_print.specs.Tree.{MemberTree}
-use Rattle.wit_print.specs.Tree.MemberTree.{TypeMember}
+use Rattle.print_output.specs.declared.type_kind.TypeKind.TheVariants.{WorldDeclaration}
+use Rattle.print_output.specs.OutputCall.{OutputCall}
+use Rattle.print_output.specs.OutputCall.OutputCall.{IndentStart, IndentEnd, Keyword, Newline, Ty}
+use Rattle.print_grammar.specs.Keyword.{escaped}
+use Rattle.print_grammar.specs.Tree.{MemberTree}
+use Rattle.print_grammar.specs.Tree.MemberTree.{TypeMember}
 use Rattle.wit_print.specs.Shown.{extern_prefix, imported_functions, is_freestanding_item, is_interface_item, listed_imports, shown_docs, shown_gates, shown_head, shown_extern, shown_function, shown_import, shown_interface_item, shown_declared, shown_package, shown_prefix, shown_world_item}
 use Rattle.wit_print.specs.UseGroups.{is_listed_function, is_listed_type, type_members}
-use Rattle.wit_print.specs.WellNamed.{is_well_declared, is_well_gates, is_well_item, is_well_member, is_well_prefix, is_well_world_member}
-use Rattle.wit_print.specs.Calls.{members_calls, printed_after, space, doc_calls, gates_calls, world_extern_calls, package_item_calls, package_outer_calls, package_start_calls, package_end_calls, package_calls}
+use Rattle.print_grammar.specs.WellNamed.{is_well_declared, is_well_gates, is_well_item, is_well_member, is_well_prefix, is_well_world_member}
+use Rattle.print_grammar.specs.Calls.{members_calls, printed_after, space, doc_calls, gates_calls, world_extern_calls, package_item_calls, package_outer_calls, package_start_calls, package_end_calls, package_calls}
 
 -- a type of an owner, in range, whose declaration is well named with the functions among which a resource's stand
 abbrev pub is_printable_type : Resolve → List Function → TypeId → Bool

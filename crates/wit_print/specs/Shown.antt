@@ -43,18 +43,18 @@ use Rattle.wit_model.specs.Lookup.{package_at, interface_at, world_at, type_at, 
 use Rattle.wit_model.specs.Parts.{same_owner}
 use Rattle.wit_model.specs.Rules.{is_freestanding, is_own_of}
 use Rattle.wit_model.specs.Calls.{item_name}
-use Rattle.wit_print.specs.Keyword.{Primitive}
-use Rattle.wit_print.specs.Tree.{TypeTree, TypeTrees, Gates, Prefix, ParamTree, FieldTree, CaseTree, LabelTree, SignatureTree, ResourceMember, Declared, PathTree, UsedName, MemberTree, ExternTree, WorldMember, ItemTree, PackageHead, PackageTree, FileTree}
-use Rattle.wit_print.specs.Tree.TypeTree.{PrimitiveType, Name, Handle, Own, Borrow, TupleOf, OptionOf, ListOf, FixedListOf, MapOf, Result, ResultOk, ResultErr, ResultOf, Future, FutureOf, Stream, StreamOf}
-use Rattle.wit_print.specs.Tree.TypeTrees.{NoTypes, AndTypes}
-use Rattle.wit_print.specs.Tree.Gates.{Ungated, Since, Unstable}
-use Rattle.wit_print.specs.Tree.ResourceMember.{Constructor, Method, Static}
-use Rattle.wit_print.specs.Tree.Declared.{RecordOf, VariantOf, FlagsOf, EnumOf, AliasOf, ResourceOf}
-use Rattle.wit_print.specs.Tree.PathTree.{Local, Full}
-use Rattle.wit_print.specs.Tree.MemberTree.{UseMember, TypeMember, FunctionMember}
-use Rattle.wit_print.specs.Tree.ExternTree.{Path, NamedFunction, NamedPath, NamedInterface}
-use Rattle.wit_print.specs.Tree.WorldMember.{WorldUse, WorldType, WorldImport, WorldExport}
-use Rattle.wit_print.specs.Tree.ItemTree.{InterfaceItem, WorldItem}
+use Rattle.print_grammar.specs.Keyword.{Primitive}
+use Rattle.print_grammar.specs.Tree.{TypeTree, TypeTrees, Gates, Prefix, ParamTree, FieldTree, CaseTree, LabelTree, SignatureTree, ResourceMember, Declared, PathTree, UsedName, MemberTree, ExternTree, WorldMember, ItemTree, PackageHead, PackageTree, FileTree}
+use Rattle.print_grammar.specs.Tree.TypeTree.{PrimitiveType, Name, Handle, Own, Borrow, TupleOf, OptionOf, ListOf, FixedListOf, MapOf, Result, ResultOk, ResultErr, ResultOf, Future, FutureOf, Stream, StreamOf}
+use Rattle.print_grammar.specs.Tree.TypeTrees.{NoTypes, AndTypes}
+use Rattle.print_grammar.specs.Tree.Gates.{Ungated, Since, Unstable}
+use Rattle.print_grammar.specs.Tree.ResourceMember.{Constructor, Method, Static}
+use Rattle.print_grammar.specs.Tree.Declared.{RecordOf, VariantOf, FlagsOf, EnumOf, AliasOf, ResourceOf}
+use Rattle.print_grammar.specs.Tree.PathTree.{Local, Full}
+use Rattle.print_grammar.specs.Tree.MemberTree.{UseMember, TypeMember, FunctionMember}
+use Rattle.print_grammar.specs.Tree.ExternTree.{Path, NamedFunction, NamedPath, NamedInterface}
+use Rattle.print_grammar.specs.Tree.WorldMember.{WorldUse, WorldType, WorldImport, WorldExport}
+use Rattle.print_grammar.specs.Tree.ItemTree.{InterfaceItem, WorldItem}
 
 -- ---- texts
 

@@ -14,12 +14,12 @@ use Rattle.wit_model.specs.Names.{is_label}
 use Rattle.wit_model.specs.Parts.{handled}
 use Rattle.wit_model.specs.Rules.{in_list, passes, is_named_kind}
 use Rattle.wit_model.specs.Lookup.{type_at}
-use Rattle.wit_print.specs.OutputCall.{OutputCall}
-use Rattle.wit_print.specs.OutputCall.OutputCall.{PushStr, Ty, GenericArgsStart, GenericArgsEnd, Str}
-use Rattle.wit_print.specs.Tree.{TypeTree}
+use Rattle.print_output.specs.OutputCall.{OutputCall}
+use Rattle.print_output.specs.OutputCall.OutputCall.{PushStr, Ty, GenericArgsStart, GenericArgsEnd, Str}
+use Rattle.print_grammar.specs.Tree.{TypeTree}
 use Rattle.wit_print.specs.Shown.{kind_tree, type_name, type_trees, used_type}
-use Rattle.wit_print.specs.Calls.{name_calls, handle_calls, type_calls}
-use Rattle.wit_print.specs.declared.type_kind.TypeKind.TheVariants as kind
+use Rattle.print_grammar.specs.Calls.{name_calls, handle_calls, type_calls}
+use Rattle.print_output.specs.declared.type_kind.TypeKind.TheVariants as kind
 
 -- a word and the start of what stands in angle brackets
 abbrev pub word_start : Text → List OutputCall

@@ -7,19 +7,18 @@ ghost use Rattle.wit_model.specs.Parts.{handle_target};
 ghost use Rattle.wit_model.specs.Rules.{in_list};
 ghost use Rattle.wit_model.specs.Valid.{IsValid};
 ghost use Rattle.wit_print.specs.Drives.{Drives, LineIs};
-ghost use Rattle.wit_print.specs.OutputCall.{is_one_line, has_no_space_first};
+ghost use Rattle.print_output.specs.OutputCall.{is_one_line, has_no_space_first};
 ghost use Rattle.wit_print.specs.Shown.{named_handle, shown_type};
-ghost use Rattle.wit_print.specs.Tree.Declared.{AliasOf};
-ghost use Rattle.wit_print.specs.Tree.TypeTree.{FixedListOf, ListOf, MapOf};
-ghost use Rattle.wit_print.specs.Calls.{declared_calls, type_calls};
+ghost use Rattle.print_grammar.specs.Tree.Declared.{AliasOf};
+ghost use Rattle.print_grammar.specs.Tree.TypeTree.{FixedListOf, ListOf, MapOf};
+ghost use Rattle.print_grammar.specs.Calls.{declared_calls, type_calls};
 ghost use Rattle.wit_print.specs.DeclaredCalls.{alias_calls, alias_start_calls, angle_calls, angled_calls, carrier_calls, fixed_list_calls, is_word, map_calls, two_calls};
 ghost use Rattle.wit_print.specs.TypeParts.{is_labelled, kind_calls, may_be_unnamed};
-ghost use Rattle.wit_print.specs.WellNamed.{is_well_optional, is_well_type};
+ghost use Rattle.print_grammar.specs.WellNamed.{is_well_optional, is_well_type};
 
 use crate::driver::Driver;
-use crate::output::Output;
-use crate::type_kind::TypeKind;
 use crate::type_name::{name_of, write_handle_of, write_type, write_unnamed};
+use print_output::{Output, TypeKind};
 use wit_model::{Handle, Resolve, Type, TypeId};
 
 /// A name for a type, up to the sign.

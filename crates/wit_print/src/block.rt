@@ -4,12 +4,11 @@
 ghost use Rattle.std.specs.Prelude.{◌≡◌, true, false, IsTrue};
 ghost use Rattle.wit_model.specs.Names.{is_label};
 ghost use Rattle.wit_print.specs.Drives.{Drives, LineIs};
-ghost use Rattle.wit_print.specs.OutputCall.{is_one_line, has_no_space_first};
+ghost use Rattle.print_output.specs.OutputCall.{is_one_line, has_no_space_first};
 ghost use Rattle.wit_print.specs.DeclaredCalls.{block_start_calls, line_end_calls};
 
 use crate::driver::Driver;
-use crate::output::Output;
-use crate::type_kind::TypeKind;
+use print_output::{Output, TypeKind};
 
 /// A word, a name and the start of a block.
 pub(crate) fn write_block_start<O: Output>(

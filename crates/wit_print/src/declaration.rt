@@ -7,14 +7,14 @@ ghost use Rattle.wit_model.specs.declared.error.Error.TheVariants.{Memory};
 ghost use Rattle.wit_model.specs.Lookup.{type_at};
 ghost use Rattle.wit_model.specs.Valid.{IsValid};
 ghost use Rattle.wit_print.specs.Drives.{Drives};
-ghost use Rattle.wit_print.specs.OutputCall.{Moves, Begins};
+ghost use Rattle.print_output.specs.OutputCall.{Moves, Begins};
 ghost use Rattle.wit_print.specs.Shown.{belongs_to as belongs_to_lem, declared_of, present_name, shown_prefix, shown_resource_member};
-ghost use Rattle.wit_print.specs.Tree.MemberTree.{TypeMember};
-ghost use Rattle.wit_print.specs.Calls.{declared_calls, members_calls, printed_after};
+ghost use Rattle.print_grammar.specs.Tree.MemberTree.{TypeMember};
+ghost use Rattle.print_grammar.specs.Calls.{declared_calls, members_calls, printed_after};
 ghost use Rattle.wit_print.specs.Printable.{declaration_of, is_printable_type};
 ghost use Rattle.wit_print.specs.GivenTypes.{functions_under, given_declarations};
 ghost use Rattle.wit_print.specs.UseGroups.{is_listed_function, is_listed_type, listed_declaration, listed_of};
-ghost use Rattle.wit_print.specs.WellNamed.{is_well_declared, is_well_prefix};
+ghost use Rattle.print_grammar.specs.WellNamed.{is_well_declared, is_well_prefix};
 
 use crate::alias::{
     write_carrier_alias, write_fixed_list_alias, write_handle_alias, write_kind_alias,
@@ -23,14 +23,13 @@ use crate::alias::{
 use crate::driver::Driver;
 use crate::interface::write_line_before;
 use crate::labels::{write_enum, write_flags};
-use crate::output::Output;
 use crate::prefix::write_prefix;
 use crate::record::write_record;
 use crate::resource::write_resource;
-use crate::type_kind::TypeKind;
 use crate::type_name::present;
 use crate::use_group::use_of;
 use crate::variant::write_variant;
+use print_output::{Output, TypeKind};
 use std::alloc::{AllocError, Global};
 use std::collections::HashMap;
 use wit_model::{Error, Function, Resolve, TypeDef, TypeDefKind, TypeId, TypeOwner};

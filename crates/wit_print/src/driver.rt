@@ -5,14 +5,13 @@ ghost use Rattle.std.specs.Fmt.{decimal};
 ghost use Rattle.semver.specs.Identifiers.{version_text};
 ghost use Rattle.wit_model.specs.declared.error.Error.TheVariants.{Memory};
 ghost use Rattle.wit_model.specs.Names.{is_label, is_version_text};
-ghost use Rattle.wit_print.specs.OutputCall.{OutputCall, is_one_line, has_no_space_first};
-ghost use Rattle.wit_print.specs.Calls.{character_call, space};
+ghost use Rattle.print_output.specs.OutputCall.{OutputCall, is_one_line, has_no_space_first};
+ghost use Rattle.print_grammar.specs.Calls.{character_call, space};
 ghost use Rattle.wit_print.specs.Drives.{Drives, LineIs, MayBegin};
-ghost use Rattle.wit_print.specs.Keyword.{escaped};
+ghost use Rattle.print_grammar.specs.Keyword.{escaped};
 
-use crate::output::Output;
 use crate::spelled;
-use crate::type_kind::TypeKind;
+use print_output::{Output, TypeKind};
 use semver::Version;
 use std::alloc::Global;
 use wit_model::Error;

@@ -6,17 +6,17 @@ ghost use Rattle.wit_model.specs.Lookup.{interface_at};
 ghost use Rattle.wit_model.specs.Names.{is_label};
 ghost use Rattle.wit_model.specs.Rules.{in_list};
 ghost use Rattle.wit_model.specs.Valid.{IsValid};
-ghost use Rattle.wit_print.specs.OutputCall.{OutputCall, Moves, Begins, is_one_line, has_no_space_first};
-ghost use Rattle.wit_print.specs.Calls.{world_extern_calls};
+ghost use Rattle.print_output.specs.OutputCall.{OutputCall, Moves, Begins, is_one_line, has_no_space_first};
+ghost use Rattle.print_grammar.specs.Calls.{world_extern_calls};
 ghost use Rattle.wit_print.specs.ItemCalls.{front_calls, inline_start_calls, labelled_tree};
 ghost use Rattle.wit_print.specs.Shown.{extern_docs, shown_docs, shown_interface, shown_path, shown_prefix};
-ghost use Rattle.wit_print.specs.Tree.ExternTree.{NamedInterface, NamedPath, Path};
-ghost use Rattle.wit_print.specs.WellNamed.{is_well_extern, is_well_path, is_well_prefix};
+ghost use Rattle.print_grammar.specs.Tree.ExternTree.{NamedInterface, NamedPath, Path};
+ghost use Rattle.print_grammar.specs.WellNamed.{is_well_extern, is_well_path, is_well_prefix};
 
 use crate::driver::Driver;
 use crate::interface::print_interface_body;
-use crate::output::Output;
 use crate::world::{write_inline, write_keyed, write_labelled};
+use print_output::Output;
 use std::alloc::Global;
 use wit_model::{Docs, Error, Interface, InterfaceId, PackageId, Resolve, Stability, WorldKey};
 

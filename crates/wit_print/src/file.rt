@@ -5,13 +5,13 @@ ghost use Rattle.std.specs.List.{flat_map, list_all};
 ghost use Rattle.wit_model.specs.declared.error.Error.TheVariants.{Memory};
 ghost use Rattle.wit_model.specs.Rules.{in_list};
 ghost use Rattle.wit_model.specs.Valid.{IsValid};
-ghost use Rattle.wit_print.specs.OutputCall.{OutputCall, Moves, Begins};
-ghost use Rattle.wit_print.specs.Calls.{file_calls, nested_calls};
+ghost use Rattle.print_output.specs.OutputCall.{OutputCall, Moves, Begins};
+ghost use Rattle.print_grammar.specs.Calls.{file_calls, nested_calls};
 ghost use Rattle.wit_print.specs.Printable.{next_package_calls};
 ghost use Rattle.wit_print.specs.Shown.{shown_file, shown_package};
 
-use crate::output::Output;
 use crate::package::print_whole_package;
+use print_output::Output;
 use std::alloc::Global;
 use wit_model::{Error, PackageId, Resolve};
 

@@ -7,16 +7,15 @@ ghost use Rattle.wit_model.specs.Names.{is_label};
 ghost use Rattle.wit_model.specs.Lookup.{is_async as is_async_lem};
 ghost use Rattle.wit_model.specs.Valid.{IsValid};
 ghost use Rattle.wit_print.specs.Drives.{Drives, LineIs};
-ghost use Rattle.wit_print.specs.OutputCall.{OutputCall};
+ghost use Rattle.print_output.specs.OutputCall.{OutputCall};
 ghost use Rattle.wit_print.specs.Shown.{is_method as is_method_lem, shown_param, shown_signature, shown_type};
-ghost use Rattle.wit_print.specs.Calls.{async_calls, param_calls, params_calls, result_calls, separated, signature_calls};
+ghost use Rattle.print_grammar.specs.Calls.{async_calls, param_calls, params_calls, result_calls, separated, signature_calls};
 ghost use Rattle.wit_print.specs.ItemCalls.{named_calls, written_params as written_params_lem};
-ghost use Rattle.wit_print.specs.WellNamed.{is_well_optional, is_well_param, is_well_signature, is_well_type};
+ghost use Rattle.print_grammar.specs.WellNamed.{is_well_optional, is_well_param, is_well_signature, is_well_type};
 
 use crate::driver::Driver;
-use crate::output::Output;
-use crate::type_kind::TypeKind;
 use crate::type_name::write_type;
+use print_output::{Output, TypeKind};
 use wit_model::{Function, FunctionKind, Param, Resolve, Type};
 
 fn write_param<O: Output>(driver: &mut Driver<O>, resolve: &Resolve, param: &Param)

@@ -6,14 +6,14 @@ ghost use Rattle.semver.specs.Identifiers.{version_text};
 ghost use Rattle.wit_model.specs.Names.{is_label, is_version_text};
 ghost use Rattle.wit_model.specs.Lookup.{optional_version_text};
 ghost use Rattle.wit_print.specs.Drives.{Drives};
-ghost use Rattle.wit_print.specs.OutputCall.{is_one_line, has_no_space_first};
+ghost use Rattle.print_output.specs.OutputCall.{is_one_line, has_no_space_first};
 ghost use Rattle.wit_print.specs.Shown.{shown_gates};
-ghost use Rattle.wit_print.specs.Calls.{deprecated_calls, gates_calls, version_attribute_calls};
+ghost use Rattle.print_grammar.specs.Calls.{deprecated_calls, gates_calls, version_attribute_calls};
 ghost use Rattle.wit_print.specs.Heads.{feature_calls};
-ghost use Rattle.wit_print.specs.WellNamed.{is_well_gates, is_well_optional};
+ghost use Rattle.print_grammar.specs.WellNamed.{is_well_gates, is_well_optional};
 
 use crate::driver::Driver;
-use crate::output::Output;
+use print_output::Output;
 use semver::Version;
 use wit_model::Stability;
 

@@ -6,15 +6,15 @@ ghost use Rattle.std.specs.List.{list_all};
 ghost use Rattle.wit_model.specs.declared.error.Error.TheVariants.{Memory};
 ghost use Rattle.wit_model.specs.Parts.{same_owner};
 ghost use Rattle.wit_model.specs.Valid.{IsValid};
-ghost use Rattle.wit_print.specs.OutputCall.{Moves, Begins};
-ghost use Rattle.wit_print.specs.Calls.{members_calls, printed_after};
+ghost use Rattle.print_output.specs.OutputCall.{Moves, Begins};
+ghost use Rattle.print_grammar.specs.Calls.{members_calls, printed_after};
 ghost use Rattle.wit_print.specs.GivenTypes.{are_functions_of, given_members, package_of_owner};
 ghost use Rattle.wit_print.specs.Shown.{owner_package as owner_package_lem};
 ghost use Rattle.wit_print.specs.UseGroups.{is_listed_type, listed_of};
 
 use crate::declaration::print_declarations;
-use crate::output::Output;
 use crate::use_group::print_uses;
+use print_output::Output;
 use std::alloc::{AllocError, Global};
 use std::collections::HashMap;
 use wit_model::{Error, Function, PackageId, Resolve, TypeId, TypeOwner};

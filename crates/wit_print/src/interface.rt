@@ -9,20 +9,19 @@ ghost use Rattle.wit_model.specs.Names.{is_label};
 ghost use Rattle.wit_model.specs.Rules.{is_freestanding as is_freestanding_lem};
 ghost use Rattle.wit_model.specs.Valid.{IsValid};
 ghost use Rattle.wit_print.specs.Drives.{Drives, LineIs};
-ghost use Rattle.wit_print.specs.OutputCall.{Moves, Begins};
-ghost use Rattle.wit_print.specs.Calls.{members_calls};
+ghost use Rattle.print_output.specs.OutputCall.{Moves, Begins};
+ghost use Rattle.print_grammar.specs.Calls.{members_calls};
 ghost use Rattle.wit_print.specs.Heads.{head_calls};
 ghost use Rattle.wit_print.specs.Printable.{is_printable_function, line_between, shown_functions};
 ghost use Rattle.wit_print.specs.Shown.{shown_function, shown_gates, shown_interface};
-ghost use Rattle.wit_print.specs.WellNamed.{is_well_gates, is_well_member};
+ghost use Rattle.print_grammar.specs.WellNamed.{is_well_gates, is_well_member};
 
 use crate::driver::Driver;
 use crate::function::write_named;
 use crate::gates::write_gates;
-use crate::output::Output;
 use crate::prefix::{write_docs, write_prefix};
-use crate::type_kind::TypeKind;
 use crate::types::print_interface_types;
+use print_output::{Output, TypeKind};
 use std::alloc::Global;
 use wit_model::{Error, Function, Interface, InterfaceId, Map, Resolve};
 

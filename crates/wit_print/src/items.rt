@@ -5,20 +5,20 @@ ghost use Rattle.std.specs.List.{flat_map, list_all};
 ghost use Rattle.wit_model.specs.declared.error.Error.TheVariants.{Memory};
 ghost use Rattle.wit_model.specs.Rules.{has_items as has_items_lem};
 ghost use Rattle.wit_model.specs.Valid.{IsValid};
-ghost use Rattle.wit_print.specs.OutputCall.{Moves, Begins, is_one_line, has_no_space_first};
-ghost use Rattle.wit_print.specs.Calls.{world_extern_calls};
+ghost use Rattle.print_output.specs.OutputCall.{Moves, Begins, is_one_line, has_no_space_first};
+ghost use Rattle.print_grammar.specs.Calls.{world_extern_calls};
 ghost use Rattle.wit_print.specs.Printable.{entry_calls, function_entry_calls, imports_calls, imports_functions, imports_interfaces, interface_entry_calls, is_printable_entry, is_printable_import, IsPrintableWorld, line_between, printed_imports, world_body_calls};
 ghost use Rattle.wit_print.specs.Shown.{function_prefix, is_freestanding_item, is_interface_item, shown_signature};
-ghost use Rattle.wit_print.specs.Tree.ExternTree.{NamedFunction};
-ghost use Rattle.wit_print.specs.WellNamed.{is_well_extern, is_well_prefix};
+ghost use Rattle.print_grammar.specs.Tree.ExternTree.{NamedFunction};
+ghost use Rattle.print_grammar.specs.WellNamed.{is_well_extern, is_well_prefix};
 ghost use Rattle.wit_model.specs.Text.{text_of};
 
 use crate::driver::Driver;
 use crate::extern_item::{docs_of, print_keyed, print_labelled};
-use crate::output::Output;
 use crate::types::print_world_types;
 use crate::use_group::either;
 use crate::world::write_world_function;
+use print_output::Output;
 use std::alloc::Global;
 use wit_model::{Error, Function, Map, PackageId, Resolve, World, WorldId, WorldItem, WorldKey};
 

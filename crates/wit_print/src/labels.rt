@@ -6,15 +6,14 @@ ghost use Rattle.std.specs.List.{flat_map, list_all};
 ghost use Rattle.wit_model.specs.Names.{is_label};
 ghost use Rattle.wit_print.specs.Drives.{Drives};
 ghost use Rattle.wit_print.specs.Shown.{shown_docs, shown_enum_case, shown_flag};
-ghost use Rattle.wit_print.specs.Tree.Declared.{EnumOf, FlagsOf};
-ghost use Rattle.wit_print.specs.Calls.{declared_calls, label_calls};
-ghost use Rattle.wit_print.specs.WellNamed.{is_well_declared, is_well_label};
+ghost use Rattle.print_grammar.specs.Tree.Declared.{EnumOf, FlagsOf};
+ghost use Rattle.print_grammar.specs.Calls.{declared_calls, label_calls};
+ghost use Rattle.print_grammar.specs.WellNamed.{is_well_declared, is_well_label};
 
 use crate::block::{write_block_start, write_line_end};
 use crate::driver::Driver;
-use crate::output::Output;
 use crate::prefix::write_docs;
-use crate::type_kind::TypeKind;
+use print_output::{Output, TypeKind};
 use wit_model::{Docs, Enum, EnumCase, Flag, Flags};
 
 /// A label, in lines of its own.

@@ -9,23 +9,22 @@ ghost use Rattle.wit_model.specs.Names.{is_label, is_version_text};
 ghost use Rattle.wit_model.specs.Lookup.{interface_at, optional_version_text};
 ghost use Rattle.wit_model.specs.Valid.{IsValid};
 ghost use Rattle.wit_print.specs.Drives.{Drives, LineIs};
-ghost use Rattle.wit_print.specs.OutputCall.{OutputCall, Moves, Begins};
+ghost use Rattle.print_output.specs.OutputCall.{OutputCall, Moves, Begins};
 ghost use Rattle.wit_print.specs.Printable.{IsPrintableWorld, is_printable_interface, is_printable_listed, listed_calls, listed_interface_calls, listed_package_calls, world_start_calls, world_calls};
 ghost use Rattle.wit_print.specs.Shown.{shown_docs, shown_gates, shown_head, shown_interface, shown_package};
-ghost use Rattle.wit_print.specs.Calls.{line_after_calls, package_calls, package_item_calls, package_outer_calls, package_start_calls, package_end_calls};
+ghost use Rattle.print_grammar.specs.Calls.{line_after_calls, package_calls, package_item_calls, package_outer_calls, package_start_calls, package_end_calls};
 ghost use Rattle.wit_print.specs.Heads.{head_calls};
-ghost use Rattle.wit_print.specs.Tree.{ItemTree};
-ghost use Rattle.wit_print.specs.WellNamed.{is_well_gates, is_well_optional};
+ghost use Rattle.print_grammar.specs.Tree.{ItemTree};
+ghost use Rattle.print_grammar.specs.WellNamed.{is_well_gates, is_well_optional};
 
 use crate::driver::Driver;
 use crate::extern_item::print_block_end;
 use crate::gates::write_gates;
 use crate::interface::{print_interface_body, write_head};
 use crate::items::print_world_body;
-use crate::output::Output;
 use crate::parts::write_package_outer;
 use crate::prefix::write_docs;
-use crate::type_kind::TypeKind;
+use print_output::{Output, TypeKind};
 use std::alloc::Global;
 use wit_model::{Error, Interface, InterfaceId, Map, Package, PackageId, Resolve, World, WorldId};
 

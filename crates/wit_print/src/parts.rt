@@ -7,13 +7,12 @@ ghost use Rattle.wit_model.specs.Names.{is_label, is_version_text};
 ghost use Rattle.wit_model.specs.Lookup.{optional_version_text};
 ghost use Rattle.wit_print.specs.Drives.{Drives, LineIs};
 ghost use Rattle.wit_print.specs.Shown.{shown_head};
-ghost use Rattle.wit_print.specs.Calls.{package_name_calls, package_outer_calls, version_calls};
-ghost use Rattle.wit_print.specs.WellNamed.{is_well_optional};
+ghost use Rattle.print_grammar.specs.Calls.{package_name_calls, package_outer_calls, version_calls};
+ghost use Rattle.print_grammar.specs.WellNamed.{is_well_optional};
 
 use crate::driver::Driver;
-use crate::output::Output;
 use crate::prefix::write_docs;
-use crate::type_kind::TypeKind;
+use print_output::{Output, TypeKind};
 use semver::Version;
 use wit_model::{Package, PackageName};
 

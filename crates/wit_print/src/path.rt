@@ -8,18 +8,17 @@ ghost use Rattle.wit_model.specs.Rules.{in_list, package_number, passes};
 ghost use Rattle.wit_model.specs.Text.{text_of};
 ghost use Rattle.wit_model.specs.Valid.{IsValid};
 ghost use Rattle.wit_print.specs.Drives.{Drives, LineIs};
-ghost use Rattle.wit_print.specs.OutputCall.{OutputCall};
-ghost use Rattle.wit_print.specs.Keyword.{escaped};
+ghost use Rattle.print_output.specs.OutputCall.{OutputCall};
+ghost use Rattle.print_grammar.specs.Keyword.{escaped};
 ghost use Rattle.wit_print.specs.Shown.{path_from, shown_path};
-ghost use Rattle.wit_print.specs.Tree.PathTree.{Full};
-ghost use Rattle.wit_print.specs.Calls.{path_calls};
-ghost use Rattle.wit_print.specs.WellNamed.{is_well_optional, is_well_path};
+ghost use Rattle.print_grammar.specs.Tree.PathTree.{Full};
+ghost use Rattle.print_grammar.specs.Calls.{path_calls};
+ghost use Rattle.print_grammar.specs.WellNamed.{is_well_optional, is_well_path};
 
 use crate::driver::Driver;
-use crate::output::Output;
 use crate::parts::write_version;
-use crate::type_kind::TypeKind;
 use crate::type_name::present;
+use print_output::{Output, TypeKind};
 use wit_model::{Interface, InterfaceId, PackageId, PackageName, Resolve};
 
 /// A package, before the name of an interface in it.

@@ -5,14 +5,14 @@ ghost use Rattle.std.specs.Prelude.{◌≡◌, ◌∷◌, [], codes, true, map, 
 ghost use Rattle.std.specs.Str.{chars};
 ghost use Rattle.std.specs.Str.Lines.{lines};
 ghost use Rattle.wit_print.specs.Drives.{Drives};
-ghost use Rattle.wit_print.specs.OutputCall.{OutputCall};
+ghost use Rattle.print_output.specs.OutputCall.{OutputCall};
 ghost use Rattle.wit_print.specs.Shown.{shown_docs, shown_external_id, shown_prefix};
-ghost use Rattle.wit_print.specs.Calls.{character_call, doc_calls, external_id_calls, prefix_calls};
-ghost use Rattle.wit_print.specs.WellNamed.{is_well_prefix};
+ghost use Rattle.print_grammar.specs.Calls.{character_call, doc_calls, external_id_calls, prefix_calls};
+ghost use Rattle.print_grammar.specs.WellNamed.{is_well_prefix};
 
 use crate::driver::Driver;
 use crate::gates::write_gates;
-use crate::output::Output;
+use print_output::Output;
 use wit_model::{Docs, Stability};
 
 /// Each line of a text, as documentation.

@@ -6,19 +6,18 @@ ghost use Rattle.std.specs.List.{flat_map, list_all};
 ghost use Rattle.wit_model.specs.Names.{is_label};
 ghost use Rattle.wit_model.specs.Valid.{IsValid};
 ghost use Rattle.wit_print.specs.Drives.{Drives, LineIs};
-ghost use Rattle.wit_print.specs.OutputCall.{OutputCall};
-ghost use Rattle.wit_print.specs.Keyword.{escaped};
+ghost use Rattle.print_output.specs.OutputCall.{OutputCall};
+ghost use Rattle.print_grammar.specs.Keyword.{escaped};
 ghost use Rattle.wit_print.specs.Shown.{shown_field, shown_type};
-ghost use Rattle.wit_print.specs.Tree.Declared.{RecordOf};
-ghost use Rattle.wit_print.specs.Calls.{declared_calls, field_calls, type_calls};
-ghost use Rattle.wit_print.specs.WellNamed.{is_well_declared, is_well_field, is_well_type};
+ghost use Rattle.print_grammar.specs.Tree.Declared.{RecordOf};
+ghost use Rattle.print_grammar.specs.Calls.{declared_calls, field_calls, type_calls};
+ghost use Rattle.print_grammar.specs.WellNamed.{is_well_declared, is_well_field, is_well_type};
 
 use crate::block::{write_block_start, write_line_end};
 use crate::driver::Driver;
-use crate::output::Output;
 use crate::prefix::write_docs;
-use crate::type_kind::TypeKind;
 use crate::type_name::write_type;
+use print_output::{Output, TypeKind};
 use wit_model::{Field, Record, Resolve, Type};
 
 /// A name with a type.

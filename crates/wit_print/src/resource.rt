@@ -9,17 +9,16 @@ ghost use Rattle.wit_model.specs.Names.{is_label};
 ghost use Rattle.wit_model.specs.Valid.{IsValid};
 ghost use Rattle.wit_print.specs.Drives.{Drives, LineIs};
 ghost use Rattle.wit_print.specs.Shown.{constructor_result, shown_params, shown_resource_member, shown_signature, shown_type};
-ghost use Rattle.wit_print.specs.Tree.Declared.{ResourceOf};
-ghost use Rattle.wit_print.specs.Calls.{declared_calls, resource_body_calls, resource_member_calls};
+ghost use Rattle.print_grammar.specs.Tree.Declared.{ResourceOf};
+ghost use Rattle.print_grammar.specs.Calls.{declared_calls, resource_body_calls, resource_member_calls};
 ghost use Rattle.wit_print.specs.DeclaredCalls.{bare_member_calls, constructor_calls, resource_name_calls, static_calls, static_start_calls};
 ghost use Rattle.wit_print.specs.ItemCalls.{named_calls};
-ghost use Rattle.wit_print.specs.WellNamed.{is_well_declared, is_well_optional, is_well_param, is_well_resource_member, is_well_signature, is_well_type};
+ghost use Rattle.print_grammar.specs.WellNamed.{is_well_declared, is_well_optional, is_well_param, is_well_resource_member, is_well_signature, is_well_type};
 
 use crate::driver::Driver;
 use crate::function::{write_named, write_params_and_result, write_signature};
-use crate::output::Output;
 use crate::prefix::write_prefix;
-use crate::type_kind::TypeKind;
+use print_output::{Output, TypeKind};
 use wit_model::{Function, FunctionKind, Resolve, Type, TypeId};
 
 /// The name of a static function, up to what it is.

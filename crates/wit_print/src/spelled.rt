@@ -5,13 +5,12 @@ ghost use Rattle.std.specs.Fmt.{decimal};
 ghost use Rattle.std.specs.String.{string_bytes};
 ghost use Rattle.semver.specs.Identifiers.{version_text};
 ghost use Rattle.wit_model.specs.declared.error.Error.TheVariants.{Memory};
-ghost use Rattle.wit_print.specs.OutputCall.{OutputCall, Moves, Begins, may_stand, line_begun_after};
-ghost use Rattle.wit_print.specs.Calls.{character_call};
-ghost use Rattle.wit_print.specs.Keyword.{escaped};
+ghost use Rattle.print_output.specs.OutputCall.{OutputCall, Moves, Begins, may_stand, line_begun_after};
+ghost use Rattle.print_grammar.specs.Calls.{character_call};
+ghost use Rattle.print_grammar.specs.Keyword.{escaped};
 
-use crate::escape::{escape, escape_character, is_keyword, unescaped};
-use crate::output::Output;
-use crate::type_kind::TypeKind;
+use print_grammar::escape::{escape, escape_character, is_keyword, unescaped};
+use print_output::{Output, TypeKind};
 use semver::Version;
 use std::alloc::{AllocError, Global};
 use wit_model::Error;

@@ -9,17 +9,16 @@ ghost use Rattle.wit_model.specs.Rules.{in_list, is_named_kind, passes};
 ghost use Rattle.wit_model.specs.Types.{number_of};
 ghost use Rattle.wit_model.specs.Valid.{IsValid};
 ghost use Rattle.wit_print.specs.Drives.{Drives, LineIs, MayFollow};
-ghost use Rattle.wit_print.specs.OutputCall.{OutputCall, is_one_line, has_no_space_first};
+ghost use Rattle.print_output.specs.OutputCall.{OutputCall, is_one_line, has_no_space_first};
 ghost use Rattle.wit_print.specs.Printable.{is_primitive};
 ghost use Rattle.wit_print.specs.Shown.{present_name, shown_type, type_name, used_type};
-ghost use Rattle.wit_print.specs.Calls.{handle_calls, type_calls};
+ghost use Rattle.print_grammar.specs.Calls.{handle_calls, type_calls};
 ghost use Rattle.wit_print.specs.TypeParts.{carrier_end, carrier_start, comma_calls, handle_start, handles_label, is_labelled, kind_calls, kind_end, kind_start, may_be_unnamed, result_end, result_start, word_start};
-ghost use Rattle.wit_print.specs.Tree.{TypeTree};
-ghost use Rattle.wit_print.specs.WellNamed.{is_well_type};
+ghost use Rattle.print_grammar.specs.Tree.{TypeTree};
+ghost use Rattle.print_grammar.specs.WellNamed.{is_well_type};
 
 use crate::driver::Driver;
-use crate::output::Output;
-use crate::type_kind::TypeKind;
+use print_output::{Output, TypeKind};
 use wit_model::{Handle, Resolve, Result_, Type, TypeDefKind, TypeId};
 
 /// The word of a primitive type.

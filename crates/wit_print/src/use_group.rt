@@ -16,21 +16,20 @@ ghost use Rattle.wit_model.specs.Types.{number_of as number_of_lem};
 ghost use Rattle.wit_model.specs.Uses.{alias_target};
 ghost use Rattle.wit_model.specs.Valid.{IsValid};
 ghost use Rattle.wit_print.specs.Drives.{Drives, LineIs};
-ghost use Rattle.wit_print.specs.OutputCall.{OutputCall, Moves, Begins};
-ghost use Rattle.wit_print.specs.Keyword.{escaped};
+ghost use Rattle.print_output.specs.OutputCall.{OutputCall, Moves, Begins};
+ghost use Rattle.print_grammar.specs.Keyword.{escaped};
 ghost use Rattle.wit_print.specs.Shown.{own_name, same_gates as same_gates_lem, same_group as same_group_lem, shown_external_id, shown_gates, shown_path, used_of};
-ghost use Rattle.wit_print.specs.Tree.Gates.{Since, Ungated, Unstable};
-ghost use Rattle.wit_print.specs.Calls.{members_calls, path_calls, printed_after, space, used_name_calls};
+ghost use Rattle.print_grammar.specs.Tree.Gates.{Since, Ungated, Unstable};
+ghost use Rattle.print_grammar.specs.Calls.{members_calls, path_calls, printed_after, space, used_name_calls};
 ghost use Rattle.wit_print.specs.UseGroups.{group_end_calls, group_start_calls, is_listed_type, is_printable_use, listed_of, listed_use, listed_use_calls, more_names_calls, new_group_calls, open_end_calls, shown_use, use_after, use_from as use_from_lem, use_members, use_run_calls};
-ghost use Rattle.wit_print.specs.WellNamed.{is_well_path};
+ghost use Rattle.print_grammar.specs.WellNamed.{is_well_path};
 
 use crate::driver::Driver;
 use crate::gates::write_gates;
-use crate::output::Output;
 use crate::path::write_path;
 use crate::prefix::write_external_id;
-use crate::type_kind::TypeKind;
 use crate::type_name::present;
+use print_output::{Output, TypeKind};
 use semver::Version;
 use std::alloc::Global;
 use wit_model::{

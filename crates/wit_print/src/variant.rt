@@ -6,16 +6,15 @@ ghost use Rattle.std.specs.List.{flat_map, list_all};
 ghost use Rattle.wit_model.specs.Valid.{IsValid};
 ghost use Rattle.wit_print.specs.Drives.{Drives, LineIs};
 ghost use Rattle.wit_print.specs.Shown.{shown_case, shown_type};
-ghost use Rattle.wit_print.specs.Tree.Declared.{VariantOf};
-ghost use Rattle.wit_print.specs.Calls.{case_calls, declared_calls, payload_calls};
-ghost use Rattle.wit_print.specs.WellNamed.{is_well_declared, is_well_case, is_well_optional, is_well_type};
+ghost use Rattle.print_grammar.specs.Tree.Declared.{VariantOf};
+ghost use Rattle.print_grammar.specs.Calls.{case_calls, declared_calls, payload_calls};
+ghost use Rattle.print_grammar.specs.WellNamed.{is_well_declared, is_well_case, is_well_optional, is_well_type};
 
 use crate::block::{write_block_start, write_line_end};
 use crate::driver::Driver;
-use crate::output::Output;
 use crate::prefix::write_docs;
-use crate::type_kind::TypeKind;
 use crate::type_name::write_type;
+use print_output::{Output, TypeKind};
 use wit_model::{Case, Resolve, Type, Variant};
 
 /// A payload in parentheses, if there is one.

@@ -7,19 +7,18 @@ ghost use Rattle.wit_model.specs.Rules.{in_list};
 ghost use Rattle.wit_model.specs.Text.{text_of};
 ghost use Rattle.wit_model.specs.Valid.{IsValid};
 ghost use Rattle.wit_print.specs.Drives.{Drives, LineIs};
-ghost use Rattle.wit_print.specs.OutputCall.{is_one_line, has_no_space_first};
-ghost use Rattle.wit_print.specs.Tree.ExternTree.{NamedFunction, NamedPath, Path};
+ghost use Rattle.print_output.specs.OutputCall.{is_one_line, has_no_space_first};
+ghost use Rattle.print_grammar.specs.Tree.ExternTree.{NamedFunction, NamedPath, Path};
 ghost use Rattle.wit_print.specs.Shown.{function_prefix, shown_path, shown_prefix, shown_signature};
-ghost use Rattle.wit_print.specs.Calls.{extern_calls, world_extern_calls};
+ghost use Rattle.print_grammar.specs.Calls.{extern_calls, world_extern_calls};
 ghost use Rattle.wit_print.specs.ItemCalls.{front_calls, inline_start_calls};
-ghost use Rattle.wit_print.specs.WellNamed.{is_well_path, is_well_prefix, is_well_signature};
+ghost use Rattle.print_grammar.specs.WellNamed.{is_well_path, is_well_prefix, is_well_signature};
 
 use crate::driver::Driver;
 use crate::function::write_named;
-use crate::output::Output;
 use crate::path::write_path;
 use crate::prefix::write_prefix;
-use crate::type_kind::TypeKind;
+use print_output::{Output, TypeKind};
 use wit_model::{Docs, Function, InterfaceId, PackageId, Resolve, Stability};
 
 /// What stands in front of an import or an export, and its word.

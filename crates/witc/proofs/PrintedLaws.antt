@@ -13,12 +13,12 @@ use Rattle.wit_model.specs.Meaning.{PackageMeaning, WorldMeaning}
 use Rattle.wit_model.specs.Meant.{Meant, package_meaning, world_meaning_at}
 use Rattle.wit_model.specs.Text.{Text, text_of}
 use Rattle.wit_model.proofs.Elements.{same-some}
-use Rattle.wit_print.proofs.RenderLaws.{Moves-writes}
-use Rattle.wit_print.specs.AsRead.{file_as_read}
-use Rattle.wit_print.specs.Calls.{file_calls}
-use Rattle.wit_print.specs.OutputCall.{Moves, View}
-use Rattle.wit_print.specs.Reading.{IsOnlyReading}
-use Rattle.wit_print.specs.Render.{Written, blank, render, writes}
+use Rattle.print_output.proofs.RenderLaws.{Moves-writes}
+use Rattle.print_grammar.specs.AsRead.{file_as_read}
+use Rattle.print_grammar.specs.Calls.{file_calls}
+use Rattle.print_output.specs.OutputCall.{Moves, View}
+use Rattle.print_grammar.specs.Reading.{IsOnlyReading}
+use Rattle.print_output.specs.Render.{Written, blank, render, writes}
 use Rattle.wit_print.specs.Shown.{shown_file}
 use Rattle.witc.specs.Demo.{demo, foo}
 use Rattle.witc.specs.Printed.{IsTextOf}

@@ -2,10 +2,10 @@
 use Rattle.std.specs.Prelude.{◌≡◌, ℕ, List, [], Option, true}
 use Rattle.wit_model.specs.declared.model.PackageId.{PackageId}
 use Rattle.wit_model.specs.declared.model.Resolve.{Resolve}
-use Rattle.wit_print.specs.AsRead.{file_as_read}
-use Rattle.wit_print.specs.Calls.{file_calls}
-use Rattle.wit_print.specs.Reading.{IsOnlyReading}
-use Rattle.wit_print.specs.Render.{render}
+use Rattle.print_grammar.specs.AsRead.{file_as_read}
+use Rattle.print_grammar.specs.Calls.{file_calls}
+use Rattle.print_grammar.specs.Reading.{IsOnlyReading}
+use Rattle.print_output.specs.Render.{render}
 use Rattle.wit_print.specs.Shown.{shown_file}
 use Rattle.witc.specs.Decodes.{DecodesInput}
 

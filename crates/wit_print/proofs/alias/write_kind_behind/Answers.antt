@@ -1,5 +1,5 @@
 use Rattle.std.proofs.Common.{ap, ◌∙◌}
-use Rattle.wit_print.specs.OutputCall.{lines_begun_after}
+use Rattle.print_output.specs.OutputCall.{lines_begun_after}
 use Rattle.wit_print.specs.TypeParts.{kind_calls}
 use Rattle.wit_print.proofs.Declared.{kind_stays}
 use Rattle.wit_print.proofs.Driven.{line_driven, free_before}

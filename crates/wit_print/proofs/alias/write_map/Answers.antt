@@ -1,9 +1,9 @@
 use Rattle.std.proofs.Common.{[], ◌∷◌, ap, append_assoc}
 use Rattle.std.specs.Prelude.{codes}
-use Rattle.wit_print.specs.OutputCall.OutputCall.{Str, Ty}
-use Rattle.wit_print.specs.declared.type_kind.TypeKind.TheVariants.{BuiltIn}
+use Rattle.print_output.specs.OutputCall.OutputCall.{Str, Ty}
+use Rattle.print_output.specs.declared.type_kind.TypeKind.TheVariants.{BuiltIn}
 use Rattle.wit_print.specs.Shown.{shown_type}
-use Rattle.wit_print.specs.Calls.{type_calls}
+use Rattle.print_grammar.specs.Calls.{type_calls}
 use Rattle.wit_print.proofs.Driven.{driven3}
 use Rattle.wit_print.proofs.alias.write_map.Goals as goal
 

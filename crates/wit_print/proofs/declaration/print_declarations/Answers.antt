@@ -1,6 +1,6 @@
 use Rattle.std.proofs.Common.{◌∙◌, ap, refl, sym}
 use Rattle.std.proofs.lemmas.List.{drop_all}
-use Rattle.wit_print.specs.Calls.{members_calls, printed_after}
+use Rattle.print_grammar.specs.Calls.{members_calls, printed_after}
 use Rattle.wit_print.specs.GivenTypes.{given_declarations}
 use Rattle.wit_print.specs.UseGroups.{listed_of}
 use Rattle.wit_print.proofs.GivenSteps.{given_made, given_refused, given_some}

@@ -1,7 +1,7 @@
 -- The types before those that are left are printed, and these can be.
 use Rattle.std.proofs.Common.{◌≡◌, drop, true}
 use Rattle.std.specs.List.{list_all}
-use Rattle.wit_print.specs.Calls.{members_calls, printed_after}
+use Rattle.print_grammar.specs.Calls.{members_calls, printed_after}
 use Rattle.wit_print.specs.UseGroups.{is_listed_type, listed_of}
 use Rattle.wit_print.specs.GivenTypes.{given_declarations}
 use Rattle.wit_print.proofs.Moves.{Going}

@@ -3,10 +3,10 @@ use Rattle.std.proofs.lemmas.Bool.{ltb-true}
 use Rattle.std.proofs.lemmas.Option.{slice_get_read}
 use Rattle.wit_model.specs.Lookup.{type_at}
 use Rattle.wit_model.specs.Rules.{in_list}
-use Rattle.wit_print.specs.OutputCall.{Moves, Begins}
-use Rattle.wit_print.specs.OutputCall.Moves.{nothing_moved}
-use Rattle.wit_print.specs.Calls.{members_calls, printed_after}
-use Rattle.wit_print.proofs.ByteTests.{left_of}
+use Rattle.print_output.specs.OutputCall.{Moves, Begins}
+use Rattle.print_output.specs.OutputCall.Moves.{nothing_moved}
+use Rattle.print_grammar.specs.Calls.{members_calls, printed_after}
+use Rattle.print_grammar.proofs.ByteTests.{left_of}
 use Rattle.wit_print.proofs.ListedTypes.{declaration_printable, declaration_printed, nothing_declared, something_declared}
 use Rattle.wit_print.proofs.Moves.{at_err}
 use Rattle.wit_print.proofs.declaration.print_listed_type.Goals as goal

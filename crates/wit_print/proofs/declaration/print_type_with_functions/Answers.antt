@@ -2,8 +2,8 @@ use Rattle.std.proofs.Common.{◌≡◌, ◌==◌, ◌∙◌, [], ap, map, sym, 
 use Rattle.std.specs.List.{list_all}
 use Rattle.std.specs.Map.{lookup}
 use Rattle.std.specs.Option.{option_copied, option_map_or}
-use Rattle.wit_print.specs.OutputCall.{Moves, Begins}
-use Rattle.wit_print.specs.Calls.{members_calls, printed_after}
+use Rattle.print_output.specs.OutputCall.{Moves, Begins}
+use Rattle.print_grammar.specs.Calls.{members_calls, printed_after}
 use Rattle.wit_print.specs.GivenTypes.{behind}
 use Rattle.wit_print.specs.UseGroups.{is_listed_function, listed_declaration}
 use Rattle.wit_print.proofs.declaration.print_type_with_functions.Goals as goal

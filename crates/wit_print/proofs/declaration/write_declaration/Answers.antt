@@ -1,8 +1,8 @@
 use Rattle.std.proofs.Common.{◌≡◌, ◌++◌, ◌∙◌, ap, map, sym, subst, append_assoc, true}
 use Rattle.wit_print.specs.Shown.{declared_of, present_name, shown_prefix, shown_resource_member}
-use Rattle.wit_print.specs.Calls.{declared_calls, prefix_calls}
+use Rattle.print_grammar.specs.Calls.{declared_calls, prefix_calls}
 use Rattle.wit_print.specs.Printable.{line_between}
-use Rattle.wit_print.specs.WellNamed.{is_well_declared}
+use Rattle.print_grammar.specs.WellNamed.{is_well_declared}
 use Rattle.wit_print.proofs.Declarations.{declaration_alone}
 use Rattle.wit_print.proofs.Driven.{driven, driven_on}
 use Rattle.wit_print.proofs.declaration.write_declaration.Goals as goal

@@ -3,9 +3,9 @@ use Rattle.std.specs.List.{list_all, flat_map}
 use Rattle.std.proofs.lemmas.Bool.{ltb-true}
 use Rattle.wit_model.proofs.Lists.{first_true, second_true}
 use Rattle.wit_model.specs.Rules.{in_list}
-use Rattle.wit_print.specs.OutputCall.{Moves}
-use Rattle.wit_print.specs.OutputCall.Moves.{nothing_moved}
-use Rattle.wit_print.specs.Calls.{nested_calls}
+use Rattle.print_output.specs.OutputCall.{Moves}
+use Rattle.print_output.specs.OutputCall.Moves.{nothing_moved}
+use Rattle.print_grammar.specs.Calls.{nested_calls}
 use Rattle.wit_print.specs.Printable.{next_package_calls}
 use Rattle.wit_print.specs.Shown.{shown_package}
 use Rattle.wit_print.proofs.Moves.{begun_on, begun_first, moved_on, on_ok, on_err, at_err}

@@ -1,5 +1,5 @@
 use Rattle.std.proofs.Common.{false}
-use Rattle.wit_print.specs.Calls.{package_calls}
+use Rattle.print_grammar.specs.Calls.{package_calls}
 use Rattle.wit_print.specs.Shown.{shown_package}
 use Rattle.wit_print.proofs.Moves.{Moves-append, Begins-append, Begins-more, at_err, on_ok, on_err}
 use Rattle.wit_print.proofs.file.print_next_package.Goals as goal

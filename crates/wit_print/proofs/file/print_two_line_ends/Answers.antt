@@ -1,5 +1,5 @@
 use Rattle.std.proofs.Common.{[], ◌∷◌}
-use Rattle.wit_print.specs.OutputCall.OutputCall.{Newline}
+use Rattle.print_output.specs.OutputCall.OutputCall.{Newline}
 use Rattle.wit_print.proofs.Moves.{Moves-append, Begins-append, Begins-more, at_err, on_ok, on_err}
 use Rattle.wit_print.proofs.file.print_two_line_ends.Goals as goal
 

@@ -1,10 +1,10 @@
 use Rattle.wit_print.specs.Shown.{shown_param}
-use Rattle.wit_print.specs.WellNamed.{is_well_param}
+use Rattle.print_grammar.specs.WellNamed.{is_well_param}
 use Rattle.wit_print.proofs.Runs.{passes_at}
 use Rattle.std.proofs.Common.{◌∷◌}
 use Rattle.std.specs.Prelude.{codes}
-use Rattle.wit_print.specs.OutputCall.OutputCall.{Str}
-use Rattle.wit_print.specs.Calls.{param_calls}
+use Rattle.print_output.specs.OutputCall.OutputCall.{Str}
+use Rattle.print_grammar.specs.Calls.{param_calls}
 use Rattle.wit_print.proofs.Driven.{driven, one_run}
 use Rattle.wit_print.proofs.function.write_more_params.Goals as goal
 

@@ -2,9 +2,9 @@
 use Rattle.std.proofs.Common.{◌∷◌, take, false}
 use Rattle.std.specs.Prelude.{codes}
 use Rattle.std.specs.List.{flat_map}
-use Rattle.wit_print.specs.OutputCall.{OutputCall}
+use Rattle.print_output.specs.OutputCall.{OutputCall}
 use Rattle.wit_print.specs.Shown.{shown_param}
-use Rattle.wit_print.specs.Calls.{param_calls}
+use Rattle.print_grammar.specs.Calls.{param_calls}
 use Rattle.wit_print.specs.Drives.{Drives, LineIs}
 use Rattle.wit_print.proofs.function.write_more_params.Given as goal
 

@@ -3,10 +3,10 @@ use Rattle.std.specs.Prelude.{codes}
 use Rattle.std.specs.List.{list_all}
 use Rattle.std.proofs.lemmas.List.{nil_from_length}
 use Rattle.wit_model.proofs.Lists.{first_true, second_true}
-use Rattle.wit_print.specs.OutputCall.OutputCall.{Str}
-use Rattle.wit_print.specs.WellNamed.{is_well_param}
+use Rattle.print_output.specs.OutputCall.OutputCall.{Str}
+use Rattle.print_grammar.specs.WellNamed.{is_well_param}
 use Rattle.wit_print.specs.Shown.{shown_param}
-use Rattle.wit_print.specs.Calls.{param_calls, separated}
+use Rattle.print_grammar.specs.Calls.{param_calls, separated}
 use Rattle.wit_print.proofs.Runs.{separated_first}
 use Rattle.wit_print.proofs.Driven.{driven_on, driven_as, driven_none}
 use Rattle.wit_print.proofs.function.write_params.Goals as goal

@@ -3,12 +3,12 @@ use Rattle.std.specs.Prelude.{codes, option_map}
 use Rattle.std.specs.List.{list_all}
 use Rattle.std.proofs.lemmas.List.Folds.{list_all-map}
 use Rattle.wit_model.specs.Lookup.{is_async}
-use Rattle.wit_print.specs.OutputCall.OutputCall.{Keyword}
+use Rattle.print_output.specs.OutputCall.OutputCall.{Keyword}
 use Rattle.wit_print.specs.Shown.{shown_param, shown_type}
-use Rattle.wit_print.specs.Calls.{async_calls, params_calls}
+use Rattle.print_grammar.specs.Calls.{async_calls, params_calls}
 use Rattle.wit_print.specs.ItemCalls.{written_params}
-use Rattle.wit_print.specs.WellNamed.{is_well_param}
-use Rattle.wit_print.proofs.ByteTests.{left_of}
+use Rattle.print_grammar.specs.WellNamed.{is_well_param}
+use Rattle.print_grammar.proofs.ByteTests.{left_of}
 use Rattle.wit_print.proofs.Driven.{driven, driven_on}
 use Rattle.wit_print.proofs.function.write_signature.Goals as goal
 

@@ -1,6 +1,6 @@
 use Rattle.std.proofs.Common.{ap, sym}
 use Rattle.wit_model.specs.Lookup.{optional_version_text}
-use Rattle.wit_print.specs.Calls.{deprecated_calls}
+use Rattle.print_grammar.specs.Calls.{deprecated_calls}
 use Rattle.wit_print.proofs.Driven.{driven_as}
 use Rattle.wit_print.proofs.gates.write_deprecated.Goals as goal
 

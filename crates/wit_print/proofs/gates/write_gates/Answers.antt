@@ -3,9 +3,9 @@ use Rattle.semver.specs.Identifiers.{version_text}
 use Rattle.wit_model.proofs.Lists.{second_true}
 use Rattle.wit_model.specs.Names.{is_label, is_version_text}
 use Rattle.wit_model.specs.Text.{text_of}
-use Rattle.wit_print.specs.Calls.{gates_calls}
+use Rattle.print_grammar.specs.Calls.{gates_calls}
 use Rattle.wit_print.specs.Shown.{shown_gates}
-use Rattle.wit_print.specs.WellNamed.{is_well_gates}
+use Rattle.print_grammar.specs.WellNamed.{is_well_gates}
 use Rattle.wit_print.proofs.Driven.{driven_on}
 use Rattle.wit_print.proofs.gates.write_gates.Goals as goal
 

@@ -1,6 +1,6 @@
 use Rattle.std.proofs.Common.{◌≡◌, ◌++◌, ◌∙◌, ap, subst, sym, IfOk, OnOk, OnErr}
-use Rattle.wit_print.specs.OutputCall.{Moves, Begins}
-use Rattle.wit_print.specs.Calls.{members_calls, printed_after}
+use Rattle.print_output.specs.OutputCall.{Moves, Begins}
+use Rattle.print_grammar.specs.Calls.{members_calls, printed_after}
 use Rattle.wit_print.specs.UseGroups.{listed_of, use_members}
 use Rattle.wit_print.specs.GivenTypes.{given_declarations}
 use Rattle.wit_print.proofs.Declarations.{members_append, printed_append}

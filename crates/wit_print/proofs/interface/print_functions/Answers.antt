@@ -3,7 +3,7 @@ use Rattle.std.specs.List.{list_all}
 use Rattle.std.specs.Map.Iter.{deref_pair}
 use Rattle.std.proofs.lemmas.Map.Iter.{rest_more}
 use Rattle.wit_model.proofs.Lists.{first_true, second_true}
-use Rattle.wit_print.specs.Calls.{members_calls}
+use Rattle.print_grammar.specs.Calls.{members_calls}
 use Rattle.wit_print.specs.Printable.{is_printable_function, shown_functions}
 use Rattle.wit_print.specs.Shown.{shown_function}
 use Rattle.wit_print.proofs.Functions.{next_shown, printable_member}

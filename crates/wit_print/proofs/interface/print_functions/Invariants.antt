@@ -1,7 +1,7 @@
 -- The functions before those that are left are printed, and these can be.
 use Rattle.std.proofs.Common.{◌≡◌, true}
 use Rattle.std.specs.List.{list_all}
-use Rattle.wit_print.specs.Calls.{members_calls}
+use Rattle.print_grammar.specs.Calls.{members_calls}
 use Rattle.wit_print.specs.Printable.{is_printable_function, shown_functions}
 use Rattle.wit_print.proofs.Moves.{Going}
 use Rattle.wit_print.proofs.interface.print_functions.Given as goal

@@ -1,6 +1,6 @@
 use Rattle.std.proofs.Common.{◌++◌, ◌∙◌, ap, false}
 use Rattle.wit_model.specs.declared.model.TypeOwner.TheVariants as owner
-use Rattle.wit_print.specs.Calls.{members_calls, printed_after}
+use Rattle.print_grammar.specs.Calls.{members_calls, printed_after}
 use Rattle.wit_print.specs.Printable.{shown_functions}
 use Rattle.wit_print.specs.Shown.{listed_functions, listed_types}
 use Rattle.wit_print.specs.UseGroups.{type_members}

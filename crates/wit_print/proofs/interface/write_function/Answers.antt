@@ -2,12 +2,12 @@ use Rattle.std.proofs.Common.{◌≡◌, ◌++◌, ◌∙◌, ap, sym, subst, ap
 use Rattle.wit_model.specs.Names.{is_label}
 use Rattle.wit_model.specs.Text.{text_of}
 use Rattle.wit_print.specs.Shown.{function_prefix, shown_signature}
-use Rattle.wit_print.specs.Calls.{prefix_calls}
+use Rattle.print_grammar.specs.Calls.{prefix_calls}
 use Rattle.wit_print.specs.ItemCalls.{named_calls}
 use Rattle.wit_print.specs.Printable.{line_between}
-use Rattle.wit_print.specs.WellNamed.{is_well_prefix}
-use Rattle.wit_print.specs.declared.type_kind.TypeKind.TheVariants.{FunctionFreestanding}
-use Rattle.wit_print.proofs.ByteTests.{left_of, right_of}
+use Rattle.print_grammar.specs.WellNamed.{is_well_prefix}
+use Rattle.print_output.specs.declared.type_kind.TypeKind.TheVariants.{FunctionFreestanding}
+use Rattle.print_grammar.proofs.ByteTests.{left_of, right_of}
 use Rattle.wit_print.proofs.Functions.{function_alone}
 use Rattle.wit_print.proofs.Driven.{driven, driven_on}
 use Rattle.wit_print.proofs.interface.write_function.Goals as goal

@@ -1,7 +1,7 @@
 use Rattle.std.proofs.Common.{[], ◌∙◌, refl, subst, sym}
 use Rattle.std.specs.Prelude.{codes, if◌then◌else◌}
-use Rattle.wit_print.specs.OutputCall.{Moves}
-use Rattle.wit_print.specs.OutputCall.Moves.{nothing_moved}
+use Rattle.print_output.specs.OutputCall.{Moves}
+use Rattle.print_output.specs.OutputCall.Moves.{nothing_moved}
 use Rattle.wit_print.specs.Printable.{entry_calls}
 use Rattle.wit_print.proofs.PrintableItems.{import_shown}
 use Rattle.wit_print.proofs.ValidWorlds.{interface_import}

@@ -2,7 +2,7 @@ use Rattle.std.proofs.Common.{◌++◌, ◌&&◌, ◌∙◌, ap, subst}
 use Rattle.std.specs.Prelude.{codes}
 use Rattle.std.specs.List.{flat_map}
 use Rattle.wit_model.specs.Rules.{has_items}
-use Rattle.wit_print.specs.OutputCall.{Moves, Begins}
+use Rattle.print_output.specs.OutputCall.{Moves, Begins}
 use Rattle.wit_print.specs.Printable.{entry_calls, line_between, printed_imports}
 use Rattle.wit_print.proofs.Moves.{Moves-append, Begins-append, Begins-more, at_err, on_ok, on_err}
 use Rattle.wit_print.proofs.items.print_world_body.Goals as goal

@@ -1,6 +1,6 @@
 use Rattle.wit_model.specs.Names.{is_label}
 use Rattle.wit_model.specs.Text.{text_of}
-use Rattle.wit_print.proofs.ByteTests.{left_of, right_of}
+use Rattle.print_grammar.proofs.ByteTests.{left_of, right_of}
 use Rattle.wit_print.proofs.items.print_world_function.Goals as goal
 
 pub write_world_function-requires-clause-label : goal.write_world_function-requires-clause-label

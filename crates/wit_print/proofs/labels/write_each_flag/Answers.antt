@@ -2,11 +2,11 @@ use Rattle.std.proofs.Common.{◌≡◌, ap, sym, subst, true}
 use Rattle.std.specs.List.{list_all}
 use Rattle.wit_model.proofs.Lists.{second_true}
 use Rattle.wit_model.specs.Names.{is_label}
-use Rattle.wit_print.specs.OutputCall.{is_one_line}
+use Rattle.print_output.specs.OutputCall.{is_one_line}
 use Rattle.wit_print.specs.Shown.{shown_docs, shown_flag}
-use Rattle.wit_print.specs.WellNamed.{is_well_label}
+use Rattle.print_grammar.specs.WellNamed.{is_well_label}
 use Rattle.wit_print.proofs.Runs.{passes_at}
-use Rattle.wit_print.specs.Calls.{label_calls}
+use Rattle.print_grammar.specs.Calls.{label_calls}
 use Rattle.wit_print.proofs.Driven.{driven_as, one_run}
 use Rattle.wit_print.proofs.labels.write_each_flag.Goals as goal
 

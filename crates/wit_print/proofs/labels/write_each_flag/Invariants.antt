@@ -2,7 +2,7 @@
 use Rattle.std.proofs.Common.{take}
 use Rattle.std.specs.List.{flat_map}
 use Rattle.wit_print.specs.Shown.{shown_flag}
-use Rattle.wit_print.specs.Calls.{label_calls}
+use Rattle.print_grammar.specs.Calls.{label_calls}
 use Rattle.wit_print.specs.Drives.{Drives}
 use Rattle.wit_print.proofs.labels.write_each_flag.Given as goal
 

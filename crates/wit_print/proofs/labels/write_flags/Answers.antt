@@ -2,12 +2,12 @@ use Rattle.std.proofs.Common.{◌≡◌, sym, subst, true}
 use Rattle.std.specs.Prelude.{codes}
 use Rattle.std.specs.List.{list_all}
 use Rattle.wit_print.specs.Shown.{shown_flag}
-use Rattle.wit_print.specs.Calls.{label_calls}
+use Rattle.print_grammar.specs.Calls.{label_calls}
 use Rattle.wit_print.specs.DeclaredCalls.{block_start_calls}
-use Rattle.wit_print.specs.declared.type_kind.TypeKind.TheVariants.{Flags}
+use Rattle.print_output.specs.declared.type_kind.TypeKind.TheVariants.{Flags}
 use Rattle.wit_model.specs.Names.{is_label}
-use Rattle.wit_print.specs.WellNamed.{is_well_label}
-use Rattle.wit_print.proofs.ByteTests.{left_of}
+use Rattle.print_grammar.specs.WellNamed.{is_well_label}
+use Rattle.print_grammar.proofs.ByteTests.{left_of}
 use Rattle.wit_print.proofs.Declared.{block_members}
 use Rattle.wit_print.proofs.Blocks.{block_driven}
 use Rattle.wit_print.proofs.labels.write_flags.Goals as goal

@@ -1,6 +1,6 @@
 use Rattle.std.proofs.Common.{[], ◌∷◌, ◌++◌, false, refl, append_assoc}
-use Rattle.wit_print.specs.OutputCall.OutputCall.{IndentEnd, IndentStart}
-use Rattle.wit_print.specs.Calls.{line_after_calls, members_calls}
+use Rattle.print_output.specs.OutputCall.OutputCall.{IndentEnd, IndentStart}
+use Rattle.print_grammar.specs.Calls.{line_after_calls, members_calls}
 use Rattle.wit_print.specs.Heads.{head_calls}
 use Rattle.wit_print.specs.Shown.{shown_interface}
 use Rattle.wit_print.proofs.Moves.{going, made_on, made_last, refused_in, refused_last, at_err, on_ok, on_err}

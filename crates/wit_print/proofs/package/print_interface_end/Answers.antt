@@ -1,4 +1,4 @@
-use Rattle.wit_print.specs.Calls.{line_after_calls}
+use Rattle.print_grammar.specs.Calls.{line_after_calls}
 use Rattle.wit_print.proofs.Moves.{Moves-append, Begins-append, Begins-more, at_err, on_ok, on_err}
 use Rattle.wit_print.proofs.package.print_interface_end.Goals as goal
 

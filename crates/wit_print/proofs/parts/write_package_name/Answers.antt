@@ -1,7 +1,7 @@
 use Rattle.std.proofs.Common.{ap, ◌∙◌}
 use Rattle.wit_model.specs.Text.{text_of}
 use Rattle.wit_model.specs.Lookup.{optional_version_text}
-use Rattle.wit_print.specs.Calls.{package_name_calls}
+use Rattle.print_grammar.specs.Calls.{package_name_calls}
 use Rattle.wit_print.proofs.Driven.{driven5}
 use Rattle.wit_print.proofs.parts.write_package_name.Goals as goal
 

@@ -1,10 +1,10 @@
 use Rattle.std.proofs.Common.{[], ◌∷◌, ◌∙◌, ap, List}
 use Rattle.std.specs.Prelude.{codes}
 use Rattle.wit_model.specs.Text.{text_of}
-use Rattle.wit_print.specs.OutputCall.{OutputCall}
-use Rattle.wit_print.specs.OutputCall.OutputCall.{Str, Ty}
-use Rattle.wit_print.specs.declared.type_kind.TypeKind.TheVariants.{NamespacePath, PackageNamePath}
-use Rattle.wit_print.specs.Keyword.{escaped}
+use Rattle.print_output.specs.OutputCall.{OutputCall}
+use Rattle.print_output.specs.OutputCall.OutputCall.{Str, Ty}
+use Rattle.print_output.specs.declared.type_kind.TypeKind.TheVariants.{NamespacePath, PackageNamePath}
+use Rattle.print_grammar.specs.Keyword.{escaped}
 use Rattle.wit_print.proofs.Driven.{driven4}
 use Rattle.wit_print.proofs.path.write_package_path.Goals as goal
 

@@ -2,8 +2,8 @@ use Rattle.std.proofs.Common.{◌≡◌, Some, ap, refl, subst, sym, true}
 use Rattle.std.proofs.lemmas.Bool.{ltb-true}
 use Rattle.std.proofs.lemmas.Option.{slice_get_read}
 use Rattle.wit_model.specs.Lookup.{interface_at}
-use Rattle.wit_print.specs.Calls.{path_calls}
-use Rattle.wit_print.specs.WellNamed.{is_well_path}
+use Rattle.print_grammar.specs.Calls.{path_calls}
+use Rattle.print_grammar.specs.WellNamed.{is_well_path}
 use Rattle.wit_print.proofs.PathParts.{path_at, placed_at}
 use Rattle.wit_print.proofs.Driven.{driven_as}
 use Rattle.wit_print.proofs.path.write_path.Goals as goal

@@ -2,7 +2,7 @@ use Rattle.std.proofs.Common.{[], ◌∷◌, map, sym, ap, ◌∙◌, map-id}
 use Rattle.std.proofs.lemmas.Iterator.{YieldsList-from_chars}
 use Rattle.std.proofs.lemmas.Iterator.Consumers.{YieldsList-end}
 use Rattle.std.proofs.lemmas.List.{map-append}
-use Rattle.wit_print.specs.Calls.{character_call}
+use Rattle.print_grammar.specs.Calls.{character_call}
 use Rattle.wit_print.proofs.Driven.{driven_as, driven_on}
 use Rattle.wit_print.proofs.prefix.write_characters.Goals as goal
 

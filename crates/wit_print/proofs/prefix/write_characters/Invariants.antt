@@ -1,6 +1,6 @@
 -- The characters so far are printed.
 use Rattle.std.proofs.Common.{map}
-use Rattle.wit_print.specs.Calls.{character_call}
+use Rattle.print_grammar.specs.Calls.{character_call}
 use Rattle.wit_print.specs.Drives.{Drives}
 use Rattle.wit_print.proofs.prefix.write_characters.Given as goal
 

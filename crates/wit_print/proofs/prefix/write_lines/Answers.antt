@@ -3,7 +3,7 @@ use Rattle.std.proofs.lemmas.Iterator.Splits.{YieldsList-from_lines}
 use Rattle.std.proofs.lemmas.Iterator.Consumers.{YieldsList-turn, YieldsList-end}
 use Rattle.wit_print.proofs.DocLines.{line_one_line, lines_driven}
 use Rattle.std.proofs.lemmas.List.{map-append}
-use Rattle.wit_print.specs.OutputCall.OutputCall.{Doc}
+use Rattle.print_output.specs.OutputCall.OutputCall.{Doc}
 use Rattle.wit_print.proofs.Driven.{driven_on}
 use Rattle.wit_print.proofs.prefix.write_lines.Goals as goal
 

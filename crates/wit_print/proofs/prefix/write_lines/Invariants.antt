@@ -1,6 +1,6 @@
 -- The lines so far are printed.
 use Rattle.std.proofs.Common.{map}
-use Rattle.wit_print.specs.OutputCall.{OutputCall}
+use Rattle.print_output.specs.OutputCall.{OutputCall}
 use Rattle.wit_print.specs.Drives.{Drives}
 use Rattle.wit_print.proofs.prefix.write_lines.Given as goal
 

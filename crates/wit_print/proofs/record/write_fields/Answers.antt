@@ -1,7 +1,7 @@
 use Rattle.wit_print.specs.Shown.{shown_field}
-use Rattle.wit_print.specs.WellNamed.{is_well_field}
+use Rattle.print_grammar.specs.WellNamed.{is_well_field}
 use Rattle.wit_print.proofs.Runs.{passes_at}
-use Rattle.wit_print.specs.Calls.{field_calls}
+use Rattle.print_grammar.specs.Calls.{field_calls}
 use Rattle.wit_print.proofs.Driven.{one_run}
 use Rattle.wit_print.proofs.record.write_fields.Goals as goal
 

@@ -2,7 +2,7 @@
 use Rattle.std.proofs.Common.{take}
 use Rattle.std.specs.List.{flat_map}
 use Rattle.wit_print.specs.Shown.{shown_field}
-use Rattle.wit_print.specs.Calls.{field_calls}
+use Rattle.print_grammar.specs.Calls.{field_calls}
 use Rattle.wit_print.specs.Drives.{Drives}
 use Rattle.wit_print.proofs.record.write_fields.Given as goal
 

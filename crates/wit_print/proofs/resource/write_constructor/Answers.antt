@@ -2,7 +2,7 @@ use Rattle.std.proofs.Common.{◌≡◌, sym, subst, ◌∙◌, true}
 use Rattle.std.specs.List.{list_all}
 use Rattle.std.proofs.lemmas.List.Folds.{list_all-map}
 use Rattle.wit_print.specs.Shown.{shown_param}
-use Rattle.wit_print.specs.WellNamed.{is_well_param}
+use Rattle.print_grammar.specs.WellNamed.{is_well_param}
 use Rattle.wit_print.proofs.Constructors.{constructor_params}
 use Rattle.wit_print.proofs.resource.write_constructor.Goals as goal
 

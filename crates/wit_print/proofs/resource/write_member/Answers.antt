@@ -1,7 +1,7 @@
 use Rattle.std.proofs.Common.{ap}
 use Rattle.wit_model.specs.Calls.{item_name}
 use Rattle.wit_model.specs.Names.{is_label}
-use Rattle.wit_print.proofs.ByteTests.{left_of, right_of}
+use Rattle.print_grammar.proofs.ByteTests.{left_of, right_of}
 use Rattle.wit_print.proofs.Constructors.{constructor_well, is_constructor, member_named}
 use Rattle.wit_print.proofs.resource.write_member.Goals as goal
 

@@ -1,7 +1,7 @@
 use Rattle.wit_print.specs.Shown.{shown_resource_member}
-use Rattle.wit_print.specs.WellNamed.{is_well_resource_member}
+use Rattle.print_grammar.specs.WellNamed.{is_well_resource_member}
 use Rattle.wit_print.proofs.Runs.{passes_at}
-use Rattle.wit_print.specs.Calls.{resource_member_calls}
+use Rattle.print_grammar.specs.Calls.{resource_member_calls}
 use Rattle.wit_print.proofs.Driven.{one_run}
 use Rattle.wit_print.proofs.resource.write_members.Goals as goal
 

@@ -2,7 +2,7 @@
 use Rattle.std.proofs.Common.{take}
 use Rattle.std.specs.List.{flat_map}
 use Rattle.wit_print.specs.Shown.{shown_resource_member}
-use Rattle.wit_print.specs.Calls.{resource_member_calls}
+use Rattle.print_grammar.specs.Calls.{resource_member_calls}
 use Rattle.wit_print.specs.Drives.{Drives}
 use Rattle.wit_print.proofs.resource.write_members.Given as goal
 

@@ -2,8 +2,8 @@ use Rattle.std.proofs.Common.{◌∙◌, sym}
 use Rattle.std.proofs.lemmas.List.Folds.{list_all-map}
 use Rattle.wit_model.specs.Names.{is_label}
 use Rattle.wit_print.specs.Shown.{shown_resource_member}
-use Rattle.wit_print.specs.WellNamed.{is_well_resource_member}
-use Rattle.wit_print.proofs.ByteTests.{right_of}
+use Rattle.print_grammar.specs.WellNamed.{is_well_resource_member}
+use Rattle.print_grammar.proofs.ByteTests.{right_of}
 use Rattle.wit_print.proofs.resource.write_resource.Goals as goal
 
 pub write_resource_body-requires-clause-well : goal.write_resource_body-requires-clause-well

@@ -1,5 +1,5 @@
 use Rattle.std.proofs.Common.{◌∙◌}
-use Rattle.wit_print.specs.Keyword.{escaped}
+use Rattle.print_grammar.specs.Keyword.{escaped}
 use Rattle.wit_print.proofs.Fronts.{front_of}
 use Rattle.wit_print.proofs.spelled.print_param.Goals as goal
 

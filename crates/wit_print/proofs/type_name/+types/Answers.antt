@@ -7,12 +7,12 @@ use Rattle.wit_model.specs.Names.{is_label}
 use Rattle.wit_model.specs.Parts.{member_types}
 use Rattle.wit_model.specs.Rules.{in_list, passes}
 use Rattle.wit_model.specs.Types.{number_of}
-use Rattle.wit_print.specs.OutputCall.{OutputCall, may_follow}
-use Rattle.wit_print.specs.Keyword.{escaped}
+use Rattle.print_output.specs.OutputCall.{OutputCall, may_follow}
+use Rattle.print_grammar.specs.Keyword.{escaped}
 use Rattle.wit_print.specs.Shown.{shown_type, type_trees}
-use Rattle.wit_print.specs.Calls.{type_calls}
+use Rattle.print_grammar.specs.Calls.{type_calls}
 use Rattle.wit_print.specs.TypeParts.{comma_calls, kind_end, kind_start, types_from}
-use Rattle.wit_print.specs.declared.type_kind.TypeKind.TheVariants.{Other}
+use Rattle.print_output.specs.declared.type_kind.TypeKind.TheVariants.{Other}
 use Rattle.wit_print.proofs.ByPlace.{one_there}
 use Rattle.wit_print.proofs.Driven.{driven, driven_as, driven_on, line_driven, driving_first, driving_next, driving_done}
 use Rattle.wit_print.proofs.TypeParts.{rank, end_may_follow, handles_at, kind_at, kind_calls_at, label_at, name_calls_at, part_falls, part_in_range, types_next, types_past, unnamed_at, unnamed_calls_at}

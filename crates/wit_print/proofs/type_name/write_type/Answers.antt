@@ -1,7 +1,7 @@
 use Rattle.std.proofs.Common.{ap, ◌∙◌}
-use Rattle.wit_print.specs.OutputCall.{lines_begun_after}
+use Rattle.print_output.specs.OutputCall.{lines_begun_after}
 use Rattle.wit_print.specs.Shown.{shown_type}
-use Rattle.wit_print.specs.Calls.{type_calls}
+use Rattle.print_grammar.specs.Calls.{type_calls}
 use Rattle.wit_print.proofs.TypeParts.{type_stays, well_in_range}
 use Rattle.wit_print.proofs.Driven.{line_driven, free_before}
 use Rattle.wit_print.proofs.type_name.write_type.Goals as goal

@@ -1,7 +1,7 @@
 use Rattle.std.proofs.Common.{◌≡◌, ◌++◌, ◌∙◌, ap, map, refl, subst, sym, true, IfOk}
 use Rattle.std.specs.List.{list_all}
-use Rattle.wit_print.specs.OutputCall.Begins.{nothing_begun}
-use Rattle.wit_print.specs.Calls.{members_calls, printed_after}
+use Rattle.print_output.specs.OutputCall.Begins.{nothing_begun}
+use Rattle.print_grammar.specs.Calls.{members_calls, printed_after}
 use Rattle.wit_print.specs.GivenTypes.{given_declarations}
 use Rattle.wit_print.specs.Shown.{belongs_to}
 use Rattle.wit_print.specs.UseGroups.{declared_members, is_listed_function, listed_of, use_members}

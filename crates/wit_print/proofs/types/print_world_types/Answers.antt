@@ -1,9 +1,9 @@
 use Rattle.std.proofs.Common.{◌≡◌, ◌∙◌, ap, map, refl, subst, sym, true, IfOk}
 use Rattle.std.specs.List.{list_all}
 use Rattle.wit_model.specs.declared.model.TypeOwner.TheVariants as owner
-use Rattle.wit_print.specs.OutputCall.{Moves, Begins}
-use Rattle.wit_print.specs.OutputCall.Begins.{nothing_begun}
-use Rattle.wit_print.specs.Calls.{members_calls, printed_after}
+use Rattle.print_output.specs.OutputCall.{Moves, Begins}
+use Rattle.print_output.specs.OutputCall.Begins.{nothing_begun}
+use Rattle.print_grammar.specs.Calls.{members_calls, printed_after}
 use Rattle.wit_print.specs.Shown.{listed_imports}
 use Rattle.wit_print.specs.UseGroups.{is_listed_function, is_listed_type, listed_of, type_members}
 use Rattle.wit_print.proofs.Moves.{on_ok, on_err, at_err}

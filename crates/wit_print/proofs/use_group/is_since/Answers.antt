@@ -1,7 +1,7 @@
 use Rattle.std.proofs.Common.{◌≡◌, subst, true}
 use Rattle.wit_model.specs.Names.{is_version}
 use Rattle.wit_model.specs.Rules.{is_stability}
-use Rattle.wit_print.proofs.ByteTests.{right_of}
+use Rattle.print_grammar.proofs.ByteTests.{right_of}
 use Rattle.wit_print.proofs.use_group.is_since.Goals as goal
 
 pub same_optional_version-requires-clause-right : goal.same_optional_version-requires-clause-right

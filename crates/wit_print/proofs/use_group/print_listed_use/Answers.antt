@@ -4,11 +4,11 @@ use Rattle.std.proofs.lemmas.Bool.{ltb-true}
 use Rattle.std.proofs.lemmas.Option.{slice_get_read}
 use Rattle.wit_model.specs.Lookup.{type_at}
 use Rattle.wit_model.specs.Rules.{in_list}
-use Rattle.wit_print.specs.OutputCall.{Moves, Begins}
-use Rattle.wit_print.specs.OutputCall.Moves.{nothing_moved}
+use Rattle.print_output.specs.OutputCall.{Moves, Begins}
+use Rattle.print_output.specs.OutputCall.Moves.{nothing_moved}
 use Rattle.wit_print.specs.Shown.{shown_path}
 use Rattle.wit_print.specs.UseGroups.{listed_use_calls, shown_use, use_after}
-use Rattle.wit_print.proofs.ByteTests.{left_of}
+use Rattle.print_grammar.proofs.ByteTests.{left_of}
 use Rattle.wit_print.proofs.ListedTypes.{listed_use_at, use_printable}
 use Rattle.wit_print.proofs.Moves.{at_err}
 use Rattle.wit_print.proofs.use_group.print_listed_use.Goals as goal

@@ -1,7 +1,7 @@
 use Rattle.std.proofs.Common.{refl, subst, sym}
 use Rattle.std.specs.Prelude.{option_map}
-use Rattle.wit_print.specs.OutputCall.{Moves}
-use Rattle.wit_print.specs.OutputCall.Moves.{nothing_moved}
+use Rattle.print_output.specs.OutputCall.{Moves}
+use Rattle.print_output.specs.OutputCall.Moves.{nothing_moved}
 use Rattle.wit_print.specs.UseGroups.{open_end_calls, shown_use}
 use Rattle.wit_print.proofs.use_group.print_open_end.Goals as goal
 

@@ -4,7 +4,7 @@ use Rattle.wit_model.specs.Rules.{has_items}
 use Rattle.wit_print.specs.Shown.{shown_path}
 use Rattle.wit_print.specs.UseGroups.{listed_of, listed_use, open_end_calls, shown_use, uses_calls}
 use Rattle.std.proofs.lemmas.List.{drop_all}
-use Rattle.wit_print.specs.OutputCall.{Moves, Begins}
+use Rattle.print_output.specs.OutputCall.{Moves, Begins}
 use Rattle.wit_print.proofs.UseGroups.{or_false}
 use Rattle.wit_print.proofs.ListedTypes.{all_printed, all_uses, some_mapped}
 use Rattle.wit_print.proofs.ListedSteps.{known_after, known_here, use_made, use_refused, uses_some}

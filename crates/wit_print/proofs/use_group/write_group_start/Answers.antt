@@ -1,8 +1,8 @@
 use Rattle.wit_model.specs.Rules.{in_list, is_stability}
 use Rattle.std.proofs.Common.{◌&&◌}
 use Rattle.wit_print.specs.Shown.{shown_gates}
-use Rattle.wit_print.specs.WellNamed.{is_well_gates}
-use Rattle.wit_print.proofs.ByteTests.{left_of, right_of}
+use Rattle.print_grammar.specs.WellNamed.{is_well_gates}
+use Rattle.print_grammar.proofs.ByteTests.{left_of, right_of}
 use Rattle.wit_print.proofs.use_group.write_group_start.Goals as goal
 
 pub write_use_path-requires-clause-in_range : goal.write_use_path-requires-clause-in_range

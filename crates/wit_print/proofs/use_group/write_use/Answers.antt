@@ -3,7 +3,7 @@ use Rattle.std.specs.Prelude.{option_map}
 use Rattle.wit_model.specs.Rules.{passes}
 use Rattle.wit_print.specs.Shown.{shown_path}
 use Rattle.wit_print.specs.UseGroups.{is_printable_use, shown_use}
-use Rattle.wit_print.proofs.ByteTests.{left_of}
+use Rattle.print_grammar.proofs.ByteTests.{left_of}
 use Rattle.wit_print.proofs.UseGroups.{run_first, run_joined, run_next, use_labels}
 use Rattle.wit_print.proofs.Driven.{driven_as}
 use Rattle.wit_print.proofs.use_group.write_use.Goals as goal

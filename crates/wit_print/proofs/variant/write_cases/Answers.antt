@@ -1,7 +1,7 @@
 use Rattle.wit_print.specs.Shown.{shown_case}
-use Rattle.wit_print.specs.WellNamed.{is_well_case}
+use Rattle.print_grammar.specs.WellNamed.{is_well_case}
 use Rattle.wit_print.proofs.Runs.{passes_at}
-use Rattle.wit_print.specs.Calls.{case_calls}
+use Rattle.print_grammar.specs.Calls.{case_calls}
 use Rattle.wit_print.proofs.Driven.{one_run}
 use Rattle.wit_print.proofs.variant.write_cases.Goals as goal
 

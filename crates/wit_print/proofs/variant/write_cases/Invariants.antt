@@ -2,7 +2,7 @@
 use Rattle.std.proofs.Common.{take}
 use Rattle.std.specs.List.{flat_map}
 use Rattle.wit_print.specs.Shown.{shown_case}
-use Rattle.wit_print.specs.Calls.{case_calls}
+use Rattle.print_grammar.specs.Calls.{case_calls}
 use Rattle.wit_print.specs.Drives.{Drives}
 use Rattle.wit_print.proofs.variant.write_cases.Given as goal
 

@@ -1,8 +1,8 @@
 use Rattle.std.proofs.Common.{[], ◌∷◌, true, append_assoc}
-use Rattle.wit_print.specs.OutputCall.OutputCall.{Keyword}
+use Rattle.print_output.specs.OutputCall.OutputCall.{Keyword}
 use Rattle.wit_print.specs.Shown.{shown_path, shown_prefix}
-use Rattle.wit_print.specs.Tree.ExternTree.{Path}
-use Rattle.wit_print.specs.Calls.{extern_calls, prefix_calls, space}
+use Rattle.print_grammar.specs.Tree.ExternTree.{Path}
+use Rattle.print_grammar.specs.Calls.{extern_calls, prefix_calls, space}
 use Rattle.wit_print.proofs.Driven.{driven_on}
 use Rattle.wit_print.proofs.world.write_keyed.Goals as goal
 

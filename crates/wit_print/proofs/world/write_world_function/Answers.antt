@@ -1,8 +1,8 @@
 use Rattle.std.proofs.Common.{[], ◌∷◌, ◌++◌, ◌∙◌, ap, append_assoc}
-use Rattle.wit_print.specs.OutputCall.OutputCall.{Keyword}
-use Rattle.wit_print.specs.declared.type_kind.TypeKind.TheVariants.{Other}
+use Rattle.print_output.specs.OutputCall.OutputCall.{Keyword}
+use Rattle.print_output.specs.declared.type_kind.TypeKind.TheVariants.{Other}
 use Rattle.wit_print.specs.Shown.{function_prefix, shown_signature}
-use Rattle.wit_print.specs.Calls.{prefix_calls, space}
+use Rattle.print_grammar.specs.Calls.{prefix_calls, space}
 use Rattle.wit_print.specs.ItemCalls.{named_calls}
 use Rattle.wit_print.proofs.Driven.{driven_on}
 use Rattle.wit_print.proofs.world.write_world_function.Goals as goal

@@ -1,11 +1,11 @@
 use Rattle.std.proofs.Common.{◌≡◌, ap, subst, ◌∙◌, ℕ, Bool, true, List, []}
 use Rattle.std.specs.Prelude.{Vec}
 use Rattle.std.specs.declared.alloc.Global.{Global}
-use Rattle.wit_print.specs.AsRead.{file_as_read}
-use Rattle.wit_print.specs.Calls.{file_calls}
-use Rattle.wit_print.specs.OutputCall.{Moves, View}
-use Rattle.wit_print.specs.Reading.{IsOnlyReading}
-use Rattle.wit_print.specs.Render.{Written, render, writes}
+use Rattle.print_grammar.specs.AsRead.{file_as_read}
+use Rattle.print_grammar.specs.Calls.{file_calls}
+use Rattle.print_output.specs.OutputCall.{Moves, View}
+use Rattle.print_grammar.specs.Reading.{IsOnlyReading}
+use Rattle.print_output.specs.Render.{Written, render, writes}
 use Rattle.wit_print.specs.Shown.{shown_file}
 use Rattle.witc.proofs.PrintedLaws.{printed}
 use Rattle.witc.proofs.print.text_of_package.Goals as goal

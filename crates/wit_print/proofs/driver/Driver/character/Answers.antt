@@ -1,5 +1,5 @@
 use Rattle.std.proofs.Common.{refl}
-use Rattle.wit_print.specs.Calls.{character_call}
+use Rattle.print_grammar.specs.Calls.{character_call}
 use Rattle.wit_print.proofs.Driven.{spelled_made, call_passed}
 use Rattle.wit_print.proofs.driver.Driver.character.Goals as goal
 

@@ -1,5 +1,5 @@
 use Rattle.std.proofs.Common.{refl}
-use Rattle.wit_print.specs.OutputCall.OutputCall.{Doc}
+use Rattle.print_output.specs.OutputCall.OutputCall.{Doc}
 use Rattle.wit_print.proofs.Driven.{call_made, call_passed}
 use Rattle.wit_print.proofs.driver.Driver.doc.Goals as goal
 

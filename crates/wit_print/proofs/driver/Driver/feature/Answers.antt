@@ -1,6 +1,6 @@
 use Rattle.std.proofs.Common.{refl}
-use Rattle.wit_print.specs.OutputCall.OutputCall.{Str}
-use Rattle.wit_print.specs.Keyword.{escaped}
+use Rattle.print_output.specs.OutputCall.OutputCall.{Str}
+use Rattle.print_grammar.specs.Keyword.{escaped}
 use Rattle.wit_print.proofs.Driven.{spelled_made, call_passed}
 use Rattle.wit_print.proofs.driver.Driver.feature.Goals as goal
 

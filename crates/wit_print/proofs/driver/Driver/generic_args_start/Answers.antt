@@ -1,5 +1,5 @@
 use Rattle.std.proofs.Common.{refl}
-use Rattle.wit_print.specs.OutputCall.OutputCall.{GenericArgsStart}
+use Rattle.print_output.specs.OutputCall.OutputCall.{GenericArgsStart}
 use Rattle.wit_print.proofs.Driven.{call_made, call_passed}
 use Rattle.wit_print.proofs.driver.Driver.generic_args_start.Goals as goal
 

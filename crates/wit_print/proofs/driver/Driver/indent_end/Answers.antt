@@ -1,5 +1,5 @@
 use Rattle.std.proofs.Common.{refl}
-use Rattle.wit_print.specs.OutputCall.OutputCall.{IndentEnd}
+use Rattle.print_output.specs.OutputCall.OutputCall.{IndentEnd}
 use Rattle.wit_print.proofs.Driven.{plain_made, call_passed}
 use Rattle.wit_print.proofs.driver.Driver.indent_end.Goals as goal
 

@@ -1,5 +1,5 @@
 use Rattle.std.proofs.Common.{refl}
-use Rattle.wit_print.specs.OutputCall.OutputCall.{IndentStart}
+use Rattle.print_output.specs.OutputCall.OutputCall.{IndentStart}
 use Rattle.wit_print.proofs.Driven.{plain_made, call_passed}
 use Rattle.wit_print.proofs.driver.Driver.indent_start.Goals as goal
 

@@ -1,7 +1,7 @@
 use Rattle.std.proofs.Common.{refl, ◌++◌}
 use Rattle.std.specs.Prelude.{codes}
 use Rattle.std.specs.Fmt.{decimal}
-use Rattle.wit_print.specs.OutputCall.OutputCall.{Str}
+use Rattle.print_output.specs.OutputCall.OutputCall.{Str}
 use Rattle.wit_print.proofs.Driven.{spelled_made, call_passed}
 use Rattle.wit_print.proofs.driver.Driver.length.Goals as goal
 

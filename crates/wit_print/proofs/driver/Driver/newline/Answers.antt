@@ -1,5 +1,5 @@
 use Rattle.std.proofs.Common.{refl}
-use Rattle.wit_print.specs.OutputCall.OutputCall.{Newline}
+use Rattle.print_output.specs.OutputCall.OutputCall.{Newline}
 use Rattle.wit_print.proofs.Driven.{plain_made, call_passed}
 use Rattle.wit_print.proofs.driver.Driver.newline.Goals as goal
 

@@ -1,6 +1,6 @@
 use Rattle.std.proofs.Common.{refl}
-use Rattle.wit_print.specs.OutputCall.OutputCall.{Param}
-use Rattle.wit_print.specs.Keyword.{escaped}
+use Rattle.print_output.specs.OutputCall.OutputCall.{Param}
+use Rattle.print_grammar.specs.Keyword.{escaped}
 use Rattle.wit_print.proofs.Driven.{spelled_made, call_passed}
 use Rattle.wit_print.proofs.driver.Driver.param.Goals as goal
 

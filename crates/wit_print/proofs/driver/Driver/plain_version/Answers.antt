@@ -1,7 +1,7 @@
 use Rattle.std.proofs.Common.{refl}
 use Rattle.semver.specs.Identifiers.{version_text}
-use Rattle.wit_print.specs.OutputCall.OutputCall.{Ty}
-use Rattle.wit_print.specs.declared.type_kind.TypeKind.TheVariants.{VersionAnnotation}
+use Rattle.print_output.specs.OutputCall.OutputCall.{Ty}
+use Rattle.print_output.specs.declared.type_kind.TypeKind.TheVariants.{VersionAnnotation}
 use Rattle.wit_print.proofs.OneLine.{plain_version_may_stand}
 use Rattle.wit_print.proofs.Driven.{spelled_made, call_passed}
 use Rattle.wit_print.proofs.driver.Driver.plain_version.Goals as goal

@@ -1,5 +1,5 @@
 use Rattle.std.proofs.Common.{refl}
-use Rattle.wit_print.specs.OutputCall.OutputCall.{PushStr}
+use Rattle.print_output.specs.OutputCall.OutputCall.{PushStr}
 use Rattle.wit_print.proofs.Driven.{plain_made, call_passed}
 use Rattle.wit_print.proofs.driver.Driver.push_str.Goals as goal
 

@@ -1,6 +1,6 @@
 use Rattle.std.proofs.Common.{refl, ◌∷◌}
 use Rattle.semver.specs.Identifiers.{version_text}
-use Rattle.wit_print.specs.OutputCall.OutputCall.{Ty}
+use Rattle.print_output.specs.OutputCall.OutputCall.{Ty}
 use Rattle.wit_print.proofs.OneLine.{version_may_stand}
 use Rattle.wit_print.proofs.Driven.{spelled_made, call_passed}
 use Rattle.wit_print.proofs.driver.Driver.version.Goals as goal

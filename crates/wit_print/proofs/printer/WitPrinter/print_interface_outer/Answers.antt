@@ -1,7 +1,7 @@
 use Rattle.std.proofs.Common.{◌≡◌, subst, Some, refl}
 use Rattle.std.proofs.lemmas.Option.{slice_get_read}
 use Rattle.wit_model.specs.Lookup.{interface_at}
-use Rattle.wit_print.specs.OutputCall.{Moves, Begins}
+use Rattle.print_output.specs.OutputCall.{Moves, Begins}
 use Rattle.wit_print.proofs.Moves.{on_ok, on_err}
 use Rattle.wit_print.proofs.InterfaceHeads.{interface_gates, head_at}
 use Rattle.wit_print.proofs.ShownWell.{gates_well}

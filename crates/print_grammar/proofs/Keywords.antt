@@ -1,0 +1,23 @@
+-- A word is a keyword where it is the text of one.
+use Rattle.std.proofs.Common.{◌≡◌, refl, ap, ℕ, drop, List, [], ◌∷◌, Bool, true, false, ◌||◌, Option, Some, None, if◌then◌else◌}
+use Rattle.std.specs.Prelude.{is_some}
+use Rattle.std.specs.List.{list_any, slice_get}
+use Rattle.wit_model.specs.Text.{Text, text_eq}
+use Rattle.print_grammar.specs.Keyword.{Keyword, entry_of}
+
+is_some_if : {X : Type 0} (b : Bool) (x : X) (o : Option X) (c : Bool) → is_some o ≡ c → is_some (if b then Some x else o) ≡ (b || c)
+is_some_if true x o c e = refl
+is_some_if false x o c e = e
+
+pub is_entry : (entries : List (Text × Keyword)) (word : Text) → is_some (entry_of entries word) ≡ list_any (λ e. text_eq e.0 word) entries
+is_entry [] word = refl
+is_entry (entry ∷ entries) word = is_some_if _ _ _ _ (is_entry entries word)
+
+-- a text whose first byte is known
+pub first_and_rest : (word : Text) (first : ℕ) → slice_get word 0 ≡ Some first → word ≡ first ∷ drop 1 word
+first_and_rest [] first e = absurd cc
+first_and_rest (b ∷ bs) first e = ap (λ o. or_zero o ∷ bs) e
+  where
+    or_zero : Option ℕ → ℕ
+    or_zero (Some x) = x
+    or_zero None = 0

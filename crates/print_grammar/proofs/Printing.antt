@@ -1,0 +1,183 @@
+-- Calls whose text begins with tokens: one call, and then what follows it.
+use Rattle.std.proofs.Common.{◌≡◌, refl, sym, ap, ◌∙◌, subst, ℕ, ◌-◌, ◌*◌, Bool, true, false, not, List, [], ◌∷◌, ◌++◌, append_assoc, codes, Some}
+use Rattle.wit_model.specs.Names.{is_label, begins_with_letter}
+use Rattle.print_grammar.specs.Keyword.{escaped}
+use Rattle.print_output.specs.OutputCall.{OutputCall}
+use Rattle.print_output.specs.OutputCall.OutputCall.{PushStr, IndentIfNeeded, IndentStart, IndentEnd, Newline, IndentAndPrint, Keyword, Ty, Param, Case, GenericArgsStart, GenericArgsEnd, Doc, Semicolon, Str}
+use Rattle.print_output.specs.Render.{front_of}
+use Rattle.print_grammar.specs.Token.{Token, Tokens, spelled}
+use Rattle.print_grammar.specs.Token.Token.{Punctuation}
+use Rattle.print_grammar.specs.Token.Mark.{OpenBrace, CloseBrace, OpenParen, CloseParen, Less, Greater, Colon, Semi, Comma, Dot, Equals, At, Arrow}
+use Rattle.print_output.specs.declared.type_kind.TypeKind.{TypeKind}
+use Rattle.print_grammar.proofs.TextOf.{text_of}
+use Rattle.print_grammar.proofs.TokenFacts.{ends_by, token_at, mark_at, word_at, id_at, blank_at, blanks_at, ends_word, is_label_byte, id_token}
+
+-- The text of the calls is these tokens, at any level, where a line has just begun or not.
+pub record Follows (begun : Bool) (calls : List OutputCall) (tokens : List Token) : Type 0 where
+  pub at : (level : ℕ) → Tokens (text_of begun level calls) tokens
+
+-- The text of the calls is some tokens of this property.
+abbrev pub Printed : Bool → List OutputCall → (List Token → Type 0) → Type 0
+Printed begun calls P = (tokens : List Token) × Follows begun calls tokens × P tokens
+
+-- no word goes on into the text of the calls
+abbrev pub EndsWord : List OutputCall → Type 0
+EndsWord calls = (level : ℕ) → ends_word (text_of false level calls) ≡ true
+
+-- the same calls, put together otherwise
+pub relist : {begun : Bool} {P : List Token → Type 0} {calls others : List OutputCall} → calls ≡ others → Printed begun others P → Printed begun calls P
+relist {begun} {P} e p = subst (λ x. Printed begun x P) (sym e) p
+
+pub printed_as : {begun : Bool} {calls : List OutputCall} {P Q : List Token → Type 0} → ((tokens : List Token) → P tokens → Q tokens) → Printed begun calls P → Printed begun calls Q
+printed_as f p = (p.0, p.1, f p.0 p.2)
+
+-- two lists, with a call between and more behind
+pub two_lists : (first : List OutputCall) (call : OutputCall) (second third more : List OutputCall) → (first ++ (call ∷ (second ++ third))) ++ more ≡ first ++ (call ∷ (second ++ (third ++ more)))
+two_lists first call second third more = append_assoc first (call ∷ (second ++ third)) more ∙ ap (λ x. first ++ (call ∷ x)) (append_assoc second third more)
+
+pub three_lists : (first second third more : List OutputCall) → ((first ++ second) ++ third) ++ more ≡ first ++ (second ++ (third ++ more))
+three_lists first second third more = append_assoc (first ++ second) third more ∙ append_assoc first second (third ++ more)
+
+-- ---- marks
+
+module _ {rest : List ℕ} {ts : List Token} where
+  pub colon : Tokens rest ts → Tokens (58 ∷ rest) (Punctuation Colon ∷ ts)
+  colon = mark_at 58 (Punctuation Colon) refl refl refl (λ d more. refl)
+
+  pub semi : Tokens rest ts → Tokens (59 ∷ rest) (Punctuation Semi ∷ ts)
+  semi = mark_at 59 (Punctuation Semi) refl refl refl (λ d more. refl)
+
+  pub comma : Tokens rest ts → Tokens (44 ∷ rest) (Punctuation Comma ∷ ts)
+  comma = mark_at 44 (Punctuation Comma) refl refl refl (λ d more. refl)
+
+  pub less : Tokens rest ts → Tokens (60 ∷ rest) (Punctuation Less ∷ ts)
+  less = mark_at 60 (Punctuation Less) refl refl refl (λ d more. refl)
+
+  pub greater : Tokens rest ts → Tokens (62 ∷ rest) (Punctuation Greater ∷ ts)
+  greater = mark_at 62 (Punctuation Greater) refl refl refl (λ d more. refl)
+
+  pub open_paren : Tokens rest ts → Tokens (40 ∷ rest) (Punctuation OpenParen ∷ ts)
+  open_paren = mark_at 40 (Punctuation OpenParen) refl refl refl (λ d more. refl)
+
+  pub close_paren : Tokens rest ts → Tokens (41 ∷ rest) (Punctuation CloseParen ∷ ts)
+  close_paren = mark_at 41 (Punctuation CloseParen) refl refl refl (λ d more. refl)
+
+  pub open_brace : Tokens rest ts → Tokens (123 ∷ rest) (Punctuation OpenBrace ∷ ts)
+  open_brace = mark_at 123 (Punctuation OpenBrace) refl refl refl (λ d more. refl)
+
+  pub close_brace : Tokens rest ts → Tokens (125 ∷ rest) (Punctuation CloseBrace ∷ ts)
+  close_brace = mark_at 125 (Punctuation CloseBrace) refl refl refl (λ d more. refl)
+
+  pub dot : Tokens rest ts → Tokens (46 ∷ rest) (Punctuation Dot ∷ ts)
+  dot = mark_at 46 (Punctuation Dot) refl refl refl (λ d more. refl)
+
+  pub equals : Tokens rest ts → Tokens (61 ∷ rest) (Punctuation Equals ∷ ts)
+  equals = mark_at 61 (Punctuation Equals) refl refl refl (λ d more. refl)
+
+  pub at_sign : Tokens rest ts → Tokens (64 ∷ rest) (Punctuation At ∷ ts)
+  at_sign = mark_at 64 (Punctuation At) refl refl refl (λ d more. refl)
+
+  pub space : Tokens rest ts → Tokens (32 ∷ rest) ts
+  space = blank_at 32 refl
+
+  pub line_feed : Tokens rest ts → Tokens (10 ∷ rest) ts
+  line_feed = blank_at 10 refl
+
+pub arrow : (rest : List ℕ) {ts : List Token} → Tokens rest ts → Tokens (45 ∷ 62 ∷ rest) (Punctuation Arrow ∷ ts)
+arrow [] more = token_at 45 (62 ∷ []) [] (Punctuation Arrow) refl refl refl tt more
+arrow (c ∷ cs) more = token_at 45 (62 ∷ []) (c ∷ cs) (Punctuation Arrow) refl refl refl (ends_by (45 ∷ 62 ∷ []) c cs (λ x. refl)) more
+
+-- ---- one call
+
+-- The call prints this text in a line that has begun.
+pub data Prints : OutputCall → List ℕ → Type 0 where
+  by_keyword : {text : List ℕ} → Prints (Keyword text) text
+  by_type : {text : List ℕ} {kind : TypeKind} → Prints (Ty text kind) text
+  by_param : {text : List ℕ} → Prints (Param text) text
+  by_case : {text : List ℕ} → Prints (Case text) text
+  by_str : {text : List ℕ} → Prints (Str text) text
+  by_push : {text : List ℕ} → Prints (PushStr text) text
+  by_start : Prints GenericArgsStart (60 ∷ [])
+  by_end : Prints GenericArgsEnd (62 ∷ [])
+
+pub printed_text : {call : OutputCall} {text : List ℕ} → Prints call text → (level : ℕ) (more : List OutputCall) → text_of false level (call ∷ more) ≡ text ++ text_of false level more
+printed_text by_keyword level more = refl
+printed_text by_type level more = refl
+printed_text by_param level more = refl
+printed_text by_case level more = refl
+printed_text by_str level more = refl
+printed_text by_push level more = refl
+printed_text by_start level more = refl
+printed_text by_end level more = refl
+
+-- a call, by what its text is with any text behind it
+pub call_is : {call : OutputCall} {text : List ℕ} {more : List OutputCall} {ts : List Token} → Prints call text → ((level : ℕ) → Tokens (text ++ text_of false level more) ts) → Follows false (call ∷ more) ts
+call_is {more = more} {ts = ts} p f = record { at = λ level. subst (λ x. Tokens x ts) (sym (printed_text p level more)) (f level) }
+
+-- a word
+pub word_call : {call : OutputCall} {text : List ℕ} {more : List OutputCall} {ts : List Token} (t : Token) → Prints call text → begins_with_letter text ≡ true → spelled text ≡ Some t → EndsWord more → Follows false more ts → Follows false (call ∷ more) (t ∷ ts)
+word_call {text = text} {more = more} t p letter s ends f = call_is p (λ level. word_at text (text_of false level more) t letter s (ends level) (f.at level))
+
+-- an id
+pub id_call : {call : OutputCall} (label : List ℕ) {more : List OutputCall} {ts : List Token} → Prints call (escaped label) → is_label label ≡ true → EndsWord more → Follows false more ts → Follows false (call ∷ more) (id_token label ∷ ts)
+id_call label {more = more} p h ends f = call_is p (λ level. id_at label (text_of false level more) h (ends level) (f.at level))
+
+-- a text that begins with what is no part of a word
+pub no_word : {call : OutputCall} {c : ℕ} {cs : List ℕ} → Prints call (c ∷ cs) → is_label_byte c ≡ false → (more : List OutputCall) → EndsWord (call ∷ more)
+no_word p h more level = ap ends_word (printed_text p level more) ∙ ap not h
+
+-- a mark
+pub less_call : {call : OutputCall} {more : List OutputCall} {ts : List Token} → Prints call (60 ∷ []) → Follows false more ts → Follows false (call ∷ more) (Punctuation Less ∷ ts)
+less_call p f = call_is p (λ level. less (f.at level))
+
+-- whether the call indents, if it may stand where a line has just begun
+abbrev pub indents : OutputCall → Bool
+indents (PushStr text) = false
+indents IndentStart = false
+indents Newline = false
+indents call = true
+
+blanks_in_front : (begun : Bool) (level : ℕ) {rest : List ℕ} {ts : List Token} → Tokens rest ts → Tokens (front_of begun level ++ rest) ts
+blanks_in_front true level more = blanks_at (2 * level) more
+blanks_in_front false level more = more
+
+-- The same tokens where a line has just begun.
+pub line_begins : (call : OutputCall) {more : List OutputCall} {ts : List Token} → indents call ≡ true → Follows false (call ∷ more) ts → Follows true (call ∷ more) ts
+line_begins (PushStr text) h f = absurd cc
+line_begins IndentStart h f = absurd cc
+line_begins Newline h f = absurd cc
+line_begins IndentIfNeeded h f = record { at = λ level. blanks_in_front true level (f.at level) }
+line_begins IndentEnd h f = record { at = λ level. blanks_in_front true (level - 1) (f.at level) }
+line_begins (IndentAndPrint text) h f = record { at = λ level. blanks_in_front true level (f.at level) }
+line_begins (Keyword text) h f = record { at = λ level. blanks_in_front true level (f.at level) }
+line_begins (Ty text kind) h f = record { at = λ level. blanks_in_front true level (f.at level) }
+line_begins (Param text) h f = record { at = λ level. blanks_in_front true level (f.at level) }
+line_begins (Case text) h f = record { at = λ level. blanks_in_front true level (f.at level) }
+line_begins GenericArgsStart h f = record { at = λ level. blanks_in_front true level (f.at level) }
+line_begins GenericArgsEnd h f = record { at = λ level. blanks_in_front true level (f.at level) }
+line_begins (Doc line) h f = record { at = λ level. blanks_in_front true level (f.at level) }
+line_begins Semicolon h f = record { at = λ level. blanks_in_front true level (f.at level) }
+line_begins (Str text) h f = record { at = λ level. blanks_in_front true level (f.at level) }
+
+-- ---- what ends a type, a signature or an entry
+
+-- What ends what stands before it: the calls go on with these tokens, and no word goes on into them.
+pub record Ended (more : List OutputCall) (tokens : List Token) : Type 0 where
+  pub follows : Follows false more tokens
+  pub word : EndsWord more
+
+-- a comma and a space
+pub comma_call : {more : List OutputCall} {ts : List Token} → Follows false more ts → Ended (Str (codes ", ") ∷ more) (Punctuation Comma ∷ ts)
+comma_call f = record { follows = record { at = λ level. comma (space (f.at level)) }; word = λ level. refl }
+
+-- a line's end
+pub semicolon_call : {more : List OutputCall} {ts : List Token} → Follows true more ts → Ended (Semicolon ∷ more) (Punctuation Semi ∷ ts)
+semicolon_call f = record { follows = record { at = λ level. semi (line_feed (f.at level)) }; word = λ level. refl }
+
+-- a closing angle bracket
+pub greater_call : {call : OutputCall} {more : List OutputCall} {ts : List Token} → Prints call (62 ∷ []) → Follows false more ts → Ended (call ∷ more) (Punctuation Greater ∷ ts)
+greater_call {more = more} p f = record { follows = call_is p (λ level. greater (f.at level)); word = no_word p refl more }
+
+-- a closing parenthesis
+pub paren_call : {more : List OutputCall} {ts : List Token} → Follows false more ts → Ended (Str (codes ")") ∷ more) (Punctuation CloseParen ∷ ts)
+paren_call f = record { follows = record { at = λ level. close_paren (f.at level) }; word = λ level. refl }

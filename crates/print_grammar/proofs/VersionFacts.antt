@@ -1,0 +1,441 @@
+-- The text of a version is one token.
+use Rattle.std.proofs.Common.{◌≡◌, refl, sym, ap, ◌∙◌, subst, ℕ, ◌<◌, ◌^◌, Bool, true, false, ◌&&◌, ◌||◌, ◌==◌, not, List, [], ◌∷◌, ◌++◌, length, Option, Some, None, append-nil, append_assoc, inl, inr, arith, zero, suc, get_or, Ok, Err, Result, nat_lt, unwrap_or}
+use Rattle.std.specs.Option.{option_map, option_map_or}
+use Rattle.std.specs.Prelude.{is_ok}
+use Rattle.std.specs.Char.{is_ascii_alphabetic, is_ascii_digit, digit_value}
+use Rattle.std.specs.Fmt.{decimal}
+use Rattle.std.specs.List.{list_all, onto_first, All}
+use Rattle.std.specs.Str.Parse.{AllDigits}
+use Rattle.std.proofs.lemmas.Bool.{cases_Bool, eqb-true, lt-ltb}
+use Rattle.std.proofs.lemmas.Bool.Decides.{nat_tests}
+use Rattle.std.proofs.lemmas.Fmt.{decimal_is_IsNumeral, decimal_nonempty, first_decimal, decimal_digit}
+use Rattle.std.proofs.lemmas.List.Folds.{list_all-append}
+use Rattle.std.proofs.lemmas.List.Splits.{slice_split_none, slice_split_at, slice_split-cons_yes, slice_split-cons_no}
+use Rattle.std.proofs.lemmas.List.Sums.{AllPass-from_list_all}
+use Rattle.semver.specs.Grammar.{IsValid, has_leading_zero, is_pre_release, is_build, is_identifier_byte, is_build_identifier, is_pre_identifier}
+use Rattle.semver.specs.Identifiers.{parts_text, marked}
+use Rattle.semver.specs.Order.{is_numeric, parts}
+use Rattle.semver.specs.Parse.{Parts, version_parts}
+use Rattle.semver.specs.declared.error.Error.{Error}
+use Rattle.semver.proofs.Grammar.{version_parts-sound}
+use Rattle.wit_model.specs.Names.{cut, is_version_text}
+use Rattle.print_grammar.specs.Token.{Token, Tokens, spelled, is_blank, begins_comment, is_numeral, are_three_numerals, is_version_core, is_given, is_version_number, is_semantic_version, number_token}
+use Rattle.print_grammar.proofs.ByteTests.{both, left_of, right_of, or_left, refuted, weaker_all, all_but_one, parts_pass}
+use Rattle.print_grammar.proofs.TokenFacts.{NoToken, EndsToken, ends_by, ends_by_two, token_at}
+
+-- ---- what stands before and after a byte
+
+not_true : (b : Bool) → not b ≡ true → b ≡ false
+not_true true h = cc
+not_true false h = refl
+
+cut-none : (c : ℕ) (xs : List ℕ) → list_all (λ b. not (b == c)) xs ≡ true → cut c xs ≡ None
+unfolding cut
+cut-none c [] h = refl
+cut-none c (x ∷ xs) h =
+    let e : (x == c) ≡ false = not_true _ (left_of _ _ h) in
+    rw (e, cut-none c xs (right_of (not (x == c)) _ h)) refl
+
+cut-at : (c : ℕ) (xs ys : List ℕ) → (c == c) ≡ true → list_all (λ b. not (b == c)) xs ≡ true → cut c (xs ++ c ∷ ys) ≡ Some (xs, ys)
+unfolding cut
+cut-at c [] ys same h = rw same refl
+cut-at c (x ∷ xs) ys same h =
+    let e : (x == c) ≡ false = not_true _ (left_of _ _ h) in
+    rw (e, cut-at c xs ys same (right_of (not (x == c)) _ h)) refl
+
+given_pair : (p q : List ℕ × List ℕ) → ◌≡◌ {A = Option (List ℕ × List ℕ)} (Some p) (Some q) → p ≡ q
+given_pair p q e = ap (λ (o : Option (List ℕ × List ℕ)). unwrap_or o p) e
+
+cut-sound : (c : ℕ) (text : List ℕ) (p : List ℕ × List ℕ) → cut c text ≡ Some p → text ≡ p.0 ++ c ∷ p.1
+unfolding cut
+cut-sound c [] p e = cc e
+cut-sound c (x ∷ xs) p e = elim (cases_Bool (x == c)) [
+  | inl same ↦ ap (λ b. b ∷ xs) (eqb-true x c same) ∙ ap (λ (q : List ℕ × List ℕ). q.0 ++ c ∷ q.1) (given_pair ([], xs) p (rw same at e))
+  | inr other ↦ go (cut-sound c xs) (cut c xs) refl (rw other at e)
+]
+  where
+    go : ((q : List ℕ × List ℕ) → cut c xs ≡ Some q → xs ≡ q.0 ++ c ∷ q.1) → (o : Option (List ℕ × List ℕ)) → cut c xs ≡ o → option_map (λ (q : List ℕ × List ℕ). (x ∷ q.0, q.1)) o ≡ Some p → x ∷ xs ≡ p.0 ++ c ∷ p.1
+    go sound None f g = cc g
+    go sound (Some q) f g = ap (λ b. x ∷ b) (sound q f) ∙ ap (λ (r : List ℕ × List ℕ). r.0 ++ c ∷ r.1) (given_pair (x ∷ q.0, q.1) p g)
+
+-- ---- the bytes of a version
+
+-- a letter, a digit, or one of `-`, `.` and `+`
+abbrev pub is_version_byte : ℕ → Bool
+is_version_byte b = ((is_identifier_byte b || (b == 46)) || (b == 45)) || (b == 43)
+
+digit_byte : (b : ℕ) → is_ascii_digit b ≡ true → is_identifier_byte b ≡ true
+digit_byte b h = grind (arith, nat_tests)
+
+identifier_version : (b : ℕ) → (is_identifier_byte b || (b == 46)) ≡ true → is_version_byte b ≡ true
+identifier_version b h = or_left _ _ (or_left _ _ h)
+
+build_bytes : (text : List ℕ) → is_build text ≡ true → list_all is_version_byte text ≡ true
+build_bytes [] h = refl
+build_bytes (b ∷ bs) h =
+    weaker_all _ is_version_byte identifier_version (b ∷ bs)
+    (parts_pass is_identifier_byte 46 (b ∷ bs) (weaker_all is_build_identifier _ (λ part e. right_of (nat_lt 0 (length part)) _ e) (parts (b ∷ bs)) h))
+
+pre_release_bytes : (text : List ℕ) → is_pre_release text ≡ true → list_all is_version_byte text ≡ true
+pre_release_bytes [] h = refl
+pre_release_bytes (b ∷ bs) h =
+    weaker_all _ is_version_byte identifier_version (b ∷ bs)
+    (parts_pass is_identifier_byte 46 (b ∷ bs) (weaker_all is_pre_identifier _ (λ part e. right_of (nat_lt 0 (length part)) _ (left_of (is_build_identifier part) _ e)) (parts (b ∷ bs)) h))
+
+numeral_bytes : (text : List ℕ) → is_numeral text ≡ true → list_all is_identifier_byte text ≡ true
+numeral_bytes text h = weaker_all is_ascii_digit _ digit_byte text (left_of (is_numeric text) _ (right_of (nat_lt 0 (length text)) _ h))
+
+numerals_bytes : (texts : List (List ℕ)) → are_three_numerals texts ≡ true → list_all (list_all is_identifier_byte) texts ≡ true
+numerals_bytes [] h = refl
+numerals_bytes (a ∷ []) h = absurd cc
+numerals_bytes (a ∷ b ∷ []) h = absurd cc
+numerals_bytes (a ∷ b ∷ c ∷ []) h =
+    both _ _ (numeral_bytes a (left_of _ _ h))
+    (both _ _ (numeral_bytes b (left_of _ _ (right_of (is_numeral a) _ h)))
+    (both _ _ (numeral_bytes c (right_of (is_numeral b) _ (right_of (is_numeral a) _ h))) refl))
+numerals_bytes (a ∷ b ∷ c ∷ d ∷ more) h = absurd cc
+
+core_bytes : (text : List ℕ) → is_version_core text ≡ true → list_all is_version_byte text ≡ true
+core_bytes text h =
+    weaker_all _ is_version_byte identifier_version text
+    (parts_pass is_identifier_byte 46 text (numerals_bytes (parts text) h))
+
+-- a test that each byte on both sides of a cut passes, and the byte at which it is cut
+cut_pass : (P : ℕ → Bool) (c : ℕ) (text : List ℕ) (p : List ℕ × List ℕ) → cut c text ≡ Some p → P c ≡ true → list_all P p.0 ≡ true → list_all P p.1 ≡ true → list_all P text ≡ true
+cut_pass P c text p e here front back =
+    ap (list_all P) (cut-sound c text p e) ∙ (list_all-append P p.0 (c ∷ p.1) ∙ both _ _ front (both _ _ here back))
+
+number_bytes : (text : List ℕ) → is_version_number text ≡ true → list_all is_version_byte text ≡ true
+number_bytes text h = go (cut 45 text) refl h
+  where
+    go : (o : Option (List ℕ × List ℕ)) → cut 45 text ≡ o → option_map_or (λ (p : List ℕ × List ℕ). is_version_core p.0 && is_given is_pre_release p.1) o (is_version_core text) ≡ true → list_all is_version_byte text ≡ true
+    go None e g = core_bytes text g
+    go (Some p) e g =
+        cut_pass is_version_byte 45 text p e refl (core_bytes p.0 (left_of _ _ g))
+        (pre_release_bytes p.1 (right_of (nat_lt 0 (length p.1)) _ (right_of (is_version_core p.0) _ g)))
+
+version_bytes : (text : List ℕ) → is_semantic_version text ≡ true → list_all is_version_byte text ≡ true
+version_bytes text h = go (cut 43 text) refl h
+  where
+    go : (o : Option (List ℕ × List ℕ)) → cut 43 text ≡ o → option_map_or (λ (p : List ℕ × List ℕ). is_version_number p.0 && is_given is_build p.1) o (is_version_number text) ≡ true → list_all is_version_byte text ≡ true
+    go None e g = number_bytes text g
+    go (Some p) e g =
+        cut_pass is_version_byte 43 text p e refl (number_bytes p.0 (left_of _ _ g))
+        (build_bytes p.1 (right_of (nat_lt 0 (length p.1)) _ (right_of (is_version_number p.0) _ g)))
+
+-- ---- the text of a version's parts
+
+glyph_digit : (c : ℕ) → digit_value c < 10 → is_ascii_digit c ≡ true
+glyph_digit c h = grind (arith, nat_tests)
+
+all_digits : (text : List ℕ) → AllDigits 10 text → is_numeric text ≡ true
+all_digits [] h = refl
+all_digits (c ∷ cs) h = both _ _ (glyph_digit c h.0) (all_digits cs h.1)
+
+decimal_digits : (n : ℕ) → n < 2 ^ 64 → is_numeric (decimal n) ≡ true
+decimal_digits n h = all_digits (decimal n) (decimal_is_IsNumeral n h).0.1
+
+no_zero_first : (text : List ℕ) → 48 < get_or text 0 0 → has_leading_zero text ≡ false
+no_zero_first [] h = refl
+no_zero_first (c ∷ cs) h = let e : (c == 48) ≡ false = grind (arith, nat_tests) in rw e refl
+
+no_leading_zero : (n : ℕ) → n < 2 ^ 64 → has_leading_zero (decimal n) ≡ false
+no_leading_zero zero h = ap has_leading_zero (decimal_digit 0 (omega arith))
+no_leading_zero (suc n) h = no_zero_first (decimal (suc n)) (first_decimal (suc n) (omega arith) h)
+
+decimal_numeral : (n : ℕ) → n < 2 ^ 64 → is_numeral (decimal n) ≡ true
+decimal_numeral n h =
+    let some : nat_lt 0 (length (decimal n)) ≡ true = lt-ltb _ _ (decimal_nonempty n h) in
+    both _ _ some (both _ _ (decimal_digits n h) (ap not (no_leading_zero n h)))
+
+none_is : (c : ℕ) (p : ℕ → Bool) → ((b : ℕ) → p b ≡ true → (b == c) ≡ false) → (text : List ℕ) → list_all p text ≡ true → All (λ b. (b == c) ≡ false) text
+none_is c p apart text h = λ k d below. apart _ (AllPass-from_list_all p text h k d below)
+
+digit_no_dot : (b : ℕ) → is_ascii_digit b ≡ true → (b == 46) ≡ false
+digit_no_dot b h = grind (arith, nat_tests)
+
+-- the three numbers of a version
+abbrev core_text : Parts → List ℕ
+core_text p = decimal p.0 ++ (46 ∷ (decimal p.1 ++ (46 ∷ decimal p.2)))
+
+core_parts : (p : Parts) → IsValid p → parts (core_text p) ≡ decimal p.0 ∷ decimal p.1 ∷ decimal p.2 ∷ []
+core_parts p v =
+    slice_split_at (λ b. b == 46) (decimal p.0) 46 (decimal p.1 ++ (46 ∷ decimal p.2)) (none_is 46 is_ascii_digit digit_no_dot _ (decimal_digits p.0 v.0)) refl
+    ∙ (ap (λ rest. decimal p.0 ∷ rest) (slice_split_at (λ b. b == 46) (decimal p.1) 46 (decimal p.2) (none_is 46 is_ascii_digit digit_no_dot _ (decimal_digits p.1 v.1)) refl)
+    ∙ ap (λ rest. decimal p.0 ∷ decimal p.1 ∷ rest) (slice_split_none (λ b. b == 46) (decimal p.2) (none_is 46 is_ascii_digit digit_no_dot _ (decimal_digits p.2 v.2))))
+
+core_is_core : (p : Parts) → IsValid p → is_version_core (core_text p) ≡ true
+core_is_core p v =
+    ap are_three_numerals (core_parts p v) ∙ both _ _ (decimal_numeral p.0 v.0) (both _ _ (decimal_numeral p.1 v.1) (decimal_numeral p.2 v.2))
+
+digit_no_mark : (b : ℕ) → is_ascii_digit b ≡ true → (not (b == 45) && not (b == 43)) ≡ true
+digit_no_mark b h = grind (arith, nat_tests)
+
+-- neither `-` nor `+`
+abbrev is_unmarked : ℕ → Bool
+is_unmarked b = not (b == 45) && not (b == 43)
+
+core_unmarked : (p : Parts) → IsValid p → list_all is_unmarked (core_text p) ≡ true
+core_unmarked p v =
+    let digits : (n : ℕ) → n < 2 ^ 64 → list_all is_unmarked (decimal n) ≡ true = λ n h. weaker_all is_ascii_digit is_unmarked digit_no_mark (decimal n) (decimal_digits n h) in
+    list_all-append is_unmarked (decimal p.0) (46 ∷ (decimal p.1 ++ (46 ∷ decimal p.2)))
+    ∙ both _ _ (digits p.0 v.0) (list_all-append is_unmarked (decimal p.1) (46 ∷ decimal p.2) ∙ both _ _ (digits p.1 v.1) (digits p.2 v.2))
+
+identifier_no_plus : (b : ℕ) → (is_identifier_byte b || (b == 46)) ≡ true → not (b == 43) ≡ true
+identifier_no_plus b h = grind (arith, nat_tests)
+
+pre_release_no_plus : (text : List ℕ) → is_pre_release text ≡ true → list_all (λ b. not (b == 43)) text ≡ true
+pre_release_no_plus [] h = refl
+pre_release_no_plus (b ∷ bs) h =
+    weaker_all _ (λ x. not (x == 43)) identifier_no_plus (b ∷ bs)
+    (parts_pass is_identifier_byte 46 (b ∷ bs) (weaker_all is_pre_identifier _ (λ part e. right_of (nat_lt 0 (length part)) _ (left_of (is_build_identifier part) _ e)) (parts (b ∷ bs)) h))
+
+-- the text before the build metadata
+abbrev number_text : Parts → List ℕ
+number_text p = core_text p ++ marked 45 p.3
+
+number_no_plus : (p : Parts) → IsValid p → list_all (λ b. not (b == 43)) (number_text p) ≡ true
+number_no_plus p v =
+    list_all-append (λ b. not (b == 43)) (core_text p) (marked 45 p.3)
+    ∙ both _ _ (weaker_all is_unmarked _ (λ b h. right_of (not (b == 45)) _ h) (core_text p) (core_unmarked p v)) (mark p.3 v.3)
+  where
+    mark : (text : List ℕ) → is_pre_release text ≡ true → list_all (λ b. not (b == 43)) (marked 45 text) ≡ true
+    mark [] h = refl
+    mark (b ∷ bs) h = pre_release_no_plus (b ∷ bs) h
+
+number_is_number : (p : Parts) → IsValid p → is_version_number (number_text p) ≡ true
+number_is_number p v = go p.3 v.3
+  where
+    unmarked : list_all (λ b. not (b == 45)) (core_text p) ≡ true
+    unmarked = weaker_all is_unmarked _ (λ b h. left_of _ _ h) (core_text p) (core_unmarked p v)
+
+    go : (text : List ℕ) → is_pre_release text ≡ true → is_version_number (core_text p ++ marked 45 text) ≡ true
+    go [] h = ap is_version_number (append-nil (core_text p)) ∙ rw (cut-none 45 (core_text p) unmarked) (core_is_core p v)
+    go (b ∷ bs) h = rw (cut-at 45 (core_text p) (b ∷ bs) refl unmarked) (both _ _ (core_is_core p v) (both _ _ (lt-ltb 0 (suc (length bs)) (omega arith)) h))
+
+parts_joined : (p : Parts) → parts_text p ≡ number_text p ++ marked 43 p.4
+parts_joined p = simp append_assoc
+
+-- The text of the parts of a version is a version.
+pub parts_are_version : (p : Parts) → IsValid p → is_semantic_version (parts_text p) ≡ true
+parts_are_version p v = ap is_semantic_version (parts_joined p) ∙ go p.4 v.4
+  where
+    go : (text : List ℕ) → is_build text ≡ true → is_semantic_version (number_text p ++ marked 43 text) ≡ true
+    go [] h = ap is_semantic_version (append-nil (number_text p)) ∙ rw (cut-none 43 (number_text p) (number_no_plus p v)) (number_is_number p v)
+    go (b ∷ bs) h = rw (cut-at 43 (number_text p) (b ∷ bs) refl (number_no_plus p v)) (both _ _ (number_is_number p v) (both _ _ (lt-ltb 0 (suc (length bs)) (omega arith)) h))
+
+-- ---- the token
+
+-- no version has another byte
+no_version : (front : List ℕ) (c : ℕ) (more : List ℕ) → is_version_byte c ≡ false → is_semantic_version ((front ++ c ∷ []) ++ more) ≡ false
+no_version front c more h = refuted _ (λ e. all_but_one is_version_byte front c more h (version_bytes ((front ++ c ∷ []) ++ more) e))
+
+no_digit : (c : ℕ) → is_version_byte c ≡ false → is_ascii_digit c ≡ false
+no_digit c h = grind (arith, nat_tests)
+
+no_number : (front : List ℕ) (c : ℕ) (more : List ℕ) → is_version_byte c ≡ false → is_numeric ((front ++ c ∷ []) ++ more) ≡ false
+no_number front c more h = refuted _ (λ e. all_but_one is_ascii_digit front c more (no_digit c h) e)
+
+-- whether what follows a dot goes on with a version
+abbrev no_version_next : List ℕ → Bool
+no_version_next [] = false
+no_version_next (d ∷ ds) = not (is_version_byte d)
+
+-- whether a version that stands before this text ends there: another byte follows, or a dot and then another byte
+abbrev pub ends_version : List ℕ → Bool
+ends_version [] = true
+ends_version (c ∷ cs) = not (is_version_byte c) || ((c == 46) && no_version_next cs)
+
+-- ---- no version ends in a dot
+
+after_first_part : List (List ℕ) → List (List ℕ)
+after_first_part [] = []
+after_first_part (part ∷ ps) = ps
+
+onto_first_after : (x : ℕ) (ps : List (List ℕ)) → after_first_part (onto_first x ps) ≡ after_first_part ps
+unfolding after_first_part
+onto_first_after x [] = refl
+onto_first_after x (part ∷ ps) = refl
+
+fewer_parts : (P : List ℕ → Bool) (ps : List (List ℕ)) → list_all P ps ≡ true → list_all P (after_first_part ps) ≡ true
+unfolding after_first_part
+fewer_parts P [] h = refl
+fewer_parts P (part ∷ ps) h = right_of (P part) _ h
+
+-- the part after a dot at the end is empty
+last_part : (P : List ℕ → Bool) (text : List ℕ) → list_all P (after_first_part (parts (text ++ 46 ∷ []))) ≡ true → P [] ≡ true
+unfolding after_first_part
+last_part P [] h = left_of _ _ h
+last_part P (x ∷ xs) h = elim (cases_Bool (x == 46)) [
+  | inl dot ↦
+      let e = ap (λ ps. list_all P (after_first_part ps)) (slice_split-cons_yes (λ b. b == 46) x (xs ++ 46 ∷ []) dot) in
+      last_part P xs (fewer_parts P (parts (xs ++ 46 ∷ [])) (sym e ∙ h))
+  | inr other ↦
+      let e = ap (λ ps. list_all P (after_first_part ps)) (slice_split-cons_no (λ b. b == 46) x (xs ++ 46 ∷ []) other) in
+      let f = ap (list_all P) (onto_first_after x (parts (xs ++ 46 ∷ []))) in
+      last_part P xs (sym f ∙ (sym e ∙ h))
+]
+
+no_empty_last : (P : List ℕ → Bool) (text : List ℕ) → P [] ≡ false → list_all P (parts (text ++ 46 ∷ [])) ≡ true → ⊥
+no_empty_last P text e h = let f = last_part P text (fewer_parts P (parts (text ++ 46 ∷ [])) h) in cc
+
+three_pass : (texts : List (List ℕ)) → are_three_numerals texts ≡ true → list_all is_numeral texts ≡ true
+three_pass [] h = refl
+three_pass (a ∷ []) h = absurd cc
+three_pass (a ∷ b ∷ []) h = absurd cc
+three_pass (a ∷ b ∷ c ∷ []) h = both _ _ (left_of _ _ h) (both _ _ (left_of _ _ (right_of (is_numeral a) _ h)) (both _ _ (right_of (is_numeral b) _ (right_of (is_numeral a) _ h)) refl))
+three_pass (a ∷ b ∷ c ∷ d ∷ more) h = absurd cc
+
+core_no_dot : (text : List ℕ) → is_version_core (text ++ 46 ∷ []) ≡ false
+core_no_dot text = refuted _ (λ h. no_empty_last is_numeral text refl (three_pass (parts (text ++ 46 ∷ [])) h))
+
+pre_release_no_dot : (text : List ℕ) → is_pre_release (text ++ 46 ∷ []) ≡ false
+pre_release_no_dot [] = refl
+pre_release_no_dot (x ∷ xs) = refuted _ (λ h. no_empty_last is_pre_identifier (x ∷ xs) refl h)
+
+build_no_dot : (text : List ℕ) → is_build (text ++ 46 ∷ []) ≡ false
+build_no_dot [] = refl
+build_no_dot (x ∷ xs) = refuted _ (λ h. no_empty_last is_build_identifier (x ∷ xs) refl h)
+
+-- a dot at the end stays behind the cut
+with_dot : List ℕ × List ℕ → List ℕ × List ℕ
+with_dot p = (p.0, p.1 ++ 46 ∷ [])
+
+moved_in : (x : ℕ) (o : Option (List ℕ × List ℕ)) → option_map (λ (p : List ℕ × List ℕ). (x ∷ p.0, p.1)) (option_map with_dot o) ≡ option_map with_dot (option_map (λ (p : List ℕ × List ℕ). (x ∷ p.0, p.1)) o)
+unfolding with_dot
+moved_in x None = refl
+moved_in x (Some p) = refl
+
+cut_dot : (c : ℕ) (text : List ℕ) → (46 == c) ≡ false → cut c (text ++ 46 ∷ []) ≡ option_map with_dot (cut c text)
+unfolding cut with_dot
+cut_dot c [] e = rw e refl
+cut_dot c (x ∷ xs) e = elim (cases_Bool (x == c)) [
+  | inl here ↦ rw here refl
+  | inr other ↦ rw other (ap (option_map (λ (p : List ℕ × List ℕ). (x ∷ p.0, p.1))) (cut_dot c xs e) ∙ moved_in x (cut c xs))
+]
+
+and_false : (a b : Bool) → b ≡ false → (a && b) ≡ false
+and_false true b e = e
+and_false false b e = refl
+
+number_no_dot : (text : List ℕ) → is_version_number (text ++ 46 ∷ []) ≡ false
+unfolding with_dot
+number_no_dot text = ap (λ o. option_map_or (λ (p : List ℕ × List ℕ). is_version_core p.0 && is_given is_pre_release p.1) o (is_version_core (text ++ 46 ∷ []))) (cut_dot 45 text refl) ∙ go (cut 45 text)
+  where
+    go : (o : Option (List ℕ × List ℕ)) → option_map_or (λ (p : List ℕ × List ℕ). is_version_core p.0 && is_given is_pre_release p.1) (option_map with_dot o) (is_version_core (text ++ 46 ∷ [])) ≡ false
+    go None = core_no_dot text
+    go (Some p) = and_false (is_version_core p.0) _ (and_false (nat_lt 0 (length (p.1 ++ 46 ∷ []))) _ (pre_release_no_dot p.1))
+
+version_no_dot : (text : List ℕ) → is_semantic_version (text ++ 46 ∷ []) ≡ false
+unfolding with_dot
+version_no_dot text = ap (λ o. option_map_or (λ (p : List ℕ × List ℕ). is_version_number p.0 && is_given is_build p.1) o (is_version_number (text ++ 46 ∷ []))) (cut_dot 43 text refl) ∙ go (cut 43 text)
+  where
+    go : (o : Option (List ℕ × List ℕ)) → option_map_or (λ (p : List ℕ × List ℕ). is_version_number p.0 && is_given is_build p.1) (option_map with_dot o) (is_version_number (text ++ 46 ∷ [])) ≡ false
+    go None = number_no_dot text
+    go (Some p) = and_false (is_version_number p.0) _ (and_false (nat_lt 0 (length (p.1 ++ 46 ∷ []))) _ (build_no_dot p.1))
+
+digit_no_letter : (c : ℕ) → is_ascii_digit c ≡ true → is_ascii_alphabetic c ≡ false
+digit_no_letter c h = grind (arith, nat_tests)
+
+digit_no_blank : (c : ℕ) → is_ascii_digit c ≡ true → is_blank c ≡ false
+digit_no_blank c h = grind (arith, nat_tests)
+
+digit_no_slash : (c : ℕ) → is_ascii_digit c ≡ true → (c == 47) ≡ false
+digit_no_slash c h = grind (arith, nat_tests)
+
+number_spelled : (c : ℕ) (cs : List ℕ) → is_ascii_digit c ≡ true → spelled (c ∷ cs) ≡ number_token (c ∷ cs)
+number_spelled c cs h = rw (digit_no_letter c h, h, spelled) refl
+
+no_number_token : (text : List ℕ) → is_numeric text ≡ false → is_semantic_version text ≡ false → number_token text ≡ None
+no_number_token text e f = rw (e, f, number_token) refl
+
+version_token : (text : List ℕ) → is_numeric text ≡ false → is_semantic_version text ≡ true → number_token text ≡ Some (Token.VersionText text)
+version_token text e f = rw (e, f, number_token) refl
+
+dot_no_digit : (front more : List ℕ) → is_numeric (front ++ 46 ∷ more) ≡ false
+dot_no_digit front more = refuted _ (λ e. no (right_of (is_numeric front) _ (sym (list_all-append is_ascii_digit front (46 ∷ more)) ∙ e)))
+  where
+    no : is_numeric (46 ∷ more) ≡ true → ⊥
+    no h = cc
+
+other_ends : (c : ℕ) (cs : List ℕ) (d : ℕ) → is_ascii_digit c ≡ true → is_version_byte d ≡ false → NoToken ((c ∷ cs) ++ d ∷ [])
+other_ends c cs d digit e more =
+    number_spelled c ((cs ++ d ∷ []) ++ more) digit ∙ no_number_token ((c ∷ cs ++ d ∷ []) ++ more) (no_number (c ∷ cs) d more e) (no_version (c ∷ cs) d more e)
+
+dot_ends : (c : ℕ) (cs : List ℕ) → is_ascii_digit c ≡ true → spelled ((c ∷ cs) ++ 46 ∷ []) ≡ None
+dot_ends c cs digit = number_spelled c (cs ++ 46 ∷ []) digit ∙ no_number_token (c ∷ cs ++ 46 ∷ []) (dot_no_digit (c ∷ cs) []) (version_no_dot (c ∷ cs))
+
+number_ends : (c : ℕ) (cs rest : List ℕ) → is_ascii_digit c ≡ true → ends_version rest ≡ true → EndsToken (c ∷ cs) rest
+number_ends c cs [] digit ends = tt
+number_ends c cs (d ∷ []) digit ends = ends_by (c ∷ cs) d [] (other_ends c cs d digit (not_true _ (no_right _ _ ends)))
+  where
+    no_right : (a b : Bool) → (a || (b && false)) ≡ true → a ≡ true
+    no_right true b h = refl
+    no_right false true h = h
+    no_right false false h = h
+number_ends c cs (d ∷ e ∷ es) digit ends = elim (cases_Bool (is_version_byte d)) [
+  | inl in_version ↦
+      let right : ((d == 46) && not (is_version_byte e)) ≡ true = rw in_version at ends in
+      let same : d ≡ 46 = eqb-true d 46 (left_of _ _ right) in
+      subst (λ x. EndsToken (c ∷ cs) (x ∷ e ∷ es)) (sym same)
+      (ends_by_two (c ∷ cs) 46 e es (dot_ends c cs digit) (other_ends c (cs ++ 46 ∷ []) e digit (not_true _ (right_of (d == 46) _ right))))
+  | inr other ↦ ends_by (c ∷ cs) d (e ∷ es) (other_ends c cs d digit other)
+]
+
+no_comment : (c : ℕ) (cs : List ℕ) → (c == 47) ≡ false → begins_comment (c ∷ cs) ≡ false
+no_comment c cs h = rw h refl
+
+-- a text that begins with a digit
+abbrev begins_with_digit : List ℕ → Bool
+begins_with_digit [] = false
+begins_with_digit (c ∷ cs) = is_ascii_digit c
+
+digits_first : (text more : List ℕ) → is_numeral text ≡ true → begins_with_digit (text ++ more) ≡ true
+digits_first [] more h = absurd cc
+digits_first (c ∷ cs) more h = left_of _ _ (left_of _ _ (right_of (nat_lt 0 (length (c ∷ cs))) _ h))
+
+-- a text that is a version, with what ends it behind it
+digits_at : (text rest : List ℕ) {ts : List Token} → begins_with_digit text ≡ true → is_numeric text ≡ false → is_semantic_version text ≡ true → ends_version rest ≡ true → Tokens rest ts → Tokens (text ++ rest) (Token.VersionText text ∷ ts)
+digits_at [] rest digit e f ends more = absurd cc
+digits_at (c ∷ cs) rest digit e f ends more =
+    token_at c cs rest (Token.VersionText (c ∷ cs)) (digit_no_blank c digit) (no_comment c (cs ++ rest) (digit_no_slash c digit))
+    (number_spelled c cs digit ∙ version_token (c ∷ cs) e f) (number_ends c cs rest digit ends) more
+
+parts_at : (p : Parts) (rest : List ℕ) {ts : List Token} → IsValid p → ends_version rest ≡ true → Tokens rest ts → Tokens (parts_text p ++ rest) (Token.VersionText (parts_text p) ∷ ts)
+parts_at p rest v ends more =
+    digits_at (parts_text p) rest (digits_first (decimal p.0) _ (decimal_numeral p.0 v.0)) (dot_no_digit (decimal p.0) _) (parts_are_version p v) ends more
+
+-- The text of a version, with what is no part of a version behind it, is one token.
+pub version_at : (text rest : List ℕ) {ts : List Token} → is_version_text text ≡ true → ends_version rest ≡ true → Tokens rest ts → Tokens (text ++ rest) (Token.VersionText text ∷ ts)
+version_at text rest {ts} h ends more = go (version_parts text) refl h
+  where
+    go : (r : Result Parts Error) → version_parts text ≡ r → is_ok r ≡ true → Tokens (text ++ rest) (Token.VersionText text ∷ ts)
+    go (Err e) f g = absurd cc
+    go (Ok p) f g =
+        let s = version_parts-sound text p f in
+        subst (λ x. Tokens (x ++ rest) (Token.VersionText x ∷ ts)) s.0 (parts_at p rest s.1 ends more)
+
+number_value : (n : ℕ) → n < 2 ^ 64 → number_token (decimal n) ≡ Some (Token.Digits n)
+number_value n h = rw (decimal_digits n h, number_token) (ap (λ d. Some (Token.Digits d)) (decimal_is_IsNumeral n h).1)
+
+-- The digits of a number, with what is no part of a version behind them, are one token.
+pub number_at : (n : ℕ) (rest : List ℕ) {ts : List Token} → n < 2 ^ 64 → ends_version rest ≡ true → Tokens rest ts → Tokens (decimal n ++ rest) (Token.Digits n ∷ ts)
+number_at n rest {ts} h ends more = go (decimal n) (first (decimal n) (decimal_numeral n h)) (number_value n h)
+  where
+    first : (text : List ℕ) → is_numeral text ≡ true → begins_with_digit text ≡ true
+    first [] e = absurd cc
+    first (c ∷ cs) e = left_of _ _ (left_of _ _ (right_of (nat_lt 0 (length (c ∷ cs))) _ e))
+
+    go : (text : List ℕ) → begins_with_digit text ≡ true → number_token text ≡ Some (Token.Digits n) → Tokens (text ++ rest) (Token.Digits n ∷ ts)
+    go [] digit s = absurd cc
+    go (c ∷ cs) digit s =
+        token_at c cs rest (Token.Digits n) (digit_no_blank c digit) (no_comment c (cs ++ rest) (digit_no_slash c digit))
+        (number_spelled c cs digit ∙ s) (number_ends c cs rest digit ends) more
+
+-- A version of numbers below 2 ^ 64 is a version.
+pub version_is_semantic : (text : List ℕ) → is_version_text text ≡ true → is_semantic_version text ≡ true
+version_is_semantic text h = go (version_parts text) refl h
+  where
+    go : (r : Result Parts Error) → version_parts text ≡ r → is_ok r ≡ true → is_semantic_version text ≡ true
+    go (Err e) f g = absurd cc
+    go (Ok p) f g = let s = version_parts-sound text p f in subst (λ x. is_semantic_version x ≡ true) s.0 (parts_are_version p s.1)

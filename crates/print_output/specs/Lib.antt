@@ -1,0 +1,3 @@
+pub mod OutputCall
+pub mod Render
+pub mod Expansion
