@@ -92,13 +92,8 @@ module _ (q : Text) (k : String Global) (v : StringEncoding) where
       by true same rest = put_first e (under q es) same
       by false other rest = ap (cond (text_eq q (text_of e.0)) (Some e.1)) rest ∙ put_later e (under q es) other
 
-alone : (b : Bool) → b ≡ (b || false)
-alone true = refl
-alone false = refl
-
 -- an entry put is an encoding put
-pub puts : (es fs : Entries) (k : String Global) (v : StringEncoding) → fs ≡ insert_entry string_eq es k v → Puts (text_of k ∷ []) v (kept_encodings es) (kept_encodings fs)
+pub puts : (es fs : Entries) (k : String Global) (v : StringEncoding) → fs ≡ insert_entry string_eq es k v → Puts ((text_of k, v) ∷ []) (kept_encodings es) (kept_encodings fs)
 puts es fs k v h q =
     kept_at q fs ∙ ap (under q) h ∙ under_put q k v es
-    ∙ ap (λ b. cond b (Some v) (under q es)) (alone (text_eq q (text_of k)))
-    ∙ ap (cond (text_eq q (text_of k) || false) (Some v)) (sym (kept_at q es))
+    ∙ ap (cond (text_eq q (text_of k)) (Some v)) (sym (kept_at q es))

@@ -31,37 +31,21 @@ nothing_behind : (xs : Text) → xs ++ [] ≡ xs
 nothing_behind [] = refl
 nothing_behind (x ∷ xs) = ap (λ ys. x ∷ ys) (nothing_behind xs)
 
+-- one text after another: nothing follows where the first isn't there, and else what follows the second
+pub then_none : (p q t : Text) → None ≡ after_prefix p t → None ≡ after_prefix (p ++ q) t
+then_none p q t h = ap (option_and_then (after_prefix q)) h ∙ sym (after_both p q t)
+
+pub then_some : (p q t first : Text) (rest : Option Text) → Some first ≡ after_prefix p t → rest ≡ after_prefix q first → rest ≡ after_prefix (p ++ q) t
+then_some p q t first rest found h = h ∙ ap (option_and_then (after_prefix q)) found ∙ sym (after_both p q t)
+
 -- the parts of a path and a slash
-pub path_parts : (space name interface : Text) → (space ++ (58 ∷ [])) ++ ((name ++ (47 ∷ [])) ++ (interface ++ (47 ∷ []))) ≡ path_in (record { namespace = space; name = name; version = None }) interface ++ (47 ∷ [])
-path_parts space name interface =
-    append_assoc space (58 ∷ []) _
-    ∙ ap (λ t. space ++ (58 ∷ t)) (append_assoc name (47 ∷ []) _ ∙ ap (λ t. name ++ (47 ∷ (t ++ (47 ∷ [])))) (sym (nothing_behind interface)))
-    ∙ ap (λ t. space ++ (58 ∷ t)) (sym (append_assoc name (47 ∷ (interface ++ [])) (47 ∷ [])))
-    ∙ sym (append_assoc space (58 ∷ (name ++ (47 ∷ (interface ++ [])))) (47 ∷ []))
-
--- what follows a path and a slash, part after part
-module _ (space name interface t : Text) where
-  parts : option_and_then (λ b. option_and_then (after_slash interface) (after_slash name b)) (after_prefix (space ++ (58 ∷ [])) t)
-      ≡ after_slash (path_in (record { namespace = space; name = name; version = None }) interface) t
-  parts =
-      ap (λ f. option_and_then f (after_prefix (space ++ (58 ∷ [])) t)) (λ i b. sym (after_both (name ++ (47 ∷ [])) (interface ++ (47 ∷ [])) b) i)
-      ∙ sym (after_both (space ++ (58 ∷ [])) ((name ++ (47 ∷ [])) ++ (interface ++ (47 ∷ []))) t)
-      ∙ ap (λ p. after_prefix p t) (path_parts space name interface)
-
-  pub parts_none : None ≡ after_prefix (space ++ (58 ∷ [])) t → None ≡ after_slash (path_in (record { namespace = space; name = name; version = None }) interface) t
-  parts_none h = ap (option_and_then (λ b. option_and_then (after_slash interface) (after_slash name b))) h ∙ parts
-
-  module _ (first : Text) (found : Some first ≡ after_prefix (space ++ (58 ∷ [])) t) where
-    pub parts_none_then : None ≡ after_slash name first → None ≡ after_slash (path_in (record { namespace = space; name = name; version = None }) interface) t
-    parts_none_then h =
-        ap (option_and_then (after_slash interface)) h
-        ∙ ap (option_and_then (λ b. option_and_then (after_slash interface) (after_slash name b))) found ∙ parts
-
-  pub parts_found : (first second : Text) (rest : Option Text) → Some first ≡ after_prefix (space ++ (58 ∷ [])) t → Some second ≡ after_slash name first → rest ≡ after_slash interface second
-      → rest ≡ after_slash (path_in (record { namespace = space; name = name; version = None }) interface) t
-  parts_found first second rest found then last =
-      last ∙ ap (option_and_then (after_slash interface)) then
-      ∙ ap (option_and_then (λ b. option_and_then (after_slash interface) (after_slash name b))) found ∙ parts
+pub path_parts : (space name interface end : Text) → ((space ++ (58 ∷ [])) ++ (name ++ (47 ∷ []))) ++ (interface ++ (end ++ (47 ∷ []))) ≡ (space ++ (58 ∷ (name ++ (47 ∷ (interface ++ end))))) ++ (47 ∷ [])
+path_parts space name interface end =
+    append_assoc (space ++ (58 ∷ [])) (name ++ (47 ∷ [])) _
+    ∙ append_assoc space (58 ∷ []) _
+    ∙ ap (λ t. space ++ (58 ∷ t)) (append_assoc name (47 ∷ []) _ ∙ ap (λ t. name ++ (47 ∷ t)) (sym (append_assoc interface end (47 ∷ []))))
+    ∙ ap (λ t. space ++ (58 ∷ t)) (sym (append_assoc name (47 ∷ (interface ++ end)) (47 ∷ [])))
+    ∙ sym (append_assoc space (58 ∷ (name ++ (47 ∷ (interface ++ end)))) (47 ∷ []))
 
 -- a key is its scope and a slash, and the function's name
 pub key_after : (scope function t : Text) → text_eq (text_under scope function) t ≡ option_map_or (text_eq function) (after_slash scope t) false

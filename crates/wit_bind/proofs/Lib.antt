@@ -4,3 +4,5 @@ pub mod Putting
 pub mod FunctionKeys
 pub mod ValidKeys
 mod Roots
+mod VersionTexts
+mod Sides

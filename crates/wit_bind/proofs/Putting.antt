@@ -1,34 +1,78 @@
--- The encoding put under one key after the other.
-use Rattle.std.proofs.Common.{◌≡◌, refl, sym, ap, ◌∙◌, Bool, true, false, ◌||◌, List, [], ◌++◌, cond, Some}
-use Rattle.std.specs.List.{list_any}
-use Rattle.std.proofs.lemmas.List.Folds.{list_any-append}
+-- Encodings put under one key after the other.
+use Rattle.std.proofs.Common.{◌≡◌, refl, sym, ap, ◌∙◌, ◌⊎◌, inl, inr, arith, ℕ, zero, suc, Bool, true, false, List, [], ◌∷◌, ◌++◌, cond, Option, Some, None, option_to_list}
+use Rattle.std.specs.List.{Contains, cons_option}
 use Rattle.wit_model.specs.declared.model.StringEncoding.{StringEncoding}
 use Rattle.wit_model.specs.Text.{Text, text_eq}
+use Rattle.wit_model.proofs.AnyOrder.{text-same}
+use Rattle.wit_model.proofs.Elements.{none-in, same-some}
+use Rattle.wit_model.proofs.VersionLaws.{same_text}
 use Rattle.wit_bind.specs.Encodings.{Encodings, encoding_at}
-use Rattle.wit_bind.specs.KeyLists.{Puts, put_at}
+use Rattle.wit_bind.specs.KeyLists.{Entry, Puts, put_all}
 
-either : {X : Type 0} (a b : Bool) (x y : X) → cond b x (cond a x y) ≡ cond (a || b) x y
-either true true x y = refl
-either true false x y = refl
-either false true x y = refl
-either false false x y = refl
+abbrev Look : Type 0
+Look = Text → Option StringEncoding
 
--- what has been put, and then what is put
-module _ (e : StringEncoding) (m n : Encodings) where
-  pub put_on : (first rest : List Text) → Puts first e m n → (k : Text) → put_at rest e n k ≡ put_at (first ++ rest) e m k
-  put_on first rest h k =
-      ap (cond (list_any (text_eq k) rest) (Some e)) (h k)
-      ∙ either (list_any (text_eq k) first) (list_any (text_eq k) rest) (Some e) (encoding_at m k)
-      ∙ ap (λ b. cond b (Some e) (encoding_at m k)) (sym (list_any-append (text_eq k) first rest))
+abbrev put_one : Entry → Look → Look
+put_one x g q = cond (text_eq q x.0) (Some x.1) (g q)
+
+-- what is put tells only what stood there
+same_put : (xs : List Entry) (g h : Look) → ((k : Text) → g k ≡ h k) → (k : Text) → put_all xs g k ≡ put_all xs h k
+same_put [] g h e k = e k
+same_put (x ∷ xs) g h e k = same_put xs (put_one x g) (put_one x h) (λ q. ap (cond (text_eq q x.0) (Some x.1)) (e q)) k
+
+put_more : (xs ys : List Entry) (g : Look) (k : Text) → put_all (xs ++ ys) g k ≡ put_all ys (put_all xs g) k
+put_more [] ys g k = same_put ys g (put_all [] g) (λ q. refl) k
+put_more (x ∷ xs) ys g k = put_more xs ys (put_one x g) k ∙ same_put ys (put_all xs (put_one x g)) (put_all (x ∷ xs) g) (λ q. refl) k
 
 -- So far, all that is left still has to be put on what there is.
-abbrev pub IsLeft : List Text → List Text → StringEncoding → Encodings → Encodings → Type 0
-IsLeft all rest e old now = (k : Text) → put_at rest e now k ≡ put_at all e old k
+abbrev pub IsLeft : List Entry → List Entry → Encodings → Encodings → Type 0
+IsLeft all rest old now = (k : Text) → put_all rest (encoding_at now) k ≡ put_all all (encoding_at old) k
 
 -- one step
-pub left_next : (all first rest : List Text) (e : StringEncoding) (old now next : Encodings) → IsLeft all (first ++ rest) e old now → Puts first e now next → IsLeft all rest e old next
-left_next all first rest e old now next left puts k = put_on e now next first rest puts k ∙ left k
+pub left_next : (all first rest : List Entry) (old now next : Encodings) → IsLeft all (first ++ rest) old now → Puts first now next → IsLeft all rest old next
+left_next all first rest old now next left puts k =
+    same_put rest (encoding_at next) (put_all first (encoding_at now)) puts k ∙ sym (put_more first rest (encoding_at now) k) ∙ left k
+
+-- what is given stands in front
+pub given-front : {A : Type 0} (o : Option A) (rest : List A) → cons_option o rest ≡ option_to_list o ++ rest
+given-front None rest = refl
+given-front (Some x) rest = refl
 
 -- at the end nothing is left
-pub left_none : (all : List Text) (e : StringEncoding) (old now : Encodings) → IsLeft all [] e old now → Puts all e old now
-left_none all e old now left k = left k
+pub left_none : (all : List Entry) (old now : Encodings) → IsLeft all [] old now → Puts all old now
+left_none all old now left k = left k
+
+-- ---- what stands there
+
+-- under a key under which something stood, something stands
+keeps : (es : List Entry) (g : Look) (k : Text) (e : StringEncoding) → g k ≡ Some e → (f : StringEncoding) × (put_all es g k ≡ Some f)
+keeps [] g k e h = (e, h)
+keeps (x ∷ xs) g k e h = by (text_eq k x.0) refl (keeps xs (put_one x g) k)
+  where
+    by : (b : Bool) → text_eq k x.0 ≡ b → ((f : StringEncoding) → put_one x g k ≡ Some f → (f : StringEncoding) × (put_all xs (put_one x g) k ≡ Some f)) → (f : StringEncoding) × (put_all xs (put_one x g) k ≡ Some f)
+    by true s rest = rest x.1 (ap (λ b. cond b (Some x.1) (g k)) s)
+    by false s rest = rest e (ap (λ b. cond b (Some x.1) (g k)) s ∙ h)
+
+-- under each key that is put, something stands
+pub holds : (es : List Entry) (g : Look) (k : Text) (e : StringEncoding) → Contains es (k, e) → (f : StringEncoding) × (put_all es g k ≡ Some f)
+holds [] g k e c = none-in (k, e) c
+holds (x ∷ xs) g k e (zero, l, same) =
+    let here : text_eq k x.0 ≡ true = same_text k x.0 (sym (ap (λ (y : Entry). y.0) same)) in
+    keeps xs (put_one x g) k x.1 (ap (λ b. cond b (Some x.1) (g k)) here)
+holds (x ∷ xs) g k e (suc i, l, same) = holds xs (put_one x g) k e (i, omega (arith, l), same)
+
+-- what stands under a key was put there, or stood there
+pub comes : (es : List Entry) (g : Look) (k : Text) (e : StringEncoding) → put_all es g k ≡ Some e → Contains es (k, e) ⊎ (g k ≡ Some e)
+comes [] g k e h = inr h
+comes (x ∷ xs) g k e h = either (comes xs (put_one x g) k e h)
+  where
+    by : (b : Bool) → text_eq k x.0 ≡ b → cond b (Some x.1) (g k) ≡ Some e → Contains (x ∷ xs) (k, e) ⊎ (g k ≡ Some e)
+    by true s found =
+        let key : x.0 ≡ k = sym (text-same k x.0 s) in
+        let value : x.1 ≡ e = same-some x.1 e found in
+        inl (0, omega arith, λ i. (key i, value i))
+    by false s found = inr found
+
+    either : Contains xs (k, e) ⊎ (put_one x g k ≡ Some e) → Contains (x ∷ xs) (k, e) ⊎ (g k ≡ Some e)
+    either (inl (i, l, same)) = inl (suc i, omega (arith, l), same)
+    either (inr found) = by (text_eq k x.0) refl found

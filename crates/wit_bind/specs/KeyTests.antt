@@ -3,7 +3,10 @@ use Rattle.std.specs.Prelude.{Bool, false, [], ◌∷◌, ◌++◌, Option, opti
 use Rattle.std.specs.Option.{option_map_or}
 use Rattle.wit_model.specs.declared.model.Resolve.{Resolve}
 use Rattle.wit_model.specs.declared.model.WorldKey.{WorldKey}
-use Rattle.wit_model.specs.Text.{Text, text_eq}
+use Rattle.wit_model.specs.declared.model.PackageName.{PackageName}
+use Rattle.wit_model.specs.Lookup.{canonical_identity_of}
+use Rattle.wit_model.specs.Names.{at_version}
+use Rattle.wit_model.specs.Text.{Text, text_eq, text_of}
 use Rattle.wit_model.specs.Rules.{after_prefix}
 use Rattle.wit_bind.specs.Keys.{scope_of, function_key}
 
@@ -14,6 +17,14 @@ after_slash front text = after_prefix (front ++ (47 ∷ [])) text
 -- what follows the scope of a key and a slash
 abbrev pub after_scope : Resolve → WorldKey → Text → Option Text
 after_scope r scope text = option_and_then (λ front. after_slash front text) (scope_of r scope)
+
+-- what follows a package's namespace and name, and a slash
+abbrev pub after_names : PackageName → Text → Option Text
+after_names own text = after_prefix ((text_of own.namespace ++ (58 ∷ [])) ++ (text_of own.name ++ (47 ∷ []))) text
+
+-- what follows the name of an interface, its canonical version and a slash
+abbrev pub after_interface : PackageName → Text → Text → Option Text
+after_interface own name text = after_prefix (name ++ (at_version (canonical_identity_of own).version ++ (47 ∷ []))) text
 
 -- whether a text is the key of a function
 abbrev pub is_key_of : Resolve → WorldKey → Text → Text → Bool

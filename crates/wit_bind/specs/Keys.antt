@@ -1,12 +1,29 @@
--- The keys under which the encodings of functions are kept (documentation of wit-component's `EncodingMap`; WIT.md, "Package declaration").
+-- The keys under which the encodings of functions are kept (documentation of wit-component's `EncodingMap`; WIT.md, "Package declaration"; Semantic
+-- Versioning 2.0.0).
 use Rattle.std.specs.Prelude.{ℕ, ◌∷◌, ◌++◌, Option, Some, None, option_map}
 use Rattle.wit_model.specs.declared.model.Resolve.{Resolve}
 use Rattle.wit_model.specs.declared.model.PackageName.{PackageName}
 use Rattle.wit_model.specs.declared.model.WorldKey.{WorldKey}
 use Rattle.wit_model.specs.declared.model.WorldKey.TheVariants as key
+use Rattle.wit_model.specs.Lookup.{canonical_path}
 use Rattle.wit_model.specs.Text.{Text, text_of}
 use Rattle.wit_model.specs.Names.{PackageIdentity, path_in}
 use Rattle.wit_model.specs.Paths.{full_name}
+
+-- what stands in front of a function: the label under which its interface, or itself, is imported or exported, or the canonical path of its interface
+abbrev pub scope_of : Resolve → WorldKey → Option Text
+scope_of r (key.Name name) = Some (text_of name)
+scope_of r (key.Interface id) = canonical_path r id.0
+
+-- `scope/function`
+abbrev pub text_under : Text → Text → Text
+text_under scope function = scope ++ (47 ∷ function)
+
+-- the key of a function by its name, and none under an interface that has no path
+abbrev pub function_key : Resolve → WorldKey → Text → Option Text
+function_key r scope function = option_map (λ text. text_under text function) (scope_of r scope)
+
+-- ---- keys without version, as maps of earlier tools have them
 
 -- a package without its version
 abbrev pub unversioned : PackageName → PackageIdentity
@@ -16,15 +33,10 @@ unversioned name = record { namespace = text_of name.namespace; name = text_of n
 abbrev pub unversioned_path : Resolve → ℕ → Option Text
 unversioned_path r n = option_map (λ e. path_in (unversioned e.0) (text_of e.1)) (full_name r n)
 
--- what stands in front of a function: the label under which its interface, or itself, is imported or exported, or the path of its interface
-abbrev pub scope_of : Resolve → WorldKey → Option Text
-scope_of r (key.Name name) = Some (text_of name)
-scope_of r (key.Interface id) = unversioned_path r id.0
+abbrev pub unversioned_scope_of : Resolve → WorldKey → Option Text
+unversioned_scope_of r (key.Name name) = Some (text_of name)
+unversioned_scope_of r (key.Interface id) = unversioned_path r id.0
 
--- `scope/function`
-abbrev pub text_under : Text → Text → Text
-text_under scope function = scope ++ (47 ∷ function)
-
--- the key of a function by its name, and none under an interface that has no path
-abbrev pub function_key : Resolve → WorldKey → Text → Option Text
-function_key r scope function = option_map (λ text. text_under text function) (scope_of r scope)
+-- the key of a function without version
+abbrev pub unversioned_key : Resolve → WorldKey → Text → Option Text
+unversioned_key r scope function = option_map (λ text. text_under text function) (unversioned_scope_of r scope)

@@ -5,3 +5,6 @@ pub mod KeyTests
 pub mod KeyLists
 pub mod KeyLaws
 pub mod Roots
+pub mod Versions
+pub mod OldKeys
+pub mod Choices

@@ -1,24 +1,44 @@
 //! String encodings by the keys of functions.
 
-ghost use Rattle.std.specs.Prelude.{◌≡◌, [], ◌∷◌, IfErr, OnErr, OnOk};
+ghost use Rattle.std.specs.Prelude.{◌≡◌, ◌<◌, [], ◌∷◌, length, IfErr, IfOk, OnErr, OnOk};
 ghost use Rattle.std.specs.FinMap.{empty};
+ghost use Rattle.indexmap.specs.IndexMap.{get_by_text};
 ghost use Rattle.wit_model.specs.declared.error.Error.TheVariants.{Memory};
 ghost use Rattle.wit_model.specs.Text.{text_of};
 ghost use Rattle.wit_bind.specs.Keys.{function_key};
 ghost use Rattle.wit_bind.specs.Encodings.{encoding_under};
 ghost use Rattle.wit_bind.specs.KeyLists.{Puts};
+ghost use Rattle.wit_bind.specs.OldKeys.{items_of as items_of_lem, items_on, CarriesOver};
 
 use crate::keys::{is_function_key, short_key};
+use crate::wanted::{Wanted, wanted_encodings};
 use indexmap::IndexMap;
 use std::alloc::Global;
 use std::marker::Model;
-use wit_model::{Error, Resolve, StringEncoding, WorldKey};
+use wit_model::{Error, Map, Resolve, StringEncoding, World, WorldId, WorldItem, WorldKey};
 
 /// The string encodings of functions that are imported, or exported, by their keys. A function item under the label `k` has the key `k/k`; a function
-/// `f` of an interface has `label/f` where the interface stands under a label, and else `namespace:name/interface/f`, without version.
+/// `f` of an interface has `label/f` where the interface stands under a label, and else the canonical path of the interface, a slash and `f`: `a:b/c@0.1/f`
+/// of `a:b/c@0.1.2`. So compatible versions of an interface share an entry, and others have one each.
 #[derive(Drop)]
 pub struct EncodingMap {
     encodings: IndexMap<String, StringEncoding>,
+}
+
+/// What a world imports, or what it exports.
+#[derive(Clone, Copy, PartialEq, Eq)]
+pub enum Side {
+    Imports,
+    Exports,
+}
+
+fn items_of<'a>(world: &'a World, side: Side) -> &'a Map<WorldKey, WorldItem>
+    ensures { result.now.entries ≡ items_of_lem side world.entry.now }
+{
+    match side {
+        Side::Imports => &world.imports,
+        Side::Exports => &world.exports,
+    }
 }
 
 impl Model for EncodingMap {
@@ -39,6 +59,25 @@ impl EncodingMap {
         EncodingMap {
             encodings: IndexMap::new(alloc),
         }
+    }
+
+    /// The encodings that a map under keys without version (`label/f`, `namespace:name/interface/f`) has for the functions of a world's imports, or of its
+    /// exports, under the keys of these functions. Entries of the map that no such function has are dropped.
+    ///
+    /// Takes one pass over the keys of the functions, expected, and as much memory as they do. Refuses `Memory` alone.
+    pub fn from_unversioned(
+        alloc: Global,
+        resolve: &Resolve,
+        world: WorldId,
+        side: Side,
+        unversioned: &IndexMap<String, StringEncoding>,
+    ) -> Result<EncodingMap, Error>
+        requires in_range { world.0 < length resolve.now.worlds.items }
+        ensures carries { IfOk result (CarriesOver (λ t. get_by_text unversioned.now t) resolve.now (items_on side resolve.now world.0)) }
+        ensures refuses { IfErr result (λ e. e ≡ Memory) }
+    {
+        let items = items_of(&resolve.worlds[world.0 as usize], side);
+        wanted_encodings(alloc, resolve, items, &Wanted::Kept(unversioned))
     }
 
     // Goes along the keys, and compares each with the parts of the one that is looked for.
@@ -67,7 +106,7 @@ impl EncodingMap {
 
     /// Puts an encoding under a key. A refusal, `Memory` alone, leaves the map as it was.
     pub(crate) fn put(&mut self, key: String, encoding: StringEncoding) -> Result<(), Error>
-        ensures ok { OnOk result (Puts (text_of key ∷ []) encoding self.old self.new) }
+        ensures ok { OnOk result (Puts ((text_of key, encoding) ∷ []) self.old self.new) }
         ensures err { OnErr result (self.new ≡ self.old) }
         ensures refuses { IfErr result (λ e. e ≡ Memory) }
     {

@@ -3,16 +3,17 @@
 ghost use Rattle.std.specs.Prelude.{◌≡◌, ◌++◌, option_map, IfOk, IfErr, IfSome, Some};
 ghost use Rattle.std.specs.Option.{option_copied};
 ghost use Rattle.wit_model.specs.declared.error.Error.TheVariants.{Memory};
+ghost use Rattle.wit_model.specs.Lookup.{canonical_identity_of};
 ghost use Rattle.wit_model.specs.Text.{optional_text, text_of};
 ghost use Rattle.wit_model.specs.Names.{path_in};
 ghost use Rattle.wit_model.specs.Rules.{after_prefix as after_prefix_lem};
-ghost use Rattle.wit_bind.specs.Keys.{function_key as function_key_lem, scope_of, text_under, unversioned};
-ghost use Rattle.wit_bind.specs.KeyTests.{after_scope as after_scope_lem, after_slash, is_key_of};
+ghost use Rattle.wit_bind.specs.Keys.{function_key as function_key_lem, scope_of, text_under, unversioned, unversioned_key as unversioned_key_lem};
+ghost use Rattle.wit_bind.specs.KeyTests.{after_interface as after_interface_lem, after_names as after_names_lem, after_scope as after_scope_lem, after_slash, is_key_of};
 
-use arrayvec::ArrayString;
+use crate::versions::{ShortText, after_at_version, push, push_at_version};
 use std::alloc::Global;
 use wit_model::lookup::full_name;
-use wit_model::{Error, InterfaceId, PackageName, Resolve, WorldKey, after_prefix};
+use wit_model::{Error, PackageName, Resolve, WorldKey, after_prefix};
 
 // ---- made
 
@@ -23,7 +24,27 @@ fn key_under(alloc: Global, scope: &str, function: &str) -> Result<String, Error
     Ok(format!(in alloc; "{scope}/{function}")?)
 }
 
-fn path_key(
+/// The key of a function: `label/function`, or the canonical path of its interface, a slash and the function. None where the key of the world is of an
+/// interface without a path. Takes one pass over the texts. Refuses `Memory` alone.
+pub(crate) fn function_key(
+    alloc: Global,
+    resolve: &Resolve,
+    key: &WorldKey,
+    function: &str,
+) -> Result<Option<String>, Error>
+    ensures ok { IfOk result (λ text. optional_text text ≡ function_key_lem resolve.now key.now function.now) }
+    ensures refuses { IfErr result (λ e. e ≡ Memory) }
+{
+    match key {
+        WorldKey::Name(label) => Ok(Some(key_under(alloc, label, function)?)),
+        WorldKey::Interface(id) => match resolve.canonicalized_id_of(alloc, *id)? {
+            Some(path) => Ok(Some(key_under(alloc, &path, function)?)),
+            None => Ok(None),
+        },
+    }
+}
+
+fn unversioned_path_key(
     alloc: Global,
     own: &PackageName,
     interface: &str,
@@ -37,21 +58,21 @@ fn path_key(
     Ok(format!(in alloc; "{namespace}:{name}/{interface}/{function}")?)
 }
 
-/// The key of a function: `label/function`, or `namespace:name/interface/function`. None where the key of the world is of an interface
+/// The key of a function without version: `label/function`, or `namespace:name/interface/function`. None where the key of the world is of an interface
 /// without a path. Takes one pass over the texts. Refuses `Memory` alone.
-pub(crate) fn function_key(
+pub(crate) fn unversioned_key(
     alloc: Global,
     resolve: &Resolve,
     key: &WorldKey,
     function: &str,
 ) -> Result<Option<String>, Error>
-    ensures ok { IfOk result (λ text. optional_text text ≡ function_key_lem resolve.now key.now function.now) }
+    ensures ok { IfOk result (λ text. optional_text text ≡ unversioned_key_lem resolve.now key.now function.now) }
     ensures refuses { IfErr result (λ e. e ≡ Memory) }
 {
     match key {
         WorldKey::Name(label) => Ok(Some(key_under(alloc, label, function)?)),
         WorldKey::Interface(id) => match full_name(resolve, id.0 as usize) {
-            Some((own, name)) => Ok(Some(path_key(alloc, own, name, function)?)),
+            Some((own, name)) => Ok(Some(unversioned_path_key(alloc, own, name, function)?)),
             None => Ok(None),
         },
     }
@@ -59,21 +80,9 @@ pub(crate) fn function_key(
 
 // ---- made on the stack
 
-/// A text of 256 bytes at most, which takes no memory.
-pub(crate) type ShortText = ArrayString<256>;
-
-fn push(text: &mut ShortText, part: &str) -> Option<()>
-    ensures { IfSome result (λ _. text.new.bytes ≡ text.old.bytes ++ part.now) }
-{
-    match text.try_push_str(part) {
-        Ok(()) => Some(()),
-        Err(_) => None,
-    }
-}
-
-// The path of an interface, without version.
+// The canonical path of an interface.
 fn short_path(own: &PackageName, name: &str) -> Option<ShortText>
-    ensures { IfSome result (λ text. text.bytes ≡ path_in (unversioned own.now) name.now) }
+    ensures { IfSome result (λ text. text.bytes ≡ path_in (canonical_identity_of own.now) name.now) }
 {
     let mut text = ShortText::new();
     push(&mut text, &own.namespace)?;
@@ -81,6 +90,7 @@ fn short_path(own: &PackageName, name: &str) -> Option<ShortText>
     push(&mut text, &own.name)?;
     push(&mut text, "/")?;
     push(&mut text, name)?;
+    push_at_version(&mut text, &own.version)?;
     Some(text)
 }
 
@@ -124,13 +134,29 @@ fn after_marked<'a>(front: &str, mark: &str, text: &'a str) -> Option<&'a str>
     after_prefix(mark, rest)
 }
 
-// What follows the path of an interface, without version, and a slash.
-fn after_path<'a>(own: &PackageName, name: &str, text: &'a str) -> Option<&'a str>
-    ensures { option_copied result ≡ after_slash (path_in (unversioned own.now) name.now) text.entry.now }
+// What follows a package's namespace and name and a slash.
+fn after_names<'a>(own: &PackageName, text: &'a str) -> Option<&'a str>
+    ensures { option_copied result ≡ after_names_lem own.now text.entry.now }
 {
     let rest = after_marked(&own.namespace, ":", text)?;
-    let rest = after_marked(&own.name, "/", rest)?;
-    after_marked(name, "/", rest)
+    after_marked(&own.name, "/", rest)
+}
+
+// What follows the name of an interface, the canonical part of its version and a slash.
+fn after_interface<'a>(own: &PackageName, name: &str, text: &'a str) -> Option<&'a str>
+    ensures { option_copied result ≡ after_interface_lem own.now name.now text.entry.now }
+{
+    let rest = after_prefix(name, text)?;
+    let rest = after_at_version(&own.version, rest)?;
+    after_prefix("/", rest)
+}
+
+// What follows the canonical path of an interface and a slash.
+fn after_path<'a>(own: &PackageName, name: &str, text: &'a str) -> Option<&'a str>
+    ensures { option_copied result ≡ after_slash (path_in (canonical_identity_of own.now) name.now) text.entry.now }
+{
+    let rest = after_names(own, text)?;
+    after_interface(own, name, rest)
 }
 
 // What follows the scope of a key and a slash.

@@ -6,7 +6,9 @@ mod encodings;
 mod keys;
 pub mod laws;
 mod metadata;
+mod versions;
+mod wanted;
 
 pub use bindgen::Bindgen;
-pub use encodings::EncodingMap;
+pub use encodings::{EncodingMap, Side};
 pub use metadata::ModuleMetadata;

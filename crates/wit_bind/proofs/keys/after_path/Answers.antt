@@ -1,23 +1,24 @@
-use Rattle.std.proofs.Common.{rules, ◌≡◌, ◌∙◌, None}
+use Rattle.std.proofs.Common.{rules, ◌≡◌, ap, ◌∙◌, None, ◌∷◌, [], ◌++◌}
 use Rattle.std.specs.Option.{option_copied}
-use Rattle.wit_model.specs.Text.{text_of}
-use Rattle.wit_bind.proofs.KeyTexts.{parts_none, parts_none_then, parts_found}
+use Rattle.wit_model.specs.Lookup.{canonical_identity_of}
+use Rattle.wit_model.specs.Names.{at_version}
+use Rattle.wit_model.specs.Rules.{after_prefix}
+use Rattle.wit_model.specs.Text.{Text, text_of}
+use Rattle.wit_bind.proofs.KeyTexts.{path_parts, then_none, then_some}
 use Rattle.wit_bind.proofs.keys.after_path.Goals as goal
 
 pub returns-in_err-rest : goal.returns-in_err-rest
 returns-in_err-rest c =
     let own = c.args.own.now in
+    let end : Text = at_version (canonical_identity_of own).version in
     let given : option_copied c.from_residual.result ≡ None = search rules in
-    given ∙ parts_none (text_of own.namespace) (text_of own.name) c.args.name.now c.args.text.now (search rules)
-
-pub returns-in_err-rest-2 : goal.returns-in_err-rest-2
-returns-in_err-rest-2 c =
-    let own = c.args.own.now in
-    let given : option_copied c.from_residual-in_err-rest-2.result ≡ None = search rules in
-    given ∙ parts_none_then (text_of own.namespace) (text_of own.name) c.args.name.now c.args.text.now c.in_ok-rest.rest.now (search rules) (search rules)
+    given ∙ then_none ((text_of own.namespace ++ (58 ∷ [])) ++ (text_of own.name ++ (47 ∷ []))) (c.args.name.now ++ (end ++ (47 ∷ []))) c.args.text.now (search rules)
+    ∙ ap (λ p. after_prefix p c.args.text.now) (path_parts (text_of own.namespace) (text_of own.name) c.args.name.now end)
 
 pub returns : goal.returns
 returns c =
     let own = c.args.own.now in
-    parts_found (text_of own.namespace) (text_of own.name) c.args.name.now c.args.text.now c.in_ok-rest.rest.now c.in_ok-rest-2.rest.now
-    (option_copied c.after_marked-3.result) (search rules) (search rules) c.after_marked-3.ensures
+    let end : Text = at_version (canonical_identity_of own).version in
+    then_some ((text_of own.namespace ++ (58 ∷ [])) ++ (text_of own.name ++ (47 ∷ []))) (c.args.name.now ++ (end ++ (47 ∷ []))) c.args.text.now c.in_ok-rest.rest.now
+    (option_copied c.after_interface.result) (search rules) (search rules)
+    ∙ ap (λ p. after_prefix p c.args.text.now) (path_parts (text_of own.namespace) (text_of own.name) c.args.name.now end)

@@ -7,5 +7,5 @@ use Rattle.wit_bind.proofs.encodings.EncodingMap.put.Goals as goal
 
 pub returns-clause-ok : goal.returns-clause-ok
 returns-clause-ok c =
-    subst (λ m. Puts (text_of c.args.key ∷ []) c.args.encoding m (kept_encodings c.insert.new.self.entries)) c.self.view_is
+    subst (λ m. Puts ((text_of c.args.key, c.args.encoding) ∷ []) m (kept_encodings c.insert.new.self.entries)) c.self.view_is
     (puts c.self.inside.encodings.entries c.insert.new.self.entries c.args.key c.args.encoding c.in_ok-insert.ensures.entries)
