@@ -34,6 +34,7 @@ pub use normal::normalized;
 pub use wit_bind::Bindgen;
 pub use wit_bind::EncodingMap;
 pub use wit_bind::ModuleMetadata;
+pub use wit_bind::Side;
 pub use wit_check::Check;
 pub use wit_compat::Place;
 pub use wit_compat::Senses;
