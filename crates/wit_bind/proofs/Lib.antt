@@ -6,3 +6,4 @@ pub mod ValidKeys
 mod Roots
 mod VersionTexts
 mod Sides
+mod OneKey

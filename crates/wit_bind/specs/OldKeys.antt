@@ -15,6 +15,7 @@ use Rattle.wit_model.specs.declared.model.WorldKey.TheVariants as key
 use Rattle.wit_model.specs.Text.{Text, text_of}
 use Rattle.wit_model.specs.Lookup.{interface_at, world_at}
 use Rattle.wit_model.specs.Uses.{item_interface}
+use Rattle.wit_model.specs.Valid.{IsValid}
 use Rattle.wit_bind.specs.declared.encodings.Side.{Side}
 use Rattle.wit_bind.specs.declared.encodings.Side.TheVariants as sides
 use Rattle.wit_bind.specs.Keys.{function_key, unversioned_key}
@@ -52,3 +53,13 @@ pub record HadEncoding (old : Text → Option StringEncoding) (r : Resolve) (ite
 pub record CarriesOver (old : Text → Option StringEncoding) (r : Resolve) (items : Items) (m : Encodings) : Type 0 where
   pub each : (k : Text) (e : StringEncoding) → HadEncoding old r items k e → (f : StringEncoding) × (encoding_at m k ≡ Some f)
   pub only : (k : Text) (e : StringEncoding) → encoding_at m k ≡ Some e → HadEncoding old r items k e
+
+-- the same where each key has just the encoding that a function of it had
+pub record CarriesEach (old : Text → Option StringEncoding) (r : Resolve) (items : Items) (m : Encodings) : Type 0 where
+  pub each : (k : Text) (e : StringEncoding) → HadEncoding old r items k e → encoding_at m k ≡ Some e
+  pub only : (k : Text) (e : StringEncoding) → encoding_at m k ≡ Some e → HadEncoding old r items k e
+
+-- In a valid `Resolve` functions of a world's imports, or of its exports, that share a key share their key without version.
+abbrev pub OneOldKey : Type 0
+OneOldKey = (r : Resolve) → IsValid r → (side : Side) (n : ℕ) (a b : WorldKey) (f g k : Text) → IsFunctionOf r (items_on side r n) a f → IsFunctionOf r (items_on side r n) b g
+    → function_key r a f ≡ Some k → function_key r b g ≡ Some k → unversioned_key r a f ≡ unversioned_key r b g

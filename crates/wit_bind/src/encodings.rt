@@ -5,10 +5,11 @@ ghost use Rattle.std.specs.FinMap.{empty};
 ghost use Rattle.indexmap.specs.IndexMap.{get_by_text};
 ghost use Rattle.wit_model.specs.declared.error.Error.TheVariants.{Memory};
 ghost use Rattle.wit_model.specs.Text.{text_of};
+ghost use Rattle.wit_model.specs.Valid.{IsValid};
 ghost use Rattle.wit_bind.specs.Keys.{function_key};
 ghost use Rattle.wit_bind.specs.Encodings.{encoding_under};
 ghost use Rattle.wit_bind.specs.KeyLists.{Puts};
-ghost use Rattle.wit_bind.specs.OldKeys.{items_of as items_of_lem, items_on, CarriesOver};
+ghost use Rattle.wit_bind.specs.OldKeys.{items_of as items_of_lem, items_on, CarriesEach, CarriesOver};
 
 use crate::keys::{is_function_key, short_key};
 use crate::wanted::{Wanted, wanted_encodings};
@@ -62,7 +63,8 @@ impl EncodingMap {
     }
 
     /// The encodings that a map under keys without version (`label/f`, `namespace:name/interface/f`) has for the functions of a world's imports, or of its
-    /// exports, under the keys of these functions. Entries of the map that no such function has are dropped.
+    /// exports, under the keys of these functions. Entries of the map that no such function has are dropped. In a valid `Resolve` functions that share a key
+    /// share the one without version, so there is one encoding for each.
     ///
     /// Takes one pass over the keys of the functions, expected, and as much memory as they do. Refuses `Memory` alone.
     pub fn from_unversioned(
@@ -73,6 +75,7 @@ impl EncodingMap {
         unversioned: &IndexMap<String, StringEncoding>,
     ) -> Result<EncodingMap, Error>
         requires in_range { world.0 < length resolve.now.worlds.items }
+        ensures each { IsValid resolve.now → IfOk result (CarriesEach (λ t. get_by_text unversioned.now t) resolve.now (items_on side resolve.now world.0)) }
         ensures carries { IfOk result (CarriesOver (λ t. get_by_text unversioned.now t) resolve.now (items_on side resolve.now world.0)) }
         ensures refuses { IfErr result (λ e. e ≡ Memory) }
     {

@@ -1,0 +1,369 @@
+-- In a valid `Resolve` functions of a world that share a key shared their key without version.
+use Rattle.std.proofs.Common.{◌≡◌, refl, sym, ap, subst, ◌∙◌, arith, ℕ, ◌+◌, Bool, true, false, ◌&&◌, ◌||◌, ◌==◌, not, cond, List, [], ◌∷◌, ◌++◌, append_assoc, codes, drop, Option, Some, None, option_map, option_and_then, String, T, eqb→eq, eq-eqb, Result, Ok, Err, IfOk}
+use Rattle.std.specs.List.{list_all, Contains}
+use Rattle.std.specs.Option.{option_map_or}
+use Rattle.std.specs.declared.alloc.Global.{Global}
+use Rattle.std.proofs.lemmas.Bool.{and_from, not-true}
+use Rattle.std.proofs.lemmas.List.Elements.{Contains-append_left, Contains-append_right}
+use Rattle.std.proofs.lemmas.List.Folds.{list_all-append}
+use Rattle.std.proofs.lemmas.List.{append_cancel_right}
+use Rattle.std.proofs.lemmas.Option.{some_pair_parts}
+use Rattle.indexmap.specs.IndexMap.{values}
+use Rattle.wit_model.specs.declared.model.Resolve.{Resolve}
+use Rattle.wit_model.specs.declared.model.Package.{Package}
+use Rattle.wit_model.specs.declared.model.PackageId.{PackageId}
+use Rattle.wit_model.specs.declared.model.PackageName.{PackageName}
+use Rattle.wit_model.specs.declared.model.Interface.{Interface}
+use Rattle.wit_model.specs.declared.model.InterfaceId.{InterfaceId}
+use Rattle.wit_model.specs.declared.model.Function.{Function}
+use Rattle.wit_model.specs.declared.model.FunctionKind.{FunctionKind}
+use Rattle.wit_model.specs.declared.model.FunctionKind.TheVariants as call
+use Rattle.wit_model.specs.declared.model.TypeDef.{TypeDef}
+use Rattle.wit_model.specs.declared.model.«TypeOwner».{TypeOwner}
+use Rattle.wit_model.specs.declared.model.World.{World}
+use Rattle.wit_model.specs.declared.model.WorldItem.{WorldItem}
+use Rattle.wit_model.specs.declared.model.WorldItem.TheVariants as item
+use Rattle.wit_model.specs.declared.model.WorldKey.{WorldKey}
+use Rattle.wit_model.specs.declared.model.WorldKey.TheVariants as key
+use Rattle.wit_model.specs.Text.{Text, optional_text, text_eq, text_of}
+use Rattle.wit_model.specs.Lookup.{canonical_identity_of, interface_at, package_at, resource_of, type_at, world_at}
+use Rattle.wit_model.specs.Paths.{full_name}
+use Rattle.wit_model.specs.Names.{at_version, constructor_name, cut, is_label, method_name, path_in, static_name}
+use Rattle.wit_model.specs.Parts.{same_owner}
+use Rattle.wit_model.specs.Rules.{after_prefix, entries_labels, function_labels, is_freestanding, is_member, is_member_name, is_member_of, is_name_key, is_resource_itself, is_stability, item_labels, key_label, passes, resource_name, takes_self}
+use Rattle.wit_model.specs.Valid.{Rule, Keeps, IsValid, as_interface, as_world, function_names, functions_of_interface, item_function, labels}
+use Rattle.wit_model.proofs.AnyOrder.{text-same}
+use Rattle.wit_model.proofs.Elements.{all-contained, contains-map, none-in, same-some}
+use Rattle.wit_model.proofs.Entries.{each_from_at, lists_pass}
+use Rattle.wit_model.proofs.Lists.{first_true, second_true}
+use Rattle.wit_model.proofs.NameLaws.{label_lacks}
+use Rattle.wit_model.proofs.OnePath.{interface-passes, package-name}
+use Rattle.wit_bind.specs.Keys.{function_key, text_under, unversioned, unversioned_key}
+use Rattle.wit_model.specs.declared.model.StringEncoding.{StringEncoding}
+use Rattle.wit_bind.specs.Encodings.{Encodings, encoding_at}
+use Rattle.wit_bind.specs.Functions.{Items}
+use Rattle.wit_bind.specs.declared.encodings.Side.{Side}
+use Rattle.wit_bind.specs.declared.encodings.Side.TheVariants as sides
+use Rattle.wit_bind.specs.OldKeys.{IsFunctionOf, itself, member, items_of, items_on, CarriesEach, CarriesOver, HadEncoding, OneOldKey}
+use Rattle.wit_bind.proofs.ValidKeys.{canonical-by-name, own_name, world-passes}
+
+-- ---- texts
+
+abbrev pub is_other : ℕ → ℕ → Bool
+is_other c b = not (b == c)
+
+-- a text without this byte
+abbrev pub Lacks : ℕ → Text → Type 0
+Lacks c text = list_all (is_other c) text ≡ true
+
+lacks-both : (c : ℕ) (a b : Text) → Lacks c a → Lacks c b → Lacks c (a ++ b)
+lacks-both c a b h k = list_all-append (is_other c) a b ∙ and_from _ _ h k
+
+itself-not : (c : ℕ) → is_other c c ≡ true → ⊥
+itself-not c h = let same = eq-eqb c c refl in let z : ⊥ = cc in z
+
+-- a text that goes on with the byte doesn't lack it
+goes-on : (c : ℕ) (a b : Text) → Lacks c (a ++ (c ∷ b)) → ⊥
+goes-on c [] b h = itself-not c (first_true (is_other c c) _ h)
+goes-on c (x ∷ a) b h = goes-on c a b (second_true (is_other c x) _ h)
+
+cut_first : (c : ℕ) (a b : Text) → Lacks c a → cut c (a ++ (c ∷ b)) ≡ Some (a, b)
+unfolding cut
+cut_first c [] b h = rw (eq-eqb c c refl)
+cut_first c (x ∷ a) b h = rw (not-true (x == c) (first_true (is_other c x) _ h), cut_first c a b (second_true (is_other c x) _ h)) refl
+
+-- what stands in front of the first such byte, and what behind it
+same_cut : (c : ℕ) (a b x y : Text) → Lacks c a → Lacks c x → a ++ (c ∷ b) ≡ x ++ (c ∷ y) → (a ≡ x) × (b ≡ y)
+same_cut c a b x y h k same = some_pair_parts a x b y (sym (cut_first c a b h) ∙ ap (cut c) same ∙ cut_first c x y k)
+
+-- what stands behind the last such byte
+last_cut : (c : ℕ) (a b x y : Text) → Lacks c b → Lacks c y → a ++ (c ∷ b) ≡ x ++ (c ∷ y) → b ≡ y
+last_cut c [] b [] y h k same = ap (drop 1) same
+last_cut c [] b (z ∷ x) y h k same = absurd (goes-on c x y (subst (Lacks c) (ap (drop 1) same) h))
+last_cut c (z ∷ a) b [] y h k same = absurd (goes-on c a b (subst (Lacks c) (sym (ap (drop 1) same)) k))
+last_cut c (z ∷ a) b (w ∷ x) y h k same = last_cut c a b x y h k (ap (drop 1) same)
+
+-- ---- names of functions
+
+after-front : (front text rest : Text) → after_prefix front text ≡ Some rest → text ≡ front ++ rest
+after-front [] text rest h = same-some text rest h
+after-front (p ∷ front) [] rest h = absurd (let z : ⊥ = cc in z)
+after-front (p ∷ front) (b ∷ text) rest h = go (after-front front text rest) (p == b) refl h
+  where
+    go : (after_prefix front text ≡ Some rest → text ≡ front ++ rest) → (v : Bool) → (p == b) ≡ v → cond v (after_prefix front text) None ≡ Some rest → b ∷ text ≡ (p ∷ front) ++ rest
+    go again true e k = let head : p ≡ b = eqb→eq p b (subst T (sym e) tt) in let tail : text ≡ front ++ rest = again k in cc
+    go again false e k = absurd (let z : ⊥ = cc in z)
+
+-- a byte that no label has, and that stands in no mark of functions
+pub record IsApart (c : ℕ) : Type 0 where
+  pub of_labels : (text : Text) → is_label text ≡ true → Lacks c text
+  pub of_methods : Lacks c (codes "[method]")
+  pub of_statics : Lacks c (codes "[static]")
+  pub of_constructors : Lacks c (codes "[constructor]")
+  pub of_dots : Lacks c (46 ∷ [])
+
+slash : IsApart 47
+slash = record { of_labels = label_lacks 47 refl; of_methods = refl; of_statics = refl; of_constructors = refl; of_dots = refl }
+
+colon : IsApart 58
+colon = record { of_labels = label_lacks 58 refl; of_methods = refl; of_statics = refl; of_constructors = refl; of_dots = refl }
+
+module _ (c : ℕ) (apart : IsApart c) where
+  -- what follows a mark, a label and a dot
+  marked_lacks : (mark name : Text) (f : Function) → Lacks c mark → is_label name ≡ true → is_member_name (mark ++ (name ++ (46 ∷ []))) f ≡ true → Lacks c (text_of f.name)
+  marked_lacks mark name f plain label h = go (after_prefix (mark ++ (name ++ (46 ∷ []))) (text_of f.name)) refl h
+    where
+      go : (o : Option Text) → after_prefix (mark ++ (name ++ (46 ∷ []))) (text_of f.name) ≡ o → option_map_or is_label o false ≡ true → Lacks c (text_of f.name)
+      go None e g = absurd (let z : ⊥ = cc in z)
+      go (Some rest) e g =
+          let whole = after-front (mark ++ (name ++ (46 ∷ []))) (text_of f.name) rest e in
+          subst (Lacks c) (sym whole)
+          (lacks-both c (mark ++ (name ++ (46 ∷ []))) rest (lacks-both c mark (name ++ (46 ∷ [])) plain (lacks-both c name (46 ∷ []) (apart.of_labels name label) apart.of_dots)) (apart.of_labels rest g))
+
+  member_lacks : (r : Resolve) (n : ℕ) (name : Text) (f : Function) (k : FunctionKind) → is_label name ≡ true → (not (is_freestanding k) || is_label (text_of f.name)) ≡ true → is_member_of r n name f k ≡ true → Lacks c (text_of f.name)
+  member_lacks r n name f call.Freestanding label own h = apart.of_labels (text_of f.name) own
+  member_lacks r n name f call.AsyncFreestanding label own h = apart.of_labels (text_of f.name) own
+  member_lacks r n name f (call.Method id) label own h = marked_lacks (codes "[method]") name f apart.of_methods label (first_true (is_member_name (method_name name []) f) _ h)
+  member_lacks r n name f (call.AsyncMethod id) label own h = marked_lacks (codes "[method]") name f apart.of_methods label (first_true (is_member_name (method_name name []) f) _ h)
+  member_lacks r n name f (call.Static id) label own h = marked_lacks (codes "[static]") name f apart.of_statics label h
+  member_lacks r n name f (call.AsyncStatic id) label own h = marked_lacks (codes "[static]") name f apart.of_statics label h
+  member_lacks r n name f (call.Constructor id) label own h =
+      let same = text-same (text_of f.name) (constructor_name name) (first_true (text_eq (text_of f.name) (constructor_name name)) _ h) in
+      subst (Lacks c) (sym same) (lacks-both c (codes "[constructor]") name apart.of_constructors (apart.of_labels name label))
+
+  module _ (r : Resolve) (v : IsValid r) where
+    type-label : (n : ℕ) (def : TypeDef) → type_at r n ≡ Some def → passes (λ name. is_label (text_of name)) def.name ≡ true
+    unfolding labels
+    type-label n def at =
+        let here : 0 + n ≡ n = omega arith in
+        first_true (passes (λ name. is_label (text_of name)) def.name) _ (each_from_at (labels.type_ r) 0 r.types.items n def (lists_pass labels r v.rules.labels).3 at)
+
+    resource-label : (o : TypeOwner) (n : ℕ) (name : Text) → resource_name r o n ≡ Some name → is_label name ≡ true
+    resource-label o n name h = go (type_at r n) refl h
+      where
+        given : (b : Bool) (t : Option (String Global)) → passes (λ s. is_label (text_of s)) t ≡ true → cond b (optional_text t) None ≡ Some name → is_label name ≡ true
+        given true None w e = absurd (let z : ⊥ = cc in z)
+        given true (Some s) w e = ap is_label (sym (same-some (text_of s) name e)) ∙ w
+        given false t w e = absurd (let z : ⊥ = cc in z)
+
+        go : (d : Option TypeDef) → type_at r n ≡ d → option_and_then (λ def. cond (is_resource_itself def.kind && same_owner def.owner o) (optional_text def.name) None) d ≡ Some name → is_label name ≡ true
+        go None at e = absurd (let z : ⊥ = cc in z)
+        go (Some def) at e = given (is_resource_itself def.kind && same_owner def.owner o) def.name (type-label n def at) e
+
+    -- the name of a function lacks the byte
+    function_lacks : (o : TypeOwner) (f : Function) → (not (is_freestanding f.kind) || is_label (text_of f.name)) ≡ true → is_member r o f ≡ true → Lacks c (text_of f.name)
+    function_lacks o f own belongs = go f.kind refl own belongs
+      where
+        named : (k : FunctionKind) (n : ℕ) → (t : Option Text) → resource_name r o n ≡ t → (not (is_freestanding k) || is_label (text_of f.name)) ≡ true → option_map_or (λ name. is_member_of r n name f k) t false ≡ true → Lacks c (text_of f.name)
+        named k n None at own h = absurd (let z : ⊥ = cc in z)
+        named k n (Some name) at own h = member_lacks r n name f k (resource-label o n name at) own h
+
+        go : (k : FunctionKind) → f.kind ≡ k → (not (is_freestanding k) || is_label (text_of f.name)) ≡ true → passes (λ n. option_map_or (λ name. is_member_of r n name f k) (resource_name r o n) false) (resource_of k) ≡ true → Lacks c (text_of f.name)
+        go call.Freestanding is own h = apart.of_labels (text_of f.name) own
+        go call.AsyncFreestanding is own h = apart.of_labels (text_of f.name) own
+        go (call.Method id) is own h = named (call.Method id) id.0 (resource_name r o id.0) refl own h
+        go (call.AsyncMethod id) is own h = named (call.AsyncMethod id) id.0 (resource_name r o id.0) refl own h
+        go (call.Static id) is own h = named (call.Static id) id.0 (resource_name r o id.0) refl own h
+        go (call.AsyncStatic id) is own h = named (call.AsyncStatic id) id.0 (resource_name r o id.0) refl own h
+        go (call.Constructor id) is own h = named (call.Constructor id) id.0 (resource_name r o id.0) refl own h
+
+    -- the name under which a function of an interface stands lacks the byte
+    pub listed_lacks : (n : ℕ) (owner : Interface) → interface_at r n ≡ Some owner → (name : String Global) (f : Function) → Contains owner.functions.entries (name, f) → Lacks c (text_of name)
+    unfolding labels function_names
+    listed_lacks n owner at name f stands =
+        let passed = interface-passes labels r v.rules.labels n owner at in
+        let rest = second_true (passes (λ name. is_label (text_of name)) owner.name) _ passed in
+        let both = second_true (is_stability owner.stability) _ rest in
+        let all = first_true (list_all function_labels (functions_of_interface owner)) _ both in
+        let labelled = all-contained function_labels (functions_of_interface owner) f all (contains-map (λ (e : String Global × Function). e.1) owner.functions.entries (name, f) stands) in
+        let own = first_true (not (is_freestanding f.kind) || is_label (text_of f.name)) _ labelled in
+        let tested = all-contained (λ e. text_eq (text_of e.0) (text_of e.1.name) && is_member r (as_interface n) e.1) owner.functions.entries (name, f) (interface-passes function_names r v.rules.function_names n owner at) stands in
+        subst (Lacks c) (sym (own_name r v n owner at name f stands)) (function_lacks (as_interface n) f own (second_true (text_eq (text_of name) (text_of f.name)) _ tested))
+
+    -- and so does the label under which an item stands
+    pub key_lacks : (n : ℕ) (w : World) → world_at r n ≡ Some w → (name : String Global) (shown : WorldItem) → Contains (w.imports.entries ++ w.exports.entries) (key.Name name, shown) → Lacks c (text_of name)
+    unfolding labels function_names
+    key_lacks n w at name shown stands =
+        let passed = world-passes labels r v.rules.labels n w at in
+        let rest = second_true (is_label (text_of w.name)) _ passed in
+        let both = second_true (is_stability w.stability) _ rest in
+        let imported = first_true (entries_labels w.imports.entries) _ both in
+        let exported = second_true (entries_labels w.imports.entries) _ both in
+        let all = list_all-append (λ e. key_label e.0 e.1 && item_labels e.1) w.imports.entries w.exports.entries ∙ and_from _ _ imported exported in
+        let here = all-contained (λ e. key_label e.0 e.1 && item_labels e.1) (w.imports.entries ++ w.exports.entries) (key.Name name, shown) all stands in
+        let tested = all-contained (λ e. passes (λ f. is_name_key (text_of f.name) e.0 && is_member r (as_world n) f) (item_function e.1)) (w.imports.entries ++ w.exports.entries) (key.Name name, shown)
+        (world-passes function_names r v.rules.function_names n w at) stands in
+        go shown (first_true (key_label (key.Name name) shown) _ here) tested
+      where
+        go : (shown : WorldItem) → key_label (key.Name name) shown ≡ true → passes (λ f. is_name_key (text_of f.name) (key.Name name) && is_member r (as_world n) f) (item_function shown) ≡ true → Lacks c (text_of name)
+        go (item.Interface id stability docs external_id) label h = apart.of_labels (text_of name) label
+        go (item.Type_ id) label h = apart.of_labels (text_of name) label
+        go (item.Function f) label h =
+            let same = text-same (text_of name) (text_of f.name) (first_true (is_name_key (text_of f.name) (key.Name name)) _ h) in
+            subst (Lacks c) (sym same) (function_lacks (as_world n) f (ap (λ t. not (is_freestanding f.kind) || is_label t) (sym same) ∙ label) (second_true (is_name_key (text_of f.name) (key.Name name)) _ h))
+
+-- ---- paths
+
+-- the names of an interface's package and its own are labels
+record AreNamed (r : Resolve) (n : ℕ) (e : PackageName × String Global) : Type 0 where
+  pub namespace : is_label (text_of e.0.namespace) ≡ true
+  pub name : is_label (text_of e.0.name) ≡ true
+  pub own : is_label (text_of e.1) ≡ true
+
+module _ (r : Resolve) (v : IsValid r) where
+  interface-label : (n : ℕ) (i : Interface) → interface_at r n ≡ Some i → passes (λ name. is_label (text_of name)) i.name ≡ true
+  unfolding labels
+  interface-label n i at = first_true (passes (λ name. is_label (text_of name)) i.name) _ (interface-passes labels r v.rules.labels n i at)
+
+  are_named : (n : ℕ) (e : PackageName × String Global) → full_name r n ≡ Some e → AreNamed r n e
+  are_named n e h = of_interface (interface_at r n) refl h
+    where
+      of_package : (t : String Global) → is_label (text_of t) ≡ true → (m : ℕ) → (o : Option Package) → package_at r m ≡ o → option_map (λ p. (p.name, t)) o ≡ Some e → AreNamed r n e
+      of_package t label m None at h = absurd (let z : ⊥ = cc in z)
+      of_package t label m (Some p) at h =
+          let same : (p.name, t) ≡ e = same-some (p.name, t) e h in
+          let named = (package-name r v m p at).identity in
+          subst (AreNamed r n) same (record {
+            namespace = first_true (is_label (text_of p.name.namespace)) _ named;
+            name = first_true (is_label (text_of p.name.name)) _ (second_true (is_label (text_of p.name.namespace)) _ named);
+            own = label;
+          })
+
+      of_home : (t : String Global) → is_label (text_of t) ≡ true → (o : Option PackageId) → option_map (λ p. (p.name, t)) (option_and_then (λ q. package_at r q.0) o) ≡ Some e → AreNamed r n e
+      of_home t label None h = absurd (let z : ⊥ = cc in z)
+      of_home t label (Some q) h = of_package t label q.0 (package_at r q.0) refl h
+
+      of_name : (i : Interface) → (o : Option (String Global)) → passes (λ name. is_label (text_of name)) o ≡ true
+          → option_and_then (λ t. option_map (λ p. (p.name, t)) (option_and_then (λ q. package_at r q.0) i.package)) o ≡ Some e → AreNamed r n e
+      of_name i None label h = absurd (let z : ⊥ = cc in z)
+      of_name i (Some t) label h = of_home t label i.package h
+
+      of_interface : (o : Option Interface) → interface_at r n ≡ o → option_and_then (λ i. option_and_then (λ t. option_map (λ p. (p.name, t)) (option_and_then (λ j. option_and_then (λ q. package_at r q.0) j.package) o)) i.name) o ≡ Some e
+          → AreNamed r n e
+      of_interface None at h = absurd (let z : ⊥ = cc in z)
+      of_interface (Some i) at h = of_name i i.name (interface-label n i at) h
+
+-- the canonical path, cut into its parts
+abbrev end_of : PackageName → Text
+end_of p = at_version (canonical_identity_of p).version
+
+-- what an interface's name and its version's canonical part tell
+same_front : (a b : Text) (x y : Option Text) → Lacks 64 a → Lacks 64 b → a ++ at_version x ≡ b ++ at_version y → a ≡ b
+same_front a b None None h k same = sym (no_end a) ∙ (same ∙ no_end b)
+  where
+    no_end : (t : Text) → t ++ [] ≡ t
+    no_end [] = refl
+    no_end (z ∷ t) = ap (λ u. z ∷ u) (no_end t)
+same_front a b None (Some y) h k same = absurd (goes-on 64 b y (subst (Lacks 64) same (lacks-both 64 a [] h refl)))
+same_front a b (Some x) None h k same = absurd (goes-on 64 a x (subst (Lacks 64) (sym same) (lacks-both 64 b [] k refl)))
+same_front a b (Some x) (Some y) h k same = (same_cut 64 a x b y h k same).0
+
+-- two canonical paths that are one are of one interface but for its version
+same_path : (p q : PackageName) (s t : String Global) → Lacks 58 (text_of p.namespace) → Lacks 58 (text_of q.namespace) → Lacks 47 (text_of p.name) → Lacks 47 (text_of q.name) → Lacks 64 (text_of s) → Lacks 64 (text_of t)
+    → path_in (canonical_identity_of p) (text_of s) ≡ path_in (canonical_identity_of q) (text_of t) → path_in (unversioned p) (text_of s) ≡ path_in (unversioned q) (text_of t)
+same_path p q s t a b c d e f same =
+    let first = same_cut 58 (text_of p.namespace) _ (text_of q.namespace) _ a b same in
+    let second = same_cut 47 (text_of p.name) _ (text_of q.name) _ c d first.1 in
+    let third = same_front (text_of s) (text_of t) (canonical_identity_of p).version (canonical_identity_of q).version e f second.1 in
+    λ i. first.0 i ++ (58 ∷ (second.0 i ++ (47 ∷ (third i ++ []))))
+
+-- ---- keys
+
+module _ (r : Resolve) (v : IsValid r) where
+  -- a key under a path is no key under a label
+  apart_keys : (n : ℕ) (e : PackageName × String Global) → full_name r n ≡ Some e → (x f g : Text) → Lacks 47 x → Lacks 58 x → x ++ (47 ∷ f) ≡ path_in (canonical_identity_of e.0) (text_of e.1) ++ (47 ∷ g) → ⊥
+  apart_keys n e h x f g slashless colonless same =
+      let named = are_named r v n e h in
+      let space = text_of e.0.namespace in
+      let own = text_of e.0.name in
+      let rest : Text = (text_of e.1 ++ end_of e.0) ++ (47 ∷ g) in
+      let parts : path_in (canonical_identity_of e.0) (text_of e.1) ++ (47 ∷ g) ≡ (space ++ (58 ∷ own)) ++ (47 ∷ rest) =
+      append_assoc space (58 ∷ (own ++ (47 ∷ (text_of e.1 ++ end_of e.0)))) (47 ∷ g)
+      ∙ ap (λ t. space ++ (58 ∷ t)) (append_assoc own (47 ∷ (text_of e.1 ++ end_of e.0)) (47 ∷ g))
+      ∙ sym (append_assoc space (58 ∷ own) (47 ∷ rest)) in
+      let front : Lacks 47 (space ++ (58 ∷ own)) = lacks-both 47 space (58 ∷ own) (label_lacks 47 refl space named.namespace) (label_lacks 47 refl own named.name) in
+      let x_is = (same_cut 47 x f (space ++ (58 ∷ own)) rest slashless front (same ∙ parts)).0 in
+      goes-on 58 space own (subst (Lacks 58) x_is colonless)
+
+  -- what a key of an interface tells
+  record IsPathKey (n : ℕ) (f k : Text) : Type 0 where
+    pub named : PackageName × String Global
+    pub is : full_name r n ≡ Some named
+    pub spelled : k ≡ path_in (canonical_identity_of named.0) (text_of named.1) ++ (47 ∷ f)
+
+  path_key : (id : InterfaceId) (f k : Text) → function_key r (key.Interface id) f ≡ Some k → IsPathKey id.0 f k
+  path_key id f k h = go (full_name r id.0) refl (ap (option_map (λ text. text_under text f)) (sym (canonical-by-name r id.0)) ∙ h)
+    where
+      go : (o : Option (PackageName × String Global)) → full_name r id.0 ≡ o → option_map (λ text. text_under text f) (option_map (λ p. path_in (canonical_identity_of p.0) (text_of p.1)) o) ≡ Some k → IsPathKey id.0 f k
+      go None at e = absurd (let z : ⊥ = cc in z)
+      go (Some e) at h = record { named = e; is = at; spelled = sym (same-some (path_in (canonical_identity_of e.0) (text_of e.1) ++ (47 ∷ f)) k h) }
+
+  old_key : (id : InterfaceId) (f : Text) (e : PackageName × String Global) → full_name r id.0 ≡ Some e → unversioned_key r (key.Interface id) f ≡ Some (path_in (unversioned e.0) (text_of e.1) ++ (47 ∷ f))
+  old_key id f e at = ap (λ o. option_map (λ text. text_under text f) (option_map (λ p. path_in (unversioned p.0) (text_of p.1)) o)) at
+
+  module _ (n : ℕ) (w : World) (at : world_at r n ≡ Some w) (items : Items) (among : (e : WorldKey × WorldItem) → Contains items e → Contains (w.imports.entries ++ w.exports.entries) e) where
+    label_lacks_both : (x : String Global) (f : Text) → IsFunctionOf r items (key.Name x) f → Lacks 47 (text_of x) × Lacks 58 (text_of x)
+    label_lacks_both x f (itself name g stands) =
+        let c = among (key.Name x, item.Function g) stands in
+        (key_lacks 47 slash r v n w at x (item.Function g) c, key_lacks 58 colon r v n w at x (item.Function g) c)
+    label_lacks_both x f (member scope shown m owner name g stands of there has) =
+        let c = among (key.Name x, shown) stands in
+        (key_lacks 47 slash r v n w at x shown c, key_lacks 58 colon r v n w at x shown c)
+
+    name_lacks : (id : InterfaceId) (f : Text) → IsFunctionOf r items (key.Interface id) f → Lacks 47 f
+    name_lacks id f (member scope shown m owner name g stands of there has) = listed_lacks 47 slash r v m owner there name g has
+
+    one_old : (a b : WorldKey) (f g k : Text) → IsFunctionOf r items a f → IsFunctionOf r items b g → function_key r a f ≡ Some k → function_key r b g ≡ Some k → unversioned_key r a f ≡ unversioned_key r b g
+    one_old (key.Name x) (key.Name y) f g k of of' h h' = h ∙ sym h'
+    one_old (key.Name x) (key.Interface id) f g k of of' h h' =
+        let l = label_lacks_both x f of in
+        let p = path_key id g k h' in
+        absurd (apart_keys id.0 p.named p.is (text_of x) f g l.0 l.1 (same-some (text_of x ++ (47 ∷ f)) k h ∙ p.spelled))
+    one_old (key.Interface id) (key.Name y) f g k of of' h h' =
+        let l = label_lacks_both y g of' in
+        let p = path_key id f k h in
+        absurd (apart_keys id.0 p.named p.is (text_of y) g f l.0 l.1 (same-some (text_of y ++ (47 ∷ g)) k h' ∙ p.spelled))
+    one_old (key.Interface id) (key.Interface id') f g k of of' h h' =
+        let p = path_key id f k h in
+        let q = path_key id' g k h' in
+        let a = are_named r v id.0 p.named p.is in
+        let b = are_named r v id'.0 q.named q.is in
+        let same = sym p.spelled ∙ q.spelled in
+        let ends : f ≡ g = last_cut 47 (path_in (canonical_identity_of p.named.0) (text_of p.named.1)) f (path_in (canonical_identity_of q.named.0) (text_of q.named.1)) g (name_lacks id f of) (name_lacks id' g of') same in
+        let starts = append_cancel_right (path_in (canonical_identity_of p.named.0) (text_of p.named.1)) (path_in (canonical_identity_of q.named.0) (text_of q.named.1)) (47 ∷ g) (ap (λ t. path_in (canonical_identity_of p.named.0) (text_of p.named.1) ++ (47 ∷ t)) (sym ends) ∙ same) in
+        let paths = same_path p.named.0 q.named.0 p.named.1 q.named.1 (label_lacks 58 refl (text_of p.named.0.namespace) a.namespace) (label_lacks 58 refl (text_of q.named.0.namespace) b.namespace) (label_lacks 47 refl (text_of p.named.0.name) a.name) (label_lacks 47 refl (text_of q.named.0.name) b.name)
+        (label_lacks 64 refl (text_of p.named.1) a.own) (label_lacks 64 refl (text_of q.named.1) b.own) starts in
+        old_key id f p.named p.is ∙ ((λ i. Some (paths i ++ (47 ∷ ends i))) ∙ sym (old_key id' g q.named q.is))
+
+  of_side : (side : Side) (w : World) (e : WorldKey × WorldItem) → Contains (items_of side w) e → Contains (w.imports.entries ++ w.exports.entries) e
+  of_side sides.Imports w e c = Contains-append_left w.imports.entries w.exports.entries e c
+  of_side sides.Exports w e c = Contains-append_right w.imports.entries w.exports.entries e c
+
+no_function : {P : Type 0} (r : Resolve) (a : WorldKey) (f : Text) → IsFunctionOf r [] a f → P
+no_function r a f (itself name g stands) = none-in (key.Name name, item.Function g) stands
+no_function r a f (member scope shown m owner name g stands of there has) = none-in (scope, shown) stands
+
+pub one_old_key : OneOldKey
+one_old_key r v side n a b f g k = by (world_at r n) refl
+  where
+    by : (o : Option World) → world_at r n ≡ o → IsFunctionOf r (option_map_or (items_of side) o []) a f → IsFunctionOf r (option_map_or (items_of side) o []) b g
+        → function_key r a f ≡ Some k → function_key r b g ≡ Some k → unversioned_key r a f ≡ unversioned_key r b g
+    by None at of of' h h' = no_function r a f of
+    by (Some w) at of of' h h' = one_old r v n w at (items_of side w) (of_side r v side w) a b f g k of of' h h'
+
+-- ---- so there is one encoding for each key
+
+carries_each : (old : Text → Option StringEncoding) (r : Resolve) → IsValid r → (side : Side) (n : ℕ) (m : Encodings) → CarriesOver old r (items_on side r n) m → CarriesEach old r (items_on side r n) m
+carries_each old r v side n m over = record { each = each; only = over.only }
+  where
+    each : (k : Text) (e : StringEncoding) → HadEncoding old r (items_on side r n) k e → encoding_at m k ≡ Some e
+    each k e h =
+        let found = over.each k e h in
+        let g = over.only k found.0 found.1 in
+        let was : g.was ≡ h.was = same-some g.was h.was (sym g.under ∙ one_old_key r v side n g.scope h.scope g.name h.name k g.of h.of g.is h.is ∙ h.under) in
+        let value : found.0 ≡ e = same-some found.0 e (sym g.had ∙ ap old was ∙ h.had) in
+        found.1 ∙ ap Some value
+
+pub all_each : {E : Type 0} (old : Text → Option StringEncoding) (r : Resolve) → IsValid r → (side : Side) (n : ℕ) (a : Result Encodings E) → IfOk a (CarriesOver old r (items_on side r n)) → IfOk a (CarriesEach old r (items_on side r n))
+all_each old r v side n (Ok m) over = carries_each old r v side n m over
+all_each old r v side n (Err e) over = tt
