@@ -26,6 +26,7 @@ pub use Rattle.wit_print.specs.Shown
 pub use Rattle.wit_bind.specs.Encodings
 pub use Rattle.wit_bind.specs.Functions
 pub use Rattle.wit_bind.specs.Keys
+pub use Rattle.wit_bind.specs.OldKeys
 pub use Rattle.wit_bind.specs.Roots
 pub use Rattle.wit_metadata.specs.Carried
 pub use Rattle.wit_metadata.specs.Said
