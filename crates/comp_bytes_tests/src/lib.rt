@@ -1,17 +1,15 @@
-//! Tests of the byte layer: numbers, names, each form of declaration, and components of types, byte for byte.
+//! Tests of the byte layer: numbers, names, sections, and components that are built call by call.
 #![tactic(auto)]
 
 #[cfg(test)]
 mod components;
 #[cfg(test)]
-mod declarations;
-#[cfg(test)]
-mod forms;
+mod many;
 #[cfg(test)]
 mod names;
 #[cfg(test)]
 mod numbers;
 #[cfg(test)]
-mod sections;
+mod parts;
 #[cfg(test)]
-mod steps;
+mod sections;

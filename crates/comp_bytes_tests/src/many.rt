@@ -1,0 +1,31 @@
+//! A large component, in linear time.
+
+use crate::parts::LIST_OF_U8;
+use comp_bytes::{ComponentBuilder, ComponentType};
+use std::alloc::Global;
+use std::test::Fail;
+use wit_model::Error;
+
+fn lists(alloc: Global, count: u32) -> Result<ComponentType, Error> {
+    let mut component = ComponentType::new(alloc);
+    for _ in 0..count {
+        component.defined(&LIST_OF_U8)?;
+    }
+    Ok(component)
+}
+
+fn component_bytes(alloc: Global, component: &ComponentType) -> Result<Vec<u8>, Error> {
+    let mut builder = ComponentBuilder::new(alloc);
+    builder.type_component(component)?;
+    builder.finish()
+}
+
+// A hundred thousand declarations of three bytes each.
+#[test]
+fn many_declarations(rt: HostRuntime) -> Result<(), Fail> {
+    let component = lists(rt.alloc(), 100_000)?;
+    assert_eq!(rt; component.type_count(), 100_000);
+    let bytes = component_bytes(rt.alloc(), &component)?;
+    assert_eq!(rt; bytes.len(), 8 + 1 + 3 + 1 + 1 + 3 + 300_000);
+    Ok(())
+}
