@@ -6,15 +6,17 @@ ghost use Rattle.wit_model.specs.Parts.{same_owner};
 ghost use Rattle.wit_model.specs.Valid.{IsValid};
 ghost use Rattle.wit_print.specs.UseGroups.{is_listed_type};
 
-use crate::kinds::Kind;
-use crate::steps::{Step, made};
-use std::alloc::Global;
+use std::alloc::{AllocError, Global};
 use std::collections::HashMap;
 use std::process::Abort;
 use std::test::Fail;
 use wit_check::Check;
-use wit_model::{Error, InterfaceId, Resolve, Type, TypeDef, TypeId, TypeOwner, is_label};
+use wit_model::{
+    Error, InterfaceId, Resolve, Type, TypeDef, TypeDefKind, TypeId, TypeOwner, is_label,
+};
 use wit_print::{Output, OutputToString, WitPrinter};
+use wit_samples::drafts::{add_interface, add_type, add_type_of, draft};
+use wit_samples::kinds::alias_of;
 
 /// Types under their names, one after the other.
 #[derive(Drop)]
@@ -109,28 +111,28 @@ fn print_given<O: Output>(
     Ok(())
 }
 
-/// Interface `k` uses a type of `j`, and has a name for it and a resource.
-const TYPES: &[Step] = &[
-    Step::Package("a", "b"),
-    Step::Interface(0, "j", 0),
-    Step::Interface(0, "k", 1),
-    Step::Type(0, "t", Kind::Alias(Type::U8)),
-    Step::Type(1, "t", Kind::Alias(Type::Id(TypeId(0)))),
-    Step::Type(1, "x", Kind::Alias(Type::Id(TypeId(1)))),
-    Step::Type(1, "r", Kind::Resource),
-];
+// Interface `k` uses a type of `i`, and has a name for it and a resource.
+fn two_interfaces(alloc: Global) -> Result<Resolve, AllocError> {
+    let mut resolve = draft(alloc)?;
+    add_interface(alloc, &mut resolve, "k")?;
+    add_type(alloc, &mut resolve, "t", TypeDefKind::Type_(Type::U8))?;
+    add_type_of(alloc, &mut resolve, 1, "t", alias_of(0))?;
+    add_type_of(alloc, &mut resolve, 1, "x", alias_of(1))?;
+    add_type_of(alloc, &mut resolve, 1, "r", TypeDefKind::Resource)?;
+    Ok(resolve)
+}
 
 // The second call goes on in the block of the first.
 #[test]
 fn two_calls_of_one_printer(rt: HostRuntime) -> Result<(), Fail> {
     let alloc = rt.alloc();
-    let resolve = made(alloc, TYPES)?;
+    let resolve = two_interfaces(alloc)?;
     let mut printer = WitPrinter::new(OutputToString::new(alloc));
     let first = [("x", TypeId(2)), ("t", TypeId(1))];
     print_given(&rt, alloc, &mut printer, &resolve, &first)?;
     let second = [("r", TypeId(3))];
     print_given(&rt, alloc, &mut printer, &resolve, &second)?;
     let text = String::from(printer.output);
-    assert_eq!(rt; text.as_str(), "use j.{t};\n\ntype x = t;\n\nresource r;\n");
+    assert_eq!(rt; text.as_str(), "use i.{t};\n\ntype x = t;\n\nresource r;\n");
     Ok(())
 }

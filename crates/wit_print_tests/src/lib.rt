@@ -1,25 +1,15 @@
-//! Tests of the printer: the texts and calls of worked examples.
+//! Tests of the printer: outputs that refuse a call, the calls that print a part of a package, and types from an iterator.
 #![tactic(auto)]
 
 #[cfg(test)]
-mod fronts;
-#[cfg(test)]
-mod functions;
-#[cfg(test)]
 mod given_types;
-#[cfg(test)]
-mod interfaces;
-#[cfg(test)]
-mod kinds;
 #[cfg(test)]
 mod outputs;
 #[cfg(test)]
-mod printed;
+mod packages;
 #[cfg(test)]
 mod recording;
 #[cfg(test)]
-mod steps;
+mod refused;
 #[cfg(test)]
-mod texts;
-#[cfg(test)]
-mod type_names;
+mod single_calls;

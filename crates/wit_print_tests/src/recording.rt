@@ -1,4 +1,4 @@
-//! Outputs that record or count what a printer calls.
+//! Outputs that take so many calls, and refuse the next.
 
 ghost use Rattle.std.specs.Prelude.{◌≡◌, OnOk, OnErr, IsOkUnless};
 ghost use Rattle.wit_model.specs.declared.error.Error.TheVariants.{Memory};
@@ -7,48 +7,32 @@ use std::alloc::Global;
 use wit_model::Error;
 use wit_print::{Output, TypeKind};
 
-/// One call of an output.
-#[derive(Debug, PartialEq, Eq, Drop)]
-pub enum Call {
-    PushStr(String),
-    IndentIfNeeded,
-    IndentStart,
-    IndentEnd,
-    Newline,
-    IndentAndPrint(String),
-    Keyword(String),
-    Ty(String),
-    Param(String),
-    Case(String),
-    GenericArgsStart,
-    GenericArgsEnd,
-    Doc(String),
-    Semicolon,
-    Str(String),
-}
-
-/// The calls that were made, in order. All fifteen functions are its own.
+/// The names of the calls that were made, in order. All fifteen functions are its own.
 #[derive(Drop)]
 pub struct Recording {
-    pub calls: Vec<Call>,
-    alloc: Global,
+    pub calls: Vec<&'static str>,
+    room: usize,
     line_begun: bool,
 }
 
 impl Recording {
-    pub fn new(alloc: Global) -> Recording {
+    /// Takes so many calls.
+    pub fn new(alloc: Global, room: usize) -> Recording {
         Recording {
             calls: Vec::new(alloc),
-            alloc,
+            room,
             line_begun: false,
         }
     }
 
-    fn record_call(&mut self, call: Call, line_begun: bool) -> Result<(), Error>
+    fn record_call(&mut self, call: &'static str, line_begun: bool) -> Result<(), Error>
         ensures ok { OnOk result (self.new.line_begun ≡ line_begun) }
         ensures err { OnErr result (self.new.line_begun ≡ self.old.line_begun) }
         ensures memory { IsOkUnless result Memory }
     {
+        if self.calls.len() >= self.room {
+            return Err(Error::Memory);
+        }
         self.calls.push(call)?;
         self.line_begun = line_begun;
         Ok(())
@@ -62,88 +46,83 @@ impl Output for Recording {
 
     ghost view = { λ it. record { line_begun = it.line_begun; kept = tt } };
 
-    fn push_str(&mut self, src: &str) -> Result<(), Error> {
-        let text = String::from_str(self.alloc, src)?;
-        self.record_call(Call::PushStr(text), self.line_begun)
+    fn push_str(&mut self, _src: &str) -> Result<(), Error> {
+        self.record_call("push_str", self.line_begun)
     }
 
     fn indent_if_needed(&mut self) -> Result<bool, Error> {
         let begun = self.line_begun;
-        self.record_call(Call::IndentIfNeeded, false)?;
+        self.record_call("indent_if_needed", false)?;
         Ok(begun)
     }
 
     fn indent_start(&mut self) -> Result<(), Error> {
-        self.record_call(Call::IndentStart, true)
+        self.record_call("indent_start", true)
     }
 
     fn indent_end(&mut self) -> Result<(), Error> {
-        self.record_call(Call::IndentEnd, true)
+        self.record_call("indent_end", true)
     }
 
     fn newline(&mut self) -> Result<(), Error> {
-        self.record_call(Call::Newline, true)
+        self.record_call("newline", true)
     }
 
-    fn indent_and_print(&mut self, src: &str) -> Result<(), Error> {
-        let text = String::from_str(self.alloc, src)?;
-        self.record_call(Call::IndentAndPrint(text), false)
+    fn indent_and_print(&mut self, _src: &str) -> Result<(), Error> {
+        self.record_call("indent_and_print", false)
     }
 
-    fn keyword(&mut self, src: &str) -> Result<(), Error> {
-        let text = String::from_str(self.alloc, src)?;
-        self.record_call(Call::Keyword(text), false)
+    fn keyword(&mut self, _src: &str) -> Result<(), Error> {
+        self.record_call("keyword", false)
     }
 
-    fn ty(&mut self, src: &str, _kind: TypeKind) -> Result<(), Error> {
-        let text = String::from_str(self.alloc, src)?;
-        self.record_call(Call::Ty(text), false)
+    fn ty(&mut self, _src: &str, _kind: TypeKind) -> Result<(), Error> {
+        self.record_call("ty", false)
     }
 
-    fn param(&mut self, src: &str) -> Result<(), Error> {
-        let text = String::from_str(self.alloc, src)?;
-        self.record_call(Call::Param(text), false)
+    fn param(&mut self, _src: &str) -> Result<(), Error> {
+        self.record_call("param", false)
     }
 
-    fn case(&mut self, src: &str) -> Result<(), Error> {
-        let text = String::from_str(self.alloc, src)?;
-        self.record_call(Call::Case(text), false)
+    fn case(&mut self, _src: &str) -> Result<(), Error> {
+        self.record_call("case", false)
     }
 
     fn generic_args_start(&mut self) -> Result<(), Error> {
-        self.record_call(Call::GenericArgsStart, false)
+        self.record_call("generic_args_start", false)
     }
 
     fn generic_args_end(&mut self) -> Result<(), Error> {
-        self.record_call(Call::GenericArgsEnd, false)
+        self.record_call("generic_args_end", false)
     }
 
-    fn doc(&mut self, doc: &str) -> Result<(), Error> {
-        let text = String::from_str(self.alloc, doc)?;
-        self.record_call(Call::Doc(text), true)
+    fn doc(&mut self, _doc: &str) -> Result<(), Error> {
+        self.record_call("doc", true)
     }
 
     fn semicolon(&mut self) -> Result<(), Error> {
-        self.record_call(Call::Semicolon, true)
+        self.record_call("semicolon", true)
     }
 
-    fn str(&mut self, src: &str) -> Result<(), Error> {
-        let text = String::from_str(self.alloc, src)?;
-        self.record_call(Call::Str(text), false)
+    fn str(&mut self, _src: &str) -> Result<(), Error> {
+        self.record_call("str", false)
     }
 }
 
 /// How many calls of the five functions without a body were made. The others are the trait's.
 #[derive(Drop)]
 pub struct Counting {
-    pub count: u32,
+    pub count: usize,
+    room: usize,
     line_begun: bool,
 }
 
 impl Counting {
-    pub fn new() -> Counting {
+    /// Takes so many calls.
+    pub fn new(room: usize) -> Counting {
         Counting {
             count: 0,
+            room,
             line_begun: false,
         }
     }
@@ -153,14 +132,12 @@ impl Counting {
         ensures err { OnErr result (self.new.line_begun ≡ self.old.line_begun) }
         ensures memory { IsOkUnless result Memory }
     {
-        match self.count.checked_add(1) {
-            Some(count) => {
-                self.count = count;
-                self.line_begun = line_begun;
-                Ok(())
-            }
-            None => Err(Error::Memory),
+        if self.count >= self.room {
+            return Err(Error::Memory);
         }
+        self.count += 1;
+        self.line_begun = line_begun;
+        Ok(())
     }
 }
 

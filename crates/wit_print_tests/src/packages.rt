@@ -1,0 +1,32 @@
+//! The packages that are printed.
+
+use std::alloc::{AllocError, Global};
+use wit_model::{Docs, Resolve, Stability, Type, TypeDefKind};
+use wit_samples::drafts::{add_function, add_type, add_unnamed, draft};
+use wit_samples::kinds::{id, own_of};
+
+/// Interface `i` of `a:b` with documentation and a feature. It has a resource `r`, a type `list` and a function that takes it; type 2 owns the
+/// resource, and type 3 is a future of a byte.
+pub fn interface(alloc: Global) -> Result<Resolve, AllocError> {
+    let mut resolve = draft(alloc)?;
+    add_type(alloc, &mut resolve, "r", TypeDefKind::Resource)?;
+    add_type(alloc, &mut resolve, "list", TypeDefKind::Type_(Type::U8))?;
+    add_unnamed(&mut resolve, own_of(0))?;
+    add_unnamed(&mut resolve, TypeDefKind::Future(Some(Type::U8)))?;
+    add_function(alloc, &mut resolve, id(1))?;
+    describe(alloc, &mut resolve)?;
+    Ok(resolve)
+}
+
+fn describe(alloc: Global, resolve: &mut Resolve) -> Result<(), AllocError> {
+    let contents = Some(String::from_str(alloc, "one\n\nthree")?);
+    let feature = String::from_str(alloc, "async")?;
+    if let Some(interface) = resolve.interfaces.get_mut(0) {
+        interface.docs = Docs { contents };
+        interface.stability = Stability::Unstable {
+            feature,
+            deprecated: None,
+        };
+    }
+    Ok(())
+}
