@@ -3,37 +3,31 @@
 use std::alloc::Global;
 use std::process::Abort;
 use std::test::Fail;
-use whole_samples::{host_and_guest, interface_and_world};
-use wit_component::metadata::{decode_section, encode as carry};
-use wit_component::{
-    Bindgen, Cause, Check, Error, PackageId, Resolve, StringEncoding, WorldId, WorldKey, encode,
-};
+use wit_component::metadata::decode_section;
+use wit_component::{Cause, Error, StringEncoding, WorldKey};
+use wit_samples::bytes::{CARRIED, HOST_AND_GUEST, INTERFACE_AND_WORLD};
 
-/// The world `foo` of `a:b` as a module carries it, with another byte in the place of one.
-fn carried(
-    alloc: Global,
-    encoding: StringEncoding,
-    place: usize,
-    byte: u8,
-) -> Result<Vec<u8>, Fail> {
-    let resolve = host_and_guest(alloc, None)?;
-    resolve.check(alloc)?;
-    let mut bytes = Vec::new(alloc);
-    if !resolve.worlds.is_empty() {
-        bytes = carry(alloc, &resolve, WorldId(0), encoding, false)?;
+// The carried world, with other bytes in the place of its format and its encoding, which are bytes 33 and 34.
+fn carried(alloc: Global, format: u8, encoding: u8) -> Result<Vec<u8>, Fail> {
+    let mut bytes = CARRIED.to_vec(alloc)?;
+    if let Some(place) = bytes.get_mut(33) {
+        *place = format;
     }
-    if let Some(found) = bytes.get_mut(place) {
-        *found = byte;
+    if let Some(place) = bytes.get_mut(34) {
+        *place = encoding;
     }
     Ok(bytes)
 }
 
-fn assert_encodings(
+// The world imports `host` and exports `guest`, each of which is encoded like this.
+fn assert_bound(
     rt: &impl Abort,
     alloc: Global,
-    bound: &Bindgen,
+    byte: u8,
     encoding: StringEncoding,
 ) -> Result<(), Fail> {
+    let bound = decode_section(alloc, &carried(alloc, 4, byte)?)?;
+    assert_eq!(rt; bound.resolve.worlds.len(), 1);
     let host = WorldKey::Name(String::from_str(alloc, "host")?);
     let guest = WorldKey::Name(String::from_str(alloc, "guest")?);
     let imports = &bound.metadata.import_encodings;
@@ -44,59 +38,35 @@ fn assert_encodings(
     Ok(())
 }
 
-// The format and the encoding are bytes 33 and 34. The world is read as it was carried, whatever the encoding is.
 #[test]
 fn a_world_and_its_encoding(rt: HostRuntime) -> Result<(), Fail> {
-    let alloc = rt.alloc();
-    for encoding in [
-        StringEncoding::UTF8,
-        StringEncoding::UTF16,
-        StringEncoding::CompactUTF16,
-    ] {
-        let bytes = carried(alloc, encoding, 33, 4)?;
-        let bound = decode_section(alloc, &bytes)?;
-        assert_eq!(rt; bound.resolve.worlds.len(), 1);
-        for world in &bound.resolve.worlds {
-            assert_eq!(rt; world.name.as_str(), "foo");
-            assert_eq!(rt; (world.imports.len(), world.exports.len()), (1, 1));
-        }
-        assert_encodings(&rt, alloc, &bound, encoding)?;
-    }
-    Ok(())
+    assert_bound(&rt, rt.alloc(), 0, StringEncoding::UTF8)?;
+    assert_bound(&rt, rt.alloc(), 1, StringEncoding::UTF16)?;
+    assert_bound(&rt, rt.alloc(), 2, StringEncoding::CompactUTF16)
 }
 
-fn assert_refused(rt: &impl Abort, alloc: Global, bytes: &[u8], expected: &Error) {
+// Whether the data of a section is refused like this.
+fn is_refused(alloc: Global, bytes: &[u8], expected: Error) -> bool {
     match decode_section(alloc, bytes) {
-        Ok(bound) => assert_eq!(rt; bound.resolve.packages.len(), 0),
-        Err(error) => assert_eq!(rt; error, *expected),
+        Ok(_) => false,
+        Err(error) => error == expected,
     }
 }
 
-/// The bytes of package 0.
-fn package(alloc: Global, resolve: &Resolve) -> Result<Vec<u8>, Fail> {
-    resolve.check(alloc)?;
-    if resolve.packages.is_empty() {
-        return Ok(Vec::new(alloc));
-    }
-    Ok(encode(alloc, resolve, PackageId(0), false)?)
-}
-
-// A package of one world says no encoding, and one with an interface at the top is no world by itself.
+// No data, the historical format, another format and encoding, a package of one world, which says no encoding, and one with an interface,
+// which is no world by itself.
 #[test]
 fn sections_that_bind_nothing(rt: HostRuntime) -> Result<(), Fail> {
     let alloc = rt.alloc();
-    let empty = Error::NoReading(Cause::Truncated, 0);
-    assert_refused(&rt, alloc, &[], &empty);
-    assert_refused(&rt, alloc, &[3], &Error::Historical);
-    assert_refused(&rt, alloc, &[3, 0, 0x61], &Error::Historical);
-    let bytes = package(alloc, &host_and_guest(alloc, None)?)?;
-    assert_refused(&rt, alloc, &bytes, &Error::EncodingMissing);
-    let bytes = package(alloc, &interface_and_world(alloc)?)?;
-    let found = decode_section(alloc, &bytes);
+    let nothing = Error::NoReading(Cause::Truncated, 0);
+    assert!(rt; is_refused(alloc, &[], nothing));
+    assert!(rt; is_refused(alloc, &[3, 0, 0x61], Error::Historical));
+    let bytes = carried(alloc, 5, 0)?;
+    assert!(rt; is_refused(alloc, &bytes, Error::EncodingVersion(5)));
+    let bytes = carried(alloc, 4, 3)?;
+    assert!(rt; is_refused(alloc, &bytes, Error::BadStringEncoding(3)));
+    assert!(rt; is_refused(alloc, HOST_AND_GUEST, Error::EncodingMissing));
+    let found = decode_section(alloc, INTERFACE_AND_WORLD);
     assert!(rt; matches!(&found, Err(Error::NoReading(_, _))));
-    let bytes = carried(alloc, StringEncoding::UTF8, 33, 5)?;
-    assert_refused(&rt, alloc, &bytes, &Error::EncodingVersion(5));
-    let bytes = carried(alloc, StringEncoding::UTF8, 34, 3)?;
-    assert_refused(&rt, alloc, &bytes, &Error::BadStringEncoding(3));
     Ok(())
 }

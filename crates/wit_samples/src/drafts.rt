@@ -1,6 +1,7 @@
 //! `Resolve`s to start from, and what is added to them: package 0 is `a:b` with the empty interface `i` and the empty world `w`,
 //! both number 0. Each call takes time and memory for what it adds alone, and is refused for want of memory alone.
 
+use semver::Version;
 use std::alloc::{AllocError, Global};
 use wit_model::{
     Docs, EntryList, Fault, Function, FunctionKind, Interface, InterfaceId, Map, Package,
@@ -100,6 +101,13 @@ pub fn add_package(
 ) -> Result<(), AllocError> {
     resolve.packages.push(package(alloc, namespace, name)?)?;
     Ok(())
+}
+
+/// Gives a package a version.
+pub fn set_version(resolve: &mut Resolve, number: usize, major: u64, minor: u64, patch: u64) {
+    if let Some(package) = resolve.packages.get_mut(number) {
+        package.name.version = Some(Version::new(major, minor, patch));
+    }
 }
 
 /// Puts an interface number into the map of a package.

@@ -1,0 +1,14 @@
+use Rattle.std.proofs.Common.{refl}
+use Rattle.std.proofs.lemmas.Option.{slice_get_read}
+use Rattle.wit_encode.proofs.Tables.{table-parts, table-formed}
+use Rattle.wit_component_tests.proofs.table_calls.call_kind.Goals as goal
+
+pub encode_kind-requires-clause-in_range : goal.encode_kind-requires-clause-in_range
+encode_kind-requires-clause-in_range c =
+    let inside = c.is_number.ensures c.if-not-is_number.false in
+    table-parts c.args.table.now c.requires c.args.id.0 c.index.result.now inside (slice_get_read c.args.table.now.resolve.now.types.items _ c.args.id.0 c.index.result.now refl inside c.index.ensures)
+
+pub encode_kind-requires-clause-formed : goal.encode_kind-requires-clause-formed
+encode_kind-requires-clause-formed c =
+    let inside = c.is_number.ensures c.if-not-is_number.false in
+    table-formed c.args.table.now c.requires c.args.id.0 c.index.result.now inside (slice_get_read c.args.table.now.resolve.now.types.items _ c.args.id.0 c.index.result.now refl inside c.index.ensures)

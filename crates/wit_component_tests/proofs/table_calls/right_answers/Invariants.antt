@@ -1,0 +1,5 @@
+use Rattle.encode_types.specs.Table.{IsTable}
+use Rattle.wit_component_tests.proofs.table_calls.right_answers.Given as goal
+
+abbrev pub invariant-loop-call : goal.invariant-loop-call
+invariant-loop-call l = IsTable l.table

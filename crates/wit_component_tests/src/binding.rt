@@ -1,0 +1,128 @@
+//! The keys of encodings as texts, which are seen through labels: that of the function `f` under a label `x` is the text `x/f`.
+
+use std::alloc::Global;
+use std::process::Abort;
+use std::test::Fail;
+use wit_component::{
+    Bindgen, Check, EncodingMap, Error, FunctionKind, InterfaceId, ModuleMetadata, PackageId,
+    Resolve, StringEncoding, TypeDefKind, TypeId, WorldId, WorldItem, WorldKey,
+};
+use wit_samples::drafts::{
+    add_inline, add_type, add_unnamed, draft, export, import, import_into, nullary, param,
+    put_function, set_version, shown,
+};
+use wit_samples::kinds::{borrow_of, id};
+
+// ---- a world of `a:b@0.1.0`
+
+// Interface 0 has the resource `r` and its method `m`, interface 1, which is inline, the function `g`.
+fn with_functions(alloc: Global) -> Result<Resolve, Error> {
+    let mut resolve = draft(alloc)?;
+    set_version(&mut resolve, 0, 0, 1, 0);
+    add_type(alloc, &mut resolve, "r", TypeDefKind::Resource)?;
+    add_unnamed(&mut resolve, borrow_of(0))?;
+    let mut method = nullary(alloc, "[method]r.m", FunctionKind::Method(TypeId(0)), None)?;
+    method.params.push(param(alloc, "self", id(1))?)?;
+    put_function(alloc, &mut resolve, 0, "[method]r.m", method)?;
+    add_inline(alloc, &mut resolve)?;
+    let g = nullary(alloc, "g", FunctionKind::Freestanding, None)?;
+    put_function(alloc, &mut resolve, 1, "g", g)?;
+    Ok(resolve)
+}
+
+// The world imports interface 0 by its path and under the label `x`, the inline one under `y`, and the function `k`, and exports the
+// function `l`.
+fn with_world(alloc: Global) -> Result<Resolve, Error> {
+    let mut resolve = with_functions(alloc)?;
+    let path = WorldKey::Interface(InterfaceId(0));
+    import_into(&mut resolve, 0, path, shown(0))?;
+    import(alloc, &mut resolve, "x", shown(0))?;
+    import(alloc, &mut resolve, "y", shown(1))?;
+    let k = nullary(alloc, "k", FunctionKind::Freestanding, None)?;
+    import(alloc, &mut resolve, "k", WorldItem::Function(k))?;
+    let l = nullary(alloc, "l", FunctionKind::Freestanding, None)?;
+    export(alloc, &mut resolve, "l", WorldItem::Function(l))?;
+    Ok(resolve)
+}
+
+// ---- its keys
+
+/// A label, the name of a function, and whether it has an encoding among the imports and among the exports.
+type Question = (&'static str, &'static str, bool, bool);
+
+static QUESTIONS: [Question; 9] = [
+    ("a:b/i", "[method]r.m", true, false),
+    ("a:b/i@0.1.0", "[method]r.m", false, false),
+    ("a:b", "i/[method]r.m", true, false),
+    ("x", "[method]r.m", true, false),
+    ("y", "g", true, false),
+    ("k", "k", true, false),
+    ("k", "g", false, false),
+    ("l", "l", false, true),
+    ("", "", false, false),
+];
+
+fn has(
+    alloc: Global,
+    map: &EncodingMap,
+    resolve: &Resolve,
+    label: &str,
+    name: &str,
+) -> Result<bool, Error> {
+    let key = WorldKey::Name(String::from_str(alloc, label)?);
+    Ok(map.get(resolve, &key, name) == Some(StringEncoding::UTF16))
+}
+
+fn assert_answers(
+    rt: &impl Abort,
+    alloc: Global,
+    resolve: &Resolve,
+    metadata: &ModuleMetadata,
+    question: Question,
+    stands: bool,
+) -> Result<(), Fail> {
+    let (label, name, imported, exported) = question;
+    let found = has(alloc, &metadata.import_encodings, resolve, label, name)?;
+    assert_eq!(rt; found, imported && stands, "{label}/{name}");
+    let found = has(alloc, &metadata.export_encodings, resolve, label, name)?;
+    assert_eq!(rt; found, exported && stands, "{label}/{name}");
+    Ok(())
+}
+
+// Paths stand without version. A new map, and those of no module, have no encodings.
+#[test]
+fn keys_as_texts(rt: HostRuntime) -> Result<(), Fail> {
+    let alloc = rt.alloc();
+    let resolve = with_world(alloc)?;
+    resolve.check(alloc)?;
+    assert!(rt; resolve.worlds.len() > 0);
+    let metadata = ModuleMetadata::new(alloc, &resolve, WorldId(0), StringEncoding::UTF16)?;
+    let empty = ModuleMetadata::empty(alloc);
+    let new = ModuleMetadata {
+        import_encodings: EncodingMap::new(alloc),
+        export_encodings: EncodingMap::new(alloc),
+    };
+    for question in &QUESTIONS {
+        assert_answers(&rt, alloc, &resolve, &metadata, *question, true)?;
+        assert_answers(&rt, alloc, &resolve, &empty, *question, false)?;
+        assert_answers(&rt, alloc, &resolve, &new, *question, false)?;
+    }
+    Ok(())
+}
+
+// ---- a module that carries no world
+
+#[test]
+fn the_empty_root_world(rt: HostRuntime) -> Result<(), Fail> {
+    let alloc = rt.alloc();
+    let bindings = Bindgen::default(alloc)?;
+    bindings.resolve.check(alloc)?;
+    assert!(rt; bindings.resolve.packages.len() == 1 && bindings.resolve.worlds.len() == 1);
+    let path = bindings.resolve.id_of_name(alloc, PackageId(0), "root")?;
+    assert_eq!(rt; path.as_str(), "root:root/root");
+    for world in &bindings.resolve.worlds {
+        assert_eq!(rt; world.name.as_str(), "root");
+        assert!(rt; world.imports.is_empty() && world.exports.is_empty());
+    }
+    Ok(())
+}

@@ -1,0 +1,72 @@
+//! Large packages, in time.
+
+use crate::same::{same_senses, text_of};
+use std::alloc::{AllocError, Global};
+use std::process::Abort;
+use std::test::Fail;
+use wit_component::{Check, EntryList, Fault, PackageId, Resolve, decode, encode, normalized};
+use wit_samples::samples::{each_kind, functions_in_plenty, records_in_plenty, with_options};
+
+// What is checked, encoded and decoded has the text that it had, and keeps its meaning when that is done again.
+fn assert_kept(rt: &impl Abort, alloc: Global, resolve: &Resolve) -> Result<(), Fail> {
+    resolve.check(alloc)?;
+    assert!(rt; resolve.packages.len() > 0);
+    let text = text_of(alloc, resolve, PackageId(0))?;
+    let bytes = encode(alloc, resolve, PackageId(0), false)?;
+    let (once, package) = decode(alloc, &bytes)?;
+    assert!(rt; text_of(alloc, &once, package)? == text);
+    let (twice, package) = normalized(alloc, &once, package)?;
+    assert!(rt; text_of(alloc, &twice, package)? == text);
+    assert!(rt; same_senses(alloc, &once, &twice)?);
+    Ok(())
+}
+
+// A type of each kind.
+#[test]
+fn each_kind_of_type(rt: HostRuntime) -> Result<(), Fail> {
+    assert_kept(&rt, rt.alloc(), &each_kind(rt.alloc())?)
+}
+
+// 500 records and 4,500 lists.
+#[test]
+fn types_in_plenty(rt: HostRuntime) -> Result<(), Fail> {
+    assert_kept(&rt, rt.alloc(), &records_in_plenty(rt.alloc(), 500)?)
+}
+
+// 5,000 functions in 50 interfaces.
+#[test]
+fn interfaces_in_plenty(rt: HostRuntime) -> Result<(), Fail> {
+    assert_kept(&rt, rt.alloc(), &functions_in_plenty(rt.alloc(), 50, 100)?)
+}
+
+fn checked(alloc: Global, sample: Result<Resolve, AllocError>) -> Result<(), Fault> {
+    let resolve = sample?;
+    resolve.check(alloc)
+}
+
+// 200,000 types.
+#[test]
+fn many_types(rt: HostRuntime) {
+    let sample = records_in_plenty(rt.alloc(), 20_000);
+    assert!(rt; checked(rt.alloc(), sample) == Ok(()));
+}
+
+// 200,000 functions in 2,000 interfaces.
+#[test]
+fn many_functions(rt: HostRuntime) {
+    let sample = functions_in_plenty(rt.alloc(), 2_000, 100);
+    assert!(rt; checked(rt.alloc(), sample) == Ok(()));
+}
+
+// A chain of 200,000 unnamed types, of which the first 100 are allowed.
+#[test]
+fn a_long_chain(rt: HostRuntime) {
+    let sample = with_options(rt.alloc(), 200_000);
+    let list = EntryList::Types;
+    let refused = Fault::Broken {
+        rule: 10,
+        list,
+        number: 101,
+    };
+    assert!(rt; checked(rt.alloc(), sample) == Err(refused));
+}

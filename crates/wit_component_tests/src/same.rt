@@ -1,0 +1,67 @@
+//! Whether two packages are the same: the text of each, and the senses of what their `Resolve`s hold, by number.
+
+ghost use Rattle.std.specs.Prelude.{◌<◌, length};
+ghost use Rattle.wit_component.specs.Valid.{IsValid};
+
+use std::alloc::Global;
+use wit_component::{
+    Error, InterfaceId, OutputToString, PackageId, Place, Resolve, WitPrinter, WorldId, same_sense,
+};
+
+/// The text of a package.
+pub(super) fn text_of(alloc: Global, resolve: &Resolve, package: PackageId) -> Result<String, Error>
+    requires valid { IsValid resolve.now }
+    requires in_range { «package».0 < length resolve.now.packages.items }
+{
+    let mut printer = WitPrinter::new(OutputToString::new(alloc));
+    printer.print(alloc, resolve, package, &[])?;
+    Ok(String::from(printer.output))
+}
+
+// Whether something stands at a place of both, and has the same sense.
+fn same_at(alloc: Global, left: &Resolve, right: &Resolve, place: Place) -> Result<bool, Error>
+    requires left { IsValid left.now }
+    requires right { IsValid right.now }
+{
+    if !place.is_in(left) || !place.is_in(right) {
+        return Ok(false);
+    }
+    same_sense(alloc, left, place, right, place)
+}
+
+fn same_interfaces(alloc: Global, left: &Resolve, right: &Resolve) -> Result<bool, Error>
+    requires left { IsValid left.now }
+    requires right { IsValid right.now }
+{
+    for number in 0..left.interfaces.len() {
+        let id = InterfaceId(u32::try_from(number).unwrap_or(u32::MAX));
+        if !same_at(alloc, left, right, Place::Interface(id))? {
+            return Ok(false);
+        }
+    }
+    Ok(left.interfaces.len() == right.interfaces.len())
+}
+
+fn same_worlds(alloc: Global, left: &Resolve, right: &Resolve) -> Result<bool, Error>
+    requires left { IsValid left.now }
+    requires right { IsValid right.now }
+{
+    for number in 0..left.worlds.len() {
+        let id = WorldId(u32::try_from(number).unwrap_or(u32::MAX));
+        if !same_at(alloc, left, right, Place::World(id))? {
+            return Ok(false);
+        }
+    }
+    Ok(left.worlds.len() == right.worlds.len())
+}
+
+/// Whether the interfaces and worlds of both have the same senses.
+pub(super) fn same_senses(alloc: Global, left: &Resolve, right: &Resolve) -> Result<bool, Error>
+    requires left { IsValid left.now }
+    requires right { IsValid right.now }
+{
+    if !same_interfaces(alloc, left, right)? {
+        return Ok(false);
+    }
+    same_worlds(alloc, left, right)
+}

@@ -1,0 +1,484 @@
+//! Calls of the encoder's functions, one after the other in the scope of one table, and the slots that they answer.
+
+ghost use Rattle.std.specs.Prelude.{◌≡◌, ◌<◌, true, false, length, map, option_to_list, is_some, Some, IfOk, IfSome};
+ghost use Rattle.std.specs.Option.{option_map_or};
+ghost use Rattle.std.specs.List.{list_all};
+ghost use Rattle.wit_model.specs.Valid.{IsValid};
+ghost use Rattle.wit_model.specs.Lookup.{interface_at, type_at};
+ghost use Rattle.encode_types.specs.Kinds.{parts_of, has_definition, kind_tree};
+ghost use Rattle.encode_types.specs.Formed.{IsFormed};
+ghost use Rattle.encode_types.specs.Plan.{InRange, AllInRange, foreign_owner};
+ghost use Rattle.encode_types.specs.Table.{has_named_owner, is_met_by, table_scope, IsDefined, AllDefined, IsTable};
+
+use crate::table_sample::sample;
+use std::alloc::Global;
+use std::test::Fail;
+use wit_component::{
+    Check, ComponentValType, Error, Fault, Function, InterfaceId, Param, Resolve, Table, Type,
+    TypeDef, TypeDefKind, TypeId, TypeOwner, encode_enum, encode_flags, encode_func_type,
+    encode_future, encode_option, encode_optional_valtype, encode_params, encode_record,
+    encode_result, encode_stream, encode_tuple, encode_unit_future, encode_unit_stream,
+    encode_valtype, encode_variant, maybe_import_type,
+};
+
+/// The interface whose types are encoded.
+const OWN: InterfaceId = InterfaceId(1);
+
+/// A call.
+#[derive(Clone, Copy)]
+enum Call {
+    Valtype(Type),
+    Optional(Option<Type>),
+    /// The function that is named after the kind of the type of this number.
+    Kind(u32),
+    /// A future or a stream of this element.
+    Future(Option<Type>),
+    Stream(Option<Type>),
+    /// The parameters of the function of `OWN`.
+    Params,
+    /// The function of `OWN`.
+    Function,
+    Import(u32),
+    UnitFuture,
+    UnitStream,
+}
+
+// ---- what a call takes is in range
+
+fn is_number(resolve: &Resolve, id: TypeId) -> bool
+    ensures { result ≡ true → id.0 < length resolve.now.types.items }
+{
+    (id.0 as usize) < resolve.types.len()
+}
+
+fn is_in_range(resolve: &Resolve, ty: Type) -> bool
+    ensures { result ≡ true → InRange resolve.now ty }
+{
+    match ty {
+        Type::Id(id) => is_number(resolve, id),
+        _ => true,
+    }
+}
+
+fn are_in_range(resolve: &Resolve, params: &[Param]) -> bool
+    ensures { result ≡ true → AllInRange resolve.now (map (λ p. p.ty) params.now) }
+{
+    for param in params {
+        if !is_in_range(resolve, param.ty) {
+            return false;
+        }
+    }
+    true
+}
+
+fn is_optional_in_range(resolve: &Resolve, ty: Option<Type>) -> bool
+    ensures { result ≡ true → AllInRange resolve.now (option_to_list ty) }
+{
+    match ty {
+        Some(ty) => is_in_range(resolve, ty),
+        None => true,
+    }
+}
+
+// ---- what a call takes has a definition of its own
+
+fn is_definition(kind: &TypeDefKind) -> bool
+    ensures { result ≡ has_definition kind.now }
+{
+    match kind {
+        TypeDefKind::Resource => false,
+        TypeDefKind::Type_(Type::Id(_)) => false,
+        _ => true,
+    }
+}
+
+fn is_defined_number(resolve: &Resolve, id: TypeId) -> bool
+    ensures { result ≡ true → (def : _) → type_at resolve.now id.0 ≡ Some def → has_definition def.kind ≡ true }
+{
+    match resolve.types.get(id.0 as usize) {
+        Some(def) => is_definition(&def.kind),
+        None => false,
+    }
+}
+
+fn is_defined(resolve: &Resolve, ty: Type) -> bool
+    ensures { result ≡ true → IsDefined resolve.now ty }
+{
+    match ty {
+        Type::Id(id) => is_defined_number(resolve, id),
+        _ => true,
+    }
+}
+
+fn are_defined(resolve: &Resolve, params: &[Param]) -> bool
+    ensures { result ≡ true → AllDefined resolve.now (map (λ p. p.ty) params.now) }
+{
+    for param in params {
+        if !is_defined(resolve, param.ty) {
+            return false;
+        }
+    }
+    true
+}
+
+fn is_optional_defined(resolve: &Resolve, ty: Option<Type>) -> bool
+    ensures { result ≡ true → AllDefined resolve.now (option_to_list ty) }
+{
+    match ty {
+        Some(ty) => is_defined(resolve, ty),
+        None => true,
+    }
+}
+
+// ---- calls
+
+// The slot that a value type stands by.
+fn slot_of(ty: ComponentValType) -> Option<u32> {
+    match ty {
+        ComponentValType::Type_(slot) => Some(slot),
+        ComponentValType::Primitive(_) => None,
+    }
+}
+
+fn call_valtype<'a>(alloc: Global, table: &mut Table<'a>, ty: Type) -> Result<Option<u32>, Error>
+    requires { IsTable table.old }
+    ensures { IsTable table.new }
+{
+    let resolve = table.resolve;
+    if !is_in_range(resolve, ty) {
+        return Err(Error::Size);
+    }
+    let value = encode_valtype(alloc, table, resolve, &ty)?;
+    Ok(slot_of(value))
+}
+
+fn call_optional<'a>(
+    alloc: Global,
+    table: &mut Table<'a>,
+    ty: Option<Type>,
+) -> Result<Option<u32>, Error>
+    requires { IsTable table.old }
+    ensures { IsTable table.new }
+{
+    let resolve = table.resolve;
+    if !is_optional_in_range(resolve, ty) {
+        return Err(Error::Size);
+    }
+    match encode_optional_valtype(alloc, table, resolve, ty.as_ref())? {
+        Some(value) => Ok(slot_of(value)),
+        None => Ok(None),
+    }
+}
+
+// The function that is named after a kind.
+fn encode_kind<'a>(
+    alloc: Global,
+    table: &mut Table<'a>,
+    kind: &'a TypeDefKind,
+) -> Result<ComponentValType, Error>
+    requires table { IsTable table.old }
+    requires in_range { AllInRange table.old.resolve.now (parts_of kind.now) }
+    requires formed { has_definition kind.now ≡ true → IsFormed (table_scope table.old.resolve.now table.old.owner) (kind_tree table.old.resolve.now kind.now) }
+    ensures { IsTable table.new }
+{
+    let resolve = table.resolve;
+    match kind {
+        TypeDefKind::Record(record) => encode_record(alloc, table, resolve, record),
+        TypeDefKind::Tuple(tuple) => encode_tuple(alloc, table, resolve, tuple),
+        TypeDefKind::Flags(flags) => encode_flags(alloc, table, flags),
+        TypeDefKind::Variant(variant) => encode_variant(alloc, table, resolve, variant),
+        TypeDefKind::Option(payload) => encode_option(alloc, table, resolve, payload),
+        TypeDefKind::Result(result) => encode_result(alloc, table, resolve, result),
+        TypeDefKind::Enum(cases) => encode_enum(alloc, table, cases),
+        TypeDefKind::Future(payload) => encode_future(alloc, table, resolve, payload),
+        TypeDefKind::Stream(payload) => encode_stream(alloc, table, resolve, payload),
+        _ => Err(Error::Size),
+    }
+}
+
+fn call_kind<'a>(alloc: Global, table: &mut Table<'a>, id: TypeId) -> Result<Option<u32>, Error>
+    requires { IsTable table.old }
+    ensures { IsTable table.new }
+{
+    let resolve = table.resolve;
+    if !is_number(resolve, id) {
+        return Err(Error::Size);
+    }
+    let value = encode_kind(alloc, table, &resolve.types[id.0 as usize].kind)?;
+    Ok(slot_of(value))
+}
+
+fn call_future<'a>(
+    alloc: Global,
+    table: &mut Table<'a>,
+    payload: Option<Type>,
+) -> Result<Option<u32>, Error>
+    requires { IsTable table.old }
+    ensures { IsTable table.new }
+{
+    let resolve = table.resolve;
+    if !is_optional_in_range(resolve, payload) || !is_optional_defined(resolve, payload) {
+        return Err(Error::Size);
+    }
+    let value = encode_future(alloc, table, resolve, &payload)?;
+    Ok(slot_of(value))
+}
+
+fn call_stream<'a>(
+    alloc: Global,
+    table: &mut Table<'a>,
+    payload: Option<Type>,
+) -> Result<Option<u32>, Error>
+    requires { IsTable table.old }
+    ensures { IsTable table.new }
+{
+    let resolve = table.resolve;
+    if !is_optional_in_range(resolve, payload) || !is_optional_defined(resolve, payload) {
+        return Err(Error::Size);
+    }
+    let value = encode_stream(alloc, table, resolve, &payload)?;
+    Ok(slot_of(value))
+}
+
+// The slot of the second parameter's type, where there are two parameters.
+fn slot_of_second(params: &[(&str, ComponentValType)]) -> Option<u32> {
+    let (_, ty) = params.get(1)?;
+    slot_of(*ty)
+}
+
+fn call_params<'a>(
+    alloc: Global,
+    table: &mut Table<'a>,
+    params: &'a [Param],
+) -> Result<Option<u32>, Error>
+    requires { IsTable table.old }
+    ensures { IsTable table.new }
+{
+    let resolve = table.resolve;
+    if !are_in_range(resolve, params) {
+        return Err(Error::Size);
+    }
+    let values = encode_params(alloc, table, resolve, params)?;
+    Ok(slot_of_second(&values))
+}
+
+fn call_function<'a>(
+    alloc: Global,
+    table: &mut Table<'a>,
+    function: &'a Function,
+) -> Result<Option<u32>, Error>
+    requires { IsTable table.old }
+    ensures { IsTable table.new }
+{
+    let resolve = table.resolve;
+    if !are_in_range(resolve, &function.params) || !is_optional_in_range(resolve, function.result) {
+        return Err(Error::Size);
+    }
+    if !are_defined(resolve, &function.params) || !is_optional_defined(resolve, function.result) {
+        return Err(Error::Size);
+    }
+    let slot = encode_func_type(alloc, table, resolve, function)?;
+    Ok(Some(slot))
+}
+
+fn call_import<'a>(alloc: Global, table: &mut Table<'a>, id: TypeId) -> Result<Option<u32>, Error>
+    requires { IsTable table.old }
+    ensures { IsTable table.new }
+{
+    let resolve = table.resolve;
+    if !is_number(resolve, id) {
+        return Err(Error::Size);
+    }
+    maybe_import_type(alloc, table, resolve, id)
+}
+
+fn call_unit_future<'a>(alloc: Global, table: &mut Table<'a>) -> Result<Option<u32>, Error>
+    requires { IsTable table.old }
+    ensures { IsTable table.new }
+{
+    let slot = encode_unit_future(alloc, table)?;
+    Ok(Some(slot))
+}
+
+fn call_unit_stream<'a>(alloc: Global, table: &mut Table<'a>) -> Result<Option<u32>, Error>
+    requires { IsTable table.old }
+    ensures { IsTable table.new }
+{
+    let slot = encode_unit_stream(alloc, table)?;
+    Ok(Some(slot))
+}
+
+// Makes a call.
+fn answer<'a>(
+    alloc: Global,
+    table: &mut Table<'a>,
+    function: &'a Function,
+    call: Call,
+) -> Result<Option<u32>, Error>
+    requires { IsTable table.old }
+    ensures { IsTable table.new }
+{
+    match call {
+        Call::Valtype(ty) => call_valtype(alloc, table, ty),
+        Call::Optional(ty) => call_optional(alloc, table, ty),
+        Call::Kind(number) => call_kind(alloc, table, TypeId(number)),
+        Call::Future(payload) => call_future(alloc, table, payload),
+        Call::Stream(payload) => call_stream(alloc, table, payload),
+        Call::Params => call_params(alloc, table, &function.params),
+        Call::Function => call_function(alloc, table, function),
+        Call::Import(number) => call_import(alloc, table, TypeId(number)),
+        Call::UnitFuture => call_unit_future(alloc, table),
+        Call::UnitStream => call_unit_stream(alloc, table),
+    }
+}
+
+/// A call and the slot that it answers.
+type Answered = (Call, Option<u32>);
+
+// How many calls, one after the other, are answered as expected.
+fn right_answers<'a>(
+    alloc: Global,
+    table: &mut Table<'a>,
+    function: &'a Function,
+    calls: &[Answered],
+) -> Result<usize, Error>
+    requires { IsTable table.old }
+{
+    for (number, (call, expected)) in calls.iter().enumerate() {
+        if answer(alloc, table, function, *call)? != *expected {
+            return Ok(number);
+        }
+    }
+    Ok(calls.len())
+}
+
+// ---- a table of a valid `Resolve`
+
+fn has_name(resolve: &Resolve, id: InterfaceId) -> bool
+    ensures { result ≡ option_map_or (λ i. is_some i.name) (interface_at resolve.now id.0) false }
+{
+    match resolve.interfaces.get(id.0 as usize) {
+        Some(interface) => interface.name.is_some(),
+        None => false,
+    }
+}
+
+fn is_of_named(resolve: &Resolve, def: &TypeDef) -> bool
+    ensures { result ≡ has_named_owner resolve.now def.now }
+{
+    match def.owner {
+        TypeOwner::Interface(id) => has_name(resolve, id),
+        _ => false,
+    }
+}
+
+// The interface of a type, where it is another one than `OWN`.
+fn foreign(owner: TypeOwner) -> Option<InterfaceId>
+    ensures { result ≡ foreign_owner (Some OWN) owner }
+{
+    match owner {
+        TypeOwner::Interface(id) => { if id.0 == OWN.0 { None } else { Some(id) } }
+        TypeOwner::World(_) => None,
+        TypeOwner::None => None,
+    }
+}
+
+fn is_foreign(def: &TypeDef) -> bool
+    ensures { result ≡ is_some (foreign_owner (Some OWN) def.now.owner) }
+{
+    foreign(def.owner).is_some()
+}
+
+// Whether the type may be met from those of `OWN`.
+fn is_met(resolve: &Resolve, def: &TypeDef) -> bool
+    ensures { result ≡ is_met_by resolve.now (TypeOwner.Interface OWN) def.now }
+{
+    let owner = TypeOwner::Interface(OWN);
+    def.name.is_none() || (def.owner == owner || (is_foreign(def) && is_of_named(resolve, def)))
+}
+
+fn are_met(resolve: &Resolve, types: &[TypeDef]) -> bool
+    ensures { result ≡ list_all (is_met_by resolve.now (TypeOwner.Interface OWN)) types.now }
+{
+    types.iter().all(|def| is_met(resolve, def))
+}
+
+fn is_valid(alloc: Global, resolve: &Resolve) -> Result<bool, Error>
+    ensures { IfOk result (λ b. b ≡ true → IsValid resolve.now) }
+{
+    match resolve.check(alloc) {
+        Ok(()) => Ok(true),
+        Err(Fault::Memory) => Err(Error::Memory),
+        Err(Fault::Broken { .. }) => Ok(false),
+    }
+}
+
+// A table for `OWN`, if the packages are valid.
+fn table_of<'a>(alloc: Global, resolve: &'a Resolve) -> Result<Option<Table<'a>>, Error>
+    ensures { IfOk result (λ o. IfSome o IsTable) }
+{
+    if !is_valid(alloc, resolve)? || !are_met(resolve, &resolve.types) {
+        return Ok(None);
+    }
+    Ok(Some(Table::new(alloc, resolve, TypeOwner::Interface(OWN))))
+}
+
+// The first function of `OWN`.
+fn function_of(resolve: &Resolve) -> Option<&Function> {
+    let interface = resolve.interfaces.get(OWN.0 as usize)?;
+    let (_, function) = interface.functions.get_index(0)?;
+    Some(function)
+}
+
+// How many calls, one after the other on a table of its own, are answered as expected.
+fn right_on_a_table(alloc: Global, calls: &[Answered]) -> Result<usize, Error> {
+    let resolve = sample(alloc)?;
+    let Some(function) = function_of(&resolve) else {
+        return Ok(0);
+    };
+    match table_of(alloc, &resolve)? {
+        Some(mut table) => right_answers(alloc, &mut table, function, calls),
+        None => Ok(0),
+    }
+}
+
+// Futures and streams without an element have caches of their own, which the other functions don't look into.
+static UNITS: [Answered; 8] = [
+    (Call::UnitFuture, Some(0)),
+    (Call::UnitFuture, Some(0)),
+    (Call::Future(None), Some(1)),
+    (Call::UnitStream, Some(2)),
+    (Call::UnitStream, Some(2)),
+    (Call::Stream(None), Some(3)),
+    (Call::Future(Some(Type::U8)), Some(4)),
+    (Call::Stream(Some(Type::U8)), Some(5)),
+];
+
+// The list is slot 0, the record 1 and its name 2. A function that is named after a kind defines it at each call. The tuple needs the resource
+// and what owns it. Equal functions share a type. A type of another interface is imported, and no other.
+static CALLS: [Answered; 17] = [
+    (Call::Valtype(Type::Bool), None),
+    (Call::Valtype(Type::Id(TypeId(4))), Some(2)),
+    (Call::Kind(4), Some(3)),
+    (Call::Kind(5), Some(6)),
+    (Call::Kind(6), Some(7)),
+    (Call::Kind(7), Some(8)),
+    (Call::Kind(8), Some(9)),
+    (Call::Kind(9), Some(10)),
+    (Call::Kind(10), Some(11)),
+    (Call::Valtype(Type::Id(TypeId(11))), Some(12)),
+    (Call::Optional(Some(Type::Id(TypeId(11)))), Some(12)),
+    (Call::Optional(None), None),
+    (Call::Params, Some(0)),
+    (Call::Function, Some(13)),
+    (Call::Function, Some(13)),
+    (Call::Import(0), Some(14)),
+    (Call::Import(3), None),
+];
+
+#[test]
+fn one_after_the_other(rt: HostRuntime) -> Result<(), Fail> {
+    assert_eq!(rt; right_on_a_table(rt.alloc(), &UNITS)?, 8);
+    assert_eq!(rt; right_on_a_table(rt.alloc(), &CALLS)?, 17);
+    Ok(())
+}
