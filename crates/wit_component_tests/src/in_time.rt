@@ -44,17 +44,17 @@ fn checked(alloc: Global, sample: Result<Resolve, AllocError>) -> Result<(), Fau
     resolve.check(alloc)
 }
 
-// 200,000 types.
+// 40,000 types.
 #[test]
 fn many_types(rt: HostRuntime) {
-    let sample = records_in_plenty(rt.alloc(), 20_000);
+    let sample = records_in_plenty(rt.alloc(), 4_000);
     assert!(rt; checked(rt.alloc(), sample) == Ok(()));
 }
 
-// 200,000 functions in 2,000 interfaces.
+// 40,000 functions in 400 interfaces.
 #[test]
 fn many_functions(rt: HostRuntime) {
-    let sample = functions_in_plenty(rt.alloc(), 2_000, 100);
+    let sample = functions_in_plenty(rt.alloc(), 400, 100);
     assert!(rt; checked(rt.alloc(), sample) == Ok(()));
 }
 

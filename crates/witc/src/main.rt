@@ -9,8 +9,6 @@ mod demo;
 mod example;
 mod hex;
 mod input;
-#[cfg(test)]
-mod plain_packages;
 mod print;
 mod refusal;
 mod run;

@@ -1,14 +1,15 @@
 //! Reads and writes that fail, each call of them in turn.
 
 use super::ports::{Ports, run_over};
-use super::{DEMO, DEMO_HEX, DEMO_TEXT, USAGE_LINE, Words};
+use super::{DEMO_HEX, DEMO_TEXT, USAGE_LINE, Words};
 use crate::answer::{BAD_WORDS, DONE, REFUSED, refuse};
 use crate::refusal::Refusal;
 use std::alloc::{AllocError, Global};
 use std::io::ErrorKind;
 use std::process::Abort;
 use std::test::Fail;
-use wit_model::Error;
+use wit_component::Error;
+use wit_samples::bytes::HOST_AND_GUEST;
 
 const UNREAD: &str = "refused: the input can't be read\n";
 
@@ -17,7 +18,7 @@ fn assert_unread(rt: &impl Abort, alloc: Global, words: Words, read: usize) -> R
         read,
         ..Ports::OPEN
     };
-    let outcome = run_over(alloc, words, DEMO, ports)?;
+    let outcome = run_over(alloc, words, HOST_AND_GUEST, ports)?;
     assert_eq!(rt; outcome.status, REFUSED, "{read}");
     assert_eq!(rt; outcome.output.as_slice(), UNREAD.as_bytes());
     assert_eq!(rt; outcome.reads, read);
@@ -45,7 +46,7 @@ fn interrupted(rt: HostRuntime) -> Result<(), Fail> {
         write: 0,
         kind: ErrorKind::Interrupted,
     };
-    let outcome = run_over(rt.alloc(), &[b"print"], DEMO, ports)?;
+    let outcome = run_over(rt.alloc(), &[b"print"], HOST_AND_GUEST, ports)?;
     assert_eq!(rt; outcome.status, DONE);
     assert_eq!(rt; outcome.output.as_slice(), DEMO_TEXT.as_bytes());
     assert_eq!(rt; outcome.reads, 65);
@@ -64,7 +65,7 @@ fn assert_cut(
         write,
         ..Ports::OPEN
     };
-    let outcome = run_over(alloc, words, DEMO, ports)?;
+    let outcome = run_over(alloc, words, HOST_AND_GUEST, ports)?;
     assert_eq!(rt; outcome.status, REFUSED, "{write}");
     assert_eq!(rt; outcome.writes, write);
     assert!(rt; text.as_bytes().starts_with(&outcome.output));
@@ -83,7 +84,7 @@ fn assert_whole(
         write: text.len().saturating_add(1),
         ..Ports::OPEN
     };
-    let outcome = run_over(alloc, words, DEMO, ports)?;
+    let outcome = run_over(alloc, words, HOST_AND_GUEST, ports)?;
     assert_eq!(rt; outcome.status, status);
     assert_eq!(rt; outcome.writes, text.len());
     Ok(())
@@ -118,7 +119,7 @@ fn refusals_cut(rt: HostRuntime) -> Result<(), Fail> {
             write,
             kind: ErrorKind::Other,
         };
-        let outcome = run_over(rt.alloc(), &[b"print"], DEMO, ports)?;
+        let outcome = run_over(rt.alloc(), &[b"print"], HOST_AND_GUEST, ports)?;
         assert_eq!(rt; outcome.status, REFUSED);
         assert_eq!(rt; outcome.writes, write);
         assert!(rt; UNREAD.as_bytes().starts_with(&outcome.output));
