@@ -8,7 +8,7 @@ use wit_component::{
     Resolve, StringEncoding, TypeDefKind, TypeId, WorldId, WorldItem, WorldKey,
 };
 use wit_samples::drafts::{
-    add_inline, add_type, add_unnamed, draft, export, import, import_into, nullary, param,
+    add_inline, add_type, add_unnamed, draft, export, import, import_under, nullary, param,
     put_function, set_version, shown,
 };
 use wit_samples::kinds::{borrow_of, id};
@@ -35,7 +35,7 @@ fn with_functions(alloc: Global) -> Result<Resolve, Error> {
 fn with_world(alloc: Global) -> Result<Resolve, Error> {
     let mut resolve = with_functions(alloc)?;
     let path = WorldKey::Interface(InterfaceId(0));
-    import_into(&mut resolve, 0, path, shown(0))?;
+    import_under(&mut resolve, path, shown(0))?;
     import(alloc, &mut resolve, "x", shown(0))?;
     import(alloc, &mut resolve, "y", shown(1))?;
     let k = nullary(alloc, "k", FunctionKind::Freestanding, None)?;

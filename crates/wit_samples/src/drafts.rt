@@ -4,16 +4,10 @@
 use semver::Version;
 use std::alloc::{AllocError, Global};
 use wit_model::{
-    Docs, EntryList, Fault, Function, FunctionKind, Interface, InterfaceId, Map, Package,
-    PackageId, PackageName, Param, Resolve, Stability, Type, TypeDef, TypeDefKind, TypeId,
-    TypeOwner, World, WorldId, WorldItem, WorldKey,
+    Docs, Function, FunctionKind, Interface, InterfaceId, Map, Package, PackageId, PackageName,
+    Param, Resolve, Stability, Type, TypeDef, TypeDefKind, TypeId, TypeOwner, World, WorldId,
+    WorldItem, WorldKey,
 };
-
-/// Interface 0 as an owner.
-pub const INTERFACE: TypeOwner = TypeOwner::Interface(InterfaceId(0));
-
-/// World 0 as an owner.
-pub const WORLD: TypeOwner = TypeOwner::World(WorldId(0));
 
 /// No documentation.
 pub const NO_DOCS: Docs = Docs { contents: None };
@@ -21,11 +15,6 @@ pub const NO_DOCS: Docs = Docs { contents: None };
 // The number of an entry behind so many.
 fn next(count: usize) -> u32 {
     u32::try_from(count).unwrap_or(u32::MAX)
-}
-
-/// What `check` answers where this entry breaks this rule.
-pub const fn broken(rule: u8, list: EntryList, number: usize) -> Result<(), Fault> {
-    Err(Fault::Broken { rule, list, number })
 }
 
 // ---- packages, interfaces and worlds
@@ -45,8 +34,8 @@ pub fn package(alloc: Global, namespace: &str, name: &str) -> Result<Package, Al
     })
 }
 
-/// An empty interface of package 0, inline where it has no name.
-pub fn interface(alloc: Global, name: Option<&str>) -> Result<Interface, AllocError> {
+// An empty interface of package 0, inline where it has no name.
+fn interface(alloc: Global, name: Option<&str>) -> Result<Interface, AllocError> {
     let name = match name {
         Some(name) => Some(String::from_str(alloc, name)?),
         None => None,
@@ -61,8 +50,8 @@ pub fn interface(alloc: Global, name: Option<&str>) -> Result<Interface, AllocEr
     })
 }
 
-/// An empty world of package 0.
-pub fn world(alloc: Global, name: &str) -> Result<World, AllocError> {
+// An empty world of package 0.
+fn world(alloc: Global, name: &str) -> Result<World, AllocError> {
     Ok(World {
         name: String::from_str(alloc, name)?,
         imports: Map::new(alloc),
@@ -110,15 +99,14 @@ pub fn set_version(resolve: &mut Resolve, number: usize, major: u64, minor: u64,
     }
 }
 
-/// Puts an interface number into the map of a package.
-pub fn list_interface(
+// Puts an interface number into the map of package 0.
+fn list_interface(
     alloc: Global,
     resolve: &mut Resolve,
-    number: usize,
     name: &str,
     id: InterfaceId,
 ) -> Result<(), AllocError> {
-    if let Some(package) = resolve.packages.get_mut(number) {
+    if let Some(package) = resolve.packages.first_mut() {
         package
             .interfaces
             .insert(String::from_str(alloc, name)?, id)?;
@@ -126,15 +114,14 @@ pub fn list_interface(
     Ok(())
 }
 
-/// Puts a world number into the map of a package.
-pub fn list_world(
+// Puts a world number into the map of package 0.
+fn list_world(
     alloc: Global,
     resolve: &mut Resolve,
-    number: usize,
     name: &str,
     id: WorldId,
 ) -> Result<(), AllocError> {
-    if let Some(package) = resolve.packages.get_mut(number) {
+    if let Some(package) = resolve.packages.first_mut() {
         package.worlds.insert(String::from_str(alloc, name)?, id)?;
     }
     Ok(())
@@ -144,37 +131,12 @@ pub fn list_world(
 pub fn add_interface(alloc: Global, resolve: &mut Resolve, name: &str) -> Result<(), AllocError> {
     let id = InterfaceId(next(resolve.interfaces.len()));
     resolve.interfaces.push(interface(alloc, Some(name))?)?;
-    list_interface(alloc, resolve, 0, name, id)
-}
-
-/// An empty interface of the next number and of this package, inline where it has no name, which no map holds yet.
-pub fn add_unlisted_interface(
-    alloc: Global,
-    resolve: &mut Resolve,
-    name: Option<&str>,
-    package: Option<PackageId>,
-) -> Result<(), AllocError> {
-    let mut entry = interface(alloc, name)?;
-    entry.package = package;
-    resolve.interfaces.push(entry)?;
-    Ok(())
+    list_interface(alloc, resolve, name, id)
 }
 
 /// An empty inline interface of the next number, of package 0, which no world shows yet.
 pub fn add_inline(alloc: Global, resolve: &mut Resolve) -> Result<(), AllocError> {
-    add_unlisted_interface(alloc, resolve, None, Some(PackageId(0)))
-}
-
-/// An empty world of the next number and of this package, which no map holds yet.
-pub fn add_unlisted_world(
-    alloc: Global,
-    resolve: &mut Resolve,
-    name: &str,
-    package: Option<PackageId>,
-) -> Result<(), AllocError> {
-    let mut entry = world(alloc, name)?;
-    entry.package = package;
-    resolve.worlds.push(entry)?;
+    resolve.interfaces.push(interface(alloc, None)?)?;
     Ok(())
 }
 
@@ -182,21 +144,17 @@ pub fn add_unlisted_world(
 pub fn add_world(alloc: Global, resolve: &mut Resolve, name: &str) -> Result<(), AllocError> {
     let id = WorldId(next(resolve.worlds.len()));
     resolve.worlds.push(world(alloc, name)?)?;
-    list_world(alloc, resolve, 0, name, id)
+    list_world(alloc, resolve, name, id)
 }
 
 // ---- types
 
-/// A type of the next number without name, of this owner. A valid one has none.
-pub fn add_owned(
-    resolve: &mut Resolve,
-    kind: TypeDefKind,
-    owner: TypeOwner,
-) -> Result<(), AllocError> {
+/// A type of the next number without name and owner.
+pub fn add_unnamed(resolve: &mut Resolve, kind: TypeDefKind) -> Result<(), AllocError> {
     resolve.types.push(TypeDef {
         name: None,
         kind,
-        owner,
+        owner: TypeOwner::None,
         docs: NO_DOCS,
         stability: Stability::Unknown,
         external_id: None,
@@ -204,13 +162,8 @@ pub fn add_owned(
     Ok(())
 }
 
-/// A type of the next number without name and owner.
-pub fn add_unnamed(resolve: &mut Resolve, kind: TypeDefKind) -> Result<(), AllocError> {
-    add_owned(resolve, kind, TypeOwner::None)
-}
-
-/// A type of the next number with a name and an owner, whose list it doesn't stand in yet.
-pub fn add_unlisted(
+// A type of the next number with a name and an owner, whose list it doesn't stand in yet.
+fn add_unlisted(
     alloc: Global,
     resolve: &mut Resolve,
     name: &str,
@@ -228,8 +181,8 @@ pub fn add_unlisted(
     Ok(())
 }
 
-/// Puts a type number into the list of an interface.
-pub fn list_type(
+// Puts a type number into the list of an interface.
+fn list_type(
     alloc: Global,
     resolve: &mut Resolve,
     number: usize,
@@ -274,7 +227,7 @@ pub fn add_world_type(
     kind: TypeDefKind,
 ) -> Result<(), AllocError> {
     let id = TypeId(next(resolve.types.len()));
-    add_unlisted(alloc, resolve, name, kind, WORLD)?;
+    add_unlisted(alloc, resolve, name, kind, TypeOwner::World(WorldId(0)))?;
     import(alloc, resolve, name, WorldItem::Type_ { id })
 }
 
@@ -371,28 +324,14 @@ fn insert(
     Ok(())
 }
 
-/// An import of the world of this number, the last of its list.
-pub fn import_into(
+/// An import of world 0, the last of its list.
+pub fn import_under(
     resolve: &mut Resolve,
-    number: usize,
     key: WorldKey,
     item: WorldItem,
 ) -> Result<(), AllocError> {
-    match resolve.worlds.get_mut(number) {
+    match resolve.worlds.first_mut() {
         Some(world) => insert(&mut world.imports, key, item),
-        None => Ok(()),
-    }
-}
-
-/// An export of the world of this number, the last of its list.
-pub fn export_from(
-    resolve: &mut Resolve,
-    number: usize,
-    key: WorldKey,
-    item: WorldItem,
-) -> Result<(), AllocError> {
-    match resolve.worlds.get_mut(number) {
-        Some(world) => insert(&mut world.exports, key, item),
         None => Ok(()),
     }
 }
@@ -405,7 +344,7 @@ pub fn import(
     item: WorldItem,
 ) -> Result<(), AllocError> {
     let key = WorldKey::Name(String::from_str(alloc, name)?);
-    import_into(resolve, 0, key, item)
+    import_under(resolve, key, item)
 }
 
 /// An export of world 0 under a name.
@@ -416,5 +355,8 @@ pub fn export(
     item: WorldItem,
 ) -> Result<(), AllocError> {
     let key = WorldKey::Name(String::from_str(alloc, name)?);
-    export_from(resolve, 0, key, item)
+    match resolve.worlds.first_mut() {
+        Some(world) => insert(&mut world.exports, key, item),
+        None => Ok(()),
+    }
 }

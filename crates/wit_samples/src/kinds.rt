@@ -32,8 +32,8 @@ pub fn result_of(ok: Option<Type>, err: Option<Type>) -> TypeDefKind {
     TypeDefKind::Result(Result_ { ok, err })
 }
 
-/// A field.
-pub fn field(alloc: Global, name: &str, ty: Type) -> Result<Field, AllocError> {
+// A field.
+fn field(alloc: Global, name: &str, ty: Type) -> Result<Field, AllocError> {
     Ok(Field {
         name: String::from_str(alloc, name)?,
         ty,
@@ -41,8 +41,8 @@ pub fn field(alloc: Global, name: &str, ty: Type) -> Result<Field, AllocError> {
     })
 }
 
-/// A case of a variant.
-pub fn case(alloc: Global, name: &str, ty: Option<Type>) -> Result<Case, AllocError> {
+// A case of a variant.
+fn case(alloc: Global, name: &str, ty: Option<Type>) -> Result<Case, AllocError> {
     Ok(Case {
         name: String::from_str(alloc, name)?,
         ty,
@@ -50,16 +50,16 @@ pub fn case(alloc: Global, name: &str, ty: Option<Type>) -> Result<Case, AllocEr
     })
 }
 
-/// A case of an enum.
-pub fn enum_case(alloc: Global, name: &str) -> Result<EnumCase, AllocError> {
+// A case of an enum.
+fn enum_case(alloc: Global, name: &str) -> Result<EnumCase, AllocError> {
     Ok(EnumCase {
         name: String::from_str(alloc, name)?,
         docs: NO_DOCS,
     })
 }
 
-/// A flag.
-pub fn flag(alloc: Global, name: &str) -> Result<Flag, AllocError> {
+// A flag.
+fn flag(alloc: Global, name: &str) -> Result<Flag, AllocError> {
     Ok(Flag {
         name: String::from_str(alloc, name)?,
         docs: NO_DOCS,

@@ -11,19 +11,15 @@ use crate::kinds::{
 use std::alloc::{AllocError, Global};
 use wit_model::{FunctionKind, Resolve, Type, TypeDefKind, WorldItem};
 
-fn add_host_and_guest(alloc: Global, resolve: &mut Resolve) -> Result<(), AllocError> {
-    add_package(alloc, resolve, "a", "b")?;
-    add_world(alloc, resolve, "foo")?;
-    let host = nullary(alloc, "host", FunctionKind::Freestanding, None)?;
-    import(alloc, resolve, "host", WorldItem::Function(host))?;
-    let guest = nullary(alloc, "guest", FunctionKind::Freestanding, None)?;
-    export(alloc, resolve, "guest", WorldItem::Function(guest))
-}
-
 /// `package a:b; world foo { import host: func(); export guest: func(); }`
 pub fn host_and_guest(alloc: Global) -> Result<Resolve, AllocError> {
     let mut resolve = empty(alloc);
-    add_host_and_guest(alloc, &mut resolve)?;
+    add_package(alloc, &mut resolve, "a", "b")?;
+    add_world(alloc, &mut resolve, "foo")?;
+    let host = nullary(alloc, "host", FunctionKind::Freestanding, None)?;
+    import(alloc, &mut resolve, "host", WorldItem::Function(host))?;
+    let guest = nullary(alloc, "guest", FunctionKind::Freestanding, None)?;
+    export(alloc, &mut resolve, "guest", WorldItem::Function(guest))?;
     Ok(resolve)
 }
 
@@ -77,18 +73,8 @@ fn last(resolve: &Resolve) -> Type {
     id(count.saturating_sub(1))
 }
 
-/// Options around `u8`, each of the one before: the last has this many unnamed levels, at least one.
-pub fn add_options(resolve: &mut Resolve, levels: u32) -> Result<(), AllocError> {
-    add_unnamed(resolve, TypeDefKind::Option(Type::U8))?;
-    for _ in 1..levels {
-        let before = last(resolve);
-        add_unnamed(resolve, TypeDefKind::Option(before))?;
-    }
-    Ok(())
-}
-
-/// So many lists around the last type, each of the one before.
-pub fn add_lists(resolve: &mut Resolve, lists: u32) -> Result<(), AllocError> {
+// So many lists around the last type, each of the one before.
+fn add_lists(resolve: &mut Resolve, lists: u32) -> Result<(), AllocError> {
     for _ in 0..lists {
         let before = last(resolve);
         add_unnamed(resolve, TypeDefKind::List(before))?;
@@ -96,10 +82,14 @@ pub fn add_lists(resolve: &mut Resolve, lists: u32) -> Result<(), AllocError> {
     Ok(())
 }
 
-/// So many options around `u8`, at least one.
+/// So many options around `u8`, at least one, each of the one before.
 pub fn with_options(alloc: Global, levels: u32) -> Result<Resolve, AllocError> {
     let mut resolve = draft(alloc)?;
-    add_options(&mut resolve, levels)?;
+    add_unnamed(&mut resolve, TypeDefKind::Option(Type::U8))?;
+    for _ in 1..levels {
+        let before = last(&resolve);
+        add_unnamed(&mut resolve, TypeDefKind::Option(before))?;
+    }
     Ok(resolve)
 }
 
