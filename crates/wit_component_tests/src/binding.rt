@@ -4,8 +4,8 @@ use std::alloc::Global;
 use std::process::Abort;
 use std::test::Fail;
 use wit_component::{
-    Bindgen, Check, EncodingMap, Error, FunctionKind, InterfaceId, ModuleMetadata, PackageId,
-    Resolve, StringEncoding, TypeDefKind, TypeId, WorldId, WorldItem, WorldKey,
+    Bindgen, Check, EncodingMap, Error, FunctionKind, InterfaceId, Map, ModuleMetadata, PackageId,
+    Resolve, Side, StringEncoding, TypeDefKind, TypeId, WorldId, WorldItem, WorldKey,
 };
 use wit_samples::drafts::{
     add_inline, add_type, add_unnamed, draft, export, import, import_under, nullary, param,
@@ -50,10 +50,11 @@ fn with_world(alloc: Global) -> Result<Resolve, Error> {
 /// A label, the name of a function, and whether it has an encoding among the imports and among the exports.
 type Question = (&'static str, &'static str, bool, bool);
 
-static QUESTIONS: [Question; 9] = [
-    ("a:b/i", "[method]r.m", true, false),
+static QUESTIONS: [Question; 10] = [
+    ("a:b/i@0.1", "[method]r.m", true, false),
     ("a:b/i@0.1.0", "[method]r.m", false, false),
-    ("a:b", "i/[method]r.m", true, false),
+    ("a:b/i", "[method]r.m", false, false),
+    ("a:b", "i@0.1/[method]r.m", true, false),
     ("x", "[method]r.m", true, false),
     ("y", "g", true, false),
     ("k", "k", true, false),
@@ -89,7 +90,7 @@ fn assert_answers(
     Ok(())
 }
 
-// Paths stand without version. A new map, and those of no module, have no encodings.
+// Paths stand with the compatible version. A new map, and those of no module, have no encodings.
 #[test]
 fn keys_as_texts(rt: HostRuntime) -> Result<(), Fail> {
     let alloc = rt.alloc();
@@ -107,6 +108,29 @@ fn keys_as_texts(rt: HostRuntime) -> Result<(), Fail> {
         assert_answers(&rt, alloc, &resolve, &empty, *question, false)?;
         assert_answers(&rt, alloc, &resolve, &new, *question, false)?;
     }
+    Ok(())
+}
+
+// What a map under keys without version has for a function of the imports is carried over, and no other entry is.
+#[test]
+fn keys_without_version(rt: HostRuntime) -> Result<(), Fail> {
+    let alloc = rt.alloc();
+    let resolve = with_world(alloc)?;
+    let mut unversioned = Map::new(alloc);
+    let key = String::from_str(alloc, "a:b/i/[method]r.m")?;
+    unversioned.insert(key, StringEncoding::UTF16)?;
+    unversioned.insert(String::from_str(alloc, "l/l")?, StringEncoding::UTF16)?;
+    assert!(rt; resolve.worlds.len() > 0);
+    let map = EncodingMap::from_unversioned(
+        alloc,
+        &resolve,
+        WorldId(0),
+        Side::Imports,
+        &unversioned,
+    )?;
+    assert!(rt; has(alloc, &map, &resolve, "a:b/i@0.1", "[method]r.m")?);
+    assert!(rt; !has(alloc, &map, &resolve, "a:b/i", "[method]r.m")?);
+    assert!(rt; !has(alloc, &map, &resolve, "l", "l")?);
     Ok(())
 }
 
