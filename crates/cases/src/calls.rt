@@ -1,0 +1,346 @@
+//! The calls of the library, each after its conditions were tested.
+
+ghost use Rattle.std.specs.Prelude.{◌≡◌, ◌<◌, true, length, is_some, OnOk};
+ghost use Rattle.std.specs.List.{list_all};
+ghost use Rattle.wit_compat.specs.Senses.{sense_of};
+ghost use Rattle.wit_model.specs.Rules.{in_list};
+ghost use Rattle.wit_model.specs.Valid.{IsValid};
+
+use crate::answer::Answer;
+use crate::encodings::{letters, put_letters};
+use std::alloc::Global;
+use wit_compat::laws::semver_check_counted;
+use wit_component::{
+    Cause, Check, ComponentBuilder, ComponentType, Error, Fault, ModuleMetadata, OutputToString,
+    PackageId, Place, Resolve, Steps, StringEncoding, WitPrinter, WorldId, WorldKey, decode,
+    decode_world, encode, encode_world, is_label, metadata, normalized, same_sense, semver_check,
+    wrapped_world,
+};
+use wit_metadata::{encoding_in, stripped};
+
+// ---- conditions
+
+/// Whether calls may be asked of a `Resolve`.
+pub fn test_valid(alloc: Global, resolve: &Resolve) -> Result<(), Answer>
+    ensures { OnOk result (IsValid resolve.now) }
+{
+    match resolve.check(alloc) {
+        Ok(()) => Ok(()),
+        Err(Fault::Memory) => Err(Answer::Fault(Fault::Memory)),
+        Err(Fault::Broken { .. }) => Err(Answer::Unmet("valid")),
+    }
+}
+
+fn test_package(resolve: &Resolve, package: PackageId) -> Result<(), Answer>
+    ensures { OnOk result («package».0 < length resolve.now.packages.items) }
+{
+    if (package.0 as usize) < resolve.packages.len() {
+        Ok(())
+    } else {
+        Err(Answer::Unmet("range"))
+    }
+}
+
+fn test_world(resolve: &Resolve, world: WorldId) -> Result<(), Answer>
+    ensures { OnOk result (world.0 < length resolve.now.worlds.items) }
+{
+    if (world.0 as usize) < resolve.worlds.len() {
+        Ok(())
+    } else {
+        Err(Answer::Unmet("range"))
+    }
+}
+
+fn test_place(resolve: &Resolve, place: Place) -> Result<(), Answer>
+    ensures { OnOk result (is_some (sense_of resolve.now place) ≡ true) }
+{
+    if place.is_in(resolve) {
+        Ok(())
+    } else {
+        Err(Answer::Unmet("range"))
+    }
+}
+
+// ---- validity and names
+
+/// Which rule is broken, and by what.
+pub fn check(alloc: Global, resolve: &Resolve) -> Answer {
+    match resolve.check(alloc) {
+        Ok(()) => Answer::Yes,
+        Err(fault) => Answer::Fault(fault),
+    }
+}
+
+/// Which rule is broken, where by what is open.
+pub fn rule(alloc: Global, resolve: &Resolve) -> Answer {
+    match resolve.check(alloc) {
+        Ok(()) => Answer::Yes,
+        Err(Fault::Memory) => Answer::Fault(Fault::Memory),
+        Err(Fault::Broken { rule, .. }) => Answer::Rule(rule),
+    }
+}
+
+/// Whether a `Resolve` is valid, where which rule is named is open.
+pub fn valid(alloc: Global, resolve: &Resolve) -> Answer {
+    match resolve.check(alloc) {
+        Ok(()) => Answer::Yes,
+        Err(Fault::Memory) => Answer::Fault(Fault::Memory),
+        Err(Fault::Broken { .. }) => Answer::No,
+    }
+}
+
+pub fn label(text: &str) -> Answer {
+    if is_label(text) {
+        Answer::Yes
+    } else {
+        Answer::No
+    }
+}
+
+// ---- bytes of packages and worlds
+
+pub fn encode_package(
+    alloc: Global,
+    resolve: &Resolve,
+    package: PackageId,
+    canonical_names: bool,
+) -> Result<Answer, Answer>
+    requires { IsValid resolve.now }
+{
+    test_package(resolve, package)?;
+    let bytes = encode(alloc, resolve, package, canonical_names)?;
+    Ok(Answer::Bytes(bytes))
+}
+
+// A component with one type.
+fn component_of(alloc: Global, declared: &ComponentType) -> Result<Vec<u8>, Error> {
+    let mut builder = ComponentBuilder::new(alloc);
+    builder.type_component(declared)?;
+    builder.finish()
+}
+
+/// A component whose one type is the component type of a world.
+pub fn world_type(
+    alloc: Global,
+    resolve: &Resolve,
+    world: WorldId,
+    canonical_names: bool,
+) -> Result<Answer, Answer>
+    requires { IsValid resolve.now }
+{
+    test_world(resolve, world)?;
+    let declared = encode_world(alloc, resolve, world, canonical_names)?;
+    Ok(Answer::Bytes(component_of(alloc, &declared)?))
+}
+
+/// A component whose one type is the wrapper of a world in its package.
+pub fn wrapped_type(
+    alloc: Global,
+    resolve: &Resolve,
+    world: WorldId,
+    canonical_names: bool,
+) -> Result<Answer, Answer>
+    requires { IsValid resolve.now }
+{
+    test_world(resolve, world)?;
+    let Some(package) = resolve.worlds[world.0 as usize].package else {
+        return Err(Answer::Unmet("package"));
+    };
+    test_package(resolve, package)?;
+    let name = &resolve.packages[package.0 as usize].name;
+    let declared = wrapped_world(alloc, resolve, name, world, canonical_names)?;
+    Ok(Answer::Bytes(component_of(alloc, &declared)?))
+}
+
+/// What a module carries of a world.
+pub fn encode_metadata(
+    alloc: Global,
+    resolve: &Resolve,
+    world: WorldId,
+    encoding: StringEncoding,
+    canonical_names: bool,
+) -> Result<Answer, Answer>
+    requires { IsValid resolve.now }
+{
+    test_world(resolve, world)?;
+    let bytes = metadata::encode(alloc, resolve, world, encoding, canonical_names)?;
+    Ok(Answer::Bytes(bytes))
+}
+
+// ---- text
+
+// The text of a package with no others nested in it, without documentation.
+fn plain_text(alloc: Global, resolve: &Resolve, package: PackageId) -> Result<Answer, Answer>
+    requires { IsValid resolve.now }
+{
+    test_package(resolve, package)?;
+    let mut printer = WitPrinter::new(OutputToString::new(alloc));
+    printer.emit_docs(false);
+    printer.print(alloc, resolve, package, &[])?;
+    Ok(Answer::Text(String::from(printer.output)))
+}
+
+fn are_packages(resolve: &Resolve, packages: &[PackageId]) -> bool
+    ensures { result ≡ list_all (λ other. in_list resolve.now.packages.items other.0) packages.now }
+{
+    packages
+        .iter()
+        .all(|other| (other.0 as usize) < resolve.packages.len())
+}
+
+/// The text of a package with others nested in it.
+pub fn print_package(
+    alloc: Global,
+    resolve: &Resolve,
+    package: PackageId,
+    emit_docs: bool,
+    nested: &[PackageId],
+) -> Result<Answer, Answer>
+    requires { IsValid resolve.now }
+{
+    test_package(resolve, package)?;
+    if !are_packages(resolve, nested) {
+        return Err(Answer::Unmet("range"));
+    }
+    let mut printer = WitPrinter::new(OutputToString::new(alloc));
+    printer.emit_docs(emit_docs);
+    printer.print(alloc, resolve, package, nested)?;
+    Ok(Answer::Text(String::from(printer.output)))
+}
+
+/// The text of a package as others read it.
+pub fn normal_text(alloc: Global, resolve: &Resolve, package: PackageId) -> Result<Answer, Answer>
+    requires { IsValid resolve.now }
+{
+    test_package(resolve, package)?;
+    let (other, id) = normalized(alloc, resolve, package)?;
+    plain_text(alloc, &other, id)
+}
+
+// ---- bytes read
+
+/// The text of the package that bytes mean.
+pub fn decoded_text(alloc: Global, bytes: &[u8]) -> Result<Answer, Answer> {
+    let (resolve, package) = decode(alloc, bytes)?;
+    plain_text(alloc, &resolve, package)
+}
+
+/// The text of the package of the one world that bytes mean.
+pub fn decoded_world_text(alloc: Global, bytes: &[u8]) -> Result<Answer, Answer> {
+    let (resolve, world) = decode_world(alloc, bytes)?;
+    test_world(&resolve, world)?;
+    let Some(package) = resolve.worlds[world.0 as usize].package else {
+        return Err(Answer::Unmet("package"));
+    };
+    plain_text(alloc, &resolve, package)
+}
+
+fn unread(error: Error, shows_offset: bool) -> Answer {
+    match error {
+        Error::NoReading(cause, offset) if shows_offset => Answer::NoReading(cause, Some(offset)),
+        Error::NoReading(cause, _) => Answer::NoReading(cause, None),
+        other => Answer::Refused(other),
+    }
+}
+
+/// Whether bytes mean a package, and why they don't.
+pub fn decode_package(alloc: Global, bytes: &[u8], shows_offset: bool) -> Answer {
+    match decode(alloc, bytes) {
+        Ok((resolve, package)) => Answer::Decoded(package.0, resolve.types.len()),
+        Err(error) => unread(error, shows_offset),
+    }
+}
+
+/// A module without the sections that carry worlds.
+pub fn strip(alloc: Global, bytes: &[u8]) -> Result<Answer, Answer> {
+    match stripped(alloc, bytes)? {
+        Some(kept) => Ok(Answer::Bytes(kept)),
+        None => Ok(Answer::Nothing),
+    }
+}
+
+/// The encoding that a component says.
+pub fn said(bytes: &[u8]) -> Result<Answer, Answer> {
+    Ok(Answer::Encoding(encoding_in(bytes)?))
+}
+
+// ---- comparisons
+
+/// Whether two places have the same sense.
+pub fn sense(
+    alloc: Global,
+    resolve: &Resolve,
+    at: Place,
+    other: &Resolve,
+    place: Place,
+) -> Result<Answer, Answer>
+    requires resolve { IsValid resolve.now }
+    requires other { IsValid other.now }
+{
+    test_place(resolve, at)?;
+    test_place(other, place)?;
+    if same_sense(alloc, resolve, at, other, place)? {
+        Ok(Answer::Yes)
+    } else {
+        Ok(Answer::No)
+    }
+}
+
+/// Whether a world may take the place of another.
+pub fn semver(
+    alloc: Global,
+    resolve: Resolve,
+    prev: WorldId,
+    new: WorldId,
+) -> Result<Answer, Answer>
+    requires { IsValid resolve }
+{
+    test_world(&resolve, prev)?;
+    test_world(&resolve, new)?;
+    semver_check(alloc, resolve, prev, new)?;
+    Ok(Answer::Yes)
+}
+
+/// The same with its steps counted, which are answered where it may.
+pub fn semver_counted(
+    alloc: Global,
+    resolve: Resolve,
+    prev: WorldId,
+    new: WorldId,
+) -> Result<Answer, Answer>
+    requires { IsValid resolve }
+{
+    test_world(&resolve, prev)?;
+    test_world(&resolve, new)?;
+    let mut steps = Steps::new();
+    semver_check_counted(alloc, resolve, prev, new, &mut steps)?;
+    Ok(Answer::Count(steps.count))
+}
+
+// ---- encodings of functions
+
+/// The encodings of a world's functions, and the letters of all.
+pub fn module(
+    alloc: Global,
+    resolve: &Resolve,
+    world: WorldId,
+    encoding: StringEncoding,
+) -> Result<(ModuleMetadata, Answer), Answer> {
+    test_world(resolve, world)?;
+    let metadata = ModuleMetadata::new(alloc, resolve, world, encoding)?;
+    let words = letters(alloc, resolve, &resolve.worlds[world.0 as usize], &metadata)?;
+    Ok((metadata, Answer::Words(words)))
+}
+
+/// What the maps of imports and of exports answer.
+pub fn get(
+    alloc: Global,
+    resolve: &Resolve,
+    metadata: &ModuleMetadata,
+    key: &WorldKey,
+    name: &str,
+) -> Result<Answer, Answer> {
+    let mut words = String::from_str(alloc, " =")?;
+    put_letters(resolve, metadata, key, name, &mut words)?;
+    Ok(Answer::Words(words))
+}

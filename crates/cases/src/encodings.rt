@@ -1,0 +1,66 @@
+//! The string encodings of a world's functions, a letter each.
+
+use crate::answer::letter_of;
+use std::alloc::{AllocError, Global};
+use wit_component::lookup::interface_at;
+use wit_component::{Map, ModuleMetadata, Resolve, World, WorldItem, WorldKey};
+
+/// Appends the encoding of what is imported under a key and a name, and of what is exported.
+pub fn put_letters(
+    resolve: &Resolve,
+    metadata: &ModuleMetadata,
+    key: &WorldKey,
+    name: &str,
+    letters: &mut String,
+) -> Result<(), AllocError> {
+    letters.push(letter_of(metadata.import_encodings.get(resolve, key, name)))?;
+    letters.push(letter_of(metadata.export_encodings.get(resolve, key, name)))
+}
+
+fn put_item(
+    resolve: &Resolve,
+    metadata: &ModuleMetadata,
+    key: &WorldKey,
+    item: &WorldItem,
+    letters: &mut String,
+) -> Result<(), AllocError> {
+    match item {
+        WorldItem::Interface { id, .. } => {
+            if let Some(interface) = interface_at(resolve, *id) {
+                for (name, _function) in &interface.functions {
+                    put_letters(resolve, metadata, key, name, letters)?;
+                }
+            }
+            Ok(())
+        }
+        WorldItem::Function(function) => {
+            put_letters(resolve, metadata, key, &function.name, letters)
+        }
+        WorldItem::Type_ { .. } => Ok(()),
+    }
+}
+
+fn put_items(
+    resolve: &Resolve,
+    metadata: &ModuleMetadata,
+    items: &Map<WorldKey, WorldItem>,
+    letters: &mut String,
+) -> Result<(), AllocError> {
+    for (key, item) in items {
+        put_item(resolve, metadata, key, item, letters)?;
+    }
+    Ok(())
+}
+
+/// A word of two letters for each function of the imports, and then of the exports, by the map of imports and by that of exports; `=` in front.
+pub fn letters(
+    alloc: Global,
+    resolve: &Resolve,
+    world: &World,
+    metadata: &ModuleMetadata,
+) -> Result<String, AllocError> {
+    let mut letters = String::from_str(alloc, " =")?;
+    put_items(resolve, metadata, &world.imports, &mut letters)?;
+    put_items(resolve, metadata, &world.exports, &mut letters)?;
+    Ok(letters)
+}

@@ -1,0 +1,26 @@
+//! Answers a line for each line of standard input: one call of the library, on what earlier lines gave (docs/CASES.md).
+#![tactic(auto)]
+
+mod answer;
+mod calls;
+mod encodings;
+mod names;
+mod quoted;
+mod read_packages;
+mod read_types;
+mod session;
+mod words;
+
+use session::Session;
+use std::io::{self, BufRead, BufReader, BufWriter, Write};
+
+fn main(rt: HostRuntime) -> io::Result<()> {
+    let alloc = rt.alloc();
+    let mut writer = BufWriter::new(alloc, io::writer(&rt))?;
+    let mut session = Session::new();
+    for line in BufReader::new(alloc, rt.reader())?.lines(alloc) {
+        let answer = session.answer(&rt, alloc, &line?)?;
+        writeln!(writer, "{answer}")?;
+    }
+    writer.flush()
+}

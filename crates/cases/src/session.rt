@@ -1,0 +1,433 @@
+//! Lines, one after the other, on the `Resolve` that was read last.
+
+ghost use Rattle.wit_model.specs.Valid.{IsValid};
+
+use crate::answer::{Answer, Reply};
+use crate::calls;
+use crate::names::names;
+use crate::words::{Bad, FromWords, Words};
+use std::alloc::Global;
+use std::io;
+use std::rt::Clock;
+use std::time::Instant;
+use wit_component::{ModuleMetadata, PackageId, Place, Resolve, StringEncoding, WorldId};
+
+#[derive(Drop)]
+pub struct Session {
+    current: Option<Resolve>,
+    /// The second one of a comparison.
+    other: Option<Resolve>,
+    /// The encodings that were made last.
+    metadata: Option<ModuleMetadata>,
+    /// The bytes that were kept last.
+    kept: Option<Vec<u8>>,
+    is_brief: bool,
+}
+
+// ---- parts of lines
+
+/// `8`, `6` or `c`.
+impl FromWords for StringEncoding {
+    fn from_words(words: &mut Words<'_>) -> StringEncoding {
+        match words.word() {
+            b"8" => StringEncoding::UTF8,
+            b"6" => StringEncoding::UTF16,
+            b"c" => StringEncoding::CompactUTF16,
+            _ => {
+                words.fail(Bad::Form);
+                StringEncoding::UTF8
+            }
+        }
+    }
+}
+
+/// `i` and an interface, `w` and a world, or `m`, a world and an index.
+impl FromWords for Place {
+    fn from_words(words: &mut Words<'_>) -> Place {
+        match words.word() {
+            b"i" => Place::Interface(words.read()),
+            b"w" => Place::World(words.read()),
+            b"m" => Place::Import(words.read(), words.number() as usize),
+            _ => {
+                words.fail(Bad::Form);
+                Place::World(WorldId(0))
+            }
+        }
+    }
+}
+
+// A whole `Resolve`, to the end of the line.
+fn resolve(words: &mut Words<'_>) -> Result<Resolve, Answer> {
+    let resolve = words.read();
+    words.end()?;
+    Ok(resolve)
+}
+
+fn either(outcome: Result<Answer, Answer>) -> Answer {
+    match outcome {
+        Ok(answer) => answer,
+        Err(answer) => answer,
+    }
+}
+
+// ---- calls on a valid `Resolve`, and on bytes
+
+fn encode(alloc: Global, resolve: &Resolve, words: &mut Words<'_>) -> Result<Answer, Answer>
+    requires { IsValid resolve.now }
+{
+    let id = words.read();
+    let canonical_names = words.flag();
+    words.end()?;
+    calls::encode_package(alloc, resolve, id, canonical_names)
+}
+
+fn world_type(alloc: Global, resolve: &Resolve, words: &mut Words<'_>) -> Result<Answer, Answer>
+    requires { IsValid resolve.now }
+{
+    let id = words.read();
+    let is_wrapped = words.flag();
+    let canonical_names = words.flag();
+    words.end()?;
+    if is_wrapped {
+        calls::wrapped_type(alloc, resolve, id, canonical_names)
+    } else {
+        calls::world_type(alloc, resolve, id, canonical_names)
+    }
+}
+
+fn metadata(alloc: Global, resolve: &Resolve, words: &mut Words<'_>) -> Result<Answer, Answer>
+    requires { IsValid resolve.now }
+{
+    let id = words.read();
+    let encoding = words.read();
+    let canonical_names = words.flag();
+    words.end()?;
+    calls::encode_metadata(alloc, resolve, id, encoding, canonical_names)
+}
+
+fn print(alloc: Global, resolve: &Resolve, words: &mut Words<'_>) -> Result<Answer, Answer>
+    requires { IsValid resolve.now }
+{
+    let id = words.read();
+    let emit_docs = words.flag();
+    let nested: Vec<PackageId> = words.list();
+    words.end()?;
+    calls::print_package(alloc, resolve, id, emit_docs, &nested)
+}
+
+fn normal(alloc: Global, resolve: &Resolve, words: &mut Words<'_>) -> Result<Answer, Answer>
+    requires { IsValid resolve.now }
+{
+    let id = words.read();
+    words.end()?;
+    calls::normal_text(alloc, resolve, id)
+}
+
+fn on_valid(
+    alloc: Global,
+    resolve: &Resolve,
+    word: &[u8],
+    words: &mut Words<'_>,
+) -> Result<Answer, Answer>
+    requires { IsValid resolve.now }
+{
+    match word {
+        b"encode" => encode(alloc, resolve, words),
+        b"world" => world_type(alloc, resolve, words),
+        b"metadata" => metadata(alloc, resolve, words),
+        b"print" => print(alloc, resolve, words),
+        b"normal" => normal(alloc, resolve, words),
+        b"names" => names(alloc, resolve),
+        _ => Err(Answer::Bad),
+    }
+}
+
+fn timed_on_valid<R: Clock>(
+    clock: &R,
+    alloc: Global,
+    resolve: &Resolve,
+    word: &[u8],
+    words: &mut Words<'_>,
+) -> io::Result<Reply>
+    requires { IsValid resolve.now }
+{
+    let start = Instant::now(clock)?;
+    let answer = either(on_valid(alloc, resolve, word, words));
+    let spent = start.elapsed(clock)?;
+    Ok(Reply { answer, spent })
+}
+
+fn semver_of(
+    alloc: Global,
+    resolve: Resolve,
+    is_counted: bool,
+    prev: WorldId,
+    new: WorldId,
+) -> Result<Answer, Answer>
+    requires { IsValid resolve }
+{
+    if is_counted {
+        calls::semver_counted(alloc, resolve, prev, new)
+    } else {
+        calls::semver(alloc, resolve, prev, new)
+    }
+}
+
+fn timed_semver<R: Clock>(
+    clock: &R,
+    alloc: Global,
+    resolve: Resolve,
+    is_counted: bool,
+    prev: WorldId,
+    new: WorldId,
+) -> io::Result<Reply>
+    requires { IsValid resolve }
+{
+    let start = Instant::now(clock)?;
+    let answer = either(semver_of(alloc, resolve, is_counted, prev, new));
+    let spent = start.elapsed(clock)?;
+    Ok(Reply { answer, spent })
+}
+
+fn sense_of(
+    alloc: Global,
+    resolve: &Resolve,
+    at: Place,
+    other: &Resolve,
+    place: Place,
+) -> Result<Answer, Answer> {
+    calls::test_valid(alloc, resolve)?;
+    calls::test_valid(alloc, other)?;
+    calls::sense(alloc, resolve, at, other, place)
+}
+
+fn label(words: &mut Words<'_>) -> Result<Answer, Answer> {
+    let text = words.text();
+    words.end()?;
+    Ok(calls::label(&text))
+}
+
+fn on_bytes(alloc: Global, word: &[u8], bytes: &[u8]) -> Result<Answer, Answer> {
+    match word {
+        b"text" => calls::decoded_text(alloc, bytes),
+        b"world-text" => calls::decoded_world_text(alloc, bytes),
+        b"decode" => Ok(calls::decode_package(alloc, bytes, false)),
+        b"decode-at" => Ok(calls::decode_package(alloc, bytes, true)),
+        b"strip" => calls::strip(alloc, bytes),
+        b"said" => calls::said(bytes),
+        _ => Err(Answer::Bad),
+    }
+}
+
+impl Session {
+    pub fn new() -> Session {
+        Session {
+            current: None,
+            other: None,
+            metadata: None,
+            kept: None,
+            is_brief: false,
+        }
+    }
+
+    // ---- lines that are kept
+
+    fn read(&mut self, words: &mut Words<'_>) -> Result<Answer, Answer> {
+        self.current = None;
+        self.current = Some(resolve(words)?);
+        Ok(Answer::Yes)
+    }
+
+    fn read_other(&mut self, words: &mut Words<'_>) -> Result<Answer, Answer> {
+        self.other = None;
+        self.other = Some(resolve(words)?);
+        Ok(Answer::Yes)
+    }
+
+    fn set_brief(&mut self, is_brief: bool) -> Answer {
+        self.is_brief = is_brief;
+        Answer::Yes
+    }
+
+    fn keep(&mut self, words: &mut Words<'_>) -> Result<Answer, Answer> {
+        self.kept = None;
+        let bytes = words.bytes();
+        words.end()?;
+        self.kept = Some(bytes);
+        Ok(Answer::Yes)
+    }
+
+    // ---- calls that need no valid `Resolve`
+
+    fn module(&mut self, alloc: Global, words: &mut Words<'_>) -> Result<Answer, Answer> {
+        let id = words.read();
+        let encoding = words.read();
+        words.end()?;
+        self.metadata = None;
+        let Some(resolve) = &self.current else {
+            return Err(Answer::Unmet("resolve"));
+        };
+        let (metadata, answer) = calls::module(alloc, resolve, id, encoding)?;
+        self.metadata = Some(metadata);
+        Ok(answer)
+    }
+
+    fn get(&self, alloc: Global, words: &mut Words<'_>) -> Result<Answer, Answer> {
+        let key = words.read();
+        let name = words.text();
+        words.end()?;
+        let Some(resolve) = &self.current else {
+            return Err(Answer::Unmet("resolve"));
+        };
+        match &self.metadata {
+            Some(metadata) => calls::get(alloc, resolve, metadata, &key, &name),
+            None => Err(Answer::Unmet("module")),
+        }
+    }
+
+    fn validity(&self, alloc: Global, word: &[u8]) -> Answer {
+        let Some(resolve) = &self.current else {
+            return Answer::Unmet("resolve");
+        };
+        match word {
+            b"check" => calls::check(alloc, resolve),
+            b"rule" => calls::rule(alloc, resolve),
+            _ => calls::valid(alloc, resolve),
+        }
+    }
+
+    // On the bytes that follow, or on those that were kept where none do.
+    fn with_bytes(
+        &self,
+        alloc: Global,
+        word: &[u8],
+        words: &mut Words<'_>,
+    ) -> Result<Answer, Answer> {
+        if !words.is_at_end() {
+            let bytes = words.bytes();
+            words.end()?;
+            return on_bytes(alloc, word, &bytes);
+        }
+        match &self.kept {
+            Some(kept) => on_bytes(alloc, word, kept),
+            None => Err(Answer::Unmet("bytes")),
+        }
+    }
+
+    fn without_check(
+        &mut self,
+        alloc: Global,
+        word: &[u8],
+        words: &mut Words<'_>,
+    ) -> Result<Answer, Answer> {
+        match word {
+            b"resolve" => self.read(words),
+            b"other" => self.read_other(words),
+            b"bytes" => self.keep(words),
+            b"brief" => Ok(self.set_brief(true)),
+            b"full" => Ok(self.set_brief(false)),
+            b"check" | b"rule" | b"valid" => Ok(self.validity(alloc, word)),
+            b"label" => label(words),
+            b"module" => self.module(alloc, words),
+            b"get" => self.get(alloc, words),
+            b"text" | b"world-text" | b"decode" | b"decode-at" | b"strip" | b"said" => {
+                self.with_bytes(alloc, word, words)
+            }
+            _ => Err(Answer::Bad),
+        }
+    }
+
+    // ---- calls that are timed, behind a check that isn't
+
+    fn on_current<R: Clock>(
+        &self,
+        clock: &R,
+        alloc: Global,
+        word: &[u8],
+        words: &mut Words<'_>,
+    ) -> io::Result<Reply> {
+        let Some(resolve) = &self.current else {
+            return Ok(Reply::at_once(Answer::Unmet("resolve")));
+        };
+        match calls::test_valid(alloc, resolve) {
+            Ok(()) => timed_on_valid(clock, alloc, resolve, word, words),
+            Err(answer) => Ok(Reply::at_once(answer)),
+        }
+    }
+
+    // Gives the `Resolve` up.
+    fn semver<R: Clock>(
+        &mut self,
+        clock: &R,
+        alloc: Global,
+        is_counted: bool,
+        words: &mut Words<'_>,
+    ) -> io::Result<Reply> {
+        let prev = words.read();
+        let new = words.read();
+        if let Err(bad) = words.end() {
+            return Ok(Reply::at_once(Answer::from(bad)));
+        }
+        let Some(resolve) = self.current.take() else {
+            return Ok(Reply::at_once(Answer::Unmet("resolve")));
+        };
+        match calls::test_valid(alloc, &resolve) {
+            Ok(()) => timed_semver(clock, alloc, resolve, is_counted, prev, new),
+            Err(answer) => Ok(Reply::at_once(answer)),
+        }
+    }
+
+    // Two places, of the last `resolve` and of the last `other`, or both of the first where there is no second.
+    fn sense(&self, alloc: Global, words: &mut Words<'_>) -> Result<Answer, Answer> {
+        let at = words.read();
+        let there = words.read();
+        words.end()?;
+        let Some(resolve) = &self.current else {
+            return Err(Answer::Unmet("resolve"));
+        };
+        match &self.other {
+            Some(other) => sense_of(alloc, resolve, at, other, there),
+            None => sense_of(alloc, resolve, at, resolve, there),
+        }
+    }
+
+    fn other_call<R: Clock>(
+        &mut self,
+        clock: &R,
+        alloc: Global,
+        word: &[u8],
+        words: &mut Words<'_>,
+    ) -> io::Result<Reply> {
+        let start = Instant::now(clock)?;
+        let answer = either(self.without_check(alloc, word, words));
+        let spent = start.elapsed(clock)?;
+        Ok(Reply { answer, spent })
+    }
+
+    fn reply<R: Clock>(
+        &mut self,
+        clock: &R,
+        alloc: Global,
+        words: &mut Words<'_>,
+    ) -> io::Result<Reply> {
+        let word = words.word();
+        match word {
+            b"encode" | b"world" | b"metadata" | b"print" | b"normal" | b"names" => {
+                self.on_current(clock, alloc, word, words)
+            }
+            b"sense" => Ok(Reply::at_once(either(self.sense(alloc, words)))),
+            b"semver" => self.semver(clock, alloc, false, words),
+            b"steps" => self.semver(clock, alloc, true, words),
+            _ => self.other_call(clock, alloc, word, words),
+        }
+    }
+
+    /// What a line is answered. One that begins with `#` says what follows, and is answered by itself.
+    pub fn answer<R: Clock>(&mut self, clock: &R, alloc: Global, line: &str) -> io::Result<String> {
+        if line.starts_with('#') {
+            return Ok(String::from_str(alloc, line)?);
+        }
+        let reply = self.reply(clock, alloc, &mut Words::new(alloc, line.as_bytes()))?;
+        Ok(reply.line(alloc, self.is_brief)?)
+    }
+}
