@@ -44,7 +44,7 @@ use Rattle.wit_encode.specs.WrittenBytes.{AddsBytes, AddsLearnt, TakesFew, impor
 use Rattle.encode_shown.specs.Views.{AreReached}
 use Rattle.encode_names.specs.WorldNames.{name_of_interface, name_of_item}
 use Rattle.encode_names.specs.WorldSteps.{Entry}
-use Rattle.wit_encode.proofs.ComponentExtents.{components-light, worlds-light}
+use Rattle.wit_encode.proofs.ComponentExtents.{components-light, import-extent, worlds-light}
 use Rattle.wit_encode.proofs.ImportLoop.{numbers-next}
 use Rattle.wit_encode.proofs.Extents.{bytes-few}
 use Rattle.wit_encode.proofs.ExtentWeighing.{dependencies-light, instances-light}
@@ -226,9 +226,6 @@ adds-described n outer between outer' d named name one e l same =
     let after = one-more between outer' d (name_extent named) e l in
     let is = ap name_extent same in
     record { few = omega (arith, before, after, is) }
-
-abbrev pub import-extent : Resolve → Bool → ℕ → ℕ
-import-extent r canonical n = instance_extent (name_of_interface r canonical n) (types_instance_weight r n)
 
 -- one import more
 pub imports-next : (r q : Resolve) (canonical : Bool) (xs : List InterfaceId) (k : ℕ) (outer between outer' : Declarations) → q ≡ r → k < length xs → AddsBytes (imports_extent r canonical (take k (map (λ id. id.0) xs))) outer between

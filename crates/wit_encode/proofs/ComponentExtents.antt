@@ -31,7 +31,6 @@ use Rattle.wit_encode.proofs.ExtentWeighing.{each-below, number-light}
 use Rattle.wit_encode.proofs.Weighing.{sum-among}
 use Rattle.wit_encode.proofs.WorldWeighing as world
 use Rattle.wit_encode.proofs.WorldWeighing.{long, no-suffix-written, written-both}
-use Rattle.wit_encode.proofs.BytesWritten.{import-extent}
 
 -- ---- paths
 
@@ -46,6 +45,9 @@ path-short r canonical n =
 
 abbrev path-weight : Resolve → ℕ → ℕ
 path-weight r n = unit_of (path_texts r n)
+
+abbrev pub import-extent : Resolve → Bool → ℕ → ℕ
+import-extent r canonical n = instance_extent (name_of_interface r canonical n) (types_instance_weight r n)
 
 imports-light : (r : Resolve) (canonical : Bool) (ns : List ℕ) → sum_by (import-extent r canonical) ns ≤ sum_by (path-weight r) ns + sum_by (types_instance_weight r) ns
 imports-light r canonical [] = omega arith

@@ -45,7 +45,7 @@ use Rattle.encode_types.specs.Standing.{SlotsStand}
 use Rattle.encode_types.proofs.Encoding.{tabled}
 use Rattle.encode_types.proofs.Lists.{contains-one}
 use Rattle.wit_encode.specs.Extents.{labels_extent, tree_extent, signature_extent, given_length, name_extent, own_name_extent, BytesAreFew, TypesAreLight, FunctionsAreLight}
-use Rattle.wit_encode.proofs.Lengths.{u32-short, name-short}
+use Rattle.wit_encode.proofs.Lengths.{u32-short, name-short, vector-short}
 use Rattle.wit_encode.proofs.Reached.{part-at}
 use Rattle.wit_encode.proofs.Refusing.{listed, zip-length}
 use Rattle.wit_encode.proofs.Validity.{type_passes, valid-layered}
@@ -83,9 +83,6 @@ described-short (refs.TypeEq n) = let h = u32-short n in omega arith
 described-short refs.SubResource = omega arith
 described-short (refs.Component n) = let h = u32-short n in omega arith
 described-short (refs.Instance n) = let h = u32-short n in omega arith
-
-pub vector-short : {A : Type 0} (bytes : A → List ℕ) (xs : List A) → length (vector_bytes bytes xs) ≤ 5 + length (flat_map bytes xs)
-vector-short bytes xs = let h = u32-short (length xs) in let e = length-append (u32_bytes (length xs)) (flat_map bytes xs) in omega arith
 
 -- ---- labels
 

@@ -8,7 +8,6 @@ use Rattle.comp_bytes.specs.Writing.{u32_bytes, unsigned_bytes, name_bytes, vect
 use Rattle.comp_bytes.specs.Parts.{Part, with_part, sections_of_parts, fits_component}
 use Rattle.encode_types.specs.Room.{limit}
 use Rattle.wit_encode.specs.PackageRoom.{part_extent, parts_extent}
-use Rattle.wit_encode.proofs.Extents.{vector-short}
 
 -- ---- numbers and names
 
@@ -34,6 +33,9 @@ framed-short id contents = let h = u32-short (length contents) in let e = length
 
 framed-long : (id : ℕ) (contents : List ℕ) → length contents ≤ length (framed id contents)
 framed-long id contents = let e = length-append (u32_bytes (length contents)) contents in omega arith
+
+pub vector-short : {A : Type 0} (bytes : A → List ℕ) (xs : List A) → length (vector_bytes bytes xs) ≤ 5 + length (flat_map bytes xs)
+vector-short bytes xs = let h = u32-short (length xs) in let e = length-append (u32_bytes (length xs)) (flat_map bytes xs) in omega arith
 
 vector-long : {A : Type 0} (bytes : A → List ℕ) (xs : List A) → length (flat_map bytes xs) ≤ length (vector_bytes bytes xs)
 vector-long bytes xs = let e = length-append (u32_bytes (length xs)) (flat_map bytes xs) in omega arith

@@ -10,7 +10,7 @@ use Rattle.wit_encode.proofs.Continuing.{function-continues, continues-trans}
 use Rattle.std.proofs.lemmas.List.{take_all}
 use Rattle.wit_encode.specs.Instance.{placed_function, meaning_of, contents_of, encoder_scope}
 use Rattle.wit_encode.proofs.FunctionExports.{used-kept}
-use Rattle.encode_types.proofs.Lists.{contains-map}
+use Rattle.wit_model.proofs.Elements.{contains-map}
 use Rattle.std.proofs.Math.ListN.{length-map}
 use Rattle.wit_model.specs.Parts.{function_types}
 use Rattle.encode_types.specs.Room.{function_requests}
