@@ -21,9 +21,9 @@ fn assert_kept(rt: &impl Abort, alloc: Global, resolve: &Resolve) -> Result<(), 
     Ok(())
 }
 
-// A type of each kind.
+// Types of most kinds, in two interfaces, of which one uses the other.
 #[test]
-fn each_kind_of_type(rt: HostRuntime) -> Result<(), Fail> {
+fn kinds_of_types(rt: HostRuntime) -> Result<(), Fail> {
     assert_kept(&rt, rt.alloc(), &each_kind(rt.alloc())?)
 }
 

@@ -26,5 +26,3 @@ mod sections;
 mod senses;
 #[cfg(test)]
 mod table_calls;
-#[cfg(test)]
-mod table_sample;

@@ -10,7 +10,6 @@ ghost use Rattle.encode_types.specs.Formed.{IsFormed};
 ghost use Rattle.encode_types.specs.Plan.{InRange, AllInRange, foreign_owner};
 ghost use Rattle.encode_types.specs.Table.{has_named_owner, is_met_by, table_scope, IsDefined, AllDefined, IsTable};
 
-use crate::table_sample::sample;
 use std::alloc::Global;
 use std::test::Fail;
 use wit_component::{
@@ -20,6 +19,7 @@ use wit_component::{
     encode_result, encode_stream, encode_tuple, encode_unit_future, encode_unit_stream,
     encode_valtype, encode_variant, maybe_import_type,
 };
+use wit_samples::samples::each_kind;
 
 /// The interface whose types are encoded.
 const OWN: InterfaceId = InterfaceId(1);
@@ -432,7 +432,7 @@ fn function_of(resolve: &Resolve) -> Option<&Function> {
 
 // How many calls, one after the other on a table of its own, are answered as expected.
 fn right_on_a_table(alloc: Global, calls: &[Answered]) -> Result<usize, Error> {
-    let resolve = sample(alloc)?;
+    let resolve = each_kind(alloc)?;
     let Some(function) = function_of(&resolve) else {
         return Ok(0);
     };

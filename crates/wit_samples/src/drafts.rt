@@ -219,18 +219,6 @@ pub fn add_type(
     add_type_of(alloc, resolve, 0, name, kind)
 }
 
-/// A named type of the next number, imported by world 0.
-pub fn add_world_type(
-    alloc: Global,
-    resolve: &mut Resolve,
-    name: &str,
-    kind: TypeDefKind,
-) -> Result<(), AllocError> {
-    let id = TypeId(next(resolve.types.len()));
-    add_unlisted(alloc, resolve, name, kind, TypeOwner::World(WorldId(0)))?;
-    import(alloc, resolve, name, WorldItem::Type_ { id })
-}
-
 // ---- functions
 
 /// A function without parameters.
@@ -290,16 +278,6 @@ pub fn put_function(
 pub fn add_function(alloc: Global, resolve: &mut Resolve, ty: Type) -> Result<(), AllocError> {
     let item = function(alloc, "f", FunctionKind::Freestanding, ty, None)?;
     put_function(alloc, resolve, 0, "f", item)
-}
-
-/// `f: func(x: PARAM)`, imported by world 0.
-pub fn add_world_function(
-    alloc: Global,
-    resolve: &mut Resolve,
-    ty: Type,
-) -> Result<(), AllocError> {
-    let item = function(alloc, "f", FunctionKind::Freestanding, ty, None)?;
-    import(alloc, resolve, "f", WorldItem::Function(item))
 }
 
 // ---- items

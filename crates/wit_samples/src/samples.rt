@@ -1,9 +1,8 @@
 //! Whole samples: valid `Resolve`s of each kind of type, of deep types and of many entries.
 
 use crate::drafts::{
-    add_function, add_interface, add_package, add_type, add_type_of, add_unnamed, add_world,
-    add_world_function, add_world_type, draft, empty, export, function, import, nullary,
-    put_function,
+    add_interface, add_package, add_type, add_type_of, add_unnamed, add_world, draft, empty,
+    export, function, import, nullary, param, put_function,
 };
 use crate::kinds::{
     alias_of, borrow_of, enum_of, flags_of, id, own_of, record_of, result_of, tuple_of, variant_of,
@@ -23,47 +22,41 @@ pub fn host_and_guest(alloc: Global) -> Result<Resolve, AllocError> {
     Ok(resolve)
 }
 
-// Types 0 to 6 are named: p, r, g, v, e, l and s, an alias of r.
-fn add_named(alloc: Global, resolve: &mut Resolve) -> Result<(), AllocError> {
-    add_type(alloc, resolve, "p", record_of(alloc, &["a"], Type::U8)?)?;
-    add_type(alloc, resolve, "r", TypeDefKind::Resource)?;
-    add_type(alloc, resolve, "g", flags_of(alloc, &["a"])?)?;
-    add_type(alloc, resolve, "v", variant_of(alloc, &["a"], Some(id(0)))?)?;
-    add_type(alloc, resolve, "e", enum_of(alloc, &["a"])?)?;
-    add_type(alloc, resolve, "l", TypeDefKind::List(id(3)))?;
-    add_type(alloc, resolve, "s", alias_of(1))
-}
-
-// Types 7 to 16 aren't: two handles, a tuple of them, and one of each other kind, each around the one before.
-fn add_others(alloc: Global, resolve: &mut Resolve) -> Result<(), AllocError> {
+// Types 1 to 4 of interface 1: a resource, which an unnamed type owns, a list, and a record of two such lists.
+fn add_first(alloc: Global, resolve: &mut Resolve) -> Result<(), AllocError> {
+    add_type_of(alloc, resolve, 1, "r", TypeDefKind::Resource)?;
     add_unnamed(resolve, own_of(1))?;
-    add_unnamed(resolve, borrow_of(6))?;
-    add_unnamed(resolve, tuple_of(alloc, &[id(7), id(8), id(5)])?)?;
-    add_unnamed(resolve, TypeDefKind::Option(id(9)))?;
-    add_unnamed(resolve, result_of(Some(id(10)), None))?;
-    add_unnamed(resolve, TypeDefKind::Map(Type::String, id(11)))?;
-    add_unnamed(resolve, TypeDefKind::FixedLengthList(id(12), 4))?;
-    add_unnamed(resolve, TypeDefKind::Future(Some(id(13))))?;
-    add_unnamed(resolve, TypeDefKind::Stream(Some(id(14))))?;
-    add_unnamed(resolve, TypeDefKind::List(id(15)))
+    add_unnamed(resolve, TypeDefKind::List(Type::U8))?;
+    let record = record_of(alloc, &["a", "b"], id(3))?;
+    add_type_of(alloc, resolve, 1, "p", record)?;
+    Ok(())
 }
 
-// Interface `j` and what the world has.
-fn add_users(alloc: Global, resolve: &mut Resolve) -> Result<(), AllocError> {
-    add_function(alloc, resolve, id(16))?;
-    add_interface(alloc, resolve, "j")?;
-    add_type_of(alloc, resolve, 1, "p", alias_of(0))?;
-    add_world_type(alloc, resolve, "t", TypeDefKind::Option(Type::U8))?;
-    add_world_function(alloc, resolve, id(18))
+// Types 5 to 12, of other kinds, the last an alias of the type of interface 0.
+fn add_others(alloc: Global, resolve: &mut Resolve) -> Result<(), AllocError> {
+    add_unnamed(resolve, tuple_of(alloc, &[id(2), id(3)])?)?;
+    add_type_of(alloc, resolve, 1, "g", flags_of(alloc, &["a"])?)?;
+    add_type_of(alloc, resolve, 1, "e", enum_of(alloc, &["a"])?)?;
+    let variant = variant_of(alloc, &["a"], Some(id(3)))?;
+    add_type_of(alloc, resolve, 1, "v", variant)?;
+    add_unnamed(resolve, TypeDefKind::Option(id(3)))?;
+    add_unnamed(resolve, result_of(Some(id(3)), None))?;
+    add_unnamed(resolve, borrow_of(1))?;
+    add_type_of(alloc, resolve, 1, "u", alias_of(0))?;
+    Ok(())
 }
 
-/// A type of each kind: seven named ones of interface `i` and ten unnamed ones, which the function `f` of `i` takes; an alias in
-/// interface `j` of a type of `i`; a type of world `w` and a function that takes it.
+/// Types of most kinds: interface 0 has type 0, interface 1 the others and `h: func(b: bool, x: list<u8>) -> own<r>`.
 pub fn each_kind(alloc: Global) -> Result<Resolve, AllocError> {
     let mut resolve = draft(alloc)?;
-    add_named(alloc, &mut resolve)?;
+    add_interface(alloc, &mut resolve, "j")?;
+    add_type(alloc, &mut resolve, "t", TypeDefKind::Type_(Type::U32))?;
+    add_first(alloc, &mut resolve)?;
     add_others(alloc, &mut resolve)?;
-    add_users(alloc, &mut resolve)?;
+    let mut h = nullary(alloc, "h", FunctionKind::Freestanding, Some(id(2)))?;
+    h.params.push(param(alloc, "b", Type::Bool)?)?;
+    h.params.push(param(alloc, "x", id(3))?)?;
+    put_function(alloc, &mut resolve, 1, "h", h)?;
     Ok(resolve)
 }
 
