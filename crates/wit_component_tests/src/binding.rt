@@ -80,17 +80,16 @@ fn assert_answers(
     resolve: &Resolve,
     metadata: &ModuleMetadata,
     question: Question,
-    stands: bool,
 ) -> Result<(), Fail> {
     let (label, name, imported, exported) = question;
     let found = has(alloc, &metadata.import_encodings, resolve, label, name)?;
-    assert_eq!(rt; found, imported && stands, "{label}/{name}");
+    assert_eq!(rt; found, imported, "{label}/{name}");
     let found = has(alloc, &metadata.export_encodings, resolve, label, name)?;
-    assert_eq!(rt; found, exported && stands, "{label}/{name}");
+    assert_eq!(rt; found, exported, "{label}/{name}");
     Ok(())
 }
 
-// Paths stand with the compatible version. A new map, and those of no module, have no encodings.
+// Paths stand with the compatible version.
 #[test]
 fn keys_as_texts(rt: HostRuntime) -> Result<(), Fail> {
     let alloc = rt.alloc();
@@ -98,16 +97,21 @@ fn keys_as_texts(rt: HostRuntime) -> Result<(), Fail> {
     resolve.check(alloc)?;
     assert!(rt; resolve.worlds.len() > 0);
     let metadata = ModuleMetadata::new(alloc, &resolve, WorldId(0), StringEncoding::UTF16)?;
-    let empty = ModuleMetadata::empty(alloc);
-    let new = ModuleMetadata {
-        import_encodings: EncodingMap::new(alloc),
-        export_encodings: EncodingMap::new(alloc),
-    };
     for question in &QUESTIONS {
-        assert_answers(&rt, alloc, &resolve, &metadata, *question, true)?;
-        assert_answers(&rt, alloc, &resolve, &empty, *question, false)?;
-        assert_answers(&rt, alloc, &resolve, &new, *question, false)?;
+        assert_answers(&rt, alloc, &resolve, &metadata, *question)?;
     }
+    Ok(())
+}
+
+// A new map, and those of no module, have no encodings.
+#[test]
+fn no_keys(rt: HostRuntime) -> Result<(), Fail> {
+    let alloc = rt.alloc();
+    let resolve = with_world(alloc)?;
+    let empty = ModuleMetadata::empty(alloc);
+    assert!(rt; !has(alloc, &empty.import_encodings, &resolve, "k", "k")?);
+    assert!(rt; !has(alloc, &empty.export_encodings, &resolve, "l", "l")?);
+    assert!(rt; !has(alloc, &EncodingMap::new(alloc), &resolve, "k", "k")?);
     Ok(())
 }
 

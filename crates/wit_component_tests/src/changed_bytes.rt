@@ -1,20 +1,15 @@
 //! The bytes of a package with each value in the place of each: what they mean keeps its meaning.
 
-use crate::same::{same_senses, text_of};
+use crate::same::is_kept;
 use std::alloc::Global;
 use std::test::Fail;
-use wit_component::{Error, decode, normalized};
+use wit_component::{Error, decode};
 use wit_samples::bytes::INTERFACE_AND_WORLD;
 
 // Whether the package that bytes mean is the same when it is encoded and decoded again.
 fn keep_meaning(alloc: Global, bytes: &[u8]) -> Result<bool, Error> {
     let (resolve, package) = decode(alloc, bytes)?;
-    let (again, number) = normalized(alloc, &resolve, package)?;
-    let text = text_of(alloc, &resolve, package)?;
-    if text != text_of(alloc, &again, number)? {
-        return Ok(false);
-    }
-    same_senses(alloc, &resolve, &again)
+    is_kept(alloc, &resolve, package)
 }
 
 // Whether bytes mean nothing, or a package that keeps its meaning, and how many packages they mean.

@@ -1,23 +1,17 @@
 //! Large packages, in time.
 
-use crate::same::{same_senses, text_of};
+use crate::same::is_kept;
 use std::alloc::{AllocError, Global};
 use std::process::Abort;
 use std::test::Fail;
-use wit_component::{Check, EntryList, Fault, PackageId, Resolve, decode, encode, normalized};
+use wit_component::{Check, EntryList, Fault, PackageId, Resolve};
 use wit_samples::samples::{each_kind, functions_in_plenty, records_in_plenty, with_options};
 
-// What is checked, encoded and decoded has the text that it had, and keeps its meaning when that is done again.
+// A package that is checked, encoded and decoded is the same.
 fn assert_kept(rt: &impl Abort, alloc: Global, resolve: &Resolve) -> Result<(), Fail> {
     resolve.check(alloc)?;
     assert!(rt; resolve.packages.len() > 0);
-    let text = text_of(alloc, resolve, PackageId(0))?;
-    let bytes = encode(alloc, resolve, PackageId(0), false)?;
-    let (once, package) = decode(alloc, &bytes)?;
-    assert!(rt; text_of(alloc, &once, package)? == text);
-    let (twice, package) = normalized(alloc, &once, package)?;
-    assert!(rt; text_of(alloc, &twice, package)? == text);
-    assert!(rt; same_senses(alloc, &once, &twice)?);
+    assert!(rt; is_kept(alloc, resolve, PackageId(0))?);
     Ok(())
 }
 

@@ -1,15 +1,16 @@
-//! Whether two packages are the same: the text of each, and the senses of what their `Resolve`s hold, by number.
+//! Whether a package is the same when it is encoded and decoded: its text, and the senses of what the `Resolve`s hold, by number.
 
 ghost use Rattle.std.specs.Prelude.{◌<◌, length};
 ghost use Rattle.wit_component.specs.Valid.{IsValid};
 
 use std::alloc::Global;
 use wit_component::{
-    Error, InterfaceId, OutputToString, PackageId, Place, Resolve, WitPrinter, WorldId, same_sense,
+    Error, InterfaceId, OutputToString, PackageId, Place, Resolve, WitPrinter, WorldId, normalized,
+    same_sense,
 };
 
-/// The text of a package.
-pub(super) fn text_of(alloc: Global, resolve: &Resolve, package: PackageId) -> Result<String, Error>
+// The text of a package.
+fn text_of(alloc: Global, resolve: &Resolve, package: PackageId) -> Result<String, Error>
     requires valid { IsValid resolve.now }
     requires in_range { «package».0 < length resolve.now.packages.items }
 {
@@ -55,13 +56,40 @@ fn same_worlds(alloc: Global, left: &Resolve, right: &Resolve) -> Result<bool, E
     Ok(left.worlds.len() == right.worlds.len())
 }
 
-/// Whether the interfaces and worlds of both have the same senses.
-pub(super) fn same_senses(alloc: Global, left: &Resolve, right: &Resolve) -> Result<bool, Error>
-    requires left { IsValid left.now }
-    requires right { IsValid right.now }
+// Whether the text of a package is this.
+fn has_text(
+    alloc: Global,
+    resolve: &Resolve,
+    package: PackageId,
+    expected: &str,
+) -> Result<bool, Error>
+    requires valid { IsValid resolve.now }
+    requires in_range { «package».0 < length resolve.now.packages.items }
 {
-    if !same_interfaces(alloc, left, right)? {
+    let text = text_of(alloc, resolve, package)?;
+    Ok(text.as_str() == expected)
+}
+
+// Whether a package is the same when it is encoded and decoded, where this is its text.
+fn keeps(alloc: Global, resolve: &Resolve, package: PackageId, text: &str) -> Result<bool, Error>
+    requires valid { IsValid resolve.now }
+    requires in_range { «package».0 < length resolve.now.packages.items }
+{
+    let (again, number) = normalized(alloc, resolve, package)?;
+    if !has_text(alloc, &again, number, text)? {
         return Ok(false);
     }
-    same_worlds(alloc, left, right)
+    if !same_interfaces(alloc, resolve, &again)? {
+        return Ok(false);
+    }
+    same_worlds(alloc, resolve, &again)
+}
+
+/// Whether a package is the same when it is encoded and decoded.
+pub(super) fn is_kept(alloc: Global, resolve: &Resolve, package: PackageId) -> Result<bool, Error>
+    requires valid { IsValid resolve.now }
+    requires in_range { «package».0 < length resolve.now.packages.items }
+{
+    let text = text_of(alloc, resolve, package)?;
+    keeps(alloc, resolve, package, &text)
 }
