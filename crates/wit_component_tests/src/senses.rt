@@ -1,24 +1,62 @@
-//! Senses of several places over one table.
+//! Senses of two places, compared more than once over one table.
 
+ghost use Rattle.wit_component.specs.Valid.{IsValid};
+
+use std::alloc::Global;
 use std::test::Fail;
-use wit_component::{Check, InterfaceId, Place, Senses, WorldId};
+use wit_component::{Check, Error, InterfaceId, Place, Resolve, Senses, WorldId};
 use wit_samples::samples::each_kind;
+
+// Whether two places have the same sense, and whether they have it when that is asked once more.
+fn same_twice(
+    alloc: Global,
+    resolve: &Resolve,
+    at: Place,
+    other: Place,
+) -> Result<(bool, bool), Error>
+    requires { IsValid resolve.now }
+{
+    if !at.is_in(resolve) {
+        return Err(Error::Size);
+    }
+    if !other.is_in(resolve) {
+        return Err(Error::Size);
+    }
+    let mut senses = match Senses::new(alloc, resolve, resolve) {
+        Ok(senses) => senses,
+        Err(error) => return Err(error),
+    };
+    let first = senses.same(alloc, at, other)?;
+    let second = senses.same(alloc, at, other)?;
+    Ok((first, second))
+}
 
 // What was compared before changes no answer. An interface and a world never have the same sense.
 #[test]
 fn one_after_the_other(rt: HostRuntime) -> Result<(), Fail> {
-    let alloc = rt.alloc();
-    let resolve = each_kind(alloc)?;
-    resolve.check(alloc)?;
-    let one = Place::Interface(InterfaceId(0));
-    let two = Place::Interface(InterfaceId(1));
-    let world = Place::World(WorldId(0));
-    assert!(rt; one.is_in(&resolve) && two.is_in(&resolve) && world.is_in(&resolve));
-    let mut senses = Senses::new(alloc, &resolve, &resolve)?;
-    assert!(rt; senses.same(alloc, one, one)?);
-    assert!(rt; !senses.same(alloc, one, two)?);
-    assert!(rt; !senses.same(alloc, one, world)?);
-    assert!(rt; senses.same(alloc, one, one)?);
-    assert!(rt; senses.same(alloc, world, world)?);
+    static CASES: [(Place, Place, bool); 4] = [
+        (
+            Place::Interface(InterfaceId(1)),
+            Place::Interface(InterfaceId(1)),
+            true,
+        ),
+        (
+            Place::Interface(InterfaceId(0)),
+            Place::Interface(InterfaceId(1)),
+            false,
+        ),
+        (
+            Place::Interface(InterfaceId(0)),
+            Place::World(WorldId(0)),
+            false,
+        ),
+        (Place::World(WorldId(0)), Place::World(WorldId(0)), true),
+    ];
+    let resolve = each_kind(rt.alloc())?;
+    resolve.check(rt.alloc())?;
+    for (at, other, expected) in &CASES {
+        let found = same_twice(rt.alloc(), &resolve, *at, *other)?;
+        assert!(rt; found == (*expected, *expected));
+    }
     Ok(())
 }
