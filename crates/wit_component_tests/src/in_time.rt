@@ -21,16 +21,16 @@ fn kinds_of_types(rt: HostRuntime) -> Result<(), Fail> {
     assert_kept(&rt, rt.alloc(), &each_kind(rt.alloc())?)
 }
 
-// 500 records and 4,500 lists.
+// 200 records and 1,800 lists.
 #[test]
 fn types_in_plenty(rt: HostRuntime) -> Result<(), Fail> {
-    assert_kept(&rt, rt.alloc(), &records_in_plenty(rt.alloc(), 500)?)
+    assert_kept(&rt, rt.alloc(), &records_in_plenty(rt.alloc(), 200)?)
 }
 
-// 5,000 functions in 50 interfaces.
+// 2,000 functions in 20 interfaces.
 #[test]
 fn interfaces_in_plenty(rt: HostRuntime) -> Result<(), Fail> {
-    assert_kept(&rt, rt.alloc(), &functions_in_plenty(rt.alloc(), 50, 100)?)
+    assert_kept(&rt, rt.alloc(), &functions_in_plenty(rt.alloc(), 20, 100)?)
 }
 
 fn checked(alloc: Global, sample: Result<Resolve, AllocError>) -> Result<(), Fault> {
@@ -38,17 +38,17 @@ fn checked(alloc: Global, sample: Result<Resolve, AllocError>) -> Result<(), Fau
     resolve.check(alloc)
 }
 
-// 40,000 types.
+// 20,000 types.
 #[test]
 fn many_types(rt: HostRuntime) {
-    let sample = records_in_plenty(rt.alloc(), 4_000);
+    let sample = records_in_plenty(rt.alloc(), 2_000);
     assert!(rt; checked(rt.alloc(), sample) == Ok(()));
 }
 
-// 40,000 functions in 400 interfaces.
+// 20,000 functions in 200 interfaces.
 #[test]
 fn many_functions(rt: HostRuntime) {
-    let sample = functions_in_plenty(rt.alloc(), 400, 100);
+    let sample = functions_in_plenty(rt.alloc(), 200, 100);
     assert!(rt; checked(rt.alloc(), sample) == Ok(()));
 }
 
