@@ -31,9 +31,6 @@ enum Call {
     Optional(Option<Type>),
     /// The function that is named after the kind of the type of this number.
     Kind(u32),
-    /// A future or a stream of this element.
-    Future(Option<Type>),
-    Stream(Option<Type>),
     /// The parameters of the function of `OWN`.
     Params,
     /// The function of `OWN`.
@@ -208,38 +205,6 @@ fn call_kind<'a>(alloc: Global, table: &mut Table<'a>, id: TypeId) -> Result<Opt
     Ok(slot_of(value))
 }
 
-fn call_future<'a>(
-    alloc: Global,
-    table: &mut Table<'a>,
-    payload: Option<Type>,
-) -> Result<Option<u32>, Error>
-    requires { IsTable table.old }
-    ensures { IsTable table.new }
-{
-    let resolve = table.resolve;
-    if !is_optional_in_range(resolve, payload) || !is_optional_defined(resolve, payload) {
-        return Err(Error::Size);
-    }
-    let value = encode_future(alloc, table, resolve, &payload)?;
-    Ok(slot_of(value))
-}
-
-fn call_stream<'a>(
-    alloc: Global,
-    table: &mut Table<'a>,
-    payload: Option<Type>,
-) -> Result<Option<u32>, Error>
-    requires { IsTable table.old }
-    ensures { IsTable table.new }
-{
-    let resolve = table.resolve;
-    if !is_optional_in_range(resolve, payload) || !is_optional_defined(resolve, payload) {
-        return Err(Error::Size);
-    }
-    let value = encode_stream(alloc, table, resolve, &payload)?;
-    Ok(slot_of(value))
-}
-
 // The slot of the second parameter's type, where there are two parameters.
 fn slot_of_second(params: &[(&str, ComponentValType)]) -> Option<u32> {
     let (_, ty) = params.get(1)?;
@@ -322,8 +287,6 @@ fn answer<'a>(
         Call::Valtype(ty) => call_valtype(alloc, table, ty),
         Call::Optional(ty) => call_optional(alloc, table, ty),
         Call::Kind(number) => call_kind(alloc, table, TypeId(number)),
-        Call::Future(payload) => call_future(alloc, table, payload),
-        Call::Stream(payload) => call_stream(alloc, table, payload),
         Call::Params => call_params(alloc, table, &function.params),
         Call::Function => call_function(alloc, table, function),
         Call::Import(number) => call_import(alloc, table, TypeId(number)),
@@ -442,16 +405,14 @@ fn right_on_a_table(alloc: Global, calls: &[Answered]) -> Result<usize, Error> {
     }
 }
 
-// Futures and streams without an element have caches of their own, which the other functions don't look into.
-static UNITS: [Answered; 8] = [
+// Futures and streams without an element have caches of their own, which the functions that are named after a kind don't look into.
+static UNITS: [Answered; 6] = [
     (Call::UnitFuture, Some(0)),
     (Call::UnitFuture, Some(0)),
-    (Call::Future(None), Some(1)),
+    (Call::Kind(13), Some(1)),
     (Call::UnitStream, Some(2)),
     (Call::UnitStream, Some(2)),
-    (Call::Stream(None), Some(3)),
-    (Call::Future(Some(Type::U8)), Some(4)),
-    (Call::Stream(Some(Type::U8)), Some(5)),
+    (Call::Kind(14), Some(3)),
 ];
 
 // The list is slot 0, the record 1 and its name 2. A function that is named after a kind defines it at each call. The tuple needs the resource
@@ -478,7 +439,7 @@ static CALLS: [Answered; 17] = [
 
 #[test]
 fn one_after_the_other(rt: HostRuntime) -> Result<(), Fail> {
-    assert_eq!(rt; right_on_a_table(rt.alloc(), &UNITS)?, 8);
+    assert_eq!(rt; right_on_a_table(rt.alloc(), &UNITS)?, 6);
     assert_eq!(rt; right_on_a_table(rt.alloc(), &CALLS)?, 17);
     Ok(())
 }

@@ -32,7 +32,7 @@ fn add_first(alloc: Global, resolve: &mut Resolve) -> Result<(), AllocError> {
     Ok(())
 }
 
-// Types 5 to 12, of other kinds, the last an alias of the type of interface 0.
+// Types 5 to 14, of other kinds. Type 12 is an alias of the type of interface 0.
 fn add_others(alloc: Global, resolve: &mut Resolve) -> Result<(), AllocError> {
     add_unnamed(resolve, tuple_of(alloc, &[id(2), id(3)])?)?;
     add_type_of(alloc, resolve, 1, "g", flags_of(alloc, &["a"])?)?;
@@ -43,6 +43,8 @@ fn add_others(alloc: Global, resolve: &mut Resolve) -> Result<(), AllocError> {
     add_unnamed(resolve, result_of(Some(id(3)), None))?;
     add_unnamed(resolve, borrow_of(1))?;
     add_type_of(alloc, resolve, 1, "u", alias_of(0))?;
+    add_unnamed(resolve, TypeDefKind::Future(None))?;
+    add_unnamed(resolve, TypeDefKind::Stream(None))?;
     Ok(())
 }
 
