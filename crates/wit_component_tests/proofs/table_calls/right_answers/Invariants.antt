@@ -1,5 +1,5 @@
 use Rattle.encode_types.specs.Table.{IsTable}
 use Rattle.wit_component_tests.proofs.table_calls.right_answers.Given as goal
 
-abbrev pub invariant-loop-call : goal.invariant-loop-call
-invariant-loop-call l = IsTable l.table
+abbrev pub invariant-loop-number : goal.invariant-loop-number
+invariant-loop-number l = IsTable l.table
