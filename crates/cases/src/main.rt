@@ -4,22 +4,22 @@
 mod answer;
 mod calls;
 mod encodings;
+mod interpreter;
 mod names;
 mod quoted;
 mod read_packages;
 mod read_types;
-mod session;
 mod words;
 
-use session::Session;
+use interpreter::Interpreter;
 use std::io::{self, BufRead, BufReader, BufWriter, Write};
 
 fn main(rt: HostRuntime) -> io::Result<()> {
     let alloc = rt.alloc();
     let mut writer = BufWriter::new(alloc, io::writer(&rt))?;
-    let mut session = Session::new();
+    let mut interpreter = Interpreter::new();
     for line in BufReader::new(alloc, rt.reader())?.lines(alloc) {
-        let answer = session.answer(&rt, alloc, &line?)?;
+        let answer = interpreter.answer(&rt, alloc, &line?)?;
         writeln!(writer, "{answer}")?;
     }
     writer.flush()

@@ -13,7 +13,7 @@ use std::time::Instant;
 use wit_component::{ModuleMetadata, PackageId, Place, Resolve, StringEncoding, WorldId};
 
 #[derive(Drop)]
-pub struct Session {
+pub struct Interpreter {
     current: Option<Resolve>,
     /// The second one of a comparison.
     other: Option<Resolve>,
@@ -219,9 +219,9 @@ fn on_bytes(alloc: Global, word: &[u8], bytes: &[u8]) -> Result<Answer, Answer> 
     }
 }
 
-impl Session {
-    pub fn new() -> Session {
-        Session {
+impl Interpreter {
+    pub fn new() -> Interpreter {
+        Interpreter {
             current: None,
             other: None,
             metadata: None,
