@@ -8,8 +8,8 @@ use wit_component::{
     Resolve, Side, StringEncoding, TypeDefKind, TypeId, WorldId, WorldItem, WorldKey,
 };
 use wit_samples::drafts::{
-    add_inline, add_type, add_unnamed, draft, export, import, import_under, nullary, param,
-    put_function, set_version, shown,
+    add_inline, add_package, add_type, add_unnamed, add_world, draft, empty, export, import,
+    import_under, nullary, param, put_function, set_version, shown,
 };
 use wit_samples::kinds::{borrow_of, id};
 
@@ -135,6 +135,64 @@ fn keys_without_version(rt: HostRuntime) -> Result<(), Fail> {
     assert!(rt; has(alloc, &map, &resolve, "a:b/i@0.1", "[method]r.m")?);
     assert!(rt; !has(alloc, &map, &resolve, "a:b/i", "[method]r.m")?);
     assert!(rt; !has(alloc, &map, &resolve, "l", "l")?);
+    Ok(())
+}
+
+// ---- two versions of an interface
+
+// Package `a:b@0.MINOR.0` of the next number, with the interface `c` of this number, which has the function `f` and is imported.
+fn add_version(alloc: Global, resolve: &mut Resolve, number: u32, minor: u64) -> Result<(), Error> {
+    let home = number as usize + 1;
+    add_package(alloc, resolve, "a", "b")?;
+    set_version(resolve, home, 0, minor, 0);
+    if let Some(package) = resolve.packages.get_mut(home) {
+        let name = String::from_str(alloc, "c")?;
+        package.interfaces.insert(name, InterfaceId(number))?;
+    }
+    add_inline(alloc, resolve)?;
+    if let Some(interface) = resolve.interfaces.get_mut(number as usize) {
+        interface.name = Some(String::from_str(alloc, "c")?);
+        interface.package = Some(PackageId(number + 1));
+    }
+    let f = nullary(alloc, "f", FunctionKind::Freestanding, None)?;
+    put_function(alloc, resolve, number as usize, "f", f)?;
+    let path = WorldKey::Interface(InterfaceId(number));
+    import_under(resolve, path, shown(number))?;
+    Ok(())
+}
+
+// The world `w` of package `d:e` imports `a:b/c` at 0.1.0 and at 0.2.0.
+fn two_versions(alloc: Global) -> Result<Resolve, Error> {
+    let mut resolve = empty(alloc);
+    add_package(alloc, &mut resolve, "d", "e")?;
+    add_world(alloc, &mut resolve, "w")?;
+    add_version(alloc, &mut resolve, 0, 1)?;
+    add_version(alloc, &mut resolve, 1, 2)?;
+    Ok(resolve)
+}
+
+// One entry without version is carried over to each version that is imported, and one of no function is dropped.
+#[test]
+fn keys_of_two_versions(rt: HostRuntime) -> Result<(), Fail> {
+    let alloc = rt.alloc();
+    let resolve = two_versions(alloc)?;
+    resolve.check(alloc)?;
+    let mut unversioned = Map::new(alloc);
+    unversioned.insert(String::from_str(alloc, "a:b/c/f")?, StringEncoding::UTF16)?;
+    unversioned.insert(String::from_str(alloc, "x/y")?, StringEncoding::UTF8)?;
+    assert!(rt; resolve.worlds.len() > 0);
+    let map = EncodingMap::from_unversioned(
+        alloc,
+        &resolve,
+        WorldId(0),
+        Side::Imports,
+        &unversioned,
+    )?;
+    assert!(rt; has(alloc, &map, &resolve, "a:b/c@0.1", "f")?);
+    assert!(rt; has(alloc, &map, &resolve, "a:b/c@0.2", "f")?);
+    assert!(rt; !has(alloc, &map, &resolve, "a:b/c", "f")?);
+    let label = WorldKey::Name(String::from_str(alloc, "x")?);
+    assert!(rt; map.get(&resolve, &label, "y").is_none());
     Ok(())
 }
 
