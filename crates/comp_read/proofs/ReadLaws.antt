@@ -25,8 +25,8 @@ use Rattle.read_members.specs.Decided.{ArePackageDecided, are_one_package}
 use Rattle.read_members.specs.declared.reading.ReadMember.{ReadMember}
 use Rattle.read_members.specs.ReadMembers.{lent_member, read_member, AreForMembers, AreRead}
 use Rattle.read_members.proofs.DecidedLaws.{packages_are_decided}
-use Rattle.read_laws.specs.ReadPackages.{IsReadPackage}
-use Rattle.read_laws.proofs.ReadPackages.{read_may_be_planned, read_packages_have_sources, read_plans_are_meant}
+use Rattle.comp_read.specs.ReadPackages.{IsReadPackage}
+use Rattle.comp_read.proofs.ReadPackages.{read_may_be_planned, read_packages_have_sources, read_plans_are_meant}
 use Rattle.comp_read.specs.MembersRead.{AreReadOf, IsMain}
 use Rattle.comp_read.specs.Planned.{PlansMean}
 

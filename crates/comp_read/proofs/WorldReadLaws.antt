@@ -26,9 +26,9 @@ use Rattle.read_numbers.specs.NumberedInput.{tables_of}
 use Rattle.read_members.specs.DecidedWorlds.{AreWorldDecided, IsPartDecided}
 use Rattle.read_members.specs.ReadMembers.{AreRead, lent_member}
 use Rattle.read_members.proofs.DecidedWorldLaws.{worlds_are_decided}
-use Rattle.read_laws.proofs.ReadPackages.{read_packages_have_sources}
-use Rattle.read_worlds.specs.ReadWorlds.{AreBeside, IsReadWorld}
-use Rattle.read_worlds.proofs.WorldWhole.{read_world_is_whole, read_world_plans_are_meant}
+use Rattle.comp_read.proofs.ReadPackages.{read_packages_have_sources}
+use Rattle.comp_read.specs.ReadWorlds.{AreBeside, IsReadWorld}
+use Rattle.comp_read.proofs.WorldWhole.{read_world_is_whole, read_world_plans_are_meant}
 use Rattle.comp_read.specs.MembersRead.{AreReadOf}
 use Rattle.comp_read.specs.Planned.{WorldPlansMean}
 use Rattle.comp_read.specs.WorldsRead.{IsAlone, IsWorldReadOf, are_one_world, is_alone}

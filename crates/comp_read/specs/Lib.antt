@@ -1,3 +1,9 @@
+pub mod ReadInput
+pub mod InputLaws
+pub mod FollowedWorlds
+pub mod ReadPackages
+pub mod OwnMembers
+pub mod ReadWorlds
 pub mod Decoded
 pub mod DecodedWorlds
 pub mod MembersRead

@@ -12,7 +12,7 @@ use Rattle.read_numbers.specs.KnownScopes.{AreKnown}
 use Rattle.read_numbers.specs.NumberedInput.{tables_of}
 use Rattle.read_members.specs.Decided.{are_one_package}
 use Rattle.read_members.specs.ReadMembers.{AreForMembers, AreRead}
-use Rattle.read_laws.specs.ReadInput.{AreHomesOf}
+use Rattle.comp_read.specs.ReadInput.{AreHomesOf}
 
 -- Members were read of what was followed, over tables whose types are known, and over packages, each of which is that of a place or of a member.
 pub record AreReadOf (x : Followed) (t : Tables) (facts : List KeptFact) (h : Homes) (ns : List (NumberedMember × List (Option ℕ))) : Type 0 where

@@ -4,6 +4,8 @@
 mod building;
 mod causes;
 mod decoding;
+pub mod laws;
+mod own;
 mod packages;
 mod reading;
 mod wanted;

@@ -16,12 +16,12 @@ ghost use Rattle.comp_read.specs.WorldsRead.{IsOneMember, IsOneWorld, IsWorldRea
 
 use crate::building::built;
 use crate::causes::cause_among;
+use crate::own::{members_of_world, own_interfaces};
 use read_exports::{Member, Part, is_one_world};
 use read_follow::Refusal;
 use read_homes::Packages;
 use read_parts::Followed;
 use read_rules::{Scope, Tables};
-use read_worlds::{members_of_world, own_interfaces};
 use std::alloc::{AllocError, Global};
 use wit_model::{Cause, PackageId, Resolve};
 

@@ -3,7 +3,7 @@ use Rattle.std.proofs.Common.{◌≡◌, ◌||◌, ℕ, Bool, true, false, refl,
 use Rattle.std.specs.declared.alloc.Global.{Global}
 use Rattle.std.specs.Prelude.{String}
 use Rattle.comp_meaning.specs.Follow.{is_filled}
-use Rattle.wit_encode.specs.Packages.{HasMembers}
+use Rattle.wit_component.specs.Packages.{HasMembers}
 use Rattle.wit_model.specs.declared.model.Package.{Package}
 use Rattle.wit_model.specs.declared.model.PackageId.{PackageId}
 use Rattle.wit_model.specs.declared.model.Resolve.{Resolve}

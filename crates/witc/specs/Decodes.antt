@@ -3,7 +3,7 @@ use Rattle.std.specs.Prelude.{ℕ, List, Option}
 use Rattle.wit_model.specs.declared.error.Error.{Error}
 use Rattle.wit_model.specs.declared.error.Error.TheVariants.{Memory}
 use Rattle.wit_model.specs.declared.model.Resolve.{Resolve}
-use Rattle.comp_read.specs.Decoded.{IsDecoded, RefusesBytes}
+use Rattle.wit_component.specs.Decoded.{IsDecoded, RefusesBytes}
 use Rattle.witc.specs.Input.{ReadsWhole}
 use Rattle.witc.specs.declared.refusal.Refusal.{Refusal}
 use Rattle.witc.specs.declared.refusal.Refusal.TheVariants as refusals

@@ -4,7 +4,7 @@ use Rattle.wit_model.specs.declared.error.Error.{Error}
 use Rattle.wit_model.specs.declared.error.Error.TheVariants.{Memory}
 use Rattle.wit_model.specs.declared.model.Resolve.{Resolve}
 use Rattle.wit_model.specs.declared.model.World.{World}
-use Rattle.wit_compat.specs.Compatible.{Accepts, IsRefused}
+use Rattle.wit_component.specs.Compatible.{Accepts, IsRefused}
 use Rattle.witc.specs.Decodes.{DecodesInput, RefusesInput}
 use Rattle.witc.specs.Named.{world_named}
 use Rattle.witc.specs.declared.compat.Compared.{Compared}

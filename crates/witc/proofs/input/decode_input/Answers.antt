@@ -1,5 +1,5 @@
 use Rattle.std.proofs.Common.{subst}
-use Rattle.comp_read.specs.Decoded.{RefusesBytes}
+use Rattle.wit_component.specs.Decoded.{RefusesBytes}
 use Rattle.witc.specs.Decodes.{RefusesInput, bytes}
 use Rattle.witc.specs.declared.refusal.Refusal.TheVariants as refusals
 use Rattle.witc.proofs.RefusedLaws.{from-reading, passed}

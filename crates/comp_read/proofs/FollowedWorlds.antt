@@ -1,0 +1,232 @@
+-- Instances of worlds stand under their keys, imports are counted, and what interfaces import is bare.
+use Rattle.std.proofs.Common.{◌≡◌, ap, ◌∙◌, refl, sym, subst, ℕ, arith, true, false, not, ◌&&◌, List, [], ◌∷◌, map, Some, None, is_none, slice_get}
+use Rattle.std.specs.List.{AllByRecursion, AllZip, Contains, flat_map}
+use Rattle.std.proofs.lemmas.Option.{slice_get_within}
+use Rattle.wit_model.specs.Text.{Text}
+use Rattle.wit_model.proofs.Elements.{contains-map, get-contains, same-some}
+use Rattle.wit_model.proofs.Lists.{second_true}
+use Rattle.comp_bytes.specs.Levels.{PartType, Piece, shows, wraps}
+use Rattle.comp_bytes.specs.Reading.{◌>>=◌}
+use Rattle.comp_bytes.proofs.Readers.{bind_some, when_some}
+use Rattle.comp_meaning.specs.ByLevels.{entry_scope}
+use Rattle.comp_meaning.specs.Follow as follow
+use Rattle.comp_meaning.specs.Follow.{each, is_filled, provided}
+use Rattle.comp_meaning.specs.Reads as reads
+use Rattle.plan_meaning.specs.NumberedMembers.{Homes, NumberedMember, imported_view}
+use Rattle.plan_meaning.specs.NumberedViews.{NumberedView, Tables}
+use Rattle.plan_meaning.specs.NumberedWorlds as worlds
+use Rattle.plan_meaning.specs.NumberedWorlds.{NumberedScope, NumberedSeen, NumberedShown, Shows, are_once, are_reached, seen_of, shown_of}
+use Rattle.plan_meaning.proofs.ShapeLaws.{slice_there}
+use Rattle.plan_meaning.proofs.UsedInterfaces.{zip_at, zip_there}
+use Rattle.read_follow.specs.declared.instance_keys.InstanceKey.TheVariants as keys
+use Rattle.read_follow.specs.declared.scopes.Seen.{Seen as FollowedSeen}
+use Rattle.read_follow.specs.declared.scopes.Shown.{Shown as FollowedShown}
+use Rattle.read_follow.specs.declared.scopes.Shown.TheVariants as shown
+use Rattle.read_parts.specs.declared.following.Followed.{Followed}
+use Rattle.read_parts.specs.declared.members.FollowedPart.{FollowedPart}
+use Rattle.read_parts.specs.declared.members.FollowedPart.TheVariants as followed
+use Rattle.read_parts.specs.declared.members.Member.{Member as FollowedMember}
+use Rattle.read_parts.specs.Followed as scopes
+use Rattle.read_parts.specs.Followed.{PartScope, labelled_scope, part_scope, world_path}
+use Rattle.read_parts.specs.Members.{scope_of}
+use Rattle.read_members.specs.PartMembers.{IsMemberOf, IsPartOf}
+use Rattle.read_numbers.specs.NumberedInput.{tables_of, MemberShown, PartShown}
+use Rattle.read_numbers.specs.NumberedParts.{instance_view, numbered_scope as followed_scope, numbered_seen as followed_seen, numbered_shown as followed_shown, name_in}
+use Rattle.read_numbers.specs.PlacedNumbers.{IsCountedItem, IsPlacedScope}
+use Rattle.read_numbers.proofs.ImportOrder.{imports_come_last}
+use Rattle.read_numbers.proofs.InputNumbers.{input_in_numbers}
+use Rattle.read_exports.specs.Interfaces.{Placed}
+use Rattle.read_exports.specs.Members.{numbered_member, numbered_part}
+use Rattle.read_exports.specs.declared.members.Member.{Member}
+use Rattle.read_exports.specs.declared.members.Part.{Part}
+use Rattle.read_exports.specs.declared.members.Part.TheVariants as parts
+use Rattle.read_rules.specs.Reached.{numbered_import}
+use Rattle.read_rules.specs.Scopes.{numbered_scope}
+use Rattle.read_rules.specs.Views.{numbered_view}
+use Rattle.read_rules.specs.declared.scopes.Scope.{Scope}
+use Rattle.plan_package.specs.PlanWhole.{places_in}
+use Rattle.plan_package.specs.WholeWorlds.{world_in_part}
+use Rattle.plan_type_laws.proofs.Walks.{all_flat}
+use Rattle.plan_laws.proofs.Planned.{view_met}
+use Rattle.plan_laws.proofs.Showings.{all_given}
+use Rattle.plan_laws.specs.WholeCondition.{PartIsBare}
+use Rattle.plan_laws.specs.WholeWorlds.{ImportsAreCounted, IsCounted, IsUnderKey, WorldIsFollowed}
+use Rattle.comp_read.specs.FollowedWorlds.{ReadImportsAreBare, ReadPlacesAreMet, ReadWorldsAreFollowed}
+use Rattle.comp_read.specs.ReadInput.{IsReadInput}
+use Rattle.comp_read.proofs.ByScopes.{scopes_found}
+use Rattle.comp_read.proofs.Inputs.{keys_differ}
+use Rattle.comp_read.proofs.InterfaceViews.{each_beside, shown_as}
+use Rattle.comp_read.proofs.Lists.{all_beside}
+use Rattle.comp_read.proofs.KeyLabels.{HasLabel, HaveLabels, entry_labels}
+use Rattle.comp_read.proofs.Members.{IsBoth, IsWorldRead, both_at, both_there, part_viewed, placed, scope_in, world_read, world_scope}
+use Rattle.comp_read.proofs.Places.{world_at}
+
+-- ---- keys
+
+module _ (t : Tables) where
+  -- an instance with its view
+  under_key : (vs : List NumberedView) (s : FollowedShown) → HasLabel (shown_of t (followed_shown vs s)) → IsUnderKey t (name_in t.paths s) (followed_shown vs s)
+  under_key vs (shown.Instance (keys.Path p) n) is = refl
+  under_key vs (shown.Instance (keys.Label l p) n) is = (refl, is)
+  under_key vs (shown.Instance (keys.Implementing l p) n) is = (refl, is)
+  under_key vs (shown.Function name f) is = tt
+  under_key vs (shown.Type name part d) is = tt
+
+  all_under : (vs : List NumberedView) (ss : List FollowedSeen) → AllByRecursion (λ (s : follow.Seen). HasLabel s.shown) (map (seen_of t) (map (followed_seen t.paths vs) ss)) → AllByRecursion (λ (s : NumberedSeen). IsUnderKey t s.key s.shown) (map (followed_seen t.paths vs) ss)
+  all_under vs [] all = tt
+  all_under vs (s ∷ ss) all = (under_key vs s.shown all.0, all_under vs ss all.1)
+
+-- ---- scopes as they are meant
+
+abbrev meant_in : PartScope → follow.Scope
+meant_in (scopes.world text scope) = scope
+meant_in (scopes.interface scope) = scope
+
+part_labels : (p : PartType) (s : PartScope) → part_scope p ≡ Some s → HaveLabels (meant_in s)
+part_labels (wraps es name) s e =
+    let path = bind_some (world_path name) (λ path. entry_scope es >>= λ scope. Some (scopes.world path scope)) s e in
+    let scope = bind_some (entry_scope es) (λ scope. Some (scopes.world path.0 scope)) s path.2 in
+    subst (λ z. HaveLabels (meant_in z)) (same-some (scopes.world path.0 scope.0) s scope.2) (entry_labels es scope.0 scope.1)
+part_labels (shows es) s e =
+    let scope = bind_some (entry_scope es) (λ scope. Some (scopes.interface scope)) s e in
+    subst (λ z. HaveLabels (meant_in z)) (same-some (scopes.interface scope.0) s scope.2) (entry_labels es scope.0 scope.1)
+
+labelled_labels : (y : Text × PartType) (s : Text × PartScope) → labelled_scope y ≡ Some s → HaveLabels (meant_in s.1)
+labelled_labels y s e =
+    let found = bind_some (part_scope y.1) (λ p. let z : Text × PartScope = (y.0, p) in Some z) s e in
+    subst (λ (z : Text × PartScope). HaveLabels (meant_in z.1)) (same-some (y.0, found.0) s found.2) (part_labels y.1 found.0 found.1)
+
+part_shows : (t : Tables) (a : FollowedPart) (s : PartScope) → PartShown t a s → Shows t (followed_scope t.paths (scope_of a)) (meant_in s)
+part_shows t (followed.World path scope) (scopes.world text meant) is = is.1
+part_shows t (followed.Interface scope) (scopes.interface meant) is = is
+part_shows t (followed.World path scope) (scopes.interface meant) is = absurd is
+part_shows t (followed.Interface scope) (scopes.world text meant) is = absurd is
+
+module _ (pieces : List Piece) (x : Followed) (h : Homes) (ms : List Member) (members : List reads.Member) (input : IsReadInput pieces x h ms members) where
+  abbrev t : Tables
+  t = tables_of x
+
+  -- what is followed of a part, and what it stands for
+  record IsMeant (w : NumberedScope) : Type 0 where
+    scope : follow.Scope
+    shows : Shows t w scope
+    labels : HaveLabels scope
+
+  meant_at : (m : ℕ) (one : FollowedMember) → slice_get x.members.items m ≡ Some one → IsMeant (followed_scope x.places (scope_of one.part))
+  meant_at m one there =
+      let numbers = input_in_numbers pieces x input.followed in
+      let s = zip_there (MemberShown t) x.members.items numbers.scopes numbers.shown m one there in
+      let parts_all = input.followed.parts in
+      let y = zip_at (λ y z. labelled_scope y ≡ Some z) parts_all numbers.scopes (each_beside labelled_scope parts_all numbers.scopes (scopes_found pieces parts_all input.followed.exported numbers.scopes numbers.found)) m s.0 s.1 in
+      record { scope = meant_in s.0.1; shows = part_shows t one.part s.0.1 s.2.1; labels = labelled_labels y.0 s.0 y.2 }
+
+  -- ---- one world
+
+  module _ (m : ℕ) (member : Member) (b : IsBoth pieces x h ms members input m member) (w : Scope) (is : member.part ≡ parts.World w) where
+    abbrev W : NumberedScope
+    W = numbered_scope w
+
+    good : IsPlacedScope t W
+    good = (placed pieces x h ms members input).each m W (world_at pieces x h ms members input m member b w is)
+
+    -- the import of this number
+    counted_at : (j c : ℕ) (s : NumberedSeen) → slice_get W.imports j ≡ Some s → slice_get good.counts j ≡ Some c → IsCounted t W.home good.counts j c s.key s.shown
+    counted_at j c s e f = by s.shown refl (subst (IsCountedItem t W good.counts j c s.key) refl (good.counted j c s e f).item)
+      where
+        read : IsWorldRead pieces x h ms members input w
+        read = world_read pieces x h ms members input member (get-contains ms m member b.at) w is
+
+        by : (y : NumberedShown) → s.shown ≡ y → IsCountedItem t W good.counts j c s.key y → IsCounted t W.home good.counts j c s.key y
+        by (worlds.instance k v) same item = tt
+        by (worlds.function n) same item = item
+        by (worlds.declares d) same item =
+            let last = imports_come_last t W good (keys_differ pieces x h ms members input w read) j c s d e f same in
+            record { number = last.number; shape = last.shape; last = last.last; behind = last.others }
+
+    counted : ImportsAreCounted t W
+    counted = record {
+      counts = good.counts;
+      many = good.many;
+      rising = λ i j b c e f less.
+          let within = slice_get_within good.counts j c f in
+          let many = good.many in
+          let s = slice_there W.imports j (omega (arith, within, many)) in
+          (good.counted j c s.0 s.1 f).rising i b e less;
+      counted = counted_at;
+    }
+
+    pub world_followed : WorldIsFollowed t W
+    world_followed =
+        let meant = meant_at m b.one b.there in
+        let same : scope_in pieces x h ms members input b.one ≡ W = sym (world_scope pieces x h ms members input m member b w is).shows in
+        let vs = map instance_view (scope_of b.one.part).instances.items in
+        record {
+          imports = subst (λ (z : NumberedScope). AllByRecursion (λ (s : NumberedSeen). IsUnderKey t s.key s.shown) z.imports) same (all_under t vs (scope_of b.one.part).imports.items (subst (AllByRecursion (λ (s : follow.Seen). HasLabel s.shown)) meant.shows.imports meant.labels.imports));
+          exports = subst (λ (z : NumberedScope). AllByRecursion (λ (s : NumberedSeen). IsUnderKey t s.key s.shown) z.exports) same (all_under t vs (scope_of b.one.part).exports.items (subst (AllByRecursion (λ (s : follow.Seen). HasLabel s.shown)) meant.shows.exports meant.labels.exports));
+          counted = counted;
+        }
+
+  part_followed : (m : ℕ) (member : Member) → IsBoth pieces x h ms members input m member → (a : Part) → member.part ≡ a → AllByRecursion (λ (w : Text × Scope). WorldIsFollowed t (numbered_scope w.1)) (world_in_part member.label.now a)
+  part_followed m member b (parts.World w) e = (world_followed m member b w e, tt)
+  part_followed m member b (parts.Interface p v imports) e = tt
+
+  pub worlds_followed : AllByRecursion (λ (w : Text × Scope). WorldIsFollowed t (numbered_scope w.1)) (flat_map (λ (m : Member). world_in_part m.label.now m.part) ms)
+  worlds_followed =
+      all_flat (λ (w : Text × Scope). WorldIsFollowed t (numbered_scope w.1)) (λ (m : Member). world_in_part m.label.now m.part) ms
+      (all_given (λ (m : Member). AllByRecursion (λ (w : Text × Scope). WorldIsFollowed t (numbered_scope w.1)) (world_in_part m.label.now m.part)) ms
+      (λ m member e. part_followed m member (both_at pieces x h ms members input m member e) member.part refl))
+
+pub read_worlds_are_followed : ReadWorldsAreFollowed
+read_worlds_are_followed pieces x h ms members input = worlds_followed pieces x h ms members input
+
+-- ---- interfaces
+
+nothing_filled : {A : Type 0} (xs : List A) → not (is_filled xs) ≡ true → xs ≡ []
+nothing_filled [] e = refl
+nothing_filled (x ∷ xs) e = let wrong : false ≡ true = e in absurd cc
+
+import_bare : (s : NumberedSeen) (i : Placed) → imported_view s ≡ Some i → i.1.functions ≡ []
+import_bare s i e = by s.shown e
+  where
+    no_view : None ≡ Some i → i.1.functions ≡ []
+    no_view f = let wrong : ⊥ = cc in absurd wrong
+
+    by : (x : NumberedShown) → imported_view (record { key = s.key; shown = x; external_id = s.external_id }) ≡ Some i → i.1.functions ≡ []
+    by (worlds.instance (worlds.path p) v) f =
+        let pair : Placed = (p, v) in
+        let w = when_some (is_none s.external_id && not (is_filled v.functions)) (Some pair) i f in
+        subst (λ (z : Placed). z.1.functions ≡ []) (same-some pair i w.1) (nothing_filled v.functions (second_true (is_none s.external_id) (not (is_filled v.functions)) w.0))
+    by (worlds.instance (worlds.label l p) v) f = no_view f
+    by (worlds.instance (worlds.implementing l p) v) f = no_view f
+    by (worlds.function n) f = no_view f
+    by (worlds.declares d) f = no_view f
+
+imports_bare : (ss : List NumberedSeen) (is : List Placed) → AllZip (λ s i. imported_view s ≡ Some i) ss is → AllByRecursion (λ (i : Placed). i.1.functions ≡ []) is
+imports_bare [] [] all = tt
+imports_bare [] (i ∷ is) all = absurd all
+imports_bare (s ∷ ss) [] all = absurd all
+imports_bare (s ∷ ss) (i ∷ is) all = (import_bare s i all.0, imports_bare ss is all.1)
+
+module _ (t : Tables) where
+  part_bare : (a : FollowedPart) (b : Part) → IsPartOf t a b → PartIsBare (numbered_part b)
+  part_bare (followed.World path s) (parts.World w) is = tt
+  part_bare (followed.World path s) (parts.Interface p v imports) is = absurd is
+  part_bare (followed.Interface s) (parts.World w) is = absurd is
+  part_bare (followed.Interface s) (parts.Interface p v imports) is =
+      let w = followed_scope t.paths s in
+      let given = map numbered_import imports.now in
+      imports_bare w.imports given (each_beside imported_view w.imports given (shown_as t w (p, numbered_view v) given is).imports_found)
+
+pub read_imports_are_bare : ReadImportsAreBare
+read_imports_are_bare pieces x h ms members input =
+    all_beside (IsMemberOf (tables_of x)) (λ (m : NumberedMember). PartIsBare m.part) numbered_member (λ y m is. part_bare (tables_of x) y.part m.part is.1) x.members.items ms input.are
+
+-- ---- places that are met
+
+pub read_places_are_met : ReadPlacesAreMet
+read_places_are_met pieces x h ms members input q path =
+    let is = (placed pieces x h ms members input).met q path in
+    let y = both_there pieces x h ms members input is.scope is.at.scope is.at.at in
+    let viewed = part_viewed pieces x h ms members input is.scope y.0 y.1 is.number is.one (ap (λ (z : NumberedScope). slice_get z.instances is.number) y.2 ∙ is.at.instance_at) in
+    subst (Contains (places_in ms)) is.place
+    (view_met ms (numbered_member y.0) (contains-map numbered_member ms y.0 (get-contains ms is.scope y.0 y.1.at)) (record { place = is.one.place; view = is.one.view; whole = viewed.whole }) viewed.there)

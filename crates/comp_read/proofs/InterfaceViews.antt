@@ -1,0 +1,187 @@
+-- The views that the component type of an interface gives are those of its instances.
+use Rattle.std.proofs.Common.{◌≡◌, refl, sym, ap, subst, ◌∙◌, ◌⊎◌, inl, inr, Bool, true, false, not, ◌&&◌, List, [], ◌∷◌, ◌++◌, map, Option, Some, None, is_none}
+use Rattle.std.specs.List.{AllByRecursion, AllZip, Contains}
+use Rattle.std.proofs.lemmas.List.Elements.{Contains-append_cases, Contains-append_left, Contains-append_right}
+use Rattle.wit_model.proofs.Elements.{contains-get, contains-map, contains-one, get-contains, one-contained, same-some}
+use Rattle.wit_model.proofs.Lists.{first_true, second_true}
+use Rattle.comp_bytes.specs.Reading.{◌>>=◌}
+use Rattle.comp_bytes.proofs.Readers.{when_some}
+use Rattle.comp_meaning.specs.Follow.{each, is_filled, provided}
+use Rattle.plan_meaning.specs.FollowedNumbers.{IsOneOf}
+use Rattle.plan_meaning.specs.NumberedMembers.{exported_view, imported_view}
+use Rattle.plan_meaning.specs.NumberedViews.{NumberedSight, NumberedView, Tables}
+use Rattle.plan_meaning.specs.NumberedWorlds.{HasPath, NumberedInstance, NumberedKey, NumberedScope, NumberedSeen, NumberedShown, are_once, are_reached, declares, function, implementing, instance, label, path, place_of_key}
+use Rattle.plan_meaning.proofs.GatheredPlan.{all_at}
+use Rattle.plan_meaning.proofs.UsedInterfaces.{zip_at, zip_there}
+use Rattle.read_exports.specs.Interfaces.{Placed, shown_interface}
+use Rattle.plan_package.specs.Views.{types_alone}
+use Rattle.read_numbers.specs.PlacedNumbers.{IsPlacedItem}
+use Rattle.plan_laws.proofs.PartNames.{from_map}
+use Rattle.comp_read.proofs.Scopes.{IsSeen, IsSeenAs}
+
+no_some : {A B : Type 0} (x : A) → None ≡ Some x → B
+no_some x e = let wrong : ⊥ = cc in absurd wrong
+
+pub of_provided : {A : Type 0} (b : Bool) (x y : A) → provided b x ≡ Some y → x ≡ y
+of_provided b x y e = same-some x y (when_some b (Some x) y e).1
+
+-- what each item gives stands beside it
+pub each_beside : {A B : Type 0} (f : A → Option B) (xs : List A) (ys : List B) → each f xs ≡ Some ys → AllZip (λ x y. f x ≡ Some y) xs ys
+each_beside f [] [] e = tt
+each_beside {B = B} f [] (y ∷ ys) e = let none : ◌≡◌ {A = List B} [] (y ∷ ys) = same-some [] (y ∷ ys) e in let wrong : ⊥ = cc in absurd wrong
+each_beside {A = A} {B = B} f (x ∷ xs) ys e = by (f x) refl (each f xs) (each_beside f xs) ys e
+  where
+    by : (o : Option B) → f x ≡ o → (rest : Option (List B)) → ((zs : List B) → rest ≡ Some zs → AllZip (λ x y. f x ≡ Some y) xs zs) → (zs : List B) → (o >>= λ z. rest >>= λ more. Some (z ∷ more)) ≡ Some zs → AllZip (λ x y. f x ≡ Some y) (x ∷ xs) zs
+    by None is rest later zs g = no_some zs g
+    by (Some z) is None later zs g = no_some zs g
+    by (Some z) is (Some more) later zs g = subst (AllZip (λ x y. f x ≡ Some y) (x ∷ xs)) (same-some (z ∷ more) zs g) (is, later more refl)
+
+-- ---- imports and exports that are views
+
+-- the import or the export is the view
+abbrev pub IsPlacedAs : NumberedSeen → Placed → Type 0
+IsPlacedAs s i = s.shown ≡ instance (path i.0) i.1
+
+import_is : (s : NumberedSeen) (i : Placed) → imported_view s ≡ Some i → IsPlacedAs s i
+import_is s i e = by s.shown e
+  where
+    by : (x : NumberedShown) → imported_view (record { key = s.key; shown = x; external_id = s.external_id }) ≡ Some i → x ≡ instance (path i.0) i.1
+    by (instance (path p) v) f = ap (λ (z : Placed). instance (path z.0) z.1) (of_provided {A = Placed} (is_none s.external_id && not (is_filled v.functions)) (p, v) i f)
+    by (instance (label l p) v) f = no_some i f
+    by (instance (implementing l p) v) f = no_some i f
+    by (function n) f = no_some i f
+    by (declares d) f = no_some i f
+
+imports_are : (ss : List NumberedSeen) (is : List Placed) → AllZip (λ s i. imported_view s ≡ Some i) ss is → AllZip IsPlacedAs ss is
+imports_are [] [] all = tt
+imports_are [] (i ∷ is) all = absurd all
+imports_are (s ∷ ss) [] all = absurd all
+imports_are (s ∷ ss) (i ∷ is) all = (import_is s i all.0, imports_are ss is all.1)
+
+export_is : (ss : List NumberedSeen) (e : Placed) → exported_view ss ≡ Some e → (s : NumberedSeen) × (ss ≡ s ∷ []) × IsPlacedAs s e
+export_is [] e h = no_some e h
+export_is (s ∷ r ∷ ss) e h = no_some e h
+export_is (s ∷ []) e h = (s, refl, by s.shown h)
+  where
+    by : (x : NumberedShown) → exported_view (record { key = s.key; shown = x; external_id = s.external_id } ∷ []) ≡ Some e → x ≡ instance (path e.0) e.1
+    by (instance (path p) v) f = ap (λ (z : Placed). instance (path z.0) z.1) (of_provided {A = Placed} (is_none s.external_id) (p, v) e f)
+    by (instance (label l p) v) f = no_some e f
+    by (instance (implementing l p) v) f = no_some e f
+    by (function n) f = no_some e f
+    by (declares d) f = no_some e f
+
+-- ---- the component type
+
+-- its imports are views, and its one export is
+pub record IsOfViews (w : NumberedScope) (e : Placed) (is : List Placed) : Type 0 where
+  pub imports : AllZip IsPlacedAs w.imports is
+  pub one : NumberedSeen
+  pub alone : w.exports ≡ one ∷ []
+  pub exported : IsPlacedAs one e
+
+-- What its component type shows is an interface: its export and its imports are views, no place stands twice, and each import is reached.
+pub record IsShownAs (t : Tables) (w : NumberedScope) (e : Placed) (is : List Placed) : Type 0 where
+  pub export_found : exported_view w.exports ≡ Some e
+  pub imports_found : each imported_view w.imports ≡ Some is
+  pub once : are_once (e.0 ∷ map (λ (i : Placed). i.0) is) ≡ true
+  pub reached : are_reached t is e.1 ≡ true
+
+pub shown_as : (t : Tables) (w : NumberedScope) (e : Placed) (is : List Placed) → shown_interface t w ≡ Some (e, is) → IsShownAs t w e is
+shown_as t w e is h = by (exported_view w.exports) refl (each imported_view w.imports) refl h
+  where
+    by : (a : Option Placed) → exported_view w.exports ≡ a → (b : Option (List Placed)) → each imported_view w.imports ≡ b
+        → (a >>= λ x. b >>= λ ys. provided (are_once (x.0 ∷ map (λ i. i.0) ys) && are_reached t ys x.1) (let z : Placed × List Placed = (x, ys) in z)) ≡ Some (e, is) → IsShownAs t w e is
+    by None f b g k = no_some {A = Placed × List Placed} (e, is) k
+    by (Some x) f None g k = no_some {A = Placed × List Placed} (e, is) k
+    by (Some x) f (Some ys) g k =
+        let pair : Placed × List Placed = (x, ys) in
+        let found = when_some (are_once (x.0 ∷ map (λ i. i.0) ys) && are_reached t ys x.1) (Some pair) (e, is) k in
+        let once = first_true (are_once (x.0 ∷ map (λ i. i.0) ys)) (are_reached t ys x.1) found.0 in
+        let reached = second_true (are_once (x.0 ∷ map (λ i. i.0) ys)) (are_reached t ys x.1) found.0 in
+        subst (λ (z : Placed × List Placed). IsShownAs t w z.0 z.1) (same-some {A = Placed × List Placed} pair (e, is) found.1) (record { export_found = f; imports_found = g; once = once; reached = reached })
+
+pub of_views : (t : Tables) (w : NumberedScope) (e : Placed) (is : List Placed) → shown_interface t w ≡ Some (e, is) → IsOfViews w e is
+of_views t w e is h =
+    let all = shown_as t w e is h in
+    let one = export_is w.exports e all.export_found in
+    record { imports = imports_are w.imports is (each_beside imported_view w.imports is all.imports_found); one = one.0; alone = one.1; exported = one.2 }
+
+-- ---- instances and views
+
+same_instance : (k l : NumberedKey) (v u : NumberedView) → instance k v ≡ instance l u → (k ≡ l) × (v ≡ u)
+same_instance k l v u e = (cc, cc)
+
+-- one of these is the instance's view
+pub record IsViewed (views : List NumberedSight) (i : NumberedInstance) : Type 0 where
+  pub whole : Bool
+  pub there : Contains views (record { place = i.place; view = i.view; whole = whole })
+
+module _ (t : Tables) (w : NumberedScope) (e : Placed) (is : List Placed) (of : IsOfViews w e is) where
+  abbrev own : NumberedSight
+  own = record { place = e.0; view = e.1; whole = true }
+
+  abbrev views : List NumberedSight
+  views = map types_alone is ++ own ∷ []
+
+  -- what the instance is seen as is the view
+  seen_place : (i : NumberedInstance) (s : NumberedSeen) → IsSeenAs i s → (y : Placed) → IsPlacedAs s y → (y.0 ≡ i.place) × (y.1 ≡ i.view)
+  seen_place i s seen y placed =
+      let same = same_instance seen.key (path y.0) i.view y.1 (sym seen.shown ∙ placed) in
+      (ap place_of_key (sym same.0) ∙ seen.place, sym same.1)
+
+  -- each instance that is seen is viewed
+  pub seen_viewed : (i : NumberedInstance) → IsSeen w i → IsViewed views i
+  seen_viewed i seen = by seen.among
+    where
+      by : Contains w.imports seen.seen ⊎ Contains w.exports seen.seen → IsViewed views i
+      by (inl among) =
+          let at = contains-get w.imports seen.seen among in
+          let y = zip_there IsPlacedAs w.imports is of.imports at.0 seen.seen at.1 in
+          let same = seen_place i seen.seen seen.is y.0 y.2 in
+          record {
+            whole = false;
+            there = Contains-append_left (map types_alone is) (own ∷ []) (record { place = i.place; view = i.view; whole = false })
+                (subst (Contains (map types_alone is)) (λ j. record { place = same.0 j; view = same.1 j; whole = false }) (contains-map types_alone is y.0 (get-contains is at.0 y.0 y.1)));
+          }
+      by (inr among) =
+          let one : of.one ≡ seen.seen = one-contained of.one seen.seen (subst (λ ss. Contains ss seen.seen) of.alone among) in
+          let same = seen_place i seen.seen seen.is e (subst (λ s. IsPlacedAs s e) one of.exported) in
+          record {
+            whole = true;
+            there = Contains-append_right (map types_alone is) (own ∷ []) (record { place = i.place; view = i.view; whole = true })
+                (subst (Contains (own ∷ [])) (λ j. record { place = same.0 j; view = same.1 j; whole = true }) (contains-one own));
+          }
+
+  -- ---- back
+
+  -- the view has a path, and is that of an instance
+  pub record IsInstanceView (s : NumberedSight) : Type 0 where
+    pub path_there : HasPath t s.place
+    pub there : Contains w.instances (record { place = s.place; view = s.view })
+
+  module _ (imports_placed : AllByRecursion (λ (s : NumberedSeen). IsPlacedItem t w.home s.shown) w.imports) (exports_placed : AllByRecursion (λ (s : NumberedSeen). IsPlacedItem t w.home s.shown) w.exports)
+      (imports_one : AllByRecursion (λ (s : NumberedSeen). IsOneOf t w.instances s.shown) w.imports) (exports_one : AllByRecursion (λ (s : NumberedSeen). IsOneOf t w.instances s.shown) w.exports) where
+    placed_view : (y : Placed) (x : NumberedShown) → x ≡ instance (path y.0) y.1 → IsPlacedItem t w.home x → IsOneOf t w.instances x → HasPath t y.0 × Contains w.instances (record { place = y.0; view = y.1 })
+    placed_view y x f item one = by (subst (IsPlacedItem t w.home) f item) (subst (IsOneOf t w.instances) f one)
+      where
+        by : IsPlacedItem t w.home (instance (path y.0) y.1) → IsOneOf t w.instances (instance (path y.0) y.1) → HasPath t y.0 × Contains w.instances (record { place = y.0; view = y.1 })
+        by a b = (a.0, b)
+
+    import_view : (y : Placed) → Contains is y → HasPath t y.0 × Contains w.instances (record { place = y.0; view = y.1 })
+    import_view y c =
+        let at = contains-get is y c in
+        let s = zip_at IsPlacedAs w.imports is of.imports at.0 y at.1 in
+        let among = get-contains w.imports at.0 s.0 s.1 in
+        placed_view y s.0.shown s.2 (all_at (λ (z : NumberedSeen). IsPlacedItem t w.home z.shown) w.imports imports_placed s.0 among) (all_at (λ (z : NumberedSeen). IsOneOf t w.instances z.shown) w.imports imports_one s.0 among)
+
+    export_view : HasPath t e.0 × Contains w.instances (record { place = e.0; view = e.1 })
+    export_view =
+        let among : Contains w.exports of.one = subst (λ ss. Contains ss of.one) (sym of.alone) (contains-one of.one) in
+        placed_view e of.one.shown of.exported (all_at (λ (z : NumberedSeen). IsPlacedItem t w.home z.shown) w.exports exports_placed of.one among) (all_at (λ (z : NumberedSeen). IsOneOf t w.instances z.shown) w.exports exports_one of.one among)
+
+    pub instance_viewed : (s : NumberedSight) → Contains views s → IsInstanceView s
+    instance_viewed s c = by (Contains-append_cases (map types_alone is) (own ∷ []) s c)
+      where
+        by : Contains (map types_alone is) s ⊎ Contains (own ∷ []) s → IsInstanceView s
+        by (inl among) = let from = from_map types_alone is s among in let found = import_view from.0 from.1 in subst IsInstanceView from.2 (record { path_there = found.0; there = found.1 })
+        by (inr here) = subst IsInstanceView (one-contained own s here) (record { path_there = export_view.0; there = export_view.1 })

@@ -1,0 +1,144 @@
+-- What is exported at the top has labels, none twice.
+use Rattle.std.proofs.Common.{◌≡◌, refl, sym, ap, subst, ◌∙◌, ℕ, Bool, true, not, ◌&&◌, ◌==◌, List, [], ◌∷◌, ◌++◌, length, map, Option, Some, slice_get}
+use Rattle.std.specs.List.{AllByRecursion, AllZip, list_any}
+use Rattle.wit_model.specs.Names.{is_label}
+use Rattle.wit_model.specs.Text.{Text}
+use Rattle.wit_model.proofs.Elements.{same-some}
+use Rattle.wit_model.proofs.Lists.{first_true, second_true}
+use Rattle.comp_bytes.specs.Levels as levels
+use Rattle.comp_bytes.specs.Levels.{PartType, Piece}
+use Rattle.comp_bytes.specs.Raw.{TopExport}
+use Rattle.comp_bytes.specs.Reading.{◌>>=◌}
+use Rattle.comp_bytes.proofs.Readers.{bind_some, when_some}
+use Rattle.comp_meaning.specs.ByLevels.{Top, exported_parts, top_export, top_part, top_piece}
+use Rattle.comp_meaning.specs.Follow.{each, provided, when}
+use Rattle.comp_meaning.specs.Reads.{is_bare, steps}
+use Rattle.comp_meaning.specs.Rules.{distinct}
+use Rattle.comp_meaning.proofs.EntryLaws.{steps_keep}
+use Rattle.plan_meaning.specs.NumberedViews.{Tables}
+use Rattle.read_parts.specs.declared.members.Member.{Member as FollowedMember}
+use Rattle.read_parts.specs.Followed.{PartScope, labelled_scope, part_scope}
+use Rattle.read_members.specs.PartMembers.{IsMemberOf}
+use Rattle.read_numbers.specs.NumberedInput.{tables_of, MemberShown}
+use Rattle.read_numbers.proofs.InputNumbers.{input_in_numbers}
+use Rattle.read_exports.specs.declared.members.Member.{Member}
+use Rattle.comp_read.specs.InputLaws.{ReadLabelsStand}
+use Rattle.comp_read.proofs.ByScopes.{scopes_found}
+use Rattle.comp_read.proofs.InterfaceViews.{each_beside}
+
+-- ---- the exports at the top
+
+-- each export is under a label
+abbrev AreLabelled : Top → Type 0
+AreLabelled top = AllByRecursion (λ (y : Text × ℕ). is_label y.0 ≡ true) top.exported
+
+one_more : {A : Type 0} (P : A → Type 0) (xs : List A) (y : A) → AllByRecursion P xs → P y → AllByRecursion P (xs ++ y ∷ [])
+one_more P [] y all is = (is, tt)
+one_more P (x ∷ xs) y all is = (all.0, one_more P xs y all.1 is)
+
+part_keeps : (top next : Top) (p : PartType) → top_part top p ≡ Some next → AreLabelled top → AreLabelled next
+part_keeps top next p e is = subst AreLabelled (same-some (record { types = top.types ++ p ∷ []; slots = top.slots ++ length top.types ∷ []; exported = top.exported }) next e) is
+
+export_keeps : (top next : Top) (y : TopExport) → top_export top y ≡ Some next → AreLabelled top → AreLabelled next
+export_keeps top next y e is = by (bind_some (slice_get top.slots y.type_index) (λ n. provided (test n) (more n)) next e)
+  where
+    test : ℕ → Bool
+    test n = is_bare y.exported_as && (is_label y.exported_as.text && not (list_any (λ x. x.1 == n) top.exported))
+
+    more : ℕ → Top
+    more n = record { types = top.types; slots = top.slots ++ n ∷ []; exported = top.exported ++ (y.exported_as.text, n) ∷ [] }
+
+    by : (n : ℕ) × (slice_get top.slots y.type_index ≡ Some n) × (provided (test n) (more n) ≡ Some next) → AreLabelled next
+    by found =
+        let n = found.0 in
+        let w = when_some (test n) (Some (more n)) next found.2 in
+        let label = first_true (is_label y.exported_as.text) (not (list_any (λ x. x.1 == n) top.exported)) (second_true (is_bare y.exported_as) (is_label y.exported_as.text && not (list_any (λ x. x.1 == n) top.exported)) w.0) in
+        subst AreLabelled (same-some (more n) next w.1) (one_more (λ (z : Text × ℕ). is_label z.0 ≡ true) top.exported (y.exported_as.text, n) is label)
+
+piece_keeps : (top next : Top) (p : Piece) → top_piece top p ≡ Some next → AreLabelled top → AreLabelled next
+piece_keeps top next (levels.custom name contents) e is = subst AreLabelled (same-some top next e) is
+piece_keeps top next (levels.types ps) e is = steps_keep AreLabelled top_part part_keeps ps top next e is
+piece_keeps top next (levels.exports es) e is = steps_keep AreLabelled top_export export_keeps es top next e is
+
+-- ---- the parts by their labels
+
+record AreNamedParts (parts : List (Text × PartType)) : Type 0 where
+  labels : AllByRecursion (λ (label : Text). is_label label ≡ true) (map (λ (y : Text × PartType). y.0) parts)
+  apart : distinct (map (λ (y : Text × PartType). y.0) parts) ≡ true
+
+abbrev part_of : Top → Text × ℕ → Option (Text × PartType)
+part_of top y = slice_get top.types y.1 >>= λ p. Some (y.0, p)
+
+same_labels : (top : Top) (ys : List (Text × ℕ)) (parts : List (Text × PartType)) → AllZip (λ y p. part_of top y ≡ Some p) ys parts → map (λ (y : Text × ℕ). y.0) ys ≡ map (λ (p : Text × PartType). p.0) parts
+same_labels top [] [] all = refl
+same_labels top [] (p ∷ parts) all = absurd all
+same_labels top (y ∷ ys) [] all = absurd all
+same_labels top (y ∷ ys) (p ∷ parts) all = λ i. one i ∷ same_labels top ys parts all.1 i
+  where
+    one : y.0 ≡ p.0
+    one = let found = bind_some (slice_get top.types y.1) (λ q. let z : Text × PartType = (y.0, q) in Some z) p all.0 in ap (λ (z : Text × PartType). z.0) (same-some (y.0, found.0) p found.2)
+
+labels_of : (ys : List (Text × ℕ)) → AllByRecursion (λ (y : Text × ℕ). is_label y.0 ≡ true) ys → AllByRecursion (λ (label : Text). is_label label ≡ true) (map (λ (y : Text × ℕ). y.0) ys)
+labels_of [] all = tt
+labels_of (y ∷ ys) all = (all.0, labels_of ys all.1)
+
+parts_named : (pieces : List Piece) (parts : List (Text × PartType)) → exported_parts pieces ≡ Some parts → AreNamedParts parts
+parts_named pieces parts e = by (bind_some (steps top_piece start pieces) (λ top. when (test top) (each (part_of top) top.exported)) parts e)
+  where
+    start : Top
+    start = record { types = []; slots = []; exported = [] }
+
+    test : Top → Bool
+    test top = length top.exported == length top.types && distinct (map (λ x. x.0) top.exported)
+
+    by : (top : Top) × (steps top_piece start pieces ≡ Some top) × (when (test top) (each (part_of top) top.exported) ≡ Some parts) → AreNamedParts parts
+    by found =
+        let top = found.0 in
+        let w = when_some (test top) (each (part_of top) top.exported) parts found.2 in
+        let same = same_labels top top.exported parts (each_beside (part_of top) top.exported parts w.1) in
+        let labelled : AreLabelled top = steps_keep AreLabelled top_piece piece_keeps pieces start top found.1 tt in
+        record {
+          labels = subst (AllByRecursion (λ (label : Text). is_label label ≡ true)) same (labels_of top.exported labelled);
+          apart = ap distinct (sym same) ∙ second_true (length top.exported == length top.types) (distinct (map (λ x. x.0) top.exported)) w.0;
+        }
+
+-- ---- members
+
+scope_labels : (parts : List (Text × PartType)) (scopes : List (Text × PartScope)) → AllZip (λ y s. labelled_scope y ≡ Some s) parts scopes → map (λ (p : Text × PartType). p.0) parts ≡ map (λ (s : Text × PartScope). s.0) scopes
+scope_labels [] [] all = refl
+scope_labels [] (s ∷ scopes) all = absurd all
+scope_labels (y ∷ parts) [] all = absurd all
+scope_labels (y ∷ parts) (s ∷ scopes) all = λ i. one i ∷ scope_labels parts scopes all.1 i
+  where
+    one : y.0 ≡ s.0
+    one = let found = bind_some (part_scope y.1) (λ p. let z : Text × PartScope = (y.0, p) in Some z) s all.0 in ap (λ (z : Text × PartScope). z.0) (same-some (y.0, found.0) s found.2)
+
+module _ (t : Tables) where
+  shown_labels : (fs : List FollowedMember) (scopes : List (Text × PartScope)) → AllZip (MemberShown t) fs scopes → map (λ (s : Text × PartScope). s.0) scopes ≡ map (λ (y : FollowedMember). y.label.now) fs
+  shown_labels [] [] all = refl
+  shown_labels [] (s ∷ scopes) all = absurd all
+  shown_labels (y ∷ fs) [] all = absurd all
+  shown_labels (y ∷ fs) (s ∷ scopes) all = λ i. all.0.0 i ∷ shown_labels fs scopes all.1 i
+
+  member_labels : (fs : List FollowedMember) (ms : List Member) → AllZip (IsMemberOf t) fs ms → map (λ (y : FollowedMember). y.label.now) fs ≡ map (λ (m : Member). m.label.now) ms
+  member_labels [] [] all = refl
+  member_labels [] (m ∷ ms) all = absurd all
+  member_labels (y ∷ fs) [] all = absurd all
+  member_labels (y ∷ fs) (m ∷ ms) all = λ i. sym all.0.0 i ∷ member_labels fs ms all.1 i
+
+labels_there : (ms : List Member) → AllByRecursion (λ (label : Text). is_label label ≡ true) (map (λ (m : Member). m.label.now) ms) → AllByRecursion (λ (m : Member). is_label m.label.now ≡ true) ms
+labels_there [] all = tt
+labels_there (m ∷ ms) all = (all.0, labels_there ms all.1)
+
+pub read_labels_stand : ReadLabelsStand
+read_labels_stand pieces x h ms members input =
+    let shown = input_in_numbers pieces x input.followed in
+    let parts = input.followed.parts in
+    let named = parts_named pieces parts input.followed.exported in
+    let same : map (λ (p : Text × PartType). p.0) parts ≡ map (λ (m : Member). m.label.now) ms =
+    scope_labels parts shown.scopes (each_beside labelled_scope parts shown.scopes (scopes_found pieces parts input.followed.exported shown.scopes shown.found))
+    ∙ (shown_labels (tables_of x) x.members.items shown.scopes shown.shown ∙ member_labels (tables_of x) x.members.items ms input.are) in
+    record {
+      labels = labels_there ms (subst (AllByRecursion (λ (label : Text). is_label label ≡ true)) same named.labels);
+      apart = ap distinct (sym same) ∙ named.apart;
+    }

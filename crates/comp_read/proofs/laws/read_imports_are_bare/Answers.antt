@@ -1,0 +1,5 @@
+use Rattle.comp_read.proofs.FollowedWorlds.{read_imports_are_bare}
+use Rattle.comp_read.proofs.laws.read_imports_are_bare.Goals as goal
+
+pub returns : goal.returns
+returns c = read_imports_are_bare

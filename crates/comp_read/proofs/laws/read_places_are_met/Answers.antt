@@ -1,0 +1,5 @@
+use Rattle.comp_read.proofs.FollowedWorlds.{read_places_are_met}
+use Rattle.comp_read.proofs.laws.read_places_are_met.Goals as goal
+
+pub returns : goal.returns
+returns c = read_places_are_met

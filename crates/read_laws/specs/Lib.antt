@@ -1,4 +1,0 @@
-pub mod ReadInput
-pub mod InputLaws
-pub mod FollowedWorlds
-pub mod ReadPackages

@@ -1,7 +1,0 @@
-pub mod OwnLaws
-pub mod OwnTrees
-pub mod OwnViews
-pub mod WorldInput
-pub mod WorldLabels
-pub mod WorldPackage
-pub mod WorldWhole

@@ -1,5 +1,0 @@
-use Rattle.read_worlds.proofs.WorldWhole.{read_world_plans_are_meant}
-use Rattle.read_worlds.proofs.laws.read_world_plans_are_meant.Goals as goal
-
-pub returns : goal.returns
-returns c = read_world_plans_are_meant
