@@ -140,19 +140,24 @@ fn keys_without_version(rt: HostRuntime) -> Result<(), Fail> {
 
 // ---- two versions of an interface
 
-// Package `a:b@0.MINOR.0` of the next number, with the interface `c` of this number, which has the function `f` and is imported.
-fn add_version(alloc: Global, resolve: &mut Resolve, number: u32, minor: u64) -> Result<(), Error> {
-    let home = number as usize + 1;
+// Package `a:b@0.MINOR.0`, which has the number `home`, with the interface `c` of this number, which has the function `f` and is imported.
+fn add_version(
+    alloc: Global,
+    resolve: &mut Resolve,
+    home: u32,
+    number: u32,
+    minor: u64,
+) -> Result<(), Error> {
     add_package(alloc, resolve, "a", "b")?;
-    set_version(resolve, home, 0, minor, 0);
-    if let Some(package) = resolve.packages.get_mut(home) {
+    set_version(resolve, home as usize, 0, minor, 0);
+    if let Some(package) = resolve.packages.get_mut(home as usize) {
         let name = String::from_str(alloc, "c")?;
         package.interfaces.insert(name, InterfaceId(number))?;
     }
     add_inline(alloc, resolve)?;
     if let Some(interface) = resolve.interfaces.get_mut(number as usize) {
         interface.name = Some(String::from_str(alloc, "c")?);
-        interface.package = Some(PackageId(number + 1));
+        interface.package = Some(PackageId(home));
     }
     let f = nullary(alloc, "f", FunctionKind::Freestanding, None)?;
     put_function(alloc, resolve, number as usize, "f", f)?;
@@ -166,8 +171,8 @@ fn two_versions(alloc: Global) -> Result<Resolve, Error> {
     let mut resolve = empty(alloc);
     add_package(alloc, &mut resolve, "d", "e")?;
     add_world(alloc, &mut resolve, "w")?;
-    add_version(alloc, &mut resolve, 0, 1)?;
-    add_version(alloc, &mut resolve, 1, 2)?;
+    add_version(alloc, &mut resolve, 1, 0, 1)?;
+    add_version(alloc, &mut resolve, 2, 1, 2)?;
     Ok(resolve)
 }
 
