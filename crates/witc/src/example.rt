@@ -12,57 +12,68 @@ fn text_of(alloc: Global, bytes: &[u8]) -> Result<String, Error> {
     Ok(String::from(printer.output))
 }
 
-/// Package `a:b`, whose world `foo` exports one function.
-fn package(alloc: Global) -> Result<Resolve, Error> {
-    let text = |text: &str| String::from_str(alloc, text);
-    let go = Function {
-        name: text("go")?,
+/// The function `go`.
+fn go(alloc: Global) -> Result<Function, Error> {
+    let n = Param {
+        name: String::from_str(alloc, "n")?,
+        ty: Type::U64,
+    };
+    Ok(Function {
+        name: String::from_str(alloc, "go")?,
         kind: FunctionKind::AsyncFreestanding,
-        params: vec![in alloc;
-            Param {
-                name: text("n")?,
-                ty: Type::U64
-            },
-        ]?,
+        params: vec![in alloc; n]?,
         result: Some(Type::String),
         docs: Docs { contents: None },
         stability: Stability::Unknown,
         external_id: None,
-    };
+    })
+}
+
+/// The world `foo`, which exports it.
+fn foo(alloc: Global) -> Result<World, Error> {
+    let key = WorldKey::Name(String::from_str(alloc, "go")?);
     let mut exports = Map::new(alloc);
-    exports.insert(WorldKey::Name(text("go")?), WorldItem::Function(go))?;
-    let foo = World {
-        name: text("foo")?,
+    exports.insert(key, WorldItem::Function(go(alloc)?))?;
+    Ok(World {
+        name: String::from_str(alloc, "foo")?,
         imports: Map::new(alloc),
         exports,
         docs: Docs { contents: None },
         stability: Stability::Unknown,
         package: Some(PackageId(0)),
-    };
+    })
+}
+
+/// The name `a:b`.
+fn name(alloc: Global) -> Result<PackageName, Error> {
+    Ok(PackageName {
+        namespace: String::from_str(alloc, "a")?,
+        name: String::from_str(alloc, "b")?,
+        version: None,
+    })
+}
+
+/// The package of that name, with that world.
+fn package(alloc: Global) -> Result<Package, Error> {
     let mut worlds = Map::new(alloc);
-    worlds.insert(text("foo")?, WorldId(0))?;
-    let package = Package {
-        name: PackageName {
-            namespace: text("a")?,
-            name: text("b")?,
-            version: None,
-        },
+    worlds.insert(String::from_str(alloc, "foo")?, WorldId(0))?;
+    Ok(Package {
+        name: name(alloc)?,
         docs: Docs { contents: None },
         interfaces: Map::new(alloc),
         worlds,
-    };
-    Ok(Resolve {
-        packages: vec![in alloc; package]?,
-        interfaces: Vec::new(alloc),
-        worlds: vec![in alloc; foo]?,
-        types: Vec::new(alloc),
     })
 }
 
 #[test]
 fn checked_encoded_decoded_and_printed(rt: HostRuntime) -> Result<(), Fail> {
     let alloc = rt.alloc();
-    let resolve = package(alloc)?;
+    let resolve = Resolve {
+        packages: vec![in alloc; package(alloc)?]?,
+        interfaces: Vec::new(alloc),
+        worlds: vec![in alloc; foo(alloc)?]?,
+        types: Vec::new(alloc),
+    };
     assert!(rt; resolve.packages.len() > 0);
     resolve.check(alloc)?;
 
