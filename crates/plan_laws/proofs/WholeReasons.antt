@@ -188,6 +188,13 @@ module _ (t : Tables) (h : Homes) (known : ℕ → Fact) (n : ℕ) (ms : List Me
       by used (unnamed s at no_name a d e formed) = by_used k s at no_name used
       by used (named s q name y at is first a d e kind) = no_true (ap is_some (sym none ∙ a))
 
+  no_id : (j : ℕ) (x : PlannedType) → slice_get p.types j ≡ Some x → x.name ≡ None → x.external_id ≡ None
+  no_id j x there none = let from = zip_get Type_ kept p.types planned.types j x there in by from.2
+    where
+      by : {k : ℕ} → Type_ k x → x.external_id ≡ None
+      by (unnamed s at no_name a d e formed) = e
+      by (named s q name y at is first a d e kind) = no_true (ap is_some (sym none ∙ a))
+
   -- ---- packages
 
   module _ (have : HavePlaces t h n ms) (owned : b.owners ≡ owners_of ms) where
@@ -223,4 +230,4 @@ module _ (t : Tables) (h : Homes) (known : ℕ → Fact) (n : ℕ) (ms : List Me
         by (inr is) = inr (with_place c is)
 
     pub kept_for_reasons : IsKeptForReasons t h kept p b
-    kept_for_reasons = record { types = types_kept; packages = packages_kept }
+    kept_for_reasons = record { types = types_kept; ids = no_id; packages = packages_kept }

@@ -1,5 +1,5 @@
 -- Nothing stands in what is built from a plan but what the plan means.
-use Rattle.std.proofs.Common.{◌≡◌, refl, sym, ap, ◌∙◌, ℕ, Bool, true, false, ◌&&◌, ◌||◌, ◌==◌, List, [], ◌∷◌, map, filter_map, option_map, option_and_then, Option, Some, None, slice_get, unwrap_or, zero, suc, is_some, subst, String}
+use Rattle.std.proofs.Common.{◌≡◌, refl, sym, ap, ◌∙◌, ℕ, Bool, true, false, ◌&&◌, ◌||◌, ◌==◌, List, [], ◌∷◌, map, filter_map, option_map, option_and_then, Option, Some, None, slice_get, unwrap_or, zero, suc, is_some, is_none, subst, String}
 use Rattle.std.specs.Prelude.{sum_by}
 use Rattle.std.specs.declared.alloc.Global.{Global}
 use Rattle.std.specs.List.{list_all, list_any}
@@ -27,8 +27,13 @@ use Rattle.plan_meaning.proofs.Lists.{any_of_map, get_of_map, get_back, any_get,
 use Rattle.plan_meaning.proofs.Words.{plan_of, kind_numbers_are, function_numbers_are}
 use Rattle.plan_meaning.proofs.KindRules.{has_text}
 use Rattle.plan_meaning.proofs.FunctionRules.{functions_are, world_functions_are}
+use Rattle.plan_meaning.proofs.PackageMeans.{no_functions}
 use Rattle.plan_meaning.proofs.Reaching.{shown_somewhere, shows_is, world_among, all_reached}
 use Rattle.plan_meaning.proofs.Valid.{plan_is, built_is_valid}
+
+lacks_text : (o : Option (String Global)) → is_none (optional_text o) ≡ is_none o
+lacks_text None = refl
+lacks_text (Some s) = refl
 
 module _ (r : Resolve) (m : ℕ) where
   -- ---- types and packages
@@ -65,8 +70,9 @@ module _ (r : Resolve) (m : ℕ) where
 
   pub types_used : HoldsNoMore (plan_of r m) → TypesAreUsed r
   types_used more k def e =
-      (λ i. sym (has_text def.name) i || sym (part_is k) i)
-      ∙ each_at (λ n x. is_some (planned_type x).name || planned.is_part (plan_of r m) n) r.types.items k def (sym (each_of_map (λ n t. is_some t.name || planned.is_part (plan_of r m) n) planned_type 0 r.types.items) ∙ more.types) e
+      (λ i. sym (has_text def.name) i || (sym (part_is k) i && sym (lacks_text def.external_id) i))
+      ∙ each_at (λ n x. is_some (planned_type x).name || (planned.is_part (plan_of r m) n && is_none (planned_type x).external_id)) r.types.items k def
+      (sym (each_of_map (λ n t. is_some t.name || (planned.is_part (plan_of r m) n && is_none t.external_id)) planned_type 0 r.types.items) ∙ more.types) e
 
   some_items : {A B : Type 0} (g : A → B) (xs : List A) → has_items (map g xs) ≡ has_items xs
   some_items g [] = refl
@@ -116,6 +122,7 @@ package_alone : (r : Resolve) (m : ℕ) → IsPackagePlan (plan_of r m) → IsVa
 package_alone r m is v q at = record {
   interfaces = all_reached r m is.plan v q at is.worlds is.wanted;
   worlds = world_among r m is.plan v q at is.worlds;
+  functions = no_functions r m is v q at;
   packages = packages_used r m is.no_more;
   types = types_used r m is.no_more;
 }

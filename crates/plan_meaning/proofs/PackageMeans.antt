@@ -1,5 +1,5 @@
 -- A package that is built from a plan of it means what the plan means.
-use Rattle.std.proofs.Common.{◌≡◌, refl, sym, ap, ◌∙◌, ℕ, Bool, true, false, ◌&&◌, not, ◌==◌, List, [], map, filter_map, option_map, option_and_then, option_to_list, Option, Some, None, unwrap_or, is_some, subst, String}
+use Rattle.std.proofs.Common.{◌≡◌, refl, sym, ap, ◌∙◌, ℕ, Bool, true, false, ◌&&◌, not, ◌==◌, List, [], ◌∷◌, map, filter_map, option_map, option_and_then, option_to_list, Option, Some, None, unwrap_or, is_some, subst, String}
 use Rattle.std.specs.Prelude.{if◌then◌else◌, ◌↔◌}
 use Rattle.std.specs.List.{Contains, list_any}
 use Rattle.std.specs.Option.{option_map_or}
@@ -28,7 +28,7 @@ use Rattle.plan_meaning.specs.PlanRules as rules
 use Rattle.plan_meaning.specs.PlanRules.{IsPlan, IsPackagePlan}
 use Rattle.plan_meaning.specs.PlanMeaning as planned
 use Rattle.plan_meaning.specs.PlanMeaning.{plan_meaning, foreign_entry}
-use Rattle.plan_meaning.specs.Built.{IsBuilt, planned_interface, planned_world, planned_package}
+use Rattle.plan_meaning.specs.Built.{IsBuilt, planned_function, planned_interface, planned_world, planned_package}
 use Rattle.plan_meaning.proofs.Lists.{map_of_map, same_map, get_of_map, any_get, has_filter, filter_has, filter_map_from, map_from, get_back, both, no_true}
 use Rattle.plan_meaning.proofs.Words.{plan_of, path_of_planned_is}
 use Rattle.plan_meaning.proofs.Meanings.{planned_function_entry, meant_function_entry, interface_is, interface_at_is, world_at_is, functions_are}
@@ -93,20 +93,28 @@ module _ (r : Resolve) (m : ℕ) where
   same_test None = refl
   same_test (Some id) = refl
 
+none_mapped : {A B : Type 0} (g : A → B) (xs : List A) → map g xs ≡ [] → xs ≡ []
+none_mapped g [] e = refl
+none_mapped g (x ∷ xs) e = absurd (let wrong : ⊥ = cc in wrong)
+
 module _ (r : Resolve) (m : ℕ) (is : IsPackagePlan (plan_of r m)) (v : IsValid r) (p : Package) (at : package_at r m ≡ Some p) where
   -- without a world that shows it, an interface of another package has no functions
-  bare_means : (n : ℕ) (i : Interface) → interface_at r n ≡ Some i → is_some (interface_path r n) ≡ true → rules.is_foreign (plan_of r m) (planned_interface i) ≡ true → is_shown_in r p n ≡ false → types_alone (meant.interface_meaning r i) ≡ meant.interface_meaning r i
-  bare_means n i e path foreign hidden =
-      let none : list_any (λ w. rules.is_shown_in w n) (map planned_world r.worlds.items) ≡ false = unseen (list_any (λ w. rules.is_shown_in w n) (map planned_world r.worlds.items)) refl in
-      let empty_list : (planned_interface i).functions ≡ [] = is.bare n (planned_interface i) (get_of_map planned_interface r.interfaces.items n ∙ ap (option_map planned_interface) e) foreign none in
-      let listed : map (meant_function_entry r m) i.functions.entries ≡ [] = sym (functions_are r m i) ∙ ap (map (planned_function_entry r m)) empty_list in
-      λ j. record { types = (meant.interface_meaning r i).types; functions = from_entries (sym listed j) }
+  plans_none : (n : ℕ) (i : Interface) → interface_at r n ≡ Some i → is_some (interface_path r n) ≡ true → rules.is_foreign (plan_of r m) (planned_interface i) ≡ true → is_shown_in r p n ≡ false → (planned_interface i).functions ≡ []
+  plans_none n i e path foreign hidden =
+      is.bare n (planned_interface i) (get_of_map planned_interface r.interfaces.items n ∙ ap (option_map planned_interface) e) foreign
+      (unseen (list_any (λ w. rules.is_shown_in w n) (map planned_world r.worlds.items)) refl)
     where
       unseen : (b : Bool) → list_any (λ w. rules.is_shown_in w n) (map planned_world r.worlds.items) ≡ b → b ≡ false
       unseen false h = refl
       unseen true h =
           let w = any_get (λ w. rules.is_shown_in w n) (map planned_world r.worlds.items) h in
           sym (shown_in r m is.plan v p at is.worlds n w.0 w.1 w.2 w.3 path) ∙ hidden
+
+  bare_means : (n : ℕ) (i : Interface) → interface_at r n ≡ Some i → is_some (interface_path r n) ≡ true → rules.is_foreign (plan_of r m) (planned_interface i) ≡ true → is_shown_in r p n ≡ false → types_alone (meant.interface_meaning r i) ≡ meant.interface_meaning r i
+  bare_means n i e path foreign hidden =
+      let empty_list = plans_none n i e path foreign hidden in
+      let listed : map (meant_function_entry r m) i.functions.entries ≡ [] = sym (functions_are r m i) ∙ ap (map (planned_function_entry r m)) empty_list in
+      λ j. record { types = (meant.interface_meaning r i).types; functions = from_entries (sym listed j) }
 
   foreign_means : (n : ℕ) (i : Interface) → interface_at r n ≡ Some i → is_some (interface_path r n) ≡ true → rules.is_foreign (plan_of r m) (planned_interface i) ≡ true → foreign_meaning r p n ≡ meant.interface_meaning r i
   foreign_means n i e path foreign = go (is_shown_in r p n) refl
@@ -150,13 +158,26 @@ module _ (r : Resolve) (m : ℕ) (is : IsPackagePlan (plan_of r m)) (v : IsValid
       let same : foreign_at s.number ≡ (k, x) = λ j. (unwrap_or (path j) [], means j) in
       subst (λ (q : Text × InterfaceMeaning). Contains meant_entries q) same (contains-map foreign_at (foreign_of r m p) s.number among)
 
+  other_package : (n : ℕ) (i : Interface) → interface_at r n ≡ Some i → is_foreign r m n ≡ true → is_id m (package_number i.package) ≡ false
+  other_package n i e foreign =
+      sym (same_test r m i.package) ∙ untrue (option_map_or (λ id. id.0 == m) i.package false) (second_true (is_some (interface_path r n)) _ (sym (foreign_is r m n i e) ∙ foreign))
+    where
+      untrue : (b : Bool) → not b ≡ true → b ≡ false
+      untrue false h = refl
+      untrue true h = no_true h
+
+  pub no_functions : (n : ℕ) (i : Interface) → interface_at r n ≡ Some i → is_foreign r m n ≡ true → is_shown_in r p n ≡ false → i.functions.entries ≡ []
+  no_functions n i e foreign hidden =
+      let some = first_true (is_some (interface_path r n)) _ (sym (foreign_is r m n i e) ∙ foreign) in
+      let path = some-of (interface_path r n) some in
+      none_mapped (λ e. (text_of e.0, planned_function e.1)) i.functions.entries (plans_none n i e some (is_other n i e path.0 (sym (path_there r n i e) ∙ path.1) (other_package n i e foreign)) hidden)
+
   from_number : (n : ℕ) (k : Text) (x : InterfaceMeaning) → has (foreign_of r m p) n ≡ true → foreign_at n ≡ (k, x) → (path : Text) → interface_path r n ≡ Some path → Contains planned_entries (k, x)
   from_number n k x h e path there =
       let standing = has-path r n path there in
       let i = standing.def in
       let foreign = (filter_has (is_foreign r m) (reached_by_package r p) n h).1 in
-      let outside = second_true (is_some (interface_path r n)) _ (sym (foreign_is r m n i standing.there) ∙ foreign) in
-      let other : is_id m (package_number i.package) ≡ false = sym (same_test r m i.package) ∙ untrue (option_map_or (λ id. id.0 == m) i.package false) outside in
+      let other = other_package n i standing.there foreign in
       let its_path : path_of_interface r i ≡ Some path = sym (path_there r n i standing.there) ∙ there in
       let means = foreign_means n i standing.there (ap is_some there) (is_other n i standing.there path its_path other) in
       let key : path ≡ k = ap (λ o. unwrap_or o []) (sym there) ∙ ap (λ (q : Text × InterfaceMeaning). q.0) e in
@@ -168,10 +189,6 @@ module _ (r : Resolve) (m : ℕ) (is : IsPackagePlan (plan_of r m)) (v : IsValid
       (contains-filter_map (foreign_entry (plan_of r m)) (map planned_interface r.interfaces.items) (planned_interface i) (path, meant.interface_meaning r i)
       (contains-map planned_interface r.interfaces.items i (get-contains r.interfaces.items n i standing.there))
       (subst (λ (xs : List (Text × InterfaceMeaning)). Contains xs (path, meant.interface_meaning r i)) one (contains-one (path, meant.interface_meaning r i))))
-    where
-      untrue : (b : Bool) → not b ≡ true → b ≡ false
-      untrue false h = refl
-      untrue true h = no_true h
 
   here : (k : Text) (x : InterfaceMeaning) → Contains meant_entries (k, x) → Contains planned_entries (k, x)
   here k x c =

@@ -1,5 +1,5 @@
 -- Nothing stands without a reason in a plan that is read as a package or as one world.
-use Rattle.std.proofs.Common.{◌≡◌, ◌⊎◌, inl, inr, refl, sym, ap, subst, ◌∙◌, ℕ, zero, suc, ◌+◌, arith, Bool, true, false, not, ◌&&◌, ◌||◌, ◌==◌, cond, List, [], ◌∷◌, ◌++◌, map, filter_map, flat_map, Option, Some, None, option_to_list, is_some, slice_get}
+use Rattle.std.proofs.Common.{◌≡◌, ◌⊎◌, inl, inr, refl, sym, ap, subst, ◌∙◌, ℕ, zero, suc, ◌+◌, arith, Bool, true, false, not, ◌&&◌, ◌||◌, ◌==◌, cond, List, [], ◌∷◌, ◌++◌, map, filter_map, flat_map, Option, Some, None, option_to_list, is_some, is_none, slice_get}
 use Rattle.std.specs.List.{AllZip, Contains, list_any}
 use Rattle.std.specs.Option.{option_map_or}
 use Rattle.std.proofs.lemmas.Bool.{eqb-true, eq-eqb, or_right}
@@ -109,12 +109,15 @@ module _ (t : Tables) (tables : AreTables t) (h : Homes) (homes : HomesStand t h
         (contains_any (λ f. has (function_numbers f) j) (world_functions w) g c (of_function f id g is part))))
 
   module _ (reasons : IsKeptForReasons t h kept p b) where
-    type_used : (j : ℕ) (x : PlannedType) → slice_get p.types j ≡ Some x → (is_some x.name || is_part p j) ≡ true
+    type_used : (j : ℕ) (x : PlannedType) → slice_get p.types j ≡ Some x → (is_some x.name || (is_part p j && is_none x.external_id)) ≡ true
     type_used j x e = by x.name refl
       where
-        by : (o : Option Text) → x.name ≡ o → (is_some x.name || is_part p j) ≡ true
-        by (Some s) f = ap (λ o. is_some o || is_part p j) f
-        by None f = let is = read.types.each j x e in or_right (is_some x.name) (is_part p j) (is_part_of j is.0 is.1 (reasons.types j is.0 x e is.1 f))
+        by : (o : Option Text) → x.name ≡ o → (is_some x.name || (is_part p j && is_none x.external_id)) ≡ true
+        by (Some s) f = ap (λ o. is_some o || (is_part p j && is_none x.external_id)) f
+        by None f =
+            let is = read.types.each j x e in
+            let used : is_part p j ≡ true = is_part_of j is.0 is.1 (reasons.types j is.0 x e is.1 f) in
+            or_right (is_some x.name) (is_part p j && is_none x.external_id) (ap (λ v. v && is_none x.external_id) used ∙ ap is_none (reasons.ids j x e f))
 
     filled : {A : Type 0} (xs : List A) (x : A) → Contains xs x → has_items xs ≡ true
     filled [] x c = none-in x c
@@ -139,7 +142,7 @@ module _ (t : Tables) (tables : AreTables t) (h : Homes) (homes : HomesStand t h
 
     pub no_more : HoldsNoMore p
     no_more = record {
-      types = each_by_number (λ n x. is_some x.name || is_part p n) p.types type_used;
+      types = each_by_number (λ n x. is_some x.name || (is_part p n && is_none x.external_id)) p.types type_used;
       packages = each_by_number (λ n k. (n == p.main) || has_items k.interfaces) p.packages package_used;
     }
 

@@ -645,6 +645,12 @@ reasons = by_number ReasonAt planned_types (
   ),
 )
 
+abbrev HasNoId : ℕ → PlannedType → Type 0
+HasNoId j x = x.name ≡ None → x.external_id ≡ None
+
+ids : (j : ℕ) (x : PlannedType) → slice_get planned_types j ≡ Some x → HasNoId j x
+ids = by_number HasNoId planned_types ((λ e. has_a_name (codes "t") e), ((λ e. refl), ((λ e. refl), ((λ e. refl), ((λ e. refl), ((λ e. refl), ((λ e. refl), ((λ e. refl), ((λ e. refl), ((λ e. refl), ((λ e. refl), tt)))))))))))
+
 packages_kept : (n : ℕ) (k : PlannedPackage) → slice_get whole_plan.packages n ≡ Some k → (n ≡ 1) ⊎ HasHomes tables homes kept whole_plan beside n
 packages_kept = by_number (λ n k. (n ≡ 1) ⊎ HasHomes tables homes kept whole_plan beside n) whole_plan.packages
     (inr (record { place = 0; path = (codes "s:r/j", refl); name = codes "j"; home = refl; number = 0; owned = refl; interface = interface_at 0; there = refl }), (inl refl, tt))
@@ -708,7 +714,7 @@ place_number q n e = go (q == 5) refl
 pub is_read_package : IsReadPackagePlan tables homes kept whole_plan beside views
 is_read_package = record {
   read = is_read;
-  kept_for = record { types = λ j k x e at none. reasons j x e k at none; packages = packages_kept };
+  kept_for = record { types = λ j k x e at none. reasons j x e k at none; ids = ids; packages = packages_kept };
   main = package_at 1;
   stands = refl;
   worlds = world_homes;

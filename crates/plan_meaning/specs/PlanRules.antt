@@ -365,9 +365,9 @@ abbrev pub is_part : Plan → ℕ → Bool
 is_part p n = list_any (λ t. has (kind_numbers t.kind) n) p.types
     || (list_any (λ i. list_any (λ f. has (function_numbers f) n) (functions_of i)) p.interfaces || list_any (λ w. list_any (λ f. has (function_numbers f) n) (world_functions w)) p.worlds)
 
--- no type stands there but named ones and parts, and no package but the main one and those of interfaces
+-- no type stands there but named ones and parts, which have no external id, and no package but the main one and those of interfaces
 pub record HoldsNoMore (p : Plan) : Type 0 where
-  pub types : each_from (λ n t. is_some t.name || is_part p n) 0 p.types ≡ true
+  pub types : each_from (λ n t. is_some t.name || (is_part p n && is_none t.external_id)) 0 p.types ≡ true
   pub packages : each_from (λ n k. (n == p.main) || has_items k.interfaces) 0 p.packages ≡ true
 
 -- The plan of a package: each world is one of the package, each interface of another package is there for a reason, and has functions

@@ -42,9 +42,10 @@ module _ (t : Tables) (h : Homes) (kept : List ℕ) (p : Plan) (b : Beside) wher
     pub interface : PlannedInterface
     pub there : interface_in p number ≡ Some interface
 
-  -- An unnamed type is kept as a part, and a package but the main one for the places whose home it is.
+  -- An unnamed type is kept as a part, without an external id, and a package but the main one for the places whose home it is.
   pub record IsKeptForReasons : Type 0 where
     pub types : (j k : ℕ) (x : PlannedType) → slice_get p.types j ≡ Some x → slice_get kept j ≡ Some k → x.name ≡ None → IsPartOfKept (14 + k)
+    pub ids : (j : ℕ) (x : PlannedType) → slice_get p.types j ≡ Some x → x.name ≡ None → x.external_id ≡ None
     pub packages : (n : ℕ) (k : PlannedPackage) → package_in p n ≡ Some k → (n ≡ p.main) ⊎ HasHomes n
 
 -- ---- why an interface is there
