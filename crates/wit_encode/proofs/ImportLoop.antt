@@ -24,10 +24,12 @@ use Rattle.comp_bytes.specs.Raw.{Declarations}
 use Rattle.wit_encode.specs.Dependencies.{AreImportable, HasImported, ImportsTypes, with_import}
 use Rattle.wit_encode.specs.DependencyCounts.{DefinesImports}
 use Rattle.wit_encode.specs.DependencyRoom.{HoldsImports, ImportsLackRoom, LacksImport}
+use Rattle.wit_encode.specs.WrittenNames.{NamesInterfaces}
 use Rattle.wit_encode.proofs.DependencyHolding.{import-defines, import-few, next-lacks}
 use Rattle.wit_encode.proofs.Imported.{imports_grow}
 use Rattle.wit_encode.proofs.ImportsStand.{imports_stand}
 use Rattle.wit_encode.proofs.UsedPaths.{used-path}
+use Rattle.wit_encode.proofs.WrittenNames.{imports-named}
 use Rattle.encode_shown.proofs.Dependencies.{distinct-front}
 
 -- ---- lists
@@ -241,3 +243,16 @@ pub all-held : (r : Resolve) (xs : List InterfaceId) (k : ℕ) (a : Around) → 
 all-held r xs k a l h =
     let same : length (numbers xs) ≡ length xs = length-map xs (λ (id : InterfaceId). id.0) in
     subst (HoldsImports r a) (take_all k (numbers xs) (omega (arith, same, l))) h
+
+-- ---- names
+
+pub named-next : (r r' : Resolve) (canonical : Bool) (xs : List InterfaceId) (k : ℕ) (start : Declarations) (a a' : Around) → r' ≡ r → k < length xs → ImportsTypes r' canonical a a' (item xs k) k
+    → NamesInterfaces r canonical (take k (numbers xs)) start a.declared → NamesInterfaces r canonical (take (k + 1) (numbers xs)) start a'.declared
+named-next r r' canonical xs k start a a' e l t named =
+    subst (λ (ns : List ℕ). NamesInterfaces r canonical ns start a'.declared) (numbers-next xs k l)
+    (imports-named r canonical a a' (item xs k) k (take k (numbers xs)) start (subst (λ (q : Resolve). ImportsTypes q canonical a a' (item xs k) k) e t) named)
+
+pub named-whole : (r : Resolve) (canonical : Bool) (xs : List InterfaceId) (k : ℕ) (start declared : Declarations) → length xs ≤ k → NamesInterfaces r canonical (take k (numbers xs)) start declared → NamesInterfaces r canonical (numbers xs) start declared
+named-whole r canonical xs k start declared l named =
+    let same : length (numbers xs) ≡ length xs = length-map xs (λ (id : InterfaceId). id.0) in
+    subst (λ (ns : List ℕ). NamesInterfaces r canonical ns start declared) (take_all k (numbers xs) (omega (arith, same, l))) named

@@ -12,6 +12,7 @@ pub mod Calls
 pub mod Wider
 pub mod Scopes
 pub mod Packages
+pub mod CustomSections
 pub mod WholePackages
 pub mod Outside
 pub mod Within

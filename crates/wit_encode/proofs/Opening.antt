@@ -146,18 +146,33 @@ outer-slots : (outer : Declarations) → (outer_contents outer).slots ≡ outer_
 unfolding outer_contents
 outer-slots outer = refl
 
--- what old slots stand for stays behind aliases and one instance type more
-pub closed-keeps : {E : Type 0} (res : Result ℕ E) (r r' : Resolve) (a : Around) (outer outer' : Declarations) (foreign : Foreign) (inner inner' : Option OpenInterface) (es : List Declaration) → inner ≡ None → inner' ≡ None → GrowsAround r a (around_at outer foreign)
-    → IfOk res (λ k. (k ≡ type_slots_of outer) × (outer' ≡ append outer (Declarations.instance (from_list es) Declarations.no_more))) → OnOk res (Keeps (stands_in r a.declared inner) (stands_in r' outer' inner'))
-closed-keeps (Err e) r r' a outer outer' foreign inner inner' es x y grown h = h
-closed-keeps (Ok k) r r' a outer outer' foreign inner inner' es x y grown h =
+-- what old slots stand for stays behind aliases
+grown-slots : (r : Resolve) (a : Around) (outer : Declarations) (foreign : Foreign) → GrowsAround r a (around_at outer foreign) → Keeps (SlotsStand (outer_contents a.declared).slots) (SlotsStand (outer_contents outer).slots)
+grown-slots r a outer foreign grown =
     let aliases : Keeps (SlotsStand (outer_slots a.declared)) (SlotsStand (outer_slots outer)) =
     subst (λ (z : Around). Keeps (SlotsStand (outer_slots a.declared)) (SlotsStand (outer_slots z.declared))) (sym grown.is) (grown-keeps r a grown.made grown.are) in
-    let before : Keeps (SlotsStand (outer_contents a.declared).slots) (SlotsStand (outer_contents outer).slots) =
-    λ i m s. subst (λ xs. SlotsStand xs i m) (sym (outer-slots outer)) (aliases i m (subst (λ xs. SlotsStand xs i m) (outer-slots a.declared) s)) in
-    subst (λ (o : Option OpenInterface). Keeps (stands_in r a.declared o) (stands_in r' outer' inner')) (sym x)
-    (subst (λ (o : Option OpenInterface). Keeps (stands_in r a.declared None) (stands_in r' outer' o)) (sym y)
-    (subst (λ (z : Declarations). Keeps (SlotsStand (outer_contents a.declared).slots) (SlotsStand (outer_contents z).slots)) (sym h.1) (λ i m s. instance-keeps outer es i m (before i m s))))
+    λ i m s. subst (λ xs. SlotsStand xs i m) (sym (outer-slots outer)) (aliases i m (subst (λ xs. SlotsStand xs i m) (outer-slots a.declared) s))
+
+-- where no interface is open
+outside-keeps : (r r' : Resolve) (outer outer' : Declarations) (inner inner' : Option OpenInterface) → inner ≡ None → inner' ≡ None → Keeps (SlotsStand (outer_contents outer).slots) (SlotsStand (outer_contents outer').slots)
+    → Keeps (stands_in r outer inner) (stands_in r' outer' inner')
+outside-keeps r r' outer outer' inner inner' x y keeps =
+    subst (λ (o : Option OpenInterface). Keeps (stands_in r outer o) (stands_in r' outer' inner')) (sym x)
+    (subst (λ (o : Option OpenInterface). Keeps (stands_in r outer None) (stands_in r' outer' o)) (sym y) keeps)
+
+pub reached-keeps : (r r' : Resolve) (a : Around) (outer : Declarations) (foreign : Foreign) (inner inner' : Option OpenInterface) → inner ≡ None → inner' ≡ None → GrowsAround r a (around_at outer foreign)
+    → Keeps (stands_in r a.declared inner) (stands_in r' outer inner')
+reached-keeps r r' a outer foreign inner inner' x y grown = outside-keeps r r' a.declared outer inner inner' x y (grown-slots r a outer foreign grown)
+
+-- and behind one instance type more, or none
+pub closed-keeps : {E : Type 0} (res : Result ℕ E) (r r' : Resolve) (a : Around) (outer outer' : Declarations) (foreign : Foreign) (inner inner' : Option OpenInterface) (es : List Declaration) → inner ≡ None → inner' ≡ None → GrowsAround r a (around_at outer foreign)
+    → IfOk res (λ k. (k ≡ type_slots_of outer) × (outer' ≡ append outer (Declarations.instance (from_list es) Declarations.no_more))) → OnErr res (outer' ≡ outer) → Keeps (stands_in r a.declared inner) (stands_in r' outer' inner')
+closed-keeps (Err e) r r' a outer outer' foreign inner inner' es x y grown h err =
+    subst (λ (z : Declarations). Keeps (stands_in r a.declared inner) (stands_in r' z inner')) (sym err) (reached-keeps r r' a outer foreign inner inner' x y grown)
+closed-keeps (Ok k) r r' a outer outer' foreign inner inner' es x y grown h err =
+    let before = grown-slots r a outer foreign grown in
+    outside-keeps r r' a.declared outer' inner inner' x y
+    (subst (λ (z : Declarations). Keeps (SlotsStand (outer_contents a.declared).slots) (SlotsStand (outer_contents z).slots)) (sym h.1) (λ i m s. instance-keeps outer es i m (before i m s)))
 
 -- ---- instances that stand around
 

@@ -1,5 +1,5 @@
 -- A component in which the component types of a package have no room: the package is too heavy.
-use Rattle.std.proofs.Common.{◌≡◌, ◌≤◌, ◌<◌, ◌+◌, refl, sym, ap, subst, ◌∙◌, ℕ, zero, suc, false, List, [], ◌∷◌, ◌++◌, append-nil, length, length-append, option_map, option_to_list, Option, Some, arith}
+use Rattle.std.proofs.Common.{◌≡◌, ◌≤◌, ◌<◌, ◌+◌, refl, sym, ap, subst, ◌∙◌, ℕ, zero, suc, Bool, false, List, [], ◌∷◌, ◌++◌, append-nil, length, length-append, option_map, option_to_list, Option, Some, arith}
 use Rattle.std.specs.Prelude.{option_and_then, sum_by}
 use Rattle.std.specs.List.{AllZip, Contains}
 use Rattle.std.specs.Option.{option_map_or}
@@ -113,12 +113,12 @@ module _ (r : Resolve) (v : IsValid r) (n : ℕ) (p : Package) (at : package_at 
   one-text t = let one = sum_by-cons length t [] in omega arith
 
   -- the component types of interfaces are light together
-  interfaces-light : (es : List Listed) (xs : List (Text × Declarations)) → AllZip (IsTypeOf r) es xs → sum_by type-extent xs ≤ sum_by interface-weight es
-  interfaces-light [] [] h = omega arith
-  interfaces-light [] (x ∷ xs) h = absurd h
-  interfaces-light (e ∷ es) [] h = absurd h
-  interfaces-light (e ∷ es) (x ∷ xs) h =
-      let rest = interfaces-light es xs h.1 in
+  interfaces-light : (canonical : Bool) (es : List Listed) (xs : List (Text × Declarations)) → AllZip (IsTypeOf r canonical) es xs → sum_by type-extent xs ≤ sum_by interface-weight es
+  interfaces-light canonical [] [] h = omega arith
+  interfaces-light canonical [] (x ∷ xs) h = absurd h
+  interfaces-light canonical (e ∷ es) [] h = absurd h
+  interfaces-light canonical (e ∷ es) (x ∷ xs) h =
+      let rest = interfaces-light canonical es xs h.1 in
       let short = h.0.light in
       let is = extent-is x.1 in
       let label : length x.0 ≡ length (text_of e.0) = ap length h.0.label in
@@ -128,12 +128,12 @@ module _ (r : Resolve) (v : IsValid r) (n : ℕ) (p : Package) (at : package_at 
       omega (arith, short, is, label, a, b, text, rest)
 
   -- the same of worlds
-  worlds-light : (es : List ListedWorld) (xs : List (Text × Declarations)) → ((e : ListedWorld) → Contains es e → Contains p.worlds.entries e) → AllZip (IsWrapperOf r (identity_of p.name)) es xs → sum_by type-extent xs ≤ sum_by world-weight es
-  worlds-light [] [] own h = omega arith
-  worlds-light [] (x ∷ xs) own h = absurd h
-  worlds-light (e ∷ es) [] own h = absurd h
-  worlds-light (e ∷ es) (x ∷ xs) own h =
-      let rest = worlds-light es xs (λ f c. own f (Contains-append_right (e ∷ []) es f c)) h.1 in
+  worlds-light : (canonical : Bool) (es : List ListedWorld) (xs : List (Text × Declarations)) → ((e : ListedWorld) → Contains es e → Contains p.worlds.entries e) → AllZip (IsWrapperOf r canonical (identity_of p.name)) es xs → sum_by type-extent xs ≤ sum_by world-weight es
+  worlds-light canonical [] [] own h = omega arith
+  worlds-light canonical [] (x ∷ xs) own h = absurd h
+  worlds-light canonical (e ∷ es) [] own h = absurd h
+  worlds-light canonical (e ∷ es) (x ∷ xs) own h =
+      let rest = worlds-light canonical es xs (λ f c. own f (Contains-append_right (e ∷ []) es f c)) h.1 in
       let listed = own e (Contains-append_left (e ∷ []) es e (contains-one e)) in
       let short = h.0.wraps.light in
       let inner = extent-is h.0.wraps.inner in
@@ -149,11 +149,11 @@ module _ (r : Resolve) (v : IsValid r) (n : ℕ) (p : Package) (at : package_at 
       let long = one-text path in
       omega (arith, short, inner, label, wrapped, is, named, a, b, text, long, rest)
 
-  long-lacks : (interfaces more_interfaces : List Listed) (worlds more_worlds : List ListedWorld) → p.interfaces.entries ≡ interfaces ++ more_interfaces → p.worlds.entries ≡ worlds ++ more_worlds
-      → AreLong (HoldsMembers r (identity_of p.name) interfaces worlds) → limit < package_weight r n
-  long-lacks interfaces more_interfaces worlds more_worlds are those h =
-      let a = interfaces-light interfaces h.hold.interface_types h.hold.interfaces_are in
-      let b = worlds-light worlds h.hold.world_types (λ e c. subst (λ (es : List ListedWorld). Contains es e) (sym those) (Contains-append_left worlds more_worlds e c)) h.hold.worlds_are in
+  long-lacks : (canonical : Bool) (interfaces more_interfaces : List Listed) (worlds more_worlds : List ListedWorld) → p.interfaces.entries ≡ interfaces ++ more_interfaces → p.worlds.entries ≡ worlds ++ more_worlds
+      → AreLong (HoldsMembers r canonical (identity_of p.name) interfaces worlds) → limit < package_weight r n
+  long-lacks canonical interfaces more_interfaces worlds more_worlds are those h =
+      let a = interfaces-light canonical interfaces h.hold.interface_types h.hold.interfaces_are in
+      let b = worlds-light canonical worlds h.hold.world_types (λ e c. subst (λ (es : List ListedWorld). Contains es e) (sym those) (Contains-append_left worlds more_worlds e c)) h.hold.worlds_are in
       let is = ap parts_extent h.hold.is in
       let short = exporting-short zero (h.hold.interface_types ++ h.hold.world_types) in
       let both = sum_by-append type-extent h.hold.interface_types h.hold.world_types in
@@ -163,28 +163,28 @@ module _ (r : Resolve) (v : IsValid r) (n : ℕ) (p : Package) (at : package_at 
       let long = h.long in
       omega (arith, is, short, both, front, back, whole, long, a, b)
 
-  pub interfaces-lack : InterfacesLackRoom r p.interfaces.entries → limit < package_weight r n
-  interfaces-lack (InterfacesLackRoom.too_heavy e c heavy) = let within = interface-within e c in omega (arith, within, heavy)
-  interfaces-lack (InterfacesLackRoom.too_long first rest are long) = long-lacks first rest [] p.worlds.entries are refl (record {
+  pub interfaces-lack : (canonical : Bool) → InterfacesLackRoom r canonical p.interfaces.entries → limit < package_weight r n
+  interfaces-lack canonical (InterfacesLackRoom.too_heavy e c heavy) = let within = interface-within e c in omega (arith, within, heavy)
+  interfaces-lack canonical (InterfacesLackRoom.too_long first rest are long) = long-lacks canonical first rest [] p.worlds.entries are refl (record {
     parts = long.parts;
-    hold = no-worlds_yet r v n p at first long.parts long.hold;
+    hold = no-worlds_yet r v n p at canonical first long.parts long.hold;
     long = long.long;
   })
 
-  pub worlds-lack : (before : List Part) → HoldsInterfaces r p.interfaces.entries before → (HoldsMembers r (identity_of p.name) p.interfaces.entries [] before → WorldsLackRoom r (identity_of p.name) p.interfaces.entries p.worlds.entries)
+  pub worlds-lack : (canonical : Bool) (before : List Part) → HoldsInterfaces r canonical p.interfaces.entries before → (HoldsMembers r canonical (identity_of p.name) p.interfaces.entries [] before → WorldsLackRoom r canonical (identity_of p.name) p.interfaces.entries p.worlds.entries)
       → limit < package_weight r n
-  worlds-lack before held lacks = by-lack (lacks (no-worlds_yet r v n p at p.interfaces.entries before held))
+  worlds-lack canonical before held lacks = by-lack (lacks (no-worlds_yet r v n p at canonical p.interfaces.entries before held))
     where
-      by-lack : WorldsLackRoom r (identity_of p.name) p.interfaces.entries p.worlds.entries → limit < package_weight r n
+      by-lack : WorldsLackRoom r canonical (identity_of p.name) p.interfaces.entries p.worlds.entries → limit < package_weight r n
       by-lack (WorldsLackRoom.too_heavy e c heavy) =
           let w = found-in r.worlds.items e.1.0 (lt-ltb e.1.0 (length r.worlds.items) (are-worlds r v n p at e c)) in
           let within = world-within e c w.0 w.1 in
           let over = heavy w.0 w.1 in
           omega (arith, within, over)
-      by-lack (WorldsLackRoom.too_long first rest are long) = long-lacks p.interfaces.entries [] first rest (sym (append-nil p.interfaces.entries)) are long
+      by-lack (WorldsLackRoom.too_long first rest are long) = long-lacks canonical p.interfaces.entries [] first rest (sym (append-nil p.interfaces.entries)) are long
 
-  pub all-lack : (parts : List Part) → HoldsPackage r p parts → fits_component parts ≡ false → limit < package_weight r n
-  all-lack parts h e = long-lacks p.interfaces.entries [] p.worlds.entries [] (sym (append-nil p.interfaces.entries)) (sym (append-nil p.worlds.entries)) (record {
+  pub all-lack : (canonical : Bool) (parts : List Part) → HoldsPackage r canonical p parts → fits_component parts ≡ false → limit < package_weight r n
+  all-lack canonical parts h e = long-lacks canonical p.interfaces.entries [] p.worlds.entries [] (sym (append-nil p.interfaces.entries)) (sym (append-nil p.worlds.entries)) (record {
     parts = parts;
     hold = h.members;
     long = long-component parts e;

@@ -21,16 +21,17 @@ use Rattle.wit_encode.specs.WholeWorlds.{RefusesWorld}
 use Rattle.wit_encode.specs.Packages.{AddsInterface, AddsWorld, AddsWorlds, HasNoClashAt, HaveNoClash, HaveNoEqualPaths, HoldsInterfaces, IsTypeOf, IsWrapperOf, Listed, ListedWorld, RefusesInterfaces, RefusesWorldAt, RefusesWorlds, WrapsWorld}
 use Rattle.wit_model.specs.Weight.{interface_weight}
 use Rattle.wit_encode.specs.Instance.{declared_extent}
+use Rattle.wit_encode.specs.WrittenNames.{WritesPaths}
 
 pub on-ok : {X E A B : Type 0} (given : Result X E) → OnOk given A → (A → B) → OnOk given B
 on-ok (Ok x) a f = f a
 on-ok (Err e) a f = tt
 
-pub type-added : (r : Resolve) (e : Listed) (declared : Declarations) (old new : List Part) → ((path : Text) → interface_path r e.1.0 ≡ Some path → ShowsComponent r e.1.0 path declared) → DefinesComponent r e.1.0 declared
-    → declared_extent declared ≤ interface_weight r e.1.0 → ((types : List (Text × Declarations)) → old ≡ exporting types → new ≡ exporting (types ++ (text_of e.0, declared) ∷ [])) → AddsInterface r e old new
-type-added r e declared old new shows once light more = λ entries h. record {
+pub type-added : (r : Resolve) (canonical : Bool) (e : Listed) (declared : Declarations) (old new : List Part) → ((path : Text) → interface_path r e.1.0 ≡ Some path → ShowsComponent r e.1.0 path declared) → WritesPaths r canonical e.1.0 declared → DefinesComponent r e.1.0 declared
+    → declared_extent declared ≤ interface_weight r e.1.0 → ((types : List (Text × Declarations)) → old ≡ exporting types → new ≡ exporting (types ++ (text_of e.0, declared) ∷ [])) → AddsInterface r canonical e old new
+type-added r canonical e declared old new shows names once light more = λ entries h. record {
   types = h.types ++ (text_of e.0, declared) ∷ [];
-  are = zip-push (IsTypeOf r) entries h.types e (text_of e.0, declared) h.are (record { label = refl; shows = shows; once = once; light = light });
+  are = zip-push (IsTypeOf r canonical) entries h.types e (text_of e.0, declared) h.are (record { label = refl; shows = shows; names = names; once = once; light = light });
   is = more h.types h.is;
 }
 
@@ -57,7 +58,7 @@ first-refused r entries before after f canonical e (Err d) are differ refuses h 
 pub record IsBegun (r : Resolve) (canonical : Bool) (entries left : List Listed) (parts : List Part) : Type 0 where
   pub done : List Listed
   pub split : entries ≡ done ++ left
-  pub holds : HoldsInterfaces r done parts
+  pub holds : HoldsInterfaces r canonical done parts
   pub differ : canonical ≡ true → HaveNoEqualPaths r done
 
 pub nothing-done : (r : Resolve) (canonical : Bool) (entries : List Listed) (parts : List Part) → parts ≡ [] → IsBegun r canonical entries entries parts
@@ -73,7 +74,7 @@ next-listed r canonical entries left rest parts e h is =
     subst (λ (es : List Listed). Contains es e) (sym (h.split ∙ ap (λ (es : List Listed). h.done ++ es) is)) (Contains-append_right h.done (e ∷ rest) e (Contains-append_left (e ∷ []) rest e (contains-one e)))
 
 pub next-done : (r : Resolve) (canonical : Bool) (entries left rest : List Listed) (parts parts' : List Part) (e : Listed) → IsBegun r canonical entries left parts → left ≡ e ∷ rest
-    → AddsInterface r e parts parts' → (canonical ≡ true → HasNoEqualPaths r e.1.0) → IsBegun r canonical entries rest parts'
+    → AddsInterface r canonical e parts parts' → (canonical ≡ true → HasNoEqualPaths r e.1.0) → IsBegun r canonical entries rest parts'
 next-done r canonical entries left rest parts parts' e h is adds one = record {
   done = h.done ++ e ∷ [];
   split = h.split ∙ ap (λ (es : List Listed). h.done ++ es) is ∙ sym (append_assoc h.done (e ∷ []) rest);
@@ -86,21 +87,21 @@ pub next-refused : {X : Type 0} (r : Resolve) (canonical : Bool) (entries left r
 next-refused r canonical entries left rest parts e error given h is refuses same =
     first-refused r entries h.done rest e canonical error given (h.split ∙ ap (λ (es : List Listed). h.done ++ es) is) h.differ refuses same
 
-pub all-held : (r : Resolve) (canonical : Bool) (entries left : List Listed) (parts : List Part) → IsBegun r canonical entries left parts → left ≡ [] → HoldsInterfaces r entries parts
-all-held r canonical entries left parts h is = subst (λ (es : List Listed). HoldsInterfaces r es parts) (sym (h.split ∙ ap (λ (es : List Listed). h.done ++ es) is ∙ append-nil h.done)) h.holds
+pub all-held : (r : Resolve) (canonical : Bool) (entries left : List Listed) (parts : List Part) → IsBegun r canonical entries left parts → left ≡ [] → HoldsInterfaces r canonical entries parts
+all-held r canonical entries left parts h is = subst (λ (es : List Listed). HoldsInterfaces r canonical es parts) (sym (h.split ∙ ap (λ (es : List Listed). h.done ++ es) is ∙ append-nil h.done)) h.holds
 
 pub all-differ : (r : Resolve) (canonical : Bool) (entries left : List Listed) (parts : List Part) → IsBegun r canonical entries left parts → left ≡ [] → canonical ≡ true → HaveNoEqualPaths r entries
 all-differ r canonical entries left parts h is asked = subst (HaveNoEqualPaths r) (sym (h.split ∙ ap (λ (es : List Listed). h.done ++ es) is ∙ append-nil h.done)) (h.differ asked)
 
 -- ---- worlds
 
-pub world-added : (r : Resolve) (p : PackageIdentity) (e : ListedWorld) (w : World) (declared : Declarations) (old new : List Part) → world_at r e.1.0 ≡ Some w → WrapsWorld r p e.1.0 w declared
-    → ((types : List (Text × Declarations)) → old ≡ exporting types → new ≡ exporting (types ++ (text_of e.0, declared) ∷ [])) → AddsWorld r p e old new
-world-added r p e w declared old new there wraps more = λ interfaces worlds h. record {
+pub world-added : (r : Resolve) (canonical : Bool) (p : PackageIdentity) (e : ListedWorld) (w : World) (declared : Declarations) (old new : List Part) → world_at r e.1.0 ≡ Some w → WrapsWorld r canonical p e.1.0 w declared
+    → ((types : List (Text × Declarations)) → old ≡ exporting types → new ≡ exporting (types ++ (text_of e.0, declared) ∷ [])) → AddsWorld r canonical p e old new
+world-added r canonical p e w declared old new there wraps more = λ interfaces worlds h. record {
   interface_types = h.interface_types;
   world_types = h.world_types ++ (text_of e.0, declared) ∷ [];
   interfaces_are = h.interfaces_are;
-  worlds_are = zip-push (IsWrapperOf r p) worlds h.world_types e (text_of e.0, declared) h.worlds_are (record { label = refl; world = w; there = there; wraps = wraps });
+  worlds_are = zip-push (IsWrapperOf r canonical p) worlds h.world_types e (text_of e.0, declared) h.worlds_are (record { label = refl; world = w; there = there; wraps = wraps });
   is = more (h.interface_types ++ h.world_types) h.is ∙ ap exporting (append_assoc h.interface_types h.world_types ((text_of e.0, declared) ∷ []));
 }
 
@@ -116,7 +117,7 @@ world-passed r n canonical e (Err d) h same = subst (RefusesWorldAt r n canonica
 pub record WorldsBegun (r : Resolve) (p : PackageIdentity) (canonical : Bool) (entries left : List ListedWorld) (parts parts' : List Part) : Type 0 where
   pub done : List ListedWorld
   pub split : entries ≡ done ++ left
-  pub adds : AddsWorlds r p done parts parts'
+  pub adds : AddsWorlds r canonical p done parts parts'
   pub differ : canonical ≡ true → HaveNoClash r done
 
 pub no-world_done : (r : Resolve) (p : PackageIdentity) (canonical : Bool) (entries : List ListedWorld) (parts : List Part) → WorldsBegun r p canonical entries entries parts parts
@@ -140,7 +141,7 @@ worlds-apart r entries e h one = λ f c. go f (Contains-append_cases entries (e 
     go f (inr c) = subst (λ (g : ListedWorld). HasNoClashAt r g.1.0) (one-contained e f c) one
 
 pub world-done : (r : Resolve) (p : PackageIdentity) (canonical : Bool) (entries left rest : List ListedWorld) (parts middle parts' : List Part) (e : ListedWorld) → WorldsBegun r p canonical entries left parts middle
-    → left ≡ e ∷ rest → AddsWorld r p e middle parts' → (canonical ≡ true → HasNoClashAt r e.1.0) → WorldsBegun r p canonical entries rest parts parts'
+    → left ≡ e ∷ rest → AddsWorld r canonical p e middle parts' → (canonical ≡ true → HasNoClashAt r e.1.0) → WorldsBegun r p canonical entries rest parts parts'
 world-done r p canonical entries left rest parts middle parts' e h is adds one = record {
   done = h.done ++ e ∷ [];
   split = h.split ∙ ap (λ (es : List ListedWorld). h.done ++ es) is ∙ sym (append_assoc h.done (e ∷ []) rest);
@@ -156,9 +157,9 @@ world-refused r p canonical entries left rest parts middle e error (Err d) h is 
     (record { before = h.done; refused = e; after = rest; are = h.split ∙ ap (λ (es : List ListedWorld). h.done ++ es) is; differ = h.differ; refuses = refuses })
 
 pub all-added : (r : Resolve) (p : PackageIdentity) (canonical : Bool) (entries left : List ListedWorld) (parts parts' : List Part) → WorldsBegun r p canonical entries left parts parts' → left ≡ []
-    → AddsWorlds r p entries parts parts'
+    → AddsWorlds r canonical p entries parts parts'
 all-added r p canonical entries left parts parts' h is =
-    subst (λ (es : List ListedWorld). AddsWorlds r p es parts parts') (sym (h.split ∙ ap (λ (es : List ListedWorld). h.done ++ es) is ∙ append-nil h.done)) h.adds
+    subst (λ (es : List ListedWorld). AddsWorlds r canonical p es parts parts') (sym (h.split ∙ ap (λ (es : List ListedWorld). h.done ++ es) is ∙ append-nil h.done)) h.adds
 
 pub all-worlds_apart : (r : Resolve) (p : PackageIdentity) (canonical : Bool) (entries left : List ListedWorld) (parts parts' : List Part) → WorldsBegun r p canonical entries left parts parts' → left ≡ []
     → canonical ≡ true → HaveNoClash r entries

@@ -28,7 +28,8 @@ use Rattle.encode_exports.proofs.Exports.{all_exported}
 use Rattle.encode_shown.specs.PackageTypes.{ArePackageTypes, IsInterfaceType, IsListedWorldType}
 use Rattle.encode_shown.proofs.Owning.{own-path}
 use Rattle.encode_shown.proofs.PackageTypes as shown
-use Rattle.wit_encode.specs.Packages.{AddsWorlds, AreNamed, AreWorlds, HasMembers, HasNoClashes, HasNoMembers, HaveNoEqualPaths, HoldsInterfaces, HoldsMembers, HoldsPackage, IsTypeOf, IsWrapperOf, Listed, ListedWorld, MeansPackage, RefusesInterfaces, RefusesPackage, RefusesWorlds}
+use Rattle.wit_encode.proofs.CustomSections.{exported-behind}
+use Rattle.wit_encode.specs.Packages.{AddsWorlds, AreNamed, AreWorlds, HasMembers, HasNoClashes, HasNoMembers, HaveNoEqualPaths, HoldsInterfaces, HoldsMembers, HoldsPackage, IsTypeOf, IsWrapperOf, Listed, ListedWorld, MeansPackage, PartsMean, RefusesInterfaces, RefusesPackage, RefusesWorlds}
 
 -- ---- what stands in a package
 
@@ -46,20 +47,20 @@ module _ (r : Resolve) (v : IsValid r) (n : ℕ) (p : Package) (at : package_at 
       (all-contained (λ (id : WorldId). in_list r.worlds.items id.0) (values p.worlds) e.1
       (second_true (list_all (λ (id : InterfaceId). in_list r.interfaces.items id.0) (values p.interfaces)) _ numbers-inside) (contains-map (λ x. x.1) p.worlds.entries e c))
 
-  type-of : (e : Listed) → Contains p.interfaces.entries e → (x : Text × Declarations) → IsTypeOf r e x → IsInterfaceType r p e x
-  type-of e c x is =
+  type-of : (canonical : Bool) (e : Listed) → Contains p.interfaces.entries e → (x : Text × Declarations) → IsTypeOf r canonical e x → IsInterfaceType r p e x
+  type-of canonical e c x is =
       let s = is.shows _ (own-path r v n p at e c) in
       record { label = is.label; scope = s.scope; follows = s.follows; imports = s.imports; exported = s.exported; shows = s.shows }
 
-  types-of : (entries : List Listed) (types : List (Text × Declarations)) → ((e : Listed) → Contains entries e → Contains p.interfaces.entries e) → AllZip (IsTypeOf r) entries types → AllZip (IsInterfaceType r p) entries types
-  types-of [] [] own h = tt
-  types-of [] (x ∷ xs) own h = absurd h
-  types-of (e ∷ es) [] own h = absurd h
-  types-of (e ∷ es) (x ∷ xs) own h =
-      (type-of e (own e (Contains-append_left (e ∷ []) es e (contains-one e))) x h.0, types-of es xs (λ f c. own f (Contains-append_right (e ∷ []) es f c)) h.1)
+  types-of : (canonical : Bool) (entries : List Listed) (types : List (Text × Declarations)) → ((e : Listed) → Contains entries e → Contains p.interfaces.entries e) → AllZip (IsTypeOf r canonical) entries types → AllZip (IsInterfaceType r p) entries types
+  types-of canonical [] [] own h = tt
+  types-of canonical [] (x ∷ xs) own h = absurd h
+  types-of canonical (e ∷ es) [] own h = absurd h
+  types-of canonical (e ∷ es) (x ∷ xs) own h =
+      (type-of canonical e (own e (Contains-append_left (e ∷ []) es e (contains-one e))) x h.0, types-of canonical es xs (λ f c. own f (Contains-append_right (e ∷ []) es f c)) h.1)
 
-  wrapper-of : (e : ListedWorld) (x : Text × Declarations) → IsWrapperOf r (identity_of p.name) e x → IsListedWorldType r p e x
-  wrapper-of e x is = record {
+  wrapper-of : (canonical : Bool) (e : ListedWorld) (x : Text × Declarations) → IsWrapperOf r canonical (identity_of p.name) e x → IsListedWorldType r p e x
+  wrapper-of canonical e x is = record {
     world = is.world;
     there = is.there;
     inner = is.wraps.inner;
@@ -69,14 +70,14 @@ module _ (r : Resolve) (v : IsValid r) (n : ℕ) (p : Package) (at : package_at 
     shows = is.wraps.shows.shows;
   }
 
-  wrappers-of : (entries : List ListedWorld) (types : List (Text × Declarations)) → AllZip (IsWrapperOf r (identity_of p.name)) entries types → AllZip (IsListedWorldType r p) entries types
-  wrappers-of [] [] h = tt
-  wrappers-of [] (x ∷ xs) h = absurd h
-  wrappers-of (e ∷ es) [] h = absurd h
-  wrappers-of (e ∷ es) (x ∷ xs) h = (wrapper-of e x h.0, wrappers-of es xs h.1)
+  wrappers-of : (canonical : Bool) (entries : List ListedWorld) (types : List (Text × Declarations)) → AllZip (IsWrapperOf r canonical (identity_of p.name)) entries types → AllZip (IsListedWorldType r p) entries types
+  wrappers-of canonical [] [] h = tt
+  wrappers-of canonical [] (x ∷ xs) h = absurd h
+  wrappers-of canonical (e ∷ es) [] h = absurd h
+  wrappers-of canonical (e ∷ es) (x ∷ xs) h = (wrapper-of canonical e x h.0, wrappers-of canonical es xs h.1)
 
-  pub no-worlds_yet : (entries : List Listed) (parts : List Part) → HoldsInterfaces r entries parts → HoldsMembers r (identity_of p.name) entries [] parts
-  no-worlds_yet entries parts h = record {
+  pub no-worlds_yet : (canonical : Bool) (entries : List Listed) (parts : List Part) → HoldsInterfaces r canonical entries parts → HoldsMembers r canonical (identity_of p.name) entries [] parts
+  no-worlds_yet canonical entries parts h = record {
     interface_types = h.types;
     world_types = [];
     interfaces_are = h.are;
@@ -84,16 +85,16 @@ module _ (r : Resolve) (v : IsValid r) (n : ℕ) (p : Package) (at : package_at 
     is = h.is ∙ ap exporting (sym (append-nil h.types));
   }
 
-  pub package-held : (before parts : List Part) → HoldsInterfaces r p.interfaces.entries before → AddsWorlds r (identity_of p.name) p.worlds.entries before parts → HoldsPackage r p parts
-  package-held before parts h adds =
-      let all = adds p.interfaces.entries (no-worlds_yet p.interfaces.entries before h) in
+  pub package-held : (canonical : Bool) (before parts : List Part) → HoldsInterfaces r canonical p.interfaces.entries before → AddsWorlds r canonical (identity_of p.name) p.worlds.entries before parts → HoldsPackage r canonical p parts
+  package-held canonical before parts h adds =
+      let all = adds p.interfaces.entries (no-worlds_yet canonical p.interfaces.entries before h) in
       record {
         types = all.interface_types ++ all.world_types;
         are = record {
           interface_types = all.interface_types;
           world_types = all.world_types;
-          interfaces = types-of p.interfaces.entries all.interface_types (λ e c. c) all.interfaces_are;
-          worlds = wrappers-of p.worlds.entries all.world_types all.worlds_are;
+          interfaces = types-of canonical p.interfaces.entries all.interface_types (λ e c. c) all.interfaces_are;
+          worlds = wrappers-of canonical p.worlds.entries all.world_types all.worlds_are;
           are = refl;
         };
         is = all.is;
@@ -118,11 +119,15 @@ module _ (r : Resolve) (v : IsValid r) (n : ℕ) (p : Package) (at : package_at 
       ∙ ap (λ b. b || is_filled are.world_types) (as-filled (IsInterfaceType r p) p.interfaces.entries are.interface_types are.interfaces)
       ∙ ap (λ b. is_filled p.interfaces.entries || b) (as-filled (IsListedWorldType r p) p.worlds.entries are.world_types are.worlds)
 
-  pub bytes-mean : (parts : List Part) (bytes : List ℕ) → HoldsPackage r p parts → IsComponent (sections_of_parts parts) bytes → HasMembers p → MeansPackage r n bytes
-  bytes-mean parts bytes h spelled some =
-      shown.bytes-mean r v n p at h.types (sections_of_parts (exporting h.types)) bytes h.are (members-filled h.types h.are ∙ some)
-      (all_exported h.types (shown.all-labels r v n p at h.types h.are) (shown.labels-apart r v n p at h.types h.are))
-      (subst (λ (ps : List Part). IsComponent (sections_of_parts ps) bytes) h.is spelled)
+  pub parts-mean : (canonical : Bool) (parts : List Part) → HoldsPackage r canonical p parts → HasMembers p → PartsMean r n parts
+  parts-mean canonical parts h some more custom bytes spelled =
+      shown.bytes-mean r v n p at h.types (sections_of_parts (exporting h.types ++ more)) bytes h.are (members-filled h.types h.are ∙ some)
+      (exported-behind (exporting h.types) more custom ∙ all_exported h.types (shown.all-labels r v n p at h.types h.are) (shown.labels-apart r v n p at h.types h.are))
+      (subst (λ (ps : List Part). IsComponent (sections_of_parts (ps ++ more)) bytes) h.is spelled)
+
+  pub bytes-mean : (canonical : Bool) (parts : List Part) (bytes : List ℕ) → HoldsPackage r canonical p parts → IsComponent (sections_of_parts parts) bytes → HasMembers p → MeansPackage r n bytes
+  bytes-mean canonical parts bytes h spelled some =
+      parts-mean canonical parts h some [] refl bytes (subst (λ (ps : List Part). IsComponent (sections_of_parts ps) bytes) (sym (append-nil parts)) spelled)
 
   no-sections : (bytes : List ℕ) → IsComponent [] bytes → bytes ≡ preamble
   no-sections bytes ((front, rest, split, first, second), short) = split ∙ ap (λ (x : List ℕ). x ++ rest) first ∙ ap (λ (x : List ℕ). preamble ++ x) second ∙ append-nil preamble
@@ -131,8 +136,8 @@ module _ (r : Resolve) (v : IsValid r) (n : ℕ) (p : Package) (at : package_at 
   no-types [] bytes none spelled = no-sections bytes spelled
   no-types (x ∷ xs) bytes none spelled = absurd (true≢false none)
 
-  pub bytes-empty : (parts : List Part) (bytes : List ℕ) → HoldsPackage r p parts → IsComponent (sections_of_parts parts) bytes → HasNoMembers p → bytes ≡ preamble
-  bytes-empty parts bytes h spelled none =
+  pub bytes-empty : (canonical : Bool) (parts : List Part) (bytes : List ℕ) → HoldsPackage r canonical p parts → IsComponent (sections_of_parts parts) bytes → HasNoMembers p → bytes ≡ preamble
+  bytes-empty canonical parts bytes h spelled none =
       no-types h.types bytes (members-filled h.types h.are ∙ none) (subst (λ (ps : List Part). IsComponent (sections_of_parts ps) bytes) h.is spelled)
 
 -- ---- refusals

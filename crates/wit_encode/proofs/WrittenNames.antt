@@ -1,6 +1,8 @@
 -- The names under which instances have been imported and exported stay, but for that of a new one.
-use Rattle.std.proofs.Common.{◌≡◌, refl, sym, ap, ◌∙◌, append-nil, append_assoc, ℕ, Bool, if◌then◌else◌, is_some, List, [], ◌∷◌, ◌++◌, Option, Some, None}
+use Rattle.std.proofs.Common.{◌≡◌, refl, sym, ap, ◌∙◌, append-nil, append_assoc, ℕ, Bool, if◌then◌else◌, is_some, List, [], ◌∷◌, ◌++◌, map, Option, Some, None}
+use Rattle.std.proofs.lemmas.List.{map-append}
 use Rattle.std.proofs.lemmas.List.Concat.{flat_map-append}
+use Rattle.wit_model.specs.Text.{Text}
 use Rattle.wit_model.specs.Uses.{item_interface}
 use Rattle.wit_model.specs.declared.model.Resolve.{Resolve}
 use Rattle.wit_model.specs.declared.model.Interface.{Interface}
@@ -12,11 +14,13 @@ use Rattle.comp_bytes.specs.Raw.{Declaration, Declarations, ExternName, append}
 use Rattle.comp_bytes.specs.declared.forms.ComponentTypeRef.TheVariants as refs
 use Rattle.comp_meaning.specs.Follow.{Direction, import_, export_}
 use Rattle.encode_types.specs.Known.{Aliased, AreAliases, Around, GrowsAround, with_alias, with_aliases}
-use Rattle.encode_names.specs.WorldNames.{name_of_item}
+use Rattle.encode_reach.specs.Reach.{reached_in_order}
+use Rattle.encode_names.specs.WorldNames.{name_of_interface, name_of_item}
 use Rattle.encode_names.specs.WorldSteps.{Entry, declared_towards}
 use Rattle.wit_encode.specs.Encoders.{declared_after}
-use Rattle.wit_encode.specs.Instance.{EncodesInterface}
-use Rattle.wit_encode.specs.WrittenNames.{NamesMore, if_named, instance_declarations, instance_name, instance_names, instances_around, names_among}
+use Rattle.wit_encode.specs.Dependencies.{ImportsTypes}
+use Rattle.wit_encode.specs.Instance.{EncodesInterface, EncodesPart}
+use Rattle.wit_encode.specs.WrittenNames.{NamesInterfaces, NamesMore, WritesPaths, if_named, instance_declarations, instance_name, instance_names, instances_around, names_among}
 
 -- ---- one declaration more
 
@@ -87,12 +91,16 @@ function-names r q canonical x f ds es outer direction name k is g declared =
     ap instance_names declared ∙ names-more es (declared_towards direction name (refs.Func k)) ∙ ap (λ (ns : List ExternName). instance_names es ++ ns) (no-function-name direction name k)
     ∙ append-nil (instance_names es) ∙ names-stay q ds es g ∙ sym (append-nil (instance_names ds)) ∙ ap (λ (ns : List ExternName). instance_names ds ++ ns) (sym (none-among r canonical x (ap item_interface is)))
 
+-- an instance type has no name
+part-names : (q : Resolve) (a a' : Around) (i : InterfaceId) (def : Interface) (written : List (Text × Function)) (functions : List Function) (k : ℕ) → EncodesPart q a a' i def written functions k → instance_names a'.declared ≡ instance_names a.declared
+part-names q a a' i def written functions k part =
+    ap (λ (z : Around). instance_names z.declared) part.one_more ∙ names-behind part.before.declared _ ∙ ap (λ (z : Around). instance_names z.declared) part.aliases.is ∙ names-aliased a part.aliases.made
+
 pub interface-names : (r q : Resolve) (canonical : Bool) (x : Entry) (i : InterfaceId) (a a' : Around) (def : Interface) (outer : Declarations) (direction : Direction) (name : ExternName) (k : ℕ) → item_interface x.1 ≡ Some i.0
     → EncodesInterface q a a' i def k → outer ≡ declared_after a'.declared (declared_towards direction name (refs.Instance k)) → name ≡ name_of_item r canonical x → NamesMore r canonical (x ∷ []) a.declared outer
 interface-names r q canonical x i a a' def outer direction name k is encodes declared named =
-    let part = encodes.part in
     ap instance_names declared ∙ names-more a'.declared (declared_towards direction name (refs.Instance k))
-    ∙ (λ j. (ap (λ (z : Around). instance_names z.declared) part.one_more ∙ names-behind part.before.declared _ ∙ ap (λ (z : Around). instance_names z.declared) part.aliases.is ∙ names-aliased a part.aliases.made) j
+    ∙ (λ j. part-names q a a' i def _ _ k encodes.part j
     ++ (interface-name direction name k ∙ ap (λ (n : ExternName). n ∷ []) named ∙ sym (one-among r canonical x i.0 is)) j)
 
 -- ---- one entry after the other
@@ -104,3 +112,28 @@ pub names-then : (r : Resolve) (canonical : Bool) (xs ys : List Entry) (ds es fs
 names-then r canonical xs ys ds es fs one more =
     more ∙ ap (λ (ns : List ExternName). ns ++ names_among r canonical ys) one ∙ append_assoc (instance_names ds) (names_among r canonical xs) (names_among r canonical ys)
     ∙ ap (λ (ns : List ExternName). instance_names ds ++ ns) (sym (flat_map-append _ xs ys))
+
+-- ---- the component type of an interface
+
+module _ (r : Resolve) (canonical : Bool) where
+  abbrev name : ℕ → ExternName
+  name n = name_of_interface r canonical n
+
+  -- one import more
+  pub import-named : (a a' : Around) (i : InterfaceId) (number : ℕ) → ImportsTypes r canonical a a' i number → instance_names a'.declared ≡ instance_names a.declared ++ name i.0 ∷ []
+  import-named a a' i number t =
+      ap (λ (z : Around). instance_names z.declared) t.imports ∙ names-more t.encoded.declared (Declaration.imported (name i.0) (refs.Instance t.slot))
+      ∙ ap (λ (ns : List ExternName). ns ++ name i.0 ∷ []) (part-names r a t.encoded i t.def _ _ t.slot t.encodes.part)
+
+  pub imports-named : (a a' : Around) (i : InterfaceId) (number : ℕ) (ns : List ℕ) (start : Declarations) → ImportsTypes r canonical a a' i number → NamesInterfaces r canonical ns start a.declared → NamesInterfaces r canonical (ns ++ i.0 ∷ []) start a'.declared
+  imports-named a a' i number ns start t named =
+      import-named a a' i number t ∙ ap (λ (xs : List ExternName). xs ++ name i.0 ∷ []) named ∙ append_assoc (instance_names start) (map name ns) (name i.0 ∷ [])
+      ∙ ap (λ (xs : List ExternName). instance_names start ++ xs) (sym (map-append name ns (i.0 ∷ [])))
+
+  -- behind all that it reaches, the interface itself
+  pub all-named : (a a' : Around) (ns : List ℕ) (i : InterfaceId) (def : Interface) (k : ℕ) (start outer : Declarations) → start ≡ Declarations.no_more → NamesInterfaces r canonical ns start a.declared → ns ≡ reached_in_order r i.0
+      → EncodesInterface r a a' i def k → outer ≡ append a'.declared (Declarations.declares (Declaration.exported (name i.0) (refs.Instance k)) Declarations.no_more) → WritesPaths r canonical i.0 outer
+  all-named a a' ns i def k start outer nothing named order encodes is =
+      ap instance_names is ∙ names-more a'.declared (Declaration.exported (name i.0) (refs.Instance k))
+      ∙ ap (λ (xs : List ExternName). xs ++ name i.0 ∷ []) (part-names r a a' i def _ _ k encodes.part ∙ named ∙ ap (λ (ds : Declarations). instance_names ds ++ map name ns) nothing)
+      ∙ sym (map-append name ns (i.0 ∷ [])) ∙ ap (λ (xs : List ℕ). map name (xs ++ i.0 ∷ [])) order

@@ -1,6 +1,6 @@
 -- Which interfaces and worlds have no room in the component of a package, where every length is a number of 32 bits, that of the component too (Component Model Binary.md,
 -- "Component Definitions" and the numbers of "Core WebAssembly").
-use Rattle.std.specs.Prelude.{ℕ, ◌≡◌, ◌<◌, ◌+◌, ◌⊎◌, List, [], ◌∷◌, ◌++◌, length, sum_by, Some}
+use Rattle.std.specs.Prelude.{ℕ, ◌≡◌, ◌<◌, ◌+◌, ◌⊎◌, Bool, List, [], ◌∷◌, ◌++◌, length, sum_by, Some}
 use Rattle.std.specs.List.{Contains}
 use Rattle.wit_model.specs.Text.{text_of}
 use Rattle.wit_model.specs.Names.{PackageIdentity, path_in}
@@ -33,13 +33,13 @@ pub record AreLong (P : List Part → Type 0) : Type 0 where
 -- ---- interfaces
 
 -- Behind the component types of other interfaces, the interface has no room: it is too heavy by itself, or too long behind them.
-abbrev pub LacksInterface : Resolve → Listed → List Part → Type 0
-LacksInterface r e old = (limit < interface_weight r e.1.0) ⊎ ((entries : List Listed) → HoldsInterfaces r entries old → AreLong (HoldsInterfaces r (entries ++ e ∷ [])))
+abbrev pub LacksInterface : Resolve → Bool → Listed → List Part → Type 0
+LacksInterface r canonical e old = (limit < interface_weight r e.1.0) ⊎ ((entries : List Listed) → HoldsInterfaces r canonical entries old → AreLong (HoldsInterfaces r canonical (entries ++ e ∷ [])))
 
 -- One of these interfaces is too heavy, or the component types of the first of them are too long together.
-pub data InterfacesLackRoom (r : Resolve) (entries : List Listed) : Type 0 where
-  too_heavy : (e : Listed) → Contains entries e → limit < interface_weight r e.1.0 → InterfacesLackRoom r entries
-  too_long : (first rest : List Listed) → entries ≡ first ++ rest → AreLong (HoldsInterfaces r first) → InterfacesLackRoom r entries
+pub data InterfacesLackRoom (r : Resolve) (canonical : Bool) (entries : List Listed) : Type 0 where
+  too_heavy : (e : Listed) → Contains entries e → limit < interface_weight r e.1.0 → InterfacesLackRoom r canonical entries
+  too_long : (first rest : List Listed) → entries ≡ first ++ rest → AreLong (HoldsInterfaces r canonical first) → InterfacesLackRoom r canonical entries
 
 -- ---- worlds
 
@@ -47,11 +47,11 @@ pub data InterfacesLackRoom (r : Resolve) (entries : List Listed) : Type 0 where
 abbrev pub IsHeavyWorld : Resolve → PackageIdentity → ℕ → Type 0
 IsHeavyWorld r p n = (w : World) → world_at r n ≡ Some w → limit < length (path_in p (text_of w.name)) + world_weight r n
 
-abbrev pub LacksWorld : Resolve → PackageIdentity → ListedWorld → List Part → Type 0
-LacksWorld r p e old =
-    IsHeavyWorld r p e.1.0 ⊎ ((interfaces : List Listed) (worlds : List ListedWorld) → HoldsMembers r p interfaces worlds old → AreLong (HoldsMembers r p interfaces (worlds ++ e ∷ [])))
+abbrev pub LacksWorld : Resolve → Bool → PackageIdentity → ListedWorld → List Part → Type 0
+LacksWorld r canonical p e old =
+    IsHeavyWorld r p e.1.0 ⊎ ((interfaces : List Listed) (worlds : List ListedWorld) → HoldsMembers r canonical p interfaces worlds old → AreLong (HoldsMembers r canonical p interfaces (worlds ++ e ∷ [])))
 
 -- One of these worlds is too heavy, or the component types of the interfaces and of the first of these worlds are too long together.
-pub data WorldsLackRoom (r : Resolve) (p : PackageIdentity) (interfaces : List Listed) (entries : List ListedWorld) : Type 0 where
-  too_heavy : (e : ListedWorld) → Contains entries e → IsHeavyWorld r p e.1.0 → WorldsLackRoom r p interfaces entries
-  too_long : (first rest : List ListedWorld) → entries ≡ first ++ rest → AreLong (HoldsMembers r p interfaces first) → WorldsLackRoom r p interfaces entries
+pub data WorldsLackRoom (r : Resolve) (canonical : Bool) (p : PackageIdentity) (interfaces : List Listed) (entries : List ListedWorld) : Type 0 where
+  too_heavy : (e : ListedWorld) → Contains entries e → IsHeavyWorld r p e.1.0 → WorldsLackRoom r canonical p interfaces entries
+  too_long : (first rest : List ListedWorld) → entries ≡ first ++ rest → AreLong (HoldsMembers r canonical p interfaces first) → WorldsLackRoom r canonical p interfaces entries

@@ -1,7 +1,7 @@
 -- The component of a package: a component type for each interface, and then one for each world in its wrapper, each exported under its name
 -- (Component Model WIT.md, "Package Format").
 use Rattle.std.specs.Prelude.{◌≡◌, ◌<◌, ◌≤◌, ◌↔◌, ◌||◌, ℕ, Bool, false, true, is_some, List, [], ◌∷◌, ◌++◌, length, Some, String}
-use Rattle.std.specs.List.{AllZip, Contains}
+use Rattle.std.specs.List.{AllZip, Contains, list_all}
 use Rattle.std.specs.declared.alloc.Global.{Global}
 use Rattle.wit_model.specs.Text.{Text, text_of}
 use Rattle.wit_model.specs.Names.{PackageIdentity, path_in}
@@ -31,6 +31,7 @@ use Rattle.wit_encode.specs.Scopes.{HasNoEqualPaths, RefusesInterface}
 use Rattle.wit_encode.specs.WholeWorlds.{RefusesWorld, ShowsWorldType}
 use Rattle.wit_encode.specs.WorldCounts.{DefinesOnce}
 use Rattle.wit_encode.specs.WorldRoom.{entries_in}
+use Rattle.wit_encode.specs.WrittenNames.{WritesNames, WritesPaths}
 
 -- an interface of a package, by its name
 abbrev pub Listed : Type 0
@@ -53,23 +54,24 @@ pub record RefusesInterfaces (r : Resolve) (entries : List Listed) (canonical : 
   pub differ : canonical ≡ true → HaveNoEqualPaths r before
   pub refuses : RefusesInterface r refused.1.0 canonical e
 
--- the component type of an interface, under its name, with each definition once: it takes no more bytes than the interface weighs with what it
--- reaches
-pub record IsTypeOf (r : Resolve) (e : Listed) (x : Text × Declarations) : Type 0 where
+-- the component type of an interface, under its name, with its paths whole or canonical and each definition once: it takes no more bytes than the
+-- interface weighs with what it reaches
+pub record IsTypeOf (r : Resolve) (canonical : Bool) (e : Listed) (x : Text × Declarations) : Type 0 where
   pub label : x.0 ≡ text_of e.0
   pub shows : (path : Text) → interface_path r e.1.0 ≡ Some path → ShowsComponent r e.1.0 path x.1
+  pub names : WritesPaths r canonical e.1.0 x.1
   pub once : DefinesComponent r e.1.0 x.1
   pub light : declared_extent x.1 ≤ interface_weight r e.1.0
 
 -- a component that exports the component types of these interfaces, in order, and nothing else
-pub record HoldsInterfaces (r : Resolve) (entries : List Listed) (parts : List Part) : Type 0 where
+pub record HoldsInterfaces (r : Resolve) (canonical : Bool) (entries : List Listed) (parts : List Part) : Type 0 where
   pub types : List (Text × Declarations)
-  pub are : AllZip (IsTypeOf r) entries types
+  pub are : AllZip (IsTypeOf r canonical) entries types
   pub is : parts ≡ exporting types
 
 -- behind what is exported already, the component type of an interface, exported under its name
-abbrev pub AddsInterface : Resolve → Listed → List Part → List Part → Type 0
-AddsInterface r e old new = (entries : List Listed) → HoldsInterfaces r entries old → HoldsInterfaces r (entries ++ e ∷ []) new
+abbrev pub AddsInterface : Resolve → Bool → Listed → List Part → List Part → Type 0
+AddsInterface r canonical e old new = (entries : List Listed) → HoldsInterfaces r canonical entries old → HoldsInterfaces r canonical (entries ++ e ∷ []) new
 
 -- ---- worlds
 
@@ -77,37 +79,38 @@ AddsInterface r e old new = (entries : List Listed) → HoldsInterfaces r entrie
 abbrev pub ListedWorld : Type 0
 ListedWorld = String Global × WorldId
 
--- the wrapper of world n of a package of this name and version: it defines a component type that shows the world, with each definition once and
--- no more bytes than the world weighs, and exports it under the world's path, whole
-pub record WrapsWorld (r : Resolve) (p : PackageIdentity) (n : ℕ) (w : World) (declared : Declarations) : Type 0 where
+-- the wrapper of world n of a package of this name and version: it defines a component type that shows the world, with names whole or canonical, each
+-- definition once and no more bytes than the world weighs, and exports it under the world's path, whole
+pub record WrapsWorld (r : Resolve) (canonical : Bool) (p : PackageIdentity) (n : ℕ) (w : World) (declared : Declarations) : Type 0 where
   pub inner : Declarations
   pub is : declared ≡ wrapper (path_in p (text_of w.name)) inner
   pub shows : ShowsWorldType r w inner
+  pub names : WritesNames r canonical w inner
   pub once : DefinesOnce r inner (entries_in w)
   pub light : declared_extent inner ≤ world_weight r n
 
 -- the wrapper of a world, under its name
-pub record IsWrapperOf (r : Resolve) (p : PackageIdentity) (e : ListedWorld) (x : Text × Declarations) : Type 0 where
+pub record IsWrapperOf (r : Resolve) (canonical : Bool) (p : PackageIdentity) (e : ListedWorld) (x : Text × Declarations) : Type 0 where
   pub label : x.0 ≡ text_of e.0
   pub world : World
   pub there : world_at r e.1.0 ≡ Some world
-  pub wraps : WrapsWorld r p e.1.0 world x.1
+  pub wraps : WrapsWorld r canonical p e.1.0 world x.1
 
 -- a component that exports the component types of these interfaces, in order, then the wrappers of these worlds, in order, and nothing else
-pub record HoldsMembers (r : Resolve) (p : PackageIdentity) (interfaces : List Listed) (worlds : List ListedWorld) (parts : List Part) : Type 0 where
+pub record HoldsMembers (r : Resolve) (canonical : Bool) (p : PackageIdentity) (interfaces : List Listed) (worlds : List ListedWorld) (parts : List Part) : Type 0 where
   pub interface_types : List (Text × Declarations)
   pub world_types : List (Text × Declarations)
-  pub interfaces_are : AllZip (IsTypeOf r) interfaces interface_types
-  pub worlds_are : AllZip (IsWrapperOf r p) worlds world_types
+  pub interfaces_are : AllZip (IsTypeOf r canonical) interfaces interface_types
+  pub worlds_are : AllZip (IsWrapperOf r canonical p) worlds world_types
   pub is : parts ≡ exporting (interface_types ++ world_types)
 
 -- behind what is exported already, the wrapper of a world, exported under its name
-abbrev pub AddsWorld : Resolve → PackageIdentity → ListedWorld → List Part → List Part → Type 0
-AddsWorld r p e old new = (interfaces : List Listed) (worlds : List ListedWorld) → HoldsMembers r p interfaces worlds old → HoldsMembers r p interfaces (worlds ++ e ∷ []) new
+abbrev pub AddsWorld : Resolve → Bool → PackageIdentity → ListedWorld → List Part → List Part → Type 0
+AddsWorld r canonical p e old new = (interfaces : List Listed) (worlds : List ListedWorld) → HoldsMembers r canonical p interfaces worlds old → HoldsMembers r canonical p interfaces (worlds ++ e ∷ []) new
 
 -- behind the component types of some interfaces, the wrappers of these worlds
-abbrev pub AddsWorlds : Resolve → PackageIdentity → List ListedWorld → List Part → List Part → Type 0
-AddsWorlds r p worlds old new = (interfaces : List Listed) → HoldsMembers r p interfaces [] old → HoldsMembers r p interfaces worlds new
+abbrev pub AddsWorlds : Resolve → Bool → PackageIdentity → List ListedWorld → List Part → List Part → Type 0
+AddsWorlds r canonical p worlds old new = (interfaces : List Listed) → HoldsMembers r canonical p interfaces [] old → HoldsMembers r canonical p interfaces worlds new
 
 -- each of these worlds is in range
 abbrev pub AreWorlds : Resolve → List ListedWorld → Type 0
@@ -135,17 +138,17 @@ pub record RefusesWorlds (r : Resolve) (entries : List ListedWorld) (canonical :
 
 -- ---- packages
 
--- a component that exports the component types of the package, in order, and nothing else
-pub record HoldsPackage (r : Resolve) (p : Package) (parts : List Part) : Type 0 where
+-- a component that exports the component types of the package, in order, with names whole or canonical, and nothing else
+pub record HoldsPackage (r : Resolve) (canonical : Bool) (p : Package) (parts : List Part) : Type 0 where
   pub types : List (Text × Declarations)
   pub are : ArePackageTypes r p types
   pub is : parts ≡ exporting types
-  pub members : HoldsMembers r (identity_of p.name) p.interfaces.entries p.worlds.entries parts
+  pub members : HoldsMembers r canonical (identity_of p.name) p.interfaces.entries p.worlds.entries parts
 
 -- The bytes spell such a component.
-pub record SpellsPackage (r : Resolve) (p : Package) (bytes : List ℕ) : Type 0 where
+pub record SpellsPackage (r : Resolve) (canonical : Bool) (p : Package) (bytes : List ℕ) : Type 0 where
   pub parts : List Part
-  pub holds : HoldsPackage r p parts
+  pub holds : HoldsPackage r canonical p parts
   pub spells : IsComponent (sections_of_parts parts) bytes
 
 -- In no component type of the package two imports, or two exports, have one canonical name.
@@ -169,3 +172,12 @@ HasNoMembers p = (is_filled p.interfaces.entries || is_filled p.worlds.entries) 
 -- The bytes are read as exactly what package n means.
 abbrev pub MeansPackage : Resolve → ℕ → List ℕ → Type 0
 MeansPackage r n bytes = (m : PackageMeaning) → Meant r n m ↔ Reads bytes m
+
+abbrev pub is_custom : Part → Bool
+is_custom (Part.top_type t) = false
+is_custom (Part.top_export e) = false
+is_custom (Part.custom name contents) = true
+
+-- The bytes of a component with these parts, and custom sections behind them or none, are read as exactly what package n means.
+abbrev pub PartsMean : Resolve → ℕ → List Part → Type 0
+PartsMean r n parts = (more : List Part) → list_all is_custom more ≡ true → (bytes : List ℕ) → IsComponent (sections_of_parts (parts ++ more)) bytes → MeansPackage r n bytes

@@ -1,6 +1,6 @@
 -- The names under which a component type imports and exports instances (Component Model Binary.md, "Import and Export Definitions").
 -- Whether they are canonical can't be told from what they mean.
-use Rattle.std.specs.Prelude.{◌≡◌, Bool, if◌then◌else◌, is_some, List, [], ◌∷◌, ◌++◌, flat_map}
+use Rattle.std.specs.Prelude.{◌≡◌, Bool, if◌then◌else◌, is_some, ℕ, List, [], ◌∷◌, ◌++◌, flat_map, map}
 use Rattle.wit_model.specs.Uses.{item_interface}
 use Rattle.wit_model.specs.declared.model.Resolve.{Resolve}
 use Rattle.wit_model.specs.declared.model.World.{World}
@@ -8,7 +8,8 @@ use Rattle.comp_bytes.specs.Raw.{Declaration, Declarations, ExternName}
 use Rattle.comp_bytes.specs.declared.forms.ComponentTypeRef.{ComponentTypeRef}
 use Rattle.comp_bytes.specs.declared.forms.ComponentTypeRef.TheVariants as refs
 use Rattle.encode_types.specs.Known.{Around}
-use Rattle.encode_names.specs.WorldNames.{name_of_item}
+use Rattle.encode_names.specs.WorldNames.{name_of_interface, name_of_item}
+use Rattle.encode_reach.specs.Reach.{reached_in_order}
 use Rattle.encode_names.specs.WorldSteps.{Entry}
 
 abbrev pub described_name : ExternName → ComponentTypeRef → List ExternName
@@ -59,3 +60,11 @@ WritesNames r canonical w declared = instance_names declared ≡ names_among r c
 -- behind those of before, the interfaces among these entries
 abbrev pub NamesMore : Resolve → Bool → List Entry → Declarations → Declarations → Type 0
 NamesMore r canonical es before after = instance_names after ≡ instance_names before ++ names_among r canonical es
+
+-- behind those of before, these interfaces
+abbrev pub NamesInterfaces : Resolve → Bool → List ℕ → Declarations → Declarations → Type 0
+NamesInterfaces r canonical ns before after = instance_names after ≡ instance_names before ++ map (name_of_interface r canonical) ns
+
+-- The instances are those of the interfaces that interface n reaches, in order, and then its own, each under its path, whole or canonical.
+abbrev pub WritesPaths : Resolve → Bool → ℕ → Declarations → Type 0
+WritesPaths r canonical n declared = instance_names declared ≡ map (name_of_interface r canonical) (reached_in_order r n ++ n ∷ [])

@@ -18,6 +18,7 @@ ghost use Rattle.wit_encode.specs.Extents.{instance_extent};
 ghost use Rattle.wit_encode.specs.Instance.{declared_extent};
 ghost use Rattle.wit_encode.specs.Scopes.{HasNoEqualPaths, RefusesInterface};
 ghost use Rattle.wit_encode.specs.WrittenBytes.{AddsBytes, imports_extent};
+ghost use Rattle.wit_encode.specs.WrittenNames.{NamesInterfaces, WritesPaths};
 
 use crate::interface::{InterfaceEncoder, InterfaceEncoderOf};
 use comp_bytes::{ComponentType, ComponentTypeRef};
@@ -72,6 +73,7 @@ fn import_dependencies<'a>(
     ensures held { HoldsImports encoder.old.resolve.now (outside encoder.old) [] → OnOk result (HoldsImports encoder.old.resolve.now (outside encoder.new) (map (λ id. id.0) interfaces.now)) }
     ensures once { DefinesImports encoder.old.resolve.now encoder.old.outer [] → OnOk result (DefinesImports encoder.old.resolve.now encoder.new.outer (map (λ id. id.0) interfaces.now)) }
     ensures written { OnOk result (AddsBytes (imports_extent encoder.old.resolve.now canonical_names (map (λ id. id.0) interfaces.now)) encoder.old.outer encoder.new.outer) }
+    ensures named { OnOk result (NamesInterfaces encoder.old.resolve.now canonical_names (map (λ id. id.0) interfaces.now) encoder.old.outer encoder.new.outer) }
     ensures size { result ≡ Err Size → HoldsImports encoder.old.resolve.now (outside encoder.old) [] → ImportsLackRoom encoder.old.resolve.now (map (λ id. id.0) interfaces.now) }
     ensures refuses { IfErr result IsMemoryOrSize }
 {
@@ -101,6 +103,7 @@ pub fn interface_type(
     requires valid { IsValid resolve.now }
     requires named { is_some (interface_path resolve.now interface.0) ≡ true }
     ensures shows { IfOk result (λ declared. (path : Text) → interface_path resolve.now interface.0 ≡ Some path → ShowsComponent resolve.now interface.0 path declared) }
+    ensures names { IfOk result (WritesPaths resolve.now canonical_names interface.0) }
     ensures once { IfOk result (DefinesComponent resolve.now interface.0) }
     ensures differ { canonical_names ≡ true → OnOk result (HasNoEqualPaths resolve.now interface.0) }
     ensures light { IfOk result (λ declared. declared_extent declared ≤ interface_weight resolve.now interface.0) }

@@ -584,7 +584,7 @@ impl<'a> InterfaceEncoderOf<'a, TypeEncodingMaps<'a>> {
         ensures maps { self.new.maps ≡ self.old.maps }
         ensures err { OnErr result (Reaches self.old self.new) }
         ensures ok { IfOk result (EncodesPlaced self.old self.new interface functions.now) }
-        ensures stands { OnOk result (Keeps (encoder_view self.old).stands (encoder_view self.new).stands) }
+        ensures stands { Keeps (encoder_view self.old).stands (encoder_view self.new).stands }
         ensures instances { InstancesStay self.old self.new }
         ensures written { OnOk result (TakesFew self.old.resolve.now interface (referred types.now (plain functions.now)) (map placed_function functions.now) (declared_extent self.old.outer + 8) (declared_extent self.new.outer)) }
         ensures size { result ≡ Err Size → LacksWithin self.old interface types.now functions.now }
@@ -612,7 +612,7 @@ impl<'a> InterfaceEncoderOf<'a, TypeEncodingMaps<'a>> {
         ensures maps { self.new.maps ≡ self.old.maps }
         ensures err { OnErr result (Reaches self.old self.new) }
         ensures ok { IfOk result (EncodesTypesAs self.old self.new interface) }
-        ensures stands { OnOk result (Keeps (encoder_view self.old).stands (encoder_view self.new).stands) }
+        ensures stands { Keeps (encoder_view self.old).stands (encoder_view self.new).stands }
         ensures instances { InstancesStay self.old self.new }
         ensures written { OnOk result (AddsBytes (types_extent self.old.resolve.now interface.0) self.old.outer self.new.outer) }
         ensures size { result ≡ Err Size → LacksDependency self.old interface }
@@ -644,7 +644,7 @@ impl<'a> InterfaceEncoderOf<'a, TypeEncodingMaps<'a>> {
         ensures maps { self.new.maps ≡ self.old.maps }
         ensures err { OnErr result (Reaches self.old self.new) }
         ensures ok { IfOk result (EncodesAs self.old self.new interface) }
-        ensures stands { OnOk result (Keeps (encoder_view self.old).stands (encoder_view self.new).stands) }
+        ensures stands { Keeps (encoder_view self.old).stands (encoder_view self.new).stands }
         ensures instances { InstancesStay self.old self.new }
         ensures written { OnOk result (AddsBytes (whole_extent self.old.resolve.now interface.0) self.old.outer self.new.outer) }
         ensures size { result ≡ Err Size → LacksInstance self.old interface }

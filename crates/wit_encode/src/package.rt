@@ -13,7 +13,7 @@ ghost use Rattle.wit_model.specs.declared.error.Error.TheVariants.{Size};
 ghost use Rattle.encode_shown.specs.PackageTypes.{wrapper};
 ghost use Rattle.wit_encode.specs.Scopes.{HasNoEqualPaths, RefusesInterface};
 ghost use Rattle.wit_encode.specs.PackageRoom.{InterfacesLackRoom, IsHeavyWorld, LacksInterface, LacksWorld, WorldsLackRoom};
-ghost use Rattle.wit_encode.specs.Packages.{AddsInterface, AddsWorld, AddsWorlds, AreNamed, AreWorlds, HasMembers, HasNoClashAt, HasNoClashes, HasNoMembers, HoldsMembers, Listed, HaveNoClash, HaveNoEqualPaths, HoldsInterfaces, HoldsPackage, MeansPackage, RefusesInterfaces, RefusesPackage, RefusesWorldAt, RefusesWorlds, SpellsPackage, WrapsWorld};
+ghost use Rattle.wit_encode.specs.Packages.{AddsInterface, AddsWorld, AddsWorlds, AreNamed, AreWorlds, HasMembers, HasNoClashAt, HasNoClashes, HasNoMembers, HoldsMembers, Listed, HaveNoClash, HaveNoEqualPaths, HoldsInterfaces, HoldsPackage, MeansPackage, PartsMean, RefusesInterfaces, RefusesPackage, RefusesWorldAt, RefusesWorlds, SpellsPackage, WrapsWorld};
 
 use crate::component_types::interface_type;
 use crate::world::encode_world;
@@ -58,9 +58,9 @@ fn add_interface(
 ) -> Result<(), Error>
     requires valid { IsValid resolve.now }
     requires named { is_some (interface_path resolve.now interface.0) ≡ true }
-    ensures adds { OnOk result (AddsInterface resolve.now (name.now, interface) builder.old builder.new) }
+    ensures adds { OnOk result (AddsInterface resolve.now canonical_names (name.now, interface) builder.old builder.new) }
     ensures differ { canonical_names ≡ true → OnOk result (HasNoEqualPaths resolve.now interface.0) }
-    ensures size { result ≡ Err Size → LacksInterface resolve.now (name.now, interface) builder.old }
+    ensures size { result ≡ Err Size → LacksInterface resolve.now canonical_names (name.now, interface) builder.old }
     ensures refuses { IfErr result (RefusesInterface resolve.now interface.0 canonical_names) }
 {
     let component = interface_type(alloc, resolve, interface, canonical_names)?;
@@ -76,9 +76,9 @@ fn interfaces_component(
 ) -> Result<ComponentBuilder, Error>
     requires valid { IsValid resolve.now }
     requires named { AreNamed resolve.now interfaces.now.entries }
-    ensures holds { IfOk result (HoldsInterfaces resolve.now interfaces.now.entries) }
+    ensures holds { IfOk result (HoldsInterfaces resolve.now canonical_names interfaces.now.entries) }
     ensures differ { canonical_names ≡ true → OnOk result (HaveNoEqualPaths resolve.now interfaces.now.entries) }
-    ensures size { result ≡ Err Size → InterfacesLackRoom resolve.now interfaces.now.entries }
+    ensures size { result ≡ Err Size → InterfacesLackRoom resolve.now canonical_names interfaces.now.entries }
     ensures refuses { IfErr result (RefusesInterfaces resolve.now interfaces.now.entries canonical_names) }
 {
     let mut builder = ComponentBuilder::new(alloc);
@@ -108,7 +108,7 @@ pub fn wrapped_world(
 ) -> Result<ComponentType, Error>
     requires valid { IsValid resolve.now }
     requires in_range { world.0 < length resolve.now.worlds.items }
-    ensures wraps { IfOk result (λ declared. (w : WorldValue) → world_at resolve.now world.0 ≡ Some w → WrapsWorld resolve.now (identity_of «package».now) world.0 w declared) }
+    ensures wraps { IfOk result (λ declared. (w : WorldValue) → world_at resolve.now world.0 ≡ Some w → WrapsWorld resolve.now canonical_names (identity_of «package».now) world.0 w declared) }
     ensures differ { canonical_names ≡ true → OnOk result (HasNoClashAt resolve.now world.0) }
     ensures size { result ≡ Err Size → IsHeavyWorld resolve.now (identity_of «package».now) world.0 }
     ensures refuses { IfErr result (RefusesWorldAt resolve.now world.0 canonical_names) }
@@ -130,9 +130,9 @@ fn add_world(
 ) -> Result<(), Error>
     requires valid { IsValid resolve.now }
     requires in_range { world.0 < length resolve.now.worlds.items }
-    ensures adds { OnOk result (AddsWorld resolve.now (identity_of «package».now) (name.now, world) builder.old builder.new) }
+    ensures adds { OnOk result (AddsWorld resolve.now canonical_names (identity_of «package».now) (name.now, world) builder.old builder.new) }
     ensures differ { canonical_names ≡ true → OnOk result (HasNoClashAt resolve.now world.0) }
-    ensures size { result ≡ Err Size → LacksWorld resolve.now (identity_of «package».now) (name.now, world) builder.old }
+    ensures size { result ≡ Err Size → LacksWorld resolve.now canonical_names (identity_of «package».now) (name.now, world) builder.old }
     ensures refuses { IfErr result (RefusesWorldAt resolve.now world.0 canonical_names) }
 {
     let component = wrapped_world(alloc, resolve, package, world, canonical_names)?;
@@ -150,9 +150,9 @@ fn add_worlds(
 ) -> Result<(), Error>
     requires valid { IsValid resolve.now }
     requires in_range { AreWorlds resolve.now worlds.now.entries }
-    ensures adds { OnOk result (AddsWorlds resolve.now (identity_of «package».now) worlds.now.entries builder.old builder.new) }
+    ensures adds { OnOk result (AddsWorlds resolve.now canonical_names (identity_of «package».now) worlds.now.entries builder.old builder.new) }
     ensures differ { canonical_names ≡ true → OnOk result (HaveNoClash resolve.now worlds.now.entries) }
-    ensures size { result ≡ Err Size → (interfaces : List Listed) → HoldsMembers resolve.now (identity_of «package».now) interfaces [] builder.old → WorldsLackRoom resolve.now (identity_of «package».now) interfaces worlds.now.entries }
+    ensures size { result ≡ Err Size → (interfaces : List Listed) → HoldsMembers resolve.now canonical_names (identity_of «package».now) interfaces [] builder.old → WorldsLackRoom resolve.now canonical_names (identity_of «package».now) interfaces worlds.now.entries }
     ensures refuses { IfErr result (RefusesWorlds resolve.now worlds.now.entries canonical_names) }
 {
     for (name, world) in worlds {
@@ -172,7 +172,8 @@ fn add_worlds(
 /// The component of a package (Component Model WIT.md, "Package Format"): a component type for each interface, and then one for each world in
 /// its wrapper, each followed by its export under its name.
 ///
-/// Paths are written with their whole version, or, with canonical names, with the canonical part of it and an attribute that completes it; the
+/// The bytes of a component of these parts, with custom sections behind them or none, are read as exactly what the package means, if it has an interface or
+/// a world. Paths are written with their whole version, or, with canonical names, with the canonical part of it and an attribute that completes it; the
 /// meaning is the same. Then `CanonicalClash` is answered where two imports, or two exports, of one component type have one canonical name,
 /// with the first name that repeats an earlier one, interfaces before worlds, each in order. Otherwise `Memory` and `Size` alone are refused,
 /// and `Size` only where the package weighs more than 4,294,967,295. A component type of an interface takes no more bytes than the interface
@@ -190,7 +191,8 @@ pub fn encode_component(
 ) -> Result<ComponentBuilder, Error>
     requires valid { IsValid resolve.now }
     requires in_range { «package».0 < length resolve.now.packages.items }
-    ensures holds { IfOk result (λ parts. (p : PackageValue) → package_at resolve.now «package».0 ≡ Some p → HoldsPackage resolve.now p parts) }
+    ensures means { IfOk result (λ parts. (p : PackageValue) → package_at resolve.now «package».0 ≡ Some p → HasMembers p → PartsMean resolve.now «package».0 parts) }
+    ensures holds { IfOk result (λ parts. (p : PackageValue) → package_at resolve.now «package».0 ≡ Some p → HoldsPackage resolve.now canonical_names p parts) }
     ensures differ { (p : PackageValue) → package_at resolve.now «package».0 ≡ Some p → canonical_names ≡ true → OnOk result (HasNoClashes resolve.now p) }
     ensures size { result ≡ Err Size → 4294967295 < package_weight resolve.now «package».0 }
     ensures refuses { (p : PackageValue) → package_at resolve.now «package».0 ≡ Some p → IfErr result (RefusesPackage resolve.now p canonical_names) }
@@ -221,7 +223,7 @@ pub fn encode(
     requires valid { IsValid resolve.now }
     requires in_range { «package».0 < length resolve.now.packages.items }
     ensures means { IfOk result (λ bytes. (p : PackageValue) → package_at resolve.now «package».0 ≡ Some p → HasMembers p → MeansPackage resolve.now «package».0 bytes.items) }
-    ensures holds { IfOk result (λ bytes. (p : PackageValue) → package_at resolve.now «package».0 ≡ Some p → SpellsPackage resolve.now p bytes.items) }
+    ensures holds { IfOk result (λ bytes. (p : PackageValue) → package_at resolve.now «package».0 ≡ Some p → SpellsPackage resolve.now canonical_names p bytes.items) }
     ensures empty { IfOk result (λ bytes. (p : PackageValue) → package_at resolve.now «package».0 ≡ Some p → HasNoMembers p → bytes.items ≡ preamble) }
     ensures differ { (p : PackageValue) → package_at resolve.now «package».0 ≡ Some p → canonical_names ≡ true → OnOk result (HasNoClashes resolve.now p) }
     ensures size { result ≡ Err Size → 4294967295 < package_weight resolve.now «package».0 }

@@ -1,5 +1,5 @@
 -- A component with a world's wrapper behind a custom section means the world.
-use Rattle.std.proofs.Common.{◌≡◌, ◌∙◌, refl, ap, subst, ℕ, List, [], ◌∷◌, ◌++◌, Some}
+use Rattle.std.proofs.Common.{◌≡◌, ◌∙◌, refl, ap, subst, ℕ, Bool, List, [], ◌∷◌, ◌++◌, Some}
 use Rattle.wit_model.specs.Text.{Text, text_of}
 use Rattle.wit_model.specs.Lookup.{identity_of, world_at}
 use Rattle.wit_model.specs.Valid.{IsValid}
@@ -16,13 +16,12 @@ use Rattle.encode_shown.specs.PackageTypes.{IsWorldType}
 use Rattle.encode_shown.proofs.PackageTypes.{world-bytes-mean}
 use Rattle.encode_shown.proofs.WorldMeans.{world-label}
 use Rattle.wit_encode.specs.Packages.{WrapsWorld}
-use Rattle.wit_metadata.specs.Carried.{CarriesEncoding, HasHome, MeansWorld}
+use Rattle.wit_metadata.specs.Carried.{CarriesEncoding, CarriesWorld, HasHome, MeansWorld, encoding_part}
 use Rattle.wit_metadata.specs.Encodings.{code_of, section_name}
 use Rattle.wit_metadata.proofs.Homes.{home-is, world-home}
-use Rattle.wit_metadata.proofs.Weighing.{says}
 
-module _ (r : Resolve) (v : IsValid r) (n : ℕ) (w : World) (there : world_at r n ≡ Some w) (home : HasHome r w) (e : StringEncoding) (ds : Declarations) (wraps : WrapsWorld r (identity_of home.package_.name) n w ds) (bytes : List ℕ)
-    (spelled : IsComponent (sections_of_parts (says e ∷ one_exported 0 (text_of w.name, ds))) bytes) where
+module _ (r : Resolve) (v : IsValid r) (n : ℕ) (w : World) (there : world_at r n ≡ Some w) (home : HasHome r w) (e : StringEncoding) (ds : Declarations) (canonical : Bool) (wraps : WrapsWorld r canonical (identity_of home.package_.name) n w ds) (bytes : List ℕ)
+    (spelled : IsComponent (sections_of_parts (encoding_part e ∷ one_exported 0 (text_of w.name, ds))) bytes) where
   is-world : IsWorldType r home.package_ n (text_of w.name) (text_of w.name, ds)
   is-world = record {
     world = w;
@@ -36,29 +35,32 @@ module _ (r : Resolve) (v : IsValid r) (n : ℕ) (w : World) (there : world_at r
 
   pub world-meant : MeansWorld r n bytes
   world-meant =
-      world-bytes-mean r v n w home.package_ there (home-is r w home) (text_of w.name, ds) (sections_of_parts (says e ∷ one_exported 0 (text_of w.name, ds))) bytes is-world
+      world-bytes-mean r v n w home.package_ there (home-is r w home) (text_of w.name, ds) (sections_of_parts (encoding_part e ∷ one_exported 0 (text_of w.name, ds))) bytes is-world
       (all_exported ((text_of w.name, ds) ∷ []) (ap (λ b. Rattle.std.specs.Prelude.◌&&◌ b Rattle.std.specs.Prelude.true) (world-label r v n w there wraps.shows.scope wraps.shows.shows)) refl) spelled
 
   pub encoding-carried : CarriesEncoding e bytes
-  encoding-carried = record { sections = sections_of_parts (says e ∷ one_exported 0 (text_of w.name, ds)); spelled = spelled; says = refl }
+  encoding-carried = record { sections = sections_of_parts (encoding_part e ∷ one_exported 0 (text_of w.name, ds)); spelled = spelled; says = refl }
+
+  pub world-carried : CarriesWorld r canonical n e bytes
+  world-carried = record { world = w; there = there; home = home; declared = ds; wraps = wraps; spelled = spelled }
 
 -- ---- what is built
 
 -- the wrapper of a world, for the package that the world has
-pub record IsWrapped (r : Resolve) (n : ℕ) (w : World) (ds : Declarations) : Type 0 where
+pub record IsWrapped (r : Resolve) (canonical : Bool) (n : ℕ) (w : World) (ds : Declarations) : Type 0 where
   pub home : HasHome r w
-  pub wraps : WrapsWorld r (identity_of home.package_.name) n w ds
+  pub wraps : WrapsWorld r canonical (identity_of home.package_.name) n w ds
 
-pub wrapped-at : (r : Resolve) → IsValid r → (n : ℕ) (w : World) (ds : Declarations) (p : PackageName) → world_at r n ≡ Some w → ((u : World) (home : HasHome r u) → world_at r n ≡ Some u → p ≡ home.package_.name)
-    → ((u : World) → world_at r n ≡ Some u → WrapsWorld r (identity_of p) n u ds) → IsWrapped r n w ds
-wrapped-at r v n w ds p there named wraps =
+pub wrapped-at : (r : Resolve) → IsValid r → (canonical : Bool) (n : ℕ) (w : World) (ds : Declarations) (p : PackageName) → world_at r n ≡ Some w → ((u : World) (home : HasHome r u) → world_at r n ≡ Some u → p ≡ home.package_.name)
+    → ((u : World) → world_at r n ≡ Some u → WrapsWorld r canonical (identity_of p) n u ds) → IsWrapped r canonical n w ds
+wrapped-at r v canonical n w ds p there named wraps =
     let home = world-home r v n w there in
-    record { home = home; wraps = subst (λ (q : PackageName). WrapsWorld r (identity_of q) n w ds) (named w home there) (wraps w there) }
+    record { home = home; wraps = subst (λ (q : PackageName). WrapsWorld r canonical (identity_of q) n w ds) (named w home there) (wraps w there) }
 
 -- the custom section, in a component with nothing else
-pub said : (before after : List Part) (e : StringEncoding) (code : ℕ) → before ≡ [] → after ≡ before ++ Part.custom section_name (4 ∷ code ∷ []) ∷ [] → code ≡ code_of e → after ≡ says e ∷ []
+pub said : (before after : List Part) (e : StringEncoding) (code : ℕ) → before ≡ [] → after ≡ before ++ Part.custom section_name (4 ∷ code ∷ []) ∷ [] → code ≡ code_of e → after ≡ encoding_part e ∷ []
 said before after e code none is coded = is ∙ (ap (λ (ps : List Part). ps ++ Part.custom section_name (4 ∷ code ∷ []) ∷ []) none ∙ ap (λ (b : ℕ). Part.custom section_name (4 ∷ b ∷ []) ∷ []) coded)
 
 -- and behind it the wrapper of the world, exported under its name
-pub built : (before after : List Part) (e : StringEncoding) (label name : Text) (ds : Declarations) → before ≡ says e ∷ [] → label ≡ name → after ≡ before ++ one_exported (top_slots before) (label, ds) → after ≡ says e ∷ one_exported 0 (name, ds)
-built before after e label name ds is same grown = grown ∙ (ap (λ (ps : List Part). ps ++ one_exported (top_slots ps) (label, ds)) is ∙ ap (λ (t : Text). says e ∷ one_exported 0 (t, ds)) same)
+pub built : (before after : List Part) (e : StringEncoding) (label name : Text) (ds : Declarations) → before ≡ encoding_part e ∷ [] → label ≡ name → after ≡ before ++ one_exported (top_slots before) (label, ds) → after ≡ encoding_part e ∷ one_exported 0 (name, ds)
+built before after e label name ds is same grown = grown ∙ (ap (λ (ps : List Part). ps ++ one_exported (top_slots ps) (label, ds)) is ∙ ap (λ (t : Text). encoding_part e ∷ one_exported 0 (t, ds)) same)

@@ -19,22 +19,18 @@ use Rattle.wit_encode.specs.PackageRoom.{IsHeavyWorld, part_extent, parts_extent
 use Rattle.wit_encode.specs.Packages.{WrapsWorld}
 use Rattle.wit_encode.proofs.Lengths.{long-component}
 use Rattle.wit_encode.proofs.PackageWeighing.{extent-is, one-short, type-extent, wrapper-short}
-use Rattle.wit_metadata.specs.Encodings.{contents_of, section_name}
-use Rattle.wit_metadata.specs.Carried.{HasHome}
+use Rattle.wit_metadata.specs.Carried.{HasHome, encoding_part}
 use Rattle.wit_model.specs.declared.model.StringEncoding.{StringEncoding}
 
 -- the custom section in front
-abbrev pub says : StringEncoding → Part
-says e = Part.custom section_name (contents_of e)
-
-says-extent : (e : StringEncoding) → part_extent (says e) ≡ 35
+says-extent : (e : StringEncoding) → part_extent (encoding_part e) ≡ 35
 says-extent e = refl
 
 -- it fits by itself
-pub says-fits : (e : StringEncoding) (n : ℕ) → fits_component (says e ∷ []) ≡ false → limit < n
+pub says-fits : (e : StringEncoding) (n : ℕ) → fits_component (encoding_part e ∷ []) ≡ false → limit < n
 says-fits e n h =
-    let long = long-component (says e ∷ []) h in
-    let one = sum_by-cons part_extent (says e) [] in
+    let long = long-component (encoding_part e ∷ []) h in
+    let one = sum_by-cons part_extent (encoding_part e) [] in
     let here = says-extent e in
     absurd (omega (arith, long, one, here))
 
@@ -69,10 +65,10 @@ module _ (r : Resolve) (n : ℕ) (w : World) (there : world_at r n ≡ Some w) (
       let text = one-text path in
       omega (arith, over, is, text)
 
-  module _ (e : StringEncoding) (ds : Declarations) (wraps : WrapsWorld r (identity_of home.package_.name) n w ds) where
-    short : parts_extent (says e ∷ one_exported 0 (text_of w.name, ds)) + 8 ≤ world_package_weight r n
+  module _ (e : StringEncoding) (ds : Declarations) (canonical : Bool) (wraps : WrapsWorld r canonical (identity_of home.package_.name) n w ds) where
+    short : parts_extent (encoding_part e ∷ one_exported 0 (text_of w.name, ds)) + 8 ≤ world_package_weight r n
     short =
-        let front = sum_by-cons part_extent (says e) (one_exported 0 (text_of w.name, ds)) in
+        let front = sum_by-cons part_extent (encoding_part e) (one_exported 0 (text_of w.name, ds)) in
         let here = says-extent e in
         let rest = one-short 0 (text_of w.name, ds) in
         let wrapped = wrapper-short path wraps.inner in
@@ -85,22 +81,22 @@ module _ (r : Resolve) (n : ℕ) (w : World) (there : world_at r n ≡ Some w) (
         omega (arith, front, here, rest, wrapped, is, inner, light, whole, text, name)
 
     -- the type has no room, or its export has none
-    pub long-export : (fits_component (says e ∷ Part.top_type (TopType.component ds) ∷ []) && fits_component (says e ∷ one_exported 0 (text_of w.name, ds))) ≡ false → limit < world_package_weight r n
+    pub long-export : (fits_component (encoding_part e ∷ Part.top_type (TopType.component ds) ∷ []) && fits_component (encoding_part e ∷ one_exported 0 (text_of w.name, ds))) ≡ false → limit < world_package_weight r n
     long-export h = go (either-false _ _ h)
       where
-        go : (fits_component (says e ∷ Part.top_type (TopType.component ds) ∷ []) ≡ false) ⊎ (fits_component (says e ∷ one_exported 0 (text_of w.name, ds)) ≡ false) → limit < world_package_weight r n
+        go : (fits_component (encoding_part e ∷ Part.top_type (TopType.component ds) ∷ []) ≡ false) ⊎ (fits_component (encoding_part e ∷ one_exported 0 (text_of w.name, ds)) ≡ false) → limit < world_package_weight r n
         go (inl first) =
-            let long = long-component (says e ∷ Part.top_type (TopType.component ds) ∷ []) first in
-            let both = sum_by-append part_extent (says e ∷ Part.top_type (TopType.component ds) ∷ []) (Part.top_export (Rattle.comp_bytes.specs.Parts.plain_export (text_of w.name) 0) ∷ []) in
+            let long = long-component (encoding_part e ∷ Part.top_type (TopType.component ds) ∷ []) first in
+            let both = sum_by-append part_extent (encoding_part e ∷ Part.top_type (TopType.component ds) ∷ []) (Part.top_export (Rattle.comp_bytes.specs.Parts.plain_export (text_of w.name) 0) ∷ []) in
             let all = short in
             omega (arith, long, both, all)
         go (inr second) =
-            let long = long-component (says e ∷ one_exported 0 (text_of w.name, ds)) second in
+            let long = long-component (encoding_part e ∷ one_exported 0 (text_of w.name, ds)) second in
             let all = short in
             omega (arith, long, all)
 
-    pub long-whole : fits_component (says e ∷ one_exported 0 (text_of w.name, ds)) ≡ false → limit < world_package_weight r n
+    pub long-whole : fits_component (encoding_part e ∷ one_exported 0 (text_of w.name, ds)) ≡ false → limit < world_package_weight r n
     long-whole h =
-        let long = long-component (says e ∷ one_exported 0 (text_of w.name, ds)) h in
+        let long = long-component (encoding_part e ∷ one_exported 0 (text_of w.name, ds)) h in
         let all = short in
         omega (arith, long, all)

@@ -1,18 +1,21 @@
 -- What a component says that a module carries: a world, and how its strings pass (wit-component README, "Custom Section Format").
-use Rattle.std.specs.Prelude.{◌≡◌, ◌↔◌, ◌-◌, ℕ, if◌then◌else◌, List, [], ◌∷◌, length, Option, Some, slice_get}
+use Rattle.std.specs.Prelude.{◌≡◌, ◌↔◌, ◌-◌, ℕ, Bool, if◌then◌else◌, List, [], ◌∷◌, length, Option, Some, slice_get}
 use Rattle.std.specs.List.{flat_map}
 use Rattle.wit_model.specs.declared.model.Package.{Package}
 use Rattle.wit_model.specs.declared.model.PackageId.{PackageId}
 use Rattle.wit_model.specs.declared.model.Resolve.{Resolve}
 use Rattle.wit_model.specs.declared.model.World.{World}
-use Rattle.wit_model.specs.Lookup.{package_at}
+use Rattle.wit_model.specs.Lookup.{identity_of, package_at, world_at}
 use Rattle.wit_model.specs.declared.model.StringEncoding.{StringEncoding}
 use Rattle.wit_model.specs.Meaning.{WorldPackage}
 use Rattle.wit_model.specs.Meant.{MeantWorld}
-use Rattle.wit_model.specs.Text.{Text, text_eq}
-use Rattle.comp_bytes.specs.Raw.{Section}
+use Rattle.wit_model.specs.Text.{Text, text_eq, text_of}
+use Rattle.comp_bytes.specs.Parts.{Part, sections_of_parts}
+use Rattle.comp_bytes.specs.Raw.{Declarations, Section}
 use Rattle.comp_bytes.specs.Spelling.{IsComponent}
 use Rattle.comp_meaning.specs.Reads.{ReadsWorld}
+use Rattle.encode_exports.specs.ExportedParts.{one_exported}
+use Rattle.wit_encode.specs.Packages.{WrapsWorld}
 use Rattle.wit_metadata.specs.Encodings.{contents_of, section_name}
 
 -- a world has a package, which stands in the list
@@ -44,3 +47,16 @@ pub record CarriesEncoding (e : StringEncoding) (bytes : List ℕ) : Type 0 wher
 -- The bytes mean just what world n means, by itself.
 abbrev pub MeansWorld : Resolve → ℕ → List ℕ → Type 0
 MeansWorld r n bytes = (m : WorldPackage) → MeantWorld r n m ↔ ReadsWorld bytes m
+
+-- the custom section that says the encoding
+abbrev pub encoding_part : StringEncoding → Part
+encoding_part e = Part.custom section_name (contents_of e)
+
+-- The bytes spell a component with that section, and behind it the wrapper of world n, with names whole or canonical, exported under the world's name.
+pub record CarriesWorld (r : Resolve) (canonical : Bool) (n : ℕ) (e : StringEncoding) (bytes : List ℕ) : Type 0 where
+  pub world : World
+  pub there : world_at r n ≡ Some world
+  pub home : HasHome r world
+  pub declared : Declarations
+  pub wraps : WrapsWorld r canonical (identity_of home.package_.name) n world declared
+  pub spelled : IsComponent (sections_of_parts (encoding_part e ∷ one_exported 0 (text_of world.name, declared))) bytes

@@ -7,7 +7,7 @@ ghost use Rattle.wit_model.specs.Weight.{world_package_weight};
 ghost use Rattle.wit_model.specs.declared.error.Error.TheVariants.{Size};
 ghost use Rattle.wit_model.specs.declared.model.World.{World as WorldValue};
 ghost use Rattle.wit_encode.specs.Packages.{HasNoClashAt, RefusesWorldAt};
-ghost use Rattle.wit_metadata.specs.Carried.{CarriesEncoding, HasHome, MeansWorld};
+ghost use Rattle.wit_metadata.specs.Carried.{CarriesEncoding, CarriesWorld, HasHome, MeansWorld};
 
 use crate::encodings::encoding_byte;
 use comp_bytes::ComponentBuilder;
@@ -30,7 +30,8 @@ fn package_name(resolve: &Resolve, world: WorldId) -> &PackageName
 
 /// The bytes under which a module carries a world: a component with the custom section `wit-component-encoding`, which says how strings pass,
 /// and the world's wrapper, exported under its name (wit-component README, "Custom Section Format"). They are read as exactly what the world
-/// means, with canonical names and without, and as that encoding.
+/// means, with canonical names and without, and as that encoding. Nothing else stands in the component, and each path in the world's component type is
+/// written whole, or, with canonical names, with the canonical part of its version and an attribute that completes it.
 ///
 /// With canonical names `CanonicalClash` is answered where two imports, or two exports, have one canonical name, with the first name that repeats
 /// an earlier one, imports before exports. Otherwise `Memory` and `Size` alone are refused, and `Size` only where the world in such a component
@@ -48,6 +49,7 @@ pub fn encode(
     requires in_range { world.0 < length resolve.now.worlds.items }
     ensures means { IfOk result (λ bytes. MeansWorld resolve.now world.0 bytes.items) }
     ensures encoding { IfOk result (λ bytes. CarriesEncoding encoding bytes.items) }
+    ensures carries { IfOk result (λ bytes. CarriesWorld resolve.now canonical_names world.0 encoding bytes.items) }
     ensures differ { canonical_names ≡ true → OnOk result (HasNoClashAt resolve.now world.0) }
     ensures size { result ≡ Err Size → 4294967295 < world_package_weight resolve.now world.0 }
     ensures refuses { IfErr result (RefusesWorldAt resolve.now world.0 canonical_names) }

@@ -1,14 +1,15 @@
-use Rattle.std.proofs.Common.{refl, sym, subst, ◌∙◌, ◌+◌, map, take, rules}
+use Rattle.std.proofs.Common.{append-nil, refl, sym, subst, ◌∙◌, ◌+◌, map, take, rules}
 use Rattle.wit_model.specs.declared.model.Resolve.{Resolve}
 use Rattle.wit_model.specs.declared.model.InterfaceId.{InterfaceId}
 use Rattle.wit_encode.specs.Encoders.{outside}
 use Rattle.wit_encode.specs.Dependencies.{HasImported}
-use Rattle.wit_encode.proofs.ImportLoop.{all-defined, all-held, all-imported, defines-next, held-next, is-next, next-refused}
+use Rattle.wit_encode.specs.WrittenNames.{instance_names}
+use Rattle.wit_encode.proofs.ImportLoop.{all-defined, all-held, all-imported, defines-next, held-next, is-next, named-next, named-whole, next-refused}
 use Rattle.wit_encode.proofs.component_types.import_dependencies.Goals as goal
 use Rattle.wit_encode.proofs.BytesWritten.{adds-nothing, imports-next, imports-whole}
 
 pub loop-number-init : goal.loop-number-init
-loop-number-init c = record { closed = c.requires.closed; packages_ = refl; imported = c.requires.nothing; written = adds-nothing c.args.encoder.now.outer; held = λ h. h; defines = λ h. h }
+loop-number-init c = record { closed = c.requires.closed; packages_ = refl; imported = c.requires.nothing; named = sym (append-nil (instance_names c.args.encoder.now.outer)); written = adds-nothing c.args.encoder.now.outer; held = λ h. h; defines = λ h. h }
 
 pub import_dependency-requires-clause-closed : goal.import_dependency-requires-clause-closed
 import_dependency-requires-clause-closed c = c.loop-number.invariant.closed
@@ -33,6 +34,8 @@ loop-number-preserved c = record {
       let here = is-next c.args.encoder.now.resolve.now c.loop-number.encoder.resolve.now c.args.interfaces.now c.loop-number.number (outside c.loop-number.encoder) c.loop-number.invariant.packages_ c.requires.valid c.requires.importable c.loop-number-test.true c.loop-number.invariant.imported in
       subst (λ (q : Resolve). HasImported q (outside c.import_dependency.new.encoder) (take (c.loop-number.number + 1) (map (λ (id : InterfaceId). id.0) c.args.interfaces.now))) (sym c.import_dependency.ensures.resolve)
       (here.then c.args.canonical_names (outside c.import_dependency.new.encoder) c.in_ok-import_dependency.ensures.imports);
+  named = named-next c.args.encoder.now.resolve.now c.loop-number.encoder.resolve.now c.args.canonical_names c.args.interfaces.now c.loop-number.number c.args.encoder.now.outer (outside c.loop-number.encoder) (outside c.import_dependency.new.encoder)
+      c.loop-number.invariant.packages_ c.loop-number-test.true c.in_ok-import_dependency.ensures.imports c.loop-number.invariant.named;
   written = imports-next c.args.encoder.now.resolve.now c.loop-number.encoder.resolve.now c.args.canonical_names c.args.interfaces.now c.loop-number.number c.args.encoder.now.outer c.loop-number.encoder.outer c.import_dependency.new.encoder.outer
       c.loop-number.invariant.packages_ c.loop-number-test.true c.loop-number.invariant.written c.in_ok-import_dependency.ensures.written;
   held = λ h. held-next c.args.encoder.now.resolve.now c.loop-number.encoder.resolve.now c.args.canonical_names c.args.interfaces.now c.loop-number.number (outside c.loop-number.encoder) (outside c.import_dependency.new.encoder)
@@ -64,3 +67,6 @@ returns-in_err-import_dependency-clause-size c = λ h.
 
 pub returns-clause-written : goal.returns-clause-written
 returns-clause-written c = imports-whole c.args.encoder.now.resolve.now c.args.canonical_names c.args.interfaces.now c.loop-number.number c.args.encoder.now.outer c.loop-number.encoder.outer c.loop-number-test.false c.loop-number.invariant.written
+
+pub returns-clause-named : goal.returns-clause-named
+returns-clause-named c = named-whole c.args.encoder.now.resolve.now c.args.canonical_names c.args.interfaces.now c.loop-number.number c.args.encoder.now.outer c.loop-number.encoder.outer c.loop-number-test.false c.loop-number.invariant.named

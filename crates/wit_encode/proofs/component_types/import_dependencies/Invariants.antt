@@ -4,6 +4,7 @@ use Rattle.wit_encode.specs.Dependencies.{HasImported}
 use Rattle.wit_encode.specs.DependencyCounts.{DefinesImports}
 use Rattle.wit_encode.specs.DependencyRoom.{HoldsImports}
 use Rattle.wit_encode.specs.WrittenBytes.{AddsBytes, imports_extent}
+use Rattle.wit_encode.specs.WrittenNames.{NamesInterfaces}
 use Rattle.wit_encode.proofs.component_types.import_dependencies.Given as goal
 
 abbrev pub invariant-loop-number : goal.invariant-loop-number
@@ -11,6 +12,7 @@ invariant-loop-number l = record {
   closed : l.encoder.inner ≡ None;
   packages_ : l.encoder.resolve.now ≡ l.fn.encoder.resolve.now;
   imported : HasImported l.encoder.resolve.now (outside l.encoder) (take l.number (map (λ id. id.0) l.interfaces));
+  named : NamesInterfaces l.fn.encoder.resolve.now l.canonical_names (take l.number (map (λ id. id.0) l.interfaces)) l.fn.encoder.outer l.encoder.outer;
   written : AddsBytes (imports_extent l.fn.encoder.resolve.now l.canonical_names (take l.number (map (λ id. id.0) l.interfaces))) l.fn.encoder.outer l.encoder.outer;
   held : HoldsImports l.fn.encoder.resolve.now (outside l.fn.encoder) [] → HoldsImports l.fn.encoder.resolve.now (outside l.encoder) (take l.number (map (λ id. id.0) l.interfaces));
   defines : DefinesImports l.fn.encoder.resolve.now l.fn.encoder.outer [] → DefinesImports l.fn.encoder.resolve.now l.encoder.outer (take l.number (map (λ id. id.0) l.interfaces));

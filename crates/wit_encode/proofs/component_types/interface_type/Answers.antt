@@ -26,6 +26,8 @@ use Rattle.wit_encode.proofs.BytesWritten.{adds-described, component-few}
 use Rattle.wit_encode.proofs.Extents.{bytes-few}
 use Rattle.encode_names.specs.WorldNames.{name_of_interface}
 use Rattle.wit_encode.specs.WrittenBytes.{AddsBytes, imports_extent}
+use Rattle.wit_encode.specs.WrittenNames.{NamesInterfaces}
+use Rattle.wit_encode.proofs.WrittenNames.{all-named}
 use Rattle.wit_model.specs.Weight.{whole_instance_weight}
 
 pub returns-in_err-refuse_equal_paths-clause-refuses : goal.returns-in_err-refuse_equal_paths-clause-refuses
@@ -152,3 +154,18 @@ returns-clause-light c =
     c.new-encoder.ensures.outer
     (subst (λ (z : Resolve). AddsBytes (imports_extent z c.args.canonical_names ns) c.new-encoder.result.outer before.outer) (sym c.import_dependencies.ensures.resolve) imports)
     (adds-described (whole_instance_weight before.resolve.now c.args.interface.0) before.outer after.outer c.export.new.self _ _ (name_of_interface r c.args.canonical_names c.args.interface.0) c.in_ok-slot.ensures.written c.in_ok-export.ensures.ok (bytes-few.exports _ (refs.Instance c.in_ok-slot.slot)) c.in_ok-name.ensures.ok)
+
+pub returns-clause-names : goal.returns-clause-names
+returns-clause-names c =
+    let r = c.args.resolve.now in
+    let q = c.new-encoder.result.resolve.now in
+    let start = c.new-encoder.result.outer in
+    let before = c.import_dependencies.new.encoder in
+    let after = c.encode_instance.new.self in
+    let same = c.import_dependencies.ensures.resolve ∙ c.new-encoder.ensures.resolve in
+    let found = found-in r.interfaces.items c.args.interface.0 (lt-ltb c.args.interface.0 (length r.interfaces.items) (path-in-range r c.args.interface.0 c.requires.named)) in
+    let encodes = subst (λ (q : Resolve). EncodesInterface q (outside before) (outside after) c.args.interface found.0 c.in_ok-slot.slot) same (c.in_ok-slot.ensures.ok found.0 (ap (λ (q : Resolve). interface_at q c.args.interface.0) same ∙ found.1)) in
+    let named = subst (λ (q : Resolve). NamesInterfaces q c.args.canonical_names (map (λ (id : InterfaceId). id.0) c.deref-2.result.now) start before.outer) c.new-encoder.ensures.resolve c.in_ok-import_dependencies.ensures.named in
+    all-named r c.args.canonical_names (outside before) (outside after) (map (λ (id : InterfaceId). id.0) c.deref-2.result.now) c.args.interface found.0 c.in_ok-slot.slot start c.export.new.self c.new-encoder.ensures.outer named
+    (ap (map (λ (id : InterfaceId). id.0)) c.deref-2.ensures.value ∙ c.in_ok-reached.ensures.order) encodes
+    (c.in_ok-export.ensures.ok ∙ ap (λ n. append after.outer (Declarations.declares (Declaration.exported n (refs.Instance c.in_ok-slot.slot)) Declarations.no_more)) c.in_ok-name.ensures.ok)

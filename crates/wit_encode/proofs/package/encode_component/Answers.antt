@@ -4,7 +4,7 @@ use Rattle.wit_model.specs.Lookup.{package_at}
 use Rattle.wit_model.specs.declared.model.Package.{Package}
 use Rattle.wit_model.proofs.OnePath.{some-same}
 use Rattle.wit_encode.specs.Packages.{HasNoClashes, HaveNoEqualPaths, HoldsPackage, RefusesInterfaces, RefusesWorlds}
-use Rattle.wit_encode.proofs.WholePackages.{are-named, are-worlds, interfaces-refused, package-held, worlds-refused}
+use Rattle.wit_encode.proofs.WholePackages.{are-named, are-worlds, interfaces-refused, package-held, parts-mean, worlds-refused}
 use Rattle.wit_encode.proofs.PackageWeighing.{interfaces-lack, worlds-lack}
 use Rattle.wit_encode.proofs.package.encode_component.Goals as goal
 
@@ -41,8 +41,18 @@ returns-clause-holds c = λ p is.
     let r = c.args.resolve.now in
     let own = c.index-own.result.now in
     let at : package_at r c.args.package.0 ≡ Some own = slice_get_read _ _ _ _ refl c.requires.in_range c.index-own.ensures in
-    subst (λ (q : Package). HoldsPackage r q c.add_worlds.new.builder) (some-same own p (sym at ∙ is))
-    (package-held r c.requires.valid c.args.package.0 own at c.in_ok-builder.builder c.add_worlds.new.builder c.in_ok-builder.ensures.holds c.in_ok-add_worlds.ensures.adds)
+    subst (λ (q : Package). HoldsPackage r c.args.canonical_names q c.add_worlds.new.builder) (some-same own p (sym at ∙ is))
+    (package-held r c.requires.valid c.args.package.0 own at c.args.canonical_names c.in_ok-builder.builder c.add_worlds.new.builder c.in_ok-builder.ensures.holds c.in_ok-add_worlds.ensures.adds)
+
+pub returns-clause-means : goal.returns-clause-means
+returns-clause-means c = λ p is some.
+    let r = c.args.resolve.now in
+    let own = c.index-own.result.now in
+    let at : package_at r c.args.package.0 ≡ Some own = slice_get_read _ _ _ _ refl c.requires.in_range c.index-own.ensures in
+    let same = some-same own p (sym at ∙ is) in
+    parts-mean r c.requires.valid c.args.package.0 p is c.args.canonical_names c.add_worlds.new.builder
+    (subst (λ (q : Package). HoldsPackage r c.args.canonical_names q c.add_worlds.new.builder) same
+    (package-held r c.requires.valid c.args.package.0 own at c.args.canonical_names c.in_ok-builder.builder c.add_worlds.new.builder c.in_ok-builder.ensures.holds c.in_ok-add_worlds.ensures.adds)) some
 
 pub returns-clause-differ : goal.returns-clause-differ
 returns-clause-differ c = λ p is asked.
@@ -53,9 +63,9 @@ returns-clause-differ c = λ p is asked.
 
 pub returns-in_err-builder-clause-size : goal.returns-in_err-builder-clause-size
 returns-in_err-builder-clause-size c = λ h.
-    interfaces-lack c.args.resolve.now c.requires.valid c.args.package.0 c.index-own.result.now (slice_get_read _ _ _ _ refl c.requires.in_range c.index-own.ensures) (c.interfaces_component.ensures.size (search rules))
+    interfaces-lack c.args.resolve.now c.requires.valid c.args.package.0 c.index-own.result.now (slice_get_read _ _ _ _ refl c.requires.in_range c.index-own.ensures) c.args.canonical_names (c.interfaces_component.ensures.size (search rules))
 
 pub returns-in_err-add_worlds-clause-size : goal.returns-in_err-add_worlds-clause-size
 returns-in_err-add_worlds-clause-size c = λ h.
     let own = c.index-own.result.now in
-    worlds-lack c.args.resolve.now c.requires.valid c.args.package.0 own (slice_get_read _ _ _ _ refl c.requires.in_range c.index-own.ensures) c.in_ok-builder.builder c.in_ok-builder.ensures.holds (c.add_worlds.ensures.size (search rules) own.interfaces.entries)
+    worlds-lack c.args.resolve.now c.requires.valid c.args.package.0 own (slice_get_read _ _ _ _ refl c.requires.in_range c.index-own.ensures) c.args.canonical_names c.in_ok-builder.builder c.in_ok-builder.ensures.holds (c.add_worlds.ensures.size (search rules) own.interfaces.entries)

@@ -6,7 +6,7 @@ use Rattle.wit_model.proofs.OnePath.{some-same}
 use Rattle.wit_encode.specs.Instance.{placed_function, EncodesPart}
 use Rattle.wit_encode.specs.Encoders.{outside}
 use Rattle.wit_encode.proofs.Closing.{closes}
-use Rattle.wit_encode.proofs.Opening.{close-each, closed-keeps, closed-stay, grown-stay, listed-there}
+use Rattle.wit_encode.proofs.Opening.{close-each, closed-keeps, closed-stay, grown-stay, listed-there, reached-keeps}
 use Rattle.wit_encode.proofs.interface.InterfaceEncoderOf+TypeEncodingMaps.encode_part.Goals as goal
 use Rattle.wit_encode.proofs.BytesWritten.{taken-closed, when-ok}
 use Rattle.comp_bytes.specs.Raw.{from_list}
@@ -21,7 +21,12 @@ returns-clause-ok c =
 
 pub returns-clause-stands : goal.returns-clause-stands
 returns-clause-stands c = closed-keeps c.close.result c.args.self.now.resolve.now c.close.new.self.resolve.now (outside c.args.self.now) c.encode_inside.new.self.outer c.close.new.self.outer c.encode_inside.new.self.foreign c.args.self.now.inner c.close.new.self.inner c.in_ok-declared.declared c.requires.closed
-    ((λ i. (c.close.ensures.rest i).inner) ∙ c.encode_inside.ensures.closed) c.encode_inside.ensures.reaches c.close.ensures.ok
+    ((λ i. (c.close.ensures.rest i).inner) ∙ c.encode_inside.ensures.closed) c.encode_inside.ensures.reaches c.close.ensures.ok c.close.ensures.err
+
+pub returns-in_err-declared-clause-stands : goal.returns-in_err-declared-clause-stands
+returns-in_err-declared-clause-stands c =
+    reached-keeps c.args.self.now.resolve.now c.encode_inside.new.self.resolve.now (outside c.args.self.now) c.encode_inside.new.self.outer c.encode_inside.new.self.foreign c.args.self.now.inner c.encode_inside.new.self.inner c.requires.closed
+    c.encode_inside.ensures.closed c.encode_inside.ensures.reaches
 
 pub returns-clause-size : goal.returns-clause-size
 returns-clause-size c = λ h. inr (record { after = outside c.encode_inside.new.self; grown = c.encode_inside.ensures.reaches; full = c.close.ensures.size h })
