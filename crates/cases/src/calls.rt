@@ -2,20 +2,20 @@
 
 ghost use Rattle.std.specs.Prelude.{◌≡◌, ◌<◌, true, length, is_some, OnOk};
 ghost use Rattle.std.specs.List.{list_all};
-ghost use Rattle.wit_compat.specs.Senses.{sense_of};
+ghost use Rattle.wit_component.specs.Senses.{sense_of};
 ghost use Rattle.wit_model.specs.Rules.{in_list};
 ghost use Rattle.wit_model.specs.Valid.{IsValid};
 
 use crate::answer::Answer;
 use crate::encodings::{letters, put_letters};
 use std::alloc::Global;
-use wit_compat::laws::semver_check_counted;
+use wit_component::laws::semver_check_counted;
 use wit_component::{
     Cause, Check, ComponentBuilder, ComponentType, Error, Fault, ModuleMetadata, OutputToString,
     PackageId, Place, Resolve, Steps, StringEncoding, WitPrinter, WorldId, WorldKey, decode,
     decode_world, encode, encode_world, is_label, metadata, normalized, same_sense, semver_check,
-    wrapped_world,
 };
+use wit_encode::wrapped_world;
 use wit_metadata::{encoding_in, stripped};
 
 // ---- conditions

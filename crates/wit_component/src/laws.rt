@@ -1,9 +1,13 @@
-//! Laws that join the crates.
+//! Laws that join the crates, and those of the crates below that users cite.
 
 ghost use Rattle.wit_component.specs.ReadBack.{DecodedHaveMembers, DecodingGivesThatMeaning, EncodingKeepsMeaning, MemoryAloneIsRefused};
 ghost use Rattle.wit_component.specs.SectionBindings.{CarriedWorldsAreBound};
 
 pub use comp_meaning::laws::one_meaning;
+pub use print_grammar::laws::one_reading;
+pub use wit_compat::laws::{semver_check_counted, transitive};
+pub use wit_encode::laws::equal_lists;
+pub use wit_model::laws::canonical_paths_join;
 
 /// Of bytes that mean exactly what a package of a `Resolve` does, as those that `encode` answers of a valid package with an interface or a
 /// world: what `decode` answers of them is valid, without documentation, and means that and nothing else; and it refuses them for want of

@@ -6,6 +6,7 @@
 #![tactic(auto)]
 
 pub mod laws;
+pub mod lookup;
 pub mod metadata;
 mod normal;
 
@@ -48,9 +49,6 @@ pub use wit_encode::InterfaceEncoderOf;
 pub use wit_encode::LendsMaps;
 pub use wit_encode::OpenInterface;
 pub use wit_encode::ParamSignatures;
-pub use wit_encode::Slot;
-pub use wit_encode::Table;
-pub use wit_encode::TableOf;
 pub use wit_encode::TypeEncodingMaps;
 pub use wit_encode::ValtypeEncoder;
 pub use wit_encode::encode;
@@ -72,11 +70,8 @@ pub use wit_encode::encode_valtype;
 pub use wit_encode::encode_variant;
 pub use wit_encode::encode_world;
 pub use wit_encode::extern_name;
-pub use wit_encode::interface_type;
-pub use wit_encode::key_of;
 pub use wit_encode::maybe_import_type;
 pub use wit_encode::stands_alone;
-pub use wit_encode::wrapped_world;
 pub use wit_model::Case;
 pub use wit_model::Cause;
 pub use wit_model::ClashKind;
@@ -115,10 +110,8 @@ pub use wit_model::World;
 pub use wit_model::WorldId;
 pub use wit_model::WorldItem;
 pub use wit_model::WorldKey;
-pub use wit_model::after_prefix;
 pub use wit_model::is_label;
 pub use wit_model::is_version;
-pub use wit_model::lookup;
 pub use wit_print::Output;
 pub use wit_print::OutputToString;
 pub use wit_print::TypeKind;

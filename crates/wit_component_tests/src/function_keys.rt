@@ -3,7 +3,8 @@
 use std::alloc::Global;
 use std::hash::{DefaultHasher, Hash, Hasher};
 use std::test::Fail;
-use wit_component::{Error, Function, FunctionKind, ParamSignatures, Type, TypeId, key_of};
+use wit_component::{Error, Function, FunctionKind, ParamSignatures, Type, TypeId};
+use wit_encode::key_of;
 use wit_samples::drafts::{nullary, param};
 
 /// What makes the type of a function: its kind, its parameters and its result.

@@ -10,8 +10,9 @@ use std::test::Fail;
 use wit_component::{
     Check, ComponentBuilder, ComponentType, Error, FunctionKind, InterfaceEncoder,
     InterfaceEncoderOf, InterfaceId, PackageId, Resolve, Type, TypeDefKind, encode_component,
-    interface_type, stands_alone,
+    stands_alone,
 };
+use wit_encode::interface_type;
 use wit_samples::bytes::HOST_AND_GUEST;
 use wit_samples::drafts::{
     add_interface, add_type, add_type_of, add_unnamed, draft, function, put_function,

@@ -13,12 +13,13 @@ ghost use Rattle.encode_types.specs.Table.{has_named_owner, is_met_by, table_sco
 use std::alloc::Global;
 use std::test::Fail;
 use wit_component::{
-    Check, ComponentValType, Error, Fault, Function, InterfaceId, Param, Resolve, Table, Type,
-    TypeDef, TypeDefKind, TypeId, TypeOwner, encode_enum, encode_flags, encode_func_type,
-    encode_future, encode_option, encode_optional_valtype, encode_params, encode_record,
-    encode_result, encode_stream, encode_tuple, encode_unit_future, encode_unit_stream,
-    encode_valtype, encode_variant, maybe_import_type,
+    Check, ComponentValType, Error, Fault, Function, InterfaceId, Param, Resolve, Type, TypeDef,
+    TypeDefKind, TypeId, TypeOwner, encode_enum, encode_flags, encode_func_type, encode_future,
+    encode_option, encode_optional_valtype, encode_params, encode_record, encode_result,
+    encode_stream, encode_tuple, encode_unit_future, encode_unit_stream, encode_valtype,
+    encode_variant, maybe_import_type,
 };
+use wit_encode::Table;
 use wit_samples::samples::each_kind;
 
 /// The interface whose types are encoded.
