@@ -31,7 +31,8 @@ use Rattle.wit_model.specs.declared.model.Param.{Param}
 use Rattle.encode_types.specs.Definition.{FollowsKind, IsWrittenParam}
 use Rattle.encode_types.proofs.Lists.{none-in}
 use Rattle.encode_types.specs.Scope.{Scope}
-use Rattle.encode_types.specs.Counts.{Definitions, one_type_more, type_more_if, is_defined_by_name, own_name, names_defined, ExportsOne, Shows, AddsTypes}
+use Rattle.encode_types.specs.Counts.{Definitions, one_type_more, type_more_if, is_defined_by_name, own_name, ExportsOne, Shows, IsTarget, AddsTypes}
+use Rattle.encode_types.proofs.Marking.{more-then, slots-none, slots-then, slots-kind, slots-number, slots-named}
 use Rattle.encode_types.specs.Known.{GrowsAround}
 use Rattle.encode_types.proofs.Around.{around-trans}
 use Rattle.encode_types.specs.View.{View, Agrees, Grows}
@@ -109,10 +110,6 @@ own-form _ n m = refl
 
 -- ---- counts
 
--- what has been learnt, step by step
-pub more-then : {X : Type 0} (us vs ws xs ys : List X) → IsPermutation (us ++ xs) vs → IsPermutation (vs ++ ys) ws → IsPermutation (us ++ (xs ++ ys)) ws
-more-then us vs ws xs ys p q = subst (λ zs. IsPermutation zs ws) (append_assoc us xs ys) (IsPermutation-trans ((us ++ xs) ++ ys) (vs ++ ys) ws (IsPermutation-append_left ys (us ++ xs) vs p) q)
-
 pub lists-longer : {K : Type 0} (f : K → List ℕ) (es fs : List (K × ℕ)) (x : List ℕ × ℕ) → IsPermutation (map {B = List ℕ × ℕ} (λ e. (f e.0, e.1)) es ++ x ∷ []) (map {B = List ℕ × ℕ} (λ e. (f e.0, e.1)) fs) → length fs ≡ length es + 1
 lists-longer f es fs x p =
     sym (length-map fs (λ e. (f e.0, e.1))) ∙ length_permutation _ _ p ∙ length-append (map (λ e. (f e.0, e.1)) es) (x ∷ []) ∙ ap (λ n. n + 1) (length-map es (λ e. (f e.0, e.1)))
@@ -145,7 +142,7 @@ shows-unshown r scope m m' d d' id i l n e = record {
 }
 
 -- a number that is shown by its name
-shows-shown : (r : Resolve) (scope : Scope) (m m' : TypeEncodingMaps) (d d₁ d' : Definitions) (id : TypeId) (i : ℕ) (name : ExternName) → LearnsNumber m m' id i → own_name r scope id.0 ≡ Some name.text → d₁.exports ≡ d.exports → ExportsOne scope d₁ d' name → Shows r scope m m' d d'
+shows-shown : (r : Resolve) (scope : Scope) (m m' : TypeEncodingMaps) (d d₁ d' : Definitions) (id : TypeId) (i : ℕ) {slot : Option ℕ} (name : ExternName) → LearnsNumber m m' id i → own_name r scope id.0 ≡ Some name.text → d₁.exports ≡ d.exports → ExportsOne scope d₁ d' slot name → Shows r scope m m' d d'
 shows-shown r scope m m' d d₁ d' id i name l n e x = record {
   learnt = (id.0, i) ∷ [];
   shown = x.declaration ∷ [];
@@ -156,61 +153,62 @@ shows-shown r scope m m' d d₁ d' id i name l n e x = record {
 }
 
 pub counts-none : (r : Resolve) (scope : Scope) (m : TypeEncodingMaps) (d : Definitions) → AddsTypes r scope m m d d
-counts-none r scope m d = record { types = refl; functions = refl; keys = record { lists = refl; names_ = refl }; shows = shows-none r scope m m d d refl refl }
+counts-none r scope m d = record { slots = slots-none r scope m m d d refl refl refl refl; functions = refl; keys = record { lists = refl; names_ = refl }; shows = shows-none r scope m m d d refl refl }
 
 pub counts-trans : {r : Resolve} {scope scope' : Scope} {a b c : TypeEncodingMaps} {d e f : Definitions} → scope' ≡ scope → AddsTypes r scope a b d e → AddsTypes r scope' b c e f → AddsTypes r scope a c d f
 counts-trans {r} {scope} {scope'} {a} {b} {c} {d} {e} {f} s p q =
     let q' : AddsTypes r scope b c e f = subst (λ (z : Scope). AddsTypes r z b c e f) s q in
-    record { types = (let x = p.types in let y = q'.types in omega arith); functions = q'.functions ∙ p.functions; keys = record { lists = q'.keys.lists ∙ p.keys.lists; names_ = q'.keys.names_ ∙ p.keys.names_ }; shows = shows-trans p.shows q'.shows }
+    record { slots = slots-then p.slots q'.slots; functions = q'.functions ∙ p.functions; keys = record { lists = q'.keys.lists ∙ p.keys.lists; names_ = q'.keys.names_ ∙ p.keys.names_ }; shows = shows-trans p.shows q'.shows }
 
-pub counts-kind : (r : Resolve) (scope : Scope) (m m' : TypeEncodingMaps) (d d' : Definitions) (xs : List ℕ) (i : ℕ) → LearnsList m m' xs i → d' ≡ one_type_more d → AddsTypes r scope m m' d d'
-counts-kind r scope m m' d d' xs i l e =
-    let a : d'.types ≡ d.types + 1 = ap (λ (z : Definitions). z.types) e in
-    let b : length m'.def_to_index.entries ≡ length m.def_to_index.entries + 1 = lists-longer (λ (v : Vec ℕ Global). v.items) m.def_to_index.entries m'.def_to_index.entries (xs, i) l.more in
-    let c : names_defined r scope m' ≡ names_defined r scope m = ap (count_by (λ q. is_defined_by_name r scope q.0)) l.rest.numbers in
-    record { types = omega arith; functions = ap (λ (z : Definitions). z.functions) e; keys = record { lists = l.rest.keys; names_ = l.rest.names_ }; shows = shows-none r scope m m' d d' l.rest.numbers (ap (λ (z : Definitions). z.exports) e) }
+-- an unnamed kind, in slot i
+pub counts-kind : (r : Resolve) (scope : Scope) (m m' : TypeEncodingMaps) (d d' : Definitions) (xs : List ℕ) (i : ℕ) → LearnsList m m' xs i → d' ≡ one_type_more i d → AddsTypes r scope m m' d d'
+counts-kind r scope m m' d d' xs i l e = record {
+  slots = slots-kind r scope m m' d d' xs i l (ap (λ (z : Definitions). z.types) e) (ap (λ (z : Definitions). z.exported) e);
+  functions = ap (λ (z : Definitions). z.functions) e;
+  keys = record { lists = l.rest.keys; names_ = l.rest.names_ };
+  shows = shows-none r scope m m' d d' l.rest.numbers (ap (λ (z : Definitions). z.exports) e);
+}
 
-pub count-push : {X : Type 0} (p : X → Bool) (xs : List X) (x : X) → count_by p (xs ++ x ∷ []) ≡ count_by p xs + cond (p x) 1 0
-count-push p xs x = sum_by-append (λ y. cond (p y) 1 0) xs (x ∷ []) ∙ ap (λ n. count_by p xs + n) (zero-add (cond (p x) 1 0))
+-- a number that has no definition and is exported under no name
+pub counts-number : (r : Resolve) (scope : Scope) (m m' : TypeEncodingMaps) (d d' : Definitions) (id : TypeId) (i : ℕ) → LearnsNumber m m' id i → own_name r scope id.0 ≡ None → is_defined_by_name r scope id.0 ≡ false → d' ≡ d → AddsTypes r scope m m' d d'
+counts-number r scope m m' d d' id i l n b e = record {
+  slots = slots-number r scope m m' d d' id i l b (ap (λ (z : Definitions). z.types) e) (ap (λ (z : Definitions). z.exported) e);
+  functions = ap (λ (z : Definitions). z.functions) e;
+  keys = record { lists = l.rest.keys; names_ = l.rest.names_ };
+  shows = shows-unshown r scope m m' d d' id i l n (ap (λ (z : Definitions). z.exports) e);
+}
 
-number-types : {X : Type 0} (b : Bool) (ys xs : List X) (x : X) (p : X → Bool) (n n' : ℕ) (d d' : ℕ) → p x ≡ b → IsPermutation (xs ++ x ∷ []) ys → n' ≡ n → d' ≡ d + cond b 1 0 → d' + (n + count_by p xs) ≡ d + (n' + count_by p ys)
-number-types b ys xs x p n n' d d' q l s e =
-    let c : count_by p ys ≡ count_by p xs + cond b 1 0 = sum_by-IsPermutation (λ y. cond (p y) 1 0) _ ys l ∙ count-push p xs x ∙ ap (λ (z : Bool). count_by p xs + cond z 1 0) q in
-    omega arith
+-- a resource
+pub counts-resource : (r : Resolve) (scope : Scope) (m m' : TypeEncodingMaps) (d d' : Definitions) (id : TypeId) (i : ℕ) (name : ExternName) → LearnsNumber m m' id i → own_name r scope id.0 ≡ Some name.text → is_defined_by_name r scope id.0 ≡ false → ExportsOne scope d d' None name
+    → AddsTypes r scope m m' d d'
+counts-resource r scope m m' d d' id i name l n b x = record {
+  slots = slots-number r scope m m' d d' id i l b (ap (λ (z : Definitions). z.types) x.one_more) (ap (λ (z : Definitions). z.exported) x.one_more ∙ append-nil d.exported);
+  functions = ap (λ (z : Definitions). z.functions) x.one_more;
+  keys = record { lists = l.rest.keys; names_ = l.rest.names_ };
+  shows = shows-shown r scope m m' d d d' id i name l n refl x;
+}
 
-more-types : (b : Bool) (d : Definitions) → (type_more_if b d).types ≡ d.types + cond b 1 0
-more-types true d = refl
-more-types false d = omega arith
+types-if : (b : Bool) (i : ℕ) (d : Definitions) → (type_more_if b i d).exported ≡ d.exported
+types-if true i d = refl
+types-if false i d = refl
 
-more-functions : (b : Bool) (d : Definitions) → (type_more_if b d).functions ≡ d.functions
-more-functions true d = refl
-more-functions false d = refl
+functions-if : (b : Bool) (i : ℕ) (d : Definitions) → (type_more_if b i d).functions ≡ d.functions
+functions-if true i d = refl
+functions-if false i d = refl
 
-more-exports : (b : Bool) (d : Definitions) → (type_more_if b d).exports ≡ d.exports
-more-exports true d = refl
-more-exports false d = refl
+exports-if : (b : Bool) (i : ℕ) (d : Definitions) → (type_more_if b i d).exports ≡ d.exports
+exports-if true i d = refl
+exports-if false i d = refl
 
-counts-learnt : (r : Resolve) (scope : Scope) (m m' : TypeEncodingMaps) (d d₁ d' : Definitions) (id : TypeId) (i : ℕ) → LearnsNumber m m' id i → d₁ ≡ type_more_if (is_defined_by_name r scope id.0) d → d'.types ≡ d₁.types → d'.functions ≡ d₁.functions → Shows r scope m m' d d' → AddsTypes r scope m m' d d'
-counts-learnt r scope m m' d d₁ d' id i l e t f s =
-    let b = is_defined_by_name r scope id.0 in
-    record {
-      types = number-types b m'.id_to_index.entries m.id_to_index.entries (id.0, i) (λ q. is_defined_by_name r scope q.0) (length m.def_to_index.entries) (length m'.def_to_index.entries) d.types d'.types refl l.more (ap length l.rest.kinds)
-          (t ∙ ap (λ (z : Definitions). z.types) e ∙ more-types b d);
-      functions = f ∙ ap (λ (z : Definitions). z.functions) e ∙ more-functions b d;
-      keys = record { lists = l.rest.keys; names_ = l.rest.names_ };
-      shows = s;
-    }
-
--- a number that is exported under no name
-pub counts-number : (r : Resolve) (scope : Scope) (m m' : TypeEncodingMaps) (d d' : Definitions) (id : TypeId) (i : ℕ) → LearnsNumber m m' id i → own_name r scope id.0 ≡ None → d' ≡ type_more_if (is_defined_by_name r scope id.0) d → AddsTypes r scope m m' d d'
-counts-number r scope m m' d d' id i l n e =
-    counts-learnt r scope m m' d d' d' id i l e refl refl (shows-unshown r scope m m' d d' id i l n (ap (λ (z : Definitions). z.exports) e ∙ more-exports (is_defined_by_name r scope id.0) d))
-
--- a number that is exported under its name
-pub counts-named : (r : Resolve) (scope : Scope) (m m' : TypeEncodingMaps) (d d₁ d' : Definitions) (id : TypeId) (i : ℕ) (name : ExternName) → LearnsNumber m m' id i → own_name r scope id.0 ≡ Some name.text → d₁ ≡ type_more_if (is_defined_by_name r scope id.0) d → ExportsOne scope d₁ d' name → AddsTypes r scope m m' d d'
-counts-named r scope m m' d d₁ d' id i name l n e x =
-    counts-learnt r scope m m' d d₁ d' id i l e (ap (λ (z : Definitions). z.types) x.one_more) (ap (λ (z : Definitions). z.functions) x.one_more)
-    (shows-shown r scope m m' d d₁ d' id i name l n (ap (λ (z : Definitions). z.exports) e ∙ more-exports (is_defined_by_name r scope id.0) d) x)
+-- a number whose name is exported from slot j: that of its definition, or of what it is another name of
+pub counts-named : (r : Resolve) (scope : Scope) (m m' : TypeEncodingMaps) (d d₁ d' : Definitions) (id : TypeId) (i j : ℕ) (b : Bool) (name : ExternName) → LearnsNumber m m' id i → own_name r scope id.0 ≡ Some name.text → is_defined_by_name r scope id.0 ≡ b → d₁ ≡ type_more_if b j d
+    → ExportsOne scope d₁ d' (Some j) name → (b ≡ false → IsTarget r m j) → AddsTypes r scope m m' d d'
+counts-named r scope m m' d d₁ d' id i j b name l n q e x target = record {
+  slots = slots-named r scope m m' d d' id i j b l q (ap (λ (z : Definitions). z.types) x.one_more ∙ ap (λ (z : Definitions). z.types) e) (ap (λ (z : Definitions). z.exported) x.one_more ∙ ap (λ (z : Definitions). z.exported ++ j ∷ []) e ∙ ap (λ xs. xs ++ j ∷ []) (types-if b j d)) target;
+  functions = ap (λ (z : Definitions). z.functions) x.one_more ∙ ap (λ (z : Definitions). z.functions) e ∙ functions-if b j d;
+  keys = record { lists = l.rest.keys; names_ = l.rest.names_ };
+  shows = shows-shown r scope m m' d d₁ d' id i name l n (ap (λ (z : Definitions). z.exports) e ∙ exports-if b j d) x;
+}
 
 -- ---- what calls leave
 

@@ -1,11 +1,11 @@
 -- Equal lists are those of equal kinds, and of equal keys of functions.
-use Rattle.std.proofs.Common.{◌≡◌, refl, sym, subst, ap, ◌∙◌, ℕ, suc, ◌+◌, ◌-◌, ◌≤◌, Bool, true, false, ◌&&◌, List, [], ◌∷◌, ◌++◌, map, length, get_or, Option, Some, None, arith, rules, nat_eq}
+use Rattle.std.proofs.Common.{◌≡◌, refl, sym, subst, ap, ◌∙◌, ℕ, suc, ◌+◌, ◌-◌, ◌≤◌, Bool, true, false, ◌&&◌, List, [], ◌∷◌, ◌++◌, map, cond, length, get_or, Option, Some, None, arith, rules, nat_eq}
 use Rattle.std.specs.List.{Contains}
 use Rattle.std.specs.Option.{option_eq}
 use Rattle.std.specs.Cmp.Lexicographic.{pointwise}
 use Rattle.std.proofs.lemmas.Bool.{eqb-true, eq-eqb}
 use Rattle.std.proofs.lemmas.List.{get_or_past}
-use mathlib.Core.Bool.{beq}
+use mathlib.Core.Bool.{beq, true≢false}
 use Rattle.wit_model.proofs.Lists.{first_true, second_true}
 use Rattle.wit_model.specs.Text.{Text, text_of, text_eq}
 use Rattle.wit_model.specs.Rules.{is_named_kind}
@@ -100,64 +100,89 @@ one-number n m a b xs ys e = head-same _ _ _ _ (tail-same _ _ _ _ e)
 two-numbers : (n m a b c d : ℕ) (xs ys : List ℕ) → n ∷ a ∷ c ∷ xs ≡ m ∷ b ∷ d ∷ ys → c ≡ d
 two-numbers n m a b c d xs ys e = head-same _ _ _ _ (tail-same _ _ _ _ (tail-same _ _ _ _ e))
 
+-- the number of a case, which the list begins with: both handles count as one
+abbrev case_number : TypeDefKind → ℕ
+case_number (kind.Handle h) = 0
+case_number (kind.Tuple x) = 2
+case_number (kind.Option t) = 3
+case_number (kind.Result x) = 4
+case_number (kind.List t) = 5
+case_number (kind.Map k t) = 6
+case_number (kind.FixedLengthList t n) = 7
+case_number (kind.Future t) = 8
+case_number (kind.Stream t) = 9
+case_number _ = 99
+
+abbrev case_in : List ℕ → ℕ
+case_in l = cond (nat_eq (get_or l 0 99) 1) 0 (get_or l 0 99)
+
+in-list : (k : TypeDefKind) → case_in (kind_code k) ≡ case_number k
+in-list (kind.Handle (handle.Own id)) = refl
+in-list (kind.Handle (handle.Borrow id)) = refl
+in-list _ = refl
+
+other-case : (a b : TypeDefKind) → nat_eq (case_number a) (case_number b) ≡ false → kind_code a ≡ kind_code b → ⊥
+other-case a b h e = true≢false (sym (eq-eqb (case_number a) (case_number b) (sym (in-list a) ∙ ap case_in e ∙ in-list b)) ∙ h)
+
+other-handle : (a b : TypeDefKind) → nat_eq (get_or (kind_code a) 0 99) (get_or (kind_code b) 0 99) ≡ false → kind_code a ≡ kind_code b → ⊥
+other-handle a b h e = true≢false (sym (eq-eqb _ _ (ap (λ l. get_or l 0 99) e)) ∙ h)
+
 pub kinds-of-lists : (a b : TypeDefKind) → is_named_kind a ≡ false → is_named_kind b ≡ false → kind_code a ≡ kind_code b → same_kind a b ≡ true
 kinds-of-lists (kind.Handle (handle.Own a)) (kind.Handle (handle.Own b)) n m e = let h : 14 + a.0 ≡ 14 + b.0 = one-number _ _ _ _ _ _ e in eq-eqb a.0 b.0 (omega (arith, h))
 kinds-of-lists (kind.Handle (handle.Borrow a)) (kind.Handle (handle.Borrow b)) n m e = let h : 14 + a.0 ≡ 14 + b.0 = one-number _ _ _ _ _ _ e in eq-eqb a.0 b.0 (omega (arith, h))
-kinds-of-lists (kind.Handle (handle.Own a)) (kind.Handle (handle.Borrow b)) n m e = absurd (let z : ⊥ = cc in z)
-kinds-of-lists (kind.Handle (handle.Borrow a)) (kind.Handle (handle.Own b)) n m e = absurd (let z : ⊥ = cc in z)
-kinds-of-lists _ (kind.Handle (handle.Own b)) n m e = absurd (let z : ⊥ = cc in z)
-kinds-of-lists _ (kind.Handle (handle.Borrow b)) n m e = absurd (let z : ⊥ = cc in z)
-kinds-of-lists (kind.Handle (handle.Own a)) _ n m e = absurd (let z : ⊥ = cc in z)
-kinds-of-lists (kind.Handle (handle.Borrow a)) _ n m e = absurd (let z : ⊥ = cc in z)
+kinds-of-lists (kind.Handle (handle.Own a)) (kind.Handle (handle.Borrow b)) n m e = absurd (other-handle (kind.Handle (handle.Own a)) (kind.Handle (handle.Borrow b)) refl e)
+kinds-of-lists (kind.Handle (handle.Borrow a)) (kind.Handle (handle.Own b)) n m e = absurd (other-handle (kind.Handle (handle.Borrow a)) (kind.Handle (handle.Own b)) refl e)
+kinds-of-lists (kind.Handle (handle.Own a)) other n m e = absurd (other-case (kind.Handle (handle.Own a)) other refl e)
+kinds-of-lists (kind.Handle (handle.Borrow a)) other n m e = absurd (other-case (kind.Handle (handle.Borrow a)) other refl e)
 kinds-of-lists (kind.Option a) (kind.Option b) n m e = same-refl a b (type-of-code a b (one-number _ _ _ _ _ _ e))
-kinds-of-lists (kind.Option a) _ n m e = absurd (let z : ⊥ = cc in z)
+kinds-of-lists (kind.Option a) other n m e = absurd (other-case (kind.Option a) other refl e)
 kinds-of-lists (kind.List a) (kind.List b) n m e = same-refl a b (type-of-code a b (one-number _ _ _ _ _ _ e))
-kinds-of-lists (kind.List a) _ n m e = absurd (let z : ⊥ = cc in z)
+kinds-of-lists (kind.List a) other n m e = absurd (other-case (kind.List a) other refl e)
 kinds-of-lists (kind.Tuple a) (kind.Tuple b) n m e = types-of-codes a.types.items b.types.items (tail-same _ _ _ _ e)
-kinds-of-lists (kind.Tuple a) _ n m e = absurd (let z : ⊥ = cc in z)
+kinds-of-lists (kind.Tuple a) other n m e = absurd (other-case (kind.Tuple a) other refl e)
 kinds-of-lists (kind.Result a) (kind.Result b) n m e =
     let h = optional-of-code a.ok b.ok (optional_code a.err) (optional_code b.err) (tail-same _ _ _ _ e) in
     both _ _ h.0 (optional-alone a.err b.err h.1)
-kinds-of-lists (kind.Result a) _ n m e = absurd (let z : ⊥ = cc in z)
+kinds-of-lists (kind.Result a) other n m e = absurd (other-case (kind.Result a) other refl e)
 kinds-of-lists (kind.Map a x) (kind.Map b y) n m e = both _ _ (same-refl a b (type-of-code a b (one-number _ _ _ _ _ _ e))) (same-refl x y (type-of-code x y (two-numbers _ _ _ _ _ _ _ _ e)))
-kinds-of-lists (kind.Map a x) _ n m e = absurd (let z : ⊥ = cc in z)
+kinds-of-lists (kind.Map a x) other n m e = absurd (other-case (kind.Map a x) other refl e)
 kinds-of-lists (kind.FixedLengthList a x) (kind.FixedLengthList b y) n m e = both _ _ (same-refl a b (type-of-code a b (one-number _ _ _ _ _ _ e))) (eq-eqb x y (two-numbers _ _ _ _ _ _ _ _ e))
-kinds-of-lists (kind.FixedLengthList a x) _ n m e = absurd (let z : ⊥ = cc in z)
+kinds-of-lists (kind.FixedLengthList a x) other n m e = absurd (other-case (kind.FixedLengthList a x) other refl e)
 kinds-of-lists (kind.Future a) (kind.Future b) n m e = optional-alone a b (tail-same _ _ _ _ e)
-kinds-of-lists (kind.Future a) _ n m e = absurd (let z : ⊥ = cc in z)
+kinds-of-lists (kind.Future a) other n m e = absurd (other-case (kind.Future a) other refl e)
 kinds-of-lists (kind.Stream a) (kind.Stream b) n m e = optional-alone a b (tail-same _ _ _ _ e)
-kinds-of-lists (kind.Stream a) _ n m e = absurd (let z : ⊥ = cc in z)
-kinds-of-lists _ _ n m e = absurd (let z : ⊥ = cc in z)
+kinds-of-lists (kind.Stream a) other n m e = absurd (other-case (kind.Stream a) other refl e)
+kinds-of-lists a b n m e = absurd (true≢false n)
 
 pub lists-of-kinds : (a b : TypeDefKind) → is_named_kind a ≡ false → same_kind a b ≡ true → kind_code a ≡ kind_code b
 lists-of-kinds (kind.Option a) (kind.Option b) n e = let h : same_type a b ≡ true = search rules in ap (λ t. kind_code (kind.Option t)) (same_types a b h)
-lists-of-kinds (kind.Option a) _ n e = absurd (let z : ⊥ = cc in z)
+lists-of-kinds (kind.Option a) other n e = absurd (true≢false (sym e))
 lists-of-kinds (kind.List a) (kind.List b) n e = let h : same_type a b ≡ true = search rules in ap (λ t. kind_code (kind.List t)) (same_types a b h)
-lists-of-kinds (kind.List a) _ n e = absurd (let z : ⊥ = cc in z)
+lists-of-kinds (kind.List a) other n e = absurd (true≢false (sym e))
 lists-of-kinds (kind.Handle a) (kind.Handle b) n e = let h : kind.Handle a ≡ kind.Handle b = search rules in ap kind_code h
-lists-of-kinds (kind.Handle a) _ n e = absurd (let z : ⊥ = cc in z)
+lists-of-kinds (kind.Handle a) other n e = absurd (true≢false (sym e))
 lists-of-kinds (kind.Tuple a) (kind.Tuple b) n e = let h : pointwise same_type a.types.items b.types.items ≡ true = search rules in ap (λ xs. 2 ∷ map type_code xs) (types_same _ _ h)
-lists-of-kinds (kind.Tuple a) _ n e = absurd (let z : ⊥ = cc in z)
+lists-of-kinds (kind.Tuple a) other n e = absurd (true≢false (sym e))
 lists-of-kinds (kind.Result a) (kind.Result b) n e =
     let h = optional_same a.ok b.ok (first_true (option_eq same_type a.ok b.ok) (option_eq same_type a.err b.err) e) in
     let k = optional_same a.err b.err (second_true (option_eq same_type a.ok b.ok) (option_eq same_type a.err b.err) e) in
     λ i. 4 ∷ (optional_code (h i) ++ optional_code (k i))
-lists-of-kinds (kind.Result a) _ n e = absurd (let z : ⊥ = cc in z)
+lists-of-kinds (kind.Result a) other n e = absurd (true≢false (sym e))
 lists-of-kinds (kind.Map a x) (kind.Map b y) n e =
     let h = same_types a b (first_true (same_type a b) (same_type x y) e) in
     let k = same_types x y (second_true (same_type a b) (same_type x y) e) in
     λ i. kind_code (kind.Map (h i) (k i))
-lists-of-kinds (kind.Map a x) _ n e = absurd (let z : ⊥ = cc in z)
+lists-of-kinds (kind.Map a x) other n e = absurd (true≢false (sym e))
 lists-of-kinds (kind.FixedLengthList a x) (kind.FixedLengthList b y) n e =
     let h = same_types a b (first_true (same_type a b) (nat_eq x y) e) in
     let k = eqb-true x y (second_true (same_type a b) (nat_eq x y) e) in
     λ i. kind_code (kind.FixedLengthList (h i) (k i))
-lists-of-kinds (kind.FixedLengthList a x) _ n e = absurd (let z : ⊥ = cc in z)
+lists-of-kinds (kind.FixedLengthList a x) other n e = absurd (true≢false (sym e))
 lists-of-kinds (kind.Future a) (kind.Future b) n e = let h : option_eq same_type a b ≡ true = search rules in ap (λ t. kind_code (kind.Future t)) (optional_same a b h)
-lists-of-kinds (kind.Future a) _ n e = absurd (let z : ⊥ = cc in z)
+lists-of-kinds (kind.Future a) other n e = absurd (true≢false (sym e))
 lists-of-kinds (kind.Stream a) (kind.Stream b) n e = let h : option_eq same_type a b ≡ true = search rules in ap (λ t. kind_code (kind.Stream t)) (optional_same a b h)
-lists-of-kinds (kind.Stream a) _ n e = absurd (let z : ⊥ = cc in z)
-lists-of-kinds _ _ n e = absurd (let z : ⊥ = cc in z)
+lists-of-kinds (kind.Stream a) other n e = absurd (true≢false (sym e))
+lists-of-kinds a b n e = absurd (true≢false n)
 
 pub equal_kinds : EqualKinds
 equal_kinds = λ a b n m. record { same = kinds-of-lists a b n m; equal = lists-of-kinds a b n }

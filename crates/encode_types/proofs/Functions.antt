@@ -20,8 +20,9 @@ use Rattle.encode_types.specs.Slots.{Pairs, function}
 use Rattle.encode_types.specs.Scope.{Scope}
 use Rattle.encode_types.specs.Fits.{CanEncode}
 use Rattle.encode_types.specs.Codes.{names_of, lists_of, IsKeyList}
-use Rattle.encode_types.specs.Counts.{SameKeys, Definitions, one_function_more, AddsTypes, AddsFunction, names_defined, is_defined_by_name}
+use Rattle.encode_types.specs.Counts.{SameKeys, Definitions, one_function_more, AddsTypes, AddsFunction}
 use Rattle.encode_types.proofs.Defining.{shows-none, shows-trans, lists-longer}
+use Rattle.encode_types.proofs.Marking.{slots-none, slots-then}
 
 pub ok-map : {A E : Type 0} (x : Result A E) (P Q : A → Type 0) → ((a : A) → P a → Q a) → IfOk x P → IfOk x Q
 ok-map (Ok a) P Q f p = f a p
@@ -51,20 +52,17 @@ encode-right r scope scope' xs ys e c =
 
 pub counts-key : (r : Resolve) (scope : Scope) (m m₁ m' : TypeEncodingMaps) (d d₁ d' : Definitions) (key : FunctionKey) (i : ℕ) → LacksKey m key → AddsTypes r scope m m₁ d d₁ → LearnsKey m₁ m' key i → d' ≡ one_function_more d₁ → AddsFunction r scope m m' d d' key i
 counts-key r scope m m₁ m' d d₁ d' key i lacks a l e =
-    let t : d'.types ≡ d₁.types = ap (λ (z : Definitions). z.types) e in
     let f : d'.functions ≡ d₁.functions + 1 = ap (λ (z : Definitions). z.functions) e in
     let f₁ : d₁.functions ≡ d.functions = a.functions in
-    let old = a.types in
-    let kinds : length m'.def_to_index.entries ≡ length m₁.def_to_index.entries = ap length l.rest.kinds in
-    let names : names_defined r scope m' ≡ names_defined r scope m₁ = ap (count_by (λ e. is_defined_by_name r scope e.0)) l.rest.numbers in
+    let rest = slots-none r scope m₁ m' d₁ d' l.rest.numbers l.rest.kinds (ap (λ (z : Definitions). z.types) e) (ap (λ (z : Definitions). z.exported) e) in
     let more : IsPermutation (lists_of m.func_type_map ++ (l.list, i) ∷ []) (lists_of m'.func_type_map) =
     subst (λ (es : List (Vec ℕ Global × ℕ)). IsPermutation (map {B = List ℕ × ℕ} (λ e. (e.0.items, e.1)) es ++ (l.list, i) ∷ []) (lists_of m'.func_type_map)) a.keys.lists l.more in
     let many : length m'.func_type_map.entries ≡ length m.func_type_map.entries + 1 = lists-longer (λ (v : Vec ℕ Global). v.items) m.func_type_map.entries m'.func_type_map.entries (l.list, i) more in
     let grow : NamesGrow (names_of m.names) (names_of m'.names) = subst (λ (ns : List (Bor Text × ℕ)). NamesGrow (map {B = Text × ℕ} (λ e. (e.0.now, e.1)) ns) (names_of m'.names)) a.keys.names_ l.grow in
-    record { types = omega arith; functions = omega arith; keys = inr (lacks, record { grow = grow; list = l.list; is = l.is; more = more }); shows = shows-trans a.shows (shows-none r scope m₁ m' d₁ d' l.rest.numbers (ap (λ (z : Definitions). z.exports) e)) }
+    record { slots = slots-then a.slots rest; functions = omega arith; keys = inr (lacks, record { grow = grow; list = l.list; is = l.is; more = more }); shows = shows-trans a.shows (shows-none r scope m₁ m' d₁ d' l.rest.numbers (ap (λ (z : Definitions). z.exports) e)) }
 
 pub counts-known : (r : Resolve) (scope : Scope) (m : TypeEncodingMaps) (d : Definitions) (key : FunctionKey) (i : ℕ) → HasKey m key i → AddsFunction r scope m m d d key i
-counts-known r scope m d key i h = record { types = refl; functions = refl; keys = inl (h, record { lists = refl; names_ = refl }); shows = shows-none r scope m m d d refl refl }
+counts-known r scope m d key i h = record { slots = slots-none r scope m m d d refl refl refl refl; functions = refl; keys = inl (h, record { lists = refl; names_ = refl }); shows = shows-none r scope m m d d refl refl }
 
 pub lacks-same : (m m' : TypeEncodingMaps) (key : FunctionKey) → SameKeys m m' → LacksKey m key → LacksKey m' key
 lacks-same m m' key e l i h = l i (

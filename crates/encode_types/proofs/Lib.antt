@@ -8,6 +8,7 @@ pub mod Planning
 pub mod Written
 pub mod Agree
 pub mod Around
+pub mod Marking
 pub mod Defining
 pub mod Encoding
 pub mod Owning

@@ -1,5 +1,5 @@
 -- A type of the place, from what fits the scope.
-use Rattle.std.proofs.Common.{◌≡◌, refl, sym, subst, ap, ◌∙◌, ℕ, true, Some, None}
+use Rattle.std.proofs.Common.{◌≡◌, refl, sym, subst, ap, ◌∙◌, ℕ, true, false, Some, None}
 use Rattle.std.specs.Prelude.{String}
 use Rattle.std.specs.declared.alloc.Global.{Global}
 use Rattle.std.specs.Option.{option_map_or}
@@ -13,7 +13,9 @@ use Rattle.wit_model.specs.declared.model.Resolve.{Resolve}
 use Rattle.wit_model.specs.declared.model.TypeDef.{TypeDef}
 use Rattle.wit_model.specs.declared.model.TypeDefKind.{TypeDefKind}
 use Rattle.wit_model.specs.declared.model.TypeDefKind.TheVariants as kind
+use Rattle.wit_model.specs.declared.model.TypeId.{TypeId}
 use Rattle.wit_model.specs.declared.model.«Type».{«Type» as ValueType}
+use Rattle.wit_model.specs.declared.model.«Type».TheVariants as ty
 use Rattle.comp_bytes.specs.Raw.{ExternName}
 use Rattle.encode_types.specs.Kinds.{has_definition}
 use Rattle.encode_types.specs.Plan.{foreign_owner}
@@ -24,6 +26,13 @@ pub own-definition : (k : TypeDefKind) → (k ≡ kind.Resource → ⊥) → ((t
 own-definition kind.Resource n m = absurd (n refl)
 own-definition (kind.Type_ t) n m = absurd (m t refl)
 own-definition _ n m = refl
+
+-- a kind without a definition that is no resource is another name of a number
+pub another-name : (k : TypeDefKind) → (k ≡ kind.Resource → ⊥) → has_definition k ≡ false → (id : TypeId) × (k ≡ kind.Type_ (ty.Id id))
+another-name kind.Resource n h = absurd (n refl)
+another-name (kind.Type_ (ty.Id id)) n h = (id, refl)
+another-name (kind.Type_ _) n h = absurd (let z : ⊥ = cc in z)
+another-name _ n h = absurd (let z : ⊥ = cc in z)
 
 -- a name with an external id and no other attribute
 pub exported-as : (n : ExternName) (t : Text) (m : TypeMeaning) → n.text ≡ t → n.implements ≡ None → n.version_suffix ≡ None → n.external_id ≡ m.external_id → n ≡ exported_name (t, m)

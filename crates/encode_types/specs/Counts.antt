@@ -1,5 +1,5 @@
--- How much is defined in a scope.
-use Rattle.std.specs.Prelude.{ℕ, ◌≡◌, ◌+◌, Bool, false, cond, ◌&&◌, ◌++◌, ◌∷◌, [], ◌⊎◌, is_some, is_none, length, count_by, IsPermutation, List, Option, None, option_map, option_and_then, map, filter_map}
+-- What is defined in a scope, and what for.
+use Rattle.std.specs.Prelude.{ℕ, ◌≡◌, ◌+◌, Bool, false, not, cond, ◌&&◌, ◌++◌, ◌∷◌, [], ◌⊎◌, is_some, is_none, length, count_by, IsPermutation, List, Option, Some, None, option_map, option_and_then, option_to_list, map, filter, filter_map}
 use Rattle.std.specs.List.{Contains}
 use Rattle.std.specs.Option.{option_map_or}
 use Rattle.wit_model.specs.Text.{Text, text_of}
@@ -7,6 +7,9 @@ use Rattle.wit_model.specs.Meaning.{TypeMeaning}
 use Rattle.wit_model.specs.Lookup.{type_at}
 use Rattle.wit_model.specs.declared.model.Resolve.{Resolve}
 use Rattle.wit_model.specs.declared.model.TypeDef.{TypeDef}
+use Rattle.wit_model.specs.declared.model.TypeId.{TypeId}
+use Rattle.wit_model.specs.declared.model.TypeDefKind.TheVariants as kind
+use Rattle.wit_model.specs.declared.model.«Type».TheVariants as ty
 use Rattle.comp_bytes.specs.Raw.{ExternName}
 use Rattle.encode_types.specs.declared.maps.TypeEncodingMaps.{TypeEncodingMaps}
 use Rattle.encode_types.specs.declared.key.FunctionKey.{FunctionKey}
@@ -16,21 +19,24 @@ use Rattle.encode_types.specs.Maps.{HasKey, LacksKey, NamesGrow}
 use Rattle.encode_types.specs.Plan.{foreign_owner}
 use Rattle.encode_types.specs.Scope.{Scope, exported_name}
 
--- how many value types and how many types of functions have been defined in a scope, and which declarations have been exported, in order
+-- the slots of the value types that have been defined in a scope, in order, and those that have been exported under a name, in order; how
+-- many types of functions have been defined; and which declarations have been exported, in order
 pub record Definitions : Type 0 where
-  pub types : ℕ
+  pub types : List ℕ
+  pub exported : List ℕ
   pub functions : ℕ
   pub exports : List (Text × TypeMeaning)
 
-abbrev pub one_type_more : Definitions → Definitions
-one_type_more d = record { types = d.types + 1; functions = d.functions; exports = d.exports }
+-- a value type has been defined in slot i
+abbrev pub one_type_more : ℕ → Definitions → Definitions
+one_type_more i d = record { types = d.types ++ i ∷ []; exported = d.exported; functions = d.functions; exports = d.exports }
 
 abbrev pub one_function_more : Definitions → Definitions
-one_function_more d = record { types = d.types; functions = d.functions + 1; exports = d.exports }
+one_function_more d = record { types = d.types; exported = d.exported; functions = d.functions + 1; exports = d.exports }
 
--- one more where this holds
-abbrev pub type_more_if : Bool → Definitions → Definitions
-type_more_if b d = cond b (one_type_more d) d
+-- the same where this holds
+abbrev pub type_more_if : Bool → ℕ → Definitions → Definitions
+type_more_if b i d = cond b (one_type_more i d) d
 
 -- whether a type is a named one of the place that has a definition of its own
 abbrev pub is_defined_under_name : Scope → TypeDef → Bool
@@ -43,12 +49,13 @@ is_defined_by_name r scope n = option_map_or (is_defined_under_name scope) (type
 abbrev pub names_defined : Resolve → Scope → TypeEncodingMaps → ℕ
 names_defined r scope m = count_by (λ e. is_defined_by_name r scope e.0) m.id_to_index.entries
 
--- one declaration of the place has been exported, under this name, and nothing has been defined
-pub record ExportsOne (scope : Scope) (d d' : Definitions) (name : ExternName) : Type 0 where
+-- One declaration of the place has been exported, under this name: that of the type in this slot, or of a fresh resource without one. Nothing
+-- has been defined.
+pub record ExportsOne (scope : Scope) (d d' : Definitions) (slot : Option ℕ) (name : ExternName) : Type 0 where
   pub declaration : Text × TypeMeaning
   pub there : Contains scope.declarations declaration
   pub named_ : name ≡ exported_name declaration
-  pub one_more : d' ≡ record { types = d.types; functions = d.functions; exports = d.exports ++ declaration ∷ [] }
+  pub one_more : d' ≡ record { types = d.types; exported = d.exported ++ option_to_list slot; functions = d.functions; exports = d.exports ++ declaration ∷ [] }
 
 -- the name of a named type of the place
 abbrev pub name_of_own : Scope → TypeDef → Option Text
@@ -78,17 +85,58 @@ pub record AddsKey (m m' : TypeEncodingMaps) (key : FunctionKey) (i : ℕ) : Typ
   pub is : IsKeyList (names_of m'.names) key list
   pub more : IsPermutation (lists_of m.func_type_map ++ (list, i) ∷ []) (lists_of m'.func_type_map)
 
--- What has been defined is what the maps have learnt: one value type for each unnamed kind and for each named type of the place
--- that has a definition of its own. No type of a function has been defined, and no key has been learnt.
+-- ---- which definition is which
+
+-- slots, each with whether it is that of a type of the place which has a definition of its own under its name
+abbrev pub Marked : Type 0
+Marked = List (Bool × ℕ)
+
+abbrev pub slots_of : Marked → List ℕ
+slots_of xs = map (λ x. x.1) xs
+
+abbrev pub named_slots : Marked → List ℕ
+named_slots xs = slots_of (filter (λ x. x.0) xs)
+
+abbrev pub other_slots : Marked → List ℕ
+other_slots xs = slots_of (filter (λ x. not x.0) xs)
+
+-- the slots of the unnamed kinds that are known
+abbrev pub kind_slots : TypeEncodingMaps → List ℕ
+kind_slots m = map (λ e. e.1) m.def_to_index.entries
+
+-- a slot is that of a type number which a named type is another name of
+pub record IsTarget (r : Resolve) (m : TypeEncodingMaps) (i : ℕ) : Type 0 where
+  pub number : ℕ
+  pub def : TypeDef
+  pub target : TypeId
+  pub there : type_at r number ≡ Some def
+  pub alias : def.kind ≡ kind.Type_ (ty.Id target)
+  pub index : Contains m.id_to_index.entries (target.0, i)
+
+-- What has been defined is what the maps have learnt: a slot for each unnamed kind, which is that of the kind, and one for each named type of
+-- the place that has a definition of its own, which is exported under that name, each once. What else has been exported is another name of
+-- what is known.
+pub record AddsSlots (r : Resolve) (scope : Scope) (m m' : TypeEncodingMaps) (d d' : Definitions) : Type 0 where
+  pub added : Marked
+  pub targets : Marked
+  pub types : d'.types ≡ d.types ++ slots_of added
+  pub exported : d'.exported ≡ d.exported ++ slots_of targets
+  pub kinds : IsPermutation (kind_slots m ++ other_slots added) (kind_slots m')
+  pub names : length (named_slots added) + names_defined r scope m ≡ names_defined r scope m'
+  pub own : named_slots targets ≡ named_slots added
+  pub others : (i : ℕ) → Contains (other_slots targets) i → IsTarget r m' i
+  pub numbers_stay : (n i : ℕ) → Contains m.id_to_index.entries (n, i) → Contains m'.id_to_index.entries (n, i)
+
+-- No type of a function has been defined, and no key has been learnt.
 pub record AddsTypes (r : Resolve) (scope : Scope) (m m' : TypeEncodingMaps) (d d' : Definitions) : Type 0 where
-  pub types : d'.types + (length m.def_to_index.entries + names_defined r scope m) ≡ d.types + (length m'.def_to_index.entries + names_defined r scope m')
+  pub slots : AddsSlots r scope m m' d d'
   pub functions : d'.functions ≡ d.functions
   pub keys : SameKeys m m'
   pub shows : Shows r scope m m' d d'
 
 -- The key of a function was in the maps already, or is there now at a new index. What has been defined is what the maps have learnt.
 pub record AddsFunction (r : Resolve) (scope : Scope) (m m' : TypeEncodingMaps) (d d' : Definitions) (key : FunctionKey) (i : ℕ) : Type 0 where
-  pub types : d'.types + (length m.def_to_index.entries + names_defined r scope m) ≡ d.types + (length m'.def_to_index.entries + names_defined r scope m')
+  pub slots : AddsSlots r scope m m' d d'
   pub functions : d'.functions + length m.func_type_map.entries ≡ d.functions + length m'.func_type_map.entries
   pub keys : (HasKey m key i × SameKeys m m') ⊎ (LacksKey m key × AddsKey m m' key i)
   pub shows : Shows r scope m m' d d'

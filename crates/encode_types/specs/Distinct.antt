@@ -1,11 +1,14 @@
--- How much the declarations of an instance type define: each function type and each unnamed kind once.
-use Rattle.std.specs.Prelude.{ℕ, ◌≡◌, ◌+◌, ◌&&◌, ◌⊎◌, Bool, true, false, nat_eq, List, map, filter, length, count_by, Option, Some}
-use Rattle.std.specs.List.{IsDistinct, Contains}
+-- What the declarations of an instance type or a component type define: each function type and each unnamed kind once.
+use Rattle.std.specs.Prelude.{ℕ, ◌≡◌, ◌+◌, ◌&&◌, ◌⊎◌, ◌++◌, ◌∷◌, [], Bool, true, false, cond, nat_eq, List, map, filter, length, count_by, option_to_list, IsPermutation, Option, Some, None}
+use Rattle.std.specs.List.{IsDistinct, Contains, AllZip}
 use Rattle.std.specs.Option.{option_eq, option_map_or, is_some, is_none}
 use Rattle.std.specs.Set.{is_member, distinct_count}
 use Rattle.std.specs.Cmp.Lexicographic.{pointwise}
 use mathlib.Core.Bool.{beq}
-use Rattle.comp_bytes.specs.Raw.{Declaration}
+use Rattle.comp_bytes.specs.Raw.{Declaration, Declarations}
+use Rattle.comp_bytes.specs.Held.{declaration_slots}
+use Rattle.comp_bytes.specs.declared.forms.ComponentTypeRef.{ComponentTypeRef}
+use Rattle.comp_bytes.specs.declared.forms.ComponentTypeRef.TheVariants as refs
 use Rattle.wit_model.specs.Lookup.{is_async, type_at}
 use Rattle.wit_model.specs.declared.model.Resolve.{Resolve}
 use Rattle.wit_model.specs.declared.model.InterfaceId.{InterfaceId}
@@ -18,11 +21,12 @@ use Rattle.encode_types.specs.declared.key.FunctionKey.{FunctionKey}
 use Rattle.encode_types.specs.declared.maps.TypeEncodingMaps.{TypeEncodingMaps}
 use Rattle.encode_types.specs.Codes.{IsListed, names_of, lists_of}
 use Rattle.encode_types.specs.Key.{same_type, same_param}
-use Rattle.encode_types.specs.Kinds.{has_definition}
+use Rattle.encode_types.specs.Kinds.{has_definition, kind_tree}
+use Rattle.encode_types.specs.Slots.{Pairs, tree}
 use Rattle.encode_types.specs.Plan.{foreign_owner}
 use Rattle.encode_types.specs.Scope.{Scope}
 use Rattle.encode_types.specs.MetKinds.{AreMetKinds, referred}
-use Rattle.encode_types.specs.Counts.{Definitions, names_defined}
+use Rattle.encode_types.specs.Counts.{Definitions, AddsSlots}
 
 -- ---- keys of functions
 
@@ -60,7 +64,7 @@ defined_under_names r own ts = map (λ t. t.0) (filter (λ t. has_own_definition
 
 -- What has been defined for functions is what the maps have learnt, and the keys that they have learnt are those of the functions.
 pub record AddsFunctions (r : Resolve) (scope : Scope) (m m' : TypeEncodingMaps) (d d' : Definitions) (functions : List Function) : Type 0 where
-  pub types : d'.types + (length m.def_to_index.entries + names_defined r scope m) ≡ d.types + (length m'.def_to_index.entries + names_defined r scope m')
+  pub slots : AddsSlots r scope m m' d d'
   pub functions_ : d'.functions + length m.func_type_map.entries ≡ d.functions + length m'.func_type_map.entries
   pub known : (key : Key) → KnowsKey m' key → KnowsKey m key ⊎ (is_member are_same (map key_of functions) key ≡ true)
   pub stay : (key : Key) → KnowsKey m key → KnowsKey m' key
@@ -83,9 +87,44 @@ pub record DefinesKeys (functions : List Function) (declared : List Declaration)
   pub different : IsDistinct are_same keys
   pub same : (key : Key) → is_member are_same keys key ≡ is_member are_same (map key_of functions) key
 
--- one value type for each kind of unnamed types that the types and functions meet, and for each type of the list that has a definition
--- of its own under its name
-pub record DefinesTypes (r : Resolve) (i : InterfaceId) (types : List TypeId) (functions : List Function) (declared : List Declaration) : Type 0 where
+-- ---- which value types are declared
+
+-- the slot whose type an import or an export names
+abbrev pub described_slot : ComponentTypeRef → Option ℕ
+described_slot (refs.TypeEq i) = Some i
+described_slot _ = None
+
+abbrev pub target_of : Declaration → Option ℕ
+target_of (Declaration.imported name described) = described_slot described
+target_of (Declaration.exported name described) = described_slot described
+target_of _ = None
+
+-- the slots that are imported or exported under names at the first level, in order
+abbrev pub targets_of : Declarations → List ℕ
+targets_of Declarations.no_more = []
+targets_of (Declarations.declares d rest) = option_to_list (target_of d) ++ targets_of rest
+targets_of (Declarations.component inner rest) = targets_of rest
+targets_of (Declarations.instance inner rest) = targets_of rest
+
+-- the slots of the value types that are defined at the first level, in order, behind so many slots
+abbrev pub values_from : ℕ → Declarations → List ℕ
+values_from n Declarations.no_more = []
+values_from n (Declarations.declares d rest) = cond (is_value_type d) (n ∷ []) [] ++ values_from (n + declaration_slots d) rest
+values_from n (Declarations.component inner rest) = values_from (n + 1) rest
+values_from n (Declarations.instance inner rest) = values_from (n + 1) rest
+
+abbrev pub value_slots : Declarations → List ℕ
+value_slots ds = values_from 0 ds
+
+-- Which value types are defined where the slots stand for this, and what for: in a slot of its own each kind of unnamed types that the types
+-- and functions meet, which is exported under no name; and in a slot of its own each type of the list that has a definition under its name, which
+-- is exported once. There is no other.
+pub record DefinesTypes (r : Resolve) (own : Option InterfaceId) (S : Pairs) (types : List TypeId) (functions : List Function) (declared : Declarations) : Type 0 where
   pub kinds : List TypeDefKind
-  pub count : count_by is_value_type declared ≡ length kinds + distinct_count nat_eq (defined_under_names r (Some i) types)
-  pub met : AreMetKinds r (Some i) (referred types functions) kinds
+  pub met : AreMetKinds r own (referred types functions) kinds
+  pub kind_slots : List ℕ
+  pub stand : AllZip (λ kind i. S i (tree (kind_tree r kind))) kinds kind_slots
+  pub name_slots : List ℕ
+  pub named : filter (is_member nat_eq (value_slots declared)) (targets_of declared) ≡ name_slots
+  pub count : length name_slots ≡ distinct_count nat_eq (defined_under_names r own types)
+  pub all : IsPermutation (value_slots declared) (kind_slots ++ name_slots)

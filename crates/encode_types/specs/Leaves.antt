@@ -1,5 +1,10 @@
 -- What a call leaves, also where it is refused, and what it has learnt and defined.
-use Rattle.std.specs.Prelude.{ℕ, ◌≡◌, Bool, List, [], ◌∷◌}
+use Rattle.std.specs.Prelude.{ℕ, ◌≡◌, Bool, List, [], ◌∷◌, Result, Err, IfOk, OnOk, IfErr}
+use Rattle.comp_bytes.specs.Refusal.{IsMemoryOrSize}
+use Rattle.comp_bytes.specs.declared.forms.ComponentValType.{ComponentValType}
+use Rattle.comp_bytes.specs.declared.forms.ComponentValType.TheVariants as value
+use Rattle.wit_model.specs.declared.error.Error.{Error}
+use Rattle.wit_model.specs.declared.error.Error.TheVariants.{Size}
 use Rattle.wit_model.specs.Meant.{signature_of}
 use Rattle.wit_model.specs.Parts.{function_types}
 use Rattle.wit_model.specs.declared.model.TypeDefKind.{TypeDefKind}
@@ -9,11 +14,14 @@ use Rattle.wit_model.specs.declared.model.Function.{Function}
 use Rattle.encode_types.specs.declared.key.FunctionKey.{FunctionKey}
 use Rattle.encode_types.specs.MetKinds.{Learns, LearnsMet}
 use Rattle.encode_types.specs.Maps.{MapsGrow}
-use Rattle.encode_types.specs.Counts.{one_type_more, type_more_if, AddsTypes, AddsFunction}
+use Rattle.encode_types.specs.Counts.{Definitions, one_type_more, type_more_if, AddsTypes, AddsFunction}
+use Rattle.encode_types.specs.Fits.{CanEncode}
+use Rattle.encode_types.specs.Formed.{IsFormed}
+use Rattle.encode_types.specs.Slots.{StandsFor}
 use Rattle.encode_types.specs.Distinct.{AddsFunctions}
 use Rattle.encode_types.specs.Kinds.{parts_of, kind_tree}
 use Rattle.encode_types.specs.Room.{Request, value_type, function_type, FindsNoRoom}
-use Rattle.encode_types.specs.View.{View, Agrees, Grows}
+use Rattle.encode_types.specs.View.{View, Agrees, Grows, HoldsLearnt}
 
 -- The maps agree with the slots and have lost no entry, old slots stand for what they did, and the surroundings are the same.
 pub record Leaves (r : Resolve) (v v' : View) : Type 0 where
@@ -45,9 +53,13 @@ FunctionLacksRoom r f v v' = LacksRoom r (function_types f) (function_type (sign
 abbrev pub CountsTypes : Resolve → View → View → Type 0
 CountsTypes r v v' = AddsTypes r v.scope v.maps v'.maps v.definitions v'.definitions
 
--- the same, and one value type beside it
-abbrev pub CountsOneMore : Resolve → View → View → Type 0
-CountsOneMore r v v' = AddsTypes r v.scope v.maps v'.maps (one_type_more v.definitions) v'.definitions
+-- the same, and behind it one value type, which this is
+pub record CountsOneMore (r : Resolve) (v v' : View) (x : ComponentValType) : Type 0 where
+  pub slot : ℕ
+  pub is : x ≡ value.Type_ slot
+  pub parts : Definitions
+  pub adds : AddsTypes r v.scope v.maps v'.maps v.definitions parts
+  pub one_more : v'.definitions ≡ one_type_more slot parts
 
 -- the same with the type of a function, which has this key and stands at this index
 abbrev pub CountsFunction : Resolve → View → View → FunctionKey → ℕ → Type 0
@@ -57,6 +69,31 @@ CountsFunction r v v' key i = AddsFunction r v.scope v.maps v'.maps v.definition
 abbrev pub CountsFunctions : Resolve → View → View → List Function → Type 0
 CountsFunctions r v v' functions = AddsFunctions r v.scope v.maps v'.maps v.definitions v'.definitions functions
 
--- one value type has been defined where this holds, and nothing else
-abbrev pub DefinesIf : Bool → View → View → Type 0
-DefinesIf b v v' = v'.definitions ≡ type_more_if b v.definitions
+-- a value type has been defined in slot i where this holds, and nothing else
+abbrev pub DefinesIf : Bool → View → View → ℕ → Type 0
+DefinesIf b v v' i = v'.definitions ≡ type_more_if b i v.definitions
+
+-- a value type has been defined, which this is, and nothing else
+pub record DefinesValue (v v' : View) (x : ComponentValType) : Type 0 where
+  pub slot : ℕ
+  pub is : x ≡ value.Type_ slot
+  pub one_more : v'.definitions ≡ one_type_more slot v.definitions
+
+-- ---- a kind
+
+-- what is asked before a kind is defined
+pub record CanDefine (r : Resolve) (kind : TypeDefKind) (v : View) : Type 0 where
+  pub encodable : CanEncode r v.scope (parts_of kind)
+  pub formed : IsFormed v.scope (kind_tree r kind)
+  pub agree : Agrees r v
+
+-- The parts of a kind have been learnt, and it has been defined, once: the answer stands for it. Old slots stand for what they did, and the maps
+-- agree with the slots, also where it is refused.
+pub record DefinesKind (r : Resolve) (kind : TypeDefKind) (v v' : View) (result : Result ComponentValType Error) : Type 0 where
+  pub ok : IfOk result (λ x. StandsFor v'.stands x (kind_tree r kind))
+  pub learns : OnOk result (LearnsFrom r (parts_of kind) v v')
+  pub leaves : Leaves r v v'
+  pub counts : IfOk result (CountsOneMore r v v')
+  pub held : OnOk result (HoldsLearnt 1 v v')
+  pub size : result ≡ Err Size → KindLacksRoom r kind v v'
+  pub refuses : IfErr result IsMemoryOrSize

@@ -10,7 +10,7 @@ use Rattle.wit_model.specs.declared.model.Resolve.{Resolve}
 use Rattle.wit_model.specs.declared.model.TypeDef.{TypeDef}
 use Rattle.wit_model.specs.declared.model.TypeOwner.TheVariants as owner
 use Rattle.wit_model.specs.declared.model.InterfaceId.{InterfaceId}
-use Rattle.comp_bytes.specs.Raw.{ExternName}
+use Rattle.comp_bytes.specs.Raw.{ExternName, Declarations}
 use Rattle.comp_meaning.specs.Follow.{Seen, Instance}
 use Rattle.encode_types.specs.Resources.{Names, is_resource_declaration}
 use Rattle.encode_types.specs.Slots.{Pairs, tree}
@@ -30,10 +30,12 @@ pub record Others : Type 0 where
   -- how many instance types there are, and which of them have been used
   pub instance_types : ℕ
   pub used : List ℕ
+  -- each of them behind what has been declared before it
+  pub declared : List (Declarations × Declarations)
 
 -- of a table, and of an instance type
 abbrev pub no_others : Others
-no_others = record { world = None; listed = []; instance_count = 0; imports = []; exports = []; instances = []; instance_types = 0; used = [] }
+no_others = record { world = None; listed = []; instance_count = 0; imports = []; exports = []; instances = []; instance_types = 0; used = []; declared = [] }
 
 -- Whose types are encoded, and where. None of it is changed by defining, exporting or importing types.
 pub record Scope : Type 0 where

@@ -1,5 +1,5 @@
 -- What the slots of a plain table stand for: each is read with the slots before it.
-use Rattle.std.specs.Prelude.{ℕ, ◌^◌, nat_lt, ◌<◌, ◌≡◌, ◌⊎◌, Bool, true, false, ◌||◌, cond, List, [], ◌∷◌, length, reverse, count_by, flat_map, Option, Some, None, String, is_some, is_none, ◌&&◌, option_to_list}
+use Rattle.std.specs.Prelude.{ℕ, ◌^◌, nat_lt, ◌<◌, ◌≡◌, ◌⊎◌, Bool, true, false, ◌||◌, cond, List, [], ◌∷◌, length, reverse, map, filter, filter_map, count_by, flat_map, Option, Some, None, String, is_some, is_none, ◌&&◌, option_to_list}
 use Rattle.std.proofs.Common.{subst, inl, inr, arith}
 use Rattle.std.proofs.lemmas.List.{length-reverse}
 use Rattle.std.specs.declared.alloc.Global.{Global}
@@ -12,7 +12,7 @@ use Rattle.wit_model.specs.Meaning.{TypeMeaning}
 use Rattle.wit_model.specs.Meant.{type_meaning}
 use Rattle.wit_model.specs.Lookup.{place_of, interface_at, type_at}
 use Rattle.wit_model.specs.Uses.{owner_interface}
-use Rattle.wit_model.specs.Parts.{same_owner}
+use Rattle.wit_model.specs.Parts.{same_owner, numbered_from}
 use Rattle.wit_model.specs.Valid.{IsValid}
 use Rattle.wit_model.specs.declared.model.Resolve.{Resolve}
 use Rattle.wit_model.specs.declared.model.TypeDef.{TypeDef}
@@ -102,6 +102,15 @@ abbrev pub is_function : Slot → Bool
 is_function (slot.Function f) = true
 is_function _ = false
 
+-- the places of those of a list for which this holds
+abbrev pub positions : {A : Type 0} → (A → Bool) → List A → List ℕ
+positions p xs = map (λ e. e.0) (filter (λ e. p e.1) (numbered_from 0 xs))
+
+-- the slot whose type is exported
+abbrev pub exported_slot : Slot → Option ℕ
+exported_slot (slot.Export i name) = Some i
+exported_slot _ = None
+
 -- whether a name declares this: the same text and the same external id
 abbrev pub is_name_of : ExternName → Text × TypeMeaning → Bool
 is_name_of name d = text_eq name.text d.0 && option_eq text_eq name.external_id d.1.external_id
@@ -112,7 +121,12 @@ exported_by declarations (slot.Resource name) = option_to_list (find (is_name_of
 exported_by declarations _ = []
 
 abbrev pub table_definitions : List (Text × TypeMeaning) → List Slot → Definitions
-table_definitions declarations slots = record { types = count_by is_definition slots; functions = count_by is_function slots; exports = flat_map (exported_by declarations) slots }
+table_definitions declarations slots = record {
+  types = positions is_definition slots;
+  exported = filter_map exported_slot slots;
+  functions = count_by is_function slots;
+  exports = flat_map (exported_by declarations) slots;
+}
 
 abbrev pub table_view : TableOf TypeEncodingMaps → View
 table_view t = record {

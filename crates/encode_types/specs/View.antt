@@ -25,7 +25,7 @@ pub record View : Type 1 where
   -- the number of slots, and what each stands for: after an export without a slot, one slot stands for two trees
   pub slot_count : ℕ
   pub stands : Pairs
-  -- how much has been defined, and what has been exported
+  -- what has been defined, and what has been exported
   pub definitions : Definitions
   -- which index stands for what
   pub maps : TypeEncodingMaps
@@ -55,9 +55,9 @@ AddsName v v' name i = AddsSlot v v' i (λ m. m ≡ tree (named v.scope.place na
 abbrev pub Exports : View → View → ℕ → Tree → Option ℕ → Type 0
 Exports v v' i t slot = NameAdded v.stands v'.stands v.slot_count v'.slot_count i t slot
 
--- one declaration of the place has been exported, under this name, and nothing has been defined
-abbrev pub ExportsName : View → View → ExternName → Type 0
-ExportsName v v' name = ExportsOne v.scope v.definitions v'.definitions name
+-- one declaration of the place has been exported, under this name, from this slot or from none, and nothing has been defined
+abbrev pub ExportsName : View → View → Option ℕ → ExternName → Type 0
+ExportsName v v' slot name = ExportsOne v.scope v.definitions v'.definitions slot name
 
 -- a definition, or the type of a function, as it was read before the call, has no room after it
 abbrev pub LacksDefinition : View → View → ComponentDefinedType → Type 0

@@ -54,7 +54,7 @@ pub(crate) fn define_shape<'a, E: ValtypeEncoder<'a>>(
     ensures grows { Grows (E.view enc.old) (E.view enc.new) }
     ensures scope_stays { (E.view enc.new).scope ≡ (E.view enc.old).scope }
     ensures maps_stay { (E.view enc.new).maps ≡ (E.view enc.old).maps }
-    ensures counts { OnOk result ((E.view enc.new).definitions ≡ one_type_more (E.view enc.old).definitions) }
+    ensures counts { IfOk result (λ i. (E.view enc.new).definitions ≡ one_type_more i (E.view enc.old).definitions) }
     ensures held { HoldsMore 1 (E.view enc.old) (E.view enc.new) }
     ensures written { OnOk result (Writes (tree_extent (kind_tree resolve.now (kind_of shape.entry))) (E.view enc.old) (E.view enc.new)) }
     ensures size { result ≡ Err Size → (E.view enc.new).lacks_room (value_type (kind_tree resolve.now (kind_of shape.entry))) }
@@ -77,7 +77,8 @@ fn define_alias<'a, E: ValtypeEncoder<'a>>(
     ensures grows { Grows (E.view enc.old) (E.view enc.new) }
     ensures scope_stays { (E.view enc.new).scope ≡ (E.view enc.old).scope }
     ensures maps_stay { (E.view enc.new).maps ≡ (E.view enc.old).maps }
-    ensures counts { OnOk result (DefinesIf (has_definition (TypeDefKind.Type_ ty.now)) (E.view enc.old) (E.view enc.new)) }
+    ensures counts { IfOk result (DefinesIf (has_definition (TypeDefKind.Type_ ty.now)) (E.view enc.old) (E.view enc.new)) }
+    ensures known { (id : _) → ty.now ≡ ValueType.Id id → IfOk result (λ i. Contains (E.view enc.old).maps.id_to_index.entries (id.0, i)) }
     ensures held { HoldsMore 1 (E.view enc.old) (E.view enc.new) }
     ensures written { OnOk result (Writes (tree_extent (kind_tree resolve.now (TypeDefKind.Type_ ty.now))) (E.view enc.old) (E.view enc.new)) }
     ensures size { result ≡ Err Size → (E.view enc.new).lacks_room (value_type (kind_tree resolve.now (TypeDefKind.Type_ ty.now))) }
@@ -106,7 +107,8 @@ fn define_kind<'a, E: ValtypeEncoder<'a>>(
     ensures grows { Grows (E.view enc.old) (E.view enc.new) }
     ensures scope_stays { (E.view enc.new).scope ≡ (E.view enc.old).scope }
     ensures maps_stay { (E.view enc.new).maps ≡ (E.view enc.old).maps }
-    ensures counts { OnOk result (DefinesIf (has_definition kind.now) (E.view enc.old) (E.view enc.new)) }
+    ensures counts { IfOk result (DefinesIf (has_definition kind.now) (E.view enc.old) (E.view enc.new)) }
+    ensures known { (id : _) → kind.now ≡ TypeDefKind.Type_ (ValueType.Id id) → IfOk result (λ i. Contains (E.view enc.old).maps.id_to_index.entries (id.0, i)) }
     ensures held { HoldsMore 1 (E.view enc.old) (E.view enc.new) }
     ensures written { OnOk result (Writes (tree_extent (kind_tree resolve.now kind.entry.now)) (E.view enc.old) (E.view enc.new)) }
     ensures size { result ≡ Err Size → (E.view enc.new).lacks_room (value_type (kind_tree resolve.now kind.entry.now)) }
@@ -241,7 +243,7 @@ fn export<'a, E: ValtypeEncoder<'a>>(
     ensures grows { Grows (E.view enc.old) (E.view enc.new) }
     ensures scope_stays { (E.view enc.new).scope ≡ (E.view enc.old).scope }
     ensures maps_stay { (E.view enc.new).maps ≡ (E.view enc.old).maps }
-    ensures counts { OnOk result (ExportsName (E.view enc.old) (E.view enc.new) (raw_name name.entry)) }
+    ensures counts { OnOk result (ExportsName (E.view enc.old) (E.view enc.new) (Some index) (raw_name name.entry)) }
     ensures held { HoldsMore 1 (E.view enc.old) (E.view enc.new) }
     ensures written { OnOk result (Writes (name_extent (raw_name name.entry)) (E.view enc.old) (E.view enc.new)) }
     ensures size { result ≡ Err Size → (E.view enc.new).lacks_room (export_name (raw_name name.entry)) }
@@ -263,6 +265,7 @@ fn define_named<'a, E: ValtypeEncoder<'a>>(
     name: ComponentExternName<'a>,
 ) -> Result<(), Error>
     requires kind { def.now.kind ≡ TypeDefKind.Resource → ⊥ }
+    requires there { type_at resolve.now id.0 ≡ Some def.now }
     requires name { raw_name name ≡ exported_name ((raw_name name).text, type_meaning resolve.now def.now) }
     requires declared { IsDeclared (E.view enc.old).scope ((raw_name name).text, type_meaning resolve.now def.now) }
     requires shown { own_name resolve.now (E.view enc.old).scope id.0 ≡ Some (raw_name name).text }

@@ -26,7 +26,7 @@ ghost use Rattle.encode_types.specs.Formed.{IsFormed};
 ghost use Rattle.encode_types.specs.Counts.{one_type_more};
 ghost use Rattle.encode_types.specs.Room.{value_type, import_of};
 ghost use Rattle.encode_types.specs.View.{Agrees, Grows, HoldsMore, HoldsLearnt, WritesLearnt};
-ghost use Rattle.encode_types.specs.Leaves.{Leaves, LearnsFrom, CountsTypes, CountsOneMore, DefinesIf, LacksRoom, KindLacksRoom};
+ghost use Rattle.encode_types.specs.Leaves.{Leaves, LearnsFrom, CountsTypes, CanDefine, DefinesKind, DefinesValue, DefinesIf, LacksRoom};
 
 use crate::define::{define_parts, define_shape};
 use crate::definition::{case_names, flag_names};
@@ -49,16 +49,8 @@ fn encode_shape<'a, E: ValtypeEncoder<'a>>(
     resolve: &'a Resolve,
     shape: Shape<'a, '_>,
 ) -> Result<ComponentValType, Error>
-    requires encodable { CanEncode resolve.now (E.view enc.old).scope (parts_of (kind_of shape)) }
-    requires formed { IsFormed (E.view enc.old).scope (kind_tree resolve.now (kind_of shape)) }
-    requires agree { Agrees resolve.now (E.view enc.old) }
-    ensures ok { IfOk result (λ v. StandsFor (E.view enc.new).stands v (kind_tree resolve.now (kind_of shape.entry))) }
-    ensures learns { OnOk result (LearnsFrom resolve.now (parts_of (kind_of shape.entry)) (E.view enc.old) (E.view enc.new)) }
-    ensures leaves { Leaves resolve.now (E.view enc.old) (E.view enc.new) }
-    ensures counts { OnOk result (CountsOneMore resolve.now (E.view enc.old) (E.view enc.new)) }
-    ensures held { OnOk result (HoldsLearnt 1 (E.view enc.old) (E.view enc.new)) }
-    ensures size { result ≡ Err Size → KindLacksRoom resolve.now (kind_of shape.entry) (E.view enc.old) (E.view enc.new) }
-    ensures refuses { IfErr result IsMemoryOrSize }
+    requires { CanDefine resolve.now (kind_of shape) (E.view enc.old) }
+    ensures { DefinesKind resolve.now (kind_of shape.entry) (E.view enc.old) (E.view enc.new) result }
 {
     let parts = shape_parts(alloc, shape)?;
     define_parts(alloc, enc, resolve, &parts)?;
@@ -158,16 +150,8 @@ pub fn encode_record<'a, E: ValtypeEncoder<'a>>(
     resolve: &'a Resolve,
     ty: &'a Record,
 ) -> Result<ComponentValType, Error>
-    requires encodable { CanEncode resolve.now (E.view enc.old).scope (parts_of (TypeDefKind.Record ty.now)) }
-    requires formed { IsFormed (E.view enc.old).scope (kind_tree resolve.now (TypeDefKind.Record ty.now)) }
-    requires agree { Agrees resolve.now (E.view enc.old) }
-    ensures ok { IfOk result (λ v. StandsFor (E.view enc.new).stands v (kind_tree resolve.now (TypeDefKind.Record ty.now))) }
-    ensures learns { OnOk result (LearnsFrom resolve.now (parts_of (TypeDefKind.Record ty.now)) (E.view enc.old) (E.view enc.new)) }
-    ensures leaves { Leaves resolve.now (E.view enc.old) (E.view enc.new) }
-    ensures counts { OnOk result (CountsOneMore resolve.now (E.view enc.old) (E.view enc.new)) }
-    ensures held { OnOk result (HoldsLearnt 1 (E.view enc.old) (E.view enc.new)) }
-    ensures size { result ≡ Err Size → KindLacksRoom resolve.now (TypeDefKind.Record ty.now) (E.view enc.old) (E.view enc.new) }
-    ensures refuses { IfErr result IsMemoryOrSize }
+    requires { CanDefine resolve.now (TypeDefKind.Record ty.now) (E.view enc.old) }
+    ensures { DefinesKind resolve.now (TypeDefKind.Record ty.now) (E.view enc.old) (E.view enc.new) result }
 {
     encode_shape(alloc, enc, resolve, Shape::Record(ty))
 }
@@ -181,16 +165,8 @@ pub fn encode_tuple<'a, E: ValtypeEncoder<'a>>(
     resolve: &'a Resolve,
     ty: &Tuple,
 ) -> Result<ComponentValType, Error>
-    requires encodable { CanEncode resolve.now (E.view enc.old).scope (parts_of (TypeDefKind.Tuple ty.now)) }
-    requires formed { IsFormed (E.view enc.old).scope (kind_tree resolve.now (TypeDefKind.Tuple ty.now)) }
-    requires agree { Agrees resolve.now (E.view enc.old) }
-    ensures ok { IfOk result (λ v. StandsFor (E.view enc.new).stands v (kind_tree resolve.now (TypeDefKind.Tuple ty.now))) }
-    ensures learns { OnOk result (LearnsFrom resolve.now (parts_of (TypeDefKind.Tuple ty.now)) (E.view enc.old) (E.view enc.new)) }
-    ensures leaves { Leaves resolve.now (E.view enc.old) (E.view enc.new) }
-    ensures counts { OnOk result (CountsOneMore resolve.now (E.view enc.old) (E.view enc.new)) }
-    ensures held { OnOk result (HoldsLearnt 1 (E.view enc.old) (E.view enc.new)) }
-    ensures size { result ≡ Err Size → KindLacksRoom resolve.now (TypeDefKind.Tuple ty.now) (E.view enc.old) (E.view enc.new) }
-    ensures refuses { IfErr result IsMemoryOrSize }
+    requires { CanDefine resolve.now (TypeDefKind.Tuple ty.now) (E.view enc.old) }
+    ensures { DefinesKind resolve.now (TypeDefKind.Tuple ty.now) (E.view enc.old) (E.view enc.new) result }
 {
     encode_shape(alloc, enc, resolve, Shape::Tuple(ty))
 }
@@ -204,16 +180,8 @@ pub fn encode_variant<'a, E: ValtypeEncoder<'a>>(
     resolve: &'a Resolve,
     ty: &'a Variant,
 ) -> Result<ComponentValType, Error>
-    requires encodable { CanEncode resolve.now (E.view enc.old).scope (parts_of (TypeDefKind.Variant ty.now)) }
-    requires formed { IsFormed (E.view enc.old).scope (kind_tree resolve.now (TypeDefKind.Variant ty.now)) }
-    requires agree { Agrees resolve.now (E.view enc.old) }
-    ensures ok { IfOk result (λ v. StandsFor (E.view enc.new).stands v (kind_tree resolve.now (TypeDefKind.Variant ty.now))) }
-    ensures learns { OnOk result (LearnsFrom resolve.now (parts_of (TypeDefKind.Variant ty.now)) (E.view enc.old) (E.view enc.new)) }
-    ensures leaves { Leaves resolve.now (E.view enc.old) (E.view enc.new) }
-    ensures counts { OnOk result (CountsOneMore resolve.now (E.view enc.old) (E.view enc.new)) }
-    ensures held { OnOk result (HoldsLearnt 1 (E.view enc.old) (E.view enc.new)) }
-    ensures size { result ≡ Err Size → KindLacksRoom resolve.now (TypeDefKind.Variant ty.now) (E.view enc.old) (E.view enc.new) }
-    ensures refuses { IfErr result IsMemoryOrSize }
+    requires { CanDefine resolve.now (TypeDefKind.Variant ty.now) (E.view enc.old) }
+    ensures { DefinesKind resolve.now (TypeDefKind.Variant ty.now) (E.view enc.old) (E.view enc.new) result }
 {
     encode_shape(alloc, enc, resolve, Shape::Variant(ty))
 }
@@ -227,16 +195,8 @@ pub fn encode_result<'a, E: ValtypeEncoder<'a>>(
     resolve: &'a Resolve,
     ty: &Result_,
 ) -> Result<ComponentValType, Error>
-    requires encodable { CanEncode resolve.now (E.view enc.old).scope (parts_of (TypeDefKind.Result ty.now)) }
-    requires formed { IsFormed (E.view enc.old).scope (kind_tree resolve.now (TypeDefKind.Result ty.now)) }
-    requires agree { Agrees resolve.now (E.view enc.old) }
-    ensures ok { IfOk result (λ v. StandsFor (E.view enc.new).stands v (kind_tree resolve.now (TypeDefKind.Result ty.now))) }
-    ensures learns { OnOk result (LearnsFrom resolve.now (parts_of (TypeDefKind.Result ty.now)) (E.view enc.old) (E.view enc.new)) }
-    ensures leaves { Leaves resolve.now (E.view enc.old) (E.view enc.new) }
-    ensures counts { OnOk result (CountsOneMore resolve.now (E.view enc.old) (E.view enc.new)) }
-    ensures held { OnOk result (HoldsLearnt 1 (E.view enc.old) (E.view enc.new)) }
-    ensures size { result ≡ Err Size → KindLacksRoom resolve.now (TypeDefKind.Result ty.now) (E.view enc.old) (E.view enc.new) }
-    ensures refuses { IfErr result IsMemoryOrSize }
+    requires { CanDefine resolve.now (TypeDefKind.Result ty.now) (E.view enc.old) }
+    ensures { DefinesKind resolve.now (TypeDefKind.Result ty.now) (E.view enc.old) (E.view enc.new) result }
 {
     encode_shape(alloc, enc, resolve, Shape::Result(ty))
 }
@@ -250,16 +210,8 @@ pub fn encode_option<'a, E: ValtypeEncoder<'a>>(
     resolve: &'a Resolve,
     payload: &Type,
 ) -> Result<ComponentValType, Error>
-    requires encodable { CanEncode resolve.now (E.view enc.old).scope (parts_of (TypeDefKind.Option payload.now)) }
-    requires formed { IsFormed (E.view enc.old).scope (kind_tree resolve.now (TypeDefKind.Option payload.now)) }
-    requires agree { Agrees resolve.now (E.view enc.old) }
-    ensures ok { IfOk result (λ v. StandsFor (E.view enc.new).stands v (kind_tree resolve.now (TypeDefKind.Option payload.now))) }
-    ensures learns { OnOk result (LearnsFrom resolve.now (parts_of (TypeDefKind.Option payload.now)) (E.view enc.old) (E.view enc.new)) }
-    ensures leaves { Leaves resolve.now (E.view enc.old) (E.view enc.new) }
-    ensures counts { OnOk result (CountsOneMore resolve.now (E.view enc.old) (E.view enc.new)) }
-    ensures held { OnOk result (HoldsLearnt 1 (E.view enc.old) (E.view enc.new)) }
-    ensures size { result ≡ Err Size → KindLacksRoom resolve.now (TypeDefKind.Option payload.now) (E.view enc.old) (E.view enc.new) }
-    ensures refuses { IfErr result IsMemoryOrSize }
+    requires { CanDefine resolve.now (TypeDefKind.Option payload.now) (E.view enc.old) }
+    ensures { DefinesKind resolve.now (TypeDefKind.Option payload.now) (E.view enc.old) (E.view enc.new) result }
 {
     encode_shape(alloc, enc, resolve, Shape::Option(*payload))
 }
@@ -273,16 +225,8 @@ pub fn encode_future<'a, E: ValtypeEncoder<'a>>(
     resolve: &'a Resolve,
     payload: &Option<Type>,
 ) -> Result<ComponentValType, Error>
-    requires encodable { CanEncode resolve.now (E.view enc.old).scope (parts_of (TypeDefKind.Future payload.now)) }
-    requires formed { IsFormed (E.view enc.old).scope (kind_tree resolve.now (TypeDefKind.Future payload.now)) }
-    requires agree { Agrees resolve.now (E.view enc.old) }
-    ensures ok { IfOk result (λ v. StandsFor (E.view enc.new).stands v (kind_tree resolve.now (TypeDefKind.Future payload.now))) }
-    ensures learns { OnOk result (LearnsFrom resolve.now (parts_of (TypeDefKind.Future payload.now)) (E.view enc.old) (E.view enc.new)) }
-    ensures leaves { Leaves resolve.now (E.view enc.old) (E.view enc.new) }
-    ensures counts { OnOk result (CountsOneMore resolve.now (E.view enc.old) (E.view enc.new)) }
-    ensures held { OnOk result (HoldsLearnt 1 (E.view enc.old) (E.view enc.new)) }
-    ensures size { result ≡ Err Size → KindLacksRoom resolve.now (TypeDefKind.Future payload.now) (E.view enc.old) (E.view enc.new) }
-    ensures refuses { IfErr result IsMemoryOrSize }
+    requires { CanDefine resolve.now (TypeDefKind.Future payload.now) (E.view enc.old) }
+    ensures { DefinesKind resolve.now (TypeDefKind.Future payload.now) (E.view enc.old) (E.view enc.new) result }
 {
     encode_shape(alloc, enc, resolve, Shape::Future(*payload))
 }
@@ -296,16 +240,8 @@ pub fn encode_stream<'a, E: ValtypeEncoder<'a>>(
     resolve: &'a Resolve,
     payload: &Option<Type>,
 ) -> Result<ComponentValType, Error>
-    requires encodable { CanEncode resolve.now (E.view enc.old).scope (parts_of (TypeDefKind.Stream payload.now)) }
-    requires formed { IsFormed (E.view enc.old).scope (kind_tree resolve.now (TypeDefKind.Stream payload.now)) }
-    requires agree { Agrees resolve.now (E.view enc.old) }
-    ensures ok { IfOk result (λ v. StandsFor (E.view enc.new).stands v (kind_tree resolve.now (TypeDefKind.Stream payload.now))) }
-    ensures learns { OnOk result (LearnsFrom resolve.now (parts_of (TypeDefKind.Stream payload.now)) (E.view enc.old) (E.view enc.new)) }
-    ensures leaves { Leaves resolve.now (E.view enc.old) (E.view enc.new) }
-    ensures counts { OnOk result (CountsOneMore resolve.now (E.view enc.old) (E.view enc.new)) }
-    ensures held { OnOk result (HoldsLearnt 1 (E.view enc.old) (E.view enc.new)) }
-    ensures size { result ≡ Err Size → KindLacksRoom resolve.now (TypeDefKind.Stream payload.now) (E.view enc.old) (E.view enc.new) }
-    ensures refuses { IfErr result IsMemoryOrSize }
+    requires { CanDefine resolve.now (TypeDefKind.Stream payload.now) (E.view enc.old) }
+    ensures { DefinesKind resolve.now (TypeDefKind.Stream payload.now) (E.view enc.old) (E.view enc.new) result }
 {
     encode_shape(alloc, enc, resolve, Shape::Stream(*payload))
 }
@@ -320,7 +256,7 @@ fn define<'a, E: ValtypeEncoder<'a>>(
     ensures grows { Grows (E.view enc.old) (E.view enc.new) }
     ensures scope_stays { (E.view enc.new).scope ≡ (E.view enc.old).scope }
     ensures maps_stay { (E.view enc.new).maps ≡ (E.view enc.old).maps }
-    ensures counts { OnOk result ((E.view enc.new).definitions ≡ one_type_more (E.view enc.old).definitions) }
+    ensures counts { IfOk result (DefinesValue (E.view enc.old) (E.view enc.new)) }
     ensures held { HoldsMore 1 (E.view enc.old) (E.view enc.new) }
     ensures size { result ≡ Err Size → (t : Tree) → Follows (E.view enc.old).stands def.entry t → (E.view enc.new).lacks_room (value_type t) }
     ensures refuses { IfErr result IsMemoryOrSize }
@@ -342,7 +278,7 @@ pub fn encode_flags<'a, E: ValtypeEncoder<'a>>(
     ensures grows { Grows (E.view enc.old) (E.view enc.new) }
     ensures scope_stays { (E.view enc.new).scope ≡ (E.view enc.old).scope }
     ensures maps_stay { (E.view enc.new).maps ≡ (E.view enc.old).maps }
-    ensures counts { OnOk result ((E.view enc.new).definitions ≡ one_type_more (E.view enc.old).definitions) }
+    ensures counts { IfOk result (DefinesValue (E.view enc.old) (E.view enc.new)) }
     ensures held { HoldsMore 1 (E.view enc.old) (E.view enc.new) }
     ensures size { result ≡ Err Size → (E.view enc.new).lacks_room (value_type (flags_tree (map (λ x. text_of x.name) ty.now.flags.items))) }
     ensures refuses { IfErr result IsMemoryOrSize }
@@ -364,7 +300,7 @@ pub fn encode_enum<'a, E: ValtypeEncoder<'a>>(
     ensures grows { Grows (E.view enc.old) (E.view enc.new) }
     ensures scope_stays { (E.view enc.new).scope ≡ (E.view enc.old).scope }
     ensures maps_stay { (E.view enc.new).maps ≡ (E.view enc.old).maps }
-    ensures counts { OnOk result ((E.view enc.new).definitions ≡ one_type_more (E.view enc.old).definitions) }
+    ensures counts { IfOk result (DefinesValue (E.view enc.old) (E.view enc.new)) }
     ensures held { HoldsMore 1 (E.view enc.old) (E.view enc.new) }
     ensures size { result ≡ Err Size → (E.view enc.new).lacks_room (value_type (enum_tree (map (λ x. text_of x.name) ty.now.cases.items))) }
     ensures refuses { IfErr result IsMemoryOrSize }
@@ -387,7 +323,7 @@ pub fn encode_unit_future<'a, E: ValtypeEncoder<'a>>(
     ensures first { IfSome (E.view enc.old).maps.unit_future (λ i. result ≡ Ok i) }
     ensures rest { (E.view enc.new).maps ≡ record (E.view enc.old).maps { unit_future = (E.view enc.new).maps.unit_future } }
     ensures leaves { Leaves (E.view enc.old).scope.packages (E.view enc.old) (E.view enc.new) }
-    ensures counts { OnOk result (DefinesIf (is_none (E.view enc.old).maps.unit_future) (E.view enc.old) (E.view enc.new)) }
+    ensures counts { IfOk result (DefinesIf (is_none (E.view enc.old).maps.unit_future) (E.view enc.old) (E.view enc.new)) }
     ensures held { HoldsMore 1 (E.view enc.old) (E.view enc.new) }
     ensures size { result ≡ Err Size → (E.view enc.new).lacks_room (value_type (future_tree None)) }
     ensures refuses { IfErr result IsMemoryOrSize }
@@ -407,7 +343,7 @@ fn define_unit_future<'a, E: ValtypeEncoder<'a>>(enc: &mut E) -> Result<u32, Err
     ensures cached { IfOk result (λ i. (E.view enc.new).maps.unit_future ≡ Some i) }
     ensures rest { (E.view enc.new).maps ≡ record (E.view enc.old).maps { unit_future = (E.view enc.new).maps.unit_future } }
     ensures leaves { Leaves (E.view enc.old).scope.packages (E.view enc.old) (E.view enc.new) }
-    ensures counts { OnOk result ((E.view enc.new).definitions ≡ one_type_more (E.view enc.old).definitions) }
+    ensures counts { IfOk result (λ i. (E.view enc.new).definitions ≡ one_type_more i (E.view enc.old).definitions) }
     ensures held { HoldsMore 1 (E.view enc.old) (E.view enc.new) }
     ensures size { result ≡ Err Size → (E.view enc.new).lacks_room (value_type (future_tree None)) }
     ensures refuses { IfErr result IsMemoryOrSize }
@@ -431,7 +367,7 @@ pub fn encode_unit_stream<'a, E: ValtypeEncoder<'a>>(
     ensures first { IfSome (E.view enc.old).maps.unit_stream (λ i. result ≡ Ok i) }
     ensures rest { (E.view enc.new).maps ≡ record (E.view enc.old).maps { unit_stream = (E.view enc.new).maps.unit_stream } }
     ensures leaves { Leaves (E.view enc.old).scope.packages (E.view enc.old) (E.view enc.new) }
-    ensures counts { OnOk result (DefinesIf (is_none (E.view enc.old).maps.unit_stream) (E.view enc.old) (E.view enc.new)) }
+    ensures counts { IfOk result (DefinesIf (is_none (E.view enc.old).maps.unit_stream) (E.view enc.old) (E.view enc.new)) }
     ensures held { HoldsMore 1 (E.view enc.old) (E.view enc.new) }
     ensures size { result ≡ Err Size → (E.view enc.new).lacks_room (value_type (stream_tree None)) }
     ensures refuses { IfErr result IsMemoryOrSize }
@@ -451,7 +387,7 @@ fn define_unit_stream<'a, E: ValtypeEncoder<'a>>(enc: &mut E) -> Result<u32, Err
     ensures cached { IfOk result (λ i. (E.view enc.new).maps.unit_stream ≡ Some i) }
     ensures rest { (E.view enc.new).maps ≡ record (E.view enc.old).maps { unit_stream = (E.view enc.new).maps.unit_stream } }
     ensures leaves { Leaves (E.view enc.old).scope.packages (E.view enc.old) (E.view enc.new) }
-    ensures counts { OnOk result ((E.view enc.new).definitions ≡ one_type_more (E.view enc.old).definitions) }
+    ensures counts { IfOk result (λ i. (E.view enc.new).definitions ≡ one_type_more i (E.view enc.old).definitions) }
     ensures held { HoldsMore 1 (E.view enc.old) (E.view enc.new) }
     ensures size { result ≡ Err Size → (E.view enc.new).lacks_room (value_type (stream_tree None)) }
     ensures refuses { IfErr result IsMemoryOrSize }

@@ -1,6 +1,6 @@
 //! What defines types in a scope, and the law that it keeps.
 
-ghost use Rattle.std.specs.Prelude.{◌≡◌, ◌<◌, ℕ, Err, IfOk, OnOk, IfErr};
+ghost use Rattle.std.specs.Prelude.{◌≡◌, ◌<◌, ℕ, Err, Some, None, IfOk, OnOk, IfErr};
 ghost use Rattle.std.specs.Borrow.{sem, Lends};
 ghost use Rattle.wit_model.specs.declared.error.Error.TheVariants.{Size};
 ghost use Rattle.wit_model.specs.Tree.{Tree, named};
@@ -60,7 +60,7 @@ pub trait ValtypeEncoder<'a>: LendsMaps<TypeEncodingMaps<'a>> {
         ensures scope_stays { (view self.new).scope ≡ (view self.old).scope }
         ensures around_stays { (view self.new).around ≡ (view self.old).around }
         ensures maps_stay { (view self.new).maps ≡ (view self.old).maps }
-        ensures counts { OnOk result ((view self.new).definitions ≡ one_type_more (view self.old).definitions) }
+        ensures counts { IfOk result (λ i. (view self.new).definitions ≡ one_type_more i (view self.old).definitions) }
         ensures held { HoldsMore 1 (view self.old) (view self.new) }
         ensures written { OnOk result (WritesDefinition (view self.old) (view self.new) def.entry) }
         ensures size { result ≡ Err Size → LacksDefinition (view self.old) (view self.new) def.entry }
@@ -93,7 +93,7 @@ pub trait ValtypeEncoder<'a>: LendsMaps<TypeEncodingMaps<'a>> {
         ensures scope_stays { (view self.new).scope ≡ (view self.old).scope }
         ensures around_stays { (view self.new).around ≡ (view self.old).around }
         ensures maps_stay { (view self.new).maps ≡ (view self.old).maps }
-        ensures counts { OnOk result (ExportsName (view self.old) (view self.new) (raw_name name.entry)) }
+        ensures counts { OnOk result (ExportsName (view self.old) (view self.new) (Some index) (raw_name name.entry)) }
         ensures held { HoldsMore 1 (view self.old) (view self.new) }
         ensures written { OnOk result (Writes (name_extent (raw_name name.entry)) (view self.old) (view self.new)) }
         ensures size { result ≡ Err Size → (view self.new).lacks_room (export_name (raw_name name.entry)) }
@@ -107,7 +107,7 @@ pub trait ValtypeEncoder<'a>: LendsMaps<TypeEncodingMaps<'a>> {
         ensures scope_stays { (view self.new).scope ≡ (view self.old).scope }
         ensures around_stays { (view self.new).around ≡ (view self.old).around }
         ensures maps_stay { (view self.new).maps ≡ (view self.old).maps }
-        ensures counts { OnOk result (ExportsName (view self.old) (view self.new) (raw_name name.entry)) }
+        ensures counts { OnOk result (ExportsName (view self.old) (view self.new) None (raw_name name.entry)) }
         ensures held { HoldsMore 1 (view self.old) (view self.new) }
         ensures written { OnOk result (Writes (name_extent (raw_name name.entry)) (view self.old) (view self.new)) }
         ensures size { result ≡ Err Size → (view self.new).lacks_room (export_name (raw_name name.entry)) }

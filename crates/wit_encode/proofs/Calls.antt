@@ -1,5 +1,5 @@
 -- What the calls of an encoder of interfaces do to what it holds.
-use Rattle.std.proofs.Common.{◌≡◌, refl, sym, subst, ap, ◌∙◌, ℕ, ◌+◌, Bool, true, false, not, cond, List, [], ◌∷◌, ◌++◌, map, Result, Ok, Err, IfOk, OnOk, OnErr, Option, Some, None, slice_get, length, arith}
+use Rattle.std.proofs.Common.{◌≡◌, refl, sym, subst, ap, ◌∙◌, ℕ, ◌+◌, Bool, true, false, not, cond, List, [], ◌∷◌, ◌++◌, append-nil, map, option_to_list, Result, Ok, Err, IfOk, OnOk, OnErr, Option, Some, None, slice_get, length, arith}
 use Rattle.std.specs.List.{list_all}
 use Rattle.std.specs.Option.{option_map_or, is_some}
 use Rattle.std.proofs.lemmas.List.{map-append}
@@ -25,9 +25,11 @@ use Rattle.encode_types.specs.Resources.{Names, is_resource_tree}
 use Rattle.encode_types.specs.Scope.{Scope, IsDeclared, DeclaresSlot, DeclaresResource, exported_name}
 use Rattle.encode_types.specs.Formed.{IsFormed, IsFormedSignature, is_formed}
 use Rattle.encode_types.specs.Counts.{one_type_more, one_function_more, ExportsOne}
+use Rattle.encode_types.specs.Distinct.{described_slot, target_of}
+use Rattle.wit_encode.proofs.ValueSlots.{values-more, targets-more}
 use Rattle.wit_encode.specs.Instance.{standing_at, SlotsStand, is_slot_of, Contents, no_view, outer_slots, inner_scope, inner_contents, is_value_type, is_function_type, place_in, resources_in, scope_with, definitions_with}
 use Rattle.encode_types.specs.Known.{Around}
-use Rattle.encode_types.proofs.Defining.{count-push}
+use Rattle.encode_types.proofs.Marking.{count-push}
 use Rattle.wit_encode.proofs.Strict.{bind, definition-strict, function-strict, follows-once, signature-once}
 use Rattle.wit_encode.proofs.Contents.{IsOf, Grew, grew-adds, grew-grows, same-grows, grew-scope}
 use Rattle.wit_encode.proofs.Declaring.{DeclaredAs, declared-slot, declared-resource}
@@ -100,15 +102,16 @@ inner-grew place outer ds d x shown m =
 abbrev pub shown_meanings : List ShownType → List (Text × TypeMeaning)
 shown_meanings ts = map (λ t. (t.name, t.meaning)) ts
 
-inner-definitions : (place : Place) (outer : Declarations) (ds : List Declaration) (d : Declaration) (x : Slot) (shown : List ShownType) → InnerMore place outer ds d x shown → (types functions : ℕ)
-    → (inner_contents place outer ds).types + cond (is_value_type d) 1 0 ≡ types → (inner_contents place outer ds).functions + cond (is_function_type d) 1 0 ≡ functions
-    → definitions_with (inner_contents place outer (ds ++ d ∷ [])) ≡ record { types = types; functions = functions; exports = (definitions_with (inner_contents place outer ds)).exports ++ shown_meanings shown }
+inner-definitions : (place : Place) (outer : Declarations) (ds : List Declaration) (d : Declaration) (x : Slot) (shown : List ShownType) → InnerMore place outer ds d x shown → (types exported : List ℕ) (functions : ℕ)
+    → (inner_contents place outer ds).types ++ cond (is_value_type d) (type_slots ds ∷ []) [] ≡ types → (inner_contents place outer ds).exported ++ option_to_list (target_of d) ≡ exported
+    → (inner_contents place outer ds).functions + cond (is_function_type d) 1 0 ≡ functions
+    → definitions_with (inner_contents place outer (ds ++ d ∷ [])) ≡ record { types = types; exported = exported; functions = functions; exports = (definitions_with (inner_contents place outer ds)).exports ++ shown_meanings shown }
 unfolding inner_contents
-inner-definitions place outer ds d x shown m types functions t f =
+inner-definitions place outer ds d x shown m types exported functions t u f =
     let next = steps.steps-more place (outer_slots outer) new_instance m.at.scope m.after ds d m.at.is m.step in
     let exports = ap (λ o. shown_meanings (option_map_or (λ s. s.shown) o no_view).types) next ∙ ap shown_meanings m.types ∙ map-append (λ (t : ShownType). (t.name, t.meaning)) m.at.scope.shown.types shown
     ∙ ap (λ xs. xs ++ shown_meanings shown) (sym (ap (λ o. shown_meanings (option_map_or (λ s. s.shown) o no_view).types) m.at.is)) in
-    λ i. record { types = (count-push is_value_type ds d ∙ t) i; functions = (count-push is_function_type ds d ∙ f) i; exports = exports i }
+    λ i. record { types = (values-more ds d ∙ t) i; exported = (targets-more ds d ∙ u) i; functions = (count-push is_function_type ds d ∙ f) i; exports = exports i }
 
 -- ---- what stands in the new slot
 
@@ -202,7 +205,7 @@ module _ {E : Type 0} (res : Result ℕ E) (r : Resolve) (i : InterfaceId) (arou
 
     pub defined-inside : (d : ComponentDefinedType) (t : Tree) → Follows (SlotsStand before.slots) d t → IsFormed (scope_with r here around before) t
         → IfOk res (λ k. (k ≡ type_slots ds) × (ds' ≡ ds ++ Declaration.defined (raw_defined d) ∷ [])) → OnErr res (ds' ≡ ds)
-        → Calls res (scope_with r here around before) (scope_with r here around after) before after (Defines (SlotsStand before.slots) d) (definitions_with after ≡ one_type_more (definitions_with before))
+        → Calls res (scope_with r here around before) (scope_with r here around after) before after (Defines (SlotsStand before.slots) d) (definitions_with after ≡ one_type_more (length before.slots) (definitions_with before))
     defined-inside d t h f ok err =
         let a = inner-there in
         let strict : definition a.scope.slots (raw_defined d) ≡ Some t = ap (λ zs. definition zs (raw_defined d)) (sym a.slots) ∙ definition-strict (resources_in r here) before.slots inner-slots d t h f.formed in
@@ -216,8 +219,8 @@ module _ {E : Type 0} (res : Result ℕ E) (r : Resolve) (i : InterfaceId) (arou
         } in
         calls-from res r here around before after _ _ (Slot.value t) sound (formed-value (resources_in r here) t f.formed) (defines-of before.slots d t h)
         (more-ok (Declaration.defined (raw_defined d)) (Slot.value t) [] _ m (λ e. ap (λ zs. definitions_with (inner_contents (place_in r here) outer zs)) e
-        ∙ inner-definitions (place_in r here) outer ds (Declaration.defined (raw_defined d)) (Slot.value t) [] m (before.types + 1) before.functions refl (omega arith)
-        ∙ (λ j. record { types = before.types + 1; functions = before.functions; exports = sym (nothing-more (definitions_with before).exports) j })) ok)
+        ∙ inner-definitions (place_in r here) outer ds (Declaration.defined (raw_defined d)) (Slot.value t) [] m (before.types ++ length before.slots ∷ []) before.exported before.functions (ap (λ (k : ℕ). before.types ++ k ∷ []) (inner-index (place_in r here) outer ds a)) (append-nil before.exported) (omega arith)
+        ∙ (λ j. record { types = before.types ++ length before.slots ∷ []; exported = before.exported; functions = before.functions; exports = sym (nothing-more (definitions_with before).exports) j })) ok)
         (err-same err)
 
     pub function-inside : (d : ComponentFuncType) (s : Signature) → FollowsFunction (SlotsStand before.slots) d s → IsFormedSignature (scope_with r here around before) s
@@ -236,8 +239,8 @@ module _ {E : Type 0} (res : Result ℕ E) (r : Resolve) (i : InterfaceId) (arou
         } in
         calls-from res r here around before after _ _ (Slot.function s) sound refl (function-of before.slots d s h)
         (more-ok (Declaration.function (raw_function d)) (Slot.function s) [] _ m (λ e. ap (λ zs. definitions_with (inner_contents (place_in r here) outer zs)) e
-        ∙ inner-definitions (place_in r here) outer ds (Declaration.function (raw_function d)) (Slot.function s) [] m before.types (before.functions + 1) (omega arith) refl
-        ∙ (λ j. record { types = before.types; functions = before.functions + 1; exports = sym (nothing-more (definitions_with before).exports) j })) ok)
+        ∙ inner-definitions (place_in r here) outer ds (Declaration.function (raw_function d)) (Slot.function s) [] m before.types before.exported (before.functions + 1) (append-nil before.types) (append-nil before.exported) refl
+        ∙ (λ j. record { types = before.types; exported = before.exported; functions = before.functions + 1; exports = sym (nothing-more (definitions_with before).exports) j })) ok)
         (err-same err)
 
     -- a type around that is the name of a named interface
@@ -259,22 +262,22 @@ module _ {E : Type 0} (res : Result ℕ E) (r : Resolve) (i : InterfaceId) (arou
         calls-from res r here around before after _ _ x sound kept
         (record { gives = λ m e. stands ∙ ap Some (sym e); only = λ m e. some-standing _ m (sym stands ∙ e) })
         (more-ok d x [] _ m (λ e. ap (λ zs. definitions_with (inner_contents (place_in r here) outer zs)) e
-        ∙ inner-definitions (place_in r here) outer ds (Declaration.alias_of (Alias.of_outer 1 k)) x [] m before.types before.functions (omega arith) (omega arith)
-        ∙ (λ j. record { types = before.types; functions = before.functions; exports = sym (nothing-more (definitions_with before).exports) j })) ok)
+        ∙ inner-definitions (place_in r here) outer ds (Declaration.alias_of (Alias.of_outer 1 k)) x [] m before.types before.exported before.functions (append-nil before.types) (append-nil before.exported) (omega arith)
+        ∙ (λ j. record { types = before.types; exported = before.exported; functions = before.functions; exports = sym (nothing-more (definitions_with before).exports) j })) ok)
         (err-same err)
 
     -- ---- exports of types
 
-    abbrev ShownAs : ExternName → Type 0
-    ShownAs name = ExportsOne (scope_with r here around before) (definitions_with before) (definitions_with after) name
+    abbrev ShownAs : Option ℕ → ExternName → Type 0
+    ShownAs slot name = ExportsOne (scope_with r here around before) (definitions_with before) (definitions_with after) slot name
 
     -- a declaration that is followed as it says
-    exported-inside : (described : ComponentTypeRef) (name : ExternName) (d : Text × TypeMeaning) (x : Slot) → IsDeclared (scope_with r here around before) d → name ≡ exported_name d → is_slot_of (resources_in r here) x ≡ true
+    exported-inside : (described : ComponentTypeRef) {slot : Option ℕ} → described_slot described ≡ slot → (name : ExternName) (d : Text × TypeMeaning) (x : Slot) → IsDeclared (scope_with r here around before) d → name ≡ exported_name d → is_slot_of (resources_in r here) x ≡ true
         → standing_at (Some x) ≡ Some (tree (named (place_in r here) name.text)) → ((m : InstanceScope) → instance_step (place_in r here) (outer_slots outer) m (Declaration.exported name described) ≡ show_type (place_in r here) name described m)
         → named_type before.slots (place_in r here) name.text described ≡ Some (d.1.declaration, x)
         → IfOk res (λ k. (k ≡ type_slots ds) × (ds' ≡ ds ++ Declaration.exported name described ∷ [])) → OnErr res (ds' ≡ ds)
-        → Calls res (scope_with r here around before) (scope_with r here around after) before after (λ m. m ≡ tree (named (place_in r here) name.text)) (ShownAs name)
-    exported-inside described name d x declared is kept stands step found ok err =
+        → Calls res (scope_with r here around before) (scope_with r here around after) before after (λ m. m ≡ tree (named (place_in r here) name.text)) (ShownAs slot name)
+    exported-inside described {slot} from name d x declared is kept stands step found ok err =
         let a = inner-there in
         let t : ShownType = record { name = name.text; meaning = record { declaration = d.1.declaration; external_id = name.external_id }; slot = x } in
         let next : InstanceScope = record { slots = a.scope.slots ++ x ∷ []; shown = record { types = a.scope.shown.types ++ t ∷ []; functions = a.scope.shown.functions } } in
@@ -295,8 +298,8 @@ module _ {E : Type 0} (res : Result ℕ E) (r : Resolve) (i : InterfaceId) (arou
           there = declared.there;
           named_ = is;
           one_more = ap (λ zs. definitions_with (inner_contents (place_in r here) outer zs)) e
-              ∙ inner-definitions (place_in r here) outer ds (Declaration.exported name described) x (t ∷ []) m before.types before.functions (omega arith) (omega arith)
-              ∙ (λ j. record { types = before.types; functions = before.functions; exports = (definitions_with before).exports ++ meant j ∷ [] });
+              ∙ inner-definitions (place_in r here) outer ds (Declaration.exported name described) x (t ∷ []) m before.types (before.exported ++ option_to_list slot) before.functions (append-nil before.types) (ap (λ o. before.exported ++ option_to_list o) from) (omega arith)
+              ∙ (λ j. record { types = before.types; exported = before.exported ++ option_to_list slot; functions = before.functions; exports = (definitions_with before).exports ++ meant j ∷ [] });
         }) ok)
         (err-same err)
 
@@ -305,16 +308,16 @@ module _ {E : Type 0} (res : Result ℕ E) (r : Resolve) (i : InterfaceId) (arou
 
     pub type-inside : (k : ℕ) (name : ExternName) → DeclaresSlot (scope_with r here around before) (SlotsStand before.slots) name k
         → IfOk res (λ k'. (k' ≡ type_slots ds) × (ds' ≡ ds ++ Declaration.exported name (refs.TypeEq k) ∷ [])) → OnErr res (ds' ≡ ds)
-        → Calls res (scope_with r here around before) (scope_with r here around after) before after (λ m. m ≡ tree (named (place_in r here) name.text)) (ShownAs name)
+        → Calls res (scope_with r here around before) (scope_with r here around after) before after (λ m. m ≡ tree (named (place_in r here) name.text)) (ShownAs (Some k) name)
     type-inside k name s ok err =
         let its : DeclaredAs (scope_with r here around before) before.slots name (refs.TypeEq k) s.declaration = declared-slot (scope_with r here around before) before.slots inner-slots name k s in
-        exported-inside (refs.TypeEq k) name s.declaration its.slot s.declared s.named_ its.kept its.stands
+        exported-inside (refs.TypeEq k) refl name s.declaration its.slot s.declared s.named_ its.kept its.stands
         (λ m. ap (λ b. follow.when b (show_type (place_in r here) name (refs.TypeEq k) m)) (simple-name name s.declaration s.named_)) its.found ok err
 
     pub resource-inside : (name : ExternName) → DeclaresResource (scope_with r here around before) name
         → IfOk res (λ k'. (k' ≡ type_slots ds) × (ds' ≡ ds ++ Declaration.exported name refs.SubResource ∷ [])) → OnErr res (ds' ≡ ds)
-        → Calls res (scope_with r here around before) (scope_with r here around after) before after (λ m. m ≡ tree (named (place_in r here) name.text)) (ShownAs name)
+        → Calls res (scope_with r here around before) (scope_with r here around after) before after (λ m. m ≡ tree (named (place_in r here) name.text)) (ShownAs None name)
     resource-inside name s ok err =
         let its : DeclaredAs (scope_with r here around before) before.slots name refs.SubResource s.declaration = declared-resource (scope_with r here around before) before.slots inner-slots name s in
-        exported-inside refs.SubResource name s.declaration its.slot s.declared s.named_ its.kept its.stands
+        exported-inside refs.SubResource refl name s.declaration its.slot s.declared s.named_ its.kept its.stands
         (λ m. ap (λ b. follow.when b (show_type (place_in r here) name refs.SubResource m)) (simple-name name s.declaration s.named_)) its.found ok err

@@ -18,14 +18,14 @@ use Rattle.encode_types.specs.Distinct.{DefinesKeys, DefinesTypes}
 use Rattle.encode_types.specs.Known.{Around, GrowsAround}
 use Rattle.wit_encode.specs.declared.interface.Foreign.{Foreign}
 use Rattle.wit_encode.specs.Order.{functions_in_order}
-use Rattle.wit_encode.specs.Instance.{around_at, keyed, placed_function, meaning_of, EncodesInterface, EncodesDependency, EncodesPart, IsInstance}
+use Rattle.wit_encode.specs.Instance.{stands_inside, around_at, keyed, placed_function, meaning_of, EncodesInterface, EncodesDependency, EncodesPart, IsInstance}
 use Rattle.wit_encode.proofs.Counting.{count-keys, permuted-keys}
 use Rattle.wit_encode.proofs.Referring.{permuted-types}
 use Rattle.wit_encode.proofs.Opening.{Placed, map-twice, values-permuted}
 
 -- the instance type takes its slot
 pub closes : {E : Type 0} (res : Result ℕ E) (r : Resolve) (a : Around) (outer outer' : Declarations) (foreign foreign' : Foreign) (i : InterfaceId) (def : Interface) (types : List TypeId) (declared : List Declaration) (fs : List Placed) → types ≡ values def.types
-    → GrowsAround r a (around_at outer foreign) → foreign' ≡ foreign → DefinesKeys (map (λ f. f.2.now) fs) declared → DefinesTypes r i types (map (λ f. f.2.now) fs) declared
+    → GrowsAround r a (around_at outer foreign) → foreign' ≡ foreign → DefinesKeys (map (λ f. f.2.now) fs) declared → DefinesTypes r (Some i) (stands_inside r i outer declared) types (map (λ f. f.2.now) fs) (from_list declared)
     → IsInstance r outer i declared (map (λ f. meaning_of r (placed_function f)) fs) → IfOk res (λ k. (k ≡ type_slots_of outer) × (outer' ≡ append outer (Declarations.instance (from_list declared) Declarations.no_more)))
     → IfOk res (λ k. EncodesPart r a (around_at outer' foreign') i def (map placed_function fs) (map (λ f. f.2.now) fs) k)
 closes (Err e) r a outer outer' foreign foreign' i def types declared fs l grown o keys kinds is h = h
@@ -37,7 +37,7 @@ closes (Ok k) r a outer outer' foreign foreign' i def types declared fs l grown 
   one_more = λ j. around_at (h.1 j) (o j);
   is_instance = record { view = is.view; followed = is.followed; shows = is.shows ∙ sym (map-twice (meaning_of r) placed_function fs); types = is.types };
   function_types = keys;
-  value_types = subst (λ (ts : List TypeId). DefinesTypes r i ts (map (λ f. f.2.now) fs) declared) l kinds;
+  value_types = subst (λ (ts : List TypeId). DefinesTypes r (Some i) (stands_inside r i outer declared) ts (map (λ f. f.2.now) fs) (from_list declared)) l kinds;
 }
 
 -- with all functions of the interface, in order, it shows the interface
@@ -52,7 +52,7 @@ whole r v a a' i def fs k there p ordered e = record {
     one_more = e.one_more;
     is_instance = record { view = e.is_instance.view; followed = e.is_instance.followed; shows = e.is_instance.shows ∙ ap (map (meaning_of r)) ordered; types = e.is_instance.types };
     function_types = permuted-keys (values def.functions) (map (λ f. f.2.now) fs) e.declared (values-permuted def fs p) e.function_types;
-    value_types = permuted-types r i (values def.types) (values def.functions) (map (λ f. f.2.now) fs) e.declared (values-permuted def fs p) e.value_types;
+    value_types = permuted-types r (Some i) (stands_inside r i e.before.declared e.declared) (values def.types) (values def.functions) (map (λ f. f.2.now) fs) (from_list e.declared) (values-permuted def fs p) e.value_types;
   };
   shows = shown;
   means = interface-means r v i.0 e.is_instance.view shown;

@@ -8,7 +8,7 @@ use Rattle.comp_bytes.specs.Reading.{◌>>=◌}
 use Rattle.wit_model.specs.Tree.{Place}
 use Rattle.std.specs.Prelude.{not, ◌==◌}
 use Rattle.std.specs.List.{list_any}
-use Rattle.encode_types.proofs.Defining.{count-push}
+use Rattle.encode_types.proofs.Marking.{count-push}
 use Rattle.comp_meaning.specs.Follow.{View, Shown, Key, key_text, interface_of, place_of, used_view, Slot, Scope, Seen, Direction, import_, export_, see, when, definition, function_signature, function_in, named_type, exported_slot, key_of, see_instance, see_function, see_type, in_scope, component_step, component_steps, flat}
 use Rattle.wit_encode.specs.Instance.{count_declared}
 use Rattle.wit_encode.proofs.Steps.{unbind, unprovided}
@@ -50,7 +50,7 @@ type-seen name described s s' e =
     let a = unbind (named_type s.slots Place.here name.text described) _ s' e in
     one-more s s' a.item.1 (ap (λ (z : Scope). z.slots) (unprovided _ _ s' a.then))
 
-step-count : (s s' : Scope) (d : Declaration) → component_step s d ≡ Some s' → length s'.slots ≡ length s.slots + declaration_slots d
+pub step-count : (s s' : Scope) (d : Declaration) → component_step s d ≡ Some s' → length s'.slots ≡ length s.slots + declaration_slots d
 step-count s s' (Declaration.defined q) e =
     let b = unbind (definition s.slots q) _ s' e in
     one-more s s' (Slot.value b.item) (ap (λ (z : Scope). z.slots) (some-same _ s' b.then))

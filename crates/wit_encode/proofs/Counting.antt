@@ -1,5 +1,5 @@
 -- How much is defined for functions, and by an instance type as a whole.
-use Rattle.std.proofs.Common.{◌≡◌, refl, sym, subst, ap, ◌∙◌, ℕ, zero, suc, ◌+◌, ◌<◌, ◌≤◌, Bool, true, false, ◌&&◌, ◌||◌, ◌⊎◌, inl, inr, List, [], ◌∷◌, ◌++◌, length, get_or, take, map, filter, cond, length-append, count_by, Result, Ok, Err, OnOk, Option, Some, None, arith, Vec}
+use Rattle.std.proofs.Common.{◌≡◌, refl, sym, subst, ap, ◌∙◌, ℕ, zero, suc, ◌+◌, ◌<◌, ◌≤◌, Bool, true, false, ◌&&◌, ◌||◌, ◌⊎◌, inl, inr, List, [], ◌∷◌, ◌++◌, length, get_or, take, map, filter, cond, length-append, count_by, Result, Ok, Err, OnOk, Option, Some, None, slice_get, arith, Vec}
 use Rattle.std.specs.Prelude.{nat_eq, IsPermutation, String}
 use Rattle.std.specs.declared.alloc.Global.{Global}
 use Rattle.std.specs.List.{Contains, IsDistinct, list_any, filter_map, cons_option}
@@ -26,7 +26,17 @@ use Rattle.wit_model.specs.declared.model.TypeDef.{TypeDef}
 use Rattle.wit_model.specs.declared.model.TypeDefKind.{TypeDefKind}
 use Rattle.wit_model.specs.declared.model.Function.{Function}
 use Rattle.wit_model.specs.declared.model.«Type».{«Type» as ValueType}
-use Rattle.comp_bytes.specs.Raw.{Declaration, Declarations}
+use Rattle.comp_bytes.specs.Raw.{Declaration, Declarations, from_list}
+use Rattle.comp_meaning.specs.Follow.{Slot, new_instance}
+use Rattle.wit_model.specs.Tree.{Tree, Place}
+use Rattle.wit_model.specs.Lookup.{place_of}
+use Rattle.wit_model.specs.Valid.{IsValid}
+use Rattle.wit_model.specs.declared.model.TypeOwner.TheVariants as owner
+use Rattle.encode_types.specs.Slots.{Pairs, Standing, tree}
+use Rattle.encode_types.proofs.Marking.{slots-none, slots-then}
+use Rattle.wit_encode.proofs.Calls.{inner-at}
+use Rattle.wit_encode.proofs.ValueSlots.{IsPlain, inner-values}
+use Rattle.wit_encode.proofs.DefinedTypes.{HeldKinds, defines-types}
 use Rattle.encode_types.specs.declared.key.FunctionKey.{FunctionKey}
 use Rattle.encode_types.specs.declared.maps.TypeEncodingMaps.{TypeEncodingMaps}
 use Rattle.wit_encode.specs.declared.interface.OpenInterface.{OpenInterface}
@@ -35,12 +45,12 @@ use Rattle.encode_types.specs.Key.{IsKeyOf}
 use Rattle.encode_types.specs.Kinds.{has_definition}
 use Rattle.encode_types.specs.Plan.{foreign_owner}
 use Rattle.encode_types.specs.Codes.{IsTable, kind_code, names_of, lists_of}
-use Rattle.encode_types.specs.Maps.{IsOnce, IsKnown}
+use Rattle.encode_types.specs.Maps.{IsOnce, IsKnown, MapsAgree}
 use Rattle.encode_types.specs.Scope.{Scope}
 use Rattle.encode_types.specs.MetKinds.{AreMetKinds, referred}
-use Rattle.encode_types.specs.Counts.{Definitions, names_defined, is_defined_by_name, is_defined_under_name, own_name, name_of_own, Shows, AddsKey, AddsTypes, AddsFunction}
-use Rattle.encode_types.specs.Distinct.{Key, key_of, key_view, are_same, KnowsKey, defined_under_names, AddsFunctions, DefinesKeys, DefinesTypes, is_value_type, is_function_type}
-use Rattle.wit_encode.specs.Instance.{own_of, contents_of, inner_contents, encoder_scope, definitions_with, opened, ShowsFunction}
+use Rattle.encode_types.specs.Counts.{Definitions, names_defined, is_defined_by_name, is_defined_under_name, own_name, name_of_own, Shows, slots_of, named_slots, AddsSlots, AddsKey, AddsTypes, AddsFunction}
+use Rattle.encode_types.specs.Distinct.{Key, key_of, key_view, are_same, KnowsKey, defined_under_names, AddsFunctions, DefinesKeys, DefinesTypes, value_slots, is_function_type}
+use Rattle.wit_encode.specs.Instance.{own_of, contents_of, inner_contents, outer_slots, standing_at, SlotsStand, stands_inside, encoder_scope, definitions_with, opened, ShowsFunction}
 use Rattle.encode_types.proofs.Pairs.{pairs-map}
 use Rattle.encode_types.proofs.Tables.{kept-in, new-in, one-more-in}
 use Rattle.wit_encode.proofs.Naming.{or-second}
@@ -86,7 +96,7 @@ names-alike r s s' m e = ap (λ (own : Option InterfaceId). count_by (λ (e : �
 
 pub adds-types : {r : Resolve} {scope : Scope} {m m' : TypeEncodingMaps} {d d' : Definitions} → AddsTypes r scope m m' d d' → AddsFunctions r scope m m' d d' []
 adds-types {r} {scope} {m} {m'} {d} {d'} a = record {
-  types = a.types;
+  slots = a.slots;
   functions_ = (let f = a.functions in let n : length m'.func_type_map.entries ≡ length m.func_type_map.entries = ap length a.keys.lists in omega arith);
   known = λ q k. inl (knows-along m' m (sym a.keys.lists) (sym a.keys.names_) q k);
   stay = λ q k. knows-along m m' a.keys.lists a.keys.names_ q k;
@@ -122,7 +132,7 @@ module _ (m m' : TypeEncodingMaps) (key : FunctionKey) (i : ℕ) (f : Function) 
 pub adds-function : {r : Resolve} {scope : Scope} {m m' : TypeEncodingMaps} {d d' : Definitions} (key : FunctionKey) (i : ℕ) (f : Function) → IsKeyOf key f → IsOnce m
     → AddsFunction r scope m m' d d' key i → AddsFunctions r scope m m' d d' (f ∷ [])
 adds-function {r} {scope} {m} {m'} {d} {d'} key i f is once a = record {
-  types = a.types;
+  slots = a.slots;
   functions_ = a.functions;
   known = λ q k. elim a.keys [ inl h ↦ inl (knows-along m' m (sym h.1.lists) (sym h.1.names_) q k) | inr h ↦ new-known m m' key i f is once h.1 q k ];
   stay = λ q k. elim a.keys [ inl h ↦ knows-along m m' h.1.lists h.1.names_ q k | inr h ↦ new-stay m m' key i f is once h.1 q k ];
@@ -133,15 +143,27 @@ adds-function {r} {scope} {m} {m'} {d} {d'} key i f is once a = record {
 }
 
 pub adds-nothing : (r : Resolve) (scope : Scope) (m : TypeEncodingMaps) (d : Definitions) → AddsFunctions r scope m m d d []
-adds-nothing r scope m d = record { types = refl; functions_ = refl; known = λ q k. inl k; stay = λ q k. k; learnt = λ q h. absurd (none-member q h) }
+adds-nothing r scope m d = record { slots = slots-none r scope m m d d refl refl refl refl; functions_ = refl; known = λ q k. inl k; stay = λ q k. k; learnt = λ q h. absurd (none-member q h) }
+
+-- what has been defined is the same by a scope of the same interface
+slots-alike : {r : Resolve} {s s' : Scope} {m m' : TypeEncodingMaps} {d d' : Definitions} → s'.own_interface ≡ s.own_interface → AddsSlots r s' m m' d d' → AddsSlots r s m m' d d'
+slots-alike {r} {s} {s'} {m} {m'} {d} {d'} o p = record {
+  added = p.added;
+  targets = p.targets;
+  types = p.types;
+  exported = p.exported;
+  kinds = p.kinds;
+  names = ap (λ (n : ℕ). length (named_slots p.added) + n) (sym (names-alike r s s' m o)) ∙ p.names ∙ names-alike r s s' m' o;
+  own = p.own;
+  others = p.others;
+  numbers_stay = p.numbers_stay;
+}
 
 pub adds-trans : {r : Resolve} {s s' : Scope} {a b c : TypeEncodingMaps} {d e f : Definitions} (fs gs : List Function) → s'.own_interface ≡ s.own_interface
     → AddsFunctions r s a b d e fs → AddsFunctions r s' b c e f gs → AddsFunctions r s a c d f (fs ++ gs)
 adds-trans {r} {s} {s'} {a} {b} {c} {d} {e} {f} fs gs o p q =
-    let nb : names_defined r s' b ≡ names_defined r s b = names-alike r s s' b o in
-    let nc : names_defined r s' c ≡ names_defined r s c = names-alike r s s' c o in
     record {
-      types = (let x = p.types in let y = q.types in omega arith);
+      slots = slots-then p.slots (slots-alike o q.slots);
       functions_ = (let x = p.functions_ in let y = q.functions_ in omega arith);
       known = λ k h. elim (q.known k h) [
         | inl x ↦ elim (p.known k x) [
@@ -159,15 +181,27 @@ adds-trans {r} {s} {s'} {a} {b} {c} {d} {e} {f} fs gs o p q =
 
 -- the same of what counts alike
 pub adds-alike : {r : Resolve} {s s' : Scope} {m m' m'' : TypeEncodingMaps} {d d' e e' : Definitions} {fs : List Function} → s'.own_interface ≡ s.own_interface
-    → m'' ≡ m' → e.types ≡ d.types → e.functions ≡ d.functions → e'.types ≡ d'.types → e'.functions ≡ d'.functions
+    → m'' ≡ m' → e.types ≡ d.types → e.exported ≡ d.exported → e.functions ≡ d.functions → e'.types ≡ d'.types → e'.exported ≡ d'.exported → e'.functions ≡ d'.functions
     → AddsFunctions r s m m' d d' fs → AddsFunctions r s' m m'' e e' fs
-adds-alike {r} {s} {s'} {m} {m'} {m''} {d} {d'} {e} {e'} {fs} o h a b a' b' p = subst (λ (z : TypeEncodingMaps). AddsFunctions r s' m z e e' fs) (sym h) (record {
-  types = (let n : names_defined r s' m ≡ names_defined r s m = names-alike r s s' m o in let n' : names_defined r s' m' ≡ names_defined r s m' = names-alike r s s' m' o in let x = p.types in omega arith);
-  functions_ = (let x = p.functions_ in omega arith);
-  known = p.known;
-  stay = p.stay;
-  learnt = p.learnt;
-})
+adds-alike {r} {s} {s'} {m} {m'} {m''} {d} {d'} {e} {e'} {fs} o h a x b a' x' b' p = subst (λ (z : TypeEncodingMaps). AddsFunctions r s' m z e e' fs) (sym h) (
+    let q : AddsSlots r s' m m' d d' = slots-alike (sym o) p.slots in
+    record {
+      slots = record {
+        added = q.added;
+        targets = q.targets;
+        types = a' ∙ q.types ∙ ap (λ xs. xs ++ slots_of q.added) (sym a);
+        exported = x' ∙ q.exported ∙ ap (λ xs. xs ++ slots_of q.targets) (sym x);
+        kinds = q.kinds;
+        names = q.names;
+        own = q.own;
+        others = q.others;
+        numbers_stay = q.numbers_stay;
+      };
+      functions_ = (let y = p.functions_ in omega arith);
+      known = p.known;
+      stay = p.stay;
+      learnt = p.learnt;
+    })
 
 -- ---- an instance type as a whole
 
@@ -181,12 +215,6 @@ pub record Began (m : TypeEncodingMaps) : Type 0 where
   pub numbers : m.id_to_index.entries ≡ []
   pub kinds : m.def_to_index.entries ≡ []
   pub keys : m.func_type_map.entries ≡ []
-
--- these kinds are those whose lists the maps hold, each once
-pub record HeldKinds (r : Resolve) (own : Option InterfaceId) (ts : List ValueType) (m : TypeEncodingMaps) : Type 0 where
-  pub kinds : List TypeDefKind
-  pub lists : map (λ e. e.0) (lists_of m.def_to_index) ≡ map kind_code kinds
-  pub met : AreMetKinds r own ts kinds
 
 defines-keys : (r : Resolve) (scope : Scope) (m m' : TypeEncodingMaps) (d d' : Definitions) (fs : List Function) (ds : List Declaration) → Began m
     → d.functions ≡ 0 → d'.functions ≡ count_by is_function_type ds → AddsFunctions r scope m m' d d' fs → IsOnce m' → DefinesKeys fs ds
@@ -206,40 +234,34 @@ defines-keys r scope m m' d d' fs ds b z n a once =
           (λ h. k.all q (a.learnt q h));
     }
 
-defines-types : (r : Resolve) (scope : Scope) (i : InterfaceId) (m m' : TypeEncodingMaps) (d d' : Definitions) (fs : List Function) (ts : List TypeId)
-    (ds : List Declaration) → Began m → d.types ≡ 0 → d'.types ≡ count_by is_value_type ds
-    → AddsFunctions r scope m m' d d' fs → HeldKinds r (Some i) (referred ts fs) m' → names_defined r scope m' ≡ distinct_count nat_eq (defined_under_names r (Some i) ts)
-    → DefinesTypes r i ts fs ds
-defines-types r scope i m m' d d' fs ts ds b z n a held defined = record {
-  kinds = held.kinds;
-  count =
-      let l : length m.def_to_index.entries ≡ 0 = ap length b.kinds in
-      let c : names_defined r scope m ≡ 0 = ap (count_by (λ (e : ℕ × ℕ). is_defined_by_name r scope e.0)) b.numbers in
-      let x = a.types in
-      let k : length (map kind_code held.kinds) ≡ length held.kinds = length-map held.kinds kind_code in
-      let s : length (map (λ (e : List ℕ × ℕ). e.0) (lists_of m'.def_to_index)) ≡ length (map kind_code held.kinds) = ap length held.lists in
-      let u : length (map (λ (e : List ℕ × ℕ). e.0) (lists_of m'.def_to_index)) ≡ length (lists_of m'.def_to_index) = length-map (lists_of m'.def_to_index) (λ (e : List ℕ × ℕ). e.0) in
-      let w : length (lists_of m'.def_to_index) ≡ length m'.def_to_index.entries = length-map m'.def_to_index.entries (λ (e : Vec ℕ Global × ℕ). (e.0.items, e.1)) in
-      omega arith;
-  met = held.met;
-}
-
-pub record Counted (r : Resolve) (i : InterfaceId) (fs : List Function) (ts : List TypeId) (ds : List Declaration) : Type 0 where
+pub record Counted (r : Resolve) (i : InterfaceId) (S : Pairs) (fs : List Function) (ts : List TypeId) (ds : List Declaration) : Type 0 where
   pub keys : DefinesKeys fs ds
-  pub types : DefinesTypes r i ts fs ds
+  pub types : DefinesTypes r (Some i) S ts fs (from_list ds)
 
-pub closed-counts : (r : Resolve) (outer outer' : Declarations) (i : InterfaceId) (known : Foreign) (inner' : Option OpenInterface) (current : OpenInterface) (m m' : TypeEncodingMaps)
+-- what slots stand for is one thing each
+pub slots-once : (slots : List Slot) (i : ℕ) (s t : Standing) → SlotsStand slots i s → SlotsStand slots i t → s ≡ t
+slots-once slots i s t a b = let e : Some s ≡ Some t = sym a ∙ b in cc
+
+-- where a value type is defined stands a type without a name
+values-plain : (place : Place) (outer : Declarations) (ds : List Declaration) → (inner_contents place outer ds).is_followed ≡ true → (i : ℕ) → Contains (value_slots (from_list ds)) i → (t : Tree) × SlotsStand (inner_contents place outer ds).slots i (tree t) × IsPlain t
+values-plain place outer ds followed i c =
+    let a = inner-at place outer ds followed in
+    let p = inner-values place (outer_slots outer) new_instance a.scope ds i a.is c in
+    (p.type_there, ap (λ (zs : List Slot). standing_at (slice_get zs i)) a.slots ∙ ap standing_at p.there, p.plain)
+
+pub closed-counts : (r : Resolve) → IsValid r → (outer outer' : Declarations) (i : InterfaceId) (known : Foreign) (inner' : Option OpenInterface) (current : OpenInterface) (m m' : TypeEncodingMaps)
     (fs : List Function) (ts : List TypeId) → inner' ≡ Some current → Began m → HeldKinds r (Some i) (referred ts fs) m'
     → AddsFunctions r (encoder_scope r outer (opened i known)) m m' (definitions_with (contents_of r outer (opened i known))) (definitions_with (contents_of r outer' inner')) fs
-    → IsOnce m'
-    → names_defined r (encoder_scope r outer (opened i known)) m' ≡ distinct_count nat_eq (defined_under_names r (Some i) ts) → Counted r i fs ts current.declared
+    → MapsAgree r m' (stands_inside r i outer' current.declared) → (inner_contents (place_of r (owner.Interface i)) outer' current.declared).is_followed ≡ true
+    → names_defined r (encoder_scope r outer (opened i known)) m' ≡ distinct_count nat_eq (defined_under_names r (Some i) ts) → Counted r i (stands_inside r i outer' current.declared) fs ts current.declared
 unfolding inner_contents
-closed-counts r outer outer' i known inner' current m m' fs ts is b held a once defined = record {
+closed-counts r v outer outer' i known inner' current m m' fs ts is b held a agree followed defined = record {
   keys = defines-keys r (encoder_scope r outer (opened i known)) m m' (definitions_with (contents_of r outer (opened i known)))
-      (definitions_with (contents_of r outer' inner')) fs current.declared b refl (ap (λ (o : Option OpenInterface). (contents_of r outer' o).functions) is) a once;
-  types = defines-types r (encoder_scope r outer (opened i known)) i m m' (definitions_with (contents_of r outer (opened i known)))
-      (definitions_with (contents_of r outer' inner')) fs ts current.declared b refl (ap (λ (o : Option OpenInterface). (contents_of r outer' o).types) is)
-      a held defined;
+      (definitions_with (contents_of r outer' inner')) fs current.declared b refl (ap (λ (o : Option OpenInterface). (contents_of r outer' o).functions) is) a agree.once;
+  types = defines-types r v (Some i) (encoder_scope r outer (opened i known)) (stands_inside r i outer' current.declared) m m' (definitions_with (contents_of r outer (opened i known)))
+      (definitions_with (contents_of r outer' inner')) ts fs (from_list current.declared) a.slots agree (slots-once _) (values-plain (place_of r (owner.Interface i)) outer' current.declared followed)
+      (sym (ap (λ (o : Option OpenInterface). (contents_of r outer' o).types) is) ∙ a.slots.types) (sym (ap (λ (o : Option OpenInterface). (contents_of r outer' o).exported) is) ∙ a.slots.exported)
+      b.numbers b.kinds held defined;
 }
 
 -- the keys of functions in another order
@@ -270,8 +292,8 @@ pub function-counted : {A E : Type 0} (res : Result A E) (r r₀ r₁ r₂ : Res
 function-counted (Err e) r r₀ r₁ r₂ o₀ o₁ o₂ i₀ i₁ i₂ m₀ m₁ m₂ f g index once e₀ s e₂ em (key, is, a) shown = shown
 function-counted (Ok x) r r₀ r₁ r₂ o₀ o₁ o₂ i₀ i₁ i₂ m₀ m₁ m₂ f g index once e₀ s e₂ em (key, is, a) shown =
     let here : r₂ ≡ r = e₂ ∙ (ap (λ (z : Scope). z.packages) s ∙ e₀) in
-    adds-alike refl em (ap (λ (z : Resolve). (contents_of z o₀ i₀).types) (sym e₀)) (ap (λ (z : Resolve). (contents_of z o₀ i₀).functions) (sym e₀))
-    (ap (λ (z : Resolve). (contents_of z o₂ i₂).types) (sym here) ∙ shown.types) (ap (λ (z : Resolve). (contents_of z o₂ i₂).functions) (sym here) ∙ shown.functions)
+    adds-alike refl em (ap (λ (z : Resolve). (contents_of z o₀ i₀).types) (sym e₀)) (ap (λ (z : Resolve). (contents_of z o₀ i₀).exported) (sym e₀)) (ap (λ (z : Resolve). (contents_of z o₀ i₀).functions) (sym e₀))
+    (ap (λ (z : Resolve). (contents_of z o₂ i₂).types) (sym here) ∙ shown.types) (ap (λ (z : Resolve). (contents_of z o₂ i₂).exported) (sym here) ∙ shown.exported) (ap (λ (z : Resolve). (contents_of z o₂ i₂).functions) (sym here) ∙ shown.functions)
     (adds-function key index f is once a)
 
 -- types, and then functions
@@ -285,8 +307,8 @@ parts-counted (Err e) r r₀ r₁ o₀ o₁ o₂ i₀ i₁ i₂ m₀ m₁ m₂ f
 parts-counted (Ok x) r r₀ r₁ o₀ o₁ o₂ i₀ i₁ i₂ m₀ m₁ m₂ fs e₀ s a b =
     let e₁ : r₁ ≡ r = ap (λ (z : Scope). z.packages) s ∙ e₀ in
     adds-trans [] fs (ap (λ (z : Scope). z.own_interface) s)
-    (adds-alike refl refl (ap (λ (z : Resolve). (contents_of z o₀ i₀).types) (sym e₀)) (ap (λ (z : Resolve). (contents_of z o₀ i₀).functions) (sym e₀))
-    (ap (λ (z : Resolve). (contents_of z o₁ i₁).types) (sym e₁)) (ap (λ (z : Resolve). (contents_of z o₁ i₁).functions) (sym e₁)) (adds-types a))
+    (adds-alike refl refl (ap (λ (z : Resolve). (contents_of z o₀ i₀).types) (sym e₀)) (ap (λ (z : Resolve). (contents_of z o₀ i₀).exported) (sym e₀)) (ap (λ (z : Resolve). (contents_of z o₀ i₀).functions) (sym e₀))
+    (ap (λ (z : Resolve). (contents_of z o₁ i₁).types) (sym e₁)) (ap (λ (z : Resolve). (contents_of z o₁ i₁).exported) (sym e₁)) (ap (λ (z : Resolve). (contents_of z o₁ i₁).functions) (sym e₁)) (adds-types a))
     b
 
 -- one function more

@@ -24,8 +24,7 @@ use Rattle.wit_encode.specs.DependencyCounts.{DefinesComponent, DefinesImports, 
 use Rattle.wit_encode.specs.DependencyRoom.{HoldsImports, LacksImport, its_types, its_path, a_place, ImportsLackRoom, an_interface, a_path, too_many, ComponentLacksRoom, of_imports, of_interface, of_path, TypesLackRoom}
 use Rattle.wit_encode.specs.Encoders.{InterfaceLacksRoom}
 use Rattle.wit_encode.specs.Instance.{EncodesInterface, EncodesPart, LacksInstanceRoom}
-use Rattle.wit_encode.specs.WorldCounts.{instances_declared}
-use Rattle.wit_encode.specs.Worlds.{brought_numbers}
+use Rattle.wit_encode.specs.Worlds.{brought_numbers, instances_declared}
 use Rattle.wit_encode.proofs.PlacedInstances.{grown-few, grown-listed, one-behind, placed-counted, placed-few, placed-instances}
 use Rattle.wit_encode.proofs.Refusing.{counts-refused, outer-slots-few}
 use Rattle.wit_encode.proofs.WorldHolding.{brought-some}
@@ -62,10 +61,10 @@ module _ (r : Resolve) (canonical : Bool) (a a' : Around) (i : InterfaceId) (num
       function_types = placed-counted r a before t.encodes.part.aliases inner described a'.declared made is_function_type (λ x. refl) refl ∙ h.beside.function_types;
     };
     inside = subst (AllZip (DefinesTypesOf r) (ns ++ i.0 ∷ [])) (sym (placed-instances r a before t.encodes.part.aliases inner described a'.declared made))
-        (zip-append (DefinesTypesOf r) ns (instances_declared a.declared) (i.0 ∷ []) (inner ∷ []) h.inside (one, tt));
+        (zip-append (DefinesTypesOf r) ns (instances_declared a.declared) (i.0 ∷ []) ((before.declared, inner) ∷ []) h.inside (one, tt));
   }
     where
-      one : DefinesTypesOf r i.0 inner
+      one : DefinesTypesOf r i.0 (before.declared, inner)
       one = record { def = t.def; there = t.there; declarations = t.encodes.part.declared; is = refl; function_types = t.encodes.function_types; value_types = t.encodes.part.value_types }
 
 -- nothing is defined, and nothing is held, where nothing is declared
@@ -93,7 +92,7 @@ module _ (r : Resolve) (canonical : Bool) (a a' : Around) (i : InterfaceId) (def
       function_types = placed-counted r a encodes.part.before encodes.part.aliases own exported_by outer made_last is_function_type (λ x. refl) refl ∙ h.beside.function_types;
     };
     imports = instances_declared a.declared;
-    own = own;
+    own = (encodes.part.before.declared, own);
     are = placed-instances r a encodes.part.before encodes.part.aliases own exported_by outer made_last;
     reached = subst (λ (xs : List ℕ). AllZip (DefinesTypesOf r) xs (instances_declared a.declared)) order h.inside;
     exported = record { def = def; there = there; declarations = encodes.part.declared; is = refl; function_types = encodes.part.function_types; value_types = encodes.part.value_types };

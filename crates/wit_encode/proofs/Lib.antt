@@ -8,6 +8,7 @@ pub mod Contents
 pub mod Steps
 pub mod ShownSlots
 pub mod Components
+pub mod ValueSlots
 pub mod Calls
 pub mod Wider
 pub mod Scopes
@@ -22,6 +23,7 @@ pub mod Weighing
 pub mod ShowFunctions
 pub mod Continuing
 pub mod HeldKeys
+pub mod DefinedTypes
 pub mod Counting
 pub mod Opening
 pub mod Closing
@@ -34,6 +36,7 @@ pub mod FunctionExports
 pub mod Encodable
 pub mod UsesNone
 pub mod Importing
+pub mod StillSound
 pub mod OwnerScope
 pub mod MetKinds
 pub mod Referring

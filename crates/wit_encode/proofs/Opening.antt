@@ -72,6 +72,18 @@ shown-at : (place : Place) (outer : Declarations) (ds : List Declaration) (a : I
 unfolding inner_contents
 shown-at place outer ds a = ap (λ o. option_map_or (λ s. s.shown) o no_view) a.is
 
+-- what has been declared in it when it is closed, which can be followed
+pub record Closed (r : Resolve) (outer' : Declarations) (i : InterfaceId) (inner' : Option OpenInterface) (current : OpenInterface) : Type 0 where
+  pub at : contents_of r outer' inner' ≡ inner_contents (place_of r (owner.Interface i)) outer' current.declared
+  pub sound : is_sound_in r (Some i) (inner_contents (place_of r (owner.Interface i)) outer' current.declared) ≡ true
+
+pub closed : (r : Resolve) (outer outer' : Declarations) (i : InterfaceId) (known : Foreign) (inner' : Option OpenInterface) (current : OpenInterface) (m m' : TypeEncodingMaps) → inner' ≡ Some current → own_of inner' ≡ Some i → Continues r r outer outer' (opened i known) inner' m m'
+    → Closed r outer' i inner' current
+closed r outer outer' i known inner' current m m' is own c =
+    let same : current.interface ≡ i = (let e : Some current.interface ≡ Some i = sym (ap own_of is) ∙ own in let z : current.interface ≡ i = cc in z) in
+    let at : contents_of r outer' inner' ≡ inner_contents (place_of r (owner.Interface i)) outer' current.declared = (λ j. contents_of r outer' (is j)) ∙ ap (λ (k : InterfaceId). inner_contents (place_of r (owner.Interface k)) outer' current.declared) same in
+    record { at = at; sound = (λ j. is_sound_in r (sym own j) (sym at j)) ∙ (ap (λ (s : Scope). s.is_sound) c.scope_stays ∙ opened-sound r outer i known) }
+
 -- what is closed is an instance type that can be followed
 pub closed-instance : (r : Resolve) → IsValid r → (outer outer' : Declarations) (i : InterfaceId) (def : Interface) → interface_at r i.0 ≡ Some def
     → (known : Foreign) (inner' : Option OpenInterface) (current : OpenInterface) (m m' : TypeEncodingMaps) (fs : List (Text × FunctionMeaning)) → inner' ≡ Some current → own_of inner' ≡ Some i
@@ -80,10 +92,9 @@ pub closed-instance : (r : Resolve) → IsValid r → (outer outer' : Declaratio
 closed-instance r v outer outer' i def there known inner' current m m' fs is own c h exported =
     let place = place_of r (owner.Interface i) in
     let inside = inner_contents place outer' current.declared in
-    let at : contents_of r outer' inner' ≡ inside =
-    (λ j. contents_of r outer' (is j)) ∙ ap (λ (k : InterfaceId). inner_contents (place_of r (owner.Interface k)) outer' current.declared) (let e : Some current.interface ≡ Some i = sym (ap own_of is) ∙ own in let z : current.interface ≡ i = cc in z) in
-    let sound : (encoder_scope r outer' inner').is_sound ≡ true = ap (λ (s : Scope). s.is_sound) c.scope_stays ∙ opened-sound r outer i known in
-    let all : is_sound_in r (Some i) inside ≡ true = (λ j. is_sound_in r (sym own j) (sym at j)) ∙ sound in
+    let there_ = closed r outer outer' i known inner' current m m' is own c in
+    let at : contents_of r outer' inner' ≡ inside = there_.at in
+    let all : is_sound_in r (Some i) inside ≡ true = there_.sound in
     let followed : inside.is_followed ≡ true = first_true inside.is_followed _ all in
     let a = inner-at place outer' current.declared followed in
     let shown = shown-at place outer' current.declared a in

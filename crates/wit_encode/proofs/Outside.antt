@@ -1,5 +1,7 @@
 -- What the calls of an encoder of interfaces do between interfaces: then what is defined stands in the component type.
-use Rattle.std.proofs.Common.{◌≡◌, refl, sym, subst, ap, ◌∙◌, ℕ, ◌+◌, true, cond, [], ◌∷◌, ◌++◌, List, Result, Ok, Err, IfOk, OnErr, Option, Some, None, length, arith}
+use Rattle.encode_types.specs.Distinct.{target_of, targets_of}
+use Rattle.wit_encode.proofs.ValueSlots.{values-push, targets-push}
+use Rattle.std.proofs.Common.{◌≡◌, refl, sym, subst, ap, ◌∙◌, ℕ, ◌+◌, true, cond, [], ◌∷◌, ◌++◌, append-nil, option_to_list, List, Result, Ok, Err, IfOk, OnErr, Option, Some, None, length, arith}
 use Rattle.std.specs.List.{list_all}
 use Rattle.std.specs.Option.{option_map_or, is_some}
 use Rattle.wit_model.specs.Tree.{Tree}
@@ -56,10 +58,10 @@ outer-grew outer d x a step =
       followed = ap is_some next ∙ sym (ap is_some a.is);
     }
 
-outer-definitions : (outer : Declarations) (d : Declaration) (types functions : ℕ) → (outer_contents outer).types + cond (is_value_type d) 1 0 ≡ types → (outer_contents outer).functions + cond (is_function_type d) 1 0 ≡ functions
-    → definitions_with (outer_contents (append outer (Declarations.declares d Declarations.no_more))) ≡ record { types = types; functions = functions; exports = (definitions_with (outer_contents outer)).exports }
+outer-definitions : (outer : Declarations) (d : Declaration) (types : List ℕ) (functions : ℕ) → (outer_contents outer).types ++ cond (is_value_type d) (type_slots_of outer ∷ []) [] ≡ types → target_of d ≡ None → (outer_contents outer).functions + cond (is_function_type d) 1 0 ≡ functions
+    → definitions_with (outer_contents (append outer (Declarations.declares d Declarations.no_more))) ≡ record { types = types; exported = (outer_contents outer).exported; functions = functions; exports = (definitions_with (outer_contents outer)).exports }
 unfolding outer_contents
-outer-definitions outer d types functions t f = λ i. record { types = (count-more is_value_type outer d ∙ t) i; functions = (count-more is_function_type outer d ∙ f) i; exports = [] }
+outer-definitions outer d types functions t u f = λ i. record { types = (values-push 0 outer d ∙ t) i; exported = (targets-push outer d ∙ ap (λ o. targets_of outer ++ option_to_list o) u ∙ append-nil (targets_of outer)) i; functions = (count-more is_function_type outer d ∙ f) i; exports = [] }
 
 module _ {E : Type 0} (res : Result ℕ E) (r : Resolve) (outer outer' : Declarations) where
   abbrev before : Contents
@@ -96,13 +98,13 @@ module _ {E : Type 0} (res : Result ℕ E) (r : Resolve) (outer outer' : Declara
 
     pub defined-outside : (d : ComponentDefinedType) (t : Tree) → Follows (SlotsStand before.slots) d t → IsFormed (scope_with r None no_around before) t
         → IfOk res (λ k. (k ≡ type_slots_of outer) × (outer' ≡ append outer (Declarations.declares (Declaration.defined (raw_defined d)) Declarations.no_more))) → OnErr res (outer' ≡ outer)
-        → Calls res (scope_with r None no_around before) (scope_with r None no_around after) before after (Defines (SlotsStand before.slots) d) (definitions_with after ≡ one_type_more (definitions_with before))
+        → Calls res (scope_with r None no_around before) (scope_with r None no_around after) before after (Defines (SlotsStand before.slots) d) (definitions_with after ≡ one_type_more (length before.slots) (definitions_with before))
     defined-outside d t h f ok err =
         let a = outer-there in
         let strict : definition a.scope.slots (raw_defined d) ≡ Some t = ap (λ zs. definition zs (raw_defined d)) (sym a.slots) ∙ definition-strict (resources_in r None) before.slots outer-slots d t h f.formed in
         calls-from res r None no_around before after _ _ (Slot.value t) sound (formed-value (resources_in r None) t f.formed) (defines-of before.slots d t h)
         (more-ok (Declaration.defined (raw_defined d)) (Slot.value t) _ (bind (definition a.scope.slots (raw_defined d)) t (λ u. Some (in_scope (Slot.value u) a.scope)) strict) (λ e. ap (λ zs. definitions_with (outer_contents zs)) e
-        ∙ outer-definitions outer (Declaration.defined (raw_defined d)) (before.types + 1) before.functions refl (omega arith)) ok)
+        ∙ outer-definitions outer (Declaration.defined (raw_defined d)) (before.types ++ length before.slots ∷ []) before.functions (ap (λ (k : ℕ). before.types ++ k ∷ []) (outer-index outer a)) refl (omega arith)) ok)
         (err-same err)
 
     pub function-outside : (d : ComponentFuncType) (s : Signature) → FollowsFunction (SlotsStand before.slots) d s → IsFormedSignature (scope_with r None no_around before) s
@@ -113,7 +115,7 @@ module _ {E : Type 0} (res : Result ℕ E) (r : Resolve) (outer outer' : Declara
         let strict : function_signature a.scope.slots (raw_function d) ≡ Some s = ap (λ zs. function_signature zs (raw_function d)) (sym a.slots) ∙ function-strict (resources_in r None) before.slots outer-slots d s h f.params f.result_ in
         calls-from res r None no_around before after _ _ (Slot.function s) sound refl (function-of before.slots d s h)
         (more-ok (Declaration.function (raw_function d)) (Slot.function s) _ (bind (function_signature a.scope.slots (raw_function d)) s (λ u. Some (in_scope (Slot.function u) a.scope)) strict) (λ e. ap (λ zs. definitions_with (outer_contents zs)) e
-        ∙ outer-definitions outer (Declaration.function (raw_function d)) before.types (before.functions + 1) (omega arith) refl) ok)
+        ∙ outer-definitions outer (Declaration.function (raw_function d)) before.types (before.functions + 1) (append-nil before.types) refl refl) ok)
         (err-same err)
 
 -- a component type in which nothing has been declared yet

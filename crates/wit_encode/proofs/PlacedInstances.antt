@@ -18,8 +18,9 @@ use Rattle.encode_types.specs.Known.{Aliased, AreAliases, Around, GrowsAround, I
 use Rattle.encode_types.proofs.Lists.{both, none-in}
 use Rattle.wit_encode.specs.Encoders.{declared_after}
 use Rattle.wit_encode.specs.Instance.{count_declared}
-use Rattle.wit_encode.specs.WorldCounts.{instances_declared}
-use Rattle.wit_encode.specs.Worlds.{brought_numbers, is_brought, is_of_listed}
+use Rattle.encode_types.specs.Distinct.{is_value_type, target_of, targets_of, value_slots}
+use Rattle.wit_encode.proofs.ValueSlots.{instances-behind, instances-kept, targets-instance, targets-kept, values-instance, values-kept}
+use Rattle.wit_encode.specs.Worlds.{brought_numbers, instances_declared, is_brought, is_of_listed}
 use Rattle.wit_encode.proofs.Components.{count-instance}
 use Rattle.wit_encode.proofs.Imported.{at-same}
 use Rattle.wit_encode.proofs.Importing.{new-slot}
@@ -80,25 +81,21 @@ aliases-listed : (a : Around) (made : List Aliased) → (with_aliases a made).in
 aliases-listed a [] = refl
 aliases-listed a (x ∷ made) = aliases-listed (with_alias a x) made
 
-instances-kept : (ds : Declarations) (d : Declaration) → instances_declared (declared_after ds d) ≡ instances_declared ds
-instances-kept Declarations.no_more d = refl
-instances-kept (Declarations.declares x rest) d = instances-kept rest d
-instances-kept (Declarations.component inner rest) d = instances-kept rest d
-instances-kept (Declarations.instance inner rest) d = ap (λ xs. inner ∷ xs) (instances-kept rest d)
-
 aliases-instances : (a : Around) (made : List Aliased) → instances_declared (with_aliases a made).declared ≡ instances_declared a.declared
 aliases-instances a [] = refl
 aliases-instances a (x ∷ made) = aliases-instances (with_alias a x) made ∙ instances-kept a.declared (alias_declared x)
 
+aliases-values : (a : Around) (made : List Aliased) → value_slots (with_aliases a made).declared ≡ value_slots a.declared
+aliases-values a [] = refl
+aliases-values a (x ∷ made) = aliases-values (with_alias a x) made ∙ values-kept a.declared (alias_declared x) refl
+
+aliases-targets : (a : Around) (made : List Aliased) → targets_of (with_aliases a made).declared ≡ targets_of a.declared
+aliases-targets a [] = refl
+aliases-targets a (x ∷ made) = aliases-targets (with_alias a x) made ∙ targets-kept a.declared (alias_declared x) refl
+
 aliases-counted : (test : Declaration → Bool) → ((x : Aliased) → test (alias_declared x) ≡ false) → (a : Around) (made : List Aliased) → count_declared test (with_aliases a made).declared ≡ count_declared test a.declared
 aliases-counted test none a [] = refl
 aliases-counted test none a (x ∷ made) = aliases-counted test none (with_alias a x) made ∙ counts-declared test a.declared (alias_declared x) (none x)
-
-instances-behind : (ds inner : Declarations) → instances_declared (append ds (Declarations.instance inner Declarations.no_more)) ≡ instances_declared ds ++ inner ∷ []
-instances-behind Declarations.no_more inner = refl
-instances-behind (Declarations.declares d rest) inner = instances-behind rest inner
-instances-behind (Declarations.component i rest) inner = instances-behind rest inner
-instances-behind (Declarations.instance i rest) inner = ap (λ xs. i ∷ xs) (instances-behind rest inner)
 
 one-instance : (ds inner : Declarations) → declaration_count (append ds (Declarations.instance inner Declarations.no_more)) ≡ declaration_count ds + 1
 one-instance Declarations.no_more inner = omega arith
@@ -158,10 +155,21 @@ module _ (r : Resolve) (a before : Around) (g : GrowsAround r a before) (inner :
   abbrev behind : Declarations
   behind = append before.declared (Declarations.instance inner Declarations.no_more)
 
-  pub placed-instances : instances_declared outer ≡ instances_declared a.declared ++ inner ∷ []
+  pub placed-instances : instances_declared outer ≡ instances_declared a.declared ++ (before.declared, inner) ∷ []
   placed-instances =
       ap instances_declared made ∙ instances-kept behind d ∙ instances-behind before.declared inner
-      ∙ ap (λ (ds : List Declarations). ds ++ inner ∷ []) (ap (λ (z : Around). instances_declared z.declared) g.is ∙ aliases-instances a g.made)
+      ∙ ap (λ (ds : List (Declarations × Declarations)). ds ++ (before.declared, inner) ∷ []) (ap (λ (z : Around). instances_declared z.declared) g.is ∙ aliases-instances a g.made)
+
+  -- nothing is defined beside it, and no type is imported
+  pub placed-values : is_value_type d ≡ false → value_slots outer ≡ value_slots a.declared
+  placed-values other =
+      ap value_slots made ∙ values-kept behind d other ∙ values-instance 0 before.declared inner
+      ∙ ap (λ (z : Around). value_slots z.declared) g.is ∙ aliases-values a g.made
+
+  pub placed-targets : target_of d ≡ None → targets_of outer ≡ targets_of a.declared
+  placed-targets other =
+      ap targets_of made ∙ targets-kept behind d other ∙ targets-instance before.declared inner
+      ∙ ap (λ (z : Around). targets_of z.declared) g.is ∙ aliases-targets a g.made
 
   pub placed-counted : (test : Declaration → Bool) → ((x : Aliased) → test (alias_declared x) ≡ false) → test d ≡ false → count_declared test outer ≡ count_declared test a.declared
   placed-counted test none other =

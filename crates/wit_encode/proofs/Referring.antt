@@ -21,7 +21,8 @@ use Rattle.wit_model.specs.declared.model.InterfaceId.{InterfaceId}
 use Rattle.wit_model.specs.declared.model.«Type».{«Type» as ValueType}
 use Rattle.wit_model.specs.declared.model.«Type».TheVariants as ty
 use Rattle.wit_model.proofs.Lists.{first_true, second_true}
-use Rattle.comp_bytes.specs.Raw.{Declaration}
+use Rattle.comp_bytes.specs.Raw.{Declarations}
+use Rattle.encode_types.specs.Slots.{Pairs}
 use Rattle.encode_types.specs.declared.key.FunctionKey.{FunctionKey}
 use Rattle.encode_types.specs.declared.maps.TypeEncodingMaps.{TypeEncodingMaps}
 use Rattle.encode_types.specs.Plan.{Reaches}
@@ -37,7 +38,8 @@ use Rattle.encode_types.proofs.Lists.{none-in}
 use Rattle.encode_types.proofs.KindLaws.{optional_same}
 use Rattle.encode_types.proofs.Encoding.{meets-reaches, learns-nothing}
 use Rattle.wit_encode.proofs.HeldKeys.{any-at, same_equiv, alike}
-use Rattle.wit_encode.proofs.Counting.{Began, HeldKinds, from-map}
+use Rattle.wit_encode.proofs.Counting.{Began, from-map}
+use Rattle.wit_encode.proofs.DefinedTypes.{HeldKinds}
 use Rattle.encode_types.proofs.Learning.{learns-none, learns-then}
 use Rattle.wit_encode.proofs.MetKinds.{met-kinds, params-same}
 use Rattle.wit_encode.proofs.Opening.{permuted-contains}
@@ -179,5 +181,14 @@ module _ (r : Resolve) (own : Option InterfaceId) (types : List TypeId) (fs gs :
   pub permuted-kinds : (kinds : List TypeDefKind) → AreMetKinds r own (referred types gs) kinds → AreMetKinds r own (referred types fs) kinds
   permuted-kinds kinds a = record { different = a.different; met = λ k c. met-too gs fs forth k (a.met k c); all = λ k x. a.all k (met-too fs gs back k x) }
 
-pub permuted-types : (r : Resolve) (i : InterfaceId) (types : List TypeId) (fs gs : List Function) (ds : List Declaration) → IsPermutation fs gs → DefinesTypes r i types gs ds → DefinesTypes r i types fs ds
-permuted-types r i types fs gs ds p t = record { kinds = t.kinds; count = t.count; met = permuted-kinds r (Some i) types fs gs p t.kinds t.met }
+pub permuted-types : (r : Resolve) (own : Option InterfaceId) (S : Pairs) (types : List TypeId) (fs gs : List Function) (ds : Declarations) → IsPermutation fs gs → DefinesTypes r own S types gs ds → DefinesTypes r own S types fs ds
+permuted-types r own S types fs gs ds p t = record {
+  kinds = t.kinds;
+  met = permuted-kinds r own types fs gs p t.kinds t.met;
+  kind_slots = t.kind_slots;
+  stand = t.stand;
+  name_slots = t.name_slots;
+  named = t.named;
+  count = t.count;
+  all = t.all;
+}

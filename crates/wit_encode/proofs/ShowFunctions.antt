@@ -1,5 +1,5 @@
 -- A function that is exported from an instance type.
-use Rattle.std.proofs.Common.{◌≡◌, sym, subst, ap, ◌∙◌, ℕ, ◌+◌, true, List, [], ◌∷◌, ◌++◌, count_by, Result, Ok, Err, OnOk, Option, Some, None, slice_get, arith}
+use Rattle.std.proofs.Common.{◌≡◌, sym, subst, ap, ◌∙◌, ℕ, ◌+◌, true, List, [], ◌∷◌, ◌++◌, append-nil, count_by, Result, Ok, Err, OnOk, Option, Some, None, slice_get, arith}
 use Rattle.std.specs.List.{list_all}
 use Rattle.std.specs.Option.{option_map_or, is_some}
 use Rattle.wit_model.specs.Text.{Text}
@@ -8,13 +8,15 @@ use Rattle.wit_model.specs.Meaning.{Signature, FunctionMeaning}
 use Rattle.wit_model.specs.declared.model.Resolve.{Resolve}
 use Rattle.wit_model.proofs.Lists.{first_true}
 use Rattle.comp_bytes.specs.declared.forms.ComponentTypeRef.TheVariants as refs
-use Rattle.comp_bytes.specs.Raw.{Declaration, Declarations, ExternName}
+use Rattle.comp_bytes.specs.Raw.{Declaration, Declarations, ExternName, from_list}
 use Rattle.comp_meaning.specs.Follow as follow
 use Rattle.comp_meaning.specs.Follow.{Slot, InstanceScope, new_instance, is_simple, function_in, show_function, instance_step}
 use Rattle.wit_encode.specs.declared.interface.OpenInterface.{OpenInterface}
 use Rattle.encode_types.specs.Slots.{function}
 use Rattle.wit_encode.specs.Instance.{standing_at, SlotsStand, is_slot_of, no_view, outer_slots, inner_contents, is_value_type, is_function_type, resources_in, contents_of, encoder_scope, ShowsFunction}
-use Rattle.encode_types.proofs.Defining.{count-push}
+use Rattle.encode_types.proofs.Marking.{count-push}
+use Rattle.encode_types.specs.Distinct.{value_slots, targets_of}
+use Rattle.wit_encode.proofs.ValueSlots.{values-more, targets-more}
 use Rattle.wit_encode.proofs.Strict.{bind}
 use Rattle.wit_encode.proofs.Calls.{inner-at}
 use Rattle.wit_encode.proofs.Steps as steps
@@ -46,7 +48,8 @@ shows-inside place outer ds name i s followed simple h =
       functions_shown = ap (λ o. (option_map_or (λ s. s.shown) o no_view).functions) next ∙ ap (λ xs. xs ++ f ∷ []) (sym (ap (λ o. (option_map_or (λ s. s.shown) o no_view).functions) a.is));
       types_shown = ap (λ o. (option_map_or (λ s. s.shown) o no_view).types) next ∙ sym (ap (λ o. (option_map_or (λ s. s.shown) o no_view).types) a.is);
       followed = ap is_some next ∙ sym (ap is_some a.is);
-      types = count-push is_value_type ds (Declaration.exported name (refs.Func i)) ∙ (let z : count_by is_value_type ds + 0 ≡ count_by is_value_type ds = omega arith in z);
+      types = values-more ds (Declaration.exported name (refs.Func i)) ∙ append-nil (value_slots (from_list ds));
+      exported = targets-more ds (Declaration.exported name (refs.Func i)) ∙ append-nil (targets_of (from_list ds));
       functions = count-push is_function_type ds (Declaration.exported name (refs.Func i)) ∙ (let z : count_by is_function_type ds + 0 ≡ count_by is_function_type ds = omega arith in z);
     }
 

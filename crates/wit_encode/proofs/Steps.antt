@@ -41,7 +41,7 @@ shown-count place name described s s' e =
     some-slots : (a b : InstanceScope) → Some a ≡ Some b → a.slots ≡ b.slots
     some-slots a b e = let z : a ≡ b = cc in ap (λ (s : InstanceScope). s.slots) z
 
-step-count : (place : Place) (outer : List Slot) (s s' : InstanceScope) (d : Declaration) → instance_step place outer s d ≡ Some s' → length s'.slots ≡ length s.slots + declaration_slots d
+pub step-count : (place : Place) (outer : List Slot) (s s' : InstanceScope) (d : Declaration) → instance_step place outer s d ≡ Some s' → length s'.slots ≡ length s.slots + declaration_slots d
 step-count place outer s s' (Declaration.defined q) e =
     let b = unbind (definition s.slots q) _ s' e in
     more-slots s s' (Slot.value b.item) (let z : record { slots = s.slots ++ Slot.value b.item ∷ []; shown = s.shown } ≡ s' = some-same _ s' b.then in ap (λ (s : InstanceScope). s.slots) z)

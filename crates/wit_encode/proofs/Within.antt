@@ -1,5 +1,5 @@
 -- The calls of an encoder of interfaces, by whether it is encoding one.
-use Rattle.std.proofs.Common.{◌≡◌, sym, subst, ℕ, List, [], ◌∷◌, ◌++◌, Result, IfOk, OnErr, Option, Some, None}
+use Rattle.std.proofs.Common.{◌≡◌, sym, ap, subst, ◌∙◌, ℕ, List, [], ◌∷◌, ◌++◌, length, Result, Ok, Err, IfOk, OnOk, OnErr, Option, Some, None}
 use Rattle.wit_model.specs.Tree.{Tree, named}
 use Rattle.wit_model.specs.Meaning.{Signature}
 use Rattle.wit_model.specs.declared.model.Resolve.{Resolve}
@@ -10,7 +10,8 @@ use Rattle.comp_bytes.specs.Raw.{Declaration, Declarations, ExternName, append}
 use Rattle.comp_bytes.specs.RawOf.{raw_defined, raw_function}
 use Rattle.comp_bytes.specs.Held.{type_slots, type_slots_of}
 use Rattle.wit_encode.specs.declared.interface.OpenInterface.{OpenInterface}
-use Rattle.encode_types.specs.Slots.{Standing, tree, Follows, FollowsFunction, Defines, DefinesFunction}
+use Rattle.encode_types.specs.Counts.{Definitions}
+use Rattle.encode_types.specs.Slots.{Standing, Pairs, SlotAdded, tree, Follows, FollowsFunction, Defines, DefinesFunction}
 use Rattle.encode_types.specs.Scope.{DeclaresSlot, DeclaresResource}
 use Rattle.encode_types.specs.Formed.{IsFormed, IsFormedSignature}
 use Rattle.encode_types.specs.Counts.{one_type_more, one_function_more, ExportsOne}
@@ -29,13 +30,18 @@ abbrev pub CanDefineFunction : Resolve → Declarations → Option OpenInterface
 CanDefineFunction r outer inner d = (s : Signature) × FollowsFunction (SlotsStand (contents_of r outer inner).slots) d s × IsFormedSignature (encoder_scope r outer inner) s
 
 abbrev DefinesTo : {E : Type 0} → Result ℕ E → Resolve → Declarations → Option OpenInterface → Declarations → Option OpenInterface → ComponentDefinedType → Type 0
-DefinesTo res r outer inner outer' inner' d = CallsTo res r outer inner outer' inner' (Defines (SlotsStand (contents_of r outer inner).slots) d) (definitions_with (contents_of r outer' inner') ≡ one_type_more (definitions_with (contents_of r outer inner)))
+DefinesTo res r outer inner outer' inner' d = CallsTo res r outer inner outer' inner' (Defines (SlotsStand (contents_of r outer inner).slots) d) (definitions_with (contents_of r outer' inner') ≡ one_type_more (length (contents_of r outer inner).slots) (definitions_with (contents_of r outer inner)))
 
 abbrev DefinesFunctionTo : {E : Type 0} → Result ℕ E → Resolve → Declarations → Option OpenInterface → Declarations → Option OpenInterface → ComponentFuncType → Type 0
 DefinesFunctionTo res r outer inner outer' inner' d = CallsTo res r outer inner outer' inner' (DefinesFunction (SlotsStand (contents_of r outer inner).slots) d) (definitions_with (contents_of r outer' inner') ≡ one_function_more (definitions_with (contents_of r outer inner)))
 
-abbrev ShowsTo : {E : Type 0} → Result ℕ E → Resolve → Declarations → Option OpenInterface → Option OpenInterface → ExternName → Type 0
-ShowsTo res r outer inner inner' name = CallsTo res r outer inner outer inner' (λ m. m ≡ tree (named (encoder_scope r outer inner).place name.text)) (ExportsOne (encoder_scope r outer inner) (definitions_with (contents_of r outer inner)) (definitions_with (contents_of r outer inner')) name)
+abbrev ShowsTo : {E : Type 0} → Result ℕ E → Resolve → Declarations → Option OpenInterface → Option OpenInterface → Option ℕ → ExternName → Type 0
+ShowsTo res r outer inner inner' slot name = CallsTo res r outer inner outer inner' (λ m. m ≡ tree (named (encoder_scope r outer inner).place name.text)) (ExportsOne (encoder_scope r outer inner) (definitions_with (contents_of r outer inner)) (definitions_with (contents_of r outer inner')) slot name)
+
+-- a definition, by the slot that is answered for it
+pub slot-defined : {E : Type 0} (res : Result ℕ E) (S S' : Pairs) (n n' : ℕ) (P : Standing → Type 0) (d d' : Definitions) → IfOk res (λ k. SlotAdded S S' n n' k P) → OnOk res (d' ≡ one_type_more n d) → IfOk res (λ k. d' ≡ one_type_more k d)
+slot-defined (Ok k) S S' n n' P d d' a e = e ∙ ap (λ (i : ℕ). one_type_more i d) (sym a.index)
+slot-defined (Err q) S S' n n' P d d' a e = e
 
 module _ {E : Type 0} (res : Result ℕ E) (r : Resolve) (outer : Declarations) (inner : Option OpenInterface) where
   module _ (current : OpenInterface) (ds' : List Declaration) (is : inner ≡ Some current) where
@@ -53,13 +59,13 @@ module _ {E : Type 0} (res : Result ℕ E) (r : Resolve) (outer : Declarations) 
         (λ q. function-inside res r current.interface (around_at outer current.foreign) current.declared ds' q.2.sound d q.0 q.1 q.2 ok err) q
 
     pub type-within : (k : ℕ) (name : ExternName) → DeclaresSlot (encoder_scope r outer inner) (SlotsStand (contents_of r outer inner).slots) name k
-        → IfOk res (λ k'. (k' ≡ type_slots current.declared) × (ds' ≡ current.declared ++ Declaration.exported name (refs.TypeEq k) ∷ [])) → OnErr res (ds' ≡ current.declared) → ShowsTo res r outer inner next name
-    type-within k name q ok err = subst (λ (o : Option OpenInterface). DeclaresSlot (encoder_scope r outer o) (SlotsStand (contents_of r outer o).slots) name k → ShowsTo res r outer o next name) (sym is)
+        → IfOk res (λ k'. (k' ≡ type_slots current.declared) × (ds' ≡ current.declared ++ Declaration.exported name (refs.TypeEq k) ∷ [])) → OnErr res (ds' ≡ current.declared) → ShowsTo res r outer inner next (Some k) name
+    type-within k name q ok err = subst (λ (o : Option OpenInterface). DeclaresSlot (encoder_scope r outer o) (SlotsStand (contents_of r outer o).slots) name k → ShowsTo res r outer o next (Some k) name) (sym is)
         (λ q. type-inside res r current.interface (around_at outer current.foreign) current.declared ds' q.declared.sound k name q ok err) q
 
     pub resource-within : (name : ExternName) → DeclaresResource (encoder_scope r outer inner) name
-        → IfOk res (λ k'. (k' ≡ type_slots current.declared) × (ds' ≡ current.declared ++ Declaration.exported name refs.SubResource ∷ [])) → OnErr res (ds' ≡ current.declared) → ShowsTo res r outer inner next name
-    resource-within name q ok err = subst (λ (o : Option OpenInterface). DeclaresResource (encoder_scope r outer o) name → ShowsTo res r outer o next name) (sym is)
+        → IfOk res (λ k'. (k' ≡ type_slots current.declared) × (ds' ≡ current.declared ++ Declaration.exported name refs.SubResource ∷ [])) → OnErr res (ds' ≡ current.declared) → ShowsTo res r outer inner next None name
+    resource-within name q ok err = subst (λ (o : Option OpenInterface). DeclaresResource (encoder_scope r outer o) name → ShowsTo res r outer o next None name) (sym is)
         (λ q. resource-inside res r current.interface (around_at outer current.foreign) current.declared ds' q.declared.sound name q ok err) q
 
   module _ (outer' : Declarations) (is : inner ≡ None) where

@@ -1,5 +1,5 @@
 -- What the calls of an encoder of a world do to its component type.
-use Rattle.std.proofs.Common.{◌≡◌, refl, sym, subst, ap, ◌∙◌, ℕ, ◌+◌, Bool, true, false, not, ◌&&◌, ◌||◌, cond, List, [], ◌∷◌, ◌++◌, append-nil, filter_map, Result, Ok, Err, IfOk, OnErr, Option, Some, None, slice_get, length, arith}
+use Rattle.std.proofs.Common.{◌≡◌, refl, sym, subst, ap, ◌∙◌, ℕ, ◌+◌, Bool, true, false, not, ◌&&◌, ◌||◌, cond, List, [], ◌∷◌, ◌++◌, append-nil, option_to_list, filter_map, Result, Ok, Err, IfOk, OnErr, Option, Some, None, slice_get, length, arith}
 use Rattle.std.specs.List.{list_all, list_any}
 use Rattle.std.specs.Option.{option_map_or}
 use Rattle.std.specs.Prelude.{◌≤◌}
@@ -32,7 +32,8 @@ use Rattle.encode_types.specs.Resources.{is_met_owner, is_named_interface, named
 use Rattle.encode_types.specs.Scope.{Scope, IsDeclared, DeclaresSlot, DeclaresResource, IsImportable, exported_name}
 use Rattle.encode_types.specs.Formed.{IsFormed, IsFormedSignature}
 use Rattle.encode_types.specs.Counts.{one_type_more, one_function_more, ExportsOne}
-use Rattle.encode_types.specs.Distinct.{is_value_type, is_function_type}
+use Rattle.encode_types.specs.Distinct.{is_value_type, is_function_type, described_slot, target_of}
+use Rattle.wit_encode.proofs.ValueSlots.{values-push, targets-push, instances-kept}
 use Rattle.encode_types.specs.Known.{Around, Aliased, IsAlias, IsSource, ReachesAround, as_before, aliased, alias_declared, are_right, is_slot_for, known_slot, outer_scope, outer_slots, standing_instances, with_alias}
 use Rattle.encode_types.specs.Standing.{SlotsStand, is_slot_of, standing_at}
 use Rattle.encode_types.specs.View.{View, Grows}
@@ -41,7 +42,7 @@ use Rattle.encode_names.specs.WorldSteps.{seen_type}
 use Rattle.encode_names.proofs.WorldSteps.{named-slot as named-plain, type-step}
 use Rattle.wit_encode.specs.Encoders.{declared_after}
 use Rattle.wit_encode.specs.WrittenNames.{described_name, instance_declarations, instance_name}
-use Rattle.wit_encode.specs.Worlds.{declared_type, is_sound_outside, world_definitions, world_resources, world_scope, world_view}
+use Rattle.wit_encode.specs.Worlds.{declared_type, is_sound_outside, world_definitions, world_resources, world_scope, world_view, instances_declared}
 use Rattle.wit_encode.proofs.Calls.{defines-of, formed-value, function-of}
 use Rattle.wit_encode.proofs.Components.{count-more, steps-count, steps-more}
 use Rattle.wit_encode.proofs.Contents.{IsOf, slots-kept}
@@ -86,14 +87,16 @@ module _ (r : Resolve) (w : WorldId) (a : Around) (sound : SoundOutside r w a) w
         right = ap (are_right r a.known) (ap (λ o. option_map_or (λ s. s.slots) o []) followed ∙ extends.slots) ∙ right-more r a.known sound.scope.slots x sound.right;
         kept = kept;
         instances = ap instance_declarations e ∙ instances-left a.declared d plain;
+        inside = ap instances_declared e ∙ instances-kept a.declared d;
       }
 
   -- what has been defined afterwards
-  definitions-after : (outer : Declarations) (d : Declaration) (x : Slot) (types : List Seen) → Widens r w a (after_declaring a outer) x types → outer ≡ declared_after a.declared d → (n k : ℕ)
-      → (world_definitions a.declared).types + cond (is_value_type d) 1 0 ≡ n → (world_definitions a.declared).functions + cond (is_function_type d) 1 0 ≡ k
-      → world_definitions outer ≡ record { types = n; functions = k; exports = (world_definitions a.declared).exports ++ filter_map declared_type types }
-  definitions-after outer d x types m e n k t f = λ i. record {
-    types = (ap (λ z. (world_definitions z).types) e ∙ count-more is_value_type a.declared d ∙ t) i;
+  definitions-after : (outer : Declarations) (d : Declaration) (x : Slot) (types : List Seen) → Widens r w a (after_declaring a outer) x types → outer ≡ declared_after a.declared d → (n u : List ℕ) (k : ℕ)
+      → (world_definitions a.declared).types ++ cond (is_value_type d) (type_slots_of a.declared ∷ []) [] ≡ n → (world_definitions a.declared).exported ++ option_to_list (target_of d) ≡ u
+      → (world_definitions a.declared).functions + cond (is_function_type d) 1 0 ≡ k → world_definitions outer ≡ record { types = n; exported = u; functions = k; exports = (world_definitions a.declared).exports ++ filter_map declared_type types }
+  definitions-after outer d x types m e n u k t q f = λ i. record {
+    types = (ap (λ z. (world_definitions z).types) e ∙ values-push 0 a.declared d ∙ t) i;
+    exported = (ap (λ z. (world_definitions z).exported) e ∙ targets-push a.declared d ∙ q) i;
     functions = (ap (λ z. (world_definitions z).functions) e ∙ count-more is_function_type a.declared d ∙ f) i;
     exports = exports-more r w a (after_declaring a outer) x types m sound i;
   }
@@ -137,15 +140,16 @@ module _ {E : Type 0} (res : Result ℕ E) (r : Resolve) (w : WorldId) (count : 
         each-ok (Err e) f h = h
 
     pub defines-value : (d : ComponentDefinedType) (t : Tree) → Follows (SlotsStand (outer_slots a.declared)) d t → IsFormed scope t → Declared (Declaration.defined (raw_defined d)) → OnErr res (outer ≡ a.declared)
-        → Leads (Defines (SlotsStand (outer_slots a.declared)) d) (world_definitions outer ≡ one_type_more (world_definitions a.declared))
+        → Leads (Defines (SlotsStand (outer_slots a.declared)) d) (world_definitions outer ≡ one_type_more (length (outer_slots a.declared)) (world_definitions a.declared))
     defines-value d t h f ok err =
         let strict : definition sound.scope.slots (raw_defined d) ≡ Some t = ap (λ zs. definition zs (raw_defined d)) (sym (same-slots r w a sound))
         ∙ definition-strict (world_resources r w) (outer_slots a.declared) (slots-sound r w a sound) d t h f.formed in
         declares (Declaration.defined (raw_defined d)) (Slot.value t) [] (in_scope (Slot.value t) sound.scope) _ _
         (bind (definition sound.scope.slots (raw_defined d)) t (λ u. Some (in_scope (Slot.value u) sound.scope)) strict) (slot-extends sound.scope (Slot.value t) refl) refl (formed-value (world_resources r w) t f.formed)
         (defines-of (outer_slots a.declared) d t h)
-        (λ m e. definitions-after r w a sound outer (Declaration.defined (raw_defined d)) (Slot.value t) [] m e ((world_definitions a.declared).types + 1) (world_definitions a.declared).functions refl (omega arith)
-        ∙ (λ i. record { types = (world_definitions a.declared).types + 1; functions = (world_definitions a.declared).functions; exports = append-nil (world_definitions a.declared).exports i }))
+        (λ m e. definitions-after r w a sound outer (Declaration.defined (raw_defined d)) (Slot.value t) [] m e ((world_definitions a.declared).types ++ length (outer_slots a.declared) ∷ []) (world_definitions a.declared).exported (world_definitions a.declared).functions
+        (ap (λ (k : ℕ). (world_definitions a.declared).types ++ k ∷ []) (index-next r w a sound)) (append-nil (world_definitions a.declared).exported) (omega arith)
+        ∙ (λ i. record { types = (world_definitions a.declared).types ++ length (outer_slots a.declared) ∷ []; exported = (world_definitions a.declared).exported; functions = (world_definitions a.declared).functions; exports = append-nil (world_definitions a.declared).exports i }))
         ok err
 
     pub defines-function : (d : ComponentFuncType) (s : Signature) → FollowsFunction (SlotsStand (outer_slots a.declared)) d s → IsFormedSignature scope s → Declared (Declaration.function (raw_function d)) → OnErr res (outer ≡ a.declared)
@@ -156,23 +160,24 @@ module _ {E : Type 0} (res : Result ℕ E) (r : Resolve) (w : WorldId) (count : 
         declares (Declaration.function (raw_function d)) (Slot.function s) [] (in_scope (Slot.function s) sound.scope) _ _
         (bind (function_signature sound.scope.slots (raw_function d)) s (λ u. Some (in_scope (Slot.function u) sound.scope)) strict) (slot-extends sound.scope (Slot.function s) refl) refl refl
         (function-of (outer_slots a.declared) d s h)
-        (λ m e. definitions-after r w a sound outer (Declaration.function (raw_function d)) (Slot.function s) [] m e (world_definitions a.declared).types ((world_definitions a.declared).functions + 1) (omega arith) refl
-        ∙ (λ i. record { types = (world_definitions a.declared).types; functions = (world_definitions a.declared).functions + 1; exports = append-nil (world_definitions a.declared).exports i }))
+        (λ m e. definitions-after r w a sound outer (Declaration.function (raw_function d)) (Slot.function s) [] m e (world_definitions a.declared).types (world_definitions a.declared).exported ((world_definitions a.declared).functions + 1)
+        (append-nil (world_definitions a.declared).types) (append-nil (world_definitions a.declared).exported) refl
+        ∙ (λ i. record { types = (world_definitions a.declared).types; exported = (world_definitions a.declared).exported; functions = (world_definitions a.declared).functions + 1; exports = append-nil (world_definitions a.declared).exports i }))
         ok err
 
     -- ---- types of the world, which are imported
 
-    abbrev ShownAs : ExternName → Type 0
-    ShownAs name = ExportsOne scope (world_definitions a.declared) (world_definitions outer) name
+    abbrev ShownAs : Option ℕ → ExternName → Type 0
+    ShownAs slot name = ExportsOne scope (world_definitions a.declared) (world_definitions outer) slot name
 
     some-standing : (u m : Standing) → Some u ≡ Some m → m ≡ u
     some-standing u m e = cc
 
     -- a declaration that is followed as it says
-    imports-declared : (described : ComponentTypeRef) (name : ExternName) (d : Text × TypeMeaning) (x : Slot) → described_name name described ≡ [] → IsDeclared scope d → name ≡ exported_name d → is_slot_of (world_resources r w) x ≡ true
+    imports-declared : (described : ComponentTypeRef) {slot : Option ℕ} → described_slot described ≡ slot → (name : ExternName) (d : Text × TypeMeaning) (x : Slot) → described_name name described ≡ [] → IsDeclared scope d → name ≡ exported_name d → is_slot_of (world_resources r w) x ≡ true
         → standing_at (Some x) ≡ Some (tree (named here name.text)) → named_type (outer_slots a.declared) here name.text described ≡ Some (d.1.declaration, x) → Declared (Declaration.imported name described)
-        → OnErr res (outer ≡ a.declared) → Leads (λ m. m ≡ tree (named here name.text)) (ShownAs name)
-    imports-declared described name d x plain declared is kept stands found ok err =
+        → OnErr res (outer ≡ a.declared) → Leads (λ m. m ≡ tree (named here name.text)) (ShownAs slot name)
+    imports-declared described {slot} from name d x plain declared is kept stands found ok err =
         let there : named_type sound.scope.slots here name.text described ≡ Some (d.1.declaration, x) = ap (λ zs. named_type zs here name.text described) (sym (same-slots r w a sound)) ∙ found in
         let seen : Seen = seen_type name d.1.declaration in
         let after : follow.Scope = see import_ seen (in_scope x sound.scope) in
@@ -193,22 +198,23 @@ module _ {E : Type 0} (res : Result ℕ E) (r : Resolve) (w : WorldId) (count : 
           declaration = d;
           there = declared.there;
           named_ = is;
-          one_more = definitions-after r w a sound outer (Declaration.imported name described) x (seen ∷ []) m e (world_definitions a.declared).types (world_definitions a.declared).functions (omega arith) (omega arith)
-              ∙ (λ j. record { types = (world_definitions a.declared).types; functions = (world_definitions a.declared).functions; exports = (world_definitions a.declared).exports ++ meant j ∷ [] });
+          one_more = definitions-after r w a sound outer (Declaration.imported name described) x (seen ∷ []) m e (world_definitions a.declared).types ((world_definitions a.declared).exported ++ option_to_list slot) (world_definitions a.declared).functions
+              (append-nil (world_definitions a.declared).types) (ap (λ o. (world_definitions a.declared).exported ++ option_to_list o) from) (omega arith)
+              ∙ (λ j. record { types = (world_definitions a.declared).types; exported = (world_definitions a.declared).exported ++ option_to_list slot; functions = (world_definitions a.declared).functions; exports = (world_definitions a.declared).exports ++ meant j ∷ [] });
         })
         ok err
 
     pub imports-type : (k : ℕ) (name : ExternName) → DeclaresSlot scope (SlotsStand (outer_slots a.declared)) name k → Declared (Declaration.imported name (refs.TypeEq k)) → OnErr res (outer ≡ a.declared)
-        → Leads (λ m. m ≡ tree (named here name.text)) (ShownAs name)
+        → Leads (λ m. m ≡ tree (named here name.text)) (ShownAs (Some k) name)
     imports-type k name s ok err =
         let its : DeclaredAs scope (outer_slots a.declared) name (refs.TypeEq k) s.declaration = declared-slot scope (outer_slots a.declared) (slots-sound r w a sound) name k s in
-        imports-declared (refs.TypeEq k) name s.declaration its.slot refl s.declared s.named_ its.kept its.stands its.found ok err
+        imports-declared (refs.TypeEq k) refl name s.declaration its.slot refl s.declared s.named_ its.kept its.stands its.found ok err
 
     pub imports-resource : (name : ExternName) → DeclaresResource scope name → Declared (Declaration.imported name refs.SubResource) → OnErr res (outer ≡ a.declared)
-        → Leads (λ m. m ≡ tree (named here name.text)) (ShownAs name)
+        → Leads (λ m. m ≡ tree (named here name.text)) (ShownAs None name)
     imports-resource name s ok err =
         let its : DeclaredAs scope (outer_slots a.declared) name refs.SubResource s.declaration = declared-resource scope (outer_slots a.declared) (slots-sound r w a sound) name s in
-        imports-declared refs.SubResource name s.declaration its.slot refl s.declared s.named_ its.kept its.stands its.found ok err
+        imports-declared refs.SubResource refl name s.declaration its.slot refl s.declared s.named_ its.kept its.stands its.found ok err
 
 -- ---- types of other interfaces
 
@@ -306,6 +312,7 @@ module _ (r : Resolve) (w : WorldId) (count : ℕ) (a : Around) (maps : TypeEnco
         right = right;
         kept = foreign.kept;
         instances = instances-left a.declared (alias_declared al) refl;
+        inside = instances-kept a.declared (alias_declared al);
       } in
       let more : outer_slots (with_alias a al).declared ≡ outer_slots a.declared ++ x ∷ [] = slots-more r w a (with_alias a al) x [] wide s in
       record {
@@ -318,8 +325,8 @@ module _ (r : Resolve) (w : WorldId) (count : ℕ) (a : Around) (maps : TypeEnco
         scope_stays = scope-stays r w a (with_alias a al) x [] wide s count;
         counted = definitions-after r w a s (with_alias a al).declared (alias_declared al) x []
             (declared-widens r w a s (with_alias a al).declared (alias_declared al) x [] (in_scope x s.scope) step (slot-extends s.scope x foreign.plain) refl foreign.kept refl) refl
-            (world_definitions a.declared).types (world_definitions a.declared).functions (omega arith) (omega arith)
-            ∙ (λ i. record { types = (world_definitions a.declared).types; functions = (world_definitions a.declared).functions; exports = append-nil (world_definitions a.declared).exports i });
+            (world_definitions a.declared).types (world_definitions a.declared).exported (world_definitions a.declared).functions (append-nil (world_definitions a.declared).types) (append-nil (world_definitions a.declared).exported) (omega arith)
+            ∙ (λ i. record { types = (world_definitions a.declared).types; exported = (world_definitions a.declared).exported; functions = (world_definitions a.declared).functions; exports = append-nil (world_definitions a.declared).exports i });
       }
     where
       one-some : (x y : ℕ) → Some x ≡ Some y → x ≡ y

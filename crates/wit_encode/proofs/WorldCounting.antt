@@ -1,5 +1,5 @@
 -- How much the component type of a world defines after each item.
-use Rattle.std.proofs.Common.{◌≡◌, refl, sym, subst, ap, ◌∙◌, ℕ, ◌+◌, inl, inr, Bool, true, false, List, [], ◌∷◌, ◌++◌, map, flat_map, length, append-nil, None, Vec, arith}
+use Rattle.std.proofs.Common.{◌≡◌, refl, sym, subst, ap, ◌∙◌, ℕ, ◌+◌, inl, inr, Bool, true, false, List, [], ◌∷◌, ◌++◌, map, flat_map, length, append-nil, Option, None, slice_get, Vec, arith}
 use Rattle.std.specs.Prelude.{nat_eq, cond, count_by}
 use Rattle.std.specs.declared.alloc.Global.{Global}
 use Rattle.std.specs.List.{AllZip, Contains}
@@ -21,55 +21,35 @@ use Rattle.wit_model.specs.declared.model.«Type».TheVariants as ty
 use Rattle.comp_bytes.specs.Raw.{Declaration, Declarations, ExternName}
 use Rattle.comp_bytes.specs.declared.forms.ComponentTypeRef.{ComponentTypeRef}
 use Rattle.comp_bytes.specs.declared.forms.ComponentTypeRef.TheVariants as refs
-use Rattle.comp_meaning.specs.Follow.{Direction, import_, export_}
+use Rattle.comp_meaning.specs.Follow.{Direction, import_, export_, new_scope}
+use Rattle.wit_model.specs.Tree.{Tree}
+use Rattle.std.specs.Option.{option_map_or}
+use Rattle.encode_types.specs.Slots.{tree}
 use Rattle.encode_types.specs.declared.key.FunctionKey.{FunctionKey}
 use Rattle.encode_types.specs.declared.maps.TypeEncodingMaps.{TypeEncodingMaps}
 use Rattle.encode_types.specs.Codes.{kind_code, lists_of}
 use Rattle.encode_types.specs.Counts.{AddsTypes, AddsFunction, is_defined_by_name, names_defined}
-use Rattle.encode_types.specs.Distinct.{key_of, are_same, is_value_type, is_function_type, defined_under_names, AddsFunctions}
+use Rattle.encode_types.specs.Distinct.{key_of, are_same, is_value_type, is_function_type, described_slot, target_of, targets_of, value_slots, defined_under_names, AddsFunctions}
 use Rattle.encode_types.specs.Key.{IsKeyOf}
-use Rattle.encode_types.specs.Known.{Aliased, AreAliases, Around, GrowsAround, with_aliases}
 use Rattle.encode_types.specs.Maps.{IsKnown, IsOnce}
 use Rattle.encode_types.specs.MetKinds.{LearnsFrom, LearnsMet}
 use Rattle.encode_types.specs.Scope.{Scope}
 use Rattle.encode_types.proofs.Rooms.{only-more}
 use Rattle.encode_names.specs.WorldSteps.{Entry, Entries, declared_towards, interfaces_among}
 use Rattle.wit_encode.specs.Encoders.{declared_after}
-use Rattle.wit_encode.specs.Instance.{count_declared}
+use Rattle.wit_encode.specs.Instance.{count_declared, SlotsStand, outer_slots, standing_at}
 use Rattle.wit_encode.specs.WorldItems.{HasShown, all_done, types_among}
-use Rattle.wit_encode.specs.WorldCounts.{instances_declared, DefinesInterface, DefinesOnce, HasDefined, no_interface, nothing_defined}
+use Rattle.wit_encode.specs.WorldCounts.{DefinesInterface, DefinesOnce, HasDefined, no_interface, nothing_defined}
 use Rattle.wit_encode.specs.WorldRoom.{functions_among, referred_among, type_ids_among}
-use Rattle.wit_encode.specs.WrittenNames.{if_named, instance_declarations, instance_name, instances_around}
-use Rattle.wit_encode.specs.Worlds.{WorldEncoder, world_definitions, world_view_of}
+use Rattle.wit_encode.specs.Worlds.{WorldEncoder, instances_declared, world_around, world_definitions, world_view_of}
 use Rattle.wit_encode.proofs.Components.{count-more}
-use Rattle.wit_encode.proofs.Counting.{HeldKinds, adds-alike, adds-function, adds-nothing, adds-trans, adds-types, exact-names, from-map}
+use Rattle.wit_encode.proofs.ValueSlots.{IsPlain, values-kept, targets-kept, instances-kept, outer-values}
+use Rattle.wit_encode.proofs.DefinedTypes.{HeldKinds, defines-types}
+use Rattle.wit_encode.proofs.WorldScope.{sound-outside}
+use Rattle.wit_encode.proofs.Counting.{slots-once, adds-alike, adds-function, adds-nothing, adds-trans, adds-types, exact-names, from-map}
 use Rattle.wit_encode.proofs.HeldKeys.{Keyed, both-ways, keyed, knows-none}
 use Rattle.wit_encode.proofs.Referring.{from-met, from-none, from-then, interface-kinds}
-use Rattle.wit_encode.proofs.WrittenNames.{instances-left, no-function-name}
 use Rattle.wit_model.proofs.Elements.{contains-map}
-
--- ---- instance types
-
--- where no interface is listed, no alias can be made
-pub none-made : (r : Resolve) (outer outer' : Declarations) → GrowsAround r (instances_around outer) (instances_around outer') → instance_declarations outer' ≡ instance_declarations outer
-none-made r outer outer' g = go g.made g.are g.is
-  where
-    go : (made : List Aliased) → AreAliases r (instances_around outer) made → instances_around outer' ≡ with_aliases (instances_around outer) made → instance_declarations outer' ≡ instance_declarations outer
-    go [] are is = ap (λ (z : Around). z.declared) is
-    go (x ∷ made) are is = let none = are.0.instance in absurd (let z : ⊥ = cc in z)
-
-declared-alone : (outer : Declarations) → instances_declared (instance_declarations outer) ≡ instances_declared outer
-declared-alone Declarations.no_more = refl
-declared-alone (Declarations.declares d rest) = by (instance_name d) (declared-alone rest)
-  where
-    by : (ns : List ExternName) → instances_declared (instance_declarations rest) ≡ instances_declared rest → instances_declared (if_named ns d (instance_declarations rest)) ≡ instances_declared rest
-    by [] more = more
-    by (n ∷ ns) more = more
-declared-alone (Declarations.component inner rest) = declared-alone rest
-declared-alone (Declarations.instance inner rest) = ap (λ xs. inner ∷ xs) (declared-alone rest)
-
-pub same-instances : (outer outer' : Declarations) → instance_declarations outer' ≡ instance_declarations outer → instances_declared outer' ≡ instances_declared outer
-same-instances outer outer' e = sym (declared-alone outer') ∙ (ap instances_declared e ∙ declared-alone outer)
 
 -- ---- entries
 
@@ -131,15 +111,19 @@ module _ (r : Resolve) (e e' : WorldEncoder) (es : List Entry) (h : HasDefined r
 
   -- an item without an interface
   pub defines-more : AddsFunctions r (no_interface r) e.maps e'.maps (world_definitions e.outer) (world_definitions e'.outer) fs → LearnsFrom r None ts e.maps e'.maps
-      → interfaces_among (x ∷ []) ≡ [] → instance_declarations e'.outer ≡ instance_declarations e.outer → HasDefined r e' (es ++ x ∷ [])
+      → interfaces_among (x ∷ []) ≡ [] → instances_declared e'.outer ≡ instances_declared e.outer → HasDefined r e' (es ++ x ∷ [])
   defines-more a l none stays = defines-behind a l
       (subst (λ (is : List ℕ). AllZip (DefinesInterface r) is (instances_declared e'.outer)) (sym (interfaces-more es (x ∷ []) ∙ (ap (λ is. interfaces_among es ++ is) none ∙ append-nil (interfaces_among es))))
-      (subst (AllZip (DefinesInterface r) (interfaces_among es)) (sym (same-instances e.outer e'.outer stays)) h.inside))
+      (subst (AllZip (DefinesInterface r) (interfaces_among es)) (sym stays) h.inside))
 
 -- an import or an export of an item is no definition
 pub towards-value : (direction : Direction) (name : ExternName) (described : ComponentTypeRef) → is_value_type (declared_towards direction name described) ≡ false
 towards-value import_ name described = refl
 towards-value export_ name described = refl
+
+pub towards-target : (direction : Direction) (name : ExternName) (described : ComponentTypeRef) → described_slot described ≡ None → target_of (declared_towards direction name described) ≡ None
+towards-target import_ name described e = e
+towards-target export_ name described e = e
 
 pub towards-function : (direction : Direction) (name : ExternName) (described : ComponentTypeRef) → is_function_type (declared_towards direction name described) ≡ false
 towards-function import_ name described = refl
@@ -158,25 +142,26 @@ counts-declared test outer d e = count-more test outer d ∙ none (count_declare
 pub function-defined : (r : Resolve) (e e' : WorldEncoder) (es : List Entry) (scope : Scope) → scope.own_interface ≡ None → (k : WorldKey) (i : WorldItem) (f : Function) → i ≡ item.Function f → (key : FunctionKey) (n : ℕ)
     → (direction : Direction) (name : ExternName) (outer : Declarations) → HasDefined r e es → IsOnce e.maps → IsKeyOf key f
     → AddsFunction r scope e.maps e'.maps (world_definitions e.outer) (world_definitions e'.outer) key n → LearnsMet r None (function_types f) e.maps e'.maps
-    → instance_declarations e'.outer ≡ instance_declarations e.outer → outer ≡ declared_after e'.outer (declared_towards direction name (refs.Func n)) → HasDefined r (record e' { outer = outer }) (es ++ (k, i) ∷ [])
+    → instances_declared e'.outer ≡ instances_declared e.outer → outer ≡ declared_after e'.outer (declared_towards direction name (refs.Func n)) → HasDefined r (record e' { outer = outer }) (es ++ (k, i) ∷ [])
 function-defined r e e' es scope own k i f is key n direction name outer h once is_key a learns stays made =
     let x : Entry = (k, item.Function f) in
     let next : WorldEncoder = record e' { outer = outer } in
     let d = declared_towards direction name (refs.Func n) in
-    let values_ : count_declared is_value_type outer ≡ count_declared is_value_type e'.outer = ap (count_declared is_value_type) made ∙ counts-declared is_value_type e'.outer d (towards-value direction name (refs.Func n)) in
+    let values_ : value_slots outer ≡ value_slots e'.outer = ap value_slots made ∙ values-kept e'.outer d (towards-value direction name (refs.Func n)) in
+    let targets_ : targets_of outer ≡ targets_of e'.outer = ap targets_of made ∙ targets-kept e'.outer d (towards-target direction name (refs.Func n) refl) in
     let functions_ : count_declared is_function_type outer ≡ count_declared is_function_type e'.outer = ap (count_declared is_function_type) made ∙ counts-declared is_function_type e'.outer d (towards-function direction name (refs.Func n)) in
     subst (λ (j : WorldItem). HasDefined r next (es ++ (k, j) ∷ [])) (sym is)
     (defines-more r e next es h x (f ∷ []) (function_types f) refl (function-referred k f)
-    (adds-alike (sym own) refl refl refl values_ functions_ (adds-function key n f is_key once a))
-    (from-met r None (function_types f) e.maps e'.maps learns) refl (ap instance_declarations made ∙ (instances-left e'.outer d (no-function-name direction name n) ∙ stays)))
+    (adds-alike (sym own) refl refl refl refl values_ targets_ functions_ (adds-function key n f is_key once a))
+    (from-met r None (function_types f) e.maps e'.maps learns) refl (ap instances_declared made ∙ (instances-kept e'.outer d ∙ stays)))
 
 -- a type
 pub type-defined : (r : Resolve) (e e' : WorldEncoder) (es : List Entry) (scope : Scope) → scope.own_interface ≡ None → (k : WorldKey) (i : WorldItem) (id : TypeId) → i ≡ item.Type_ id → HasDefined r e es
-    → AddsTypes r scope e.maps e'.maps (world_definitions e.outer) (world_definitions e'.outer) → LearnsMet r None (ty.Id id ∷ []) e.maps e'.maps → instance_declarations e'.outer ≡ instance_declarations e.outer
+    → AddsTypes r scope e.maps e'.maps (world_definitions e.outer) (world_definitions e'.outer) → LearnsMet r None (ty.Id id ∷ []) e.maps e'.maps → instances_declared e'.outer ≡ instances_declared e.outer
     → HasDefined r e' (es ++ (k, i) ∷ [])
 type-defined r e e' es scope own k i id is h a learns stays =
     subst (λ (j : WorldItem). HasDefined r e' (es ++ (k, j) ∷ [])) (sym is)
-    (defines-more r e e' es h (k, item.Type_ id) [] (ty.Id id ∷ []) refl (type-referred k id) (adds-alike (sym own) refl refl refl refl refl (adds-types a)) (from-met r None (ty.Id id ∷ []) e.maps e'.maps learns) refl stays)
+    (defines-more r e e' es h (k, item.Type_ id) [] (ty.Id id ∷ []) refl (type-referred k id) (adds-alike (sym own) refl refl refl refl refl refl refl (adds-types a)) (from-met r None (ty.Id id ∷ []) e.maps e'.maps learns) refl stays)
 
 -- nothing has been defined by a new encoder
 pub none-defined : (r : Resolve) (e : WorldEncoder) → e.outer ≡ Declarations.no_more → e.maps.id_to_index.entries ≡ [] → e.maps.def_to_index.entries ≡ [] → e.maps.func_type_map.entries ≡ [] → HasDefined r e []
@@ -185,7 +170,7 @@ none-defined r e o a b c = record {
   no_numbers = a;
   no_kinds = b;
   no_keys = c;
-  adds = adds-alike refl refl refl refl (ap (count_declared is_value_type) o) (ap (count_declared is_function_type) o) (adds-nothing r (no_interface r) e.maps nothing_defined);
+  adds = adds-alike refl refl refl refl refl (ap value_slots o) (ap targets_of o) (ap (count_declared is_function_type) o) (adds-nothing r (no_interface r) e.maps nothing_defined);
   learns = from-none r None [] e.maps;
   inside = subst (λ (z : Declarations). AllZip (DefinesInterface r) [] (instances_declared z)) (sym o) tt;
 }
@@ -205,18 +190,8 @@ defines-once r v w e done s h = record {
   same = λ q. both-ways (is_member are_same k.keys q) (is_member are_same (map key_of (functions_among es)) q)
       (λ m. elim (h.adds.known q (k.known q m)) [ inl c ↦ absurd (knows-none h.began q h.no_keys c) | inr c ↦ c ])
       (λ m. k.all q (h.adds.learnt q m));
-  kinds = held.kinds;
-  value_types =
-      (let none : length h.began.def_to_index.entries ≡ 0 = ap length h.no_kinds in
-      let unnamed : names_defined r (no_interface r) h.began ≡ 0 = ap (count_by (λ (e : ℕ × ℕ). is_defined_by_name r (no_interface r) e.0)) h.no_numbers in
-      let x = h.adds.types in
-      let a : length (map kind_code held.kinds) ≡ length held.kinds = length-map held.kinds kind_code in
-      let b : length (map (λ (e : List ℕ × ℕ). e.0) (lists_of e.maps.def_to_index)) ≡ length (map kind_code held.kinds) = ap length held.lists in
-      let c : length (map (λ (e : List ℕ × ℕ). e.0) (lists_of e.maps.def_to_index)) ≡ length (lists_of e.maps.def_to_index) = length-map (lists_of e.maps.def_to_index) (λ (e : List ℕ × ℕ). e.0) in
-      let d : length (lists_of e.maps.def_to_index) ≡ length e.maps.def_to_index.entries = length-map e.maps.def_to_index.entries (λ (e : Vec ℕ Global × ℕ). (e.0.items, e.1)) in
-      let n = names in
-      omega (arith, none, unnamed, x, a, b, c, d, n));
-  met = held.met;
+  value_types = defines-types r v None (no_interface r) (SlotsStand (outer_slots e.outer)) h.began e.maps nothing_defined (world_definitions e.outer) (type_ids_among es) (functions_among es) e.outer
+      h.adds.slots s.agree (slots-once (outer_slots e.outer)) plain h.adds.slots.types h.adds.slots.exported h.no_numbers h.no_kinds held names;
   inside = h.inside;
 }
   where
@@ -242,3 +217,10 @@ defines-once r v w e done s h = record {
     names : names_defined r (no_interface r) e.maps ≡ distinct_count nat_eq (defined_under_names r None (type_ids_among es))
     names = exact-names r (world_view_of r e).scope e.maps (type_ids_among es) once known
         (λ t i c. elim (s.alone t.0 (i, c)) [ inl none ↦ inl none | inr there ↦ inr (contains-map number (types_among es) t.0 there) ])
+
+    -- where a value type is defined stands a type without a name
+    plain : (i : ℕ) → Contains (value_slots e.outer) i → (t : Tree) × SlotsStand (outer_slots e.outer) i (tree t) × IsPlain t
+    plain i c =
+        let there = sound-outside r e.world (world_around e) s.sound in
+        let p = outer-values new_scope there.scope e.outer i there.followed c in
+        (p.type_there, ap (λ o. standing_at (slice_get (option_map_or (λ z. z.slots) o []) i)) there.followed ∙ ap standing_at p.there, p.plain)

@@ -21,7 +21,7 @@ use Rattle.encode_names.proofs.Rebuilt.{others-before}
 use Rattle.encode_names.proofs.WorldSteps.{types-appended}
 use Rattle.wit_encode.specs.Instance.{Contents, no_view}
 use Rattle.wit_encode.specs.WrittenNames.{instance_declarations, instances_around}
-use Rattle.wit_encode.specs.Worlds.{declared_type, is_sound_outside, others_of, seen_imports, world_resources, world_scope, world_view}
+use Rattle.wit_encode.specs.Worlds.{declared_type, is_sound_outside, others_of, seen_imports, world_resources, world_scope, world_view, instances_declared}
 use Rattle.wit_encode.proofs.Calls.{some-of}
 use Rattle.wit_encode.proofs.Contents.{IsOf, Grew, grew-adds, grew-grows}
 
@@ -52,6 +52,7 @@ pub record Widens (r : Resolve) (w : WorldId) (a a' : Around) (x : Slot) (types 
   pub right : are_right r a'.known (outer_slots a'.declared) ≡ true
   pub kept : is_slot_of (world_resources r w) x ≡ true
   pub instances : instance_declarations a'.declared ≡ instance_declarations a.declared
+  pub inside : instances_declared a'.declared ≡ instances_declared a.declared
 
 -- ---- what is sound
 
@@ -134,6 +135,7 @@ module _ (r : Resolve) (w : WorldId) (a a' : Around) (x : Slot) (types : List Se
     instances = instances-stay i;
     instance_types = same-types i;
     used = (ap (λ o. option_map_or (λ s. s.used) o []) m.next ∙ m.extends.used ∙ sym (ap (λ o. option_map_or (λ s. s.used) o []) m.followed)) i;
+    declared = m.inside i;
   }
 
   same-sound : is_sound_outside r w a' ≡ is_sound_outside r w a
@@ -152,7 +154,7 @@ module _ (r : Resolve) (w : WorldId) (a a' : Around) (x : Slot) (types : List Se
 -- ---- a call
 
 abbrev slots_held : Around → Contents
-slots_held a = record { slots = outer_slots a.declared; shown = no_view; is_followed = true; types = 0; functions = 0 }
+slots_held a = record { slots = outer_slots a.declared; shown = no_view; is_followed = true; types = []; exported = []; functions = 0 }
 
 -- what a call that adds a slot ensures
 pub record WorldCalls {E : Type 0} (res : Result ℕ E) (v v' : View) (P : Standing → Type 0) (counts : Type 0) : Type 0 where

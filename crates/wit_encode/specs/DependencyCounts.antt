@@ -1,4 +1,4 @@
--- How much the component type of an interface defines: nothing beside instance types, and in each of them every key of a function and every
+-- What the component type of an interface defines: nothing beside instance types, and in each of them every key of a function and every
 -- unnamed kind once.
 use Rattle.std.specs.Prelude.{ℕ, ◌≡◌, List, [], ◌∷◌, ◌++◌, count_by, Some}
 use Rattle.std.specs.List.{AllZip}
@@ -9,17 +9,18 @@ use Rattle.wit_model.specs.declared.model.Interface.{Interface}
 use Rattle.comp_bytes.specs.Raw.{Declaration, Declarations, from_list}
 use Rattle.encode_reach.specs.Reach.{reached_in_order}
 use Rattle.encode_types.specs.Distinct.{is_value_type, is_function_type, DefinesTypes}
-use Rattle.wit_encode.specs.Instance.{count_declared}
-use Rattle.wit_encode.specs.WorldCounts.{instances_declared, DefinesInterface}
+use Rattle.wit_encode.specs.Instance.{count_declared, stands_inside}
+use Rattle.wit_encode.specs.Worlds.{instances_declared}
+use Rattle.wit_encode.specs.WorldCounts.{DefinesInterface}
 
 -- An instance type defines what the types of its interface ask for, each once, and no type of a function.
-pub record DefinesTypesOf (r : Resolve) (i : ℕ) (declared : Declarations) : Type 0 where
+pub record DefinesTypesOf (r : Resolve) (i : ℕ) (declared : Declarations × Declarations) : Type 0 where
   pub def : Interface
   pub there : interface_at r i ≡ Some def
   pub declarations : List Declaration
-  pub is : declared ≡ from_list declarations
+  pub is : declared.1 ≡ from_list declarations
   pub function_types : count_by is_function_type declarations ≡ 0
-  pub value_types : DefinesTypes r (record { 0 = i }) (values def.types) [] declarations
+  pub value_types : DefinesTypes r (Some (record { 0 = i })) (stands_inside r (record { 0 = i }) declared.0 declarations) (values def.types) [] (from_list declarations)
 
 -- no type is defined beside the instance types
 pub record DefinesNothing (outer : Declarations) : Type 0 where
@@ -34,8 +35,8 @@ pub record DefinesImports (r : Resolve) (outer : Declarations) (interfaces : Lis
 -- Behind those of what interface n reaches there is its own.
 pub record DefinesComponent (r : Resolve) (n : ℕ) (outer : Declarations) : Type 0 where
   pub beside : DefinesNothing outer
-  pub imports : List Declarations
-  pub own : Declarations
+  pub imports : List (Declarations × Declarations)
+  pub own : Declarations × Declarations
   pub are : instances_declared outer ≡ imports ++ own ∷ []
   pub reached : AllZip (DefinesTypesOf r) (reached_in_order r n) imports
   pub exported : DefinesInterface r n own

@@ -45,7 +45,7 @@ use Rattle.encode_types.specs.Fits.{CanEncode}
 use Rattle.encode_types.specs.Scope.{Scope, no_others}
 use Rattle.wit_encode.specs.Order.{functions_in_order}
 pub use Rattle.encode_types.specs.Distinct.{is_value_type, is_function_type}
-use Rattle.encode_types.specs.Distinct.{key_of, are_same, DefinesKeys, DefinesTypes}
+use Rattle.encode_types.specs.Distinct.{key_of, are_same, value_slots, targets_of, DefinesKeys, DefinesTypes}
 use Rattle.encode_types.specs.Counts.{Definitions}
 
 -- ---- what has been declared in a scope
@@ -54,8 +54,9 @@ pub record Contents : Type 0 where
   pub slots : List Slot
   pub shown : View
   pub is_followed : Bool
-  -- how many value types and how many types of functions are defined
-  pub types : ℕ
+  -- the slots of the value types that are defined, and those that are exported under names; how many types of functions are defined
+  pub types : List ℕ
+  pub exported : List ℕ
   pub functions : ℕ
 
 abbrev pub no_view : View
@@ -74,7 +75,8 @@ outer_contents outer = record {
   slots = outer_slots outer;
   shown = no_view;
   is_followed = is_some (outer_scope outer);
-  types = count_declared is_value_type outer;
+  types = value_slots outer;
+  exported = targets_of outer;
   functions = count_declared is_function_type outer;
 }
 
@@ -87,7 +89,8 @@ inner_contents place outer ds = record {
   slots = option_map_or (λ s. s.slots) (inner_scope place outer ds) [];
   shown = option_map_or (λ s. s.shown) (inner_scope place outer ds) no_view;
   is_followed = is_some (inner_scope place outer ds);
-  types = count_by is_value_type ds;
+  types = value_slots (from_list ds);
+  exported = targets_of (from_list ds);
   functions = count_by is_function_type ds;
 }
 
@@ -152,7 +155,7 @@ abbrev pub encoder_scope : Resolve → Declarations → Option OpenInterface →
 encoder_scope r outer inner = scope_with r (own_of inner) (around_of outer inner) (contents_of r outer inner)
 
 abbrev pub definitions_with : Contents → Definitions
-definitions_with contents = record { types = contents.types; functions = contents.functions; exports = map (λ t. (t.name, t.meaning)) contents.shown.types }
+definitions_with contents = record { types = contents.types; exported = contents.exported; functions = contents.functions; exports = map (λ t. (t.name, t.meaning)) contents.shown.types }
 
 -- ---- what an encoder holds: what its slots stand for, how many there are, what has been defined, and what is shown
 
@@ -204,6 +207,7 @@ pub record ShowsFunction (c c' : Contents) (f : Text × FunctionMeaning) : Type 
   pub types_shown : c'.shown.types ≡ c.shown.types
   pub followed : c'.is_followed ≡ c.is_followed
   pub types : c'.types ≡ c.types
+  pub exported : c'.exported ≡ c.exported
   pub functions : c'.functions ≡ c.functions
 
 -- the surroundings after functions have been exported
@@ -257,9 +261,13 @@ pub record CanEncodeInterface (r : Resolve) (outer : Declarations) (i : Interfac
   pub types : (t : TypeId) → Contains (values def.types) t → CanEncode r (encoder_scope r outer (opened i foreign)) (ty.Id t ∷ [])
   pub functions : (f : Text × Function) → Contains (map keyed def.functions.entries) f → CanEncodeFunction r (encoder_scope r outer (opened i foreign)) f.1
 
+-- what the slots of an instance type of an interface stand for, where this has been declared around it
+abbrev pub stands_inside : Resolve → InterfaceId → Declarations → List Declaration → Pairs
+stands_inside r i outer ds = SlotsStand (inner_contents (place_of r (owner.Interface i)) outer ds).slots
+
 -- Slot k of the component type is new: an instance type that can be followed, and that shows the types of the interface, in order, and these
 -- functions, in order, with what they mean. Before it, nothing has been declared but aliases of types that had none. Types of functions and
--- value types are defined as the interface's types and these functions, in any order, ask for, each once.
+-- value types are defined as the interface's types and these functions, in any order, ask for, each once, and no others.
 pub record EncodesPart (r : Resolve) (around around' : Around) (i : InterfaceId) (def : Interface) (written : List (Text × Function)) (functions : List Function) (k : ℕ) : Type 0 where
   pub before : Around
   pub aliases : GrowsAround r around before
@@ -268,7 +276,7 @@ pub record EncodesPart (r : Resolve) (around around' : Around) (i : InterfaceId)
   pub one_more : around' ≡ record before { declared = append before.declared (Declarations.instance (from_list declared) Declarations.no_more) }
   pub is_instance : IsInstance r before.declared i declared (map (meaning_of r) written)
   pub function_types : DefinesKeys functions declared
-  pub value_types : DefinesTypes r i (values def.types) functions declared
+  pub value_types : DefinesTypes r (Some i) (stands_inside r i before.declared declared) (values def.types) functions (from_list declared)
 
 -- So it is with the types of the interface and all its functions: what is shown is the interface.
 pub record EncodesInterface (r : Resolve) (around around' : Around) (i : InterfaceId) (def : Interface) (k : ℕ) : Type 0 where

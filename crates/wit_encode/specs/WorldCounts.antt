@@ -1,4 +1,4 @@
--- How much the component type of a world defines: each key of a function and each unnamed kind once, and the same in each instance type.
+-- What the component type of a world defines: each key of a function and each unnamed kind once, and the same in each instance type.
 use Rattle.std.specs.Prelude.{ℕ, ◌≡◌, ◌+◌, List, [], ◌∷◌, ◌++◌, map, length, Some, None, nat_eq}
 use Rattle.std.specs.List.{AllZip, IsDistinct}
 use Rattle.std.specs.Set.{is_member, distinct_count}
@@ -18,46 +18,37 @@ use Rattle.encode_types.specs.Scope.{Scope}
 use Rattle.encode_types.specs.Table.{table_scope}
 use Rattle.encode_names.specs.WorldSteps.{Entry, interfaces_among}
 use Rattle.wit_encode.specs.declared.world.Placed.{Placed}
-use Rattle.wit_encode.specs.Instance.{count_declared}
+use Rattle.wit_encode.specs.Instance.{count_declared, stands_inside, SlotsStand, outer_slots}
 use Rattle.wit_encode.specs.WorldItems.{entry_of}
 use Rattle.wit_encode.specs.WorldRoom.{functions_among, referred_among, type_ids_among}
-use Rattle.wit_encode.specs.Worlds.{WorldEncoder, world_definitions}
+use Rattle.wit_encode.specs.Worlds.{WorldEncoder, world_definitions, instances_declared}
 
 -- ---- what is defined
 
--- the instance types in a component type, in order
-abbrev pub instances_declared : Declarations → List Declarations
-instances_declared Declarations.no_more = []
-instances_declared (Declarations.declares d rest) = instances_declared rest
-instances_declared (Declarations.component inner rest) = instances_declared rest
-instances_declared (Declarations.instance inner rest) = inner ∷ instances_declared rest
-
--- An instance type defines what the types and functions of its interface ask for, each once.
-pub record DefinesInterface (r : Resolve) (i : ℕ) (declared : Declarations) : Type 0 where
+-- An instance type defines what the types and functions of its interface ask for, each once, and nothing else.
+pub record DefinesInterface (r : Resolve) (i : ℕ) (declared : Declarations × Declarations) : Type 0 where
   pub def : Interface
   pub there : interface_at r i ≡ Some def
   pub declarations : List Declaration
-  pub is : declared ≡ from_list declarations
+  pub is : declared.1 ≡ from_list declarations
   pub function_types : DefinesKeys (functions_of_interface def) declarations
-  pub value_types : DefinesTypes r (record { 0 = i }) (values def.types) (functions_of_interface def) declarations
+  pub value_types : DefinesTypes r (Some (record { 0 = i })) (stands_inside r (record { 0 = i }) declared.0 declarations) (values def.types) (functions_of_interface def) (from_list declarations)
 
 -- The component type defines one function type for each key of these functions, and one value type for each unnamed kind that these types
--- and functions meet and for each of the types that has a definition of its own. It has an instance type for each interface, in order, which
--- does the same for it.
+-- and functions meet and for each of the types that has a definition of its own, in slots of their own, and no others. It has an instance type
+-- for each interface, in order, which does the same for it.
 pub record DefinesOnce (r : Resolve) (outer : Declarations) (es : List Entry) : Type 0 where
   pub keys : List Key
   pub function_types : count_declared is_function_type outer ≡ length keys
   pub different : IsDistinct are_same keys
   pub same : (key : Key) → is_member are_same keys key ≡ is_member are_same (map key_of (functions_among es)) key
-  pub kinds : List TypeDefKind
-  pub value_types : count_declared is_value_type outer ≡ length kinds + distinct_count nat_eq (defined_under_names r None (type_ids_among es))
-  pub met : AreMetKinds r None (referred_among es) kinds
+  pub value_types : DefinesTypes r None (SlotsStand (outer_slots outer)) (type_ids_among es) (functions_among es) outer
   pub inside : AllZip (DefinesInterface r) (interfaces_among es) (instances_declared outer)
 
 -- ---- between two items
 
 abbrev pub nothing_defined : Definitions
-nothing_defined = record { types = 0; functions = 0; exports = [] }
+nothing_defined = record { types = []; exported = []; functions = 0; exports = [] }
 
 -- a scope that is that of no interface
 abbrev pub no_interface : Resolve → Scope

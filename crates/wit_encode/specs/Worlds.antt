@@ -1,5 +1,5 @@
 -- What an encoder of a world holds: a component type, in whose scope the types of the world are imported.
-use Rattle.std.specs.Prelude.{ℕ, ◌-◌, Bool, false, ◌&&◌, if◌then◌else◌, List, [], Option, Some, None, length, filter_map, is_some}
+use Rattle.std.specs.Prelude.{ℕ, ◌-◌, Bool, false, ◌&&◌, if◌then◌else◌, List, [], ◌∷◌, Option, Some, None, length, filter_map, is_some}
 use Rattle.std.specs.Option.{option_map_or}
 use Rattle.std.specs.List.{filter, list_all}
 use Rattle.wit_model.specs.Text.{Text}
@@ -11,11 +11,11 @@ use Rattle.wit_model.specs.declared.model.Resolve.{Resolve}
 use Rattle.wit_model.specs.declared.model.TypeDef.{TypeDef}
 use Rattle.wit_model.specs.declared.model.WorldId.{WorldId}
 use Rattle.wit_model.specs.declared.model.TypeOwner.TheVariants as owner
-use Rattle.comp_bytes.specs.Raw.{Declarations, declaration_count}
+use Rattle.comp_bytes.specs.Raw.{Declarations, append, declaration_count}
 use Rattle.comp_meaning.specs.Follow.{Seen, Shown, instance_types}
 use Rattle.encode_types.specs.declared.maps.TypeEncodingMaps.{TypeEncodingMaps}
 use Rattle.encode_types.specs.Counts.{Definitions}
-use Rattle.encode_types.specs.Distinct.{is_value_type, is_function_type}
+use Rattle.encode_types.specs.Distinct.{is_function_type, value_slots, targets_of}
 use Rattle.encode_types.specs.Known.{Around, are_right, below, known_instance, known_slot, outer_instances, outer_scope, outer_slots, standing_instances}
 use Rattle.encode_types.specs.Resources.{Names, resource_names, is_met_owner}
 use Rattle.encode_types.specs.Room.{LacksRoomBehind}
@@ -52,6 +52,16 @@ declaration_shown (Shown.declares d) = Some d
 abbrev pub declared_type : Seen → Option (Text × TypeMeaning)
 declared_type seen = option_map_or (λ d. Some (seen.key, record { declaration = d; external_id = seen.external_id })) (declaration_shown seen.shown) None
 
+-- the instance types in a component type, in order, each behind what has been declared before it
+abbrev pub instances_from : Declarations → Declarations → List (Declarations × Declarations)
+instances_from before Declarations.no_more = []
+instances_from before (Declarations.declares d rest) = instances_from (append before (Declarations.declares d Declarations.no_more)) rest
+instances_from before (Declarations.component inner rest) = instances_from (append before (Declarations.component inner Declarations.no_more)) rest
+instances_from before (Declarations.instance inner rest) = (before, inner) ∷ instances_from (append before (Declarations.instance inner Declarations.no_more)) rest
+
+abbrev pub instances_declared : Declarations → List (Declarations × Declarations)
+instances_declared outer = instances_from Declarations.no_more outer
+
 -- ---- the scope of the component type
 
 -- which names stand for resources there
@@ -76,6 +86,7 @@ others_of w count component = record {
   instances = outer_instances component.declared;
   instance_types = instance_types (outer_slots component.declared);
   used = used_types component.declared;
+  declared = instances_declared component.declared;
 }
 
 -- the surroundings: instances stand where what has been declared can be followed
@@ -88,7 +99,8 @@ world_scope r w count component = record (table_scope r (owner.World w)) {
 
 abbrev pub world_definitions : Declarations → Definitions
 world_definitions outer = record {
-  types = count_declared is_value_type outer;
+  types = value_slots outer;
+  exported = targets_of outer;
   functions = count_declared is_function_type outer;
   exports = filter_map declared_type (seen_imports outer);
 }

@@ -347,7 +347,7 @@ impl<'a> InterfaceEncoderOf<'a, TypeEncodingMaps<'a>> {
     ghost use Rattle.std.specs.List.{flat_map};
     ghost use Rattle.wit_encode.specs.Exports.{AreTypesOf, AllKnown, KnowsUsed, UsesListed};
     ghost use Rattle.wit_model.specs.declared.model.«Type».TheVariants as ValueType;
-    ghost use Rattle.wit_encode.specs.Instance.{ShowsFunction, CanEncodeFunction, IsInstance, placed_function, meaning_of, own_of, declarations_in};
+    ghost use Rattle.wit_encode.specs.Instance.{ShowsFunction, CanEncodeFunction, IsInstance, placed_function, meaning_of, own_of, declarations_in, stands_inside};
     ghost use Rattle.wit_encode.specs.Encoders.{encoder_view, view_of, contents_in, shown_as, scope_within, outside, GoesOn, Reaches, InstancesStay, UsedAround, EncodesAs, EncodesPlaced, EncodesTypesAs, LacksDependency, LacksInstance, LacksWithin, plain, requests_of, meanings_of, ShowsAs, ShowsMore, HoldsInside, LacksInside, TypesStay, NamesStay, LearnsInside, WritesInside, DefinesNames, IsEncoding, Begins};
     ghost use Rattle.encode_types.specs.Room.{export_name, function_requests};
     ghost use Rattle.encode_types.specs.Maps.{MapsGrow};
@@ -526,7 +526,7 @@ impl<'a> InterfaceEncoderOf<'a, TypeEncodingMaps<'a>> {
         ensures maps { self.new.maps ≡ self.old.maps }
         ensures ok { IfOk result (λ ds. IsInstance self.old.resolve.now self.new.outer interface ds (meanings_of self.old.resolve.now functions.now)) }
         ensures function_types { IfOk result (DefinesKeys (plain functions.now)) }
-        ensures value_types { IfOk result (DefinesTypes self.old.resolve.now interface types.now (plain functions.now)) }
+        ensures value_types { IfOk result (λ ds. DefinesTypes self.old.resolve.now (Some interface) (stands_inside self.old.resolve.now interface self.new.outer ds) types.now (plain functions.now) (from_list ds)) }
         ensures written { IfOk result (λ ds. TakesFew self.old.resolve.now interface (referred types.now (plain functions.now)) (map placed_function functions.now) (declared_extent self.old.outer) (declared_extent self.new.outer + declared_extent (from_list ds))) }
         ensures size { result ≡ Err Size → LacksWithin self.old interface types.now functions.now }
         ensures refuses { IfErr result IsMemoryOrSize }
@@ -585,6 +585,7 @@ impl<'a> InterfaceEncoderOf<'a, TypeEncodingMaps<'a>> {
         ensures err { OnErr result (Reaches self.old self.new) }
         ensures ok { IfOk result (EncodesPlaced self.old self.new interface functions.now) }
         ensures stands { Keeps (encoder_view self.old).stands (encoder_view self.new).stands }
+        ensures sound { (encoder_view self.old).scope.is_sound ≡ true → (encoder_view self.new).scope.is_sound ≡ true }
         ensures instances { InstancesStay self.old self.new }
         ensures written { OnOk result (TakesFew self.old.resolve.now interface (referred types.now (plain functions.now)) (map placed_function functions.now) (declared_extent self.old.outer + 8) (declared_extent self.new.outer)) }
         ensures size { result ≡ Err Size → LacksWithin self.old interface types.now functions.now }
@@ -613,6 +614,7 @@ impl<'a> InterfaceEncoderOf<'a, TypeEncodingMaps<'a>> {
         ensures err { OnErr result (Reaches self.old self.new) }
         ensures ok { IfOk result (EncodesTypesAs self.old self.new interface) }
         ensures stands { Keeps (encoder_view self.old).stands (encoder_view self.new).stands }
+        ensures sound { (encoder_view self.old).scope.is_sound ≡ true → (encoder_view self.new).scope.is_sound ≡ true }
         ensures instances { InstancesStay self.old self.new }
         ensures written { OnOk result (AddsBytes (types_extent self.old.resolve.now interface.0) self.old.outer self.new.outer) }
         ensures size { result ≡ Err Size → LacksDependency self.old interface }
@@ -645,6 +647,7 @@ impl<'a> InterfaceEncoderOf<'a, TypeEncodingMaps<'a>> {
         ensures err { OnErr result (Reaches self.old self.new) }
         ensures ok { IfOk result (EncodesAs self.old self.new interface) }
         ensures stands { Keeps (encoder_view self.old).stands (encoder_view self.new).stands }
+        ensures sound { (encoder_view self.old).scope.is_sound ≡ true → (encoder_view self.new).scope.is_sound ≡ true }
         ensures instances { InstancesStay self.old self.new }
         ensures written { OnOk result (AddsBytes (whole_extent self.old.resolve.now interface.0) self.old.outer self.new.outer) }
         ensures size { result ≡ Err Size → LacksInstance self.old interface }

@@ -1,9 +1,13 @@
 use Rattle.comp_bytes.specs.RawOf.{raw_name}
-use Rattle.std.proofs.Common.{◌∙◌, ap, sym, subst, Bool}
+use Rattle.std.proofs.Common.{◌≡◌, ◌∙◌, ap, sym, subst, false, Some}
 use Rattle.encode_types.specs.declared.maps.TypeEncodingMaps.{TypeEncodingMaps}
 use Rattle.encode_types.specs.Maps.{LearnsNumber}
 use Rattle.encode_types.specs.Scope.{Scope}
-use Rattle.encode_types.specs.Counts.{Definitions, ExportsOne, type_more_if}
+use Rattle.encode_types.specs.Counts.{Definitions, ExportsOne, IsTarget}
+use Rattle.encode_types.specs.Kinds.{has_definition}
+use Rattle.encode_types.proofs.Owning.{another-name}
+use Rattle.encode_types.proofs.define.define_named.Given.{Over}
+use Rattle.encode_types.proofs.define.define_named.Goals.{In_ok-slot}
 use Rattle.encode_types.proofs.Agree.{on_ok, learnt-one}
 use Rattle.encode_types.proofs.Defining.{counts-named, leaves-kept, leaves-trans}
 use Rattle.encode_types.proofs.define.define_named.Goals as goal
@@ -12,14 +16,20 @@ use Rattle.encode_types.proofs.Writing.{written-more, written-on}
 pub returns-clause-ok : goal.returns-clause-ok
 returns-clause-ok g c = on_ok c.remember_id.result _ _ (λ l. learnt-one (g.E.ValtypeEncoder.view c.args.enc.now).maps _ _ c.args.id _ (ap (λ (z : TypeEncodingMaps). z.id_to_index.entries) (c.export.ensures.maps_stay ∙ c.define_kind.ensures.maps_stay)) l) c.remember_id.ensures.ok
 
+target : (g : Over) (c : In_ok-slot g) → has_definition c.args.def.now.kind ≡ false → IsTarget c.args.resolve.now (g.E.ValtypeEncoder.view c.args.enc.now).maps c.in_ok-index.index
+target g c e =
+    let other = another-name c.args.def.now.kind c.requires.kind e in
+    record { number = c.args.id.0; def = c.args.def.now; target = other.0; there = c.requires.there; alias = other.1; index = c.in_ok-index.ensures.known other.0 other.1 }
+
 pub returns-clause-counts : goal.returns-clause-counts
 returns-clause-counts g c = on_ok c.remember_id.result _ _
-    (λ l. counts-named c.args.resolve.now (g.E.ValtypeEncoder.view c.args.enc.now).scope (g.E.ValtypeEncoder.view c.args.enc.now).maps _ (g.E.ValtypeEncoder.view c.args.enc.now).definitions (g.E.ValtypeEncoder.view c.define_kind.new.enc).definitions _ c.args.id c.in_ok-slot.slot (raw_name c.args.name)
+    (λ l. counts-named c.args.resolve.now (g.E.ValtypeEncoder.view c.args.enc.now).scope (g.E.ValtypeEncoder.view c.args.enc.now).maps _ (g.E.ValtypeEncoder.view c.args.enc.now).definitions (g.E.ValtypeEncoder.view c.define_kind.new.enc).definitions _ c.args.id c.in_ok-slot.slot c.in_ok-index.index
+    (has_definition c.args.def.now.kind) (raw_name c.args.name)
     (subst (λ (z : TypeEncodingMaps). LearnsNumber z (g.E.ValtypeEncoder.view c.remember_id.new.enc).maps c.args.id c.in_ok-slot.slot) (c.export.ensures.maps_stay ∙ c.define_kind.ensures.maps_stay) l)
-    c.requires.shown
-    (c.in_ok-index.ensures.counts ∙ ap (λ (b : Bool). type_more_if b (g.E.ValtypeEncoder.view c.args.enc.now).definitions) (sym c.requires.by_name))
-    (subst (λ (z : Definitions). ExportsOne (g.E.ValtypeEncoder.view c.args.enc.now).scope (g.E.ValtypeEncoder.view c.define_kind.new.enc).definitions z (raw_name c.args.name)) (sym c.remember_id.ensures.counts)
-    (subst (λ (z : Scope). ExportsOne z (g.E.ValtypeEncoder.view c.define_kind.new.enc).definitions (g.E.ValtypeEncoder.view c.export.new.enc).definitions (raw_name c.args.name)) c.define_kind.ensures.scope_stays c.in_ok-slot.ensures.counts)))
+    c.requires.shown c.requires.by_name c.in_ok-index.ensures.counts
+    (subst (λ (z : Definitions). ExportsOne (g.E.ValtypeEncoder.view c.args.enc.now).scope (g.E.ValtypeEncoder.view c.define_kind.new.enc).definitions z (Some c.in_ok-index.index) (raw_name c.args.name)) (sym c.remember_id.ensures.counts)
+    (subst (λ (z : Scope). ExportsOne z (g.E.ValtypeEncoder.view c.define_kind.new.enc).definitions (g.E.ValtypeEncoder.view c.export.new.enc).definitions (Some c.in_ok-index.index) (raw_name c.args.name)) c.define_kind.ensures.scope_stays c.in_ok-slot.ensures.counts))
+    (target g (goal.at.returns-clause-counts g c).In_ok-slot))
     c.remember_id.ensures.ok
 
 pub returns-clause-kinds : goal.returns-clause-kinds

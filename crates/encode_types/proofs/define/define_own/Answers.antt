@@ -48,7 +48,7 @@ define_named-requires g c = λ _. (
   (refl, tt),
   (let a = (goal.at.define_named-requires g c).After-name_of-name in (
     c.in_default.not-Resource,
-    (exported g a, (declared g a, (shown g a, (the_tree g a, (by_name g a, (c.requires.ready, (c.requires.fresh, (c.requires.fits.formed c.requires.own, c.requires.agree)))))))),
+    (c.requires.there, (exported g a, (declared g a, (shown g a, (the_tree g a, (by_name g a, (c.requires.ready, (c.requires.fresh, (c.requires.fits.formed c.requires.own, c.requires.agree))))))))),
   )),
 )
 

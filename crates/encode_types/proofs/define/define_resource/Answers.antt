@@ -1,10 +1,10 @@
-use Rattle.std.proofs.Common.{◌∙◌, sym, ap, subst}
+use Rattle.std.proofs.Common.{◌∙◌, sym, ap, subst, None}
 use Rattle.comp_bytes.specs.RawOf.{raw_name}
 use Rattle.encode_types.specs.declared.maps.TypeEncodingMaps.{TypeEncodingMaps}
 use Rattle.encode_types.specs.Maps.{LearnsNumber}
-use Rattle.encode_types.specs.Counts.{Definitions, ExportsOne, type_more_if}
+use Rattle.encode_types.specs.Counts.{Definitions, ExportsOne}
 use Rattle.encode_types.proofs.Agree.{on_ok, learnt-one}
-use Rattle.encode_types.proofs.Defining.{counts-named, leaves-kept, leaves-trans}
+use Rattle.encode_types.proofs.Defining.{counts-resource, leaves-kept, leaves-trans}
 use Rattle.encode_types.proofs.define.define_resource.Goals as goal
 use Rattle.encode_types.proofs.Writing.{written-on}
 
@@ -13,11 +13,10 @@ returns-clause-ok g c = on_ok c.remember_id.result _ _ (λ l. learnt-one (g.E.Va
 
 pub returns-clause-counts : goal.returns-clause-counts
 returns-clause-counts g c = on_ok c.remember_id.result _ _
-    (λ l. counts-named c.args.resolve.now (g.E.ValtypeEncoder.view c.args.enc.now).scope (g.E.ValtypeEncoder.view c.args.enc.now).maps _ (g.E.ValtypeEncoder.view c.args.enc.now).definitions (g.E.ValtypeEncoder.view c.args.enc.now).definitions _ c.args.id c.in_ok-index.index (raw_name c.args.name)
+    (λ l. counts-resource c.args.resolve.now (g.E.ValtypeEncoder.view c.args.enc.now).scope (g.E.ValtypeEncoder.view c.args.enc.now).maps _ (g.E.ValtypeEncoder.view c.args.enc.now).definitions _ c.args.id c.in_ok-index.index (raw_name c.args.name)
     (subst (λ (z : TypeEncodingMaps). LearnsNumber z (g.E.ValtypeEncoder.view c.remember_id.new.enc).maps c.args.id c.in_ok-index.index) c.export_resource.ensures.maps_stay l)
-    c.requires.shown
-    (sym (ap (λ b. type_more_if b (g.E.ValtypeEncoder.view c.args.enc.now).definitions) c.requires.no_definition))
-    (subst (λ (z : Definitions). ExportsOne (g.E.ValtypeEncoder.view c.args.enc.now).scope (g.E.ValtypeEncoder.view c.args.enc.now).definitions z (raw_name c.args.name)) (sym c.remember_id.ensures.counts) c.in_ok-index.ensures.counts))
+    c.requires.shown c.requires.no_definition
+    (subst (λ (z : Definitions). ExportsOne (g.E.ValtypeEncoder.view c.args.enc.now).scope (g.E.ValtypeEncoder.view c.args.enc.now).definitions z None (raw_name c.args.name)) (sym c.remember_id.ensures.counts) c.in_ok-index.ensures.counts))
     c.remember_id.ensures.ok
 
 pub returns-clause-kinds : goal.returns-clause-kinds

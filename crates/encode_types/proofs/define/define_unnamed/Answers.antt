@@ -1,6 +1,6 @@
-use Rattle.std.proofs.Common.{◌∙◌, sym, ap}
+use Rattle.std.proofs.Common.{◌∙◌, ap}
 use Rattle.encode_types.specs.Scope.{Scope}
-use Rattle.encode_types.specs.Counts.{type_more_if, own_name, is_defined_by_name}
+use Rattle.encode_types.specs.Counts.{own_name, is_defined_by_name}
 use Rattle.encode_types.proofs.Learning.{kind-same}
 use Rattle.encode_types.proofs.Agree.{on_ok, learnt-one}
 use Rattle.encode_types.proofs.Defining.{counts-number, counts-trans, leaves-trans}
@@ -17,7 +17,8 @@ returns-clause-counts g c =
     (λ l. counts-trans s c.in_ok-index.ensures.counts
     (counts-number c.args.resolve.now (g.E.ValtypeEncoder.view c.define_unnamed_kind.new.enc).scope (g.E.ValtypeEncoder.view c.define_unnamed_kind.new.enc).maps _ (g.E.ValtypeEncoder.view c.define_unnamed_kind.new.enc).definitions _ c.args.id c.in_ok-index.index l
     (ap (λ (z : Scope). own_name c.args.resolve.now z c.args.id.0) s ∙ c.requires.not_shown)
-    (c.remember_id.ensures.counts ∙ sym (ap (λ b. type_more_if b (g.E.ValtypeEncoder.view c.define_unnamed_kind.new.enc).definitions) (ap (λ (z : Scope). is_defined_by_name c.args.resolve.now z c.args.id.0) s ∙ c.requires.no_name)))))
+    (ap (λ (z : Scope). is_defined_by_name c.args.resolve.now z c.args.id.0) s ∙ c.requires.no_name)
+    c.remember_id.ensures.counts))
     c.remember_id.ensures.ok
 
 pub returns-clause-kinds : goal.returns-clause-kinds

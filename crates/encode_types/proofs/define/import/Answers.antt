@@ -1,7 +1,6 @@
-use Rattle.std.proofs.Common.{◌∙◌, sym, ap, subst}
+use Rattle.std.proofs.Common.{◌∙◌, ap, subst}
 use Rattle.encode_types.specs.declared.maps.TypeEncodingMaps.{TypeEncodingMaps}
 use Rattle.encode_types.specs.Maps.{LearnsNumber}
-use Rattle.encode_types.specs.Counts.{type_more_if}
 use Rattle.encode_types.proofs.Agree.{on_ok, learnt-one}
 use Rattle.encode_types.proofs.Defining.{counts-number, leaves-kept, leaves-trans}
 use Rattle.encode_types.proofs.define.import.Goals as goal
@@ -14,8 +13,7 @@ pub returns-clause-counts : goal.returns-clause-counts
 returns-clause-counts g c = on_ok c.remember_id.result _ _
     (λ l. counts-number c.args.resolve.now (g.E.ValtypeEncoder.view c.args.enc.now).scope (g.E.ValtypeEncoder.view c.args.enc.now).maps _ (g.E.ValtypeEncoder.view c.args.enc.now).definitions _ c.args.id c.in_ok-index.index
     (subst (λ (z : TypeEncodingMaps). LearnsNumber z (g.E.ValtypeEncoder.view c.remember_id.new.enc).maps c.args.id c.in_ok-index.index) c.import_type.ensures.maps_stay l)
-    c.requires.not_shown
-    (c.remember_id.ensures.counts ∙ c.in_ok-index.ensures.counts ∙ sym (ap (λ b. type_more_if b (g.E.ValtypeEncoder.view c.args.enc.now).definitions) c.requires.no_definition)))
+    c.requires.not_shown c.requires.no_definition (c.remember_id.ensures.counts ∙ c.in_ok-index.ensures.counts))
     c.remember_id.ensures.ok
 
 pub returns-clause-kinds : goal.returns-clause-kinds

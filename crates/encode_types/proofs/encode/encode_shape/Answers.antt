@@ -1,35 +1,85 @@
-use Rattle.std.proofs.Common.{refl, rules, arith, ap, []}
+use Rattle.std.proofs.Common.{◌≡◌, refl, rules, arith, ap, [], Result, Ok, Err, IfErr}
+use Rattle.std.specs.Result.{IsErr}
+use Rattle.wit_model.specs.declared.error.Error.{Error}
+use Rattle.wit_model.specs.declared.error.Error.TheVariants.{Size}
+use Rattle.wit_model.specs.declared.model.Resolve.{Resolve}
+use Rattle.wit_model.specs.declared.model.TypeDefKind.{TypeDefKind}
+use Rattle.comp_bytes.specs.Refusal.{IsMemoryOrSize}
+use Rattle.comp_bytes.specs.declared.forms.ComponentValType.{ComponentValType}
+use Rattle.encode_types.specs.declared.maps.TypeEncodingMaps.{TypeEncodingMaps}
 use Rattle.encode_types.specs.Kinds.{parts_of, kind_of, kind_tree}
 use Rattle.encode_types.specs.Scope.{Scope}
 use Rattle.encode_types.specs.Room.{value_type}
-use Rattle.encode_types.specs.Leaves.{LacksRoom, LearnsFrom}
+use Rattle.encode_types.specs.View.{View}
+use Rattle.encode_types.specs.Leaves.{Leaves, LacksRoom, LearnsFrom, KindLacksRoom, DefinesKind}
+use Rattle.encode_types.proofs.Around.{around-same}
 use Rattle.encode_types.proofs.Defining.{leaves-kept, leaves-trans}
-use Rattle.encode_types.proofs.Rooms.{room-more, room-after, only-reached, lacks-request}
+use Rattle.encode_types.proofs.Rooms.{room-more, room-after, only-reached, lacks-request, holds-same}
+use Rattle.encode_types.proofs.encode.encode_shape.Given.{Over}
 use Rattle.encode_types.proofs.encode.encode_shape.Goals as goal
+use Rattle.encode_types.proofs.encode.encode_shape.Goals.{In_ok-define_parts, After-branch-index}
 use Rattle.encode_types.proofs.Lists.{none-in}
+
+pub define_parts-requires : goal.define_parts-requires
+define_parts-requires g c = λ _. ((refl, tt), (rw (c.deref.ensures.value, c.in_ok-parts.ensures) c.requires.encodable, c.requires.agree))
 
 pub define_shape-requires : goal.define_shape-requires
 define_shape-requires g c = λ _. ((refl, tt), ((rw (c.deref.ensures.value, c.in_ok-parts.ensures) at c.in_ok-define_parts.ensures.ready), (rw c.define_parts.ensures.leaves.scope_stays c.requires.formed, c.define_parts.ensures.leaves.agree)))
 
-pub returns-clause-learns : goal.returns-clause-learns
-returns-clause-learns g c = rw c.define_shape.ensures.maps_stay (rw (c.deref.ensures.value, c.in_ok-parts.ensures) at c.in_ok-define_parts.ensures.learns)
+learnt : (g : Over) (c : In_ok-define_parts g) → LearnsFrom c.args.resolve.now (parts_of (kind_of c.args.shape)) (g.E.ValtypeEncoder.view c.args.enc.now) (g.E.ValtypeEncoder.view c.define_parts.new.enc)
+learnt g c = rw (c.deref.ensures.value, c.in_ok-parts.ensures) at c.in_ok-define_parts.ensures.learns
 
-pub returns-clause-leaves : goal.returns-clause-leaves
-returns-clause-leaves g c = leaves-trans c.define_parts.ensures.leaves (leaves-kept {v = g.E.ValtypeEncoder.view c.define_parts.new.enc} {v' = g.E.ValtypeEncoder.view c.define_shape.new.enc} c.define_parts.ensures.leaves.agree c.define_shape.ensures.grows c.define_shape.ensures.scope_stays c.define_shape.ensures.maps_stay)
+leaves : (g : Over) (c : After-branch-index g) → Leaves c.args.resolve.now (g.E.ValtypeEncoder.view c.args.enc.now) (g.E.ValtypeEncoder.view c.define_shape.new.enc)
+leaves g c = leaves-trans c.define_parts.ensures.leaves (leaves-kept {v = g.E.ValtypeEncoder.view c.define_parts.new.enc} {v' = g.E.ValtypeEncoder.view c.define_shape.new.enc} c.define_parts.ensures.leaves.agree c.define_shape.ensures.grows c.define_shape.ensures.scope_stays c.define_shape.ensures.maps_stay)
 
-pub returns-in_err-index-clause-leaves : goal.returns-in_err-index-clause-leaves
-returns-in_err-index-clause-leaves g c = leaves-trans c.define_parts.ensures.leaves (leaves-kept {v = g.E.ValtypeEncoder.view c.define_parts.new.enc} {v' = g.E.ValtypeEncoder.view c.define_shape.new.enc} c.define_parts.ensures.leaves.agree c.define_shape.ensures.grows c.define_shape.ensures.scope_stays c.define_shape.ensures.maps_stay)
+-- what a refusal leaves
+refused : (r : Resolve) (kind : TypeDefKind) (v v' : View) (res : Result ComponentValType Error) → IsErr res → Leaves r v v' → (res ≡ Err Size → KindLacksRoom r kind v v') → IfErr res IsMemoryOrSize → DefinesKind r kind v v' res
+refused r kind v v' (Ok x) h l s f = absurd (let z : ⊥ = cc in z)
+refused r kind v v' (Err e) h l s f = record { ok = tt; learns = tt; leaves = l; counts = tt; held = tt; size = s; refuses = f }
 
-pub returns-in_err-define_parts-clause-size : goal.returns-in_err-define_parts-clause-size
-returns-in_err-define_parts-clause-size g c = λ h.
+pub returns : goal.returns
+returns g c =
+    let at = goal.at.returns g c in
+    record {
+      ok = c.in_ok-index.ensures.ok;
+      learns = rw c.define_shape.ensures.maps_stay (learnt g at.In_ok-define_parts);
+      leaves = leaves g at.After-branch-index;
+      counts = record {
+        slot = c.in_ok-index.index;
+        is = refl;
+        parts = (g.E.ValtypeEncoder.view c.define_parts.new.enc).definitions;
+        adds = rw c.define_shape.ensures.maps_stay c.in_ok-define_parts.ensures.counts;
+        one_more = c.in_ok-index.ensures.counts;
+      };
+      held = holds-same 0 1 (ap (λ (m : TypeEncodingMaps). m.id_to_index.entries) c.define_shape.ensures.maps_stay) c.define_shape.ensures.held c.in_ok-define_parts.ensures.held;
+      size = λ h. absurd (let z : ⊥ = cc in z);
+      refuses = tt;
+    }
+
+pub returns-in_err-parts : goal.returns-in_err-parts
+returns-in_err-parts g c =
+    let v = g.E.ValtypeEncoder.view c.args.enc.now in
+    refused c.args.resolve.now (kind_of c.args.shape) v v c.from_residual.result (search rules)
+    (leaves-kept {v = v} {v' = v} c.requires.agree (record { kept = λ i m h. h; more = omega arith; around_ = around-same refl }) refl refl)
+    (λ h. absurd (let z : ⊥ = search rules in z)) (search rules)
+
+pub returns-in_err-define_parts : goal.returns-in_err-define_parts
+returns-in_err-define_parts g c =
+    refused c.args.resolve.now (kind_of c.args.shape) _ _ c.from_residual-in_err-define_parts.result (search rules) c.define_parts.ensures.leaves
+    (λ h.
     let lacks : LacksRoom c.args.resolve.now (parts_of (kind_of c.args.shape)) [] (g.E.ValtypeEncoder.view c.args.enc.now) (g.E.ValtypeEncoder.view c.define_parts.new.enc) = (rw (c.deref.ensures.value, c.in_ok-parts.ensures) at (c.define_parts.ensures.size (search rules))) in
-    room-more refl (λ n x. x) (λ q k. none-in q k) (omega arith) lacks
+    room-more refl (λ n x. x) (λ q k. none-in q k) (omega arith) lacks)
+    (search rules)
 
-pub returns-in_err-index-clause-size : goal.returns-in_err-index-clause-size
-returns-in_err-index-clause-size g c = λ h.
+pub returns-in_err-index : goal.returns-in_err-index
+returns-in_err-index g c =
+    let at = goal.at.returns-in_err-index g c in
     let before = g.E.ValtypeEncoder.view c.args.enc.now in
     let between = g.E.ValtypeEncoder.view c.define_parts.new.enc in
     let after = g.E.ValtypeEncoder.view c.define_shape.new.enc in
-    let learns : LearnsFrom c.args.resolve.now (parts_of (kind_of c.args.shape)) before between = (rw (c.deref.ensures.value, c.in_ok-parts.ensures) at c.in_ok-define_parts.ensures.learns) in
-    room-after c.in_ok-define_parts.ensures.held c.define_parts.ensures.leaves.agree.once (ap (λ (s : Scope). s.own_interface) c.define_parts.ensures.leaves.scope_stays) (only-reached c.args.resolve.now before.scope.own_interface (parts_of (kind_of c.args.shape)) learns.only) (λ n x. x) (λ q k. k) (omega arith)
-    (lacks-request c.args.resolve.now between.scope.own_interface (parts_of (kind_of c.args.shape)) (value_type (kind_tree c.args.resolve.now (kind_of c.args.shape))) between.maps between.held after.held after.lacks_room c.define_shape.ensures.held (c.define_shape.ensures.size (search rules)))
+    refused c.args.resolve.now (kind_of c.args.shape) before after c.from_residual-in_err-index.result (search rules) (leaves g at.After-branch-index)
+    (λ h.
+    room-after c.in_ok-define_parts.ensures.held c.define_parts.ensures.leaves.agree.once (ap (λ (s : Scope). s.own_interface) c.define_parts.ensures.leaves.scope_stays)
+    (only-reached c.args.resolve.now before.scope.own_interface (parts_of (kind_of c.args.shape)) (learnt g at.In_ok-define_parts).only) (λ n x. x) (λ q k. k) (omega arith)
+    (lacks-request c.args.resolve.now between.scope.own_interface (parts_of (kind_of c.args.shape)) (value_type (kind_tree c.args.resolve.now (kind_of c.args.shape))) between.maps between.held after.held after.lacks_room c.define_shape.ensures.held (c.define_shape.ensures.size (search rules))))
+    (search rules)

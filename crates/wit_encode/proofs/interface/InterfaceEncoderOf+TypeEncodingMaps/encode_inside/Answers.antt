@@ -4,10 +4,12 @@ use Rattle.wit_model.specs.declared.model.Function.{Function}
 use Rattle.encode_types.specs.declared.maps.TypeEncodingMaps.{TypeEncodingMaps}
 use Rattle.wit_encode.specs.declared.interface.OpenInterface.{OpenInterface}
 use Rattle.encode_types.specs.Fits.{CanEncode}
+use Rattle.encode_types.specs.Maps.{MapsAgree}
+use Rattle.wit_model.proofs.Lists.{first_true}
 use Rattle.encode_types.specs.Distinct.{AddsFunctions}
-use Rattle.wit_encode.specs.Instance.{encoder_scope, contents_of, definitions_with, CanEncodeFunction, Continues, placed_function, meaning_of, exports_in, opened, around_at}
+use Rattle.wit_encode.specs.Instance.{Contents, SlotsStand, stands_inside, encoder_scope, contents_of, definitions_with, CanEncodeFunction, Continues, placed_function, meaning_of, exports_in, opened, around_at}
 use Rattle.wit_encode.proofs.Referring.{interface-kinds}
-use Rattle.wit_encode.proofs.Opening.{closed-instance, closed-around, listed-there, opened-exports, opened-with}
+use Rattle.wit_encode.proofs.Opening.{closed, closed-instance, closed-around, listed-there, opened-exports, opened-with}
 use Rattle.encode_types.specs.Known.{GrowsAround}
 use Rattle.wit_encode.proofs.Counting.{Began, Counted, closed-counts}
 use Rattle.wit_encode.proofs.Refusing.{no-room}
@@ -61,12 +63,14 @@ began c =
       keys = ap (λ (m : TypeEncodingMaps). m.func_type_map.entries) same ∙ c.new.ensures.functions;
     }
 
-counted : (c : In_ok-outcome-in-Some) → Began c.replace-saved.new.dest → Counted c.args.self.now.resolve.now c.args.interface (map (λ f. f.2.now) c.args.functions.now) c.args.types.now c.in-Some.current.declared
-counted c new =
+counted : (c : In_ok-outcome-in-Some) → Began c.replace-saved.new.dest → Continues c.args.self.now.resolve.now c.args.self.now.resolve.now c.args.self.now.outer c.encode_parts-outcome.new.self.outer (opened c.args.interface c.args.self.now.foreign) c.encode_parts-outcome.new.self.inner c.replace-saved.new.dest c.encode_parts-outcome.new.self.maps
+    → Counted c.args.self.now.resolve.now c.args.interface (stands_inside c.args.self.now.resolve.now c.args.interface c.encode_parts-outcome.new.self.outer c.in-Some.current.declared) (map (λ f. f.2.now) c.args.functions.now) c.args.types.now c.in-Some.current.declared
+counted c new continues =
     let r = c.args.self.now.resolve.now in
     let after = c.encode_parts-outcome.new.self in
     let fs : List Function = map (λ f. f.2.now) c.args.functions.now in
-    closed-counts r c.args.self.now.outer after.outer c.args.interface c.args.self.now.foreign after.inner c.in-Some.current _ _ fs c.args.types.now
+    let there = closed r c.args.self.now.outer after.outer c.args.interface c.args.self.now.foreign after.inner c.in-Some.current _ _ (sym c.replace-inner.ensures.value ∙ c.in-Some.is) c.encode_parts-outcome.ensures.continues.inside continues in
+    closed-counts r c.requires.valid c.args.self.now.outer after.outer c.args.interface c.args.self.now.foreign after.inner c.in-Some.current _ _ fs c.args.types.now
     (sym c.replace-inner.ensures.value ∙ c.in-Some.is) new
     (interface-kinds r _ (Some c.args.interface) c.replace-saved.new.dest after.maps _ _ c.args.types.now fs new c.in_ok-outcome-in-Some.ensures.counts c.in_ok-outcome-in-Some.ensures.learns
     c.in_ok-outcome-in-Some.ensures.known c.encode_parts-outcome.ensures.continues.continues.agree.once c.requires.valid)
@@ -75,13 +79,13 @@ counted c new =
     c.replace-saved.new.dest after.maps
     (definitions_with (contents_of c.args.self.now.resolve.now c.args.self.now.outer o))
     (definitions_with (contents_of c.args.self.now.resolve.now after.outer after.inner)) fs) (opened-with c.args.interface c.new-2.result c.replace-foreign.result c.args.self.now.foreign c.new-2.ensures c.replace-foreign.ensures.value) c.in_ok-outcome-in-Some.ensures.counts)
-    c.encode_parts-outcome.ensures.continues.continues.agree.once c.in_ok-outcome-in-Some.ensures.defined
+    (subst (λ (z : Contents). MapsAgree r after.maps (SlotsStand z.slots)) there.at continues.agree) (first_true _ _ there.sound) c.in_ok-outcome-in-Some.ensures.defined
 
 pub returns-clause-function_types : goal.returns-clause-function_types
-returns-clause-function_types c = (counted c (began (goal.at.returns-clause-function_types c).In-Some)).keys
+returns-clause-function_types c = (counted c (began (goal.at.returns-clause-function_types c).In-Some) (continued (goal.at.returns-clause-function_types c).In-Some)).keys
 
 pub returns-clause-value_types : goal.returns-clause-value_types
-returns-clause-value_types c = (counted c (began (goal.at.returns-clause-value_types c).In-Some)).types
+returns-clause-value_types c = (counted c (began (goal.at.returns-clause-value_types c).In-Some) (continued (goal.at.returns-clause-value_types c).In-Some)).types
 
 pub encode_parts-outcome-requires-clause-begins : goal.encode_parts-outcome-requires-clause-begins
 encode_parts-outcome-requires-clause-begins c = record {

@@ -1,4 +1,4 @@
-use Rattle.std.proofs.Common.{◌≡◌, sym, ap, ◌∙◌, inr, Some, map}
+use Rattle.std.proofs.Common.{◌≡◌, refl, sym, ap, ◌∙◌, inr, Some, map}
 use Rattle.wit_model.specs.Lookup.{interface_at}
 use Rattle.wit_model.specs.declared.model.Interface.{Interface}
 use Rattle.indexmap.specs.IndexMap.{values}
@@ -6,6 +6,7 @@ use Rattle.wit_model.proofs.OnePath.{some-same}
 use Rattle.wit_encode.specs.Instance.{placed_function, EncodesPart}
 use Rattle.wit_encode.specs.Encoders.{outside}
 use Rattle.wit_encode.proofs.Closing.{closes}
+use Rattle.wit_encode.proofs.StillSound.{closed-sound, grown-sound, sound-closed}
 use Rattle.wit_encode.proofs.Opening.{close-each, closed-keeps, closed-stay, grown-stay, listed-there, reached-keeps}
 use Rattle.wit_encode.proofs.interface.InterfaceEncoderOf+TypeEncodingMaps.encode_part.Goals as goal
 use Rattle.wit_encode.proofs.BytesWritten.{taken-closed, when-ok}
@@ -40,3 +41,16 @@ returns-in_err-declared-clause-instances c = grown-stay c.args.self.now.resolve.
 
 pub returns-clause-written : goal.returns-clause-written
 returns-clause-written c = when-ok c.close.result _ _ (λ k made. taken-closed c.encode_inside.new.self.outer c.close.new.self.outer (from_list c.in_ok-declared.declared) made.1 c.in_ok-declared.ensures.written) c.close.ensures.ok
+
+pub returns-clause-sound : goal.returns-clause-sound
+returns-clause-sound c = λ h.
+    let r = c.args.self.now.resolve.now in
+    sound-closed r c.close.new.self.resolve.now c.close.new.self.outer c.close.new.self.inner ((λ i. (c.close.ensures.rest i).resolve.now) ∙ c.encode_inside.ensures.resolve) ((λ i. (c.close.ensures.rest i).inner) ∙ c.encode_inside.ensures.closed)
+    ∙ closed-sound c.close.result r (outside c.args.self.now) c.encode_inside.new.self.outer c.close.new.self.outer c.encode_inside.new.self.foreign c.in_ok-declared.declared c.encode_inside.ensures.reaches c.close.ensures.ok c.close.ensures.err
+    (sym (sound-closed r r c.args.self.now.outer c.args.self.now.inner refl c.requires.closed) ∙ h)
+
+pub returns-in_err-declared-clause-sound : goal.returns-in_err-declared-clause-sound
+returns-in_err-declared-clause-sound c = λ h.
+    let r = c.args.self.now.resolve.now in
+    sound-closed r c.encode_inside.new.self.resolve.now c.encode_inside.new.self.outer c.encode_inside.new.self.inner c.encode_inside.ensures.resolve c.encode_inside.ensures.closed
+    ∙ grown-sound r (outside c.args.self.now) (outside c.encode_inside.new.self) c.encode_inside.ensures.reaches (sym (sound-closed r r c.args.self.now.outer c.args.self.now.inner refl c.requires.closed) ∙ h)

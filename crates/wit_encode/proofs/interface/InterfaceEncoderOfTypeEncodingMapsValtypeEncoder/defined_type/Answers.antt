@@ -1,7 +1,7 @@
 use Rattle.std.proofs.Common.{inl, sym, ap, ◌∙◌}
 use Rattle.wit_encode.specs.Instance.{around_of}
 use Rattle.encode_types.proofs.Around.{slots-grow}
-use Rattle.wit_encode.proofs.Within.{defined-within, defined-without}
+use Rattle.wit_encode.proofs.Within.{defined-within, defined-without, slot-defined}
 use Rattle.wit_encode.specs.Instance.{stands_in}
 use Rattle.wit_encode.proofs.Refusing.{value-inside, value-outside, held-inside, held-outside}
 use Rattle.wit_encode.proofs.interface.InterfaceEncoderOfTypeEncodingMapsValtypeEncoder.defined_type.Goals as goal
@@ -18,7 +18,7 @@ pub returns-in-Some-clause-scope_stays : goal.returns-in-Some-clause-scope_stays
 returns-in-Some-clause-scope_stays c = (defined-within c.define_inside.result c.args.self.now.resolve.now c.args.self.now.outer c.args.self.now.inner c.in-Some.current c.define_inside.new.inner c.in-Some.is c.args.def c.requires c.define_inside.ensures.ok c.define_inside.ensures.err).scope_stays
 
 pub returns-in-Some-clause-counts : goal.returns-in-Some-clause-counts
-returns-in-Some-clause-counts c = (defined-within c.define_inside.result c.args.self.now.resolve.now c.args.self.now.outer c.args.self.now.inner c.in-Some.current c.define_inside.new.inner c.in-Some.is c.args.def c.requires c.define_inside.ensures.ok c.define_inside.ensures.err).counted
+returns-in-Some-clause-counts c = let calls = (defined-within c.define_inside.result c.args.self.now.resolve.now c.args.self.now.outer c.args.self.now.inner c.in-Some.current c.define_inside.new.inner c.in-Some.is c.args.def c.requires c.define_inside.ensures.ok c.define_inside.ensures.err) in slot-defined c.define_inside.result _ _ _ _ _ _ _ calls.ok calls.counted
 
 pub returns-clause-ok : goal.returns-clause-ok
 returns-clause-ok c = (defined-without c.define_outside.result c.args.self.now.resolve.now c.args.self.now.outer c.args.self.now.inner c.define_outside.new.outer c.in-None.is c.args.def c.requires c.define_outside.ensures.ok c.define_outside.ensures.err).ok
@@ -30,7 +30,7 @@ pub returns-clause-scope_stays : goal.returns-clause-scope_stays
 returns-clause-scope_stays c = (defined-without c.define_outside.result c.args.self.now.resolve.now c.args.self.now.outer c.args.self.now.inner c.define_outside.new.outer c.in-None.is c.args.def c.requires c.define_outside.ensures.ok c.define_outside.ensures.err).scope_stays
 
 pub returns-clause-counts : goal.returns-clause-counts
-returns-clause-counts c = (defined-without c.define_outside.result c.args.self.now.resolve.now c.args.self.now.outer c.args.self.now.inner c.define_outside.new.outer c.in-None.is c.args.def c.requires c.define_outside.ensures.ok c.define_outside.ensures.err).counted
+returns-clause-counts c = let calls = (defined-without c.define_outside.result c.args.self.now.resolve.now c.args.self.now.outer c.args.self.now.inner c.define_outside.new.outer c.in-None.is c.args.def c.requires c.define_outside.ensures.ok c.define_outside.ensures.err) in slot-defined c.define_outside.result _ _ _ _ _ _ _ calls.ok calls.counted
 
 pub returns-in-Some-clause-held : goal.returns-in-Some-clause-held
 returns-in-Some-clause-held c = held-inside c.args.self.now.outer c.args.self.now.inner c.in-Some.current c.define_inside.new.inner c.in-Some.is c.define_inside.ensures.held

@@ -5,7 +5,7 @@ use Rattle.comp_bytes.specs.declared.forms.ComponentValType.{ComponentValType}
 use Rattle.encode_types.specs.Scope.{Scope}
 use Rattle.wit_encode.specs.WorldItems.{entry_of, towards}
 use Rattle.wit_encode.specs.Worlds.{world_encoder_view}
-use Rattle.wit_encode.proofs.WorldCounting.{none-made, type-defined}
+use Rattle.wit_encode.proofs.WorldCounting.{type-defined}
 use Rattle.wit_encode.proofs.WorldHolding.{type-few, type-lacks}
 use Rattle.wit_encode.proofs.WrittenNames.{type-names}
 use Rattle.wit_encode.proofs.WorldTypes.{type-encodable, type-encoded}
@@ -26,7 +26,7 @@ returns-clause-ok c = λ w done h next. type-encoded c.args.resolve.now c.requir
 
 pub returns-clause-once : goal.returns-clause-once
 returns-clause-once c = λ es h. type-defined c.args.resolve.now c.args.self.now c.encode_valtype.new.enc es (world_encoder_view c.args.self.now).scope refl c.args.placed.key.now c.args.placed.item.now c.args.id c.requires.item h
-    c.in_ok-encode_valtype.ensures.counts c.in_ok-encode_valtype.ensures.learns (none-made _ c.args.self.now.outer c.encode_valtype.new.enc.outer c.encode_valtype.ensures.leaves.grows.around_)
+    c.in_ok-encode_valtype.ensures.counts c.in_ok-encode_valtype.ensures.learns (ap (λ (s : Scope). s.others.declared) c.encode_valtype.ensures.leaves.scope_stays)
 
 pub returns-clause-few : goal.returns-clause-few
 returns-clause-few c = λ es h. type-few c.args.resolve.now c.args.self.now.resolve.now c.encode_valtype.new.enc.resolve.now c.args.self.now c.encode_valtype.new.enc es c.args.placed.key.now c.args.placed.item.now c.args.id c.requires.item

@@ -1,4 +1,4 @@
-use Rattle.std.proofs.Common.{◌≡◌}
+use Rattle.std.proofs.Common.{◌≡◌, None}
 use Rattle.wit_model.specs.Tree.{here, named}
 use Rattle.comp_bytes.specs.RawOf.{raw_name}
 use Rattle.comp_bytes.specs.declared.forms.ComponentTypeRef.TheVariants as refs
@@ -16,7 +16,7 @@ use Rattle.wit_encode.proofs.BytesWritten.{one-more, when-ok}
 
 calls : (c : After-import_type_outside) → WorldCalls c.import_type_outside.result (world_encoder_view c.args.self.now)
     (world_view c.args.self.now.resolve.now c.args.self.now.world c.args.self.now.instances (after_declaring (world_around c.args.self.now) c.import_type_outside.new.outer) c.args.self.now.maps) (λ m. m ≡ tree (named here (raw_name c.args.name).text))
-    (ExportsOne (world_scope c.args.self.now.resolve.now c.args.self.now.world c.args.self.now.instances (world_around c.args.self.now)) (world_definitions c.args.self.now.outer) (world_definitions c.import_type_outside.new.outer) (raw_name c.args.name))
+    (ExportsOne (world_scope c.args.self.now.resolve.now c.args.self.now.world c.args.self.now.instances (world_around c.args.self.now)) (world_definitions c.args.self.now.outer) (world_definitions c.import_type_outside.new.outer) None (raw_name c.args.name))
 calls c = imports-resource c.import_type_outside.result c.args.self.now.resolve.now c.args.self.now.world c.args.self.now.instances (world_around c.args.self.now) c.import_type_outside.new.outer c.args.self.now.maps
     c.requires.declared.sound (raw_name c.args.name) c.requires c.import_type_outside.ensures.ok c.import_type_outside.ensures.err
 

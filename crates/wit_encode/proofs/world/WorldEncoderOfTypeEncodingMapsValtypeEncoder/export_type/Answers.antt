@@ -1,4 +1,4 @@
-use Rattle.std.proofs.Common.{◌≡◌, ℕ, Result, Ok, Err, IfOk, OnErr, rules}
+use Rattle.std.proofs.Common.{◌≡◌, ℕ, Some, Result, Ok, Err, IfOk, OnErr, rules}
 use Rattle.comp_bytes.specs.Raw.{Declaration}
 use Rattle.comp_bytes.specs.Held.{type_slots_of}
 use Rattle.wit_model.specs.Tree.{here, named}
@@ -22,7 +22,7 @@ use Rattle.wit_encode.proofs.BytesWritten.{one-more}
 calls : (c : After-import_type_outside) (res : Result ℕ Error) → IfOk res (λ k. (k ≡ type_slots_of c.args.self.now.outer) × (c.import_type_outside.new.outer ≡ declared_after c.args.self.now.outer (Declaration.imported (raw_name c.args.name) (refs.TypeEq c.args.index))))
     → OnErr res (c.import_type_outside.new.outer ≡ c.args.self.now.outer) → WorldCalls res (world_encoder_view c.args.self.now)
     (world_view c.args.self.now.resolve.now c.args.self.now.world c.args.self.now.instances (after_declaring (world_around c.args.self.now) c.import_type_outside.new.outer) c.args.self.now.maps) (λ m. m ≡ tree (named here (raw_name c.args.name).text))
-    (ExportsOne (world_scope c.args.self.now.resolve.now c.args.self.now.world c.args.self.now.instances (world_around c.args.self.now)) (world_definitions c.args.self.now.outer) (world_definitions c.import_type_outside.new.outer) (raw_name c.args.name))
+    (ExportsOne (world_scope c.args.self.now.resolve.now c.args.self.now.world c.args.self.now.instances (world_around c.args.self.now)) (world_definitions c.args.self.now.outer) (world_definitions c.import_type_outside.new.outer) (Some c.args.index) (raw_name c.args.name))
 calls c res ok err = imports-type res c.args.self.now.resolve.now c.args.self.now.world c.args.self.now.instances (world_around c.args.self.now) c.import_type_outside.new.outer c.args.self.now.maps
     c.requires.declared.sound c.args.index (raw_name c.args.name) c.requires ok err
 

@@ -1,0 +1,305 @@
+-- The slots in which value types are defined: which they are, and that each stands for a type without a name. The instance types of a
+-- component type, as it grows.
+use Rattle.std.proofs.Common.{◌≡◌, refl, sym, ap, subst, ◌∙◌, ℕ, zero, suc, ◌+◌, Bool, true, false, cond, List, [], ◌∷◌, ◌++◌, inl, inr, append_assoc, append-nil, Option, Some, None, option_to_list, slice_get, length, length-append, arith}
+use Rattle.std.specs.List.{Contains}
+use Rattle.std.proofs.lemmas.List.Elements.{Contains-append_cases}
+use Rattle.comp_bytes.specs.declared.forms.ComponentTypeRef.{ComponentTypeRef}
+use Rattle.comp_bytes.specs.declared.forms.ComponentTypeRef.TheVariants as refs
+use Rattle.comp_bytes.specs.Raw.{Declaration, Declarations, DefinedType, Alias, ExternName, append, from_list}
+use Rattle.comp_bytes.specs.Held.{declaration_slots, type_slots, type_slots_of}
+use Rattle.comp_bytes.specs.Reading.{◌>>=◌}
+use Rattle.wit_model.specs.Tree.{Place, Tree, primitive, named, node}
+use Rattle.wit_model.specs.Text.{Text}
+use Rattle.comp_meaning.specs.Follow as follow
+use Rattle.comp_meaning.specs.Follow.{Slot, InstanceScope, provided, when, is_simple, definition, function_signature, function_in, named_type, show_type, show_function, instance_step, instance_steps, new_instance}
+use Rattle.comp_meaning.specs.Follow.{Scope, View, Key, Direction, Seen, import_, export_, see, in_scope, key_of, key_text, interface_of, place_of, used_view, exported_slot, see_instance, see_function, see_type, component_step, component_steps, flat}
+use Rattle.std.specs.Prelude.{not, ◌==◌}
+use Rattle.std.specs.List.{list_any}
+use Rattle.encode_types.specs.Distinct.{is_value_type, target_of, targets_of, values_from, value_slots}
+use Rattle.encode_types.proofs.Lists.{none-in}
+use Rattle.wit_encode.specs.Worlds.{instances_from, instances_declared}
+use Rattle.wit_encode.proofs.Steps.{unbind, unprovided, unwhen}
+use Rattle.wit_encode.proofs.Steps as steps
+use Rattle.wit_encode.proofs.Components as components
+use Rattle.wit_model.proofs.Elements.{one-contained}
+
+-- ---- which they are
+
+add-nothing : (n : ℕ) → n + 0 ≡ n
+add-nothing n = omega arith
+
+pub values-push : (n : ℕ) (ds : Declarations) (d : Declaration) → values_from n (append ds (Declarations.declares d Declarations.no_more)) ≡ values_from n ds ++ cond (is_value_type d) ((n + type_slots_of ds) ∷ []) []
+values-push n Declarations.no_more d = append-nil (cond (is_value_type d) (n ∷ []) []) ∙ ap (λ (k : ℕ). cond (is_value_type d) (k ∷ []) []) (sym (add-nothing n))
+values-push n (Declarations.declares e rest) d =
+    let here = cond (is_value_type e) (n ∷ []) [] in
+    let far : n + declaration_slots e + type_slots_of rest ≡ n + (declaration_slots e + type_slots_of rest) = omega arith in
+    ap (λ xs. here ++ xs) (values-push (n + declaration_slots e) rest d ∙ ap (λ (k : ℕ). values_from (n + declaration_slots e) rest ++ cond (is_value_type d) (k ∷ []) []) far)
+    ∙ sym (append_assoc here (values_from (n + declaration_slots e) rest) (cond (is_value_type d) ((n + (declaration_slots e + type_slots_of rest)) ∷ []) []))
+values-push n (Declarations.component inner rest) d =
+    let far : n + 1 + type_slots_of rest ≡ n + (1 + type_slots_of rest) = omega arith in
+    values-push (n + 1) rest d ∙ ap (λ (k : ℕ). values_from (n + 1) rest ++ cond (is_value_type d) (k ∷ []) []) far
+values-push n (Declarations.instance inner rest) d =
+    let far : n + 1 + type_slots_of rest ≡ n + (1 + type_slots_of rest) = omega arith in
+    values-push (n + 1) rest d ∙ ap (λ (k : ℕ). values_from (n + 1) rest ++ cond (is_value_type d) (k ∷ []) []) far
+
+pub values-instance : (n : ℕ) (ds inner : Declarations) → values_from n (append ds (Declarations.instance inner Declarations.no_more)) ≡ values_from n ds
+values-instance n Declarations.no_more inner = refl
+values-instance n (Declarations.declares e rest) inner = ap (λ xs. cond (is_value_type e) (n ∷ []) [] ++ xs) (values-instance (n + declaration_slots e) rest inner)
+values-instance n (Declarations.component x rest) inner = values-instance (n + 1) rest inner
+values-instance n (Declarations.instance x rest) inner = values-instance (n + 1) rest inner
+
+pub targets-push : (ds : Declarations) (d : Declaration) → targets_of (append ds (Declarations.declares d Declarations.no_more)) ≡ targets_of ds ++ option_to_list (target_of d)
+targets-push Declarations.no_more d = append-nil (option_to_list (target_of d))
+targets-push (Declarations.declares e rest) d = ap (λ xs. option_to_list (target_of e) ++ xs) (targets-push rest d) ∙ sym (append_assoc (option_to_list (target_of e)) (targets_of rest) (option_to_list (target_of d)))
+targets-push (Declarations.component inner rest) d = targets-push rest d
+targets-push (Declarations.instance inner rest) d = targets-push rest d
+
+pub targets-instance : (ds inner : Declarations) → targets_of (append ds (Declarations.instance inner Declarations.no_more)) ≡ targets_of ds
+targets-instance Declarations.no_more inner = refl
+targets-instance (Declarations.declares e rest) inner = ap (λ xs. option_to_list (target_of e) ++ xs) (targets-instance rest inner)
+targets-instance (Declarations.component x rest) inner = targets-instance rest inner
+targets-instance (Declarations.instance x rest) inner = targets-instance rest inner
+
+-- where nothing is defined, and no type is named
+pub values-kept : (ds : Declarations) (d : Declaration) → is_value_type d ≡ false → value_slots (append ds (Declarations.declares d Declarations.no_more)) ≡ value_slots ds
+values-kept ds d e = values-push 0 ds d ∙ ap (λ (b : Bool). value_slots ds ++ cond b ((0 + type_slots_of ds) ∷ []) []) e ∙ append-nil (value_slots ds)
+
+pub targets-kept : (ds : Declarations) (d : Declaration) → target_of d ≡ None → targets_of (append ds (Declarations.declares d Declarations.no_more)) ≡ targets_of ds
+targets-kept ds d e = targets-push ds d ∙ ap (λ (o : Option ℕ). targets_of ds ++ option_to_list o) e ∙ append-nil (targets_of ds)
+
+-- of an instance type
+list-push : (ds : List Declaration) (d : Declaration) → from_list (ds ++ d ∷ []) ≡ append (from_list ds) (Declarations.declares d Declarations.no_more)
+list-push [] d = refl
+list-push (e ∷ ds) d = ap (λ (x : Declarations). Declarations.declares e x) (list-push ds d)
+
+list-slots : (ds : List Declaration) → 0 + type_slots_of (from_list ds) ≡ type_slots ds
+list-slots [] = refl
+list-slots (d ∷ ds) = let more = list-slots ds in omega arith
+
+pub values-more : (ds : List Declaration) (d : Declaration) → value_slots (from_list (ds ++ d ∷ [])) ≡ value_slots (from_list ds) ++ cond (is_value_type d) (type_slots ds ∷ []) []
+values-more ds d = ap value_slots (list-push ds d) ∙ values-push 0 (from_list ds) d ∙ ap (λ (k : ℕ). value_slots (from_list ds) ++ cond (is_value_type d) (k ∷ []) []) (list-slots ds)
+
+pub targets-more : (ds : List Declaration) (d : Declaration) → targets_of (from_list (ds ++ d ∷ [])) ≡ targets_of (from_list ds) ++ option_to_list (target_of d)
+targets-more ds d = ap targets_of (list-push ds d) ∙ targets-push (from_list ds) d
+
+-- ---- the instance types, each behind what has been declared before it
+
+append-none : (ds : Declarations) → append ds Declarations.no_more ≡ ds
+append-none Declarations.no_more = refl
+append-none (Declarations.declares d rest) = ap (λ x. Declarations.declares d x) (append-none rest)
+append-none (Declarations.component inner rest) = ap (λ x. Declarations.component inner x) (append-none rest)
+append-none (Declarations.instance inner rest) = ap (λ x. Declarations.instance inner x) (append-none rest)
+
+append-twice : (ds es fs : Declarations) → append (append ds es) fs ≡ append ds (append es fs)
+append-twice Declarations.no_more es fs = refl
+append-twice (Declarations.declares d rest) es fs = ap (λ x. Declarations.declares d x) (append-twice rest es fs)
+append-twice (Declarations.component inner rest) es fs = ap (λ x. Declarations.component inner x) (append-twice rest es fs)
+append-twice (Declarations.instance inner rest) es fs = ap (λ x. Declarations.instance inner x) (append-twice rest es fs)
+
+instances-append : (before ds es : Declarations) → instances_from before (append ds es) ≡ instances_from before ds ++ instances_from (append before ds) es
+instances-append before Declarations.no_more es = ap (λ (x : Declarations). instances_from x es) (sym (append-none before))
+instances-append before (Declarations.declares d rest) es =
+    let here = append before (Declarations.declares d Declarations.no_more) in
+    instances-append here rest es ∙ ap (λ (x : Declarations). instances_from here rest ++ instances_from x es) (append-twice before (Declarations.declares d Declarations.no_more) rest)
+instances-append before (Declarations.component inner rest) es =
+    let here = append before (Declarations.component inner Declarations.no_more) in
+    instances-append here rest es ∙ ap (λ (x : Declarations). instances_from here rest ++ instances_from x es) (append-twice before (Declarations.component inner Declarations.no_more) rest)
+instances-append before (Declarations.instance inner rest) es =
+    let here = append before (Declarations.instance inner Declarations.no_more) in
+    ap (λ xs. (before, inner) ∷ xs) (instances-append here rest es ∙ ap (λ (x : Declarations). instances_from here rest ++ instances_from x es) (append-twice before (Declarations.instance inner Declarations.no_more) rest))
+
+pub instances-kept : (ds : Declarations) (d : Declaration) → instances_declared (append ds (Declarations.declares d Declarations.no_more)) ≡ instances_declared ds
+instances-kept ds d = instances-append Declarations.no_more ds (Declarations.declares d Declarations.no_more) ∙ append-nil (instances_declared ds)
+
+pub instances-behind : (ds inner : Declarations) → instances_declared (append ds (Declarations.instance inner Declarations.no_more)) ≡ instances_declared ds ++ (ds, inner) ∷ []
+instances-behind ds inner = instances-append Declarations.no_more ds (Declarations.instance inner Declarations.no_more)
+
+-- ---- what they stand for
+
+-- a type that is no name
+abbrev pub IsPlain : Tree → Type 0
+IsPlain t = (place : Place) (name : Text) → t ≡ named place name → ⊥
+
+some-same : {A : Type 0} (a b : A) → Some a ≡ Some b → a ≡ b
+some-same a b e = cc
+
+abbrev is_name : Tree → Bool
+is_name (primitive p) = false
+is_name (named place name) = true
+is_name (node form ts) = false
+
+plain-from : (t : Tree) → is_name t ≡ false → IsPlain t
+plain-from t e place name h = let q : true ≡ false = sym (ap is_name h) ∙ e in absurd (let z : ⊥ = cc in z)
+
+provided-plain : (b : Bool) (x t : Tree) → is_name x ≡ false → provided b x ≡ Some t → IsPlain t
+provided-plain b x t p e = plain-from t (ap is_name (sym (unprovided b x t e)) ∙ p)
+
+defined-plain : (slots : List Slot) (d : DefinedType) (t : Tree) → definition slots d ≡ Some t → IsPlain t
+defined-plain slots (DefinedType.primitive p) t e = plain-from t (ap is_name (sym (some-same _ t e)))
+defined-plain slots (DefinedType.record_of fields) t e = let b = unbind _ _ t e in provided-plain _ _ t refl b.then
+defined-plain slots (DefinedType.variant_of cases) t e = let b = unbind _ _ t e in provided-plain _ _ t refl b.then
+defined-plain slots (DefinedType.list_of v) t e = let b = unbind _ _ t e in plain-from t (ap is_name (sym (some-same _ t b.then)))
+defined-plain slots (DefinedType.fixed_length_list_of v n) t e = let b = unbind _ _ t e in provided-plain _ _ t refl b.then
+defined-plain slots (DefinedType.tuple_of vs) t e = let b = unbind _ _ t e in provided-plain _ _ t refl b.then
+defined-plain slots (DefinedType.flags_of names) t e = provided-plain _ _ t refl e
+defined-plain slots (DefinedType.enum_of names) t e = provided-plain _ _ t refl e
+defined-plain slots (DefinedType.option_of v) t e = let b = unbind _ _ t e in plain-from t (ap is_name (sym (some-same _ t b.then)))
+defined-plain slots (DefinedType.result_of ok err) t e = let b = unbind _ _ t e in let c = unbind _ _ t b.then in plain-from t (ap is_name (sym (some-same _ t c.then)))
+defined-plain slots (DefinedType.own_of n) t e = let b = unbind _ _ t e in plain-from t (ap is_name (sym (some-same _ t b.then)))
+defined-plain slots (DefinedType.borrow_of n) t e = let b = unbind _ _ t e in plain-from t (ap is_name (sym (some-same _ t b.then)))
+defined-plain slots (DefinedType.stream_of v) t e = let b = unbind _ _ t e in plain-from t (ap is_name (sym (some-same _ t b.then)))
+defined-plain slots (DefinedType.future_of v) t e = let b = unbind _ _ t e in plain-from t (ap is_name (sym (some-same _ t b.then)))
+defined-plain slots (DefinedType.map_of k v) t e = let b = unbind _ _ t e in let c = unbind _ _ t b.then in provided-plain _ _ t refl c.then
+
+-- a slot of a type without a name
+pub record HoldsPlain (slots : List Slot) (i : ℕ) : Type 0 where
+  pub type_there : Tree
+  pub there : slice_get slots i ≡ Some (Slot.value type_there)
+  pub plain : IsPlain type_there
+
+-- ---- slots are added behind the others
+
+abbrev Front : List Slot → List Slot → Type 0
+Front xs ys = (more : List Slot) × (ys ≡ xs ++ more)
+
+get-front : (xs more : List Slot) (i : ℕ) (x : Slot) → slice_get xs i ≡ Some x → slice_get (xs ++ more) i ≡ Some x
+get-front [] more i x e = absurd (let z : ⊥ = cc in z)
+get-front (y ∷ xs) more zero x e = e
+get-front (y ∷ xs) more (suc i) x e = get-front xs more i x e
+
+get-end : (xs : List Slot) (y : Slot) → slice_get (xs ++ y ∷ []) (length xs) ≡ Some y
+get-end [] y = refl
+get-end (x ∷ xs) y = get-end xs y
+
+holds-front : (xs ys : List Slot) (i : ℕ) → Front xs ys → HoldsPlain xs i → HoldsPlain ys i
+holds-front xs ys i f h = record { type_there = h.type_there; there = ap (λ zs. slice_get zs i) f.1 ∙ get-front xs f.0 i (Slot.value h.type_there) h.there; plain = h.plain }
+
+same-front : (xs ys : List Slot) → xs ≡ ys → Front xs ys
+same-front xs ys e = ([], sym e ∙ sym (append-nil xs))
+
+one-front : (xs ys : List Slot) (x : Slot) → xs ++ x ∷ [] ≡ ys → Front xs ys
+one-front xs ys x e = (x ∷ [], sym e)
+
+then-front : (xs ys zs : List Slot) → Front xs ys → Front ys zs → Front xs zs
+then-front xs ys zs f g = (f.0 ++ g.0, g.1 ∙ ap (λ s. s ++ g.0) f.1 ∙ append_assoc xs f.0 g.0)
+
+-- ---- in an instance type
+
+inner-front : (place : Place) (outer : List Slot) (s s' : InstanceScope) (d : Declaration) → instance_step place outer s d ≡ Some s' → Front s.slots s'.slots
+inner-front place outer s s' (Declaration.defined q) e = let b = unbind (definition s.slots q) _ s' e in one-front s.slots s'.slots (Slot.value b.item) (ap (λ (z : InstanceScope). z.slots) (some-same _ s' b.then))
+inner-front place outer s s' (Declaration.function q) e = let b = unbind (function_signature s.slots q) _ s' e in one-front s.slots s'.slots (Slot.function b.item) (ap (λ (z : InstanceScope). z.slots) (some-same _ s' b.then))
+inner-front place outer s s' (Declaration.alias_of (Alias.of_outer scopes n)) e = let b = unbind (slice_get outer n) _ s' e in one-front s.slots s'.slots b.item (ap (λ (z : InstanceScope). z.slots) (unprovided _ _ s' b.then))
+inner-front place outer s s' (Declaration.alias_of (Alias.of_export m n)) e = absurd (let z : ⊥ = cc in z)
+inner-front place outer s s' (Declaration.imported name described) e = absurd (let z : ⊥ = cc in z)
+inner-front place outer s s' (Declaration.exported name described) e = go described (unwhen (is_simple name) _ s' e)
+  where
+    by_type : (described : ComponentTypeRef) → show_type place name described s ≡ Some s' → Front s.slots s'.slots
+    by_type described h = let b = unbind (named_type s.slots place name.text described) _ s' h in one-front s.slots s'.slots b.item.1 (ap (λ (z : InstanceScope). z.slots) (some-same _ s' b.then))
+
+    go : (described : ComponentTypeRef) → follow.show place name described s ≡ Some s' → Front s.slots s'.slots
+    go (refs.Func n) h = let b = unbind (function_in (slice_get s.slots n)) _ s' h in same-front s.slots s'.slots (ap (λ (z : InstanceScope). z.slots) (some-same _ s' b.then))
+    go (refs.TypeEq n) h = by_type (refs.TypeEq n) h
+    go refs.SubResource h = by_type refs.SubResource h
+    go (refs.Component n) h = by_type (refs.Component n) h
+    go (refs.Instance n) h = by_type (refs.Instance n) h
+
+inner-fronts : (place : Place) (outer : List Slot) (s s' : InstanceScope) (ds : List Declaration) → instance_steps place outer s ds ≡ Some s' → Front s.slots s'.slots
+inner-fronts place outer s s' [] e = same-front s.slots s'.slots (ap (λ (z : InstanceScope). z.slots) (some-same s s' e))
+inner-fronts place outer s s' (d ∷ ds) e =
+    let b = unbind (instance_step place outer s d) _ s' e in
+    then-front s.slots b.item.slots s'.slots (inner-front place outer s b.item d b.is) (inner-fronts place outer b.item s' ds b.then)
+
+-- a value type that has just been defined
+inner-new : (place : Place) (outer : List Slot) (s m : InstanceScope) (d : Declaration) (i : ℕ) → instance_step place outer s d ≡ Some m → Contains (cond (is_value_type d) (length s.slots ∷ []) []) i → HoldsPlain m.slots i
+inner-new place outer s m (Declaration.defined q) i e c =
+    let b = unbind (definition s.slots q) _ m e in
+    let made : s.slots ++ Slot.value b.item ∷ [] ≡ m.slots = ap (λ (z : InstanceScope). z.slots) (some-same _ m b.then) in
+    record { type_there = b.item; there = sym (ap (λ zs. slice_get zs i) made) ∙ ap (slice_get (s.slots ++ Slot.value b.item ∷ [])) (sym (one-contained (length s.slots) i c)) ∙ get-end s.slots (Slot.value b.item); plain = defined-plain s.slots q b.item b.is }
+inner-new place outer s m (Declaration.function q) i e c = none-in i c
+inner-new place outer s m (Declaration.alias_of a) i e c = none-in i c
+inner-new place outer s m (Declaration.imported name described) i e c = none-in i c
+inner-new place outer s m (Declaration.exported name described) i e c = none-in i c
+
+pub inner-values : (place : Place) (outer : List Slot) (s s' : InstanceScope) (ds : List Declaration) (i : ℕ) → instance_steps place outer s ds ≡ Some s' → Contains (values_from (length s.slots) (from_list ds)) i → HoldsPlain s'.slots i
+inner-values place outer s s' [] i e c = none-in i c
+inner-values place outer s s' (d ∷ ds) i e c =
+    let b = unbind (instance_step place outer s d) _ s' e in
+    let count : length b.item.slots ≡ length s.slots + declaration_slots d = steps.step-count place outer s b.item d b.is in
+    elim (Contains-append_cases (cond (is_value_type d) (length s.slots ∷ []) []) (values_from (length s.slots + declaration_slots d) (from_list ds)) i c) [
+      | inl here ↦ holds-front b.item.slots s'.slots i (inner-fronts place outer b.item s' ds b.then) (inner-new place outer s b.item d i b.is here)
+      | inr more ↦ inner-values place outer b.item s' ds i b.then (subst (λ (n : ℕ). Contains (values_from n (from_list ds)) i) (sym count) more)
+    ]
+
+-- ---- in a component type
+
+seen-front : (direction : Direction) (seen : Seen) (s : Scope) (xs : List Slot) → xs ≡ s.slots → Front xs (see direction seen s).slots
+seen-front import_ seen s xs e = same-front xs s.slots e
+seen-front export_ seen s xs e = same-front xs s.slots e
+
+front-to : (xs : List Slot) (s s' : Scope) → s ≡ s' → Front xs s.slots → Front xs s'.slots
+front-to xs s s' e f = subst (λ (z : Scope). Front xs z.slots) e f
+
+instance-front : (direction : Direction) (name : ExternName) (n : ℕ) (s s' : Scope) → see_instance direction name n s ≡ Some s' → Front s.slots s'.slots
+instance-front direction name n s s' e =
+    let a = unbind (key_of name) _ s' e in
+    let b = unbind (when (not (list_any (λ m. m == n) s.used)) (used_view s.slots (place_of (interface_of a.item)) (slice_get s.slots n))) _ s' a.then in
+    front-to s.slots _ s' (some-same _ s' b.then) (seen-front direction _ _ s.slots refl)
+
+function-front : (direction : Direction) (name : ExternName) (n : ℕ) (s s' : Scope) → see_function direction name n s ≡ Some s' → Front s.slots s'.slots
+function-front direction name n s s' e = let a = unbind (function_in (slice_get s.slots n)) _ s' e in front-to s.slots _ s' (unprovided _ _ s' a.then) (seen-front direction _ s s.slots refl)
+
+type-front : (name : ExternName) (described : ComponentTypeRef) (s s' : Scope) → see_type name described s ≡ Some s' → Front s.slots s'.slots
+type-front name described s s' e = let a = unbind (named_type s.slots Place.here name.text described) _ s' e in one-front s.slots s'.slots a.item.1 (ap (λ (z : Scope). z.slots) (unprovided _ _ s' a.then))
+
+outer-front : (s s' : Scope) (d : Declaration) → component_step s d ≡ Some s' → Front s.slots s'.slots
+outer-front s s' (Declaration.defined q) e = let b = unbind (definition s.slots q) _ s' e in one-front s.slots s'.slots (Slot.value b.item) (ap (λ (z : Scope). z.slots) (some-same _ s' b.then))
+outer-front s s' (Declaration.function q) e = let b = unbind (function_signature s.slots q) _ s' e in one-front s.slots s'.slots (Slot.function b.item) (ap (λ (z : Scope). z.slots) (some-same _ s' b.then))
+outer-front s s' (Declaration.alias_of (Alias.of_export m name)) e = let b = unbind (exported_slot name (slice_get s.instances m)) _ s' e in one-front s.slots s'.slots b.item (ap (λ (z : Scope). z.slots) (some-same _ s' b.then))
+outer-front s s' (Declaration.alias_of (Alias.of_outer scopes n)) e = absurd (let z : ⊥ = cc in z)
+outer-front s s' (Declaration.imported name (refs.Instance n)) e = instance-front import_ name n s s' e
+outer-front s s' (Declaration.imported name (refs.Func n)) e = function-front import_ name n s s' e
+outer-front s s' (Declaration.imported name (refs.TypeEq n)) e = type-front name (refs.TypeEq n) s s' e
+outer-front s s' (Declaration.imported name refs.SubResource) e = type-front name refs.SubResource s s' e
+outer-front s s' (Declaration.imported name (refs.Component n)) e = absurd (let z : ⊥ = cc in z)
+outer-front s s' (Declaration.exported name (refs.Instance n)) e = instance-front export_ name n s s' e
+outer-front s s' (Declaration.exported name (refs.Func n)) e = function-front export_ name n s s' e
+outer-front s s' (Declaration.exported name (refs.TypeEq n)) e = absurd (let z : ⊥ = cc in z)
+outer-front s s' (Declaration.exported name refs.SubResource) e = absurd (let z : ⊥ = cc in z)
+outer-front s s' (Declaration.exported name (refs.Component n)) e = absurd (let z : ⊥ = cc in z)
+
+outer-fronts : (s s' : Scope) (ds : Declarations) → component_steps s ds ≡ Some s' → Front s.slots s'.slots
+outer-fronts s s' Declarations.no_more e = same-front s.slots s'.slots (ap (λ (z : Scope). z.slots) (some-same s s' e))
+outer-fronts s s' (Declarations.declares d rest) e =
+    let b = unbind (component_step s d) _ s' e in
+    then-front s.slots b.item.slots s'.slots (outer-front s b.item d b.is) (outer-fronts b.item s' rest b.then)
+outer-fronts s s' (Declarations.component inner rest) e = absurd (let z : ⊥ = cc in z)
+outer-fronts s s' (Declarations.instance inner rest) e =
+    let b = unbind (flat inner) _ s' e in
+    let x = Slot.instance b.item (length s.slots) in
+    then-front s.slots (s.slots ++ x ∷ []) s'.slots (x ∷ [], refl) (outer-fronts (in_scope x s) s' rest b.then)
+
+outer-new : (s m : Scope) (d : Declaration) (i : ℕ) → component_step s d ≡ Some m → Contains (cond (is_value_type d) (length s.slots ∷ []) []) i → HoldsPlain m.slots i
+outer-new s m (Declaration.defined q) i e c =
+    let b = unbind (definition s.slots q) _ m e in
+    let made : s.slots ++ Slot.value b.item ∷ [] ≡ m.slots = ap (λ (z : Scope). z.slots) (some-same _ m b.then) in
+    record { type_there = b.item; there = sym (ap (λ zs. slice_get zs i) made) ∙ ap (slice_get (s.slots ++ Slot.value b.item ∷ [])) (sym (one-contained (length s.slots) i c)) ∙ get-end s.slots (Slot.value b.item); plain = defined-plain s.slots q b.item b.is }
+outer-new s m (Declaration.function q) i e c = none-in i c
+outer-new s m (Declaration.alias_of a) i e c = none-in i c
+outer-new s m (Declaration.imported name described) i e c = none-in i c
+outer-new s m (Declaration.exported name described) i e c = none-in i c
+
+pub outer-values : (s s' : Scope) (ds : Declarations) (i : ℕ) → component_steps s ds ≡ Some s' → Contains (values_from (length s.slots) ds) i → HoldsPlain s'.slots i
+outer-values s s' Declarations.no_more i e c = none-in i c
+outer-values s s' (Declarations.declares d rest) i e c =
+    let b = unbind (component_step s d) _ s' e in
+    let count : length b.item.slots ≡ length s.slots + declaration_slots d = components.step-count s b.item d b.is in
+    elim (Contains-append_cases (cond (is_value_type d) (length s.slots ∷ []) []) (values_from (length s.slots + declaration_slots d) rest) i c) [
+      | inl here ↦ holds-front b.item.slots s'.slots i (outer-fronts b.item s' rest b.then) (outer-new s b.item d i b.is here)
+      | inr more ↦ outer-values b.item s' rest i b.then (subst (λ (n : ℕ). Contains (values_from n rest) i) (sym count) more)
+    ]
+outer-values s s' (Declarations.component inner rest) i e c = absurd (let z : ⊥ = cc in z)
+outer-values s s' (Declarations.instance inner rest) i e c =
+    let b = unbind (flat inner) _ s' e in
+    let x = Slot.instance b.item (length s.slots) in
+    let count : length (in_scope x s).slots ≡ length s.slots + 1 = length-append s.slots (x ∷ []) in
+    outer-values (in_scope x s) s' rest i b.then (subst (λ (n : ℕ). Contains (values_from n rest) i) (sym count) c)
