@@ -35,7 +35,7 @@ use Rattle.print_grammar.specs.Tree.Gates.{Since, Unstable}
 use Rattle.print_grammar.specs.Tree.ResourceMember.{Constructor, Method, Static}
 use Rattle.print_grammar.specs.Tree.Declared.{RecordOf, VariantOf, FlagsOf, EnumOf, AliasOf, ResourceOf}
 use Rattle.print_grammar.specs.AsRead.{bare_prefix, bare_param, bare_field, bare_case, bare_label, bare_signature, bare_resource_member, bare_declared}
-use Rattle.wit_print.specs.Shown.{present_name, shown_gates, shown_external_id, type_name, used_type, used_types, result_tree, kind_tree, def_tree, trees_from, type_trees, shown_type, shown_field, shown_case, shown_flag, shown_enum_case, is_method, belongs_to, shown_param, shown_params, shown_signature, constructor_result, function_prefix, shown_resource_member, shown_declared}
+use Rattle.print_items.specs.Shown.{present_name, shown_gates, shown_external_id, type_name, used_type, used_types, result_tree, kind_tree, def_tree, trees_from, type_trees, shown_type, shown_field, shown_case, shown_flag, shown_enum_case, is_method, belongs_to, shown_param, shown_params, shown_signature, constructor_result, function_prefix, shown_resource_member, shown_declared}
 
 abbrev pub same : TypeTree → TypeTree
 same ty = ty

@@ -11,7 +11,7 @@ use Rattle.wit_model.specs.declared.model.TypeOwner.{TypeOwner}
 use Rattle.wit_model.specs.Lookup.{type_at}
 use Rattle.print_grammar.specs.Tree.{MemberTree}
 use Rattle.print_grammar.specs.Tree.MemberTree.{TypeMember}
-use Rattle.wit_print.specs.Shown.{DeclaredWith, Listed, belongs_to, declared_of, present_name, shown_prefix, shown_resource_member, used_of}
+use Rattle.print_items.specs.Shown.{DeclaredWith, Listed, belongs_to, declared_of, present_name, shown_prefix, shown_resource_member, used_of}
 use Rattle.wit_print.specs.GivenTypes.{Functions, functions_under, given_declarations}
 use Rattle.wit_print.specs.UseGroups.{declared_members, listed_declaration}
 use Rattle.print_grammar.proofs.ByteTests.{both, left_of, right_of}

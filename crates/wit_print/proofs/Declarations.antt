@@ -20,7 +20,7 @@ use Rattle.wit_model.specs.Text.{text_of}
 use Rattle.wit_model.specs.Valid.{IsValid}
 use Rattle.print_grammar.specs.Tree.{Declared, MemberTree, Prefix}
 use Rattle.print_grammar.specs.Tree.MemberTree.{FunctionMember, TypeMember, UseMember}
-use Rattle.wit_print.specs.Shown.{Listed, listed_functions, listed_types, path_from_owner, shown_declared, shown_interface, shown_prefix, shown_resource_member, shown_uses}
+use Rattle.print_items.specs.Shown.{Listed, listed_functions, listed_types, path_from_owner, shown_declared, shown_interface, shown_prefix, shown_resource_member, shown_uses}
 use Rattle.print_grammar.specs.Calls.{declared_calls, function_calls, item_calls, members_calls, prefix_calls, printed_after, use_calls}
 use Rattle.wit_print.specs.Printable.{declaration_of, is_printable_type, line_between, shown_functions}
 use Rattle.wit_print.specs.UseGroups.{declared_members, is_listed_type, type_members}

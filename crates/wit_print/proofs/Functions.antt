@@ -14,9 +14,9 @@ use Rattle.wit_model.specs.Rules.{is_freestanding}
 use Rattle.wit_model.specs.Text.{text_of}
 use Rattle.wit_model.specs.Valid.{IsValid}
 use Rattle.print_grammar.specs.Tree.{MemberTree}
-use Rattle.wit_print.specs.Shown.{function_prefix, listed_functions, shown_function, shown_signature}
+use Rattle.print_items.specs.Shown.{function_prefix, listed_functions, shown_function, shown_signature}
 use Rattle.print_grammar.specs.Calls.{function_calls, item_calls, members_calls, prefix_calls}
-use Rattle.wit_print.specs.ItemCalls.{named_calls}
+use Rattle.print_items.specs.ItemCalls.{named_calls}
 use Rattle.wit_print.specs.Printable.{is_printable_function, line_between, shown_functions}
 use Rattle.print_grammar.specs.WellNamed.{is_well_member}
 use Rattle.print_output.specs.declared.type_kind.TypeKind.TheVariants.{FunctionFreestanding}

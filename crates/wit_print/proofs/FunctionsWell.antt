@@ -13,12 +13,12 @@ use Rattle.wit_model.specs.Lookup.{resource_of}
 use Rattle.wit_model.specs.Parts.{function_types}
 use Rattle.wit_model.specs.Rules.{function_in_range, function_labels, is_freestanding, are_member_labels}
 use Rattle.wit_model.specs.Valid.{IsValid}
-use Rattle.wit_print.specs.Shown.{shown_type, shown_param, shown_params, shown_signature, function_prefix, is_method}
+use Rattle.print_items.specs.Shown.{shown_type, shown_param, shown_params, shown_signature, function_prefix, is_method}
 use Rattle.print_grammar.specs.WellNamed.{is_well_type, is_well_optional, is_well_param, is_well_signature, is_well_prefix}
 use Rattle.print_grammar.proofs.ByteTests.{both, left_of, right_of}
 use Rattle.wit_print.proofs.WellLists.{written_well}
-use Rattle.wit_print.proofs.ShownWell.{shown_prefix_well}
-use Rattle.wit_print.proofs.TypesWell.{is_below, below_of_numbers, shown_type_well}
+use Rattle.print_items.proofs.ShownWell.{shown_prefix_well}
+use Rattle.print_items.proofs.TypesWell.{is_below, below_of_numbers, shown_type_well}
 
 module _ (r : Resolve) (valid : IsValid r) where
   -- a parameter with a label and a type in range

@@ -13,13 +13,13 @@ use Rattle.wit_model.specs.declared.model.TypeOwner.{TypeOwner}
 use Rattle.wit_model.specs.Text.{Text}
 use Rattle.print_output.specs.OutputCall.{OutputCall, View, Moves, Begins}
 use Rattle.print_grammar.specs.Tree.{MemberTree}
-use Rattle.wit_print.specs.Shown.{Listed}
+use Rattle.print_items.specs.Shown.{Listed}
 use Rattle.print_grammar.specs.Calls.{members_calls, printed_after}
 use Rattle.wit_print.specs.GivenTypes.{Functions, are_functions_of, behind, functions_under, given_declarations}
 use Rattle.wit_print.specs.UseGroups.{is_listed_function, listed_declaration, listed_of}
 use Rattle.print_grammar.proofs.ByteTests.{left_of, right_of}
 use Rattle.wit_print.proofs.Declarations.{members_append, printed_append}
-use Rattle.wit_print.proofs.Moves.{Going, made_on, refused_in}
+use Rattle.print_items.proofs.Moves.{Going, made_on, refused_in}
 
 under_test : (r : Resolve) (o : TypeOwner) (fs : Vec (Bor Function) Global) (found : Option (Vec (Bor Function) Global)) (b : Bool)
     → list_all (is_listed_function r o) (behind fs) ≡ true → list_all (is_listed_function r o) (option_map_or behind found []) ≡ true

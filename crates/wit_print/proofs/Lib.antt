@@ -1,17 +1,6 @@
-pub mod Moves
-pub mod Driven
-pub mod Blocks
-pub mod ByPlace
-pub mod Fronts
-pub mod OneLine
-pub mod DocLines
-pub mod Runs
 pub mod WellLists
 pub mod PackageCalls
 pub mod ValidPrintable
-pub mod ShownWell
-pub mod TypesWell
-pub mod TypeParts
 pub mod InterfaceHeads
 pub mod FunctionsWell
 pub mod ValidNames
@@ -27,8 +16,6 @@ pub mod PrintableItems
 pub mod UndocumentedCalls
 pub mod AlikeTypes
 pub mod AlikeFiles
-pub mod Constructors
-pub mod Declared
 pub mod Declarations
 pub mod UseGroups
 pub mod ListedTypes

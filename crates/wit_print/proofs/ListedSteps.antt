@@ -12,12 +12,12 @@ use Rattle.wit_model.specs.Rules.{has_items}
 use Rattle.wit_model.specs.Text.{Text}
 use Rattle.print_output.specs.OutputCall.{OutputCall, View, Moves, Begins}
 use Rattle.print_grammar.specs.Tree.{PathTree}
-use Rattle.wit_print.specs.Shown.{Listed, Used}
+use Rattle.print_items.specs.Shown.{Listed, Used}
 use Rattle.wit_print.specs.UseGroups.{is_listed_type, listed_of, listed_use, listed_use_calls, use_after, uses_calls}
-use Rattle.wit_print.proofs.ByPlace.{one_there}
+use Rattle.print_items.proofs.ByPlace.{one_there}
 use Rattle.print_grammar.proofs.ByteTests.{left_of, right_of}
 use Rattle.wit_print.proofs.ListedTypes.{next_listed_some, next_listed_use}
-use Rattle.wit_print.proofs.Moves.{Going, made_on, refused_in}
+use Rattle.print_items.proofs.Moves.{Going, made_on, refused_in}
 
 -- a type under its name
 abbrev entry : Bor Text × TypeId → Listed

@@ -23,7 +23,7 @@ use Rattle.wit_model.specs.Valid.{IsValid, labels}
 use Rattle.print_output.specs.OutputCall.{OutputCall}
 use Rattle.print_grammar.specs.Tree.{MemberTree, PathTree}
 use Rattle.print_grammar.specs.Tree.MemberTree.{TypeMember}
-use Rattle.wit_print.specs.Shown.{DeclaredWith, Listed, Used, declared_with, shown_declarations, shown_declared, shown_gates, shown_path, shown_prefix, used_of}
+use Rattle.print_items.specs.Shown.{DeclaredWith, Listed, Used, declared_with, shown_declarations, shown_declared, shown_gates, shown_path, shown_prefix, used_of}
 use Rattle.print_grammar.specs.Calls.{members_calls, printed_after}
 use Rattle.wit_print.specs.Printable.{declaration_of, is_printable_type}
 use Rattle.wit_print.specs.UseGroups.{declared_members, is_listed_type, is_printable_use, listed_declaration, listed_use, listed_use_calls, shown_use, use_after, use_members, uses_calls}
@@ -31,8 +31,8 @@ use Rattle.wit_print.specs.declared.use_group.Use.{Use}
 use Rattle.print_grammar.specs.WellNamed.{are_well_some, is_well_declared, is_well_gates, is_well_prefix, is_well_used}
 use Rattle.print_grammar.proofs.ByteTests.{both, left_of, right_of}
 use Rattle.wit_print.proofs.Declarations.{declaration_at}
-use Rattle.wit_print.proofs.ShownWell.{shown_prefix_well}
-use Rattle.wit_print.proofs.TypesWell.{name_well, type_rule}
+use Rattle.print_items.proofs.ShownWell.{shown_prefix_well}
+use Rattle.print_items.proofs.TypesWell.{name_well, type_rule}
 use Rattle.wit_print.proofs.UseGroups.{listed_plain, next_some, next_use, uses_grouped, uses_printed}
 use Rattle.wit_print.proofs.ValidDeclared.{declared_well, is_known_function}
 use Rattle.wit_print.proofs.ValidOwners.{is_named_interface}

@@ -26,7 +26,7 @@ use Rattle.wit_print.specs.UseGroups.{declared_members, is_listed_type, use_memb
 use Rattle.wit_print.proofs.Declarations.{after_printed, members_append, printed_append}
 use Rattle.wit_print.proofs.UseGroups.{or_false, or_true}
 use Rattle.wit_print.specs.Printable.{imports_interfaces, is_printable_entry, is_printable_import, printed_imports, is_printable_interface, is_printable_world, IsPrintableWorld, entry_calls, interface_entry_calls, line_between, world_body_calls, world_calls, is_printable_listed, listed_calls, listed_interface_calls, listed_package_calls, next_package_calls}
-use Rattle.wit_print.specs.Shown.{DeclaredWith, Entry, Used, listed_imports, shown_declarations, shown_path, shown_uses, is_interface_item, is_freestanding_item, imported_functions, shown_import, shown_export, shown_interface, shown_world, shown_world_in, shown_world_item, shown_interface_item, shown_docs, shown_gates, shown_head, shown_package, shown_package_of}
+use Rattle.print_items.specs.Shown.{DeclaredWith, Entry, Used, listed_imports, shown_declarations, shown_path, shown_uses, is_interface_item, is_freestanding_item, imported_functions, shown_import, shown_export, shown_interface, shown_world, shown_world_in, shown_world_item, shown_interface_item, shown_docs, shown_gates, shown_head, shown_package, shown_package_of}
 use Rattle.print_grammar.specs.Keyword.{escaped}
 use Rattle.print_grammar.specs.Calls.{declared_calls, item_calls, members_calls, prefix_calls, printed_after, space, use_calls, world_members_calls, package_item_calls, block_calls, doc_calls, gates_calls, more_nested_calls, nested_calls, package_outer_calls, package_start_calls, package_end_calls, package_calls}
 use Rattle.print_output.specs.declared.type_kind.TypeKind.TheVariants.{WorldDeclaration}

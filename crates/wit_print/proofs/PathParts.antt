@@ -13,7 +13,7 @@ use Rattle.wit_model.specs.Lookup.{interface_at, package_at}
 use Rattle.wit_model.specs.Rules.{in_list, package_number, passes}
 use Rattle.wit_model.specs.Valid.{IsValid, is_place, numbers_in_range}
 use Rattle.wit_model.proofs.OnePath.{interface-passes}
-use Rattle.wit_print.specs.Shown.{full_path, path_from, present_name, shown_path}
+use Rattle.print_items.specs.Shown.{full_path, path_from, present_name, shown_path}
 use Rattle.print_grammar.specs.WellNamed.{is_well_path}
 use Rattle.print_grammar.specs.Tree.{PathTree}
 use Rattle.print_grammar.specs.Tree.PathTree.{Local}

@@ -19,9 +19,9 @@ use Rattle.wit_model.specs.Rules.{in_list, is_export_item, item_in_range, key_in
 use Rattle.print_grammar.specs.Tree.{Prefix}
 use Rattle.print_grammar.specs.Tree.ExternTree.{NamedFunction, NamedInterface, NamedPath, Path}
 use Rattle.print_grammar.specs.Calls.{world_extern_calls}
-use Rattle.wit_print.specs.ItemCalls.{labelled_tree}
+use Rattle.print_items.specs.ItemCalls.{labelled_tree}
 use Rattle.wit_print.specs.Printable.{entry_calls, is_printable_entry, is_printable_import, is_shown_item}
-use Rattle.wit_print.specs.Shown.{extern_docs, extern_prefix, function_prefix, shown_docs, shown_external_id, shown_gates, shown_import, shown_interface, shown_path, shown_prefix, shown_signature}
+use Rattle.print_items.specs.Shown.{extern_docs, extern_prefix, function_prefix, shown_docs, shown_external_id, shown_gates, shown_import, shown_interface, shown_path, shown_prefix, shown_signature}
 use Rattle.print_grammar.specs.WellNamed.{is_well_extern, is_well_path, is_well_prefix, is_well_world_member}
 use Rattle.print_grammar.proofs.ByteTests.{left_of, right_of}
 

@@ -29,7 +29,7 @@ use Rattle.print_output.specs.OutputCall.{OutputCall}
 use Rattle.print_output.specs.OutputCall.OutputCall.{Keyword, Str}
 use Rattle.print_grammar.specs.Tree.{MemberTree, PathTree, UsedName}
 use Rattle.print_grammar.specs.Tree.MemberTree.{UseMember}
-use Rattle.wit_print.specs.Shown.{Listed, Used, grouped, grouped_with, same_group, shown_gates, shown_path, used_of}
+use Rattle.print_items.specs.Shown.{Listed, Used, grouped, grouped_with, same_group, shown_gates, shown_path, used_of}
 use Rattle.print_grammar.specs.Calls.{doc_calls, external_id_calls, gates_calls, members_calls, path_calls, printed_after, space, use_calls, used_name_calls}
 use Rattle.wit_print.specs.UseGroups.{group_end_calls, is_printable_use, joins, listed_use, listed_use_calls, more_names_calls, names_calls, new_group_calls, open_end_calls, use_after, use_from, use_run_calls, uses_calls}
 use Rattle.print_grammar.specs.WellNamed.{is_well_gates, is_well_path}

@@ -25,14 +25,14 @@ use Rattle.print_grammar.specs.Calls.{file_calls}
 use Rattle.print_grammar.specs.AsRead.{file_as_read}
 use Rattle.print_grammar.specs.Reading.{IsOnlyReading}
 use Rattle.print_grammar.specs.Tree.ItemTree.{InterfaceItem, WorldItem}
-use Rattle.wit_print.specs.Shown.{shown_docs, shown_gates, shown_interface, shown_interface_item, shown_world, shown_world_item, shown_package_of, no_package, shown_package, shown_file}
+use Rattle.print_items.specs.Shown.{shown_docs, shown_gates, shown_interface, shown_interface_item, shown_world, shown_world_item, shown_package_of, no_package, shown_package, shown_file}
 use Rattle.print_grammar.specs.WellNamed.{is_well_gates, is_well_item, is_well_package, is_well_file}
 use Rattle.print_grammar.proofs.ByteTests.{both, left_of, right_of}
-use Rattle.wit_print.proofs.ByPlace.{one_there}
+use Rattle.print_items.proofs.ByPlace.{one_there}
 use Rattle.wit_print.proofs.WellLists.{each_well, given_well, joined_well}
 use Rattle.print_output.proofs.RenderLaws.{Moves-writes}
 use Rattle.print_grammar.proofs.FileReads.{file_reads_only}
-use Rattle.wit_print.proofs.ShownWell.{docs_well, gates_well, optional_version}
+use Rattle.print_items.proofs.ShownWell.{docs_well, gates_well, optional_version}
 use Rattle.wit_print.proofs.ValidOwners.{world_rule}
 use Rattle.wit_print.proofs.ValidInterfaces.{interface_well}
 use Rattle.wit_print.proofs.ValidWorlds.{world_well}

@@ -19,7 +19,7 @@ use Rattle.wit_model.specs.Rules.{in_list, passes, package_number, is_stability,
 use Rattle.wit_model.specs.Valid.{IsValid, is_place, numbers_in_range, places, labels, order_of_types, function_names}
 use Rattle.wit_model.proofs.OnePath.{interface-passes}
 use Rattle.print_grammar.specs.Tree.MemberTree.{UseMember, TypeMember}
-use Rattle.wit_print.specs.Shown.{Used, DeclaredWith, shown_uses, shown_declarations, path_from_owner, listed_types, listed_functions, function_prefix, shown_function, shown_interface}
+use Rattle.print_items.specs.Shown.{Used, DeclaredWith, shown_uses, shown_declarations, path_from_owner, listed_types, listed_functions, function_prefix, shown_function, shown_interface}
 use Rattle.print_grammar.specs.WellNamed.{is_well_prefix, is_well_path, is_well_member}
 use Rattle.print_grammar.proofs.ByteTests.{both, left_of, right_of}
 use Rattle.wit_print.proofs.WellLists.{implied, each_well, kept_well, joined_well}

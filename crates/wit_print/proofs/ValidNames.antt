@@ -22,7 +22,7 @@ use Rattle.wit_model.specs.Valid.{IsValid}
 use Rattle.wit_model.proofs.NameLaws.{label_lacks}
 use Rattle.print_grammar.proofs.ByteTests.{left_of, right_of}
 use Rattle.wit_print.proofs.WellLists.{joined_well}
-use Rattle.wit_print.proofs.TypesWell.{label_of}
+use Rattle.print_items.proofs.TypesWell.{label_of}
 
 -- ---- what follows a dot
 

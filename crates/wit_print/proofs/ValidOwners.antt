@@ -33,10 +33,10 @@ use Rattle.wit_model.proofs.Owners.{named_met, owned_stays}
 use Rattle.wit_model.proofs.Listings.{interface_fits, misnamed_in_interface_breaks}
 use Rattle.wit_model.proofs.OnePath.{interface-passes, equal-numbers, given-test}
 use Rattle.wit_model.proofs.VersionLaws.{text_same}
-use Rattle.wit_print.specs.Shown.{Listed}
+use Rattle.print_items.specs.Shown.{Listed}
 use Rattle.print_grammar.proofs.ByteTests.{both, left_of, right_of, refuted}
-use Rattle.wit_print.proofs.ByPlace.{one_there}
-use Rattle.wit_print.proofs.TypesWell.{type_rule, label_of}
+use Rattle.print_items.proofs.ByPlace.{one_there}
+use Rattle.print_items.proofs.TypesWell.{type_rule, label_of}
 
 -- ---- owners
 

@@ -28,7 +28,7 @@ use Rattle.wit_model.proofs.Entries.{each_from_at, lists_pass}
 use Rattle.wit_print.specs.Printable.{is_printable_import, is_shown_item, is_printable_interface, is_printable_entry, is_printable_world, is_printable_listed}
 use Rattle.print_grammar.specs.WellNamed.{is_well_optional}
 use Rattle.print_grammar.specs.WellNamed.{is_well_item}
-use Rattle.wit_print.specs.Shown.{Listed, function_of_item, imported_functions, listed_imports, shown_interface_item, type_of_entry}
+use Rattle.print_items.specs.Shown.{Listed, function_of_item, imported_functions, listed_imports, shown_interface_item, type_of_entry}
 use Rattle.wit_model.proofs.OnePath.{package-passes}
 use Rattle.print_grammar.proofs.ByteTests.{weaker_all}
 use Rattle.wit_print.proofs.WellLists.{all_both, given_well}
@@ -36,7 +36,7 @@ use Rattle.wit_print.specs.UseGroups.{is_listed_function, is_listed_type}
 use Rattle.wit_print.proofs.ValidWorlds.{is_known_entry, entry_function_known, extern_well, world_is_shown}
 use Rattle.wit_print.proofs.ValidOwners.{is_known_listed}
 use Rattle.wit_print.proofs.ValidFiles.{interface_item_well}
-use Rattle.wit_print.proofs.ShownWell.{gates_well, optional_version}
+use Rattle.print_items.proofs.ShownWell.{gates_well, optional_version}
 
 both_true : (a b : Bool) → a ≡ true → b ≡ true → (a && b) ≡ true
 both_true a b p q = rw p q

@@ -27,12 +27,12 @@ use Rattle.wit_model.specs.Rules.{passes, is_stability, is_named_number, is_name
 use Rattle.wit_model.specs.Valid.{IsValid, package_names, labels, named_kinds}
 use Rattle.wit_model.proofs.OnePath.{package-passes, interface-passes}
 use Rattle.print_grammar.specs.Tree.PathTree.{Local}
-use Rattle.wit_print.specs.Shown.{present_name, shown_prefix, full_path, path_from, shown_path, Used, own_name, used_of, same_group, grouped_with, grouped, Listed, shown_uses, DeclaredWith, shown_declared, declared_with, shown_declarations, path_from_owner}
+use Rattle.print_items.specs.Shown.{present_name, shown_prefix, full_path, path_from, shown_path, Used, own_name, used_of, same_group, grouped_with, grouped, Listed, shown_uses, DeclaredWith, shown_declared, declared_with, shown_declarations, path_from_owner}
 use Rattle.print_grammar.specs.WellNamed.{is_well_optional, is_well_prefix, is_well_path, is_well_used, are_well_some, is_well_declared}
 use Rattle.print_grammar.proofs.ByteTests.{both, left_of, right_of}
 use Rattle.wit_print.proofs.WellLists.{given_well, joined_some}
-use Rattle.wit_print.proofs.ShownWell.{given_label, optional_version, shown_prefix_well}
-use Rattle.wit_print.proofs.TypesWell.{type_rule, name_well}
+use Rattle.print_items.proofs.ShownWell.{given_label, optional_version, shown_prefix_well}
+use Rattle.print_items.proofs.TypesWell.{type_rule, name_well}
 use Rattle.wit_print.proofs.ValidDeclared.{is_known_function, declared_well}
 use Rattle.wit_print.proofs.ValidOwners.{is_named_interface, is_known_listed, target_interface_named}
 

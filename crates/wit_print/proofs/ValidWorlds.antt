@@ -32,12 +32,12 @@ use Rattle.print_output.specs.OutputCall.{is_one_line}
 use Rattle.print_grammar.specs.Tree.ExternTree.{NamedPath, NamedInterface}
 use Rattle.print_grammar.specs.Tree.{WorldMember}
 use Rattle.print_grammar.specs.Tree.WorldMember.{WorldUse, WorldType}
-use Rattle.wit_print.specs.Shown.{Entry, Used, shown_docs, shown_gates, shown_path, shown_uses, shown_declarations, shown_interface, function_prefix, extern_docs, extern_prefix, shown_extern, shown_import, shown_export, is_interface_item, is_freestanding_item, function_of_item, type_of_entry, listed_imports, imported_functions, shown_world_in, shown_world}
+use Rattle.print_items.specs.Shown.{Entry, Used, shown_docs, shown_gates, shown_path, shown_uses, shown_declarations, shown_interface, function_prefix, extern_docs, extern_prefix, shown_extern, shown_import, shown_export, is_interface_item, is_freestanding_item, function_of_item, type_of_entry, listed_imports, imported_functions, shown_world_in, shown_world}
 use Rattle.print_grammar.specs.WellNamed.{is_well_gates, is_well_prefix, is_well_path, is_well_member, is_well_extern, is_well_world_member}
 use Rattle.print_grammar.proofs.ByteTests.{both, left_of, right_of, weaker_all}
-use Rattle.wit_print.proofs.ByPlace.{one_there}
+use Rattle.print_items.proofs.ByPlace.{one_there}
 use Rattle.wit_print.proofs.WellLists.{all_both, each_well, kept_well, given_well, joined_well}
-use Rattle.wit_print.proofs.ShownWell.{docs_well, gates_well, external_id_well}
+use Rattle.print_items.proofs.ShownWell.{docs_well, gates_well, external_id_well}
 use Rattle.wit_print.proofs.FunctionsWell.{signature_well, function_prefix_well}
 use Rattle.wit_print.proofs.ValidDeclared.{is_known_function}
 use Rattle.wit_print.proofs.ValidOwners.{is_named_interface, is_known_listed, world_rule}

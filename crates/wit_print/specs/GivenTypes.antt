@@ -11,7 +11,7 @@ use Rattle.wit_model.specs.declared.model.TypeOwner.{TypeOwner}
 use Rattle.wit_model.specs.declared.model.Function.{Function}
 use Rattle.wit_model.specs.declared.model.TypeId.{TypeId}
 use Rattle.print_grammar.specs.Tree.{MemberTree}
-use Rattle.wit_print.specs.Shown.{Listed, owner_package}
+use Rattle.print_items.specs.Shown.{Listed, owner_package}
 use Rattle.wit_print.specs.UseGroups.{is_listed_function, listed_declaration, use_members}
 
 -- functions by the resources that they stand under

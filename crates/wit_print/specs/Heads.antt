@@ -1,21 +1,14 @@
--- The calls for a feature, and for what stands before the block of an interface.
-use Rattle.std.specs.Prelude.{Bool, false, List, [], ◌∷◌, codes}
+-- The calls for what stands before the block of an interface, and for the block.
+use Rattle.std.specs.Prelude.{Bool, false, List, []}
 use Rattle.std.specs.Option.{option_map_or}
 use Rattle.wit_model.specs.declared.model.Resolve.{Resolve}
 use Rattle.wit_model.specs.declared.model.Interface.{Interface}
 use Rattle.wit_model.specs.declared.model.InterfaceId.{InterfaceId}
 use Rattle.wit_model.specs.Lookup.{interface_at}
 use Rattle.wit_model.specs.Text.{Text}
-use Rattle.print_grammar.specs.Keyword.{escaped}
 use Rattle.print_output.specs.OutputCall.{OutputCall}
-use Rattle.print_output.specs.OutputCall.OutputCall.{Keyword, Newline, Str}
-use Rattle.wit_print.specs.Shown.{shown_docs, shown_gates, shown_interface}
+use Rattle.print_items.specs.Shown.{shown_docs, shown_gates, shown_interface}
 use Rattle.print_grammar.specs.Calls.{interface_outer_calls, members_calls}
-
--- the feature under which an item is unstable, in a line of its own
-abbrev pub feature_calls : Text → List OutputCall
-feature_calls feature =
-    Keyword (codes "@unstable") ∷ Str (codes "(") ∷ Keyword (codes "feature") ∷ Str (codes " = ") ∷ Str (escaped feature) ∷ Str (codes ")") ∷ Newline ∷ []
 
 -- an interface's documentation and gates, and a name
 abbrev pub head_calls : Bool → Interface → Text → List OutputCall

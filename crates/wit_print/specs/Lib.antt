@@ -1,11 +1,9 @@
-pub mod Drives
-pub mod Shown
 pub mod Documentation
-pub mod TypeParts
 pub mod Heads
-pub mod ItemCalls
-pub mod DeclaredCalls
 pub mod UseGroups
 pub mod Printable
 pub mod Printer
 pub mod GivenTypes
+-- ---- definitions of the crate below that clauses of callers cite
+
+pub use Rattle.print_items.specs.Shown

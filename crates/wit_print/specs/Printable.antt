@@ -16,8 +16,6 @@ use Rattle.wit_model.specs.declared.model.WorldItem.TheVariants as item
 use Rattle.wit_model.specs.declared.model.Function.{Function}
 use Rattle.wit_model.specs.declared.model.TypeId.{TypeId}
 use Rattle.wit_model.specs.declared.model.TypeOwner.TheVariants as owner
-use Rattle.wit_model.specs.declared.model.«Type».{«Type» as ValueType}
-use Rattle.wit_model.specs.declared.model.«Type».TheVariants as value
 use Rattle.wit_model.specs.Text.{Text, text_of}
 use Rattle.wit_model.specs.Names.{is_label}
 use Rattle.wit_model.specs.Lookup.{type_at, world_at}
@@ -28,7 +26,7 @@ use Rattle.print_output.specs.OutputCall.OutputCall.{IndentStart, IndentEnd, Key
 use Rattle.print_grammar.specs.Keyword.{escaped}
 use Rattle.print_grammar.specs.Tree.{MemberTree}
 use Rattle.print_grammar.specs.Tree.MemberTree.{TypeMember}
-use Rattle.wit_print.specs.Shown.{extern_prefix, imported_functions, is_freestanding_item, is_interface_item, listed_imports, shown_docs, shown_gates, shown_head, shown_extern, shown_function, shown_import, shown_interface_item, shown_declared, shown_package, shown_prefix, shown_world_item}
+use Rattle.print_items.specs.Shown.{extern_prefix, imported_functions, is_freestanding_item, is_interface_item, listed_imports, shown_docs, shown_gates, shown_head, shown_extern, shown_function, shown_import, shown_interface_item, shown_declared, shown_package, shown_prefix, shown_world_item}
 use Rattle.wit_print.specs.UseGroups.{is_listed_function, is_listed_type, type_members}
 use Rattle.print_grammar.specs.WellNamed.{is_well_declared, is_well_gates, is_well_item, is_well_member, is_well_prefix, is_well_world_member}
 use Rattle.print_grammar.specs.Calls.{members_calls, printed_after, space, doc_calls, gates_calls, world_extern_calls, package_item_calls, package_outer_calls, package_start_calls, package_end_calls, package_calls}
@@ -43,10 +41,6 @@ is_printable_type r functions id =
 abbrev pub declaration_of : Resolve → List Function → TypeId → List MemberTree
 declaration_of r functions id =
     option_map_or (λ def. TypeMember (shown_prefix def.docs def.stability def.external_id) (shown_declared r functions id def) ∷ []) (type_at r id.0) []
-
-abbrev pub is_primitive : ValueType → Bool
-is_primitive (value.Id id) = false
-is_primitive ty = true
 
 -- an import or an export under what it may stand under, and no type
 abbrev pub is_shown_item : WorldKey → WorldItem → Bool

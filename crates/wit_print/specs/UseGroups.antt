@@ -20,7 +20,7 @@ use Rattle.print_output.specs.OutputCall.{OutputCall}
 use Rattle.print_output.specs.OutputCall.OutputCall.{Keyword, Semicolon, Str}
 use Rattle.print_grammar.specs.Tree.{MemberTree, PathTree, Prefix, UsedName}
 use Rattle.print_grammar.specs.Tree.MemberTree.{TypeMember, UseMember}
-use Rattle.wit_print.specs.Shown.{DeclaredWith, Listed, Used, declared_with, own_name, present_name, same_group, shown_declarations, shown_external_id, shown_gates, shown_path, shown_uses, used_of}
+use Rattle.print_items.specs.Shown.{DeclaredWith, Listed, Used, declared_with, own_name, present_name, same_group, shown_declarations, shown_external_id, shown_gates, shown_path, shown_uses, used_of}
 use Rattle.print_grammar.specs.Calls.{external_id_calls, gates_calls, path_calls, separated, space, used_name_calls}
 use Rattle.print_grammar.specs.WellNamed.{is_well_gates, is_well_path}
 use Rattle.wit_print.specs.declared.use_group.Use.{Use}

@@ -3,7 +3,7 @@
 ghost use Rattle.std.specs.Prelude.{◌≡◌, ◌++◌, ◌∷◌, [], filter, map, Some, IfOk, OnOk};
 ghost use Rattle.wit_model.specs.Lookup.{resource_of};
 ghost use Rattle.wit_print.specs.GivenTypes.{functions_under};
-ghost use Rattle.wit_print.specs.Shown.{belongs_to};
+ghost use Rattle.print_items.specs.Shown.{belongs_to};
 
 use std::alloc::{AllocError, Global};
 use std::collections::HashMap;

@@ -1,14 +1,14 @@
 //! Declared types, printed.
-#![tactic(auto, using(crate::proofs::Driven::driving))]
+#![tactic(auto, using(print_items::proofs::Driven::driving))]
 
 ghost use Rattle.std.specs.Prelude.{◌≡◌, ◌∷◌, [], true, filter, map, Some, IfOk, IsOkUnless, OnErr, OnOk};
 ghost use Rattle.std.specs.List.{list_all};
 ghost use Rattle.wit_model.specs.declared.error.Error.TheVariants.{Memory};
 ghost use Rattle.wit_model.specs.Lookup.{type_at};
 ghost use Rattle.wit_model.specs.Valid.{IsValid};
-ghost use Rattle.wit_print.specs.Drives.{Drives};
+ghost use Rattle.print_items.specs.Drives.{Drives};
 ghost use Rattle.print_output.specs.OutputCall.{Moves, Begins};
-ghost use Rattle.wit_print.specs.Shown.{belongs_to as belongs_to_lem, declared_of, present_name, shown_prefix, shown_resource_member};
+ghost use Rattle.print_items.specs.Shown.{belongs_to as belongs_to_lem, declared_of, present_name, shown_prefix, shown_resource_member};
 ghost use Rattle.print_grammar.specs.Tree.MemberTree.{TypeMember};
 ghost use Rattle.print_grammar.specs.Calls.{declared_calls, members_calls, printed_after};
 ghost use Rattle.wit_print.specs.Printable.{declaration_of, is_printable_type};
@@ -16,19 +16,13 @@ ghost use Rattle.wit_print.specs.GivenTypes.{functions_under, given_declarations
 ghost use Rattle.wit_print.specs.UseGroups.{is_listed_function, is_listed_type, listed_declaration, listed_of};
 ghost use Rattle.print_grammar.specs.WellNamed.{is_well_declared, is_well_prefix};
 
-use crate::alias::{
-    write_carrier_alias, write_fixed_list_alias, write_handle_alias, write_kind_alias,
-    write_list_alias, write_map_alias, write_type_alias,
-};
-use crate::driver::Driver;
 use crate::interface::write_line_before;
-use crate::labels::{write_enum, write_flags};
-use crate::prefix::write_prefix;
-use crate::record::write_record;
-use crate::resource::write_resource;
-use crate::type_name::present;
 use crate::use_group::use_of;
-use crate::variant::write_variant;
+use print_items::{
+    Driver, present, write_carrier_alias, write_enum, write_fixed_list_alias, write_flags,
+    write_handle_alias, write_kind_alias, write_list_alias, write_map_alias, write_prefix,
+    write_record, write_resource, write_type_alias, write_variant,
+};
 use print_output::{Output, TypeKind};
 use std::alloc::{AllocError, Global};
 use std::collections::HashMap;
@@ -102,7 +96,7 @@ fn write_declaration<O: Output>(
     write_declared(driver, emits_docs, resolve, id, name, def, functions);
 }
 
-#[tactic(auto, using(crate::proofs::Driven::finishing))]
+#[tactic(auto, using(print_items::proofs::Driven::finishing))]
 fn print_declaration<'a, O: Output>(
     output: &mut O,
     alloc: Global,

@@ -8,14 +8,14 @@ ghost use Rattle.wit_model.specs.Rules.{in_list};
 ghost use Rattle.wit_model.specs.Valid.{IsValid};
 ghost use Rattle.print_output.specs.OutputCall.{OutputCall, Moves, Begins, is_one_line, has_no_space_first};
 ghost use Rattle.print_grammar.specs.Calls.{world_extern_calls};
-ghost use Rattle.wit_print.specs.ItemCalls.{front_calls, inline_start_calls, labelled_tree};
-ghost use Rattle.wit_print.specs.Shown.{extern_docs, shown_docs, shown_interface, shown_path, shown_prefix};
+ghost use Rattle.print_items.specs.ItemCalls.{front_calls, inline_start_calls, labelled_tree};
+ghost use Rattle.print_items.specs.Shown.{extern_docs, shown_docs, shown_interface, shown_path, shown_prefix};
 ghost use Rattle.print_grammar.specs.Tree.ExternTree.{NamedInterface, NamedPath, Path};
 ghost use Rattle.print_grammar.specs.WellNamed.{is_well_extern, is_well_path, is_well_prefix};
 
-use crate::driver::Driver;
 use crate::interface::print_interface_body;
 use crate::world::{write_inline, write_keyed, write_labelled};
+use print_items::Driver;
 use print_output::Output;
 use std::alloc::Global;
 use wit_model::{Docs, Error, Interface, InterfaceId, PackageId, Resolve, Stability, WorldKey};
@@ -43,7 +43,7 @@ pub(crate) fn docs_of<'a>(
 }
 
 /// An interface by its path.
-#[tactic(auto, using(crate::proofs::Driven::finishing))]
+#[tactic(auto, using(print_items::proofs::Driven::finishing))]
 pub(crate) fn print_keyed<'a, O: Output>(
     output: &mut O,
     alloc: Global,
@@ -82,7 +82,7 @@ pub(crate) fn print_keyed<'a, O: Output>(
 }
 
 /// An interface by its path, under a label.
-#[tactic(auto, using(crate::proofs::Driven::finishing))]
+#[tactic(auto, using(print_items::proofs::Driven::finishing))]
 fn print_labelled_path<'a, O: Output>(
     output: &mut O,
     alloc: Global,
@@ -123,7 +123,7 @@ fn print_labelled_path<'a, O: Output>(
     driver.finish()
 }
 
-#[tactic(auto, using(crate::proofs::Driven::finishing))]
+#[tactic(auto, using(print_items::proofs::Driven::finishing))]
 fn print_inline_start<'a, O: Output>(
     output: &mut O,
     alloc: Global,
@@ -156,7 +156,7 @@ fn print_inline_start<'a, O: Output>(
 }
 
 /// The end of a block.
-#[tactic(auto, using(crate::proofs::Moves::moving))]
+#[tactic(auto, using(print_items::proofs::Moves::moving))]
 pub(crate) fn print_block_end<O: Output>(output: &mut O) -> Result<(), Error>
     ensures ok { OnOk result (Moves O.keeps (O.view output.old) (OutputCall.IndentEnd ∷ []) (O.view output.new)) }
     ensures err { OnErr result (Begins O.keeps (O.view output.old) (OutputCall.IndentEnd ∷ []) (O.view output.new)) }

@@ -8,7 +8,7 @@ ghost use Rattle.wit_model.specs.Valid.{IsValid};
 ghost use Rattle.print_output.specs.OutputCall.{OutputCall, Moves, Begins};
 ghost use Rattle.print_grammar.specs.Calls.{file_calls, nested_calls};
 ghost use Rattle.wit_print.specs.Printable.{next_package_calls};
-ghost use Rattle.wit_print.specs.Shown.{shown_file, shown_package};
+ghost use Rattle.print_items.specs.Shown.{shown_file, shown_package};
 
 use crate::package::print_whole_package;
 use print_output::Output;
@@ -16,7 +16,7 @@ use std::alloc::Global;
 use wit_model::{Error, PackageId, Resolve};
 
 /// The end of a line.
-#[tactic(auto, using(crate::proofs::Moves::moving))]
+#[tactic(auto, using(print_items::proofs::Moves::moving))]
 fn print_line_end<O: Output>(output: &mut O) -> Result<(), Error>
     ensures ok { OnOk result (Moves O.keeps (O.view output.old) (OutputCall.Newline ∷ []) (O.view output.new)) }
     ensures err { OnErr result (Begins O.keeps (O.view output.old) (OutputCall.Newline ∷ []) (O.view output.new)) }

@@ -9,7 +9,7 @@ ghost use Rattle.wit_model.specs.Valid.{IsValid};
 ghost use Rattle.print_output.specs.OutputCall.{Moves, Begins};
 ghost use Rattle.print_grammar.specs.Calls.{members_calls, printed_after};
 ghost use Rattle.wit_print.specs.GivenTypes.{are_functions_of, given_members, package_of_owner};
-ghost use Rattle.wit_print.specs.Shown.{owner_package as owner_package_lem};
+ghost use Rattle.print_items.specs.Shown.{owner_package as owner_package_lem};
 ghost use Rattle.wit_print.specs.UseGroups.{is_listed_type, listed_of};
 
 use crate::declaration::print_declarations;

@@ -1,5 +1,5 @@
 //! Interfaces, printed item by item.
-#![tactic(auto, using(crate::proofs::Driven::driving))]
+#![tactic(auto, using(print_items::proofs::Driven::driving))]
 
 ghost use Rattle.std.specs.Prelude.{◌≡◌, ◌∷◌, [], true, false, Some, OnOk, OnErr, IsOkUnless};
 ghost use Rattle.std.specs.List.{list_all};
@@ -8,19 +8,16 @@ ghost use Rattle.wit_model.specs.Lookup.{interface_at};
 ghost use Rattle.wit_model.specs.Names.{is_label};
 ghost use Rattle.wit_model.specs.Rules.{is_freestanding as is_freestanding_lem};
 ghost use Rattle.wit_model.specs.Valid.{IsValid};
-ghost use Rattle.wit_print.specs.Drives.{Drives, LineIs};
+ghost use Rattle.print_items.specs.Drives.{Drives, LineIs};
 ghost use Rattle.print_output.specs.OutputCall.{Moves, Begins};
 ghost use Rattle.print_grammar.specs.Calls.{members_calls};
 ghost use Rattle.wit_print.specs.Heads.{head_calls};
 ghost use Rattle.wit_print.specs.Printable.{is_printable_function, line_between, shown_functions};
-ghost use Rattle.wit_print.specs.Shown.{shown_function, shown_gates, shown_interface};
+ghost use Rattle.print_items.specs.Shown.{shown_function, shown_gates, shown_interface};
 ghost use Rattle.print_grammar.specs.WellNamed.{is_well_gates, is_well_member};
 
-use crate::driver::Driver;
-use crate::function::write_named;
-use crate::gates::write_gates;
-use crate::prefix::{write_docs, write_prefix};
 use crate::types::print_interface_types;
+use print_items::{Driver, write_docs, write_gates, write_named, write_prefix};
 use print_output::{Output, TypeKind};
 use std::alloc::Global;
 use wit_model::{Error, Function, Interface, InterfaceId, Map, Resolve};
@@ -44,7 +41,7 @@ pub(crate) fn write_head<O: Output>(
 }
 
 /// An interface's documentation, gates and name.
-#[tactic(auto, using(crate::proofs::Driven::finishing))]
+#[tactic(auto, using(print_items::proofs::Driven::finishing))]
 pub(crate) fn print_head<'a, O: Output>(
     output: &mut O,
     alloc: Global,
@@ -101,7 +98,7 @@ fn write_function<O: Output>(
     );
 }
 
-#[tactic(auto, using(crate::proofs::Driven::finishing))]
+#[tactic(auto, using(print_items::proofs::Driven::finishing))]
 fn print_function<'a, O: Output>(
     output: &mut O,
     alloc: Global,

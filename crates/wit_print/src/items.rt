@@ -8,21 +8,21 @@ ghost use Rattle.wit_model.specs.Valid.{IsValid};
 ghost use Rattle.print_output.specs.OutputCall.{Moves, Begins, is_one_line, has_no_space_first};
 ghost use Rattle.print_grammar.specs.Calls.{world_extern_calls};
 ghost use Rattle.wit_print.specs.Printable.{entry_calls, function_entry_calls, imports_calls, imports_functions, imports_interfaces, interface_entry_calls, is_printable_entry, is_printable_import, IsPrintableWorld, line_between, printed_imports, world_body_calls};
-ghost use Rattle.wit_print.specs.Shown.{function_prefix, is_freestanding_item, is_interface_item, shown_signature};
+ghost use Rattle.print_items.specs.Shown.{function_prefix, is_freestanding_item, is_interface_item, shown_signature};
 ghost use Rattle.print_grammar.specs.Tree.ExternTree.{NamedFunction};
 ghost use Rattle.print_grammar.specs.WellNamed.{is_well_extern, is_well_prefix};
 ghost use Rattle.wit_model.specs.Text.{text_of};
 
-use crate::driver::Driver;
 use crate::extern_item::{docs_of, print_keyed, print_labelled};
 use crate::types::print_world_types;
 use crate::use_group::either;
 use crate::world::write_world_function;
+use print_items::Driver;
 use print_output::Output;
 use std::alloc::Global;
 use wit_model::{Error, Function, Map, PackageId, Resolve, World, WorldId, WorldItem, WorldKey};
 
-#[tactic(auto, using(crate::proofs::Driven::finishing))]
+#[tactic(auto, using(print_items::proofs::Driven::finishing))]
 fn print_world_function<'a, O: Output>(
     output: &mut O,
     alloc: Global,
@@ -307,7 +307,7 @@ fn both(a: bool, b: bool) -> bool
 }
 
 /// An empty line before the first export, where something is imported.
-#[tactic(auto, using(crate::proofs::Moves::moving))]
+#[tactic(auto, using(print_items::proofs::Moves::moving))]
 fn print_line_between<O: Output>(output: &mut O, is_between: bool) -> Result<(), Error>
     ensures ok { OnOk result (Moves O.keeps (O.view output.old) (line_between is_between) (O.view output.new)) }
     ensures err { OnErr result (Begins O.keeps (O.view output.old) (line_between is_between) (O.view output.new)) }

@@ -12,7 +12,7 @@ ghost use Rattle.print_grammar.specs.AsRead.{file_as_read};
 ghost use Rattle.print_grammar.specs.Calls.{file_calls};
 ghost use Rattle.print_grammar.specs.Reading.{IsOnlyReading};
 ghost use Rattle.wit_print.specs.Documentation.{DifferInDocumentation};
-ghost use Rattle.wit_print.specs.Shown.{shown_file};
+ghost use Rattle.print_items.specs.Shown.{shown_file};
 
 pub use print_grammar::laws::{one_reading, well_named_file_reads};
 pub use print_output::laws::{

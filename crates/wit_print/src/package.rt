@@ -1,5 +1,5 @@
 //! Packages, printed item by item.
-#![tactic(auto, using(crate::proofs::Driven::driving))]
+#![tactic(auto, using(print_items::proofs::Driven::driving))]
 
 ghost use Rattle.std.specs.Prelude.{◌≡◌, ◌<◌, ◌++◌, ◌∷◌, [], true, false, length, Some, OnOk, OnErr, IsOkUnless};
 ghost use Rattle.std.specs.List.{flat_map, list_all};
@@ -8,22 +8,20 @@ ghost use Rattle.wit_model.specs.Text.{text_of};
 ghost use Rattle.wit_model.specs.Names.{is_label, is_version_text};
 ghost use Rattle.wit_model.specs.Lookup.{interface_at, optional_version_text};
 ghost use Rattle.wit_model.specs.Valid.{IsValid};
-ghost use Rattle.wit_print.specs.Drives.{Drives, LineIs};
+ghost use Rattle.print_items.specs.Drives.{Drives, LineIs};
 ghost use Rattle.print_output.specs.OutputCall.{OutputCall, Moves, Begins};
 ghost use Rattle.wit_print.specs.Printable.{IsPrintableWorld, is_printable_interface, is_printable_listed, listed_calls, listed_interface_calls, listed_package_calls, world_start_calls, world_calls};
-ghost use Rattle.wit_print.specs.Shown.{shown_docs, shown_gates, shown_head, shown_interface, shown_package};
+ghost use Rattle.print_items.specs.Shown.{shown_docs, shown_gates, shown_head, shown_interface, shown_package};
 ghost use Rattle.print_grammar.specs.Calls.{line_after_calls, package_calls, package_item_calls, package_outer_calls, package_start_calls, package_end_calls};
 ghost use Rattle.wit_print.specs.Heads.{head_calls};
 ghost use Rattle.print_grammar.specs.Tree.{ItemTree};
 ghost use Rattle.print_grammar.specs.WellNamed.{is_well_gates, is_well_optional};
 
-use crate::driver::Driver;
 use crate::extern_item::print_block_end;
-use crate::gates::write_gates;
 use crate::interface::{print_interface_body, write_head};
 use crate::items::print_world_body;
 use crate::parts::write_package_outer;
-use crate::prefix::write_docs;
+use print_items::{Driver, write_docs, write_gates};
 use print_output::{Output, TypeKind};
 use std::alloc::Global;
 use wit_model::{Error, Interface, InterfaceId, Map, Package, PackageId, Resolve, World, WorldId};
@@ -41,7 +39,7 @@ fn write_world_start<O: Output>(driver: &mut Driver<O>, emits_docs: bool, name: 
     driver.indent_start();
 }
 
-#[tactic(auto, using(crate::proofs::Driven::finishing))]
+#[tactic(auto, using(print_items::proofs::Driven::finishing))]
 fn print_world_start<'a, O: Output>(
     output: &mut O,
     alloc: Global,
@@ -139,7 +137,7 @@ fn write_interface_start<O: Output>(
     driver.indent_start();
 }
 
-#[tactic(auto, using(crate::proofs::Driven::finishing))]
+#[tactic(auto, using(print_items::proofs::Driven::finishing))]
 fn print_interface_start<'a, O: Output>(
     output: &mut O,
     alloc: Global,
@@ -159,7 +157,7 @@ fn print_interface_start<'a, O: Output>(
 }
 
 /// An empty line after an interface of a main package.
-#[tactic(auto, using(crate::proofs::Moves::moving))]
+#[tactic(auto, using(print_items::proofs::Moves::moving))]
 fn print_line_after<O: Output>(output: &mut O, is_main: bool) -> Result<(), Error>
     ensures ok { OnOk result (Moves O.keeps (O.view output.old) (line_after_calls is_main) (O.view output.new)) }
     ensures err { OnErr result (Begins O.keeps (O.view output.old) (line_after_calls is_main) (O.view output.new)) }
@@ -277,7 +275,7 @@ fn write_package_start<O: Output>(
     write_package_open(driver, is_main);
 }
 
-#[tactic(auto, using(crate::proofs::Driven::finishing))]
+#[tactic(auto, using(print_items::proofs::Driven::finishing))]
 fn print_package_start<'a, O: Output>(
     output: &mut O,
     alloc: Global,
@@ -298,7 +296,7 @@ fn print_package_start<'a, O: Output>(
 }
 
 /// The end of a package's block, if it has one.
-#[tactic(auto, using(crate::proofs::Moves::moving))]
+#[tactic(auto, using(print_items::proofs::Moves::moving))]
 fn print_package_end<O: Output>(output: &mut O, is_main: bool) -> Result<(), Error>
     ensures ok { OnOk result (Moves O.keeps (O.view output.old) (package_end_calls is_main) (O.view output.new)) }
     ensures err { OnErr result (Begins O.keeps (O.view output.old) (package_end_calls is_main) (O.view output.new)) }

@@ -1,17 +1,16 @@
 //! Parts of an item, printed.
-#![tactic(auto, using(crate::proofs::Driven::driving))]
+#![tactic(auto, using(print_items::proofs::Driven::driving))]
 
 ghost use Rattle.std.specs.Prelude.{◌≡◌, true, false};
 ghost use Rattle.wit_model.specs.Text.{text_of};
 ghost use Rattle.wit_model.specs.Names.{is_label, is_version_text};
 ghost use Rattle.wit_model.specs.Lookup.{optional_version_text};
-ghost use Rattle.wit_print.specs.Drives.{Drives, LineIs};
-ghost use Rattle.wit_print.specs.Shown.{shown_head};
+ghost use Rattle.print_items.specs.Drives.{Drives, LineIs};
+ghost use Rattle.print_items.specs.Shown.{shown_head};
 ghost use Rattle.print_grammar.specs.Calls.{package_name_calls, package_outer_calls, version_calls};
 ghost use Rattle.print_grammar.specs.WellNamed.{is_well_optional};
 
-use crate::driver::Driver;
-use crate::prefix::write_docs;
+use print_items::{Driver, write_docs};
 use print_output::{Output, TypeKind};
 use semver::Version;
 use wit_model::{Package, PackageName};

@@ -1,5 +1,5 @@
 //! Paths to interfaces, printed.
-#![tactic(auto, using(crate::proofs::Driven::driving))]
+#![tactic(auto, using(print_items::proofs::Driven::driving))]
 
 ghost use Rattle.std.specs.Prelude.{◌≡◌, ◌∷◌, [], codes, true, false};
 ghost use Rattle.wit_model.specs.Names.{is_label, is_version_text};
@@ -7,17 +7,16 @@ ghost use Rattle.wit_model.specs.Lookup.{optional_version_text};
 ghost use Rattle.wit_model.specs.Rules.{in_list, package_number, passes};
 ghost use Rattle.wit_model.specs.Text.{text_of};
 ghost use Rattle.wit_model.specs.Valid.{IsValid};
-ghost use Rattle.wit_print.specs.Drives.{Drives, LineIs};
+ghost use Rattle.print_items.specs.Drives.{Drives, LineIs};
 ghost use Rattle.print_output.specs.OutputCall.{OutputCall};
 ghost use Rattle.print_grammar.specs.Keyword.{escaped};
-ghost use Rattle.wit_print.specs.Shown.{path_from, shown_path};
+ghost use Rattle.print_items.specs.Shown.{path_from, shown_path};
 ghost use Rattle.print_grammar.specs.Tree.PathTree.{Full};
 ghost use Rattle.print_grammar.specs.Calls.{path_calls};
 ghost use Rattle.print_grammar.specs.WellNamed.{is_well_optional, is_well_path};
 
-use crate::driver::Driver;
 use crate::parts::write_version;
-use crate::type_name::present;
+use print_items::{Driver, present};
 use print_output::{Output, TypeKind};
 use wit_model::{Interface, InterfaceId, PackageId, PackageName, Resolve};
 

@@ -15,19 +15,18 @@ ghost use Rattle.print_output.specs.OutputCall.{Moves, Begins};
 ghost use Rattle.print_grammar.specs.AsRead.{file_as_read};
 ghost use Rattle.print_grammar.specs.Reading.{IsOnlyReading};
 ghost use Rattle.print_output.specs.Render.{render};
-ghost use Rattle.wit_print.specs.Shown.{shown_file, shown_head, shown_package, shown_type};
+ghost use Rattle.print_items.specs.Shown.{shown_file, shown_head, shown_package, shown_type};
 ghost use Rattle.print_grammar.specs.Calls.{file_calls, members_calls, package_calls, package_outer_calls, printed_after, type_calls};
 ghost use Rattle.wit_print.specs.GivenTypes.{are_functions_of, given_members};
 ghost use Rattle.wit_print.specs.UseGroups.{is_listed_type, listed_of};
 ghost use Rattle.wit_print.specs.Heads.{interface_body_calls, interface_head_calls};
 
-use crate::driver::Driver;
 use crate::file::print_file;
 use crate::given_types::{collect_types, print_given_types};
 use crate::interface::{print_head, print_interface_body};
 use crate::package::print_whole_package;
 use crate::parts::write_package_outer;
-use crate::type_name::write_type_name;
+use print_items::{Driver, write_type_name};
 use print_output::{Output, OutputToString};
 use std::alloc::Global;
 use std::collections::HashMap;
@@ -77,7 +76,7 @@ impl<O: Output> WitPrinter<O> {
     /// reading in the grammar of WIT text: what is shown of the package.
     ///
     /// What the printer keeps meanwhile is one word as it is spelled, and lists of one owner's types and functions. The time
-    /// is linear in what is printed. After a refusal the output has a beginning of the calls.
+    /// is linear in what is printed. After a refusal nothing more is walked, and the output has a beginning of the calls.
     pub fn print(
         &mut self,
         alloc: Global,
@@ -101,7 +100,7 @@ impl<O: Output> WitPrinter<O> {
     /// Prints a package: the main one of a file, or one that is nested in it.
     ///
     /// What the printer keeps meanwhile is one word as it is spelled, and lists of one owner's types and functions. The time
-    /// is linear in what is printed. After a refusal the output has a beginning of the calls.
+    /// is linear in what is printed. After a refusal nothing more is walked, and the output has a beginning of the calls.
     pub fn print_package(
         &mut self,
         alloc: Global,
@@ -128,7 +127,9 @@ impl<O: Output> WitPrinter<O> {
     }
 
     /// Prints a package's documentation, and its name and version as they are declared.
-    #[tactic(auto, using(crate::proofs::Driven::finishing))]
+    ///
+    /// After a refusal nothing more is walked, and the output has a beginning of the calls.
+    #[tactic(auto, using(print_items::proofs::Driven::finishing))]
     pub fn print_package_outer(&mut self, alloc: Global, package: &Package) -> Result<(), Error>
         requires namespace { is_label (text_of «package».now.name.namespace) ≡ true }
         requires name { is_label (text_of «package».now.name.name) ≡ true }
@@ -147,7 +148,7 @@ impl<O: Output> WitPrinter<O> {
     /// Prints an interface's documentation, gates and name, under the name that is handed in, as they are declared.
     /// Neither the start of its block nor what it has.
     ///
-    /// After a refusal the output has a beginning of the calls.
+    /// After a refusal nothing more is walked, and the output has a beginning of the calls.
     pub fn print_interface_outer(
         &mut self,
         alloc: Global,
@@ -171,7 +172,7 @@ impl<O: Output> WitPrinter<O> {
     /// Prints what an interface has, a block of its own: neither what stands before the block nor its end.
     ///
     /// What the printer keeps meanwhile is one word as it is spelled, and lists of the interface's types and functions. The
-    /// time is linear in what is printed. After a refusal the output has a beginning of the calls.
+    /// time is linear in what is printed. After a refusal nothing more is walked, and the output has a beginning of the calls.
     pub fn print_interface(
         &mut self,
         alloc: Global,
@@ -203,8 +204,8 @@ impl<O: Output> WitPrinter<O> {
     ///
     /// Goes on in the printer's outer block, in which a new printer has printed nothing: a declaration behind another comes
     /// after an empty line. Keeps a list of the types meanwhile, and otherwise one word as it is spelled. The time is
-    /// linear in what is printed and in the functions handed in. After a refusal the output has a beginning of the calls, and
-    /// is all that is of use.
+    /// linear in what is printed and in the functions handed in. After a refusal nothing more is walked, and the output has a
+    /// beginning of the calls, and is all that is of use.
     pub fn print_types<'a, I: Iterator<Item = (&'a str, TypeId)> + Drop>(
         &mut self,
         alloc: Global,
@@ -242,8 +243,9 @@ impl<O: Output> WitPrinter<O> {
     /// Prints a type as it stands where it is used: by its name, or else by its kind. A handle that owns a resource and has no
     /// name of its own is printed as the resource.
     ///
-    /// What the printer keeps meanwhile is one word as it is spelled. After a refusal the output has a beginning of the calls.
-    #[tactic(auto, using(crate::proofs::Driven::finishing))]
+    /// What the printer keeps meanwhile is one word as it is spelled. After a refusal nothing more is walked, and the output
+    /// has a beginning of the calls.
+    #[tactic(auto, using(print_items::proofs::Driven::finishing))]
     pub fn print_type_name(
         &mut self,
         alloc: Global,

@@ -9,7 +9,7 @@ ghost use Rattle.wit_model.specs.Text.{text_of};
 ghost use Rattle.wit_model.specs.Valid.{IsValid};
 ghost use Rattle.print_output.specs.OutputCall.{Moves, Begins};
 ghost use Rattle.print_grammar.specs.Calls.{members_calls, printed_after};
-ghost use Rattle.wit_print.specs.Shown.{function_of_item as function_of_item_lem, imported_functions as imported_functions_lem, listed_imports, type_of_entry as type_of_entry_lem, listed_functions as listed_functions_lem, listed_types as listed_types_lem};
+ghost use Rattle.print_items.specs.Shown.{function_of_item as function_of_item_lem, imported_functions as imported_functions_lem, listed_imports, type_of_entry as type_of_entry_lem, listed_functions as listed_functions_lem, listed_types as listed_types_lem};
 ghost use Rattle.wit_print.specs.UseGroups.{is_listed_function, is_listed_type, listed_of, type_members};
 
 use crate::by_resource::by_resource;

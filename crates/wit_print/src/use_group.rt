@@ -1,5 +1,5 @@
 //! Types that are used from other interfaces, in groups.
-#![tactic(auto, using(crate::proofs::Driven::driving))]
+#![tactic(auto, using(print_items::proofs::Driven::driving))]
 
 ghost use Rattle.std.specs.Prelude.{◌≡◌, ◌++◌, ◌∷◌, ◌&&◌, ◌||◌, [], codes, true, false, option_map, IfOk, IfSome, IsOkUnless, OnErr, OnOk};
 ghost use Rattle.std.specs.List.{list_all};
@@ -15,20 +15,17 @@ ghost use Rattle.wit_model.specs.Text.{text_eq, text_of};
 ghost use Rattle.wit_model.specs.Types.{number_of as number_of_lem};
 ghost use Rattle.wit_model.specs.Uses.{alias_target};
 ghost use Rattle.wit_model.specs.Valid.{IsValid};
-ghost use Rattle.wit_print.specs.Drives.{Drives, LineIs};
+ghost use Rattle.print_items.specs.Drives.{Drives, LineIs};
 ghost use Rattle.print_output.specs.OutputCall.{OutputCall, Moves, Begins};
 ghost use Rattle.print_grammar.specs.Keyword.{escaped};
-ghost use Rattle.wit_print.specs.Shown.{own_name, same_gates as same_gates_lem, same_group as same_group_lem, shown_external_id, shown_gates, shown_path, used_of};
+ghost use Rattle.print_items.specs.Shown.{own_name, same_gates as same_gates_lem, same_group as same_group_lem, shown_external_id, shown_gates, shown_path, used_of};
 ghost use Rattle.print_grammar.specs.Tree.Gates.{Since, Ungated, Unstable};
 ghost use Rattle.print_grammar.specs.Calls.{members_calls, path_calls, printed_after, space, used_name_calls};
 ghost use Rattle.wit_print.specs.UseGroups.{group_end_calls, group_start_calls, is_listed_type, is_printable_use, listed_of, listed_use, listed_use_calls, more_names_calls, new_group_calls, open_end_calls, shown_use, use_after, use_from as use_from_lem, use_members, use_run_calls};
 ghost use Rattle.print_grammar.specs.WellNamed.{is_well_path};
 
-use crate::driver::Driver;
-use crate::gates::write_gates;
 use crate::path::write_path;
-use crate::prefix::write_external_id;
-use crate::type_name::present;
+use print_items::{Driver, present, write_external_id, write_gates};
 use print_output::{Output, TypeKind};
 use semver::Version;
 use std::alloc::Global;
@@ -400,7 +397,7 @@ fn write_use<O: Output>(
 }
 
 /// A use behind the use before it, or the first.
-#[tactic(auto, using(crate::proofs::Driven::finishing))]
+#[tactic(auto, using(print_items::proofs::Driven::finishing))]
 fn print_use<'a, O: Output>(
     output: &mut O,
     alloc: Global,
@@ -421,7 +418,7 @@ fn print_use<'a, O: Output>(
     driver.finish()
 }
 
-#[tactic(auto, using(crate::proofs::Driven::finishing))]
+#[tactic(auto, using(print_items::proofs::Driven::finishing))]
 fn print_group_end<O: Output>(output: &mut O, alloc: Global) -> Result<(), Error>
     ensures ok { OnOk result (Moves O.keeps (O.view output.old) group_end_calls (O.view output.new)) }
     ensures err { OnErr result (Begins O.keeps (O.view output.old) group_end_calls (O.view output.new)) }

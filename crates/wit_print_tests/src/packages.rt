@@ -3,7 +3,7 @@
 use std::alloc::{AllocError, Global};
 use wit_model::{Docs, Resolve, Stability, Type, TypeDefKind};
 use wit_samples::drafts::{add_function, add_type, add_unnamed, draft};
-use wit_samples::kinds::{id, own_of};
+use wit_samples::kinds::{id, own_of, tuple_of};
 
 /// Interface `i` of `a:b` with documentation and a feature. It has a resource `r`, a type `list` and a function that takes it; type 2 owns the
 /// resource, and type 3 is a future of a byte.
@@ -29,4 +29,18 @@ fn describe(alloc: Global, resolve: &mut Resolve) -> Result<(), AllocError> {
         };
     }
     Ok(())
+}
+
+/// A tower of 100 unnamed tuples: type 0 has two bytes, and each other one has the one before it twice. So type 99 has 2^100 parts as text. Function
+/// `f` of interface `i` takes it.
+pub fn tower(alloc: Global) -> Result<Resolve, AllocError> {
+    let mut resolve = draft(alloc)?;
+    let mut part = Type::U8;
+    for number in 0..100u32 {
+        let kind = tuple_of(alloc, &[part, part])?;
+        add_unnamed(&mut resolve, kind)?;
+        part = id(number);
+    }
+    add_function(alloc, &mut resolve, part)?;
+    Ok(resolve)
 }

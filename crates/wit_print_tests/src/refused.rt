@@ -3,11 +3,12 @@
 ghost use Rattle.std.specs.Prelude.{◌<◌, length};
 ghost use Rattle.wit_model.specs.Valid.{IsValid};
 
+use crate::packages::tower;
 use crate::recording::{Counting, Recording};
 use std::alloc::Global;
 use std::test::Fail;
 use wit_check::Check;
-use wit_model::{Error, PackageId, Resolve};
+use wit_model::{Error, PackageId, Resolve, Type, TypeId};
 use wit_print::WitPrinter;
 use wit_samples::samples::host_and_guest;
 
@@ -59,5 +60,77 @@ fn each_call_of_the_five(rt: HostRuntime) -> Result<(), Fail> {
         assert!(rt; counted(rt.alloc(), &resolve, room) == (Err(Error::Memory), room));
     }
     assert!(rt; counted(rt.alloc(), &resolve, 57) == (Ok(()), 57));
+    Ok(())
+}
+
+// A package whose text has 2^100 parts.
+#[test]
+fn a_tower_in_a_package(rt: HostRuntime) -> Result<(), Fail> {
+    let resolve = tower(rt.alloc())?;
+    resolve.check(rt.alloc())?;
+    assert!(rt; resolve.packages.len() > 0);
+    for room in &[0usize, 1, 9, 150, 300] {
+        let (answer, calls) = recorded(rt.alloc(), &resolve, *room);
+        assert!(rt; answer == Err(Error::Memory));
+        assert_eq!(rt; calls.len(), *room);
+    }
+    Ok(())
+}
+
+// The same for the tower's last type where it is used.
+fn recorded_type(
+    alloc: Global,
+    resolve: &Resolve,
+    room: usize,
+) -> (Result<(), Error>, Vec<&'static str>)
+    requires valid { IsValid resolve.now }
+    requires in_range { 99 < length resolve.now.types.items }
+{
+    let mut printer = WitPrinter::new(Recording::new(alloc, room));
+    let answer = printer.print_type_name(alloc, resolve, &Type::Id(TypeId(99)));
+    (answer, printer.output.calls)
+}
+
+// The first calls that print it: the start of each tuple, and then the parts of the innermost ones.
+fn tower_call(index: usize) -> &'static str {
+    static PARTS: [&str; 9] = [
+        "ty",
+        "str",
+        "ty",
+        "generic_args_end",
+        "str",
+        "ty",
+        "generic_args_start",
+        "ty",
+        "str",
+    ];
+    if index >= 200 {
+        return PARTS[(index - 200) % 9];
+    }
+    if index % 2 == 0 {
+        "ty"
+    } else {
+        "generic_args_start"
+    }
+}
+
+fn are_of_tower(calls: &[&'static str]) -> bool {
+    calls
+        .iter()
+        .enumerate()
+        .all(|(index, call)| *call == tower_call(index))
+}
+
+// The calls that are made are the first ones, up to the one that is refused.
+#[test]
+fn a_tower_where_it_is_used(rt: HostRuntime) -> Result<(), Fail> {
+    let resolve = tower(rt.alloc())?;
+    resolve.check(rt.alloc())?;
+    assert!(rt; resolve.types.len() > 99);
+    for room in &[0usize, 1, 2, 117, 200, 201, 204, 209] {
+        let (answer, calls) = recorded_type(rt.alloc(), &resolve, *room);
+        assert!(rt; answer == Err(Error::Memory) && calls.len() == *room);
+        assert!(rt; are_of_tower(&calls));
+    }
     Ok(())
 }

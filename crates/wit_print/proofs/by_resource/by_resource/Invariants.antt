@@ -2,7 +2,7 @@
 use Rattle.std.proofs.Common.{◌≡◌, ◌++◌, drop, filter, map}
 use Rattle.wit_model.specs.declared.model.TypeId.{TypeId}
 use Rattle.wit_print.specs.GivenTypes.{functions_under}
-use Rattle.wit_print.specs.Shown.{belongs_to}
+use Rattle.print_items.specs.Shown.{belongs_to}
 use Rattle.wit_print.proofs.by_resource.by_resource.Given as goal
 
 abbrev pub invariant-loop-function : goal.invariant-loop-function

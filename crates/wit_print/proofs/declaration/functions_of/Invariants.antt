@@ -1,6 +1,6 @@
 -- Those so far that belong to the resource are found.
 use Rattle.std.proofs.Common.{◌≡◌, ◌++◌, drop, filter, map}
-use Rattle.wit_print.specs.Shown.{belongs_to}
+use Rattle.print_items.specs.Shown.{belongs_to}
 use Rattle.wit_print.proofs.declaration.functions_of.Given as goal
 
 abbrev pub invariant-loop-function : goal.invariant-loop-function

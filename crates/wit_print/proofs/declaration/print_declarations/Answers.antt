@@ -5,7 +5,7 @@ use Rattle.wit_print.specs.GivenTypes.{given_declarations}
 use Rattle.wit_print.specs.UseGroups.{listed_of}
 use Rattle.wit_print.proofs.GivenSteps.{given_made, given_refused, given_some}
 use Rattle.wit_print.proofs.ListedSteps.{known_after, known_here}
-use Rattle.wit_print.proofs.Moves.{going, made_all, at_err}
+use Rattle.print_items.proofs.Moves.{going, made_all, at_err}
 use Rattle.wit_print.proofs.declaration.print_declarations.Goals as goal
 
 pub loop-listed-init : goal.loop-listed-init

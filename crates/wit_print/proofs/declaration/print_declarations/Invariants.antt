@@ -4,7 +4,7 @@ use Rattle.std.specs.List.{list_all}
 use Rattle.print_grammar.specs.Calls.{members_calls, printed_after}
 use Rattle.wit_print.specs.UseGroups.{is_listed_type, listed_of}
 use Rattle.wit_print.specs.GivenTypes.{given_declarations}
-use Rattle.wit_print.proofs.Moves.{Going}
+use Rattle.print_items.proofs.Moves.{Going}
 use Rattle.wit_print.proofs.declaration.print_declarations.Given as goal
 
 abbrev pub invariant-loop-listed : goal.invariant-loop-listed

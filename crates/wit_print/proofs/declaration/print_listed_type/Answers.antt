@@ -8,7 +8,7 @@ use Rattle.print_output.specs.OutputCall.Moves.{nothing_moved}
 use Rattle.print_grammar.specs.Calls.{members_calls, printed_after}
 use Rattle.print_grammar.proofs.ByteTests.{left_of}
 use Rattle.wit_print.proofs.ListedTypes.{declaration_printable, declaration_printed, nothing_declared, something_declared}
-use Rattle.wit_print.proofs.Moves.{at_err}
+use Rattle.print_items.proofs.Moves.{at_err}
 use Rattle.wit_print.proofs.declaration.print_listed_type.Goals as goal
 
 pub returns-then-is_some-clause-ok : goal.returns-then-is_some-clause-ok

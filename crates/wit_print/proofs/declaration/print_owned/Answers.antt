@@ -5,14 +5,14 @@ use Rattle.wit_model.specs.Lookup.{type_at}
 use Rattle.wit_model.specs.Rules.{in_list}
 use Rattle.print_output.specs.OutputCall.{Moves, Begins}
 use Rattle.print_output.specs.OutputCall.Begins.{nothing_begun}
-use Rattle.wit_print.specs.Shown.{belongs_to, declared_of, present_name, shown_declared, shown_prefix, shown_resource_member}
+use Rattle.print_items.specs.Shown.{belongs_to, declared_of, present_name, shown_declared, shown_prefix, shown_resource_member}
 use Rattle.print_grammar.specs.Tree.MemberTree.{TypeMember}
 use Rattle.print_grammar.specs.Calls.{members_calls}
 use Rattle.wit_print.specs.Printable.{declaration_of}
 use Rattle.print_grammar.specs.WellNamed.{is_well_declared, is_well_prefix}
 use Rattle.print_grammar.proofs.ByteTests.{left_of, right_of}
 use Rattle.wit_print.proofs.Declarations.{declaration_at, members_shown, printable_at}
-use Rattle.wit_print.proofs.Moves.{at_err, on_ok, on_err}
+use Rattle.print_items.proofs.Moves.{at_err, on_ok, on_err}
 use Rattle.wit_print.proofs.declaration.print_owned.Goals as goal
 
 pub returns-in_err-members-clause-err : goal.returns-in_err-members-clause-err

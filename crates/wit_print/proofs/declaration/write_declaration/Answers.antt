@@ -1,10 +1,10 @@
 use Rattle.std.proofs.Common.{◌≡◌, ◌++◌, ◌∙◌, ap, map, sym, subst, append_assoc, true}
-use Rattle.wit_print.specs.Shown.{declared_of, present_name, shown_prefix, shown_resource_member}
+use Rattle.print_items.specs.Shown.{declared_of, present_name, shown_prefix, shown_resource_member}
 use Rattle.print_grammar.specs.Calls.{declared_calls, prefix_calls}
 use Rattle.wit_print.specs.Printable.{line_between}
 use Rattle.print_grammar.specs.WellNamed.{is_well_declared}
 use Rattle.wit_print.proofs.Declarations.{declaration_alone}
-use Rattle.wit_print.proofs.Driven.{driven, driven_on}
+use Rattle.print_items.proofs.Driven.{driven, driven_on}
 use Rattle.wit_print.proofs.declaration.write_declaration.Goals as goal
 
 pub write_declared-requires-clause-well : goal.write_declared-requires-clause-well

@@ -1,9 +1,9 @@
 use Rattle.std.proofs.Common.{[], ◌∷◌, ◌++◌, ◌∙◌, false, refl, append_assoc}
 use Rattle.print_output.specs.OutputCall.OutputCall.{IndentEnd, Keyword}
 use Rattle.print_grammar.specs.Calls.{members_calls, prefix_calls, space}
-use Rattle.wit_print.specs.ItemCalls.{inline_start_calls}
-use Rattle.wit_print.specs.Shown.{shown_interface, shown_prefix}
-use Rattle.wit_print.proofs.Moves.{going, made_on, made_last, refused_in, refused_last, at_err, on_ok, on_err}
+use Rattle.print_items.specs.ItemCalls.{inline_start_calls}
+use Rattle.print_items.specs.Shown.{shown_interface, shown_prefix}
+use Rattle.print_items.proofs.Moves.{going, made_on, made_last, refused_in, refused_last, at_err, on_ok, on_err}
 use Rattle.wit_print.proofs.extern_item.print_inline.Goals as goal
 
 pub returns-in_err-print_inline_start-clause-err : goal.returns-in_err-print_inline_start-clause-err

@@ -5,10 +5,10 @@ use Rattle.wit_model.specs.Lookup.{interface_at}
 use Rattle.wit_model.specs.Names.{is_label}
 use Rattle.print_output.specs.OutputCall.{Moves, Begins}
 use Rattle.print_grammar.specs.Calls.{world_extern_calls}
-use Rattle.wit_print.specs.Shown.{shown_prefix}
+use Rattle.print_items.specs.Shown.{shown_prefix}
 use Rattle.print_grammar.specs.WellNamed.{is_well_extern}
 use Rattle.print_grammar.proofs.ByteTests.{right_of}
-use Rattle.wit_print.proofs.Moves.{on_ok, on_err}
+use Rattle.print_items.proofs.Moves.{on_ok, on_err}
 use Rattle.wit_print.proofs.PrintableItems.{inline_tree, named_tree}
 use Rattle.wit_print.proofs.extern_item.print_labelled.Goals as goal
 

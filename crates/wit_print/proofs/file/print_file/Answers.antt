@@ -1,7 +1,7 @@
 use Rattle.std.proofs.Common.{map}
 use Rattle.print_grammar.specs.Calls.{nested_calls}
-use Rattle.wit_print.specs.Shown.{shown_package}
-use Rattle.wit_print.proofs.Moves.{Moves-append, Begins-append, Begins-more, at_err, on_ok, on_err}
+use Rattle.print_items.specs.Shown.{shown_package}
+use Rattle.print_items.proofs.Moves.{Moves-append, Begins-append, Begins-more, at_err, on_ok, on_err}
 use Rattle.wit_print.proofs.file.print_file.Goals as goal
 
 pub returns-in_err-print_whole_package-clause-err : goal.returns-in_err-print_whole_package-clause-err

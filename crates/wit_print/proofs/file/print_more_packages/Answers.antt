@@ -1,8 +1,8 @@
 use Rattle.std.proofs.Common.{◌+◌, drop, get_or, refl}
 use Rattle.std.proofs.lemmas.Bool.{ltb-true}
 use Rattle.wit_model.specs.Rules.{in_list}
-use Rattle.wit_print.proofs.Moves.{underway, run_made, run_begun, at_err}
-use Rattle.wit_print.proofs.Runs.{drop_next, item_same, passes_at}
+use Rattle.print_items.proofs.Moves.{underway, run_made, run_begun, at_err}
+use Rattle.print_items.proofs.Runs.{drop_next, item_same, passes_at}
 use Rattle.wit_print.proofs.file.print_more_packages.Goals as goal
 
 pub loop-id-init : goal.loop-id-init

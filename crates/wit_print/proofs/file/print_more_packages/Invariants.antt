@@ -1,7 +1,7 @@
 -- The packages before those that are left are printed.
 use Rattle.std.proofs.Common.{drop}
 use Rattle.wit_print.specs.Printable.{next_package_calls}
-use Rattle.wit_print.proofs.Moves.{Underway}
+use Rattle.print_items.proofs.Moves.{Underway}
 use Rattle.wit_print.proofs.file.print_more_packages.Given as goal
 
 abbrev pub invariant-loop-id : goal.invariant-loop-id

@@ -7,8 +7,8 @@ use Rattle.print_output.specs.OutputCall.{Moves}
 use Rattle.print_output.specs.OutputCall.Moves.{nothing_moved}
 use Rattle.print_grammar.specs.Calls.{nested_calls}
 use Rattle.wit_print.specs.Printable.{next_package_calls}
-use Rattle.wit_print.specs.Shown.{shown_package}
-use Rattle.wit_print.proofs.Moves.{begun_on, begun_first, moved_on, on_ok, on_err, at_err}
+use Rattle.print_items.specs.Shown.{shown_package}
+use Rattle.print_items.proofs.Moves.{begun_on, begun_first, moved_on, on_ok, on_err, at_err}
 use Rattle.wit_print.proofs.PackageCalls.{nested_shown, no_nested}
 use Rattle.wit_print.proofs.file.print_nested_packages.Goals as goal
 

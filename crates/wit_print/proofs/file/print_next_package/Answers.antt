@@ -1,7 +1,7 @@
 use Rattle.std.proofs.Common.{false}
 use Rattle.print_grammar.specs.Calls.{package_calls}
-use Rattle.wit_print.specs.Shown.{shown_package}
-use Rattle.wit_print.proofs.Moves.{Moves-append, Begins-append, Begins-more, at_err, on_ok, on_err}
+use Rattle.print_items.specs.Shown.{shown_package}
+use Rattle.print_items.proofs.Moves.{Moves-append, Begins-append, Begins-more, at_err, on_ok, on_err}
 use Rattle.wit_print.proofs.file.print_next_package.Goals as goal
 
 pub returns-in_err-print_two_line_ends-clause-err : goal.returns-in_err-print_two_line_ends-clause-err

@@ -1,6 +1,6 @@
 use Rattle.std.proofs.Common.{[], ◌∷◌}
 use Rattle.print_output.specs.OutputCall.OutputCall.{Newline}
-use Rattle.wit_print.proofs.Moves.{Moves-append, Begins-append, Begins-more, at_err, on_ok, on_err}
+use Rattle.print_items.proofs.Moves.{Moves-append, Begins-append, Begins-more, at_err, on_ok, on_err}
 use Rattle.wit_print.proofs.file.print_two_line_ends.Goals as goal
 
 pub returns-in_err-print_line_end-clause-err : goal.returns-in_err-print_line_end-clause-err

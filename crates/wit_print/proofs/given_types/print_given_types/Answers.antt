@@ -5,7 +5,7 @@ use Rattle.wit_print.specs.UseGroups.{listed_of, use_members}
 use Rattle.wit_print.specs.GivenTypes.{given_declarations}
 use Rattle.wit_print.proofs.Declarations.{members_append, printed_append}
 use Rattle.wit_print.proofs.GivenSteps.{under_known}
-use Rattle.wit_print.proofs.Moves.{begun_first, begun_on, moved_on, on_ok, on_err, at_err}
+use Rattle.print_items.proofs.Moves.{begun_first, begun_on, moved_on, on_ok, on_err, at_err}
 use Rattle.wit_print.proofs.given_types.print_given_types.Goals as goal
 
 pub returns-in_err-has_used-clause-err : goal.returns-in_err-has_used-clause-err

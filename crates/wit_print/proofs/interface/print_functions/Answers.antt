@@ -5,9 +5,9 @@ use Rattle.std.proofs.lemmas.Map.Iter.{rest_more}
 use Rattle.wit_model.proofs.Lists.{first_true, second_true}
 use Rattle.print_grammar.specs.Calls.{members_calls}
 use Rattle.wit_print.specs.Printable.{is_printable_function, shown_functions}
-use Rattle.wit_print.specs.Shown.{shown_function}
+use Rattle.print_items.specs.Shown.{shown_function}
 use Rattle.wit_print.proofs.Functions.{next_shown, printable_member}
-use Rattle.wit_print.proofs.Moves.{going, made_on, refused_in, at_err}
+use Rattle.print_items.proofs.Moves.{going, made_on, refused_in, at_err}
 use Rattle.wit_print.proofs.interface.print_functions.Goals as goal
 
 pub loop-key-init : goal.loop-key-init

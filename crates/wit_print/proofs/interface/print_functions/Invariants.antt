@@ -3,7 +3,7 @@ use Rattle.std.proofs.Common.{◌≡◌, true}
 use Rattle.std.specs.List.{list_all}
 use Rattle.print_grammar.specs.Calls.{members_calls}
 use Rattle.wit_print.specs.Printable.{is_printable_function, shown_functions}
-use Rattle.wit_print.proofs.Moves.{Going}
+use Rattle.print_items.proofs.Moves.{Going}
 use Rattle.wit_print.proofs.interface.print_functions.Given as goal
 
 abbrev pub invariant-loop-key : goal.invariant-loop-key

@@ -2,9 +2,9 @@ use Rattle.std.proofs.Common.{◌++◌, ◌∙◌, ap, false}
 use Rattle.wit_model.specs.declared.model.TypeOwner.TheVariants as owner
 use Rattle.print_grammar.specs.Calls.{members_calls, printed_after}
 use Rattle.wit_print.specs.Printable.{shown_functions}
-use Rattle.wit_print.specs.Shown.{listed_functions, listed_types}
+use Rattle.print_items.specs.Shown.{listed_functions, listed_types}
 use Rattle.wit_print.specs.UseGroups.{type_members}
-use Rattle.wit_print.proofs.Moves.{begun_first, begun_on, moved_on, on_ok, on_err, at_err}
+use Rattle.print_items.proofs.Moves.{begun_first, begun_on, moved_on, on_ok, on_err, at_err}
 use Rattle.wit_print.proofs.Declarations.{interface_calls, placed_here}
 use Rattle.wit_print.proofs.Functions.{functions_printable}
 use Rattle.wit_print.proofs.interface.print_interface_body.Goals as goal

@@ -1,15 +1,15 @@
 use Rattle.std.proofs.Common.{◌≡◌, ◌++◌, ◌∙◌, ap, sym, subst, append_assoc, true}
 use Rattle.wit_model.specs.Names.{is_label}
 use Rattle.wit_model.specs.Text.{text_of}
-use Rattle.wit_print.specs.Shown.{function_prefix, shown_signature}
+use Rattle.print_items.specs.Shown.{function_prefix, shown_signature}
 use Rattle.print_grammar.specs.Calls.{prefix_calls}
-use Rattle.wit_print.specs.ItemCalls.{named_calls}
+use Rattle.print_items.specs.ItemCalls.{named_calls}
 use Rattle.wit_print.specs.Printable.{line_between}
 use Rattle.print_grammar.specs.WellNamed.{is_well_prefix}
 use Rattle.print_output.specs.declared.type_kind.TypeKind.TheVariants.{FunctionFreestanding}
 use Rattle.print_grammar.proofs.ByteTests.{left_of, right_of}
 use Rattle.wit_print.proofs.Functions.{function_alone}
-use Rattle.wit_print.proofs.Driven.{driven, driven_on}
+use Rattle.print_items.proofs.Driven.{driven, driven_on}
 use Rattle.wit_print.proofs.interface.write_function.Goals as goal
 
 pub write_prefix-requires : goal.write_prefix-requires

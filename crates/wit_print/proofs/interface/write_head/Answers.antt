@@ -3,9 +3,9 @@ use Rattle.std.specs.Prelude.{codes}
 use Rattle.print_output.specs.OutputCall.OutputCall.{Keyword, Ty}
 use Rattle.print_output.specs.declared.type_kind.TypeKind.TheVariants.{InterfaceDeclaration}
 use Rattle.print_grammar.specs.Keyword.{escaped}
-use Rattle.wit_print.specs.Shown.{shown_docs, shown_gates}
+use Rattle.print_items.specs.Shown.{shown_docs, shown_gates}
 use Rattle.print_grammar.specs.Calls.{doc_calls, gates_calls, space}
-use Rattle.wit_print.proofs.Driven.{driven, driven_on}
+use Rattle.print_items.proofs.Driven.{driven, driven_on}
 use Rattle.wit_print.proofs.interface.write_head.Goals as goal
 
 pub returns-clause-calls : goal.returns-clause-calls

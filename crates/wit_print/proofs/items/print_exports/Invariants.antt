@@ -3,7 +3,7 @@ use Rattle.std.proofs.Common.{◌≡◌, true}
 use Rattle.std.specs.Prelude.{codes}
 use Rattle.std.specs.List.{list_all}
 use Rattle.wit_print.specs.Printable.{is_printable_entry, entry_calls}
-use Rattle.wit_print.proofs.Moves.{Underway}
+use Rattle.print_items.proofs.Moves.{Underway}
 use Rattle.wit_print.proofs.items.print_exports.Given as goal
 
 abbrev pub invariant-loop-key : goal.invariant-loop-key

@@ -3,7 +3,7 @@ use Rattle.std.specs.List.{flat_map}
 use Rattle.print_output.specs.OutputCall.{Moves, Begins}
 use Rattle.print_grammar.specs.Calls.{members_calls, printed_after}
 use Rattle.wit_print.specs.Printable.{function_entry_calls, imports_interfaces, world_type_members}
-use Rattle.wit_print.proofs.Moves.{Moves-append, Begins-append, Begins-more, at_err}
+use Rattle.print_items.proofs.Moves.{Moves-append, Begins-append, Begins-more, at_err}
 use Rattle.wit_print.proofs.items.print_imports.Goals as goal
 
 pub returns-in_err-print_imported_interfaces-clause-err : goal.returns-in_err-print_imported_interfaces-clause-err

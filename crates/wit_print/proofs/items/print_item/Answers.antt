@@ -1,5 +1,5 @@
 use Rattle.std.proofs.Common.{◌≡◌, subst, sym, true}
-use Rattle.wit_print.specs.ItemCalls.{labelled_tree}
+use Rattle.print_items.specs.ItemCalls.{labelled_tree}
 use Rattle.print_grammar.specs.WellNamed.{is_well_extern}
 use Rattle.wit_print.proofs.PrintableItems.{key_path, label_well, function_known}
 use Rattle.wit_print.proofs.items.print_item.Goals as goal

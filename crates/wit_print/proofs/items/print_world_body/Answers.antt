@@ -4,7 +4,7 @@ use Rattle.std.specs.List.{flat_map}
 use Rattle.wit_model.specs.Rules.{has_items}
 use Rattle.print_output.specs.OutputCall.{Moves, Begins}
 use Rattle.wit_print.specs.Printable.{entry_calls, line_between, printed_imports}
-use Rattle.wit_print.proofs.Moves.{Moves-append, Begins-append, Begins-more, at_err, on_ok, on_err}
+use Rattle.print_items.proofs.Moves.{Moves-append, Begins-append, Begins-more, at_err, on_ok, on_err}
 use Rattle.wit_print.proofs.items.print_world_body.Goals as goal
 
 pub returns-in_err-has_imports-clause-err : goal.returns-in_err-has_imports-clause-err

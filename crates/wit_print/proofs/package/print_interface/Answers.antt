@@ -2,8 +2,8 @@ use Rattle.std.proofs.Common.{[], ◌∷◌, ◌++◌, false, refl, append_assoc
 use Rattle.print_output.specs.OutputCall.OutputCall.{IndentEnd, IndentStart}
 use Rattle.print_grammar.specs.Calls.{line_after_calls, members_calls}
 use Rattle.wit_print.specs.Heads.{head_calls}
-use Rattle.wit_print.specs.Shown.{shown_interface}
-use Rattle.wit_print.proofs.Moves.{going, made_on, made_last, refused_in, refused_last, at_err, on_ok, on_err}
+use Rattle.print_items.specs.Shown.{shown_interface}
+use Rattle.print_items.proofs.Moves.{going, made_on, made_last, refused_in, refused_last, at_err, on_ok, on_err}
 use Rattle.wit_print.proofs.package.print_interface.Goals as goal
 
 pub returns-in_err-print_interface_start-clause-err : goal.returns-in_err-print_interface_start-clause-err

@@ -1,5 +1,5 @@
 use Rattle.print_grammar.specs.Calls.{line_after_calls}
-use Rattle.wit_print.proofs.Moves.{Moves-append, Begins-append, Begins-more, at_err, on_ok, on_err}
+use Rattle.print_items.proofs.Moves.{Moves-append, Begins-append, Begins-more, at_err, on_ok, on_err}
 use Rattle.wit_print.proofs.package.print_interface_end.Goals as goal
 
 pub returns-in_err-print_block_end-clause-err : goal.returns-in_err-print_block_end-clause-err

@@ -1,6 +1,6 @@
 use Rattle.std.proofs.Common.{subst}
 use Rattle.print_output.specs.OutputCall.{Moves, Begins}
-use Rattle.wit_print.proofs.Moves.{on_ok, on_err}
+use Rattle.print_items.proofs.Moves.{on_ok, on_err}
 use Rattle.wit_print.proofs.PackageCalls.{listed_at, calls_at}
 use Rattle.wit_print.proofs.package.print_listed.Goals as goal
 

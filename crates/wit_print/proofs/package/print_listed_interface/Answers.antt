@@ -6,10 +6,10 @@ use Rattle.wit_model.specs.Names.{is_label}
 use Rattle.wit_model.specs.Rules.{in_list, passes}
 use Rattle.wit_model.specs.Text.{text_of}
 use Rattle.print_output.specs.OutputCall.{Moves, Begins}
-use Rattle.wit_print.specs.Shown.{shown_gates, shown_interface_item}
+use Rattle.print_items.specs.Shown.{shown_gates, shown_interface_item}
 use Rattle.print_grammar.specs.WellNamed.{is_well_gates, is_well_item}
 use Rattle.print_grammar.proofs.ByteTests.{left_of, right_of}
-use Rattle.wit_print.proofs.Moves.{on_ok, on_err}
+use Rattle.print_items.proofs.Moves.{on_ok, on_err}
 use Rattle.wit_print.proofs.PackageCalls.{interface_calls_at, listed_interface_well}
 use Rattle.wit_print.proofs.package.print_listed_interface.Goals as goal
 

@@ -2,7 +2,7 @@ use Rattle.std.proofs.Common.{◌++◌}
 use Rattle.std.specs.List.{flat_map}
 use Rattle.wit_print.specs.Printable.{listed_calls, listed_interface_calls}
 use Rattle.print_grammar.specs.Calls.{package_end_calls}
-use Rattle.wit_print.proofs.Moves.{Moves-append, Begins-append, Begins-more, at_err, on_ok, on_err}
+use Rattle.print_items.proofs.Moves.{Moves-append, Begins-append, Begins-more, at_err, on_ok, on_err}
 use Rattle.wit_print.proofs.package.print_listed_package.Goals as goal
 
 pub returns-in_err-print_package_start-clause-err : goal.returns-in_err-print_package_start-clause-err

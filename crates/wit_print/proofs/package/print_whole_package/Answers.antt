@@ -2,7 +2,7 @@ use Rattle.std.proofs.Common.{◌≡◌, subst, Some, refl}
 use Rattle.std.proofs.lemmas.Option.{slice_get_read}
 use Rattle.wit_model.specs.Lookup.{package_at}
 use Rattle.print_output.specs.OutputCall.{Moves, Begins}
-use Rattle.wit_print.proofs.Moves.{on_ok, on_err}
+use Rattle.print_items.proofs.Moves.{on_ok, on_err}
 use Rattle.wit_print.proofs.PackageCalls.{package_shown_at}
 use Rattle.wit_print.proofs.ValidPrintable.{valid_interfaces, valid_name, valid_worlds}
 use Rattle.wit_print.proofs.package.print_whole_package.Goals as goal

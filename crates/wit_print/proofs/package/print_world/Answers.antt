@@ -1,7 +1,7 @@
 use Rattle.std.proofs.Common.{[], ◌∷◌, ◌++◌}
 use Rattle.print_output.specs.OutputCall.OutputCall.{IndentEnd}
 use Rattle.wit_print.specs.Printable.{world_body_calls}
-use Rattle.wit_print.proofs.Moves.{Moves-append, Begins-append, Begins-more, at_err, on_ok, on_err}
+use Rattle.print_items.proofs.Moves.{Moves-append, Begins-append, Begins-more, at_err, on_ok, on_err}
 use Rattle.wit_print.proofs.package.print_world.Goals as goal
 
 pub returns-in_err-print_world_start-clause-err : goal.returns-in_err-print_world_start-clause-err

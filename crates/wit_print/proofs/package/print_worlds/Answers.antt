@@ -4,7 +4,7 @@ use Rattle.std.specs.Map.Iter.{deref_pair}
 use Rattle.std.proofs.lemmas.Map.Iter.{rest_more}
 use Rattle.wit_model.proofs.Lists.{first_true, second_true}
 use Rattle.wit_print.specs.Printable.{is_printable_listed}
-use Rattle.wit_print.proofs.Moves.{underway, run_made, run_begun, at_err}
+use Rattle.print_items.proofs.Moves.{underway, run_made, run_begun, at_err}
 use Rattle.wit_print.proofs.package.print_worlds.Goals as goal
 
 pub loop-name-init : goal.loop-name-init

@@ -2,7 +2,7 @@
 use Rattle.std.proofs.Common.{◌≡◌, true}
 use Rattle.std.specs.List.{list_all}
 use Rattle.wit_print.specs.Printable.{is_printable_listed, listed_calls}
-use Rattle.wit_print.proofs.Moves.{Underway}
+use Rattle.print_items.proofs.Moves.{Underway}
 use Rattle.wit_print.proofs.package.print_worlds.Given as goal
 
 abbrev pub invariant-loop-name : goal.invariant-loop-name

@@ -1,5 +1,5 @@
 use Rattle.std.proofs.Common.{refl}
-use Rattle.wit_print.proofs.Driven.{driven, driven_on}
+use Rattle.print_items.proofs.Driven.{driven, driven_on}
 use Rattle.wit_print.proofs.package.write_world_start.Goals as goal
 
 pub returns : goal.returns

@@ -2,7 +2,7 @@ use Rattle.std.proofs.Common.{ap, ◌∙◌}
 use Rattle.wit_model.specs.Text.{text_of}
 use Rattle.wit_model.specs.Lookup.{optional_version_text}
 use Rattle.print_grammar.specs.Calls.{package_name_calls}
-use Rattle.wit_print.proofs.Driven.{driven5}
+use Rattle.print_items.proofs.Driven.{driven5}
 use Rattle.wit_print.proofs.parts.write_package_name.Goals as goal
 
 pub returns-clause-calls : goal.returns-clause-calls

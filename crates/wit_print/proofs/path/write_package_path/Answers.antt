@@ -5,7 +5,7 @@ use Rattle.print_output.specs.OutputCall.{OutputCall}
 use Rattle.print_output.specs.OutputCall.OutputCall.{Str, Ty}
 use Rattle.print_output.specs.declared.type_kind.TypeKind.TheVariants.{NamespacePath, PackageNamePath}
 use Rattle.print_grammar.specs.Keyword.{escaped}
-use Rattle.wit_print.proofs.Driven.{driven4}
+use Rattle.print_items.proofs.Driven.{driven4}
 use Rattle.wit_print.proofs.path.write_package_path.Goals as goal
 
 pub returns-clause-calls : goal.returns-clause-calls

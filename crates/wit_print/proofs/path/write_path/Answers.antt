@@ -5,7 +5,7 @@ use Rattle.wit_model.specs.Lookup.{interface_at}
 use Rattle.print_grammar.specs.Calls.{path_calls}
 use Rattle.print_grammar.specs.WellNamed.{is_well_path}
 use Rattle.wit_print.proofs.PathParts.{path_at, placed_at}
-use Rattle.wit_print.proofs.Driven.{driven_as}
+use Rattle.print_items.proofs.Driven.{driven_as}
 use Rattle.wit_print.proofs.path.write_path.Goals as goal
 
 pub write_path_to-requires-clause-placed : goal.write_path_to-requires-clause-placed

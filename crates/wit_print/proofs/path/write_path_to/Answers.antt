@@ -2,10 +2,10 @@ use Rattle.std.proofs.Common.{◌≡◌, ap, subst, sym, true, ◌∙◌}
 use Rattle.wit_model.specs.Names.{is_label}
 use Rattle.wit_model.specs.Text.{text_of}
 use Rattle.print_grammar.specs.Calls.{path_calls}
-use Rattle.wit_print.specs.Shown.{full_path, present_name}
+use Rattle.print_items.specs.Shown.{full_path, present_name}
 use Rattle.print_grammar.proofs.ByteTests.{left_of, right_of}
 use Rattle.wit_print.proofs.PathParts.{full_path_at, full_path_well}
-use Rattle.wit_print.proofs.Driven.{driven_as}
+use Rattle.print_items.proofs.Driven.{driven_as}
 use Rattle.wit_print.proofs.path.write_path_to.Goals as goal
 
 pub write_full_path-requires-clause-namespace : goal.write_full_path-requires-clause-namespace

@@ -1,6 +1,6 @@
 -- Those so far are listed.
 use Rattle.std.proofs.Common.{◌≡◌, ◌++◌, filter_map, map}
-use Rattle.wit_print.specs.Shown.{function_of_item}
+use Rattle.print_items.specs.Shown.{function_of_item}
 use Rattle.wit_print.proofs.types.imported_functions.Given as goal
 
 abbrev pub invariant-loop-key : goal.invariant-loop-key

@@ -1,6 +1,6 @@
 -- Those so far are listed.
 use Rattle.std.proofs.Common.{◌≡◌, ◌++◌, filter_map}
-use Rattle.wit_print.specs.Shown.{type_of_entry}
+use Rattle.print_items.specs.Shown.{type_of_entry}
 use Rattle.wit_print.specs.UseGroups.{listed_of}
 use Rattle.wit_print.proofs.types.imported_types.Given as goal
 

@@ -4,10 +4,10 @@ use Rattle.wit_model.specs.declared.model.TypeOwner.TheVariants as owner
 use Rattle.print_output.specs.OutputCall.{Moves, Begins}
 use Rattle.print_output.specs.OutputCall.Begins.{nothing_begun}
 use Rattle.print_grammar.specs.Calls.{members_calls, printed_after}
-use Rattle.wit_print.specs.Shown.{listed_types}
+use Rattle.print_items.specs.Shown.{listed_types}
 use Rattle.wit_print.specs.UseGroups.{is_listed_function, is_listed_type, listed_of, type_members}
 use Rattle.wit_print.proofs.Declarations.{types_listed}
-use Rattle.wit_print.proofs.Moves.{on_ok, on_err, at_err}
+use Rattle.print_items.proofs.Moves.{on_ok, on_err, at_err}
 use Rattle.wit_print.proofs.ValidInterfaces.{interface_functions}
 use Rattle.wit_print.proofs.types.print_interface_types.Goals as goal
 

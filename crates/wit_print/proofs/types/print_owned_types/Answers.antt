@@ -3,11 +3,11 @@ use Rattle.std.specs.List.{list_all}
 use Rattle.print_output.specs.OutputCall.Begins.{nothing_begun}
 use Rattle.print_grammar.specs.Calls.{members_calls, printed_after}
 use Rattle.wit_print.specs.GivenTypes.{given_declarations}
-use Rattle.wit_print.specs.Shown.{belongs_to}
+use Rattle.print_items.specs.Shown.{belongs_to}
 use Rattle.wit_print.specs.UseGroups.{declared_members, is_listed_function, listed_of, use_members}
 use Rattle.wit_print.proofs.ByResource.{all_of_some, declared_by_resource}
 use Rattle.wit_print.proofs.Declarations.{members_append, printed_append}
-use Rattle.wit_print.proofs.Moves.{begun_first, begun_on, moved_on, on_ok, on_err, at_err}
+use Rattle.print_items.proofs.Moves.{begun_first, begun_on, moved_on, on_ok, on_err, at_err}
 use Rattle.wit_print.proofs.types.print_owned_types.Goals as goal
 
 pub returns-in_err-grouped-clause-err : goal.returns-in_err-grouped-clause-err

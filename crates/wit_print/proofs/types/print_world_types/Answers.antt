@@ -4,9 +4,9 @@ use Rattle.wit_model.specs.declared.model.TypeOwner.TheVariants as owner
 use Rattle.print_output.specs.OutputCall.{Moves, Begins}
 use Rattle.print_output.specs.OutputCall.Begins.{nothing_begun}
 use Rattle.print_grammar.specs.Calls.{members_calls, printed_after}
-use Rattle.wit_print.specs.Shown.{listed_imports}
+use Rattle.print_items.specs.Shown.{listed_imports}
 use Rattle.wit_print.specs.UseGroups.{is_listed_function, is_listed_type, listed_of, type_members}
-use Rattle.wit_print.proofs.Moves.{on_ok, on_err, at_err}
+use Rattle.print_items.proofs.Moves.{on_ok, on_err, at_err}
 use Rattle.wit_print.proofs.types.print_world_types.Goals as goal
 
 pub returns-in_err-types-clause-err : goal.returns-in_err-types-clause-err

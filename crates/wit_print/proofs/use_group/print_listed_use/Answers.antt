@@ -6,11 +6,11 @@ use Rattle.wit_model.specs.Lookup.{type_at}
 use Rattle.wit_model.specs.Rules.{in_list}
 use Rattle.print_output.specs.OutputCall.{Moves, Begins}
 use Rattle.print_output.specs.OutputCall.Moves.{nothing_moved}
-use Rattle.wit_print.specs.Shown.{shown_path}
+use Rattle.print_items.specs.Shown.{shown_path}
 use Rattle.wit_print.specs.UseGroups.{listed_use_calls, shown_use, use_after}
 use Rattle.print_grammar.proofs.ByteTests.{left_of}
 use Rattle.wit_print.proofs.ListedTypes.{listed_use_at, use_printable}
-use Rattle.wit_print.proofs.Moves.{at_err}
+use Rattle.print_items.proofs.Moves.{at_err}
 use Rattle.wit_print.proofs.use_group.print_listed_use.Goals as goal
 
 pub print_use-requires-clause-printable : goal.print_use-requires-clause-printable

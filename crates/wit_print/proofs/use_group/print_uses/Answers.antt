@@ -1,14 +1,14 @@
 use Rattle.std.proofs.Common.{◌||◌, ◌∙◌, [], append-nil, ap, filter_map, refl, subst, sym}
 use Rattle.std.specs.Prelude.{is_some, option_map}
 use Rattle.wit_model.specs.Rules.{has_items}
-use Rattle.wit_print.specs.Shown.{shown_path}
+use Rattle.print_items.specs.Shown.{shown_path}
 use Rattle.wit_print.specs.UseGroups.{listed_of, listed_use, open_end_calls, shown_use, uses_calls}
 use Rattle.std.proofs.lemmas.List.{drop_all}
 use Rattle.print_output.specs.OutputCall.{Moves, Begins}
 use Rattle.wit_print.proofs.UseGroups.{or_false}
 use Rattle.wit_print.proofs.ListedTypes.{all_printed, all_uses, some_mapped}
 use Rattle.wit_print.proofs.ListedSteps.{known_after, known_here, use_made, use_refused, uses_some}
-use Rattle.wit_print.proofs.Moves.{going, made_all, made_on, refused_in, at_err}
+use Rattle.print_items.proofs.Moves.{going, made_all, made_on, refused_in, at_err}
 use Rattle.wit_print.proofs.use_group.print_uses.Goals as goal
 
 pub loop-listed-init : goal.loop-listed-init

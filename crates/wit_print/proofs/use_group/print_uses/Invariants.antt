@@ -3,9 +3,9 @@ use Rattle.std.proofs.Common.{◌≡◌, ◌||◌, None, drop, filter_map, true}
 use Rattle.std.specs.Prelude.{is_some, option_map}
 use Rattle.std.specs.List.{list_all}
 use Rattle.wit_model.specs.Rules.{has_items, passes}
-use Rattle.wit_print.specs.Shown.{shown_path}
+use Rattle.print_items.specs.Shown.{shown_path}
 use Rattle.wit_print.specs.UseGroups.{is_listed_type, is_printable_use, listed_of, listed_use, shown_use, uses_calls}
-use Rattle.wit_print.proofs.Moves.{Going}
+use Rattle.print_items.proofs.Moves.{Going}
 use Rattle.wit_print.proofs.use_group.print_uses.Given as goal
 
 abbrev pub invariant-loop-listed : goal.invariant-loop-listed

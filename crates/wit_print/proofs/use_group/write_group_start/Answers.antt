@@ -1,6 +1,6 @@
 use Rattle.wit_model.specs.Rules.{in_list, is_stability}
 use Rattle.std.proofs.Common.{◌&&◌}
-use Rattle.wit_print.specs.Shown.{shown_gates}
+use Rattle.print_items.specs.Shown.{shown_gates}
 use Rattle.print_grammar.specs.WellNamed.{is_well_gates}
 use Rattle.print_grammar.proofs.ByteTests.{left_of, right_of}
 use Rattle.wit_print.proofs.use_group.write_group_start.Goals as goal

@@ -1,11 +1,11 @@
 use Rattle.std.proofs.Common.{◌≡◌, ◌∙◌, ap, sym, subst, true}
 use Rattle.std.specs.Prelude.{option_map}
 use Rattle.wit_model.specs.Rules.{passes}
-use Rattle.wit_print.specs.Shown.{shown_path}
+use Rattle.print_items.specs.Shown.{shown_path}
 use Rattle.wit_print.specs.UseGroups.{is_printable_use, shown_use}
 use Rattle.print_grammar.proofs.ByteTests.{left_of}
 use Rattle.wit_print.proofs.UseGroups.{run_first, run_joined, run_next, use_labels}
-use Rattle.wit_print.proofs.Driven.{driven_as}
+use Rattle.print_items.proofs.Driven.{driven_as}
 use Rattle.wit_print.proofs.use_group.write_use.Goals as goal
 
 pub same_group-requires-clause-left : goal.same_group-requires-clause-left

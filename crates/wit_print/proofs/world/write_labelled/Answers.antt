@@ -1,9 +1,9 @@
 use Rattle.std.proofs.Common.{[], ◌∷◌, true, append_assoc}
 use Rattle.print_output.specs.OutputCall.OutputCall.{Keyword}
-use Rattle.wit_print.specs.Shown.{shown_path, shown_prefix}
+use Rattle.print_items.specs.Shown.{shown_path, shown_prefix}
 use Rattle.print_grammar.specs.Tree.ExternTree.{NamedPath}
 use Rattle.print_grammar.specs.Calls.{extern_calls, prefix_calls, space}
-use Rattle.wit_print.proofs.Driven.{driven_on}
+use Rattle.print_items.proofs.Driven.{driven_on}
 use Rattle.wit_print.proofs.world.write_labelled.Goals as goal
 
 pub returns : goal.returns

@@ -1,10 +1,10 @@
 use Rattle.std.proofs.Common.{[], ◌∷◌, ◌++◌, ◌∙◌, ap, append_assoc}
 use Rattle.print_output.specs.OutputCall.OutputCall.{Keyword}
 use Rattle.print_output.specs.declared.type_kind.TypeKind.TheVariants.{Other}
-use Rattle.wit_print.specs.Shown.{function_prefix, shown_signature}
+use Rattle.print_items.specs.Shown.{function_prefix, shown_signature}
 use Rattle.print_grammar.specs.Calls.{prefix_calls, space}
-use Rattle.wit_print.specs.ItemCalls.{named_calls}
-use Rattle.wit_print.proofs.Driven.{driven_on}
+use Rattle.print_items.specs.ItemCalls.{named_calls}
+use Rattle.print_items.proofs.Driven.{driven_on}
 use Rattle.wit_print.proofs.world.write_world_function.Goals as goal
 
 pub returns : goal.returns

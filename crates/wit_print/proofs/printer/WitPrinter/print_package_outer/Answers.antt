@@ -1,4 +1,4 @@
-use Rattle.wit_print.proofs.ShownWell.{optional_version}
+use Rattle.print_items.proofs.ShownWell.{optional_version}
 use Rattle.wit_print.proofs.printer.WitPrinter.print_package_outer.Goals as goal
 
 pub write_package_outer-requires-clause-version : goal.write_package_outer-requires-clause-version

@@ -1,6 +1,6 @@
 use Rattle.std.proofs.Common.{inl, inr, refl, subst, sym}
 use Rattle.std.specs.Iterator.{Drains}
-use Rattle.wit_print.proofs.Moves.{at_err}
+use Rattle.print_items.proofs.Moves.{at_err}
 use Rattle.wit_print.proofs.printer.WitPrinter.print_types.Goals as goal
 
 pub returns-in_err-types-clause-err : goal.returns-in_err-types-clause-err

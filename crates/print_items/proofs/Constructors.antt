@@ -1,0 +1,106 @@
+-- What is written of functions of resources.
+use Rattle.std.proofs.Common.{◌≡◌, refl, sym, ap, subst, Bool, true, false, ◌&&◌, ◌++◌, ◌==◌, List, [], ◌∷◌, length, map, drop, Option, Some, None}
+use Rattle.std.specs.Prelude.{option_map, if◌then◌else◌}
+use Rattle.std.specs.Borrow.{Bor}
+use Rattle.std.specs.List.{flat_map, list_all}
+use Rattle.std.proofs.lemmas.List.Folds.{flat_map-map}
+use Rattle.std.specs.Option.{option_map_or}
+use Rattle.wit_model.specs.declared.model.Resolve.{Resolve}
+use Rattle.wit_model.specs.declared.model.Function.{Function}
+use Rattle.wit_model.specs.declared.model.FunctionKind.{FunctionKind}
+use Rattle.wit_model.specs.declared.model.FunctionKind.TheVariants as call
+use Rattle.wit_model.specs.declared.model.TypeId.{TypeId}
+use Rattle.wit_model.specs.declared.model.«Type».{«Type» as ValueType}
+use Rattle.wit_model.specs.declared.model.«Type».TheVariants as value
+use Rattle.wit_model.specs.Calls.{is_constructor_shorthand, is_shorthand, item_name}
+use Rattle.wit_model.specs.Names.{is_label}
+use Rattle.wit_model.specs.Rules.{is_own_of, type_is}
+use Rattle.print_grammar.specs.Tree.{TypeTree}
+use Rattle.print_items.specs.Shown.{constructor_result, function_prefix, is_method, shown_param, shown_params, shown_resource_member, shown_signature, shown_type}
+use Rattle.print_grammar.specs.Calls.{prefix_calls, resource_body_calls, resource_member_calls}
+use Rattle.print_output.specs.OutputCall.OutputCall.{IndentEnd, IndentStart}
+use Rattle.print_items.specs.DeclaredCalls.{bare_member_calls}
+use Rattle.print_grammar.specs.WellNamed.{is_well_optional, is_well_param, is_well_prefix, is_well_resource_member, is_well_signature, is_well_type}
+use Rattle.print_grammar.proofs.ByteTests.{left_of, right_of}
+
+module _ (r : Resolve) (id : TypeId) where
+  owned : (o : Option ValueType) → option_map_or (type_is r (is_own_of id.0)) o false ≡ true → constructor_result r id o ≡ None
+  owned None h = refl
+  owned (Some (value.Id n)) h = ap (λ b. let t : Option TypeTree = if b then None else Some (shown_type r (value.Id n)) in t) h
+  owned (Some t) h = absurd cc
+
+  other : (o : Option ValueType) → option_map_or (type_is r (is_own_of id.0)) o false ≡ false → option_map (shown_type r) o ≡ constructor_result r id o
+  other None h = refl
+  other (Some (value.Id n)) h = sym (ap (λ b. let t : Option TypeTree = if b then None else Some (shown_type r (value.Id n)) in t) h)
+  other (Some t) h = refl
+
+  -- nothing, where it is the resource
+  pub result_left_out : (f : Function) → f.kind ≡ call.Constructor id → is_constructor_shorthand r f ≡ true → None ≡ constructor_result r id f.result
+  result_left_out f k h = sym (owned f.result (subst (λ x. is_shorthand r f x ≡ true) k h))
+
+  -- and else as it is
+  pub result_written : (f : Function) → f.kind ≡ call.Constructor id → is_constructor_shorthand r f ≡ false → option_map (shown_type r) f.result ≡ constructor_result r id f.result
+  result_written f k h = other f.result (subst (λ x. is_shorthand r f x ≡ false) k h)
+
+  -- its parameters are all written
+  pub constructor_params : (f : Function) → f.kind ≡ call.Constructor id → shown_params r f ≡ map (shown_param r) f.params.items
+  constructor_params f e = ap (λ k. map (shown_param r) (if is_method k then drop 1 f.params.items else f.params.items)) e
+
+  -- and are well named, as its result
+  pub constructor_well : (f : Function) → f.kind ≡ call.Constructor id → is_well_resource_member (shown_resource_member r f) ≡ true → (list_all is_well_param (shown_params r f) ≡ true) × (is_well_optional is_well_type (constructor_result r id f.result) ≡ true)
+  constructor_well f e well =
+      let known = subst (λ k. is_well_resource_member (shown_resource_member r (record f { kind = k })) ≡ true) e well in
+      let rest = right_of (is_well_prefix (function_prefix f)) _ known in (
+        subst (λ k. list_all is_well_param (shown_params r (record f { kind = k })) ≡ true) (sym e) (left_of _ _ rest),
+        right_of (list_all is_well_param (shown_params r (record f { kind = call.Constructor id }))) _ rest,
+      )
+
+-- whether a function is a constructor
+abbrev pub is_constructor : FunctionKind → Bool
+is_constructor (call.Constructor id) = true
+is_constructor kind = false
+
+module _ (r : Resolve) (f : Function) (well : is_well_resource_member (shown_resource_member r f) ≡ true) where
+  -- any other function of a resource has a name
+  pub member_named : is_constructor f.kind ≡ false → (is_label (item_name f) && is_well_signature (shown_signature r f)) ≡ true
+  member_named other = go f.kind other well
+    where
+      go : (k : FunctionKind) → is_constructor k ≡ false → is_well_resource_member (shown_resource_member r (record f { kind = k })) ≡ true → (is_label (item_name (record f { kind = k })) && is_well_signature (shown_signature r (record f { kind = k }))) ≡ true
+      go (call.Constructor id) other h = absurd cc
+      go (call.Static id) other h = right_of (is_well_prefix (function_prefix f)) _ h
+      go (call.AsyncStatic id) other h = right_of (is_well_prefix (function_prefix f)) _ h
+      go (call.Method id) other h = right_of (is_well_prefix (function_prefix f)) _ h
+      go (call.AsyncMethod id) other h = right_of (is_well_prefix (function_prefix f)) _ h
+      go call.Freestanding other h = right_of (is_well_prefix (function_prefix f)) _ h
+      go call.AsyncFreestanding other h = right_of (is_well_prefix (function_prefix f)) _ h
+
+  pub member_prefix : is_well_prefix (function_prefix f) ≡ true
+  member_prefix = go f.kind well
+    where
+      go : (k : FunctionKind) → is_well_resource_member (shown_resource_member r (record f { kind = k })) ≡ true → is_well_prefix (function_prefix f) ≡ true
+      go (call.Constructor id) h = left_of _ _ h
+      go (call.Static id) h = left_of _ _ h
+      go (call.AsyncStatic id) h = left_of _ _ h
+      go (call.Method id) h = left_of _ _ h
+      go (call.AsyncMethod id) h = left_of _ _ h
+      go call.Freestanding h = left_of _ _ h
+      go call.AsyncFreestanding h = left_of _ _ h
+
+  -- with what stands in front of it
+  pub member_whole : (emits : Bool) → prefix_calls emits (function_prefix f) ++ bare_member_calls (shown_resource_member r f) ≡ resource_member_calls emits (shown_resource_member r f)
+  member_whole emits = go f.kind
+    where
+      go : (k : FunctionKind) → prefix_calls emits (function_prefix f) ++ bare_member_calls (shown_resource_member r (record f { kind = k })) ≡ resource_member_calls emits (shown_resource_member r (record f { kind = k }))
+      go (call.Constructor id) = refl
+      go (call.Static id) = refl
+      go (call.AsyncStatic id) = refl
+      go (call.Method id) = refl
+      go (call.AsyncMethod id) = refl
+      go call.Freestanding = refl
+      go call.AsyncFreestanding = refl
+
+-- ---- a resource's functions in a block
+
+pub block_of : (emits : Bool) (r : Resolve) (fs : List (Bor Function)) → false ≡ (length fs == 0) → IndentStart ∷ (flat_map (λ f. resource_member_calls emits (shown_resource_member r f.now)) fs ++ (IndentEnd ∷ [])) ≡ resource_body_calls emits (map (λ f. shown_resource_member r f.now) fs)
+block_of emits r [] some = absurd cc
+block_of emits r (f ∷ fs) some = ap (λ calls. IndentStart ∷ (calls ++ (IndentEnd ∷ []))) (sym (flat_map-map (resource_member_calls emits) (λ g. shown_resource_member r g.now) (f ∷ fs)))

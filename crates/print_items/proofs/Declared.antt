@@ -1,0 +1,105 @@
+-- Declared types, part by part.
+use Rattle.std.proofs.Common.{◌≡◌, refl, sym, ap, subst, ◌∙◌, Bool, true, false, ◌&&◌, ◌||◌, not, List, [], map, Option, Some, None}
+use Rattle.std.specs.Prelude.{codes, String, is_some}
+use Rattle.std.specs.Option.{option_map_or}
+use Rattle.std.specs.List.{list_all}
+use Rattle.std.specs.declared.alloc.Global.{Global}
+use Rattle.std.proofs.lemmas.List.Folds.{list_all-map}
+use Rattle.std.proofs.lemmas.Bool.{lt-ltb, ltb-true}
+use Rattle.std.proofs.lemmas.Option.{slice_get_within}
+use Rattle.wit_model.specs.declared.model.Resolve.{Resolve}
+use Rattle.wit_model.specs.declared.model.TypeDef.{TypeDef}
+use Rattle.wit_model.specs.declared.model.TypeDefKind.TheVariants as defined
+use Rattle.wit_model.specs.declared.model.TypeId.{TypeId}
+use Rattle.wit_model.specs.declared.model.Handle.{Handle}
+use Rattle.wit_model.specs.declared.model.«Type».{«Type» as ValueType}
+use Rattle.wit_model.specs.declared.model.«Type».TheVariants as value
+use Rattle.wit_model.specs.Lookup.{type_at}
+use Rattle.wit_model.specs.Parts.{handle_target}
+use Rattle.wit_model.specs.Rules.{in_list, is_named_kind, is_named_number, passes}
+use Rattle.wit_model.specs.Text.{Text, text_of}
+use Rattle.wit_model.specs.Uses.{alias_target}
+use Rattle.wit_model.specs.Valid.{IsValid, named_kinds}
+use Rattle.print_output.specs.OutputCall.{lines_begun_after}
+use Rattle.print_grammar.specs.Tree.{TypeTree}
+use Rattle.print_grammar.specs.Tree.TypeTree.{PrimitiveType, Name}
+use Rattle.print_grammar.specs.Tree.Declared.{AliasOf}
+use Rattle.print_items.specs.Shown.{future_tree, kind_tree, shown_type, stream_tree, type_trees}
+use Rattle.print_grammar.specs.Calls.{declared_calls, type_calls}
+use Rattle.print_items.specs.DeclaredCalls.{alias_calls, carrier_calls, is_word}
+use Rattle.print_items.specs.TypeParts.{handles_label, is_labelled, kind_calls, may_be_unnamed}
+use Rattle.print_grammar.specs.WellNamed.{are_well_some, is_well_optional, is_well_type}
+use Rattle.print_output.specs.declared.type_kind.TypeKind.TheVariants as kind
+use Rattle.print_grammar.proofs.ByteTests.{right_of}
+use Rattle.print_items.proofs.ByPlace.{one_there}
+use Rattle.print_items.proofs.TypesWell.{type_rule}
+use Rattle.print_items.proofs.TypeParts.{handles_at, shown_at, type_stays, well_in_range}
+
+-- what is in a block passes the test, as it is shown
+pub block_members : {X Y : Type 0} (well : Y → Bool) (show : X → Y) (label : Bool) (xs : List X) → (label && are_well_some well (map show xs)) ≡ true → list_all (λ x. well (show x)) xs ≡ true
+block_members well show label xs h = sym (list_all-map well show xs) ∙ right_of _ _ (right_of label _ h)
+
+-- ---- what `type` declares
+
+-- a word alone
+pub word_alias : (name : Text) (t : TypeTree) → is_word t ≡ true → alias_calls name kind.TypeName (type_calls t) ≡ declared_calls true (AliasOf name t)
+word_alias name (PrimitiveType p) h = refl
+word_alias name (Name text) h = refl
+word_alias name t h = absurd cc
+
+-- a future or a stream
+pub future_alias : (name : Text) (o : Option TypeTree) → alias_calls name kind.Future (carrier_calls (codes "future") o) ≡ declared_calls true (AliasOf name (future_tree o))
+future_alias name None = refl
+future_alias name (Some t) = refl
+
+pub stream_alias : (name : Text) (o : Option TypeTree) → alias_calls name kind.Stream (carrier_calls (codes "stream") o) ≡ declared_calls true (AliasOf name (stream_tree o))
+stream_alias name None = refl
+stream_alias name (Some t) = refl
+
+pub future_payload : (o : Option TypeTree) → is_well_type (future_tree o) ≡ true → is_well_optional is_well_type o ≡ true
+future_payload None h = refl
+future_payload (Some t) h = h
+
+pub stream_payload : (o : Option TypeTree) → is_well_type (stream_tree o) ≡ true → is_well_optional is_well_type o ≡ true
+stream_payload None h = refl
+stream_payload (Some t) h = h
+
+-- a kind behind other text leaves its line as it is
+pub kind_stays : (r : Resolve) (id : TypeId) → lines_begun_after false (kind_calls r id) ≡ false
+kind_stays r id = go (type_at r id.0)
+  where
+    go : (o : Option TypeDef) → lines_begun_after false (option_map_or (λ d. type_calls (kind_tree r (type_trees r) d.kind)) o []) ≡ false
+    go None = refl
+    go (Some d) = type_stays (kind_tree r (type_trees r) d.kind)
+
+module _ (r : Resolve) (id : TypeId) (def : TypeDef) (at : type_at r id.0 ≡ Some def) where
+  pub in_range_at : in_list r.types.items id.0 ≡ true
+  in_range_at = lt-ltb _ _ (slice_get_within r.types.items id.0 def at)
+
+  -- the kind of a type number
+  pub kind_of : kind_calls r id ≡ type_calls (kind_tree r (type_trees r) def.kind)
+  kind_of = ap (λ o. option_map_or (λ d. type_calls (kind_tree r (type_trees r) d.kind)) o []) at
+
+  pub needs_no_name : is_named_kind def.kind ≡ false → may_be_unnamed r id ≡ true
+  needs_no_name h = ap (λ o. option_map_or (λ d. not (is_named_kind d.kind)) o false) at ∙ ap not h
+
+  module _ (valid : IsValid r) where
+    -- a handle's resource has a label
+    pub handle_labelled : (h : Handle) → def.kind ≡ defined.Handle h → is_labelled r (handle_target h) ≡ true
+    handle_labelled h e = subst (λ k. handles_label r k ≡ true) e (handles_at r valid id def at)
+
+    named_word : (t : TypeId) (target : TypeDef) → type_at r t.0 ≡ Some target → is_some target.name ≡ true → is_word (shown_type r (value.Id t)) ≡ true
+    named_word t target there named = subst (λ tree. is_word tree ≡ true) (sym (shown_at r valid t target there)) (go target.name named)
+      where
+        go : (name : Option (String Global)) → is_some name ≡ true → is_word (option_map_or (λ s. Name (text_of s)) name (kind_tree r (type_trees r) target.kind)) ≡ true
+        go None h = absurd cc
+        go (Some s) h = refl
+
+    -- an alias of a number is one of a name
+    pub alias_word : (t : ValueType) → def.kind ≡ defined.Type_ t → is_well_type (shown_type r t) ≡ true → is_word (shown_type r t) ≡ true
+    unfolding named_kinds
+    alias_word (value.Id t) e well =
+        let rule = right_of (not (is_named_kind def.kind) || is_some def.name) _ (type_rule r valid named_kinds valid.rules.named_kinds id.0 def at) in
+        let there = one_there r.types.items t.0 (ltb-true _ _ (well_in_range r (value.Id t) well)) in
+        named_word t there.0 there.1 (subst (λ o. passes (λ target. is_some target.name) o ≡ true) there.1 (subst (λ a. passes (is_named_number r) a ≡ true) (ap alias_target e) rule))
+    alias_word t e well = refl

@@ -1,0 +1,56 @@
+-- The lines of a text have no line end in them.
+use Rattle.std.proofs.Common.{◌≡◌, refl, sym, ◌<◌, ◌-◌, ℕ, zero, suc, Bool, true, false, IsTrue, ◌&&◌, ◌==◌, cond, List, [], ◌∷◌, length, take, get_or, subst, if◌then◌else◌, slice_index, map, ap, ◌∙◌, Bor}
+use Rattle.std.specs.List.{list_all, slice_split, onto_first}
+use Rattle.std.specs.Str.Lines.{lines, lines_of_parts}
+use Rattle.std.proofs.lemmas.List.Sums.{AllPass-from_list_all}
+use Rattle.std.proofs.lemmas.Simd.{map-map}
+use Rattle.wit_model.proofs.Lists.{first_true, second_true}
+use Rattle.wit_model.specs.Text.{Text}
+use Rattle.print_output.specs.OutputCall.{OutputCall, View, is_one_line}
+use Rattle.print_items.specs.declared.driver.Driver.{Driver}
+use Rattle.print_items.specs.Drives.{Drives}
+use Rattle.print_items.proofs.Driven.{driven_as}
+
+both_true : (a b : Bool) → a ≡ true → b ≡ true → (a && b) ≡ true
+both_true a b p q = rw p q
+
+onto_first_one_line : (b : ℕ) (parts : List Text) → (b == 10) ≡ false → list_all is_one_line parts ≡ true → list_all is_one_line (onto_first b parts) ≡ true
+onto_first_one_line b [] e h = rw e refl
+onto_first_one_line b (part ∷ parts) e h = rw e h
+
+cut_one_line : (v : Bool) (b : ℕ) (parts : List Text) → (b == 10) ≡ v → list_all is_one_line parts ≡ true → list_all is_one_line (cond v ([] ∷ parts) (onto_first b parts)) ≡ true
+cut_one_line true b parts e h = h
+cut_one_line false b parts e h = onto_first_one_line b parts e h
+
+parts_one_line : (text : Text) → list_all is_one_line (slice_split (λ b. b == 10) text) ≡ true
+parts_one_line [] = refl
+parts_one_line (b ∷ bs) = cut_one_line (b == 10) b (slice_split (λ c. c == 10) bs) refl (parts_one_line bs)
+
+take_one_line : (n : ℕ) (text : Text) → is_one_line text ≡ true → is_one_line (take n text) ≡ true
+take_one_line zero text h = refl
+take_one_line (suc n) [] h = refl
+take_one_line (suc n) (b ∷ bs) h = both_true _ _ (first_true _ _ h) (take_one_line n bs (second_true _ _ h))
+
+stripped_by : (v : Bool) (n : ℕ) (text : Text) → is_one_line text ≡ true → is_one_line (if v then take n text else text) ≡ true
+stripped_by true n text h = take_one_line n text h
+stripped_by false n text h = h
+
+last_part : (v : Bool) (part : Text) → is_one_line part ≡ true → list_all is_one_line (if v then [] else part ∷ []) ≡ true
+last_part true part h = refl
+last_part false part h = both_true _ _ h refl
+
+lines_one_line : (parts : List Text) → list_all is_one_line parts ≡ true → list_all is_one_line (lines_of_parts parts) ≡ true
+lines_one_line [] h = refl
+lines_one_line (part ∷ []) h = last_part (length part == 0) part (first_true _ _ h)
+lines_one_line (part ∷ next ∷ more) h =
+    both_true _ _ (stripped_by (slice_index part (length part - 1) == 13) (length part - 1) part (first_true _ _ h)) (lines_one_line (next ∷ more) (second_true _ _ h))
+
+-- a line of a text
+pub line_one_line : (text : Text) (i : ℕ) (line : Text) → i < length (lines text) → line ≡ get_or (lines text) i line → IsTrue (is_one_line line)
+line_one_line text i line within e =
+    subst (λ l. is_one_line l ≡ true) (sym e) (AllPass-from_list_all is_one_line (lines text) (lines_one_line (slice_split (λ b. b == 10) text) (parts_one_line text)) i line within)
+
+-- the lines that were printed are all
+pub lines_driven : {O Kept : Type 0} {view : O → View Kept} {keeps : View Kept → OutputCall → Kept} {a b : Driver O} (printed : List (Bor Text)) (all : List Text)
+    → Drives view keeps a (map (λ line. OutputCall.Doc line.now) printed) b → map (λ line. line.now) printed ≡ all → Drives view keeps a (map OutputCall.Doc all) b
+lines_driven printed all d e = driven_as d (sym (map-map OutputCall.Doc (λ line. line.now) printed) ∙ ap (map OutputCall.Doc) e)

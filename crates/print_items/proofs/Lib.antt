@@ -1,0 +1,14 @@
+pub mod Moves
+pub mod Driven
+pub mod Refusals
+pub mod Blocks
+pub mod ByPlace
+pub mod Fronts
+pub mod OneLine
+pub mod DocLines
+pub mod Runs
+pub mod ShownWell
+pub mod TypesWell
+pub mod TypeParts
+pub mod Constructors
+pub mod Declared

@@ -1,0 +1,89 @@
+-- What is shown in front of an item of a valid package is well named.
+use Rattle.std.proofs.Common.{◌≡◌, refl, ap, ℕ, suc, ◌<◌, Bool, true, ◌&&◌, List, [], ◌∷◌, length, get_or, Option, Some, None, nat_lt, ◌^◌, arith}
+use Rattle.std.specs.Prelude.{String, is_ok, is_some}
+use Rattle.std.specs.declared.alloc.Global.{Global}
+use Rattle.std.specs.List.{list_all}
+use Rattle.std.specs.Str.{chars}
+use Rattle.std.specs.Str.Lines.{lines}
+use Rattle.std.proofs.lemmas.Str.{scalars-chars, IsUtf8-string_bytes}
+use lib.Utf8.{scalar, scalars}
+use Rattle.wit_model.specs.declared.model.Docs.{Docs}
+use Rattle.wit_model.specs.declared.model.Stability.{Stability}
+use Rattle.wit_model.specs.declared.model.Stability.TheVariants as stability
+use Rattle.wit_model.specs.Text.{Text, text_of}
+use Rattle.wit_model.specs.Names.{is_label, is_version, is_version_text}
+use Rattle.wit_model.specs.Rules.{is_stability, passes}
+use Rattle.semver.specs.declared.Version.{Version}
+use Rattle.semver.specs.Identifiers.{parts_of, version_text, pre_text, build_text}
+use Rattle.semver.specs.Grammar.{IsValid as IsValidVersion, is_pre_release, is_build}
+use Rattle.semver.proofs.Grammar.{version_parts-complete}
+use Rattle.wit_model.specs.Lookup.{optional_version_text}
+use Rattle.std.proofs.lemmas.Bool.{ltb-true}
+use Rattle.print_output.specs.OutputCall.{is_one_line}
+use Rattle.print_items.specs.Shown.{present_name, shown_docs, shown_gates, shown_external_id, shown_prefix}
+use Rattle.print_grammar.specs.WellNamed.{is_well_optional, is_well_gates, is_well_prefix}
+use Rattle.print_grammar.proofs.ByteTests.{both, left_of, right_of}
+use Rattle.print_items.proofs.DocLines.{line_one_line}
+
+-- ---- versions
+
+pub version_is_text : (v : Version) → is_version v ≡ true → is_version_text (version_text v) ≡ true
+version_is_text v h = ap is_ok (version_parts-complete (parts_of v) valid)
+  where
+    after_major : (nat_lt v.minor (2 ^ 64) && (nat_lt v.patch (2 ^ 64) && (is_pre_release (pre_text v.pre) && is_build (build_text v.build)))) ≡ true
+    after_major = right_of (nat_lt v.major (2 ^ 64)) _ h
+
+    after_minor : (nat_lt v.patch (2 ^ 64) && (is_pre_release (pre_text v.pre) && is_build (build_text v.build))) ≡ true
+    after_minor = right_of (nat_lt v.minor (2 ^ 64)) _ after_major
+
+    after_patch : (is_pre_release (pre_text v.pre) && is_build (build_text v.build)) ≡ true
+    after_patch = right_of (nat_lt v.patch (2 ^ 64)) _ after_minor
+
+    valid : IsValidVersion (parts_of v)
+    valid = (ltb-true _ _ (left_of _ _ h), ltb-true _ _ (left_of _ _ after_major), ltb-true _ _ (left_of _ _ after_minor), left_of _ _ after_patch, right_of (is_pre_release (pre_text v.pre)) _ after_patch)
+
+pub optional_version : (v : Option Version) → passes is_version v ≡ true → is_well_optional is_version_text (optional_version_text v) ≡ true
+optional_version None h = refl
+optional_version (Some v) h = version_is_text v h
+
+-- a given name is a label
+pub given_label : (name : Option (String Global)) → is_some name ≡ true → passes (λ s. is_label (text_of s)) name ≡ true → is_label (present_name name) ≡ true
+given_label None given label = absurd cc
+given_label (Some s) given label = label
+
+-- ---- what stands in front of an item
+
+all_by_place : {X : Type 0} (p : X → Bool) (xs : List X) → ((i : ℕ) (x : X) → i < length xs → x ≡ get_or xs i x → p x ≡ true) → list_all p xs ≡ true
+all_by_place p [] h = refl
+all_by_place p (x ∷ xs) h = both _ _ (h 0 x (omega arith) refl) (all_by_place p xs (λ i y below e. h (suc i) y (omega arith) e))
+
+lines_well : (text : Text) → list_all is_one_line (lines text) ≡ true
+lines_well text = all_by_place is_one_line (lines text) (λ i line below e. line_one_line text i line below e)
+
+-- Lines of documentation hold no line end.
+pub docs_well : (docs : Docs) → list_all is_one_line (shown_docs docs) ≡ true
+docs_well docs = go docs.contents
+  where
+    go : (contents : Option (String Global)) → list_all is_one_line (shown_docs (record { contents = contents })) ≡ true
+    go None = refl
+    go (Some text) = lines_well (text_of text)
+
+-- Gates that keep the rule on labels are well named.
+pub gates_well : (s : Stability) → is_stability s ≡ true → is_well_gates (shown_gates s) ≡ true
+gates_well stability.Unknown h = refl
+gates_well (stability.Stable since deprecated) h = both _ _ (version_is_text since (left_of _ _ h)) (optional_version deprecated (right_of (is_version since) _ h))
+gates_well (stability.Unstable feature deprecated) h = both (is_label (text_of feature)) _ (left_of _ _ h) (optional_version deprecated (right_of (is_label (text_of feature)) _ h))
+
+all_scalar : (cs : List ℕ) → scalars cs ≡ true → list_all scalar cs ≡ true
+all_scalar [] h = refl
+all_scalar (c ∷ cs) h = both (scalar c) _ (left_of _ _ h) (all_scalar cs (right_of (scalar c) _ h))
+
+-- The characters of an external id are characters.
+pub external_id_well : (id : Option (String Global)) → is_well_optional (list_all scalar) (shown_external_id id) ≡ true
+external_id_well None = refl
+external_id_well (Some s) = all_scalar (chars (text_of s)) (scalars-chars (text_of s) (IsUtf8-string_bytes s))
+
+-- What stands in front of an item whose stability keeps the rule on labels is well named.
+pub shown_prefix_well : (docs : Docs) (s : Stability) (external_id : Option (String Global)) → is_stability s ≡ true → is_well_prefix (shown_prefix docs s external_id) ≡ true
+shown_prefix_well docs s external_id h =
+    both (list_all is_one_line (shown_docs docs)) _ (docs_well docs) (both (is_well_gates (shown_gates s)) _ (gates_well s h) (external_id_well external_id))

@@ -1,0 +1,26 @@
+use Rattle.std.proofs.Common.{◌≡◌, ap, sym, subst, true}
+use Rattle.std.specs.List.{list_all}
+use Rattle.wit_model.proofs.Lists.{second_true}
+use Rattle.wit_model.specs.Names.{is_label}
+use Rattle.print_output.specs.OutputCall.{is_one_line}
+use Rattle.print_items.specs.Shown.{shown_docs, shown_flag}
+use Rattle.print_grammar.specs.WellNamed.{is_well_label}
+use Rattle.print_items.proofs.Runs.{passes_at}
+use Rattle.print_grammar.specs.Calls.{label_calls}
+use Rattle.print_items.proofs.Driven.{driven_as, one_run}
+use Rattle.print_items.proofs.Refusals.{run_cut}
+use Rattle.print_items.proofs.labels.write_each_flag.Goals as goal
+
+pub write_label-requires : goal.write_label-requires
+write_label-requires g c =
+    record {
+      label =
+          let well = passes_at (λ x. is_well_label (shown_flag x)) c.args.flags.now c.loop-flag.flag-index c.flag-item.result c.requires.well c.loop-flag-test.true c.flag-item.is in
+          subst (λ text. is_label text ≡ true) (sym c.deref.ensures) (second_true (list_all is_one_line (shown_docs c.flag-item.result.docs)) _ well);
+    }
+
+pub loop-flag-preserved : goal.loop-flag-preserved
+loop-flag-preserved g c = record { calls = one_run (λ flag. label_calls c.args.emits_docs (shown_flag flag)) _ _ _ c.loop-flag.invariant.calls c.loop-flag-test.true c.flag-item.is (driven_as c.write_label.ensures.calls (ap (λ name. label_calls c.args.emits_docs (record { docs = shown_docs c.flag-item.result.docs; name = name })) c.deref.ensures)) }
+
+pub returns-then-driver : goal.returns-then-driver
+returns-then-driver g c = record { calls = run_cut (λ flag. label_calls c.args.emits_docs (shown_flag flag)) c.args.flags.now c.loop-flag.flag-index c.loop-flag.invariant.calls c.if-driver.true }

@@ -1,0 +1,25 @@
+use Rattle.std.proofs.Common.{◌≡◌, sym, subst, true}
+use Rattle.std.specs.Prelude.{codes}
+use Rattle.std.specs.List.{list_all}
+use Rattle.print_items.specs.Shown.{shown_case}
+use Rattle.print_grammar.specs.Calls.{case_calls}
+use Rattle.print_items.specs.DeclaredCalls.{block_start_calls}
+use Rattle.print_output.specs.declared.type_kind.TypeKind.TheVariants.{Variant}
+use Rattle.wit_model.specs.Names.{is_label}
+use Rattle.print_grammar.specs.WellNamed.{is_well_case}
+use Rattle.print_grammar.proofs.ByteTests.{left_of}
+use Rattle.print_items.proofs.Declared.{block_members}
+use Rattle.print_items.proofs.Blocks.{block_driven}
+use Rattle.print_items.proofs.variant.write_variant.Goals as goal
+
+pub write_block_start-requires-clause-label : goal.write_block_start-requires-clause-label
+write_block_start-requires-clause-label g c = left_of _ _ c.requires.well
+
+pub write_cases-requires-clause-well : goal.write_cases-requires-clause-well
+write_cases-requires-clause-well g c =
+    subst (λ xs. list_all (λ x. is_well_case (shown_case c.args.resolve.now x)) xs ≡ true) (sym c.deref.ensures.value) (block_members is_well_case (shown_case c.args.resolve.now) (is_label c.args.name.now) c.args.of.now.cases.items c.requires.well)
+
+pub returns : goal.returns
+returns g c =
+    let start = block_start_calls (codes "variant") c.args.name.now Variant in
+    record { calls = block_driven start (case_calls c.args.emits_docs) (shown_case c.args.resolve.now) _ _ c.write_block_start.ensures.calls c.write_cases.ensures.calls c.indent_end.ensures.calls c.deref.ensures.value }
