@@ -7,3 +7,6 @@ mod Roots
 mod VersionTexts
 mod Sides
 mod OneKey
+pub mod BoundWorlds
+pub mod RootBindings
+pub mod AsItWas

@@ -1,7 +1,10 @@
 //! Laws about the definitions.
 
+ghost use Rattle.wit_bind.specs.Bindings.{RootsAreRoots};
 ghost use Rattle.wit_bind.specs.KeyLaws.{EachHasAKey};
 ghost use Rattle.wit_bind.specs.OldKeys.{OneOldKey};
+
+pub use bind_meaning::laws::both_orders;
 
 /// In a valid `Resolve` each function that a world imports or exports has a key, under its own name.
 pub fn each_has_a_key()
@@ -11,4 +14,9 @@ pub fn each_has_a_key()
 /// In a valid `Resolve` functions of a world's imports, or of its exports, that share a key share their key without version.
 pub fn one_old_key()
     ensures { OneOldKey }
+{}
+
+/// The bindings of a module that carries no world are, by meaning, the empty root world.
+pub fn roots_are_roots()
+    ensures { RootsAreRoots }
 {}

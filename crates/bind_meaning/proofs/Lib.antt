@@ -1,0 +1,13 @@
+pub mod Maps
+pub mod ClashLaws
+pub mod UnionLaws
+pub mod ListLaws
+pub mod Faults
+pub mod Orders
+pub mod EachOrder
+pub mod RootLaws
+pub mod Searches
+pub mod WorldLists
+pub mod Examples
+pub mod Listed
+mod InterfaceExamples
