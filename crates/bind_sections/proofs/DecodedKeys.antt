@@ -42,7 +42,7 @@ use Rattle.semver.proofs.Grammar.{version_parts-complete}
 use Rattle.wit_model.proofs.OnePath.{HasPath, has-path, named-path, package-name, path-label, some-of}
 use Rattle.bind_meaning.specs.ByMeaning.{entry_keys, functions_by_name, keys_of_entry}
 use Rattle.bind_meaning.specs.Encodings.{Encodings, all_encoded, encoding_at}
-use Rattle.bind_meaning.specs.Keys.{canonical_identity, canonical_text, scope_under, text_under}
+use Rattle.bind_meaning.specs.Keys.{canonical_identity, canonical_part, scope_under, text_under}
 use Rattle.bind_meaning.proofs.Maps.{by_tie}
 use Rattle.wit_bind.specs.Functions.{Items, IsFunctionKey, IsItemKey, IsMemberKey, MapsFunctions, of_interface, of_item}
 use Rattle.wit_bind.specs.Keys.{function_key, scope_of}
@@ -68,7 +68,7 @@ label-stays t h =
     (uncut 58 t (label_lacks 58 refl t h))
 
 -- the canonical part of a version, by its text
-canonical-version : (o : Option Version) → passes is_version o ≡ true → option_map canonical_text (optional_version_text o) ≡ option_map (λ v. canonical_version (parts_of v)) o
+canonical-version : (o : Option Version) → passes is_version o ≡ true → option_map canonical_part (optional_version_text o) ≡ option_map (λ v. canonical_version (parts_of v)) o
 canonical-version None h = refl
 canonical-version (Some v) h = ap (λ (x : Result Parts VersionError). Some (by-parts (version_text v) x)) (version_parts-complete (parts_of v) (valid_parts v h))
   where
