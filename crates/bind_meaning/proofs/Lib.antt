@@ -10,4 +10,7 @@ pub mod Searches
 pub mod WorldLists
 pub mod Examples
 pub mod Listed
+pub mod WorldPaths
+pub mod KeyNames
+pub mod WorldBindings
 mod InterfaceExamples

@@ -26,6 +26,7 @@ use Rattle.wit_model.proofs.Entries.{each_from_at, lists_pass}
 use Rattle.wit_model.proofs.Lists.{first_true, second_true}
 use Rattle.wit_model.proofs.OnePath.{some-same}
 use Rattle.plan_meaning.specs.NothingElse.{HoldsWorldAlone}
+use Rattle.bind_meaning.proofs.WorldPaths.{world-passes}
 use Rattle.bind_meaning.specs.ByMeaning.{binding_of_world, world_path}
 use Rattle.wit_bind.specs.declared.bindgen.Bindgen.{Bindgen}
 use Rattle.wit_bind.specs.Bindings.{binding_of}
@@ -38,9 +39,6 @@ use Rattle.bind_sections.proofs.DecodedPackages.{one-world, same-packages}
 use Rattle.bind_sections.proofs.DecodedWorlds.{same-interfaces}
 
 -- ---- what stands where
-
-world-passes : (rule : Rule) (r : Resolve) → Keeps rule r → (n : ℕ) (w : World) → world_at r n ≡ Some w → rule.world_ r n w ≡ true
-world-passes rule r k n w at = let here : 0 + n ≡ n = omega arith in subst (λ (m : ℕ). rule.world_ r m w ≡ true) here (each_from_at (rule.world_ r) 0 r.worlds.items n w (lists_pass rule r k).2 at)
 
 module _ (r : Resolve) (v : IsValid r) (n : ℕ) (w : World) (at : world_at r n ≡ Some w) where
   labelled : (entries_labels w.imports.entries && entries_labels w.exports.entries) ≡ true

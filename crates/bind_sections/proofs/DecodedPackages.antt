@@ -26,7 +26,7 @@ use Rattle.wit_model.proofs.OnePath.{HasPath, found-in, has-path, package-name, 
 use Rattle.bind_meaning.specs.Binding.{package_text}
 use Rattle.bind_meaning.specs.ByMeaning.{package_of_path}
 use Rattle.plan_meaning.specs.NothingElse.{PackagesAreUsed}
-use Rattle.wit_bind.specs.Bindings.{package_texts, worlds_by_path}
+use Rattle.bind_meaning.specs.ByNumbers.{package_texts, worlds_by_path}
 use Rattle.bind_sections.proofs.DecodedWorlds.{path-of, path-shown, shown_map}
 use Rattle.bind_meaning.proofs.Listed.{first-contained, from-flat, from-map, same-texts}
 

@@ -18,9 +18,8 @@ use Rattle.wit_model.specs.Valid.{IsValid}
 use Rattle.wit_model.proofs.Elements.{contains-filter_map, contains-get, contains-map, contains-one, get-contains, has-contains}
 use Rattle.wit_model.proofs.OnePath.{path-once, some-of}
 use Rattle.bind_meaning.proofs.Maps.{by_tie}
-use Rattle.wit_bind.specs.Bindings.{interfaces_by_path}
-use Rattle.wit_bind.proofs.BoundWorlds.{given, mapped}
-use Rattle.bind_meaning.proofs.Listed.{contains-filter, contains-find, find-contains, from-filter, from-given, from-map, same-entries}
+use Rattle.bind_meaning.specs.ByNumbers.{interfaces_by_path}
+use Rattle.bind_meaning.proofs.Listed.{contains-filter, contains-find, find-contains, from-filter, from-given, from-map, given, mapped, same-entries}
 
 -- ---- interfaces
 

@@ -1,6 +1,6 @@
 //! Laws about the definitions.
 
-ghost use Rattle.wit_bind.specs.Bindings.{RootsAreRoots};
+ghost use Rattle.wit_bind.specs.Bindings.{BindgensAreBindings, RootsAreRoots};
 ghost use Rattle.wit_bind.specs.KeyLaws.{EachHasAKey};
 ghost use Rattle.wit_bind.specs.OldKeys.{OneOldKey};
 
@@ -14,6 +14,12 @@ pub fn each_has_a_key()
 /// In a valid `Resolve` functions of a world's imports, or of its exports, that share a key share their key without version.
 pub fn one_old_key()
     ensures { OneOldKey }
+{}
+
+/// Bindings whose `Resolve` is valid, and whose world is one of it, stand for a binding: no path is that of two things, and no key of the world stands
+/// twice.
+pub fn bindgens_are_bindings()
+    ensures { BindgensAreBindings }
 {}
 
 /// The bindings of a module that carries no world are, by meaning, the empty root world.
