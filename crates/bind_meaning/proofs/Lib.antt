@@ -13,4 +13,5 @@ pub mod Listed
 pub mod WorldPaths
 pub mod KeyNames
 pub mod WorldBindings
-mod InterfaceExamples
+pub mod InterfaceExamples
+mod OrderExamples

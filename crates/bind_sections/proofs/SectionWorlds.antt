@@ -83,6 +83,12 @@ bound_sections_mean d b bound =
 pub one_section_binds : OneSectionBinds
 one_section_binds r n m e d meant means carries none = record {
   bound = union root_binding (binding_of_world m e);
-  binds = (m, e, record { reads = (means m).0 meant; says = carries }, root_unites m e none, refl);
+  binds = λ input fs stand carry. record {
+    sections = fs;
+    stand = stand;
+    data_ = d ∷ [];
+    carry = carry;
+    binds = (m, e, record { reads = (means m).0 meant; says = carries }, root_unites m e none, refl);
+  };
   gained = root_gains (binding_of_world m e);
 }

@@ -14,12 +14,13 @@ use Rattle.wit_model.specs.Meant.{MeantWorld}
 use Rattle.bind_meaning.specs.Binding.{Binding}
 use Rattle.bind_meaning.specs.ByMeaning.{binding_of_world}
 use Rattle.bind_meaning.specs.Laws.{HasGained}
-use Rattle.bind_meaning.specs.Roots.{root_path, root_binding}
+use Rattle.bind_meaning.specs.Roots.{root_path}
 use Rattle.wit_bind.specs.declared.bindgen.Bindgen.{Bindgen}
 use Rattle.wit_bind.specs.Bindings.{IsBindgen, binding_of}
 use Rattle.wit_metadata.specs.Carried.{CarriesEncoding, MeansWorld}
+use Rattle.wit_metadata.specs.Modules.{Framed}
 use Rattle.bind_sections.specs.SectionBindings.{IsBoundBy}
-use Rattle.bind_sections.specs.Bound.{Binds, IsBound, IsRefused, SectionMeans}
+use Rattle.bind_sections.specs.Bound.{CarryData, HasSections, IsBound, IsRefused, SectionMeans}
 
 -- Data means one world and says one encoding at most.
 abbrev pub SectionsMeanOnce : Type 0
@@ -53,10 +54,11 @@ SectionsBindTheirWorlds = (d : List ℕ) (b : Bindgen) (m : WorldPackage) (e : S
 abbrev pub BoundSectionsMean : Type 0
 BoundSectionsMean = (d : List ℕ) (b : Bindgen) → IsBoundBy d b → (m : WorldPackage) × (e : StringEncoding) × SectionMeans d m e
 
--- A module with this one section binds this, which has what the world imports and exports, each of its functions with this encoding.
+-- A module whose sections carry this data, and no other, binds this, which has what the world imports and exports, each of its functions with this
+-- encoding.
 pub record BindsItsWorld (d : List ℕ) (m : WorldPackage) (e : StringEncoding) : Type 0 where
   pub bound : Binding
-  pub binds : Binds root_binding (d ∷ []) bound
+  pub binds : (input : List ℕ) (fs : List Framed) → HasSections input fs [] → CarryData fs (d ∷ []) → IsBound input bound
   pub gained : HasGained (binding_of_world m e) bound
 
 -- Data that means just what a world of a `Resolve` does, and carries an encoding, as `metadata::encode` answers it, binds that world as the one section

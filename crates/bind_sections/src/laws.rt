@@ -1,17 +1,19 @@
 //! Laws of what a module binds, over the definitions.
 
-ghost use Rattle.bind_meaning.specs.Orders.{FoldsHoldTheirs, SameInEachOrder};
+ghost use Rattle.bind_meaning.specs.Orders.{EveryOrderFolds, FoldsHoldTheirs, OrdersGiveTheSame, SameInEachOrder};
 ghost use Rattle.bind_sections.specs.Orders.{BindsWhereNoTwoClash, EachUnitesOrClashes};
 ghost use Rattle.bind_sections.specs.Steps.{LeftOversEnd, OthersArePassed, ReadingBegins, ReadingEnds, RefusalsEnd, WorldsAreBound};
 ghost use Rattle.bind_sections.specs.BoundLaws.{BoundIsNotRefused, BoundOnce, BoundSectionsMean, OneRefusal, OneSectionBinds, SectionsBindTheirWorlds, SectionsMeanOnce};
 
 /// A list of section bindings is bound, one after the other onto the empty root world, exactly where no two of them clash in either order, the empty
-/// root world counted as one of them. What is bound has, by sense, exactly the interfaces, imports, exports and encodings of its members; so every order
-/// gives the same. Two bindings unite or clash.
+/// root world counted as one of them. What is bound has, by sense, exactly the packages, interfaces, worlds, imports, exports and encodings of its
+/// members. So a list is bound in every order or in none, and each order gives the same. Two bindings unite or clash.
 pub fn any_order()
     ensures binds { BindsWhereNoTwoClash }
     ensures theirs { FoldsHoldTheirs }
     ensures same { SameInEachOrder }
+    ensures every { EveryOrderFolds }
+    ensures orders { OrdersGiveTheSame }
     ensures either { EachUnitesOrClashes }
 {}
 

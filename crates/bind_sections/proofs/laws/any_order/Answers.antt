@@ -13,3 +13,9 @@ returns-clause-same c = each.same_in_each_order
 
 pub returns-clause-either : goal.returns-clause-either
 returns-clause-either c = laws.each_unites_or_clashes
+
+pub returns-clause-every : goal.returns-clause-every
+returns-clause-every c = each.every_order_folds
+
+pub returns-clause-orders : goal.returns-clause-orders
+returns-clause-orders c = each.orders_give_the_same
