@@ -1,5 +1,5 @@
 -- A module binds one thing at most, and what binds something isn't refused.
-use Rattle.std.proofs.Common.{◌≡◌, ◌∙◌, refl, sym, ap, subst, ℕ, List, [], ◌∷◌, ◌++◌, append_assoc, drop, Some, Ok, Err, arith}
+use Rattle.std.proofs.Common.{◌≡◌, ◌∙◌, refl, sym, ap, subst, ℕ, List, [], ◌∷◌, ◌++◌, append_assoc, drop, length, Some, Ok, Err, arith}
 use mathlib.Core.Logic.{inl, inr}
 use Rattle.std.specs.Prelude.{◌≢◌, Result}
 use Rattle.std.specs.List.{AllByRecursion}
@@ -125,9 +125,21 @@ begins-otherwise d rest m read is =
     first-of [] = 0
     first-of (b ∷ bs) = b
 
+-- and isn't empty
+means-some : (d : List ℕ) (m : WorldPackage) → ReadsWorld d m → d ≡ [] → ⊥
+means-some d m read is =
+    let spelled = read.spelled.0 in
+    let other : d ≡ preamble ++ spelled.1 = spelled.2 ∙ ap (λ (t : List ℕ). t ++ spelled.1) spelled.3 in
+    let wrong = ap length (sym is ∙ other) in
+    omega (arith, wrong)
+
+nothing-begins : (d rest : List ℕ) → d ≡ [] → d ≡ 3 ∷ rest → ⊥
+nothing-begins d rest none is = let wrong = ap length (sym none ∙ is) in omega (arith, wrong)
+
 means-is-let-through : (d : List ℕ) (m : WorldPackage) (e : StringEncoding) (error : Error) → SectionMeans d m e → RefusesSection d error → error ≡ errors.Memory
+means-is-let-through d m e error means (RefusesSection.empty none is) = absurd (means-some d m means.reads none)
 means-is-let-through d m e error means (RefusesSection.historical rest is historical) = absurd (begins-otherwise d rest m means.reads is)
-means-is-let-through d m e error means (RefusesSection.unread other cause offset is within none) = absurd (none m means.reads)
+means-is-let-through d m e error means (RefusesSection.unread some other cause offset is within none) = absurd (none m means.reads)
 means-is-let-through d m e error means (RefusesSection.unsaid n read says) = absurd (err-never e error (read-back e d (Err error) means.says says))
 means-is-let-through d m e error means (RefusesSection.memory is) = is
 
@@ -169,14 +181,21 @@ err-same e f is = ap err-or is
 section-refused-once : (d : List ℕ) (e f : Error) → e ≢ errors.Memory → f ≢ errors.Memory → RefusesSection d e → RefusesSection d f → SameRefusal e f
 section-refused-once d e f a b (RefusesSection.memory is) y = absurd (a is)
 section-refused-once d e f a b x (RefusesSection.memory is) = absurd (b is)
+section-refused-once d e f a b (RefusesSection.empty none is) (RefusesSection.empty none_too is_too) = SameRefusal.same (is ∙ sym is_too)
+section-refused-once d e f a b (RefusesSection.empty nothing is) (RefusesSection.historical rest begins is_too) = absurd (nothing-begins d rest nothing begins)
+section-refused-once d e f a b (RefusesSection.empty nothing is) (RefusesSection.unread some other cause offset is_too within none) = absurd (some nothing)
+section-refused-once d e f a b (RefusesSection.empty nothing is) (RefusesSection.unsaid m read says) = absurd (means-some d m read nothing)
+section-refused-once d e f a b (RefusesSection.historical rest begins is) (RefusesSection.empty nothing is_too) = absurd (nothing-begins d rest nothing begins)
+section-refused-once d e f a b (RefusesSection.unread some other cause offset is within none) (RefusesSection.empty nothing is_too) = absurd (some nothing)
+section-refused-once d e f a b (RefusesSection.unsaid m read says) (RefusesSection.empty nothing is_too) = absurd (means-some d m read nothing)
 section-refused-once d e f a b (RefusesSection.historical rest begins is) (RefusesSection.historical more begins_too is_too) = SameRefusal.same (is ∙ sym is_too)
-section-refused-once d e f a b (RefusesSection.historical rest begins is) (RefusesSection.unread other cause offset is_too within none) = absurd (other rest begins)
+section-refused-once d e f a b (RefusesSection.historical rest begins is) (RefusesSection.unread some other cause offset is_too within none) = absurd (other rest begins)
 section-refused-once d e f a b (RefusesSection.historical rest begins is) (RefusesSection.unsaid m read says) = absurd (begins-otherwise d rest m read begins)
-section-refused-once d e f a b (RefusesSection.unread other cause offset is within none) (RefusesSection.historical rest begins is_too) = absurd (other rest begins)
-section-refused-once d e f a b (RefusesSection.unread other cause offset is within none) (RefusesSection.unread other_too cause_too offset_too is_too within_too none_too) = SameRefusal.unread cause cause_too offset offset_too is is_too
-section-refused-once d e f a b (RefusesSection.unread other cause offset is within none) (RefusesSection.unsaid m read says) = absurd (none m read)
+section-refused-once d e f a b (RefusesSection.unread some other cause offset is within none) (RefusesSection.historical rest begins is_too) = absurd (other rest begins)
+section-refused-once d e f a b (RefusesSection.unread some other cause offset is within none) (RefusesSection.unread some_too other_too cause_too offset_too is_too within_too none_too) = SameRefusal.unread cause cause_too offset offset_too is is_too
+section-refused-once d e f a b (RefusesSection.unread some other cause offset is within none) (RefusesSection.unsaid m read says) = absurd (none m read)
 section-refused-once d e f a b (RefusesSection.unsaid m read says) (RefusesSection.historical rest begins is) = absurd (begins-otherwise d rest m read begins)
-section-refused-once d e f a b (RefusesSection.unsaid m read says) (RefusesSection.unread other cause offset is within none) = absurd (none m read)
+section-refused-once d e f a b (RefusesSection.unsaid m read says) (RefusesSection.unread some other cause offset is within none) = absurd (none m read)
 section-refused-once d e f a b (RefusesSection.unsaid m read says) (RefusesSection.unsaid n read_too says_too) =
     SameRefusal.same (err-same e f (says read.sections read.spelled ∙ sym (says_too read.sections read.spelled)))
 

@@ -1,5 +1,5 @@
 -- What is bound of the data of a section is the binding of the world that it means.
-use Rattle.std.proofs.Common.{◌≡◌, ◌∙◌, refl, sym, ap, subst, arith, ℕ, ◌+◌, ◌&&◌, true, [], length, option_map, Option, Some, Ok, Err, Contains}
+use Rattle.std.proofs.Common.{◌≡◌, ◌∙◌, refl, sym, ap, subst, arith, ℕ, ◌&&◌, true, [], length, option_map, Option, Some, Ok, Err, Contains}
 use Rattle.std.specs.Prelude.{Result}
 use Rattle.std.specs.List.{list_all}
 use Rattle.std.specs.Option.{option_map_or}
@@ -20,9 +20,8 @@ use Rattle.wit_model.specs.Names.{is_label}
 use Rattle.wit_model.specs.Meaning.{WorldPackage}
 use Rattle.wit_model.specs.Meant.{world_package}
 use Rattle.wit_model.specs.Rules.{entries_labels, export_stands, import_stands, is_stability, item_labels, key_label}
-use Rattle.wit_model.specs.Valid.{IsValid, Keeps, Rule, labels, world_items}
+use Rattle.wit_model.specs.Valid.{IsValid, labels, world_items}
 use Rattle.wit_model.proofs.Elements.{all-contained}
-use Rattle.wit_model.proofs.Entries.{each_from_at, lists_pass}
 use Rattle.wit_model.proofs.Lists.{first_true, second_true}
 use Rattle.wit_model.proofs.OnePath.{some-same}
 use Rattle.plan_meaning.specs.NothingElse.{HoldsWorldAlone}

@@ -1,18 +1,17 @@
 -- The keys of the functions of a world, by what it means.
-use Rattle.std.proofs.Common.{◌≡◌, ◌∙◌, refl, sym, ap, subst, ℕ, ◌==◌, ◌&&◌, Bool, true, false, cond, not, List, [], ◌∷◌, ◌++◌, map, flat_map, filter_map, option_map, option_and_then, unwrap_or, Option, Some, None, Ok, Err, Contains, String}
+use Rattle.std.proofs.Common.{◌≡◌, ◌∙◌, refl, sym, ap, subst, ℕ, ◌==◌, Bool, true, false, not, List, [], ◌∷◌, map, filter_map, option_map, option_and_then, unwrap_or, Option, Some, None, Ok, Err, Contains, String}
 use Rattle.std.specs.Prelude.{Result, is_some}
-use Rattle.std.specs.List.{list_all, list_any}
+use Rattle.std.specs.List.{list_all}
 use Rattle.std.specs.Option.{option_map_or}
 use Rattle.std.specs.declared.alloc.Global.{Global}
 use Rattle.std.specs.Cmp.{eq_by_cmp_equiv}
 use Rattle.std.specs.Cmp.Lexicographic.{nat_list_cmp_total}
-use Rattle.std.specs.FinMap.{empty, get, keys, find, from_entries, same_map, get-empty, get-from_entries, contains_key-keys, nat_cmp-IsAntisymmetric, slice_cmp-IsAntisymmetric}
+use Rattle.std.specs.FinMap.{empty, get, keys, find, same_map, get-empty, get-from_entries, contains_key-keys, nat_cmp-IsAntisymmetric, slice_cmp-IsAntisymmetric}
 use Rattle.std.proofs.lemmas.Map.Views.{list_any-from_Contains, Contains-from_any}
 use Rattle.wit_model.specs.declared.model.Function.{Function}
 use Rattle.wit_model.specs.declared.model.Interface.{Interface}
 use Rattle.wit_model.specs.declared.model.InterfaceId.{InterfaceId}
 use Rattle.wit_model.specs.declared.model.Package.{Package}
-use Rattle.wit_model.specs.declared.model.PackageId.{PackageId}
 use Rattle.wit_model.specs.declared.model.PackageName.{PackageName}
 use Rattle.wit_model.specs.declared.model.Resolve.{Resolve}
 use Rattle.wit_model.specs.declared.model.StringEncoding.{StringEncoding}
@@ -25,9 +24,9 @@ use Rattle.wit_model.specs.Text.{Text, TextMap, text_cmp, text_of}
 use Rattle.wit_model.specs.Names.{PackageIdentity, canonical_version, cut, is_label, is_version, known_path, path_in, versioned}
 use Rattle.wit_model.specs.Lookup.{canonical_identity_of, identity_of, optional_version_text, interface_at, interface_path, key_text, package_at}
 use Rattle.wit_model.specs.Paths.{full_name}
-use Rattle.wit_model.specs.Meaning.{Entry, FunctionMeaning, InterfaceMeaning, Item, inline, interface}
+use Rattle.wit_model.specs.Meaning.{Entry, FunctionMeaning, InterfaceMeaning, inline, interface}
 use Rattle.wit_model.specs.Meant.{entries_meaning, entry_meaning, function_meaning, interface_item, interface_meaning, interface_meaning_at, no_interface}
-use Rattle.wit_model.specs.Rules.{is_id, is_interface_key, key_label, passes}
+use Rattle.wit_model.specs.Rules.{is_id, is_interface_key, passes}
 use Rattle.wit_model.specs.Uses.{has, item_interface, items_of}
 use Rattle.wit_model.specs.Valid.{IsValid}
 use Rattle.wit_model.proofs.Elements.{contains-flat, contains-map, contains-one, equal, none-in, one-contained, same-some}
@@ -41,10 +40,10 @@ use Rattle.semver.specs.Parse.{Parts}
 use Rattle.semver.proofs.Grammar.{version_parts-complete}
 use Rattle.wit_model.proofs.OnePath.{HasPath, has-path, named-path, package-name, path-label, some-of}
 use Rattle.bind_meaning.specs.ByMeaning.{entry_keys, functions_by_name, keys_of_entry}
-use Rattle.bind_meaning.specs.Encodings.{Encodings, all_encoded, encoding_at}
+use Rattle.bind_meaning.specs.Encodings.{Encodings, all_encoded}
 use Rattle.bind_meaning.specs.Keys.{canonical_identity, canonical_part, scope_under, text_under}
 use Rattle.bind_meaning.proofs.Maps.{by_tie}
-use Rattle.wit_bind.specs.Functions.{Items, IsFunctionKey, IsItemKey, IsMemberKey, MapsFunctions, of_interface, of_item}
+use Rattle.wit_bind.specs.Functions.{Items, IsFunctionKey, MapsFunctions, of_interface, of_item}
 use Rattle.wit_bind.specs.Keys.{function_key, scope_of}
 use Rattle.wit_bind.proofs.ValidKeys.{canonical-by-name}
 use Rattle.bind_sections.proofs.DecodedWorlds.{meaning-at, shown-at, shown_map}
@@ -117,7 +116,7 @@ module _ (r : Resolve) (v : IsValid r) where
       let h = has-path r id.0 path is in
       let p = package-name r v h.home.0 h.package_ h.stands in
       let canonical : canonical_identity (identity_of h.package_.name) ≡ canonical_identity_of h.package_.name
-          = λ i. record { namespace = text_of h.package_.name.namespace; name = text_of h.package_.name.name; version = canonical-version h.package_.name.version p.version i } in
+      = λ i. record { namespace = text_of h.package_.name.namespace; name = text_of h.package_.name.name; version = canonical-version h.package_.name.version p.version i } in
       canonical-by-name r id.0
       ∙ (ap (option_map (λ (e : PackageName × String Global). path_in (canonical_identity_of e.0) (text_of e.1))) (full-name-of id.0 path h)
       ∙ ap Some (sym (ap (λ (o : Option Text). scope_under (unwrap_or o [])) is

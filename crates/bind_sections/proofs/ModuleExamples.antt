@@ -4,6 +4,7 @@ use mathlib.Core.Logic.{inl}
 use Rattle.std.specs.Prelude.{Result, codes, slice_get, unwrap_or}
 use Rattle.std.specs.Str.{is_utf8, chars}
 use lib.Utf8.{encode}
+use Rattle.wit_model.specs.declared.error.Cause.TheVariants.{Truncated}
 use Rattle.wit_model.specs.declared.error.Error.{Error}
 use Rattle.wit_model.specs.declared.error.Error.TheVariants as errors
 use Rattle.wit_model.specs.declared.model.StringEncoding.{StringEncoding}
@@ -95,6 +96,33 @@ historical = IsRefused.first ((0, old_contents) ∷ []) [] ((3 ∷ []) ∷ [])
     })
     (CarryData.carrying (0, old_contents) [] (codes "component-type", 3 ∷ []) [] refl old_custom refl CarryData.none)
     (inl (RefusesSection.historical [] refl refl))
+
+-- ---- a section without data
+
+abbrev empty_contents : List ℕ
+empty_contents = 0x0e ∷ codes "component-type"
+
+abbrev empty_section : List ℕ
+empty_section = 0x00 ∷ 0x0f ∷ empty_contents
+
+empty_frame : Taken IsFrame empty_section (0, empty_contents) []
+unfolding frames
+empty_frame = frame_law.takes empty_section (0, empty_contents) [] refl
+
+empty_custom : IsCustom (codes "component-type", []) empty_contents
+unfolding frames
+empty_custom = let name = name_law.takes empty_contents (codes "component-type") [] refl in (name.front, [], name.parts, name.spelled, refl)
+
+no_data : IsRefused (module_preamble ++ empty_section) (errors.NoReading Truncated 0)
+no_data = IsRefused.first ((0, empty_contents) ∷ []) [] ([] ∷ [])
+    (record {
+      front = empty_section;
+      parts = ap (λ (t : List ℕ). module_preamble ++ t) (sym (append-nil empty_section));
+      sections = ((empty_frame.front, [], empty_frame.parts, empty_frame.spelled, refl), ((λ is. ((codes "component-type", []), empty_custom)), tt));
+      ends = nothing-in-front;
+    })
+    (CarryData.carrying (0, empty_contents) [] (codes "component-type", []) [] refl empty_custom refl CarryData.none)
+    (inl (RefusesSection.empty refl refl))
 
 -- ---- what is said of the encoding
 

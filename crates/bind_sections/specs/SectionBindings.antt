@@ -1,6 +1,7 @@
 -- What the data of one section binds that carries a world (wit-component README, "Custom Section Format").
-use Rattle.std.specs.Prelude.{◌≡◌, ◌↔◌, ◌≤◌, ℕ, List, ◌∷◌, length, Ok, Err}
+use Rattle.std.specs.Prelude.{◌≡◌, ◌↔◌, ◌≤◌, ℕ, List, [], ◌∷◌, length, Ok, Err}
 use Rattle.wit_model.specs.declared.error.Cause.{Cause}
+use Rattle.wit_model.specs.declared.error.Cause.TheVariants.{Truncated}
 use Rattle.wit_model.specs.declared.error.Error.{Error}
 use Rattle.wit_model.specs.declared.error.Error.TheVariants as errors
 use Rattle.wit_model.specs.declared.model.Resolve.{Resolve}
@@ -22,11 +23,12 @@ pub record IsBoundBy (bytes : List ℕ) (b : Bindgen) : Type 0 where
   pub imports : MapsFunctions b.resolve (imports_of b.resolve b.world.0) encoding b.metadata.import_encodings
   pub exports : MapsFunctions b.resolve (exports_of b.resolve b.world.0) encoding b.metadata.export_encodings
 
--- Why data binds nothing: it is in the format of before there were versions, which begins with 3; it is not, and means no one world; it means one, and says
--- no encoding; or memory was wanting.
+-- Why data binds nothing: it is empty; it is in the format of before there were versions, which begins with 3; it is neither, and means no one world; it
+-- means one, and says no encoding; or memory was wanting.
 pub data RefusesSection (bytes : List ℕ) (e : Error) : Type 0 where
+  empty : bytes ≡ [] → e ≡ errors.NoReading Truncated 0 → RefusesSection bytes e
   historical : (rest : List ℕ) → bytes ≡ 3 ∷ rest → e ≡ errors.Historical → RefusesSection bytes e
-  unread : ((rest : List ℕ) → bytes ≡ 3 ∷ rest → ⊥) → (cause : Cause) (offset : ℕ) → e ≡ errors.NoReading cause offset → offset ≤ length bytes → MeansNoWorld bytes → RefusesSection bytes e
+  unread : (bytes ≡ [] → ⊥) → ((rest : List ℕ) → bytes ≡ 3 ∷ rest → ⊥) → (cause : Cause) (offset : ℕ) → e ≡ errors.NoReading cause offset → offset ≤ length bytes → MeansNoWorld bytes → RefusesSection bytes e
   unsaid : (m : WorldPackage) → ReadsWorld bytes m → AnswersSaid bytes (Err e) → RefusesSection bytes e
   memory : e ≡ errors.Memory → RefusesSection bytes e
 
