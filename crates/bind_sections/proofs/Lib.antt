@@ -4,6 +4,7 @@ pub mod DecodedWorlds
 pub mod DecodedPackages
 pub mod DecodedKeys
 pub mod BoundWorlds
+pub mod ReadBindings
 pub mod Orders
 pub mod Steps
 pub mod DecodeSteps

@@ -11,7 +11,7 @@ use Rattle.wit_model.specs.declared.model.StringEncoding.{StringEncoding}
 use Rattle.wit_model.specs.Text.{text_of}
 use Rattle.wit_model.specs.Meaning.{WorldPackage}
 use Rattle.wit_model.specs.Meant.{MeantWorld}
-use Rattle.bind_meaning.specs.Binding.{Binding}
+use Rattle.bind_meaning.specs.Binding.{Binding, IsBinding}
 use Rattle.bind_meaning.specs.ByMeaning.{binding_of_world}
 use Rattle.bind_meaning.specs.Laws.{HasGained}
 use Rattle.bind_meaning.specs.Roots.{root_path}
@@ -25,6 +25,14 @@ use Rattle.bind_sections.specs.Bound.{CarryData, HasSections, IsBound, IsRefused
 -- Data means one world and says one encoding at most.
 abbrev pub SectionsMeanOnce : Type 0
 SectionsMeanOnce = (d : List ℕ) (m n : WorldPackage) (e f : StringEncoding) → SectionMeans d m e → SectionMeans d n f → (m ≡ n) × (e ≡ f)
+
+-- What data binds is a binding: its world stands under its path, which is no interface's, and no key of it stands twice.
+abbrev pub SectionsAreBindings : Type 0
+SectionsAreBindings = (d : List ℕ) (m : WorldPackage) (e : StringEncoding) → SectionMeans d m e → IsBinding (binding_of_world m e)
+
+-- So is what a module binds.
+abbrev pub BoundAreBindings : Type 0
+BoundAreBindings = (input : List ℕ) (c : Binding) → IsBound input c → IsBinding c
 
 -- A module binds one thing at most.
 abbrev pub BoundOnce : Type 0

@@ -3,7 +3,7 @@
 ghost use Rattle.bind_meaning.specs.Orders.{EveryOrderFolds, FoldsHoldTheirs, OrdersGiveTheSame, SameInEachOrder};
 ghost use Rattle.bind_sections.specs.Orders.{BindsWhereNoTwoClash, EachUnitesOrClashes};
 ghost use Rattle.bind_sections.specs.Steps.{LeftOversEnd, OthersArePassed, ReadingBegins, ReadingEnds, RefusalsEnd, WorldsAreBound};
-ghost use Rattle.bind_sections.specs.BoundLaws.{BoundIsNotRefused, BoundOnce, BoundSectionsMean, OneRefusal, OneSectionBinds, SectionsBindTheirWorlds, SectionsMeanOnce};
+ghost use Rattle.bind_sections.specs.BoundLaws.{BoundAreBindings, BoundIsNotRefused, BoundOnce, BoundSectionsMean, OneRefusal, OneSectionBinds, SectionsAreBindings, SectionsBindTheirWorlds, SectionsMeanOnce};
 
 /// A list of section bindings is bound, one after the other onto the empty root world, exactly where no two of them clash in either order, the empty
 /// root world counted as one of them. What is bound has, by sense, exactly the packages, interfaces, worlds, imports, exports and encodings of its
@@ -23,6 +23,13 @@ pub fn bound_once()
     ensures one { BoundOnce }
     ensures refused { BoundIsNotRefused }
     ensures refusal { OneRefusal }
+{}
+
+/// What the data of a section binds, and what a module does, are bindings: the bound world stands under its path, no path is an interface and a world, and
+/// no key of it stands twice.
+pub fn bound_are_bindings()
+    ensures sections { SectionsAreBindings }
+    ensures modules { BoundAreBindings }
 {}
 
 /// Data that is bound means a world and says an encoding. And of bytes that mean exactly what a world of a `Resolve` does and carry an encoding, as those

@@ -5,7 +5,8 @@ ghost use Rattle.wit_component.specs.SectionBindings.{CarriedWorldsAreBound};
 
 pub use bind_meaning::laws::{both_orders, clashes};
 pub use bind_sections::laws::{
-    any_order, bound_once, modules_are_read_in_order, one_section_binds, sections_bind_their_worlds,
+    any_order, bound_are_bindings, bound_once, modules_are_read_in_order, one_section_binds,
+    sections_bind_their_worlds,
 };
 pub use comp_meaning::laws::one_meaning;
 pub use print_grammar::laws::one_reading;
