@@ -10,3 +10,4 @@ mod OneKey
 pub mod BoundWorlds
 pub mod RootBindings
 pub mod AsItWas
+pub mod KeptBindings

@@ -1,6 +1,7 @@
 //! Laws about the definitions.
 
 ghost use Rattle.wit_bind.specs.Bindings.{BindgensAreBindings, RootsAreRoots};
+ghost use Rattle.wit_bind.specs.Extends.{KeptBindingsAreTheSame};
 ghost use Rattle.wit_bind.specs.KeyLaws.{EachHasAKey};
 ghost use Rattle.wit_bind.specs.OldKeys.{OneOldKey};
 
@@ -25,4 +26,9 @@ pub fn bindgens_are_bindings()
 /// The bindings of a module that carries no world are, by meaning, the empty root world.
 pub fn roots_are_roots()
     ensures { RootsAreRoots }
+{}
+
+/// Bindings whose every entry, number and encoding is as it was stand for the same binding.
+pub fn kept_bindings_are_the_same()
+    ensures { KeptBindingsAreTheSame }
 {}
