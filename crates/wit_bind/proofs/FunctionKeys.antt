@@ -1,13 +1,11 @@
 -- The entries of functions, listed, are exactly those of functions.
-use Rattle.std.proofs.Common.{◌≡◌, refl, sym, ap, subst, ◌∙◌, ◌⊎◌, inl, inr, arith, ℕ, zero, suc, List, [], ◌∷◌, flat_map, filter_map, Option, Some, None, option_to_list, option_and_then, option_map, String, Result, Ok, Err, IfOk}
+use Rattle.std.proofs.Common.{◌≡◌, refl, sym, ap, subst, ◌∙◌, ◌⊎◌, inl, inr, arith, ℕ, zero, suc, List, [], ◌∷◌, flat_map, filter_map, Option, Some, None, option_to_list, option_and_then, option_map, Result, Ok, Err, IfOk}
 use Rattle.std.specs.List.{cons_option, Contains}
 use Rattle.std.specs.Option.{option_map_or}
 use Rattle.std.specs.FinMap.{empty, get-empty}
-use Rattle.std.specs.declared.alloc.Global.{Global}
 use Rattle.std.proofs.lemmas.List.Elements.{Contains-append_cases}
 use Rattle.wit_model.specs.declared.model.Resolve.{Resolve}
 use Rattle.wit_model.specs.declared.model.Interface.{Interface}
-use Rattle.wit_model.specs.declared.model.Function.{Function}
 use Rattle.wit_model.specs.declared.model.StringEncoding.{StringEncoding}
 use Rattle.wit_model.specs.declared.model.WorldItem.{WorldItem}
 use Rattle.wit_model.specs.declared.model.WorldItem.TheVariants as item
@@ -21,7 +19,7 @@ use Rattle.wit_bind.specs.Keys.{text_under, function_key}
 use Rattle.wit_bind.specs.Encodings.{Encodings, encoding_at}
 use Rattle.wit_bind.specs.Functions.{Items, IsFunctionKey, of_item, of_interface, MapsFunctions}
 use Rattle.wit_bind.specs.KeyLists.{Choice, Entry, entries_of_item, entries_of_items, entry_of, member_entries, Puts}
-use Rattle.wit_bind.specs.OldKeys.{IsFunctionOf, itself, member, CarriesOver, HadEncoding}
+use Rattle.wit_bind.specs.OldKeys.{IsFunctionOf, itself, member, CarriesOver}
 use Rattle.wit_bind.specs.Keys.{unversioned_key}
 use Rattle.wit_bind.proofs.Putting.{comes, holds}
 

@@ -2,7 +2,6 @@
 use Rattle.std.proofs.Common.{◌≡◌, refl, sym, ap, ◌∙◌, Bool, true, false, ◌==◌, ◌&&◌, [], ◌∷◌, ◌++◌, append_assoc, cond, Option, Some, None, option_map, option_and_then}
 use Rattle.std.specs.Option.{option_map_or}
 use Rattle.wit_model.specs.Text.{Text, text_eq}
-use Rattle.wit_model.specs.Names.{path_in}
 use Rattle.wit_model.specs.Rules.{after_prefix}
 use Rattle.wit_bind.specs.Keys.{text_under}
 use Rattle.wit_bind.specs.KeyTests.{after_slash}

@@ -7,3 +7,7 @@ mod Roots
 mod VersionTexts
 mod Sides
 mod OneKey
+pub mod BoundWorlds
+pub mod RootBindings
+pub mod AsItWas
+pub mod KeptBindings

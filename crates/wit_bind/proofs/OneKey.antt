@@ -1,40 +1,28 @@
 -- In a valid `Resolve` functions of a world that share a key shared their key without version.
-use Rattle.std.proofs.Common.{◌≡◌, refl, sym, ap, subst, ◌∙◌, arith, ℕ, ◌+◌, Bool, true, false, ◌&&◌, ◌||◌, ◌==◌, not, cond, List, [], ◌∷◌, ◌++◌, append_assoc, codes, drop, Option, Some, None, option_map, option_and_then, String, T, eqb→eq, eq-eqb, Result, Ok, Err, IfOk}
-use Rattle.std.specs.List.{list_all, Contains}
+use Rattle.std.proofs.Common.{◌≡◌, refl, sym, ap, subst, ◌∙◌, ℕ, true, [], ◌∷◌, ◌++◌, append_assoc, Option, Some, None, option_map, option_and_then, String, Result, Ok, Err, IfOk}
+use Rattle.std.specs.List.{Contains}
 use Rattle.std.specs.Option.{option_map_or}
 use Rattle.std.specs.declared.alloc.Global.{Global}
-use Rattle.std.proofs.lemmas.Bool.{and_from, not-true}
 use Rattle.std.proofs.lemmas.List.Elements.{Contains-append_left, Contains-append_right}
-use Rattle.std.proofs.lemmas.List.Folds.{list_all-append}
 use Rattle.std.proofs.lemmas.List.{append_cancel_right}
-use Rattle.std.proofs.lemmas.Option.{some_pair_parts}
-use Rattle.indexmap.specs.IndexMap.{values}
 use Rattle.wit_model.specs.declared.model.Resolve.{Resolve}
 use Rattle.wit_model.specs.declared.model.Package.{Package}
 use Rattle.wit_model.specs.declared.model.PackageId.{PackageId}
 use Rattle.wit_model.specs.declared.model.PackageName.{PackageName}
 use Rattle.wit_model.specs.declared.model.Interface.{Interface}
 use Rattle.wit_model.specs.declared.model.InterfaceId.{InterfaceId}
-use Rattle.wit_model.specs.declared.model.Function.{Function}
-use Rattle.wit_model.specs.declared.model.FunctionKind.{FunctionKind}
-use Rattle.wit_model.specs.declared.model.FunctionKind.TheVariants as call
-use Rattle.wit_model.specs.declared.model.TypeDef.{TypeDef}
-use Rattle.wit_model.specs.declared.model.«TypeOwner».{TypeOwner}
 use Rattle.wit_model.specs.declared.model.World.{World}
 use Rattle.wit_model.specs.declared.model.WorldItem.{WorldItem}
 use Rattle.wit_model.specs.declared.model.WorldItem.TheVariants as item
 use Rattle.wit_model.specs.declared.model.WorldKey.{WorldKey}
 use Rattle.wit_model.specs.declared.model.WorldKey.TheVariants as key
-use Rattle.wit_model.specs.Text.{Text, optional_text, text_eq, text_of}
-use Rattle.wit_model.specs.Lookup.{canonical_identity_of, interface_at, package_at, resource_of, type_at, world_at}
+use Rattle.wit_model.specs.Text.{Text, text_of}
+use Rattle.wit_model.specs.Lookup.{canonical_identity_of, interface_at, package_at, world_at}
 use Rattle.wit_model.specs.Paths.{full_name}
-use Rattle.wit_model.specs.Names.{at_version, constructor_name, cut, is_label, method_name, path_in, static_name}
-use Rattle.wit_model.specs.Parts.{same_owner}
-use Rattle.wit_model.specs.Rules.{after_prefix, entries_labels, function_labels, is_freestanding, is_member, is_member_name, is_member_of, is_name_key, is_resource_itself, is_stability, item_labels, key_label, passes, resource_name, takes_self}
-use Rattle.wit_model.specs.Valid.{Rule, Keeps, IsValid, as_interface, as_world, function_names, functions_of_interface, item_function, labels}
-use Rattle.wit_model.proofs.AnyOrder.{text-same}
-use Rattle.wit_model.proofs.Elements.{all-contained, contains-map, none-in, same-some}
-use Rattle.wit_model.proofs.Entries.{each_from_at, lists_pass}
+use Rattle.wit_model.specs.Names.{at_version, is_label, path_in}
+use Rattle.wit_model.specs.Rules.{passes}
+use Rattle.wit_model.specs.Valid.{IsValid, labels}
+use Rattle.wit_model.proofs.Elements.{none-in, same-some}
 use Rattle.wit_model.proofs.Lists.{first_true, second_true}
 use Rattle.wit_model.proofs.NameLaws.{label_lacks}
 use Rattle.wit_model.proofs.OnePath.{interface-passes, package-name}
@@ -45,162 +33,8 @@ use Rattle.wit_bind.specs.Functions.{Items}
 use Rattle.wit_bind.specs.declared.encodings.Side.{Side}
 use Rattle.wit_bind.specs.declared.encodings.Side.TheVariants as sides
 use Rattle.wit_bind.specs.OldKeys.{IsFunctionOf, itself, member, items_of, items_on, CarriesEach, CarriesOver, HadEncoding, OneOldKey}
-use Rattle.wit_bind.proofs.ValidKeys.{canonical-by-name, own_name, world-passes}
-
--- ---- texts
-
-abbrev pub is_other : ℕ → ℕ → Bool
-is_other c b = not (b == c)
-
--- a text without this byte
-abbrev pub Lacks : ℕ → Text → Type 0
-Lacks c text = list_all (is_other c) text ≡ true
-
-lacks-both : (c : ℕ) (a b : Text) → Lacks c a → Lacks c b → Lacks c (a ++ b)
-lacks-both c a b h k = list_all-append (is_other c) a b ∙ and_from _ _ h k
-
-itself-not : (c : ℕ) → is_other c c ≡ true → ⊥
-itself-not c h = let same = eq-eqb c c refl in let z : ⊥ = cc in z
-
--- a text that goes on with the byte doesn't lack it
-goes-on : (c : ℕ) (a b : Text) → Lacks c (a ++ (c ∷ b)) → ⊥
-goes-on c [] b h = itself-not c (first_true (is_other c c) _ h)
-goes-on c (x ∷ a) b h = goes-on c a b (second_true (is_other c x) _ h)
-
-cut_first : (c : ℕ) (a b : Text) → Lacks c a → cut c (a ++ (c ∷ b)) ≡ Some (a, b)
-unfolding cut
-cut_first c [] b h = rw (eq-eqb c c refl)
-cut_first c (x ∷ a) b h = rw (not-true (x == c) (first_true (is_other c x) _ h), cut_first c a b (second_true (is_other c x) _ h)) refl
-
--- what stands in front of the first such byte, and what behind it
-same_cut : (c : ℕ) (a b x y : Text) → Lacks c a → Lacks c x → a ++ (c ∷ b) ≡ x ++ (c ∷ y) → (a ≡ x) × (b ≡ y)
-same_cut c a b x y h k same = some_pair_parts a x b y (sym (cut_first c a b h) ∙ ap (cut c) same ∙ cut_first c x y k)
-
--- what stands behind the last such byte
-last_cut : (c : ℕ) (a b x y : Text) → Lacks c b → Lacks c y → a ++ (c ∷ b) ≡ x ++ (c ∷ y) → b ≡ y
-last_cut c [] b [] y h k same = ap (drop 1) same
-last_cut c [] b (z ∷ x) y h k same = absurd (goes-on c x y (subst (Lacks c) (ap (drop 1) same) h))
-last_cut c (z ∷ a) b [] y h k same = absurd (goes-on c a b (subst (Lacks c) (sym (ap (drop 1) same)) k))
-last_cut c (z ∷ a) b (w ∷ x) y h k same = last_cut c a b x y h k (ap (drop 1) same)
-
--- ---- names of functions
-
-after-front : (front text rest : Text) → after_prefix front text ≡ Some rest → text ≡ front ++ rest
-after-front [] text rest h = same-some text rest h
-after-front (p ∷ front) [] rest h = absurd (let z : ⊥ = cc in z)
-after-front (p ∷ front) (b ∷ text) rest h = go (after-front front text rest) (p == b) refl h
-  where
-    go : (after_prefix front text ≡ Some rest → text ≡ front ++ rest) → (v : Bool) → (p == b) ≡ v → cond v (after_prefix front text) None ≡ Some rest → b ∷ text ≡ (p ∷ front) ++ rest
-    go again true e k = let head : p ≡ b = eqb→eq p b (subst T (sym e) tt) in let tail : text ≡ front ++ rest = again k in cc
-    go again false e k = absurd (let z : ⊥ = cc in z)
-
--- a byte that no label has, and that stands in no mark of functions
-pub record IsApart (c : ℕ) : Type 0 where
-  pub of_labels : (text : Text) → is_label text ≡ true → Lacks c text
-  pub of_methods : Lacks c (codes "[method]")
-  pub of_statics : Lacks c (codes "[static]")
-  pub of_constructors : Lacks c (codes "[constructor]")
-  pub of_dots : Lacks c (46 ∷ [])
-
-slash : IsApart 47
-slash = record { of_labels = label_lacks 47 refl; of_methods = refl; of_statics = refl; of_constructors = refl; of_dots = refl }
-
-colon : IsApart 58
-colon = record { of_labels = label_lacks 58 refl; of_methods = refl; of_statics = refl; of_constructors = refl; of_dots = refl }
-
-module _ (c : ℕ) (apart : IsApart c) where
-  -- what follows a mark, a label and a dot
-  marked_lacks : (mark name : Text) (f : Function) → Lacks c mark → is_label name ≡ true → is_member_name (mark ++ (name ++ (46 ∷ []))) f ≡ true → Lacks c (text_of f.name)
-  marked_lacks mark name f plain label h = go (after_prefix (mark ++ (name ++ (46 ∷ []))) (text_of f.name)) refl h
-    where
-      go : (o : Option Text) → after_prefix (mark ++ (name ++ (46 ∷ []))) (text_of f.name) ≡ o → option_map_or is_label o false ≡ true → Lacks c (text_of f.name)
-      go None e g = absurd (let z : ⊥ = cc in z)
-      go (Some rest) e g =
-          let whole = after-front (mark ++ (name ++ (46 ∷ []))) (text_of f.name) rest e in
-          subst (Lacks c) (sym whole)
-          (lacks-both c (mark ++ (name ++ (46 ∷ []))) rest (lacks-both c mark (name ++ (46 ∷ [])) plain (lacks-both c name (46 ∷ []) (apart.of_labels name label) apart.of_dots)) (apart.of_labels rest g))
-
-  member_lacks : (r : Resolve) (n : ℕ) (name : Text) (f : Function) (k : FunctionKind) → is_label name ≡ true → (not (is_freestanding k) || is_label (text_of f.name)) ≡ true → is_member_of r n name f k ≡ true → Lacks c (text_of f.name)
-  member_lacks r n name f call.Freestanding label own h = apart.of_labels (text_of f.name) own
-  member_lacks r n name f call.AsyncFreestanding label own h = apart.of_labels (text_of f.name) own
-  member_lacks r n name f (call.Method id) label own h = marked_lacks (codes "[method]") name f apart.of_methods label (first_true (is_member_name (method_name name []) f) _ h)
-  member_lacks r n name f (call.AsyncMethod id) label own h = marked_lacks (codes "[method]") name f apart.of_methods label (first_true (is_member_name (method_name name []) f) _ h)
-  member_lacks r n name f (call.Static id) label own h = marked_lacks (codes "[static]") name f apart.of_statics label h
-  member_lacks r n name f (call.AsyncStatic id) label own h = marked_lacks (codes "[static]") name f apart.of_statics label h
-  member_lacks r n name f (call.Constructor id) label own h =
-      let same = text-same (text_of f.name) (constructor_name name) (first_true (text_eq (text_of f.name) (constructor_name name)) _ h) in
-      subst (Lacks c) (sym same) (lacks-both c (codes "[constructor]") name apart.of_constructors (apart.of_labels name label))
-
-  module _ (r : Resolve) (v : IsValid r) where
-    type-label : (n : ℕ) (def : TypeDef) → type_at r n ≡ Some def → passes (λ name. is_label (text_of name)) def.name ≡ true
-    unfolding labels
-    type-label n def at =
-        let here : 0 + n ≡ n = omega arith in
-        first_true (passes (λ name. is_label (text_of name)) def.name) _ (each_from_at (labels.type_ r) 0 r.types.items n def (lists_pass labels r v.rules.labels).3 at)
-
-    resource-label : (o : TypeOwner) (n : ℕ) (name : Text) → resource_name r o n ≡ Some name → is_label name ≡ true
-    resource-label o n name h = go (type_at r n) refl h
-      where
-        given : (b : Bool) (t : Option (String Global)) → passes (λ s. is_label (text_of s)) t ≡ true → cond b (optional_text t) None ≡ Some name → is_label name ≡ true
-        given true None w e = absurd (let z : ⊥ = cc in z)
-        given true (Some s) w e = ap is_label (sym (same-some (text_of s) name e)) ∙ w
-        given false t w e = absurd (let z : ⊥ = cc in z)
-
-        go : (d : Option TypeDef) → type_at r n ≡ d → option_and_then (λ def. cond (is_resource_itself def.kind && same_owner def.owner o) (optional_text def.name) None) d ≡ Some name → is_label name ≡ true
-        go None at e = absurd (let z : ⊥ = cc in z)
-        go (Some def) at e = given (is_resource_itself def.kind && same_owner def.owner o) def.name (type-label n def at) e
-
-    -- the name of a function lacks the byte
-    function_lacks : (o : TypeOwner) (f : Function) → (not (is_freestanding f.kind) || is_label (text_of f.name)) ≡ true → is_member r o f ≡ true → Lacks c (text_of f.name)
-    function_lacks o f own belongs = go f.kind refl own belongs
-      where
-        named : (k : FunctionKind) (n : ℕ) → (t : Option Text) → resource_name r o n ≡ t → (not (is_freestanding k) || is_label (text_of f.name)) ≡ true → option_map_or (λ name. is_member_of r n name f k) t false ≡ true → Lacks c (text_of f.name)
-        named k n None at own h = absurd (let z : ⊥ = cc in z)
-        named k n (Some name) at own h = member_lacks r n name f k (resource-label o n name at) own h
-
-        go : (k : FunctionKind) → f.kind ≡ k → (not (is_freestanding k) || is_label (text_of f.name)) ≡ true → passes (λ n. option_map_or (λ name. is_member_of r n name f k) (resource_name r o n) false) (resource_of k) ≡ true → Lacks c (text_of f.name)
-        go call.Freestanding is own h = apart.of_labels (text_of f.name) own
-        go call.AsyncFreestanding is own h = apart.of_labels (text_of f.name) own
-        go (call.Method id) is own h = named (call.Method id) id.0 (resource_name r o id.0) refl own h
-        go (call.AsyncMethod id) is own h = named (call.AsyncMethod id) id.0 (resource_name r o id.0) refl own h
-        go (call.Static id) is own h = named (call.Static id) id.0 (resource_name r o id.0) refl own h
-        go (call.AsyncStatic id) is own h = named (call.AsyncStatic id) id.0 (resource_name r o id.0) refl own h
-        go (call.Constructor id) is own h = named (call.Constructor id) id.0 (resource_name r o id.0) refl own h
-
-    -- the name under which a function of an interface stands lacks the byte
-    pub listed_lacks : (n : ℕ) (owner : Interface) → interface_at r n ≡ Some owner → (name : String Global) (f : Function) → Contains owner.functions.entries (name, f) → Lacks c (text_of name)
-    unfolding labels function_names
-    listed_lacks n owner at name f stands =
-        let passed = interface-passes labels r v.rules.labels n owner at in
-        let rest = second_true (passes (λ name. is_label (text_of name)) owner.name) _ passed in
-        let both = second_true (is_stability owner.stability) _ rest in
-        let all = first_true (list_all function_labels (functions_of_interface owner)) _ both in
-        let labelled = all-contained function_labels (functions_of_interface owner) f all (contains-map (λ (e : String Global × Function). e.1) owner.functions.entries (name, f) stands) in
-        let own = first_true (not (is_freestanding f.kind) || is_label (text_of f.name)) _ labelled in
-        let tested = all-contained (λ e. text_eq (text_of e.0) (text_of e.1.name) && is_member r (as_interface n) e.1) owner.functions.entries (name, f) (interface-passes function_names r v.rules.function_names n owner at) stands in
-        subst (Lacks c) (sym (own_name r v n owner at name f stands)) (function_lacks (as_interface n) f own (second_true (text_eq (text_of name) (text_of f.name)) _ tested))
-
-    -- and so does the label under which an item stands
-    pub key_lacks : (n : ℕ) (w : World) → world_at r n ≡ Some w → (name : String Global) (shown : WorldItem) → Contains (w.imports.entries ++ w.exports.entries) (key.Name name, shown) → Lacks c (text_of name)
-    unfolding labels function_names
-    key_lacks n w at name shown stands =
-        let passed = world-passes labels r v.rules.labels n w at in
-        let rest = second_true (is_label (text_of w.name)) _ passed in
-        let both = second_true (is_stability w.stability) _ rest in
-        let imported = first_true (entries_labels w.imports.entries) _ both in
-        let exported = second_true (entries_labels w.imports.entries) _ both in
-        let all = list_all-append (λ e. key_label e.0 e.1 && item_labels e.1) w.imports.entries w.exports.entries ∙ and_from _ _ imported exported in
-        let here = all-contained (λ e. key_label e.0 e.1 && item_labels e.1) (w.imports.entries ++ w.exports.entries) (key.Name name, shown) all stands in
-        let tested = all-contained (λ e. passes (λ f. is_name_key (text_of f.name) e.0 && is_member r (as_world n) f) (item_function e.1)) (w.imports.entries ++ w.exports.entries) (key.Name name, shown)
-        (world-passes function_names r v.rules.function_names n w at) stands in
-        go shown (first_true (key_label (key.Name name) shown) _ here) tested
-      where
-        go : (shown : WorldItem) → key_label (key.Name name) shown ≡ true → passes (λ f. is_name_key (text_of f.name) (key.Name name) && is_member r (as_world n) f) (item_function shown) ≡ true → Lacks c (text_of name)
-        go (item.Interface id stability docs external_id) label h = apart.of_labels (text_of name) label
-        go (item.Type_ id) label h = apart.of_labels (text_of name) label
-        go (item.Function f) label h =
-            let same = text-same (text_of name) (text_of f.name) (first_true (is_name_key (text_of f.name) (key.Name name)) _ h) in
-            subst (Lacks c) (sym same) (function_lacks (as_world n) f (ap (λ t. not (is_freestanding f.kind) || is_label t) (sym same) ∙ label) (second_true (is_name_key (text_of f.name) (key.Name name)) _ h))
+use Rattle.bind_meaning.proofs.KeyNames.{Lacks, colon, goes-on, key_lacks, last_cut, lacks-both, listed_lacks, same_cut, slash}
+use Rattle.wit_bind.proofs.ValidKeys.{canonical-by-name}
 
 -- ---- paths
 

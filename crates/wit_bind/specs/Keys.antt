@@ -1,6 +1,6 @@
 -- The keys under which the encodings of functions are kept (documentation of wit-component's `EncodingMap`; WIT.md, "Package declaration"; Semantic
 -- Versioning 2.0.0).
-use Rattle.std.specs.Prelude.{ℕ, ◌∷◌, ◌++◌, Option, Some, None, option_map}
+use Rattle.std.specs.Prelude.{ℕ, Option, Some, None, option_map}
 use Rattle.wit_model.specs.declared.model.Resolve.{Resolve}
 use Rattle.wit_model.specs.declared.model.PackageName.{PackageName}
 use Rattle.wit_model.specs.declared.model.WorldKey.{WorldKey}
@@ -9,15 +9,12 @@ use Rattle.wit_model.specs.Lookup.{canonical_path}
 use Rattle.wit_model.specs.Text.{Text, text_of}
 use Rattle.wit_model.specs.Names.{PackageIdentity, path_in}
 use Rattle.wit_model.specs.Paths.{full_name}
+pub use Rattle.bind_meaning.specs.Keys.{text_under}
 
 -- what stands in front of a function: the label under which its interface, or itself, is imported or exported, or the canonical path of its interface
 abbrev pub scope_of : Resolve → WorldKey → Option Text
 scope_of r (key.Name name) = Some (text_of name)
 scope_of r (key.Interface id) = canonical_path r id.0
-
--- `scope/function`
-abbrev pub text_under : Text → Text → Text
-text_under scope function = scope ++ (47 ∷ function)
 
 -- the key of a function by its name, and none under an interface that has no path
 abbrev pub function_key : Resolve → WorldKey → Text → Option Text

@@ -8,3 +8,6 @@ pub mod Roots
 pub mod Versions
 pub mod OldKeys
 pub mod Choices
+pub mod Bindings
+pub mod Extends
+pub mod Merges

@@ -23,6 +23,7 @@ pub use Rattle.print_grammar.specs.Calls
 pub use Rattle.print_grammar.specs.Reading
 pub use Rattle.print_output.specs.Render
 pub use Rattle.wit_print.specs.Shown
+pub use Rattle.wit_bind.specs.Bindings
 pub use Rattle.wit_bind.specs.Encodings
 pub use Rattle.wit_bind.specs.Functions
 pub use Rattle.wit_bind.specs.Keys
@@ -30,3 +31,4 @@ pub use Rattle.wit_bind.specs.OldKeys
 pub use Rattle.wit_bind.specs.Roots
 pub use Rattle.wit_metadata.specs.Carried
 pub use Rattle.wit_metadata.specs.Said
+pub use Rattle.bind_sections.specs.Bound

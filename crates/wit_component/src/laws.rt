@@ -3,6 +3,11 @@
 ghost use Rattle.wit_component.specs.ReadBack.{DecodedHaveMembers, DecodingGivesThatMeaning, EncodingKeepsMeaning, MemoryAloneIsRefused};
 ghost use Rattle.wit_component.specs.SectionBindings.{CarriedWorldsAreBound};
 
+pub use bind_meaning::laws::{both_orders, clashes};
+pub use bind_sections::laws::{
+    any_order, bound_are_bindings, bound_once, modules_are_read_in_order, one_section_binds,
+    sections_bind_their_worlds,
+};
 pub use comp_meaning::laws::one_meaning;
 pub use print_grammar::laws::one_reading;
 pub use wit_compat::laws::{semver_check_counted, transitive};

@@ -1,5 +1,5 @@
 mod Carrying
 mod Homes
-mod ModuleLaws
+pub mod ModuleLaws
 pub mod SaidLaws
 mod Weighing

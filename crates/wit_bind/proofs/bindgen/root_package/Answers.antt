@@ -1,5 +1,4 @@
-use Rattle.std.proofs.Common.{◌≡◌, ◌∙◌, ap, refl, [], List, String, rules, string_eq}
-use Rattle.indexmap.specs.IndexMap.{insert_entry}
+use Rattle.std.proofs.Common.{◌≡◌, refl, [], rules}
 use Rattle.wit_bind.proofs.bindgen.root_package.Goals as goal
 
 pub returns-clause-ok : goal.returns-clause-ok

@@ -1,4 +1,3 @@
-use Rattle.std.proofs.Common.{Ok, IfOk}
 use Rattle.wit_bind.proofs.FunctionKeys.{all_functions}
 use Rattle.wit_bind.proofs.metadata.encodings.Goals as goal
 

@@ -1,4 +1,4 @@
-use Rattle.std.proofs.Common.{rules, ◌≡◌, sym, ap, ◌∙◌, Some, None, ◌++◌}
+use Rattle.std.proofs.Common.{rules, ◌≡◌, sym, ap, ◌∙◌, None}
 use Rattle.std.specs.Option.{option_copied}
 use Rattle.wit_model.specs.Rules.{after_prefix}
 use Rattle.wit_bind.proofs.KeyTexts.{then_none, then_some}

@@ -1,7 +1,5 @@
-use Rattle.std.proofs.Common.{rules, ◌≡◌, sym, ◌∙◌, Some, None, ◌∷◌, [], ◌++◌}
-use Rattle.std.specs.Prelude.{decimal}
+use Rattle.std.proofs.Common.{rules, ◌≡◌, ◌∙◌, None, ◌∷◌, []}
 use Rattle.std.specs.Option.{option_copied}
-use Rattle.wit_model.specs.Rules.{after_prefix}
 use Rattle.semver.specs.Identifiers.{build_text, pre_text}
 use Rattle.wit_bind.specs.Versions.{marked_by}
 use Rattle.wit_bind.proofs.KeyTexts.{then_none, then_some}

@@ -1,4 +1,4 @@
-use Rattle.std.proofs.Common.{rules, ◌≡◌, ap, subst, ◌∙◌, ◌∷◌, List, option_to_list}
+use Rattle.std.proofs.Common.{rules, ap, subst, ◌∙◌, List, option_to_list}
 use Rattle.std.specs.Map.Iter.{deref_pair}
 use Rattle.std.proofs.lemmas.Map.Iter.{rest_more}
 use Rattle.wit_model.specs.Text.{text_of}

@@ -1,4 +1,4 @@
-use Rattle.std.proofs.Common.{◌≡◌, ap, subst, List}
+use Rattle.std.proofs.Common.{ap, subst, List}
 use Rattle.std.specs.FinMap.{empty}
 use Rattle.std.specs.Map.Iter.{deref_pair}
 use Rattle.std.proofs.lemmas.Map.Iter.{rest_all, rest_more}

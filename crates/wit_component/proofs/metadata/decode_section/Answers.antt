@@ -1,12 +1,11 @@
-use Rattle.std.proofs.Common.{◌≡◌, refl, subst, ℕ, List, ◌∷◌, arith, Err}
-use Rattle.wit_model.specs.declared.error.Cause.TheVariants.{Truncated}
+use Rattle.std.proofs.Common.{◌≡◌, refl, subst, ℕ, ◌∷◌}
 use Rattle.wit_component.specs.SectionBindings.{RefusesSection}
 use Rattle.wit_component.proofs.Refusing.{passed_on}
-use Rattle.wit_component.proofs.SectionLaws.{none-begins, none-means, other-begins, unread-section}
+use Rattle.wit_component.proofs.SectionLaws.{is-nothing, is-something, other-begins, unread-section}
 use Rattle.wit_component.proofs.metadata.decode_section.Goals as goal
 
 pub returns-in_default-clause-refuses : goal.returns-in_default-clause-refuses
-returns-in_default-clause-refuses c = RefusesSection.unread (none-begins c.args.section.now c.in_default.ensures.cases) Truncated 0 refl (omega arith) (none-means c.args.section.now c.in_default.ensures.cases)
+returns-in_default-clause-refuses c = RefusesSection.empty (is-nothing c.args.section.now c.in_default.ensures.cases) refl
 
 pub returns-then-first-eq3-clause-refuses : goal.returns-then-first-eq3-clause-refuses
 returns-then-first-eq3-clause-refuses c =
@@ -15,7 +14,7 @@ returns-then-first-eq3-clause-refuses c =
 pub returns-in_err-resolve-clause-refuses : goal.returns-in_err-resolve-clause-refuses
 returns-in_err-resolve-clause-refuses c =
     passed_on (RefusesSection c.args.section.now) c.in_err-resolve.field-0.0 c.from_residual.result
-    (unread-section c.args.section.now c.in_err-resolve.field-0.0 (other-begins c.args.section.now c.in-Some.first.now c.in-Some.field-0-1.now c.in-Some.ensures.cases.0 c.if-first-eq3.false) c.in_err-resolve.ensures.refuses) c.from_residual.ensures.1
+    (unread-section c.args.section.now c.in_err-resolve.field-0.0 (is-something c.args.section.now c.in-Some.first.now c.in-Some.field-0-1.now c.in-Some.ensures.cases.0) (other-begins c.args.section.now c.in-Some.first.now c.in-Some.field-0-1.now c.in-Some.ensures.cases.0 c.if-first-eq3.false) c.in_err-resolve.ensures.refuses) c.from_residual.ensures.1
 
 pub returns-in_err-encoding-clause-refuses : goal.returns-in_err-encoding-clause-refuses
 returns-in_err-encoding-clause-refuses c =

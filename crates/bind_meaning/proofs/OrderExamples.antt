@@ -1,0 +1,121 @@
+-- Worked examples: worlds that bind in every order, and one that binds in none.
+use Rattle.std.proofs.Common.{◌≡◌, refl, sym, subst, List, [], ◌∷◌, None}
+use Rattle.std.specs.Prelude.{codes}
+use Rattle.wit_model.specs.declared.model.StringEncoding.TheVariants as encodings
+use Rattle.wit_model.specs.Names.{cut}
+use Rattle.wit_model.specs.Meaning.{WorldPackage}
+use Rattle.bind_meaning.specs.Binding.{Binding}
+use Rattle.bind_meaning.specs.ByMeaning.{binding_of_world}
+use Rattle.bind_meaning.specs.Clash.{CanUnite}
+use Rattle.bind_meaning.specs.Lists.{Listed, ListsAgree, binding_from}
+use Rattle.bind_meaning.specs.Orders.{ArePairwise, Folds, IsReordered}
+use Rattle.bind_meaning.specs.Roots.{root_binding}
+use Rattle.bind_meaning.proofs.EachOrder.{every_order_folds}
+use Rattle.bind_meaning.proofs.Examples as functions
+use Rattle.bind_meaning.proofs.InterfaceExamples as interfaces
+use Rattle.bind_meaning.proofs.InterfaceExamples.{key_shown, showing, test_path, test_shown, under_its_path}
+use Rattle.bind_meaning.proofs.ListLaws.{got, united_by_lists}
+use Rattle.bind_meaning.proofs.Orders.{pairwise_folds}
+use Rattle.bind_meaning.proofs.WorldLists.{binding_listed}
+
+-- world w { import test:test/test; } of package c:d
+abbrev other : WorldPackage
+other = showing (record { namespace = codes "c"; name = codes "d"; version = None }) (codes "w") (under_its_path test_path ∷ []) [] test_path functions.unit_function
+
+abbrev other_lists : Listed
+other_lists = record {
+  packages = codes "c:d" ∷ codes "test:test" ∷ [];
+  interfaces = test_shown;
+  worlds = (codes "c:d/w", other.world) ∷ [];
+  path = codes "c:d/w";
+  bound = other.world;
+  imported_encodings = (codes "test:test/test/f", encodings.UTF8) ∷ [];
+  exported_encodings = [];
+}
+
+other_listed : binding_of_world other encodings.UTF8 ≡ binding_from other_lists
+unfolding cut
+other_listed = binding_listed other test_shown (codes "test:test/test/f" ∷ []) [] encodings.UTF8 refl tt (key_shown test_path functions.unit_function (got test_shown test_path)) refl
+
+-- ---- three worlds
+
+-- the empty root world, the world foo of `test:test`, that of `a:b`, and w, by lists
+abbrev four : List Binding
+four = binding_from functions.root_lists ∷ binding_from interfaces.foo_lists ∷ binding_from functions.foo_lists ∷ binding_from other_lists ∷ []
+
+root_unites : (b : Listed) → ListsAgree functions.root_lists b → CanUnite (binding_from functions.root_lists) (binding_from b)
+root_unites b agree = united_by_lists functions.root_lists b agree
+
+four_pairwise : ArePairwise four
+four_pairwise = (
+  (
+    (
+      root_unites interfaces.foo_lists (record { interfaces = tt; no_world = tt; no_interface = (λ s. s, tt); worlds = (tt, tt); imports = tt; exports = tt; imported_encodings = tt; exported_encodings = tt }),
+      united_by_lists interfaces.foo_lists functions.root_lists (record { interfaces = (tt, tt); no_world = (λ s. s, tt); no_interface = (λ s. s, tt); worlds = (tt, tt); imports = (tt, tt); exports = tt; imported_encodings = (tt, tt); exported_encodings = tt }),
+    ),
+    (
+      (
+        root_unites functions.foo_lists (record { interfaces = tt; no_world = tt; no_interface = (λ s. s, tt); worlds = (tt, tt); imports = tt; exports = tt; imported_encodings = tt; exported_encodings = tt }),
+        united_by_lists functions.foo_lists functions.root_lists (record { interfaces = tt; no_world = tt; no_interface = (λ s. s, tt); worlds = (tt, tt); imports = (tt, tt); exports = (λ s. s, tt); imported_encodings = (tt, tt); exported_encodings = (tt, tt) }),
+      ),
+      (
+        (
+          root_unites other_lists (record { interfaces = tt; no_world = tt; no_interface = (λ s. s, tt); worlds = (tt, tt); imports = tt; exports = tt; imported_encodings = tt; exported_encodings = tt }),
+          united_by_lists other_lists functions.root_lists (record { interfaces = (tt, tt); no_world = (λ s. s, tt); no_interface = (λ s. s, tt); worlds = (tt, tt); imports = (tt, tt); exports = tt; imported_encodings = (tt, tt); exported_encodings = tt }),
+        ),
+        tt,
+      ),
+    ),
+  ),
+  (
+    (
+      (
+        united_by_lists interfaces.foo_lists functions.foo_lists (record { interfaces = (tt, tt); no_world = (λ s. s, tt); no_interface = (λ s. s, tt); worlds = (tt, tt); imports = (tt, tt); exports = tt; imported_encodings = (tt, tt); exported_encodings = tt }),
+        united_by_lists functions.foo_lists interfaces.foo_lists (record { interfaces = tt; no_world = tt; no_interface = (λ s. s, tt); worlds = (tt, tt); imports = (tt, tt); exports = (λ s. s, tt); imported_encodings = (tt, tt); exported_encodings = (tt, tt) }),
+      ),
+      (
+        (
+          united_by_lists interfaces.foo_lists other_lists (record { interfaces = (refl, tt); no_world = (λ s. s, tt); no_interface = (λ s. s, tt); worlds = (tt, tt); imports = (refl, tt); exports = tt; imported_encodings = (refl, tt); exported_encodings = tt }),
+          united_by_lists other_lists interfaces.foo_lists (record { interfaces = (refl, tt); no_world = (λ s. s, tt); no_interface = (λ s. s, tt); worlds = (tt, tt); imports = (refl, tt); exports = tt; imported_encodings = (refl, tt); exported_encodings = tt }),
+        ),
+        tt,
+      ),
+    ),
+    (
+      (
+        (
+          united_by_lists functions.foo_lists other_lists (record { interfaces = tt; no_world = tt; no_interface = (λ s. s, tt); worlds = (tt, tt); imports = (tt, tt); exports = (λ s. s, tt); imported_encodings = (tt, tt); exported_encodings = (tt, tt) }),
+          united_by_lists other_lists functions.foo_lists (record { interfaces = (tt, tt); no_world = (λ s. s, tt); no_interface = (λ s. s, tt); worlds = (tt, tt); imports = (tt, tt); exports = tt; imported_encodings = (tt, tt); exported_encodings = tt }),
+        ),
+        tt,
+      ),
+      (tt, tt),
+    ),
+  ),
+)
+
+-- the three by what they mean
+abbrev three : List Binding
+three = binding_of_world interfaces.foo encodings.UTF8 ∷ binding_of_world functions.foo encodings.UTF8 ∷ binding_of_world other encodings.UTF8 ∷ []
+
+three_pairwise : ArePairwise (root_binding ∷ three)
+three_pairwise = subst ArePairwise (sym (λ i. functions.root_by_lists i ∷ interfaces.foo_listed i ∷ functions.foo_listed i ∷ other_listed i ∷ [])) four_pairwise
+
+-- they bind in all six orders
+every_order : (bs : List Binding) → IsReordered three bs → (c : Binding) × Folds root_binding bs c
+every_order bs order = (every_order_folds three bs order).0 ((pairwise_folds three).1 three_pairwise)
+
+-- ---- one world twice
+
+-- both export the interface
+bar_itself : CanUnite (binding_from interfaces.bar_lists) (binding_from interfaces.bar_lists) → ⊥
+bar_itself u = u.exports test_path tt
+
+abbrev twice : List Binding
+twice = binding_of_world interfaces.bar encodings.UTF8 ∷ binding_of_world interfaces.bar encodings.UTF8 ∷ three
+
+-- with the world bar of `test:test` twice among them no order binds
+no_order : (bs : List Binding) → IsReordered twice bs → (c : Binding) → Folds root_binding bs c → ⊥
+no_order bs order c folds =
+    let pairs = (pairwise_folds twice).0 ((every_order_folds twice bs order).1 (c, folds)) in
+    bar_itself (subst (λ b. CanUnite b b) interfaces.bar_listed pairs.1.0.0.0)

@@ -1,0 +1,226 @@
+-- A world of a valid `Resolve`, bound, is a binding.
+use Rattle.std.proofs.Common.{◌≡◌, refl, sym, ap, subst, ◌∙◌, ℕ, Bool, true, false, not, ◌&&◌, ◌||◌, ◌==◌, List, [], ◌∷◌, map, length, Option, Some, None, option_map, option_and_then, unwrap_or, String, Contains}
+use Rattle.std.specs.Prelude.{is_some, option_to_list}
+use Rattle.std.specs.List.{AllByRecursion, IsDistinct, list_all, list_any}
+use Rattle.std.specs.Map.{keys_of}
+use Rattle.std.specs.Option.{option_map_or}
+use Rattle.std.specs.declared.alloc.Global.{Global}
+use Rattle.std.specs.Cmp.Lexicographic.{nat_list_cmp_total}
+use Rattle.std.specs.FinMap.{from_entries, get, get-from_entries}
+use Rattle.std.proofs.lemmas.Bool.{lt-ltb}
+use Rattle.std.proofs.lemmas.List.Elements.{Contains-append_left, Contains-append_right}
+use Rattle.wit_model.specs.declared.model.Interface.{Interface}
+use Rattle.wit_model.specs.declared.model.Package.{Package}
+use Rattle.wit_model.specs.declared.model.PackageId.{PackageId}
+use Rattle.wit_model.specs.declared.model.Resolve.{Resolve}
+use Rattle.wit_model.specs.declared.model.World.{World}
+use Rattle.wit_model.specs.declared.model.WorldItem.{WorldItem}
+use Rattle.wit_model.specs.declared.model.WorldKey.{WorldKey}
+use Rattle.wit_model.specs.declared.model.WorldKey.TheVariants as key
+use Rattle.wit_model.specs.Text.{Text, text_cmp, text_eq, text_of}
+use Rattle.wit_model.specs.Names.{path_in}
+use Rattle.wit_model.specs.Lookup.{identity_of, interface_at, interface_path, key_text, path_in_package, path_of_interface, path_of_world, world_at}
+use Rattle.wit_model.specs.Meaning.{Entry, InterfaceMeaning, WorldMeaning}
+use Rattle.wit_model.specs.Meant.{entries_meaning, entry_meaning, interface_meaning, interface_meaning_at, no_interface, no_world, world_meaning, world_meaning_at}
+use Rattle.wit_model.specs.Rules.{are_distinct, entries_in_range, export_stands, import_stands, in_list, is_id, is_interface_key, item_in_range, key_in_range, package_number, passes}
+use Rattle.wit_model.specs.Uses.{item_interface}
+use Rattle.wit_model.specs.Valid.{IsValid, is_place, key_eq, numbers_in_range, places, world_items}
+use Rattle.wit_model.proofs.AnyOrder.{text-same}
+use Rattle.wit_model.proofs.Elements.{all-contained, contains-filter_map, contains-get, contains-later, contains-one, get-contains, same-number}
+use Rattle.wit_model.proofs.Lists.{first_true, second_true}
+use Rattle.wit_model.proofs.OnePath.{found-in, has-path, named-path, path-once, some-of}
+use Rattle.bind_meaning.specs.Binding.{Stand}
+use Rattle.bind_meaning.specs.ByNumbers.{WorldsAreBindings, interfaces_by_path, worlds_by_path}
+use Rattle.bind_meaning.proofs.KeyNames.{Lacks, colon, goes-on, key_lacks}
+use Rattle.bind_meaning.proofs.Listed.{contains-find, find-contains, first-contained, from-given, given, mapped}
+use Rattle.bind_meaning.proofs.WorldPaths.{path-apart, path_at, world-once, world-passes}
+
+-- ---- what stands under a path
+
+module _ (r : Resolve) where
+  abbrev named_interface : Interface → Option (Text × InterfaceMeaning)
+  named_interface i = option_map (λ path. (path, interface_meaning r i)) (path_of_interface r i)
+
+  abbrev named_world : World → Option (Text × WorldMeaning)
+  named_world w = option_map (λ path. (path, world_meaning r w)) (path_of_world r w)
+
+  -- an interface of this path, which means this
+  pub record IsInterfaceUnder (path : Text) (x : InterfaceMeaning) : Type 0 where
+    pub number : ℕ
+    pub under : interface_path r number ≡ Some path
+    pub means : interface_meaning_at r number ≡ x
+
+  pub record IsWorldUnder (path : Text) (x : WorldMeaning) : Type 0 where
+    pub number : ℕ
+    pub under : path_at r number ≡ Some path
+    pub means : world_meaning_at r number ≡ x
+
+  interface-listed : (path : Text) (x : InterfaceMeaning) → Contains (interfaces_by_path r) (path, x) → IsInterfaceUnder path x
+  interface-listed path x c =
+      let i = from-given named_interface r.interfaces.items (path, x) c in
+      let n = contains-get r.interfaces.items i.0 i.1.0 in
+      let p = mapped (λ (t : Text). (t, interface_meaning r i.0)) (path_of_interface r i.0) (path, x) i.1.1 in record {
+        number = n.0;
+        under = ap (option_and_then (path_of_interface r)) n.1 ∙ (p.1 ∙ ap Some (ap (λ (e : Text × InterfaceMeaning). e.0) p.2));
+        means = ap (λ (o : Option Interface). option_map_or (interface_meaning r) o no_interface) n.1 ∙ ap (λ (e : Text × InterfaceMeaning). e.1) p.2;
+      }
+
+  world-listed : (path : Text) (x : WorldMeaning) → Contains (worlds_by_path r) (path, x) → IsWorldUnder path x
+  world-listed path x c =
+      let w = from-given named_world r.worlds.items (path, x) c in
+      let n = contains-get r.worlds.items w.0 w.1.0 in
+      let p = mapped (λ (t : Text). (t, world_meaning r w.0)) (path_of_world r w.0) (path, x) w.1.1 in record {
+        number = n.0;
+        under = ap (option_and_then (path_of_world r)) n.1 ∙ (p.1 ∙ ap Some (ap (λ (e : Text × WorldMeaning). e.0) p.2));
+        means = ap (λ (o : Option World). option_map_or (world_meaning r) o no_world) n.1 ∙ ap (λ (e : Text × WorldMeaning). e.1) p.2;
+      }
+
+  -- what a binding has under a path stands there
+  pub interface-under : (path : Text) (x : InterfaceMeaning) → get (from_entries {R = text_cmp} (interfaces_by_path r)) path ≡ Some x → IsInterfaceUnder path x
+  interface-under path x e = interface-listed path x (find-contains (interfaces_by_path r) path x (sym (get-from_entries nat_list_cmp_total (interfaces_by_path r) path) ∙ e))
+
+  pub world-under : (path : Text) (x : WorldMeaning) → get (from_entries {R = text_cmp} (worlds_by_path r)) path ≡ Some x → IsWorldUnder path x
+  world-under path x e = world-listed path x (find-contains (worlds_by_path r) path x (sym (get-from_entries nat_list_cmp_total (worlds_by_path r) path) ∙ e))
+
+  module _ (v : IsValid r) where
+    -- and a binding has what stands there
+    pub interface-found : (n : ℕ) (path : Text) → interface_path r n ≡ Some path → get (from_entries {R = text_cmp} (interfaces_by_path r)) path ≡ Some (interface_meaning_at r n)
+    interface-found n path is =
+        let i = given (path_of_interface r) (interface_at r n) path is in
+        let named : named_interface i.0 ≡ Some (path, interface_meaning r i.0) = ap (option_map (λ (t : Text). (t, interface_meaning r i.0))) i.2 in
+        let entry = contains-filter_map named_interface r.interfaces.items i.0 (path, interface_meaning r i.0) (get-contains r.interfaces.items n i.0 i.1)
+        (subst (λ (o : Option (Text × InterfaceMeaning)). Contains (option_to_list o) (path, interface_meaning r i.0)) (sym named) (contains-one (path, interface_meaning r i.0))) in
+        let found = contains-find (interfaces_by_path r) path (interface_meaning r i.0) entry in
+        let x = interface-listed path found.0 (find-contains (interfaces_by_path r) path found.0 found.1) in
+        get-from_entries nat_list_cmp_total (interfaces_by_path r) path ∙ (found.1 ∙ ap Some (sym x.means ∙ ap (interface_meaning_at r) (path-once r v x.number n path x.under is)))
+
+    pub world-found : (n : ℕ) (path : Text) → path_at r n ≡ Some path → get (from_entries {R = text_cmp} (worlds_by_path r)) path ≡ Some (world_meaning_at r n)
+    world-found n path is =
+        let w = given (path_of_world r) (world_at r n) path is in
+        let named : named_world w.0 ≡ Some (path, world_meaning r w.0) = ap (option_map (λ (t : Text). (t, world_meaning r w.0))) w.2 in
+        let entry = contains-filter_map named_world r.worlds.items w.0 (path, world_meaning r w.0) (get-contains r.worlds.items n w.0 w.1)
+        (subst (λ (o : Option (Text × WorldMeaning)). Contains (option_to_list o) (path, world_meaning r w.0)) (sym named) (contains-one (path, world_meaning r w.0))) in
+        let found = contains-find (worlds_by_path r) path (world_meaning r w.0) entry in
+        let x = world-listed path found.0 (find-contains (worlds_by_path r) path found.0 found.1) in
+        get-from_entries nat_list_cmp_total (worlds_by_path r) path ∙ (found.1 ∙ ap Some (sym x.means ∙ ap (world_meaning_at r) (world-once r v x.number n path x.under is)))
+
+    -- each world has a path
+    pub world-path : (n : ℕ) (w : World) → world_at r n ≡ Some w → (path : Text) × (path_at r n ≡ Some path)
+    unfolding places numbers_in_range
+    world-path n w at =
+        let home = some-of w.package (first_true (is_some w.package) _ (world-passes places r v.rules.places n w at)) in
+        let inside = first_true (passes (in_list r.packages.items) (package_number w.package)) _ (second_true (is_place n) _ (world-passes numbers_in_range r v.rules.numbers_in_range n w at)) in
+        let p = found-in r.packages.items home.0.0 (ap (λ p. passes (in_list r.packages.items) (package_number p)) (sym home.1) ∙ inside) in (
+          path_in (identity_of p.0.name) (text_of w.name),
+          ap (option_and_then (path_of_world r)) at
+              ∙ (ap (λ (o : Option PackageId). option_and_then (λ q. path_in_package r q.0 (text_of w.name)) o) home.1
+              ∙ ap (λ (o : Option Package). option_map (λ x. path_in (identity_of x.name) (text_of w.name)) o) p.1),
+        )
+
+    apart : (path : Text) → Stand (get (from_entries {R = text_cmp} (interfaces_by_path r)) path) (get (from_entries {R = text_cmp} (worlds_by_path r)) path) → ⊥
+    apart path s = by (get (from_entries {R = text_cmp} (interfaces_by_path r)) path) (get (from_entries {R = text_cmp} (worlds_by_path r)) path) refl refl s
+      where
+        by : (o : Option InterfaceMeaning) (p : Option WorldMeaning) → get (from_entries {R = text_cmp} (interfaces_by_path r)) path ≡ o → get (from_entries {R = text_cmp} (worlds_by_path r)) path ≡ p → Stand o p → ⊥
+        by (Some x) (Some y) e f s = let i = interface-under path x e in let w = world-under path y f in path-apart r v i.number w.number path i.under w.under
+        by (Some x) None e f s = s
+        by None (Some y) e f s = s
+        by None None e f s = s
+
+-- ---- the texts of keys
+
+module _ (r : Resolve) (v : IsValid r) where
+  -- a path, or a name without a colon
+  abbrev pub IsKey : WorldKey → Type 0
+  IsKey (key.Name name) = Lacks 58 (text_of name)
+  IsKey (key.Interface id) = is_some (interface_path r id.0) ≡ true
+
+  unlike : (s t : Text) → (s ≡ t → ⊥) → text_eq s t ≡ false
+  unlike s t never = go (text_eq s t) refl
+    where
+      go : (b : Bool) → text_eq s t ≡ b → b ≡ false
+      go true e = absurd (never (text-same s t e))
+      go false e = refl
+
+  name-apart : (name : String Global) (m : ℕ) (path : Text) → Lacks 58 (text_of name) → interface_path r m ≡ Some path → text_of name ≡ path → ⊥
+  name-apart name m path lacks is same =
+      let h = has-path r m path is in
+      goes-on 58 (text_of h.package_.name.namespace) _ (subst (Lacks 58) (same ∙ h.spelled) lacks)
+
+  keys-apart : (a b : WorldKey) → IsKey a → IsKey b → key_eq a b ≡ false → text_eq (key_text r a) (key_text r b) ≡ false
+  keys-apart (key.Name a) (key.Name b) h g e = e
+  keys-apart (key.Name a) (key.Interface b) h g e =
+      let path = some-of (interface_path r b.0) g in
+      ap (λ (o : Option Text). text_eq (text_of a) (unwrap_or o [])) path.1 ∙ unlike (text_of a) path.0 (name-apart a b.0 path.0 h path.1)
+  keys-apart (key.Interface a) (key.Name b) h g e =
+      let path = some-of (interface_path r a.0) h in
+      ap (λ (o : Option Text). text_eq (unwrap_or o []) (text_of b)) path.1 ∙ unlike path.0 (text_of b) (λ same. name-apart b a.0 path.0 g path.1 (sym same))
+  keys-apart (key.Interface a) (key.Interface b) h g e =
+      let p = some-of (interface_path r a.0) h in
+      let q = some-of (interface_path r b.0) g in
+      (λ j. text_eq (unwrap_or (p.1 j) []) (unwrap_or (q.1 j) []))
+      ∙ unlike p.0 q.0 (λ same.
+      let one : a.0 ≡ b.0 = path-once r v a.0 b.0 p.0 p.1 (q.1 ∙ ap Some (sym same)) in
+      let wrong : true ≡ false = sym (same-number a.0) ∙ (ap (λ k. a.0 == k) one ∙ e) in
+      let no : ⊥ = cc in no)
+
+  abbrev keyed : WorldKey × WorldItem → Text × Entry InterfaceMeaning
+  keyed e = (key_text r e.0, entry_meaning r e.1)
+
+  none-alike : (k : WorldKey) (es : List (WorldKey × WorldItem)) → IsKey k → ((e : WorldKey × WorldItem) → Contains es e → IsKey e.0) → AllByRecursion (λ l. key_eq k l ≡ false) (keys_of es)
+      → list_any (text_eq (key_text r k)) (map (λ e. e.0) (entries_meaning r es)) ≡ false
+  none-alike k [] h all d = refl
+  none-alike k (e ∷ es) h all d =
+      ap (λ b. b || list_any (text_eq (key_text r k)) (map (λ e. e.0) (entries_meaning r es))) (keys-apart k e.0 h (all e (first-contained e es)) d.0)
+      ∙ none-alike k es h (λ f c. all f (contains-later e es f c)) d.1
+
+  pub distinct-entries : (es : List (WorldKey × WorldItem)) → ((e : WorldKey × WorldItem) → Contains es e → IsKey e.0) → IsDistinct key_eq (keys_of es) → are_distinct (map (λ e. e.0) (entries_meaning r es)) ≡ true
+  unfolding IsDistinct
+  distinct-entries [] all d = refl
+  distinct-entries (e ∷ es) all d =
+      ap (λ b. not b && are_distinct (map (λ e. e.0) (entries_meaning r es))) (none-alike e.0 es (all e (first-contained e es)) (λ f c. all f (contains-later e es f c)) d.0)
+      ∙ distinct-entries es (λ f c. all f (contains-later e es f c)) d.1
+
+  module _ (n : ℕ) (w : World) (at : world_at r n ≡ Some w) where
+    ranges : (entries_in_range r w.imports.entries && entries_in_range r w.exports.entries) ≡ true
+    unfolding numbers_in_range
+    ranges = second_true (passes (in_list r.packages.items) (package_number w.package)) _ (second_true (is_place n) _ (world-passes numbers_in_range r v.rules.numbers_in_range n w at))
+
+    stand : (list_all (λ e. import_stands r n e.0 e.1) w.imports.entries && list_all (λ e. export_stands r e.0 e.1) w.exports.entries) ≡ true
+    unfolding world_items
+    stand = world-passes world_items r v.rules.world_items n w at
+
+    interface-key : (k : ℕ) (shown : WorldItem) → is_interface_key r k shown ≡ true → in_list r.interfaces.items k ≡ true → is_some (interface_path r k) ≡ true
+    interface-key k shown h inside =
+        let found = found-in r.interfaces.items k inside in
+        named-path r v k (ap (λ (o : Option Interface). option_map_or (λ other. is_some other.name) o false) found.1
+        ∙ (ap (passes (λ (other : Interface). is_some other.name)) (sym found.1) ∙ second_true (is_id k (item_interface shown)) _ h))
+
+    import-key : (e : WorldKey × WorldItem) → Contains w.imports.entries e → IsKey e.0
+    import-key (key.Name name, shown) c = key_lacks 58 colon r v n w at name shown (Contains-append_left w.imports.entries w.exports.entries (key.Name name, shown) c)
+    import-key (key.Interface id, shown) c = interface-key id.0 shown
+        (all-contained (λ e. import_stands r n e.0 e.1) w.imports.entries (key.Interface id, shown) (first_true (list_all (λ e. import_stands r n e.0 e.1) w.imports.entries) _ stand) c)
+        (first_true (key_in_range r (key.Interface id)) _ (all-contained (λ e. key_in_range r e.0 && item_in_range r e.1) w.imports.entries (key.Interface id, shown) (first_true (entries_in_range r w.imports.entries) _ ranges) c))
+
+    export-key : (e : WorldKey × WorldItem) → Contains w.exports.entries e → IsKey e.0
+    export-key (key.Name name, shown) c = key_lacks 58 colon r v n w at name shown (Contains-append_right w.imports.entries w.exports.entries (key.Name name, shown) c)
+    export-key (key.Interface id, shown) c = interface-key id.0 shown
+        (all-contained (λ e. export_stands r e.0 e.1) w.exports.entries (key.Interface id, shown) (second_true (list_all (λ e. import_stands r n e.0 e.1) w.imports.entries) _ stand) c)
+        (first_true (key_in_range r (key.Interface id)) _ (all-contained (λ e. key_in_range r e.0 && item_in_range r e.1) w.exports.entries (key.Interface id, shown) (second_true (entries_in_range r w.imports.entries) _ ranges) c))
+
+    pub imports-distinct : are_distinct (map (λ e. e.0) (entries_meaning r w.imports.entries)) ≡ true
+    imports-distinct = distinct-entries w.imports.entries import-key (v.distinct_keys.worlds n w at).0
+
+    pub exports-distinct : are_distinct (map (λ e. e.0) (entries_meaning r w.exports.entries)) ≡ true
+    exports-distinct = distinct-entries w.exports.entries export-key (v.distinct_keys.worlds n w at).1
+
+pub worlds_are_bindings : WorldsAreBindings
+worlds_are_bindings r v n inside imported exported =
+    let w = found-in r.worlds.items n (lt-ltb n (length r.worlds.items) inside) in
+    let path = world-path r v n w.0 w.1 in
+    let here : world_meaning_at r n ≡ world_meaning r w.0 = ap (λ (o : Option World). option_map_or (world_meaning r) o no_world) w.1 in
+    record {
+      stands = ap (λ t. get (from_entries {R = text_cmp} (worlds_by_path r)) t) (ap (λ (o : Option Text). unwrap_or o []) path.1) ∙ world-found r v n path.0 path.1;
+      apart = apart r v;
+      imports = ap (λ (m : WorldMeaning). are_distinct (map (λ e. e.0) m.imports)) here ∙ imports-distinct r v n w.0 w.1;
+      exports = ap (λ (m : WorldMeaning). are_distinct (map (λ e. e.0) m.exports)) here ∙ exports-distinct r v n w.0 w.1;
+    }

@@ -1,0 +1,113 @@
+-- A world is known by its path: in valid packages no two have the same, and none has that of an interface.
+use Rattle.std.proofs.Common.{◌≡◌, refl, sym, ap, subst, ◌∙◌, arith, ℕ, ◌+◌, Bool, true, false, not, ◌&&◌, ◌||◌, cond, List, [], ◌∷◌, Option, Some, option_map, option_and_then, String}
+use Rattle.std.specs.Prelude.{is_some}
+use Rattle.std.specs.List.{list_any}
+use Rattle.std.specs.Option.{option_map_or}
+use Rattle.std.specs.HashMap.{get_by_text}
+use Rattle.std.specs.Map.{keys_of, lookup}
+use Rattle.std.specs.declared.alloc.Global.{Global}
+use Rattle.wit_model.specs.declared.model.Resolve.{Resolve}
+use Rattle.wit_model.specs.declared.model.Package.{Package}
+use Rattle.wit_model.specs.declared.model.PackageId.{PackageId}
+use Rattle.wit_model.specs.declared.model.World.{World}
+use Rattle.wit_model.specs.declared.model.WorldId.{WorldId}
+use Rattle.wit_model.specs.Text.{Text, text_eq, text_of}
+use Rattle.wit_model.specs.Names.{is_label, path_in}
+use Rattle.wit_model.specs.Lookup.{identity_of, interface_path, package_at, path_in_package, path_of_world, world_at}
+use Rattle.wit_model.specs.Rules.{interface_is_listed, is_id, is_world_name, package_number, world_is_listed}
+use Rattle.wit_model.specs.Valid.{IsValid, Keeps, Rule, labels, places}
+use Rattle.wit_model.proofs.Entries.{each_from_at, lists_pass}
+use Rattle.wit_model.proofs.Lists.{first_true, second_true}
+use Rattle.wit_model.proofs.NameLaws.{one_path}
+use Rattle.wit_model.proofs.OnePath.{HasPath, given-test, has-path, interface-passes, one-number, package-name, package-once, path-label, some-same}
+use Rattle.wit_model.proofs.VersionLaws.{same_name}
+use Rattle.bind_meaning.proofs.Listed.{given, mapped}
+
+pub world-passes : (rule : Rule) (r : Resolve) → Keeps rule r → (n : ℕ) (w : World) → world_at r n ≡ Some w → rule.world_ r n w ≡ true
+world-passes rule r k n w at = let here : 0 + n ≡ n = omega arith in subst (λ (m : ℕ). rule.world_ r m w ≡ true) here (each_from_at (rule.world_ r) 0 r.worlds.items n w (lists_pass rule r k).2 at)
+
+-- what a path is of
+pub record HasWorldPath (r : Resolve) (n : ℕ) (path : Text) : Type 0 where
+  pub def : World
+  pub there : world_at r n ≡ Some def
+  pub home : PackageId
+  pub in_package : def.package ≡ Some home
+  pub package_ : Package
+  pub stands : package_at r home.0 ≡ Some package_
+  pub spelled : path ≡ path_in (identity_of package_.name) (text_of def.name)
+
+-- the path of the world of this number
+abbrev pub path_at : Resolve → ℕ → Option Text
+path_at r n = option_and_then (path_of_world r) (world_at r n)
+
+pub has-world-path : (r : Resolve) (n : ℕ) (path : Text) → path_at r n ≡ Some path → HasWorldPath r n path
+has-world-path r n path e =
+    let w = given (path_of_world r) (world_at r n) path e in
+    let p = given (λ (q : PackageId). path_in_package r q.0 (text_of w.0.name)) w.0.package path w.2 in
+    let q = mapped (λ (x : Package). path_in (identity_of x.name) (text_of w.0.name)) (package_at r p.0.0) path p.2 in
+    record { def = w.0; there = w.1; home = p.0; in_package = p.1; package_ = q.0; stands = q.1; spelled = sym q.2 }
+
+-- a name that leads to a world is a world's
+found-name : (t : Text) (es : List (String Global × WorldId)) (n : ℕ) → is_id n (option_map (λ id. id.0) (lookup (λ k. text_eq t (text_of k)) es)) ≡ true → list_any (λ other. text_eq t (text_of other)) (keys_of es) ≡ true
+found-name t [] n h = let no : ⊥ = cc in absurd no
+found-name t (e ∷ es) n h = by (text_eq t (text_of e.0)) h (found-name t es n)
+  where
+    by : (b : Bool) → is_id n (option_map (λ id. id.0) (cond b (Some e.1) (lookup (λ k. text_eq t (text_of k)) es))) ≡ true
+        → (is_id n (option_map (λ id. id.0) (lookup (λ k. text_eq t (text_of k)) es)) ≡ true → list_any (λ other. text_eq t (text_of other)) (keys_of es) ≡ true)
+        → (b || list_any (λ other. text_eq t (text_of other)) (keys_of es)) ≡ true
+    by true h later = refl
+    by false h later = later h
+
+not-both : (b : Bool) → not b ≡ true → b ≡ true → ⊥
+not-both true h k = let no : ⊥ = cc in no
+not-both false h k = let no : ⊥ = cc in no
+
+module _ (r : Resolve) (v : IsValid r) where
+  world-label : (n : ℕ) (path : Text) (h : HasWorldPath r n path) → is_label (text_of h.def.name) ≡ true
+  unfolding labels
+  world-label n path h = first_true (is_label (text_of h.def.name)) _ (world-passes labels r v.rules.labels n h.def h.there)
+
+  -- it stands in its package under its name
+  world-listed : (n : ℕ) (path : Text) (h : HasWorldPath r n path) → world_is_listed n (text_of h.def.name) h.package_ ≡ true
+  unfolding places
+  world-listed n path h =
+      let rule = second_true (is_some h.def.package) _ (world-passes places r v.rules.places n h.def h.there) in
+      let home : option_and_then (package_at r) (package_number h.def.package) ≡ Some h.package_ = ap (λ p. option_and_then (package_at r) (package_number p)) h.in_package ∙ h.stands in
+      given-test (world_is_listed n (text_of h.def.name)) (option_and_then (package_at r) (package_number h.def.package)) true h.package_ home rule
+
+  -- worlds of the same path are one
+  pub world-once : (m n : ℕ) (path : Text) → path_at r m ≡ Some path → path_at r n ≡ Some path → m ≡ n
+  world-once m n path e f =
+      let a = has-world-path r m path e in
+      let b = has-world-path r n path f in
+      let p = package-name r v a.home.0 a.package_ a.stands in
+      let q = package-name r v b.home.0 b.package_ b.stands in
+      let parts = one_path (identity_of a.package_.name) (identity_of b.package_.name) (text_of a.def.name) (text_of b.def.name) p.identity (world-label m path a) q.identity (world-label n path b) (sym a.spelled ∙ b.spelled) in
+      let homes : b.home.0 ≡ a.home.0 = package-once r v a.home.0 b.home.0 a.package_ b.package_ a.stands b.stands ((same_name a.package_.name b.package_.name p.version q.version).1 parts.0) in
+      let one : b.package_ ≡ a.package_ = some-same b.package_ a.package_ (sym b.stands ∙ ap (package_at r) homes ∙ a.stands) in
+      one-number m n (option_map (λ id. id.0) (get_by_text a.package_.worlds (text_of a.def.name))) (world-listed m path a)
+      (subst (λ (x : Package). world_is_listed n (text_of a.def.name) x ≡ true) one (subst (λ (t : Text). world_is_listed n t b.package_ ≡ true) (sym parts.1) (world-listed n path b)))
+
+  -- an interface's name is no world's
+  unworldly : (n : ℕ) (path : Text) (h : HasPath r n path) → not (is_world_name h.package_ (text_of h.name)) ≡ true
+  unfolding places
+  unworldly n path h =
+      let rule = second_true (is_some h.def.package) _ (interface-passes places r v.rules.places n h.def h.there) in
+      let home : option_and_then (package_at r) (package_number h.def.package) ≡ Some h.package_ = ap (λ p. option_and_then (package_at r) (package_number p)) h.in_package ∙ h.stands in
+      second_true (interface_is_listed n (text_of h.name) h.package_) _
+      (given-test (λ p. interface_is_listed n (text_of h.name) p && not (is_world_name p (text_of h.name))) (option_and_then (package_at r) (package_number h.def.package)) true h.package_ home
+      (given-test (λ name. option_map_or (λ p. interface_is_listed n (text_of name) p && not (is_world_name p (text_of name))) (option_and_then (package_at r) (package_number h.def.package)) true) h.def.name _ h.name h.named_ rule))
+
+  -- no interface has the path of a world
+  pub path-apart : (m n : ℕ) (path : Text) → interface_path r m ≡ Some path → path_at r n ≡ Some path → ⊥
+  path-apart m n path e f =
+      let a = has-path r m path e in
+      let b = has-world-path r n path f in
+      let p = package-name r v a.home.0 a.package_ a.stands in
+      let q = package-name r v b.home.0 b.package_ b.stands in
+      let parts = one_path (identity_of a.package_.name) (identity_of b.package_.name) (text_of a.name) (text_of b.def.name) p.identity (path-label r v m path a) q.identity (world-label n path b) (sym a.spelled ∙ b.spelled) in
+      let homes : b.home.0 ≡ a.home.0 = package-once r v a.home.0 b.home.0 a.package_ b.package_ a.stands b.stands ((same_name a.package_.name b.package_.name p.version q.version).1 parts.0) in
+      let one : b.package_ ≡ a.package_ = some-same b.package_ a.package_ (sym b.stands ∙ ap (package_at r) homes ∙ a.stands) in
+      let listed : world_is_listed n (text_of a.name) a.package_ ≡ true
+      = subst (λ (x : Package). world_is_listed n (text_of a.name) x ≡ true) one (subst (λ (t : Text). world_is_listed n t b.package_ ≡ true) (sym parts.1) (world-listed n path b)) in
+      not-both (is_world_name a.package_ (text_of a.name)) (unworldly m path a) (found-name (text_of a.name) a.package_.worlds.entries n listed)

@@ -1,0 +1,52 @@
+-- What `decode` knows after each call: of `decode_section`, and of `merge`, at Ok and at a refusal.
+use Rattle.std.proofs.Common.{◌≡◌, ◌∙◌, sym, ap, subst, ℕ, List}
+use mathlib.Core.Logic.{inl, inr}
+use Rattle.wit_model.specs.declared.error.Error.{Error}
+use Rattle.wit_model.specs.declared.error.Error.TheVariants as errors
+use Rattle.wit_model.specs.Text.{text_of}
+use Rattle.bind_meaning.specs.Clash.{CanUnite, IsClash}
+use Rattle.bind_meaning.specs.Union.{union}
+use Rattle.wit_bind.specs.declared.bindgen.Bindgen.{Bindgen}
+use Rattle.wit_bind.specs.Bindings.{IsBindgen, binding_of}
+use Rattle.wit_bind.specs.Merges.{IsMergeRefusal}
+use Rattle.bind_sections.specs.SectionBindings.{IsBoundBy, RefusesSection}
+use Rattle.bind_sections.specs.Bound.{IsRefused, RefusesBindings}
+use Rattle.bind_sections.specs.Steps.{IsDataInFront, IsReadTo}
+use Rattle.bind_sections.proofs.BoundWorlds.{sections_bind_their_worlds}
+use Rattle.bind_sections.proofs.SectionWorlds.{bound_sections_mean}
+use Rattle.bind_sections.proofs.Steps.{refusals_end, worlds_are_bound}
+
+-- what refuses a module is a refusal of its bindings
+pub let-through : (input : List ℕ) (e : Error) → IsRefused input e → RefusesBindings input e
+let-through input errors.Memory x = tt
+let-through input errors.Size x = tt
+let-through input _ x = x
+
+-- the data is that of bindings which may be merged
+pub may-be-merged : (d : List ℕ) (b : Bindgen) → IsBoundBy d b → IsBindgen b
+may-be-merged d b bound = let means = bound_sections_mean d b bound in (sections_bind_their_worlds d b means.0 means.1 bound means.2).0
+
+module _ (input bytes rest d : List ℕ) (own : Bindgen) (h : IsReadTo input (binding_of own) bytes) (x : IsDataInFront bytes d rest) where
+  -- `decode_section` refused the data
+  pub section-refused : (e : Error) → RefusesSection d e → RefusesBindings input e
+  section-refused e why = let-through input e (refusals_end input bytes rest d (binding_of own) e h x (inl why))
+
+  module _ (b : Bindgen) (bound : IsBoundBy d b) where
+    -- they were merged
+    pub section-merged : (new : Bindgen) → CanUnite (binding_of own) (binding_of b) → binding_of new ≡ union (binding_of own) (binding_of b) → IsReadTo input (binding_of new) rest
+    section-merged new u is =
+        let means = bound_sections_mean d b bound in
+        let same = (sections_bind_their_worlds d b means.0 means.1 bound means.2).1 in
+        subst (λ c. IsReadTo input c rest) (sym (is ∙ ap (union (binding_of own)) same))
+        (worlds_are_bound input bytes rest d (binding_of own) means.0 means.1 h x means.2 (subst (CanUnite (binding_of own)) same u))
+
+    -- `merge` refused them
+    pub merge-refused : (e : Error) → IsMergeRefusal own b e → RefusesBindings input e
+    merge-refused errors.Memory why = tt
+    merge-refused errors.Size why = tt
+    merge-refused (errors.Clash kind key) why =
+        let means = bound_sections_mean d b bound in
+        let same = (sections_bind_their_worlds d b means.0 means.1 bound means.2).1 in
+        refusals_end input bytes rest d (binding_of own) (errors.Clash kind key) h x
+        (inr (means.0, means.1, means.2, subst (λ c. IsClash (binding_of own) c kind (text_of key)) same why))
+    merge-refused _ why = absurd why

@@ -1,0 +1,202 @@
+-- What bytes mean as one world, bound, is a binding, and so is what a module binds.
+use Rattle.std.proofs.Common.{◌≡◌, ◌∙◌, refl, sym, ap, subst, ℕ, Bool, true, false, ◌&&◌, ◌||◌, not, cond, List, [], ◌∷◌, map, flat_map, Option, Some, None}
+use Rattle.std.specs.Prelude.{is_none, is_some}
+use Rattle.std.specs.List.{list_all, list_any}
+use Rattle.std.specs.Ordering.{eq_by_cmp}
+use Rattle.std.specs.FinMap.{from_entries, get, find, get-empty}
+use Rattle.wit_model.specs.declared.model.StringEncoding.{StringEncoding}
+use Rattle.wit_model.specs.Text.{Text, text_cmp, text_eq}
+use Rattle.wit_model.specs.Names.{PackageIdentity, path_in}
+use Rattle.wit_model.specs.Meaning.{WorldMeaning, WorldPackage}
+use Rattle.wit_model.specs.Rules.{are_distinct}
+use Rattle.wit_model.proofs.Distinct.{text_eq_flip}
+use Rattle.wit_model.proofs.Lists.{first_true, second_true}
+use Rattle.wit_model.proofs.OnePath.{some-same}
+use Rattle.comp_bytes.specs.Reading.{◌>>=◌}
+use Rattle.comp_bytes.specs.Raw.{Declarations, ExternName}
+use Rattle.comp_bytes.proofs.Readers.{bind_some, when_some}
+use Rattle.comp_meaning.specs.Follow.{Scope, Seen, each, when, provided, complete_path, component_scope}
+use Rattle.comp_meaning.specs.Rules.{are_imports, distinct, is_item, is_world}
+use Rattle.comp_meaning.specs.Reads.{Member, Part, ReadsWorld, Sight, all_agree, are_interfaces, are_reached, entry, exported_types, exported_view, imported_view, interface_part, labelled_path, member, of_instance, part_of, seen_meaning, world_meaning, world_of_members, world_part, world_with, wrapped}
+use Rattle.bind_meaning.specs.Binding.{Binding, IsBinding, Stand}
+use Rattle.bind_meaning.specs.ByMeaning.{binding_of_world, world_path}
+use Rattle.bind_meaning.specs.Roots.{root_binding, root_meaning, root_path}
+use Rattle.bind_meaning.specs.Union.{union}
+use Rattle.bind_meaning.proofs.ListLaws.{got}
+use Rattle.bind_meaning.proofs.Maps.{by_tie, found_keys, has_key, itself_ties}
+use Rattle.bind_meaning.proofs.UnionLaws.{union_is_binding}
+use Rattle.bind_sections.specs.Bound.{Binds}
+use Rattle.bind_sections.specs.BoundLaws.{BoundAreBindings, SectionsAreBindings}
+
+-- ---- the world that was read
+
+-- a world obeys the rules on worlds
+abbrev PartObeys : Part → Type 0
+PartObeys (Part.world scope) = is_world scope ≡ true
+PartObeys (Part.interface exported imports) = Unit {0}
+
+interface_obeys : (label : Text) (ds : Declarations) (p : PackageIdentity × Part) → interface_part label ds ≡ Some p → PartObeys p.1
+interface_obeys label ds p e =
+    let scope = bind_some (component_scope ds) (λ scope. exported_view scope.exports >>= λ exported. each imported_view scope.imports >>= λ imports. labelled_path label exported.0 >>= λ package_.
+    provided (distinct (exported.0 ∷ map (λ i. i.0) imports) && are_reached imports exported.1) (package_, Part.interface exported.1 imports)) p e in
+    let exported = bind_some (exported_view scope.0.exports) (λ exported. each imported_view scope.0.imports >>= λ imports. labelled_path label exported.0 >>= λ package_.
+    provided (distinct (exported.0 ∷ map (λ i. i.0) imports) && are_reached imports exported.1) (package_, Part.interface exported.1 imports)) p scope.2 in
+    let imports = bind_some (each imported_view scope.0.imports) (λ imports. labelled_path label exported.0.0 >>= λ package_.
+    provided (distinct (exported.0.0 ∷ map (λ i. i.0) imports) && are_reached imports exported.0.1) (package_, Part.interface exported.0.1 imports)) p exported.2 in
+    let package_ = bind_some (labelled_path label exported.0.0) (λ package_.
+    provided (distinct (exported.0.0 ∷ map (λ i. i.0) imports.0) && are_reached imports.0 exported.0.1) (package_, Part.interface exported.0.1 imports.0)) p imports.2 in
+    let w = when_some (distinct (exported.0.0 ∷ map (λ i. i.0) imports.0) && are_reached imports.0 exported.0.1) (Some (package_.0, Part.interface exported.0.1 imports.0)) p package_.2 in
+    subst (λ (q : PackageIdentity × Part). PartObeys q.1) (some-same (package_.0, Part.interface exported.0.1 imports.0) p w.1) tt
+
+world_obeys : (label : Text) (w : Declarations × ExternName) (p : PackageIdentity × Part) → world_part label w ≡ Some p → PartObeys p.1
+world_obeys label w p e =
+    let path = bind_some (when (is_none w.1.implements && is_none w.1.external_id) (complete_path w.1.text w.1.version_suffix))
+    (λ path. labelled_path label path >>= λ package_. component_scope w.0 >>= λ scope. provided (is_world scope) (package_, Part.world scope)) p e in
+    let package_ = bind_some (labelled_path label path.0) (λ package_. component_scope w.0 >>= λ scope. provided (is_world scope) (package_, Part.world scope)) p path.2 in
+    let scope = bind_some (component_scope w.0) (λ scope. provided (is_world scope) (package_.0, Part.world scope)) p package_.2 in
+    let found = when_some (is_world scope.0) (Some (package_.0, Part.world scope.0)) p scope.2 in
+    subst (λ (q : PackageIdentity × Part). PartObeys q.1) (some-same (package_.0, Part.world scope.0) p found.1) found.0
+
+member_obeys : (x : Text × Declarations) (m : Member) → member x ≡ Some m → PartObeys m.part
+member_obeys x m e =
+    let part = bind_some (part_of x.0 x.1) (λ p. Some (record { label = x.0; package_ = p.0; part = p.1 })) m e in
+    subst (λ (n : Member). PartObeys n.part) (some-same (record { label = x.0; package_ = part.0.0; part = part.0.1 }) m part.2) (by (wrapped x.1) refl part.0 part.1)
+  where
+    by : (o : Option (Declarations × ExternName)) → wrapped x.1 ≡ o → (p : PackageIdentity × Part) → part_of x.0 x.1 ≡ Some p → PartObeys p.1
+    by None is p found =
+        let plain : part_of x.0 x.1 ≡ interface_part x.0 x.1 = rw is refl in
+        interface_obeys x.0 x.1 p (sym plain ∙ found)
+    by (Some w) is p found =
+        let wraps : part_of x.0 x.1 ≡ world_part x.0 w = rw is refl in
+        world_obeys x.0 w p (sym wraps ∙ found)
+
+first_of : {X : Type 0} → X → List X → X
+first_of d [] = d
+first_of d (x ∷ xs) = x
+
+-- the first of what each gave
+first_given : (types : List (Text × Declarations)) (m : Member) (ms : List Member) → each member types ≡ Some (m ∷ ms) → PartObeys m.part
+unfolding first_of
+first_given [] m ms e =
+    let same : [] ≡ m ∷ ms = some-same [] (m ∷ ms) e in
+    let no : ⊥ = cc in absurd no
+first_given (x ∷ types) m ms e =
+    let y = bind_some (member x) (λ y. each member types >>= λ ys. Some (y ∷ ys)) (m ∷ ms) e in
+    let ys = bind_some (each member types) (λ ys. Some (y.0 ∷ ys)) (m ∷ ms) y.2 in
+    subst (λ (n : Member). PartObeys n.part) (ap (first_of y.0) (some-same (y.0 ∷ ys.0) (m ∷ ms) ys.2)) (member_obeys x y.0 y.1)
+
+-- what is known of a world that was read
+record IsRead (m : WorldPackage) : Type 0 where
+  pub scope : Scope
+  pub obeys : is_world scope ≡ true
+  pub seen : List Sight
+  pub elsewhere : not (list_any (λ s. text_eq s.path (path_in m.identity m.name)) seen) ≡ true
+  pub world : m.world ≡ world_meaning scope
+  pub shown : m.shown ≡ from_entries (map (seen_meaning seen) seen)
+
+scope_read : (package_ : PackageIdentity) (name : Text) (scope : Scope) (m : WorldPackage) → is_world scope ≡ true → world_with package_ name scope ≡ Some m → IsRead m
+scope_read package_ name scope m obeys e =
+    let seen : List Sight = flat_map of_instance scope.instances in
+    let found : WorldPackage = record { identity = package_; name = name; world = world_meaning scope; shown = from_entries (map (seen_meaning seen) seen) } in
+    let w = when_some (all_agree seen && (are_interfaces seen && not (list_any (λ s. text_eq s.path (path_in package_ name)) seen))) (Some found) m e in
+    subst IsRead (some-same found m w.1) (record {
+      scope = scope;
+      obeys = obeys;
+      seen = seen;
+      elsewhere = second_true (are_interfaces seen) _ (second_true (all_agree seen) _ w.0);
+      world = refl;
+      shown = refl;
+    })
+
+world_read : (d : List ℕ) (m : WorldPackage) → ReadsWorld d m → IsRead m
+world_read d m read =
+    let types = bind_some (exported_types read.sections) (λ types. each member types >>= world_of_members) m read.means in
+    let members = bind_some (each member types.0) world_of_members m types.2 in
+    by types.0 members.0 members.1 members.2
+  where
+    by_part : (label : Text) (package_ : PackageIdentity) (p : Part) → PartObeys p → world_of_members (record { label = label; package_ = package_; part = p } ∷ []) ≡ Some m → IsRead m
+    by_part label package_ (Part.world scope) obeys e = scope_read package_ label scope m obeys e
+    by_part label package_ (Part.interface exported imports) obeys e = let no : ⊥ = cc in absurd no
+
+    by : (types : List (Text × Declarations)) (members : List Member) → each member types ≡ Some members → world_of_members members ≡ Some m → IsRead m
+    by types [] all e = let no : ⊥ = cc in absurd no
+    by types (n ∷ []) all e = by_part n.label n.package_ n.part (first_given types n [] all) e
+    by types (n ∷ o ∷ rest) all e = let no : ⊥ = cc in absurd no
+
+-- ---- its binding
+
+same_test : (ts : List Text) → are_distinct ts ≡ distinct ts
+same_test [] = refl
+same_test (t ∷ ts) = ap (λ b. not (list_any (text_eq t) ts) && b) (same_test ts)
+
+same_keys : (xs : List Seen) → map (λ e. e.0) (map entry xs) ≡ map (λ s. s.key) xs
+same_keys [] = refl
+same_keys (x ∷ xs) = ap (λ ts. x.key ∷ ts) (same_keys xs)
+
+keys_distinct : (xs : List Seen) → distinct (map (λ s. s.key) xs) ≡ true → are_distinct (map (λ e. e.0) (map entry xs)) ≡ true
+keys_distinct xs h = ap are_distinct (same_keys xs) ∙ (same_test (map (λ s. s.key) xs) ∙ h)
+
+-- none of what is seen has this path
+unseen : (all seen : List Sight) (path : Text) → has_key path (map (seen_meaning all) seen) ≡ list_any (λ s. text_eq s.path path) seen
+unseen all [] path = refl
+unseen all (s ∷ seen) path = (λ i. text_eq_flip path s.path i || unseen all seen path i)
+
+none_found : {X : Type 0} (es : List (Text × X)) (k : Text) → has_key k es ≡ false → find text_cmp k es ≡ None
+none_found es k h = by (find text_cmp k es) refl
+  where
+    by : (o : Option _) → find text_cmp k es ≡ o → o ≡ None
+    by None e = refl
+    by (Some x) e = let wrong : true ≡ false = sym (ap is_some e) ∙ (found_keys k es ∙ h) in let no : ⊥ = cc in absurd no
+
+is_false : (b : Bool) → not b ≡ true → b ≡ false
+is_false true h = let no : ⊥ = cc in absurd no
+is_false false h = refl
+
+-- the path of the world alone leads to a world
+apart_at : {X Y : Type 0} (is : Bool) (o : Option X) (w : Y) → (is ≡ true → o ≡ None) → Stand o (cond is (Some w) None) → ⊥
+apart_at {X} {Y} true o w none s = subst (λ z. Stand {X = X} {Y = Y} z (Some w)) (none refl) s
+apart_at false (Some x) w none s = s
+apart_at false None w none s = s
+
+world_binding : (m : WorldPackage) (e : StringEncoding) → IsRead m → IsBinding (binding_of_world m e)
+world_binding m e h =
+    let items : Bool = are_imports [] h.scope.imports && list_all (λ s. is_item [] s.key s.shown) h.scope.exports in
+    let both = first_true ((items && distinct (map (λ s. s.key) h.scope.imports)) && distinct (map (λ s. s.key) h.scope.exports)) _ h.obeys in
+    let exports = second_true (items && distinct (map (λ s. s.key) h.scope.imports)) _ both in
+    let imports = second_true items _ (first_true (items && distinct (map (λ s. s.key) h.scope.imports)) _ both) in
+    let none : get m.shown (world_path m) ≡ None
+    = ap (λ (f : _). get f (world_path m)) h.shown
+    ∙ (got (map (seen_meaning h.seen) h.seen) (world_path m)
+    ∙ none_found (map (seen_meaning h.seen) h.seen) (world_path m) (unseen h.seen h.seen (world_path m) ∙ is_false (list_any (λ s. text_eq s.path (world_path m)) h.seen) h.elsewhere)) in
+    record {
+      stands = got ((world_path m, m.world) ∷ []) (world_path m) ∙ ap (λ is. cond is (Some m.world) None) (itself_ties (world_path m));
+      apart = λ t s. apart_at (eq_by_cmp text_cmp t (world_path m)) (get m.shown t) m.world
+          (λ is. subst (λ k. get m.shown k ≡ None) (sym (by_tie t (world_path m) is)) none)
+          (subst (Stand (get m.shown t)) (got ((world_path m, m.world) ∷ []) t) s);
+      imports = ap (λ (w : WorldMeaning). are_distinct (map (λ e. e.0) w.imports)) h.world ∙ keys_distinct h.scope.imports imports;
+      exports = ap (λ (w : WorldMeaning). are_distinct (map (λ e. e.0) w.exports)) h.world ∙ keys_distinct h.scope.exports exports;
+    }
+
+pub sections_are_bindings : SectionsAreBindings
+sections_are_bindings d m e means = world_binding m e (world_read d m means.reads)
+
+-- ---- what a module binds
+
+root_is_binding : IsBinding root_binding
+root_is_binding = record {
+  stands = got ((root_path, root_meaning.world) ∷ []) root_path ∙ ap (λ is. cond is (Some root_meaning.world) None) (itself_ties root_path);
+  apart = λ t s. nothing_stands (get root_binding.interfaces t) (get root_binding.worlds t) (get-empty text_cmp t) s;
+  imports = refl;
+  exports = refl;
+}
+  where
+    nothing_stands : {X Y : Type 0} (x : Option X) (y : Option Y) → x ≡ None → Stand x y → ⊥
+    nothing_stands {X} {Y} x y is s = subst (λ z. Stand {X = X} {Y = Y} z y) is s
+
+folded_is_binding : (a c : Binding) (ds : List (List ℕ)) → IsBinding a → Binds a ds c → IsBinding c
+folded_is_binding a c [] is f = subst IsBinding f is
+folded_is_binding a c (d ∷ ds) is (m, e, means, u, rest) =
+    folded_is_binding (union a (binding_of_world m e)) c ds (union_is_binding a (binding_of_world m e) is (sections_are_bindings d m e means) u) rest
+
+pub bound_are_bindings : BoundAreBindings
+bound_are_bindings input c bound = folded_is_binding root_binding c bound.data_ root_is_binding bound.binds

@@ -1,0 +1,5 @@
+pub mod SectionBindings
+pub mod Bound
+pub mod BoundLaws
+pub mod Orders
+pub mod Steps
