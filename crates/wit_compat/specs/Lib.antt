@@ -5,6 +5,7 @@ pub mod Walk
 pub mod Table
 pub mod Outline
 pub mod Parts
+pub mod Numbered
 pub mod Index
 pub mod TwoSides
 pub mod Senses

@@ -241,7 +241,8 @@ pub(crate) fn compare(
 /// where two keys of one list are equal without version, prev's imports and exports first; `Missing` and `Differs`, of the first
 /// import of prev, and then the first export of new, that the other lacks or has otherwise, by `key` or `key/item`. And `Memory`.
 ///
-/// Each pair of type numbers is compared once, and the look-ups are hashed.
+/// Each pair of type numbers is compared once, and the look-ups are hashed: the text of a key once for each item, and not for each
+/// type and function in it.
 pub fn semver_check(
     alloc: Global,
     resolve: Resolve,
