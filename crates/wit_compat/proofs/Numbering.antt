@@ -1,8 +1,9 @@
 -- Texts by number: a number is one text's, and stays.
-use Rattle.std.proofs.Common.{◌≡◌, refl, sym, ap, ◌∙◌, ℕ, ◌+◌, ◌==◌, suc, Bool, true, false, cond, not, ◌||◌, List, [], ◌∷◌, ◌++◌, Option, Some, None, option_map, true≢false, arith}
+use Rattle.std.proofs.Common.{◌≡◌, refl, sym, ap, ◌∙◌, ℕ, ◌+◌, ◌==◌, suc, ◌↔◌, IsTrue, Bool, true, false, cond, not, ◌||◌, List, [], ◌∷◌, ◌++◌, map, Option, Some, None, option_map, true≢false, arith}
 use Rattle.std.specs.Borrow.{Bor}
 use Rattle.std.specs.List.{list_any, position_or_len}
 use Rattle.std.proofs.lemmas.Bool.{eqb-true, eq-eqb}
+use Rattle.std.proofs.lemmas.List.{map-append}
 use Rattle.wit_model.specs.Text.{Text, text_eq}
 use Rattle.wit_model.proofs.VersionLaws.{same_text, text_same}
 use Rattle.wit_compat.specs.declared.part.Entry.{Entry}
@@ -60,6 +61,21 @@ numbers_kept ks k t n h = by (list_any (is_text k.now) ks) refl
     by true e = ap (λ b. number_in (cond b ks (ks ++ k ∷ [])) t) e ∙ h
     by false e = ap (λ b. number_in (cond b ks (ks ++ k ∷ [])) t) e ∙ number-append ks (k ∷ []) t n h
 
+-- the numbers of texts stay
+numbers_stay : (ks js : BorrowedTexts) (ts : List Text) (ns : List ℕ) → KeepsNumbers ks js → map (number_in ks) ts ≡ map Some ns → map (number_in js) ts ≡ map Some ns
+numbers_stay ks js [] [] kept h = refl
+numbers_stay ks js [] (n ∷ ns) kept h = absurd (let z : ⊥ = cc in z)
+numbers_stay ks js (t ∷ ts) [] kept h = absurd (let z : ⊥ = cc in z)
+numbers_stay ks js (t ∷ ts) (n ∷ ns) kept h =
+    let first : number_in ks t ≡ Some n = cc in
+    let rest : map (number_in ks) ts ≡ map Some ns = cc in
+    λ i. kept t n first i ∷ numbers_stay ks js ts ns kept rest i
+
+-- the number of one text more
+pub numbers_more : (ks js : BorrowedTexts) (ts : List Text) (ns : List ℕ) (t : Text) (n : ℕ) → KeepsNumbers ks js → map (number_in ks) ts ≡ map Some ns → number_in js t ≡ Some n → map (number_in js) (ts ++ t ∷ []) ≡ map Some (ns ++ n ∷ [])
+numbers_more ks js ts ns t n kept h g =
+    map-append (number_in js) ts (t ∷ []) ∙ (λ i. numbers_stay ks js ts ns kept h i ++ g i ∷ []) ∙ sym (map-append Some ns (n ∷ []))
+
 -- ---- one number, one text
 
 one_text : (ks : BorrowedTexts) (t u : Text) (n : ℕ) → number_in ks t ≡ Some n → number_in ks u ≡ Some n → t ≡ u
@@ -86,6 +102,10 @@ numbers_tell ks t u n m h g = by (text_eq t u) refl (n == m) refl
     by false e false f = f ∙ sym e
     by false e true f = absurd (true≢false (sym (same_text t u (one_text ks t u n h (g ∙ ap Some (sym (eqb-true n m f))))) ∙ e))
 
--- so the numbers of entries tell their keys
+-- so numbers that are equal are those of equal texts
+pub same_numbers : (ks : BorrowedTexts) (t u : Text) (n m : ℕ) → number_in ks t ≡ Some n → number_in ks u ≡ Some m → IsTrue (n == m) ↔ (t ≡ u)
+same_numbers ks t u n m h g = (λ e. text_same t u (sym (numbers_tell ks t u n m h g) ∙ e), λ q. numbers_tell ks t u n m h g ∙ same_text t u q)
+
+-- and the numbers of entries tell their keys
 pub all_tell : (ks : BorrowedTexts) (ds es : List Entry) → AreNumbered ks ds → AreNumbered ks es → AllNumbersTell ds es
 all_tell ks ds es h g d e x y = numbers_tell ks d.key.text.now e.key.text.now d.key.number e.key.number (h d x) (g e y)

@@ -3,9 +3,9 @@ pub mod Flat
 pub mod Compatible
 pub mod Walk
 pub mod Table
+pub mod Numbered
 pub mod Outline
 pub mod Parts
-pub mod Numbered
 pub mod Index
 pub mod TwoSides
 pub mod Senses

@@ -1,6 +1,7 @@
 -- Texts by number.
-use Rattle.std.specs.Prelude.{◌≡◌, ℕ, ◌==◌, suc, if◌then◌else◌, List, [], ◌∷◌, Option, Some, None, option_map}
+use Rattle.std.specs.Prelude.{◌≡◌, ℕ, ◌==◌, suc, if◌then◌else◌, List, [], ◌∷◌, map, Option, Some, None, Vec, option_map}
 use Rattle.std.specs.Borrow.{Bor}
+use Rattle.std.specs.declared.alloc.Global.{Global}
 use Rattle.std.specs.List.{Contains}
 use Rattle.wit_model.specs.Text.{Text, text_eq}
 use Rattle.wit_compat.specs.declared.part.Entry.{Entry}
@@ -12,6 +13,10 @@ BorrowedTexts = List (Bor (List ℕ))
 abbrev pub number_in : BorrowedTexts → Text → Option ℕ
 number_in [] t = None
 number_in (k ∷ ks) t = if text_eq t k.now then Some 0 else option_map suc (number_in ks t)
+
+-- the numbers of texts by some list
+abbrev pub AreNumbers : List Text → Vec ℕ Global → Type 0
+AreNumbers ts ns = (keys : BorrowedTexts) × (map (number_in keys) ts ≡ map Some ns.items)
 
 -- a text that has a number keeps it
 abbrev pub KeepsNumbers : BorrowedTexts → BorrowedTexts → Type 0

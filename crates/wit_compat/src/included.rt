@@ -6,12 +6,13 @@ ghost use Rattle.wit_model.specs.Text.{text_of};
 ghost use Rattle.wit_compat.specs.Compatible.{differs as differs_lem, missing as missing_lem, spelled_name as spelled_name_lem, IsEntryFault, IsFaultOf, IsIncluded, IsMemoryOr};
 ghost use Rattle.wit_compat.specs.Flat.{all_shown, find_named, shown};
 ghost use Rattle.wit_compat.specs.Index.{indexed, AllToldFrom, IsToldFrom};
-ghost use Rattle.wit_compat.specs.Outline.{interface_names};
+ghost use Rattle.wit_compat.specs.Outline.{AreNames};
 ghost use Rattle.wit_compat.specs.Parts.{named_thing, thing_of, EntriesInRange, FoundInRange, ThingInRange};
 ghost use Rattle.wit_compat.specs.Walk.{heads_of, pairs_between, pairs_of_entry, pairs_shared};
 ghost use Rattle.wit_compat.specs.Table.{AreAmong, AreReached, IsLayered, IsSettled};
 
 use crate::index::{Index, find};
+use crate::names::Names;
 use crate::pairs::Pairs;
 use crate::part::{Entry, Part, same_parts};
 use crate::steps::Steps;
@@ -51,7 +52,7 @@ fn differs(alloc: Global, entry: &Entry) -> Error
 /// large one's.
 fn same_sides(
     alloc: Global,
-    names: &[String],
+    names: &Names,
     resolve: &Resolve,
     heads: &[Type],
     back: bool,
@@ -61,7 +62,7 @@ fn same_sides(
     steps: &mut Steps,
 ) -> Result<bool, AllocError>
     requires layered { IsLayered resolve.now }
-    requires names { map text_of names.now ≡ interface_names resolve.now }
+    requires names { AreNames resolve.now names.now }
     requires heads { heads.now ≡ heads_of resolve.now }
     requires small { ThingInRange resolve.now (thing_of small) }
     requires large { ThingInRange resolve.now (thing_of large) }
@@ -84,7 +85,7 @@ fn same_sides(
 /// Whether an entry stands in the large list with the same types.
 fn check_entry(
     alloc: Global,
-    names: &[String],
+    names: &Names,
     resolve: &Resolve,
     heads: &[Type],
     back: bool,
@@ -94,7 +95,7 @@ fn check_entry(
     steps: &mut Steps,
 ) -> Result<(), Error>
     requires layered { IsLayered resolve.now }
-    requires names { map text_of names.now ≡ interface_names resolve.now }
+    requires names { AreNames resolve.now names.now }
     requires heads { heads.now ≡ heads_of resolve.now }
     requires entry { ThingInRange resolve.now (thing_of entry.now.part) }
     requires large { FoundInRange resolve.now (indexed large.now.entries) }
@@ -126,7 +127,7 @@ fn check_entry(
 /// Whether each entry of the small list stands in the large one with the same types: the first that doesn't is refused.
 pub(crate) fn included(
     alloc: Global,
-    names: &[String],
+    names: &Names,
     resolve: &Resolve,
     heads: &[Type],
     back: bool,
@@ -136,7 +137,7 @@ pub(crate) fn included(
     steps: &mut Steps,
 ) -> Result<(), Error>
     requires layered { IsLayered resolve.now }
-    requires names { map text_of names.now ≡ interface_names resolve.now }
+    requires names { AreNames resolve.now names.now }
     requires heads { heads.now ≡ heads_of resolve.now }
     requires small { EntriesInRange resolve.now small.now }
     requires large { FoundInRange resolve.now (indexed large.now.entries) }

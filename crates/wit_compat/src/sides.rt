@@ -2,18 +2,18 @@
 
 ghost use Rattle.std.specs.Prelude.{◌≡◌, ◌++◌, ◌≤◌, true, length, map, IfOk, OnOk, IfErr};
 ghost use Rattle.wit_model.specs.Rules.{entries_in_range};
-ghost use Rattle.wit_model.specs.Text.{text_of};
 ghost use Rattle.wit_model.specs.Valid.{IsValid};
 ghost use Rattle.wit_compat.specs.Compatible.{IsFaultOf, IsIncluded};
 ghost use Rattle.wit_compat.specs.Flat.{flat, things_of};
 ghost use Rattle.wit_compat.specs.Index.{AllToldFrom, Indexes};
-ghost use Rattle.wit_compat.specs.Outline.{interface_names};
+ghost use Rattle.wit_compat.specs.Outline.{AreNames};
 ghost use Rattle.wit_compat.specs.Parts.{named_thing};
 ghost use Rattle.wit_compat.specs.Walk.{heads_of, pairs_shared};
 ghost use Rattle.wit_compat.specs.Table.{AreAmong, AreReached, IsSettled};
 
 use crate::included::included;
 use crate::index::{Index, index};
+use crate::names::Names;
 use crate::pairs::Pairs;
 use crate::part::Entry;
 use crate::steps::Steps;
@@ -24,12 +24,12 @@ use wit_model::{Error, Map, Resolve, Type, WorldItem, WorldKey};
 
 fn gathered<'a>(
     alloc: Global,
-    names: &'a [String],
+    names: &'a Names,
     resolve: &'a Resolve,
     small: &'a Map<WorldKey, WorldItem>,
     large: &'a Map<WorldKey, WorldItem>,
 ) -> Result<(Vec<Entry<'a>>, Index<'a>), AllocError>
-    requires names { map text_of names.now ≡ interface_names resolve.now }
+    requires names { AreNames resolve.now names.now }
     requires small { entries_in_range resolve.now small.now.entries ≡ true }
     requires large { entries_in_range resolve.now large.now.entries ≡ true }
     ensures small { IfOk result (λ p. map named_thing p.0.items ≡ things_of resolve.entry.now small.entry.now.entries) }
@@ -46,7 +46,7 @@ fn gathered<'a>(
 /// Whether each thing of the small list stands in the large one with the same types: the first that doesn't is refused.
 pub(crate) fn compare_sides(
     alloc: Global,
-    names: &[String],
+    names: &Names,
     resolve: &Resolve,
     heads: &[Type],
     back: bool,
@@ -56,7 +56,7 @@ pub(crate) fn compare_sides(
     steps: &mut Steps,
 ) -> Result<(), Error>
     requires valid { IsValid resolve.now }
-    requires names { map text_of names.now ≡ interface_names resolve.now }
+    requires names { AreNames resolve.now names.now }
     requires heads { heads.now ≡ heads_of resolve.now }
     requires small { entries_in_range resolve.now small.now.entries ≡ true }
     requires large { entries_in_range resolve.now large.now.entries ≡ true }

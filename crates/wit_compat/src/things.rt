@@ -4,14 +4,13 @@ ghost use Rattle.std.specs.Prelude.{◌≡◌, [], ◌∷◌, ◌++◌, true, le
 ghost use Rattle.std.specs.Option.{option_copied, option_map_or};
 ghost use Rattle.wit_model.specs.Lookup.{interface_at as interface_at_lem};
 ghost use Rattle.wit_model.specs.Rules.{entries_in_range};
-ghost use Rattle.wit_model.specs.Text.{text_of};
 ghost use Rattle.wit_compat.specs.Flat.{function_member, item_things, members, things_of, type_member};
 ghost use Rattle.wit_compat.specs.Numbered.{AreNumbered, KeepsNumbers};
-ghost use Rattle.wit_compat.specs.Outline.{interface_names};
+ghost use Rattle.wit_compat.specs.Outline.{AreNames};
 ghost use Rattle.wit_compat.specs.Parts.{named_thing, numbered_thing, thing_of, with_number};
 
 use crate::keys::{Key, Keys, key_of};
-use crate::names::key_text;
+use crate::names::{Names, key_text};
 use crate::part::{Entry, Part};
 use std::alloc::{AllocError, Global};
 use wit_model::{
@@ -126,12 +125,12 @@ fn push_item<'a>(
 /// All things of a list of imports or exports, in order, each with its key's number.
 pub(crate) fn things<'a>(
     alloc: Global,
-    names: &'a [String],
+    names: &'a Names,
     resolve: &'a Resolve,
     items: &'a Map<WorldKey, WorldItem>,
     keys: &mut Keys<'a>,
 ) -> Result<Vec<Entry<'a>>, AllocError>
-    requires names { map text_of names.now ≡ interface_names resolve.now }
+    requires names { AreNames resolve.now names.now }
     requires in_range { entries_in_range resolve.now items.now.entries ≡ true }
     ensures things { IfOk result (λ v. map named_thing v.items ≡ things_of resolve.entry.now items.entry.now.entries) }
     ensures numbered { IfOk result (λ v. AreNumbered keys.new.keys v.items) }
