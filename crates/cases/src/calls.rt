@@ -51,8 +51,8 @@ fn test_world(resolve: &Resolve, world: WorldId) -> Result<(), Answer>
     }
 }
 
-fn test_place(resolve: &Resolve, place: Place) -> Result<(), Answer>
-    ensures { OnOk result (is_some (sense_of resolve.now place) ≡ true) }
+fn test_place(resolve: &Resolve, place: &Place) -> Result<(), Answer>
+    ensures { OnOk result (is_some (sense_of resolve.now place.now) ≡ true) }
 {
     if place.is_in(resolve) {
         Ok(())
@@ -277,8 +277,8 @@ pub fn sense(
     requires resolve { IsValid resolve.now }
     requires other { IsValid other.now }
 {
-    test_place(resolve, at)?;
-    test_place(other, place)?;
+    test_place(resolve, &at)?;
+    test_place(other, &place)?;
     if same_sense(alloc, resolve, at, other, place)? {
         Ok(Answer::Yes)
     } else {

@@ -1,28 +1,40 @@
 -- An index finds what its list has.
-use Rattle.std.proofs.Common.{◌≡◌, refl, sym, ap, ◌∙◌, ℕ, ◌+◌, ◌<◌, Bool, true, false, ◌&&◌, cond, List, [], ◌∷◌, ◌++◌, map, take, length, get_or, Option, Some, None, option_map}
+use Rattle.std.proofs.Common.{◌≡◌, refl, sym, ap, ◌∙◌, ℕ, ◌+◌, ◌<◌, ◌==◌, subst, ◌⊎◌, inl, inr, Bool, true, false, ◌&&◌, cond, List, [], ◌∷◌, ◌++◌, map, take, length, get_or, Option, Some, None, option_map}
 use Rattle.std.specs.Borrow.{Bor}
+use Rattle.std.specs.List.{Contains}
 use Rattle.std.specs.Map.{lookup}
 use Rattle.std.specs.Option.{is_none, option_copied}
 use Rattle.std.proofs.lemmas.List.{take_more, map-append}
+use Rattle.std.proofs.lemmas.List.Elements.{Contains-append_left, Contains-append_right, Contains-push, Contains-push_cases}
 use Rattle.std.proofs.lemmas.Slice.Eq.{bytes_eq-Decides}
 use Rattle.wit_model.specs.Text.{text_eq}
 use Rattle.wit_model.proofs.Lists.{first_true, second_true}
-use Rattle.wit_compat.specs.declared.part.Part.{Part}
 use Rattle.wit_compat.specs.declared.part.Entry.{Entry}
 use Rattle.wit_compat.specs.Flat.{Name, Thing, find_named, same_name}
 use Rattle.wit_compat.specs.Parts.{thing_of, named_thing}
-use Rattle.wit_compat.specs.Index.{BorrowedName, indexed, Indexes}
+use Rattle.wit_compat.specs.Index.{NumberedName, indexed, AllToldFrom, ComeFrom, Indexes, IsToldFrom}
+use Rattle.wit_compat.specs.Numbered.{AllNumbersTell}
 
-abbrev names_test : Name → BorrowedName → Bool
-names_test q k = text_eq q.0 k.0.now && text_eq q.1 k.1.now
+abbrev thing_in : Entry → Thing
+thing_in e = thing_of e.part
 
-either : (q : Name) (e : BorrowedName × Part) (x : Option Part) (y : Option Thing) (b : Bool) → option_map thing_of x ≡ y → option_map thing_of (cond b (Some e.1) x) ≡ cond b (Some (thing_of e.1)) y
-either q e x y true h = refl
-either q e x y false h = h
+abbrev names_test : Entry → NumberedName → Bool
+names_test d k = (d.key.number == k.0) && text_eq d.name.now k.1.now
 
-pub lookup_is : (q : Name) (es : List (BorrowedName × Part)) → option_map thing_of (lookup (names_test q) es) ≡ find_named q (indexed es)
-lookup_is q [] = refl
-lookup_is q (e ∷ es) = either q e _ _ (names_test q e.0) (lookup_is q es)
+either : (e : Entry) (x : Option Entry) (y : Option Thing) (b : Bool) → option_map thing_in x ≡ y → option_map thing_in (cond b (Some e) x) ≡ cond b (Some (thing_in e)) y
+either e x y true h = refl
+either e x y false h = h
+
+-- what is found by a key's number is what its text finds
+pub lookup_is : (d : Entry) (es : List (NumberedName × Entry)) → IsToldFrom d es → option_map thing_in (lookup (names_test d) es) ≡ find_named (named_thing d).0 (indexed es)
+lookup_is d [] h = refl
+lookup_is d (e ∷ es) h =
+    ap (λ b. option_map thing_in (cond (b && text_eq d.name.now e.0.1.now) (Some e.1) (lookup (names_test d) es))) (h e (Contains-append_left (e ∷ []) es e (Contains-push [] e)))
+    ∙ either e.1 _ _ (text_eq d.key.text.now e.1.key.text.now && text_eq d.name.now e.0.1.now) (lookup_is d es (λ x c. h x (Contains-append_right (e ∷ []) es x c)))
+
+-- what stands in an index is told from each entry of a list that tells the index's entries
+pub told_from : (ds es : List Entry) (m : List (NumberedName × Entry)) → AllNumbersTell ds es → ComeFrom m es → AllToldFrom ds m
+told_from ds es m h from d c x y = ap (λ n. d.key.number == n) (from x y).1 ∙ h d x.1 c (from x y).0
 
 -- ---- one part more
 
@@ -38,9 +50,9 @@ find_last : {X : Type 0} (q : Name) (es : List (Name × X)) (e : Name × X) → 
 find_last q [] e = refl
 find_last q (d ∷ ds) e = cond_last (same_name q d.0) (same_name q e.0) d.1 e.1 (find_named q ds) (find_named q (ds ++ e ∷ [])) (find_last q ds e)
 
-indexed-push : (es : List (BorrowedName × Part)) (e : BorrowedName × Part) → indexed (es ++ e ∷ []) ≡ indexed es ++ ((e.0.0.now, e.0.1.now), thing_of e.1) ∷ []
+indexed-push : (es : List (NumberedName × Entry)) (e : NumberedName × Entry) → indexed (es ++ e ∷ []) ≡ indexed es ++ ((e.1.key.text.now, e.0.1.now), thing_of e.1.part) ∷ []
 indexed-push [] e = refl
-indexed-push (d ∷ ds) e = ap (λ xs. ((d.0.0.now, d.0.1.now), thing_of d.1) ∷ xs) (indexed-push ds e)
+indexed-push (d ∷ ds) e = ap (λ xs. ((d.1.key.text.now, d.0.1.now), thing_of d.1.part) ∷ xs) (indexed-push ds e)
 
 pub same_name_is : (a b : Name) → same_name a b ≡ true → a ≡ b
 same_name_is a b h =
@@ -57,13 +69,13 @@ stays q es n y x h = by (find_named q es) refl (same_name q n) refl
     by None e false s = refl
     by None e true s = let k : q ≡ n = same_name_is q n s in let z : None ≡ Some y = sym e ∙ ap (λ m. find_named m es) k ∙ h in absurd (let w : ⊥ = cc in w)
 
-module _ (es : List Entry) (i : ℕ) (e : Entry) (old : List (BorrowedName × Part)) (lt : i < length es) (is : e ≡ get_or es i e) (h : Indexes old (map named_thing (take i es))) where
+module _ (es : List Entry) (i : ℕ) (e : Entry) (old : List (NumberedName × Entry)) (lt : i < length es) (is : e ≡ get_or es i e) (h : Indexes old (map named_thing (take i es))) where
   more : map named_thing (take (i + 1) es) ≡ map named_thing (take i es) ++ named_thing e ∷ []
   more = ap (map named_thing) (take_more es i e lt) ∙ map-append named_thing (take i es) (get_or es i e ∷ []) ∙ ap (λ x. map named_thing (take i es) ++ named_thing x ∷ []) (sym is)
 
-  pub index_more : (new : List (BorrowedName × Part)) → new ≡ old ++ ((e.key, e.name), e.part) ∷ [] → Indexes new (map named_thing (take (i + 1) es))
+  pub index_more : (new : List (NumberedName × Entry)) → new ≡ old ++ ((e.key.number, e.name), e) ∷ [] → Indexes new (map named_thing (take (i + 1) es))
   index_more new n q =
-      ap (λ x. find_named q (indexed x)) n ∙ ap (find_named q) (indexed-push old ((e.key, e.name), e.part))
+      ap (λ x. find_named q (indexed x)) n ∙ ap (find_named q) (indexed-push old ((e.key.number, e.name), e))
       ∙ find_last q (indexed old) (named_thing e)
       ∙ ap (λ o. or_last o (same_name q (named_thing e).0) (named_thing e).1) (h q)
       ∙ sym (find_last q (map named_thing (take i es)) (named_thing e)) ∙ ap (find_named q) (sym more)
@@ -72,6 +84,14 @@ module _ (es : List Entry) (i : ℕ) (e : Entry) (old : List (BorrowedName × Pa
   index_stays y f q =
       h q ∙ sym (stays q (map named_thing (take i es)) (named_thing e).0 y (named_thing e).1 (sym (h (named_thing e).0) ∙ f))
       ∙ sym (find_last q (map named_thing (take i es)) (named_thing e)) ∙ ap (find_named q) (sym more)
+
+-- one entry more under its number
+pub come_more : (es : List Entry) (e : Entry) (old new : List (NumberedName × Entry)) → Contains es e → ComeFrom old es → new ≡ old ++ ((e.key.number, e.name), e) ∷ [] → ComeFrom new es
+come_more es e old new at from n x c = by (Contains-push_cases old ((e.key.number, e.name), e) x (subst (λ ys. Contains ys x) n c))
+  where
+    by : Contains old x ⊎ (((e.key.number, e.name), e) ≡ x) → Contains es x.1 × (x.0.0 ≡ x.1.key.number)
+    by (inl d) = from x d
+    by (inr q) = subst (λ (y : NumberedName × Entry). Contains es y.1 × (y.0.0 ≡ y.1.key.number)) q (at, refl)
 
 pub copied_none : {A : Type 0} (o : Option (Bor A)) → is_none o ≡ true → option_copied o ≡ None
 copied_none None e = refl

@@ -7,6 +7,7 @@ pub mod Outlines
 pub mod Transitive
 pub mod Settling
 pub mod Signatures
+pub mod Numbering
 pub mod Indexing
 pub mod Naming
 pub mod Repeating
@@ -23,5 +24,6 @@ pub mod WorldItems
 pub mod WorldContents
 pub mod Ranges
 pub mod SameSignatures
+pub mod Keyed
 pub mod Reflexive
 mod Examples

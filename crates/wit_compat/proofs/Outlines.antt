@@ -15,6 +15,7 @@ use Rattle.wit_model.specs.Tree.{Form, record_of, variant_of, list_of, fixed_lis
 use Rattle.wit_compat.specs.Opened.{form_of, interface_name, is_there}
 use Rattle.wit_compat.specs.declared.kinds.Sort.{Sort}
 use Rattle.wit_compat.specs.declared.kinds.Sort.TheVariants as sort
+use Rattle.wit_compat.specs.Numbered.{BorrowedTexts, number_in}
 use Rattle.wit_compat.specs.Outline.{sort_of, labels_of, given_of, count_of, names_from, interface_names}
 use Rattle.wit_compat.proofs.OpenedTable.{map_twice}
 
@@ -123,6 +124,23 @@ names_length r names e = sym (length-map names text_of) ∙ ap length e ∙ leng
 pub name_at : (r : Resolve) (names : List (String Global)) (n : ℕ) (d : String Global) → map text_of names ≡ interface_names r → n < length r.interfaces.items → text_of (get_or names n d) ≡ interface_name r n
 name_at r names n d e h =
     sym (get_or-map text_of names n d) ∙ ap (λ xs. get_or xs n (text_of d)) e ∙ names_at r 0 r.interfaces.items n (text_of d) h ∙ ap (interface_name r) (omega arith)
+
+-- ---- and their numbers
+
+mapped_at : (f : Text → Option ℕ) (r : Resolve) (k : ℕ) (is : List Interface) (n : ℕ) (d : Option ℕ) → n < length is → get_or (map f (names_from r k is)) n d ≡ f (interface_name r (k + n))
+mapped_at f r k [] n d h = absurd (omega (arith, h))
+mapped_at f r k (i ∷ is) zero d h = ap (λ m. f (interface_name r m)) (omega arith)
+mapped_at f r k (i ∷ is) (suc n) d h = mapped_at f r (k + 1) is n d (omega (arith, h)) ∙ ap (λ m. f (interface_name r m)) (omega arith)
+
+module _ (r : Resolve) (keys : BorrowedTexts) (numbers : List ℕ) (e : map (number_in keys) (interface_names r) ≡ map Some numbers) where
+  pub numbers_length : length numbers ≡ length r.interfaces.items
+  numbers_length =
+      sym (length-map numbers Some) ∙ ap length (sym e) ∙ length-map (interface_names r) (number_in keys) ∙ length-names r 0 r.interfaces.items
+
+  pub number_at : (n d : ℕ) → n < length r.interfaces.items → number_in keys (interface_name r n) ≡ Some (get_or numbers n d)
+  number_at n d h =
+      ap (λ m. number_in keys (interface_name r m)) (let same : n ≡ 0 + n = omega arith in same)
+      ∙ sym (mapped_at (number_in keys) r 0 r.interfaces.items n (Some d) h) ∙ ap (λ xs. get_or xs n (Some d)) e ∙ get_or-map Some numbers n d
 
 pub marks_same : (xs ys : List Bool) → pointwise beq xs ys ≡ true → xs ≡ ys
 marks_same [] [] e = refl

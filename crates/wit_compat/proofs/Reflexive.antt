@@ -37,6 +37,7 @@ use Rattle.wit_compat.specs.Flat.{Name, Shown, Thing, interface, of_type, of_fun
 use Rattle.wit_compat.specs.Opened.{bare_key}
 use Rattle.wit_compat.proofs.Including.{contains_map, contains_one, found_shown}
 use Rattle.wit_compat.proofs.Indexing.{same_name_is}
+use Rattle.wit_compat.proofs.Keyed.{item_key}
 use Rattle.wit_compat.proofs.Validity.{all_contained, contains_mapped, interface_numbers, is_below}
 
 -- ---- names that are all different
@@ -266,33 +267,12 @@ module _ (r : Resolve) (v : IsValid r) where
   item_apart k (item.Type_ id) = one_apart ((k, []), of_type (ty.Id id))
   item_apart k (item.Interface id stability docs external_id) = optional_apart k id.0 (interface_at r id.0) refl
 
-  -- all under its key
-  member_key : (k : Text) (i : Interface) (x : Name × Thing) → Contains (members k i) x → x.0.0 ≡ k
-  member_key k i x c = by (Contains-append_cases (map (type_member k) i.types.entries) (map (function_member k) i.functions.entries) x c)
-    where
-      by : Contains (map (type_member k) i.types.entries) x ⊎ Contains (map (function_member k) i.functions.entries) x → x.0.0 ≡ k
-      by (inl d) = sym (ap (λ (z : Name × Thing). z.0.0) (contains_map (type_member k) i.types.entries x d).2)
-      by (inr d) = sym (ap (λ (z : Name × Thing). z.0.0) (contains_map (function_member k) i.functions.entries x d).2)
-
-  optional_key : (k : Text) (o : Option Interface) (x : Name × Thing) → Contains (option_map_or (members k) o []) x → x.0.0 ≡ k
-  optional_key k None x c = absurd (none_contained x c)
-  optional_key k (Some i) x c = member_key k i x c
-
-  item_key : (k : Text) (i : WorldItem) (x : Name × Thing) → Contains (item_things r k i) x → x.0.0 ≡ k
-  item_key k (item.Function f) x c = sym (ap (λ (z : Name × Thing). z.0.0) (contains_one ((k, []), of_function f) x c))
-  item_key k (item.Type_ id) x c = sym (ap (λ (z : Name × Thing). z.0.0) (contains_one ((k, []), of_type (ty.Id id)) x c))
-  item_key k (item.Interface id stability docs external_id) x c = by (Contains-append_cases (((k, []), interface) ∷ []) (option_map_or (members k) (interface_at r id.0) []) x c)
-    where
-      by : Contains (((k, []), interface) ∷ []) x ⊎ Contains (option_map_or (members k) (interface_at r id.0) []) x → x.0.0 ≡ k
-      by (inl d) = sym (ap (λ (z : Name × Thing). z.0.0) (contains_one ((k, []), interface) x d))
-      by (inr d) = optional_key k (interface_at r id.0) x d
-
   entry_key : (es : List (WorldKey × WorldItem)) (x : Name × Thing) → Contains (things_of r es) x → (e : WorldKey × WorldItem) × Contains es e × (x.0.0 ≡ bare_key r e.0)
   entry_key [] x c = absurd (none_contained x c)
   entry_key (e ∷ es) x c = by (entry_key es x) (Contains-append_cases (entry_things r e) (things_of r es) x c)
     where
       by : (Contains (things_of r es) x → (f : WorldKey × WorldItem) × Contains es f × (x.0.0 ≡ bare_key r f.0)) → Contains (entry_things r e) x ⊎ Contains (things_of r es) x → (f : WorldKey × WorldItem) × Contains (e ∷ es) f × (x.0.0 ≡ bare_key r f.0)
-      by later (inl d) = (e, Contains-append_left (e ∷ []) es e (Contains-push [] e), item_key (bare_key r e.0) e.1 x d)
+      by later (inl d) = (e, Contains-append_left (e ∷ []) es e (Contains-push [] e), item_key r (bare_key r e.0) e.1 x d)
       by later (inr d) = let w = later d in (w.0, Contains-append_right (e ∷ []) es w.0 w.1, w.2)
 
   -- ---- what a world shows
@@ -305,7 +285,7 @@ module _ (r : Resolve) (v : IsValid r) where
       across : (x y : Name × Thing) → Contains (entry_things r e) x → Contains (things_of r es) y → x.0 ≡ y.0 → ⊥
       across x y a b q =
           let w = entry_key es y b in
-          let texts : bare_key r e.0 ≡ bare_key r w.0.0 = sym (item_key (bare_key r e.0) e.1 x a) ∙ ap (λ (m : Name). m.0) q ∙ w.2 in
+          let texts : bare_key r e.0 ≡ bare_key r w.0.0 = sym (item_key r (bare_key r e.0) e.1 x a) ∙ ap (λ (m : Name). m.0) q ∙ w.2 in
           let differ : text_eq (bare_key r e.0) (bare_key r w.0.0) ≡ false = each_one (λ t. text_eq (bare_key r e.0) t ≡ false) (λ (z : WorldKey × WorldItem). bare_key r z.0) es d.0 w.0 w.1 in
           let same = (bytes_eq-Decides (bare_key r e.0) (bare_key r w.0.0)).1 texts in
           let wrong : true ≡ false = sym same ∙ differ in

@@ -3,6 +3,7 @@ pub mod Flat
 pub mod Compatible
 pub mod Walk
 pub mod Table
+pub mod Numbered
 pub mod Outline
 pub mod Parts
 pub mod Index

@@ -8,10 +8,12 @@ use Rattle.wit_model.specs.declared.model.Interface.{Interface}
 use Rattle.wit_model.specs.declared.model.TypeDef.{TypeDef}
 use Rattle.wit_model.specs.declared.model.InterfaceId.{InterfaceId}
 use Rattle.wit_model.specs.declared.model.TypeOwner.TheVariants as owner
-use Rattle.wit_model.specs.Text.{Text}
+use Rattle.wit_model.specs.Text.{Text, text_of}
 use Rattle.wit_model.specs.Tree.{Form, record_of, variant_of, list_of, fixed_list_of, option_of, own_of, borrow_of, map_of, tuple_of, flags_of, enum_of, result_of, future_of, stream_of}
 use Rattle.wit_compat.specs.declared.kinds.Sort.{Sort}
+use Rattle.wit_compat.specs.declared.names.Names.{Names}
 use Rattle.wit_compat.specs.declared.kinds.Sort.TheVariants as sort
+use Rattle.wit_compat.specs.Numbered.{AreNumbers}
 use Rattle.wit_compat.specs.Opened.{interface_name}
 
 abbrev pub sort_of : Option Form → Sort
@@ -68,6 +70,11 @@ names_from r n (i ∷ is) = interface_name r n ∷ names_from r (n + 1) is
 
 abbrev pub interface_names : Resolve → List Text
 interface_names r = names_from r 0 r.interfaces.items
+
+-- what interfaces are called, and a number for each text
+pub record AreNames (r : Resolve) (names : Names) : Type 0 where
+  pub texts : map text_of names.texts.items ≡ interface_names r
+  pub numbers : AreNumbers (interface_names r) names.numbers
 
 -- the interface that owns a type is in range
 abbrev pub OwnerInRange : Resolve → TypeDef → Type 0

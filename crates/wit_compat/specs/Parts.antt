@@ -1,5 +1,5 @@
 -- The parts of a world as the code sees them, with borrowed names.
-use Rattle.std.specs.Prelude.{◌≡◌, List, [], ◌∷◌, Some}
+use Rattle.std.specs.Prelude.{◌≡◌, ℕ, List, [], ◌∷◌, Some}
 use Rattle.std.specs.List.{Contains}
 use Rattle.wit_model.specs.declared.model.Resolve.{Resolve}
 use Rattle.wit_model.specs.Parts.{function_types}
@@ -15,7 +15,14 @@ thing_of (part.Type_ t) = of_type t
 thing_of (part.Function f) = of_function f.now
 
 abbrev pub named_thing : Entry → Name × Thing
-named_thing e = ((e.key.now, e.name.now), thing_of e.part)
+named_thing e = ((e.key.text.now, e.name.now), thing_of e.part)
+
+-- a thing with the number of its key
+abbrev pub with_number : ℕ → Name × Thing → ℕ × (Name × Thing)
+with_number n x = (n, x)
+
+abbrev pub numbered_thing : Entry → ℕ × (Name × Thing)
+numbered_thing e = with_number e.key.number (named_thing e)
 
 -- the types in a thing are in range
 abbrev pub ThingInRange : Resolve → Thing → Type 0

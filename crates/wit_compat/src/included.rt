@@ -5,13 +5,14 @@ ghost use Rattle.std.specs.List.{Contains};
 ghost use Rattle.wit_model.specs.Text.{text_of};
 ghost use Rattle.wit_compat.specs.Compatible.{differs as differs_lem, missing as missing_lem, spelled_name as spelled_name_lem, IsEntryFault, IsFaultOf, IsIncluded, IsMemoryOr};
 ghost use Rattle.wit_compat.specs.Flat.{all_shown, find_named, shown};
-ghost use Rattle.wit_compat.specs.Index.{indexed};
-ghost use Rattle.wit_compat.specs.Outline.{interface_names};
+ghost use Rattle.wit_compat.specs.Index.{indexed, AllToldFrom, IsToldFrom};
+ghost use Rattle.wit_compat.specs.Outline.{AreNames};
 ghost use Rattle.wit_compat.specs.Parts.{named_thing, thing_of, EntriesInRange, FoundInRange, ThingInRange};
 ghost use Rattle.wit_compat.specs.Walk.{heads_of, pairs_between, pairs_of_entry, pairs_shared};
 ghost use Rattle.wit_compat.specs.Table.{AreAmong, AreReached, IsLayered, IsSettled};
 
 use crate::index::{Index, find};
+use crate::names::Names;
 use crate::pairs::Pairs;
 use crate::part::{Entry, Part, same_parts};
 use crate::steps::Steps;
@@ -21,7 +22,7 @@ use wit_model::{Error, Resolve, Type};
 fn spelled_name(alloc: Global, entry: &Entry) -> Result<String, AllocError>
     ensures { IfOk result (λ text. text_of text ≡ spelled_name_lem (named_thing entry.now).0) }
 {
-    let (key, name) = (entry.key, entry.name);
+    let (key, name) = (entry.key.text, entry.name);
     if name.is_empty() {
         String::from_str(alloc, key)
     } else {
@@ -51,7 +52,7 @@ fn differs(alloc: Global, entry: &Entry) -> Error
 /// large one's.
 fn same_sides(
     alloc: Global,
-    names: &[String],
+    names: &Names,
     resolve: &Resolve,
     heads: &[Type],
     back: bool,
@@ -61,7 +62,7 @@ fn same_sides(
     steps: &mut Steps,
 ) -> Result<bool, AllocError>
     requires layered { IsLayered resolve.now }
-    requires names { map text_of names.now ≡ interface_names resolve.now }
+    requires names { AreNames resolve.now names.now }
     requires heads { heads.now ≡ heads_of resolve.now }
     requires small { ThingInRange resolve.now (thing_of small) }
     requires large { ThingInRange resolve.now (thing_of large) }
@@ -84,7 +85,7 @@ fn same_sides(
 /// Whether an entry stands in the large list with the same types.
 fn check_entry(
     alloc: Global,
-    names: &[String],
+    names: &Names,
     resolve: &Resolve,
     heads: &[Type],
     back: bool,
@@ -94,10 +95,11 @@ fn check_entry(
     steps: &mut Steps,
 ) -> Result<(), Error>
     requires layered { IsLayered resolve.now }
-    requires names { map text_of names.now ≡ interface_names resolve.now }
+    requires names { AreNames resolve.now names.now }
     requires heads { heads.now ≡ heads_of resolve.now }
     requires entry { ThingInRange resolve.now (thing_of entry.now.part) }
     requires large { FoundInRange resolve.now (indexed large.now.entries) }
+    requires told { IsToldFrom entry.now large.now.entries }
     requires settled { IsSettled resolve.now pairs.old.keys steps.old.count }
     ensures stands { OnOk result (find_named (named_thing entry.now).0 (all_shown resolve.now (indexed large.now.entries)) ≡ Some (shown resolve.now (thing_of entry.now.part))) }
     ensures refuses { IfErr result (λ e. IsEntryFault (all_shown resolve.now (indexed large.now.entries)) ((named_thing entry.now).0, shown resolve.now (thing_of entry.now.part)) e) }
@@ -125,7 +127,7 @@ fn check_entry(
 /// Whether each entry of the small list stands in the large one with the same types: the first that doesn't is refused.
 pub(crate) fn included(
     alloc: Global,
-    names: &[String],
+    names: &Names,
     resolve: &Resolve,
     heads: &[Type],
     back: bool,
@@ -135,10 +137,11 @@ pub(crate) fn included(
     steps: &mut Steps,
 ) -> Result<(), Error>
     requires layered { IsLayered resolve.now }
-    requires names { map text_of names.now ≡ interface_names resolve.now }
+    requires names { AreNames resolve.now names.now }
     requires heads { heads.now ≡ heads_of resolve.now }
     requires small { EntriesInRange resolve.now small.now }
     requires large { FoundInRange resolve.now (indexed large.now.entries) }
+    requires told { AllToldFrom small.now large.now.entries }
     requires settled { IsSettled resolve.now pairs.old.keys steps.old.count }
     ensures includes { OnOk result (IsIncluded (all_shown resolve.now (map named_thing small.now)) (all_shown resolve.now (indexed large.now.entries))) }
     ensures refuses { IfErr result (λ e. IsFaultOf (all_shown resolve.now (map named_thing small.now)) (all_shown resolve.now (indexed large.now.entries)) e) }

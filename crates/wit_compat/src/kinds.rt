@@ -5,11 +5,11 @@ ghost use Rattle.std.specs.Option.{option_map_or};
 ghost use Rattle.wit_compat.specs.Opened.{form_of, interface_name, is_there, places_of, resource_leaf, resource_place};
 ghost use Rattle.wit_model.specs.Text.{text_eq, text_of};
 ghost use Rattle.std.specs.Cmp.Lexicographic.{pointwise};
-ghost use Rattle.wit_compat.specs.Outline.{sort_of as sort_of_lem, labels_of as labels_of_lem, given_of as given_of_lem, count_of as count_of_lem, interface_names, OwnerInRange};
+ghost use Rattle.wit_compat.specs.Outline.{sort_of as sort_of_lem, labels_of as labels_of_lem, given_of as given_of_lem, count_of as count_of_lem, AreNames, OwnerInRange};
 ghost use Rattle.wit_compat.specs.Table.{SameKinds};
 
 use crate::labels::{labels, same_labels, same_marks};
-use crate::names::name_at;
+use crate::names::{Names, same_names};
 use std::alloc::{AllocError, Global};
 use wit_model::{Case, Field, Handle, Resolve, Type, TypeDef, TypeDefKind, TypeOwner};
 
@@ -235,15 +235,15 @@ pub(crate) fn name_text(name: &Option<String>) -> &str
 }
 
 /// Whether two owners are of one place, by the names of interfaces.
-fn same_places(names: &[String], resolve: &Resolve, prev: &TypeDef, new: &TypeDef) -> bool
-    requires names { map text_of names.now ≡ interface_names resolve.now }
+fn same_places(names: &Names, resolve: &Resolve, prev: &TypeDef, new: &TypeDef) -> bool
+    requires names { AreNames resolve.now names.now }
     requires prev { OwnerInRange resolve.now prev.now }
     requires new { OwnerInRange resolve.now new.now }
     ensures { IsTrue result ↔ (resource_place resolve.now prev.now.owner ≡ resource_place resolve.now new.now.owner) }
 {
     match prev.owner {
         TypeOwner::Interface(a) => match new.owner {
-            TypeOwner::Interface(b) => { name_at(names, resolve, a) == name_at(names, resolve, b) }
+            TypeOwner::Interface(b) => same_names(names, resolve, a, b),
             _ => false,
         },
         _ => match new.owner {
@@ -254,8 +254,8 @@ fn same_places(names: &[String], resolve: &Resolve, prev: &TypeDef, new: &TypeDe
 }
 
 /// Whether two resources have the same place and name.
-fn same_leaves(names: &[String], resolve: &Resolve, prev: &TypeDef, new: &TypeDef) -> bool
-    requires names { map text_of names.now ≡ interface_names resolve.now }
+fn same_leaves(names: &Names, resolve: &Resolve, prev: &TypeDef, new: &TypeDef) -> bool
+    requires names { AreNames resolve.now names.now }
     requires prev { OwnerInRange resolve.now prev.now }
     requires new { OwnerInRange resolve.now new.now }
     ensures same { result ≡ true → resource_leaf resolve.now prev.now ≡ resource_leaf resolve.now new.now }
@@ -270,12 +270,12 @@ fn same_leaves(names: &[String], resolve: &Resolve, prev: &TypeDef, new: &TypeDe
 /// Whether two kinds are the same beside the types in them; of resources, the places and the names.
 pub(crate) fn same_kinds(
     alloc: Global,
-    names: &[String],
+    names: &Names,
     resolve: &Resolve,
     prev: &TypeDef,
     new: &TypeDef,
 ) -> Result<bool, AllocError>
-    requires names { map text_of names.now ≡ interface_names resolve.now }
+    requires names { AreNames resolve.now names.now }
     requires prev { OwnerInRange resolve.now prev.now }
     requires new { OwnerInRange resolve.now new.now }
     ensures same { IfOk result (λ b. b ≡ true → SameKinds resolve.now prev.now new.now) }

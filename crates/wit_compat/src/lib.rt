@@ -10,6 +10,7 @@ mod included;
 mod index;
 mod interfaces;
 mod items;
+mod keys;
 mod kinds;
 mod labels;
 pub mod laws;

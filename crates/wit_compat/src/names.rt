@@ -1,12 +1,14 @@
 //! The names of interfaces, and the texts of keys, without versions.
 
-ghost use Rattle.std.specs.Prelude.{◌≡◌, ◌<◌, ◌==◌, ℕ, if◌then◌else◌, [], true, flat_map, length, map, option_map, unwrap_or, None, Some, IfOk, OnOk};
+ghost use Rattle.std.specs.Prelude.{◌≡◌, ◌↔◌, ◌<◌, ◌==◌, ℕ, if◌then◌else◌, [], true, flat_map, length, map, option_map, unwrap_or, None, Some, IfOk, IsTrue, OnOk};
+ghost use Rattle.wit_compat.specs.Numbered.{AreNumbers};
 ghost use Rattle.wit_compat.specs.Opened.{bare_key, bare_path as bare_path_lem, entries_of_world, interface_name as interface_name_lem, is_item_of, label_among, label_of_key};
-ghost use Rattle.wit_compat.specs.Outline.{interface_names as interface_names_lem, label_noted, NotesMore};
+ghost use Rattle.wit_compat.specs.Outline.{interface_names as interface_names_lem, label_noted, AreNames, NotesMore};
 ghost use Rattle.wit_model.specs.Rules.{key_in_range};
 ghost use Rattle.wit_model.specs.Text.{optional_text, text_of};
 
-use indexmap::IndexMap;
+use crate::keys::key_of;
+use indexmap::{IndexMap, IndexSet};
 use std::alloc::{AllocError, Global};
 use wit_model::lookup::full_name;
 use wit_model::{InterfaceId, Map, PackageName, Resolve, World, WorldItem, WorldKey};
@@ -111,8 +113,16 @@ fn interface_name(
     }
 }
 
-/// What each interface is called: its path without version, or the label of an inline one.
-pub(crate) fn interface_names(alloc: Global, resolve: &Resolve) -> Result<Vec<String>, AllocError>
+/// What interfaces are called: their paths without version, or the labels of inline ones. A number each tells whether two are
+/// called the same, so that no path is compared for each thing in an interface.
+#[derive(Drop)]
+pub(crate) struct Names {
+    texts: Vec<String>,
+    numbers: Vec<usize>,
+}
+
+/// What each interface is called.
+fn interface_names(alloc: Global, resolve: &Resolve) -> Result<Vec<String>, AllocError>
     ensures { IfOk result (λ v. map text_of v.items ≡ interface_names_lem resolve.now) }
 {
     let labels = labels(alloc, resolve)?;
@@ -124,18 +134,50 @@ pub(crate) fn interface_names(alloc: Global, resolve: &Resolve) -> Result<Vec<St
     Ok(names)
 }
 
+/// A number for each text, equal for equal texts.
+fn numbers(alloc: Global, texts: &[String]) -> Result<Vec<usize>, AllocError>
+    ensures { IfOk result (AreNumbers (map text_of texts.now)) }
+{
+    let mut keys = IndexSet::new(alloc);
+    let mut numbers = Vec::new(alloc);
+    for text in texts {
+        let key = key_of(&mut keys, text.as_str())?;
+        numbers.push(key.number)?;
+    }
+    Ok(numbers)
+}
+
+/// What interfaces are called, with their numbers.
+pub(crate) fn names_of(alloc: Global, resolve: &Resolve) -> Result<Names, AllocError>
+    ensures { IfOk result (AreNames resolve.now) }
+{
+    let texts = interface_names(alloc, resolve)?;
+    let numbers = numbers(alloc, &texts)?;
+    Ok(Names { texts, numbers })
+}
+
 /// What an interface is called, by a table of all.
-pub(crate) fn name_at<'a>(names: &'a [String], resolve: &Resolve, id: InterfaceId) -> &'a str
-    requires names { map text_of names.now ≡ interface_names_lem resolve.now }
+pub(crate) fn name_at<'a>(names: &'a Names, resolve: &Resolve, id: InterfaceId) -> &'a str
+    requires names { AreNames resolve.now names.now }
     requires in_range { id.0 < length resolve.now.interfaces.items }
     ensures { result.now ≡ interface_name_lem resolve.now id.0 }
 {
-    names[id.0 as usize].as_str()
+    names.texts[id.0 as usize].as_str()
+}
+
+/// Whether two interfaces are called the same.
+pub(crate) fn same_names(names: &Names, resolve: &Resolve, a: InterfaceId, b: InterfaceId) -> bool
+    requires names { AreNames resolve.now names.now }
+    requires a { a.0 < length resolve.now.interfaces.items }
+    requires b { b.0 < length resolve.now.interfaces.items }
+    ensures { IsTrue result ↔ (interface_name_lem resolve.now a.0 ≡ interface_name_lem resolve.now b.0) }
+{
+    names.numbers[a.0 as usize] == names.numbers[b.0 as usize]
 }
 
 /// The text of a key without version.
-pub(crate) fn key_text<'a>(names: &'a [String], resolve: &Resolve, key: &'a WorldKey) -> &'a str
-    requires names { map text_of names.now ≡ interface_names_lem resolve.now }
+pub(crate) fn key_text<'a>(names: &'a Names, resolve: &Resolve, key: &'a WorldKey) -> &'a str
+    requires names { AreNames resolve.now names.now }
     requires in_range { key_in_range resolve.now key.now ≡ true }
     ensures { result.now ≡ bare_key resolve.now key.entry.now }
 {

@@ -7,7 +7,7 @@ ghost use Rattle.wit_compat.specs.Senses.{import_at as import_at_lem, sense_of};
 use wit_model::{InterfaceId, Resolve, WorldId, WorldItem};
 
 /// A place of a `Resolve` that has a sense.
-#[derive(Clone, Copy, PartialEq, Eq)]
+#[derive(Drop)]
 pub enum Place {
     /// An interface.
     Interface(InterfaceId),
@@ -32,13 +32,13 @@ pub(crate) fn import_at<'a>(
 
 impl Place {
     /// Whether something stands at the place. Takes no memory.
-    pub fn is_in(self, resolve: &Resolve) -> bool
-        ensures { result ≡ is_some (sense_of resolve.now self) }
+    pub fn is_in(&self, resolve: &Resolve) -> bool
+        ensures { result ≡ is_some (sense_of resolve.now self.now) }
     {
         match self {
             Place::Interface(id) => resolve.interfaces.get(id.0 as usize).is_some(),
             Place::World(id) => resolve.worlds.get(id.0 as usize).is_some(),
-            Place::Import(world, index) => import_at(resolve, world, index).is_some(),
+            Place::Import(world, index) => import_at(resolve, *world, *index).is_some(),
         }
     }
 }

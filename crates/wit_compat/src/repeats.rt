@@ -2,11 +2,10 @@
 
 ghost use Rattle.std.specs.Prelude.{◌≡◌, true, map, IfOk, MatchOption};
 ghost use Rattle.wit_model.specs.Rules.{entries_in_range};
-ghost use Rattle.wit_model.specs.Text.{text_of};
 ghost use Rattle.wit_compat.specs.Compatible.{bare_keys, keys_of_world, HasItemsInRange, HasKeysOnce, IsRepeatedIn, RepeatsIn, TwiceIn};
-ghost use Rattle.wit_compat.specs.Outline.{interface_names};
+ghost use Rattle.wit_compat.specs.Outline.{AreNames};
 
-use crate::names::key_text;
+use crate::names::{Names, key_text};
 use indexmap::IndexSet;
 use std::alloc::{AllocError, Global};
 use wit_model::{Map, Resolve, World, WorldItem, WorldKey};
@@ -14,11 +13,11 @@ use wit_model::{Map, Resolve, World, WorldItem, WorldKey};
 /// The first key of a list that repeats an earlier one, without version.
 fn repeated_key<'a>(
     alloc: Global,
-    names: &'a [String],
+    names: &'a Names,
     resolve: &Resolve,
     items: &'a Map<WorldKey, WorldItem>,
 ) -> Result<Option<&'a str>, AllocError>
-    requires names { map text_of names.now ≡ interface_names resolve.now }
+    requires names { AreNames resolve.now names.now }
     requires in_range { entries_in_range resolve.now items.now.entries ≡ true }
     ensures { IfOk result (RepeatsIn (bare_keys resolve.now items.entry.now.entries)) }
 {
@@ -34,11 +33,11 @@ fn repeated_key<'a>(
 
 fn repeated_in_world<'a>(
     alloc: Global,
-    names: &'a [String],
+    names: &'a Names,
     resolve: &Resolve,
     world: &'a World,
 ) -> Result<Option<&'a str>, AllocError>
-    requires names { map text_of names.now ≡ interface_names resolve.now }
+    requires names { AreNames resolve.now names.now }
     requires world { HasItemsInRange resolve.now world.now }
     ensures { IfOk result (λ o. MatchOption o (HasKeysOnce resolve.now world.entry.now) (λ s. IsRepeatedIn (keys_of_world resolve.now world.entry.now) s.now)) }
 {
@@ -51,12 +50,12 @@ fn repeated_in_world<'a>(
 /// The first key that is twice without version: of the previous world's imports and exports, and then of the new one's.
 pub(crate) fn twice<'a>(
     alloc: Global,
-    names: &'a [String],
+    names: &'a Names,
     resolve: &Resolve,
     prev: &'a World,
     new: &'a World,
 ) -> Result<Option<&'a str>, AllocError>
-    requires names { map text_of names.now ≡ interface_names resolve.now }
+    requires names { AreNames resolve.now names.now }
     requires prev { HasItemsInRange resolve.now prev.now }
     requires new { HasItemsInRange resolve.now new.now }
     ensures { IfOk result (TwiceIn resolve.now prev.entry.now new.entry.now) }

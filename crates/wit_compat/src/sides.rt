@@ -2,63 +2,51 @@
 
 ghost use Rattle.std.specs.Prelude.{◌≡◌, ◌++◌, ◌≤◌, true, length, map, IfOk, OnOk, IfErr};
 ghost use Rattle.wit_model.specs.Rules.{entries_in_range};
-ghost use Rattle.wit_model.specs.Text.{text_of};
 ghost use Rattle.wit_model.specs.Valid.{IsValid};
 ghost use Rattle.wit_compat.specs.Compatible.{IsFaultOf, IsIncluded};
 ghost use Rattle.wit_compat.specs.Flat.{flat, things_of};
-ghost use Rattle.wit_compat.specs.Index.{Indexes};
-ghost use Rattle.wit_compat.specs.Outline.{interface_names};
+ghost use Rattle.wit_compat.specs.Index.{AllToldFrom, Indexes};
+ghost use Rattle.wit_compat.specs.Outline.{AreNames};
 ghost use Rattle.wit_compat.specs.Parts.{named_thing};
 ghost use Rattle.wit_compat.specs.Walk.{heads_of, pairs_shared};
 ghost use Rattle.wit_compat.specs.Table.{AreAmong, AreReached, IsSettled};
 
 use crate::included::included;
 use crate::index::{Index, index};
+use crate::names::Names;
 use crate::pairs::Pairs;
 use crate::part::Entry;
 use crate::steps::Steps;
 use crate::things::things;
+use indexmap::IndexSet;
 use std::alloc::{AllocError, Global};
 use wit_model::{Error, Map, Resolve, Type, WorldItem, WorldKey};
 
-/// All things of a list of imports or exports, by their names.
-fn indexed<'a>(
-    alloc: Global,
-    names: &'a [String],
-    resolve: &'a Resolve,
-    items: &'a Map<WorldKey, WorldItem>,
-) -> Result<Index<'a>, AllocError>
-    requires names { map text_of names.now ≡ interface_names resolve.now }
-    requires in_range { entries_in_range resolve.now items.now.entries ≡ true }
-    ensures { IfOk result (λ m. Indexes m.entries (things_of resolve.entry.now items.entry.now.entries)) }
-{
-    let entries = things(alloc, names, resolve, items)?;
-    let found = index(alloc, &entries)?;
-    Ok(found)
-}
-
 fn gathered<'a>(
     alloc: Global,
-    names: &'a [String],
+    names: &'a Names,
     resolve: &'a Resolve,
     small: &'a Map<WorldKey, WorldItem>,
     large: &'a Map<WorldKey, WorldItem>,
 ) -> Result<(Vec<Entry<'a>>, Index<'a>), AllocError>
-    requires names { map text_of names.now ≡ interface_names resolve.now }
+    requires names { AreNames resolve.now names.now }
     requires small { entries_in_range resolve.now small.now.entries ≡ true }
     requires large { entries_in_range resolve.now large.now.entries ≡ true }
     ensures small { IfOk result (λ p. map named_thing p.0.items ≡ things_of resolve.entry.now small.entry.now.entries) }
     ensures large { IfOk result (λ p. Indexes p.1.entries (things_of resolve.entry.now large.entry.now.entries)) }
+    ensures told { IfOk result (λ p. AllToldFrom p.0.items p.1.entries) }
 {
-    let entries = things(alloc, names, resolve, small)?;
-    let found = indexed(alloc, names, resolve, large)?;
+    let mut keys = IndexSet::new(alloc);
+    let entries = things(alloc, names, resolve, small, &mut keys)?;
+    let others = things(alloc, names, resolve, large, &mut keys)?;
+    let found = index(alloc, &others)?;
     Ok((entries, found))
 }
 
 /// Whether each thing of the small list stands in the large one with the same types: the first that doesn't is refused.
 pub(crate) fn compare_sides(
     alloc: Global,
-    names: &[String],
+    names: &Names,
     resolve: &Resolve,
     heads: &[Type],
     back: bool,
@@ -68,7 +56,7 @@ pub(crate) fn compare_sides(
     steps: &mut Steps,
 ) -> Result<(), Error>
     requires valid { IsValid resolve.now }
-    requires names { map text_of names.now ≡ interface_names resolve.now }
+    requires names { AreNames resolve.now names.now }
     requires heads { heads.now ≡ heads_of resolve.now }
     requires small { entries_in_range resolve.now small.now.entries ≡ true }
     requires large { entries_in_range resolve.now large.now.entries ≡ true }

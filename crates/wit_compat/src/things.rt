@@ -4,12 +4,13 @@ ghost use Rattle.std.specs.Prelude.{◌≡◌, [], ◌∷◌, ◌++◌, true, le
 ghost use Rattle.std.specs.Option.{option_copied, option_map_or};
 ghost use Rattle.wit_model.specs.Lookup.{interface_at as interface_at_lem};
 ghost use Rattle.wit_model.specs.Rules.{entries_in_range};
-ghost use Rattle.wit_model.specs.Text.{text_of};
 ghost use Rattle.wit_compat.specs.Flat.{function_member, item_things, members, things_of, type_member};
-ghost use Rattle.wit_compat.specs.Outline.{interface_names};
-ghost use Rattle.wit_compat.specs.Parts.{named_thing, thing_of};
+ghost use Rattle.wit_compat.specs.Numbered.{AreNumbered, KeepsNumbers};
+ghost use Rattle.wit_compat.specs.Outline.{AreNames};
+ghost use Rattle.wit_compat.specs.Parts.{named_thing, numbered_thing, thing_of, with_number};
 
-use crate::names::key_text;
+use crate::keys::{Key, Keys, key_of};
+use crate::names::{Names, key_text};
 use crate::part::{Entry, Part};
 use std::alloc::{AllocError, Global};
 use wit_model::{
@@ -18,10 +19,10 @@ use wit_model::{
 
 fn push_types<'a>(
     entries: &mut Vec<Entry<'a>>,
-    key: &'a str,
+    key: Key<'a>,
     types: &'a Map<String, TypeId>,
 ) -> Result<(), AllocError>
-    ensures { OnOk result (map named_thing entries.new.items ≡ map named_thing entries.old.items ++ map (type_member key.entry.now) types.entry.now.entries) }
+    ensures { OnOk result (map numbered_thing entries.new.items ≡ map numbered_thing entries.old.items ++ map (with_number key.entry.number) (map (type_member key.entry.text.now) types.entry.now.entries)) }
 {
     for (name, id) in types {
         let entry = Entry {
@@ -36,10 +37,10 @@ fn push_types<'a>(
 
 fn push_functions<'a>(
     entries: &mut Vec<Entry<'a>>,
-    key: &'a str,
+    key: Key<'a>,
     functions: &'a Map<String, Function>,
 ) -> Result<(), AllocError>
-    ensures { OnOk result (map named_thing entries.new.items ≡ map named_thing entries.old.items ++ map (function_member key.entry.now) functions.entry.now.entries) }
+    ensures { OnOk result (map numbered_thing entries.new.items ≡ map numbered_thing entries.old.items ++ map (with_number key.entry.number) (map (function_member key.entry.text.now) functions.entry.now.entries)) }
 {
     for (name, function) in functions {
         let entry = Entry {
@@ -54,10 +55,10 @@ fn push_functions<'a>(
 
 fn push_members<'a>(
     entries: &mut Vec<Entry<'a>>,
-    key: &'a str,
+    key: Key<'a>,
     interface: &'a Interface,
 ) -> Result<(), AllocError>
-    ensures { OnOk result (map named_thing entries.new.items ≡ map named_thing entries.old.items ++ members key.entry.now interface.entry.now) }
+    ensures { OnOk result (map numbered_thing entries.new.items ≡ map numbered_thing entries.old.items ++ map (with_number key.entry.number) (members key.entry.text.now interface.entry.now)) }
 {
     push_types(entries, key, &interface.types)?;
     push_functions(entries, key, &interface.functions)?;
@@ -73,10 +74,10 @@ fn interface_at(resolve: &Resolve, id: InterfaceId) -> Option<&Interface>
 fn push_interface<'a>(
     entries: &mut Vec<Entry<'a>>,
     resolve: &'a Resolve,
-    key: &'a str,
+    key: Key<'a>,
     id: InterfaceId,
 ) -> Result<(), AllocError>
-    ensures { OnOk result (map named_thing entries.new.items ≡ map named_thing entries.old.items ++ option_map_or (members key.entry.now) (interface_at_lem resolve.entry.now id.0) []) }
+    ensures { OnOk result (map numbered_thing entries.new.items ≡ map numbered_thing entries.old.items ++ map (with_number key.entry.number) (option_map_or (members key.entry.text.now) (interface_at_lem resolve.entry.now id.0) [])) }
 {
     match interface_at(resolve, id) {
         Some(interface) => {
@@ -89,10 +90,10 @@ fn push_interface<'a>(
 
 fn push_itself<'a>(
     entries: &mut Vec<Entry<'a>>,
-    key: &'a str,
+    key: Key<'a>,
     part: Part<'a>,
 ) -> Result<(), AllocError>
-    ensures { OnOk result (map named_thing entries.new.items ≡ map named_thing entries.old.items ++ ((key.entry.now, []), thing_of part.entry) ∷ []) }
+    ensures { OnOk result (map numbered_thing entries.new.items ≡ map numbered_thing entries.old.items ++ with_number key.entry.number ((key.entry.text.now, []), thing_of part.entry) ∷ []) }
 {
     entries.push(Entry {
         key,
@@ -105,10 +106,10 @@ fn push_itself<'a>(
 fn push_item<'a>(
     entries: &mut Vec<Entry<'a>>,
     resolve: &'a Resolve,
-    key: &'a str,
+    key: Key<'a>,
     item: &'a WorldItem,
 ) -> Result<(), AllocError>
-    ensures { OnOk result (map named_thing entries.new.items ≡ map named_thing entries.old.items ++ item_things resolve.entry.now key.entry.now item.entry.now) }
+    ensures { OnOk result (map numbered_thing entries.new.items ≡ map numbered_thing entries.old.items ++ map (with_number key.entry.number) (item_things resolve.entry.now key.entry.text.now item.entry.now)) }
 {
     match item {
         WorldItem::Interface { id, .. } => {
@@ -121,21 +122,24 @@ fn push_item<'a>(
     }
 }
 
-/// All things of a list of imports or exports, in order.
+/// All things of a list of imports or exports, in order, each with its key's number.
 pub(crate) fn things<'a>(
     alloc: Global,
-    names: &'a [String],
+    names: &'a Names,
     resolve: &'a Resolve,
     items: &'a Map<WorldKey, WorldItem>,
+    keys: &mut Keys<'a>,
 ) -> Result<Vec<Entry<'a>>, AllocError>
-    requires names { map text_of names.now ≡ interface_names resolve.now }
+    requires names { AreNames resolve.now names.now }
     requires in_range { entries_in_range resolve.now items.now.entries ≡ true }
-    ensures { IfOk result (λ v. map named_thing v.items ≡ things_of resolve.entry.now items.entry.now.entries) }
+    ensures things { IfOk result (λ v. map named_thing v.items ≡ things_of resolve.entry.now items.entry.now.entries) }
+    ensures numbered { IfOk result (λ v. AreNumbered keys.new.keys v.items) }
+    ensures kept { OnOk result (KeepsNumbers keys.old.keys keys.new.keys) }
 {
     let mut entries = Vec::new(alloc);
     for (key, item) in items {
-        let text = key_text(names, resolve, key);
-        push_item(&mut entries, resolve, text, item)?;
+        let key = key_of(keys, key_text(names, resolve, key))?;
+        push_item(&mut entries, resolve, key, item)?;
     }
     Ok(entries)
 }

@@ -7,17 +7,16 @@ ghost use Rattle.wit_model.specs.declared.model.World.{World as WorldModel};
 ghost use Rattle.wit_model.specs.Lookup.{world_at};
 ghost use Rattle.wit_model.specs.Meant.{package_of_world};
 ghost use Rattle.wit_model.specs.Rules.{entries_in_range};
-ghost use Rattle.wit_model.specs.Text.{text_of};
 ghost use Rattle.wit_model.specs.Valid.{IsValid};
 ghost use Rattle.wit_compat.specs.Compatible.{package_name, refusal_of, twice_without_version, Accepts, Compatible, HasItemsInRange, HasKeysOnce, IsMismatch, IsRefused, IsRepeated};
 ghost use Rattle.wit_compat.specs.Opened.{bare_identity};
-ghost use Rattle.wit_compat.specs.Outline.{interface_names as interface_names_lem};
+ghost use Rattle.wit_compat.specs.Outline.{AreNames};
 ghost use Rattle.wit_compat.specs.Walk.{heads_of, pairs_of_worlds, IsCounted};
 ghost use Rattle.wit_compat.specs.Table.{AreAmong, AreReached, IsSettled};
 
 use crate::follow::heads;
 use crate::laws::semver_check_counted;
-use crate::names::interface_names;
+use crate::names::{Names, names_of};
 use crate::pairs::Pairs;
 use crate::repeats::twice;
 use crate::sides::compare_sides;
@@ -29,7 +28,7 @@ use wit_model::{Error, Package, PackageName, Resolve, Type, World, WorldId};
 /// Imports first, and then exports.
 fn compare_contents(
     alloc: Global,
-    names: &[String],
+    names: &Names,
     resolve: &Resolve,
     heads: &[Type],
     prev: &World,
@@ -38,7 +37,7 @@ fn compare_contents(
     steps: &mut Steps,
 ) -> Result<(), Error>
     requires valid { IsValid resolve.now }
-    requires names { map text_of names.now ≡ interface_names_lem resolve.now }
+    requires names { AreNames resolve.now names.now }
     requires heads { heads.now ≡ heads_of resolve.now }
     requires prev { HasItemsInRange resolve.now prev.now }
     requires new { HasItemsInRange resolve.now new.now }
@@ -80,7 +79,7 @@ fn compare_contents(
 /// The same with a table of its own.
 fn compare_anew(
     alloc: Global,
-    names: &[String],
+    names: &Names,
     resolve: &Resolve,
     heads: &[Type],
     prev: &World,
@@ -88,7 +87,7 @@ fn compare_anew(
     steps: &mut Steps,
 ) -> Result<(), Error>
     requires valid { IsValid resolve.now }
-    requires names { map text_of names.now ≡ interface_names_lem resolve.now }
+    requires names { AreNames resolve.now names.now }
     requires heads { heads.now ≡ heads_of resolve.now }
     requires prev { HasItemsInRange resolve.now prev.now }
     requires new { HasItemsInRange resolve.now new.now }
@@ -106,12 +105,12 @@ fn compare_anew(
 /// Whether a key is twice without version.
 fn refuse_repeats(
     alloc: Global,
-    names: &[String],
+    names: &Names,
     resolve: &Resolve,
     prev: &World,
     new: &World,
 ) -> Result<(), Error>
-    requires names { map text_of names.now ≡ interface_names_lem resolve.now }
+    requires names { AreNames resolve.now names.now }
     requires prev { HasItemsInRange resolve.now prev.now }
     requires new { HasItemsInRange resolve.now new.now }
     ensures prev { OnOk result (HasKeysOnce resolve.now prev.now) }
@@ -131,14 +130,14 @@ fn refuse_repeats(
 /// The same of worlds of one package.
 fn compare_named(
     alloc: Global,
-    names: &[String],
+    names: &Names,
     resolve: &Resolve,
     prev: &World,
     new: &World,
     steps: &mut Steps,
 ) -> Result<(), Error>
     requires valid { IsValid resolve.now }
-    requires names { map text_of names.now ≡ interface_names_lem resolve.now }
+    requires names { AreNames resolve.now names.now }
     requires prev { HasItemsInRange resolve.now prev.now }
     requires new { HasItemsInRange resolve.now new.now }
     requires packages { package_name resolve.now prev.now ≡ package_name resolve.now new.now }
@@ -206,7 +205,7 @@ fn compare_worlds(
     if !same_packages(resolve, prev, new) {
         return Err(Error::OtherPackage);
     }
-    match interface_names(alloc, resolve) {
+    match names_of(alloc, resolve) {
         Ok(names) => compare_named(alloc, &names, resolve, prev, new, steps),
         Err(_) => Err(Error::Memory),
     }
@@ -241,7 +240,9 @@ pub(crate) fn compare(
 /// where two keys of one list are equal without version, prev's imports and exports first; `Missing` and `Differs`, of the first
 /// import of prev, and then the first export of new, that the other lacks or has otherwise, by `key` or `key/item`. And `Memory`.
 ///
-/// Each pair of type numbers is compared once, and the look-ups are hashed.
+/// Each pair of type numbers is compared once, and the look-ups are hashed. Interfaces and keys go by number: the path of an interface
+/// is made and hashed once, and the text of a key once for each item that has it, whatever stands in it. So the time goes with the size of
+/// the `Resolve` and the pairs of types met.
 pub fn semver_check(
     alloc: Global,
     resolve: Resolve,

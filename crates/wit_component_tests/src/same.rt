@@ -21,18 +21,24 @@ fn text_of(alloc: Global, resolve: &Resolve, package: PackageId) -> Result<Strin
     Ok(String::from(printer.output))
 }
 
-// Whether something stands at a place of both, and has the same sense.
-fn same_at(alloc: Global, left: &Resolve, right: &Resolve, place: Place) -> Result<bool, Error>
+// Whether something stands at a place of each, and has the same sense.
+fn same_at(
+    alloc: Global,
+    left: &Resolve,
+    right: &Resolve,
+    at: Place,
+    place: Place,
+) -> Result<bool, Error>
     requires left { IsValid left.now }
     requires right { IsValid right.now }
 {
-    if !place.is_in(left) {
+    if !at.is_in(left) {
         return Ok(false);
     }
     if !place.is_in(right) {
         return Ok(false);
     }
-    same_sense(alloc, left, place, right, place)
+    same_sense(alloc, left, at, right, place)
 }
 
 fn same_interfaces(alloc: Global, left: &Resolve, right: &Resolve) -> Result<bool, Error>
@@ -41,7 +47,8 @@ fn same_interfaces(alloc: Global, left: &Resolve, right: &Resolve) -> Result<boo
 {
     for number in 0..left.interfaces.len() {
         let id = InterfaceId(u32::try_from(number).unwrap_or(u32::MAX));
-        if !same_at(alloc, left, right, Place::Interface(id))? {
+        let (at, place) = (Place::Interface(id), Place::Interface(id));
+        if !same_at(alloc, left, right, at, place)? {
             return Ok(false);
         }
     }
@@ -54,7 +61,8 @@ fn same_worlds(alloc: Global, left: &Resolve, right: &Resolve) -> Result<bool, E
 {
     for number in 0..left.worlds.len() {
         let id = WorldId(u32::try_from(number).unwrap_or(u32::MAX));
-        if !same_at(alloc, left, right, Place::World(id))? {
+        let (at, place) = (Place::World(id), Place::World(id));
+        if !same_at(alloc, left, right, at, place)? {
             return Ok(false);
         }
     }

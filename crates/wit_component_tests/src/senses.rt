@@ -1,5 +1,6 @@
 //! Senses of two places, compared more than once over one table.
 
+ghost use Rattle.std.specs.Prelude.{◌≡◌};
 ghost use Rattle.wit_component.specs.Valid.{IsValid};
 
 use std::alloc::Global;
@@ -7,12 +8,23 @@ use std::test::Fail;
 use wit_component::{Check, Error, InterfaceId, Place, Resolve, Senses, WorldId};
 use wit_samples::samples::each_kind;
 
+// The same place once more.
+fn again(place: &Place) -> Place
+    ensures { result ≡ place.now }
+{
+    match place {
+        Place::Interface(id) => Place::Interface(*id),
+        Place::World(id) => Place::World(*id),
+        Place::Import(id, index) => Place::Import(*id, *index),
+    }
+}
+
 // Whether two places have the same sense, and whether they have it when that is asked once more.
 fn same_twice(
     alloc: Global,
     resolve: &Resolve,
-    at: Place,
-    other: Place,
+    at: &Place,
+    other: &Place,
 ) -> Result<(bool, bool), Error>
     requires { IsValid resolve.now }
 {
@@ -26,8 +38,8 @@ fn same_twice(
         Ok(senses) => senses,
         Err(error) => return Err(error),
     };
-    let first = senses.same(alloc, at, other)?;
-    let second = senses.same(alloc, at, other)?;
+    let first = senses.same(alloc, again(at), again(other))?;
+    let second = senses.same(alloc, again(at), again(other))?;
     Ok((first, second))
 }
 
@@ -55,7 +67,7 @@ fn one_after_the_other(rt: HostRuntime) -> Result<(), Fail> {
     let resolve = each_kind(rt.alloc())?;
     resolve.check(rt.alloc())?;
     for (at, other, expected) in &CASES {
-        let found = same_twice(rt.alloc(), &resolve, *at, *other)?;
+        let found = same_twice(rt.alloc(), &resolve, at, other)?;
         assert!(rt; found == (*expected, *expected));
     }
     Ok(())

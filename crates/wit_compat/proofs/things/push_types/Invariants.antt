@@ -1,8 +1,10 @@
 use Rattle.std.proofs.Common.{◌≡◌, ◌++◌, map}
 use Rattle.wit_compat.specs.Flat.{type_member}
-use Rattle.wit_compat.specs.Parts.{named_thing}
+use Rattle.wit_compat.specs.Parts.{numbered_thing, with_number}
 use Rattle.wit_compat.proofs.things.push_types.Given as goal
 
 -- what is there, and what is left
 abbrev pub invariant-loop-name : goal.invariant-loop-name
-invariant-loop-name l = map named_thing l.entries.items ++ map (type_member l.key) l.name-iterator ≡ map named_thing l.fn.entries.items ++ map (type_member l.key) l.types.entries
+invariant-loop-name l =
+    map numbered_thing l.entries.items ++ map (with_number l.key.number) (map (type_member l.key.text.now) l.name-iterator)
+    ≡ map numbered_thing l.fn.entries.items ++ map (with_number l.key.number) (map (type_member l.key.text.now) l.types.entries)

@@ -1,6 +1,7 @@
 use Rattle.std.proofs.Common.{◌≡◌, ◌++◌, true, map}
 use Rattle.wit_model.specs.Rules.{entries_in_range}
 use Rattle.wit_compat.specs.Flat.{things_of}
+use Rattle.wit_compat.specs.Numbered.{AreNumbered, KeepsNumbers}
 use Rattle.wit_compat.specs.Parts.{named_thing}
 use Rattle.wit_compat.proofs.things.things.Given as goal
 
@@ -9,4 +10,6 @@ abbrev pub invariant-loop-key : goal.invariant-loop-key
 invariant-loop-key l = record {
   made : map named_thing l.entries.items ++ things_of l.resolve l.key-iterator ≡ things_of l.resolve l.items.entries;
   in_range : entries_in_range l.resolve l.key-iterator ≡ true;
+  numbered : AreNumbered l.keys.keys l.entries.items;
+  kept : KeepsNumbers l.fn.keys.keys l.keys.keys;
 }

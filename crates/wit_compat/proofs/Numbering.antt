@@ -1,0 +1,111 @@
+-- Texts by number: a number is one text's, and stays.
+use Rattle.std.proofs.Common.{◌≡◌, refl, sym, ap, ◌∙◌, ℕ, ◌+◌, ◌==◌, suc, ◌↔◌, IsTrue, Bool, true, false, cond, not, ◌||◌, List, [], ◌∷◌, ◌++◌, map, Option, Some, None, option_map, true≢false, arith}
+use Rattle.std.specs.Borrow.{Bor}
+use Rattle.std.specs.List.{list_any, position_or_len}
+use Rattle.std.proofs.lemmas.Bool.{eqb-true, eq-eqb}
+use Rattle.std.proofs.lemmas.List.{map-append}
+use Rattle.wit_model.specs.Text.{Text, text_eq}
+use Rattle.wit_model.proofs.VersionLaws.{same_text, text_same}
+use Rattle.wit_compat.specs.declared.part.Entry.{Entry}
+use Rattle.wit_compat.specs.Numbered.{BorrowedTexts, number_in, KeepsNumbers, AreNumbered, AllNumbersTell}
+
+abbrev is_text : Text → Bor (List ℕ) → Bool
+is_text t k = text_eq t k.now
+
+some_suc : (o : Option ℕ) (n : ℕ) → option_map suc o ≡ Some n → (m : ℕ) × (o ≡ Some m) × (suc m ≡ n)
+some_suc None n h = absurd (let z : ⊥ = cc in z)
+some_suc (Some m) n h = (m, refl, (let w : suc m ≡ n = cc in w))
+
+some_same : (n m : ℕ) → Some n ≡ Some m → n ≡ m
+some_same n m h = cc
+
+-- ---- a text more
+
+-- what is appended changes no number
+number-append : (ks ls : BorrowedTexts) → KeepsNumbers ks (ks ++ ls)
+number-append [] ls t n h = absurd (let z : ⊥ = cc in z)
+number-append (k ∷ ks) ls t n h = by (text_eq t k.now) h (number-append ks ls t)
+  where
+    by : (b : Bool) → cond b (Some 0) (option_map suc (number_in ks t)) ≡ Some n → ((m : ℕ) → number_in ks t ≡ Some m → number_in (ks ++ ls) t ≡ Some m)
+        → cond b (Some 0) (option_map suc (number_in (ks ++ ls) t)) ≡ Some n
+    by true e later = e
+    by false e later = let w = some_suc (number_in ks t) n e in ap (option_map suc) (later w.0 w.1) ∙ ap Some w.2
+
+step : (b : Bool) (o : Option ℕ) (m : ℕ) → (b ≡ false → o ≡ Some m) → cond b (Some 0) (option_map suc o) ≡ Some (cond (not b) (1 + m) 0)
+step true o m h = refl
+step false o m h = ap (option_map suc) (h refl) ∙ ap Some (let e : suc m ≡ 1 + m = omega arith in e)
+
+placed : (t : Text) (ks : BorrowedTexts) → list_any (is_text t) ks ≡ true → number_in ks t ≡ Some (position_or_len (is_text t) ks)
+placed t [] h = absurd (true≢false (sym h))
+placed t (k ∷ ks) h = step (text_eq t k.now) (number_in ks t) (position_or_len (is_text t) ks) (λ e. placed t ks (sym (ap (λ c. c || list_any (is_text t) ks) e) ∙ h))
+
+placed_last : (t : Text) (k : Bor (List ℕ)) (ks : BorrowedTexts) → list_any (is_text t) ks ≡ false → text_eq t k.now ≡ true → number_in (ks ++ k ∷ []) t ≡ Some (position_or_len (is_text t) ks)
+placed_last t k [] h e = ap (λ b. cond b (Some 0) None) e
+placed_last t k (x ∷ xs) h e = step (text_eq t x.now) (number_in (xs ++ k ∷ []) t) (position_or_len (is_text t) xs) (λ f. placed_last t k xs (sym (ap (λ c. c || list_any (is_text t) xs) f) ∙ h) e)
+
+abbrev inserted : BorrowedTexts → Bor (List ℕ) → BorrowedTexts
+inserted ks k = cond (list_any (is_text k.now) ks) ks (ks ++ k ∷ [])
+
+-- the number of a text that is inserted
+pub number_inserted : (ks : BorrowedTexts) (k : Bor (List ℕ)) → number_in (inserted ks k) k.now ≡ Some (position_or_len (is_text k.now) ks)
+number_inserted ks k = by (list_any (is_text k.now) ks) refl
+  where
+    by : (b : Bool) → list_any (is_text k.now) ks ≡ b → number_in (inserted ks k) k.now ≡ Some (position_or_len (is_text k.now) ks)
+    by true e = ap (λ b. number_in (cond b ks (ks ++ k ∷ [])) k.now) e ∙ placed k.now ks e
+    by false e = ap (λ b. number_in (cond b ks (ks ++ k ∷ [])) k.now) e ∙ placed_last k.now k ks e (same_text k.now k.now refl)
+
+pub numbers_kept : (ks : BorrowedTexts) (k : Bor (List ℕ)) → KeepsNumbers ks (inserted ks k)
+numbers_kept ks k t n h = by (list_any (is_text k.now) ks) refl
+  where
+    by : (b : Bool) → list_any (is_text k.now) ks ≡ b → number_in (inserted ks k) t ≡ Some n
+    by true e = ap (λ b. number_in (cond b ks (ks ++ k ∷ [])) t) e ∙ h
+    by false e = ap (λ b. number_in (cond b ks (ks ++ k ∷ [])) t) e ∙ number-append ks (k ∷ []) t n h
+
+-- the numbers of texts stay
+numbers_stay : (ks js : BorrowedTexts) (ts : List Text) (ns : List ℕ) → KeepsNumbers ks js → map (number_in ks) ts ≡ map Some ns → map (number_in js) ts ≡ map Some ns
+numbers_stay ks js [] [] kept h = refl
+numbers_stay ks js [] (n ∷ ns) kept h = absurd (let z : ⊥ = cc in z)
+numbers_stay ks js (t ∷ ts) [] kept h = absurd (let z : ⊥ = cc in z)
+numbers_stay ks js (t ∷ ts) (n ∷ ns) kept h =
+    let first : number_in ks t ≡ Some n = cc in
+    let rest : map (number_in ks) ts ≡ map Some ns = cc in
+    λ i. kept t n first i ∷ numbers_stay ks js ts ns kept rest i
+
+-- the number of one text more
+pub numbers_more : (ks js : BorrowedTexts) (ts : List Text) (ns : List ℕ) (t : Text) (n : ℕ) → KeepsNumbers ks js → map (number_in ks) ts ≡ map Some ns → number_in js t ≡ Some n → map (number_in js) (ts ++ t ∷ []) ≡ map Some (ns ++ n ∷ [])
+numbers_more ks js ts ns t n kept h g =
+    map-append (number_in js) ts (t ∷ []) ∙ (λ i. numbers_stay ks js ts ns kept h i ++ g i ∷ []) ∙ sym (map-append Some ns (n ∷ []))
+
+-- ---- one number, one text
+
+one_text : (ks : BorrowedTexts) (t u : Text) (n : ℕ) → number_in ks t ≡ Some n → number_in ks u ≡ Some n → t ≡ u
+one_text [] t u n h g = absurd (let z : ⊥ = cc in z)
+one_text (k ∷ ks) t u n h g = by (text_eq t k.now) refl (text_eq u k.now) refl h g (one_text ks t u)
+  where
+    by : (a : Bool) → text_eq t k.now ≡ a → (b : Bool) → text_eq u k.now ≡ b
+        → cond a (Some 0) (option_map suc (number_in ks t)) ≡ Some n → cond b (Some 0) (option_map suc (number_in ks u)) ≡ Some n
+        → ((m : ℕ) → number_in ks t ≡ Some m → number_in ks u ≡ Some m → t ≡ u) → t ≡ u
+    by true e true f h g later = text_same t k.now e ∙ sym (text_same u k.now f)
+    by true e false f h g later = let w = some_suc (number_in ks u) n g in absurd (let z = some_same 0 n h in let y = w.2 in omega (arith, z, y))
+    by false e true f h g later = let w = some_suc (number_in ks t) n h in absurd (let z = some_same 0 n g in let y = w.2 in omega (arith, z, y))
+    by false e false f h g later =
+        let w = some_suc (number_in ks t) n h in
+        let v = some_suc (number_in ks u) n g in
+        let same : v.0 ≡ w.0 = (let y = w.2 in let z = v.2 in omega (arith, y, z)) in
+        later w.0 w.1 (v.1 ∙ ap Some same)
+
+pub numbers_tell : (ks : BorrowedTexts) (t u : Text) (n m : ℕ) → number_in ks t ≡ Some n → number_in ks u ≡ Some m → (n == m) ≡ text_eq t u
+numbers_tell ks t u n m h g = by (text_eq t u) refl (n == m) refl
+  where
+    by : (a : Bool) → text_eq t u ≡ a → (b : Bool) → (n == m) ≡ b → (n == m) ≡ text_eq t u
+    by true e b f = eq-eqb n m (some_same n m (sym h ∙ ap (number_in ks) (text_same t u e) ∙ g)) ∙ sym e
+    by false e false f = f ∙ sym e
+    by false e true f = absurd (true≢false (sym (same_text t u (one_text ks t u n h (g ∙ ap Some (sym (eqb-true n m f))))) ∙ e))
+
+-- so numbers that are equal are those of equal texts
+pub same_numbers : (ks : BorrowedTexts) (t u : Text) (n m : ℕ) → number_in ks t ≡ Some n → number_in ks u ≡ Some m → IsTrue (n == m) ↔ (t ≡ u)
+same_numbers ks t u n m h g = (λ e. text_same t u (sym (numbers_tell ks t u n m h g) ∙ e), λ q. numbers_tell ks t u n m h g ∙ same_text t u q)
+
+-- and the numbers of entries tell their keys
+pub all_tell : (ks : BorrowedTexts) (ds es : List Entry) → AreNumbered ks ds → AreNumbered ks es → AllNumbersTell ds es
+all_tell ks ds es h g d e x y = numbers_tell ks d.key.text.now e.key.text.now d.key.number e.key.number (h d x) (g e y)
