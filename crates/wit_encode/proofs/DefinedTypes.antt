@@ -109,6 +109,14 @@ target-named r v m S i agree t =
     let is = named-number r v t.target.0 part.0 part.1 (ap (passes (λ (d : TypeDef). is_some d.name)) (sym part.1) ∙ target) in
     (is.0, is.1, subst (λ (x : Tree). S i (tree x)) is.2 (agree.says (by_number t.target.0) i t.index))
 
+abbrev first : List (List ℕ) → List ℕ
+first [] = []
+first (y ∷ ys) = y
+
+abbrev behind : List (List ℕ) → List (List ℕ)
+behind [] = []
+behind (y ∷ ys) = ys
+
 -- the slot of each kind that is known
 kinds-stand : (r : Resolve) (m : TypeEncodingMaps) (S : Pairs) → MapsAgree r m S → (es : List (Vec ℕ Global × ℕ)) (ks : List TypeDefKind) → map (λ e. e.0) (map {B = List ℕ × ℕ} (λ e. (e.0.items, e.1)) es) ≡ map kind_code ks
     → ((x : List ℕ × ℕ) → Contains (map {B = List ℕ × ℕ} (λ e. (e.0.items, e.1)) es) x → Contains (lists_of m.def_to_index) x) → ((k : TypeDefKind) → Contains ks k → is_named_kind k ≡ false)
@@ -121,14 +129,6 @@ kinds-stand r m S agree (x ∷ es) (k ∷ ks) e known unnamed = (
   kinds-stand r m S agree es ks (tail e) (λ y c. known y (suc c.0, (let l = c.1 in omega arith), c.2)) (λ y c. unnamed y (suc c.0, (let l = c.1 in omega arith), c.2)),
 )
   where
-    abbrev first : List (List ℕ) → List ℕ
-    first [] = []
-    first (y ∷ ys) = y
-
-    abbrev behind : List (List ℕ) → List (List ℕ)
-    behind [] = []
-    behind (y ∷ ys) = ys
-
     head : x.0.items ∷ map (λ e. e.0) (map {B = List ℕ × ℕ} (λ e. (e.0.items, e.1)) es) ≡ kind_code k ∷ map kind_code ks → x.0.items ≡ kind_code k
     head h = ap first h
 

@@ -33,7 +33,7 @@ use Rattle.wit_model.proofs.OnePath.{found-in}
 use Rattle.encode_names.specs.WorldNames.{name_of_interface}
 use Rattle.wit_encode.specs.DependencyRoom.{TypesLackRoom, ImportsLackRoom, an_interface, a_path, too_many, ComponentLacksRoom, of_imports, of_interface, of_path, LackingComponentsAreHeavy}
 use Rattle.wit_encode.specs.WorldRoom.{IsNamedTypeOf}
-use Rattle.wit_encode.proofs.Counting.{from-filter}
+use Rattle.wit_encode.proofs.Mapped.{from-filter}
 use Rattle.wit_encode.proofs.ImportLoop.{path-in-range}
 use Rattle.wit_encode.proofs.Numbers.{same-number}
 use Rattle.wit_encode.proofs.Reached.{IsOwner, interface-owner}

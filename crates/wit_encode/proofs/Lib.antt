@@ -1,3 +1,4 @@
+pub mod Mapped
 pub mod Owned
 pub mod Naming
 pub mod Validity

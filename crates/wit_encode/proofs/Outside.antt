@@ -1,6 +1,6 @@
 -- What the calls of an encoder of interfaces do between interfaces: then what is defined stands in the component type.
 use Rattle.encode_types.specs.Distinct.{target_of, targets_of}
-use Rattle.wit_encode.proofs.ValueSlots.{values-push, targets-push}
+use Rattle.wit_encode.proofs.ValueSlots.{values-next, targets-push}
 use Rattle.std.proofs.Common.{◌≡◌, refl, sym, subst, ap, ◌∙◌, ℕ, ◌+◌, true, cond, [], ◌∷◌, ◌++◌, append-nil, option_to_list, List, Result, Ok, Err, IfOk, OnErr, Option, Some, None, length, arith}
 use Rattle.std.specs.List.{list_all}
 use Rattle.std.specs.Option.{option_map_or, is_some}
@@ -61,7 +61,7 @@ outer-grew outer d x a step =
 outer-definitions : (outer : Declarations) (d : Declaration) (types : List ℕ) (functions : ℕ) → (outer_contents outer).types ++ cond (is_value_type d) (type_slots_of outer ∷ []) [] ≡ types → target_of d ≡ None → (outer_contents outer).functions + cond (is_function_type d) 1 0 ≡ functions
     → definitions_with (outer_contents (append outer (Declarations.declares d Declarations.no_more))) ≡ record { types = types; exported = (outer_contents outer).exported; functions = functions; exports = (definitions_with (outer_contents outer)).exports }
 unfolding outer_contents
-outer-definitions outer d types functions t u f = λ i. record { types = (values-push 0 outer d ∙ t) i; exported = (targets-push outer d ∙ ap (λ o. targets_of outer ++ option_to_list o) u ∙ append-nil (targets_of outer)) i; functions = (count-more is_function_type outer d ∙ f) i; exports = [] }
+outer-definitions outer d types functions t u f = λ i. record { types = (values-next outer d ∙ t) i; exported = (targets-push outer d ∙ ap (λ o. targets_of outer ++ option_to_list o) u ∙ append-nil (targets_of outer)) i; functions = (count-more is_function_type outer d ∙ f) i; exports = [] }
 
 module _ {E : Type 0} (res : Result ℕ E) (r : Resolve) (outer outer' : Declarations) where
   abbrev before : Contents

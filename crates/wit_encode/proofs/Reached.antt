@@ -41,7 +41,7 @@ use Rattle.encode_shown.proofs.Items.{typed-item}
 use Rattle.encode_shown.proofs.Zips.{given-contains}
 use Rattle.wit_encode.specs.OwnerScope.{IsTypeOf, functions_of}
 use Rattle.encode_types.proofs.Lists.{contains-one, none-in}
-use Rattle.wit_encode.proofs.Counting.{from-map}
+use Rattle.wit_encode.proofs.Mapped.{from-map}
 use Rattle.wit_encode.proofs.Numbers.{same-some}
 use Rattle.encode_types.proofs.Planning.{part-number}
 use Rattle.wit_model.proofs.OnePath.{found-in}

@@ -38,7 +38,8 @@ use Rattle.encode_types.proofs.Lists.{none-in}
 use Rattle.encode_types.proofs.KindLaws.{optional_same}
 use Rattle.encode_types.proofs.Encoding.{meets-reaches, learns-nothing}
 use Rattle.wit_encode.proofs.HeldKeys.{any-at, same_equiv, alike}
-use Rattle.wit_encode.proofs.Counting.{Began, from-map}
+use Rattle.wit_encode.proofs.Counting.{Began}
+use Rattle.wit_encode.proofs.Mapped.{from-map}
 use Rattle.wit_encode.proofs.DefinedTypes.{HeldKinds}
 use Rattle.encode_types.proofs.Learning.{learns-none, learns-then}
 use Rattle.wit_encode.proofs.MetKinds.{met-kinds, params-same}

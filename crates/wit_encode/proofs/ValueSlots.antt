@@ -8,12 +8,14 @@ use Rattle.comp_bytes.specs.declared.forms.ComponentTypeRef.TheVariants as refs
 use Rattle.comp_bytes.specs.Raw.{Declaration, Declarations, DefinedType, Alias, ExternName, append, from_list}
 use Rattle.comp_bytes.specs.Held.{declaration_slots, type_slots, type_slots_of}
 use Rattle.comp_bytes.specs.Reading.{◌>>=◌}
+use Rattle.wit_model.specs.Tree as trees
 use Rattle.wit_model.specs.Tree.{Place, Tree, primitive, named, node}
+use Rattle.std.specs.Option.{option_map_or}
 use Rattle.wit_model.specs.Text.{Text}
 use Rattle.comp_meaning.specs.Follow as follow
-use Rattle.comp_meaning.specs.Follow.{Slot, InstanceScope, provided, when, is_simple, definition, function_signature, function_in, named_type, show_type, show_function, instance_step, instance_steps, new_instance}
+use Rattle.comp_meaning.specs.Follow.{Slot, InstanceScope, provided, when, each, given, is_filled, is_key, field_type, case_type, value_type, resource_in, is_simple, definition, function_signature, function_in, named_type, show_type, show_function, instance_step, instance_steps, new_instance}
 use Rattle.comp_meaning.specs.Follow.{Scope, View, Key, Direction, Seen, import_, export_, see, in_scope, key_of, key_text, interface_of, place_of, used_view, exported_slot, see_instance, see_function, see_type, component_step, component_steps, flat}
-use Rattle.std.specs.Prelude.{not, ◌==◌}
+use Rattle.std.specs.Prelude.{not, nat_le, ◌==◌}
 use Rattle.std.specs.List.{list_any}
 use Rattle.encode_types.specs.Distinct.{is_value_type, target_of, targets_of, values_from, value_slots}
 use Rattle.encode_types.proofs.Lists.{none-in}
@@ -59,6 +61,10 @@ targets-instance Declarations.no_more inner = refl
 targets-instance (Declarations.declares e rest) inner = ap (λ xs. option_to_list (target_of e) ++ xs) (targets-instance rest inner)
 targets-instance (Declarations.component x rest) inner = targets-instance rest inner
 targets-instance (Declarations.instance x rest) inner = targets-instance rest inner
+
+-- one declaration more
+pub values-next : (ds : Declarations) (d : Declaration) → value_slots (append ds (Declarations.declares d Declarations.no_more)) ≡ value_slots ds ++ cond (is_value_type d) (type_slots_of ds ∷ []) []
+values-next ds d = values-push 0 ds d ∙ ap (λ (k : ℕ). value_slots ds ++ cond (is_value_type d) (k ∷ []) []) (let e : 0 + type_slots_of ds ≡ type_slots_of ds = omega arith in e)
 
 -- where nothing is defined, and no type is named
 pub values-kept : (ds : Declarations) (d : Declaration) → is_value_type d ≡ false → value_slots (append ds (Declarations.declares d Declarations.no_more)) ≡ value_slots ds
@@ -131,25 +137,36 @@ is_name (node form ts) = false
 plain-from : (t : Tree) → is_name t ≡ false → IsPlain t
 plain-from t e place name h = let q : true ≡ false = sym (ap is_name h) ∙ e in absurd (let z : ⊥ = cc in z)
 
-provided-plain : (b : Bool) (x t : Tree) → is_name x ≡ false → provided b x ≡ Some t → IsPlain t
-provided-plain b x t p e = plain-from t (ap is_name (sym (unprovided b x t e)) ∙ p)
+abbrev are_plain : Option Tree → Type 0
+are_plain o = option_map_or is_name o false ≡ false
+
+bound : {A : Type 0} (o : Option A) (f : A → Option Tree) → ((x : A) → are_plain (f x)) → are_plain (o >>= f)
+bound None f h = refl
+bound (Some x) f h = h x
+
+provided-plain : (b : Bool) (t : Tree) → is_name t ≡ false → are_plain (provided b t)
+provided-plain true t e = e
+provided-plain false t e = refl
+
+definition-plain : (slots : List Slot) (d : DefinedType) → are_plain (definition slots d)
+definition-plain slots (DefinedType.primitive p) = refl
+definition-plain slots (DefinedType.record_of fields) = bound (each (field_type slots) fields) (λ fs. provided (is_filled fields) (trees.record_tree fs)) (λ fs. provided-plain (is_filled fields) (trees.record_tree fs) refl)
+definition-plain slots (DefinedType.variant_of cases) = bound (each (case_type slots) cases) (λ cs. provided (is_filled cases) (trees.variant_tree cs)) (λ cs. provided-plain (is_filled cases) (trees.variant_tree cs) refl)
+definition-plain slots (DefinedType.list_of v) = bound (value_type slots v) (λ t. Some (trees.list_tree t)) (λ t. refl)
+definition-plain slots (DefinedType.fixed_length_list_of v n) = bound (value_type slots v) (λ t. provided (nat_le 1 n) (trees.fixed_list_tree t n)) (λ t. provided-plain (nat_le 1 n) (trees.fixed_list_tree t n) refl)
+definition-plain slots (DefinedType.tuple_of vs) = bound (each (value_type slots) vs) (λ ts. provided (is_filled vs) (trees.tuple_tree ts)) (λ ts. provided-plain (is_filled vs) (trees.tuple_tree ts) refl)
+definition-plain slots (DefinedType.flags_of names) = provided-plain (is_filled names) (trees.flags_tree names) refl
+definition-plain slots (DefinedType.enum_of names) = provided-plain (is_filled names) (trees.enum_tree names) refl
+definition-plain slots (DefinedType.option_of v) = bound (value_type slots v) (λ t. Some (trees.option_tree t)) (λ t. refl)
+definition-plain slots (DefinedType.result_of ok err) = bound (given (value_type slots) ok) (λ o. given (value_type slots) err >>= λ e. Some (trees.result_tree o e)) (λ o. bound (given (value_type slots) err) (λ e. Some (trees.result_tree o e)) (λ e. refl))
+definition-plain slots (DefinedType.own_of n) = bound (resource_in (slice_get slots n)) (λ r. Some (trees.own_tree r)) (λ r. refl)
+definition-plain slots (DefinedType.borrow_of n) = bound (resource_in (slice_get slots n)) (λ r. Some (trees.borrow_tree r)) (λ r. refl)
+definition-plain slots (DefinedType.stream_of v) = bound (given (value_type slots) v) (λ t. Some (trees.stream_tree t)) (λ t. refl)
+definition-plain slots (DefinedType.future_of v) = bound (given (value_type slots) v) (λ t. Some (trees.future_tree t)) (λ t. refl)
+definition-plain slots (DefinedType.map_of k v) = bound (value_type slots k) (λ key. value_type slots v >>= λ t. provided (is_key key) (trees.map_tree key t)) (λ key. bound (value_type slots v) (λ t. provided (is_key key) (trees.map_tree key t)) (λ t. provided-plain (is_key key) (trees.map_tree key t) refl))
 
 defined-plain : (slots : List Slot) (d : DefinedType) (t : Tree) → definition slots d ≡ Some t → IsPlain t
-defined-plain slots (DefinedType.primitive p) t e = plain-from t (ap is_name (sym (some-same _ t e)))
-defined-plain slots (DefinedType.record_of fields) t e = let b = unbind _ _ t e in provided-plain _ _ t refl b.then
-defined-plain slots (DefinedType.variant_of cases) t e = let b = unbind _ _ t e in provided-plain _ _ t refl b.then
-defined-plain slots (DefinedType.list_of v) t e = let b = unbind _ _ t e in plain-from t (ap is_name (sym (some-same _ t b.then)))
-defined-plain slots (DefinedType.fixed_length_list_of v n) t e = let b = unbind _ _ t e in provided-plain _ _ t refl b.then
-defined-plain slots (DefinedType.tuple_of vs) t e = let b = unbind _ _ t e in provided-plain _ _ t refl b.then
-defined-plain slots (DefinedType.flags_of names) t e = provided-plain _ _ t refl e
-defined-plain slots (DefinedType.enum_of names) t e = provided-plain _ _ t refl e
-defined-plain slots (DefinedType.option_of v) t e = let b = unbind _ _ t e in plain-from t (ap is_name (sym (some-same _ t b.then)))
-defined-plain slots (DefinedType.result_of ok err) t e = let b = unbind _ _ t e in let c = unbind _ _ t b.then in plain-from t (ap is_name (sym (some-same _ t c.then)))
-defined-plain slots (DefinedType.own_of n) t e = let b = unbind _ _ t e in plain-from t (ap is_name (sym (some-same _ t b.then)))
-defined-plain slots (DefinedType.borrow_of n) t e = let b = unbind _ _ t e in plain-from t (ap is_name (sym (some-same _ t b.then)))
-defined-plain slots (DefinedType.stream_of v) t e = let b = unbind _ _ t e in plain-from t (ap is_name (sym (some-same _ t b.then)))
-defined-plain slots (DefinedType.future_of v) t e = let b = unbind _ _ t e in plain-from t (ap is_name (sym (some-same _ t b.then)))
-defined-plain slots (DefinedType.map_of k v) t e = let b = unbind _ _ t e in let c = unbind _ _ t b.then in provided-plain _ _ t refl c.then
+defined-plain slots d t e = plain-from t (ap (λ o. option_map_or is_name o false) (sym e) ∙ definition-plain slots d)
 
 -- a slot of a type without a name
 pub record HoldsPlain (slots : List Slot) (i : ℕ) : Type 0 where

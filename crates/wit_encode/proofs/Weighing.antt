@@ -51,7 +51,7 @@ use Rattle.encode_types.specs.MetKinds.{ReachedFrom, referred}
 use Rattle.wit_encode.specs.RoomLaws.{LackingInterfacesAreHeavy}
 use Rattle.wit_encode.proofs.Validity.{type_passes, interface_passes, valid-layered}
 use Rattle.encode_types.proofs.Encoding.{tabled}
-use Rattle.wit_encode.proofs.Counting.{contains-filter, from-filter, from-map}
+use Rattle.wit_encode.proofs.Mapped.{contains-filter, from-filter, from-map}
 use Rattle.encode_types.proofs.Lists.{contains-one, none-in}
 use Rattle.wit_encode.proofs.Numbers.{same-number, equal}
 use Rattle.wit_encode.proofs.Refusing.{two-each, listed}

@@ -97,5 +97,6 @@ contents-wider place a al x ds w followed =
       shown = option_map_or (λ s. s.shown) (wider j) no_view;
       is_followed = is_some (wider j);
       types = (inner_contents place a.declared ds).types;
+      exported = (inner_contents place a.declared ds).exported;
       functions = (inner_contents place a.declared ds).functions;
     }

@@ -33,7 +33,7 @@ use Rattle.encode_types.specs.Scope.{Scope, IsDeclared, DeclaresSlot, DeclaresRe
 use Rattle.encode_types.specs.Formed.{IsFormed, IsFormedSignature}
 use Rattle.encode_types.specs.Counts.{one_type_more, one_function_more, ExportsOne}
 use Rattle.encode_types.specs.Distinct.{is_value_type, is_function_type, described_slot, target_of}
-use Rattle.wit_encode.proofs.ValueSlots.{values-push, targets-push, instances-kept}
+use Rattle.wit_encode.proofs.ValueSlots.{values-next, targets-push, instances-kept}
 use Rattle.encode_types.specs.Known.{Around, Aliased, IsAlias, IsSource, ReachesAround, as_before, aliased, alias_declared, are_right, is_slot_for, known_slot, outer_scope, outer_slots, standing_instances, with_alias}
 use Rattle.encode_types.specs.Standing.{SlotsStand, is_slot_of, standing_at}
 use Rattle.encode_types.specs.View.{View, Grows}
@@ -95,7 +95,7 @@ module _ (r : Resolve) (w : WorldId) (a : Around) (sound : SoundOutside r w a) w
       → (world_definitions a.declared).types ++ cond (is_value_type d) (type_slots_of a.declared ∷ []) [] ≡ n → (world_definitions a.declared).exported ++ option_to_list (target_of d) ≡ u
       → (world_definitions a.declared).functions + cond (is_function_type d) 1 0 ≡ k → world_definitions outer ≡ record { types = n; exported = u; functions = k; exports = (world_definitions a.declared).exports ++ filter_map declared_type types }
   definitions-after outer d x types m e n u k t q f = λ i. record {
-    types = (ap (λ z. (world_definitions z).types) e ∙ values-push 0 a.declared d ∙ t) i;
+    types = (ap (λ z. (world_definitions z).types) e ∙ values-next a.declared d ∙ t) i;
     exported = (ap (λ z. (world_definitions z).exported) e ∙ targets-push a.declared d ∙ q) i;
     functions = (ap (λ z. (world_definitions z).functions) e ∙ count-more is_function_type a.declared d ∙ f) i;
     exports = exports-more r w a (after_declaring a outer) x types m sound i;

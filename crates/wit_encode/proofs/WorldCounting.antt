@@ -46,7 +46,8 @@ use Rattle.wit_encode.proofs.Components.{count-more}
 use Rattle.wit_encode.proofs.ValueSlots.{IsPlain, values-kept, targets-kept, instances-kept, outer-values}
 use Rattle.wit_encode.proofs.DefinedTypes.{HeldKinds, defines-types}
 use Rattle.wit_encode.proofs.WorldScope.{sound-outside}
-use Rattle.wit_encode.proofs.Counting.{slots-once, adds-alike, adds-function, adds-nothing, adds-trans, adds-types, exact-names, from-map}
+use Rattle.wit_encode.proofs.Counting.{slots-once, adds-alike, adds-function, adds-nothing, adds-trans, adds-types, exact-names}
+use Rattle.wit_encode.proofs.Mapped.{from-map}
 use Rattle.wit_encode.proofs.HeldKeys.{Keyed, both-ways, keyed, knows-none}
 use Rattle.wit_encode.proofs.Referring.{from-met, from-none, from-then, interface-kinds}
 use Rattle.wit_model.proofs.Elements.{contains-map}

@@ -51,7 +51,7 @@ use Rattle.wit_encode.specs.WorldHolds.{HoldsFew}
 use Rattle.wit_encode.specs.WorldItems.{IsNext, all_done}
 use Rattle.wit_encode.specs.WorldRoom.{functions_among, referred_among, IsMetAmong, IsNamedTypeOf, IsTypeAmong, AreSome, count_among, entries_in, WorldLacksRoom, a_name, a_type as a_met_type, a_function, too_many}
 use Rattle.wit_encode.specs.Worlds.{WorldEncoder, brought_numbers, held_beside, is_brought, is_of_listed, world_around}
-use Rattle.wit_encode.proofs.Counting.{from-map}
+use Rattle.wit_encode.proofs.Mapped.{from-map}
 use Rattle.wit_encode.proofs.Refusing.{counts-refused, outer-pushed, outer-slots-few}
 use Rattle.wit_encode.proofs.WorldCounting.{referred-front, referred-behind, function-referred, type-referred}
 use Rattle.wit_model.proofs.Elements.{one-contained}

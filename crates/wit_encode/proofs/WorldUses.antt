@@ -40,7 +40,7 @@ use Rattle.encode_types.proofs.Lists.{contains-one, none-in}
 use Rattle.wit_model.proofs.OnePath.{found-in, some-of, some-same}
 use Rattle.wit_encode.specs.OwnerScope.{IsScopeOf, InstancesStand, IsTypeOf, functions_of}
 use Rattle.wit_encode.specs.WorldUses.{item_types, interfaces_before, StandBefore, ItemsMeetStanding}
-use Rattle.wit_encode.proofs.Counting.{contains-filter}
+use Rattle.wit_encode.proofs.Mapped.{contains-filter}
 use Rattle.wit_encode.proofs.Exporting.{contains-mapped}
 use Rattle.wit_encode.proofs.Meeting.{named-meets, unnamed-meets, part-uses}
 use Rattle.wit_encode.proofs.Naming.{named-owner}

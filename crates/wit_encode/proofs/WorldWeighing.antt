@@ -49,7 +49,7 @@ use Rattle.encode_names.specs.WorldNames.{written_path, written_suffix, name_of_
 use Rattle.encode_names.specs.WorldSteps.{Entry, interfaces_among}
 use Rattle.wit_encode.specs.WorldItems.{types_among}
 use Rattle.wit_encode.specs.WorldRoom.{functions_among, type_ids_among, IsMetAmong, IsTypeAmong, count_among, entries_in, WorldLacksRoom, an_interface, a_name, a_type, a_function, too_many, LackingWorldsAreHeavy}
-use Rattle.wit_encode.proofs.Counting.{from-filter, from-map}
+use Rattle.wit_encode.proofs.Mapped.{from-filter, from-map}
 use Rattle.wit_encode.proofs.Numbers.{same-number}
 use Rattle.wit_encode.proofs.OwnerScope.{world_passes}
 use Rattle.wit_encode.proofs.Reached.{from-flat, IsOwner, interface-owner, world-owner}

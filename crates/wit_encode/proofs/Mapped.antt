@@ -1,0 +1,34 @@
+-- What stands in a list that was mapped or filtered.
+use Rattle.std.proofs.Common.{◌≡◌, refl, sym, subst, ap, ◌∙◌, ℕ, zero, suc, inl, inr, Bool, true, List, [], ◌∷◌, map, filter, arith}
+use Rattle.std.proofs.lemmas.Bool.{cases_Bool, cond-true, cond-false}
+use Rattle.std.specs.List.{Contains}
+
+pub from-map : {X Y : Type 0} (f : X → Y) (xs : List X) (y : Y) → Contains (map f xs) y → (x : X) × Contains xs x × (f x ≡ y)
+from-map f [] y (i, l, e) = absurd (omega (arith, l))
+from-map f (x ∷ xs) y (zero, l, e) = (x, (0, omega arith, refl), e)
+from-map f (x ∷ xs) y (suc i, l, e) = let r = from-map f xs y (i, omega (arith, l), e) in (r.0, (suc r.1.0, (let n = r.1.1 in omega arith), r.1.2), r.2)
+
+pub contains-filter : {X : Type 0} (p : X → Bool) (xs : List X) (x : X) → p x ≡ true → Contains xs x → Contains (filter p xs) x
+contains-filter p [] x h (i, l, e) = absurd (omega (arith, l))
+contains-filter p (y ∷ xs) x h (zero, l, e) = subst (λ zs. Contains zs x) (sym (cond-true _ _ _ (ap p e ∙ h))) (0, omega arith, e)
+contains-filter p (y ∷ xs) x h (suc i, l, e) =
+    let there = contains-filter p xs x h (i, omega (arith, l), e) in
+    elim (cases_Bool (p y)) [
+      | inl b ↦ subst (λ zs. Contains zs x) (sym (cond-true _ _ _ b)) (suc there.0, (let n = there.1 in omega arith), there.2)
+      | inr b ↦ subst (λ zs. Contains zs x) (sym (cond-false _ _ _ b)) there
+    ]
+
+later : {X : Type 0} (y : X) (xs : List X) (x : X) → Contains xs x → Contains (y ∷ xs) x
+later y xs x (i, l, e) = (suc i, omega (arith, l), e)
+
+first-or-later : {X : Type 0} (y : X) (xs zs : List X) (x : X) → (Contains zs x → Contains xs x) → Contains (y ∷ zs) x → Contains (y ∷ xs) x
+first-or-later y xs zs x f (zero, l, e) = (0, omega arith, e)
+first-or-later y xs zs x f (suc i, l, e) = later y xs x (f (i, omega (arith, l), e))
+
+pub from-filter : {X : Type 0} (p : X → Bool) (xs : List X) (x : X) → Contains (filter p xs) x → Contains xs x
+from-filter p [] x c = c
+from-filter p (y ∷ xs) x c =
+    elim (cases_Bool (p y)) [
+      | inl b ↦ first-or-later y xs (filter p xs) x (from-filter p xs x) (subst (λ zs. Contains zs x) (cond-true (p y) (y ∷ filter p xs) (filter p xs) b) c)
+      | inr b ↦ later y xs x (from-filter p xs x (subst (λ zs. Contains zs x) (cond-false (p y) (y ∷ filter p xs) (filter p xs) b) c))
+    ]
