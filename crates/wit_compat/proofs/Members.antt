@@ -1,13 +1,12 @@
 -- What is found under a name, and what two interfaces have by name.
-use Rattle.std.proofs.Common.{◌≡◌, ◌↔◌, sym, ap, ◌∙◌, ℕ, Bool, false, List, [], ◌∷◌, map, Option, Some, None, option_map, IsTrue, IfOk, Result, Ok, Err}
-use Rattle.std.specs.List.{AllByRecursion, Contains, IsAmong, IsDistinct}
+use Rattle.std.proofs.Common.{◌≡◌, ◌↔◌, sym, ap, ◌∙◌, ℕ, Bool, false, List, Option, Some, None, option_map, IsTrue, IfOk, Result, Ok, Err}
+use Rattle.std.specs.List.{Contains, IsAmong}
 use Rattle.std.specs.Option.{option_map_or}
 use Rattle.wit_model.specs.declared.model.Resolve.{Resolve}
 use Rattle.wit_model.specs.declared.model.Interface.{Interface}
 use Rattle.wit_model.specs.Lookup.{interface_at}
 use Rattle.wit_model.specs.Meaning.{InterfaceSense, interface_sense}
 use Rattle.wit_model.specs.Meant.{interface_meaning, interface_meaning_at, no_interface}
-use Rattle.wit_model.specs.Text.{Text, text_eq}
 use Rattle.wit_model.proofs.Elements.{same-some}
 use Rattle.wit_compat.specs.TwoSides.{functions_sense, types_sense}
 use Rattle.wit_compat.proofs.Sided.{never}
@@ -28,16 +27,6 @@ module _ {X Y : Type 0} (g : Y → X) (x : X) where
 
   pub missing_exact : (o : Option Y) → o ≡ None → IsTrue false ↔ (option_map g o ≡ Some x)
   missing_exact o e = never _ (λ same. let wrong : None ≡ Some x = sym (ap (option_map g) e) ∙ same in let z : ⊥ = cc in z)
-
--- names by which entries differ are different texts
-pub distinct_texts_by : {K : Type 0} (same : K → K → Bool) (text : K → Text) → ((x y : K) → same x y ≡ text_eq (text x) (text y)) → (ks : List K) → IsDistinct same ks → IsDistinct text_eq (map text ks)
-unfolding IsDistinct
-distinct_texts_by same text is [] d = tt
-distinct_texts_by {K} same text is (k ∷ ks) d = (apart ks d.0, distinct_texts_by same text is ks d.1)
-  where
-    apart : (ls : List K) → AllByRecursion (λ y. same k y ≡ false) ls → AllByRecursion (λ y. text_eq (text k) y ≡ false) (map text ls)
-    apart [] h = tt
-    apart (l ∷ ls) h = (sym (is k l) ∙ h.0, apart ls h.1)
 
 -- ---- interfaces
 

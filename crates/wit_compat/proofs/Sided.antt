@@ -7,9 +7,8 @@ use Rattle.std.specs.Option.{option_map_or}
 use Rattle.std.proofs.Math.ListN.{length-map}
 use Rattle.std.proofs.lemmas.List.{map-append, take_all}
 use Rattle.std.proofs.lemmas.List.Elements.{Contains-append_left, Contains-append_right, Contains-push, Contains-push_cases}
-use Rattle.std.proofs.lemmas.Option.{slice_get_cases, slice_get-get_or, slice_get-map}
+use Rattle.std.proofs.lemmas.Option.{slice_get-get_or, slice_get-map}
 use Rattle.wit_model.specs.declared.model.Resolve.{Resolve}
-use Rattle.wit_model.specs.declared.model.Interface.{Interface}
 use Rattle.wit_model.specs.declared.model.TypeDef.{TypeDef}
 use Rattle.wit_model.specs.declared.model.TypeId.{TypeId}
 use Rattle.wit_model.specs.declared.model.TypeDefKind.{TypeDefKind}
@@ -17,21 +16,29 @@ use Rattle.wit_model.specs.declared.model.TypeDefKind.TheVariants as kind
 use Rattle.wit_model.specs.declared.model.Handle.TheVariants as handle
 use Rattle.wit_model.specs.declared.model.«Type».{«Type» as ValueType}
 use Rattle.wit_model.specs.declared.model.«Type».TheVariants as ty
-use Rattle.wit_model.specs.Lookup.{interface_path, path_of_interface, place_of, type_at}
-use Rattle.wit_model.specs.Rules.{is_named_kind, is_named_number, passes}
-use Rattle.wit_model.specs.Text.{Text, optional_text, text_of}
+use Rattle.wit_model.specs.declared.model.PackageName.{PackageName}
+use Rattle.wit_model.specs.Lookup.{identity_of, package_at, place_of, type_at}
+use Rattle.wit_model.specs.Names.{is_identity, is_label, is_version, path_in}
+use Rattle.wit_model.specs.Paths.{full_name}
+use Rattle.wit_model.specs.Rules.{is_named_kind, is_named_number, passes, same_package_name}
+use Rattle.wit_model.specs.Text.{Text, text_of}
 use Rattle.wit_model.specs.Tree.{Tree, Trees, Place, Form, node, named, children, child_list, list_of, fixed_list_of, option_of, own_of, borrow_of, map_of, tuple_of, result_of, future_of, stream_of}
 use Rattle.wit_model.specs.Types.{number_of, number_tree, type_tree, tree_of, trees_of, no_tree, declared_by, tree_of_declaration, tree_of_definition}
 use Rattle.wit_model.specs.Uses.{alias_target}
 use Rattle.wit_model.specs.Valid.{IsValid, named_kinds}
 use Rattle.wit_model.proofs.Entries.{each_from_at, lists_pass}
 use Rattle.wit_model.proofs.Lists.{first_true}
+use Rattle.wit_model.proofs.NameLaws.{one_path}
+use Rattle.wit_model.proofs.OnePath.{HasPath, has-path, package-name, path-label, some-same}
+use Rattle.wit_model.proofs.PathParts.{path_made}
+use Rattle.wit_model.proofs.VersionLaws.{same_name}
 use Rattle.wit_model.proofs.TreeTable.{kept_numbers, kept_trees_at}
 use Rattle.wit_compat.specs.declared.look.Look.{Look}
 use Rattle.wit_compat.specs.declared.look.Look.TheVariants as look
 use Rattle.wit_compat.specs.Opened.{form_of, is_there, opened_kind, places_of}
 use Rattle.wit_compat.specs.Table.{AllInRange, InRange, is_alias}
-use Rattle.wit_compat.specs.TwoSides.{paths_from, interface_paths, name_leaf, rank, AllSame, IsParted, SameType, Says}
+use Rattle.wit_compat.specs.declared.side.Path.{Path}
+use Rattle.wit_compat.specs.TwoSides.{path_text, IsKnown, name_leaf, rank, AllSame, IsParted, SameType, Says}
 use Rattle.wit_compat.specs.Walk.{Pair}
 use Rattle.wit_compat.proofs.Alike.{below_number, children_back, is_below, node_children, node_form, places_below, primitive_back, primitive_in, tree_of_number}
 use Rattle.wit_compat.proofs.OpenedTable.{built, opened_built}
@@ -40,36 +47,42 @@ use Rattle.wit_compat.proofs.Validity.{all_contained}
 
 -- ---- paths
 
-paths_within : (r : Resolve) (k : ℕ) (is : List Interface) (n : ℕ) → n < length is → slice_get (paths_from r k is) n ≡ Some (interface_path r (k + n))
-paths_within r k [] n h = absurd (omega (arith, h))
-paths_within r k (i ∷ is) zero h = ap (λ m. Some (interface_path r m)) (omega arith)
-paths_within r k (i ∷ is) (suc n) h = paths_within r (k + 1) is n (omega (arith, h)) ∙ ap (λ m. Some (interface_path r m)) (omega arith)
+abbrev path_of : PackageName × String Global → Text
+path_of e = path_in (identity_of e.0) (text_of e.1)
 
-paths_past : (r : Resolve) (k : ℕ) (is : List Interface) (n : ℕ) → length is ≤ n → slice_get (paths_from r k is) n ≡ None
-paths_past r k [] n h = refl
-paths_past r k (i ∷ is) zero h = absurd (omega (arith, h))
-paths_past r k (i ∷ is) (suc n) h = paths_past r (k + 1) is n (omega (arith, h))
+named_in_full : (r : Resolve) (n : ℕ) (path : Text) (h : HasPath r n path) → full_name r n ≡ Some (h.package_.name, h.name)
+named_in_full r n path h =
+    ap (λ o. option_and_then (λ i. option_and_then (λ name. option_map (λ p. (p.name, name)) (option_and_then (λ i. option_and_then (λ p. package_at r p.0) i.package) o)) i.name) o) h.there
+    ∙ (λ i. option_and_then (λ name. option_map (λ p. (p.name, name)) (option_and_then (λ p. package_at r p.0) (h.in_package i))) (h.named_ i))
+    ∙ ap (option_map (λ p. (p.name, h.name))) h.stands
 
-path_is : (r : Resolve) (n : ℕ) → unwrap_or (slice_get (interface_paths r) n) None ≡ interface_path r n
-path_is r n = by (slice_get_cases r.interfaces.items n).1
-  where
-    by : ((x : Interface) × (n < length r.interfaces.items) × (slice_get r.interfaces.items n ≡ Some x) × (get_or r.interfaces.items n x ≡ x)) ⊎ ((length r.interfaces.items ≤ n) × (slice_get r.interfaces.items n ≡ None)) → unwrap_or (slice_get (interface_paths r) n) None ≡ interface_path r n
-    by (inl (x, lt, at, is)) = ap (λ o. unwrap_or o None) (paths_within r 0 r.interfaces.items n lt) ∙ ap (interface_path r) (omega arith)
-    by (inr (le, none)) = ap (λ o. unwrap_or o None) (paths_past r 0 r.interfaces.items n le) ∙ sym (ap (option_and_then (path_of_interface r)) none)
+-- the parts of a path are what a package and an interface may be called
+abbrev pub ArePartsOfPath : PackageName × String Global → Type 0
+ArePartsOfPath e = (passes is_version e.0.version ≡ true) × (is_identity (identity_of e.0) ≡ true) × (is_label (text_of e.1) ≡ true)
 
--- a path by the table of all
-pub path_found : (r : Resolve) (paths : List (Option (String Global))) (n : ℕ) (o : Option (Option (String Global))) → map optional_text paths ≡ interface_paths r → slice_get paths n ≡ o → unwrap_or (option_map optional_text o) None ≡ interface_path r n
-path_found r paths n o e at =
-    ap (λ x. unwrap_or (option_map optional_text x) None) (sym at) ∙ ap (λ x. unwrap_or x None) (sym (slice_get-map optional_text paths n))
-    ∙ ap (λ xs. unwrap_or (slice_get xs n) None) e ∙ path_is r n
+pub parts_known : (r : Resolve) → IsValid r → (n : ℕ) (e : PackageName × String Global) → full_name r n ≡ Some e → ArePartsOfPath e
+parts_known r v n e at =
+    let h = has-path r n (path_of e) (path_made r n ∙ ap (option_map path_of) at) in
+    let same : (h.package_.name, h.name) ≡ e = some-same _ _ (sym (named_in_full r n (path_of e) h) ∙ at) in
+    let p = package-name r v h.home.0 h.package_ h.stands in
+    subst ArePartsOfPath same (p.version, p.identity, path-label r v n (path_of e) h)
 
--- one path more
-pub paths_more : (r : Resolve) (k : ℕ) (is : List Interface) (n : ℕ) → n < length is → paths_from r k (take (suc n) is) ≡ paths_from r k (take n is) ++ interface_path r (k + n) ∷ []
-paths_more r k [] n h = absurd (omega (arith, h))
-paths_more r k (i ∷ is) zero h = ap (λ m. interface_path r m ∷ []) (omega arith)
-paths_more r k (i ∷ is) (suc n) h =
-    ap (λ xs. interface_path r k ∷ xs) (paths_more r (k + 1) is n (omega (arith, h)))
-    ∙ ap (λ m. interface_path r k ∷ (paths_from r (k + 1) (take n is) ++ interface_path r m ∷ [])) (omega arith)
+module _ (p q : Path) (known : IsKnown p) (known' : IsKnown q) where
+  parts_back : path_text p ≡ path_text q → (identity_of p.home.now ≡ identity_of q.home.now) × (text_of p.name.now ≡ text_of q.name.now)
+  parts_back same =
+      one_path (identity_of p.home.now) (identity_of q.home.now) (text_of p.name.now) (text_of q.name.now) known.identity known.label known'.identity known'.label same
+
+  pub other_homes : (b : Bool) → b ≡ same_package_name p.home.now q.home.now → b ≡ false → IsTrue false ↔ (path_text p ≡ path_text q)
+  other_homes b is differ = (
+    λ t. let wrong : ⊥ = cc in absurd wrong,
+    λ same. sym differ ∙ is ∙ (same_name p.home.now q.home.now known.version known'.version).1 (parts_back same).0,
+  )
+
+  pub one_home : (b : Bool) → b ≡ same_package_name p.home.now q.home.now → b ≡ true → (y : Bool) → (IsTrue y ↔ (text_of p.name.now ≡ text_of q.name.now)) → IsTrue y ↔ (path_text p ≡ path_text q)
+  one_home b is equal y h = (
+    λ t. let home = (same_name p.home.now q.home.now known.version known'.version).0 (sym is ∙ equal) in let name = h.0 t in λ i. path_in (home i) (name i),
+    λ same. h.1 (parts_back same).1,
+  )
 
 -- ---- trees
 

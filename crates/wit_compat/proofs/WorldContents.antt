@@ -1,6 +1,7 @@
 -- The contents of a world by the texts of their keys.
-use Rattle.std.proofs.Common.{◌≡◌, ◌↔◌, refl, sym, ap, subst, ◌∙◌, ◌⊎◌, inl, inr, ℕ, Bool, true, false, ◌&&◌, cond, List, [], ◌∷◌, ◌++◌, map, Option, Some, None, is_some, IsSome, option_map, IsTrue}
+use Rattle.std.proofs.Common.{◌≡◌, ◌↔◌, refl, sym, ap, subst, ◌∙◌, ◌⊎◌, inl, inr, ℕ, Bool, true, false, ◌&&◌, cond, List, [], ◌∷◌, ◌++◌, map, Option, Some, None, is_some, IsSome, option_map, IsTrue, String}
 use Rattle.std.specs.Borrow.{Bor}
+use Rattle.std.specs.declared.alloc.Global.{Global}
 use Rattle.std.specs.Option.{option_copied, option_map_or}
 use Rattle.std.specs.FinMap.{from_entries}
 use Rattle.std.specs.List.{Contains}
@@ -16,7 +17,7 @@ use Rattle.wit_model.specs.Lookup.{key_text, world_at}
 use Rattle.wit_model.specs.Meaning.{Entry, InterfaceSense, WorldSense, entries_sense, entry_sense, world_sense}
 use Rattle.wit_model.specs.Meant.{entries_meaning, entry_meaning, no_world, world_meaning, world_meaning_at}
 use Rattle.wit_model.specs.Rules.{entries_in_range, item_in_range, key_in_range}
-use Rattle.wit_model.specs.Text.{Text, text_cmp, text_eq}
+use Rattle.wit_model.specs.Text.{Text, text_cmp, text_eq, text_of}
 use Rattle.wit_model.proofs.AnyOrder.{text-same}
 use Rattle.wit_model.proofs.Lists.{first_true, second_true}
 use Rattle.wit_model.proofs.OnePath.{some-of}
@@ -91,23 +92,23 @@ module _ (r : Resolve) where
     opened : (q : Text) → or_first (under q (map (sense_entry r) made)) (cond (text_eq q (key_text r k)) (Some (key_entry (k, i)).1) (under q (map key_entry next))) ≡ under q (map key_entry all)
     opened q = ap (λ es. or_first (under q (map (sense_entry r) made)) (under q (map key_entry es))) (sym split) ∙ s q
 
-    made_more : (key : Bor Text) (item : Bor WorldItem) (new : List BorrowedEntry) → key.now ≡ key_text r k → item.now ≡ i → new ≡ made ++ (key, item) ∷ [] → IsSplit new next all
+    made_more : (key : String Global) (item : Bor WorldItem) (new : List BorrowedEntry) → text_of key ≡ key_text r k → item.now ≡ i → new ≡ made ++ (key, item) ∷ [] → IsSplit new next all
     made_more key item new text is n q =
         ap (λ es. or_first (under q (map (sense_entry r) es)) (under q (map key_entry next))) n
         ∙ ap (λ es. or_first (under q es) (under q (map key_entry next))) (map-append (sense_entry r) made ((key, item) ∷ []))
-        ∙ last_put q (map (sense_entry r) made) (key.now, entry_sense (entry_meaning r item.now)) (under q (map key_entry next))
+        ∙ last_put q (map (sense_entry r) made) (text_of key, entry_sense (entry_meaning r item.now)) (under q (map key_entry next))
         ∙ (λ j. or_first (under q (map (sense_entry r) made)) (cond (text_eq q (text j)) (Some (entry_sense (entry_meaning r (is j)))) (under q (map key_entry next))))
         ∙ opened q
 
     made_stays : (y : Entry InterfaceSense) → under (key_text r k) (map (sense_entry r) made) ≡ Some y → IsSplit made next all
     made_stays y h q = stays_put q (map (sense_entry r) made) (key_entry (k, i)) (under q (map key_entry next)) y h ∙ opened q
 
-    found_again : (key : Bor Text) → IsSome (lookup (λ (k : Bor Text). text_eq key.now k.now) made) → (y : Entry InterfaceSense) × (under key.now (map (sense_entry r) made) ≡ Some y)
+    found_again : (key : String Global) → IsSome (lookup (λ k. text_eq (text_of key) (text_of k)) made) → (y : Entry InterfaceSense) × (under (text_of key) (map (sense_entry r) made) ≡ Some y)
     found_again key h =
-        let x = some-of (lookup (λ (k : Bor Text). text_eq key.now k.now) made) h in
-        (entry_sense (entry_meaning r x.0.now), under_is (λ (k : Bor Text). k.now) (λ (j : Bor WorldItem). entry_sense (entry_meaning r j.now)) key.now made ∙ ap (option_map (λ (j : Bor WorldItem). entry_sense (entry_meaning r j.now))) x.1)
+        let x = some-of (lookup (λ k. text_eq (text_of key) (text_of k)) made) h in
+        (entry_sense (entry_meaning r x.0.now), under_is text_of (λ (j : Bor WorldItem). entry_sense (entry_meaning r j.now)) (text_of key) made ∙ ap (option_map (λ (j : Bor WorldItem). entry_sense (entry_meaning r j.now))) x.1)
 
-    pub put_split : (key : Bor Text) (item : Bor WorldItem) (new : List BorrowedEntry) → key.now ≡ key_text r k → item.now ≡ i → PutsFirst made new (key, item) → IsSplit new next all
+    pub put_split : (key : String Global) (item : Bor WorldItem) (new : List BorrowedEntry) → text_of key ≡ key_text r k → item.now ≡ i → PutsFirst made new (key, item) → IsSplit new next all
     put_split key item new text is (inr n) = made_more key item new text is n
     put_split key item new text is (inl h) =
         let y = found_again key h.1 in
@@ -118,7 +119,7 @@ module _ (r : Resolve) where
         let all : (key_in_range r k && item_in_range r i) && entries_in_range r next ≡ true = ap (entries_in_range r) (sym split) ∙ h in
         (second_true (key_in_range r k) (item_in_range r i) (first_true (key_in_range r k && item_in_range r i) (entries_in_range r next) all), second_true (key_in_range r k && item_in_range r i) (entries_in_range r next) all)
 
-  pushed_in_range : (made new : List BorrowedEntry) (key : Bor Text) (item : Bor WorldItem) → new ≡ made ++ (key, item) ∷ [] → AllItemsInRange r made → item_in_range r item.now ≡ true → AllItemsInRange r new
+  pushed_in_range : (made new : List BorrowedEntry) (key : String Global) (item : Bor WorldItem) → new ≡ made ++ (key, item) ∷ [] → AllItemsInRange r made → item_in_range r item.now ≡ true → AllItemsInRange r new
   pushed_in_range made new key item n h is e c = by (Contains-push_cases made (key, item) e (subst (λ es. Contains es e) n c))
     where
       by : Contains made e ⊎ ((key, item) ≡ e) → item_in_range r e.1.now ≡ true
@@ -129,7 +130,7 @@ module _ (r : Resolve) where
   pub value_in_range : (made : List BorrowedEntry) → AllItemsInRange r made → (item : Bor WorldItem) → Contains (values_of made) item → item_in_range r item.now ≡ true
   value_in_range made h item c = let k = Contains-from_values_of made item c in h (k.0, item) k.1
 
-  pub put_in_range : (made new : List BorrowedEntry) (key : Bor Text) (item : Bor WorldItem) → PutsFirst made new (key, item) → AllItemsInRange r made → item_in_range r item.now ≡ true → AllItemsInRange r new
+  pub put_in_range : (made new : List BorrowedEntry) (key : String Global) (item : Bor WorldItem) → PutsFirst made new (key, item) → AllItemsInRange r made → item_in_range r item.now ≡ true → AllItemsInRange r new
   put_in_range made new key item (inr n) h is = pushed_in_range made new key item n h is
   put_in_range made new key item (inl w) h is = subst (AllItemsInRange r) (sym w.0) h
 

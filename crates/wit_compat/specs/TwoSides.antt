@@ -10,7 +10,8 @@ use Rattle.wit_model.specs.declared.model.Resolve.{Resolve}
 use Rattle.wit_model.specs.declared.model.Interface.{Interface}
 use Rattle.wit_model.specs.declared.model.«Type».{«Type» as ValueType}
 use Rattle.wit_model.specs.declared.model.«Type».TheVariants as ty
-use Rattle.wit_model.specs.Lookup.{interface_path, place_of, type_at}
+use Rattle.wit_model.specs.Lookup.{identity_of, place_of, type_at}
+use Rattle.wit_model.specs.Names.{is_identity, is_label, is_version, path_in}
 use Rattle.wit_model.specs.Tree.{Tree, named}
 use Rattle.wit_model.specs.declared.model.TypeDef.{TypeDef}
 use Rattle.wit_model.specs.declared.model.TypeDefKind.{TypeDefKind}
@@ -21,12 +22,13 @@ use Rattle.wit_model.specs.declared.model.WorldItem.{WorldItem}
 use Rattle.wit_model.specs.Meaning.{Entry, FunctionMeaning, InterfaceSense, TypeMeaning, entry_sense, item_sense}
 use Rattle.wit_model.specs.Meant.{entry_meaning, function_meaning, interface_item, type_meaning_at}
 use Rattle.wit_model.specs.Parts.{function_types}
-use Rattle.wit_model.specs.Rules.{item_in_range}
+use Rattle.wit_model.specs.Rules.{item_in_range, passes}
 use Rattle.wit_model.specs.Text.{Text, TextMap, optional_text, text_eq, text_of}
 use Rattle.std.specs.Option.{option_map_or}
 use Rattle.wit_model.specs.Types.{number_tree, type_tree, trees_of, declared_by}
 use Rattle.wit_model.specs.Valid.{IsValid}
 use Rattle.wit_compat.specs.declared.senses.Senses.{Senses}
+use Rattle.wit_compat.specs.declared.side.Path.{Path}
 use Rattle.wit_compat.specs.declared.side.Side.{Side}
 use Rattle.wit_compat.specs.declared.look.Look.{Look}
 use Rattle.wit_compat.specs.declared.look.Look.TheVariants as look
@@ -35,17 +37,19 @@ use Rattle.wit_compat.specs.Walk.{Pair}
 
 -- ---- paths
 
-abbrev pub paths_from : Resolve → ℕ → List Interface → List (Option Text)
-paths_from r n [] = []
-paths_from r n (i ∷ is) = interface_path r n ∷ paths_from r (n + 1) is
+-- a path by its parts
+abbrev pub path_text : Path → Text
+path_text p = path_in (identity_of p.home.now) (text_of p.name.now)
 
-abbrev pub interface_paths : Resolve → List (Option Text)
-interface_paths r = paths_from r 0 r.interfaces.items
+-- its parts are what a package and an interface may be called
+pub record IsKnown (p : Path) : Type 0 where
+  pub version : passes is_version p.home.now.version ≡ true
+  pub identity : is_identity (identity_of p.home.now) ≡ true
+  pub label : is_label (text_of p.name.now) ≡ true
 
--- a valid `Resolve`, and the paths of its interfaces
+-- a valid `Resolve`
 pub record IsSide (s : Side) : Type 0 where
   pub valid : IsValid s.resolve.now
-  pub paths : map optional_text s.paths.items ≡ interface_paths s.resolve.now
 
 -- ---- types
 
@@ -138,18 +142,18 @@ abbrev pub SameInterfaceEntries : Resolve → Resolve → ℕ → ℕ → Option
 SameInterfaceEntries a b n m i j = interface_entry a n i ≡ interface_entry b m j
 
 abbrev pub BorrowedEntry : Type 0
-BorrowedEntry = Bor (List ℕ) × Bor WorldItem
+BorrowedEntry = String Global × Bor WorldItem
 
 -- the entries of a list of imports or exports by the texts of their keys, as a map of senses
 abbrev pub sense_entry : Resolve → BorrowedEntry → Text × Entry InterfaceSense
-sense_entry r e = (e.0.now, entry_sense (entry_meaning r e.1.now))
+sense_entry r e = (text_of e.0, entry_sense (entry_meaning r e.1.now))
 
 abbrev pub indexed_sense : Resolve → List BorrowedEntry → TextMap (Entry InterfaceSense)
 indexed_sense r es = from_entries (map (sense_entry r) es)
 
 -- an entry is there unless its key was
 abbrev pub PutsFirst : List BorrowedEntry → List BorrowedEntry → BorrowedEntry → Type 0
-PutsFirst old new e = ((new ≡ old) × IsSome (lookup (λ k. text_eq e.0.now k.now) old)) ⊎ (new ≡ old ++ e ∷ [])
+PutsFirst old new e = ((new ≡ old) × IsSome (lookup (λ k. text_eq (text_of e.0) (text_of k)) old)) ⊎ (new ≡ old ++ e ∷ [])
 
 abbrev pub AllItemsInRange : Resolve → List BorrowedEntry → Type 0
 AllItemsInRange r es = (e : BorrowedEntry) → Contains es e → item_in_range r e.1.now ≡ true
@@ -163,7 +167,7 @@ first_of s = s.left.resolve.now
 abbrev pub second_of : Senses → Resolve
 second_of s = s.right.resolve.now
 
--- Both are valid, their paths are at hand, and what the table holds are pairs of types that stand for the same.
+-- Both are valid, and what the table holds are pairs of types that stand for the same.
 pub record IsReady (s : Senses) : Type 0 where
   pub left : IsSide s.left
   pub right : IsSide s.right

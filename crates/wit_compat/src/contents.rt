@@ -1,11 +1,11 @@
 //! Whether the contents of worlds of two `Resolve`s have the same sense: imports and exports by key, in any order.
 
 ghost use Rattle.std.specs.Prelude.{◌≡◌, ◌↔◌, true, option_map, Some, IfOk, IsTrue, OnOk};
-ghost use Rattle.std.specs.HashMap.{get_by};
+ghost use Rattle.std.specs.HashMap.{get_by_text};
 ghost use Rattle.wit_model.specs.Meaning.{entries_sense, entry_sense, world_sense};
 ghost use Rattle.wit_model.specs.Meant.{entries_meaning, entry_meaning, world_meaning};
 ghost use Rattle.wit_model.specs.Rules.{entries_in_range, item_in_range};
-ghost use Rattle.wit_model.specs.Text.{text_eq};
+ghost use Rattle.wit_model.specs.Text.{text_of};
 ghost use Rattle.wit_compat.specs.Compatible.{HasItemsInRange};
 ghost use Rattle.wit_compat.specs.TwoSides.{indexed_sense, AllItemsInRange, AllSame, IsSide, PutsFirst};
 
@@ -17,33 +17,33 @@ use std::alloc::{AllocError, Global};
 use wit_model::{Map, World, WorldItem, WorldKey};
 
 /// The items of a list of imports or exports by the texts of their keys.
-type Items<'a> = IndexMap<&'a str, &'a WorldItem>;
+type Items<'a> = IndexMap<String, &'a WorldItem>;
 
 /// Puts an item under a key that has none yet.
-fn put<'a>(items: &mut Items<'a>, key: &'a str, item: &'a WorldItem) -> Result<(), AllocError>
-    ensures { OnOk result (PutsFirst items.old.entries items.new.entries (key.entry, item.entry)) }
+fn put<'a>(items: &mut Items<'a>, key: String, item: &'a WorldItem) -> Result<(), AllocError>
+    ensures { OnOk result (PutsFirst items.old.entries items.new.entries (key, item.entry)) }
 {
-    if items.get(key).is_some() {
+    if items.get(key.as_str()).is_some() {
         return Ok(());
     }
     items.insert(key, item)?;
     Ok(())
 }
 
-/// The items by key. Of items of one key the first counts. As much memory as there are items.
+/// The items by key. Of items of one key the first counts. As much memory as there are items, and the texts of their keys.
 fn items<'a>(
     alloc: Global,
-    side: &'a Side,
+    side: &Side,
     list: &'a Map<WorldKey, WorldItem>,
 ) -> Result<Items<'a>, AllocError>
     requires side { IsSide side.now }
     requires list { entries_in_range side.now.resolve.now list.now.entries ≡ true }
-    ensures sense { IfOk result (λ m. indexed_sense side.entry.now.resolve.now m.entries ≡ entries_sense (entries_meaning side.entry.now.resolve.now list.entry.now.entries)) }
-    ensures in_range { IfOk result (λ m. AllItemsInRange side.entry.now.resolve.now m.entries) }
+    ensures sense { IfOk result (λ m. indexed_sense side.now.resolve.now m.entries ≡ entries_sense (entries_meaning side.now.resolve.now list.entry.now.entries)) }
+    ensures in_range { IfOk result (λ m. AllItemsInRange side.now.resolve.now m.entries) }
 {
     let mut items = IndexMap::new(alloc);
     for (key, item) in list {
-        let text = key_text(side, key);
+        let text = key_text(alloc, side, key)?;
         put(&mut items, text, item)?;
     }
     Ok(items)
@@ -54,7 +54,7 @@ fn same_item_under(
     alloc: Global,
     left: &Side,
     right: &Side,
-    key: &str,
+    key: &String,
     item: &WorldItem,
     others: &Items,
     pairs: &mut Pairs,
@@ -64,10 +64,10 @@ fn same_item_under(
     requires item { item_in_range left.now.resolve.now item.now ≡ true }
     requires others { AllItemsInRange right.now.resolve.now others.now.entries }
     requires pairs { AllSame left.now.resolve.now right.now.resolve.now pairs.old.keys }
-    ensures exact { IfOk result (λ y. IsTrue y ↔ (option_map (λ other. entry_sense (entry_meaning right.now.resolve.now other.now)) (get_by (λ k. text_eq key.now k.now) others.now) ≡ Some (entry_sense (entry_meaning left.now.resolve.now item.now)))) }
+    ensures exact { IfOk result (λ y. IsTrue y ↔ (option_map (λ other. entry_sense (entry_meaning right.now.resolve.now other.now)) (get_by_text others.now (text_of key.now)) ≡ Some (entry_sense (entry_meaning left.now.resolve.now item.now)))) }
     ensures kept { AllSame left.now.resolve.now right.now.resolve.now pairs.new.keys }
 {
-    match others.get(key) {
+    match others.get(key.as_str()) {
         Some(other) => same_items(alloc, left, right, item, *other, pairs),
         None => Ok(false),
     }
@@ -94,7 +94,7 @@ fn same_indexed(
         return Ok(false);
     }
     for (key, item) in items {
-        if !same_item_under(alloc, left, right, *key, *item, others, pairs)? {
+        if !same_item_under(alloc, left, right, key, *item, others, pairs)? {
             return Ok(false);
         }
     }

@@ -10,15 +10,9 @@ use crate::declarations::same_type_meanings;
 use crate::interfaces::same_interfaces;
 use crate::pairs::Pairs;
 use crate::sense::{same_external_ids, same_function_senses};
-use crate::side::{Side, path_at};
+use crate::side::{Side, path_at, same_paths};
 use std::alloc::{AllocError, Global};
 use wit_model::{InterfaceId, WorldItem};
-
-fn same_texts(a: &str, b: &str) -> bool
-    ensures { IsTrue result ↔ (a.now ≡ b.now) }
-{
-    a == b
-}
 
 /// Whether two interfaces are the same item: of one path, or both inline and of one sense.
 fn same_interface_items(
@@ -39,7 +33,7 @@ fn same_interface_items(
 {
     match path_at(left, a) {
         Some(path) => match path_at(right, b) {
-            Some(other) => Ok(same_texts(path, other)),
+            Some(other) => Ok(same_paths(&path, &other)),
             None => Ok(false),
         },
         None => match path_at(right, b) {

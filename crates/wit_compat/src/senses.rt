@@ -13,7 +13,7 @@ use crate::interfaces::same_interfaces;
 use crate::items::same_items;
 use crate::pairs::Pairs;
 use crate::place::{Place, import_at};
-use crate::side::{Side, side_of};
+use crate::side::Side;
 use indexmap::IndexSet;
 use std::alloc::{AllocError, Global};
 use wit_model::{Error, Resolve, WorldId};
@@ -92,7 +92,8 @@ pub struct Senses<'a> {
 }
 
 impl<'a> Senses<'a> {
-    /// The two, with nothing compared yet. Both are valid. Takes memory for the paths of their interfaces. Refuses `Memory` alone.
+    /// The two, with nothing compared yet. Both are valid. Nothing of either is looked at, so it takes no memory, and no more time for
+    /// large ones. Refuses `Memory` alone.
     pub fn new(alloc: Global, left: &'a Resolve, right: &'a Resolve) -> Result<Self, Error>
         requires left { IsValid left.now }
         requires right { IsValid right.now }
@@ -101,14 +102,11 @@ impl<'a> Senses<'a> {
         ensures second { IfOk result (λ s. second_of s ≡ right.entry.now) }
         ensures refuses { IfErr result (λ e. e ≡ MemoryError) }
     {
-        match sides(alloc, left, right) {
-            Ok((left, right)) => Ok(Senses {
-                left,
-                right,
-                pairs: IndexSet::new(alloc),
-            }),
-            Err(_) => Err(Error::Memory),
-        }
+        Ok(Senses {
+            left: Side { resolve: left },
+            right: Side { resolve: right },
+            pairs: IndexSet::new(alloc),
+        })
     }
 
     /// Whether a place of the first `Resolve` and a place of the second have the same sense. Something stands at both places.
@@ -137,24 +135,6 @@ impl<'a> Senses<'a> {
             Err(_) => Err(Error::Memory),
         }
     }
-}
-
-/// Both with their paths.
-fn sides<'a>(
-    alloc: Global,
-    left: &'a Resolve,
-    right: &'a Resolve,
-) -> Result<(Side<'a>, Side<'a>), AllocError>
-    requires left { IsValid left.now }
-    requires right { IsValid right.now }
-    ensures left { IfOk result (λ p. IsSide p.0) }
-    ensures right { IfOk result (λ p. IsSide p.1) }
-    ensures first { IfOk result (λ p. p.0.resolve.now ≡ left.entry.now) }
-    ensures second { IfOk result (λ p. p.1.resolve.now ≡ right.entry.now) }
-{
-    let left = side_of(alloc, left)?;
-    let right = side_of(alloc, right)?;
-    Ok((left, right))
 }
 
 /// Whether a place of one `Resolve` and a place of another, which may be the same, have the same sense: `Senses::same` of the two

@@ -16,12 +16,12 @@ pub loop-key-preserved : goal.loop-key-preserved
 loop-key-preserved c =
     let r = c.args.side.now.resolve.now in
     let made = c.loop-key.items.entries in
-    let key = c.key_text-text.result in
+    let key = c.in_ok-text.text in
     let item = c.in-Some.item in
     let next = rest_more deref_pair c.loop-key.key-iterator c.next.new.self c.next.result (c.in-Some.key, item) c.in-Some.is c.next.ensures.steps in
     let range = rest_in_range r made c.loop-key.key-iterator c.next.new.self c.args.list.now.entries c.in-Some.key.now item.now c.loop-key.invariant.split next c.loop-key.invariant.left in
     record {
-      split = put_split r made c.loop-key.key-iterator c.next.new.self c.args.list.now.entries c.in-Some.key.now item.now c.loop-key.invariant.split next key item _ c.key_text-text.ensures refl c.in_ok-put.ensures;
+      split = put_split r made c.loop-key.key-iterator c.next.new.self c.args.list.now.entries c.in-Some.key.now item.now c.loop-key.invariant.split next key item _ c.in_ok-text.ensures refl c.in_ok-put.ensures;
       made = put_in_range r made _ key item c.in_ok-put.ensures c.loop-key.invariant.made range.0;
       left = range.1;
     }

@@ -1,4 +1,4 @@
-use Rattle.std.proofs.Common.{rules, ◌≡◌, refl, sym, ◌∙◌, ℕ, List, length, map}
+use Rattle.std.proofs.Common.{rules, ◌≡◌, refl, sym, ◌∙◌, length, map}
 use Rattle.std.specs.Borrow.{Bor}
 use Rattle.std.specs.Map.Iter.{deref_pair}
 use Rattle.std.proofs.Math.ListN.{length-map}
@@ -7,13 +7,11 @@ use Rattle.indexmap.specs.IndexMap.{keys}
 use Rattle.wit_model.specs.declared.model.WorldItem.{WorldItem}
 use Rattle.wit_model.specs.Meaning.{entry_sense}
 use Rattle.wit_model.specs.Meant.{entry_meaning}
-use Rattle.wit_compat.proofs.Members.{distinct_texts_by}
+use Rattle.wit_model.specs.Text.{text_of}
+use Rattle.wit_model.proofs.AnyOrder.{distinct-texts}
 use Rattle.wit_compat.proofs.SameMaps.{at_end, entry, from_start, lengths_differ, next_there, not_found, one_more, under_is}
 use Rattle.wit_compat.proofs.Sided.{never, not_same}
 use Rattle.wit_compat.proofs.contents.same_indexed.Goals as goal
-
-abbrev text : Bor (List ℕ) → List ℕ
-text k = k.now
 
 pub returns-then-len-clause-exact : goal.returns-then-len-clause-exact
 returns-then-len-clause-exact c =
@@ -21,13 +19,13 @@ returns-then-len-clause-exact c =
     let fs = c.args.others.now.entries in
     let f = λ (i : Bor WorldItem). entry_sense (entry_meaning c.args.left.now.resolve.now i.now) in
     let g = λ (i : Bor WorldItem). entry_sense (entry_meaning c.args.right.now.resolve.now i.now) in
-    never _ (lengths_differ text text f g es fs
-    (distinct_texts_by _ text (λ x y. refl) (keys c.args.items.now) c.len.ensures.unique) (distinct_texts_by _ text (λ x y. refl) (keys c.args.others.now) c.len-2.ensures.unique)
+    never _ (lengths_differ text_of text_of f g es fs
+    (distinct-texts (keys c.args.items.now) c.len.ensures.unique) (distinct-texts (keys c.args.others.now) c.len-2.ensures.unique)
     (λ same. let e : c.len.result ≡ c.len-2.result = search rules in search (rules, c.if-len.true)))
 
 pub loop-key-init : goal.loop-key-init
 loop-key-init c = record {
-  along = from_start text _ _ _ _ (search rules);
+  along = from_start text_of _ _ _ _ (search rules);
   kept = c.requires.pairs;
 }
 
@@ -35,7 +33,7 @@ pub same_item_under-requires-clause-item : goal.same_item_under-requires-clause-
 same_item_under-requires-clause-item c =
     let es = c.args.items.now.entries in
     let next = rest_more deref_pair c.loop-key.key-iterator c.next.new.self c.next.result (c.in-Some.key, c.in-Some.item) c.in-Some.is c.next.ensures.steps in
-    c.requires.items (c.in-Some.key.now, c.in-Some.item.now) (next_there text _ _ es c.loop-key.key-iterator c.next.new.self c.in-Some.key.now c.in-Some.item.now c.loop-key.invariant.along next)
+    c.requires.items (c.in-Some.key.now, c.in-Some.item.now) (next_there text_of _ _ es c.loop-key.key-iterator c.next.new.self c.in-Some.key.now c.in-Some.item.now c.loop-key.invariant.along next)
 
 pub returns-then-not-branch-clause-exact : goal.returns-then-not-branch-clause-exact
 returns-then-not-branch-clause-exact c =
@@ -44,9 +42,9 @@ returns-then-not-branch-clause-exact c =
     let f = λ (i : Bor WorldItem). entry_sense (entry_meaning c.args.left.now.resolve.now i.now) in
     let g = λ (i : Bor WorldItem). entry_sense (entry_meaning c.args.right.now.resolve.now i.now) in
     let next = rest_more deref_pair c.loop-key.key-iterator c.next.new.self c.next.result (c.in-Some.key, c.in-Some.item) c.in-Some.is c.next.ensures.steps in
-    never _ (not_found text f (map (entry text g) fs) es c.loop-key.key-iterator c.next.new.self c.in-Some.key.now c.in-Some.item.now c.loop-key.invariant.along next
-    (distinct_texts_by _ text (λ x y. refl) (keys c.args.items.now) c.len.ensures.unique)
-    (λ found. not_same _ c.in_ok-same_item_under.ensures.exact (search rules) (sym (under_is text g c.in-Some.key.now.now fs) ∙ found)))
+    never _ (not_found text_of f (map (entry text_of g) fs) es c.loop-key.key-iterator c.next.new.self c.in-Some.key.now c.in-Some.item.now c.loop-key.invariant.along next
+    (distinct-texts (keys c.args.items.now) c.len.ensures.unique)
+    (λ found. not_same _ c.in_ok-same_item_under.ensures.exact (search rules) (sym (under_is text_of g (text_of c.in-Some.key.now) fs) ∙ found)))
 
 pub loop-key-preserved : goal.loop-key-preserved
 loop-key-preserved c =
@@ -56,8 +54,8 @@ loop-key-preserved c =
     let g = λ (i : Bor WorldItem). entry_sense (entry_meaning c.args.right.now.resolve.now i.now) in
     let next = rest_more deref_pair c.loop-key.key-iterator c.next.new.self c.next.result (c.in-Some.key, c.in-Some.item) c.in-Some.is c.next.ensures.steps in
     record {
-      along = one_more text f (map (entry text g) fs) es c.loop-key.key-iterator c.next.new.self c.in-Some.key.now c.in-Some.item.now c.loop-key.invariant.along next
-          (under_is text g c.in-Some.key.now.now fs ∙ c.in_ok-same_item_under.ensures.exact.0 (search rules));
+      along = one_more text_of f (map (entry text_of g) fs) es c.loop-key.key-iterator c.next.new.self c.in-Some.key.now c.in-Some.item.now c.loop-key.invariant.along next
+          (under_is text_of g (text_of c.in-Some.key.now) fs ∙ c.in_ok-same_item_under.ensures.exact.0 (search rules));
       kept = c.same_item_under.ensures.kept;
     }
 
@@ -69,4 +67,4 @@ returns-clause-exact c =
     let g = λ (i : Bor WorldItem). entry_sense (entry_meaning c.args.right.now.resolve.now i.now) in
     let none = rest_all deref_pair c.loop-key.key-iterator c.next.new.self c.next.result c.in-None.is c.next.ensures.steps in
     let same : length es ≡ length fs = search rules in
-    (λ t. at_end text f (map (entry text g) fs) es c.loop-key.key-iterator c.loop-key.invariant.along none (same ∙ sym (length-map fs (entry text g))) (distinct_texts_by _ text (λ x y. refl) (keys c.args.items.now) c.len.ensures.unique), λ same. refl)
+    (λ t. at_end text_of f (map (entry text_of g) fs) es c.loop-key.key-iterator c.loop-key.invariant.along none (same ∙ sym (length-map fs (entry text_of g))) (distinct-texts (keys c.args.items.now) c.len.ensures.unique), λ same. refl)

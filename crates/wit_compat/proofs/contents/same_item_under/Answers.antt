@@ -1,13 +1,13 @@
-use Rattle.std.proofs.Common.{◌≡◌, sym, ap, subst, ◌∙◌, ℕ, List, Some, None, IfSome}
+use Rattle.std.proofs.Common.{◌≡◌, sym, ap, subst, ◌∙◌, Some, None, IfSome}
 use Rattle.std.specs.Borrow.{Bor}
-use Rattle.std.specs.HashMap.{get_by}
+use Rattle.std.specs.HashMap.{get_by_text}
 use Rattle.std.specs.List.{IsAmong}
 use Rattle.std.specs.Option.{option_copied}
 use Rattle.indexmap.specs.IndexMap.{values}
 use Rattle.wit_model.specs.declared.model.WorldItem.{WorldItem}
 use Rattle.wit_model.specs.Meaning.{entry_sense}
 use Rattle.wit_model.specs.Meant.{entry_meaning}
-use Rattle.wit_model.specs.Text.{text_eq}
+use Rattle.wit_model.specs.Text.{text_of}
 use Rattle.wit_compat.proofs.Members.{among_contains, found_exact, in_ok, missing_exact}
 use Rattle.wit_compat.proofs.WorldContents.{value_in_range}
 use Rattle.wit_compat.proofs.contents.same_item_under.Goals as goal
@@ -23,15 +23,17 @@ pub returns-in-Some-clause-exact : goal.returns-in-Some-clause-exact
 returns-in-Some-clause-exact c =
     let a = c.args.left.now.resolve.now in
     let b = c.args.right.now.resolve.now in
-    let test = λ (k : Bor (List ℕ)). text_eq c.args.key.now k.now in
-    let found : get_by test c.args.others.now ≡ Some c.in-Some.other.now = sym c.get.ensures.value ∙ ap option_copied c.in-Some.is in
-    in_ok _ _ (λ y h. found_exact (λ (other : Bor WorldItem). entry_sense (entry_meaning b other.now)) (entry_sense (entry_meaning a c.args.item.now)) (get_by test c.args.others.now) c.in-Some.other.now y found h)
+    let others = c.args.others.now in
+    let key = text_of c.args.key.now in
+    let found : get_by_text others key ≡ Some c.in-Some.other.now = ap (get_by_text others) (sym c.as_str.ensures.value) ∙ sym c.get.ensures.value ∙ ap option_copied c.in-Some.is in
+    in_ok _ _ (λ y h. found_exact (λ (other : Bor WorldItem). entry_sense (entry_meaning b other.now)) (entry_sense (entry_meaning a c.args.item.now)) (get_by_text others key) c.in-Some.other.now y found h)
     c.same_items.result c.same_items.ensures.exact
 
 pub returns-in-None-clause-exact : goal.returns-in-None-clause-exact
 returns-in-None-clause-exact c =
     let a = c.args.left.now.resolve.now in
     let b = c.args.right.now.resolve.now in
-    let test = λ (k : Bor (List ℕ)). text_eq c.args.key.now k.now in
-    let missing : get_by test c.args.others.now ≡ None = sym c.get.ensures.value ∙ ap option_copied c.in-None.is in
-    missing_exact (λ (other : Bor WorldItem). entry_sense (entry_meaning b other.now)) (entry_sense (entry_meaning a c.args.item.now)) (get_by test c.args.others.now) missing
+    let others = c.args.others.now in
+    let key = text_of c.args.key.now in
+    let missing : get_by_text others key ≡ None = ap (get_by_text others) (sym c.as_str.ensures.value) ∙ sym c.get.ensures.value ∙ ap option_copied c.in-None.is in
+    missing_exact (λ (other : Bor WorldItem). entry_sense (entry_meaning b other.now)) (entry_sense (entry_meaning a c.args.item.now)) (get_by_text others key) missing
