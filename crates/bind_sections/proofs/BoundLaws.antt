@@ -84,7 +84,7 @@ pub carries-answers : (e : StringEncoding) (d : List ℕ) → CarriesEncoding e 
 carries-answers e d carries sections component =
     said-itself e ∙ sym (ap said_by (ap (λ (ss : List Section). last_of (contents_under section_name ss)) (one_component d sections carries.sections component carries.spelled) ∙ carries.says))
 
-ok-same : (a b : StringEncoding) → (let x : Result StringEncoding Error = Ok a in x) ≡ Ok b → a ≡ b
+pub ok-same : (a b : StringEncoding) → (let x : Result StringEncoding Error = Ok a in x) ≡ Ok b → a ≡ b
 ok-same a b e = ap ok-or e
   where
     ok-or : Result StringEncoding Error → StringEncoding

@@ -1,10 +1,8 @@
 -- What is bound of the data of a section is the binding of the world that it means.
-use Rattle.std.proofs.Common.{◌≡◌, ◌∙◌, refl, sym, ap, subst, arith, ℕ, ◌&&◌, true, [], length, option_map, Option, Some, Ok, Err, Contains}
-use Rattle.std.specs.Prelude.{Result}
+use Rattle.std.proofs.Common.{◌≡◌, ◌∙◌, refl, sym, ap, subst, arith, ℕ, ◌&&◌, true, [], length, option_map, Option, Some, Ok, Contains}
 use Rattle.std.specs.List.{list_all}
 use Rattle.std.specs.Option.{option_map_or}
 use Rattle.std.specs.FinMap.{from_entries}
-use Rattle.wit_model.specs.declared.error.Error.{Error}
 use Rattle.wit_model.specs.declared.model.Package.{Package}
 use Rattle.wit_model.specs.declared.model.PackageId.{PackageId}
 use Rattle.wit_model.specs.declared.model.Resolve.{Resolve}
@@ -33,6 +31,7 @@ use Rattle.wit_bind.specs.Functions.{MapsFunctions, exports_of, imports_of}
 use Rattle.wit_bind.proofs.BoundWorlds.{HasMeaning, has-meaning, meaning-there, path-there, world-path}
 use Rattle.wit_metadata.proofs.SaidLaws.{read-back}
 use Rattle.bind_sections.specs.BoundLaws.{SectionsBindTheirWorlds}
+use Rattle.bind_sections.proofs.BoundLaws.{ok-same}
 use Rattle.bind_sections.proofs.DecodedKeys.{Stands, same-encodings}
 use Rattle.bind_sections.proofs.DecodedPackages.{one-world, same-packages}
 use Rattle.bind_sections.proofs.DecodedWorlds.{same-interfaces}
@@ -99,13 +98,6 @@ module _ (b : Bindgen) (v : IsValid b.resolve) (w : World) (stands : world_at b.
     imported_encodings = same-encodings b.resolve v w alone.interfaces w.imports.entries (import-stands b.resolve v b.world.0 w stands) encoding b.metadata.import_encodings imported i;
     exported_encodings = same-encodings b.resolve v w alone.interfaces w.exports.entries (export-stands b.resolve v b.world.0 w stands) encoding b.metadata.export_encodings exported i;
   }
-
-ok-same : (a b : StringEncoding) → (let x : Result StringEncoding Error = Ok a in x) ≡ Ok b → a ≡ b
-ok-same a b e = ap ok-or e
-  where
-    ok-or : Result StringEncoding Error → StringEncoding
-    ok-or (Ok x) = x
-    ok-or (Err _) = a
 
 pub sections_bind_their_worlds : SectionsBindTheirWorlds
 sections_bind_their_worlds d b m e bound means =

@@ -1,5 +1,5 @@
 -- Worked examples: what modules bind, or are refused for, and what the data of a section says of its encoding.
-use Rattle.std.proofs.Common.{◌≡◌, ◌∙◌, refl, sym, ap, ℕ, List, [], ◌∷◌, ◌++◌, append-nil, length, Some, None, Ok, Err, arith}
+use Rattle.std.proofs.Common.{◌≡◌, ◌∙◌, refl, sym, ap, ℕ, List, [], ◌∷◌, ◌++◌, append-nil, length, Some, Ok, Err, arith}
 use mathlib.Core.Logic.{inl}
 use Rattle.std.specs.Prelude.{Result, codes, slice_get, unwrap_or}
 use Rattle.std.specs.Str.{is_utf8, chars}
@@ -19,8 +19,9 @@ use Rattle.comp_bytes.proofs.PartLaws.{name_law}
 use Rattle.bind_meaning.specs.Roots.{root_binding}
 use Rattle.wit_metadata.specs.Carried.{contents_under, last_of}
 use Rattle.wit_metadata.specs.Encodings.{section_name}
-use Rattle.wit_metadata.specs.Modules.{IsFrontless, module_preamble}
+use Rattle.wit_metadata.specs.Modules.{Framed, IsFrontless, module_preamble}
 use Rattle.wit_metadata.specs.Said.{said_by}
+use Rattle.bind_sections.proofs.Steps.{none-some}
 use Rattle.bind_sections.specs.SectionBindings.{RefusesSection}
 use Rattle.bind_sections.specs.Bound.{CarryData, IsBound, IsRefused}
 
@@ -37,8 +38,7 @@ nothing-in-front : IsFrontless []
 unfolding frames
 nothing-in-front f rest h =
     let found : frame_at [] ≡ Some (f, rest) = ap frame_at h.parts ∙ frame_law.again f h.front rest h.framed_ in
-    let none : frame_at [] ≡ None = refl in
-    let wrong : None ≡ Some (f, rest) = sym none ∙ found in let no : ⊥ = cc in no
+    none-some {A = Framed × List ℕ} (f, rest) found
 
 -- ---- modules without a section that carries a world
 
@@ -64,8 +64,7 @@ one_byte : IsFrontless (0 ∷ [])
 unfolding frames
 one_byte f rest h =
     let found : frame_at (0 ∷ []) ≡ Some (f, rest) = ap frame_at h.parts ∙ frame_law.again f h.front rest h.framed_ in
-    let none : frame_at (0 ∷ []) ≡ None = refl in
-    let wrong : None ≡ Some (f, rest) = sym none ∙ found in let no : ⊥ = cc in no
+    none-some {A = Framed × List ℕ} (f, rest) found
 
 left_over : IsRefused (module_preamble ++ 0 ∷ []) (errors.BadModule 8)
 left_over = IsRefused.first [] (0 ∷ []) [] (record { front = []; parts = refl; sections = (refl, tt); ends = one_byte }) CarryData.none ((λ is. let wrong : count (0 ∷ []) ≡ count [] = ap count is in let no : ⊥ = cc in no), omega arith)

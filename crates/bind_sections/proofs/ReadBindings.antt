@@ -1,7 +1,7 @@
 -- What bytes mean as one world, bound, is a binding, and so is what a module binds.
 use Rattle.std.proofs.Common.{◌≡◌, ◌∙◌, refl, sym, ap, subst, ℕ, Bool, true, false, ◌&&◌, ◌||◌, not, cond, List, [], ◌∷◌, map, flat_map, Option, Some, None}
-use Rattle.std.specs.Prelude.{is_none, is_some}
-use Rattle.std.specs.List.{list_all, list_any}
+use Rattle.std.specs.Prelude.{is_some}
+use Rattle.std.specs.List.{AllByRecursion, list_all, list_any}
 use Rattle.std.specs.Ordering.{eq_by_cmp}
 use Rattle.std.specs.FinMap.{from_entries, get, find, get-empty}
 use Rattle.wit_model.specs.declared.model.StringEncoding.{StringEncoding}
@@ -13,11 +13,12 @@ use Rattle.wit_model.proofs.Distinct.{text_eq_flip}
 use Rattle.wit_model.proofs.Lists.{first_true, second_true}
 use Rattle.wit_model.proofs.OnePath.{some-same}
 use Rattle.comp_bytes.specs.Reading.{◌>>=◌}
-use Rattle.comp_bytes.specs.Raw.{Declarations, ExternName}
 use Rattle.comp_bytes.proofs.Readers.{bind_some, when_some}
-use Rattle.comp_meaning.specs.Follow.{Scope, Seen, each, when, provided, complete_path, component_scope}
+use Rattle.comp_meaning.specs.Follow.{Scope, Seen, each}
 use Rattle.comp_meaning.specs.Rules.{are_imports, distinct, is_item, is_world}
-use Rattle.comp_meaning.specs.Reads.{Member, Part, ReadsWorld, Sight, all_agree, are_interfaces, are_reached, entry, exported_types, exported_view, imported_view, interface_part, labelled_path, member, of_instance, part_of, seen_meaning, world_meaning, world_of_members, world_part, world_with, wrapped}
+use Rattle.comp_meaning.specs.Reads.{Member, Part, ReadsWorld, Sight, all_agree, are_interfaces, entry, exported_types, member, of_instance, seen_meaning, world_meaning, world_of_members, world_with}
+use Rattle.read_shown.specs.Parts.{MemberStands, PartStands}
+use Rattle.read_shown.proofs.Parts.{members_stand}
 use Rattle.bind_meaning.specs.Binding.{Binding, IsBinding, Stand}
 use Rattle.bind_meaning.specs.ByMeaning.{binding_of_world, world_path}
 use Rattle.bind_meaning.specs.Roots.{root_binding, root_meaning, root_path}
@@ -29,61 +30,6 @@ use Rattle.bind_sections.specs.Bound.{Binds}
 use Rattle.bind_sections.specs.BoundLaws.{BoundAreBindings, SectionsAreBindings}
 
 -- ---- the world that was read
-
--- a world obeys the rules on worlds
-abbrev PartObeys : Part → Type 0
-PartObeys (Part.world scope) = is_world scope ≡ true
-PartObeys (Part.interface exported imports) = Unit {0}
-
-interface_obeys : (label : Text) (ds : Declarations) (p : PackageIdentity × Part) → interface_part label ds ≡ Some p → PartObeys p.1
-interface_obeys label ds p e =
-    let scope = bind_some (component_scope ds) (λ scope. exported_view scope.exports >>= λ exported. each imported_view scope.imports >>= λ imports. labelled_path label exported.0 >>= λ package_.
-    provided (distinct (exported.0 ∷ map (λ i. i.0) imports) && are_reached imports exported.1) (package_, Part.interface exported.1 imports)) p e in
-    let exported = bind_some (exported_view scope.0.exports) (λ exported. each imported_view scope.0.imports >>= λ imports. labelled_path label exported.0 >>= λ package_.
-    provided (distinct (exported.0 ∷ map (λ i. i.0) imports) && are_reached imports exported.1) (package_, Part.interface exported.1 imports)) p scope.2 in
-    let imports = bind_some (each imported_view scope.0.imports) (λ imports. labelled_path label exported.0.0 >>= λ package_.
-    provided (distinct (exported.0.0 ∷ map (λ i. i.0) imports) && are_reached imports exported.0.1) (package_, Part.interface exported.0.1 imports)) p exported.2 in
-    let package_ = bind_some (labelled_path label exported.0.0) (λ package_.
-    provided (distinct (exported.0.0 ∷ map (λ i. i.0) imports.0) && are_reached imports.0 exported.0.1) (package_, Part.interface exported.0.1 imports.0)) p imports.2 in
-    let w = when_some (distinct (exported.0.0 ∷ map (λ i. i.0) imports.0) && are_reached imports.0 exported.0.1) (Some (package_.0, Part.interface exported.0.1 imports.0)) p package_.2 in
-    subst (λ (q : PackageIdentity × Part). PartObeys q.1) (some-same (package_.0, Part.interface exported.0.1 imports.0) p w.1) tt
-
-world_obeys : (label : Text) (w : Declarations × ExternName) (p : PackageIdentity × Part) → world_part label w ≡ Some p → PartObeys p.1
-world_obeys label w p e =
-    let path = bind_some (when (is_none w.1.implements && is_none w.1.external_id) (complete_path w.1.text w.1.version_suffix))
-    (λ path. labelled_path label path >>= λ package_. component_scope w.0 >>= λ scope. provided (is_world scope) (package_, Part.world scope)) p e in
-    let package_ = bind_some (labelled_path label path.0) (λ package_. component_scope w.0 >>= λ scope. provided (is_world scope) (package_, Part.world scope)) p path.2 in
-    let scope = bind_some (component_scope w.0) (λ scope. provided (is_world scope) (package_.0, Part.world scope)) p package_.2 in
-    let found = when_some (is_world scope.0) (Some (package_.0, Part.world scope.0)) p scope.2 in
-    subst (λ (q : PackageIdentity × Part). PartObeys q.1) (some-same (package_.0, Part.world scope.0) p found.1) found.0
-
-member_obeys : (x : Text × Declarations) (m : Member) → member x ≡ Some m → PartObeys m.part
-member_obeys x m e =
-    let part = bind_some (part_of x.0 x.1) (λ p. Some (record { label = x.0; package_ = p.0; part = p.1 })) m e in
-    subst (λ (n : Member). PartObeys n.part) (some-same (record { label = x.0; package_ = part.0.0; part = part.0.1 }) m part.2) (by (wrapped x.1) refl part.0 part.1)
-  where
-    by : (o : Option (Declarations × ExternName)) → wrapped x.1 ≡ o → (p : PackageIdentity × Part) → part_of x.0 x.1 ≡ Some p → PartObeys p.1
-    by None is p found =
-        let plain : part_of x.0 x.1 ≡ interface_part x.0 x.1 = rw is refl in
-        interface_obeys x.0 x.1 p (sym plain ∙ found)
-    by (Some w) is p found =
-        let wraps : part_of x.0 x.1 ≡ world_part x.0 w = rw is refl in
-        world_obeys x.0 w p (sym wraps ∙ found)
-
-first_of : {X : Type 0} → X → List X → X
-first_of d [] = d
-first_of d (x ∷ xs) = x
-
--- the first of what each gave
-first_given : (types : List (Text × Declarations)) (m : Member) (ms : List Member) → each member types ≡ Some (m ∷ ms) → PartObeys m.part
-unfolding first_of
-first_given [] m ms e =
-    let same : [] ≡ m ∷ ms = some-same [] (m ∷ ms) e in
-    let no : ⊥ = cc in absurd no
-first_given (x ∷ types) m ms e =
-    let y = bind_some (member x) (λ y. each member types >>= λ ys. Some (y ∷ ys)) (m ∷ ms) e in
-    let ys = bind_some (each member types) (λ ys. Some (y.0 ∷ ys)) (m ∷ ms) y.2 in
-    subst (λ (n : Member). PartObeys n.part) (ap (first_of y.0) (some-same (y.0 ∷ ys.0) (m ∷ ms) ys.2)) (member_obeys x y.0 y.1)
 
 -- what is known of a world that was read
 record IsRead (m : WorldPackage) : Type 0 where
@@ -112,16 +58,16 @@ world_read : (d : List ℕ) (m : WorldPackage) → ReadsWorld d m → IsRead m
 world_read d m read =
     let types = bind_some (exported_types read.sections) (λ types. each member types >>= world_of_members) m read.means in
     let members = bind_some (each member types.0) world_of_members m types.2 in
-    by types.0 members.0 members.1 members.2
+    by members.0 (members_stand types.0 members.0 members.1) members.2
   where
-    by_part : (label : Text) (package_ : PackageIdentity) (p : Part) → PartObeys p → world_of_members (record { label = label; package_ = package_; part = p } ∷ []) ≡ Some m → IsRead m
-    by_part label package_ (Part.world scope) obeys e = scope_read package_ label scope m obeys e
-    by_part label package_ (Part.interface exported imports) obeys e = let no : ⊥ = cc in absurd no
+    by_part : (label : Text) (package_ : PackageIdentity) (p : Part) → PartStands p → world_of_members (record { label = label; package_ = package_; part = p } ∷ []) ≡ Some m → IsRead m
+    by_part label package_ (Part.world scope) stands e = scope_read package_ label scope m stands.obeys e
+    by_part label package_ (Part.interface exported imports) stands e = let no : ⊥ = cc in absurd no
 
-    by : (types : List (Text × Declarations)) (members : List Member) → each member types ≡ Some members → world_of_members members ≡ Some m → IsRead m
-    by types [] all e = let no : ⊥ = cc in absurd no
-    by types (n ∷ []) all e = by_part n.label n.package_ n.part (first_given types n [] all) e
-    by types (n ∷ o ∷ rest) all e = let no : ⊥ = cc in absurd no
+    by : (members : List Member) → AllByRecursion MemberStands members → world_of_members members ≡ Some m → IsRead m
+    by [] all e = let no : ⊥ = cc in absurd no
+    by (n ∷ []) all e = by_part n.label n.package_ n.part all.0.part e
+    by (n ∷ o ∷ rest) all e = let no : ⊥ = cc in absurd no
 
 -- ---- its binding
 

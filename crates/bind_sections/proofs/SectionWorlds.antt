@@ -14,6 +14,7 @@ use Rattle.bind_meaning.proofs.RootLaws.{root_gains, root_unites}
 use Rattle.wit_metadata.specs.Carried.{contents_under, last_of}
 use Rattle.wit_metadata.specs.Encodings.{code_of, contents_of, encoding_at, section_name}
 use Rattle.wit_metadata.specs.Said.{said_by, said_by_code}
+use Rattle.bind_sections.proofs.BoundLaws.{ok-same}
 use Rattle.bind_sections.specs.BoundLaws.{BoundSectionsMean, OneSectionBinds}
 
 -- ---- what is said
@@ -36,13 +37,6 @@ code-is code e = at-zero (code == 0) refl
 
 abbrev Answer : Type 0
 Answer = Result StringEncoding Error
-
-ok-same : (a b : StringEncoding) → (let x : Answer = Ok a in x) ≡ Ok b → a ≡ b
-ok-same a b e = ap ok-or e
-  where
-    ok-or : Answer → StringEncoding
-    ok-or (Ok x) = x
-    ok-or (Err _) = a
 
 -- an encoding is said by its contents alone
 said-by-contents : (x : Option (List ℕ)) (e : StringEncoding) → (let y : Answer = Ok e in y) ≡ said_by x → x ≡ Some (contents_of e)

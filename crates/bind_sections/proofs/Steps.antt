@@ -28,14 +28,14 @@ use Rattle.bind_sections.specs.Steps.{IsDataInFront, IsReadTo, LeftOversEnd, Oth
 
 -- ---- the section in front
 
-none-some : {A : Type 0} (x : A) → None ≡ Some x → ⊥
+pub none-some : {A : Type 0} (x : A) → None ≡ Some x → ⊥
 none-some x e = let no : ⊥ = cc in no
 
 no-name : (f : Framed) → f.0 ≡ 0 → name_at f.1 ≡ None → IsNamed f → ⊥
 no-name f custom none named =
     let c = named custom in
     let found : name_at f.1 ≡ Some (c.0.0, c.1.1) = ap name_at c.1.2 ∙ name_law.again c.0.0 c.1.0 c.1.1 c.1.3 in
-    let wrong : None ≡ Some (c.0.0, c.1.1) = sym none ∙ found in let no : ⊥ = cc in no
+    none-some {A = List ℕ × List ℕ} (c.0.0, c.1.1) (sym none ∙ found)
 
 -- a section stands in front, or none does
 front-of : (bytes : List ℕ) → ((f : Framed) × (rest : List ℕ) × IsInFront bytes f rest) ⊎ IsFrontless bytes

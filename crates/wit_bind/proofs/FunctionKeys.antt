@@ -1,9 +1,8 @@
 -- The entries of functions, listed, are exactly those of functions.
-use Rattle.std.proofs.Common.{◌≡◌, refl, sym, ap, subst, ◌∙◌, ◌⊎◌, inl, inr, arith, ℕ, zero, suc, List, [], ◌∷◌, flat_map, filter_map, Option, Some, None, option_to_list, option_and_then, option_map, Result, Ok, Err, IfOk}
-use Rattle.std.specs.List.{cons_option, Contains}
+use Rattle.std.proofs.Common.{◌≡◌, refl, sym, ap, subst, ◌∙◌, ◌⊎◌, inl, inr, ℕ, [], Option, Some, None, option_to_list, option_and_then, option_map, Result, Ok, Err, IfOk}
+use Rattle.std.specs.List.{Contains}
 use Rattle.std.specs.Option.{option_map_or}
 use Rattle.std.specs.FinMap.{empty, get-empty}
-use Rattle.std.proofs.lemmas.List.Elements.{Contains-append_cases}
 use Rattle.wit_model.specs.declared.model.Resolve.{Resolve}
 use Rattle.wit_model.specs.declared.model.Interface.{Interface}
 use Rattle.wit_model.specs.declared.model.StringEncoding.{StringEncoding}
@@ -14,41 +13,15 @@ use Rattle.wit_model.specs.declared.model.WorldKey.TheVariants as key
 use Rattle.wit_model.specs.Text.{Text, text_cmp, text_of}
 use Rattle.wit_model.specs.Lookup.{interface_at}
 use Rattle.wit_model.specs.Uses.{item_interface}
-use Rattle.wit_model.proofs.Elements.{contains-one, one-contained, same-some, none-in, contains-later, contains-flat, contains-filter_map}
+use Rattle.wit_model.proofs.Elements.{contains-one, one-contained, same-some, none-in, contains-flat, contains-filter_map}
 use Rattle.wit_bind.specs.Keys.{text_under, function_key}
 use Rattle.wit_bind.specs.Encodings.{Encodings, encoding_at}
+use Rattle.bind_meaning.proofs.Listed.{from-flat, from-given}
 use Rattle.wit_bind.specs.Functions.{Items, IsFunctionKey, of_item, of_interface, MapsFunctions}
 use Rattle.wit_bind.specs.KeyLists.{Choice, Entry, entries_of_item, entries_of_items, entry_of, member_entries, Puts}
 use Rattle.wit_bind.specs.OldKeys.{IsFunctionOf, itself, member, CarriesOver}
 use Rattle.wit_bind.specs.Keys.{unversioned_key}
 use Rattle.wit_bind.proofs.Putting.{comes, holds}
-
--- ---- lists that are made of elements
-
-first-contained : {X : Type 0} (x : X) (xs : List X) → Contains (x ∷ xs) x
-first-contained x xs = (0, omega arith, refl)
-
--- what stands in a list that is made of lists comes from an element
-from-flat : {X Y : Type 0} (f : X → List Y) (xs : List X) (y : Y) → Contains (flat_map f xs) y → (x : X) × (Contains xs x × Contains (f x) y)
-from-flat f [] y c = none-in y c
-from-flat {X} f (x ∷ xs) y c = by (Contains-append_cases (f x) (flat_map f xs) y c) (from-flat f xs y)
-  where
-    by : Contains (f x) y ⊎ Contains (flat_map f xs) y → (Contains (flat_map f xs) y → (z : X) × (Contains xs z × Contains (f z) y)) → (z : X) × (Contains (x ∷ xs) z × Contains (f z) y)
-    by (inl here) more = (x, (first-contained x xs, here))
-    by (inr there) more = let z = more there in (z.0, (contains-later x xs z.0 z.1.0, z.1.1))
-
--- and so what stands in a list that is made of what is given
-from-given : {X Y : Type 0} (h : X → Option Y) (xs : List X) (y : Y) → Contains (filter_map h xs) y → (x : X) × (Contains xs x × (h x ≡ Some y))
-from-given h [] y c = none-in y c
-from-given {X} h (x ∷ xs) y c = by (h x) refl c (from-given h xs y)
-  where
-    later : (z : X) × (Contains xs z × (h z ≡ Some y)) → (z : X) × (Contains (x ∷ xs) z × (h z ≡ Some y))
-    later z = (z.0, (contains-later x xs z.0 z.1.0, z.1.1))
-
-    by : (o : Option _) → h x ≡ o → Contains (cons_option o (filter_map h xs)) y → (Contains (filter_map h xs) y → (z : X) × (Contains xs z × (h z ≡ Some y))) → (z : X) × (Contains (x ∷ xs) z × (h z ≡ Some y))
-    by None e d more = later (more d)
-    by (Some w) e (zero, l, same) more = (x, (first-contained x xs, e ∙ ap Some same))
-    by (Some w) e (suc i, l, same) more = later (more (i, omega (arith, l), same))
 
 -- ---- the entries of functions
 
