@@ -65,11 +65,11 @@ has-slot (x ∷ xs) i (suc k, l, e) = or-second (nat_eq i x) (is_member nat_eq x
 
 slot-there : (xs : List ℕ) (i : ℕ) → is_member nat_eq xs i ≡ true → Contains xs i
 slot-there [] i h = absurd (let z : ⊥ = cc in z)
-slot-there (x ∷ xs) i h = go (nat_eq i x) refl h
+slot-there (x ∷ xs) i h = go (slot-there xs i) (nat_eq i x) refl h
   where
-    go : (b : Bool) → nat_eq i x ≡ b → (b || is_member nat_eq xs i) ≡ true → Contains (x ∷ xs) i
-    go true e h = (0, omega arith, sym (eqb-true i x e))
-    go false e h = let c = slot-there xs i h in (suc c.0, (let l = c.1 in omega arith), c.2)
+    go : (is_member nat_eq xs i ≡ true → Contains xs i) → (b : Bool) → nat_eq i x ≡ b → (b || is_member nat_eq xs i) ≡ true → Contains (x ∷ xs) i
+    go more true e h = (0, omega arith, sym (eqb-true i x e))
+    go more false e h = let c = more h in (suc c.0, (let l = c.1 in omega arith), c.2)
 
 -- where a test holds of the marked ones alone, they pass
 passes-marked : (p : ℕ → Bool) (xs : Marked) → ((i : ℕ) → Contains (named_slots xs) i → p i ≡ true) → ((i : ℕ) → Contains (other_slots xs) i → p i ≡ false) → filter p (slots_of xs) ≡ named_slots xs

@@ -5,10 +5,10 @@ use Rattle.wit_model.specs.declared.model.Function.{Function}
 use Rattle.wit_encode.specs.Instance.{own_of}
 use Rattle.wit_encode.proofs.Referring.{from-function, from-functions}
 use Rattle.encode_types.proofs.Lists.{contains-at}
-use Rattle.wit_encode.proofs.Counting.{functions-counted, functions-all, names-after}
+use Rattle.wit_encode.proofs.Counting.{adds-nothing, functions-counted, functions-all, names-after}
 use Rattle.wit_encode.proofs.Continuing.{function-continues, continues-trans}
 use Rattle.std.proofs.lemmas.List.{take_all}
-use Rattle.wit_encode.specs.Instance.{placed_function, meaning_of, contents_of, encoder_scope}
+use Rattle.wit_encode.specs.Instance.{placed_function, meaning_of, contents_of, definitions_with, encoder_scope}
 use Rattle.wit_encode.proofs.FunctionExports.{used-kept}
 use Rattle.wit_model.proofs.Elements.{contains-map}
 use Rattle.std.proofs.Math.ListN.{length-map}
@@ -90,7 +90,7 @@ loop-entry-init c = record {
   own = search rules;
   continues = search rules;
   shows = search rules;
-  counts = search rules;
+  counts = adds-nothing c.args.resolve.now (encoder_scope c.args.resolve.now c.args.self.now.outer c.args.self.now.inner) c.args.self.now.maps (definitions_with (contents_of c.args.resolve.now c.args.self.now.outer c.args.self.now.inner));
   learns = search rules;
   names = search rules;
   within = omega arith;
