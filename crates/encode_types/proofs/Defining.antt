@@ -1,6 +1,5 @@
 -- What is defined, call by call.
-use Rattle.std.proofs.Common.{◌≡◌, refl, sym, subst, ap, ◌∙◌, ℕ, ◌+◌, inl, inr, append_assoc, append-nil, Bool, true, false, cond, List, [], ◌∷◌, ◌++◌, Result, Ok, Err, IfOk, Option, Some, None, length, length-append, arith, count_by, zero-add, map, Vec}
-use Rattle.std.proofs.lemmas.List.Sums.{sum_by-append}
+use Rattle.std.proofs.Common.{◌≡◌, refl, sym, subst, ap, ◌∙◌, ℕ, ◌+◌, inl, inr, append_assoc, append-nil, Bool, true, false, List, [], ◌∷◌, ◌++◌, Result, Ok, Err, IfOk, Option, Some, None, length, length-append, arith, map}
 use Rattle.wit_model.specs.Rules.{is_named_kind}
 use Rattle.wit_model.specs.Tree.{Tree}
 use Rattle.wit_model.specs.Types.{trees_of, tree_of}
@@ -10,11 +9,10 @@ use Rattle.wit_model.specs.declared.model.TypeDefKind.{TypeDefKind}
 use Rattle.wit_model.specs.declared.model.TypeDefKind.TheVariants as kind
 use Rattle.wit_model.specs.declared.model.«Type».{«Type» as ValueType}
 use Rattle.std.specs.Borrow.{Bor}
-use Rattle.std.specs.declared.alloc.Global.{Global}
 use Rattle.std.specs.List.{AllZip, Contains, cons_option}
 use Rattle.std.proofs.lemmas.List.{map-append, length-map}
 use Rattle.std.specs.Prelude.{IsPermutation}
-use Rattle.std.proofs.lemmas.List.Sorted.{IsPermutation-refl, IsPermutation-trans, IsPermutation-append_left, length_permutation, sum_by-IsPermutation}
+use Rattle.std.proofs.lemmas.List.Sorted.{IsPermutation-refl, length_permutation}
 use Rattle.std.proofs.lemmas.List.Elements.{Contains-append_cases, filter_map-append}
 use Rattle.wit_model.specs.Meaning.{TypeMeaning}
 use Rattle.comp_bytes.specs.Raw.{ExternName}

@@ -1,5 +1,5 @@
 -- Types of functions by their keys.
-use Rattle.std.proofs.Common.{◌≡◌, refl, sym, subst, ap, ℕ, ◌+◌, List, [], ◌∷◌, ◌++◌, inl, inr, map, Result, Ok, Err, IfOk, option_map, length, arith, count_by, Vec}
+use Rattle.std.proofs.Common.{◌≡◌, refl, sym, subst, ap, ℕ, ◌+◌, List, [], ◌∷◌, ◌++◌, inl, inr, map, Result, Ok, Err, IfOk, option_map, length, arith, Vec}
 use Rattle.std.specs.Prelude.{IsPermutation}
 use Rattle.std.specs.Borrow.{Bor}
 use Rattle.std.specs.declared.alloc.Global.{Global}

@@ -1,13 +1,6 @@
 -- Lists, element by element.
-use Rattle.std.proofs.Common.{◌≡◌, refl, sym, ap, ◌∙◌, subst, ℕ, zero, suc, ◌+◌, ◌<◌, List, [], ◌∷◌, ◌++◌, map, filter_map, option_to_list, length, get_or, take, arith, Option, Some, None, Bool, true, false, ◌&&◌}
-use Rattle.std.specs.List.{Contains, AllZip, cons_option, list_all}
-use Rattle.wit_model.proofs.Lists.{first_true, second_true}
-use Rattle.std.specs.Option.{is_some}
-use Rattle.std.specs.Prelude.{IfSome}
-use Rattle.std.proofs.Math.ListN.{get_or-map, length-map}
-use Rattle.std.proofs.lemmas.List.{take_more, get_or_default}
-use Rattle.std.proofs.lemmas.List.Elements.{filter_map-append}
-use Rattle.wit_model.proofs.Elements.{filter_map_one, given-here, given-later, zip-push}
+use Rattle.std.proofs.Common.{◌≡◌, refl, sym, ℕ, ◌<◌, List, [], ◌∷◌, length, get_or, arith, Bool, true, false, ◌&&◌}
+use Rattle.std.specs.List.{Contains}
 
 -- ---- elements
 

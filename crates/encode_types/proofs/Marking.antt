@@ -1,5 +1,5 @@
 -- Which definition is which, call by call.
-use Rattle.std.proofs.Common.{◌≡◌, refl, sym, subst, ap, ◌∙◌, ℕ, ◌+◌, inl, inr, append_assoc, append-nil, Bool, true, false, cond, List, [], ◌∷◌, ◌++◌, Some, None, length, length-append, arith, count_by, zero-add, map, Vec}
+use Rattle.std.proofs.Common.{◌≡◌, refl, sym, subst, ap, ◌∙◌, ℕ, ◌+◌, inl, inr, append_assoc, append-nil, Bool, true, false, cond, List, [], ◌∷◌, ◌++◌, length, length-append, arith, count_by, zero-add, map, Vec}
 use Rattle.std.specs.Prelude.{IsPermutation, not, filter}
 use Rattle.std.specs.declared.alloc.Global.{Global}
 use Rattle.std.specs.List.{Contains}
@@ -9,12 +9,11 @@ use Rattle.std.proofs.lemmas.List.Sorted.{IsPermutation-refl, IsPermutation-tran
 use Rattle.std.proofs.lemmas.List.Elements.{Contains-append_cases, Contains-append_left, filter-append}
 use Rattle.wit_model.specs.declared.model.Resolve.{Resolve}
 use Rattle.wit_model.specs.declared.model.TypeId.{TypeId}
-use Rattle.comp_bytes.specs.Raw.{ExternName}
 use Rattle.encode_types.specs.declared.maps.TypeEncodingMaps.{TypeEncodingMaps}
 use Rattle.encode_types.specs.Codes.{lists_of}
 use Rattle.encode_types.specs.Maps.{LearnsNumber, LearnsList}
 use Rattle.encode_types.specs.Scope.{Scope}
-use Rattle.encode_types.specs.Counts.{Definitions, Marked, slots_of, named_slots, other_slots, kind_slots, names_defined, is_defined_by_name, type_more_if, ExportsOne, IsTarget, AddsSlots}
+use Rattle.encode_types.specs.Counts.{Definitions, Marked, slots_of, named_slots, other_slots, kind_slots, names_defined, is_defined_by_name, type_more_if, IsTarget, AddsSlots}
 use Rattle.encode_types.proofs.Lists.{none-in}
 use Rattle.wit_model.proofs.Elements.{one-contained}
 

@@ -10,7 +10,7 @@ use Rattle.wit_model.specs.Text.{Text, optional_text}
 use Rattle.wit_model.specs.Lookup.{interface_at, interface_path, type_at, world_at}
 use Rattle.wit_model.specs.Meant.{signature_of}
 use Rattle.wit_model.specs.Uses.{item_interface}
-use Rattle.wit_model.specs.Weight.{interface_weight, types_instance_weight, whole_instance_weight, world_weight}
+use Rattle.wit_model.specs.Weight.{interface_weight, whole_instance_weight, world_weight}
 use Rattle.wit_model.specs.Valid.{IsValid}
 use Rattle.wit_model.specs.declared.model.Resolve.{Resolve}
 use Rattle.wit_model.specs.declared.model.Interface.{Interface}

@@ -1,11 +1,11 @@
 -- How much is defined for functions, and by an instance type as a whole.
-use Rattle.std.proofs.Common.{◌≡◌, refl, sym, subst, ap, ◌∙◌, ℕ, zero, suc, ◌+◌, ◌<◌, ◌≤◌, Bool, true, false, ◌&&◌, ◌||◌, ◌⊎◌, inl, inr, List, [], ◌∷◌, ◌++◌, length, get_or, take, map, filter, cond, length-append, count_by, Result, Ok, Err, OnOk, Option, Some, None, slice_get, arith, Vec}
+use Rattle.std.proofs.Common.{◌≡◌, refl, sym, subst, ap, ◌∙◌, ℕ, suc, ◌+◌, ◌<◌, ◌≤◌, Bool, true, false, ◌&&◌, ◌||◌, ◌⊎◌, inl, inr, List, [], ◌∷◌, ◌++◌, length, get_or, take, map, filter, cond, length-append, count_by, Result, Ok, Err, OnOk, Option, Some, None, slice_get, arith, Vec}
 use Rattle.std.specs.Prelude.{nat_eq, IsPermutation, String}
 use Rattle.std.specs.declared.alloc.Global.{Global}
 use Rattle.std.specs.List.{Contains, IsDistinct, list_any, filter_map, cons_option}
 use Rattle.std.specs.Option.{option_map, option_map_or, option_and_then, is_some, is_none}
 use Rattle.std.specs.Set.{is_member, distinct_count}
-use Rattle.std.proofs.lemmas.Bool.{cases_Bool, cond-true, cond-false, eqb-true, eq-eqb}
+use Rattle.std.proofs.lemmas.Bool.{cases_Bool, cond-true, eqb-true, eq-eqb}
 use Rattle.std.proofs.lemmas.Cmp.{nat_eq_equiv}
 use Rattle.std.proofs.lemmas.List.{take_more, take_all, map-append, length-map}
 use Rattle.std.proofs.lemmas.List.Elements.{filter_passes, All-contains}
@@ -23,9 +23,7 @@ use Rattle.wit_model.specs.declared.model.Resolve.{Resolve}
 use Rattle.wit_model.specs.declared.model.InterfaceId.{InterfaceId}
 use Rattle.wit_model.specs.declared.model.TypeId.{TypeId}
 use Rattle.wit_model.specs.declared.model.TypeDef.{TypeDef}
-use Rattle.wit_model.specs.declared.model.TypeDefKind.{TypeDefKind}
 use Rattle.wit_model.specs.declared.model.Function.{Function}
-use Rattle.wit_model.specs.declared.model.«Type».{«Type» as ValueType}
 use Rattle.comp_bytes.specs.Raw.{Declaration, Declarations, from_list}
 use Rattle.comp_meaning.specs.Follow.{Slot, new_instance}
 use Rattle.wit_model.specs.Tree.{Tree, Place}
@@ -45,10 +43,10 @@ use Rattle.wit_encode.specs.declared.interface.Foreign.{Foreign}
 use Rattle.encode_types.specs.Key.{IsKeyOf}
 use Rattle.encode_types.specs.Kinds.{has_definition}
 use Rattle.encode_types.specs.Plan.{foreign_owner}
-use Rattle.encode_types.specs.Codes.{IsTable, kind_code, names_of, lists_of}
+use Rattle.encode_types.specs.Codes.{IsTable, names_of, lists_of}
 use Rattle.encode_types.specs.Maps.{IsOnce, IsKnown, MapsAgree}
 use Rattle.encode_types.specs.Scope.{Scope}
-use Rattle.encode_types.specs.MetKinds.{AreMetKinds, referred}
+use Rattle.encode_types.specs.MetKinds.{referred}
 use Rattle.encode_types.specs.Counts.{Definitions, names_defined, is_defined_by_name, is_defined_under_name, own_name, name_of_own, Shows, slots_of, named_slots, AddsSlots, AddsKey, AddsTypes, AddsFunction}
 use Rattle.encode_types.specs.Distinct.{Key, key_of, key_view, are_same, KnowsKey, defined_under_names, AddsFunctions, DefinesKeys, DefinesTypes, value_slots, is_function_type}
 use Rattle.wit_encode.specs.Instance.{own_of, contents_of, inner_contents, outer_slots, standing_at, SlotsStand, stands_inside, encoder_scope, definitions_with, opened, ShowsFunction}

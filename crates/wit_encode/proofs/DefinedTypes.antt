@@ -1,5 +1,5 @@
 -- Which value types a scope defines, from what has been defined call by call.
-use Rattle.std.proofs.Common.{◌≡◌, refl, sym, ap, subst, ◌∙◌, ℕ, zero, suc, ◌+◌, Bool, true, false, List, [], ◌∷◌, ◌++◌, inl, inr, map, append-nil, Option, Some, None, slice_get, length, arith, count_by, Vec}
+use Rattle.std.proofs.Common.{◌≡◌, refl, sym, ap, subst, ◌∙◌, ℕ, zero, suc, Bool, true, false, List, [], ◌∷◌, ◌++◌, map, Option, Some, None, arith, count_by, Vec}
 use Rattle.std.specs.Prelude.{nat_eq, not, cond, filter, IsPermutation, String, ◌||◌}
 use Rattle.std.specs.declared.alloc.Global.{Global}
 use Rattle.std.specs.List.{Contains, AllZip}
@@ -21,9 +21,7 @@ use Rattle.wit_model.specs.declared.model.InterfaceId.{InterfaceId}
 use Rattle.wit_model.specs.declared.model.TypeId.{TypeId}
 use Rattle.wit_model.specs.declared.model.TypeDef.{TypeDef}
 use Rattle.wit_model.specs.declared.model.TypeDefKind.{TypeDefKind}
-use Rattle.wit_model.specs.declared.model.TypeDefKind.TheVariants as kind
 use Rattle.wit_model.specs.declared.model.«Type».{«Type» as ValueType}
-use Rattle.wit_model.specs.declared.model.«Type».TheVariants as ty
 use Rattle.wit_model.specs.declared.model.Function.{Function}
 use Rattle.comp_bytes.specs.Raw.{Declarations}
 use Rattle.encode_types.specs.declared.maps.TypeEncodingMaps.{TypeEncodingMaps}
@@ -39,7 +37,6 @@ use Rattle.encode_types.proofs.Encoding.{tabled}
 use Rattle.encode_types.proofs.Lists.{none-in}
 use Rattle.wit_model.proofs.Elements.{contains-one}
 use Rattle.wit_model.proofs.Lists.{second_true}
-use Rattle.wit_model.proofs.OnePath.{some-same}
 use Rattle.wit_encode.proofs.Validity.{type_passes, valid-unnamed, valid-layered}
 use Rattle.wit_encode.proofs.Reached.{part-at}
 use Rattle.wit_encode.proofs.ValueSlots.{IsPlain}

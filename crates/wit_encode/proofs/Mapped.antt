@@ -1,5 +1,5 @@
 -- What stands in a list that was mapped or filtered.
-use Rattle.std.proofs.Common.{◌≡◌, refl, sym, subst, ap, ◌∙◌, ℕ, zero, suc, inl, inr, Bool, true, List, [], ◌∷◌, map, filter, arith}
+use Rattle.std.proofs.Common.{◌≡◌, refl, sym, subst, ap, ◌∙◌, zero, suc, inl, inr, Bool, true, List, [], ◌∷◌, map, filter, arith}
 use Rattle.std.proofs.lemmas.Bool.{cases_Bool, cond-true, cond-false}
 use Rattle.std.specs.List.{Contains}
 

@@ -1,10 +1,8 @@
 -- Lists of numbers: what stands before a place, what stands once, and what is given by one element alone.
-use Rattle.std.proofs.Common.{◌≡◌, refl, sym, subst, ap, ◌∙◌, ℕ, zero, suc, ◌+◌, ◌≤◌, Bool, true, false, cond, ◌||◌, ◌==◌, T, eqb→eq, nat_eq, List, [], ◌∷◌, ◌++◌, append_assoc, append-nil, take, map, filter_map, flat_map, count_by, slice_get, unwrap_or, Option, Some, None, arith}
+use Rattle.std.proofs.Common.{◌≡◌, refl, sym, subst, ap, ◌∙◌, ℕ, zero, suc, ◌+◌, ◌≤◌, Bool, true, false, cond, ◌||◌, ◌==◌, T, eqb→eq, nat_eq, List, [], ◌∷◌, ◌++◌, append_assoc, append-nil, take, map, filter_map, count_by, slice_get, unwrap_or, Option, Some, None, arith}
 use Rattle.std.proofs.Math.Dec.{eqb_refl}
 use Rattle.std.specs.Prelude.{AllPairs}
 use Rattle.std.specs.List.{Contains, cons_option}
-use Rattle.std.proofs.lemmas.Option.{slice_get-get_or}
-use Rattle.std.proofs.lemmas.List.Elements.{Contains-append_left, Contains-append_right}
 use Rattle.std.proofs.lemmas.List.Sums.{sum_by-cons}
 use Rattle.wit_model.specs.Uses.{has}
 use Rattle.wit_model.specs.Rules.{each_after}

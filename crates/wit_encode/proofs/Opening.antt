@@ -2,7 +2,7 @@
 use Rattle.std.proofs.Common.{◌≡◌, refl, sym, ap, ◌∙◌, true, List, [], ◌++◌, Option, Some, None, Result, Ok, Err, ℕ, ◌∷◌, Contains, subst}
 use Rattle.std.proofs.lemmas.Map.Views.{All-map-IsPermutation}
 use Rattle.std.proofs.lemmas.List.Elements.{All-contains_itself, All-contains}
-use Rattle.std.specs.Prelude.{IsPermutation, IfOk, OnOk, map, String}
+use Rattle.std.specs.Prelude.{IsPermutation, IfOk, map, String}
 use Rattle.std.specs.Borrow.{Bor}
 use Rattle.std.specs.declared.alloc.Global.{Global}
 use Rattle.std.proofs.lemmas.List.Sorted.{IsPermutation-map}

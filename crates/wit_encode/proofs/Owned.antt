@@ -1,5 +1,5 @@
 -- What is met from a type of an owner is of that owner, but for what its aliases of types of other interfaces name.
-use Rattle.std.proofs.Common.{◌≡◌, refl, sym, subst, ap, ◌∙◌, ℕ, ◌+◌, Bool, true, false, not, ◌||◌, ◌==◌, cond, T, eqb→eq, Option, Some, None, is_some, nat_eq, nat_lt, String, arith}
+use Rattle.std.proofs.Common.{◌≡◌, refl, sym, subst, ◌∙◌, ℕ, ◌+◌, Bool, true, false, not, ◌||◌, ◌==◌, cond, T, eqb→eq, Option, Some, None, is_some, nat_eq, nat_lt, String, arith}
 use Rattle.std.specs.declared.alloc.Global.{Global}
 use Rattle.std.proofs.Math.Dec.{eqb_refl}
 use Rattle.std.specs.Prelude.{is_none}
@@ -10,8 +10,7 @@ use Rattle.wit_model.specs.Uses.{alias_target, owner_interface}
 use Rattle.wit_model.specs.Parts.{kind_numbers, met_by, met_of, used_by_type, same_owner, has_owner}
 use Rattle.wit_model.specs.Text.{Text, text_of}
 use Rattle.wit_model.specs.Rules.{is_use, is_listed, type_stays}
-use Rattle.wit_model.specs.Checks.{references}
-use Rattle.wit_model.specs.Valid.{IsValid, Keeps, order_of_types, owners}
+use Rattle.wit_model.specs.Valid.{IsValid, order_of_types, owners}
 use Rattle.wit_model.specs.declared.model.Resolve.{Resolve}
 use Rattle.wit_model.specs.declared.model.TypeDef.{TypeDef}
 use Rattle.wit_model.specs.declared.model.TypeDefKind.{TypeDefKind}
@@ -22,8 +21,7 @@ use Rattle.wit_model.specs.declared.model.TypeId.{TypeId}
 use Rattle.wit_model.specs.declared.model.«Type».{«Type» as ValueType}
 use Rattle.wit_model.specs.declared.model.«Type».TheVariants as ty
 use Rattle.wit_model.proofs.Lists.{second_true}
-use Rattle.wit_model.proofs.Entries.{each_from_at, lists_pass, types_keep, each_from_all}
-use Rattle.wit_model.proofs.TreeTable.{kept_numbers}
+use Rattle.wit_model.proofs.Entries.{each_from_at, lists_pass}
 use Rattle.wit_model.proofs.Functions.{all_flat}
 use Rattle.wit_model.proofs.Owners.{named_met, unnamed_met, owned_stays}
 use Rattle.encode_types.specs.Kinds.{parts_of}

@@ -13,7 +13,7 @@ use Rattle.comp_meaning.specs.Follow as follow
 use Rattle.comp_meaning.specs.Follow.{Slot, InstanceScope, new_instance, is_simple, function_in, show_function, instance_step}
 use Rattle.wit_encode.specs.declared.interface.OpenInterface.{OpenInterface}
 use Rattle.encode_types.specs.Slots.{function}
-use Rattle.wit_encode.specs.Instance.{standing_at, SlotsStand, is_slot_of, no_view, outer_slots, inner_contents, is_value_type, is_function_type, resources_in, contents_of, encoder_scope, ShowsFunction}
+use Rattle.wit_encode.specs.Instance.{standing_at, SlotsStand, is_slot_of, no_view, outer_slots, inner_contents, is_function_type, resources_in, contents_of, encoder_scope, ShowsFunction}
 use Rattle.encode_types.proofs.Marking.{count-push}
 use Rattle.encode_types.specs.Distinct.{value_slots, targets_of}
 use Rattle.wit_encode.proofs.ValueSlots.{values-more, targets-more}

@@ -1,6 +1,6 @@
 -- How much the component type of a world defines after each item.
-use Rattle.std.proofs.Common.{◌≡◌, refl, sym, subst, ap, ◌∙◌, ℕ, ◌+◌, inl, inr, Bool, true, false, List, [], ◌∷◌, ◌++◌, map, flat_map, length, append-nil, Option, None, slice_get, Vec, arith}
-use Rattle.std.specs.Prelude.{nat_eq, cond, count_by}
+use Rattle.std.proofs.Common.{◌≡◌, refl, sym, subst, ap, ◌∙◌, ℕ, ◌+◌, inl, inr, Bool, true, false, List, [], ◌∷◌, ◌++◌, map, flat_map, length, append-nil, None, slice_get, Vec, arith}
+use Rattle.std.specs.Prelude.{nat_eq, cond}
 use Rattle.std.specs.declared.alloc.Global.{Global}
 use Rattle.std.specs.List.{AllZip, Contains}
 use Rattle.std.specs.Set.{is_member, distinct_count}
@@ -27,8 +27,8 @@ use Rattle.std.specs.Option.{option_map_or}
 use Rattle.encode_types.specs.Slots.{tree}
 use Rattle.encode_types.specs.declared.key.FunctionKey.{FunctionKey}
 use Rattle.encode_types.specs.declared.maps.TypeEncodingMaps.{TypeEncodingMaps}
-use Rattle.encode_types.specs.Codes.{kind_code, lists_of}
-use Rattle.encode_types.specs.Counts.{AddsTypes, AddsFunction, is_defined_by_name, names_defined}
+use Rattle.encode_types.specs.Codes.{lists_of}
+use Rattle.encode_types.specs.Counts.{AddsTypes, AddsFunction, names_defined}
 use Rattle.encode_types.specs.Distinct.{key_of, are_same, is_value_type, is_function_type, described_slot, target_of, targets_of, value_slots, defined_under_names, AddsFunctions}
 use Rattle.encode_types.specs.Key.{IsKeyOf}
 use Rattle.encode_types.specs.Maps.{IsKnown, IsOnce}

@@ -1,13 +1,13 @@
 -- How much an encoder of a world holds after each item, and why a call has no room.
 use Rattle.std.proofs.Common.{◌≡◌, refl, sym, subst, ap, ◌∙◌, ℕ, zero, suc, ◌+◌, ◌*◌, ◌≤◌, inl, inr, Bool, true, false, ◌&&◌, List, [], ◌∷◌, ◌++◌, map, length, length-append, append_assoc, append-nil, Option, Some, None, is_some, arith}
-use Rattle.std.specs.Prelude.{nat_eq, All, AllPairs}
+use Rattle.std.specs.Prelude.{nat_eq, AllPairs}
 use Rattle.std.specs.List.{Contains}
 use Rattle.std.specs.Option.{option_map_or}
 use Rattle.std.proofs.lemmas.Bool.{eqb-true}
 use Rattle.std.proofs.lemmas.List.{length-map}
 use Rattle.std.proofs.lemmas.List.Concat.{flat_map-append}
-use Rattle.std.proofs.lemmas.List.Elements.{All-contains, Contains-append_cases, Contains-append_left, Contains-append_right, Contains-get_or, filter_map-append, filter_passes}
-use Rattle.std.proofs.lemmas.List.Kept.{AllPairs-cons, AllPairs-filter}
+use Rattle.std.proofs.lemmas.List.Elements.{All-contains, Contains-append_cases, Contains-append_left, Contains-append_right, filter_map-append, filter_passes}
+use Rattle.std.proofs.lemmas.List.Kept.{AllPairs-filter}
 use Rattle.std.proofs.lemmas.List.Sorted.{length_permutation}
 use Rattle.wit_model.specs.Lookup.{type_at}
 use Rattle.wit_model.specs.Text.{text_of}
@@ -41,7 +41,7 @@ use Rattle.encode_types.specs.Room.{Request, IsUnfit, LacksPart, its_definition,
 use Rattle.encode_types.specs.Kinds.{kind_tree}
 use Rattle.encode_types.specs.Scope.{exported_name}
 use Rattle.encode_types.proofs.Lists.{none-in}
-use Rattle.encode_types.proofs.Pairs.{pairs-head, pairs-map, pairs-tail}
+use Rattle.encode_types.proofs.Pairs.{pairs-map}
 use Rattle.encode_types.proofs.Rooms.{only-reached, pairs-both}
 use Rattle.encode_names.specs.WorldNames.{name_of_item}
 use Rattle.encode_names.specs.WorldSteps.{Entry, Entries, declared_towards, interfaces_among}
