@@ -16,7 +16,7 @@ pub(crate) struct Key<'a> {
     pub(crate) text: &'a str,
 }
 
-/// The key of a text, which is hashed here and no more.
+/// The key of a text, which goes by its number from here on.
 pub(crate) fn key_of<'a>(keys: &mut Keys<'a>, text: &'a str) -> Result<Key<'a>, AllocError>
     ensures text { IfOk result (λ key. key.text.now ≡ text.entry.now) }
     ensures number { IfOk result (λ key. number_in keys.new.keys text.entry.now ≡ Some key.number) }

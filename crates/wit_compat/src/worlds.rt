@@ -241,8 +241,8 @@ pub(crate) fn compare(
 /// import of prev, and then the first export of new, that the other lacks or has otherwise, by `key` or `key/item`. And `Memory`.
 ///
 /// Each pair of type numbers is compared once, and the look-ups are hashed. Interfaces and keys go by number: the path of an interface
-/// is made and hashed once, and the text of a key once for each item that has it, whatever stands in it. So the time goes with the size of
-/// the `Resolve` and the pairs of types met.
+/// is made once, and the text of a key is hashed with each item and not with each type and function in it. So the time goes with the size
+/// of the `Resolve`, the texts of the keys and the pairs of types met.
 pub fn semver_check(
     alloc: Global,
     resolve: Resolve,
