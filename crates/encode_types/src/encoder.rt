@@ -48,6 +48,7 @@ pub trait LendsMaps<M> {
 /// the call leaves (`View::lacks_room`). An implementor says in its view when that is, and how much it holds (`View::held`): a number
 /// of its own, which each call raises by one at most. It says there how much it has written, too (`View::extent`): a number of its own, which a
 /// call raises by no more than the bytes that what it is asked to add takes at most.
+/// And it says in which slots it has defined value types, and which slots it has exported under names, in order (`View::definitions`).
 pub trait ValtypeEncoder<'a>: LendsMaps<TypeEncodingMaps<'a>> {
     // what it holds: what is around, its slots, how much has been defined, its maps, and what has no room
     ghost view: { Self → View };
