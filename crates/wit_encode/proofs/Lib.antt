@@ -35,7 +35,6 @@ pub mod ListedTypes
 pub mod Exporting
 pub mod FunctionExports
 pub mod Encodable
-pub mod UsesNone
 pub mod Importing
 pub mod StillSound
 pub mod OwnerScope

@@ -23,7 +23,7 @@ use Rattle.wit_encode.proofs.WorldCalls.{world-imports}
 use Rattle.wit_encode.proofs.WorldShown.{types-shown}
 
 -- from what stands around an encoder of a world to the next: the same is shown, and nothing has been defined
-record Leaves (r : Resolve) (w : WorldId) (count : ℕ) (a a' : Around) : Type 0 where
+pub record Leaves (r : Resolve) (w : WorldId) (count : ℕ) (a a' : Around) : Type 0 where
   pub scope_stays : world_scope r w count a' ≡ world_scope r w count a
   pub kept : Keeps (SlotsStand (outer_slots a.declared)) (SlotsStand (outer_slots a'.declared))
   pub more : length (outer_slots a.declared) ≤ length (outer_slots a'.declared)
@@ -44,7 +44,7 @@ module _ (r : Resolve) (w : WorldId) (count : ℕ) (maps : TypeEncodingMaps) whe
       let made = world-imports r w count a maps is.interface.0 x.number can (with_alias a x) (aliased x is refl refl) in
       record { scope_stays = made.scope_stays; kept = made.grows.kept; more = made.grows.more; counted = made.counted; instances = instances-left a.declared (alias_declared x) refl }
 
-  aliases-leave : (a : Around) (made : List Aliased) → is_sound_outside r w a ≡ true → AreAliases r a made → Leaves r w count a (with_aliases a made)
+  pub aliases-leave : (a : Around) (made : List Aliased) → is_sound_outside r w a ≡ true → AreAliases r a made → Leaves r w count a (with_aliases a made)
   aliases-leave a [] sound are = record { scope_stays = refl; kept = λ i m h. h; more = omega arith; counted = refl; instances = refl }
   aliases-leave a (x ∷ made) sound are =
       let one = alias-leaves a x sound are.0 in

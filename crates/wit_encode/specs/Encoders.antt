@@ -22,7 +22,7 @@ use Rattle.wit_encode.specs.Exports.{AreTypesOf}
 use Rattle.encode_types.specs.MetKinds.{LearnsFrom}
 use Rattle.wit_encode.specs.Order.{functions_in_order}
 use Rattle.encode_types.specs.declared.maps.TypeEncodingMaps.{TypeEncodingMaps}
-use Rattle.wit_encode.specs.declared.interface.InterfaceEncoderOf.{InterfaceEncoderOf}
+use Rattle.wit_encode.specs.declared.interface.InstanceEncoderOf.{InstanceEncoderOf}
 use Rattle.encode_types.specs.Known.{Around, GrowsAround, UsedStand}
 use Rattle.encode_types.specs.Scope.{Scope}
 use Rattle.encode_types.specs.Room.{Request, HasNoRoom, function_requests}
@@ -32,11 +32,11 @@ use Rattle.indexmap.specs.IndexMap.{values}
 use Rattle.encode_types.specs.View.{View, Agrees, HoldsLearnt, WritesLearnt}
 use Rattle.wit_encode.specs.Instance.{own_of, ShowsFunction, placed_function, meaning_of, Contents, contents_of, encoder_scope, around_of, around_at, slots_in, stands_in, defined_in, opened, standing_instances, Continues, EncodesInterface, EncodesDependency, EncodesPart, held_in, extent_in, lacks_room_in, LacksInstanceRoom}
 
-abbrev pub InterfaceEncoder : Type 0
-InterfaceEncoder = InterfaceEncoderOf TypeEncodingMaps
+abbrev pub InstanceEncoder : Type 0
+InstanceEncoder = InstanceEncoderOf TypeEncodingMaps
 
 -- what it holds, read in these packages
-abbrev pub view_of : Resolve → InterfaceEncoder → View
+abbrev pub view_of : Resolve → InstanceEncoder → View
 view_of r e = record {
   scope = encoder_scope r e.outer e.inner;
   around = around_of e.outer e.inner;
@@ -50,10 +50,10 @@ view_of r e = record {
 }
 
 -- in its own
-abbrev pub encoder_view : InterfaceEncoder → View
+abbrev pub encoder_view : InstanceEncoder → View
 encoder_view e = view_of e.resolve.now e
 
-abbrev pub contents_in : InterfaceEncoder → Contents
+abbrev pub contents_in : InstanceEncoder → Contents
 contents_in e = contents_of e.resolve.now e.outer e.inner
 
 -- a function that is shown under a name
@@ -62,20 +62,20 @@ shown_as name s = (name.text, record { signature = s; external_id = name.externa
 
 -- What a call leaves, also where it is refused: the packages, the interface that is being encoded, the surroundings but for the functions that
 -- have been exported, and maps that agree.
-pub record GoesOn (r : Resolve) (e e' : InterfaceEncoder) : Type 0 where
+pub record GoesOn (r : Resolve) (e e' : InstanceEncoder) : Type 0 where
   pub packages_ : e'.resolve.now ≡ r
   pub inside : own_of e'.inner ≡ own_of e.inner
   pub continues : Continues r r e.outer e'.outer e.inner e'.inner e.maps e'.maps
 
 -- what is asked of an encoder that is encoding an interface of these packages
-pub record IsEncoding (r : Resolve) (e : InterfaceEncoder) : Type 0 where
+pub record IsEncoding (r : Resolve) (e : InstanceEncoder) : Type 0 where
   pub inside : IsSome e.inner
   pub packages_ : e.resolve.now ≡ r
   pub agree : Agrees r (view_of r e)
   pub valid : IsValid r
 
 -- these are the types of the interface that is being encoded, of which nothing is known yet and nothing has been exported
-pub record Begins (r : Resolve) (e : InterfaceEncoder) (types : List TypeId) : Type 0 where
+pub record Begins (r : Resolve) (e : InstanceEncoder) (types : List TypeId) : Type 0 where
   pub packages_ : e.resolve.now ≡ r
   pub agree : Agrees r (encoder_view e)
   pub valid : IsValid r
@@ -114,70 +114,70 @@ abbrev pub meanings_of : Resolve → List Placed → List (Text × FunctionMeani
 meanings_of r fs = map (λ f. meaning_of r (placed_function f)) fs
 
 -- a function of this signature is shown under a name, or these functions are
-abbrev pub ShowsAs : InterfaceEncoder → InterfaceEncoder → ExternName → Signature → Type 0
+abbrev pub ShowsAs : InstanceEncoder → InstanceEncoder → ExternName → Signature → Type 0
 ShowsAs e e' name s = ShowsFunction (contents_in e) (contents_in e') (shown_as name s)
 
-abbrev pub ShowsMore : Resolve → InterfaceEncoder → InterfaceEncoder → List (Text × FunctionMeaning) → Type 0
+abbrev pub ShowsMore : Resolve → InstanceEncoder → InstanceEncoder → List (Text × FunctionMeaning) → Type 0
 ShowsMore r e e' fs = (view_of r e').scope.functions ≡ (view_of r e).scope.functions ++ fs
 
 -- at most so much more is held, and two for each type number that has been learnt
-abbrev pub HoldsInside : ℕ → InterfaceEncoder → InterfaceEncoder → Type 0
+abbrev pub HoldsInside : ℕ → InstanceEncoder → InstanceEncoder → Type 0
 HoldsInside n e e' = HoldsLearnt n (encoder_view e) (encoder_view e')
 
 -- at most so much more has been written, and each type number that has been learnt
-abbrev pub WritesInside : Resolve → ℕ → InterfaceEncoder → InterfaceEncoder → Type 0
+abbrev pub WritesInside : Resolve → ℕ → InstanceEncoder → InstanceEncoder → Type 0
 WritesInside r n e e' = WritesLearnt r n (encoder_view e) (encoder_view e')
 
 -- a part of a type that is met from these, or one of these requests, has no room, and not much more is held than was
-abbrev pub LacksInside : Resolve → InterfaceEncoder → InterfaceEncoder → List ValueType → List Request → Type 0
+abbrev pub LacksInside : Resolve → InstanceEncoder → InstanceEncoder → List ValueType → List Request → Type 0
 LacksInside r e e' ts requests = LacksRoom r ts requests (encoder_view e) (encoder_view e')
 
 -- no type has been exported
-abbrev pub TypesStay : Resolve → InterfaceEncoder → InterfaceEncoder → Type 0
+abbrev pub TypesStay : Resolve → InstanceEncoder → InstanceEncoder → Type 0
 TypesStay r e e' = (view_of r e').definitions.exports ≡ (view_of r e).definitions.exports
 
 -- no named type of the place has become known
-abbrev pub NamesStay : Resolve → InterfaceEncoder → InterfaceEncoder → Type 0
+abbrev pub NamesStay : Resolve → InstanceEncoder → InstanceEncoder → Type 0
 NamesStay r e e' = names_defined r (view_of r e).scope e'.maps ≡ names_defined r (view_of r e).scope e.maps
 
 -- what is met from these types has been learnt, and nothing else
-abbrev pub LearnsInside : Resolve → InterfaceEncoder → InterfaceEncoder → List ValueType → Type 0
+abbrev pub LearnsInside : Resolve → InstanceEncoder → InstanceEncoder → List ValueType → Type 0
 LearnsInside r e e' ts = LearnsFrom r (own_of e.inner) ts e.maps e'.maps
 
 -- of the named types of the place that have a definition of their own, these are known, each once
-abbrev pub DefinesNames : Resolve → View → InterfaceEncoder → InterfaceEncoder → List TypeId → Type 0
+abbrev pub DefinesNames : Resolve → View → InstanceEncoder → InstanceEncoder → List TypeId → Type 0
 DefinesNames r v e e' types = names_defined r v.scope e'.maps ≡ distinct_count nat_eq (defined_under_names r (own_of e.inner) types)
 
 -- the surroundings inside an interface, of which nothing has been declared yet
-abbrev pub scope_within : InterfaceEncoder → InterfaceId → Scope
+abbrev pub scope_within : InstanceEncoder → InterfaceId → Scope
 scope_within e i = encoder_scope e.resolve.now e.outer (opened i e.foreign)
 
 -- the component type, in which instances and aliases stand
-abbrev pub outside : InterfaceEncoder → Around
+abbrev pub outside : InstanceEncoder → Around
 outside e = around_at e.outer e.foreign
 
 -- each interface that an interface uses has an instance in the component type
-abbrev pub UsedAround : InterfaceEncoder → InterfaceId → Type 0
+abbrev pub UsedAround : InstanceEncoder → InterfaceId → Type 0
 UsedAround e i = UsedStand e.resolve.now (standing_instances e.resolve.now (outside e)) i.0
 
 -- the same instances stand there
-abbrev pub InstancesStay : InterfaceEncoder → InterfaceEncoder → Type 0
+abbrev pub InstancesStay : InstanceEncoder → InstanceEncoder → Type 0
 InstancesStay e e' = (j : ℕ) → Contains (standing_instances e.resolve.now (outside e)) j → Contains (standing_instances e.resolve.now (outside e')) j
 
 -- in the component type nothing has been declared but aliases of types that had none
-abbrev pub Reaches : InterfaceEncoder → InterfaceEncoder → Type 0
+abbrev pub Reaches : InstanceEncoder → InstanceEncoder → Type 0
 Reaches e e' = GrowsAround e.resolve.now (outside e) (outside e')
 
 -- slot k of the component type is new, and stands for the interface
-abbrev pub EncodesAs : InterfaceEncoder → InterfaceEncoder → InterfaceId → ℕ → Type 0
+abbrev pub EncodesAs : InstanceEncoder → InstanceEncoder → InterfaceId → ℕ → Type 0
 EncodesAs e e' i k = (def : Interface) → interface_at e.resolve.now i.0 ≡ Some def → EncodesInterface e.resolve.now (outside e) (outside e') i def k
 
 -- it stands for the interface's types alone
-abbrev pub EncodesTypesAs : InterfaceEncoder → InterfaceEncoder → InterfaceId → ℕ → Type 0
+abbrev pub EncodesTypesAs : InstanceEncoder → InstanceEncoder → InterfaceId → ℕ → Type 0
 EncodesTypesAs e e' i k = (def : Interface) → interface_at e.resolve.now i.0 ≡ Some def → EncodesDependency e.resolve.now (outside e) (outside e') i def k
 
 -- it stands for the interface's types and these functions
-abbrev pub EncodesPlaced : InterfaceEncoder → InterfaceEncoder → InterfaceId → List Placed → ℕ → Type 0
+abbrev pub EncodesPlaced : InstanceEncoder → InstanceEncoder → InterfaceId → List Placed → ℕ → Type 0
 EncodesPlaced e e' i fs k = (def : Interface) → interface_at e.resolve.now i.0 ≡ Some def → EncodesPart e.resolve.now (outside e) (outside e') i def (map placed_function fs) (plain fs) k
 
 -- an instance type has no room for the types and functions of an interface
@@ -186,13 +186,13 @@ InterfaceLacksRoom r i def = HasNoRoom r (Some i) (referred (values def.types) (
 
 -- An instance type has no room for the types and functions of the interface. Or the component type, after aliases have been made, has none
 -- for one more alias or instance type.
-abbrev pub LacksInstance : InterfaceEncoder → InterfaceId → Type 0
+abbrev pub LacksInstance : InstanceEncoder → InterfaceId → Type 0
 LacksInstance e i = (def : Interface) → interface_at e.resolve.now i.0 ≡ Some def → InterfaceLacksRoom e.resolve.now i def ⊎ LacksInstanceRoom e.resolve.now (outside e)
 
 -- the same of the interface's types alone
-abbrev pub LacksDependency : InterfaceEncoder → InterfaceId → Type 0
+abbrev pub LacksDependency : InstanceEncoder → InterfaceId → Type 0
 LacksDependency e i = (def : Interface) → interface_at e.resolve.now i.0 ≡ Some def → HasNoRoom e.resolve.now (Some i) (referred (values def.types) []) [] ⊎ LacksInstanceRoom e.resolve.now (outside e)
 
 -- the same of these types and functions of the interface
-abbrev pub LacksWithin : InterfaceEncoder → InterfaceId → List TypeId → List Placed → Type 0
+abbrev pub LacksWithin : InstanceEncoder → InterfaceId → List TypeId → List Placed → Type 0
 LacksWithin e i types fs = HasNoRoom e.resolve.now (Some i) (referred types (plain fs)) (requests_of e.resolve.now fs) ⊎ LacksInstanceRoom e.resolve.now (outside e)

@@ -4,7 +4,6 @@ pub mod Encoders
 pub mod InstanceLaws
 pub mod RoomLaws
 pub mod Exports
-pub mod UsesAlone
 pub mod OwnerScope
 pub mod WrittenNames
 pub mod Worlds

@@ -1,6 +1,7 @@
 -- How much an encoder of a world holds between two items, and which calls have no room.
 use Rattle.std.specs.Prelude.{ℕ, ◌≡◌, ◌≤◌, ◌+◌, ◌*◌, ◌&&◌, true, false, ◌⊎◌, List, [], ◌∷◌, ◌++◌, length, Some, is_some}
 use Rattle.std.specs.List.{Contains}
+use Rattle.indexmap.specs.IndexMap.{values}
 use Rattle.wit_model.specs.Lookup.{interface_at}
 use Rattle.wit_model.specs.declared.model.Resolve.{Resolve}
 use Rattle.wit_model.specs.declared.model.Interface.{Interface}
@@ -11,6 +12,8 @@ use Rattle.comp_bytes.specs.Held.{declaration_slots, fits_added}
 use Rattle.comp_bytes.specs.Raw.{Declaration, Declarations, declaration_count}
 use Rattle.comp_meaning.specs.Follow.{Direction}
 use Rattle.encode_types.specs.Known.{known_instance}
+use Rattle.encode_types.specs.MetKinds.{referred}
+use Rattle.encode_types.specs.Room.{HasNoRoom}
 use Rattle.encode_names.specs.WorldSteps.{Entry, Entries, interfaces_among}
 use Rattle.wit_encode.specs.declared.world.Placed.{Placed}
 use Rattle.wit_encode.specs.Encoders.{InterfaceLacksRoom}
@@ -46,6 +49,10 @@ LacksRoomTowards r e direction = (w : World) → HasShown r w e (begun direction
 -- type.
 abbrev pub LacksInstanceHere : WorldEncoder → InterfaceId → Type 0
 LacksInstanceHere e i = (def : Interface) → interface_at e.resolve.now i.0 ≡ Some def → InterfaceLacksRoom e.resolve.now i def ⊎ LacksInstanceRoom e.resolve.now (world_around e)
+
+-- So it is with its types alone.
+abbrev pub LacksDependencyHere : WorldEncoder → InterfaceId → Type 0
+LacksDependencyHere e i = (def : Interface) → interface_at e.resolve.now i.0 ≡ Some def → HasNoRoom e.resolve.now (Some i) (referred (values def.types) []) [] ⊎ LacksInstanceRoom e.resolve.now (world_around e)
 
 -- The declaration doesn't fit behind those of a component type, or a count doesn't with it.
 abbrev pub LacksDeclaration : Declarations → Declaration → Type 0

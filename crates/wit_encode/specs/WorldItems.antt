@@ -19,7 +19,7 @@ use Rattle.encode_names.specs.WorldSteps.{Entry, Entries, ShowsEntries, interfac
 use Rattle.wit_encode.specs.declared.world.Direction.{Direction as RustDirection}
 use Rattle.wit_encode.specs.declared.world.Direction.TheVariants as directions
 use Rattle.wit_encode.specs.declared.world.Placed.{Placed}
-use Rattle.wit_encode.specs.Instance.{EncodesInterface}
+use Rattle.wit_encode.specs.Instance.{EncodesDependency, EncodesInterface}
 use Rattle.wit_encode.specs.Worlds.{WorldEncoder, is_sound_outside, world_around, world_view_of}
 
 -- the numbers of the types among entries, in order
@@ -90,6 +90,10 @@ Encodes r e e' x = (w : World) (done : Entries) → HasShown r w e done → IsNe
 -- Slot k of the component type is new: an instance type that shows the interface, behind aliases alone.
 abbrev pub DefinesInstance : WorldEncoder → WorldEncoder → InterfaceId → ℕ → Type 0
 DefinesInstance e e' i k = (def : Interface) → interface_at e.resolve.now i.0 ≡ Some def → EncodesInterface e.resolve.now (world_around e) (world_around e') i def k
+
+-- So it is with its types alone.
+abbrev pub DefinesDependency : WorldEncoder → WorldEncoder → InterfaceId → ℕ → Type 0
+DefinesDependency e e' i k = (def : Interface) → interface_at e.resolve.now i.0 ≡ Some def → EncodesDependency e.resolve.now (world_around e) (world_around e') i def k
 
 -- The latest instance is that of the interface, and has the next number. One more has been counted.
 pub record ListsInstance (e e' : WorldEncoder) (i : InterfaceId) : Type 0 where

@@ -20,7 +20,7 @@ ghost use Rattle.wit_encode.specs.Scopes.{HasNoEqualPaths, RefusesInterface};
 ghost use Rattle.wit_encode.specs.WrittenBytes.{AddsBytes, imports_extent};
 ghost use Rattle.wit_encode.specs.WrittenNames.{NamesInterfaces, WritesPaths};
 
-use crate::interface::{InterfaceEncoder, InterfaceEncoderOf};
+use crate::interface::{InstanceEncoder, InstanceEncoderOf};
 use comp_bytes::{ComponentType, ComponentTypeRef};
 use encode_names::{interface_name, refuse_equal_paths};
 use encode_reach::interfaces_reached;
@@ -30,7 +30,7 @@ use wit_model::{Error, InterfaceId, Resolve};
 // Imports the types of an interface by its path, as the instance of this number.
 fn import_dependency<'a>(
     alloc: Global,
-    encoder: &mut InterfaceEncoder<'a>,
+    encoder: &mut InstanceEncoder<'a>,
     interface: InterfaceId,
     number: u32,
     canonical_names: bool,
@@ -58,7 +58,7 @@ fn import_dependency<'a>(
 // Imports the types of these interfaces by their paths, in order.
 fn import_dependencies<'a>(
     alloc: Global,
-    encoder: &mut InterfaceEncoder<'a>,
+    encoder: &mut InstanceEncoder<'a>,
     interfaces: &[InterfaceId],
     canonical_names: bool,
 ) -> Result<(), Error>
@@ -112,7 +112,7 @@ pub fn interface_type(
 {
     let reached = interfaces_reached(alloc, resolve, interface)?;
     refuse_equal_paths(alloc, resolve, &reached, canonical_names)?;
-    let mut encoder = InterfaceEncoderOf::new(alloc, resolve);
+    let mut encoder = InstanceEncoderOf::new(alloc, resolve);
     import_dependencies(alloc, &mut encoder, &reached, canonical_names)?;
     let name = interface_name(alloc, resolve, interface, canonical_names)?;
     let slot = encoder.encode_instance(alloc, interface)?;

@@ -41,7 +41,7 @@ pub struct Foreign {
 
 /// An interface that is being encoded.
 #[derive(Drop)]
-pub struct OpenInterface {
+pub(crate) struct OpenInterface {
     pub interface: InterfaceId,
     /// The instance type, so far.
     pub declared: InstanceType,
@@ -51,7 +51,7 @@ pub struct OpenInterface {
 
 /// An encoder of interfaces. `M` is the type of its maps.
 #[derive(Drop)]
-pub struct InterfaceEncoderOf<'a, M> {
+pub(crate) struct InstanceEncoderOf<'a, M> {
     pub resolve: &'a Resolve,
     /// The component type in which the instance types stand.
     pub outer: ComponentType,
@@ -64,7 +64,7 @@ pub struct InterfaceEncoderOf<'a, M> {
 }
 
 /// An encoder of interfaces, each as an instance type in one component type.
-pub type InterfaceEncoder<'a> = InterfaceEncoderOf<'a, TypeEncodingMaps<'a>>;
+pub(crate) type InstanceEncoder<'a> = InstanceEncoderOf<'a, TypeEncodingMaps<'a>>;
 
 pub(crate) fn no_foreign(alloc: Global) -> Foreign
     ensures instances { result.instances.entries ≡ [] }
@@ -233,7 +233,7 @@ pub(crate) fn reach(
     }
 }
 
-impl<'a, M> LendsMaps<M> for InterfaceEncoderOf<'a, M> {
+impl<'a, M> LendsMaps<M> for InstanceEncoderOf<'a, M> {
     ghost maps_of = { λ e. e.maps };
 
     ghost with_maps = { λ e m. record e { maps = m } };
@@ -247,7 +247,7 @@ impl<'a, M> LendsMaps<M> for InterfaceEncoderOf<'a, M> {
     ghost with_own_maps = { λ e. refl };
 }
 
-impl<'a> ValtypeEncoder<'a> for InterfaceEncoderOf<'a, TypeEncodingMaps<'a>> {
+impl<'a> ValtypeEncoder<'a> for InstanceEncoderOf<'a, TypeEncodingMaps<'a>> {
     ghost use Rattle.wit_encode.specs.Instance.{contents_of};
     ghost use Rattle.wit_encode.specs.Encoders.{encoder_view};
     ghost use Rattle.wit_encode.specs.InstanceLaws.{slots-in_range};
@@ -325,7 +325,7 @@ impl<'a> ValtypeEncoder<'a> for InterfaceEncoderOf<'a, TypeEncodingMaps<'a>> {
     ghost view_with_maps = { λ e m. record { scope_ = refl; around_ = refl; slot_count_ = refl; definitions_ = refl; held_ = refl; extent_ = refl; kept = λ i s h. h; back = λ i s h. h } };
 }
 
-impl<'a> InterfaceEncoderOf<'a, TypeEncodingMaps<'a>> {
+impl<'a> InstanceEncoderOf<'a, TypeEncodingMaps<'a>> {
     ghost use Rattle.wit_model.specs.Meaning.{Signature};
     ghost use Rattle.comp_meaning.specs.Follow.{is_simple};
     ghost use Rattle.encode_types.specs.Slots.{Keeps, function};
@@ -353,7 +353,7 @@ impl<'a> InterfaceEncoderOf<'a, TypeEncodingMaps<'a>> {
     ghost use Rattle.encode_types.specs.Maps.{MapsGrow};
 
     /// An encoder with an empty component type. Takes constant time and no memory.
-    pub fn new(alloc: Global, resolve: &'a Resolve) -> InterfaceEncoder<'a>
+    pub(crate) fn new(alloc: Global, resolve: &'a Resolve) -> InstanceEncoder<'a>
         ensures outer { result.outer ≡ Declarations.no_more }
         ensures closed { result.inner ≡ None }
         ensures instances { result.foreign.instances.entries ≡ [] }
@@ -363,7 +363,7 @@ impl<'a> InterfaceEncoderOf<'a, TypeEncodingMaps<'a>> {
         ensures sound { (encoder_view result).scope.is_sound ≡ true }
     {
         let maps = TypeEncodingMaps::new(alloc);
-        InterfaceEncoderOf {
+        InstanceEncoderOf {
             resolve,
             outer: ComponentType::new(alloc),
             inner: None,
@@ -603,7 +603,7 @@ impl<'a> InterfaceEncoderOf<'a, TypeEncodingMaps<'a>> {
     /// made, has no room for one more alias or instance type.
     ///
     /// Takes as long as encoding the types.
-    pub fn encode_dependency(&mut self, alloc: Global, interface: InterfaceId) -> Result<u32, Error>
+    pub(crate) fn encode_dependency(&mut self, alloc: Global, interface: InterfaceId) -> Result<u32, Error>
         requires closed { self.old.inner ≡ None }
         requires in_range { interface.0 < length self.old.resolve.now.interfaces.items }
         requires valid { IsValid self.old.resolve.now }
@@ -629,14 +629,14 @@ impl<'a> InterfaceEncoderOf<'a, TypeEncodingMaps<'a>> {
     /// their resource, then the others. The type of a function is defined just before its export, where its key is new.
     ///
     /// Of each interface that it uses, an instance stands in the component type, and `foreign` has its number. An interface that uses no
-    /// other, as `stands_alone` tests, asks for nothing. A type of another interface gets an alias in the component type when it is first met,
+    /// other asks for nothing. A type of another interface gets an alias in the component type when it is first met,
     /// which later calls use, too. No instance stands by this call alone. After a refusal the encoder is as it was, but for aliases that have
     /// been made. `Size` comes only where a type that is met from the interface, or a function of it, doesn't fit in 32 bits by itself, where
     /// there are too many of them (two declarations for each type number that is met, each once, and two for each function), or where the
     /// component type, after aliases have been made, has no room for one more alias or instance type.
     ///
     /// Takes as long as encoding the types and functions and sorting the functions, with a search in an ordered map for each.
-    pub fn encode_instance(&mut self, alloc: Global, interface: InterfaceId) -> Result<u32, Error>
+    pub(crate) fn encode_instance(&mut self, alloc: Global, interface: InterfaceId) -> Result<u32, Error>
         requires closed { self.old.inner ≡ None }
         requires in_range { interface.0 < length self.old.resolve.now.interfaces.items }
         requires valid { IsValid self.old.resolve.now }

@@ -6,7 +6,6 @@ mod interface;
 pub mod laws;
 mod order;
 mod package;
-mod uses;
 mod world;
 
 pub use component_types::interface_type;
@@ -17,7 +16,6 @@ pub use encode_types::{
     encode_tuple, encode_unit_future, encode_unit_stream, encode_valtype, encode_variant,
     extern_name, key_of, maybe_import_type,
 };
-pub use interface::{Foreign, InterfaceEncoder, InterfaceEncoderOf, OpenInterface};
+pub use interface::Foreign;
 pub use package::{encode, encode_component, wrapped_world};
-pub use uses::stands_alone;
-pub use world::encode_world;
+pub use world::{WorldEncoder, WorldEncoderOf, encode_world};

@@ -16,20 +16,21 @@ ghost use Rattle.wit_model.specs.declared.model.World.{World as WorldValue};
 ghost use Rattle.wit_model.specs.declared.model.WorldItem.TheVariants as item_kinds;
 ghost use Rattle.encode_names.specs.WorldSteps.{declared_towards};
 ghost use Rattle.encode_names.specs.Clashes.{HasNoClash};
-ghost use Rattle.encode_types.specs.Known.{standing_instances, UsedStand};
+ghost use Rattle.encode_types.specs.Known.{standing_instances, GrowsAround, UsedStand};
+ghost use Rattle.encode_types.specs.View.{Agrees};
 ghost use Rattle.wit_encode.specs.Encoders.{declared_after, DeclaresOutside};
 ghost use Rattle.wit_encode.specs.WorldCounts.{Defines, DefinesAll, DefinesOnce, HasDefined};
-ghost use Rattle.wit_encode.specs.WorldHolds.{HoldsAll, HoldsFew, HoldsOn, LacksDeclaration, LacksInstanceHere, LacksRoomTowards, LacksWorldRoom};
+ghost use Rattle.wit_encode.specs.WorldHolds.{HoldsAll, HoldsFew, HoldsOn, LacksDeclaration, LacksDependencyHere, LacksInstanceHere, LacksRoomTowards, LacksWorldRoom};
 ghost use Rattle.wit_encode.specs.WholeWorlds.{RefusesWorld, ShowsWorldType};
-ghost use Rattle.wit_encode.specs.WorldItems.{entry_of, towards, AwaitsAll, AwaitsNext, DefinesInstance, Encodes, EncodesAll, HasShown, ListsInstance};
+ghost use Rattle.wit_encode.specs.WorldItems.{entry_of, towards, AwaitsAll, AwaitsNext, DefinesDependency, DefinesInstance, Encodes, EncodesAll, HasShown, ListsInstance};
 ghost use Rattle.wit_encode.specs.WorldRoom.{entries_in};
-ghost use Rattle.wit_encode.specs.Worlds.{world_around};
+ghost use Rattle.wit_encode.specs.Worlds.{world_around, world_view_of};
 ghost use Rattle.wit_encode.specs.Instance.{declared_extent};
-ghost use Rattle.wit_encode.specs.WrittenBytes.{AddsBytes, AddsLearnt, items_extent, whole_extent};
+ghost use Rattle.wit_encode.specs.WrittenBytes.{AddsBytes, AddsLearnt, items_extent, types_extent, whole_extent};
 ghost use Rattle.wit_encode.specs.WrittenNames.{NamesMore, WritesNames};
 
 use crate::interface::{
-    Foreign, InterfaceEncoderOf, define_function_outside, define_outside, no_foreign, reach,
+    Foreign, InstanceEncoderOf, define_function_outside, define_outside, no_foreign, reach,
 };
 use comp_bytes::{
     ComponentDefinedType, ComponentExternName, ComponentFuncType, ComponentType, ComponentTypeRef,
@@ -61,7 +62,7 @@ pub(crate) struct Placed<'a> {
 /// An encoder of a world: types of the world are imported into its component type, and types of an interface get an alias there.
 /// `M` is the type of its maps.
 #[derive(Drop)]
-pub(crate) struct WorldEncoderOf<'a, M> {
+pub struct WorldEncoderOf<'a, M> {
     /// The world whose types are declared in the component type.
     pub world: WorldId,
     /// How many instances have been imported and exported.
@@ -174,16 +175,21 @@ impl<'a> ValtypeEncoder<'a> for WorldEncoderOf<'a, TypeEncodingMaps<'a>> {
 }
 
 /// An encoder of a world.
-pub(crate) type WorldEncoder<'a> = WorldEncoderOf<'a, TypeEncodingMaps<'a>>;
+pub type WorldEncoder<'a> = WorldEncoderOf<'a, TypeEncodingMaps<'a>>;
 
 impl<'a> WorldEncoderOf<'a, TypeEncodingMaps<'a>> {
     /// An encoder of a world, with an empty component type. Takes constant time and no memory.
-    fn new(alloc: Global, resolve: &'a Resolve, world: WorldId) -> WorldEncoder<'a>
+    pub fn new(alloc: Global, resolve: &'a Resolve, world: WorldId) -> WorldEncoder<'a>
         ensures starts { (w : WorldValue) → world_at resolve.now world.0 ≡ Some w → HasShown resolve.now w result ([], []) }
         ensures world { result.world ≡ world }
         ensures defines { HasDefined resolve.now result [] }
         ensures few { HoldsFew resolve.now result [] }
         ensures empty { result.outer ≡ Declarations.no_more }
+        ensures packages { result.resolve.now ≡ resolve.now }
+        ensures uncounted { result.instances ≡ 0 }
+        ensures unlisted { result.foreign.instances.entries ≡ [] }
+        ensures unknown { result.foreign.known.entries ≡ [] }
+        ensures agree { Agrees resolve.now (world_view_of resolve.now result) }
     {
         let maps = TypeEncodingMaps::new(alloc);
         WorldEncoderOf {
@@ -252,17 +258,18 @@ impl<'a> WorldEncoderOf<'a, TypeEncodingMaps<'a>> {
 
     /// Encodes an interface as an instance type of the component type, and answers its slot. What stands in the component type is lent to an
     /// encoder of interfaces.
-    fn define_instance(&mut self, alloc: Global, interface: InterfaceId) -> Result<u32, Error>
+    pub fn define_instance(&mut self, alloc: Global, interface: InterfaceId) -> Result<u32, Error>
         requires valid { IsValid self.old.resolve.now }
         requires in_range { interface.0 < length self.old.resolve.now.interfaces.items }
         requires around { UsedStand self.old.resolve.now (standing_instances self.old.resolve.now (world_around self.old)) interface.0 }
         ensures ok { IfOk result (DefinesInstance self.old self.new interface) }
+        ensures err { OnErr result (GrowsAround self.old.resolve.now (world_around self.old) (world_around self.new)) }
         ensures written { OnOk result (AddsBytes (whole_extent self.old.resolve.now interface.0) self.old.outer self.new.outer) }
         ensures size { result ≡ Err Size → LacksInstanceHere self.old interface }
         ensures rest { self.new ≡ record self.old { outer = self.new.outer; foreign = self.new.foreign } }
         ensures refuses { IfErr result IsMemoryOrSize }
     {
-        let mut encoder = InterfaceEncoderOf {
+        let mut encoder = InstanceEncoderOf {
             resolve: self.resolve,
             outer: mem::replace(&mut self.outer, ComponentType::new(alloc)),
             inner: None,
@@ -270,6 +277,31 @@ impl<'a> WorldEncoderOf<'a, TypeEncodingMaps<'a>> {
             foreign: mem::replace(&mut self.foreign, no_foreign(alloc)),
         };
         let outcome = encoder.encode_instance(alloc, interface);
+        self.outer = encoder.outer;
+        self.foreign = encoder.foreign;
+        outcome
+    }
+
+    /// Encodes the types of an interface as an instance type of the component type, without its functions, and answers its slot.
+    pub fn define_dependency(&mut self, alloc: Global, interface: InterfaceId) -> Result<u32, Error>
+        requires valid { IsValid self.old.resolve.now }
+        requires in_range { interface.0 < length self.old.resolve.now.interfaces.items }
+        requires around { UsedStand self.old.resolve.now (standing_instances self.old.resolve.now (world_around self.old)) interface.0 }
+        ensures ok { IfOk result (DefinesDependency self.old self.new interface) }
+        ensures err { OnErr result (GrowsAround self.old.resolve.now (world_around self.old) (world_around self.new)) }
+        ensures written { OnOk result (AddsBytes (types_extent self.old.resolve.now interface.0) self.old.outer self.new.outer) }
+        ensures size { result ≡ Err Size → LacksDependencyHere self.old interface }
+        ensures rest { self.new ≡ record self.old { outer = self.new.outer; foreign = self.new.foreign } }
+        ensures refuses { IfErr result IsMemoryOrSize }
+    {
+        let mut encoder = InstanceEncoderOf {
+            resolve: self.resolve,
+            outer: mem::replace(&mut self.outer, ComponentType::new(alloc)),
+            inner: None,
+            maps: TypeEncodingMaps::new(alloc),
+            foreign: mem::replace(&mut self.foreign, no_foreign(alloc)),
+        };
+        let outcome = encoder.encode_dependency(alloc, interface);
         self.outer = encoder.outer;
         self.foreign = encoder.foreign;
         outcome

@@ -2,12 +2,12 @@ use Rattle.std.proofs.Common.{◌≡◌, ◌⊎◌, sym, subst, Some}
 use Rattle.std.specs.Prelude.{IfOk}
 use Rattle.wit_model.specs.Lookup.{interface_at}
 use Rattle.wit_model.specs.declared.model.Interface.{Interface}
-use Rattle.encode_types.specs.Known.{Around, UsedStand, standing_instances}
+use Rattle.encode_types.specs.Known.{Around, GrowsAround, UsedStand, standing_instances}
 use Rattle.wit_encode.specs.Encoders.{InterfaceLacksRoom}
 use Rattle.wit_encode.specs.Instance.{EncodesInterface, LacksInstanceRoom, around_at}
 use Rattle.wit_encode.proofs.world.WorldEncoderOf+TypeEncodingMaps.define_instance.Goals as goal
 use Rattle.comp_bytes.specs.Raw.{Declarations}
-use Rattle.std.proofs.Common.{OnOk}
+use Rattle.std.proofs.Common.{OnErr, OnOk}
 use Rattle.wit_encode.specs.WrittenBytes.{AddsBytes, whole_extent}
 
 pub encode_instance-outcome-requires-clause-around : goal.encode_instance-outcome-requires-clause-around
@@ -31,3 +31,10 @@ returns-clause-size c = λ refused.
 pub returns-clause-written : goal.returns-clause-written
 returns-clause-written c =
     subst (λ (z : Declarations). OnOk c.encode_instance-outcome.result (AddsBytes (whole_extent c.args.self.now.resolve.now c.args.interface.0) z c.encode_instance-outcome.new.self.outer)) c.replace.ensures.value c.encode_instance-outcome.ensures.written
+
+pub returns-clause-err : goal.returns-clause-err
+returns-clause-err c =
+    let q = c.args.self.now.resolve.now in
+    let after = c.encode_instance-outcome.new.self in
+    subst (λ (z : Around). OnErr c.encode_instance-outcome.result (GrowsAround q z (around_at after.outer after.foreign)))
+    (λ j. record { declared = c.replace.ensures.value j; instances = (c.replace-2.ensures.value j).instances.entries; known = (c.replace-2.ensures.value j).known.entries }) c.encode_instance-outcome.ensures.err

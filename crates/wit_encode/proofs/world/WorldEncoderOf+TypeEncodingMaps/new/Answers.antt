@@ -14,3 +14,6 @@ returns-clause-defines c = none-defined c.args.resolve.now _ c.new.ensures c.new
 
 pub returns-clause-few : goal.returns-clause-few
 returns-clause-few c = none-held c.args.resolve.now _ c.new.ensures c.no_foreign.ensures.instances
+
+pub returns-clause-agree : goal.returns-clause-agree
+returns-clause-agree c = empty-agrees c.args.resolve.now c.new-maps.result _ c.new-maps.ensures.ids c.new-maps.ensures.kinds c.new-maps.ensures.functions c.new-maps.ensures.names c.new-maps.ensures.unit_future c.new-maps.ensures.unit_stream

@@ -1,0 +1,128 @@
+use Rattle.std.proofs.Common.{◌≡◌, refl, sym, subst, ap, ◌∙◌, OnOk}
+use Rattle.wit_model.specs.declared.model.Resolve.{Resolve}
+use Rattle.encode_types.specs.Scope.{Scope}
+use Rattle.wit_encode.specs.Instance.{encoder_scope, exports_in}
+use Rattle.encode_types.specs.declared.maps.TypeEncodingMaps.{TypeEncodingMaps}
+use Rattle.encode_types.specs.Maps.{MapsGrow}
+use Rattle.wit_model.specs.Text.{text_of}
+use Rattle.wit_model.specs.Meant.{signature_of, function_meaning}
+use Rattle.comp_bytes.specs.RawOf.{raw_name}
+use Rattle.encode_types.specs.MetKinds.{LearnsFrom}
+use Rattle.wit_encode.proofs.Referring.{on-any, from-met}
+use Rattle.wit_model.specs.Parts.{function_types}
+use Rattle.wit_encode.specs.Instance.{own_of}
+use Rattle.wit_encode.proofs.Continuing.{Showed, function-showed, after-types}
+use Rattle.wit_encode.proofs.Counting.{function-counted, function-names}
+use Rattle.wit_encode.proofs.FunctionExports.{function-stays}
+use Rattle.std.proofs.Common.{rules, arith, ◌∷◌, []}
+use Rattle.std.proofs.lemmas.List.Elements.{Contains-append_left, Contains-append_right}
+use Rattle.wit_encode.specs.Encoders.{encoder_view}
+use Rattle.encode_types.proofs.Rooms.{holds-same, room-more, room-after, only-reached, lacks-request}
+use Rattle.encode_types.specs.Room.{Request, export_name, function_type, function_name}
+use Rattle.wit_encode.proofs.Refusing.{function-named}
+use Rattle.wit_encode.proofs.interface.InstanceEncoderOf+TypeEncodingMaps.encode_function.Goals as goal
+use Rattle.wit_encode.proofs.interface.InstanceEncoderOf+TypeEncodingMaps.encode_function.Goals.{After-export_function}
+use Rattle.encode_types.proofs.Agree.{on_ok}
+use Rattle.encode_types.proofs.Writing.{writes-beside}
+use Rattle.encode_types.specs.Extents.{name_extent}
+use Rattle.std.proofs.Common.{◌≤◌, ◌+◌}
+
+pub encode_func_type-requires : goal.encode_func_type-requires
+encode_func_type-requires c = λ _. ((refl, tt), rw c.requires.open.packages_ (c.requires.encodable.types, (c.requires.encodable.formed, c.requires.open.agree)))
+
+pub export_function-requires-clause-sound : goal.export_function-requires-clause-sound
+export_function-requires-clause-sound c =
+    ap (λ (s : Scope). s.is_sound) c.encode_func_type.ensures.leaves.scope_stays
+    ∙ ap (λ (r : Resolve). (encoder_scope r c.args.self.now.outer c.args.self.now.inner).is_sound) c.requires.open.packages_ ∙ c.requires.encodable.formed.sound
+
+showed : (c : After-export_function) → Showed c.export_function.result c.args.resolve.now c.args.self.now.outer c.export_function.new.self.outer c.args.self.now.inner c.export_function.new.self.inner c.args.self.now.maps c.export_function.new.self.maps (text_of c.args.name.now, function_meaning c.args.resolve.now c.args.func.now)
+showed c = function-showed c.export_function.result c.args.resolve.now c.args.self.now.resolve.now c.encode_func_type.new.enc.resolve.now c.export_function.new.self.resolve.now c.args.self.now.outer c.encode_func_type.new.enc.outer c.export_function.new.self.outer c.args.self.now.inner c.encode_func_type.new.enc.inner c.export_function.new.self.inner c.args.self.now.maps c.encode_func_type.new.enc.maps c.export_function.new.self.maps
+    (text_of c.args.name.now, function_meaning c.args.resolve.now c.args.func.now) ((raw_name c.name_of.result).text, record { signature = signature_of c.args.resolve.now c.args.func.now; external_id = (raw_name c.name_of.result).external_id })
+    c.requires.open.packages_ c.encode_func_type.ensures.leaves.scope_stays c.encode_func_type.ensures.leaves.agree c.encode_func_type.ensures.leaves.grows.around_ (λ i. (c.export_function.ensures.resolve i).now) c.export_function.ensures.outer c.export_function.ensures.own c.export_function.ensures.around c.export_function.ensures.maps
+    (λ i. (c.name_of.ensures.text i, record { signature = signature_of c.args.resolve.now c.args.func.now; external_id = c.name_of.ensures.external_id i }))
+    (c.export_function.ensures.ok (signature_of c.args.resolve.now c.args.func.now) c.in_ok-index.ensures.ok) c.export_function.ensures.err
+
+pub returns-clause-continues : goal.returns-clause-continues
+returns-clause-continues c = record { packages_ = search rules; inside = search rules; continues = (showed (goal.at.returns-clause-continues c).After-export_function).continues }
+
+pub returns-clause-shows : goal.returns-clause-shows
+returns-clause-shows c = (showed (goal.at.returns-clause-shows c).After-export_function).shows
+
+pub returns-clause-counts : goal.returns-clause-counts
+returns-clause-counts c =
+    function-counted c.export_function.result c.args.resolve.now c.args.self.now.resolve.now c.encode_func_type.new.enc.resolve.now
+    c.export_function.new.self.resolve.now c.args.self.now.outer c.encode_func_type.new.enc.outer c.export_function.new.self.outer c.args.self.now.inner
+    c.encode_func_type.new.enc.inner c.export_function.new.self.inner c.args.self.now.maps c.encode_func_type.new.enc.maps c.export_function.new.self.maps
+    c.args.func.now (
+      (raw_name c.name_of.result).text,
+      record {
+        signature = signature_of c.args.resolve.now c.args.func.now;
+        external_id = (raw_name c.name_of.result).external_id;
+      },
+    ) c.in_ok-index.index c.requires.open.agree.once
+    c.requires.open.packages_ c.encode_func_type.ensures.leaves.scope_stays (λ i. (c.export_function.ensures.resolve i).now) c.export_function.ensures.maps
+    c.in_ok-index.ensures.counts (c.export_function.ensures.ok (signature_of c.args.resolve.now c.args.func.now) c.in_ok-index.ensures.ok)
+
+stays : (c : After-export_function) → OnOk c.export_function.result (exports_in c.args.resolve.now c.export_function.new.self.outer c.export_function.new.self.inner ≡ exports_in c.args.resolve.now c.args.self.now.outer c.args.self.now.inner)
+stays c = function-stays c.export_function.result c.args.resolve.now c.args.self.now.resolve.now c.encode_func_type.new.enc.resolve.now c.export_function.new.self.resolve.now c.args.self.now.outer c.encode_func_type.new.enc.outer c.export_function.new.self.outer
+    c.args.self.now.inner c.encode_func_type.new.enc.inner c.export_function.new.self.inner c.args.self.now.maps c.encode_func_type.new.enc.maps c.args.func.now
+    ((raw_name c.name_of.result).text, record { signature = signature_of c.args.resolve.now c.args.func.now; external_id = (raw_name c.name_of.result).external_id })
+    c.requires.open.valid c.requires.used c.requires.open.packages_ c.encode_func_type.ensures.leaves.scope_stays (λ i. (c.export_function.ensures.resolve i).now) c.encode_func_type.ensures.leaves.agree.once c.in_ok-index.ensures.learns.only c.in_ok-index.ensures.counts.2.shows
+    (c.export_function.ensures.ok (signature_of c.args.resolve.now c.args.func.now) c.in_ok-index.ensures.ok)
+
+pub returns-clause-types_stay : goal.returns-clause-types_stay
+returns-clause-types_stay c = stays (goal.at.returns-clause-types_stay c).After-export_function
+
+pub returns-clause-maps_grow : goal.returns-clause-maps_grow
+returns-clause-maps_grow c = subst (λ (m : TypeEncodingMaps). MapsGrow c.args.self.now.maps m) (sym c.export_function.ensures.maps) c.encode_func_type.ensures.leaves.maps_grow
+
+pub returns-clause-names_stay : goal.returns-clause-names_stay
+returns-clause-names_stay c =
+    function-names c.export_function.result c.args.resolve.now c.args.self.now.resolve.now c.encode_func_type.new.enc.resolve.now
+    c.export_function.new.self.resolve.now c.args.self.now.outer c.encode_func_type.new.enc.outer c.export_function.new.self.outer
+    c.args.self.now.inner c.encode_func_type.new.enc.inner c.export_function.new.self.inner c.args.self.now.maps c.encode_func_type.new.enc.maps
+    c.export_function.new.self.maps
+    ((raw_name c.name_of.result).text, record { signature = signature_of c.args.resolve.now c.args.func.now; external_id = (raw_name c.name_of.result).external_id })
+    c.requires.open.packages_ c.encode_func_type.ensures.leaves.scope_stays (λ i. (c.export_function.ensures.resolve i).now)
+    c.export_function.ensures.maps c.in_ok-index.ensures.counts.2.shows
+    (c.export_function.ensures.ok (signature_of c.args.resolve.now c.args.func.now) c.in_ok-index.ensures.ok)
+    (stays (goal.at.returns-clause-names_stay c).After-export_function)
+
+pub returns-in_err-index-clause-continues : goal.returns-in_err-index-clause-continues
+returns-in_err-index-clause-continues c = record {
+  packages_ = search rules;
+  inside = search rules;
+  continues = after-types c.args.resolve.now c.args.self.now.resolve.now c.encode_func_type.new.enc.resolve.now c.args.self.now.outer c.encode_func_type.new.enc.outer c.args.self.now.inner c.encode_func_type.new.enc.inner
+      c.args.self.now.maps c.encode_func_type.new.enc.maps c.requires.open.packages_ c.encode_func_type.ensures.leaves.scope_stays c.encode_func_type.ensures.leaves.agree c.encode_func_type.ensures.leaves.grows.around_;
+}
+
+pub returns-clause-learns : goal.returns-clause-learns
+returns-clause-learns c = on-any c.export_function.result (subst (λ (m : TypeEncodingMaps). LearnsFrom c.args.resolve.now (own_of c.args.self.now.inner) (function_types c.args.func.now) c.args.self.now.maps m) (sym c.export_function.ensures.maps)
+    (from-met c.args.resolve.now (own_of c.args.self.now.inner) (function_types c.args.func.now) c.args.self.now.maps c.encode_func_type.new.enc.maps c.in_ok-index.ensures.learns))
+
+pub returns-clause-held : goal.returns-clause-held
+returns-clause-held c = on-any c.export_function.result (holds-same 1 1 (ap (λ (m : TypeEncodingMaps). m.id_to_index.entries) c.export_function.ensures.maps) c.export_function.ensures.held c.in_ok-index.ensures.held)
+
+pub returns-in_err-index-clause-size : goal.returns-in_err-index-clause-size
+returns-in_err-index-clause-size c = λ h.
+    room-more refl (λ n x. x) (λ q k. Contains-append_left (function_type (signature_of c.args.resolve.now c.args.func.now) ∷ []) (export_name (function_name (text_of c.args.name.now, c.args.func.now)) ∷ []) q k) (omega arith) (c.encode_func_type.ensures.size (search rules))
+
+pub returns-clause-size : goal.returns-clause-size
+returns-clause-size c = λ h.
+    let name : Request = export_name (function_name (text_of c.args.name.now, c.args.func.now)) in
+    let between = encoder_view c.encode_func_type.new.enc in
+    let after = encoder_view c.export_function.new.self in
+    room-after c.in_ok-index.ensures.held c.encode_func_type.ensures.leaves.agree.once (ap (λ (s : Scope). s.own_interface) c.encode_func_type.ensures.leaves.scope_stays)
+    (only-reached c.args.resolve.now (own_of c.args.self.now.inner) (function_types c.args.func.now) c.in_ok-index.ensures.learns.only) (λ n x. x) (λ q k. Contains-append_right (function_type (signature_of c.args.resolve.now c.args.func.now) ∷ []) (name ∷ []) q k) (omega arith)
+    (lacks-request c.args.resolve.now between.scope.own_interface (function_types c.args.func.now) name between.maps between.held after.held after.lacks_room c.export_function.ensures.held
+    (subst after.lacks_room (ap export_name (function-named (raw_name c.name_of.result) (text_of c.args.name.now, c.args.func.now) c.name_of.ensures.text c.name_of.ensures.implements c.name_of.ensures.version_suffix c.name_of.ensures.external_id)) (c.export_function.ensures.size h)))
+
+pub returns-clause-written : goal.returns-clause-written
+returns-clause-written c =
+    let named = ap name_extent (function-named (raw_name c.name_of.result) (text_of c.args.name.now, c.args.func.now) c.name_of.ensures.text c.name_of.ensures.implements c.name_of.ensures.version_suffix c.name_of.ensures.external_id) in
+    let between = encoder_view c.encode_func_type.new.enc in
+    let after = encoder_view c.export_function.new.self in
+    on_ok c.export_function.result _ _
+    (λ w.
+    let more : after.extent ≤ between.extent + name_extent (function_name (text_of c.args.name.now, c.args.func.now)) = (let l = w.extent in omega (arith, named, l)) in
+    writes-beside (name_extent (function_name (text_of c.args.name.now, c.args.func.now))) c.in_ok-index.ensures.written more (ap (λ (m : TypeEncodingMaps). m.id_to_index.entries) c.export_function.ensures.maps)) c.export_function.ensures.written

@@ -1,0 +1,106 @@
+use Rattle.std.proofs.Common.{rules, refl, arith, ℕ, String, Global, ◌∙◌, ap, ◌++◌, map}
+use Rattle.std.specs.Borrow.{Bor}
+use Rattle.std.proofs.lemmas.Grind.{common_steps}
+use Rattle.wit_model.specs.declared.model.Function.{Function}
+use Rattle.wit_encode.specs.Instance.{own_of}
+use Rattle.wit_encode.proofs.Referring.{from-function, from-functions}
+use Rattle.encode_types.proofs.Lists.{contains-at}
+use Rattle.wit_encode.proofs.Counting.{adds-nothing, functions-counted, functions-all, names-after}
+use Rattle.wit_encode.proofs.Continuing.{function-continues, continues-trans}
+use Rattle.std.proofs.lemmas.List.{take_all}
+use Rattle.wit_encode.specs.Instance.{placed_function, meaning_of, contents_of, definitions_with, encoder_scope}
+use Rattle.wit_encode.proofs.FunctionExports.{used-kept}
+use Rattle.wit_model.proofs.Elements.{contains-map}
+use Rattle.std.proofs.Math.ListN.{length-map}
+use Rattle.wit_model.specs.Parts.{function_types}
+use Rattle.encode_types.specs.Room.{function_requests}
+use Rattle.wit_encode.proofs.Refusing.{two-each}
+use Rattle.encode_types.proofs.Rooms.{holds-most, holds-then, room-after, only-more, flat-taken}
+use Rattle.wit_encode.proofs.interface.InstanceEncoderOf+TypeEncodingMaps.encode_functions.Goals as goal
+use Rattle.wit_encode.proofs.BytesWritten.{functions-next, functions-whole}
+use Rattle.encode_types.proofs.Writing.{writes-along, writes-most, writes-nothing}
+use Rattle.encode_types.specs.Extents.{function_extent}
+use Rattle.wit_encode.specs.Encoders.{encoder_view}
+use Rattle.wit_model.proofs.Elements.{contains-flat}
+
+pub encode_function-requires-clause-encodable : goal.encode_function-requires-clause-encodable
+encode_function-requires-clause-encodable c = function-continues _ c.loop-entry.invariant.continues (c.requires.encodable c.entry-item.result (contains-at c.args.functions.now c.loop-entry.entry-index c.entry-item.result c.loop-entry-test.true c.entry-item.is))
+
+pub loop-entry-preserved : goal.loop-entry-preserved
+loop-entry-preserved c = record {
+  packages_ = search rules;
+  own = search rules;
+  continues = continues-trans c.loop-entry.invariant.continues c.encode_function.ensures.continues.continues refl;
+  shows = grind (arith, common_steps);
+  counts =
+      functions-counted (λ (f : ℕ × Bor (String Global) × Bor Function). f.2.now)
+      c.args.functions.now c.loop-entry.entry-index c.entry-item.result c.loop-entry-test.true c.entry-item.is c.loop-entry.invariant.own c.loop-entry.invariant.counts
+      c.in_ok-encode_function.ensures.counts;
+  learns = from-function (λ (f : ℕ × Bor (String Global) × Bor Function). f.2.now) c.args.resolve.now (own_of c.args.self.now.inner) (own_of c.loop-entry.self.inner) c.args.functions.now c.loop-entry.entry-index c.entry-item.result
+      c.args.self.now.maps c.loop-entry.self.maps c.encode_function.new.self.maps c.loop-entry-test.true c.entry-item.is c.loop-entry.invariant.own c.loop-entry.invariant.learns c.in_ok-encode_function.ensures.learns;
+  names =
+      names-after c.args.resolve.now (encoder_scope c.args.resolve.now c.args.self.now.outer c.args.self.now.inner)
+      (encoder_scope c.args.resolve.now c.loop-entry.self.outer c.loop-entry.self.inner) c.args.self.now.maps c.loop-entry.self.maps c.encode_function.new.self.maps
+      c.loop-entry.invariant.own c.loop-entry.invariant.names c.in_ok-encode_function.ensures.names_stay;
+  within = omega arith;
+  held = holds-most (omega arith) (holds-then c.loop-entry.invariant.held c.in_ok-encode_function.ensures.held);
+  written =
+      let next = functions-next (function_extent c.args.resolve.now) placed_function c.args.functions.now c.loop-entry.entry-index c.entry-item.result c.loop-entry-test.true c.entry-item.is in
+      writes-most (omega (arith, next)) (writes-along c.loop-entry.invariant.own c.loop-entry.invariant.written c.in_ok-encode_function.ensures.written);
+  grow = search rules;
+  types_stay = search rules;
+}
+
+pub encode_function-requires-clause-used : goal.encode_function-requires-clause-used
+encode_function-requires-clause-used c = used-kept c.args.resolve.now c.args.self.now.maps c.loop-entry.self.maps c.entry-item.result.2.now c.loop-entry.invariant.grow
+    (c.requires.used c.entry-item.result (contains-at c.args.functions.now c.loop-entry.entry-index c.entry-item.result c.loop-entry-test.true c.entry-item.is))
+
+pub returns-clause-shows : goal.returns-clause-shows
+returns-clause-shows c = c.loop-entry.invariant.shows
+    ∙ ap (λ fs. (contents_of c.args.resolve.now c.args.self.now.outer c.args.self.now.inner).shown.functions ++ map (λ f. meaning_of c.args.resolve.now (placed_function f)) fs) (take_all c.loop-entry.entry-index c.args.functions.now c.loop-entry-test.false)
+
+pub returns-clause-counts : goal.returns-clause-counts
+returns-clause-counts c = functions-all (λ (f : ℕ × Bor (String Global) × Bor Function). f.2.now) c.args.functions.now c.loop-entry.entry-index c.loop-entry-test.false c.loop-entry.invariant.counts
+
+pub returns-in_err-encode_function-clause-continues : goal.returns-in_err-encode_function-clause-continues
+returns-in_err-encode_function-clause-continues c = record { packages_ = search rules; inside = search rules; continues = continues-trans c.loop-entry.invariant.continues c.encode_function.ensures.continues.continues refl }
+
+pub returns-clause-learns : goal.returns-clause-learns
+returns-clause-learns c = from-functions (λ (f : ℕ × Bor (String Global) × Bor Function). f.2.now) c.args.resolve.now (own_of c.args.self.now.inner) c.args.functions.now c.loop-entry.entry-index c.args.self.now.maps c.loop-entry.self.maps
+    c.loop-entry-test.false c.loop-entry.invariant.learns
+
+pub returns-clause-held : goal.returns-clause-held
+returns-clause-held c = holds-most (let w = c.loop-entry.invariant.within in omega arith) c.loop-entry.invariant.held
+
+pub returns-in_err-encode_function-clause-size : goal.returns-in_err-encode_function-clause-size
+returns-in_err-encode_function-clause-size c = λ h.
+    let at = contains-at c.args.functions.now c.loop-entry.entry-index c.entry-item.result c.loop-entry-test.true c.entry-item.is in
+    let count = two-each c.args.resolve.now (map placed_function c.args.functions.now) in
+    let length-is = length-map c.args.functions.now placed_function in
+    let before = c.loop-entry-test.true in
+    room-after c.loop-entry.invariant.held c.loop-entry.invariant.continues.agree.once c.loop-entry.invariant.own
+    (only-more (λ n x. (x.0, flat-taken function_types (λ (f : ℕ × Bor (String Global) × Bor Function). f.2.now) c.args.functions.now c.loop-entry.entry-index x.0 x.1, x.2)) c.loop-entry.invariant.learns.only)
+    (λ n x. (x.0, contains-flat function_types _ c.entry-item.result.2.now x.0 (contains-map (λ (f : ℕ × Bor (String Global) × Bor Function). f.2.now) c.args.functions.now c.entry-item.result at) x.1, x.2))
+    (λ q k. contains-flat (function_requests c.args.resolve.now) _ (placed_function c.entry-item.result) q (contains-map placed_function c.args.functions.now c.entry-item.result at) k)
+    (omega arith) (c.encode_function.ensures.size (search rules))
+
+pub loop-entry-init : goal.loop-entry-init
+loop-entry-init c = record {
+  packages_ = search rules;
+  own = search rules;
+  continues = search rules;
+  shows = search rules;
+  counts = adds-nothing c.args.resolve.now (encoder_scope c.args.resolve.now c.args.self.now.outer c.args.self.now.inner) c.args.self.now.maps (definitions_with (contents_of c.args.resolve.now c.args.self.now.outer c.args.self.now.inner));
+  learns = search rules;
+  names = search rules;
+  within = omega arith;
+  held = search rules;
+  written = writes-nothing c.args.resolve.now _ (encoder_view c.args.self.now);
+  grow = search rules;
+  types_stay = search rules;
+}
+
+pub returns-clause-written : goal.returns-clause-written
+returns-clause-written c =
+    let all = functions-whole (function_extent c.args.resolve.now) placed_function c.args.functions.now c.loop-entry.entry-index c.loop-entry-test.false in
+    writes-most (omega (arith, all)) c.loop-entry.invariant.written

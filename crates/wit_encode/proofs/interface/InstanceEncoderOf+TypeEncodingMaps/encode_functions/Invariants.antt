@@ -1,0 +1,32 @@
+use Rattle.std.proofs.Common.{◌≡◌, ◌≤◌, ◌*◌, ◌++◌, map, take, length}
+use Rattle.encode_types.specs.View.{HoldsLearnt, WritesLearnt}
+use Rattle.wit_encode.specs.Encoders.{encoder_view}
+use Rattle.std.specs.List.{flat_map}
+use Rattle.std.specs.Prelude.{sum_by}
+use Rattle.encode_types.specs.Extents.{function_extent}
+use Rattle.wit_model.specs.Parts.{function_types}
+use Rattle.encode_types.specs.MetKinds.{LearnsFrom}
+use Rattle.encode_types.specs.Counts.{names_defined}
+use Rattle.encode_types.specs.Distinct.{AddsFunctions}
+use Rattle.wit_encode.specs.Instance.{placed_function, meaning_of, own_of, contents_of, encoder_scope, definitions_with, Continues, exports_in}
+use Rattle.encode_types.specs.Maps.{MapsGrow}
+use Rattle.wit_encode.proofs.interface.InstanceEncoderOf+TypeEncodingMaps.encode_functions.Given as goal
+
+abbrev pub invariant-loop-entry : goal.invariant-loop-entry
+invariant-loop-entry l = record {
+  packages_ : l.self.resolve.now ≡ l.resolve;
+  own : own_of l.self.inner ≡ own_of l.fn.self.inner;
+  continues : Continues l.resolve l.resolve l.fn.self.outer l.self.outer l.fn.self.inner l.self.inner l.fn.self.maps l.self.maps;
+  shows : (contents_of l.resolve l.self.outer l.self.inner).shown.functions ≡ (contents_of l.resolve l.fn.self.outer l.fn.self.inner).shown.functions ++ map (λ f. meaning_of l.resolve (placed_function f)) (take l.entry-index l.functions);
+  counts : AddsFunctions l.resolve (encoder_scope l.resolve l.fn.self.outer l.fn.self.inner) l.fn.self.maps l.self.maps
+      (definitions_with (contents_of l.resolve l.fn.self.outer l.fn.self.inner)) (definitions_with (contents_of l.resolve l.self.outer l.self.inner))
+      (map (λ f. f.2.now) (take l.entry-index l.functions));
+  learns : LearnsFrom l.resolve (own_of l.fn.self.inner) (flat_map function_types (map (λ f. f.2.now) (take l.entry-index l.functions))) l.fn.self.maps l.self.maps;
+  names : names_defined l.resolve (encoder_scope l.resolve l.fn.self.outer l.fn.self.inner) l.self.maps ≡ names_defined l.resolve
+      (encoder_scope l.resolve l.fn.self.outer l.fn.self.inner) l.fn.self.maps;
+  within : l.entry-index ≤ length l.functions;
+  held : HoldsLearnt (2 * l.entry-index) (encoder_view l.fn.self) (encoder_view l.self);
+  written : WritesLearnt l.resolve (sum_by (function_extent l.resolve) (map placed_function (take l.entry-index l.functions))) (encoder_view l.fn.self) (encoder_view l.self);
+  grow : MapsGrow l.fn.self.maps l.self.maps;
+  types_stay : exports_in l.resolve l.self.outer l.self.inner ≡ exports_in l.resolve l.fn.self.outer l.fn.self.inner;
+}

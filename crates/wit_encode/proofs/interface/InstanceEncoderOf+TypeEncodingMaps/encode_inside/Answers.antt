@@ -1,0 +1,112 @@
+use Rattle.std.proofs.Common.{◌≡◌, sym, subst, ap, ◌∙◌, ◌++◌, ◌∷◌, [], List, map, Option, Some, rules, refl, length}
+use Rattle.wit_model.specs.declared.model.«Type».TheVariants as ty
+use Rattle.wit_model.specs.declared.model.Function.{Function}
+use Rattle.encode_types.specs.declared.maps.TypeEncodingMaps.{TypeEncodingMaps}
+use Rattle.wit_encode.specs.declared.interface.OpenInterface.{OpenInterface}
+use Rattle.encode_types.specs.Fits.{CanEncode}
+use Rattle.encode_types.specs.Maps.{MapsAgree}
+use Rattle.wit_model.proofs.Lists.{first_true}
+use Rattle.encode_types.specs.Distinct.{AddsFunctions}
+use Rattle.wit_encode.specs.Instance.{Contents, SlotsStand, stands_inside, encoder_scope, contents_of, definitions_with, CanEncodeFunction, Continues, placed_function, meaning_of, exports_in, opened, around_at}
+use Rattle.wit_encode.proofs.Referring.{interface-kinds}
+use Rattle.wit_encode.proofs.Opening.{closed, closed-instance, closed-around, listed-there, opened-exports, opened-with}
+use Rattle.encode_types.specs.Known.{GrowsAround}
+use Rattle.wit_encode.proofs.Counting.{Began, Counted, closed-counts}
+use Rattle.wit_encode.proofs.Refusing.{no-room}
+use Rattle.wit_encode.proofs.interface.InstanceEncoderOf+TypeEncodingMaps.encode_inside.Goals as goal
+use Rattle.wit_encode.proofs.interface.InstanceEncoderOf+TypeEncodingMaps.encode_inside.Goals.{After-new-2, In-Some, In_ok-outcome-in-Some}
+use Rattle.wit_encode.proofs.BytesWritten.{taken}
+
+begun : (c : After-new-2) → ◌≡◌ {A = Option OpenInterface} (Some (record { interface = c.args.interface; declared = c.new-2.result; foreign = c.replace-foreign.result })) (opened c.args.interface c.args.self.now.foreign)
+begun c = opened-with c.args.interface c.new-2.result c.replace-foreign.result c.args.self.now.foreign c.new-2.ensures c.replace-foreign.ensures.value
+
+pub encode_parts-outcome-requires-clause-types : goal.encode_parts-outcome-requires-clause-types
+encode_parts-outcome-requires-clause-types c = λ t h. subst (λ (o : Option OpenInterface). CanEncode c.args.self.now.resolve.now (encoder_scope c.args.self.now.resolve.now c.args.self.now.outer o) (ty.Id t ∷ []))
+    (sym (begun (goal.at.encode_parts-outcome-requires-clause-types c).After-new-2)) (c.requires.types t h)
+
+pub encode_parts-outcome-requires-clause-functions : goal.encode_parts-outcome-requires-clause-functions
+encode_parts-outcome-requires-clause-functions c = λ f h. subst (λ (o : Option OpenInterface). CanEncodeFunction c.args.self.now.resolve.now (encoder_scope c.args.self.now.resolve.now c.args.self.now.outer o) f.2.now)
+    (sym (begun (goal.at.encode_parts-outcome-requires-clause-functions c).After-new-2)) (c.requires.functions f h)
+
+continued : (c : In-Some) → Continues c.args.self.now.resolve.now c.args.self.now.resolve.now c.args.self.now.outer c.encode_parts-outcome.new.self.outer (opened c.args.interface c.args.self.now.foreign) c.encode_parts-outcome.new.self.inner c.replace-saved.new.dest c.encode_parts-outcome.new.self.maps
+continued c =
+    let after = c.encode_parts-outcome.new.self in
+    subst (λ (o : Option OpenInterface). Continues c.args.self.now.resolve.now c.args.self.now.resolve.now c.args.self.now.outer after.outer o after.inner c.replace-saved.new.dest after.maps)
+    (opened-with c.args.interface c.new-2.result c.replace-foreign.result c.args.self.now.foreign c.new-2.ensures c.replace-foreign.ensures.value) c.encode_parts-outcome.ensures.continues.continues
+
+around-grown : (c : In-Some) → GrowsAround c.args.self.now.resolve.now (around_at c.args.self.now.outer c.args.self.now.foreign) (around_at c.encode_parts-outcome.new.self.outer c.in-Some.current.foreign)
+around-grown c = closed-around c.args.self.now.resolve.now c.args.self.now.outer c.encode_parts-outcome.new.self.outer c.args.interface c.args.self.now.foreign c.encode_parts-outcome.new.self.inner c.in-Some.current _ _
+    (sym c.replace-inner.ensures.value ∙ c.in-Some.is) (continued c)
+
+pub returns-clause-reaches : goal.returns-clause-reaches
+returns-clause-reaches c = around-grown (goal.at.returns-clause-reaches c).In-Some
+
+pub returns-in_err-outcome-in-Some-clause-reaches : goal.returns-in_err-outcome-in-Some-clause-reaches
+returns-in_err-outcome-in-Some-clause-reaches c = around-grown (goal.at.returns-in_err-outcome-in-Some-clause-reaches c).In-Some
+
+pub returns-clause-ok : goal.returns-clause-ok
+returns-clause-ok c =
+    let r = c.args.self.now.resolve.now in
+    let after = c.encode_parts-outcome.new.self in
+    let known = c.args.self.now.foreign in
+    let continues = continued (goal.at.returns-clause-ok c).In-Some in
+    let shows = subst (λ (o : Option OpenInterface). (contents_of c.args.self.now.resolve.now after.outer after.inner).shown.functions ≡ (contents_of c.args.self.now.resolve.now c.args.self.now.outer o).shown.functions ++ map (λ f. meaning_of c.args.self.now.resolve.now (placed_function f)) c.args.functions.now)
+    (begun (goal.at.returns-clause-ok c).After-new-2) c.in_ok-outcome-in-Some.ensures.shows in
+    closed-instance r c.requires.valid c.args.self.now.outer after.outer c.args.interface c.requires.listed.def (listed-there r c.args.interface c.args.types.now c.requires.listed) known after.inner c.in-Some.current _ _ _ (sym c.replace-inner.ensures.value ∙ c.in-Some.is) c.encode_parts-outcome.ensures.continues.inside continues shows c.in_ok-outcome-in-Some.ensures.exported
+
+began : (c : In-Some) → Began c.replace-saved.new.dest
+began c =
+    let same = c.replace-saved.ensures.after in
+    record {
+      numbers = ap (λ (m : TypeEncodingMaps). m.id_to_index.entries) same ∙ c.new.ensures.ids;
+      kinds = ap (λ (m : TypeEncodingMaps). m.def_to_index.entries) same ∙ c.new.ensures.kinds;
+      keys = ap (λ (m : TypeEncodingMaps). m.func_type_map.entries) same ∙ c.new.ensures.functions;
+    }
+
+counted : (c : In_ok-outcome-in-Some) → Began c.replace-saved.new.dest → Continues c.args.self.now.resolve.now c.args.self.now.resolve.now c.args.self.now.outer c.encode_parts-outcome.new.self.outer (opened c.args.interface c.args.self.now.foreign) c.encode_parts-outcome.new.self.inner c.replace-saved.new.dest c.encode_parts-outcome.new.self.maps
+    → Counted c.args.self.now.resolve.now c.args.interface (stands_inside c.args.self.now.resolve.now c.args.interface c.encode_parts-outcome.new.self.outer c.in-Some.current.declared) (map (λ f. f.2.now) c.args.functions.now) c.args.types.now c.in-Some.current.declared
+counted c new continues =
+    let r = c.args.self.now.resolve.now in
+    let after = c.encode_parts-outcome.new.self in
+    let fs : List Function = map (λ f. f.2.now) c.args.functions.now in
+    let there = closed r c.args.self.now.outer after.outer c.args.interface c.args.self.now.foreign after.inner c.in-Some.current _ _ (sym c.replace-inner.ensures.value ∙ c.in-Some.is) c.encode_parts-outcome.ensures.continues.inside continues in
+    closed-counts r c.requires.valid c.args.self.now.outer after.outer c.args.interface c.args.self.now.foreign after.inner c.in-Some.current _ _ fs c.args.types.now
+    (sym c.replace-inner.ensures.value ∙ c.in-Some.is) new
+    (interface-kinds r _ (Some c.args.interface) c.replace-saved.new.dest after.maps _ _ c.args.types.now fs new c.in_ok-outcome-in-Some.ensures.counts c.in_ok-outcome-in-Some.ensures.learns
+    c.in_ok-outcome-in-Some.ensures.known c.encode_parts-outcome.ensures.continues.continues.agree.once c.requires.valid)
+    (subst (λ (o : Option OpenInterface). AddsFunctions c.args.self.now.resolve.now
+    (encoder_scope c.args.self.now.resolve.now c.args.self.now.outer o)
+    c.replace-saved.new.dest after.maps
+    (definitions_with (contents_of c.args.self.now.resolve.now c.args.self.now.outer o))
+    (definitions_with (contents_of c.args.self.now.resolve.now after.outer after.inner)) fs) (opened-with c.args.interface c.new-2.result c.replace-foreign.result c.args.self.now.foreign c.new-2.ensures c.replace-foreign.ensures.value) c.in_ok-outcome-in-Some.ensures.counts)
+    (subst (λ (z : Contents). MapsAgree r after.maps (SlotsStand z.slots)) there.at continues.agree) (first_true _ _ there.sound) c.in_ok-outcome-in-Some.ensures.defined
+
+pub returns-clause-function_types : goal.returns-clause-function_types
+returns-clause-function_types c = (counted c (began (goal.at.returns-clause-function_types c).In-Some) (continued (goal.at.returns-clause-function_types c).In-Some)).keys
+
+pub returns-clause-value_types : goal.returns-clause-value_types
+returns-clause-value_types c = (counted c (began (goal.at.returns-clause-value_types c).In-Some) (continued (goal.at.returns-clause-value_types c).In-Some)).types
+
+pub encode_parts-outcome-requires-clause-begins : goal.encode_parts-outcome-requires-clause-begins
+encode_parts-outcome-requires-clause-begins c = record {
+  packages_ = search rules;
+  agree = search rules;
+  valid = c.requires.valid;
+  listed = search rules;
+  fresh = search rules;
+  unshown = subst (λ (o : Option OpenInterface). exports_in c.args.self.now.resolve.now c.args.self.now.outer o ≡ []) (sym (begun (goal.at.encode_parts-outcome-requires-clause-begins c).After-new-2))
+      (opened-exports c.args.self.now.resolve.now c.args.self.now.outer c.args.interface c.args.self.now.foreign);
+}
+
+pub returns-in_err-outcome-in-Some-clause-size : goal.returns-in_err-outcome-in-Some-clause-size
+returns-in_err-outcome-in-Some-clause-size c = λ h.
+    let after = c.encode_parts-outcome.new.self in
+    no-room after.outer after.inner refl (ap length c.new-2.ensures) c.encode_parts-outcome.ensures.continues.packages_
+    (λ full. record { after = around_at c.encode_parts-outcome.new.self.outer c.in-Some.current.foreign; grown = around-grown (goal.at.returns-in_err-outcome-in-Some-clause-size c).In-Some; full = full })
+    (c.encode_parts-outcome.ensures.size (search rules))
+
+pub returns-clause-written : goal.returns-clause-written
+returns-clause-written c =
+    let after = c.encode_parts-outcome.new.self in
+    taken c.args.self.now.resolve.now c.args.interface _ _ c.replace-saved.new.dest after.maps c.args.self.now.outer after.outer after.inner c.new-2.result c.in-Some.current (began (goal.at.returns-clause-written c).In-Some).numbers c.new-2.ensures
+    (sym c.replace-inner.ensures.value ∙ c.in-Some.is) c.encode_parts-outcome.ensures.continues.continues.agree.once c.in_ok-outcome-in-Some.ensures.learns.only c.in_ok-outcome-in-Some.ensures.written.extent

@@ -1,0 +1,89 @@
+use Rattle.std.proofs.Common.{◌≡◌, refl, sym, subst, ◌∙◌, List, Some}
+use Rattle.std.specs.List.{Contains}
+use Rattle.std.proofs.lemmas.Option.{slice_get_read}
+use Rattle.wit_model.specs.Lookup.{interface_at}
+use Rattle.wit_model.specs.declared.model.TypeId.{TypeId}
+use Rattle.wit_encode.specs.Instance.{keyed, EncodesPart, EncodesInterface, CanEncodeInterface}
+use Rattle.std.specs.Prelude.{map, IsPermutation}
+use Rattle.indexmap.specs.IndexMap.{values}
+use Rattle.wit_encode.specs.Instance.{placed_function}
+use Rattle.wit_encode.proofs.Encodable.{valid-encodable}
+use Rattle.wit_encode.specs.Encoders.{outside}
+use Rattle.wit_encode.proofs.Closing.{whole}
+use Rattle.wit_encode.proofs.Opening.{ok-then, permuted-contains}
+use Rattle.wit_encode.specs.Exports.{UsesListed}
+use Rattle.wit_encode.proofs.Exporting.{uses-listed}
+use Rattle.wit_encode.proofs.FunctionExports.{keyed-value}
+use Rattle.std.proofs.Common.{inl, inr, ap}
+use Rattle.wit_model.specs.declared.model.Interface.{Interface}
+use Rattle.wit_encode.specs.Order.{functions_in_order}
+use Rattle.wit_encode.proofs.Refusing.{room-listed}
+use Rattle.wit_encode.proofs.interface.InstanceEncoderOf+TypeEncodingMaps.encode_instance.Goals as goal
+use Rattle.wit_encode.proofs.interface.InstanceEncoderOf+TypeEncodingMaps.encode_instance.Goals.{After-index-def}
+use Rattle.wit_encode.proofs.BytesWritten.{whole-few}
+use Rattle.encode_types.proofs.Agree.{on_ok}
+use Rattle.wit_model.proofs.Elements.{contains-map}
+
+there : (c : After-index-def) → interface_at c.args.self.now.resolve.now c.args.interface.0 ≡ Some c.index-def.result.now
+there c = slice_get_read _ _ _ _ refl c.requires.in_range c.index-def.ensures
+
+encodable : (c : After-index-def) → CanEncodeInterface c.args.self.now.resolve.now c.args.self.now.outer c.args.interface c.args.self.now.foreign c.index-def.result.now
+encodable c = valid-encodable c.args.self.now.resolve.now c.requires.valid c.args.self.now.outer c.args.interface c.args.self.now.foreign c.index-def.result.now (there c) c.requires.around
+
+pub encode_part-requires-clause-types : goal.encode_part-requires-clause-types
+encode_part-requires-clause-types c = λ t h.
+    (encodable (goal.at.encode_part-requires-clause-types c).After-index-def).types t
+    (subst (λ (xs : List TypeId). Contains xs t) (c.deref.ensures.value ∙ c.in_ok-types.ensures) h)
+
+pub encode_part-requires-clause-functions : goal.encode_part-requires-clause-functions
+encode_part-requires-clause-functions c = λ f h.
+    (encodable (goal.at.encode_part-requires-clause-functions c).After-index-def).functions (placed_function f)
+    (permuted-contains _ _ (placed_function f) c.in_ok-functions.ensures.all (contains-map placed_function c.in_ok-functions.functions.items f (rw c.deref-2.ensures.value at h)))
+
+pub encode_part-requires-clause-listed : goal.encode_part-requires-clause-listed
+encode_part-requires-clause-listed c = record {
+  id = c.args.interface;
+  is = refl;
+  def = c.index-def.result.now;
+  there = there (goal.at.encode_part-requires-clause-listed c).After-index-def;
+  listed = c.deref.ensures.value ∙ c.in_ok-types.ensures;
+}
+
+pub encode_part-requires-clause-uses : goal.encode_part-requires-clause-uses
+encode_part-requires-clause-uses c = λ f h. subst (λ (xs : List TypeId). UsesListed c.args.self.now.resolve.now xs f.2.now) (sym (c.deref.ensures.value ∙ c.in_ok-types.ensures))
+    (uses-listed c.args.self.now.resolve.now c.requires.valid c.args.interface.0 c.index-def.result.now (there (goal.at.encode_part-requires-clause-uses c).After-index-def) f.2.now
+    (keyed-value c.index-def.result.now.functions.entries (placed_function f) (permuted-contains _ _ (placed_function f) c.in_ok-functions.ensures.all (contains-map placed_function c.in_ok-functions.functions.items f (rw c.deref-2.ensures.value at h)))))
+
+some-same : (a b : Interface) → Some a ≡ Some b → a ≡ b
+some-same a b e = cc
+
+pub returns-clause-ok : goal.returns-clause-ok
+returns-clause-ok c =
+    let at = there (goal.at.returns-clause-ok c).After-index-def in
+    let r = c.args.self.now.resolve.now in
+    let fs = c.deref-2.result.now in
+    ok-then c.encode_part.result (λ k. (def : Interface) → interface_at r c.args.interface.0 ≡ Some def → EncodesPart r (outside c.args.self.now) (outside c.encode_part.new.self) c.args.interface def (map placed_function fs) (map (λ f. f.2.now) fs) k)
+    (λ k. (def : Interface) → interface_at r c.args.interface.0 ≡ Some def → EncodesInterface r (outside c.args.self.now) (outside c.encode_part.new.self) c.args.interface def k)
+    (λ k all def is.
+    let is_def = some-same c.index-def.result.now def (sym at ∙ is) in
+    whole r c.requires.valid (outside c.args.self.now) (outside c.encode_part.new.self) c.args.interface def fs k is
+    (subst (λ (d : Interface). IsPermutation (map keyed d.functions.entries) (map placed_function fs)) is_def
+    (subst (λ xs. IsPermutation (map keyed c.index-def.result.now.functions.entries) (map placed_function xs)) (sym c.deref-2.ensures.value) c.in_ok-functions.ensures.all))
+    (ap (map placed_function) c.deref-2.ensures.value ∙ c.in_ok-functions.ensures.order ∙ ap functions_in_order is_def) (all def is))
+    c.encode_part.ensures.ok
+
+pub returns-clause-size : goal.returns-clause-size
+returns-clause-size c = λ h def is.
+    let at = there (goal.at.returns-clause-size c).After-index-def in
+    let is_def = some-same c.index-def.result.now def (sym at ∙ is) in
+    let same : map placed_function c.deref-2.result.now ≡ functions_in_order def =
+    ap (map placed_function) c.deref-2.ensures.value ∙ c.in_ok-functions.ensures.order ∙ ap functions_in_order is_def in
+    elim (c.encode_part.ensures.size h) [
+      | inl room ↦ inl (room-listed c.args.self.now.resolve.now c.args.interface _ _ c.deref-2.result.now _ (c.deref.ensures.value ∙ c.in_ok-types.ensures ∙ ap (λ (z : Interface). values z.types) is_def) same room)
+      | inr around ↦ inr around
+    ]
+
+pub returns-clause-written : goal.returns-clause-written
+returns-clause-written c = on_ok c.encode_part.result _ _
+    (λ t. whole-few c.args.self.now.resolve.now c.requires.valid c.args.interface c.index-def.result.now (there (goal.at.returns-clause-written c).After-index-def) c.deref.result.now (c.deref.ensures.value ∙ c.in_ok-types.ensures)
+    c.deref-2.result.now (ap (map placed_function) c.deref-2.ensures.value ∙ c.in_ok-functions.ensures.order) c.args.self.now.outer c.encode_part.new.self.outer t) c.encode_part.ensures.written

@@ -1,0 +1,83 @@
+use Rattle.std.proofs.Common.{◌≡◌, inl, inr, List, take, refl, sym, subst, ap, arith, [], ◌∷◌, get_or, map, rules}
+use Rattle.wit_encode.specs.Encoders.{encoder_view}
+use Rattle.encode_types.proofs.Rooms.{holds-none, holds-then, room-after, only-more, map-taken}
+use Rattle.std.proofs.lemmas.Option.{slice_get-get_or}
+use Rattle.wit_model.specs.declared.model.Resolve.{Resolve}
+use Rattle.std.proofs.lemmas.List.Elements.{Contains-get_or}
+use Rattle.wit_model.specs.declared.model.«Type».TheVariants as ty
+use Rattle.wit_model.specs.declared.model.TypeId.{TypeId}
+use Rattle.encode_types.specs.Scope.{Scope}
+use Rattle.encode_types.specs.Fits.{CanEncode}
+use Rattle.wit_encode.specs.Instance.{own_of, declarations_in, contents_of, encoder_scope, definitions_with}
+use Rattle.wit_encode.proofs.Referring.{from-none, from-type, from-types}
+use Rattle.encode_types.proofs.Defining.{leaves-kept, leaves-trans, counts-none, counts-trans}
+use Rattle.std.specs.List.{Contains}
+use Rattle.std.proofs.lemmas.List.{take_all}
+use Rattle.encode_types.proofs.Around.{around-same}
+use Rattle.wit_encode.proofs.Counting.{exact-names}
+use Rattle.wit_encode.proofs.Exporting.{exports-start, exports-next, exports-end}
+use Rattle.wit_encode.proofs.interface.InstanceEncoderOf+TypeEncodingMaps.encode_types.Goals as goal
+use Rattle.encode_types.proofs.Writing.{writes-nothing, writes-then}
+use Rattle.wit_model.proofs.Elements.{contains-map, one-contained}
+
+pub loop-id-init : goal.loop-id-init
+loop-id-init c = record {
+  leaves = leaves-kept c.requires.begins.agree (record { kept = λ i m h. h; more = omega arith; around_ = around-same refl }) refl refl;
+  held = holds-none c.args.self.now.maps (encoder_view c.args.self.now).held;
+  written = writes-nothing c.args.resolve.now 0 (encoder_view c.args.self.now);
+  learns = from-none c.args.resolve.now (own_of c.args.self.now.inner) _ c.args.self.now.maps;
+  first = exports-start c.args.resolve.now c.requires.begins.valid (encoder_scope c.args.self.now.resolve.now c.args.self.now.outer c.args.self.now.inner) c.args.types.now c.requires.begins.listed (ap (λ (z : Resolve). declarations_in z (own_of c.args.self.now.inner)) c.requires.begins.packages_) c.args.self.now.maps (definitions_with (contents_of c.args.self.now.resolve.now c.args.self.now.outer c.args.self.now.inner)) c.requires.begins.fresh c.requires.begins.unshown;
+  counts = counts-none c.args.resolve.now _ c.args.self.now.maps (definitions_with (contents_of c.args.self.now.resolve.now c.args.self.now.outer c.args.self.now.inner));
+}
+
+pub encode_valtype-requires : goal.encode_valtype-requires
+encode_valtype-requires c = λ _. (
+  (refl, tt),
+  (let t : TypeId = get_or c.args.types.now c.loop-id.id-index (record { 0 = 0 }) in (
+    subst (λ (s : Scope). CanEncode c.args.resolve.now s (ty.Id t ∷ [])) (sym c.loop-id.invariant.leaves.scope_stays) (c.requires.encodable t (Contains-get_or c.args.types.now c.loop-id.id-index (record { 0 = 0 }) c.loop-id-test.true)),
+    c.loop-id.invariant.leaves.agree,
+  )),
+)
+
+pub loop-id-preserved : goal.loop-id-preserved
+loop-id-preserved c = record {
+  leaves = leaves-trans c.loop-id.invariant.leaves c.encode_valtype.ensures.leaves;
+  held = holds-then c.loop-id.invariant.held c.in_ok-encode_valtype.ensures.held;
+  written = writes-then c.loop-id.invariant.leaves.scope_stays c.loop-id.invariant.written c.in_ok-encode_valtype.ensures.written;
+  learns = from-type c.args.resolve.now (own_of c.args.self.now.inner) (own_of c.loop-id.self.inner) c.args.types.now c.loop-id.id-index (record { 0 = 0 }) c.args.self.now.maps c.loop-id.self.maps c.encode_valtype.new.enc.maps
+      c.loop-id-test.true (ap (λ (z : Scope). z.own_interface) c.loop-id.invariant.leaves.scope_stays) c.loop-id.invariant.learns c.in_ok-encode_valtype.ensures.learns;
+  first = exports-next c.args.resolve.now c.requires.begins.valid (encoder_scope c.args.self.now.resolve.now c.args.self.now.outer c.args.self.now.inner) c.args.types.now c.requires.begins.listed (ap (λ (z : Resolve). declarations_in z (own_of c.args.self.now.inner)) c.requires.begins.packages_)
+      c.loop-id.id-index (get_or c.args.types.now c.loop-id.id-index (record { 0 = 0 })) (slice_get-get_or c.args.types.now c.loop-id.id-index (record { 0 = 0 }) c.loop-id-test.true) _ c.loop-id.invariant.leaves.scope_stays _ _ _ _
+      c.loop-id.invariant.first c.encode_valtype.ensures.leaves.agree.once c.encode_valtype.ensures.leaves.maps_grow c.in_ok-encode_valtype.ensures.knows c.in_ok-encode_valtype.ensures.learns.only c.in_ok-encode_valtype.ensures.counts.shows;
+  counts = counts-trans c.loop-id.invariant.leaves.scope_stays c.loop-id.invariant.counts c.in_ok-encode_valtype.ensures.counts;
+}
+
+pub returns-in_err-encode_valtype-clause-leaves : goal.returns-in_err-encode_valtype-clause-leaves
+returns-in_err-encode_valtype-clause-leaves c = leaves-trans c.loop-id.invariant.leaves c.encode_valtype.ensures.leaves
+
+pub returns-clause-known : goal.returns-clause-known
+returns-clause-known c = (exports-end c.args.resolve.now c.requires.begins.valid (encoder_scope c.args.self.now.resolve.now c.args.self.now.outer c.args.self.now.inner) c.args.types.now c.requires.begins.listed (ap (λ (z : Resolve). declarations_in z (own_of c.args.self.now.inner)) c.requires.begins.packages_) c.loop-id.id-index c.loop-id.self.maps (definitions_with (contents_of c.loop-id.self.resolve.now c.loop-id.self.outer c.loop-id.self.inner))
+    c.loop-id-test.false c.loop-id.invariant.first).0
+
+pub returns-clause-exported : goal.returns-clause-exported
+returns-clause-exported c = (exports-end c.args.resolve.now c.requires.begins.valid (encoder_scope c.args.self.now.resolve.now c.args.self.now.outer c.args.self.now.inner) c.args.types.now c.requires.begins.listed (ap (λ (z : Resolve). declarations_in z (own_of c.args.self.now.inner)) c.requires.begins.packages_) c.loop-id.id-index c.loop-id.self.maps (definitions_with (contents_of c.loop-id.self.resolve.now c.loop-id.self.outer c.loop-id.self.inner))
+    c.loop-id-test.false c.loop-id.invariant.first).1
+
+pub returns-clause-defined : goal.returns-clause-defined
+returns-clause-defined c =
+    let all : take c.loop-id.id-index c.args.types.now ≡ c.args.types.now = take_all c.loop-id.id-index c.args.types.now c.loop-id-test.false in
+    exact-names c.args.resolve.now (encoder_scope c.args.self.now.resolve.now c.args.self.now.outer c.args.self.now.inner)
+    c.loop-id.self.maps c.args.types.now c.loop-id.invariant.leaves.agree.once
+    (λ t h. c.loop-id.invariant.first.known t (subst (λ (ts : List TypeId). Contains ts t) (sym all) h))
+    (λ t i h. elim (c.loop-id.invariant.first.alone t i h) [ inl n ↦ inl n | inr l ↦ inr (subst (λ (ts : List TypeId). Contains ts t) all l) ])
+
+pub returns-clause-learns : goal.returns-clause-learns
+returns-clause-learns c = from-types c.args.resolve.now (own_of c.args.self.now.inner) c.args.types.now c.loop-id.id-index c.args.self.now.maps c.loop-id.self.maps c.loop-id-test.false c.loop-id.invariant.learns
+
+pub returns-in_err-encode_valtype-clause-size : goal.returns-in_err-encode_valtype-clause-size
+returns-in_err-encode_valtype-clause-size c = λ h.
+    let t : TypeId = get_or c.args.types.now c.loop-id.id-index (record { 0 = 0 }) in
+    room-after c.loop-id.invariant.held c.loop-id.invariant.leaves.agree.once (ap (λ (z : Scope). z.own_interface) c.loop-id.invariant.leaves.scope_stays)
+    (only-more (λ n x. (x.0, map-taken (λ (t : TypeId). ty.Id t) c.args.types.now c.loop-id.id-index x.0 x.1, x.2)) c.loop-id.invariant.learns.only)
+    (λ n x. (x.0, subst (Contains (map (λ (t : TypeId). ty.Id t) c.args.types.now)) (one-contained (ty.Id t) x.0 x.1) (contains-map (λ (t : TypeId). ty.Id t) c.args.types.now t (Contains-get_or c.args.types.now c.loop-id.id-index (record { 0 = 0 }) c.loop-id-test.true)), x.2))
+    (λ q k. k) (omega arith) (c.encode_valtype.ensures.size (search rules))

@@ -1,0 +1,64 @@
+use Rattle.std.proofs.Common.{inl, sym, ap, ◌∙◌, subst, arith, Option, Some, rules}
+use Rattle.std.proofs.lemmas.Option.{slice_get_within}
+use Rattle.wit_encode.specs.declared.interface.OpenInterface.{OpenInterface}
+use Rattle.encode_types.specs.Scope.{IsImportable}
+use Rattle.encode_types.specs.Known.{Around, GrowsAround}
+use Rattle.wit_encode.specs.Instance.{encoder_scope, scope_with, inner_contents, place_in, around_at, around_of}
+use Rattle.encode_types.proofs.Around.{reaches-grows}
+use Rattle.wit_encode.proofs.Importing.{ImportsTo, imported, imported-stands, import-source, none-outside}
+use Rattle.wit_encode.proofs.Refusing.{alias-inside, alias-outside, held-inside}
+use Rattle.wit_encode.proofs.interface.InstanceEncoderOfTypeEncodingMapsValtypeEncoder.import_type.Goals as goal
+use Rattle.wit_encode.proofs.interface.InstanceEncoderOfTypeEncodingMapsValtypeEncoder.import_type.Goals.{After-alias_inside}
+use Rattle.wit_encode.proofs.BytesWritten.{imported-more, when-ok}
+
+pub reach-requires-clause-in_range : goal.reach-requires-clause-in_range
+reach-requires-clause-in_range c = slice_get_within c.args.self.now.resolve.now.types.items c.args.id.0 c.requires.def c.requires.there
+
+pub reach-requires-clause-source : goal.reach-requires-clause-source
+reach-requires-clause-source c = import-source c.args.self.now.resolve.now c.args.self.now.outer c.args.self.now.inner c.in-Some.current c.in-Some.is c.args.interface.0 c.args.id.0 c.requires
+
+pub unreachable-requires : goal.unreachable-requires
+unreachable-requires c = none-outside c.args.self.now.resolve.now c.args.self.now.outer c.args.interface.0 c.args.id.0
+    (subst (λ (o : Option OpenInterface). IsImportable (encoder_scope c.args.self.now.resolve.now c.args.self.now.outer o) c.args.interface.0 c.args.id.0) c.in-None.is c.requires)
+
+imports : (c : After-alias_inside) → ImportsTo c.alias_inside.result c.args.self.now.resolve.now c.args.self.now.outer c.reach.new.outer c.args.self.now.inner c.in-Some.current c.reach.new.foreign c.alias_inside.new.inner c.in-Some.is c.args.self.now.inner c.args.id.0
+imports c = imported c.alias_inside.result c.args.self.now.resolve.now c.args.self.now.outer c.reach.new.outer c.args.self.now.inner c.in-Some.current c.reach.new.foreign c.alias_inside.new.inner c.in-Some.is c.args.interface.0 c.args.id c.in_ok-slot-in-Some.slot c.requires
+    c.reach.ensures.reaches c.in_ok-slot-in-Some.ensures.slot c.alias_inside.ensures.ok c.alias_inside.ensures.err
+
+pub returns-clause-ok : goal.returns-clause-ok
+returns-clause-ok c = imported-stands c.alias_inside.result c.args.self.now.resolve.now c.args.self.now.outer c.reach.new.outer c.args.self.now.inner c.in-Some.current c.reach.new.foreign c.alias_inside.new.inner c.in-Some.is c.args.id.0 (imports c)
+
+pub returns-clause-grows : goal.returns-clause-grows
+returns-clause-grows c =
+    let g = (imports (goal.at.returns-clause-grows c).After-alias_inside).grows in
+    record { kept = g.kept; more = g.more; around_ = subst (λ (o : Option OpenInterface). GrowsAround c.args.self.now.resolve.now (around_of c.args.self.now.outer o) (around_at c.reach.new.outer c.reach.new.foreign)) (sym c.in-Some.is) (reaches-grows c.reach.ensures.reaches) }
+
+pub returns-clause-scope_stays : goal.returns-clause-scope_stays
+returns-clause-scope_stays c = (imports (goal.at.returns-clause-scope_stays c).After-alias_inside).scope_stays
+
+pub returns-clause-counts : goal.returns-clause-counts
+returns-clause-counts c = (imports (goal.at.returns-clause-counts c).After-alias_inside).counted
+
+pub returns-clause-size : goal.returns-clause-size
+returns-clause-size c = λ h. inl (alias-inside c.args.self.now.resolve.now c.alias_inside.new.inner c.args.id.0 c.in_ok-slot-in-Some.slot (c.alias_inside.ensures.size h))
+
+pub returns-clause-held : goal.returns-clause-held
+returns-clause-held c = held-inside c.args.self.now.outer c.args.self.now.inner c.in-Some.current c.alias_inside.new.inner c.in-Some.is c.alias_inside.ensures.held
+
+pub returns-in_err-slot-in-Some-clause-held : goal.returns-in_err-slot-in-Some-clause-held
+returns-in_err-slot-in-Some-clause-held c = held-inside c.args.self.now.outer c.args.self.now.inner c.in-Some.current c.in-Some.current.declared c.in-Some.is (omega arith)
+
+pub returns-in_err-slot-in-Some-clause-scope_stays : goal.returns-in_err-slot-in-Some-clause-scope_stays
+returns-in_err-slot-in-Some-clause-scope_stays c =
+    ap (λ (z : Around). scope_with c.args.self.now.resolve.now (Some c.in-Some.current.interface) z (inner_contents (place_in c.args.self.now.resolve.now (Some c.in-Some.current.interface)) z.declared c.in-Some.current.declared)) c.in_err-slot-in-Some.ensures.err
+    ∙ ap (encoder_scope c.args.self.now.resolve.now c.args.self.now.outer) (sym c.in-Some.is)
+
+pub returns-in_err-slot-in-Some-clause-size : goal.returns-in_err-slot-in-Some-clause-size
+returns-in_err-slot-in-Some-clause-size c = λ h. alias-outside c.args.self.now.resolve.now c.reach.new.outer (Some (record c.in-Some.current { foreign = c.reach.new.foreign })) c.args.id.0 (c.reach.ensures.size (search rules))
+
+pub returns-clause-written : goal.returns-clause-written
+returns-clause-written c = when-ok c.alias_inside.result _ _
+    (λ i made def at. record {
+      extent = imported-more (around_at c.args.self.now.outer c.in-Some.current.foreign) (around_at c.reach.new.outer c.reach.new.foreign) c.args.self.now.inner c.in-Some.current c.alias_inside.new.inner c.in_ok-slot-in-Some.slot def
+          c.reach.ensures.reaches at c.in-Some.is made.1;
+    }) c.alias_inside.ensures.ok

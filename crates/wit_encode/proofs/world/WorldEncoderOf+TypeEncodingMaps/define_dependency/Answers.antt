@@ -1,0 +1,42 @@
+use Rattle.std.proofs.Common.{◌≡◌, ◌⊎◌, sym, subst, Some, []}
+use Rattle.std.specs.Prelude.{IfOk}
+use Rattle.wit_model.specs.Lookup.{interface_at}
+use Rattle.wit_model.specs.declared.model.Interface.{Interface}
+use Rattle.encode_types.specs.Known.{Around, GrowsAround, UsedStand, standing_instances}
+use Rattle.encode_types.specs.MetKinds.{referred}
+use Rattle.encode_types.specs.Room.{HasNoRoom}
+use Rattle.indexmap.specs.IndexMap.{values}
+use Rattle.wit_encode.specs.Instance.{EncodesDependency, LacksInstanceRoom, around_at}
+use Rattle.wit_encode.proofs.world.WorldEncoderOf+TypeEncodingMaps.define_dependency.Goals as goal
+use Rattle.comp_bytes.specs.Raw.{Declarations}
+use Rattle.std.proofs.Common.{OnErr, OnOk}
+use Rattle.wit_encode.specs.WrittenBytes.{AddsBytes, types_extent}
+
+pub encode_dependency-outcome-requires-clause-around : goal.encode_dependency-outcome-requires-clause-around
+encode_dependency-outcome-requires-clause-around c =
+    let q = c.args.self.now.resolve.now in
+    subst (λ (z : Around). UsedStand q (standing_instances q z) c.args.interface.0) (λ j. record { declared = sym c.replace.ensures.value j; instances = (sym c.replace-2.ensures.value j).instances.entries; known = (sym c.replace-2.ensures.value j).known.entries }) c.requires.around
+
+pub returns-clause-ok : goal.returns-clause-ok
+returns-clause-ok c =
+    let q = c.args.self.now.resolve.now in
+    let after = c.encode_dependency-outcome.new.self in
+    subst (λ (z : Around). IfOk c.encode_dependency-outcome.result (λ k. (def : Interface) → interface_at q c.args.interface.0 ≡ Some def → EncodesDependency q z (around_at after.outer after.foreign) c.args.interface def k))
+    (λ j. record { declared = c.replace.ensures.value j; instances = (c.replace-2.ensures.value j).instances.entries; known = (c.replace-2.ensures.value j).known.entries }) c.encode_dependency-outcome.ensures.ok
+
+pub returns-clause-size : goal.returns-clause-size
+returns-clause-size c = λ refused.
+    let q = c.args.self.now.resolve.now in
+    subst (λ (z : Around). (def : Interface) → interface_at q c.args.interface.0 ≡ Some def → HasNoRoom q (Some c.args.interface) (referred (values def.types) []) [] ⊎ LacksInstanceRoom q z)
+    (λ j. record { declared = c.replace.ensures.value j; instances = (c.replace-2.ensures.value j).instances.entries; known = (c.replace-2.ensures.value j).known.entries }) (c.encode_dependency-outcome.ensures.size refused)
+
+pub returns-clause-written : goal.returns-clause-written
+returns-clause-written c =
+    subst (λ (z : Declarations). OnOk c.encode_dependency-outcome.result (AddsBytes (types_extent c.args.self.now.resolve.now c.args.interface.0) z c.encode_dependency-outcome.new.self.outer)) c.replace.ensures.value c.encode_dependency-outcome.ensures.written
+
+pub returns-clause-err : goal.returns-clause-err
+returns-clause-err c =
+    let q = c.args.self.now.resolve.now in
+    let after = c.encode_dependency-outcome.new.self in
+    subst (λ (z : Around). OnErr c.encode_dependency-outcome.result (GrowsAround q z (around_at after.outer after.foreign)))
+    (λ j. record { declared = c.replace.ensures.value j; instances = (c.replace-2.ensures.value j).instances.entries; known = (c.replace-2.ensures.value j).known.entries }) c.encode_dependency-outcome.ensures.err

@@ -1,0 +1,83 @@
+-- An encoder of interfaces as its users see it: what it holds, what its calls ask and leave.
+use Rattle.std.specs.Prelude.{ℕ, ◌≡◌, ◌≤◌, ◌⊎◌, Bool, true, List, length, nat_lt, Some, is_some}
+use Rattle.std.specs.List.{Contains, list_all}
+use Rattle.wit_model.specs.Lookup.{interface_at}
+use Rattle.wit_model.specs.Valid.{IsValid}
+use Rattle.wit_model.specs.declared.model.Resolve.{Resolve}
+use Rattle.wit_model.specs.declared.model.Interface.{Interface}
+use Rattle.wit_model.specs.declared.model.InterfaceId.{InterfaceId}
+use Rattle.encode_types.specs.declared.maps.TypeEncodingMaps.{TypeEncodingMaps}
+use Rattle.encode_types.specs.Known.{Around, GrowsAround, known_instance}
+use Rattle.encode_types.specs.Slots.{Keeps}
+use Rattle.encode_types.specs.View.{View, Agrees}
+use Rattle.wit_interfaces.specs.declared.encoder.InterfaceEncoderOf.{InterfaceEncoderOf}
+use Rattle.wit_encode.specs.Dependencies.{ImportsTypes}
+use Rattle.wit_encode.specs.Encoders.{InterfaceLacksRoom}
+use Rattle.wit_encode.specs.Instance.{EncodesDependency, EncodesInterface, LacksInstanceRoom}
+use Rattle.wit_encode.specs.Worlds.{world_around, world_encoder_view}
+
+abbrev pub InterfaceEncoder : Type 0
+InterfaceEncoder = InterfaceEncoderOf TypeEncodingMaps
+
+-- ---- what it holds
+
+-- its component type, as the scope of a world that has no types
+abbrev pub interface_encoder_view : InterfaceEncoder → View
+interface_encoder_view e = world_encoder_view e.encoder
+
+-- its component type, in which instances and aliases stand
+abbrev pub component_of : InterfaceEncoder → Around
+component_of e = world_around e.encoder
+
+-- whether its imports have canonical paths
+abbrev pub has_canonical_names : InterfaceEncoder → Bool
+has_canonical_names e = e.canonical_names
+
+-- whether an interface has been imported
+abbrev pub has_listed : InterfaceEncoder → ℕ → Bool
+has_listed e i = is_some (known_instance (component_of e).instances i)
+
+-- Interfaces can be encoded and imported: the packages are valid, what has been declared can be followed, what is listed stands, and each
+-- instance is counted and has used an instance type of its own.
+pub record CanEncodeInterfaces (v : View) : Type 0 where
+  pub valid : IsValid v.scope.packages
+  pub sound : v.scope.is_sound ≡ true
+  pub listed : (i k : ℕ) → known_instance v.scope.others.listed i ≡ Some k → Contains v.scope.instances i
+  pub counted : v.scope.others.instance_count ≡ length v.scope.others.instances
+  pub typed : v.scope.others.instance_count ≤ v.scope.others.instance_types
+  pub used : list_all (λ n. nat_lt n v.slot_count) v.scope.others.used ≡ true
+
+-- ---- what a call leaves, also where it is refused
+
+-- The packages, the kind of names and the maps are the same, old slots stand for what they did, the same interfaces stand, and the encoder can
+-- be used on.
+pub record LeavesInterfaces (e e' : InterfaceEncoder) : Type 0 where
+  pub packages_ : (interface_encoder_view e').scope.packages ≡ (interface_encoder_view e).scope.packages
+  pub names : has_canonical_names e' ≡ has_canonical_names e
+  pub maps_ : (interface_encoder_view e').maps ≡ (interface_encoder_view e).maps
+  pub stands : Keeps (interface_encoder_view e).stands (interface_encoder_view e').stands
+  pub instances : (j : ℕ) → Contains (interface_encoder_view e).scope.instances j → Contains (interface_encoder_view e').scope.instances j
+  pub can : CanEncodeInterfaces (interface_encoder_view e')
+
+-- ---- what a call has added
+
+-- slot k of the component type is new, and stands for the interface
+abbrev pub EncodesInterfaceAs : InterfaceEncoder → InterfaceEncoder → InterfaceId → ℕ → Type 0
+EncodesInterfaceAs e e' i k = (def : Interface) → interface_at (interface_encoder_view e).scope.packages i.0 ≡ Some def → EncodesInterface (interface_encoder_view e).scope.packages (component_of e) (component_of e') i def k
+
+-- The interface had been imported, and nothing is new. Or its types have been encoded, and imported as the next instance.
+pub data Imports (e e' : InterfaceEncoder) (i : InterfaceId) : Type 0 where
+  as_before : has_listed e i.0 ≡ true → e' ≡ e → Imports e e' i
+  imported : has_listed e i.0 ≡ false → ImportsTypes (interface_encoder_view e).scope.packages (has_canonical_names e) (component_of e) (component_of e') i (length (interface_encoder_view e).scope.others.instances) → Imports e e' i
+
+-- Nothing is new but aliases, and one instance type of the interface's types at most.
+pub data ImportsInPart (e e' : InterfaceEncoder) (i : InterfaceId) : Type 0 where
+  aliases : GrowsAround (interface_encoder_view e).scope.packages (component_of e) (component_of e') → ImportsInPart e e' i
+  unused : (def : Interface) (k : ℕ) → interface_at (interface_encoder_view e).scope.packages i.0 ≡ Some def → EncodesDependency (interface_encoder_view e).scope.packages (component_of e) (component_of e') i def k → ImportsInPart e e' i
+
+-- ---- what has no room
+
+-- An instance type has no room for the types and functions of the interface. Or the component type, after aliases have been made, has none
+-- for one more alias or instance type.
+abbrev pub LacksRoomFor : InterfaceEncoder → InterfaceId → Type 0
+LacksRoomFor e i = (def : Interface) → interface_at (interface_encoder_view e).scope.packages i.0 ≡ Some def → InterfaceLacksRoom (interface_encoder_view e).scope.packages i def ⊎ LacksInstanceRoom (interface_encoder_view e).scope.packages (component_of e)

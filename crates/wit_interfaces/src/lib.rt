@@ -1,0 +1,6 @@
+//! Encodes interfaces one after the other in one component type, each with what it uses imported before it.
+#![tactic(auto)]
+
+mod encoder;
+
+pub use encoder::{InterfaceEncoder, InterfaceEncoderOf};
