@@ -35,7 +35,7 @@ use Rattle.encode_shown.proofs.Dependencies.{distinct-front}
 -- ---- lists
 
 -- what an interface uses stands before it
-earlier-at : (r : Resolve) (earlier ns : List ℕ) (k n m : ℕ) → UseEarlier r earlier ns → slice_get ns k ≡ Some n → Contains (direct_deps r n) m → Contains (earlier ++ take k ns) m
+pub earlier-at : (r : Resolve) (earlier ns : List ℕ) (k n m : ℕ) → UseEarlier r earlier ns → slice_get ns k ≡ Some n → Contains (direct_deps r n) m → Contains (earlier ++ take k ns) m
 earlier-at r earlier [] k n m u e c = let wrong : ⊥ = cc in absurd wrong
 earlier-at r earlier (x ∷ ns) zero n m u e c = Contains-append_left earlier [] m (u.0 m (subst (λ y. Contains (direct_deps r y) m) (sym (same-some x n e)) c))
 earlier-at r earlier (x ∷ ns) (suc k) n m u e c = subst (λ xs. Contains xs m) (append_assoc earlier (x ∷ []) (take k ns)) (earlier-at r (earlier ++ x ∷ []) ns k n m u.1 e c)
@@ -60,7 +60,7 @@ not-before (x ∷ ns) (suc k) n d e (zero, l, q) = differs ns k d.0 e
         let wrong : ⊥ = cc in wrong
     differs (z ∷ zs) (suc j) a h = differs zs j a.1 h
 
-take-next : (ns : List ℕ) (k n : ℕ) → slice_get ns k ≡ Some n → take k ns ++ n ∷ [] ≡ take (suc k) ns
+pub take-next : (ns : List ℕ) (k n : ℕ) → slice_get ns k ≡ Some n → take k ns ++ n ∷ [] ≡ take (suc k) ns
 take-next [] k n e = let wrong : ⊥ = cc in absurd wrong
 take-next (x ∷ ns) zero n e = ap (λ y. y ∷ []) (sym (same-some x n e))
 take-next (x ∷ ns) (suc k) n e = ap (λ xs. x ∷ xs) (take-next ns k n e)
@@ -74,7 +74,7 @@ behind : (ns : List ℕ) (n : ℕ) → slice_get (ns ++ n ∷ []) (length ns) �
 behind [] n = refl
 behind (x ∷ ns) n = behind ns n
 
-length-taken : (ns : List ℕ) (k n : ℕ) → slice_get ns k ≡ Some n → length (take k ns) ≡ k
+pub length-taken : (ns : List ℕ) (k n : ℕ) → slice_get ns k ≡ Some n → length (take k ns) ≡ k
 length-taken [] k n e = let wrong : ⊥ = cc in absurd wrong
 length-taken (x ∷ ns) zero n e = refl
 length-taken (x ∷ ns) (suc k) n e = ap suc (length-taken ns k n e)
@@ -165,13 +165,13 @@ moved r r' xs ys a e l h = subst (λ (q : Resolve). HasImported q a (map (λ (id
 pub moved-held : (r r' : Resolve) (xs ys : List InterfaceId) (a : Around) → r' ≡ r → ys ≡ xs → HoldsImports r' a (map (λ (id : InterfaceId). id.0) ys) → HoldsImports r a (map (λ (id : InterfaceId). id.0) xs)
 moved-held r r' xs ys a e l h = subst (λ (q : Resolve). HoldsImports q a (map (λ (id : InterfaceId). id.0) xs)) e (subst (λ (zs : List InterfaceId). HoldsImports r' a (map (λ (id : InterfaceId). id.0) zs)) l h)
 
-abbrev item : List InterfaceId → ℕ → InterfaceId
+abbrev pub item : List InterfaceId → ℕ → InterfaceId
 item xs k = get_or xs k (record { 0 = 0 })
 
-abbrev numbers : List InterfaceId → List ℕ
+abbrev pub numbers : List InterfaceId → List ℕ
 numbers xs = map (λ (id : InterfaceId). id.0) xs
 
-number-at : (xs : List InterfaceId) (k : ℕ) → k < length xs → slice_get (numbers xs) k ≡ Some (item xs k).0
+pub number-at : (xs : List InterfaceId) (k : ℕ) → k < length xs → slice_get (numbers xs) k ≡ Some (item xs k).0
 number-at xs k l = slice_get-map (λ (id : InterfaceId). id.0) xs k ∙ ap (option_map (λ (id : InterfaceId). id.0)) (slice_get-get_or xs k (record { 0 = 0 }) l)
 
 -- what holds where the next interface is imported

@@ -29,7 +29,7 @@ use Rattle.encode_names.specs.WorldSteps.{declared_towards, seen_instance, with_
 use Rattle.encode_names.proofs.PathsRead.{path-key}
 use Rattle.encode_names.proofs.WorldSteps.{below-more, instance-step, slot-behind, types-appended, unused}
 use Rattle.encode_types.specs.declared.maps.TypeEncodingMaps.{TypeEncodingMaps}
-use Rattle.encode_types.specs.Known.{Around, GrowsAround, are_right, below, is_standing, known_instance, outer_instances, outer_scope, outer_slots, standing_instances, stands_around}
+use Rattle.encode_types.specs.Known.{Around, GrowsAround, no_around, are_right, below, is_standing, known_instance, outer_instances, outer_scope, outer_slots, standing_instances, stands_around}
 use Rattle.encode_types.specs.Scope.{Scope}
 use Rattle.encode_types.specs.Slots.{Keeps}
 use Rattle.encode_types.specs.Standing.{SlotsStand, is_slot_of}
@@ -320,3 +320,15 @@ module _ (r : Resolve) (w : WorldId) (maps : TypeEncodingMaps) where
       pub whole-room : count < type_slots_of (with_import r canonical i k count a').declared
       whole-room = subst (λ (z : Around). count < type_slots_of (with_import r canonical i k count z).declared) (sym e.one_more)
           (typed-imported r w count maps before aliased.can e.declared canonical i path is e.is_instance.view e.is_instance.followed shows k e.index)
+
+-- ---- where nothing has been declared
+
+pub fresh-can : (r : Resolve) (w : WorldId) (count : ℕ) (a : Around) (maps : TypeEncodingMaps) → IsValid r → count ≡ 0 → a ≡ no_around → CanEncodeInterfaces (world_view r w count a maps)
+fresh-can r w count a maps valid none empty = subst (λ (n : ℕ). CanEncodeInterfaces (world_view r w n a maps)) (sym none) (subst (λ (z : Around). CanEncodeInterfaces (world_view r w 0 z maps)) (sym empty) (record {
+  valid = valid;
+  sound = refl;
+  listed = λ i k e. absurd (let z : ⊥ = cc in z);
+  counted = refl;
+  typed = omega arith;
+  used = refl;
+}))

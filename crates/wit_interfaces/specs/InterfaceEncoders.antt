@@ -1,17 +1,19 @@
 -- An encoder of interfaces as its users see it: what it holds, what its calls ask and leave.
-use Rattle.std.specs.Prelude.{ℕ, ◌≡◌, ◌≤◌, ◌⊎◌, Bool, true, List, length, nat_lt, Some, is_some}
+use Rattle.std.specs.Prelude.{ℕ, ◌≡◌, ◌≤◌, ◌⊎◌, Bool, true, false, List, [], ◌∷◌, length, map, nat_lt, Some, is_some}
 use Rattle.std.specs.List.{Contains, list_all}
 use Rattle.wit_model.specs.Lookup.{interface_at}
 use Rattle.wit_model.specs.Valid.{IsValid}
 use Rattle.wit_model.specs.declared.model.Resolve.{Resolve}
 use Rattle.wit_model.specs.declared.model.Interface.{Interface}
 use Rattle.wit_model.specs.declared.model.InterfaceId.{InterfaceId}
+use Rattle.encode_reach.specs.Reach.{reached_in_order}
 use Rattle.encode_types.specs.declared.maps.TypeEncodingMaps.{TypeEncodingMaps}
 use Rattle.encode_types.specs.Known.{Around, GrowsAround, known_instance}
 use Rattle.encode_types.specs.Slots.{Keeps}
-use Rattle.encode_types.specs.View.{View, Agrees}
+use Rattle.encode_types.specs.View.{View}
 use Rattle.wit_interfaces.specs.declared.encoder.InterfaceEncoderOf.{InterfaceEncoderOf}
 use Rattle.wit_encode.specs.Dependencies.{ImportsTypes}
+use Rattle.wit_encode.specs.DependencyRoom.{LacksImport}
 use Rattle.wit_encode.specs.Encoders.{InterfaceLacksRoom}
 use Rattle.wit_encode.specs.Instance.{EncodesDependency, EncodesInterface, LacksInstanceRoom}
 use Rattle.wit_encode.specs.Worlds.{world_around, world_encoder_view}
@@ -75,9 +77,31 @@ pub data ImportsInPart (e e' : InterfaceEncoder) (i : InterfaceId) : Type 0 wher
   aliases : GrowsAround (interface_encoder_view e).scope.packages (component_of e) (component_of e') → ImportsInPart e e' i
   unused : (def : Interface) (k : ℕ) → interface_at (interface_encoder_view e).scope.packages i.0 ≡ Some def → EncodesDependency (interface_encoder_view e).scope.packages (component_of e) (component_of e') i def k → ImportsInPart e e' i
 
+-- These have been imported, one after the other, each where it had not been.
+abbrev pub ImportsAll : InterfaceEncoder → InterfaceEncoder → List InterfaceId → Type 0
+ImportsAll e e' [] = e' ≡ e
+ImportsAll e e' (i ∷ rest) = (between : InterfaceEncoder) × Imports e between i × ImportsAll between e' rest
+
+-- those that the interface reaches, in the order in which it comes to them, each behind those that it uses itself
+pub record ImportsReached (e e' : InterfaceEncoder) (i : InterfaceId) : Type 0 where
+  pub reached : List InterfaceId
+  pub are : map (λ (id : InterfaceId). id.0) reached ≡ reached_in_order (interface_encoder_view e).scope.packages i.0
+  pub imports : ImportsAll e e' reached
+
 -- ---- what has no room
 
 -- An instance type has no room for the types and functions of the interface. Or the component type, after aliases have been made, has none
 -- for one more alias or instance type.
 abbrev pub LacksRoomFor : InterfaceEncoder → InterfaceId → Type 0
 LacksRoomFor e i = (def : Interface) → interface_at (interface_encoder_view e).scope.packages i.0 ≡ Some def → InterfaceLacksRoom (interface_encoder_view e).scope.packages i def ⊎ LacksInstanceRoom (interface_encoder_view e).scope.packages (component_of e)
+
+-- one of these can't be imported, behind others of them
+pub record LacksOneImport (e : InterfaceEncoder) (numbers : List ℕ) : Type 0 where
+  pub interface : InterfaceId
+  pub among : Contains numbers interface.0
+  pub between : InterfaceEncoder
+  pub leaves : LeavesInterfaces e between
+  pub lacks : LacksImport (interface_encoder_view e).scope.packages (has_canonical_names e) (component_of between) interface
+
+abbrev pub LacksReached : InterfaceEncoder → InterfaceId → Type 0
+LacksReached e i = LacksOneImport e (reached_in_order (interface_encoder_view e).scope.packages i.0)

@@ -1,7 +1,7 @@
 //! An encoder of interfaces for whoever encodes some of them, one after the other, in one component type.
 
 ghost use Rattle.std.proofs.Common.{refl};
-ghost use Rattle.std.specs.Prelude.{◌≡◌, ◌<◌, ◌&&◌, [], true, false, None, Some, Err, IfErr, IfOk, OnErr, OnOk, is_some, length};
+ghost use Rattle.std.specs.Prelude.{◌≡◌, ◌<◌, ◌&&◌, [], true, false, None, Some, Err, IfErr, IfOk, OnErr, OnOk, is_some, length, map, ℕ};
 ghost use Rattle.std.specs.List.{Contains};
 ghost use Rattle.std.specs.BTreeMap.{insert_entry};
 ghost use Rattle.std.specs.Ordering.{nat_cmp};
@@ -16,15 +16,17 @@ ghost use Rattle.wit_model.specs.Valid.{IsValid};
 ghost use Rattle.wit_model.specs.declared.error.Error.TheVariants.{Size};
 ghost use Rattle.encode_types.specs.Known.{GrowsAround, UsedStand, known_instance};
 ghost use Rattle.encode_types.specs.View.{Agrees};
+ghost use Rattle.wit_encode.specs.Dependencies.{AreImportable};
 ghost use Rattle.wit_encode.specs.DependencyRoom.{LacksImport};
 ghost use Rattle.wit_encode.specs.Encoders.{declared_after};
-ghost use Rattle.wit_interfaces.specs.InterfaceEncoders.{CanEncodeInterfaces, EncodesInterfaceAs, has_listed, Imports, ImportsInPart, LacksRoomFor, LeavesInterfaces, component_of, has_canonical_names, interface_encoder_view};
+ghost use Rattle.wit_interfaces.specs.InterfaceEncoders.{CanEncodeInterfaces, EncodesInterfaceAs, has_listed, Imports, ImportsAll, ImportsInPart, ImportsReached, LacksOneImport, LacksReached, LacksRoomFor, LeavesInterfaces, component_of, has_canonical_names, interface_encoder_view};
 ghost use Rattle.wit_encode.specs.WrittenBytes.{AddsBytes, whole_extent};
 
 use comp_bytes::{
     ComponentDefinedType, ComponentExternName, ComponentFuncType, ComponentType, ComponentTypeRef,
 };
 use encode_names::interface_name;
+use encode_reach::interfaces_reached;
 use std::alloc::Global;
 use std::collections::BTreeMap;
 use wit_encode::{LendsMaps, TypeEncodingMaps, ValtypeEncoder, WorldEncoderOf};
@@ -182,6 +184,7 @@ impl<'a> InterfaceEncoderOf<'a, TypeEncodingMaps<'a>> {
         requires uses { UsedStand (interface_encoder_view self.old).scope.packages (interface_encoder_view self.old).scope.instances interface.0 }
         requires first { has_listed self.old interface.0 ≡ false }
         ensures leaves { LeavesInterfaces self.old self.new }
+        ensures stands { OnOk result (Contains (interface_encoder_view self.new).scope.instances interface.0) }
         ensures ok { OnOk result (Imports self.old self.new interface) }
         ensures err { OnErr result (ImportsInPart self.old self.new interface) }
         ensures size { result ≡ Err Size → LacksImport (interface_encoder_view self.old).scope.packages (has_canonical_names self.old) (component_of self.old) interface }
@@ -229,6 +232,40 @@ impl<'a> InterfaceEncoderOf<'a, TypeEncodingMaps<'a>> {
             return Ok(());
         }
         self.import_first(interface)
+    }
+
+    // Imports the types of these interfaces, in order, but for those that have been imported.
+    fn import_all(&mut self, interfaces: &[InterfaceId]) -> Result<(), Error>
+        requires can { CanEncodeInterfaces (interface_encoder_view self.old) }
+        requires importable { AreImportable (interface_encoder_view self.old).scope.packages (map (λ id. id.0) interfaces.now) }
+        ensures leaves { LeavesInterfaces self.old self.new }
+        ensures stand { OnOk result ((n : ℕ) → Contains (map (λ id. id.0) interfaces.now) n → Contains (interface_encoder_view self.new).scope.instances n) }
+        ensures ok { OnOk result (ImportsAll self.old self.new interfaces.now) }
+        ensures size { result ≡ Err Size → LacksOneImport self.old (map (λ id. id.0) interfaces.now) }
+        ensures refuses { IfErr result IsMemoryOrSize }
+    {
+        for interface in interfaces {
+            self.import_interface(*interface)?;
+        }
+        Ok(())
+    }
+
+    /// Imports the types of each interface that an interface reaches along uses, each behind those that it uses itself, but for those that have
+    /// been imported. Then an instance stands of each that it uses, and it can be encoded or imported.
+    ///
+    /// After a refusal the encoder can be used on; `Size` comes only where `import_interface` answers it for one of them.
+    ///
+    /// Takes as long as encoding the types of these interfaces.
+    pub fn import_used(&mut self, interface: InterfaceId) -> Result<(), Error>
+        requires can { CanEncodeInterfaces (interface_encoder_view self.old) }
+        ensures leaves { LeavesInterfaces self.old self.new }
+        ensures uses { OnOk result (UsedStand (interface_encoder_view self.new).scope.packages (interface_encoder_view self.new).scope.instances interface.0) }
+        ensures ok { OnOk result (ImportsReached self.old self.new interface) }
+        ensures size { result ≡ Err Size → LacksReached self.old interface }
+        ensures refuses { IfErr result IsMemoryOrSize }
+    {
+        let reached = interfaces_reached(self.alloc, self.encoder.resolve, interface)?;
+        self.import_all(&reached)
     }
 
     /// Encodes an interface as an instance type, and answers its slot: its types in order, then functions of resources by the order of

@@ -1,0 +1,79 @@
+-- Interfaces imported one after the other.
+use Rattle.std.proofs.Common.{◌≡◌, refl, sym, subst, ap, ◌∙◌, ℕ, suc, ◌+◌, ◌<◌, Bool, true, false, List, [], ◌∷◌, ◌++◌, length, take, map, Option, Some, None, slice_get, is_some, append-nil, arith}
+use Rattle.std.specs.List.{Contains}
+use Rattle.std.proofs.lemmas.List.Elements.{Contains-append_cases}
+use Rattle.wit_model.specs.Lookup.{interface_path}
+use Rattle.wit_model.specs.Uses.{direct_deps}
+use Rattle.wit_model.specs.declared.model.Resolve.{Resolve}
+use Rattle.wit_model.specs.declared.model.InterfaceId.{InterfaceId}
+use Rattle.wit_model.proofs.Elements.{same-some}
+use Rattle.encode_types.specs.Known.{UsedStand}
+use Rattle.wit_encode.specs.Dependencies.{AreImportable}
+use Rattle.wit_encode.specs.DependencyRoom.{LacksImport}
+use Rattle.wit_encode.proofs.ImportLoop.{earlier-at, item, number-at, numbers, take-next}
+use Rattle.wit_interfaces.specs.InterfaceEncoders.{InterfaceEncoder, Imports, ImportsAll, LacksOneImport, LeavesInterfaces, component_of, has_canonical_names, interface_encoder_view}
+
+pub leaves-both : (e m e' : InterfaceEncoder) → LeavesInterfaces e m → LeavesInterfaces m e' → LeavesInterfaces e e'
+leaves-both e m e' first second = record {
+  packages_ = second.packages_ ∙ first.packages_;
+  names = second.names ∙ first.names;
+  maps_ = second.maps_ ∙ first.maps_;
+  stands = λ i s h. second.stands i s (first.stands i s h);
+  instances = λ j h. second.instances j (first.instances j h);
+  can = second.can;
+}
+
+pub import-next : (e m e' : InterfaceEncoder) (xs : List InterfaceId) (i : InterfaceId) → ImportsAll e m xs → Imports m e' i → ImportsAll e e' (xs ++ i ∷ [])
+import-next e m e' [] i h one = (e', subst (λ (z : InterfaceEncoder). Imports z e' i) h one, refl)
+import-next e m e' (x ∷ xs) i h one = (h.0, h.1, import-next h.0 m e' xs i h.2 one)
+
+item-at : (xs : List InterfaceId) (k : ℕ) → k < length xs → take k xs ++ item xs k ∷ [] ≡ take (suc k) xs
+item-at [] k l = absurd (omega (arith, l))
+item-at (x ∷ xs) 0 l = refl
+item-at (x ∷ xs) (suc k) l = ap (λ ys. x ∷ ys) (item-at xs k (omega (arith, l)))
+
+-- what stands behind the first of these, when the next has been imported
+next-stands : (ns : List ℕ) (k n j : ℕ) (P : ℕ → Type 0) → slice_get ns k ≡ Some n → ((m : ℕ) → Contains (take k ns) m → P m) → P n → Contains (take (suc k) ns) j → P j
+next-stands ns k n j P at old new c = elim (Contains-append_cases (take k ns) (n ∷ []) j (subst (λ (xs : List ℕ). Contains xs j) (sym (take-next ns k n at)) c)) [
+  | inl d ↦ old j d
+  | inr d ↦ subst P (only n j d) new
+]
+  where
+    only : (n j : ℕ) → Contains (n ∷ []) j → n ≡ j
+    only n j (0, l, e) = e
+    only n j (suc k, l, e) = absurd (omega (arith, l))
+
+listed : (xs : List ℕ) (j x : ℕ) → slice_get xs j ≡ Some x → Contains xs x
+listed [] j x e = let wrong : ⊥ = cc in absurd wrong
+listed (y ∷ xs) 0 x e = (0, omega arith, same-some y x e)
+listed (y ∷ xs) (suc j) x e = let rest = listed xs j x e in (suc rest.0, (let l = rest.1 in omega arith), rest.2)
+
+-- The first of these have been imported, and the next can be.
+module _ (e m : InterfaceEncoder) (xs : List InterfaceId) (k : ℕ) (inside : k < length xs) (can : AreImportable (interface_encoder_view e).scope.packages (numbers xs)) (leaves : LeavesInterfaces e m)
+    (stand : (n : ℕ) → Contains (take k (numbers xs)) n → Contains (interface_encoder_view m).scope.instances n) where
+  abbrev next : InterfaceId
+  next = item xs k
+
+  at : slice_get (numbers xs) k ≡ Some next.0
+  at = number-at xs k inside
+
+  pub next-named : is_some (interface_path (interface_encoder_view m).scope.packages next.0) ≡ true
+  next-named = subst (λ (r : Resolve). is_some (interface_path r next.0) ≡ true) (sym leaves.packages_) (can.paths next.0 (listed (numbers xs) k next.0 at))
+
+  pub next-uses : UsedStand (interface_encoder_view m).scope.packages (interface_encoder_view m).scope.instances next.0
+  next-uses j c = stand j (earlier-at (interface_encoder_view e).scope.packages [] (numbers xs) k next.0 j can.earlier at (subst (λ (r : Resolve). Contains (direct_deps r next.0) j) leaves.packages_ c))
+
+  pub next-lacks : LacksImport (interface_encoder_view m).scope.packages (has_canonical_names m) (component_of m) next → LacksOneImport e (numbers xs)
+  next-lacks h = record {
+    interface = next;
+    among = listed (numbers xs) k next.0 at;
+    between = m;
+    leaves = leaves;
+    lacks = subst (λ (r : Resolve). LacksImport r (has_canonical_names e) (component_of m) next) leaves.packages_ (subst (λ b. LacksImport (interface_encoder_view m).scope.packages b (component_of m) next) leaves.names h);
+  }
+
+  pub all-stand : (e' : InterfaceEncoder) → LeavesInterfaces m e' → Contains (interface_encoder_view e').scope.instances next.0 → (j : ℕ) → Contains (take (suc k) (numbers xs)) j → Contains (interface_encoder_view e').scope.instances j
+  all-stand e' more new j c = next-stands (numbers xs) k next.0 j (Contains (interface_encoder_view e').scope.instances) at (λ n d. more.instances n (stand n d)) new c
+
+  pub all-imported : (e' : InterfaceEncoder) → ImportsAll e m (take k xs) → Imports m e' next → ImportsAll e e' (take (suc k) xs)
+  all-imported e' h one = subst (ImportsAll e e') (item-at xs k inside) (import-next e m e' (take k xs) next h one)
