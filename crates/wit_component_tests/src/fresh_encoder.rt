@@ -5,9 +5,10 @@ ghost use Rattle.wit_model.specs.Valid.{IsValid};
 use std::alloc::Global;
 use std::test::Fail;
 use wit_component::{
-    Check, ComponentValType, Error, InterfaceEncoderOf, PrimitiveValType, Resolve, Type,
+    Check, ComponentValType, Error, PrimitiveValType, Resolve, Type,
     encode_unit_future, encode_valtype,
 };
+use wit_interfaces::InterfaceEncoderOf;
 use wit_samples::drafts::draft;
 
 // The slot of a future without an element.

@@ -1,18 +1,18 @@
 //! Interfaces encoded, one after the other in one component type, and the component types of an interface and of a package.
 
-ghost use Rattle.std.specs.Prelude.{◌≡◌, ◌<◌, [], None, length, true};
-ghost use Rattle.wit_model.specs.Uses.{direct_deps};
+ghost use Rattle.std.specs.Prelude.{◌≡◌, ◌<◌, length};
 ghost use Rattle.wit_model.specs.Valid.{IsValid};
+ghost use Rattle.wit_interfaces.specs.InterfaceEncoders.{CanEncodeInterfaces, interface_encoder_view};
 
 use std::alloc::Global;
 use std::process::Abort;
 use std::test::Fail;
 use wit_component::{
-    Check, ComponentBuilder, ComponentType, Error, FunctionKind, InterfaceEncoder,
-    InterfaceEncoderOf, InterfaceId, PackageId, Resolve, Type, TypeDefKind, encode_component,
-    stands_alone,
+    Check, ComponentBuilder, ComponentType, Error, FunctionKind, InterfaceEncoder, InterfaceId,
+    PackageId, Resolve, Type, TypeDefKind, encode_component,
 };
 use wit_encode::interface_type;
+use wit_interfaces::InterfaceEncoderOf;
 use wit_samples::bytes::HOST_AND_GUEST;
 use wit_samples::drafts::{
     add_interface, add_type, add_type_of, add_unnamed, draft, function, put_function,
@@ -59,67 +59,38 @@ fn two_interfaces(alloc: Global) -> Result<Resolve, Error> {
     Ok(resolve)
 }
 
-/// Whether there is such an interface, and it uses no other.
-fn uses_none(resolve: &Resolve, id: InterfaceId) -> bool
-    ensures in_range { result ≡ true → id.0 < length resolve.now.interfaces.items }
-    ensures alone { result ≡ true → direct_deps resolve.now id.0 ≡ [] }
-{
-    (id.0 as usize) < resolve.interfaces.len() && stands_alone(resolve, id)
-}
-
-// The slot of one interface more, where there is one that uses no other.
+// The slot of one interface more, behind the types of those that it uses.
 fn slot_of<'a>(
-    alloc: Global,
     encoder: &mut InterfaceEncoder<'a>,
     id: InterfaceId,
-) -> Result<Option<u32>, Error>
-    requires closed { encoder.old.inner ≡ None }
-    requires valid { IsValid encoder.old.resolve.now }
-    ensures closed { encoder.new.inner ≡ None }
-    ensures resolve { encoder.new.resolve.now ≡ encoder.old.resolve.now }
+) -> Result<u32, Error>
+    requires can { CanEncodeInterfaces (interface_encoder_view encoder.old) }
+    requires in_range { id.0 < length (interface_encoder_view encoder.old).scope.packages.interfaces.items }
+    ensures can { CanEncodeInterfaces (interface_encoder_view encoder.new) }
+    ensures packages { (interface_encoder_view encoder.new).scope.packages ≡ (interface_encoder_view encoder.old).scope.packages }
 {
-    if !uses_none(encoder.resolve, id) {
-        return Ok(None);
-    }
-    let slot = encoder.encode_instance(alloc, id)?;
-    Ok(Some(slot))
+    encoder.import_used(id)?;
+    encoder.encode_instance(id)
 }
 
-// The slot of the types of one interface more.
-fn types_slot_of<'a>(
-    alloc: Global,
-    encoder: &mut InterfaceEncoder<'a>,
-    id: InterfaceId,
-) -> Result<Option<u32>, Error>
-    requires closed { encoder.old.inner ≡ None }
-    requires valid { IsValid encoder.old.resolve.now }
-{
-    if !uses_none(encoder.resolve, id) {
-        return Ok(None);
-    }
-    let slot = encoder.encode_dependency(alloc, id)?;
-    Ok(Some(slot))
-}
-
-// Two equal lists are one definition, but types are told apart by number, so there are two types of functions. Each instance type takes a slot,
-// and so does that of the types of the first, which has none.
+// Two equal lists are one definition, but types are told apart by number, so there are two types of functions. Each instance type takes a slot.
 #[test]
 fn one_after_the_other(rt: HostRuntime) -> Result<(), Fail> {
-    static BYTES: [u8; 62] = [
-        0x00, 0x61, 0x73, 0x6d, 0x0d, 0x00, 0x01, 0x00, 0x07, 0x34, 0x01, 0x41, 0x03, 0x01, 0x42,
+    static BYTES: [u8; 59] = [
+        0x00, 0x61, 0x73, 0x6d, 0x0d, 0x00, 0x01, 0x00, 0x07, 0x31, 0x01, 0x41, 0x02, 0x01, 0x42,
         0x05, 0x01, 0x70, 0x7d, 0x01, 0x40, 0x01, 0x01, 0x78, 0x00, 0x00, 0x00, 0x04, 0x00, 0x01,
         0x66, 0x01, 0x01, 0x01, 0x40, 0x01, 0x01, 0x78, 0x00, 0x00, 0x00, 0x04, 0x00, 0x01, 0x67,
-        0x01, 0x02, 0x01, 0x42, 0x02, 0x01, 0x79, 0x04, 0x00, 0x01, 0x74, 0x03, 0x00, 0x00, 0x01,
-        0x42, 0x00,
+        0x01, 0x02, 0x01, 0x42, 0x02, 0x01, 0x79, 0x04, 0x00, 0x01, 0x74, 0x03, 0x00, 0x00,
     ];
     let alloc = rt.alloc();
     let resolve = two_interfaces(alloc)?;
     resolve.check(alloc)?;
     let mut encoder = InterfaceEncoderOf::new(alloc, &resolve);
-    assert!(rt; slot_of(alloc, &mut encoder, InterfaceId(0))? == Some(0));
-    assert!(rt; slot_of(alloc, &mut encoder, InterfaceId(1))? == Some(1));
-    assert!(rt; types_slot_of(alloc, &mut encoder, InterfaceId(0))? == Some(2));
-    assert_written(&rt, alloc, &encoder.outer, &BYTES)
+    assert!(rt; resolve.interfaces.len() > 1);
+    assert!(rt; slot_of(&mut encoder, InterfaceId(0))? == 0);
+    assert!(rt; slot_of(&mut encoder, InterfaceId(1))? == 1);
+    let outer = encoder.finish();
+    assert_written(&rt, alloc, &outer, &BYTES)
 }
 
 // ---- component types
@@ -131,6 +102,26 @@ fn used(alloc: Global) -> Result<Resolve, Error> {
     add_interface(alloc, &mut resolve, "j")?;
     add_type_of(alloc, &mut resolve, 1, "t", alias_of(0))?;
     Ok(resolve)
+}
+
+// The types of the interface that is used are imported once, and the second call finds them.
+#[test]
+fn behind_what_it_uses(rt: HostRuntime) -> Result<(), Fail> {
+    static BYTES: [u8; 56] = [
+        0x00, 0x61, 0x73, 0x6d, 0x0d, 0x00, 0x01, 0x00, 0x07, 0x2e, 0x01, 0x41, 0x04, 0x01, 0x42,
+        0x02, 0x01, 0x79, 0x04, 0x00, 0x01, 0x74, 0x03, 0x00, 0x00, 0x03, 0x00, 0x05, 0x61, 0x3a,
+        0x62, 0x2f, 0x69, 0x05, 0x00, 0x02, 0x03, 0x00, 0x00, 0x01, 0x74, 0x01, 0x42, 0x02, 0x02,
+        0x03, 0x02, 0x01, 0x01, 0x04, 0x00, 0x01, 0x74, 0x03, 0x00, 0x00,
+    ];
+    let alloc = rt.alloc();
+    let resolve = used(alloc)?;
+    resolve.check(alloc)?;
+    assert!(rt; resolve.interfaces.len() > 1);
+    let mut encoder = InterfaceEncoderOf::new(alloc, &resolve);
+    encoder.import_used(InterfaceId(1))?;
+    assert!(rt; slot_of(&mut encoder, InterfaceId(1))? == 2);
+    let outer = encoder.finish();
+    assert_written(&rt, alloc, &outer, &BYTES)
 }
 
 // The component type of an interface, where it has a path.
@@ -156,8 +147,6 @@ fn an_interface_that_uses_another(rt: HostRuntime) -> Result<(), Fail> {
     let alloc = rt.alloc();
     let resolve = used(alloc)?;
     resolve.check(alloc)?;
-    assert!(rt; stands_alone(&resolve, InterfaceId(0)));
-    assert!(rt; !stands_alone(&resolve, InterfaceId(1)));
     assert!(rt; resolve.interfaces.len() > 1);
     let outer = type_of(alloc, &resolve, InterfaceId(1))?;
     assert_written(&rt, alloc, &outer, &BYTES)

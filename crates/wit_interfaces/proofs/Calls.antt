@@ -18,7 +18,9 @@ use Rattle.wit_encode.specs.Encoders.{declared_after}
 use Rattle.wit_encode.specs.Instance.{EncodesDependency, EncodesInterface, around_at}
 use Rattle.wit_encode.specs.Worlds.{WorldEncoder, is_sound_outside, world_around, world_scope}
 use Rattle.wit_encode.proofs.Importing.{importable-stands}
-use Rattle.wit_model.proofs.OnePath.{some-of}
+use Rattle.wit_encode.specs.WorldItems.{DefinesInstance}
+use Rattle.std.proofs.lemmas.Bool.{lt-ltb}
+use Rattle.wit_model.proofs.OnePath.{found-in, some-of}
 use Rattle.wit_interfaces.specs.InterfaceEncoders.{CanEncodeInterfaces, Imports, ImportsInPart, InterfaceEncoder, LeavesInterfaces, aliases, component_of, has_canonical_names, has_listed, imported, interface_encoder_view, unused}
 use Rattle.wit_interfaces.proofs.Leaving.{GoesOn, aliases-go-on, part-goes-on, whole-goes-on, whole-room, whole-stands}
 
@@ -103,3 +105,14 @@ module _ (e : InterfaceEncoder) (h : CanEncodeInterfaces (interface_encoder_view
 -- an interface that is listed stands
 pub listed-stands : (e : InterfaceEncoder) (i : ℕ) → CanEncodeInterfaces (interface_encoder_view e) → has_listed e i ≡ true → Contains (interface_encoder_view e).scope.instances i
 listed-stands e i h l = let found = some-of (known_instance (component_of e).instances i) l in h.listed i found.0 found.1
+
+-- nothing has changed
+pub stays-as-it-is : (e : InterfaceEncoder) → CanEncodeInterfaces (interface_encoder_view e) → LeavesInterfaces e e
+stays-as-it-is e h = record { packages_ = refl; names = refl; maps_ = refl; stands = λ i m s. s; instances = λ j s. s; can = h }
+
+pub encode-leaves : {E : Type 0} (res : Result ℕ E) (e : InterfaceEncoder) (h : CanEncodeInterfaces (interface_encoder_view e)) (d : WorldEncoder) (rest : d ≡ record e.encoder { outer = d.outer; foreign = d.foreign }) (i : InterfaceId)
+    → i.0 < length e.encoder.resolve.now.interfaces.items → IfOk res (DefinesInstance e.encoder d i) → OnErr res (GrowsAround e.encoder.resolve.now (component_of e) (world_around d)) → LeavesInterfaces e (record e { encoder = d })
+encode-leaves (Ok k) e h d rest i l ok err =
+    let found = found-in e.encoder.resolve.now.interfaces.items i.0 (lt-ltb i.0 (length e.encoder.resolve.now.interfaces.items) l) in
+    interface-leaves e h d rest i found.0 k (ok found.0 found.1)
+encode-leaves (Err x) e h d rest i l ok err = aliases-leave e h d rest err

@@ -332,3 +332,6 @@ fresh-can r w count a maps valid none empty = subst (λ (n : ℕ). CanEncodeInte
   typed = omega arith;
   used = refl;
 }))
+
+pub fresh-sound : (r : Resolve) (w : WorldId) (a : Around) → a ≡ no_around → is_sound_outside r w a ≡ true
+fresh-sound r w a empty = ap (is_sound_outside r w) empty

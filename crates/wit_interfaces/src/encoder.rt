@@ -5,7 +5,7 @@ ghost use Rattle.std.specs.Prelude.{◌≡◌, ◌<◌, ◌&&◌, [], true, fals
 ghost use Rattle.std.specs.List.{Contains};
 ghost use Rattle.std.specs.BTreeMap.{insert_entry};
 ghost use Rattle.std.specs.Ordering.{nat_cmp};
-ghost use Rattle.comp_bytes.specs.Raw.{Declaration, Declarations};
+ghost use Rattle.comp_bytes.specs.Raw.{Declaration};
 ghost use Rattle.comp_bytes.specs.RawOf.{raw_name};
 ghost use Rattle.comp_bytes.specs.Held.{fits_added};
 ghost use Rattle.comp_bytes.specs.Fits.{fits_declaration};
@@ -14,7 +14,7 @@ ghost use Rattle.comp_bytes.specs.declared.forms.ComponentTypeRef.TheVariants as
 ghost use Rattle.wit_model.specs.Lookup.{interface_path};
 ghost use Rattle.wit_model.specs.Valid.{IsValid};
 ghost use Rattle.wit_model.specs.declared.error.Error.TheVariants.{Size};
-ghost use Rattle.encode_types.specs.Known.{GrowsAround, UsedStand, known_instance};
+ghost use Rattle.encode_types.specs.Known.{GrowsAround, UsedStand, known_instance, no_around};
 ghost use Rattle.encode_types.specs.View.{Agrees};
 ghost use Rattle.wit_encode.specs.Dependencies.{AreImportable};
 ghost use Rattle.wit_encode.specs.DependencyRoom.{LacksImport};
@@ -136,7 +136,8 @@ impl<'a> InterfaceEncoderOf<'a, TypeEncodingMaps<'a>> {
     fn begin(alloc: Global, resolve: &'a Resolve, canonical_names: bool) -> InterfaceEncoder<'a>
         ensures names { has_canonical_names result ≡ canonical_names }
         ensures packages { (interface_encoder_view result).scope.packages ≡ resolve.now }
-        ensures empty { (component_of result).declared ≡ Declarations.no_more }
+        ensures empty { component_of result ≡ no_around }
+        ensures sound { (interface_encoder_view result).scope.is_sound ≡ true }
         ensures can { IsValid resolve.now → CanEncodeInterfaces (interface_encoder_view result) }
         ensures agree { Agrees resolve.now (interface_encoder_view result) }
     {
@@ -151,7 +152,8 @@ impl<'a> InterfaceEncoderOf<'a, TypeEncodingMaps<'a>> {
     pub fn new(alloc: Global, resolve: &'a Resolve) -> InterfaceEncoder<'a>
         ensures names { has_canonical_names result ≡ false }
         ensures packages { (interface_encoder_view result).scope.packages ≡ resolve.now }
-        ensures empty { (component_of result).declared ≡ Declarations.no_more }
+        ensures empty { component_of result ≡ no_around }
+        ensures sound { (interface_encoder_view result).scope.is_sound ≡ true }
         ensures can { IsValid resolve.now → CanEncodeInterfaces (interface_encoder_view result) }
         ensures agree { Agrees resolve.now (interface_encoder_view result) }
     {
@@ -163,7 +165,8 @@ impl<'a> InterfaceEncoderOf<'a, TypeEncodingMaps<'a>> {
     pub fn with_canonical_names(alloc: Global, resolve: &'a Resolve) -> InterfaceEncoder<'a>
         ensures names { has_canonical_names result ≡ true }
         ensures packages { (interface_encoder_view result).scope.packages ≡ resolve.now }
-        ensures empty { (component_of result).declared ≡ Declarations.no_more }
+        ensures empty { component_of result ≡ no_around }
+        ensures sound { (interface_encoder_view result).scope.is_sound ≡ true }
         ensures can { IsValid resolve.now → CanEncodeInterfaces (interface_encoder_view result) }
         ensures agree { Agrees resolve.now (interface_encoder_view result) }
     {
