@@ -19,6 +19,7 @@ use Rattle.wit_encode.specs.Instance.{EncodesDependency, EncodesInterface, aroun
 use Rattle.wit_encode.specs.Worlds.{WorldEncoder, is_sound_outside, world_around, world_scope}
 use Rattle.wit_encode.proofs.Importing.{importable-stands}
 use Rattle.wit_encode.specs.WorldItems.{DefinesInstance}
+use Rattle.wit_encode.proofs.PlacedInstances.{grown-listed}
 use Rattle.std.proofs.lemmas.Bool.{lt-ltb}
 use Rattle.wit_model.proofs.OnePath.{found-in, some-of}
 use Rattle.wit_interfaces.specs.InterfaceEncoders.{CanEncodeInterfaces, Imports, ImportsInPart, InterfaceEncoder, LeavesInterfaces, aliases, component_of, has_canonical_names, has_listed, imported, interface_encoder_view, unused}
@@ -116,3 +117,11 @@ encode-leaves (Ok k) e h d rest i l ok err =
     let found = found-in e.encoder.resolve.now.interfaces.items i.0 (lt-ltb i.0 (length e.encoder.resolve.now.interfaces.items) l) in
     interface-leaves e h d rest i found.0 k (ok found.0 found.1)
 encode-leaves (Err x) e h d rest i l ok err = aliases-leave e h d rest err
+
+-- what wasn't listed isn't behind aliases and an instance type
+pub first-listed : (r : Resolve) (a a' : Around) (i : InterfaceId) (def : Interface) (k : ℕ) → EncodesDependency r a a' i def k → is_some (known_instance a.instances i.0) ≡ false → known_instance a'.instances i.0 ≡ None
+first-listed r a a' i def k is none = ap (λ (es : List (ℕ × ℕ)). known_instance es i.0) (ap (λ (z : Around). z.instances) is.part.one_more ∙ grown-listed r a is.part.before is.part.aliases) ∙ nothing (known_instance a.instances i.0) none
+  where
+    nothing : (o : Option ℕ) → is_some o ≡ false → o ≡ None
+    nothing None e = refl
+    nothing (Some n) e = let z : ⊥ = cc in absurd z

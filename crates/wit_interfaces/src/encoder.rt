@@ -1,14 +1,12 @@
 //! An encoder of interfaces for whoever encodes some of them, one after the other, in one component type.
 
 ghost use Rattle.std.proofs.Common.{refl};
-ghost use Rattle.std.specs.Prelude.{◌≡◌, ◌<◌, ◌&&◌, [], true, false, None, Some, Err, IfErr, IfOk, OnErr, OnOk, is_some, length, map, ℕ};
+ghost use Rattle.std.specs.Prelude.{◌≡◌, ◌<◌, [], true, false, None, Some, Err, IfErr, IfOk, OnErr, OnOk, is_some, length, map, ℕ};
 ghost use Rattle.std.specs.List.{Contains};
 ghost use Rattle.std.specs.BTreeMap.{insert_entry};
 ghost use Rattle.std.specs.Ordering.{nat_cmp};
 ghost use Rattle.comp_bytes.specs.Raw.{Declaration};
 ghost use Rattle.comp_bytes.specs.RawOf.{raw_name};
-ghost use Rattle.comp_bytes.specs.Held.{fits_added};
-ghost use Rattle.comp_bytes.specs.Fits.{fits_declaration};
 ghost use Rattle.comp_bytes.specs.Refusal.{IsMemoryOrSize};
 ghost use Rattle.comp_bytes.specs.declared.forms.ComponentTypeRef.TheVariants as refs;
 ghost use Rattle.wit_model.specs.Lookup.{interface_path};
@@ -20,6 +18,7 @@ ghost use Rattle.wit_encode.specs.Dependencies.{AreImportable};
 ghost use Rattle.wit_encode.specs.DependencyRoom.{LacksImport};
 ghost use Rattle.wit_encode.specs.Encoders.{declared_after};
 ghost use Rattle.wit_interfaces.specs.InterfaceEncoders.{CanEncodeInterfaces, EncodesInterfaceAs, has_listed, Imports, ImportsAll, ImportsInPart, ImportsReached, LacksOneImport, LacksReached, LacksRoomFor, LeavesInterfaces, component_of, has_canonical_names, interface_encoder_view};
+ghost use Rattle.wit_encode.specs.WorldHolds.{LacksDeclaration};
 ghost use Rattle.wit_encode.specs.WrittenBytes.{AddsBytes, whole_extent};
 
 use comp_bytes::{
@@ -63,7 +62,7 @@ fn import_instance(
     ensures listed { OnOk result (instances.new.entries ≡ insert_entry nat_cmp instances.old.entries interface.0 number) }
     ensures err { OnErr result (outer.new ≡ outer.old) }
     ensures same { OnErr result (instances.new.entries ≡ instances.old.entries) }
-    ensures size { result ≡ Err Size → (fits_declaration (Declaration.imported (raw_name name.now) (refs.Instance slot)) && fits_added outer.new 1) ≡ false }
+    ensures size { result ≡ Err Size → LacksDeclaration outer.old (Declaration.imported (raw_name name.now) (refs.Instance slot)) }
     ensures refuses { IfErr result IsMemoryOrSize }
 {
     instances.insert(interface.0, number)?;

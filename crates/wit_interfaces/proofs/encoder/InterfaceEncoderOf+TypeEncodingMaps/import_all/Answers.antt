@@ -1,0 +1,37 @@
+use Rattle.std.proofs.Common.{◌≡◌, refl, sym, subst, ap, ℕ, take, length, map, [], Some, none-in, rules}
+use Rattle.std.specs.List.{Contains}
+use Rattle.std.proofs.lemmas.List.{take_all}
+use Rattle.wit_model.specs.declared.model.InterfaceId.{InterfaceId}
+use Rattle.wit_encode.proofs.ImportLoop.{numbers}
+use Rattle.wit_interfaces.specs.InterfaceEncoders.{ImportsAll, interface_encoder_view}
+use Rattle.wit_interfaces.proofs.Calls.{stays-as-it-is}
+use Rattle.wit_interfaces.proofs.Chain.{all-imported, all-stand, leaves-both, next-lacks, next-named, next-uses}
+use Rattle.wit_interfaces.proofs.encoder.InterfaceEncoderOf+TypeEncodingMaps.import_all.Goals as goal
+
+pub loop-interface-init : goal.loop-interface-init
+loop-interface-init c = record {
+  leaves = stays-as-it-is c.args.self.now c.requires.can;
+  stand = λ n h. none-in n h;
+  imports = refl;
+}
+
+pub import_interface-requires-clause-can : goal.import_interface-requires-clause-can
+import_interface-requires-clause-can c = c.loop-interface.invariant.leaves.can
+
+pub import_interface-requires-clause-named : goal.import_interface-requires-clause-named
+import_interface-requires-clause-named c = next-named c.args.self.now c.loop-interface.self c.args.interfaces.now c.loop-interface.interface-index c.loop-interface-test.true c.requires.importable c.loop-interface.invariant.leaves c.loop-interface.invariant.stand
+
+pub import_interface-requires-clause-uses : goal.import_interface-requires-clause-uses
+import_interface-requires-clause-uses c = next-uses c.args.self.now c.loop-interface.self c.args.interfaces.now c.loop-interface.interface-index c.loop-interface-test.true c.requires.importable c.loop-interface.invariant.leaves c.loop-interface.invariant.stand
+
+pub loop-interface-preserved : goal.loop-interface-preserved
+loop-interface-preserved c = record {
+  leaves = leaves-both c.args.self.now c.loop-interface.self c.import_interface.new.self c.loop-interface.invariant.leaves c.import_interface.ensures.leaves;
+  stand = all-stand c.args.self.now c.loop-interface.self c.args.interfaces.now c.loop-interface.interface-index c.loop-interface-test.true c.requires.importable c.loop-interface.invariant.leaves c.loop-interface.invariant.stand c.import_interface.new.self
+      c.import_interface.ensures.leaves c.in_ok-import_interface.ensures.stands;
+  imports = all-imported c.args.self.now c.loop-interface.self c.args.interfaces.now c.loop-interface.interface-index c.loop-interface-test.true c.requires.importable c.loop-interface.invariant.leaves c.loop-interface.invariant.stand c.import_interface.new.self
+      c.loop-interface.invariant.imports c.in_ok-import_interface.ensures.ok;
+}
+
+pub returns-clause-leaves : goal.returns-clause-leaves
+returns-clause-leaves c = c.loop-interface.invariant.leaves
