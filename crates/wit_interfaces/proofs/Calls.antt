@@ -31,8 +31,9 @@ used-outside e i h j c = importable-stands (is_sound_outside e.encoder.resolve.n
 
 module _ (e : InterfaceEncoder) (h : CanEncodeInterfaces (interface_encoder_view e)) (d : WorldEncoder) (rest : d ≡ record e.encoder { outer = d.outer; foreign = d.foreign }) where
   abbrev r : Resolve
-  abbrev count : ℕ
   r = e.encoder.resolve.now
+
+  abbrev count : ℕ
   count = e.encoder.instances
 
   pub leaves-of : GoesOn r e.encoder.world count count e.encoder.maps (component_of e) (world_around d) → LeavesInterfaces e (record e { encoder = d })

@@ -1,5 +1,5 @@
 -- Interfaces imported one after the other.
-use Rattle.std.proofs.Common.{◌≡◌, refl, sym, subst, ap, ◌∙◌, ℕ, suc, ◌+◌, ◌<◌, Bool, true, false, List, [], ◌∷◌, ◌++◌, length, take, map, Option, Some, None, slice_get, is_some, append-nil, arith}
+use Rattle.std.proofs.Common.{◌≡◌, inl, inr, refl, sym, subst, ap, ◌∙◌, ℕ, zero, suc, ◌+◌, ◌<◌, ◌≤◌, Bool, true, false, List, [], ◌∷◌, ◌++◌, length, take, map, Option, Some, None, slice_get, is_some, append-nil, arith}
 use Rattle.std.specs.List.{Contains}
 use Rattle.std.proofs.lemmas.List.Elements.{Contains-append_cases}
 use Rattle.wit_model.specs.Lookup.{interface_path}
@@ -29,8 +29,15 @@ import-next e m e' (x ∷ xs) i h one = (h.0, h.1, import-next h.0 m e' xs i h.2
 
 item-at : (xs : List InterfaceId) (k : ℕ) → k < length xs → take k xs ++ item xs k ∷ [] ≡ take (suc k) xs
 item-at [] k l = absurd (omega (arith, l))
-item-at (x ∷ xs) 0 l = refl
+item-at (x ∷ xs) zero l = refl
 item-at (x ∷ xs) (suc k) l = ap (λ ys. x ∷ ys) (item-at xs k (omega (arith, l)))
+
+-- at the end of the list all have been taken
+pub all-taken : (xs : List InterfaceId) (k : ℕ) → length xs ≤ k → take k (numbers xs) ≡ numbers xs
+all-taken [] zero l = refl
+all-taken [] (suc k) l = refl
+all-taken (x ∷ xs) zero l = absurd (omega (arith, l))
+all-taken (x ∷ xs) (suc k) l = ap (λ ns. x.0 ∷ ns) (all-taken xs k (omega (arith, l)))
 
 -- what stands behind the first of these, when the next has been imported
 next-stands : (ns : List ℕ) (k n j : ℕ) (P : ℕ → Type 0) → slice_get ns k ≡ Some n → ((m : ℕ) → Contains (take k ns) m → P m) → P n → Contains (take (suc k) ns) j → P j
@@ -40,12 +47,12 @@ next-stands ns k n j P at old new c = elim (Contains-append_cases (take k ns) (n
 ]
   where
     only : (n j : ℕ) → Contains (n ∷ []) j → n ≡ j
-    only n j (0, l, e) = e
+    only n j (zero, l, e) = e
     only n j (suc k, l, e) = absurd (omega (arith, l))
 
 listed : (xs : List ℕ) (j x : ℕ) → slice_get xs j ≡ Some x → Contains xs x
 listed [] j x e = let wrong : ⊥ = cc in absurd wrong
-listed (y ∷ xs) 0 x e = (0, omega arith, same-some y x e)
+listed (y ∷ xs) zero x e = (0, omega arith, same-some y x e)
 listed (y ∷ xs) (suc j) x e = let rest = listed xs j x e in (suc rest.0, (let l = rest.1 in omega arith), rest.2)
 
 -- The first of these have been imported, and the next can be.
@@ -72,8 +79,14 @@ module _ (e m : InterfaceEncoder) (xs : List InterfaceId) (k : ℕ) (inside : k 
     lacks = subst (λ (r : Resolve). LacksImport r (has_canonical_names e) (component_of m) next) leaves.packages_ (subst (λ b. LacksImport (interface_encoder_view m).scope.packages b (component_of m) next) leaves.names h);
   }
 
-  pub all-stand : (e' : InterfaceEncoder) → LeavesInterfaces m e' → Contains (interface_encoder_view e').scope.instances next.0 → (j : ℕ) → Contains (take (suc k) (numbers xs)) j → Contains (interface_encoder_view e').scope.instances j
-  all-stand e' more new j c = next-stands (numbers xs) k next.0 j (Contains (interface_encoder_view e').scope.instances) at (λ n d. more.instances n (stand n d)) new c
+  one-more : suc k ≡ k + 1
+  one-more = omega arith
 
-  pub all-imported : (e' : InterfaceEncoder) → ImportsAll e m (take k xs) → Imports m e' next → ImportsAll e e' (take (suc k) xs)
-  all-imported e' h one = subst (ImportsAll e e') (item-at xs k inside) (import-next e m e' (take k xs) next h one)
+  pub all-stand : (e' : InterfaceEncoder) → LeavesInterfaces m e' → Contains (interface_encoder_view e').scope.instances next.0 → (j : ℕ) → Contains (take (k + 1) (numbers xs)) j → Contains (interface_encoder_view e').scope.instances j
+  all-stand e' more new j d = all-but e' more new j (subst (λ (n : ℕ). Contains (take n (numbers xs)) j) (sym one-more) d)
+    where
+      all-but : (e' : InterfaceEncoder) → LeavesInterfaces m e' → Contains (interface_encoder_view e').scope.instances next.0 → (j : ℕ) → Contains (take (suc k) (numbers xs)) j → Contains (interface_encoder_view e').scope.instances j
+      all-but e' more new j c = next-stands (numbers xs) k next.0 j (Contains (interface_encoder_view e').scope.instances) at (λ n d. more.instances n (stand n d)) new c
+
+  pub all-imported : (e' : InterfaceEncoder) → ImportsAll e m (take k xs) → Imports m e' next → ImportsAll e e' (take (k + 1) xs)
+  all-imported e' h one = subst (ImportsAll e e') (item-at xs k inside ∙ ap (λ (n : ℕ). take n xs) one-more) (import-next e m e' (take k xs) next h one)

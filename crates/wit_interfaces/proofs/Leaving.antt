@@ -256,7 +256,7 @@ module _ (r : Resolve) (w : WorldId) (count : ℕ) (maps : TypeEncodingMaps) whe
 
       used-imported : list_all (λ n. nat_lt n (length (outer_slots imported.declared))) (used_types imported.declared) ≡ true
       used-imported =
-          let test = λ n. nat_lt n (length (outer_slots imported.declared)) in
+          let test : ℕ → Bool = λ n. nat_lt n (length (outer_slots imported.declared)) in
           let more : length (outer_slots imported.declared) ≡ length s.scope.slots + 1 = ap length (ap (λ o. option_map_or (λ z. z.slots) o []) followed-imported) ∙ length-append s.scope.slots (x ∷ []) in
           ap (list_all test) (ap (λ o. option_map_or (λ z. z.used) o []) followed-imported) ∙ list_all-append test s.scope.used (number ∷ [])
           ∙ both (list_all test s.scope.used) (test number && true) (below-more number (length (outer_slots imported.declared)) s.scope.used (omega (arith, more)) in-range)

@@ -81,7 +81,7 @@ impl<'a, M> LendsMaps<M> for InterfaceEncoderOf<'a, M> {
     ghost with_maps = { λ e m. record e { encoder = record e.encoder { maps = m } } };
 
     fn type_encoding_maps(&mut self) -> &mut M {
-        &mut self.encoder.maps
+        self.encoder.type_encoding_maps()
     }
 
     ghost maps_of_with_maps = { λ e m. refl };
@@ -296,7 +296,7 @@ impl<'a> InterfaceEncoderOf<'a, TypeEncodingMaps<'a>> {
 
     /// The component type. Takes constant time and no memory.
     pub fn finish(self) -> ComponentType
-        ensures { result ≡ (component_of self.old).declared }
+        ensures { result ≡ (component_of self.entry).declared }
     {
         self.encoder.outer
     }

@@ -1,11 +1,12 @@
-use Rattle.std.proofs.Common.{◌≡◌, refl, sym, subst, ap, ℕ, take, length, map, [], Some, none-in, rules}
+use Rattle.std.proofs.Common.{◌≡◌, refl, sym, subst, ap, ℕ, take, length, map, [], List, Some, rules}
+use Rattle.wit_model.proofs.Elements.{none-in}
 use Rattle.std.specs.List.{Contains}
 use Rattle.std.proofs.lemmas.List.{take_all}
 use Rattle.wit_model.specs.declared.model.InterfaceId.{InterfaceId}
 use Rattle.wit_encode.proofs.ImportLoop.{numbers}
 use Rattle.wit_interfaces.specs.InterfaceEncoders.{ImportsAll, interface_encoder_view}
 use Rattle.wit_interfaces.proofs.Calls.{stays-as-it-is}
-use Rattle.wit_interfaces.proofs.Chain.{all-imported, all-stand, leaves-both, next-lacks, next-named, next-uses}
+use Rattle.wit_interfaces.proofs.Chain.{all-imported, all-taken, all-stand, leaves-both, next-lacks, next-named, next-uses}
 use Rattle.wit_interfaces.proofs.encoder.InterfaceEncoderOf+TypeEncodingMaps.import_all.Goals as goal
 
 pub loop-interface-init : goal.loop-interface-init
@@ -35,3 +36,12 @@ loop-interface-preserved c = record {
 
 pub returns-clause-leaves : goal.returns-clause-leaves
 returns-clause-leaves c = c.loop-interface.invariant.leaves
+
+pub returns-in_err-import_interface-clause-leaves : goal.returns-in_err-import_interface-clause-leaves
+returns-in_err-import_interface-clause-leaves c = leaves-both c.args.self.now c.loop-interface.self c.import_interface.new.self c.loop-interface.invariant.leaves c.import_interface.ensures.leaves
+
+pub returns-in_err-import_interface-clause-size : goal.returns-in_err-import_interface-clause-size
+returns-in_err-import_interface-clause-size c = λ h. next-lacks c.args.self.now c.loop-interface.self c.args.interfaces.now c.loop-interface.interface-index c.loop-interface-test.true c.requires.importable c.loop-interface.invariant.leaves c.loop-interface.invariant.stand (c.import_interface.ensures.size (search rules))
+
+pub returns-clause-stand : goal.returns-clause-stand
+returns-clause-stand c = λ n h. c.loop-interface.invariant.stand n (subst (λ (xs : List ℕ). Contains xs n) (sym (all-taken c.args.interfaces.now c.loop-interface.interface-index c.loop-interface-test.false)) h)

@@ -1,4 +1,4 @@
-use Rattle.std.proofs.Common.{take}
+use Rattle.std.proofs.Common.{ℕ, take}
 use Rattle.std.specs.List.{Contains}
 use Rattle.wit_encode.proofs.ImportLoop.{numbers}
 use Rattle.wit_interfaces.specs.InterfaceEncoders.{ImportsAll, LeavesInterfaces, interface_encoder_view}

@@ -1,4 +1,4 @@
-use Rattle.std.proofs.Common.{◌≡◌, refl, sym, ap, ◌∙◌, ℕ, length, [], Some, is_some, Result, Err, rules}
+use Rattle.std.proofs.Common.{◌≡◌, refl, sym, ap, ◌∙◌, ℕ, true, length, [], Some, is_some, Result, Ok, Err, OnErr, arith, rules}
 use Rattle.std.proofs.lemmas.Bool.{lt-ltb}
 use Rattle.wit_model.specs.Lookup.{interface_at, interface_path}
 use Rattle.wit_model.specs.Text.{Text}
@@ -32,3 +32,76 @@ import_instance-requires c =
     let e = c.args.self.now in
     let found = there e c.args.interface.0 c.requires.named in
     first-listed e.encoder.resolve.now (component_of e) (world_around c.define_dependency.new.self) c.args.interface found.0 c.in_ok-slot.slot (c.in_ok-slot.ensures.ok found.0 found.1) c.requires.first
+
+pub returns-in_err-slot-clause-leaves : goal.returns-in_err-slot-clause-leaves
+returns-in_err-slot-clause-leaves c = aliases-leave c.args.self.now c.requires.can c.define_dependency.new.self c.define_dependency.ensures.rest (search rules)
+
+pub returns-in_err-slot-clause-size : goal.returns-in_err-slot-clause-size
+returns-in_err-slot-clause-size c = λ h.
+    let refused : ◌≡◌ {A = Result ℕ Error} c.define_dependency.result (Err errors.Size) = search rules in
+    let e = c.args.self.now in
+    let found = there e c.args.interface.0 c.requires.named in
+    slot-lacks e.encoder.resolve.now e.canonical_names (component_of e) c.args.interface found.0 found.1 (c.define_dependency.ensures.size refused found.0 found.1)
+
+pub returns-clause-leaves : goal.returns-clause-leaves
+returns-clause-leaves c =
+    let e = c.args.self.now in
+    let found = there e c.args.interface.0 c.requires.named in
+    let named = path e c.args.interface.0 c.requires.named in
+    import-leaves e c.requires.can c.define_dependency.new.self c.define_dependency.ensures.rest c.args.interface found.0 c.in_ok-slot.slot found.1 (c.in_ok-slot.ensures.ok found.0 found.1) named.0 named.1
+    _ c.in_ok-name.ensures.ok c.import_instance.new.outer (record c.define_dependency.new.self.foreign { instances = c.import_instance.new.instances }) c.in_ok-import_instance.ensures.ok c.in_ok-import_instance.ensures.listed refl
+
+pub returns-clause-stands : goal.returns-clause-stands
+returns-clause-stands c =
+    let e = c.args.self.now in
+    let found = there e c.args.interface.0 c.requires.named in
+    let named = path e c.args.interface.0 c.requires.named in
+    import-stands e c.requires.can c.define_dependency.new.self c.define_dependency.ensures.rest c.args.interface found.0 c.in_ok-slot.slot found.1 (c.in_ok-slot.ensures.ok found.0 found.1) named.0 named.1
+    _ c.in_ok-name.ensures.ok c.import_instance.new.outer (record c.define_dependency.new.self.foreign { instances = c.import_instance.new.instances }) c.in_ok-import_instance.ensures.ok c.in_ok-import_instance.ensures.listed refl
+
+pub returns-clause-ok : goal.returns-clause-ok
+returns-clause-ok c =
+    let e = c.args.self.now in
+    let found = there e c.args.interface.0 c.requires.named in
+    let named = path e c.args.interface.0 c.requires.named in
+    import-made e c.requires.can c.define_dependency.new.self c.define_dependency.ensures.rest c.args.interface found.0 c.in_ok-slot.slot found.1 (c.in_ok-slot.ensures.ok found.0 found.1) named.0 named.1
+    _ c.in_ok-name.ensures.ok c.import_instance.new.outer (record c.define_dependency.new.self.foreign { instances = c.import_instance.new.instances }) c.in_ok-import_instance.ensures.ok c.in_ok-import_instance.ensures.listed refl c.requires.first
+
+pub prove-unreachable-requires : goal.prove-unreachable-requires
+prove-unreachable-requires c =
+    let e = c.args.self.now in
+    let found = there e c.args.interface.0 c.requires.named in
+    let named = path e c.args.interface.0 c.requires.named in
+    let room = import-room e c.requires.can c.define_dependency.new.self c.define_dependency.ensures.rest c.args.interface found.0 c.in_ok-slot.slot found.1 (c.in_ok-slot.ensures.ok found.0 found.1) named.0 named.1
+    _ c.in_ok-name.ensures.ok c.import_instance.new.outer (record c.define_dependency.new.self.foreign { instances = c.import_instance.new.instances }) c.in_ok-import_instance.ensures.ok c.in_ok-import_instance.ensures.listed refl in
+    let counted = c.type_count.ensures in
+    let over = c.if-prove.true in
+    omega (arith, room, counted, over)
+
+pub returns-in_err-import_instance-clause-leaves : goal.returns-in_err-import_instance-clause-leaves
+returns-in_err-import_instance-clause-leaves c =
+    let e = c.args.self.now in
+    let found = there e c.args.interface.0 c.requires.named in
+    let named = path e c.args.interface.0 c.requires.named in
+    part-leaves e c.requires.can c.define_dependency.new.self c.define_dependency.ensures.rest c.args.interface found.0 c.in_ok-slot.slot found.1 (c.in_ok-slot.ensures.ok found.0 found.1) named.0 named.1
+    c.import_instance.new.outer (record c.define_dependency.new.self.foreign { instances = c.import_instance.new.instances }) (search rules) (search rules) refl
+
+on-err : {A E P : Type 0} (res : Result A E) → P → OnErr res P
+on-err (Ok x) p = tt
+on-err (Err x) p = p
+
+pub returns-in_err-import_instance-clause-err : goal.returns-in_err-import_instance-clause-err
+returns-in_err-import_instance-clause-err c =
+    let e = c.args.self.now in
+    let found = there e c.args.interface.0 c.requires.named in
+    let named = path e c.args.interface.0 c.requires.named in
+    on-err _ (unused found.0 c.in_ok-slot.slot found.1 (part-left e c.requires.can c.define_dependency.new.self c.define_dependency.ensures.rest c.args.interface found.0 c.in_ok-slot.slot found.1 (c.in_ok-slot.ensures.ok found.0 found.1) named.0 named.1
+    c.import_instance.new.outer (record c.define_dependency.new.self.foreign { instances = c.import_instance.new.instances }) (search rules) (search rules) refl))
+
+pub returns-in_err-import_instance-clause-size : goal.returns-in_err-import_instance-clause-size
+returns-in_err-import_instance-clause-size c = λ h.
+    let e = c.args.self.now in
+    let found = there e c.args.interface.0 c.requires.named in
+    let named = path e c.args.interface.0 c.requires.named in
+    let refused = c.import_instance.ensures.size (search rules) in
+    import-lacks e.encoder.resolve.now e.canonical_names (component_of e) (world_around c.define_dependency.new.self) c.args.interface found.0 [] [] c.in_ok-slot.slot (c.in_ok-slot.ensures.ok found.0 found.1).part _ c.in_ok-name.ensures.ok refused
