@@ -17,6 +17,7 @@ pub use Rattle.plan_meaning.specs.NothingElse
 pub use Rattle.comp_read.specs.Decoded
 pub use Rattle.comp_read.specs.DecodedWorlds
 pub use Rattle.wit_encode.specs.Packages
+pub use Rattle.wit_interfaces.specs.InterfaceEncoders
 pub use Rattle.wit_compat.specs.Compatible
 pub use Rattle.wit_compat.specs.Senses
 pub use Rattle.print_grammar.specs.Calls

@@ -5,15 +5,14 @@ ghost use Rattle.wit_model.specs.Valid.{IsValid};
 use std::alloc::Global;
 use std::test::Fail;
 use wit_component::{
-    Check, ComponentValType, Error, PrimitiveValType, Resolve, Type,
+    Check, ComponentValType, Error, InterfaceEncoder, PrimitiveValType, Resolve, Type,
     encode_unit_future, encode_valtype,
 };
-use wit_interfaces::InterfaceEncoderOf;
 use wit_samples::drafts::draft;
 
 // The slot of a future without an element.
 fn future_slot(alloc: Global, resolve: &Resolve) -> Result<u32, Error> {
-    let mut encoder = InterfaceEncoderOf::new(alloc, resolve);
+    let mut encoder = InterfaceEncoder::new(alloc, resolve);
     encode_unit_future(alloc, &mut encoder)
 }
 
@@ -21,7 +20,7 @@ fn future_slot(alloc: Global, resolve: &Resolve) -> Result<u32, Error> {
 fn number(alloc: Global, resolve: &Resolve) -> Result<ComponentValType, Error>
     requires { IsValid resolve.now }
 {
-    let mut encoder = InterfaceEncoderOf::new(alloc, resolve);
+    let mut encoder = InterfaceEncoder::new(alloc, resolve);
     encode_valtype(alloc, &mut encoder, resolve, &Type::U32)
 }
 

@@ -2,7 +2,7 @@
 
 ghost use Rattle.std.specs.Prelude.{◌≡◌, ◌<◌, length};
 ghost use Rattle.wit_model.specs.Valid.{IsValid};
-ghost use Rattle.wit_interfaces.specs.InterfaceEncoders.{CanEncodeInterfaces, interface_encoder_view};
+ghost use Rattle.wit_component.specs.InterfaceEncoders.{CanEncodeInterfaces, interface_encoder_view};
 
 use std::alloc::Global;
 use std::process::Abort;
@@ -12,7 +12,6 @@ use wit_component::{
     PackageId, Resolve, Type, TypeDefKind, encode_component,
 };
 use wit_encode::interface_type;
-use wit_interfaces::InterfaceEncoderOf;
 use wit_samples::bytes::HOST_AND_GUEST;
 use wit_samples::drafts::{
     add_interface, add_type, add_type_of, add_unnamed, draft, function, put_function,
@@ -85,7 +84,7 @@ fn one_after_the_other(rt: HostRuntime) -> Result<(), Fail> {
     let alloc = rt.alloc();
     let resolve = two_interfaces(alloc)?;
     resolve.check(alloc)?;
-    let mut encoder = InterfaceEncoderOf::new(alloc, &resolve);
+    let mut encoder = InterfaceEncoder::new(alloc, &resolve);
     assert!(rt; resolve.interfaces.len() > 1);
     assert!(rt; slot_of(&mut encoder, InterfaceId(0))? == 0);
     assert!(rt; slot_of(&mut encoder, InterfaceId(1))? == 1);
@@ -117,7 +116,7 @@ fn behind_what_it_uses(rt: HostRuntime) -> Result<(), Fail> {
     let resolve = used(alloc)?;
     resolve.check(alloc)?;
     assert!(rt; resolve.interfaces.len() > 1);
-    let mut encoder = InterfaceEncoderOf::new(alloc, &resolve);
+    let mut encoder = InterfaceEncoder::new(alloc, &resolve);
     encoder.import_used(InterfaceId(1))?;
     assert!(rt; slot_of(&mut encoder, InterfaceId(1))? == 2);
     let outer = encoder.finish();

@@ -7,7 +7,6 @@ use Rattle.wit_model.specs.declared.model.Resolve.{Resolve}
 use Rattle.wit_model.specs.declared.model.Interface.{Interface}
 use Rattle.wit_model.specs.declared.model.InterfaceId.{InterfaceId}
 use Rattle.encode_reach.specs.Reach.{reached_in_order}
-use Rattle.encode_types.specs.declared.maps.TypeEncodingMaps.{TypeEncodingMaps}
 use Rattle.encode_types.specs.Known.{Around, GrowsAround, known_instance}
 use Rattle.encode_types.specs.Slots.{Keeps}
 use Rattle.encode_types.specs.View.{View}
@@ -16,10 +15,10 @@ use Rattle.wit_encode.specs.Dependencies.{ImportsTypes}
 use Rattle.wit_encode.specs.DependencyRoom.{LacksImport}
 use Rattle.wit_encode.specs.Encoders.{InterfaceLacksRoom}
 use Rattle.wit_encode.specs.Instance.{EncodesDependency, EncodesInterface, LacksInstanceRoom}
-use Rattle.wit_encode.specs.Worlds.{world_around, world_encoder_view}
+use Rattle.wit_encode.specs.Worlds.{WorldEncoder, world_around, world_encoder_view}
 
 abbrev pub InterfaceEncoder : Type 0
-InterfaceEncoder = InterfaceEncoderOf TypeEncodingMaps
+InterfaceEncoder = InterfaceEncoderOf WorldEncoder
 
 -- ---- what it holds
 

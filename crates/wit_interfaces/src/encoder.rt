@@ -28,22 +28,22 @@ use encode_names::interface_name;
 use encode_reach::interfaces_reached;
 use std::alloc::Global;
 use std::collections::BTreeMap;
-use wit_encode::{LendsMaps, TypeEncodingMaps, ValtypeEncoder, WorldEncoderOf};
+use wit_encode::{LendsMaps, TypeEncodingMaps, ValtypeEncoder, WorldEncoder, WorldEncoderOf};
 use wit_model::{Error, InterfaceId, Resolve, TypeId, WorldId};
 
-/// An encoder of interfaces. `M` is the type of its maps.
+/// An encoder of interfaces. `E` is the encoder of its component type.
 #[derive(Drop)]
-pub struct InterfaceEncoderOf<'a, M> {
+pub struct InterfaceEncoderOf<E> {
     alloc: Global,
     /// Whether the paths of imports are canonical.
     canonical_names: bool,
-    /// Its component type, as the scope of a world that has no types.
-    encoder: WorldEncoderOf<'a, M>,
+    /// The encoder of its component type, which is the scope of a world that has no types.
+    encoder: E,
 }
 
 /// Encodes interfaces as instance types of one component type, and imports the types of those that others use. As a `ValtypeEncoder` it
 /// defines types beside them, and makes aliases of types of interfaces that it has imported.
-pub type InterfaceEncoder<'a> = InterfaceEncoderOf<'a, TypeEncodingMaps<'a>>;
+pub type InterfaceEncoder<'a> = InterfaceEncoderOf<WorldEncoder<'a>>;
 
 // The number of no world.
 const NO_WORLD: u32 = 4294967295;
@@ -75,21 +75,21 @@ fn import_instance(
     }
 }
 
-impl<'a, M> LendsMaps<M> for InterfaceEncoderOf<'a, M> {
-    ghost maps_of = { λ e. e.encoder.maps };
+impl<M, E: LendsMaps<M>> LendsMaps<M> for InterfaceEncoderOf<E> {
+    ghost maps_of = { λ e. E.maps_of e.encoder };
 
-    ghost with_maps = { λ e m. record e { encoder = record e.encoder { maps = m } } };
+    ghost with_maps = { λ e m. record e { encoder = E.with_maps e.encoder m } };
 
     fn type_encoding_maps(&mut self) -> &mut M {
         self.encoder.type_encoding_maps()
     }
 
-    ghost maps_of_with_maps = { λ e m. refl };
+    ghost maps_of_with_maps = { λ e m. E.maps_of_with_maps e.encoder m };
 
-    ghost with_own_maps = { λ e. refl };
+    ghost with_own_maps = { λ e. λ i. record e { encoder = E.with_own_maps e.encoder i } };
 }
 
-impl<'a> ValtypeEncoder<'a> for InterfaceEncoderOf<'a, TypeEncodingMaps<'a>> {
+impl<'a> ValtypeEncoder<'a> for InterfaceEncoder<'a> {
     ghost use Rattle.wit_encode.specs.Instance.{outer_slots};
     ghost use Rattle.wit_encode.specs.InstanceLaws.{slots-in_range};
 
@@ -130,7 +130,7 @@ impl<'a> ValtypeEncoder<'a> for InterfaceEncoderOf<'a, TypeEncodingMaps<'a>> {
     ghost view_with_maps = { λ e m. record { scope_ = refl; around_ = refl; slot_count_ = refl; definitions_ = refl; held_ = refl; extent_ = refl; kept = λ i s h. h; back = λ i s h. h } };
 }
 
-impl<'a> InterfaceEncoderOf<'a, TypeEncodingMaps<'a>> {
+impl<'a> InterfaceEncoder<'a> {
     // An encoder with an empty component type.
     fn begin(alloc: Global, resolve: &'a Resolve, canonical_names: bool) -> InterfaceEncoder<'a>
         ensures names { has_canonical_names result ≡ canonical_names }
@@ -156,7 +156,7 @@ impl<'a> InterfaceEncoderOf<'a, TypeEncodingMaps<'a>> {
         ensures can { IsValid resolve.now → CanEncodeInterfaces (interface_encoder_view result) }
         ensures agree { Agrees resolve.now (interface_encoder_view result) }
     {
-        InterfaceEncoderOf::begin(alloc, resolve, false)
+        InterfaceEncoder::begin(alloc, resolve, false)
     }
 
     /// An encoder with an empty component type, whose imports have canonical paths: the canonical part of a version alone, and what completes
@@ -169,7 +169,7 @@ impl<'a> InterfaceEncoderOf<'a, TypeEncodingMaps<'a>> {
         ensures can { IsValid resolve.now → CanEncodeInterfaces (interface_encoder_view result) }
         ensures agree { Agrees resolve.now (interface_encoder_view result) }
     {
-        InterfaceEncoderOf::begin(alloc, resolve, true)
+        InterfaceEncoder::begin(alloc, resolve, true)
     }
 
     // Whether an interface has been imported.

@@ -3,4 +3,4 @@
 
 mod encoder;
 
-pub use encoder::{InterfaceEncoder, InterfaceEncoderOf};
+pub use encoder::InterfaceEncoder;

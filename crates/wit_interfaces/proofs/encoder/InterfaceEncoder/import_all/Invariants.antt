@@ -2,7 +2,7 @@ use Rattle.std.proofs.Common.{ℕ, take}
 use Rattle.std.specs.List.{Contains}
 use Rattle.wit_encode.proofs.ImportLoop.{numbers}
 use Rattle.wit_interfaces.specs.InterfaceEncoders.{ImportsAll, LeavesInterfaces, interface_encoder_view}
-use Rattle.wit_interfaces.proofs.encoder.InterfaceEncoderOf+TypeEncodingMaps.import_all.Given as goal
+use Rattle.wit_interfaces.proofs.encoder.InterfaceEncoder.import_all.Given as goal
 
 abbrev pub invariant-loop-interface : goal.invariant-loop-interface
 invariant-loop-interface l = record {

@@ -13,7 +13,7 @@ use Rattle.wit_encode.proofs.DependencyHolding.{import-lacks, slot-lacks}
 use Rattle.wit_encode.proofs.ImportLoop.{path-in-range}
 use Rattle.wit_interfaces.specs.InterfaceEncoders.{InterfaceEncoder, aliases, component_of, interface_encoder_view, unused}
 use Rattle.wit_interfaces.proofs.Calls.{aliases-leave, first-listed, import-leaves, import-made, import-room, import-stands, part-leaves, part-left, stays-as-it-is, used-outside}
-use Rattle.wit_interfaces.proofs.encoder.InterfaceEncoderOf+TypeEncodingMaps.import_first.Goals as goal
+use Rattle.wit_interfaces.proofs.encoder.InterfaceEncoder.import_first.Goals as goal
 
 there : (e : InterfaceEncoder) (i : ℕ) → is_some (interface_path (interface_encoder_view e).scope.packages i) ≡ true → (def : Interface) × (interface_at (interface_encoder_view e).scope.packages i ≡ Some def)
 there e i named = let r = (interface_encoder_view e).scope.packages in found-in r.interfaces.items i (lt-ltb i (length r.interfaces.items) (path-in-range r i named))

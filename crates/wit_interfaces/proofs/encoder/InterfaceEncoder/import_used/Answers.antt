@@ -5,7 +5,7 @@ use Rattle.wit_model.specs.declared.model.Resolve.{Resolve}
 use Rattle.wit_model.specs.declared.model.InterfaceId.{InterfaceId}
 use Rattle.wit_encode.specs.Dependencies.{AreImportable}
 use Rattle.wit_encode.proofs.ImportLoop.{numbers, reached-importable, reached-used}
-use Rattle.wit_interfaces.proofs.encoder.InterfaceEncoderOf+TypeEncodingMaps.import_used.Goals as goal
+use Rattle.wit_interfaces.proofs.encoder.InterfaceEncoder.import_used.Goals as goal
 
 pub import_all-requires-clause-importable : goal.import_all-requires-clause-importable
 import_all-requires-clause-importable c = subst (λ (xs : List InterfaceId). AreImportable c.args.self.now.encoder.resolve.now (numbers xs)) (sym c.deref.ensures.value)

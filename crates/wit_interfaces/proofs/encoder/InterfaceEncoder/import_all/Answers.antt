@@ -7,7 +7,7 @@ use Rattle.wit_encode.proofs.ImportLoop.{numbers}
 use Rattle.wit_interfaces.specs.InterfaceEncoders.{ImportsAll, interface_encoder_view}
 use Rattle.wit_interfaces.proofs.Calls.{stays-as-it-is}
 use Rattle.wit_interfaces.proofs.Chain.{all-imported, all-taken, all-stand, leaves-both, next-lacks, next-named, next-uses}
-use Rattle.wit_interfaces.proofs.encoder.InterfaceEncoderOf+TypeEncodingMaps.import_all.Goals as goal
+use Rattle.wit_interfaces.proofs.encoder.InterfaceEncoder.import_all.Goals as goal
 
 pub loop-interface-init : goal.loop-interface-init
 loop-interface-init c = record {

@@ -1,6 +1,6 @@
 use Rattle.std.proofs.Common.{◌≡◌}
 use Rattle.wit_interfaces.proofs.Calls.{encode-leaves, used-outside}
-use Rattle.wit_interfaces.proofs.encoder.InterfaceEncoderOf+TypeEncodingMaps.encode_instance.Goals as goal
+use Rattle.wit_interfaces.proofs.encoder.InterfaceEncoder.encode_instance.Goals as goal
 
 pub define_instance-requires-clause-around : goal.define_instance-requires-clause-around
 define_instance-requires-clause-around c = used-outside c.args.self.now c.args.interface.0 c.requires.uses
