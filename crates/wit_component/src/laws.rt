@@ -12,6 +12,7 @@ pub use comp_meaning::laws::one_meaning;
 pub use print_grammar::laws::one_reading;
 pub use wit_compat::laws::{semver_check_counted, transitive};
 pub use wit_encode::laws::equal_lists;
+pub use wit_interfaces::laws::definitions_leave_interfaces;
 pub use wit_model::laws::canonical_paths_join;
 
 /// Of bytes that mean exactly what a package of a `Resolve` does, as those that `encode` answers of a valid package with an interface or a

@@ -1,7 +1,8 @@
 //! Interfaces encoded, one after the other in one component type, and the component types of an interface and of a package.
 
-ghost use Rattle.std.specs.Prelude.{◌≡◌, ◌<◌, length};
-ghost use Rattle.wit_model.specs.Valid.{IsValid};
+ghost use Rattle.std.specs.Prelude.{◌≡◌, ◌<◌, is_some, length, true};
+ghost use Rattle.wit_component.specs.Lookup.{interface_path};
+ghost use Rattle.wit_component.specs.Valid.{IsValid};
 ghost use Rattle.wit_component.specs.InterfaceEncoders.{CanEncodeInterfaces, interface_encoder_view};
 
 use std::alloc::Global;
@@ -14,7 +15,7 @@ use wit_component::{
 use wit_encode::interface_type;
 use wit_samples::bytes::HOST_AND_GUEST;
 use wit_samples::drafts::{
-    add_interface, add_type, add_type_of, add_unnamed, draft, function, put_function,
+    add_interface, add_type, add_type_of, add_unnamed, draft, function, put_function, set_version,
 };
 use wit_samples::kinds::{alias_of, id};
 use wit_samples::samples::host_and_guest;
@@ -120,6 +121,45 @@ fn behind_what_it_uses(rt: HostRuntime) -> Result<(), Fail> {
     encoder.import_used(InterfaceId(1))?;
     assert!(rt; slot_of(&mut encoder, InterfaceId(1))? == 2);
     let outer = encoder.finish();
+    assert_written(&rt, alloc, &outer, &BYTES)
+}
+
+// Imports an interface behind those that it uses.
+fn import_behind<'a>(encoder: &mut InterfaceEncoder<'a>, id: InterfaceId) -> Result<(), Error>
+    requires can { CanEncodeInterfaces (interface_encoder_view encoder.old) }
+    requires named { is_some (interface_path (interface_encoder_view encoder.old).scope.packages id.0) ≡ true }
+{
+    encoder.import_used(id)?;
+    encoder.import_interface(id)
+}
+
+// The imports of an interface and of those that it uses, by canonical paths.
+fn imports_of(alloc: Global, resolve: &Resolve, id: InterfaceId) -> Result<ComponentType, Error>
+    requires { IsValid resolve.now }
+{
+    let mut encoder = InterfaceEncoder::with_canonical_names(alloc, resolve);
+    if let Some(_) = resolve.id_of(alloc, id)? {
+        import_behind(&mut encoder, id)?;
+    }
+    Ok(encoder.finish())
+}
+
+// Each path has `1` as its version, and `.2.3` completes it.
+#[test]
+fn imported_by_canonical_paths(rt: HostRuntime) -> Result<(), Fail> {
+    static BYTES: [u8; 84] = [
+        0x00, 0x61, 0x73, 0x6d, 0x0d, 0x00, 0x01, 0x00, 0x07, 0x4a, 0x01, 0x41, 0x05, 0x01, 0x42,
+        0x02, 0x01, 0x79, 0x04, 0x00, 0x01, 0x74, 0x03, 0x00, 0x00, 0x03, 0x02, 0x07, 0x61, 0x3a,
+        0x62, 0x2f, 0x69, 0x40, 0x31, 0x01, 0x01, 0x04, 0x2e, 0x32, 0x2e, 0x33, 0x05, 0x00, 0x02,
+        0x03, 0x00, 0x00, 0x01, 0x74, 0x01, 0x42, 0x02, 0x02, 0x03, 0x02, 0x01, 0x01, 0x04, 0x00,
+        0x01, 0x74, 0x03, 0x00, 0x00, 0x03, 0x02, 0x07, 0x61, 0x3a, 0x62, 0x2f, 0x6a, 0x40, 0x31,
+        0x01, 0x01, 0x04, 0x2e, 0x32, 0x2e, 0x33, 0x05, 0x02,
+    ];
+    let alloc = rt.alloc();
+    let mut resolve = used(alloc)?;
+    set_version(&mut resolve, 0, 1, 2, 3);
+    resolve.check(alloc)?;
+    let outer = imports_of(alloc, &resolve, InterfaceId(1))?;
     assert_written(&rt, alloc, &outer, &BYTES)
 }
 

@@ -9,7 +9,7 @@ use Rattle.wit_model.specs.declared.model.InterfaceId.{InterfaceId}
 use Rattle.encode_reach.specs.Reach.{reached_in_order}
 use Rattle.encode_types.specs.Known.{Around, GrowsAround, known_instance}
 use Rattle.encode_types.specs.Slots.{Keeps}
-use Rattle.encode_types.specs.View.{View}
+use Rattle.encode_types.specs.View.{Grows, View}
 use Rattle.wit_interfaces.specs.declared.encoder.InterfaceEncoderOf.{InterfaceEncoderOf}
 use Rattle.wit_encode.specs.Dependencies.{ImportsTypes}
 use Rattle.wit_encode.specs.DependencyRoom.{LacksImport}
@@ -104,3 +104,9 @@ pub record LacksOneImport (e : InterfaceEncoder) (numbers : List ℕ) : Type 0 w
 
 abbrev pub LacksReached : InterfaceEncoder → InterfaceId → Type 0
 LacksReached e i = LacksOneImport e (reached_in_order (interface_encoder_view e).scope.packages i.0)
+
+-- ---- laws
+
+-- whatever keeps the scope and its slots leaves what can encode and import interfaces
+abbrev pub DefinitionsLeaveInterfaces : Type 0
+DefinitionsLeaveInterfaces = (v v' : View) → CanEncodeInterfaces v → Grows v v' → v'.scope ≡ v.scope → CanEncodeInterfaces v'

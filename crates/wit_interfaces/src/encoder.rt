@@ -160,7 +160,7 @@ impl<'a> InterfaceEncoder<'a> {
     }
 
     /// An encoder with an empty component type, whose imports have canonical paths: the canonical part of a version alone, and what completes
-    /// it as an attribute. Takes constant time and no memory.
+    /// it as an attribute. No call looks whether two of these are equal. Takes constant time and no memory.
     pub fn with_canonical_names(alloc: Global, resolve: &'a Resolve) -> InterfaceEncoder<'a>
         ensures names { has_canonical_names result ≡ true }
         ensures packages { (interface_encoder_view result).scope.packages ≡ resolve.now }

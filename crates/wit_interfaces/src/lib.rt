@@ -2,5 +2,6 @@
 #![tactic(auto)]
 
 mod encoder;
+pub mod laws;
 
 pub use encoder::InterfaceEncoder;
