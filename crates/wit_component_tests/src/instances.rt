@@ -60,10 +60,7 @@ fn two_interfaces(alloc: Global) -> Result<Resolve, Error> {
 }
 
 // The slot of one interface more, behind the types of those that it uses.
-fn slot_of<'a>(
-    encoder: &mut InterfaceEncoder<'a>,
-    id: InterfaceId,
-) -> Result<u32, Error>
+fn slot_of<'a>(encoder: &mut InterfaceEncoder<'a>, id: InterfaceId) -> Result<u32, Error>
     requires can { CanEncodeInterfaces (interface_encoder_view encoder.old) }
     requires in_range { id.0 < length (interface_encoder_view encoder.old).scope.packages.interfaces.items }
     ensures can { CanEncodeInterfaces (interface_encoder_view encoder.new) }

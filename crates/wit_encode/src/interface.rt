@@ -603,7 +603,11 @@ impl<'a> InstanceEncoderOf<'a, TypeEncodingMaps<'a>> {
     /// made, has no room for one more alias or instance type.
     ///
     /// Takes as long as encoding the types.
-    pub(crate) fn encode_dependency(&mut self, alloc: Global, interface: InterfaceId) -> Result<u32, Error>
+    pub(crate) fn encode_dependency(
+        &mut self,
+        alloc: Global,
+        interface: InterfaceId,
+    ) -> Result<u32, Error>
         requires closed { self.old.inner ≡ None }
         requires in_range { interface.0 < length self.old.resolve.now.interfaces.items }
         requires valid { IsValid self.old.resolve.now }
@@ -636,7 +640,11 @@ impl<'a> InstanceEncoderOf<'a, TypeEncodingMaps<'a>> {
     /// component type, after aliases have been made, has no room for one more alias or instance type.
     ///
     /// Takes as long as encoding the types and functions and sorting the functions, with a search in an ordered map for each.
-    pub(crate) fn encode_instance(&mut self, alloc: Global, interface: InterfaceId) -> Result<u32, Error>
+    pub(crate) fn encode_instance(
+        &mut self,
+        alloc: Global,
+        interface: InterfaceId,
+    ) -> Result<u32, Error>
         requires closed { self.old.inner ≡ None }
         requires in_range { interface.0 < length self.old.resolve.now.interfaces.items }
         requires valid { IsValid self.old.resolve.now }

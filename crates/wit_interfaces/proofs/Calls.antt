@@ -1,5 +1,5 @@
 -- What the calls of an encoder of interfaces leave, and what they add.
-use Rattle.std.proofs.Common.{◌≡◌, refl, sym, subst, ap, ◌∙◌, ℕ, ◌+◌, ◌<◌, nat_cmp, Bool, true, false, List, [], ◌∷◌, length, Result, Ok, Err, IfOk, OnOk, OnErr, Option, Some, None, is_some}
+use Rattle.std.proofs.Common.{◌≡◌, refl, sym, subst, ap, ◌∙◌, ℕ, ◌+◌, ◌<◌, nat_cmp, true, false, List, length, Result, Ok, Err, IfOk, OnErr, Option, Some, None, is_some}
 use Rattle.std.specs.BTreeMap.{insert_entry}
 use Rattle.std.specs.List.{Contains}
 use Rattle.wit_model.specs.Text.{Text}
@@ -13,7 +13,7 @@ use Rattle.comp_bytes.specs.declared.forms.ComponentTypeRef.TheVariants as refs
 use Rattle.encode_names.specs.WorldNames.{name_of_interface}
 use Rattle.encode_types.specs.Known.{Around, GrowsAround, UsedStand, known_instance, standing_instances}
 use Rattle.wit_encode.specs.declared.interface.Foreign.{Foreign}
-use Rattle.wit_encode.specs.Dependencies.{ImportsTypes, with_import}
+use Rattle.wit_encode.specs.Dependencies.{with_import}
 use Rattle.wit_encode.specs.Encoders.{declared_after}
 use Rattle.wit_encode.specs.Instance.{EncodesDependency, EncodesInterface, around_at}
 use Rattle.wit_encode.specs.Worlds.{WorldEncoder, is_sound_outside, world_around, world_scope}
@@ -22,7 +22,7 @@ use Rattle.wit_encode.specs.WorldItems.{DefinesInstance}
 use Rattle.wit_encode.proofs.PlacedInstances.{grown-listed}
 use Rattle.std.proofs.lemmas.Bool.{lt-ltb}
 use Rattle.wit_model.proofs.OnePath.{found-in, some-of}
-use Rattle.wit_interfaces.specs.InterfaceEncoders.{CanEncodeInterfaces, Imports, ImportsInPart, InterfaceEncoder, LeavesInterfaces, aliases, component_of, has_canonical_names, has_listed, imported, interface_encoder_view, unused}
+use Rattle.wit_interfaces.specs.InterfaceEncoders.{CanEncodeInterfaces, Imports, InterfaceEncoder, LeavesInterfaces, component_of, has_listed, imported, interface_encoder_view}
 use Rattle.wit_interfaces.proofs.Leaving.{GoesOn, aliases-go-on, part-goes-on, whole-goes-on, whole-room, whole-stands}
 
 -- what stands in the scope stands in the component type

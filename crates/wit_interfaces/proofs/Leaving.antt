@@ -1,5 +1,5 @@
 -- What an encoder of interfaces leaves: behind aliases, an instance type, and an import that uses it, it can be used on.
-use Rattle.std.proofs.Common.{◌≡◌, refl, sym, subst, ap, ◌∙◌, ℕ, zero, suc, ◌+◌, ◌≤◌, ◌<◌, nat_lt, nat_cmp, Bool, true, false, ◌&&◌, if◌then◌else◌, List, [], ◌∷◌, ◌++◌, length, length-append, Option, Some, None, slice_get, is_some, arith}
+use Rattle.std.proofs.Common.{◌≡◌, refl, sym, subst, ap, ◌∙◌, ℕ, zero, suc, ◌+◌, ◌≤◌, ◌<◌, nat_lt, nat_cmp, Bool, true, false, ◌&&◌, if◌then◌else◌, List, [], ◌∷◌, ◌++◌, length, length-append, Some, slice_get, is_some, arith}
 use Rattle.std.specs.BTreeMap.{insert_entry, is_at}
 use Rattle.std.specs.Ordering.{is_eq}
 use Rattle.std.proofs.lemmas.Cmp.{nat_cmp_total}
@@ -8,9 +8,8 @@ use Rattle.std.specs.Option.{option_map_or}
 use Rattle.std.proofs.Math.Seq.{take-append_seam}
 use Rattle.std.proofs.lemmas.Bool.{lt-ltb}
 use Rattle.std.proofs.lemmas.List.Folds.{list_all-append}
-use Rattle.std.proofs.lemmas.Option.{slice_get_within}
 use Rattle.wit_model.specs.Text.{Text}
-use Rattle.wit_model.specs.Lookup.{interface_at, interface_path, place_of, place_of_path}
+use Rattle.wit_model.specs.Lookup.{interface_path, place_of, place_of_path}
 use Rattle.wit_model.specs.Valid.{IsValid}
 use Rattle.wit_model.specs.declared.model.Resolve.{Resolve}
 use Rattle.wit_model.specs.declared.model.Interface.{Interface}
@@ -23,7 +22,7 @@ use Rattle.comp_bytes.specs.Held.{type_slots_of}
 use Rattle.comp_bytes.specs.declared.forms.ComponentTypeRef.TheVariants as refs
 use Rattle.comp_meaning.specs.Follow as follow
 use Rattle.comp_meaning.specs.Follow.{import_, Instance, Key, Slot, View as InstanceView, component_step, in_scope, instance_types, instance_view, new_scope, see, used_view}
-use Rattle.encode_shown.specs.Views.{ShowsImport, ShowsTypes}
+use Rattle.encode_shown.specs.Views.{ShowsTypes}
 use Rattle.encode_names.specs.WorldNames.{name_of_interface}
 use Rattle.encode_names.specs.WorldSteps.{declared_towards, seen_instance, with_instance}
 use Rattle.encode_names.proofs.PathsRead.{path-key}
@@ -46,7 +45,7 @@ use Rattle.wit_encode.proofs.Imported.{at-same}
 use Rattle.wit_encode.proofs.Importing.{importable-stands, right-more}
 use Rattle.wit_encode.proofs.ImportLoop.{path-in-range}
 use Rattle.wit_encode.proofs.ImportsStand.{instance-stands}
-use Rattle.wit_encode.proofs.LatestInstances.{found-new, found-other, stands-then}
+use Rattle.wit_encode.proofs.LatestInstances.{found-other, stands-then}
 use Rattle.wit_encode.proofs.WorldAliases.{Leaves, aliases-leave}
 use Rattle.wit_encode.proofs.WorldScope.{SoundOutside, sound-again, sound-outside}
 use Rattle.wit_interfaces.specs.InterfaceEncoders.{CanEncodeInterfaces}

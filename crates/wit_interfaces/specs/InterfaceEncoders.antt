@@ -3,7 +3,6 @@ use Rattle.std.specs.Prelude.{ℕ, ◌≡◌, ◌≤◌, ◌⊎◌, Bool, true, 
 use Rattle.std.specs.List.{Contains, list_all}
 use Rattle.wit_model.specs.Lookup.{interface_at}
 use Rattle.wit_model.specs.Valid.{IsValid}
-use Rattle.wit_model.specs.declared.model.Resolve.{Resolve}
 use Rattle.wit_model.specs.declared.model.Interface.{Interface}
 use Rattle.wit_model.specs.declared.model.InterfaceId.{InterfaceId}
 use Rattle.encode_reach.specs.Reach.{reached_in_order}
@@ -107,6 +106,7 @@ LacksReached e i = LacksOneImport e (reached_in_order (interface_encoder_view e)
 
 -- ---- laws
 
--- whatever keeps the scope and its slots leaves what can encode and import interfaces
+-- where old slots stay and what is around is the same, interfaces can still be encoded and imported
 abbrev pub DefinitionsLeaveInterfaces : Type 0
-DefinitionsLeaveInterfaces = (v v' : View) → CanEncodeInterfaces v → Grows v v' → v'.scope ≡ v.scope → CanEncodeInterfaces v'
+DefinitionsLeaveInterfaces = (e e' : InterfaceEncoder) → CanEncodeInterfaces (interface_encoder_view e) → Grows (interface_encoder_view e) (interface_encoder_view e') → (interface_encoder_view e').scope ≡ (interface_encoder_view e).scope
+    → CanEncodeInterfaces (interface_encoder_view e')

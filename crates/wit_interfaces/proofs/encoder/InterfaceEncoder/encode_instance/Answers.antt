@@ -1,4 +1,3 @@
-use Rattle.std.proofs.Common.{◌≡◌}
 use Rattle.wit_interfaces.proofs.Calls.{encode-leaves, used-outside}
 use Rattle.wit_interfaces.proofs.encoder.InterfaceEncoder.encode_instance.Goals as goal
 

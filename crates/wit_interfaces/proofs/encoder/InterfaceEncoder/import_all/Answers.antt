@@ -1,10 +1,6 @@
-use Rattle.std.proofs.Common.{◌≡◌, refl, sym, subst, ap, ℕ, take, length, map, [], List, Some, rules}
+use Rattle.std.proofs.Common.{refl, sym, subst, ℕ, List, rules}
 use Rattle.wit_model.proofs.Elements.{none-in}
 use Rattle.std.specs.List.{Contains}
-use Rattle.std.proofs.lemmas.List.{take_all}
-use Rattle.wit_model.specs.declared.model.InterfaceId.{InterfaceId}
-use Rattle.wit_encode.proofs.ImportLoop.{numbers}
-use Rattle.wit_interfaces.specs.InterfaceEncoders.{ImportsAll, interface_encoder_view}
 use Rattle.wit_interfaces.proofs.Calls.{stays-as-it-is}
 use Rattle.wit_interfaces.proofs.Chain.{all-imported, all-taken, all-stand, leaves-both, next-lacks, next-named, next-uses}
 use Rattle.wit_interfaces.proofs.encoder.InterfaceEncoder.import_all.Goals as goal

@@ -1,4 +1,4 @@
-use Rattle.std.proofs.Common.{◌≡◌, refl, sym, ap, ◌∙◌, ℕ, true, length, [], Some, is_some, Result, Ok, Err, OnErr, arith, rules}
+use Rattle.std.proofs.Common.{◌≡◌, refl, ℕ, true, length, [], Some, is_some, Result, Ok, Err, OnErr, arith, rules}
 use Rattle.std.proofs.lemmas.Bool.{lt-ltb}
 use Rattle.wit_model.specs.Lookup.{interface_at, interface_path}
 use Rattle.wit_model.specs.Text.{Text}
@@ -6,13 +6,11 @@ use Rattle.wit_model.specs.declared.error.Error.{Error}
 use Rattle.wit_model.specs.declared.error.Error.TheVariants as errors
 use Rattle.wit_model.specs.declared.model.Interface.{Interface}
 use Rattle.wit_model.proofs.OnePath.{found-in, some-of}
-use Rattle.encode_types.proofs.Around.{around-same}
-use Rattle.wit_encode.specs.Instance.{EncodesDependency}
 use Rattle.wit_encode.specs.Worlds.{world_around}
 use Rattle.wit_encode.proofs.DependencyHolding.{import-lacks, slot-lacks}
 use Rattle.wit_encode.proofs.ImportLoop.{path-in-range}
-use Rattle.wit_interfaces.specs.InterfaceEncoders.{InterfaceEncoder, aliases, component_of, interface_encoder_view, unused}
-use Rattle.wit_interfaces.proofs.Calls.{aliases-leave, first-listed, import-leaves, import-made, import-room, import-stands, part-leaves, part-left, stays-as-it-is, used-outside}
+use Rattle.wit_interfaces.specs.InterfaceEncoders.{InterfaceEncoder, component_of, interface_encoder_view, unused}
+use Rattle.wit_interfaces.proofs.Calls.{aliases-leave, first-listed, import-leaves, import-made, import-room, import-stands, part-leaves, part-left, used-outside}
 use Rattle.wit_interfaces.proofs.encoder.InterfaceEncoder.import_first.Goals as goal
 
 there : (e : InterfaceEncoder) (i : ℕ) → is_some (interface_path (interface_encoder_view e).scope.packages i) ≡ true → (def : Interface) × (interface_at (interface_encoder_view e).scope.packages i ≡ Some def)

@@ -1,4 +1,4 @@
-use Rattle.std.proofs.Common.{◌≡◌, sym, subst, ap, ◌∙◌, ℕ, List, map, Result, Ok, Err, OnOk}
+use Rattle.std.proofs.Common.{sym, subst, List, Result, Ok, Err, OnOk}
 use Rattle.std.specs.List.{Contains}
 use Rattle.wit_model.specs.Uses.{direct_deps}
 use Rattle.wit_model.specs.declared.model.Resolve.{Resolve}
