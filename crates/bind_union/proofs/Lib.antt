@@ -1,0 +1,33 @@
+mod Lists
+mod Images
+mod ViewTests
+pub mod Carrying
+mod Homes
+mod TypeRules
+mod FunctionRules
+mod UsedInterfaces
+mod InOrder
+mod InterfaceRules
+mod EntryRules
+mod WorldOrder
+mod WorldRules
+mod Listed
+mod Itself
+mod Sources
+mod Kept
+mod KeptTypes
+pub mod PackageNames
+pub mod KeptPackages
+mod KeptNumbers
+mod KeptPackageNames
+mod Shown
+mod KeptPlaces
+mod Valid
+pub mod Namesakes
+mod Meanings
+mod BoundMeanings
+mod WorldNamesakes
+pub mod United
+pub mod UnitedWorlds
+mod MatchedStand
+mod Steps
