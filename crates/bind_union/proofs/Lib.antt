@@ -1,17 +1,17 @@
-mod Lists
-mod Images
+pub mod Lists
+pub mod Images
 mod ViewTests
 pub mod Carrying
-mod Homes
-mod TypeRules
+pub mod Homes
+pub mod TypeRules
 mod FunctionRules
 mod UsedInterfaces
 mod InOrder
 mod InterfaceRules
 mod EntryRules
 mod WorldOrder
-mod WorldRules
-mod Listed
+pub mod WorldRules
+pub mod Listed
 mod Itself
 mod Sources
 mod Kept
@@ -29,5 +29,5 @@ mod BoundMeanings
 mod WorldNamesakes
 pub mod United
 pub mod UnitedWorlds
-mod MatchedStand
+pub mod MatchedStand
 mod Steps

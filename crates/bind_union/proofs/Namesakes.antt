@@ -362,12 +362,12 @@ module _ {X : Type 0} where
   find_is q [] = refl
   find_is q (e ∷ es) = let rest = find_is q es in let key = same-text q e.0 in λ i. cond (key i) (Some e.1) (rest i)
 
-  found_same : (es fs : List (Text × X)) → ◌≡◌ {A = TextMap X} (from_entries es) (from_entries fs) → (q : Text) → entry_under q es ≡ entry_under q fs
+  pub found_same : (es fs : List (Text × X)) → ◌≡◌ {A = TextMap X} (from_entries es) (from_entries fs) → (q : Text) → entry_under q es ≡ entry_under q fs
   found_same es fs same q =
       sym (find_is q es) ∙ (sym (get-from_entries nat_list_cmp_total es q) ∙ (ap (λ m. Rattle.std.specs.FinMap.get m q) same ∙ (get-from_entries nat_list_cmp_total fs q ∙ find_is q fs)))
 
 -- what stands under a name means what its type does
-meaning_under : (r : Resolve) (i : Interface) (name : Text) → entry_under name (interface_meaning r i).types ≡ option_map (type_meaning_at r) (under_text name (type_names i))
+pub meaning_under : (r : Resolve) (i : Interface) (name : Text) → entry_under name (interface_meaning r i).types ≡ option_map (type_meaning_at r) (under_text name (type_names i))
 meaning_under r i name =
     lookup_of_map (text_eq name) text_of (λ (id : TypeId). type_meaning_at r id.0) i.types.entries
     ∙ (twice (lookup (λ k. text_eq name (text_of k)) i.types.entries)
