@@ -29,7 +29,6 @@ ghost use Rattle.std.specs.Prelude.{OnOk, IfErr};
 ghost use Rattle.wit_model.specs.Valid.{HasDistinctKeys, IsFaultOf, KeepsRules};
 
 pub use maps::read_all;
-
 use std::alloc::Global;
 use wit_model::{Fault, Resolve};
 
