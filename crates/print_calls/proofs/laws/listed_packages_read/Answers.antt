@@ -3,7 +3,7 @@ use Rattle.print_grammar.specs.AsRead.{file_as_read}
 use Rattle.print_grammar.specs.Calls.{file_calls}
 use Rattle.print_grammar.specs.Reading.{IsOnlyReading}
 use Rattle.print_items.specs.Shown.{shown_file}
-use Rattle.wit_print.proofs.ValidFiles.{packages_read}
+use Rattle.print_packages.proofs.ValidFiles.{packages_read}
 use Rattle.print_calls.proofs.Rendered.{list-renders}
 use Rattle.print_calls.proofs.laws.listed_packages_read.Goals as goal
 
