@@ -1,14 +1,10 @@
 -- What an answer of `check` says.
-use Rattle.std.proofs.Common.{refl, Result, Ok, Err, OnOk, IfErr, IsOkUnless}
+use Rattle.std.proofs.Common.{refl, Result, Ok, Err, IfErr, IsOkUnless}
 use Rattle.wit_model.specs.declared.error.Fault.{Fault}
 use Rattle.wit_model.specs.declared.error.Fault.TheVariants as faults
 use Rattle.wit_model.specs.declared.model.Resolve.{Resolve}
 use Rattle.wit_model.specs.Valid.{IsFaultOf, IsValid}
 use Rattle.wit_model.proofs.Entries.{none_breaks}
-
-pub on_ok : {A E : Type 0} (answer : Result A E) (P Q : Type 0) → OnOk answer P → (P → Q) → OnOk answer Q
-on_ok (Ok x) P Q h f = f h
-on_ok (Err e) P Q h f = h
 
 -- a valid `Resolve` is refused for want of memory alone
 pub no_fault : {A : Type 0} (r : Resolve) (answer : Result A Fault) → IfErr answer (IsFaultOf r) → IsValid r → IsOkUnless answer faults.Memory

@@ -11,7 +11,7 @@ use Rattle.wit_model.specs.Text.{Text, text_of}
 use Rattle.wit_model.specs.Valid.{IsValid, labels}
 use Rattle.wit_model.proofs.Entries.{each_from_at, lists_pass}
 use Rattle.wit_model.proofs.Lists.{first_true, second_true}
-use Rattle.wit_print.specs.Heads.{head_calls, interface_head_calls}
+use Rattle.print_packages.specs.Heads.{head_calls, interface_head_calls}
 
 -- its gates have labels and versions
 pub interface_gates : (r : Resolve) (n : ℕ) (i : Interface) → IsValid r → interface_at r n ≡ Some i → is_stability i.stability ≡ true

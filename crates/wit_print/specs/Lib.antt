@@ -1,9 +1,8 @@
 pub mod Documentation
-pub mod Heads
-pub mod UseGroups
-pub mod Printable
 pub mod Printer
-pub mod GivenTypes
--- ---- definitions of the crate below that clauses of callers cite
+-- ---- definitions of the crates below that clauses of callers cite
 
 pub use Rattle.print_items.specs.Shown
+pub use Rattle.print_uses.specs.UseGroups
+pub use Rattle.print_packages.specs.GivenTypes
+pub use Rattle.print_packages.specs.Heads

@@ -17,17 +17,17 @@ ghost use Rattle.print_grammar.specs.Reading.{IsOnlyReading};
 ghost use Rattle.print_output.specs.Render.{render};
 ghost use Rattle.print_items.specs.Shown.{shown_file, shown_head, shown_package, shown_type};
 ghost use Rattle.print_grammar.specs.Calls.{file_calls, members_calls, package_calls, package_outer_calls, printed_after, type_calls};
-ghost use Rattle.wit_print.specs.GivenTypes.{are_functions_of, given_members};
-ghost use Rattle.wit_print.specs.UseGroups.{is_listed_type, listed_of};
-ghost use Rattle.wit_print.specs.Heads.{interface_body_calls, interface_head_calls};
+ghost use Rattle.print_packages.specs.GivenTypes.{are_functions_of, given_members};
+ghost use Rattle.print_uses.specs.UseGroups.{is_listed_type, listed_of};
+ghost use Rattle.print_packages.specs.Heads.{interface_body_calls, interface_head_calls};
 
-use crate::file::print_file;
-use crate::given_types::{collect_types, print_given_types};
-use crate::interface::{print_head, print_interface_body};
-use crate::package::print_whole_package;
-use crate::parts::write_package_outer;
 use print_items::{Driver, write_type_name};
 use print_output::{Output, OutputToString};
+use print_packages::{
+    collect_types, print_file, print_given_types, print_head, print_interface_body,
+    print_whole_package,
+};
+use print_uses::write_package_outer;
 use std::alloc::Global;
 use std::collections::HashMap;
 use wit_model::{

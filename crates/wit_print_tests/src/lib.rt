@@ -2,6 +2,8 @@
 #![tactic(auto)]
 
 #[cfg(test)]
+mod call_lists;
+#[cfg(test)]
 mod given_types;
 #[cfg(test)]
 mod outputs;

@@ -1,4 +1,4 @@
-use Rattle.wit_print.proofs.ValidFiles.{kept_text_reads}
+use Rattle.print_packages.proofs.ValidFiles.{kept_text_reads}
 use Rattle.wit_print.proofs.laws.kept_text_reads.Goals as goal
 
 pub returns : goal.returns

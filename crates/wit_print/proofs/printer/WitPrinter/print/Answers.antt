@@ -1,4 +1,4 @@
-use Rattle.wit_print.proofs.ValidFiles.{packages_read}
+use Rattle.print_packages.proofs.ValidFiles.{packages_read}
 use Rattle.wit_print.proofs.printer.WitPrinter.print.Goals as goal
 
 pub returns-clause-reads : goal.returns-clause-reads

@@ -1,0 +1,291 @@
+-- The order of a world's items, by what is shown and by how far its functions reach.
+use Rattle.std.proofs.Common.{◌≡◌, refl, sym, ap, subst, ◌∙◌, ℕ, suc, ◌+◌, Bool, true, false, ◌&&◌, ◌||◌, not, ◌==◌, nat_le, List, [], ◌∷◌, ◌++◌, take, length, map, filter, filter_map, option_to_list, position, slice_get, Some, None, Option, append_assoc, append-nil, length-append, is_some, arith, String}
+use Rattle.std.specs.declared.alloc.Global.{Global}
+use Rattle.std.specs.List.{list_all, cons_option}
+use Rattle.std.specs.Option.{option_map_or}
+use Rattle.std.specs.Map.{keys_of, values_of}
+use Rattle.std.proofs.lemmas.List.Elements.{filter_map-append}
+use Rattle.std.proofs.lemmas.List.Folds.{list_any-append}
+use Rattle.indexmap.specs.IndexMap.{values}
+use Rattle.wit_model.specs.declared.error.EntryList.TheVariants as lists
+use Rattle.wit_model.specs.declared.model.Resolve.{Resolve}
+use Rattle.wit_model.specs.declared.model.World.{World}
+use Rattle.wit_model.specs.declared.model.WorldKey.{WorldKey}
+use Rattle.wit_model.specs.declared.model.WorldItem.{WorldItem}
+use Rattle.wit_model.specs.declared.model.WorldItem.TheVariants as item
+use Rattle.wit_model.specs.declared.model.TypeDef.{TypeDef}
+use Rattle.wit_model.specs.declared.model.Function.{Function}
+use Rattle.wit_model.specs.declared.model.TypeOwner.TheVariants as owner
+use Rattle.wit_model.specs.Text.{text_of}
+use Rattle.wit_model.specs.Lookup.{type_at, world_at}
+use Rattle.wit_model.specs.Uses.{has, item_interface, items_of}
+use Rattle.wit_model.specs.Parts.{function_numbers, met_by, met_of, used_by_function, same_owner, has_owner}
+use Rattle.wit_model.specs.Rules.{is_id, passes, each_from, each_after, is_name_key, item_type, world_type_numbers, is_listed, is_listed_in_world, are_in_order, used_by_number, used_interfaces, used_types, uses_stand_before, function_stays, is_member}
+use Rattle.wit_model.specs.Valid.{Keeps, as_world, item_function, functions_of_world, function_names, order_of_items, order_of_types, owners}
+use Rattle.wit_model.specs.Checks.{KeepsIn, references, listings, list_orders, rank_of, rank_in, reach_of}
+use Rattle.wit_model.specs.ItemOrders.{uses_are_shown, reaches_within}
+use Rattle.wit_model.proofs.Lists.{first_true, second_true, list_all_filter_map}
+use Rattle.wit_model.proofs.Entries.{each_from_at, free_passes, lists_pass}
+use Rattle.wit_model.proofs.Checks.{keeps_lists, keeps_three, references_kept}
+use Rattle.wit_model.proofs.Listed.{misfit}
+use Rattle.wit_model.proofs.Listings.{all_imply}
+use Rattle.wit_model.proofs.Owners.{all_filter, function_home}
+use Rattle.check_rules.proofs.Ordered.{highest_flat}
+use Rattle.wit_model.proofs.InOrder.{found, fitting, found_stands, highest_within}
+use Rattle.check_rules.proofs.OwnerOrder.{owned_named, owned_place, owner_same, all_same}
+use Rattle.check_rules.proofs.ListOrders.{before_seam}
+use Rattle.wit_model.proofs.Shown.{after_both, after_append, interfaces_before}
+
+-- ---- the parts of the rule on the order of types
+
+each_first : {A : Type 0} (p q : ℕ → A → Bool) (k : ℕ) (xs : List A) → each_from (λ n x. p n x && q n x) k xs ≡ true → each_from p k xs ≡ true
+each_first p q k [] h = refl
+each_first p q k (x ∷ xs) h = λ i. first_true (p k x) (q k x) (first_true (p k x && q k x) _ h) i && each_first p q (k + 1) xs (second_true (p k x && q k x) _ h) i
+
+each_second : {A : Type 0} (p q : ℕ → A → Bool) (k : ℕ) (xs : List A) → each_from (λ n x. p n x && q n x) k xs ≡ true → each_from q k xs ≡ true
+each_second p q k [] h = refl
+each_second p q k (x ∷ xs) h = λ i. second_true (p k x) (q k x) (first_true (p k x && q k x) _ h) i && each_second p q (k + 1) xs (second_true (p k x && q k x) _ h) i
+
+pub order_refers : (r : Resolve) → Keeps order_of_types r → Keeps references r
+unfolding references listings order_of_types
+order_refers r kept = references_kept r (each_first (references.type_ r) (listings.type_ r) 0 r.types.items (lists_pass order_of_types r kept).3)
+
+pub order_lists : (r : Resolve) → Keeps order_of_types r → Keeps listings r
+unfolding references listings list_orders order_of_types
+order_lists r kept =
+    keeps_three listings r refl
+    (each_first (listings.interface_ r) (list_orders.interface_ r) 0 r.interfaces.items (lists_pass order_of_types r kept).1)
+    (each_first (listings.world_ r) (list_orders.world_ r) 0 r.worlds.items (lists_pass order_of_types r kept).2)
+    (each_second (references.type_ r) (listings.type_ r) 0 r.types.items (lists_pass order_of_types r kept).3)
+
+order_stands : (r : Resolve) → Keeps order_of_types r → (n : ℕ) (w : World) → world_at r n ≡ Some w → are_in_order r (world_type_numbers w) ≡ true
+unfolding order_of_types
+order_stands r kept n w at = second_true _ _ (each_from_at (order_of_types.world_ r) 0 r.worlds.items n w (lists_pass order_of_types r kept).2 at)
+
+-- ---- lists
+
+-- a walk with what stands before is a walk with places
+places_before : {V : Type 0} (vs : List V) (q : List V → V → Bool) (t : ℕ → V → Bool) →
+    ((done : List V) (v : V) (rest : List V) → vs ≡ done ++ v ∷ rest → q done v ≡ t (length done) v) →
+    (done rest : List V) → vs ≡ done ++ rest → each_after q done rest ≡ each_from t (length done) rest
+places_before vs q t same done [] e = refl
+places_before vs q t same done (v ∷ rest) e =
+    let longer : length (done ++ v ∷ []) ≡ length done + 1 = omega (arith, length-append done (v ∷ [])) in
+    (λ i. same done v rest e i && places_before vs q t same (done ++ v ∷ []) rest (e ∙ sym (append_assoc done (v ∷ []) rest)) i)
+    ∙ ap (λ k. t (length done) v && each_from t k rest) longer
+
+-- a walk whose test always passes behind a list
+passes_behind : {V : Type 0} (q : List V → V → Bool) (base : List V) → ((done : List V) (v : V) → q (base ++ done) v ≡ true) →
+    (done rest : List V) → each_after q (base ++ done) rest ≡ true
+passes_behind q base all done [] = refl
+passes_behind q base all done (v ∷ rest) =
+    ap (λ b. b && each_after q ((base ++ done) ++ v ∷ []) rest) (all done v)
+    ∙ (ap (λ b. each_after q b rest) (append_assoc base done (v ∷ []))
+    ∙ passes_behind q base all (done ++ v ∷ []) rest)
+
+after_at : {V : Type 0} (q : List V → V → Bool) (before xs : List V) (v : V) (ys : List V) → each_after q before (xs ++ v ∷ ys) ≡ true → q (before ++ xs) v ≡ true
+after_at q before [] v ys h = ap (λ b. q b v) (append-nil before) ∙ first_true _ _ h
+after_at q before (x ∷ xs) v ys h =
+    ap (λ b. q b v) (sym (append_assoc before (x ∷ []) xs))
+    ∙ after_at q (before ++ x ∷ []) xs v ys (second_true (q before x) _ h)
+
+all_there : {V : Type 0} (p : V → Bool) (xs : List V) (v : V) (ys : List V) → list_all p (xs ++ v ∷ ys) ≡ true → p v ≡ true
+all_there p [] v ys h = first_true _ _ h
+all_there p (x ∷ xs) v ys h = all_there p xs v ys (second_true (p x) _ h)
+
+all_at : {V : Type 0} (p : V → Bool) (xs : List V) → ((q : ℕ) (x : V) → slice_get xs q ≡ Some x → p x ≡ true) → list_all p xs ≡ true
+all_at p [] all = refl
+all_at p (x ∷ xs) all = λ i. all 0 x refl i && all_at p xs (λ q y e. all (suc q) y e) i
+
+all_yes : (p : ℕ → Bool) → ((m : ℕ) → p m ≡ true) → (ns : List ℕ) → list_all p ns ≡ true
+all_yes p all [] = refl
+all_yes p all (m ∷ ns) = λ i. all m i && all_yes p all ns i
+
+-- a test of what is kept, where what is kept passes
+kept_pass : (c p : ℕ → Bool) → ((m : ℕ) → c m ≡ true → p m ≡ true) → (ns : List ℕ) → list_all p (filter c ns) ≡ true
+kept_pass c p step ns = all_filter p c ns ∙ all_yes (λ m. not (c m) || p m) (λ m. go m (c m) refl) ns
+  where
+    go : (m : ℕ) (b : Bool) → c m ≡ b → (not b || p m) ≡ true
+    go m false e = refl
+    go m true e = step m e
+
+all_kept : (c p : ℕ → Bool) (ns : List ℕ) → list_all c ns ≡ true → list_all p (filter c ns) ≡ list_all p ns
+all_kept c p ns h = all_filter p c ns ∙ all_same c (λ m. not (c m) || p m) p (λ m e. ap (λ b. not b || p m) e) ns h
+
+-- ---- the types of one world
+
+module _ (r : Resolve) (order : Keeps order_of_types r) (own : Keeps owners r) (names : Keeps function_names r) (n : ℕ) (w : World) (at : world_at r n ≡ Some w) where
+  listed_at : (m : ℕ) (def : TypeDef) (name : String Global) → type_at r m ≡ Some def → def.name ≡ Some name → is_listed r m (text_of name) def.owner ≡ true
+  unfolding listings
+  listed_at m def name is named =
+      let here : 0 + m ≡ m = omega arith in
+      let all : listings.type_ r m def ≡ true = subst (λ k. listings.type_ r k def ≡ true) here (each_from_at (listings.type_ r) 0 r.types.items m def (lists_pass listings r (order_lists r order)).3 is) in
+      sym (ap (λ o. option_map_or (λ x. is_listed r m (text_of x) def.owner) o (same_owner def.owner owner.None)) named) ∙ all
+
+  listed_here : (m : ℕ) (def : TypeDef) (name : String Global) → type_at r m ≡ Some def → def.name ≡ Some name → def.owner ≡ as_world n → is_listed_in_world m (text_of name) w ≡ true
+  listed_here m def name is named mine = sym (ap (is_listed r m (text_of name)) mine ∙ ap (passes (is_listed_in_world m (text_of name))) at) ∙ listed_at m def name is named
+
+  -- a type that stands once under its name stands under no other key
+  fits_alone : (m : ℕ) (def : TypeDef) (name : String Global) → is_listed_in_world m (text_of name) w ≡ true → fitting (is_name_key (text_of name)) item_type m w.imports.entries ≡ true
+  fits_alone m def name listed = all_at (λ e. not (is_id m (item_type e.1)) || is_name_key (text_of name) e.0) w.imports.entries (λ q e get. go q e get (is_id m (item_type e.1)) (is_name_key (text_of name) e.0) refl refl)
+    where
+      go : (q : ℕ) (e : WorldKey × WorldItem) → slice_get w.imports.entries q ≡ Some e → (a b : Bool) → is_id m (item_type e.1) ≡ a → is_name_key (text_of name) e.0 ≡ b → (not a || b) ≡ true
+      go q e get false b f g = refl
+      go q e get true true f g = refl
+      go q e get true false f g = sym (misfit (is_name_key (text_of name)) item_type m w.imports.entries q e get f g) ∙ listed
+
+  ranked : (m : ℕ) (def : TypeDef) (name : String Global) → type_at r m ≡ Some def → def.name ≡ Some name → def.owner ≡ as_world n → rank_of r m ≡ rank_in r (text_of name) (as_world n)
+  ranked m def name is named mine =
+      ap (λ d. option_map_or (λ x. option_map_or (λ y. rank_in r (text_of y) x.owner) x.name 0) d 0) is
+      ∙ (ap (λ x. option_map_or (λ y. rank_in r (text_of y) def.owner) x 0) named
+      ∙ ap (rank_in r (text_of name)) mine)
+
+  stands : (m : ℕ) (def : TypeDef) (name : String Global) → type_at r m ≡ Some def → def.name ≡ Some name → def.owner ≡ as_world n →
+      (found (is_name_key (text_of name)) item_type m w.imports.entries ≡ true) × (fitting (is_name_key (text_of name)) item_type m w.imports.entries ≡ true) × (rank_of r m ≡ option_map_or (λ k. k + 1) (position (is_name_key (text_of name)) (keys_of w.imports.entries)) 0)
+  stands m def name is named mine =
+      let listed = listed_here m def name is named mine in (
+        first_true _ _ listed,
+        fits_alone m def name listed,
+        ranked m def name is named mine ∙ ap (λ x. option_map_or (λ w. option_map_or (λ k. k + 1) (position (is_name_key (text_of name)) (keys_of w.imports.entries)) 0) x 0) at,
+      )
+
+  -- a type of the world stands in its imports
+  stands_in : (m : ℕ) → has_owner r (as_world n) m ≡ true → has (world_type_numbers w) m ≡ true
+  stands_in m h = go (type_at r m) refl h
+    where
+      name_of : (def : TypeDef) → type_at r m ≡ Some def → def.owner ≡ as_world n → (x : Option (String Global)) → def.name ≡ x → is_some x ≡ true → has (world_type_numbers w) m ≡ true
+      name_of def is mine None named s = let wrong : ⊥ = cc in absurd wrong
+      name_of def is mine (Some name) named s = found_stands (is_name_key (text_of name)) item_type m w.imports.entries (stands m def name is named mine).0
+
+      go : (d : Option TypeDef) → type_at r m ≡ d → option_map_or (λ def. same_owner def.owner (as_world n)) d false ≡ true → has (world_type_numbers w) m ≡ true
+      go None is e = let wrong : ⊥ = cc in absurd wrong
+      go (Some def) is e =
+          let mine = owner_same def.owner (as_world n) e in
+          name_of def is mine def.name refl (owned_named r (order_lists r order) m def is (ap (λ x. same_owner x owner.None) mine))
+
+  -- it stands before an import where its place is at most that of the import
+  place_before : (done : List WorldItem) (v : WorldItem) (rest : List WorldItem) → values w.imports ≡ done ++ v ∷ rest → (m : ℕ) → has_owner r (as_world n) m ≡ true → has (filter_map item_type done) m ≡ nat_le (rank_of r m) (length done)
+  place_before done v rest e m h =
+      ap (λ vs. has (filter_map item_type vs) m) (sym (before_seam w.imports.entries done v rest e))
+      ∙ (ap (λ b. not b || has (filter_map item_type (values_of (take (length done) w.imports.entries))) m) (sym (stands_in m h))
+      ∙ owned_place r (order_lists r order) item_type (as_world n) w.imports.entries is_name_key refl stands (length done) m h)
+
+  -- ---- what one import uses
+
+  abbrev ready : List WorldItem → WorldItem → Bool
+  ready before v = list_all (has (filter_map item_type before)) (used_types r n v)
+
+  -- a type of the world's list uses what stands earlier in it
+  type_ready : (done : List WorldItem) (k : ℕ) (rest : List WorldItem) (v : WorldItem) → values w.imports ≡ done ++ v ∷ rest → item_type v ≡ Some k →
+      list_all (has (filter_map item_type done)) (filter (has_owner r (as_world n)) (used_by_number r k)) ≡ true
+  type_ready done k rest v e is =
+      all_filter (has (filter_map item_type done)) (has_owner r (as_world n)) (used_by_number r k)
+      ∙ all_imply (λ m. not (has (world_type_numbers w) m) || has (filter_map item_type done) m) (λ m. not (has_owner r (as_world n) m) || has (filter_map item_type done) m) step (used_by_number r k) before
+    where
+      given : world_type_numbers w ≡ filter_map item_type done ++ k ∷ filter_map item_type rest
+      given = ap (filter_map item_type) e ∙ (filter_map-append item_type done (v ∷ rest) ∙ ap (λ o. filter_map item_type done ++ cons_option o (filter_map item_type rest)) is)
+
+      before : list_all (λ m. not (has (world_type_numbers w) m) || has (filter_map item_type done) m) (used_by_number r k) ≡ true
+      before = after_at (λ b j. list_all (λ m. not (has (world_type_numbers w) m) || has b m) (used_by_number r j)) [] (filter_map item_type done) k (filter_map item_type rest)
+          (ap (each_after (λ b j. list_all (λ m. not (has (world_type_numbers w) m) || has b m) (used_by_number r j)) []) (sym given) ∙ order_stands r order n w at)
+
+      step : (m : ℕ) → (not (has (world_type_numbers w) m) || has (filter_map item_type done) m) ≡ true → (not (has_owner r (as_world n) m) || has (filter_map item_type done) m) ≡ true
+      step m h = go (has_owner r (as_world n) m) refl
+        where
+          go : (b : Bool) → has_owner r (as_world n) m ≡ b → (not b || has (filter_map item_type done) m) ≡ true
+          go false f = refl
+          go true f = ap (λ b. not b || has (filter_map item_type done) m) (sym (stands_in m f)) ∙ h
+
+  -- what holds of each function of the world holds of an import
+  of_import : (test : Function → Bool) → list_all test (functions_of_world w) ≡ true → (done : List WorldItem) (f : Function) (rest : List WorldItem) → values w.imports ≡ done ++ item.Function f ∷ rest → test f ≡ true
+  of_import test all done f rest e =
+      let each = sym (list_all_filter_map test item_function (items_of w)) ∙ all in
+      let there : items_of w ≡ done ++ item.Function f ∷ (rest ++ values w.exports) = ap (λ vs. vs ++ values w.exports) e ∙ append_assoc done (item.Function f ∷ rest) (values w.exports) in
+      first_true _ _ (all_there (λ x. list_all test (option_to_list (item_function x))) done (item.Function f) (rest ++ values w.exports) (ap (list_all (λ x. list_all test (option_to_list (item_function x)))) (sym there) ∙ each))
+
+  -- an entry that is a function is a member of the world
+  entry_belongs : (es : List (WorldKey × WorldItem)) → list_all (λ e. passes (λ f. is_name_key (text_of f.name) e.0 && is_member r (as_world n) f) (item_function e.1)) es ≡ true
+      → list_all (λ x. list_all (is_member r (as_world n)) (option_to_list (item_function x))) (values_of es) ≡ true
+  entry_belongs [] h = refl
+  entry_belongs (e ∷ es) h =
+      let here = first_true (passes (λ f. is_name_key (text_of f.name) e.0 && is_member r (as_world n) f) (item_function e.1)) _ h in
+      let later = entry_belongs es (second_true (passes (λ f. is_name_key (text_of f.name) e.0 && is_member r (as_world n) f) (item_function e.1)) _ h) in
+      λ i. go (item_function e.1) here i && later i
+    where
+      go : (x : Option Function) → passes (λ f. is_name_key (text_of f.name) e.0 && is_member r (as_world n) f) x ≡ true → list_all (is_member r (as_world n)) (option_to_list x) ≡ true
+      go None h = refl
+      go (Some f) h = ap (λ b. b && true) (second_true (is_name_key (text_of f.name) e.0) _ h)
+
+  members : list_all (is_member r (as_world n)) (functions_of_world w) ≡ true
+  unfolding function_names
+  members =
+      let here : 0 + n ≡ n = omega arith in
+      let all = subst (λ k. function_names.world_ r k w ≡ true) here (each_from_at (function_names.world_ r) 0 r.worlds.items n w (lists_pass function_names r names).2 at) in
+      list_all_filter_map (is_member r (as_world n)) item_function (items_of w)
+      ∙ (ap (list_all (λ x. list_all (is_member r (as_world n)) (option_to_list (item_function x)))) (sym (map_append (λ e. e.1) w.imports.entries w.exports.entries))
+      ∙ entry_belongs (w.imports.entries ++ w.exports.entries) all)
+    where
+      map_append : {X Y : Type 0} (f : X → Y) (xs ys : List X) → map f (xs ++ ys) ≡ map f xs ++ map f ys
+      map_append f [] ys = refl
+      map_append f (x ∷ xs) ys = ap (λ zs. f x ∷ zs) (map_append f xs ys)
+
+  -- a function uses types of the world alone
+  home_of : (done : List WorldItem) (f : Function) (rest : List WorldItem) → values w.imports ≡ done ++ item.Function f ∷ rest → list_all (has_owner r (as_world n)) (used_by_function r f) ≡ true
+  unfolding owners
+  home_of done f rest e =
+      let here : 0 + n ≡ n = omega arith in
+      let all : list_all (function_stays r (as_world n)) (functions_of_world w) ≡ true = subst (λ k. owners.world_ r k w ≡ true) here (each_from_at (owners.world_ r) 0 r.worlds.items n w (lists_pass owners r own).2 at) in
+      function_home r (order_refers r order) (as_world n) f (of_import (function_stays r (as_world n)) all done f rest e) (of_import (is_member r (as_world n)) members done f rest e)
+
+  function_ready : (done : List WorldItem) (f : Function) (rest : List WorldItem) → values w.imports ≡ done ++ item.Function f ∷ rest →
+      list_all (has (filter_map item_type done)) (filter (has_owner r (as_world n)) (used_by_function r f)) ≡ reaches_within (reach_of r) (length done) f
+  function_ready done f rest e =
+      let home = home_of done f rest e in
+      all_kept (has_owner r (as_world n)) (has (filter_map item_type done)) (used_by_function r f) home
+      ∙ (all_same (has_owner r (as_world n)) (has (filter_map item_type done)) (λ m. nat_le (rank_of r m) (length done)) (place_before done (item.Function f) rest e) (used_by_function r f) home
+      ∙ (sym (highest_within (rank_of r) (length done) (used_by_function r f))
+      ∙ ap (λ k. nat_le k (length done)) (highest_flat (rank_of r) (met_by (met_of r)) (function_numbers f))))
+
+  import_ready : (done : List WorldItem) (v : WorldItem) (rest : List WorldItem) → values w.imports ≡ done ++ v ∷ rest → ready done v ≡ passes (reaches_within (reach_of r) (length done)) (item_function v)
+  import_ready done (item.Interface id stability docs external_id) rest e = refl
+  import_ready done (item.Type_ id) rest e = type_ready done id.0 rest (item.Type_ id) e refl
+  import_ready done (item.Function f) rest e = function_ready done f rest e
+
+  -- all that is exported stands after the types
+  behind : (done : List WorldItem) (m : ℕ) → has_owner r (as_world n) m ≡ true → has (filter_map item_type (values w.imports ++ done)) m ≡ true
+  behind done m h =
+      ap (λ ns. has ns m) (filter_map-append item_type (values w.imports) done)
+      ∙ (list_any-append (λ k. k == m) (world_type_numbers w) (filter_map item_type done)
+      ∙ ap (λ b. b || has (filter_map item_type done) m) (stands_in m h))
+
+  export_ready : (done : List WorldItem) (v : WorldItem) → ready (values w.imports ++ done) v ≡ true
+  export_ready done (item.Interface id stability docs external_id) = refl
+  export_ready done (item.Type_ id) = kept_pass (has_owner r (as_world n)) (has (filter_map item_type (values w.imports ++ done))) (behind done) (used_by_number r id.0)
+  export_ready done (item.Function f) = kept_pass (has_owner r (as_world n)) (has (filter_map item_type (values w.imports ++ done))) (behind done) (used_by_function r f)
+
+  and_true : (b : Bool) → (b && true) ≡ b
+  and_true true = refl
+  and_true false = refl
+
+  -- the world's types stand before what uses them exactly where each imported function reaches no further than its place
+  types_before : each_after ready [] (items_of w) ≡ each_from (λ p v. passes (reaches_within (reach_of r) p) (item_function v)) 0 (values w.imports)
+  types_before =
+      after_append ready [] (values w.imports) (values w.exports)
+      ∙ (ap (λ b. each_after ready [] (values w.imports) && b) exported
+      ∙ (and_true (each_after ready [] (values w.imports))
+      ∙ places_before (values w.imports) ready (λ p v. passes (reaches_within (reach_of r) p) (item_function v)) import_ready [] (values w.imports) refl))
+    where
+      exported : each_after ready (values w.imports) (values w.exports) ≡ true
+      exported = ap (λ b. each_after ready b (values w.exports)) (sym (append-nil (values w.imports))) ∙ passes_behind ready (values w.imports) export_ready [] (values w.exports)
+
+  -- the rule on the order of a world's items
+  pub items_stand : each_after (uses_stand_before r n) [] (items_of w)
+      ≡ (uses_are_shown r (λ k. false) (items_of w) && each_from (λ p v. passes (reaches_within (reach_of r) p) (item_function v)) 0 (values w.imports))
+  items_stand =
+      after_both (λ b i. list_all (has (filter_map item_interface b)) (used_interfaces r i)) ready [] (items_of w)
+      ∙ (λ j. interfaces_before r [] (items_of w) j && types_before j)
+
+-- a rule on worlds alone
+pub items_kept : (r : Resolve) → KeepsIn order_of_items r lists.Worlds → Keeps order_of_items r
+unfolding order_of_items
+items_kept r ws = keeps_lists order_of_items r (free_passes r 0 r.packages.items) (free_passes r 0 r.interfaces.items) ws (free_passes r 0 r.types.items)

@@ -1,0 +1,14 @@
+pub mod LevelTable
+pub mod Below
+pub mod Found
+pub mod PackageNames
+pub mod Seen
+pub mod Answers
+pub mod Ordered
+pub mod OwnerOrder
+pub mod ListOrders
+pub mod MemberNames
+pub mod UsesTable
+pub mod ItemOrders
+pub mod PlaceTable
+pub mod OwnerTable

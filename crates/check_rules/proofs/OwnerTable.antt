@@ -1,0 +1,27 @@
+-- The tests of the rule on owners, by a table of what is met.
+use Rattle.std.proofs.Common.{◌≡◌, refl, sym, ap, ◌∙◌, ℕ, Bool, ◌&&◌, List, [], ◌∷◌, flat_map}
+use Rattle.std.specs.List.{list_all}
+use Rattle.std.proofs.lemmas.List.Folds.{list_all-append}
+use Rattle.check_rules.specs.declared.owners.Met.{Met}
+use Rattle.wit_model.specs.declared.model.Resolve.{Resolve}
+use Rattle.wit_model.specs.declared.model.TypeOwner.{TypeOwner}
+use Rattle.wit_model.specs.declared.model.Function.{Function}
+use Rattle.wit_model.specs.Parts.{met_by, met_of, has_owner}
+use Rattle.wit_model.specs.Rules.{function_stays}
+use Rattle.wit_model.specs.Checks.{values_of, all_values}
+use Rattle.check_rules.specs.Owners.{stays, met_entry, IsMetTable}
+use Rattle.wit_model.proofs.Functions.{all_flat}
+
+module _ (r : Resolve) (table : List Met) (right : IsMetTable r table) where
+  -- what numbers meet
+  pub numbers_stay : (o : TypeOwner) (ns : List ℕ) → list_all (λ n. stays (met_entry table n) o) ns ≡ list_all (has_owner r o) (flat_map (met_by (met_of r)) ns)
+  numbers_stay o ns = ap (λ p. list_all p ns) (λ i n. right n o i) ∙ sym (all_flat (has_owner r o) (met_by (met_of r)) ns)
+
+  function_stay : (o : TypeOwner) (f : Function) → list_all (λ n. stays (met_entry table n) o) (values_of f) ≡ function_stays r o f
+  function_stay o f = numbers_stay o (values_of f)
+
+  pub functions_stay : (o : TypeOwner) (fs : List Function) → list_all (λ n. stays (met_entry table n) o) (all_values fs) ≡ list_all (function_stays r o) fs
+  functions_stay o [] = refl
+  functions_stay o (f ∷ fs) =
+      let p : ℕ → Bool = λ n. stays (met_entry table n) o in
+      list_all-append p (values_of f) (all_values fs) ∙ (λ i. function_stay o f i && functions_stay o fs i)

@@ -1,0 +1,160 @@
+-- The rule on packages' names from its two parts.
+use Rattle.std.proofs.Common.{◌≡◌, refl, sym, ap, subst, ◌∙◌, ℕ, zero, suc, ◌+◌, ◌<◌, Bool, true, false, ◌&&◌, ◌||◌, not, ◌==◌, List, [], ◌∷◌, map, take, Option, Some, None, option_map, unwrap_or, slice_get, inl, inr, arith, lit≤, eq-eqb, eqb→eq, T}
+use Rattle.std.specs.List.{list_any}
+use Rattle.std.proofs.lemmas.Bool.{cases_order, eqb-true, or_right}
+use Rattle.std.specs.Option.{option_eq}
+use Rattle.semver.specs.declared.Version.{Version}
+use Rattle.semver.specs.Identifiers.{pre_text, build_text}
+use Rattle.wit_model.specs.declared.error.EntryList.TheVariants as lists
+use Rattle.wit_model.specs.declared.model.Resolve.{Resolve}
+use Rattle.wit_model.specs.declared.model.Package.{Package}
+use Rattle.wit_model.specs.declared.model.PackageName.{PackageName}
+use Rattle.wit_model.specs.Text.{text_of}
+use Rattle.wit_model.specs.Lookup.{package_at}
+use Rattle.wit_model.specs.Rules.{each_from, same_package_name, same_version}
+use Rattle.wit_model.specs.Valid.{Breaks, Keeps, entry_keeps, package_names}
+use Rattle.wit_model.specs.Checks.{KeepsIn}
+use Rattle.check_rules.specs.PackageNames.{distinct_names, is_package_name, well_named}
+use Rattle.wit_model.proofs.Lists.{first_true, second_true}
+use Rattle.wit_model.proofs.Entries.{each_from_all, packages_keep}
+use Rattle.wit_model.proofs.Distinct.{adds_new, adds_apart, are_apart, either_way, not_is, text_eq_flip}
+
+some_same : {A : Type 0} (x y : A) → Some x ≡ Some y → x ≡ y
+some_same x y e = ap (λ o. unwrap_or o x) e
+
+no_some : {A B : Type 0} (x : A) → None ≡ Some x → B
+no_some x e = let wrong : ⊥ = cc in absurd wrong
+
+both_true : (a b : Bool) → a ≡ true → b ≡ true → (a && b) ≡ true
+both_true a b p q = rw p q
+
+either_fails : (a b : Bool) → (a || b) ≡ false → (a ≡ false) × (b ≡ false)
+either_fails true b e = cc
+either_fails false b e = (refl, e)
+
+fails_first : (a b : Bool) → a ≡ false → (a && b) ≡ false
+fails_first a b e = ap (λ x. x && b) e
+
+fails_second : (a b : Bool) → b ≡ false → (a && b) ≡ false
+fails_second true b e = e
+fails_second false b e = refl
+
+differ : (m n : ℕ) → (m ≡ n → ⊥) → (m == n) ≡ false
+differ m n h = go (m == n) refl
+  where
+    go : (b : Bool) → (m == n) ≡ b → (m == n) ≡ false
+    go true e = absurd (h (eqb→eq m n (subst T (sym e) tt)))
+    go false e = e
+
+-- ---- lists
+
+each_both : {A : Type 0} (p q : ℕ → A → Bool) (n : ℕ) (xs : List A) → each_from p n xs ≡ true → each_from q n xs ≡ true → each_from (λ m x. p m x && q m x) n xs ≡ true
+each_both p q n [] h k = refl
+each_both p q n (x ∷ xs) h k = both_true _ _ (both_true (p n x) (q n x) (first_true _ _ h) (first_true _ _ k)) (each_both p q (n + 1) xs (second_true (p n x) _ h) (second_true (q n x) _ k))
+
+-- what fails at one entry fails
+each_fails : {A : Type 0} (test : ℕ → A → Bool) (k : ℕ) (xs : List A) (n : ℕ) (x : A) → slice_get xs n ≡ Some x → test (k + n) x ≡ false → each_from test k xs ≡ false
+each_fails test k [] n x at fails = no_some x at
+each_fails test k (y ∷ ys) zero x at fails =
+    let here : k + 0 ≡ k = omega arith in
+    fails_first _ _ (subst (λ z. test k z ≡ false) (sym (some_same y x at)) (subst (λ m. test m x ≡ false) here fails))
+each_fails test k (y ∷ ys) (suc n) x at fails =
+    let next : k + suc n ≡ (k + 1) + n = omega arith in
+    fails_second _ _ (each_fails test (k + 1) ys n x at (subst (λ m. test m x ≡ false) next fails))
+
+module _ {A K : Type 0} (f : A → K) where
+  -- what passes among those before a place stands at one
+  pub any_before : (p : K → Bool) (xs : List A) (i : ℕ) → list_any p (take i (map f xs)) ≡ true → (m : ℕ) × (y : A) × (m < i) × (slice_get xs m ≡ Some y) × (p (f y) ≡ true)
+  any_before p [] zero h = let wrong : ⊥ = cc in absurd wrong
+  any_before p [] (suc i) h = let wrong : ⊥ = cc in absurd wrong
+  any_before p (x ∷ xs) zero h = let wrong : ⊥ = cc in absurd wrong
+  any_before p (x ∷ xs) (suc i) h = go (any_before p xs i) (p (f x)) refl h
+    where
+      go : (list_any p (take i (map f xs)) ≡ true → (m : ℕ) × (y : A) × (m < i) × (slice_get xs m ≡ Some y) × (p (f y) ≡ true)) → (b : Bool) → p (f x) ≡ b → (b || list_any p (take i (map f xs))) ≡ true → (m : ℕ) × (y : A) × (m < suc i) × (slice_get (x ∷ xs) m ≡ Some y) × (p (f y) ≡ true)
+      go again true e k = (0, x, omega arith, refl, e)
+      go again false e k = let more = again k in (suc more.0, more.1, omega (arith, more.2), more.3, more.4)
+
+  none_at : (p : K → Bool) (xs : List A) (m : ℕ) (y : A) → list_any p (map f xs) ≡ false → slice_get xs m ≡ Some y → p (f y) ≡ false
+  none_at p [] m y h at = no_some y at
+  none_at p (x ∷ xs) zero y h at = ap (λ z. p (f z)) (sym (some_same x y at)) ∙ (either_fails (p (f x)) _ h).0
+  none_at p (x ∷ xs) (suc m) y h at = none_at p xs m y (either_fails (p (f x)) _ h).1 at
+
+  pair_apart : (same : K → K → Bool) (xs : List A) (n m : ℕ) (a b : A) → are_apart same (map f xs) ≡ true → n < m → slice_get xs n ≡ Some a → slice_get xs m ≡ Some b → same (f a) (f b) ≡ false
+  pair_apart same [] n m a b h below at also = no_some a at
+  pair_apart same (x ∷ xs) zero zero a b h below at also = absurd (omega (arith, below))
+  pair_apart same (x ∷ xs) zero (suc m) a b h below at also =
+      ap (λ z. same (f z) (f b)) (sym (some_same x a at)) ∙ none_at (same (f x)) xs m b (not_is _ true (first_true _ _ h)) also
+  pair_apart same (x ∷ xs) (suc n) zero a b h below at also = absurd (omega (arith, below))
+  pair_apart same (x ∷ xs) (suc n) (suc m) a b h below at also = pair_apart same xs n m a b (second_true _ _ h) (omega (arith, below)) at also
+
+-- ---- packages
+
+both_same : (a b c d : Bool) → a ≡ c → b ≡ d → (a && b) ≡ (c && d)
+both_same a b c d e f = ap (λ x. x && b) e ∙ ap (λ x. c && x) f
+
+number_flip : (m n : ℕ) → (m == n) ≡ (n == m)
+number_flip m n = either_way (m == n) (n == m) (λ h. eq-eqb n m (sym (eqb-true m n h))) (λ h. eq-eqb m n (sym (eqb-true n m h)))
+
+version_flip : (a b : Version) → same_version a b ≡ same_version b a
+version_flip a b =
+    both_same _ _ _ _ (number_flip a.major b.major)
+    (both_same _ _ _ _ (number_flip a.minor b.minor)
+    (both_same _ _ _ _ (number_flip a.patch b.patch)
+    (both_same _ _ _ _ (text_eq_flip (pre_text a.pre) (pre_text b.pre)) (text_eq_flip (build_text a.build) (build_text b.build)))))
+
+optional_flip : (a b : Option Version) → option_eq same_version a b ≡ option_eq same_version b a
+optional_flip None None = refl
+optional_flip None (Some b) = refl
+optional_flip (Some a) None = refl
+optional_flip (Some a) (Some b) = version_flip a b
+
+name_flip : (a b : PackageName) → same_package_name a b ≡ same_package_name b a
+name_flip a b =
+    both_same _ _ _ _ (text_eq_flip (text_of a.namespace) (text_of b.namespace))
+    (both_same _ _ _ _ (text_eq_flip (text_of a.name) (text_of b.name)) (optional_flip a.version b.version))
+
+-- no other package has the name
+only_at : (r : Resolve) → are_apart same_package_name (map (λ p. p.name) r.packages.items) ≡ true → (n : ℕ) (p : Package) → slice_get r.packages.items n ≡ Some p → distinct_names.package_ r n p ≡ true
+unfolding distinct_names
+only_at r apart n p at =
+    each_from_all (λ m other. (m == n) || not (same_package_name p.name other.name)) 0 r.packages.items (λ m other also.
+    let here : m ≡ 0 + m = omega arith in
+    subst (λ k. ((k == n) || not (same_package_name p.name other.name)) ≡ true) here
+    (elim (cases_order m n) [
+      | inl same ↦ ap (λ b. b || not (same_package_name p.name other.name)) (eq-eqb m n same)
+      | inr (inl before) ↦ or_right _ _ (ap not (name_flip p.name other.name ∙ pair_apart (λ p. p.name) same_package_name r.packages.items m n other p apart before also at))
+      | inr (inr after) ↦ or_right _ _ (ap not (pair_apart (λ p. p.name) same_package_name r.packages.items n m p other apart after at also))
+    ]))
+
+pub distinct_kept : (r : Resolve) → adds_new same_package_name [] (map (λ p. p.name) r.packages.items) ≡ true → KeepsIn distinct_names r lists.Packages
+distinct_kept r new =
+    let apart = sym (adds_apart same_package_name name_flip (map (λ p. p.name) r.packages.items)) ∙ new in
+    each_from_all (distinct_names.package_ r) 0 r.packages.items (λ n p at.
+    let here : n ≡ 0 + n = omega arith in
+    subst (λ k. distinct_names.package_ r k p ≡ true) here (only_at r apart n p at))
+
+-- a package that an earlier one has the name of
+pub repeated_breaks : (r : Resolve) (n : ℕ) (p : Package) → package_at r n ≡ Some p → list_any (same_package_name p.name) (take n (map (λ p. p.name) r.packages.items)) ≡ true → Breaks r 2 lists.Packages n
+unfolding package_names
+repeated_breaks r n p at seen =
+    let earlier = any_before (λ p. p.name) (same_package_name p.name) r.packages.items n seen in
+    let m = earlier.0 in
+    let other = earlier.1 in
+    let here : m ≡ 0 + m = omega arith in
+    let apart : (m == n) ≡ false = differ m n (λ e. absurd (omega (arith, earlier.2, e))) in
+    let fails : ((m == n) || not (same_package_name p.name other.name)) ≡ false = rw (apart, earlier.4) refl in
+    let none = each_fails (λ m other. (m == n) || not (same_package_name p.name other.name)) 0 r.packages.items m other earlier.3 (subst (λ k. ((k == n) || not (same_package_name p.name other.name)) ≡ false) here fails) in
+    (lit≤ tt, ap (option_map (package_names.package_ r n)) at ∙ ap Some (fails_second (is_package_name p.name) _ none))
+
+pub misnamed_breaks : (r : Resolve) (n : ℕ) → entry_keeps well_named r lists.Packages n ≡ Some false → Breaks r 2 lists.Packages n
+unfolding well_named package_names
+misnamed_breaks r n e = (lit≤ tt, go (package_at r n) e)
+  where
+    go : (o : Option Package) → option_map (well_named.package_ r n) o ≡ Some false → option_map (package_names.package_ r n) o ≡ Some false
+    go None h = cc
+    go (Some p) h = ap Some (fails_first _ _ (some_same _ _ h))
+
+pub names_kept : (r : Resolve) → KeepsIn well_named r lists.Packages → KeepsIn distinct_names r lists.Packages → Keeps package_names r
+unfolding well_named distinct_names package_names
+names_kept r named apart =
+    packages_keep package_names.package_ r (each_both (well_named.package_ r) (distinct_names.package_ r) 0 r.packages.items named apart)

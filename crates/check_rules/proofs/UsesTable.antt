@@ -1,0 +1,106 @@
+-- The sets of the interfaces that each interface uses.
+use Rattle.std.proofs.Common.{◌≡◌, refl, sym, ap, subst, ◌∙◌, ℕ, ◌+◌, ◌<◌, ◌≤◌, Bool, true, false, ◌&&◌, ◌||◌, not, ◌==◌, nat_eq, eq-eqb, List, [], ◌∷◌, ◌++◌, length, option_to_list, slice_get, Some, None, Option, arith}
+use Rattle.std.specs.List.{list_all, list_any}
+use Rattle.std.specs.Option.{option_map_or}
+use Rattle.std.specs.HashSet.{HashSet}
+use Rattle.std.proofs.lemmas.Option.{slice_get_past}
+use Rattle.std.proofs.lemmas.Bool.Decides.{nat_tests}
+use Rattle.indexmap.specs.IndexMap.{values}
+use Rattle.wit_model.specs.declared.model.Resolve.{Resolve}
+use Rattle.wit_model.specs.declared.model.Interface.{Interface}
+use Rattle.wit_model.specs.Lookup.{interface_at}
+use Rattle.wit_model.specs.Uses.{has, interface_used_by, direct_deps}
+use Rattle.wit_model.specs.ItemOrders.{holds, is_other_use, entry_holds, entry_passes, IsUsesTable}
+use Rattle.wit_model.proofs.Checks.{below_or_past, get_before, get_last}
+use Rattle.check_rules.proofs.ListOrders.{all_has}
+use Rattle.wit_model.proofs.Shown.{deps_pass}
+
+-- ---- lists with the same numbers
+
+all_of_has : (test : ℕ → Bool) (ns : List ℕ) → ((q : ℕ) → has ns q ≡ true → test q ≡ true) → list_all test ns ≡ true
+all_of_has test [] all = refl
+all_of_has test (n ∷ ns) all =
+    λ i. all n (ap (λ b. b || has ns n) (eq-eqb n n refl)) i && all_of_has test ns (λ q h. all q (ap (λ b. (n == q) || b) h ∙ or_true (n == q))) i
+  where
+    or_true : (b : Bool) → (b || true) ≡ true
+    or_true true = refl
+    or_true false = refl
+
+pub same_has : (test : ℕ → Bool) (xs ys : List ℕ) → ((q : ℕ) → has xs q ≡ has ys q) → list_all test xs ≡ list_all test ys
+same_has test xs ys same = go (list_all test xs) (list_all test ys) refl refl
+  where
+    over : (these those : List ℕ) → ((q : ℕ) → has these q ≡ has those q) → list_all test these ≡ true → list_all test those ≡ true
+    over these those alike h = all_of_has test those (λ q there. all_has test these q h (alike q ∙ there))
+
+    go : (a b : Bool) → list_all test xs ≡ a → list_all test ys ≡ b → a ≡ b
+    go true b e f = sym (over xs ys same e) ∙ f
+    go false true e f = sym e ∙ over ys xs (λ q. sym (same q)) f
+    go false false e f = refl
+
+held : (ns : List ℕ) (q : ℕ) → list_any (nat_eq q) ns ≡ has ns q
+held [] q = refl
+held (n ∷ ns) q = λ i. turned i || held ns q i
+  where
+    turned : nat_eq q n ≡ (n == q)
+    turned = grind (arith, nat_tests)
+
+-- ---- the table
+
+-- what a set holds is what the interface uses, so a test of the one is a test of the other
+pub entry_ready : {S : Type 0} (r : Resolve) (table : List (HashSet ℕ S)) → IsUsesTable r table → (n : ℕ) (test : ℕ → Bool) → entry_passes table n test ≡ list_all test (direct_deps r n)
+entry_ready {S} r table right n test = go (slice_get table n) (right n)
+  where
+    go : (o : Option (HashSet ℕ S)) → ((q : ℕ) → option_map_or (λ s. holds s q) o false ≡ has (direct_deps r n) q) → option_map_or (λ s. list_all test s.keys) o true ≡ list_all test (direct_deps r n)
+    go None same = same_has test [] (direct_deps r n) same
+    go (Some s) same = same_has test s.keys (direct_deps r n) (λ q. sym (held s.keys q) ∙ same q)
+
+-- one more entry
+pub uses_more : {S : Type 0} (r : Resolve) (table : List (HashSet ℕ S)) (s : HashSet ℕ S) (k : ℕ) → length table ≡ k → ((n : ℕ) → n < k → (q : ℕ) → entry_holds table n q ≡ has (direct_deps r n) q) →
+    ((q : ℕ) → holds s q ≡ has (direct_deps r k) q) → (n : ℕ) → n < k + 1 → (q : ℕ) → entry_holds (table ++ s ∷ []) n q ≡ has (direct_deps r n) q
+uses_more r table s k made right last n h q =
+    below_or_past (λ m. m < k + 1 → entry_holds (table ++ s ∷ []) m q ≡ has (direct_deps r m) q) k
+    (λ m low within. ap (λ o. option_map_or (λ s. holds s q) o false) (get_before table s m (omega (arith, made, low))) ∙ right m low q)
+    (λ m high within.
+    let here : k ≡ m = omega (arith, high, within) in
+    subst (λ j. entry_holds (table ++ s ∷ []) j q ≡ has (direct_deps r j) q) here
+    (subst (λ j. entry_holds (table ++ s ∷ []) j q ≡ has (direct_deps r k) q) made (ap (λ o. option_map_or (λ s. holds s q) o false) (get_last table s) ∙ last q)))
+    n h
+
+nothing_used : (r : Resolve) (n : ℕ) → length r.interfaces.items ≤ n → direct_deps r n ≡ []
+nothing_used r n past = let none : interface_at r n ≡ None = slice_get_past r.interfaces.items n past in rw none refl
+
+-- all entries
+pub uses_all : {S : Type 0} (r : Resolve) (table : List (HashSet ℕ S)) (k : ℕ) → length table ≡ k → length r.interfaces.items ≤ k → ((n : ℕ) → n < k → (q : ℕ) → entry_holds table n q ≡ has (direct_deps r n) q) → IsUsesTable r table
+uses_all r table k made past right n q =
+    below_or_past (λ m. entry_holds table m q ≡ has (direct_deps r m) q) k (λ m low. right m low q)
+    (λ m high.
+    ap (λ o. option_map_or (λ s. holds s q) o false) (slice_get_past table m (omega (arith, made, high)))
+    ∙ sym (ap (λ ns. has ns q) (nothing_used r m (omega (arith, past, high)))))
+    n
+
+-- ---- what an interface uses
+
+not_all : {X : Type 0} (p : X → Bool) (xs : List X) → list_any p xs ≡ not (list_all (λ x. not (p x)) xs)
+not_all p [] = refl
+not_all p (x ∷ xs) = go (not_all p xs) (p x)
+  where
+    go : list_any p xs ≡ not (list_all (λ x. not (p x)) xs) → (b : Bool) → (b || list_any p xs) ≡ not (not b && list_all (λ x. not (p x)) xs)
+    go rest true = refl
+    go rest false = rest
+
+other_use : (o : Option ℕ) (own q : ℕ) → not (option_map_or (λ m. (m == q) && not (m == own)) o false) ≡ list_all (λ m. (m == own) || not (m == q)) (option_to_list o)
+other_use None own q = refl
+other_use (Some m) own q = go (m == q) (m == own)
+  where
+    go : (a b : Bool) → not (a && not b) ≡ ((b || not a) && true)
+    go true true = refl
+    go true false = refl
+    go false true = refl
+    go false false = refl
+
+pub uses_found : (r : Resolve) (n : ℕ) (i : Interface) → interface_at r n ≡ Some i → (q : ℕ) → list_any (λ id. is_other_use r n id.0 q) (values i.types) ≡ has (direct_deps r n) q
+uses_found r n i is q =
+    not_all (λ id. is_other_use r n id.0 q) (values i.types)
+    ∙ (ap (λ test. not (list_all test (values i.types))) (λ j id. other_use (interface_used_by r id.0) n q j)
+    ∙ (ap not (deps_pass (λ m. not (m == q)) r n i is)
+    ∙ sym (not_all (λ m. m == q) (direct_deps r n))))

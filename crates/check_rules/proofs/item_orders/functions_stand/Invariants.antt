@@ -1,0 +1,13 @@
+use Rattle.std.proofs.Common.{◌≡◌, ◌+◌, length}
+use Rattle.indexmap.specs.IndexMap.{values, index_map_len}
+use Rattle.wit_model.specs.Rules.{each_from, passes}
+use Rattle.wit_model.specs.Checks.{entry_of}
+use Rattle.wit_model.specs.ItemOrders.{reaches_within}
+use Rattle.wit_model.specs.Valid.{item_function}
+use Rattle.check_rules.proofs.item_orders.functions_stand.Given as goal
+
+abbrev pub invariant-loop-item : goal.invariant-loop-item
+invariant-loop-item l = record {
+  counted : l.place + length l.item-iterator ≡ index_map_len l.world.imports;
+  same : each_from (λ p item. passes (reaches_within (entry_of l.table) p) (item_function item)) l.place l.item-iterator ≡ each_from (λ p item. passes (reaches_within (entry_of l.table) p) (item_function item)) 0 (values l.world.imports);
+}

@@ -1,0 +1,17 @@
+use Rattle.std.proofs.Common.{◌≡◌, refl, sym, ap, ◌∙◌, not, Some, option_map}
+use Rattle.std.specs.List.{list_all}
+use Rattle.std.proofs.lemmas.Option.{slice_get_read}
+use Rattle.wit_model.specs.Checks.{flags, all_values}
+use Rattle.wit_model.specs.Valid.{handles, functions_of_world}
+use Rattle.wit_model.proofs.Resources.{marked_functions}
+use Rattle.check_rules.proofs.resources.world_keeps.Goals as goal
+
+pub returns : goal.returns
+unfolding handles
+returns c =
+    let r = c.args.resolve.now in
+    let table = c.args.table.now in
+    let def = c.index.result.now in
+    let at = slice_get_read r.worlds.items _ c.args.number def refl c.requires.in_range c.index.ensures in
+    let kept : c.are_unmarked.result ≡ list_all (λ n. not (flags table n)) (all_values (functions_of_world def)) = cc (c.in_ok-numbers.ensures) in
+    ap (option_map (handles.world_ r c.args.number)) at ∙ ap Some (sym (kept ∙ marked_functions r (flags table) c.requires.table (functions_of_world def)))

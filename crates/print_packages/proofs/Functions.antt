@@ -1,0 +1,65 @@
+-- The functions of an interface, one after the other.
+use Rattle.std.proofs.Common.{◌≡◌, refl, sym, ap, ◌∙◌, Bool, true, false, ◌||◌, not, List, [], ◌∷◌, ◌++◌, append-nil, Some}
+use Rattle.std.specs.Prelude.{String}
+use Rattle.std.specs.List.{list_all}
+use Rattle.std.specs.declared.alloc.Global.{Global}
+use Rattle.std.proofs.lemmas.List.Folds.{list_all-map}
+use Rattle.wit_model.specs.declared.model.Resolve.{Resolve}
+use Rattle.wit_model.specs.declared.model.TypeOwner.TheVariants as owner
+use Rattle.wit_model.specs.declared.model.Function.{Function}
+use Rattle.wit_model.specs.declared.model.Interface.{Interface}
+use Rattle.wit_model.specs.declared.model.InterfaceId.{InterfaceId}
+use Rattle.wit_model.specs.Lookup.{interface_at}
+use Rattle.wit_model.specs.Rules.{is_freestanding}
+use Rattle.wit_model.specs.Text.{text_of}
+use Rattle.wit_model.specs.Valid.{IsValid}
+use Rattle.print_grammar.specs.Tree.{MemberTree}
+use Rattle.print_items.specs.Shown.{function_prefix, listed_functions, shown_function, shown_signature}
+use Rattle.print_grammar.specs.Calls.{function_calls, item_calls, members_calls, prefix_calls}
+use Rattle.print_items.specs.ItemCalls.{named_calls}
+use Rattle.print_uses.specs.Printable.{is_printable_function, line_between, shown_functions}
+use Rattle.print_grammar.specs.WellNamed.{is_well_member}
+use Rattle.print_output.specs.declared.type_kind.TypeKind.TheVariants.{FunctionFreestanding}
+use Rattle.print_grammar.proofs.ByteTests.{weaker_all}
+use Rattle.print_uses.proofs.ValidDeclared.{is_known_function}
+use Rattle.print_uses.proofs.ValidInterfaces.{function_well, interface_functions}
+
+-- one function in its block
+pub function_alone : (emits printed : Bool) (r : Resolve) (f : Function)
+    → line_between printed ++ (prefix_calls emits (function_prefix f) ++ named_calls (text_of f.name) FunctionFreestanding (shown_signature r f)) ≡ members_calls emits printed (shown_function r f ∷ [])
+function_alone emits true r f = sym (append-nil _)
+function_alone emits false r f = sym (append-nil _)
+
+-- one function and then others
+one_and_more : (emits printed : Bool) (r : Resolve) (f : Function) (ms : List MemberTree) → members_calls emits printed (shown_function r f ∷ ms) ≡ members_calls emits printed (shown_function r f ∷ []) ++ members_calls emits true ms
+one_and_more emits true r f ms = ap (λ x. x ++ members_calls emits true ms) (sym (append-nil (item_calls true (function_calls emits (function_prefix f) (text_of f.name) FunctionFreestanding (shown_signature r f)))))
+one_and_more emits false r f ms = ap (λ x. x ++ members_calls emits true ms) (sym (append-nil (item_calls false (function_calls emits (function_prefix f) (text_of f.name) FunctionFreestanding (shown_signature r f)))))
+
+module _ (emits printed : Bool) (r : Resolve) (e : String Global × Function) (es : List (String Global × Function)) where
+  -- a freestanding function is next
+  pub next_shown : is_freestanding e.1.kind ≡ true → members_calls emits printed (shown_functions r (e ∷ es)) ≡ members_calls emits printed (shown_function r e.1 ∷ []) ++ members_calls emits true (shown_functions r es)
+  next_shown h = rw h (one_and_more emits printed r e.1 (shown_functions r es))
+
+  -- a function of a resource is left out
+  pub next_left_out : is_freestanding e.1.kind ≡ false → members_calls emits printed (shown_functions r (e ∷ es)) ≡ members_calls emits printed (shown_functions r es)
+  next_left_out h = rw h refl
+
+pub printable_member : (r : Resolve) (f : Function) → is_printable_function r f ≡ true → is_freestanding f.kind ≡ true → is_well_member (shown_function r f) ≡ true
+printable_member r f h free = go (is_freestanding f.kind) (is_well_member (shown_function r f)) free h
+  where
+    go : (a b : Bool) → a ≡ true → (not a || b) ≡ true → b ≡ true
+    go true b e k = k
+    go false b e k = absurd cc
+
+-- ---- interfaces of a valid `Resolve`
+
+implied_by : (a b : Bool) → (a ≡ true → b ≡ true) → (not a || b) ≡ true
+implied_by true b f = f refl
+implied_by false b f = refl
+
+pub functions_printable : (r : Resolve) (id : InterfaceId) (i : Interface) → IsValid r → interface_at r id.0 ≡ Some i → list_all (λ e. is_printable_function r e.1) i.functions.entries ≡ true
+functions_printable r id i valid at =
+    sym (list_all-map (is_printable_function r) (λ e. e.1) i.functions.entries)
+    ∙ weaker_all (is_known_function r (owner.Interface id)) (is_printable_function r)
+    (λ f known. implied_by (is_freestanding f.kind) (is_well_member (shown_function r f)) (λ free. function_well r valid (owner.Interface id) f known free))
+    (listed_functions i) (interface_functions r valid id.0 i at)

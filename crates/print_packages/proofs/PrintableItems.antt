@@ -1,0 +1,103 @@
+-- What is known of an import or an export that can be printed.
+use Rattle.std.proofs.Common.{◌≡◌, refl, sym, ap, subst, ◌∙◌, Bool, true, false, ◌&&◌, ◌||◌, not, Option, Some}
+use Rattle.std.specs.Prelude.{String, is_some}
+use Rattle.std.specs.declared.alloc.Global.{Global}
+use Rattle.wit_model.specs.declared.model.Resolve.{Resolve}
+use Rattle.wit_model.specs.declared.model.Docs.{Docs}
+use Rattle.wit_model.specs.declared.model.Function.{Function}
+use Rattle.wit_model.specs.declared.model.Interface.{Interface}
+use Rattle.wit_model.specs.declared.model.InterfaceId.{InterfaceId}
+use Rattle.wit_model.specs.declared.model.PackageId.{PackageId}
+use Rattle.wit_model.specs.declared.model.Stability.{Stability}
+use Rattle.wit_model.specs.declared.model.WorldKey.{WorldKey}
+use Rattle.wit_model.specs.declared.model.WorldKey.TheVariants as key
+use Rattle.wit_model.specs.declared.model.WorldItem.{WorldItem}
+use Rattle.wit_model.specs.declared.model.WorldItem.TheVariants as item
+use Rattle.wit_model.specs.Lookup.{interface_at}
+use Rattle.wit_model.specs.Text.{Text, text_of}
+use Rattle.wit_model.specs.Rules.{in_list, is_export_item, item_in_range, key_in_range}
+use Rattle.print_grammar.specs.Tree.{Prefix}
+use Rattle.print_grammar.specs.Tree.ExternTree.{NamedFunction, NamedInterface, NamedPath, Path}
+use Rattle.print_grammar.specs.Calls.{world_extern_calls}
+use Rattle.print_items.specs.ItemCalls.{labelled_tree}
+use Rattle.print_uses.specs.Printable.{entry_calls, is_printable_entry, is_printable_import, is_shown_item}
+use Rattle.print_items.specs.Shown.{extern_docs, extern_prefix, function_prefix, shown_docs, shown_external_id, shown_gates, shown_import, shown_interface, shown_path, shown_prefix, shown_signature}
+use Rattle.print_grammar.specs.WellNamed.{is_well_extern, is_well_path, is_well_prefix, is_well_world_member}
+use Rattle.print_grammar.proofs.ByteTests.{left_of, right_of}
+
+module _ (r : Resolve) (here : PackageId) where
+  -- what is shown as an import can be printed as one
+  pub import_shown : (k : WorldKey) (i : WorldItem) → is_printable_import r here (k, i) ≡ true → is_export_item i ≡ true → is_printable_entry r here (k, i) ≡ true
+  import_shown k i h e = subst (λ b. (not b || is_printable_entry r here (k, i)) ≡ true) e h
+
+  well_of : (k : WorldKey) (i : WorldItem) → is_printable_entry r here (k, i) ≡ true → is_well_world_member (shown_import r here (k, i)) ≡ true
+  well_of k i h = right_of (is_shown_item k i) _ (right_of (key_in_range r k && item_in_range r i) _ h)
+
+  -- ---- interfaces
+
+  module _ (k : WorldKey) (i : WorldItem) (id : InterfaceId) (gates : Stability) (docs : Docs) (external_id : Option (String Global)) (is : i ≡ item.Interface id gates docs external_id) (h : is_printable_entry r here (k, i) ≡ true) where
+    known : is_printable_entry r here (k, item.Interface id gates docs external_id) ≡ true
+    known = subst (λ j. is_printable_entry r here (k, j) ≡ true) is h
+
+    pub item_there : in_list r.interfaces.items id.0 ≡ true
+    item_there = right_of (key_in_range r k) _ (left_of _ _ known)
+
+    -- the documentation that is shown is that of this
+    module _ (given : Docs) (same : shown_docs given ≡ extern_docs r k id docs) where
+      pub prefix_is : shown_prefix given gates external_id ≡ extern_prefix r k (item.Interface id gates docs external_id)
+      prefix_is = ap (λ lines. let p : Prefix = record { docs = lines; gates = shown_gates gates; external_id = shown_external_id external_id } in p) same
+
+      pub prefix_well : is_well_prefix (shown_prefix given gates external_id) ≡ true
+      prefix_well = subst (λ p. is_well_prefix p ≡ true) (sym prefix_is) (left_of _ _ (well_of k (item.Interface id gates docs external_id) known))
+
+      pub keyed_calls : (emits : Bool) (word : Text) (m : InterfaceId) → k ≡ key.Interface m → world_extern_calls emits (shown_prefix given gates external_id) word (Path (shown_path r here m)) ≡ entry_calls emits r here word (k, i)
+      keyed_calls emits word m e =
+          ap (λ p. world_extern_calls emits p word (Path (shown_path r here m))) (prefix_is ∙ ap (λ l. extern_prefix r l (item.Interface id gates docs external_id)) e)
+          ∙ sym (ap (λ l. entry_calls emits r here word (l, item.Interface id gates docs external_id)) e)
+          ∙ sym (ap (λ j. entry_calls emits r here word (k, j)) is)
+
+      pub labelled_calls : (emits : Bool) (word : Text) (s : String Global) → k ≡ key.Name s → world_extern_calls emits (shown_prefix given gates external_id) word (labelled_tree r here (text_of s) id) ≡ entry_calls emits r here word (k, i)
+      labelled_calls emits word s e =
+          ap (λ p. world_extern_calls emits p word (labelled_tree r here (text_of s) id)) (prefix_is ∙ ap (λ l. extern_prefix r l (item.Interface id gates docs external_id)) e)
+          ∙ sym (ap (λ l. entry_calls emits r here word (l, item.Interface id gates docs external_id)) e)
+          ∙ sym (ap (λ j. entry_calls emits r here word (k, j)) is)
+
+    pub key_there : (m : InterfaceId) → k ≡ key.Interface m → in_list r.interfaces.items m.0 ≡ true
+    key_there m e = let whole = subst (λ l. is_printable_entry r here (l, item.Interface id gates docs external_id) ≡ true) e known in left_of _ _ (left_of (in_list r.interfaces.items m.0 && in_list r.interfaces.items id.0) _ whole)
+
+    pub key_path : (m : InterfaceId) → k ≡ key.Interface m → is_well_path (shown_path r here m) ≡ true
+    key_path m e =
+        let whole = subst (λ l. is_printable_entry r here (l, item.Interface id gates docs external_id) ≡ true) e known in
+        right_of (is_well_prefix (extern_prefix r (key.Interface m) (item.Interface id gates docs external_id))) _ (well_of (key.Interface m) (item.Interface id gates docs external_id) whole)
+
+    pub label_well : (s : String Global) → k ≡ key.Name s → is_well_extern (labelled_tree r here (text_of s) id) ≡ true
+    label_well s e =
+        let whole = subst (λ l. is_printable_entry r here (l, item.Interface id gates docs external_id) ≡ true) e known in
+        right_of (is_well_prefix (extern_prefix r (key.Name s) (item.Interface id gates docs external_id))) _ (well_of (key.Name s) (item.Interface id gates docs external_id) whole)
+
+  -- ---- functions
+
+  function_parts : (k : WorldKey) (f : Function) → is_printable_entry r here (k, item.Function f) ≡ true → (is_well_prefix (function_prefix f) ≡ true) × (is_well_extern (NamedFunction (text_of f.name) (shown_signature r f)) ≡ true)
+  function_parts (key.Name s) f h = let well = well_of (key.Name s) (item.Function f) h in (left_of _ _ well, right_of (is_well_prefix (function_prefix f)) _ well)
+  function_parts (key.Interface m) f h =
+      let wrong : false ≡ true = left_of false (is_well_world_member (shown_import r here (key.Interface m, item.Function f))) (right_of (key_in_range r (key.Interface m) && item_in_range r (item.Function f)) _ h) in absurd cc
+
+  function_calls_by : (k : WorldKey) (f : Function) (emits : Bool) (word : Text) → is_printable_entry r here (k, item.Function f) ≡ true → world_extern_calls emits (function_prefix f) word (NamedFunction (text_of f.name) (shown_signature r f)) ≡ entry_calls emits r here word (k, item.Function f)
+  function_calls_by (key.Name s) f emits word h = refl
+  function_calls_by (key.Interface m) f emits word h =
+      let wrong : false ≡ true = left_of false (is_well_world_member (shown_import r here (key.Interface m, item.Function f))) (right_of (key_in_range r (key.Interface m) && item_in_range r (item.Function f)) _ h) in absurd cc
+
+  module _ (k : WorldKey) (i : WorldItem) (f : Function) (is : i ≡ item.Function f) (h : is_printable_entry r here (k, i) ≡ true) where
+    pub function_known : (is_well_prefix (function_prefix f) ≡ true) × (is_well_extern (NamedFunction (text_of f.name) (shown_signature r f)) ≡ true)
+    function_known = function_parts k f (subst (λ j. is_printable_entry r here (k, j) ≡ true) is h)
+
+    pub function_entry : (emits : Bool) (word : Text) → world_extern_calls emits (function_prefix f) word (NamedFunction (text_of f.name) (shown_signature r f)) ≡ entry_calls emits r here word (k, i)
+    function_entry emits word = function_calls_by k f emits word (subst (λ j. is_printable_entry r here (k, j) ≡ true) is h) ∙ sym (ap (λ j. entry_calls emits r here word (k, j)) is)
+
+  -- ---- interfaces under a label
+
+  pub named_tree : (label : Text) (id : InterfaceId) (i : Interface) → interface_at r id.0 ≡ Some i → is_some i.name ≡ true → labelled_tree r here label id ≡ NamedPath label (shown_path r here id)
+  named_tree label id i e h = rw (e, h) refl
+
+  pub inline_tree : (label : Text) (id : InterfaceId) (i : Interface) → interface_at r id.0 ≡ Some i → is_some i.name ≡ false → labelled_tree r here label id ≡ NamedInterface label (shown_interface r id i)
+  inline_tree label id i e h = rw (e, h) refl

@@ -1,0 +1,251 @@
+-- What is shown of a valid `Resolve`'s worlds is well named.
+use Rattle.std.proofs.Common.{◌≡◌, refl, sym, ◌∙◌, subst, Bool, true, false, ◌&&◌, List, [], ◌∷◌, ◌++◌, map, filter, filter_map, Option, Some, None, ℕ, length}
+use Rattle.std.specs.Prelude.{String, is_some, if◌then◌else◌}
+use Rattle.std.specs.Option.{option_map_or}
+use Rattle.std.specs.List.{list_all, cons_option}
+use Rattle.std.specs.Map.{values_of}
+use Rattle.std.specs.declared.alloc.Global.{Global}
+use Rattle.std.proofs.lemmas.Bool.{ltb-true}
+use Rattle.std.proofs.lemmas.List.Folds.{list_all-append}
+use Rattle.wit_model.specs.declared.model.Function.{Function}
+use Rattle.wit_model.specs.declared.model.TypeId.{TypeId}
+use Rattle.wit_model.specs.declared.model.Resolve.{Resolve}
+use Rattle.wit_model.specs.declared.model.Interface.{Interface}
+use Rattle.wit_model.specs.declared.model.InterfaceId.{InterfaceId}
+use Rattle.wit_model.specs.declared.model.PackageId.{PackageId}
+use Rattle.wit_model.specs.declared.model.World.{World}
+use Rattle.wit_model.specs.declared.model.WorldId.{WorldId}
+use Rattle.wit_model.specs.declared.model.WorldKey.{WorldKey}
+use Rattle.wit_model.specs.declared.model.WorldKey.TheVariants as key
+use Rattle.wit_model.specs.declared.model.WorldItem.{WorldItem as Item}
+use Rattle.wit_model.specs.declared.model.WorldItem.TheVariants as item
+use Rattle.wit_model.specs.declared.model.TypeOwner.{TypeOwner}
+use Rattle.wit_model.specs.declared.model.TypeOwner.TheVariants as owner
+use Rattle.wit_model.specs.declared.model.Docs.{Docs}
+use Rattle.wit_model.specs.declared.model.Stability.{Stability}
+use Rattle.wit_model.specs.Text.{Text, text_of}
+use Rattle.wit_model.specs.Names.{is_label}
+use Rattle.wit_model.specs.Lookup.{interface_at, world_at}
+use Rattle.wit_model.specs.Rules.{in_list, passes, is_id, package_number, is_stability, function_labels, key_in_range, item_in_range, entries_in_range, key_label, item_labels, entries_labels, item_type, is_name_key, is_named_of, is_member, is_interface_key, import_stands, export_stands, is_export_item}
+use Rattle.wit_model.specs.Valid.{IsValid, is_place, item_function, numbers_in_range, labels, order_of_types, function_names, world_items}
+use Rattle.print_output.specs.OutputCall.{is_one_line}
+use Rattle.print_grammar.specs.Tree.ExternTree.{NamedPath, NamedInterface}
+use Rattle.print_grammar.specs.Tree.{WorldMember}
+use Rattle.print_grammar.specs.Tree.WorldMember.{WorldUse, WorldType}
+use Rattle.print_items.specs.Shown.{Entry, Used, shown_docs, shown_gates, shown_path, shown_uses, shown_declarations, shown_interface, function_prefix, extern_docs, extern_prefix, shown_extern, shown_import, shown_export, is_interface_item, is_freestanding_item, function_of_item, type_of_entry, listed_imports, imported_functions, shown_world_in, shown_world}
+use Rattle.print_grammar.specs.WellNamed.{is_well_gates, is_well_prefix, is_well_path, is_well_member, is_well_extern, is_well_world_member}
+use Rattle.print_grammar.proofs.ByteTests.{both, left_of, right_of, weaker_all}
+use Rattle.print_items.proofs.ByPlace.{one_there}
+use Rattle.print_uses.proofs.WellLists.{all_both, each_well, kept_well, given_well, joined_well}
+use Rattle.print_items.proofs.ShownWell.{docs_well, gates_well, external_id_well}
+use Rattle.print_uses.proofs.FunctionsWell.{signature_well, function_prefix_well}
+use Rattle.print_uses.proofs.ValidDeclared.{is_known_function}
+use Rattle.print_uses.proofs.ValidOwners.{is_named_interface, is_known_listed, world_rule}
+use Rattle.print_uses.proofs.ValidUses.{is_known_use, is_well_declared_with, path_well, uses_known, declarations_well}
+use Rattle.print_uses.proofs.ValidInterfaces.{freestanding_label, interface_well}
+
+-- what stands under an interface is that interface
+abbrev stands_under : Resolve → WorldKey → Item → Bool
+stands_under r (key.Interface id) i = is_interface_key r id.0 i
+stands_under r (key.Name s) i = true
+
+-- a function of an entry has its key's name and belongs to what it is a member of
+abbrev is_own_entry : Resolve → ℕ → Entry → Bool
+is_own_entry r n e = passes (λ f. is_name_key (text_of f.name) e.0 && is_member r (owner.World (record { 0 = n })) f) (item_function e.1)
+
+-- an entry of the world of this number, in range, under a label or an interface
+abbrev pub is_known_entry : Resolve → ℕ → Entry → Bool
+is_known_entry r n e = (key_in_range r e.0 && item_in_range r e.1) && ((key_label e.0 e.1 && item_labels e.1) && (is_own_entry r n e && stands_under r e.0 e.1))
+
+-- a function of such an entry belongs to a resource of the world, or to none
+pub entry_member : (r : Resolve) (n : ℕ) (k : WorldKey) (f : Function) → is_known_entry r n (k, item.Function f) ≡ true → is_member r (owner.World (record { 0 = n })) f ≡ true
+entry_member r n k f h =
+    right_of (is_name_key (text_of f.name) k) _
+    (left_of (is_own_entry r n (k, item.Function f)) _
+    (right_of (key_label k (item.Function f) && item_labels (item.Function f)) _ (right_of (key_in_range r k && item_in_range r (item.Function f)) _ h)))
+
+-- a type doesn't stand under an interface
+pub keyed_type : (r : Resolve) (n : ℕ) (m : InterfaceId) (id : TypeId) → is_known_entry r n (key.Interface m, item.Type_ id) ≡ true → ⊥
+keyed_type r n m id h =
+    let under = right_of (is_own_entry r n (key.Interface m, item.Type_ id)) _
+    (right_of (key_label (key.Interface m) (item.Type_ id) && item_labels (item.Type_ id)) _ (right_of (key_in_range r (key.Interface m) && item_in_range r (item.Type_ id)) _ h)) in
+    let wrong : false ≡ true = left_of false (passes (λ other. is_some other.name) (interface_at r m.0)) under in
+    cc
+
+import_under : (r : Resolve) (n : ℕ) (k : WorldKey) (i : Item) → import_stands r n k i ≡ true → stands_under r k i ≡ true
+import_under r n (key.Interface id) i h = h
+import_under r n (key.Name s) i h = refl
+
+export_under : (r : Resolve) (k : WorldKey) (i : Item) → export_stands r k i ≡ true → stands_under r k i ≡ true
+export_under r (key.Interface id) i h = h
+export_under r (key.Name s) i h = refl
+
+export_item : (r : Resolve) (k : WorldKey) (i : Item) → export_stands r k i ≡ true → is_export_item i ≡ true
+export_item r (key.Name s) i h = h
+export_item r (key.Interface n) (item.Interface id gates docs external_id) h = refl
+export_item r (key.Interface n) (item.Function f) h = absurd cc
+export_item r (key.Interface n) (item.Type_ id) h = absurd cc
+
+pub interface_import : (i : Item) → is_interface_item i ≡ true → is_export_item i ≡ true
+interface_import (item.Interface id gates docs external_id) h = refl
+interface_import (item.Function f) h = absurd cc
+interface_import (item.Type_ id) h = absurd cc
+
+pub function_import : (i : Item) → is_freestanding_item i ≡ true → is_export_item i ≡ true
+function_import (item.Interface id gates docs external_id) h = absurd cc
+function_import (item.Function f) h = h
+function_import (item.Type_ id) h = absurd cc
+
+module _ (r : Resolve) (valid : IsValid r) where
+  -- ---- imports and exports
+
+  key_named : (n : ℕ) → in_list r.interfaces.items n ≡ true → passes (λ other. is_some other.name) (interface_at r n) ≡ true → is_named_interface r n ≡ true
+  key_named n inside h =
+      let there = one_there r.interfaces.items n (ltb-true n (length r.interfaces.items) inside) in
+      subst (λ o. option_map_or (λ i. is_some i.name) o false ≡ true) (sym there.1) (subst (λ o. passes (λ i. is_some i.name) o ≡ true) there.1 h)
+
+  extern_docs_well : (k : WorldKey) (id : InterfaceId) (docs : Docs) → list_all is_one_line (extern_docs r k id docs) ≡ true
+  extern_docs_well (key.Interface other) id docs = docs_well docs
+  extern_docs_well (key.Name s) id docs = go (is_some docs.contents) (interface_at r id.0)
+    where
+      go : (b : Bool) (o : Option Interface) → list_all is_one_line (if b then shown_docs docs else option_map_or (λ i. shown_docs i.docs) o []) ≡ true
+      go true o = docs_well docs
+      go false None = refl
+      go false (Some i) = docs_well i.docs
+
+  interface_prefix_well : (k : WorldKey) (id : InterfaceId) (gates : Stability) (docs : Docs) (external_id : Option (String Global)) → is_stability gates ≡ true → is_well_prefix (extern_prefix r k (item.Interface id gates docs external_id)) ≡ true
+  interface_prefix_well k id gates docs external_id h =
+      both (list_all is_one_line (extern_docs r k id docs)) _ (extern_docs_well k id docs) (both (is_well_gates (shown_gates gates)) _ (gates_well gates h) (external_id_well external_id))
+
+  -- what an interface under a label is: a path, or what it has
+  labelled_interface_well : (here : PackageId) (s : Text) (id : InterfaceId) → is_label s ≡ true → (b : Bool) → is_named_interface r id.0 ≡ b → is_well_extern (if b then NamedPath s (shown_path r here id) else NamedInterface s (option_map_or (shown_interface r id) (interface_at r id.0) [])) ≡ true
+  labelled_interface_well here s id label true named = both (is_label s) _ label (path_well r valid here id named)
+  labelled_interface_well here s id label false named = both (is_label s) _ label (go (interface_at r id.0) refl)
+    where
+      go : (o : Option Interface) → interface_at r id.0 ≡ o → list_all is_well_member (option_map_or (shown_interface r id) o []) ≡ true
+      go None e = refl
+      go (Some i) e = interface_well r valid id i e
+
+  pub extern_well : (here : PackageId) (n : ℕ) (k : WorldKey) (i : Item) → is_known_entry r n (k, i) ≡ true → is_export_item i ≡ true → (is_well_prefix (extern_prefix r k i) && is_well_extern (shown_extern r here k i)) ≡ true
+  extern_well here n (key.Interface m) (item.Interface id gates docs external_id) known shown =
+      let stable : is_stability gates ≡ true = left_of _ _ (right_of (in_list r.interfaces.items m.0 && in_list r.interfaces.items id.0) _ known) in
+      let stands = right_of (is_stability gates) _ (right_of (in_list r.interfaces.items m.0 && in_list r.interfaces.items id.0) _ known) in
+      both (is_well_prefix (extern_prefix r (key.Interface m) (item.Interface id gates docs external_id))) _ (interface_prefix_well (key.Interface m) id gates docs external_id stable)
+      (path_well r valid here m (key_named m.0 (left_of _ _ (left_of (in_list r.interfaces.items m.0 && in_list r.interfaces.items id.0) _ known)) (right_of (is_id m.0 (Some id.0)) _ stands)))
+  extern_well here n (key.Interface m) (item.Function f) known shown =
+      let wrong : false ≡ true = right_of (key_label (key.Interface m) (item.Function f) && item_labels (item.Function f)) false (right_of (key_in_range r (key.Interface m) && item_in_range r (item.Function f)) _ known) in
+      absurd cc
+  extern_well here n (key.Interface m) (item.Type_ id) known shown = absurd cc
+  extern_well here n (key.Name s) (item.Interface id gates docs external_id) known shown =
+      let named : (is_label (text_of s) && is_stability gates) ≡ true = left_of _ _ (right_of (in_list r.interfaces.items id.0) _ known) in
+      both (is_well_prefix (extern_prefix r (key.Name s) (item.Interface id gates docs external_id))) _ (interface_prefix_well (key.Name s) id gates docs external_id (right_of (is_label (text_of s)) _ named))
+      (labelled_interface_well here (text_of s) id (left_of _ _ named) (is_named_interface r id.0) refl)
+  extern_well here n (key.Name s) (item.Function f) known shown =
+      let range : item_in_range r (item.Function f) ≡ true = left_of _ _ known in
+      let named : function_labels f ≡ true = right_of (key_label (key.Name s) (item.Function f)) _ (left_of _ _ (right_of (item_in_range r (item.Function f)) _ known)) in
+      both (is_well_prefix (function_prefix f)) _ (function_prefix_well f named)
+      (both (is_label (text_of f.name)) _ (freestanding_label r valid f named shown) (signature_well r valid f range named))
+  extern_well here n (key.Name s) (item.Type_ id) known shown = absurd cc
+
+  -- ---- types and functions of a world
+
+  pub entry_function_known : (n : ℕ) (k : WorldKey) (i : Item) → is_known_entry r n (k, i) ≡ true → passes (is_known_function r (owner.World (record { 0 = n }))) (function_of_item i) ≡ true
+  entry_function_known n k (item.Interface id gates docs external_id) known = refl
+  entry_function_known n k (item.Type_ id) known = refl
+  entry_function_known n k (item.Function f) known =
+      let rest = right_of (key_in_range r k && item_in_range r (item.Function f)) _ known in
+      let named : function_labels f ≡ true = right_of (key_label k (item.Function f)) _ (left_of _ _ rest) in
+      let own : (is_name_key (text_of f.name) k && is_member r (owner.World (record { 0 = n })) f) ≡ true = left_of _ _ (right_of (key_label k (item.Function f) && item_labels (item.Function f)) _ rest) in
+      both (item_in_range r (item.Function f)) _ (right_of (key_in_range r k) _ (left_of _ _ known)) (both (function_labels f) _ named (right_of (is_name_key (text_of f.name) k) _ own))
+
+  listed_imports_known : (o : TypeOwner) (es : List Entry) → entries_labels es ≡ true → list_all (is_named_of r o) (filter_map item_type (values_of es)) ≡ true → list_all (is_known_listed r o) (filter_map (λ e. type_of_entry e.0 e.1) es) ≡ true
+  listed_imports_known o [] named own = refl
+  listed_imports_known o (e ∷ es) named own = go e.0 e.1 (left_of _ _ named) own (listed_imports_known o es (right_of (key_label e.0 e.1 && item_labels e.1) _ named))
+    where
+      go : (k : WorldKey) (i : Item) → (key_label k i && item_labels i) ≡ true → list_all (is_named_of r o) (cons_option (item_type i) (filter_map item_type (values_of es))) ≡ true
+          → (list_all (is_named_of r o) (filter_map item_type (values_of es)) ≡ true → list_all (is_known_listed r o) (filter_map (λ x. type_of_entry x.0 x.1) es) ≡ true)
+          → list_all (is_known_listed r o) (cons_option (type_of_entry k i) (filter_map (λ x. type_of_entry x.0 x.1) es)) ≡ true
+      go (key.Name s) (item.Type_ id) label first rest =
+          both (is_label (text_of s) && is_named_of r o id.0) _ (both (is_label (text_of s)) _ (left_of _ _ label) (left_of _ _ first)) (rest (right_of (is_named_of r o id.0) _ first))
+      go (key.Interface m) (item.Type_ id) label first rest = rest (right_of (is_named_of r o id.0) _ first)
+      go (key.Name s) (item.Function f) label first rest = rest first
+      go (key.Interface m) (item.Function f) label first rest = rest first
+      go (key.Name s) (item.Interface id gates docs external_id) label first rest = rest first
+      go (key.Interface m) (item.Interface id gates docs external_id) label first rest = rest first
+
+  -- ---- what validity says
+
+  -- What is known of a world that is shown.
+  pub record IsShownWorld (n : ℕ) (w : World) : Type 0 where
+    pub imports : list_all (is_known_entry r n) w.imports.entries ≡ true
+    pub exports : list_all (λ e. is_known_entry r n e && is_export_item e.1) w.exports.entries ≡ true
+    pub types : list_all (is_known_listed r (owner.World (record { 0 = n }))) (listed_imports w) ≡ true
+
+  entries_known : (n : ℕ) (es : List Entry) → entries_in_range r es ≡ true → entries_labels es ≡ true → list_all (is_own_entry r n) es ≡ true → list_all (λ e. stands_under r e.0 e.1) es ≡ true → list_all (is_known_entry r n) es ≡ true
+  entries_known n es range named own under =
+      all_both (λ e. key_in_range r e.0 && item_in_range r e.1) (λ e. (key_label e.0 e.1 && item_labels e.1) && (is_own_entry r n e && stands_under r e.0 e.1)) es range
+      (all_both (λ e. key_label e.0 e.1 && item_labels e.1) (λ e. is_own_entry r n e && stands_under r e.0 e.1) es named
+      (all_both (is_own_entry r n) (λ e. stands_under r e.0 e.1) es own under))
+
+  pub world_is_shown : (n : ℕ) (w : World) → world_at r n ≡ Some w → IsShownWorld n w
+  unfolding numbers_in_range labels order_of_types function_names world_items
+  world_is_shown n w e =
+      let range = right_of (passes (in_list r.packages.items) (package_number w.«package»)) _ (right_of (is_place n) _ (world_rule r valid numbers_in_range valid.rules.numbers_in_range n w e)) in
+      let named = right_of (is_stability w.stability) _ (right_of (is_label (text_of w.name)) _ (world_rule r valid labels valid.rules.labels n w e)) in
+      let stand = world_rule r valid world_items valid.rules.world_items n w e in
+      let own = sym (list_all-append (is_own_entry r n) w.imports.entries w.exports.entries) ∙ world_rule r valid function_names valid.rules.function_names n w e in
+      let exported = right_of (list_all (λ x. import_stands r n x.0 x.1) w.imports.entries) _ stand in
+      record {
+        imports = entries_known n w.imports.entries (left_of _ _ range) (left_of _ _ named) (left_of _ _ own)
+            (weaker_all (λ x. import_stands r n x.0 x.1) (λ x. stands_under r x.0 x.1) (λ x h. import_under r n x.0 x.1 h) w.imports.entries (left_of _ _ stand));
+        exports = all_both (is_known_entry r n) (λ x. is_export_item x.1) w.exports.entries
+            (entries_known n w.exports.entries (right_of (entries_in_range r w.imports.entries) _ range) (right_of (entries_labels w.imports.entries) _ named) (right_of (list_all (is_own_entry r n) w.imports.entries) _ own)
+            (weaker_all (λ x. export_stands r x.0 x.1) (λ x. stands_under r x.0 x.1) (λ x h. export_under r x.0 x.1 h) w.exports.entries exported))
+            (weaker_all (λ x. export_stands r x.0 x.1) (λ x. is_export_item x.1) (λ x h. export_item r x.0 x.1 h) w.exports.entries exported);
+        types = listed_imports_known (owner.World (record { 0 = n })) w.imports.entries (left_of _ _ named) (left_of _ _ (world_rule r valid order_of_types valid.rules.order_of_types n w e));
+      }
+
+  -- ---- worlds
+
+  use_well : (here : PackageId) (used : Used) → is_known_use r used ≡ true → is_well_world_member (WorldUse used.prefix (shown_path r here used.interface) used.names) ≡ true
+  use_well here used known =
+      let more = right_of (is_named_interface r used.interface.0) _ known in
+      both (is_well_prefix used.prefix) _ (left_of _ _ more)
+      (both (is_well_path (shown_path r here used.interface)) _ (path_well r valid here used.interface (left_of _ _ known)) (right_of (is_well_prefix used.prefix) _ more))
+
+  world_in_well : (id : WorldId) (w : World) (here : PackageId) → IsShownWorld id.0 w → list_all is_well_world_member (shown_world_in r id w here) ≡ true
+  world_in_well id w here h =
+      joined_well is_well_world_member (interfaces ++ uses ++ declared ++ functions) (map (shown_export r here) w.exports.entries)
+      (joined_well is_well_world_member (interfaces ++ uses ++ declared) functions
+      (joined_well is_well_world_member (interfaces ++ uses) declared
+      (joined_well is_well_world_member interfaces uses
+      (kept_well (is_known_entry r id.0) (λ e. is_interface_item e.1) (shown_import r here) is_well_world_member (λ e known test. extern_well here id.0 e.0 e.1 known (interface_import e.1 test)) w.imports.entries h.imports)
+      (each_well (is_known_use r) (λ used. WorldUse used.prefix (shown_path r here used.interface) used.names) is_well_world_member (use_well here) (shown_uses r (owner.World id) (listed_imports w))
+      (uses_known r valid (owner.World id) refl (listed_imports w) h.types)))
+      (each_well is_well_declared_with (λ d. WorldType d.prefix d.declared) is_well_world_member (λ d g. g) (shown_declarations r (owner.World id) (imported_functions w) (listed_imports w))
+      (declarations_well r valid (owner.World id) refl (imported_functions w) (listed_imports w) functions_known h.types)))
+      (kept_well (is_known_entry r id.0) (λ e. is_freestanding_item e.1) (shown_import r here) is_well_world_member (λ e known test. extern_well here id.0 e.0 e.1 known (function_import e.1 test)) w.imports.entries h.imports))
+      (each_well (λ e. is_known_entry r id.0 e && is_export_item e.1) (shown_export r here) is_well_world_member (λ e known. extern_well here id.0 e.0 e.1 (left_of _ _ known) (right_of (is_known_entry r id.0 e) _ known)) w.exports.entries h.exports)
+    where
+      interfaces : List WorldMember
+      interfaces = map (shown_import r here) (filter (λ e. is_interface_item e.1) w.imports.entries)
+
+      uses : List WorldMember
+      uses = map (λ used. WorldUse used.prefix (shown_path r here used.interface) used.names) (shown_uses r (owner.World id) (listed_imports w))
+
+      declared : List WorldMember
+      declared = map (λ d. WorldType d.prefix d.declared) (shown_declarations r (owner.World id) (imported_functions w) (listed_imports w))
+
+      functions : List WorldMember
+      functions = map (shown_import r here) (filter (λ e. is_freestanding_item e.1) w.imports.entries)
+
+      functions_known : list_all (is_known_function r (owner.World id)) (imported_functions w) ≡ true
+      functions_known = given_well (is_known_entry r id.0) (λ e. function_of_item e.1) (is_known_function r (owner.World id)) (λ e known. entry_function_known id.0 e.0 e.1 known) w.imports.entries h.imports
+
+  -- What is shown of a world is well named.
+  pub world_well : (id : WorldId) (w : World) → world_at r id.0 ≡ Some w → list_all is_well_world_member (shown_world r id w) ≡ true
+  world_well id w e = go w.«package»
+    where
+      go : (p : Option PackageId) → list_all is_well_world_member (option_map_or (shown_world_in r id w) p []) ≡ true
+      go None = refl
+      go (Some here) = world_in_well id w here (world_is_shown id.0 w e)

@@ -1,0 +1,15 @@
+use Rattle.std.proofs.Common.{map}
+use Rattle.print_grammar.specs.Calls.{nested_calls}
+use Rattle.print_items.specs.Shown.{shown_package}
+use Rattle.print_items.proofs.Moves.{Moves-append, Begins-append, Begins-more, at_err, on_ok, on_err}
+use Rattle.print_packages.proofs.file.print_file.Goals as goal
+
+pub returns-in_err-print_whole_package-clause-err : goal.returns-in_err-print_whole_package-clause-err
+returns-in_err-print_whole_package-clause-err g c =
+    at_err c.from_residual.result (Begins-more g.O.Output.keeps (nested_calls c.args.emits_docs (map (shown_package c.args.resolve.now) c.args.nested.now)) c.in_err-print_whole_package.ensures.err)
+
+pub returns-clause-ok : goal.returns-clause-ok
+returns-clause-ok g c = on_ok c.print_nested_packages.result (λ m. Moves-append g.O.Output.keeps c.in_ok-print_whole_package.ensures.ok m) c.print_nested_packages.ensures.ok
+
+pub returns-clause-err : goal.returns-clause-err
+returns-clause-err g c = on_err c.print_nested_packages.result (λ b. Begins-append g.O.Output.keeps c.in_ok-print_whole_package.ensures.ok b) c.print_nested_packages.ensures.err

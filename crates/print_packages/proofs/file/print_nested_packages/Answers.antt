@@ -1,0 +1,44 @@
+use Rattle.std.proofs.Common.{◌≡◌, ◌∙◌, refl, ap, sym, subst, true, map}
+use Rattle.std.specs.List.{list_all, flat_map}
+use Rattle.std.proofs.lemmas.Bool.{ltb-true}
+use Rattle.wit_model.proofs.Lists.{first_true, second_true}
+use Rattle.wit_model.specs.Rules.{in_list}
+use Rattle.print_output.specs.OutputCall.{Moves}
+use Rattle.print_output.specs.OutputCall.Moves.{nothing_moved}
+use Rattle.print_grammar.specs.Calls.{nested_calls}
+use Rattle.print_uses.specs.Printable.{next_package_calls}
+use Rattle.print_items.specs.Shown.{shown_package}
+use Rattle.print_items.proofs.Moves.{begun_on, begun_first, moved_on, on_ok, on_err, at_err}
+use Rattle.print_packages.proofs.PackageCalls.{nested_shown, no_nested}
+use Rattle.print_packages.proofs.file.print_nested_packages.Goals as goal
+
+pub print_whole_package-requires-clause-in_range : goal.print_whole_package-requires-clause-in_range
+print_whole_package-requires-clause-in_range g c =
+    ltb-true _ _ (first_true (in_list c.args.resolve.now.packages.items c.in-Some.first.now.0) _ (subst (λ ids. list_all (λ id. in_list c.args.resolve.now.packages.items id.0) ids ≡ true) c.in-Some.ensures.cases.0 c.requires.in_range))
+
+pub print_more_packages-requires-clause-in_range : goal.print_more_packages-requires-clause-in_range
+print_more_packages-requires-clause-in_range g c =
+    second_true (in_list c.args.resolve.now.packages.items c.in-Some.first.now.0) _ (subst (λ ids. list_all (λ id. in_list c.args.resolve.now.packages.items id.0) ids ≡ true) c.in-Some.ensures.cases.0 c.requires.in_range)
+
+pub returns-in_err-print_whole_package-clause-err : goal.returns-in_err-print_whole_package-clause-err
+returns-in_err-print_whole_package-clause-err g c =
+    let r = c.args.resolve.now in
+    let same = nested_shown c.args.emits_docs r c.in-Some.first.now c.in-Some.rest.now ∙ ap (λ ids. nested_calls c.args.emits_docs (map (shown_package r) ids)) (sym c.in-Some.ensures.cases.0) in
+    at_err c.from_residual.result (begun_first (flat_map (next_package_calls c.args.emits_docs r) c.in-Some.rest.now) c.in_err-print_whole_package.ensures.err same)
+
+pub returns-in-Some-clause-ok : goal.returns-in-Some-clause-ok
+returns-in-Some-clause-ok g c =
+    let r = c.args.resolve.now in
+    let same = nested_shown c.args.emits_docs r c.in-Some.first.now c.in-Some.rest.now ∙ ap (λ ids. nested_calls c.args.emits_docs (map (shown_package r) ids)) (sym c.in-Some.ensures.cases.0) in
+    on_ok c.print_more_packages.result (λ m. moved_on c.in_ok-print_whole_package.ensures.ok m same) c.print_more_packages.ensures.ok
+
+pub returns-in-Some-clause-err : goal.returns-in-Some-clause-err
+returns-in-Some-clause-err g c =
+    let r = c.args.resolve.now in
+    let same = nested_shown c.args.emits_docs r c.in-Some.first.now c.in-Some.rest.now ∙ ap (λ ids. nested_calls c.args.emits_docs (map (shown_package r) ids)) (sym c.in-Some.ensures.cases.0) in
+    on_err c.print_more_packages.result (λ b. begun_on c.in_ok-print_whole_package.ensures.ok b same) c.print_more_packages.ensures.err
+
+pub returns-clause-ok : goal.returns-clause-ok
+returns-clause-ok g c =
+    let view = g.O.Output.view c.args.output.now in
+    subst (λ calls. Moves g.O.Output.keeps view calls view) (sym (no_nested c.args.emits_docs c.args.resolve.now c.args.ids.now c.in_default.ensures.cases)) (nothing_moved refl)

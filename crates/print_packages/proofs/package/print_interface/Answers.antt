@@ -1,0 +1,44 @@
+use Rattle.std.proofs.Common.{[], ◌∷◌, ◌++◌, false, refl, append_assoc}
+use Rattle.print_output.specs.OutputCall.OutputCall.{IndentEnd, IndentStart}
+use Rattle.print_grammar.specs.Calls.{line_after_calls, members_calls}
+use Rattle.print_packages.specs.Heads.{head_calls}
+use Rattle.print_items.specs.Shown.{shown_interface}
+use Rattle.print_items.proofs.Moves.{going, made_on, made_last, refused_in, refused_last, at_err, on_ok, on_err}
+use Rattle.print_packages.proofs.package.print_interface.Goals as goal
+
+pub returns-in_err-print_interface_start-clause-err : goal.returns-in_err-print_interface_start-clause-err
+returns-in_err-print_interface_start-clause-err g c =
+    let head = head_calls c.args.emits_docs c.args.interface.now c.args.name.now in
+    let body = members_calls c.args.emits_docs false (shown_interface c.args.resolve.now c.args.id c.args.interface.now) in
+    let end = IndentEnd ∷ line_after_calls c.args.is_main in
+    let start = going ((head ++ IndentStart ∷ []) ++ (body ++ end)) _ (g.O.Output.view c.args.output.now) (append_assoc head (IndentStart ∷ []) (body ++ end)) in
+    at_err c.from_residual.result (refused_in (head ++ IndentStart ∷ []) (body ++ end) start refl c.in_err-print_interface_start.ensures.err)
+
+pub returns-in_err-print_interface_body-clause-err : goal.returns-in_err-print_interface_body-clause-err
+returns-in_err-print_interface_body-clause-err g c =
+    let head = head_calls c.args.emits_docs c.args.interface.now c.args.name.now in
+    let body = members_calls c.args.emits_docs false (shown_interface c.args.resolve.now c.args.id c.args.interface.now) in
+    let end = IndentEnd ∷ line_after_calls c.args.is_main in
+    let start = going ((head ++ IndentStart ∷ []) ++ (body ++ end)) _ (g.O.Output.view c.args.output.now) (append_assoc head (IndentStart ∷ []) (body ++ end)) in
+    let begun = made_on (head ++ IndentStart ∷ []) (body ++ end) start refl c.in_ok-print_interface_start.ensures.ok in
+    at_err c.from_residual-in_err-print_interface_body.result (refused_in body end begun refl c.in_err-print_interface_body.ensures.err)
+
+pub returns-clause-ok : goal.returns-clause-ok
+returns-clause-ok g c =
+    let head = head_calls c.args.emits_docs c.args.interface.now c.args.name.now in
+    let body = members_calls c.args.emits_docs false (shown_interface c.args.resolve.now c.args.id c.args.interface.now) in
+    let end = IndentEnd ∷ line_after_calls c.args.is_main in
+    let start = going ((head ++ IndentStart ∷ []) ++ (body ++ end)) _ (g.O.Output.view c.args.output.now) (append_assoc head (IndentStart ∷ []) (body ++ end)) in
+    let begun = made_on (head ++ IndentStart ∷ []) (body ++ end) start refl c.in_ok-print_interface_start.ensures.ok in
+    let inside = made_on body end begun refl c.in_ok-print_interface_body.ensures.ok in
+    on_ok c.print_interface_end.result (λ m. made_last end inside m) c.print_interface_end.ensures.ok
+
+pub returns-clause-err : goal.returns-clause-err
+returns-clause-err g c =
+    let head = head_calls c.args.emits_docs c.args.interface.now c.args.name.now in
+    let body = members_calls c.args.emits_docs false (shown_interface c.args.resolve.now c.args.id c.args.interface.now) in
+    let end = IndentEnd ∷ line_after_calls c.args.is_main in
+    let start = going ((head ++ IndentStart ∷ []) ++ (body ++ end)) _ (g.O.Output.view c.args.output.now) (append_assoc head (IndentStart ∷ []) (body ++ end)) in
+    let begun = made_on (head ++ IndentStart ∷ []) (body ++ end) start refl c.in_ok-print_interface_start.ensures.ok in
+    let inside = made_on body end begun refl c.in_ok-print_interface_body.ensures.ok in
+    on_err c.print_interface_end.result (λ b. refused_last end inside b) c.print_interface_end.ensures.err

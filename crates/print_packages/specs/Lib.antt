@@ -1,0 +1,2 @@
+pub mod GivenTypes
+pub mod Heads

@@ -1,0 +1,13 @@
+pub mod PathParts
+pub mod SameVersions
+pub mod UseGroups
+pub mod ListedSteps
+pub mod ListedTypes
+pub mod Declarations
+pub mod ValidDeclared
+pub mod ValidInterfaces
+pub mod ValidOwners
+pub mod ValidUses
+pub mod ValidNames
+pub mod FunctionsWell
+pub mod WellLists

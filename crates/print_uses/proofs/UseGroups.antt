@@ -1,0 +1,243 @@
+-- Uses one after the other are the groups that are shown.
+use Rattle.std.proofs.Common.{◌≡◌, refl, sym, ap, subst, ◌∙◌, Bool, true, false, ℕ, ◌&&◌, ◌||◌, ◌==◌, nat_lt, length, List, [], ◌∷◌, ◌++◌, append-nil, append_assoc, map, filter_map, Option, Some, None, option_and_then, if◌then◌else◌}
+use Rattle.std.specs.Prelude.{codes, is_some, String}
+use Rattle.std.specs.declared.alloc.Global.{Global}
+use Rattle.std.specs.Str.{chars}
+use Rattle.std.proofs.Math.Utf8.{encodes}
+use Rattle.std.proofs.lemmas.Str.{encodes-chars, IsUtf8-string_bytes}
+use Rattle.std.specs.List.{list_all, cons_option, flat_map}
+use Rattle.std.proofs.lemmas.Grind.{flat_map-append}
+use Rattle.std.proofs.lemmas.Bool.{eqb-true}
+use Rattle.std.proofs.lemmas.List.Folds.{flat_map-map}
+use Rattle.wit_model.specs.declared.model.Resolve.{Resolve}
+use Rattle.wit_model.specs.declared.model.InterfaceId.{InterfaceId}
+use Rattle.wit_model.specs.declared.model.PackageId.{PackageId}
+use Rattle.wit_model.specs.declared.model.TypeDef.{TypeDef}
+use Rattle.wit_model.specs.declared.model.TypeDefKind.{TypeDefKind}
+use Rattle.wit_model.specs.declared.model.TypeDefKind.TheVariants as defined
+use Rattle.wit_model.specs.declared.model.TypeOwner.{TypeOwner}
+use Rattle.wit_model.specs.declared.model.TypeOwner.TheVariants as owner
+use Rattle.wit_model.specs.declared.model.«Type».TheVariants as value
+use Rattle.wit_model.specs.Lookup.{type_at}
+use Rattle.wit_model.specs.Names.{is_label}
+use Rattle.wit_model.specs.Parts.{same_owner}
+use Rattle.wit_model.specs.Rules.{has_items, in_list, is_stability, passes}
+use Rattle.wit_model.specs.Text.{Text, text_eq, text_of}
+use Rattle.wit_model.specs.Uses.{alias_target}
+use Rattle.wit_model.proofs.VersionLaws.{same_text, text_same}
+use Rattle.print_output.specs.OutputCall.{OutputCall}
+use Rattle.print_output.specs.OutputCall.OutputCall.{Keyword, Str}
+use Rattle.print_grammar.specs.Tree.{MemberTree, PathTree, UsedName}
+use Rattle.print_grammar.specs.Tree.MemberTree.{UseMember}
+use Rattle.print_items.specs.Shown.{Listed, Used, grouped, grouped_with, same_group, shown_gates, shown_path, used_of}
+use Rattle.print_grammar.specs.Calls.{doc_calls, external_id_calls, gates_calls, members_calls, path_calls, printed_after, space, use_calls, used_name_calls}
+use Rattle.print_uses.specs.UseGroups.{group_end_calls, is_printable_use, joins, listed_use, listed_use_calls, more_names_calls, names_calls, new_group_calls, open_end_calls, use_after, use_from, use_run_calls, uses_calls}
+use Rattle.print_grammar.specs.WellNamed.{is_well_gates, is_well_path}
+use Rattle.print_uses.specs.declared.use_group.Use.{Use}
+use Rattle.print_grammar.proofs.ByteTests.{both, left_of, right_of}
+use Rattle.print_uses.proofs.SameVersions.{both_ways}
+
+-- ---- a use alone
+
+-- nothing documented, and a name
+abbrev pub is_plain_use : Used → Bool
+is_plain_use used = (length used.prefix.docs == 0) && nat_lt 0 (length used.names)
+
+module _ (here : TypeOwner) (own : Text) (def : TypeDef) where
+  from_plain : (target : TypeDef) → passes is_plain_use (use_from here own def target) ≡ true
+  from_plain target = by_owner target.owner
+    where
+      by_same : (id : InterfaceId) (b : Bool) → same_owner here (owner.Interface id) ≡ b → passes is_plain_use (use_from here own def (record target { owner = owner.Interface id })) ≡ true
+      by_same id true e = rw e refl
+      by_same id false e = rw e refl
+
+      by_owner : (o : TypeOwner) → passes is_plain_use (use_from here own def (record target { owner = o })) ≡ true
+      by_owner (owner.World id) = refl
+      by_owner owner.None = refl
+      by_owner (owner.Interface id) = by_same id (same_owner here (owner.Interface id)) refl
+
+  -- a use by the target of an alias
+  pub used_by_target : (r : Resolve) → used_of r here own def ≡ option_and_then (λ t. option_and_then (use_from here own def) (type_at r t)) (alias_target def.kind)
+  used_by_target r = by_kind def.kind
+    where
+      by_kind : (k : TypeDefKind) → used_of r here own (record def { kind = k }) ≡ option_and_then (λ t. option_and_then (use_from here own def) (type_at r t)) (alias_target k)
+      by_kind (defined.Type_ (value.Id id)) = refl
+      by_kind (defined.Type_ t) = refl
+      by_kind k = refl
+
+  pub use_plain : (r : Resolve) → passes is_plain_use (used_of r here own def) ≡ true
+  use_plain r = subst (λ u. passes is_plain_use u ≡ true) (sym (used_by_target r)) (by_number (alias_target def.kind))
+    where
+      at : (d : Option TypeDef) → passes is_plain_use (option_and_then (use_from here own def) d) ≡ true
+      at None = refl
+      at (Some target) = from_plain target
+
+      by_number : (t : Option ℕ) → passes is_plain_use (option_and_then (λ n. option_and_then (use_from here own def) (type_at r n)) t) ≡ true
+      by_number None = refl
+      by_number (Some n) = at (type_at r n)
+
+pub or_false : (b : Bool) → (b || false) ≡ b
+or_false true = refl
+or_false false = refl
+
+pub or_true : (b : Bool) → (b || true) ≡ true
+or_true true = refl
+or_true false = refl
+
+-- ---- groups
+
+no_docs : (emits : Bool) (docs : List Text) → (length docs == 0) ≡ true → doc_calls emits docs ≡ []
+no_docs true [] h = refl
+no_docs false [] h = refl
+no_docs emits (d ∷ ds) h = let wrong : length (d ∷ ds) ≡ 0 = eqb-true (length (d ∷ ds)) 0 h in absurd cc
+
+-- the first name and others are names and more
+names_append : (names more : List UsedName) → nat_lt 0 (length names) ≡ true → names_calls (names ++ more) ≡ names_calls names ++ more_names_calls more
+names_append [] more h = absurd cc
+names_append (name ∷ names) more h =
+    ap (λ x. used_name_calls name ++ x) (each (names ++ more))
+    ∙ ap (λ x. used_name_calls name ++ x) (flat_map-append (λ n. Str (codes ", ") ∷ used_name_calls n) names more)
+    ∙ sym (append_assoc (used_name_calls name) (more_names_calls names) (more_names_calls more))
+    ∙ ap (λ x. (used_name_calls name ++ x) ++ more_names_calls more) (sym (each names))
+  where
+    each : (ns : List UsedName) → flat_map (λ next. Str (codes ", ") ∷ next) (map used_name_calls ns) ≡ more_names_calls ns
+    each ns = flat_map-map (λ next. Str (codes ", ") ∷ next) used_name_calls ns
+
+module _ (emits : Bool) (path : InterfaceId → PathTree) where
+  abbrev shown : Used → MemberTree
+  shown used = UseMember used.prefix (path used.interface) used.names
+
+  -- a group is what begins it, more names and its end
+  group_calls : (used : Used) (more : List UsedName) → is_plain_use used ≡ true
+      → use_calls emits used.prefix (path used.interface) (used.names ++ more) ≡ new_group_calls path used ++ (more_names_calls more ++ group_end_calls)
+  group_calls used more h =
+      let front = gates_calls used.prefix.gates in
+      let id = external_id_calls used.prefix.external_id in
+      let word : List OutputCall = Keyword (codes "use") ∷ space ∷ [] in
+      let way = path_calls (path used.interface) in
+      let brace : List OutputCall = Str (codes ".{") ∷ [] in
+      let names = names_calls used.names in
+      let rest = more_names_calls more ++ group_end_calls in
+      ap (λ docs. (docs ++ front ++ id) ++ (word ++ (way ++ (brace ++ (names_calls (used.names ++ more) ++ group_end_calls))))) (no_docs emits used.prefix.docs (left_of _ _ h))
+      ∙ ap (λ x. (front ++ id) ++ (word ++ (way ++ (brace ++ x))))
+      (ap (λ x. x ++ group_end_calls) (names_append used.names more (right_of (length used.prefix.docs == 0) _ h)) ∙ append_assoc names (more_names_calls more) group_end_calls)
+      ∙ append_assoc front id (word ++ (way ++ (brace ++ (names ++ rest))))
+      ∙ ap (λ x. front ++ (id ++ (word ++ x))) (sym (append_assoc way brace (names ++ rest)))
+      ∙ ap (λ x. front ++ (id ++ x)) (sym (append_assoc word (way ++ brace) (names ++ rest)))
+      ∙ ap (λ x. front ++ x) (sym (append_assoc id (word ++ (way ++ brace)) (names ++ rest)))
+      ∙ sym (append_assoc front (id ++ (word ++ (way ++ brace))) (names ++ rest))
+      ∙ sym (append_assoc (front ++ (id ++ (word ++ (way ++ brace)))) names rest)
+
+  -- What stands behind the names of a use: more of its group, and other groups.
+  record Grouped (used : Used) (uses : List Used) : Type 0 where
+    more : List UsedName
+    others : List Used
+    groups : grouped (used ∷ uses) ≡ record used { names = used.names ++ more } ∷ others
+    calls : uses_calls path (Some used) uses ≡ more_names_calls more ++ (group_end_calls ++ members_calls emits true (map shown others))
+
+  grouped_calls : (used : Used) (uses : List Used) → list_all is_plain_use uses ≡ true → Grouped used uses
+  grouped_calls used [] h = record {
+    more = [];
+    others = [];
+    groups = ap (λ (names : List UsedName). let all : List Used = record used { names = names } ∷ [] in all) (sym (append-nil used.names));
+    calls = sym (append-nil group_end_calls);
+  }
+  grouped_calls used (next ∷ uses) h = by_same (grouped_calls next uses (right_of (is_plain_use next) _ h)) (same_group used next) refl
+    where
+      by_same : Grouped next uses → (b : Bool) → same_group used next ≡ b → Grouped used (next ∷ uses)
+      by_same rest true e = record {
+        more = next.names ++ rest.more;
+        others = rest.others;
+        groups = ap (grouped_with used) rest.groups ∙ ap (λ b. if b then record used { names = used.names ++ (next.names ++ rest.more) } ∷ rest.others else used ∷ record next { names = next.names ++ rest.more } ∷ rest.others) e;
+        calls =
+            ap (λ b. (if b then more_names_calls next.names else group_end_calls ++ new_group_calls path next) ++ uses_calls path (Some next) uses) e
+            ∙ ap (λ x. more_names_calls next.names ++ x) rest.calls
+            ∙ sym (append_assoc (more_names_calls next.names) (more_names_calls rest.more) (group_end_calls ++ members_calls emits true (map shown rest.others)))
+            ∙ ap (λ x. x ++ (group_end_calls ++ members_calls emits true (map shown rest.others))) (sym (flat_map-append (λ n. Str (codes ", ") ∷ used_name_calls n) next.names rest.more));
+      }
+      by_same rest false e = let group : Used = record next { names = next.names ++ rest.more } in record {
+        more = [];
+        others = group ∷ rest.others;
+        groups = ap (grouped_with used) rest.groups ∙ ap (λ b. if b then record used { names = used.names ++ (next.names ++ rest.more) } ∷ rest.others else used ∷ group ∷ rest.others) e
+            ∙ (ap (λ (names : List UsedName). let all : List Used = record used { names = names } ∷ group ∷ rest.others in all) (sym (append-nil used.names)));
+        calls =
+            ap (λ b. (if b then more_names_calls next.names else group_end_calls ++ new_group_calls path next) ++ uses_calls path (Some next) uses) e
+            ∙ append_assoc group_end_calls (new_group_calls path next) (uses_calls path (Some next) uses)
+            ∙ ap (λ x. group_end_calls ++ x)
+            (ap (λ x. new_group_calls path next ++ x) (rest.calls ∙ sym (append_assoc (more_names_calls rest.more) group_end_calls (members_calls emits true (map shown rest.others))))
+            ∙ sym (append_assoc (new_group_calls path next) (more_names_calls rest.more ++ group_end_calls) (members_calls emits true (map shown rest.others)))
+            ∙ ap (λ x. x ++ members_calls emits true (map shown rest.others)) (sym (group_calls next rest.more (left_of _ _ h))));
+      }
+
+  -- The calls for uses, one after the other, are those of the groups.
+  pub uses_grouped : (printed : Bool) (uses : List Used) → list_all is_plain_use uses ≡ true → uses_calls path None uses ≡ members_calls emits printed (map shown (grouped uses))
+  uses_grouped printed [] h = refl
+  uses_grouped printed (used ∷ uses) h =
+      let g = grouped_calls used uses (right_of (is_plain_use used) _ h) in
+      ap (λ x. new_group_calls path used ++ x) (g.calls ∙ sym (append_assoc (more_names_calls g.more) group_end_calls (members_calls emits true (map shown g.others))))
+      ∙ sym (append_assoc (new_group_calls path used) (more_names_calls g.more ++ group_end_calls) (members_calls emits true (map shown g.others)))
+      ∙ ap (λ x. x ++ members_calls emits true (map shown g.others)) (sym (group_calls used g.more (left_of _ _ h)))
+      ∙ ap (λ gs. members_calls emits printed (map shown gs)) (sym g.groups)
+
+  -- ---- whether there are any
+
+  pub uses_printed : (printed : Bool) (uses : List Used) → list_all is_plain_use uses ≡ true → printed_after printed (map shown (grouped uses)) ≡ (printed || has_items uses)
+  uses_printed printed [] h = sym (or_false printed)
+  uses_printed printed (used ∷ uses) h =
+      let g = grouped_calls used uses (right_of (is_plain_use used) _ h) in
+      ap (λ gs. printed_after printed (map shown gs)) g.groups ∙ sym (or_true printed)
+
+-- the names of a use that can be printed are labels
+pub use_labels : (r : Resolve) (here : PackageId) (u : Use) → is_printable_use r here u ≡ true → (is_label u.own.now ≡ true) × (is_label u.other.now ≡ true)
+use_labels r here u h =
+    let names : (is_label u.own.now && is_label u.other.now) ≡ true =
+    right_of (in_list r.interfaces.items u.interface.0 && is_well_path (shown_path r here u.interface)) _ (right_of (is_stability u.def.now.stability && is_well_gates (shown_gates u.def.now.stability)) _ h) in
+    (left_of _ _ names, right_of (is_label u.own.now) _ names)
+
+-- ---- texts by their characters
+
+pub chars_same : (a b : String Global) → text_eq (text_of a) (text_of b) ≡ text_eq (chars (text_of a)) (chars (text_of b))
+chars_same a b = both_ways _ _ (λ h. same_text (chars (text_of a)) (chars (text_of b)) (ap chars (text_same (text_of a) (text_of b) h))) (λ h. same_text (text_of a) (text_of b) (bytes (text_same (chars (text_of a)) (chars (text_of b)) h)))
+  where
+    bytes : chars (text_of a) ≡ chars (text_of b) → text_of a ≡ text_of b
+    bytes e = sym (encodes-chars (text_of a) (IsUtf8-string_bytes a)) ∙ (ap encodes e ∙ encodes-chars (text_of b) (IsUtf8-string_bytes b))
+
+-- ---- a use behind another
+
+module _ (path : InterfaceId → PathTree) (before : Option Used) (used : Used) where
+  run_is : (b : Option Used) (c : Bool) → before ≡ b → joins b used ≡ c → use_run_calls path before used ≡ (if c then more_names_calls used.names else open_end_calls b ++ new_group_calls path used)
+  run_is b c e j = ap (λ o. use_run_calls path o used) e ∙ ap (λ x. if x then more_names_calls used.names else open_end_calls b ++ new_group_calls path used) j
+
+  pub run_first : before ≡ None → new_group_calls path used ≡ use_run_calls path before used
+  run_first e = sym (run_is None false e refl)
+
+  pub run_joined : (other : Used) → before ≡ Some other → same_group other used ≡ true → more_names_calls used.names ≡ use_run_calls path before used
+  run_joined other e j = sym (run_is (Some other) true e j)
+
+  pub run_next : (other : Used) → before ≡ Some other → same_group other used ≡ false → group_end_calls ++ new_group_calls path used ≡ use_run_calls path before used
+  run_next other e j = sym (run_is (Some other) false e j)
+
+-- ---- one type after the other
+
+pub next_use : (path : InterfaceId → PathTree) (before o : Option Used) (rest : List Used) → uses_calls path before (cons_option o rest) ≡ listed_use_calls path before o ++ uses_calls path (use_after before o) rest
+next_use path before None rest = refl
+next_use path before (Some used) rest = refl
+
+pub next_some : (before o : Option Used) (rest : List Used) → (is_some before || has_items (cons_option o rest)) ≡ (is_some (use_after before o) || has_items rest)
+next_some None None rest = refl
+next_some None (Some used) rest = refl
+next_some (Some other) None rest = refl
+next_some (Some other) (Some used) rest = refl
+
+-- none is plain but those with a name and no documentation
+pub listed_plain : (r : Resolve) (o : TypeOwner) (types : List Listed) → list_all is_plain_use (filter_map (listed_use r o) types) ≡ true
+listed_plain r o [] = refl
+listed_plain r o (t ∷ ts) = cons (listed_use r o t) (one (type_at r t.id.0)) (listed_plain r o ts)
+  where
+    one : (d : Option TypeDef) → passes is_plain_use (option_and_then (used_of r o t.name) d) ≡ true
+    one None = refl
+    one (Some def) = use_plain o t.name def r
+
+    cons : (u : Option Used) → passes is_plain_use u ≡ true → list_all is_plain_use (filter_map (listed_use r o) ts) ≡ true → list_all is_plain_use (cons_option u (filter_map (listed_use r o) ts)) ≡ true
+    cons None h rest = rest
+    cons (Some used) h rest = both (is_plain_use used) _ h rest

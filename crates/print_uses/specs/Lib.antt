@@ -1,0 +1,2 @@
+pub mod UseGroups
+pub mod Printable

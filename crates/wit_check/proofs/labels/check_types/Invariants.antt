@@ -1,8 +1,0 @@
-use Rattle.std.proofs.Common.{◌≡◌, ℕ, ◌<◌, true, Some}
-use Rattle.wit_model.specs.declared.error.EntryList.TheVariants as lists
-use Rattle.wit_model.specs.Valid.{labels}
-use Rattle.wit_model.specs.Valid.{entry_keeps}
-use Rattle.wit_check.proofs.labels.check_types.Given as goal
-
-abbrev pub invariant-loop-number : goal.invariant-loop-number
-invariant-loop-number l = (k : ℕ) → k < l.number → entry_keeps labels l.resolve lists.Types k ≡ Some true

@@ -1,8 +1,0 @@
-use Rattle.std.proofs.Common.{◌≡◌, ℕ, ◌<◌, true, Some}
-use Rattle.wit_model.specs.declared.error.EntryList.TheVariants as lists
-use Rattle.wit_model.specs.Checks.{listings}
-use Rattle.wit_model.specs.Valid.{entry_keeps}
-use Rattle.wit_check.proofs.listings.check_interfaces.Given as goal
-
-abbrev pub invariant-loop-number : goal.invariant-loop-number
-invariant-loop-number l = (k : ℕ) → k < l.number → entry_keeps listings l.resolve lists.Interfaces k ≡ Some true

@@ -1,5 +1,0 @@
-use Rattle.wit_check.proofs.PackageNames.{misnamed_breaks}
-use Rattle.wit_check.proofs.names.check_well_named.Goals as goal
-
-pub returns-in-Some-clause-broken : goal.returns-in-Some-clause-broken
-returns-in-Some-clause-broken c = misnamed_breaks c.args.resolve.now c.in-Some.number c.in-Some.ensures

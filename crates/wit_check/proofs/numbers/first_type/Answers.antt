@@ -1,9 +1,0 @@
-use Rattle.std.proofs.Common.{rules}
-use Rattle.wit_model.specs.Valid.{numbers_in_range}
-use Rattle.wit_check.proofs.Found.{found_types}
-use Rattle.wit_check.proofs.numbers.first_type.Goals as goal
-
-pub returns : goal.returns
-returns c =
-    let rule = numbers_in_range in
-    found_types rule c.args.resolve.now c.deref.result.now c.deref.ensures.value c.first_failing.result (c.first_failing.ensures _ (λ n x b post. search rules))

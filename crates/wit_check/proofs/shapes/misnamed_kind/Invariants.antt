@@ -1,9 +1,0 @@
-use Rattle.std.proofs.Common.{◌≡◌, drop, not, ◌||◌, ◌&&◌, is_some}
-use Rattle.wit_model.specs.Rules.{each_from, is_named_kind, is_named_number, passes}
-use Rattle.wit_model.specs.Uses.{alias_target}
-use Rattle.wit_check.proofs.shapes.misnamed_kind.Given as goal
-
-abbrev pub invariant-loop-number : goal.invariant-loop-number
-invariant-loop-number l =
-    each_from (λ n def. (not (is_named_kind def.kind) || is_some def.name) && passes (is_named_number l.resolve) (alias_target def.kind)) l.number (drop l.number l.resolve.types.items)
-    ≡ each_from (λ n def. (not (is_named_kind def.kind) || is_some def.name) && passes (is_named_number l.resolve) (alias_target def.kind)) 0 l.resolve.types.items

@@ -1,9 +1,0 @@
-use Rattle.std.proofs.Common.{◌≡◌, subst, true}
-use Rattle.wit_model.specs.Names.{is_version}
-use Rattle.wit_model.specs.Rules.{is_stability}
-use Rattle.print_grammar.proofs.ByteTests.{right_of}
-use Rattle.wit_print.proofs.use_group.is_since.Goals as goal
-
-pub same_optional_version-requires-clause-right : goal.same_optional_version-requires-clause-right
-same_optional_version-requires-clause-right c =
-    right_of (is_version c.in-Stable.version) _ (subst (λ s. is_stability s ≡ true) c.in-Stable.is c.requires.other)
