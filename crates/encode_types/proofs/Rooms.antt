@@ -3,7 +3,6 @@ use Rattle.std.proofs.Common.{◌≡◌, refl, sym, subst, ap, ◌∙◌, ℕ, z
 use Rattle.std.specs.Prelude.{flat_map, is_none, option_and_then, String, IsPermutation}
 use Rattle.std.specs.declared.alloc.Global.{Global}
 use Rattle.std.specs.List.{Contains, AllPairs, All}
-use Rattle.std.specs.Option.{option_map_or}
 use Rattle.std.proofs.lemmas.List.Kept.{AllPairs-cons}
 use Rattle.std.proofs.lemmas.List.Sorted.{IsPermutation-sym, Contains-permutation, length_permutation}
 use Rattle.std.proofs.lemmas.List.Elements.{Contains-append_left, Contains-append_right, Contains-append_cases, Contains-get_or}
@@ -20,7 +19,6 @@ use Rattle.wit_model.specs.declared.model.«Type».{«Type» as ValueType}
 use Rattle.wit_model.specs.declared.model.«Type».TheVariants as ty
 use Rattle.encode_types.specs.declared.maps.TypeEncodingMaps.{TypeEncodingMaps}
 use Rattle.encode_types.specs.Codes.{lists_of}
-use Rattle.encode_types.specs.Kinds.{has_definition}
 use Rattle.encode_types.specs.Plan.{foreign_owner, Reaches, itself, through, IsOrderOf, MetFrom}
 use Rattle.encode_types.specs.Maps.{same_kind, IsKnown, HasKind, LacksKind, LearnsOnly, MapsGrow, by_kind}
 use Rattle.encode_types.specs.MetKinds.{ReachedFrom}

@@ -1,5 +1,5 @@
 -- What an encoder holds.
-use Rattle.std.specs.Prelude.{ℕ, ◌≡◌, ◌≤◌, ◌+◌, Option, Some}
+use Rattle.std.specs.Prelude.{ℕ, ◌≡◌, ◌≤◌, ◌+◌, Bool, cond, Option, Some}
 use Rattle.wit_model.specs.Tree.{Tree, named}
 use Rattle.wit_model.specs.Meaning.{Signature}
 use Rattle.wit_model.specs.Lookup.{type_at}
@@ -78,6 +78,10 @@ Agrees r v = MapsAgree r v.maps v.stands
 -- at most so much more is held
 abbrev pub HoldsMore : ℕ → View → View → Type 0
 HoldsMore n v v' = v'.held ≤ v.held + n
+
+-- one more is held at most where this is so, and else nothing more
+abbrev pub HoldsIf : Bool → View → View → Type 0
+HoldsIf b v v' = HoldsMore (cond b 1 0) v v'
 
 -- at most so much more is held, and what has been learnt
 abbrev pub HoldsLearnt : Resolve → ℕ → View → View → Type 0

@@ -5,9 +5,9 @@
 //! parts, is defined only where the maps lack it, and then it is in the maps. What a function is named after it defines at each call.
 //!
 //! `Error::Size` comes only from a call of the encoder, for what has no room in the encoder that is left: the definition, the name or the
-//! import of a type that is met from those asked for, or what the function is named after. By then the encoder holds less more than what these
-//! take that weren't known: two for a type that is defined under its name, one for each kind of unnamed types, one for each other type, and one
-//! for what the function is named after. Every other refusal is `Error::Memory`.
+//! import of a type that is met from those asked for, or what the function is named after. By then the encoder holds what it held, and less
+//! than what these take and wasn't known: two for a type that is defined under its name, one for each kind of unnamed types, one for each other
+//! type, and one for what the function is named after. Every other refusal is `Error::Memory`.
 
 ghost use Rattle.std.specs.Prelude.{◌≡◌, ◌∷◌, [], map, option_map, option_to_list, option_copied, length, ◌<◌, IfOk, OnOk, IfSome, Ok, Err, Some, None, is_some, is_none, true, IfErr};
 ghost use Rattle.std.specs.List.{AllZip};
@@ -26,7 +26,7 @@ ghost use Rattle.encode_types.specs.Fits.{CanEncode, CanImport, is_foreign};
 ghost use Rattle.encode_types.specs.Formed.{IsFormed};
 ghost use Rattle.encode_types.specs.Counts.{one_type_more};
 ghost use Rattle.encode_types.specs.Room.{value_type, import_of};
-ghost use Rattle.encode_types.specs.View.{Agrees, Grows, HoldsMore, HoldsLearnt, Refuses, WritesLearnt};
+ghost use Rattle.encode_types.specs.View.{Agrees, Grows, HoldsMore, HoldsIf, HoldsLearnt, Refuses, WritesLearnt};
 ghost use Rattle.encode_types.specs.Leaves.{Leaves, LearnsFrom, CountsTypes, CanDefine, DefinesKind, DefinesValue, DefinesIf, LacksRoom};
 
 use crate::define::{define_parts, define_shape};
@@ -325,7 +325,7 @@ pub fn encode_unit_future<'a, E: ValtypeEncoder<'a>>(
     ensures rest { (E.view enc.new).maps ≡ record (E.view enc.old).maps { unit_future = (E.view enc.new).maps.unit_future } }
     ensures leaves { Leaves (E.view enc.old).scope.packages (E.view enc.old) (E.view enc.new) }
     ensures counts { IfOk result (DefinesIf (is_none (E.view enc.old).maps.unit_future) (E.view enc.old) (E.view enc.new)) }
-    ensures held { HoldsMore 1 (E.view enc.old) (E.view enc.new) }
+    ensures held { HoldsIf (is_none (E.view enc.old).maps.unit_future) (E.view enc.old) (E.view enc.new) }
     ensures size { result ≡ Err Size → Refuses (E.view enc.old) (E.view enc.new) (value_type (future_tree None)) }
     ensures refuses { IfErr result IsMemoryOrSize }
 {
@@ -369,7 +369,7 @@ pub fn encode_unit_stream<'a, E: ValtypeEncoder<'a>>(
     ensures rest { (E.view enc.new).maps ≡ record (E.view enc.old).maps { unit_stream = (E.view enc.new).maps.unit_stream } }
     ensures leaves { Leaves (E.view enc.old).scope.packages (E.view enc.old) (E.view enc.new) }
     ensures counts { IfOk result (DefinesIf (is_none (E.view enc.old).maps.unit_stream) (E.view enc.old) (E.view enc.new)) }
-    ensures held { HoldsMore 1 (E.view enc.old) (E.view enc.new) }
+    ensures held { HoldsIf (is_none (E.view enc.old).maps.unit_stream) (E.view enc.old) (E.view enc.new) }
     ensures size { result ≡ Err Size → Refuses (E.view enc.old) (E.view enc.new) (value_type (stream_tree None)) }
     ensures refuses { IfErr result IsMemoryOrSize }
 {

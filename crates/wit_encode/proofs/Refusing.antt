@@ -242,7 +242,7 @@ pub no-room : {r r' : Resolve} {own own' : Option InterfaceId} {ts : List ValueT
     → LacksFunctions r own' ts fs m before (held_in outer inner) (lacks_room_in r' outer inner) → HasNoRoom r own ts fs ⊎ Q
 no-room {r} {r'} {own} {own'} {ts} {fs} {m} {before} {Q} outer inner e none fresh packages around p' =
     let p : LacksFunctions r own ts fs m before (held_in outer inner) (lacks_room_in r outer inner) = subst (λ (o : Option InterfaceId). LacksFunctions r o ts fs m before (held_in outer inner) (lacks_room_in r outer inner)) e
-        (subst (λ (x : Resolve). LacksFunctions r own' ts fs m before (held_in outer inner) (lacks_room_in x outer inner)) packages p') in
+    (subst (λ (x : Resolve). LacksFunctions r own' ts fs m before (held_in outer inner) (lacks_room_in x outer inner)) packages p') in
     let few : length p.keys ≤ distinct_count are_same (map (λ f. key_of f.1) fs) = keys-few p.keys (map (λ f. key_of f.1) fs) p.different (λ key among. elim (p.from key among) [ inl known ↦ absurd (knows-none m key fresh known) | inr there ↦ there ]) in
     elim (parted r own p.room.numbers (flat_map (function_requests r) fs) outer inner p.room.lacks) [
       | inl h ↦ inl (record {

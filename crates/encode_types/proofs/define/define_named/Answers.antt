@@ -1,5 +1,5 @@
 use Rattle.comp_bytes.specs.RawOf.{raw_name}
-use Rattle.std.proofs.Common.{◌≡◌, ◌∙◌, ap, sym, subst, false, Some, inl, inr, arith, rules}
+use Rattle.std.proofs.Common.{◌≡◌, ◌∙◌, ap, sym, subst, false, Some, inr, arith, rules}
 use Rattle.encode_types.specs.declared.maps.TypeEncodingMaps.{TypeEncodingMaps}
 use Rattle.encode_types.specs.Maps.{LearnsNumber}
 use Rattle.encode_types.specs.Scope.{Scope}

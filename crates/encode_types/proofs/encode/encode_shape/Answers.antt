@@ -6,7 +6,6 @@ use Rattle.wit_model.specs.declared.model.Resolve.{Resolve}
 use Rattle.wit_model.specs.declared.model.TypeDefKind.{TypeDefKind}
 use Rattle.comp_bytes.specs.Refusal.{IsMemoryOrSize}
 use Rattle.comp_bytes.specs.declared.forms.ComponentValType.{ComponentValType}
-use Rattle.encode_types.specs.declared.maps.TypeEncodingMaps.{TypeEncodingMaps}
 use Rattle.encode_types.specs.Kinds.{parts_of, kind_of, kind_tree}
 use Rattle.encode_types.specs.Scope.{Scope}
 use Rattle.encode_types.specs.Room.{value_type}

@@ -42,9 +42,9 @@ pub returns-in_err-slot-clause-size : goal.returns-in_err-slot-clause-size
 returns-in_err-slot-clause-size c = λ h.
     let refused : ◌≡◌ {A = Result ℕ Error} c.import_type_outside.result (Err errors.Size) = search rules in
     record {
-  lacks = name-outside c.args.self.now.resolve.now c.import_type_outside.new.outer (raw_name c.args.name) (refs.TypeEq c.args.index) (c.import_type_outside.ensures.size refused);
-  held = beside-kept c.args.self.now.resolve.now (world_around c.args.self.now) c.import_type_outside.new.outer (on-size c.import_type_outside.result _ c.import_type_outside.ensures.err refused);
-}
+      lacks = name-outside c.args.self.now.resolve.now c.import_type_outside.new.outer (raw_name c.args.name) (refs.TypeEq c.args.index) (c.import_type_outside.ensures.size refused);
+      held = beside-kept c.args.self.now.resolve.now (world_around c.args.self.now) c.import_type_outside.new.outer (on-size c.import_type_outside.result _ c.import_type_outside.ensures.err refused);
+    }
 
 pub returns-clause-around_stays : goal.returns-clause-around_stays
 returns-clause-around_stays c = (calls (goal.at.returns-clause-around_stays c).After-import_type_outside (Ok c.in_ok-slot.slot) c.in_ok-slot.ensures.ok tt).around_stays
