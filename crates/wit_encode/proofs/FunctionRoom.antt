@@ -1,6 +1,5 @@
 -- Which functions of an interface have no room, call after call.
 use Rattle.std.proofs.Common.{◌≡◌, refl, sym, subst, ap, ◌∙◌, ℕ, ◌+◌, ◌≤◌, ◌⊎◌, inl, inr, Bool, true, false, cond, ◌||◌, List, [], ◌∷◌, ◌++◌, map, length, length-append, Option, arith, Vec}
-use Rattle.std.specs.Prelude.{flat_map}
 use Rattle.std.specs.declared.alloc.Global.{Global}
 use Rattle.std.specs.Cmp.{IsEquivalence}
 use Rattle.std.specs.List.{Contains, IsDistinct, list_any}
@@ -18,7 +17,6 @@ use Rattle.wit_model.specs.declared.model.InterfaceId.{InterfaceId}
 use Rattle.wit_model.specs.declared.model.«Type».{«Type» as ValueType}
 use Rattle.wit_model.proofs.Elements.{contains-flat, contains-map, one-contained}
 use Rattle.encode_types.specs.declared.maps.TypeEncodingMaps.{TypeEncodingMaps}
-use Rattle.encode_types.specs.Codes.{lists_of}
 use Rattle.encode_types.specs.Maps.{IsOnce, LearnsOnly, MapsGrow}
 use Rattle.encode_types.specs.MetKinds.{ReachedFrom}
 use Rattle.encode_types.specs.Distinct.{Key, key_of, are_same, KnowsKey}
@@ -26,7 +24,7 @@ use Rattle.encode_types.specs.Room.{Request, Refusals, HoldsFor, FindsNoRoom, fu
 use Rattle.encode_types.proofs.Lists.{none-in}
 use Rattle.encode_types.proofs.Rooms.{lacks-request, room-more, room-after}
 use Rattle.wit_encode.specs.FunctionRoom.{LacksFunctions}
-use Rattle.wit_encode.proofs.HeldKeys.{any-at, any-found, same_equiv, Keyed, keyed}
+use Rattle.wit_encode.proofs.HeldKeys.{any-at, any-found, same_equiv, keyed}
 use Rattle.wit_encode.proofs.Mapped.{from-map}
 
 -- ---- how many keys

@@ -1,5 +1,5 @@
 -- What has no room in an encoder of interfaces, where a call has refused it.
-use Rattle.std.proofs.Common.{◌≡◌, refl, sym, subst, ap, ◌∙◌, ◌&&◌, ℕ, ◌+◌, ◌*◌, ◌<◌, ◌≤◌, ◌^◌, ◌⊎◌, inl, inr, suc, Bool, true, false, nat_lt, arith, List, [], ◌∷◌, ◌++◌, map, length, length-append, Result, Ok, Err, OnOk, OnErr, IfErr, Option, Some, None, String}
+use Rattle.std.proofs.Common.{◌≡◌, refl, sym, subst, ap, ◌∙◌, ◌&&◌, ℕ, ◌+◌, ◌<◌, ◌≤◌, ◌^◌, ◌⊎◌, inl, inr, suc, Bool, true, false, nat_lt, arith, List, [], ◌∷◌, ◌++◌, map, length, length-append, Result, Ok, Err, OnOk, OnErr, IfErr, Option, Some, None, String}
 use Rattle.std.specs.List.{list_all, AllZip, flat_map}
 use Rattle.std.specs.Set.{distinct_count}
 use Rattle.std.specs.Borrow.{Bor}

@@ -14,12 +14,11 @@ use Rattle.wit_encode.specs.Instance.{own_of}
 use Rattle.wit_encode.proofs.Continuing.{Showed, function-showed, after-types}
 use Rattle.wit_encode.proofs.Counting.{adds-function, function-counted, function-names}
 use Rattle.wit_encode.proofs.FunctionExports.{function-stays}
-use Rattle.std.proofs.Common.{rules, arith, ◌∷◌, []}
-use Rattle.std.proofs.lemmas.List.Elements.{Contains-append_left, Contains-append_right}
+use Rattle.std.proofs.Common.{rules, arith}
 use Rattle.wit_encode.specs.Encoders.{encoder_view}
 use Rattle.encode_types.proofs.Rooms.{holds-same, only-reached}
 use Rattle.wit_encode.proofs.FunctionRoom.{lacks-type, lacks-name}
-use Rattle.encode_types.specs.Room.{Request, export_name, function_type, function_name}
+use Rattle.encode_types.specs.Room.{export_name, function_name}
 use Rattle.wit_encode.proofs.Refusing.{function-named}
 use Rattle.wit_encode.proofs.interface.InterfaceEncoderOf+TypeEncodingMaps.encode_function.Goals as goal
 use Rattle.wit_encode.proofs.interface.InterfaceEncoderOf+TypeEncodingMaps.encode_function.Goals.{After-export_function}
