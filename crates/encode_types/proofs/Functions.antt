@@ -1,5 +1,5 @@
 -- Types of functions by their keys.
-use Rattle.std.proofs.Common.{◌≡◌, refl, sym, subst, ap, ℕ, ◌+◌, List, [], ◌∷◌, ◌++◌, inl, inr, map, Result, Ok, Err, IfOk, option_map, length, arith, Vec}
+use Rattle.std.proofs.Common.{◌≡◌, refl, sym, subst, ap, ℕ, ◌+◌, List, [], ◌∷◌, ◌++◌, inl, inr, map, Result, Ok, Err, IfOk, option_map, length, arith, Vec, Bool, Option}
 use Rattle.std.specs.Prelude.{IsPermutation}
 use Rattle.std.specs.Borrow.{Bor}
 use Rattle.std.specs.declared.alloc.Global.{Global}
@@ -19,7 +19,10 @@ use Rattle.encode_types.specs.Maps.{MapsAgree, NamesGrow, HasKey, LacksKey, Lear
 use Rattle.encode_types.specs.Slots.{Pairs, function}
 use Rattle.encode_types.specs.Scope.{Scope}
 use Rattle.encode_types.specs.Fits.{CanEncode}
-use Rattle.encode_types.specs.Codes.{names_of, lists_of, IsKeyList}
+use Rattle.encode_types.specs.Codes.{names_of, lists_of, IsListed, IsKeyList}
+use Rattle.encode_types.specs.Distinct.{KnowsKey, key_of}
+use Rattle.wit_model.specs.Lookup.{is_async}
+use Rattle.wit_model.specs.declared.model.Param.{Param}
 use Rattle.encode_types.specs.Counts.{SameKeys, Definitions, one_function_more, AddsTypes, AddsFunction}
 use Rattle.encode_types.proofs.Defining.{shows-none, shows-trans, lists-longer}
 use Rattle.encode_types.proofs.Marking.{slots-none, slots-then}
@@ -38,6 +41,16 @@ key-signature r key f k = λ i. record {
 -- what a key that is known has as its slot
 pub key-stands : (r : Resolve) (m : TypeEncodingMaps) (S : Pairs) (key : FunctionKey) (f : Function) (i : ℕ) → MapsAgree r m S → IsKeyOf key f → HasKey m key i → S i (function (signature_of r f))
 key-stands r m S key f i a k h = subst (λ (z : Signature). S i (function z)) (key-signature r key f k) (a.says (by_key key) i h)
+
+-- maps that lack a key of a function don't know the function's
+pub key-new : (m : TypeEncodingMaps) (key : FunctionKey) (f : Function) → IsKeyOf key f → LacksKey m key → KnowsKey m (key_of f) → ⊥
+key-new m key f is lacks (xs, i, l, c) = lacks i (
+  xs,
+  subst (λ (b : Bool). IsListed (names_of m.names) b key.params.0.now key.result.now xs) (sym is.async)
+      (subst (λ (ps : List Param). IsListed (names_of m.names) (is_async f.kind) ps key.result.now xs) (sym is.params)
+      (subst (λ (t : Option ValueType). IsListed (names_of m.names) (is_async f.kind) f.params.items t xs) (sym is.result_) l)),
+  c,
+)
 
 -- ---- what is asked of parameters and results
 

@@ -1,5 +1,5 @@
 -- What a call leaves, also where it is refused, and what it has learnt and defined.
-use Rattle.std.specs.Prelude.{ℕ, ◌≡◌, Bool, List, [], ◌∷◌, Result, Err, IfOk, OnOk, IfErr}
+use Rattle.std.specs.Prelude.{ℕ, ◌≡◌, Bool, List, [], ◌∷◌, length, Result, Err, IfOk, OnOk, IfErr}
 use Rattle.comp_bytes.specs.Refusal.{IsMemoryOrSize}
 use Rattle.comp_bytes.specs.declared.forms.ComponentValType.{ComponentValType}
 use Rattle.comp_bytes.specs.declared.forms.ComponentValType.TheVariants as value
@@ -18,7 +18,7 @@ use Rattle.encode_types.specs.Counts.{Definitions, one_type_more, type_more_if, 
 use Rattle.encode_types.specs.Fits.{CanEncode}
 use Rattle.encode_types.specs.Formed.{IsFormed}
 use Rattle.encode_types.specs.Slots.{StandsFor}
-use Rattle.encode_types.specs.Distinct.{AddsFunctions}
+use Rattle.encode_types.specs.Distinct.{KnowsKey, key_of, AddsFunctions}
 use Rattle.encode_types.specs.Kinds.{parts_of, kind_tree}
 use Rattle.encode_types.specs.Room.{Request, value_type, function_type, FindsNoRoom}
 use Rattle.encode_types.specs.View.{View, Agrees, Grows, HoldsLearnt}
@@ -38,16 +38,18 @@ LearnsFrom r ts v v' = LearnsMet r v.scope.own_interface ts v.maps v'.maps
 abbrev pub LearnsParts : Resolve → View → View → Type 0
 LearnsParts r v v' = Learns r v.scope.own_interface v.maps v'.maps
 
--- a part of a type that is met from these, or one of these requests, has no room, and not much more is held than was
+-- a part of a type that is met from these, or one of these requests, has no room, and no more is held than was and what they take
 abbrev pub LacksRoom : Resolve → List ValueType → List Request → View → View → Type 0
-LacksRoom r ts requests v v' = FindsNoRoom r v.scope.own_interface ts requests v.maps v.held v'.held v'.lacks_room
+LacksRoom r ts requests v v' = FindsNoRoom r v.scope.own_interface ts requests (length requests) v.maps v.held v'.held v'.lacks_room
 
--- the same of the parts of a kind and its definition, and of the types of a function and its own
+-- the same of the parts of a kind and its definition
 abbrev pub KindLacksRoom : Resolve → TypeDefKind → View → View → Type 0
 KindLacksRoom r kind v v' = LacksRoom r (parts_of kind) (value_type (kind_tree r kind) ∷ []) v v'
 
-abbrev pub FunctionLacksRoom : Resolve → Function → View → View → Type 0
-FunctionLacksRoom r f v v' = LacksRoom r (function_types f) (function_type (signature_of r f) ∷ []) v v'
+-- the same of the types of a function and its own, where the maps lacked its key
+pub record FunctionLacksRoom (r : Resolve) (f : Function) (v v' : View) : Type 0 where
+  pub new_key : KnowsKey v.maps (key_of f) → ⊥
+  pub room : LacksRoom r (function_types f) (function_type (signature_of r f) ∷ []) v v'
 
 -- what has been defined is what the maps have learnt, and no type of a function is among it
 abbrev pub CountsTypes : Resolve → View → View → Type 0
@@ -94,6 +96,6 @@ pub record DefinesKind (r : Resolve) (kind : TypeDefKind) (v v' : View) (result 
   pub learns : OnOk result (LearnsFrom r (parts_of kind) v v')
   pub leaves : Leaves r v v'
   pub counts : IfOk result (CountsOneMore r v v')
-  pub held : OnOk result (HoldsLearnt 1 v v')
+  pub held : OnOk result (HoldsLearnt r 1 v v')
   pub size : result ≡ Err Size → KindLacksRoom r kind v v'
   pub refuses : IfErr result IsMemoryOrSize

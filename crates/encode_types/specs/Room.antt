@@ -1,16 +1,19 @@
 -- What an encoder is asked to add, and what of it has no room: where every count and every length is a number of 32 bits
 -- (Component Model Binary.md, "vec" and the numbers of "Core WebAssembly").
-use Rattle.std.specs.Prelude.{ℕ, ◌≡◌, ◌≤◌, ◌+◌, ◌*◌, ◌⊎◌, Bool, true, false, nat_eq, Some, None, Option, String, List, [], ◌∷◌, ◌++◌, map, length, IsPermutation}
+use Rattle.std.specs.Prelude.{ℕ, ◌≡◌, ◌≤◌, ◌<◌, ◌+◌, ◌⊎◌, ◌&&◌, ◌||◌, Bool, true, false, cond, nat_eq, Some, None, Option, String, option_and_then, is_none, List, [], ◌∷◌, map, flat_map, length, sum_by}
 use Rattle.std.specs.List.{Contains, AllPairs}
 use Rattle.std.specs.Option.{option_map_or}
+use Rattle.std.specs.Set.{distinct_count}
 use Rattle.std.specs.declared.alloc.Global.{Global}
 use Rattle.wit_model.specs.Text.{Text, text_of, optional_text}
 use Rattle.wit_model.specs.Tree.{Tree, Form, child_list, primitive, named, node, record_of, variant_of, tuple_of, flags_of, enum_of}
 use Rattle.wit_model.specs.Meaning.{Signature}
 use Rattle.wit_model.specs.Meant.{type_meaning, signature_of}
 use Rattle.wit_model.specs.Lookup.{type_at}
+use Rattle.wit_model.specs.Rules.{is_named_kind}
 use Rattle.wit_model.specs.declared.model.Resolve.{Resolve}
 use Rattle.wit_model.specs.declared.model.TypeDef.{TypeDef}
+use Rattle.wit_model.specs.declared.model.TypeDefKind.{TypeDefKind}
 use Rattle.wit_model.specs.declared.model.Function.{Function}
 use Rattle.wit_model.specs.declared.model.InterfaceId.{InterfaceId}
 use Rattle.wit_model.specs.declared.model.«Type».{«Type» as ValueType}
@@ -18,9 +21,10 @@ use Rattle.comp_bytes.specs.Raw.{ExternName}
 use Rattle.comp_bytes.specs.Fits.{fits_length, fits_names, fits_given, fits_name}
 use Rattle.encode_types.specs.declared.maps.TypeEncodingMaps.{TypeEncodingMaps}
 use Rattle.encode_types.specs.Kinds.{kind_tree}
-use Rattle.encode_types.specs.Maps.{IsKnown}
+use Rattle.encode_types.specs.Maps.{same_kind, IsKnown, HasKind, LacksKind}
 use Rattle.encode_types.specs.Plan.{foreign_owner}
 use Rattle.encode_types.specs.MetKinds.{ReachedFrom}
+use Rattle.encode_types.specs.Distinct.{has_own_definition, key_of, are_same}
 use Rattle.encode_types.specs.Scope.{exported_name}
 
 -- what an encoder is asked to add: a definition of this tree, the type of a function of this signature, an export under this name,
@@ -82,11 +86,57 @@ function_name f = record { text = f.0; implements = None; version_suffix = None;
 abbrev pub function_requests : Resolve → Text × Function → List Request
 function_requests r f = function_type (signature_of r f.1) ∷ export_name (function_name f) ∷ []
 
--- what has been learnt, and what is held: at most two more for each type number that is new in the maps, and so many more
-pub record HoldsFor (m m' : TypeEncodingMaps) (before after more : ℕ) : Type 0 where
-  pub learnt : List (ℕ × ℕ)
-  pub numbers : IsPermutation (m.id_to_index.entries ++ learnt) m'.id_to_index.entries
-  pub held : after ≤ before + (2 * length learnt + more)
+-- ---- how many declarations they take
+
+-- A type number takes two, a definition and its export, where it has a definition of its own under its name. Else it takes one: an alias, an
+-- export, or the definition of its kind.
+abbrev pub number_count : Resolve → Option InterfaceId → ℕ → ℕ
+number_count r own n = cond (has_own_definition r own n) 2 1
+
+abbrev pub numbers_count : Resolve → Option InterfaceId → List ℕ → ℕ
+numbers_count r own numbers = sum_by (number_count r own) numbers
+
+-- functions take a type for each key, and an export each
+abbrev pub functions_count : List (Text × Function) → ℕ
+functions_count fs = distinct_count are_same (map (λ f. key_of f.1) fs) + length fs
+
+-- the kind of an unnamed type that is of no other interface
+abbrev pub unnamed_kind : Resolve → Option InterfaceId → ℕ → Option TypeDefKind
+unnamed_kind r own n = option_and_then (λ def. cond (is_none def.name && is_none (foreign_owner own def.owner)) (Some def.kind) None) (type_at r n)
+
+abbrev pub are_one_kind : Option TypeDefKind → Option TypeDefKind → Bool
+are_one_kind (Some a) (Some b) = same_kind a b
+are_one_kind _ _ = false
+
+-- whether two type numbers have the same declarations: they are one, or unnamed types of one kind
+abbrev pub share_declarations : Resolve → Option InterfaceId → ℕ → ℕ → Bool
+share_declarations r own x y = nat_eq x y || are_one_kind (unnamed_kind r own x) (unnamed_kind r own y)
+
+abbrev pub AreApart : Resolve → Option InterfaceId → List ℕ → Type 0
+AreApart r own numbers = AllPairs (λ x y. share_declarations r own x y ≡ false) numbers
+
+-- an unnamed kind that the maps lack
+pub record IsNewKind (m : TypeEncodingMaps) (kind : TypeDefKind) : Type 0 where
+  pub unnamed : is_named_kind kind ≡ false
+  pub lacks : LacksKind m kind
+
+-- Type numbers that the maps don't know, and of the unnamed ones they don't know the kinds. No two have the same declarations.
+pub record AreNew (r : Resolve) (own : Option InterfaceId) (m : TypeEncodingMaps) (numbers : List ℕ) : Type 0 where
+  pub apart : AreApart r own numbers
+  pub unknown : (n : ℕ) → Contains numbers n → IsKnown m n → ⊥
+  pub kinds : (n : ℕ) (kind : TypeDefKind) → Contains numbers n → unnamed_kind r own n ≡ Some kind → IsNewKind m kind
+
+-- What has been declared, and what is held: what some type numbers take that were new, one for each key of a function that has been learnt, and
+-- so many more. The numbers are known now, and so are the kinds of the unnamed ones.
+pub record HoldsFor (r : Resolve) (own : Option InterfaceId) (m m' : TypeEncodingMaps) (before after more : ℕ) : Type 0 where
+  pub numbers : List ℕ
+  pub new : AreNew r own m numbers
+  pub known : (n : ℕ) → Contains numbers n → IsKnown m' n
+  pub kinds : (n : ℕ) (kind : TypeDefKind) → Contains numbers n → unnamed_kind r own n ≡ Some kind → (i : ℕ) × HasKind m' kind i
+  pub few : length m.id_to_index.entries + length numbers ≤ length m'.id_to_index.entries
+  pub held : after + length m.func_type_map.entries ≤ before + (numbers_count r own numbers + (length m'.func_type_map.entries + more))
+
+-- ---- what of them has none
 
 -- a part of a type has no room: its definition or its name, or, where it is of another interface, what stands for it
 pub data LacksPart (r : Resolve) (own : Option InterfaceId) (N : Refusals) (number : ℕ) (def : TypeDef) : Type 0 where
@@ -99,20 +149,20 @@ pub data LacksOne (r : Resolve) (own : Option InterfaceId) (N : Refusals) (numbe
   a_type : (number : ℕ) (def : TypeDef) → Contains numbers number → type_at r number ≡ Some def → LacksPart r own N number def → LacksOne r own N numbers requests
   a_request : (request : Request) → Contains requests request → N request → LacksOne r own N numbers requests
 
--- One thing that was asked for has no room: a part of a type that is met from these, or one of these requests. What is held is at most
--- what was held, two more for each type number that was met and wasn't known, each once, and one for each request.
-pub record FindsNoRoom (r : Resolve) (own : Option InterfaceId) (types : List ValueType) (requests : List Request) (m : TypeEncodingMaps) (before after : ℕ) (N : Refusals) : Type 0 where
+-- One thing that was asked for has no room: a part of a type that is met from these, or one of these requests. What is held is less than what was
+-- held, what some type numbers take that are met and were new, and so many more.
+pub record FindsNoRoom (r : Resolve) (own : Option InterfaceId) (types : List ValueType) (requests : List Request) (more : ℕ) (m : TypeEncodingMaps) (before after : ℕ) (N : Refusals) : Type 0 where
   pub numbers : List ℕ
-  pub different : AllPairs (λ x y. nat_eq x y ≡ false) numbers
+  pub new : AreNew r own m numbers
   pub met : (n : ℕ) → Contains numbers n → ReachedFrom r own types n
-  pub unknown : (n : ℕ) → Contains numbers n → IsKnown m n → ⊥
-  pub held : after ≤ before + (2 * length numbers + length requests)
+  pub held : after < before + (numbers_count r own numbers + more)
   pub lacks : LacksOne r own N numbers requests
 
 -- An interface has no room in an instance type: a part of a type that is met from its types and functions, or the type or the name of a
--- function, doesn't fit. Or there are too many of them: two declarations for each type number that is met, each once, and two for each function.
-pub record HasNoRoom (r : Resolve) (own : Option InterfaceId) (types : List ValueType) (requests : List Request) : Type 0 where
+-- function, doesn't fit. Or there are too many declarations, that is more than the largest number of 32 bits: what type numbers take that are
+-- met, of which no two have the same declarations, and what the functions take.
+pub record HasNoRoom (r : Resolve) (own : Option InterfaceId) (types : List ValueType) (functions : List (Text × Function)) : Type 0 where
   pub numbers : List ℕ
-  pub different : AllPairs (λ x y. nat_eq x y ≡ false) numbers
+  pub apart : AreApart r own numbers
   pub met : (n : ℕ) → Contains numbers n → ReachedFrom r own types n
-  pub lacks : LacksOne r own (IsUnfit r) numbers requests ⊎ (limit ≤ 2 * length numbers + length requests)
+  pub lacks : LacksOne r own (IsUnfit r) numbers (flat_map (function_requests r) functions) ⊎ (limit < numbers_count r own numbers + functions_count functions)

@@ -1,5 +1,5 @@
 -- What an encoder holds.
-use Rattle.std.specs.Prelude.{ℕ, ◌≡◌, ◌≤◌, ◌+◌, Option, Some}
+use Rattle.std.specs.Prelude.{ℕ, ◌≡◌, ◌≤◌, ◌+◌, Bool, cond, Option, Some}
 use Rattle.wit_model.specs.Tree.{Tree, named}
 use Rattle.wit_model.specs.Meaning.{Signature}
 use Rattle.wit_model.specs.Lookup.{type_at}
@@ -14,7 +14,7 @@ use Rattle.encode_types.specs.Scope.{Scope}
 use Rattle.encode_types.specs.Known.{Around, GrowsAround}
 use Rattle.encode_types.specs.Maps.{MapsAgree}
 use Rattle.encode_types.specs.Counts.{Definitions, ExportsOne}
-use Rattle.encode_types.specs.Room.{Refusals, HoldsFor, value_type, function_type}
+use Rattle.encode_types.specs.Room.{Request, Refusals, HoldsFor, value_type, function_type}
 use Rattle.encode_types.specs.Extents.{tree_extent, signature_extent, import_extent, known_extent}
 
 pub record View : Type 1 where
@@ -29,7 +29,7 @@ pub record View : Type 1 where
   pub definitions : Definitions
   -- which index stands for what
   pub maps : TypeEncodingMaps
-  -- how much it holds: a call that defines, exports or imports adds one at most
+  -- how much it holds: a call that defines, exports or imports adds one at most, and one that finds no room adds nothing
   pub held : ℕ
   -- how much it has written: a call that defines, exports or imports adds no more than the extent of what it is asked to add
   pub extent : ℕ
@@ -59,12 +59,17 @@ Exports v v' i t slot = NameAdded v.stands v'.stands v.slot_count v'.slot_count 
 abbrev pub ExportsName : View → View → Option ℕ → ExternName → Type 0
 ExportsName v v' slot name = ExportsOne v.scope v.definitions v'.definitions slot name
 
--- a definition, or the type of a function, as it was read before the call, has no room after it
+-- this has no room after the call, and nothing more is held than was
+pub record Refuses (v v' : View) (request : Request) : Type 0 where
+  pub lacks : v'.lacks_room request
+  pub held : v'.held ≤ v.held
+
+-- so it is of a definition, or the type of a function, as it was read before the call
 abbrev pub LacksDefinition : View → View → ComponentDefinedType → Type 0
-LacksDefinition v v' def = (t : Tree) → Follows v.stands def t → v'.lacks_room (value_type t)
+LacksDefinition v v' def = (t : Tree) → Follows v.stands def t → Refuses v v' (value_type t)
 
 abbrev pub LacksFunctionType : View → View → ComponentFuncType → Type 0
-LacksFunctionType v v' def = (s : Signature) → FollowsFunction v.stands def s → v'.lacks_room (function_type s)
+LacksFunctionType v v' def = (s : Signature) → FollowsFunction v.stands def s → Refuses v v' (function_type s)
 
 -- the maps agree with the slots
 abbrev pub Agrees : Resolve → View → Type 0
@@ -74,9 +79,13 @@ Agrees r v = MapsAgree r v.maps v.stands
 abbrev pub HoldsMore : ℕ → View → View → Type 0
 HoldsMore n v v' = v'.held ≤ v.held + n
 
--- at most so much more is held, and two for each type number that has been learnt
-abbrev pub HoldsLearnt : ℕ → View → View → Type 0
-HoldsLearnt n v v' = HoldsFor v.maps v'.maps v.held v'.held n
+-- one more is held at most where this is so, and else nothing more
+abbrev pub HoldsIf : Bool → View → View → Type 0
+HoldsIf b v v' = HoldsMore (cond b 1 0) v v'
+
+-- at most so much more is held, and what has been learnt
+abbrev pub HoldsLearnt : Resolve → ℕ → View → View → Type 0
+HoldsLearnt r n v v' = HoldsFor r v.scope.own_interface v.maps v'.maps v.held v'.held n
 
 -- at most so much more has been written
 pub record Writes (n : ℕ) (v v' : View) : Type 0 where

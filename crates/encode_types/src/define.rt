@@ -14,11 +14,11 @@ ghost use Rattle.wit_model.specs.Lookup.{type_at};
 ghost use Rattle.wit_model.specs.Meant.{type_meaning};
 ghost use Rattle.encode_types.specs.Slots.{tree};
 ghost use Rattle.encode_types.specs.Room.{value_type, export_name, import_of};
-ghost use Rattle.encode_types.specs.View.{Agrees, Grows, ExportsName, HoldsMore, HoldsLearnt, Writes, WritesImport, WritesLearnt};
+ghost use Rattle.encode_types.specs.View.{Agrees, Grows, ExportsName, HoldsMore, HoldsLearnt, Refuses, Writes, WritesImport, WritesLearnt};
 ghost use Rattle.encode_types.specs.Extents.{name_extent, number_extent, tree_extent};
 ghost use Rattle.encode_types.specs.Kinds.{parts_of, kind_of, kind_tree, has_form, has_definition};
 ghost use Rattle.encode_types.specs.Codes.{kind_code};
-ghost use Rattle.encode_types.specs.Numbers.{PartsReady, NamedLacksRoom};
+ghost use Rattle.encode_types.specs.Numbers.{PartsReady, HoldsKind, NewKindLacksRoom, NamedLacksRoom, kind_count};
 ghost use Rattle.encode_types.specs.Maps.{IsKnown, IsReady, AllReady, LacksKind, LearnsOne};
 ghost use Rattle.encode_types.specs.Scope.{DeclaresSlot, DeclaresResource, IsImportable, IsDeclared, exported_name};
 ghost use Rattle.encode_types.specs.Formed.{IsFormed};
@@ -57,7 +57,7 @@ pub(crate) fn define_shape<'a, E: ValtypeEncoder<'a>>(
     ensures counts { IfOk result (λ i. (E.view enc.new).definitions ≡ one_type_more i (E.view enc.old).definitions) }
     ensures held { HoldsMore 1 (E.view enc.old) (E.view enc.new) }
     ensures written { OnOk result (Writes (tree_extent (kind_tree resolve.now (kind_of shape.entry))) (E.view enc.old) (E.view enc.new)) }
-    ensures size { result ≡ Err Size → (E.view enc.new).lacks_room (value_type (kind_tree resolve.now (kind_of shape.entry))) }
+    ensures size { result ≡ Err Size → Refuses (E.view enc.old) (E.view enc.new) (value_type (kind_tree resolve.now (kind_of shape.entry))) }
     ensures refuses { IfErr result IsMemoryOrSize }
 {
     let def = definition_of(alloc, enc, shape)?;
@@ -79,9 +79,9 @@ fn define_alias<'a, E: ValtypeEncoder<'a>>(
     ensures maps_stay { (E.view enc.new).maps ≡ (E.view enc.old).maps }
     ensures counts { IfOk result (DefinesIf (has_definition (TypeDefKind.Type_ ty.now)) (E.view enc.old) (E.view enc.new)) }
     ensures known { (id : _) → ty.now ≡ ValueType.Id id → IfOk result (λ i. Contains (E.view enc.old).maps.id_to_index.entries (id.0, i)) }
-    ensures held { HoldsMore 1 (E.view enc.old) (E.view enc.new) }
+    ensures held { HoldsMore (kind_count (TypeDefKind.Type_ ty.now)) (E.view enc.old) (E.view enc.new) }
     ensures written { OnOk result (Writes (tree_extent (kind_tree resolve.now (TypeDefKind.Type_ ty.now))) (E.view enc.old) (E.view enc.new)) }
-    ensures size { result ≡ Err Size → (E.view enc.new).lacks_room (value_type (kind_tree resolve.now (TypeDefKind.Type_ ty.now))) }
+    ensures size { result ≡ Err Size → Refuses (E.view enc.old) (E.view enc.new) (value_type (kind_tree resolve.now (TypeDefKind.Type_ ty.now))) }
     ensures refuses { IfErr result IsMemoryOrSize }
 {
     match value_of(enc, ty) {
@@ -109,9 +109,9 @@ fn define_kind<'a, E: ValtypeEncoder<'a>>(
     ensures maps_stay { (E.view enc.new).maps ≡ (E.view enc.old).maps }
     ensures counts { IfOk result (DefinesIf (has_definition kind.now) (E.view enc.old) (E.view enc.new)) }
     ensures known { (id : _) → kind.now ≡ TypeDefKind.Type_ (ValueType.Id id) → IfOk result (λ i. Contains (E.view enc.old).maps.id_to_index.entries (id.0, i)) }
-    ensures held { HoldsMore 1 (E.view enc.old) (E.view enc.new) }
+    ensures held { HoldsMore (kind_count kind.now) (E.view enc.old) (E.view enc.new) }
     ensures written { OnOk result (Writes (tree_extent (kind_tree resolve.now kind.entry.now)) (E.view enc.old) (E.view enc.new)) }
-    ensures size { result ≡ Err Size → (E.view enc.new).lacks_room (value_type (kind_tree resolve.now kind.entry.now)) }
+    ensures size { result ≡ Err Size → Refuses (E.view enc.old) (E.view enc.new) (value_type (kind_tree resolve.now kind.entry.now)) }
     ensures refuses { IfErr result IsMemoryOrSize }
 {
     if let TypeDefKind::Type_(ty) = kind {
@@ -141,7 +141,7 @@ fn define_new_kind<'a, E: ValtypeEncoder<'a>>(
     ensures kinds { OnOk result (LearnsKindOf (E.view enc.old).maps (E.view enc.new).maps kind.now) }
     ensures held { HoldsMore 1 (E.view enc.old) (E.view enc.new) }
     ensures written { OnOk result (Writes (tree_extent (kind_tree resolve.now kind.entry.now)) (E.view enc.old) (E.view enc.new)) }
-    ensures size { result ≡ Err Size → (E.view enc.new).lacks_room (value_type (kind_tree resolve.now kind.entry.now)) }
+    ensures size { result ≡ Err Size → Refuses (E.view enc.old) (E.view enc.new) (value_type (kind_tree resolve.now kind.entry.now)) }
     ensures refuses { IfErr result IsMemoryOrSize }
 {
     let index = define_shape(alloc, enc, resolve, shape_of(kind))?;
@@ -165,9 +165,9 @@ fn define_unnamed_kind<'a, E: ValtypeEncoder<'a>>(
     ensures leaves { Leaves resolve.now (E.view enc.old) (E.view enc.new) }
     ensures counts { OnOk result (CountsTypes resolve.now (E.view enc.old) (E.view enc.new)) }
     ensures kinds { OnOk result (LearnsKindOf (E.view enc.old).maps (E.view enc.new).maps kind.now) }
-    ensures held { HoldsMore 1 (E.view enc.old) (E.view enc.new) }
+    ensures held { OnOk result (HoldsKind kind.entry.now (E.view enc.old) (E.view enc.new)) }
     ensures written { OnOk result (Writes (tree_extent (kind_tree resolve.now kind.entry.now)) (E.view enc.old) (E.view enc.new)) }
-    ensures size { result ≡ Err Size → (E.view enc.new).lacks_room (value_type (kind_tree resolve.now kind.entry.now)) }
+    ensures size { result ≡ Err Size → NewKindLacksRoom resolve.now kind.entry.now (E.view enc.old) (E.view enc.new) }
     ensures refuses { IfErr result IsMemoryOrSize }
 {
     let list = kind_list(alloc, kind)?;
@@ -197,9 +197,9 @@ fn define_unnamed<'a, E: ValtypeEncoder<'a>>(
     ensures leaves { Leaves resolve.now (E.view enc.old) (E.view enc.new) }
     ensures counts { OnOk result (CountsTypes resolve.now (E.view enc.old) (E.view enc.new)) }
     ensures kinds { OnOk result (LearnsKindOf (E.view enc.old).maps (E.view enc.new).maps kind.now) }
-    ensures held { HoldsMore 1 (E.view enc.old) (E.view enc.new) }
+    ensures held { OnOk result (HoldsKind kind.entry.now (E.view enc.old) (E.view enc.new)) }
     ensures written { OnOk result (Writes (tree_extent (kind_tree resolve.now kind.entry.now)) (E.view enc.old) (E.view enc.new)) }
-    ensures size { result ≡ Err Size → (E.view enc.new).lacks_room (value_type (kind_tree resolve.now kind.entry.now)) }
+    ensures size { result ≡ Err Size → NewKindLacksRoom resolve.now kind.entry.now (E.view enc.old) (E.view enc.new) }
     ensures refuses { IfErr result IsMemoryOrSize }
 {
     let index = define_unnamed_kind(alloc, enc, resolve, kind)?;
@@ -225,7 +225,7 @@ fn define_resource<'a, E: ValtypeEncoder<'a>>(
     ensures kinds { OnOk result ((E.view enc.new).maps.def_to_index.entries ≡ (E.view enc.old).maps.def_to_index.entries) }
     ensures held { HoldsMore 1 (E.view enc.old) (E.view enc.new) }
     ensures written { OnOk result (Writes (name_extent (raw_name name.entry)) (E.view enc.old) (E.view enc.new)) }
-    ensures size { result ≡ Err Size → (E.view enc.new).lacks_room (export_name (raw_name name.entry)) }
+    ensures size { result ≡ Err Size → Refuses (E.view enc.old) (E.view enc.new) (export_name (raw_name name.entry)) }
     ensures refuses { IfErr result IsMemoryOrSize }
 {
     let index = enc.export_resource(name)?;
@@ -246,7 +246,7 @@ fn export<'a, E: ValtypeEncoder<'a>>(
     ensures counts { OnOk result (ExportsName (E.view enc.old) (E.view enc.new) (Some index) (raw_name name.entry)) }
     ensures held { HoldsMore 1 (E.view enc.old) (E.view enc.new) }
     ensures written { OnOk result (Writes (name_extent (raw_name name.entry)) (E.view enc.old) (E.view enc.new)) }
-    ensures size { result ≡ Err Size → (E.view enc.new).lacks_room (export_name (raw_name name.entry)) }
+    ensures size { result ≡ Err Size → Refuses (E.view enc.old) (E.view enc.new) (export_name (raw_name name.entry)) }
     ensures refuses { IfErr result IsMemoryOrSize }
 {
     match enc.export_type(index, name)? {
@@ -279,9 +279,9 @@ fn define_named<'a, E: ValtypeEncoder<'a>>(
     ensures leaves { Leaves resolve.now (E.view enc.old) (E.view enc.new) }
     ensures counts { OnOk result (CountsTypes resolve.now (E.view enc.old) (E.view enc.new)) }
     ensures kinds { OnOk result ((E.view enc.new).maps.def_to_index.entries ≡ (E.view enc.old).maps.def_to_index.entries) }
-    ensures held { HoldsMore 2 (E.view enc.old) (E.view enc.new) }
+    ensures held { HoldsMore (kind_count def.now.kind + 1) (E.view enc.old) (E.view enc.new) }
     ensures written { OnOk result (Writes (tree_extent (kind_tree resolve.now def.entry.now.kind) + name_extent (raw_name name.entry)) (E.view enc.old) (E.view enc.new)) }
-    ensures size { result ≡ Err Size → NamedLacksRoom resolve.now def.entry.now (raw_name name.entry) (E.view enc.new) }
+    ensures size { result ≡ Err Size → NamedLacksRoom resolve.now def.entry.now (raw_name name.entry) (E.view enc.old) (E.view enc.new) }
     ensures refuses { IfErr result IsMemoryOrSize }
 {
     let index = define_kind(alloc, enc, resolve, &def.kind)?;
@@ -308,7 +308,7 @@ fn define_own<'a, E: ValtypeEncoder<'a>>(
     ensures leaves { Leaves resolve.now (E.view enc.old) (E.view enc.new) }
     ensures counts { OnOk result (CountsTypes resolve.now (E.view enc.old) (E.view enc.new)) }
     ensures learns { OnOk result (LearnsParts resolve.now (E.view enc.old) (E.view enc.new)) }
-    ensures held { HoldsMore 2 (E.view enc.old) (E.view enc.new) }
+    ensures held { OnOk result (HoldsLearnt resolve.now 0 (E.view enc.old) (E.view enc.new)) }
     ensures written { OnOk result (Writes (number_extent resolve.now (E.view enc.old).scope.own_interface id.0) (E.view enc.old) (E.view enc.new)) }
     ensures size { result ≡ Err Size → LacksRoom resolve.now (ValueType.Id id ∷ []) [] (E.view enc.old) (E.view enc.new) }
     ensures refuses { IfErr result IsMemoryOrSize }
@@ -342,7 +342,7 @@ fn define_number<'a, E: ValtypeEncoder<'a>>(
     ensures leaves { Leaves resolve.now (E.view enc.old) (E.view enc.new) }
     ensures counts { OnOk result (CountsTypes resolve.now (E.view enc.old) (E.view enc.new)) }
     ensures learns { OnOk result (LearnsParts resolve.now (E.view enc.old) (E.view enc.new)) }
-    ensures held { OnOk result (HoldsLearnt 0 (E.view enc.old) (E.view enc.new)) }
+    ensures held { OnOk result (HoldsLearnt resolve.now 0 (E.view enc.old) (E.view enc.new)) }
     ensures written { OnOk result (WritesLearnt resolve.now 0 (E.view enc.old) (E.view enc.new)) }
     ensures size { result ≡ Err Size → LacksRoom resolve.now (ValueType.Id id ∷ []) [] (E.view enc.old) (E.view enc.new) }
     ensures refuses { IfErr result IsMemoryOrSize }
@@ -377,7 +377,7 @@ fn import<'a, E: ValtypeEncoder<'a>>(
     ensures kinds { OnOk result ((E.view enc.new).maps.def_to_index.entries ≡ (E.view enc.old).maps.def_to_index.entries) }
     ensures held { HoldsMore 1 (E.view enc.old) (E.view enc.new) }
     ensures written { OnOk result (WritesImport (E.view enc.old) (E.view enc.new) id.0) }
-    ensures size { result ≡ Err Size → (E.view enc.new).lacks_room (import_of id.0) }
+    ensures size { result ≡ Err Size → Refuses (E.view enc.old) (E.view enc.new) (import_of id.0) }
     ensures refuses { IfErr result IsMemoryOrSize }
 {
     let index = enc.import_type(interface, id)?;
@@ -397,7 +397,7 @@ pub(crate) fn define_parts<'a, E: ValtypeEncoder<'a>>(
     ensures learns { OnOk result (LearnsFrom resolve.now types.now (E.view enc.old) (E.view enc.new)) }
     ensures leaves { Leaves resolve.now (E.view enc.old) (E.view enc.new) }
     ensures counts { OnOk result (CountsTypes resolve.now (E.view enc.old) (E.view enc.new)) }
-    ensures held { OnOk result (HoldsLearnt 0 (E.view enc.old) (E.view enc.new)) }
+    ensures held { OnOk result (HoldsLearnt resolve.now 0 (E.view enc.old) (E.view enc.new)) }
     ensures written { OnOk result (WritesLearnt resolve.now 0 (E.view enc.old) (E.view enc.new)) }
     ensures size { result ≡ Err Size → LacksRoom resolve.now types.now [] (E.view enc.old) (E.view enc.new) }
     ensures refuses { IfErr result IsMemoryOrSize }

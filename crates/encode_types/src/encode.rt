@@ -5,8 +5,9 @@
 //! parts, is defined only where the maps lack it, and then it is in the maps. What a function is named after it defines at each call.
 //!
 //! `Error::Size` comes only from a call of the encoder, for what has no room in the encoder that is left: the definition, the name or the
-//! import of a type that is met from those asked for, or what the function is named after. By then the encoder holds at most two more for each
-//! type number that was met, each once, and one for what the function is named after. Every other refusal is `Error::Memory`.
+//! import of a type that is met from those asked for, or what the function is named after. By then the encoder holds what it held, and less
+//! than what these take and wasn't known: two for a type that is defined under its name, one for each kind of unnamed types, one for each other
+//! type, and one for what the function is named after. Every other refusal is `Error::Memory`.
 
 ghost use Rattle.std.specs.Prelude.{◌≡◌, ◌∷◌, [], map, option_map, option_to_list, option_copied, length, ◌<◌, IfOk, OnOk, IfSome, Ok, Err, Some, None, is_some, is_none, true, IfErr};
 ghost use Rattle.std.specs.List.{AllZip};
@@ -25,7 +26,7 @@ ghost use Rattle.encode_types.specs.Fits.{CanEncode, CanImport, is_foreign};
 ghost use Rattle.encode_types.specs.Formed.{IsFormed};
 ghost use Rattle.encode_types.specs.Counts.{one_type_more};
 ghost use Rattle.encode_types.specs.Room.{value_type, import_of};
-ghost use Rattle.encode_types.specs.View.{Agrees, Grows, HoldsMore, HoldsLearnt, WritesLearnt};
+ghost use Rattle.encode_types.specs.View.{Agrees, Grows, HoldsMore, HoldsIf, HoldsLearnt, Refuses, WritesLearnt};
 ghost use Rattle.encode_types.specs.Leaves.{Leaves, LearnsFrom, CountsTypes, CanDefine, DefinesKind, DefinesValue, DefinesIf, LacksRoom};
 
 use crate::define::{define_parts, define_shape};
@@ -75,7 +76,7 @@ pub fn encode_valtype<'a, E: ValtypeEncoder<'a>>(
     ensures leaves { Leaves resolve.now (E.view enc.old) (E.view enc.new) }
     ensures counts { OnOk result (CountsTypes resolve.now (E.view enc.old) (E.view enc.new)) }
     ensures knows { OnOk result (IsReady (E.view enc.new).maps ty.now) }
-    ensures held { OnOk result (HoldsLearnt 0 (E.view enc.old) (E.view enc.new)) }
+    ensures held { OnOk result (HoldsLearnt resolve.now 0 (E.view enc.old) (E.view enc.new)) }
     ensures written { OnOk result (WritesLearnt resolve.now 0 (E.view enc.old) (E.view enc.new)) }
     ensures size { result ≡ Err Size → LacksRoom resolve.now (ty.now ∷ []) [] (E.view enc.old) (E.view enc.new) }
     ensures refuses { IfErr result IsMemoryOrSize }
@@ -100,7 +101,7 @@ pub fn encode_optional_valtype<'a, E: ValtypeEncoder<'a>>(
     ensures leaves { Leaves resolve.now (E.view enc.old) (E.view enc.new) }
     ensures counts { OnOk result (CountsTypes resolve.now (E.view enc.old) (E.view enc.new)) }
     ensures knows { OnOk result (AllReady (E.view enc.new).maps (option_to_list (option_copied ty.entry))) }
-    ensures held { OnOk result (HoldsLearnt 0 (E.view enc.old) (E.view enc.new)) }
+    ensures held { OnOk result (HoldsLearnt resolve.now 0 (E.view enc.old) (E.view enc.new)) }
     ensures written { OnOk result (WritesLearnt resolve.now 0 (E.view enc.old) (E.view enc.new)) }
     ensures size { result ≡ Err Size → LacksRoom resolve.now (option_to_list (option_copied ty.entry)) [] (E.view enc.old) (E.view enc.new) }
     ensures refuses { IfErr result IsMemoryOrSize }
@@ -130,7 +131,7 @@ pub fn encode_params<'a, E: ValtypeEncoder<'a>>(
     ensures leaves { Leaves resolve.now (E.view enc.old) (E.view enc.new) }
     ensures counts { OnOk result (CountsTypes resolve.now (E.view enc.old) (E.view enc.new)) }
     ensures knows { OnOk result (AllReady (E.view enc.new).maps (map (λ p. p.ty) params.now)) }
-    ensures held { OnOk result (HoldsLearnt 0 (E.view enc.old) (E.view enc.new)) }
+    ensures held { OnOk result (HoldsLearnt resolve.now 0 (E.view enc.old) (E.view enc.new)) }
     ensures written { OnOk result (WritesLearnt resolve.now 0 (E.view enc.old) (E.view enc.new)) }
     ensures size { result ≡ Err Size → LacksRoom resolve.now (map (λ p. p.ty) params.now) [] (E.view enc.old) (E.view enc.new) }
     ensures refuses { IfErr result IsMemoryOrSize }
@@ -258,7 +259,7 @@ fn define<'a, E: ValtypeEncoder<'a>>(
     ensures maps_stay { (E.view enc.new).maps ≡ (E.view enc.old).maps }
     ensures counts { IfOk result (DefinesValue (E.view enc.old) (E.view enc.new)) }
     ensures held { HoldsMore 1 (E.view enc.old) (E.view enc.new) }
-    ensures size { result ≡ Err Size → (t : Tree) → Follows (E.view enc.old).stands def.entry t → (E.view enc.new).lacks_room (value_type t) }
+    ensures size { result ≡ Err Size → (t : Tree) → Follows (E.view enc.old).stands def.entry t → Refuses (E.view enc.old) (E.view enc.new) (value_type t) }
     ensures refuses { IfErr result IsMemoryOrSize }
 {
     let index = enc.defined_type(def)?;
@@ -280,7 +281,7 @@ pub fn encode_flags<'a, E: ValtypeEncoder<'a>>(
     ensures maps_stay { (E.view enc.new).maps ≡ (E.view enc.old).maps }
     ensures counts { IfOk result (DefinesValue (E.view enc.old) (E.view enc.new)) }
     ensures held { HoldsMore 1 (E.view enc.old) (E.view enc.new) }
-    ensures size { result ≡ Err Size → (E.view enc.new).lacks_room (value_type (flags_tree (map (λ x. text_of x.name) ty.now.flags.items))) }
+    ensures size { result ≡ Err Size → Refuses (E.view enc.old) (E.view enc.new) (value_type (flags_tree (map (λ x. text_of x.name) ty.now.flags.items))) }
     ensures refuses { IfErr result IsMemoryOrSize }
 {
     let names = flag_names(alloc, &ty.flags)?;
@@ -302,7 +303,7 @@ pub fn encode_enum<'a, E: ValtypeEncoder<'a>>(
     ensures maps_stay { (E.view enc.new).maps ≡ (E.view enc.old).maps }
     ensures counts { IfOk result (DefinesValue (E.view enc.old) (E.view enc.new)) }
     ensures held { HoldsMore 1 (E.view enc.old) (E.view enc.new) }
-    ensures size { result ≡ Err Size → (E.view enc.new).lacks_room (value_type (enum_tree (map (λ x. text_of x.name) ty.now.cases.items))) }
+    ensures size { result ≡ Err Size → Refuses (E.view enc.old) (E.view enc.new) (value_type (enum_tree (map (λ x. text_of x.name) ty.now.cases.items))) }
     ensures refuses { IfErr result IsMemoryOrSize }
 {
     let names = case_names(alloc, &ty.cases)?;
@@ -324,8 +325,8 @@ pub fn encode_unit_future<'a, E: ValtypeEncoder<'a>>(
     ensures rest { (E.view enc.new).maps ≡ record (E.view enc.old).maps { unit_future = (E.view enc.new).maps.unit_future } }
     ensures leaves { Leaves (E.view enc.old).scope.packages (E.view enc.old) (E.view enc.new) }
     ensures counts { IfOk result (DefinesIf (is_none (E.view enc.old).maps.unit_future) (E.view enc.old) (E.view enc.new)) }
-    ensures held { HoldsMore 1 (E.view enc.old) (E.view enc.new) }
-    ensures size { result ≡ Err Size → (E.view enc.new).lacks_room (value_type (future_tree None)) }
+    ensures held { HoldsIf (is_none (E.view enc.old).maps.unit_future) (E.view enc.old) (E.view enc.new) }
+    ensures size { result ≡ Err Size → Refuses (E.view enc.old) (E.view enc.new) (value_type (future_tree None)) }
     ensures refuses { IfErr result IsMemoryOrSize }
 {
     if let Some(index) = unit_future(enc) {
@@ -345,7 +346,7 @@ fn define_unit_future<'a, E: ValtypeEncoder<'a>>(enc: &mut E) -> Result<u32, Err
     ensures leaves { Leaves (E.view enc.old).scope.packages (E.view enc.old) (E.view enc.new) }
     ensures counts { IfOk result (λ i. (E.view enc.new).definitions ≡ one_type_more i (E.view enc.old).definitions) }
     ensures held { HoldsMore 1 (E.view enc.old) (E.view enc.new) }
-    ensures size { result ≡ Err Size → (E.view enc.new).lacks_room (value_type (future_tree None)) }
+    ensures size { result ≡ Err Size → Refuses (E.view enc.old) (E.view enc.new) (value_type (future_tree None)) }
     ensures refuses { IfErr result IsMemoryOrSize }
 {
     let index = enc.defined_type(ComponentDefinedType::Future(None))?;
@@ -368,8 +369,8 @@ pub fn encode_unit_stream<'a, E: ValtypeEncoder<'a>>(
     ensures rest { (E.view enc.new).maps ≡ record (E.view enc.old).maps { unit_stream = (E.view enc.new).maps.unit_stream } }
     ensures leaves { Leaves (E.view enc.old).scope.packages (E.view enc.old) (E.view enc.new) }
     ensures counts { IfOk result (DefinesIf (is_none (E.view enc.old).maps.unit_stream) (E.view enc.old) (E.view enc.new)) }
-    ensures held { HoldsMore 1 (E.view enc.old) (E.view enc.new) }
-    ensures size { result ≡ Err Size → (E.view enc.new).lacks_room (value_type (stream_tree None)) }
+    ensures held { HoldsIf (is_none (E.view enc.old).maps.unit_stream) (E.view enc.old) (E.view enc.new) }
+    ensures size { result ≡ Err Size → Refuses (E.view enc.old) (E.view enc.new) (value_type (stream_tree None)) }
     ensures refuses { IfErr result IsMemoryOrSize }
 {
     if let Some(index) = unit_stream(enc) {
@@ -389,7 +390,7 @@ fn define_unit_stream<'a, E: ValtypeEncoder<'a>>(enc: &mut E) -> Result<u32, Err
     ensures leaves { Leaves (E.view enc.old).scope.packages (E.view enc.old) (E.view enc.new) }
     ensures counts { IfOk result (λ i. (E.view enc.new).definitions ≡ one_type_more i (E.view enc.old).definitions) }
     ensures held { HoldsMore 1 (E.view enc.old) (E.view enc.new) }
-    ensures size { result ≡ Err Size → (E.view enc.new).lacks_room (value_type (stream_tree None)) }
+    ensures size { result ≡ Err Size → Refuses (E.view enc.old) (E.view enc.new) (value_type (stream_tree None)) }
     ensures refuses { IfErr result IsMemoryOrSize }
 {
     let index = enc.defined_type(ComponentDefinedType::Stream(None))?;
@@ -417,7 +418,7 @@ pub fn maybe_import_type<'a, E: ValtypeEncoder<'a>>(
     ensures maps_stay { (E.view enc.new).maps ≡ (E.view enc.old).maps }
     ensures counts { OnOk result ((E.view enc.new).definitions ≡ (E.view enc.old).definitions) }
     ensures held { HoldsMore 1 (E.view enc.old) (E.view enc.new) }
-    ensures size { result ≡ Err Size → (E.view enc.new).lacks_room (import_of id.0) }
+    ensures size { result ≡ Err Size → Refuses (E.view enc.old) (E.view enc.new) (import_of id.0) }
     ensures refuses { IfErr result IsMemoryOrSize }
 {
     let def = &resolve.types[id.0 as usize];

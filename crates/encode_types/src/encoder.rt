@@ -9,7 +9,7 @@ ghost use Rattle.wit_model.specs.Types.{number_tree};
 ghost use Rattle.comp_bytes.specs.RawOf.{raw_name};
 ghost use Rattle.comp_bytes.specs.Refusal.{IsMemoryOrSize};
 ghost use Rattle.encode_types.specs.Slots.{Standing, tree, Follows, FollowsFunction, Defines, DefinesFunction};
-ghost use Rattle.encode_types.specs.View.{View, Grows, AddsSlot, AddsName, Exports, ExportsName, SameRest, HoldsMore, LacksDefinition, LacksFunctionType, Writes, WritesDefinition, WritesFunctionType, WritesImport};
+ghost use Rattle.encode_types.specs.View.{View, Grows, AddsSlot, AddsName, Exports, ExportsName, SameRest, HoldsMore, Refuses, LacksDefinition, LacksFunctionType, Writes, WritesDefinition, WritesFunctionType, WritesImport};
 ghost use Rattle.encode_types.specs.Scope.{DeclaresSlot, DeclaresResource, IsImportable};
 ghost use Rattle.encode_types.specs.Room.{export_name, import_of};
 ghost use Rattle.encode_types.specs.Extents.{name_extent};
@@ -46,8 +46,8 @@ pub trait LendsMaps<M> {
 /// of `import_type` may make aliases of types that had none, and no other call changes anything.
 /// A call answers `Error::Size` only where what it is asked to add has no room in 32 bits: then the view says so of the encoder that
 /// the call leaves (`View::lacks_room`). An implementor says in its view when that is, and how much it holds (`View::held`): a number
-/// of its own, which each call raises by one at most. It says there how much it has written, too (`View::extent`): a number of its own, which a
-/// call raises by no more than the bytes that what it is asked to add takes at most.
+/// of its own, which each call raises by one at most, and one that answers `Error::Size` not at all. It says there how much it has written,
+/// too (`View::extent`): a number of its own, which a call raises by no more than the bytes that what it is asked to add takes at most.
 /// And it says in which slots it has defined value types, and which slots it has exported under names, in order (`View::definitions`).
 pub trait ValtypeEncoder<'a>: LendsMaps<TypeEncodingMaps<'a>> {
     // what it holds: what is around, its slots, how much has been defined, its maps, and what has no room
@@ -97,7 +97,7 @@ pub trait ValtypeEncoder<'a>: LendsMaps<TypeEncodingMaps<'a>> {
         ensures counts { OnOk result (ExportsName (view self.old) (view self.new) (Some index) (raw_name name.entry)) }
         ensures held { HoldsMore 1 (view self.old) (view self.new) }
         ensures written { OnOk result (Writes (name_extent (raw_name name.entry)) (view self.old) (view self.new)) }
-        ensures size { result ≡ Err Size → (view self.new).lacks_room (export_name (raw_name name.entry)) }
+        ensures size { result ≡ Err Size → Refuses (view self.old) (view self.new) (export_name (raw_name name.entry)) }
         ensures refuses { IfErr result IsMemoryOrSize };
 
     /// Exports a fresh resource under a name that declares one, and answers its slot.
@@ -111,7 +111,7 @@ pub trait ValtypeEncoder<'a>: LendsMaps<TypeEncodingMaps<'a>> {
         ensures counts { OnOk result (ExportsName (view self.old) (view self.new) None (raw_name name.entry)) }
         ensures held { HoldsMore 1 (view self.old) (view self.new) }
         ensures written { OnOk result (Writes (name_extent (raw_name name.entry)) (view self.old) (view self.new)) }
-        ensures size { result ≡ Err Size → (view self.new).lacks_room (export_name (raw_name name.entry)) }
+        ensures size { result ≡ Err Size → Refuses (view self.old) (view self.new) (export_name (raw_name name.entry)) }
         ensures refuses { IfErr result IsMemoryOrSize };
 
     /// Makes a type of another interface, whose instance stands, known in this scope, and answers its slot.
@@ -124,7 +124,7 @@ pub trait ValtypeEncoder<'a>: LendsMaps<TypeEncodingMaps<'a>> {
         ensures counts { OnOk result ((view self.new).definitions ≡ (view self.old).definitions) }
         ensures held { HoldsMore 1 (view self.old) (view self.new) }
         ensures written { OnOk result (WritesImport (view self.old) (view self.new) id.0) }
-        ensures size { result ≡ Err Size → (view self.new).lacks_room (import_of id.0) }
+        ensures size { result ≡ Err Size → Refuses (view self.old) (view self.new) (import_of id.0) }
         ensures refuses { IfErr result IsMemoryOrSize };
 
     /// The interface whose types are encoded.

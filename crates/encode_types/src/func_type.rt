@@ -39,7 +39,7 @@ fn function_of<'a, E: ValtypeEncoder<'a>>(
     ensures leaves { Leaves resolve.now (E.view enc.old) (E.view enc.new) }
     ensures counts { OnOk result (CountsTypes resolve.now (E.view enc.old) (E.view enc.new)) }
     ensures knows { OnOk result (AllReady (E.view enc.new).maps (function_types func.now)) }
-    ensures held { OnOk result (HoldsLearnt 0 (E.view enc.old) (E.view enc.new)) }
+    ensures held { OnOk result (HoldsLearnt resolve.now 0 (E.view enc.old) (E.view enc.new)) }
     ensures written { OnOk result (WritesLearnt resolve.now 0 (E.view enc.old) (E.view enc.new)) }
     ensures size { result ≡ Err Size → LacksRoom resolve.now (function_types func.now) [] (E.view enc.old) (E.view enc.new) }
     ensures refuses { IfErr result IsMemoryOrSize }
@@ -70,7 +70,7 @@ fn define_key<'a, E: ValtypeEncoder<'a>>(
     ensures learns { OnOk result (LearnsFrom resolve.now (function_types func.now) (E.view enc.old) (E.view enc.new)) }
     ensures leaves { Leaves resolve.now (E.view enc.old) (E.view enc.new) }
     ensures counts { IfOk result (CountsFunction resolve.now (E.view enc.old) (E.view enc.new) key.entry) }
-    ensures held { OnOk result (HoldsLearnt 1 (E.view enc.old) (E.view enc.new)) }
+    ensures held { OnOk result (HoldsLearnt resolve.now 0 (E.view enc.old) (E.view enc.new)) }
     ensures written { OnOk result (WritesLearnt resolve.now (signature_extent (signature_of resolve.now func.now)) (E.view enc.old) (E.view enc.new)) }
     ensures size { result ≡ Err Size → FunctionLacksRoom resolve.now func.now (E.view enc.old) (E.view enc.new) }
     ensures refuses { IfErr result IsMemoryOrSize }
@@ -97,7 +97,7 @@ pub fn encode_func_type<'a, E: ValtypeEncoder<'a>>(
     ensures learns { OnOk result (LearnsFrom resolve.now (function_types func.now) (E.view enc.old) (E.view enc.new)) }
     ensures leaves { Leaves resolve.now (E.view enc.old) (E.view enc.new) }
     ensures counts { IfOk result (λ i. (key : KeyValue) × IsKeyOf key func.now × CountsFunction resolve.now (E.view enc.old) (E.view enc.new) key i) }
-    ensures held { OnOk result (HoldsLearnt 1 (E.view enc.old) (E.view enc.new)) }
+    ensures held { OnOk result (HoldsLearnt resolve.now 0 (E.view enc.old) (E.view enc.new)) }
     ensures written { OnOk result (WritesLearnt resolve.now (signature_extent (signature_of resolve.now func.now)) (E.view enc.old) (E.view enc.new)) }
     ensures size { result ≡ Err Size → FunctionLacksRoom resolve.now func.now (E.view enc.old) (E.view enc.new) }
     ensures refuses { IfErr result IsMemoryOrSize }

@@ -28,6 +28,7 @@ use Rattle.encode_shown.specs.Views.{AreReached, AreUsed}
 use Rattle.encode_shown.proofs.Reach.{Chain, chain-reached, further, used-chain}
 use Rattle.encode_types.specs.MetKinds.{ReachedFrom, referred}
 use Rattle.encode_types.specs.Room.{IsUnfit, LacksOne, a_type, a_request, limit}
+use Rattle.encode_types.proofs.Rooms.{are-different, counts-few}
 use Rattle.encode_types.proofs.Lists.{none-in}
 use Rattle.wit_model.proofs.OnePath.{found-in}
 use Rattle.encode_names.specs.WorldNames.{name_of_interface}
@@ -110,10 +111,11 @@ module _ (r : Resolve) (v : IsValid r) (i : InterfaceId) (def : Interface) (home
   types-fit light h = elim h.lacks [
     | inl one ↦ lacks one
     | inr many ↦ (
-        let numbers = sum-among weigh h.numbers own-numbers h.different (λ n c. in-numbers n (h.met n c)) in
+        let numbers = sum-among weigh h.numbers own-numbers (are-different r (Some i) h.numbers h.apart) (λ n c. in-numbers n (h.met n c)) in
+        let two = counts-few r (Some i) h.numbers in
         let one = at-least weigh h.numbers (λ n c. counted-least r v (owner.Interface i) (interface_type_numbers def) [] types-owner (values def.types) [] listed-here (λ f c. c) n (h.met n c)) in
         let w = types-weigh in
-        omega (arith, numbers, one, w, many, light)
+        omega (arith, numbers, one, two, w, many, light)
         )
   ]
     where

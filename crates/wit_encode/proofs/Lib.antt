@@ -24,6 +24,7 @@ pub mod Weighing
 pub mod ShowFunctions
 pub mod Continuing
 pub mod HeldKeys
+pub mod FunctionRoom
 pub mod DefinedTypes
 pub mod Counting
 pub mod Opening

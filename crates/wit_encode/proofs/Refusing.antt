@@ -1,6 +1,7 @@
 -- What has no room in an encoder of interfaces, where a call has refused it.
-use Rattle.std.proofs.Common.{◌≡◌, refl, sym, subst, ap, ◌∙◌, ◌&&◌, ℕ, ◌+◌, ◌*◌, ◌<◌, ◌≤◌, ◌^◌, ◌⊎◌, inl, inr, suc, Bool, true, false, nat_lt, arith, List, [], ◌∷◌, ◌++◌, map, length, length-append, Result, Ok, Err, OnOk, OnErr, IfErr, Option, Some, None, String}
+use Rattle.std.proofs.Common.{◌≡◌, refl, sym, subst, ap, ◌∙◌, ◌&&◌, ℕ, ◌+◌, ◌<◌, ◌≤◌, ◌^◌, ◌⊎◌, inl, inr, suc, Bool, true, false, nat_lt, arith, List, [], ◌∷◌, ◌++◌, map, length, length-append, Result, Ok, Err, OnOk, OnErr, IfErr, Option, Some, None, String}
 use Rattle.std.specs.List.{list_all, AllZip, flat_map}
+use Rattle.std.specs.Set.{distinct_count}
 use Rattle.std.specs.Borrow.{Bor}
 use Rattle.std.specs.declared.alloc.Global.{Global}
 use Rattle.std.proofs.lemmas.Bool.{lt-ltb, ltb-true, ltb-false}
@@ -25,12 +26,16 @@ use Rattle.comp_bytes.specs.Fits.{fits_length, fits_label, fits_labels, fits_nam
 use Rattle.wit_encode.specs.declared.interface.OpenInterface.{OpenInterface}
 use Rattle.encode_types.specs.declared.maps.TypeEncodingMaps.{TypeEncodingMaps}
 use Rattle.encode_types.specs.Slots.{Pairs, StandsFor, NamedStands, CaseStands, Follows, FollowsFunction, texts}
-use Rattle.encode_types.specs.Room.{Request, IsUnfit, LacksRoomBehind, its_definition, its_name, its_import, LacksOne, a_type, a_request, FindsNoRoom, HasNoRoom, fits_tree, fits_type_name, limit, value_type, function_type, export_name, import_of, function_name, function_requests}
+use Rattle.encode_types.specs.Room.{Request, IsUnfit, LacksRoomBehind, its_definition, its_name, its_import, LacksOne, a_type, a_request, HasNoRoom, fits_tree, fits_type_name, limit, value_type, function_type, export_name, import_of, function_name, function_requests}
 use Rattle.wit_model.specs.declared.model.TypeId.{TypeId}
 use Rattle.wit_model.specs.Meant.{type_meaning}
 use Rattle.encode_types.specs.Scope.{exported_name}
 use Rattle.encode_types.specs.Kinds.{kind_tree}
-use Rattle.encode_types.specs.MetKinds.{ReachedFrom, referred}
+use Rattle.encode_types.specs.MetKinds.{referred}
+use Rattle.encode_types.specs.Distinct.{are_same, key_of}
+use Rattle.wit_encode.specs.FunctionRoom.{LacksFunctions}
+use Rattle.wit_encode.proofs.FunctionRoom.{keys-few}
+use Rattle.wit_encode.proofs.HeldKeys.{knows-none}
 use Rattle.wit_encode.specs.Instance.{held_in, lacks_room_in, placed_function}
 use Rattle.wit_encode.proofs.Opening.{map-twice}
 
@@ -201,6 +206,13 @@ held-inside outer inner current ds is l = subst (λ (o : Option OpenInterface). 
 pub held-outside : (outer outer' : Declarations) (inner : Option OpenInterface) → inner ≡ None → declaration_count outer' ≤ declaration_count outer + 1 → held_in outer' inner ≤ held_in outer inner + 1
 held-outside outer outer' inner is l = subst (λ (o : Option OpenInterface). held_in outer' o ≤ held_in outer o + 1) (sym is) l
 
+-- what is held after a call that has declared nothing
+pub kept-inside : (outer : Declarations) (inner : Option OpenInterface) (current : OpenInterface) (ds : List Declaration) → inner ≡ Some current → ds ≡ current.declared → length ds ≤ held_in outer inner
+kept-inside outer inner current ds is e = subst (λ (o : Option OpenInterface). length ds ≤ held_in outer o) (sym is) (let same : length ds ≡ length current.declared = ap length e in omega (arith, same))
+
+pub kept-outside : (outer outer' : Declarations) (inner : Option OpenInterface) → inner ≡ None → outer' ≡ outer → held_in outer' inner ≤ held_in outer inner
+kept-outside outer outer' inner is e = let same : held_in outer' inner ≡ held_in outer inner = ap (λ (o : Declarations). held_in o inner) e in omega (arith, same)
+
 -- the name of a function
 pub function-named : (name : ExternName) (f : Text × Function) → name.text ≡ f.0 → name.implements ≡ None → name.version_suffix ≡ None → name.external_id ≡ optional_text f.1.external_id → name ≡ function_name f
 function-named name f text implements suffix external_id = λ i. record { text = text i; implements = implements i; version_suffix = suffix i; external_id = external_id i }
@@ -226,23 +238,21 @@ module _ (r : Resolve) (own : Option InterfaceId) (ns : List ℕ) (qs : List Req
   parted (a_type n def c at (its_import i f h)) = by-part (import_of n) (λ u. a_type n def c at (its_import i f u)) h
   parted (a_request q c h) = by-part q (λ u. a_request q c u) h
 
-pub no-room : {r r' : Resolve} {own own' : Option InterfaceId} {ts : List ValueType} {qs : List Request} {m : TypeEncodingMaps} {before : ℕ} {Q : Type 0} (outer : Declarations) (inner : Option OpenInterface) → own' ≡ own → before ≡ 0 → r' ≡ r → (fits_added outer 1 ≡ false → Q)
-    → FindsNoRoom r own' ts qs m before (held_in outer inner) (lacks_room_in r' outer inner) → HasNoRoom r own ts qs ⊎ Q
-no-room {r} {r'} {own} {own'} {ts} {qs} {m} {before} {Q} outer inner e none packages around p =
-    let one : LacksOne r own (lacks_room_in r outer inner) p.numbers qs = subst (λ (o : Option InterfaceId). LacksOne r o (lacks_room_in r outer inner) p.numbers qs) e (subst (λ (x : Resolve). LacksOne r own' (lacks_room_in x outer inner) p.numbers qs) packages p.lacks) in
-    elim (parted r own p.numbers qs outer inner one) [
+pub no-room : {r r' : Resolve} {own own' : Option InterfaceId} {ts : List ValueType} {fs : List (Text × Function)} {m : TypeEncodingMaps} {before : ℕ} {Q : Type 0} (outer : Declarations) (inner : Option OpenInterface) → own' ≡ own → before ≡ 0 → m.func_type_map.entries ≡ [] → r' ≡ r → (fits_added outer 1 ≡ false → Q)
+    → LacksFunctions r own' ts fs m before (held_in outer inner) (lacks_room_in r' outer inner) → HasNoRoom r own ts fs ⊎ Q
+no-room {r} {r'} {own} {own'} {ts} {fs} {m} {before} {Q} outer inner e none fresh packages around p' =
+    let p : LacksFunctions r own ts fs m before (held_in outer inner) (lacks_room_in r outer inner) = subst (λ (o : Option InterfaceId). LacksFunctions r o ts fs m before (held_in outer inner) (lacks_room_in r outer inner)) e
+    (subst (λ (x : Resolve). LacksFunctions r own' ts fs m before (held_in outer inner) (lacks_room_in x outer inner)) packages p') in
+    let few : length p.keys ≤ distinct_count are_same (map (λ f. key_of f.1) fs) = keys-few p.keys (map (λ f. key_of f.1) fs) p.different (λ key among. elim (p.from key among) [ inl known ↦ absurd (knows-none m key fresh known) | inr there ↦ there ]) in
+    elim (parted r own p.room.numbers (flat_map (function_requests r) fs) outer inner p.room.lacks) [
       | inl h ↦ inl (record {
-        numbers = p.numbers;
-        different = p.different;
-        met = λ n c. subst (λ (o : Option InterfaceId). ReachedFrom r o ts n) e (p.met n c);
-        lacks = elim h [ inl u ↦ inl u | inr l ↦ inr (let x = p.held in omega (arith, l, none)) ];
+        numbers = p.room.numbers;
+        apart = p.room.new.apart;
+        met = p.room.met;
+        lacks = elim h [ inl u ↦ inl u | inr l ↦ inr (let x = p.room.held in omega (arith, l, x, none, few)) ];
       })
       | inr full ↦ inr (around full)
     ]
-
-pub two-each : (r : Resolve) (fs : List (Text × Function)) → length (flat_map (function_requests r) fs) ≡ 2 * length fs
-two-each r [] = refl
-two-each r (f ∷ fs) = let a = length-append (function_requests r f) (flat_map (function_requests r) fs) in let b = two-each r fs in omega arith
 
 -- one declaration more, or none
 pub one-pushed : {A E : Type 0} (res : Result A E) (ds ds' : List Declaration) (d : Declaration) → OnOk res (ds' ≡ ds ++ d ∷ []) → OnErr res (ds' ≡ ds) → length ds' ≤ length ds + 1
@@ -263,9 +273,9 @@ Placed = ℕ × Bor (String Global) × Bor Function
 
 -- the same of the interface's own lists
 pub room-listed : (r : Resolve) (i : InterfaceId) (ts ts' : List TypeId) (fs : List Placed) (gs : List (Text × Function)) → ts ≡ ts' → map placed_function fs ≡ gs
-    → HasNoRoom r (Some i) (referred ts (map (λ f. f.2.now) fs)) (flat_map (function_requests r) (map placed_function fs)) → HasNoRoom r (Some i) (referred ts' (map (λ g. g.1) gs)) (flat_map (function_requests r) gs)
+    → HasNoRoom r (Some i) (referred ts (map (λ f. f.2.now) fs)) (map placed_function fs) → HasNoRoom r (Some i) (referred ts' (map (λ g. g.1) gs)) gs
 room-listed r i ts ts' fs gs e same h =
     let own : map (λ (g : Text × Function). g.1) (map placed_function fs) ≡ map (λ f. f.2.now) fs = map-twice (λ (g : Text × Function). g.1) placed_function fs in
-    subst (λ (us : List TypeId). HasNoRoom r (Some i) (referred us (map (λ g. g.1) gs)) (flat_map (function_requests r) gs)) e
-    (subst (λ (xs : List (Text × Function)). HasNoRoom r (Some i) (referred ts (map (λ g. g.1) xs)) (flat_map (function_requests r) xs)) same
-    (subst (λ (xs : List Function). HasNoRoom r (Some i) (referred ts xs) (flat_map (function_requests r) (map placed_function fs))) (sym own) h))
+    subst (λ (us : List TypeId). HasNoRoom r (Some i) (referred us (map (λ g. g.1) gs)) gs) e
+    (subst (λ (xs : List (Text × Function)). HasNoRoom r (Some i) (referred ts (map (λ g. g.1) xs)) xs) same
+    (subst (λ (xs : List Function). HasNoRoom r (Some i) (referred ts xs) (map placed_function fs)) (sym own) h))

@@ -54,7 +54,10 @@ use Rattle.encode_types.proofs.Encoding.{tabled}
 use Rattle.wit_encode.proofs.Mapped.{contains-filter, from-filter, from-map}
 use Rattle.encode_types.proofs.Lists.{contains-one, none-in}
 use Rattle.wit_encode.proofs.Numbers.{same-number, equal}
-use Rattle.wit_encode.proofs.Refusing.{two-each, listed}
+use Rattle.wit_encode.proofs.Refusing.{listed}
+use Rattle.std.proofs.lemmas.Map.Made.{distinct_count-le}
+use Rattle.encode_types.specs.Distinct.{are_same, key_of}
+use Rattle.encode_types.proofs.Rooms.{are-different, counts-few}
 use Rattle.wit_encode.proofs.Reached.{from-flat, part-at, IsOwner, IsCounted, Stays, met-counted, counted-in, named-own, all-numbers, interface-owner}
 use Rattle.encode_types.proofs.Pairs.{pairs-head, pairs-tail}
 use Rattle.wit_model.proofs.Elements.{contains-map, all-contained, contains-later}
@@ -395,13 +398,15 @@ module _ (r : Resolve) (v : IsValid r) (i : InterfaceId) (def : Interface) (home
   no-lack light h = elim h.lacks [
     | inl one ↦ lacks one
     | inr many ↦ (
-        let numbers = sum-among weigh h.numbers (instance_numbers r def (functions_of_interface def)) h.different (λ n c. in-numbers n (h.met n c)) in
+        let numbers = sum-among weigh h.numbers (instance_numbers r def (functions_of_interface def)) (are-different r (Some i) h.numbers h.apart) (λ n c. in-numbers n (h.met n c)) in
         let each = at-least weigh h.numbers (λ n c. at-least-one n (h.met n c)) in
         let fun = at-least keyed-weight fs (λ f c. function-least f) in
         let sum = functions-sum in
         let w = weight-is in
-        let two = two-each r fs in
-        omega (arith, numbers, each, fun, sum, w, two, many, light)
+        let two = counts-few r (Some i) h.numbers in
+        let keys = distinct_count-le are_same (map (λ (f : Named). key_of f.1) fs) in
+        let many-keys = length-map fs (λ (f : Named). key_of f.1) in
+        omega (arith, numbers, each, fun, sum, w, two, keys, many-keys, many, light)
         )
   ]
     where

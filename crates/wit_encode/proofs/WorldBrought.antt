@@ -52,5 +52,12 @@ reached-beside {r} {id} {a} {a'} (aliased x is n e) =
     omega (arith, held, more, same)
 
 -- one declaration more at most, and the same aliases
+-- what a call leaves that has declared nothing
+pub reached-kept : (r : Resolve) (a a' : Around) → a' ≡ a → held_beside r a' ≤ held_beside r a
+reached-kept r a a' e = let same = ap (held_beside r) e in omega (arith, same)
+
+pub beside-kept : (r : Resolve) (a : Around) (outer : Declarations) → outer ≡ a.declared → held_beside r (record a { declared = outer }) ≤ held_beside r a
+beside-kept r a outer e = let same : held_beside r (record a { declared = outer }) ≡ held_beside r a = ap (λ (o : Declarations). held_beside r (record a { declared = o })) e in omega (arith, same)
+
 pub beside-more : (r : Resolve) (a : Around) (outer : Declarations) → declaration_count outer ≤ declaration_count a.declared + 1 → held_beside r (record a { declared = outer }) ≤ held_beside r a + 1
 beside-more r a outer h = omega (arith, h)

@@ -1,14 +1,14 @@
 -- How much an encoder of a world holds after each item, and why a call has no room.
-use Rattle.std.proofs.Common.{◌≡◌, refl, sym, subst, ap, ◌∙◌, ℕ, zero, suc, ◌+◌, ◌*◌, ◌≤◌, inl, inr, Bool, true, false, ◌&&◌, List, [], ◌∷◌, ◌++◌, map, length, length-append, append_assoc, append-nil, Option, Some, None, is_some, arith}
+use Rattle.std.proofs.Common.{◌≡◌, refl, sym, subst, ap, ◌∙◌, ℕ, zero, suc, ◌+◌, ◌*◌, ◌≤◌, inl, inr, Bool, true, false, ◌&&◌, List, [], ◌∷◌, ◌++◌, map, length, length-append, append_assoc, append-nil, Option, Some, None, is_some, arith, Vec}
 use Rattle.std.specs.Prelude.{nat_eq, AllPairs}
 use Rattle.std.specs.List.{Contains}
+use Rattle.std.specs.declared.alloc.Global.{Global}
 use Rattle.std.specs.Option.{option_map_or}
 use Rattle.std.proofs.lemmas.Bool.{eqb-true}
 use Rattle.std.proofs.lemmas.List.{length-map}
 use Rattle.std.proofs.lemmas.List.Concat.{flat_map-append}
 use Rattle.std.proofs.lemmas.List.Elements.{All-contains, Contains-append_cases, Contains-append_left, Contains-append_right, filter_map-append, filter_passes}
 use Rattle.std.proofs.lemmas.List.Kept.{AllPairs-filter}
-use Rattle.std.proofs.lemmas.List.Sorted.{length_permutation}
 use Rattle.wit_model.specs.Lookup.{type_at}
 use Rattle.wit_model.specs.Text.{text_of}
 use Rattle.wit_model.specs.Meant.{signature_of, type_meaning}
@@ -34,15 +34,18 @@ use Rattle.comp_bytes.specs.declared.forms.ComponentTypeRef.{ComponentTypeRef}
 use Rattle.comp_bytes.specs.declared.forms.ComponentTypeRef.TheVariants as refs
 use Rattle.comp_meaning.specs.Follow.{Direction, import_, export_}
 use Rattle.encode_types.specs.declared.maps.TypeEncodingMaps.{TypeEncodingMaps}
+use Rattle.encode_types.specs.declared.key.FunctionKey.{FunctionKey}
+use Rattle.encode_types.specs.Counts.{Definitions, AddsFunction}
+use Rattle.encode_types.proofs.Defining.{lists-longer}
 use Rattle.encode_types.specs.Known.{Around, below, known_instance}
 use Rattle.encode_types.specs.Maps.{IsKnown, IsOnce}
 use Rattle.encode_types.specs.MetKinds.{LearnsMet, ReachedFrom}
 use Rattle.encode_types.specs.Room.{Request, IsUnfit, LacksPart, its_definition, its_name, its_import, LacksOne, a_type, a_request, FindsNoRoom, HoldsFor, LacksRoomBehind, value_type, export_name, import_of, function_type, limit}
 use Rattle.encode_types.specs.Kinds.{kind_tree}
-use Rattle.encode_types.specs.Scope.{exported_name}
+use Rattle.encode_types.specs.Scope.{Scope, exported_name}
 use Rattle.encode_types.proofs.Lists.{none-in}
 use Rattle.encode_types.proofs.Pairs.{pairs-map}
-use Rattle.encode_types.proofs.Rooms.{only-reached, pairs-both}
+use Rattle.encode_types.proofs.Rooms.{only-reached, pairs-both, holds-few, are-different, counts-few}
 use Rattle.encode_names.specs.WorldNames.{name_of_item}
 use Rattle.encode_names.specs.WorldSteps.{Entry, Entries, declared_towards, interfaces_among}
 use Rattle.wit_encode.specs.Encoders.{declared_after}
@@ -166,25 +169,32 @@ listed-front : (e : WorldEncoder) (es fs : List Entry) → ((i : ℕ) → is_som
 listed-front e es fs listed i h = subst (λ is. Contains is i) (sym (flat_map-append _ es fs)) (Contains-append_left (interfaces_among es) (interfaces_among fs) i (listed i h))
 
 -- how much a call leaves, beside the aliases that there are
-held-after : (r p p' : Resolve) (e e' : WorldEncoder) (es : List Entry) (n : ℕ) → p ≡ r → p' ≡ r → HoldsFew r e es → HoldsFor e.maps e'.maps (held_beside p (world_around e)) (held_beside p' (world_around e')) n
+held-after : (r p p' : Resolve) (e e' : WorldEncoder) (es : List Entry) (n : ℕ) → p ≡ r → p' ≡ r → HoldsFew r e es → length e'.maps.func_type_map.entries ≤ length e.maps.func_type_map.entries + n
+    → HoldsFor r None e.maps e'.maps (held_beside p (world_around e)) (held_beside p' (world_around e')) 0
     → declaration_count e'.outer ≤ 2 * length e'.maps.id_to_index.entries + (length (brought_numbers r (world_around e')) + (2 * count_among es + n))
-held-after r p p' e e' es n q q' h f =
+held-after r p p' e e' es n q q' h keys f =
     let before : held_beside p (world_around e) ≡ held_beside r (world_around e) = ap (λ z. held_beside z (world_around e)) q in
     let after : held_beside p' (world_around e') ≡ held_beside r (world_around e') = ap (λ z. held_beside z (world_around e')) q' in
     let few = h.held in
-    let more = f.held in
-    let learnt : length e'.maps.id_to_index.entries ≡ length e.maps.id_to_index.entries + length f.learnt = length_permutation (e.maps.id_to_index.entries ++ f.learnt) e'.maps.id_to_index.entries f.numbers ∙ length-append e.maps.id_to_index.entries f.learnt in
-    omega (arith, before, after, few, more, learnt)
+    let more = holds-few n keys f in
+    omega (arith, before, after, few, more)
+
+-- the type of a function brings one key at most
+pub one-key : {r : Resolve} {scope : Scope} {m m' : TypeEncodingMaps} {d d' : Definitions} {key : FunctionKey} {i : ℕ} → AddsFunction r scope m m' d d' key i → length m'.func_type_map.entries ≤ length m.func_type_map.entries + 1
+one-key {r} {scope} {m} {m'} a = elim a.keys [
+  | inl same ↦ (let l : length m'.func_type_map.entries ≡ length m.func_type_map.entries = ap length same.1.lists in omega (arith, l))
+  | inr more ↦ (let l = lists-longer (λ (v : Vec ℕ Global). v.items) m.func_type_map.entries m'.func_type_map.entries (more.1.list, _) more.1.more in omega (arith, l))
+]
 
 -- a function: its type, and then its import or export
 pub function-few : (r p p' : Resolve) (e e' : WorldEncoder) (es : List Entry) (k : WorldKey) (i : WorldItem) (f : Function) (direction : Direction) (name : ExternName) (described : ComponentTypeRef) (outer : Declarations)
-    → i ≡ item.Function f → p ≡ r → p' ≡ r → e'.foreign.instances.entries ≡ e.foreign.instances.entries → HoldsFew r e es
-    → HoldsFor e.maps e'.maps (held_beside p (world_around e)) (held_beside p' (world_around e')) 1 → outer ≡ declared_after e'.outer (declared_towards direction name described) → HoldsFew r (record e' { outer = outer }) (es ++ (k, i) ∷ [])
-function-few r p p' e e' es k i f direction name described outer is q q' same h held made =
+    → i ≡ item.Function f → p ≡ r → p' ≡ r → e'.foreign.instances.entries ≡ e.foreign.instances.entries → HoldsFew r e es → length e'.maps.func_type_map.entries ≤ length e.maps.func_type_map.entries + 1
+    → HoldsFor r None e.maps e'.maps (held_beside p (world_around e)) (held_beside p' (world_around e')) 0 → outer ≡ declared_after e'.outer (declared_towards direction name described) → HoldsFew r (record e' { outer = outer }) (es ++ (k, i) ∷ [])
+function-few r p p' e e' es k i f direction name described outer is q q' same h keys held made =
     subst (λ (j : WorldItem). HoldsFew r (record e' { outer = outer }) (es ++ (k, j) ∷ [])) (sym is) (record {
       listed = listed-front e' es ((k, item.Function f) ∷ []) (same-listed e e' es same h.listed);
       held =
-          (let x = held-after r p p' e e' es 1 q q' h held in
+          (let x = held-after r p p' e e' es 1 q q' h keys held in
           let y = outer-pushed e'.outer outer (declared_towards direction name described) made in
           let z = count-both es ((k, item.Function f) ∷ []) in
           omega (arith, x, y, z));
@@ -192,12 +202,12 @@ function-few r p p' e e' es k i f direction name described outer is q q' same h 
 
 -- a type
 pub type-few : (r p p' : Resolve) (e e' : WorldEncoder) (es : List Entry) (k : WorldKey) (i : WorldItem) (id : TypeId) → i ≡ item.Type_ id → p ≡ r → p' ≡ r → e'.foreign.instances.entries ≡ e.foreign.instances.entries
-    → HoldsFew r e es → HoldsFor e.maps e'.maps (held_beside p (world_around e)) (held_beside p' (world_around e')) 0 → HoldsFew r e' (es ++ (k, i) ∷ [])
-type-few r p p' e e' es k i id is q q' same h held =
+    → HoldsFew r e es → e'.maps.func_type_map.entries ≡ e.maps.func_type_map.entries → HoldsFor r None e.maps e'.maps (held_beside p (world_around e)) (held_beside p' (world_around e')) 0 → HoldsFew r e' (es ++ (k, i) ∷ [])
+type-few r p p' e e' es k i id is q q' same h keys held =
     subst (λ (j : WorldItem). HoldsFew r e' (es ++ (k, j) ∷ [])) (sym is) (record {
       listed = listed-front e' es ((k, item.Type_ id) ∷ []) (same-listed e e' es same h.listed);
       held =
-          (let x = held-after r p p' e e' es 0 q q' h held in
+          (let x = held-after r p p' e e' es 0 q q' h (let l : length e'.maps.func_type_map.entries ≡ length e.maps.func_type_map.entries = ap length keys in omega (arith, l)) held in
           let z = count-both es ((k, item.Type_ id) ∷ []) in
           omega (arith, x, z));
     })
@@ -254,13 +264,13 @@ module _ (r : Resolve) (w : World) (e : WorldEncoder) (done : Entries) (directio
   module _ (e' : WorldEncoder) (same : e'.foreign.instances.entries ≡ e.foreign.instances.entries) where
     -- what is asked for doesn't fit, or the component type is full
     module _ (once : IsOnce e.maps) (p p' : Resolve) (q : p ≡ r) (q' : p' ≡ r) (ts : List ValueType) (refers : (t : ValueType) → Contains ts t → Contains (referred_among (x ∷ [])) t)
-        (requests : List Request) (fits : length requests ≤ 2 * count_among (x ∷ [])) (unfit : (a : Request) → Contains requests a → IsUnfit r a → WorldLacksRoom r w) where
-      pub call-lacks : FindsNoRoom r None ts requests e.maps (held_beside p (world_around e)) (held_beside p' (world_around e')) (LacksRoomBehind p' (declaration_count e'.outer)) → WorldLacksRoom r w
+        (requests : List Request) (j : ℕ) (fits : j ≤ 2 * count_among (x ∷ [])) (unfit : (a : Request) → Contains requests a → IsUnfit r a → WorldLacksRoom r w) where
+      pub call-lacks : FindsNoRoom r None ts requests j e.maps (held_beside p (world_around e)) (held_beside p' (world_around e')) (LacksRoomBehind p' (declaration_count e'.outer)) → WorldLacksRoom r w
       call-lacks f = by f.lacks
         where
           overfull : limit ≤ declaration_count e'.outer → WorldLacksRoom r w
           overfull over = full (world_around e') same (known-numbers e.maps ++ f.numbers)
-              (pairs-both (λ x y. nat_eq x y ≡ false) (known-numbers e.maps) f.numbers (known-once e.maps once) f.different (λ a b c g. unknown-apart e.maps a b (known-number e.maps a c) (f.unknown b g)))
+              (pairs-both (λ x y. nat_eq x y ≡ false) (known-numbers e.maps) f.numbers (known-once e.maps once) (are-different r None f.numbers f.new.apart) (λ a b c g. unknown-apart e.maps a b (known-number e.maps a c) (f.new.unknown b g)))
               (λ m c. elim (Contains-append_cases (known-numbers e.maps) f.numbers m c) [
                 | inl a ↦ met-before m (known-number e.maps m a)
                 | inr b ↦ met-here ts refers m (f.met m b)
@@ -269,9 +279,10 @@ module _ (r : Resolve) (w : World) (e : WorldEncoder) (done : Entries) (directio
               let after : held_beside p' (world_around e') ≡ held_beside r (world_around e') = ap (λ z. held_beside z (world_around e')) q' in
               let few = h.held in
               let more = f.held in
+              let two = counts-few r None f.numbers in
               let a = length-append (known-numbers e.maps) f.numbers in
               let b = length-map e.maps.id_to_index.entries (λ (y : ℕ × ℕ). y.0) in
-              omega (arith, before, after, few, more, a, b, fits))
+              omega (arith, before, after, few, more, two, a, b, fits))
               over
 
           either : (a : Request) → (IsUnfit r a → WorldLacksRoom r w) → LacksRoomBehind p' (declaration_count e'.outer) a → WorldLacksRoom r w
@@ -288,10 +299,10 @@ module _ (r : Resolve) (w : World) (e : WorldEncoder) (done : Entries) (directio
           by (a_request a c l) = either a (unfit a c) l
 
     -- a name doesn't fit, or the component type is full behind what a call has left
-    pub name-lacks : (p p' : Resolve) → p ≡ r → p' ≡ r → (ts : List ValueType) → ((t : ValueType) → Contains ts t → Contains (referred_among (x ∷ [])) t) → (k : ℕ) → k ≤ 2 * count_among (x ∷ []) → IsOnce e'.maps
-        → LearnsMet r None ts e.maps e'.maps → HoldsFor e.maps e'.maps (held_beside p (world_around e)) (held_beside p' (world_around e')) k → (fits : Bool) (slots : ℕ) → slots ≤ declaration_count e'.outer + 1
+    pub name-lacks : (p p' : Resolve) → p ≡ r → p' ≡ r → (ts : List ValueType) → ((t : ValueType) → Contains ts t → Contains (referred_among (x ∷ [])) t) → (k : ℕ) → k ≤ 2 * count_among (x ∷ []) → length e'.maps.func_type_map.entries ≤ length e.maps.func_type_map.entries + k → IsOnce e'.maps
+        → LearnsMet r None ts e.maps e'.maps → HoldsFor r None e.maps e'.maps (held_beside p (world_around e)) (held_beside p' (world_around e')) 0 → (fits : Bool) (slots : ℕ) → slots ≤ declaration_count e'.outer + 1
         → (fits ≡ false → WorldLacksRoom r w) → (fits && fits_counts (declaration_count e'.outer + 1) slots) ≡ false → WorldLacksRoom r w
-    name-lacks p p' q q' ts refers k few once learns held fits slots low unfit refused = by fits refl refused
+    name-lacks p p' q q' ts refers k few keys once learns held fits slots low unfit refused = by fits refl refused
       where
         met-after : (m : ℕ) → IsKnown e'.maps m → IsMetAmong r all m
         met-after m known = elim ((only-reached r None ts learns.only).each m known.0 known.1) [
@@ -301,7 +312,7 @@ module _ (r : Resolve) (w : World) (e : WorldEncoder) (done : Entries) (directio
 
         overfull : limit ≤ declaration_count e'.outer → WorldLacksRoom r w
         overfull over = full (world_around e') same (known-numbers e'.maps) (known-once e'.maps once) (λ m c. met-after m (known-number e'.maps m c))
-            (let a = held-after r p p' e e' es k q q' h held in
+            (let a = held-after r p p' e e' es k q q' h keys held in
             let b = length-map e'.maps.id_to_index.entries (λ (y : ℕ × ℕ). y.0) in
             omega (arith, a, b, few))
             over
@@ -314,11 +325,11 @@ module _ (r : Resolve) (w : World) (e : WorldEncoder) (done : Entries) (directio
 
 pub function-lacks : (r p p' : Resolve) (w : World) (e e' : WorldEncoder) (done : Entries) (direction : Direction) (k : WorldKey) (i : WorldItem) (f : Function) → i ≡ item.Function f → IsNext r w direction done (k, i)
     → HasDefined r e (all_done done) → HoldsFew r e (all_done done) → e'.foreign.instances.entries ≡ e.foreign.instances.entries → IsOnce e.maps → p ≡ r → p' ≡ r
-    → FindsNoRoom r None (function_types f) (function_type (signature_of r f) ∷ []) e.maps (held_beside p (world_around e)) (held_beside p' (world_around e')) (LacksRoomBehind p' (declaration_count e'.outer)) → WorldLacksRoom r w
+    → FindsNoRoom r None (function_types f) (function_type (signature_of r f) ∷ []) 1 e.maps (held_beside p (world_around e)) (held_beside p' (world_around e')) (LacksRoomBehind p' (declaration_count e'.outer)) → WorldLacksRoom r w
 function-lacks r p p' w e e' done direction k i f is n d h same once q q' lacks =
     let m : IsNext r w direction done (k, item.Function f) = subst (λ (j : WorldItem). IsNext r w direction done (k, j)) is n in
     let among = next-among r w direction done (k, item.Function f) m in
-    call-lacks r w e done direction (k, item.Function f) m d h e' same once p p' q q' (function_types f) (function-referred k f) (function_type (signature_of r f) ∷ []) (omega arith)
+    call-lacks r w e done direction (k, item.Function f) m d h e' same once p p' q q' (function_types f) (function-referred k f) (function_type (signature_of r f) ∷ []) 1 (omega arith)
     (λ a c u. a_function f (subst (λ (ys : List Entry). Contains (functions_among ys) f) (sym among.1) (functions-there (all_done done) among.0)) (subst (IsUnfit r) (sym (one-contained (function_type (signature_of r f)) a c)) u))
     lacks
   where
@@ -328,13 +339,13 @@ function-lacks r p p' w e e' done direction k i f is n d h same once q q' lacks 
 
 pub function-name-lacks : (r p p' : Resolve) (w : World) (e e' : WorldEncoder) (done : Entries) (direction : Direction) (canonical : Bool) (k : WorldKey) (i : WorldItem) (f : Function) (name : ExternName) (index : ℕ) → i ≡ item.Function f
     → IsNext r w direction done (k, i) → HasDefined r e (all_done done) → HoldsFew r e (all_done done) → e'.foreign.instances.entries ≡ e.foreign.instances.entries → IsOnce e'.maps → p ≡ r → p' ≡ r
-    → LearnsMet r None (function_types f) e.maps e'.maps → HoldsFor e.maps e'.maps (held_beside p (world_around e)) (held_beside p' (world_around e')) 1 → name ≡ name_of_item r canonical (k, i)
+    → length e'.maps.func_type_map.entries ≤ length e.maps.func_type_map.entries + 1 → LearnsMet r None (function_types f) e.maps e'.maps → HoldsFor r None e.maps e'.maps (held_beside p (world_around e)) (held_beside p' (world_around e')) 0 → name ≡ name_of_item r canonical (k, i)
     → (fits_declaration (declared_towards direction name (refs.Func index)) && fits_added e'.outer (declaration_slots (declared_towards direction name (refs.Func index)))) ≡ false → WorldLacksRoom r w
-function-name-lacks r p p' w e e' done direction canonical k i f name index is n d h same once q q' learns held named refused =
+function-name-lacks r p p' w e e' done direction canonical k i f name index is n d h same once q q' keys learns held named refused =
     let m : IsNext r w direction done (k, item.Function f) = subst (λ (j : WorldItem). IsNext r w direction done (k, j)) is n in
     let among = next-among r w direction done (k, item.Function f) m in
     let few = outer-slots-few e'.outer in
-    name-lacks r w e done direction (k, item.Function f) m d h e' same p p' q q' (function_types f) (function-referred k f) 1 (omega arith) once learns held (fits_name name) (type_slots_of e'.outer + 0) (omega (arith, few))
+    name-lacks r w e done direction (k, item.Function f) m d h e' same p p' q q' (function_types f) (function-referred k f) 1 (omega arith) keys once learns held (fits_name name) (type_slots_of e'.outer + 0) (omega (arith, few))
     (λ u. a_name canonical (k, item.Function f) (subst (λ (ys : List Entry). Contains ys (k, item.Function f)) (sym among.1) (there (all_done done) among.0)) refl
     (ap fits_name (sym (named ∙ ap (λ (j : WorldItem). name_of_item r canonical (k, j)) is)) ∙ u)) (towards direction refused)
   where
@@ -348,7 +359,7 @@ function-name-lacks r p p' w e e' done direction canonical k i f name index is n
 
 pub type-lacks : (r p p' : Resolve) (w : World) (e e' : WorldEncoder) (done : Entries) (direction : Direction) (k : WorldKey) (i : WorldItem) (id : TypeId) → i ≡ item.Type_ id → IsNext r w direction done (k, i)
     → HasDefined r e (all_done done) → HoldsFew r e (all_done done) → e'.foreign.instances.entries ≡ e.foreign.instances.entries → IsOnce e.maps → p ≡ r → p' ≡ r
-    → FindsNoRoom r None (ty.Id id ∷ []) [] e.maps (held_beside p (world_around e)) (held_beside p' (world_around e')) (LacksRoomBehind p' (declaration_count e'.outer)) → WorldLacksRoom r w
+    → FindsNoRoom r None (ty.Id id ∷ []) [] 0 e.maps (held_beside p (world_around e)) (held_beside p' (world_around e')) (LacksRoomBehind p' (declaration_count e'.outer)) → WorldLacksRoom r w
 type-lacks r p p' w e e' done direction k i id is n d h same once q q' lacks =
     let m : IsNext r w direction done (k, item.Type_ id) = subst (λ (j : WorldItem). IsNext r w direction done (k, j)) is n in
-    call-lacks r w e done direction (k, item.Type_ id) m d h e' same once p p' q q' (ty.Id id ∷ []) (type-referred k id) [] (omega arith) (λ a c u. none-in a c) lacks
+    call-lacks r w e done direction (k, item.Type_ id) m d h e' same once p p' q q' (ty.Id id ∷ []) (type-referred k id) [] 0 (omega arith) (λ a c u. none-in a c) lacks

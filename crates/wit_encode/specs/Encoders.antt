@@ -1,5 +1,5 @@
 -- An encoder of interfaces as one value, and what its calls ask and leave.
-use Rattle.std.specs.Prelude.{ℕ, ◌≡◌, ◌⊎◌, ◌++◌, ◌∷◌, [], List, String, map, flat_map, nat_eq, IsSome, Some}
+use Rattle.std.specs.Prelude.{ℕ, ◌≡◌, ◌⊎◌, ◌++◌, ◌∷◌, [], List, String, map, nat_eq, IsSome, Some}
 use Rattle.std.specs.List.{Contains}
 use Rattle.std.specs.Set.{distinct_count}
 use Rattle.std.specs.Borrow.{Bor}
@@ -19,15 +19,15 @@ use Rattle.wit_model.specs.declared.model.«Type».{«Type» as ValueType}
 use Rattle.encode_types.specs.Counts.{names_defined}
 use Rattle.encode_types.specs.Distinct.{defined_under_names}
 use Rattle.wit_encode.specs.Exports.{AreTypesOf}
+use Rattle.wit_encode.specs.FunctionRoom.{LacksFunctions}
 use Rattle.encode_types.specs.MetKinds.{LearnsFrom}
 use Rattle.wit_encode.specs.Order.{functions_in_order}
 use Rattle.encode_types.specs.declared.maps.TypeEncodingMaps.{TypeEncodingMaps}
 use Rattle.wit_encode.specs.declared.interface.InstanceEncoderOf.{InstanceEncoderOf}
 use Rattle.encode_types.specs.Known.{Around, GrowsAround, UsedStand}
 use Rattle.encode_types.specs.Scope.{Scope}
-use Rattle.encode_types.specs.Room.{Request, HasNoRoom, function_requests}
+use Rattle.encode_types.specs.Room.{HasNoRoom}
 use Rattle.encode_types.specs.MetKinds.{referred}
-use Rattle.encode_types.specs.Leaves.{LacksRoom}
 use Rattle.indexmap.specs.IndexMap.{values}
 use Rattle.encode_types.specs.View.{View, Agrees, HoldsLearnt, WritesLearnt}
 use Rattle.wit_encode.specs.Instance.{own_of, ShowsFunction, placed_function, meaning_of, Contents, contents_of, encoder_scope, around_of, around_at, slots_in, stands_in, defined_in, opened, standing_instances, Continues, EncodesInterface, EncodesDependency, EncodesPart, held_in, extent_in, lacks_room_in, LacksInstanceRoom}
@@ -106,10 +106,6 @@ Placed = ℕ × Bor (String Global) × Bor Function
 abbrev pub plain : List Placed → List Function
 plain fs = map (λ f. f.2.now) fs
 
--- their types and their names
-abbrev pub requests_of : Resolve → List Placed → List Request
-requests_of r fs = flat_map (function_requests r) (map placed_function fs)
-
 abbrev pub meanings_of : Resolve → List Placed → List (Text × FunctionMeaning)
 meanings_of r fs = map (λ f. meaning_of r (placed_function f)) fs
 
@@ -120,17 +116,17 @@ ShowsAs e e' name s = ShowsFunction (contents_in e) (contents_in e') (shown_as n
 abbrev pub ShowsMore : Resolve → InstanceEncoder → InstanceEncoder → List (Text × FunctionMeaning) → Type 0
 ShowsMore r e e' fs = (view_of r e').scope.functions ≡ (view_of r e).scope.functions ++ fs
 
--- at most so much more is held, and two for each type number that has been learnt
-abbrev pub HoldsInside : ℕ → InstanceEncoder → InstanceEncoder → Type 0
-HoldsInside n e e' = HoldsLearnt n (encoder_view e) (encoder_view e')
+-- at most so much more is held, and what has been learnt
+abbrev pub HoldsInside : Resolve → ℕ → InstanceEncoder → InstanceEncoder → Type 0
+HoldsInside r n e e' = HoldsLearnt r n (encoder_view e) (encoder_view e')
 
 -- at most so much more has been written, and each type number that has been learnt
 abbrev pub WritesInside : Resolve → ℕ → InstanceEncoder → InstanceEncoder → Type 0
 WritesInside r n e e' = WritesLearnt r n (encoder_view e) (encoder_view e')
 
--- a part of a type that is met from these, or one of these requests, has no room, and not much more is held than was
-abbrev pub LacksInside : Resolve → InstanceEncoder → InstanceEncoder → List ValueType → List Request → Type 0
-LacksInside r e e' ts requests = LacksRoom r ts requests (encoder_view e) (encoder_view e')
+-- a part of a type that is met from these, or one of these functions, has no room, and no more is held than was and what they take
+abbrev pub LacksInside : Resolve → InstanceEncoder → InstanceEncoder → List ValueType → List (Text × Function) → Type 0
+LacksInside r e e' ts fs = LacksFunctions r (own_of e.inner) ts fs e.maps (encoder_view e).held (encoder_view e').held (encoder_view e').lacks_room
 
 -- no type has been exported
 abbrev pub TypesStay : Resolve → InstanceEncoder → InstanceEncoder → Type 0
@@ -182,7 +178,7 @@ EncodesPlaced e e' i fs k = (def : Interface) → interface_at e.resolve.now i.0
 
 -- an instance type has no room for the types and functions of an interface
 abbrev pub InterfaceLacksRoom : Resolve → InterfaceId → Interface → Type 0
-InterfaceLacksRoom r i def = HasNoRoom r (Some i) (referred (values def.types) (map (λ f. f.1) (functions_in_order def))) (flat_map (function_requests r) (functions_in_order def))
+InterfaceLacksRoom r i def = HasNoRoom r (Some i) (referred (values def.types) (map (λ f. f.1) (functions_in_order def))) (functions_in_order def)
 
 -- An instance type has no room for the types and functions of the interface. Or the component type, after aliases have been made, has none
 -- for one more alias or instance type.
@@ -195,4 +191,4 @@ LacksDependency e i = (def : Interface) → interface_at e.resolve.now i.0 ≡ S
 
 -- the same of these types and functions of the interface
 abbrev pub LacksWithin : InstanceEncoder → InterfaceId → List TypeId → List Placed → Type 0
-LacksWithin e i types fs = HasNoRoom e.resolve.now (Some i) (referred types (plain fs)) (requests_of e.resolve.now fs) ⊎ LacksInstanceRoom e.resolve.now (outside e)
+LacksWithin e i types fs = HasNoRoom e.resolve.now (Some i) (referred types (plain fs)) (map placed_function fs) ⊎ LacksInstanceRoom e.resolve.now (outside e)

@@ -16,6 +16,7 @@ pub mod WholeWorlds
 pub mod WorldRoom
 pub mod WorldCounts
 pub mod WorldHolds
+pub mod FunctionRoom
 pub mod DependencyRoom
 pub mod DependencyCounts
 pub mod PackageRoom

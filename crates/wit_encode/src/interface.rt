@@ -331,7 +331,7 @@ impl<'a> InstanceEncoderOf<'a, TypeEncodingMaps<'a>> {
     ghost use Rattle.encode_types.specs.Slots.{Keeps, function};
     ghost use Rattle.wit_model.specs.Meant.{function_meaning};
     ghost use Rattle.wit_model.specs.Valid.{IsValid};
-    ghost use Rattle.encode_types.specs.View.{Agrees, HoldsMore, HoldsLearnt, Writes};
+    ghost use Rattle.encode_types.specs.View.{Agrees, HoldsMore, Refuses, Writes};
     ghost use Rattle.encode_types.specs.Extents.{function_extent, name_extent};
     ghost use Rattle.wit_encode.specs.WrittenBytes.{AddsBytes, TakesFew, types_extent, whole_extent};
     ghost use Rattle.wit_encode.specs.Instance.{declared_extent};
@@ -348,8 +348,8 @@ impl<'a> InstanceEncoderOf<'a, TypeEncodingMaps<'a>> {
     ghost use Rattle.wit_encode.specs.Exports.{AreTypesOf, AllKnown, KnowsUsed, UsesListed};
     ghost use Rattle.wit_model.specs.declared.model.«Type».TheVariants as ValueType;
     ghost use Rattle.wit_encode.specs.Instance.{ShowsFunction, CanEncodeFunction, IsInstance, placed_function, meaning_of, own_of, declarations_in, stands_inside};
-    ghost use Rattle.wit_encode.specs.Encoders.{encoder_view, view_of, contents_in, shown_as, scope_within, outside, GoesOn, Reaches, InstancesStay, UsedAround, EncodesAs, EncodesPlaced, EncodesTypesAs, LacksDependency, LacksInstance, LacksWithin, plain, requests_of, meanings_of, ShowsAs, ShowsMore, HoldsInside, LacksInside, TypesStay, NamesStay, LearnsInside, WritesInside, DefinesNames, IsEncoding, Begins};
-    ghost use Rattle.encode_types.specs.Room.{export_name, function_requests};
+    ghost use Rattle.wit_encode.specs.Encoders.{encoder_view, view_of, contents_in, shown_as, scope_within, outside, GoesOn, Reaches, InstancesStay, UsedAround, EncodesAs, EncodesPlaced, EncodesTypesAs, LacksDependency, LacksInstance, LacksWithin, plain, meanings_of, ShowsAs, ShowsMore, HoldsInside, LacksInside, TypesStay, NamesStay, LearnsInside, WritesInside, DefinesNames, IsEncoding, Begins};
+    ghost use Rattle.encode_types.specs.Room.{export_name};
     ghost use Rattle.encode_types.specs.Maps.{MapsGrow};
 
     /// An encoder with an empty component type. Takes constant time and no memory.
@@ -387,7 +387,7 @@ impl<'a> InstanceEncoderOf<'a, TypeEncodingMaps<'a>> {
         ensures maps { self.new.maps ≡ self.old.maps }
         ensures held { HoldsMore 1 (encoder_view self.old) (encoder_view self.new) }
         ensures written { OnOk result (Writes (name_extent (raw_name name.entry)) (encoder_view self.old) (encoder_view self.new)) }
-        ensures size { result ≡ Err Size → (encoder_view self.new).lacks_room (export_name (raw_name name.entry)) }
+        ensures size { result ≡ Err Size → Refuses (encoder_view self.old) (encoder_view self.new) (export_name (raw_name name.entry)) }
         ensures refuses { IfErr result IsMemoryOrSize }
     {
         match &mut self.inner {
@@ -416,9 +416,9 @@ impl<'a> InstanceEncoderOf<'a, TypeEncodingMaps<'a>> {
         ensures maps_grow { MapsGrow self.old.maps self.new.maps }
         ensures types_stay { OnOk result (TypesStay resolve.now self.old self.new) }
         ensures names_stay { OnOk result (NamesStay resolve.now self.old self.new) }
-        ensures held { OnOk result (HoldsInside 2 self.old self.new) }
+        ensures held { OnOk result (HoldsInside resolve.now 1 self.old self.new) }
         ensures written { OnOk result (WritesInside resolve.now (function_extent resolve.now (text_of name.now, func.now)) self.old self.new) }
-        ensures size { result ≡ Err Size → LacksInside resolve.now self.old self.new (function_types func.now) (function_requests resolve.now (text_of name.now, func.now)) }
+        ensures size { result ≡ Err Size → LacksInside resolve.now self.old self.new (function_types func.now) ((text_of name.now, func.now) ∷ []) }
         ensures refuses { IfErr result IsMemoryOrSize }
     {
         let index = encode_func_type(alloc, self, resolve, func)?;
@@ -441,9 +441,9 @@ impl<'a> InstanceEncoderOf<'a, TypeEncodingMaps<'a>> {
         ensures learns { OnOk result (LearnsInside resolve.now self.old self.new (flat_map function_types (plain functions.now))) }
         ensures types_stay { OnOk result (TypesStay resolve.now self.old self.new) }
         ensures names_stay { OnOk result (NamesStay resolve.now self.old self.new) }
-        ensures held { OnOk result (HoldsInside (2 * length functions.now) self.old self.new) }
+        ensures held { OnOk result (HoldsInside resolve.now (length functions.now) self.old self.new) }
         ensures written { OnOk result (WritesInside resolve.now (sum_by (function_extent resolve.now) (map placed_function functions.now)) self.old self.new) }
-        ensures size { result ≡ Err Size → LacksInside resolve.now self.old self.new (flat_map function_types (plain functions.now)) (requests_of resolve.now functions.now) }
+        ensures size { result ≡ Err Size → LacksInside resolve.now self.old self.new (flat_map function_types (plain functions.now)) (map placed_function functions.now) }
         ensures refuses { IfErr result IsMemoryOrSize }
     {
         for entry in functions {
@@ -468,9 +468,9 @@ impl<'a> InstanceEncoderOf<'a, TypeEncodingMaps<'a>> {
         ensures known { OnOk result (AllKnown self.new.maps types.now) }
         ensures exported { OnOk result ((encoder_view self.new).definitions.exports ≡ declarations_in resolve.now (own_of self.old.inner)) }
         ensures defined { OnOk result (DefinesNames resolve.now (encoder_view self.old) self.old self.new types.now) }
-        ensures held { OnOk result (HoldsInside 0 self.old self.new) }
+        ensures held { OnOk result (HoldsInside resolve.now 0 self.old self.new) }
         ensures written { OnOk result (WritesInside resolve.now 0 self.old self.new) }
-        ensures size { result ≡ Err Size → LacksInside resolve.now self.old self.new (map (λ t. ValueType.Id t) types.now) [] }
+        ensures size { result ≡ Err Size → LacksRoom resolve.now (map (λ t. ValueType.Id t) types.now) [] (encoder_view self.old) (encoder_view self.new) }
         ensures refuses { IfErr result IsMemoryOrSize }
     {
         for id in types {
@@ -500,7 +500,7 @@ impl<'a> InstanceEncoderOf<'a, TypeEncodingMaps<'a>> {
         ensures exported { OnOk result ((view_of resolve.now self.new).definitions.exports ≡ declarations_in resolve.now (own_of self.old.inner)) }
         ensures defined { OnOk result (DefinesNames resolve.now (view_of resolve.now self.old) self.old self.new types.now) }
         ensures written { OnOk result (WritesInside resolve.now (sum_by (function_extent resolve.now) (map placed_function functions.now)) self.old self.new) }
-        ensures size { result ≡ Err Size → LacksInside resolve.now self.old self.new (referred types.now (plain functions.now)) (requests_of resolve.now functions.now) }
+        ensures size { result ≡ Err Size → LacksInside resolve.now self.old self.new (referred types.now (plain functions.now)) (map placed_function functions.now) }
         ensures refuses { IfErr result IsMemoryOrSize }
     {
         self.encode_types(alloc, resolve, types)?;
@@ -599,8 +599,8 @@ impl<'a> InstanceEncoderOf<'a, TypeEncodingMaps<'a>> {
     /// whose types are used (WIT.md, "Package Format").
     ///
     /// It asks for what `encode_instance` asks for, and leaves what that leaves. `Size` comes only where a type that is met from the types of
-    /// the interface doesn't fit in 32 bits by itself, where there are too many of them, or where the component type, after aliases have been
-    /// made, has no room for one more alias or instance type.
+    /// the interface doesn't fit in 32 bits by itself, where the declarations are more than 4,294,967,295 (counted as for `encode_instance`), or
+    /// where the component type, after aliases have been made, has no room for one more alias or instance type.
     ///
     /// Takes as long as encoding the types.
     pub(crate) fn encode_dependency(
@@ -636,8 +636,9 @@ impl<'a> InstanceEncoderOf<'a, TypeEncodingMaps<'a>> {
     /// other asks for nothing. A type of another interface gets an alias in the component type when it is first met,
     /// which later calls use, too. No instance stands by this call alone. After a refusal the encoder is as it was, but for aliases that have
     /// been made. `Size` comes only where a type that is met from the interface, or a function of it, doesn't fit in 32 bits by itself, where
-    /// there are too many of them (two declarations for each type number that is met, each once, and two for each function), or where the
-    /// component type, after aliases have been made, has no room for one more alias or instance type.
+    /// the declarations are more than 4,294,967,295, or where the component type, after aliases have been made, has no room for one more alias
+    /// or instance type. The declarations are a definition and an export for each type that is met and is defined under its name, one for each
+    /// kind of unnamed types, one for each other type, and for the functions one for each key and an export each.
     ///
     /// Takes as long as encoding the types and functions and sorting the functions, with a search in an ordered map for each.
     pub(crate) fn encode_instance(

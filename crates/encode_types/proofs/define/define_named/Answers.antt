@@ -1,5 +1,5 @@
 use Rattle.comp_bytes.specs.RawOf.{raw_name}
-use Rattle.std.proofs.Common.{◌≡◌, ◌∙◌, ap, sym, subst, false, Some}
+use Rattle.std.proofs.Common.{◌≡◌, ◌∙◌, ap, sym, subst, false, Some, inr, arith, rules}
 use Rattle.encode_types.specs.declared.maps.TypeEncodingMaps.{TypeEncodingMaps}
 use Rattle.encode_types.specs.Maps.{LearnsNumber}
 use Rattle.encode_types.specs.Scope.{Scope}
@@ -43,3 +43,10 @@ returns-in_err-slot-clause-leaves g c = leaves-trans (leaves-kept {v = g.E.Valty
 
 pub returns-clause-written : goal.returns-clause-written
 returns-clause-written g c = on_ok c.remember_id.result _ _ (λ l. written-on (written-more c.in_ok-index.ensures.written c.in_ok-slot.ensures.written) c.remember_id.ensures.written) c.remember_id.ensures.ok
+
+pub returns-in_err-slot-clause-size : goal.returns-in_err-slot-clause-size
+returns-in_err-slot-clause-size g c = λ h.
+    let refused = c.export.ensures.size (search rules) in
+    let held = refused.held in
+    let before = c.define_kind.ensures.held in
+    inr (record { lacks = refused.lacks; held = omega (arith, held, before) })

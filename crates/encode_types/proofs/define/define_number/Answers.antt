@@ -2,12 +2,13 @@ use Rattle.std.proofs.Common.{refl, ◌≡◌, ◌∙◌, sym, Some, None, rules
 use Rattle.std.specs.Prelude.{is_some}
 use Rattle.std.proofs.lemmas.Option.{slice_get_read}
 use Rattle.wit_model.specs.Lookup.{type_at}
+use Rattle.wit_model.specs.declared.model.InterfaceId.{InterfaceId}
 use Rattle.encode_types.specs.Plan.{foreign_owner}
 use Rattle.encode_types.specs.Maps.{IsKnown}
 use Rattle.encode_types.proofs.Learning.{learns-none, learns-call-foreign}
 use Rattle.encode_types.proofs.Defining.{counts-none}
-use Rattle.encode_types.specs.Room.{its_import}
-use Rattle.encode_types.proofs.Rooms.{holds-none, holds-number, on-both, lacks-number}
+use Rattle.encode_types.specs.Room.{unnamed_kind, its_import}
+use Rattle.encode_types.proofs.Rooms.{holds-none, holds-number, on-both, lacks-number, counts-one, foreign-unkind, none-new, none-has}
 use Rattle.encode_types.proofs.Encoding.{learns-nothing, tabled, foreign-undefined, foreign-unshown}
 use Rattle.encode_types.proofs.Agree.{not-known}
 use Rattle.encode_types.proofs.define.define_number.Given.{Over}
@@ -73,29 +74,35 @@ returns-in-Some-clause-learns g c =
     (rw c.index_of.ensures.same at c.import.ensures.ok) (rw c.index_of.ensures.same at c.import.ensures.leaves.maps_grow) (rw c.index_of.ensures.same at c.import.ensures.counts) (rw c.index_of.ensures.same at c.import.ensures.kinds) c.in-Some.interface f
 
 pub returns-then-is_some-clause-held : goal.returns-then-is_some-clause-held
-returns-then-is_some-clause-held g c = rw c.index_of.ensures.same (holds-none (g.E.ValtypeEncoder.view c.args.enc.now).maps (g.E.ValtypeEncoder.view c.args.enc.now).held)
+returns-then-is_some-clause-held g c = rw c.index_of.ensures.same (holds-none c.args.resolve.now (g.E.ValtypeEncoder.view c.args.enc.now).scope.own_interface (g.E.ValtypeEncoder.view c.args.enc.now).maps (g.E.ValtypeEncoder.view c.args.enc.now).held)
+
+unkind : (g : Over) (c : After-foreign g) (i : InterfaceId) → c.foreign.result ≡ Some i → unnamed_kind c.args.resolve.now (g.E.ValtypeEncoder.view c.args.enc.now).scope.own_interface c.args.id.0 ≡ None
+unkind g c i e = foreign-unkind c.args.resolve.now (g.E.ValtypeEncoder.view c.args.enc.now).scope.own_interface (g.E.ValtypeEncoder.view c.args.enc.now).maps c.args.id.0 c.index-def.result.now i (there g c) (sym (owner_is g c) ∙ e)
 
 pub returns-in-Some-clause-held : goal.returns-in-Some-clause-held
 returns-in-Some-clause-held g c =
     let a = (goal.at.returns-in-Some-clause-held g c).After-foreign in
+    let none = unkind g a c.in-Some.interface c.in-Some.is in
+    let held : (g.E.ValtypeEncoder.view c.import.new.enc).held ≤ (g.E.ValtypeEncoder.view c.args.enc.now).held + 1 = (rw c.index_of.ensures.same at c.import.ensures.held) in
+    let count = counts-one c.args.resolve.now (g.E.ValtypeEncoder.view c.args.enc.now).scope.own_interface c.args.id.0 in
     on-both c.import.result _ _ _
-    (λ one counts. holds-number counts.shows.learnt c.args.id.0 counts.shows.numbers one.known (unknown g a) (let l : (g.E.ValtypeEncoder.view c.import.new.enc).held ≤ (g.E.ValtypeEncoder.view c.args.enc.now).held + 1 = (rw c.index_of.ensures.same at c.import.ensures.held) in omega arith))
+    (λ one counts. holds-number counts.shows.learnt c.args.id.0 counts.shows.numbers counts.keys.lists one.known (unknown g a) (none-new (g.E.ValtypeEncoder.view c.args.enc.now).maps _ none) (none-has (g.E.ValtypeEncoder.view c.import.new.enc).maps _ none) (omega (arith, held, count)))
     c.import.ensures.ok (rw c.index_of.ensures.same at c.import.ensures.counts)
 
 pub returns-clause-held : goal.returns-clause-held
-returns-clause-held g c =
-    let a = (goal.at.returns-clause-held g c).After-foreign in
-    on-both c.define_own.result _ _ _
-    (λ one counts. holds-number counts.shows.learnt c.args.id.0 counts.shows.numbers one.known (unknown g a) (rw c.index_of.ensures.same at c.define_own.ensures.held))
-    c.define_own.ensures.ok (rw c.index_of.ensures.same at c.define_own.ensures.counts)
+returns-clause-held g c = rw c.index_of.ensures.same at c.define_own.ensures.held
 
 pub returns-in-Some-clause-size : goal.returns-in-Some-clause-size
 returns-in-Some-clause-size g c = λ h.
     let a = (goal.at.returns-in-Some-clause-size g c).After-foreign in
+    let before = g.E.ValtypeEncoder.view c.args.enc.now in
     let after = g.E.ValtypeEncoder.view c.import.new.enc in
     let f : foreign_owner (g.E.ValtypeEncoder.view c.args.enc.now).scope.own_interface c.index-def.result.now.owner ≡ Some c.in-Some.interface = sym (owner_is g a) ∙ c.in-Some.is in
-    lacks-number c.args.resolve.now (g.E.ValtypeEncoder.view c.args.enc.now).scope.own_interface c.args.id c.index-def.result.now (g.E.ValtypeEncoder.view c.args.enc.now).maps (g.E.ValtypeEncoder.view c.args.enc.now).held after.held after.lacks_room
-    (there g a) (unknown g a) (let l : after.held ≤ (g.E.ValtypeEncoder.view c.args.enc.now).held + 1 = (rw c.index_of.ensures.same at c.import.ensures.held) in omega arith) (its_import c.in-Some.interface f (c.import.ensures.size h))
+    let refused = c.import.ensures.size h in
+    let held : (g.E.ValtypeEncoder.view c.import.new.enc).held ≤ (g.E.ValtypeEncoder.view c.args.enc.now).held = (rw c.index_of.ensures.same at refused.held) in
+    let one = counts-one c.args.resolve.now before.scope.own_interface c.args.id.0 in
+    lacks-number c.args.resolve.now before.scope.own_interface c.args.id c.index-def.result.now before.maps before.held after.held after.lacks_room
+    (there g a) (unknown g a) (none-new _ _ (unkind g a c.in-Some.interface c.in-Some.is)) (omega (arith, held, one)) (its_import c.in-Some.interface f refused.lacks)
 
 pub returns-then-is_some-clause-written : goal.returns-then-is_some-clause-written
 returns-then-is_some-clause-written g c = rw c.index_of.ensures.same (writes-nothing c.args.resolve.now 0 (g.E.ValtypeEncoder.view c.args.enc.now))

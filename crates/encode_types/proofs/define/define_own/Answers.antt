@@ -1,4 +1,4 @@
-use Rattle.std.proofs.Common.{refl, ◌≡◌, ◌∙◌, ap, sym, subst, inl, inr, Some, arith}
+use Rattle.std.proofs.Common.{refl, ◌≡◌, ◌∙◌, ap, sym, subst, inl, inr, Some, None, arith}
 use Rattle.comp_bytes.specs.RawOf.{raw_name}
 use Rattle.wit_model.specs.Text.{Text, text_of}
 use Rattle.wit_model.specs.Tree.{named}
@@ -6,18 +6,18 @@ use Rattle.wit_model.specs.Types.{number_tree}
 use Rattle.wit_model.specs.Meant.{type_meaning}
 use Rattle.encode_types.specs.Kinds.{has_definition}
 use Rattle.encode_types.specs.Scope.{IsDeclared, exported_name}
-use Rattle.encode_types.specs.Room.{export_name, LacksPart, its_definition, its_name}
+use Rattle.encode_types.specs.Room.{export_name, unnamed_kind, its_definition, its_name}
 use Rattle.encode_types.specs.Extents.{name_extent, own_name_extent}
-use Rattle.encode_types.proofs.Rooms.{lacks-number}
+use Rattle.encode_types.proofs.Rooms.{on-both, on-pair, lacks-number, counts-one, counts-named, named-unkind, none-new, none-has, own-kind, new-kind, holds-unnamed, holds-number}
 use Rattle.encode_types.specs.Counts.{is_defined_by_name, own_name}
 use Rattle.encode_types.proofs.Learning.{learns-call-unnamed, learns-call-named}
 use Rattle.encode_types.proofs.Encoding.{named-defined, named-shown}
 use Rattle.encode_types.proofs.Owning.{exported-as, named-tree, declared-here, resource-here}
 use Rattle.encode_types.proofs.define.define_own.Given.{Over}
 use Rattle.encode_types.proofs.define.define_own.Goals as goal
-use Rattle.encode_types.proofs.define.define_own.Goals.{After-name_of-name}
+use Rattle.encode_types.proofs.define.define_own.Goals.{In-Some, After-name_of-name}
 use Rattle.encode_types.proofs.Agree.{on_ok}
-use Rattle.encode_types.proofs.Writing.{written-most, own-extent, name-extent}
+use Rattle.encode_types.proofs.Writing.{written-most, own-extent, name-extent, on-three}
 
 exported : (g : Over) (c : After-name_of-name g) → raw_name c.name_of-name.result ≡ exported_name ((raw_name c.name_of-name.result).text, type_meaning c.args.resolve.now c.args.def.now)
 exported g c = exported-as _ _ (type_meaning c.args.resolve.now c.args.def.now) refl c.name_of-name.ensures.implements c.name_of-name.ensures.version_suffix c.name_of-name.ensures.external_id
@@ -70,28 +70,74 @@ returns-in_default-clause-learns g c = learns-call-named c.define_named.result c
 its_own_name : (g : Over) (c : After-name_of-name g) → raw_name c.name_of-name.result ≡ exported_name (text_of c.in-Some.label, type_meaning c.args.resolve.now c.args.def.now)
 its_own_name g c = exported g c ∙ ap (λ (t : Text). exported_name (t, type_meaning c.args.resolve.now c.args.def.now)) c.name_of-name.ensures.text
 
+pub returns-in-None-clause-held : goal.returns-in-None-clause-held
+returns-in-None-clause-held g c =
+    let before = g.E.ValtypeEncoder.view c.args.enc.now in
+    on-three c.define_unnamed.result _ _ _ _
+    (λ one counts both. holds-unnamed counts.shows.learnt c.args.id.0 counts.shows.numbers counts.keys.lists one.known c.requires.fresh
+    (own-kind c.args.resolve.now before.scope.own_interface c.args.id.0 c.args.def.now c.requires.there c.in-None.is c.requires.own) (c.requires.fits.unnamed c.requires.own c.in-None.is) both.1.known both.0)
+    c.define_unnamed.ensures.ok c.define_unnamed.ensures.counts (on-pair c.define_unnamed.result _ _ c.define_unnamed.ensures.held c.define_unnamed.ensures.kinds)
+
 pub returns-in-None-clause-size : goal.returns-in-None-clause-size
 returns-in-None-clause-size g c = λ h.
+    let before = g.E.ValtypeEncoder.view c.args.enc.now in
     let after = g.E.ValtypeEncoder.view c.define_unnamed.new.enc in
-    lacks-number c.args.resolve.now (g.E.ValtypeEncoder.view c.args.enc.now).scope.own_interface c.args.id c.args.def.now (g.E.ValtypeEncoder.view c.args.enc.now).maps (g.E.ValtypeEncoder.view c.args.enc.now).held after.held after.lacks_room
-    c.requires.there c.requires.fresh (let l = c.define_unnamed.ensures.held in omega arith) (its_definition c.requires.own (c.define_unnamed.ensures.size h))
+    let refused = c.define_unnamed.ensures.size h in
+    let held = refused.refuses.held in
+    let one = counts-one c.args.resolve.now before.scope.own_interface c.args.id.0 in
+    lacks-number c.args.resolve.now before.scope.own_interface c.args.id c.args.def.now before.maps before.held after.held after.lacks_room
+    c.requires.there c.requires.fresh
+    (new-kind _ _ _ (own-kind c.args.resolve.now before.scope.own_interface c.args.id.0 c.args.def.now c.requires.there c.in-None.is c.requires.own) (c.requires.fits.unnamed c.requires.own c.in-None.is) refused.new)
+    (omega (arith, held, one)) (its_definition c.requires.own refused.refuses.lacks)
+
+unkind : (g : Over) (c : In-Some g) → unnamed_kind c.args.resolve.now (g.E.ValtypeEncoder.view c.args.enc.now).scope.own_interface c.args.id.0 ≡ None
+unkind g c = named-unkind c.args.resolve.now (g.E.ValtypeEncoder.view c.args.enc.now).scope.own_interface (g.E.ValtypeEncoder.view c.args.enc.now).maps c.args.id.0 c.args.def.now c.in-Some.label c.requires.there c.in-Some.is
+
+pub returns-in-Resource-clause-held : goal.returns-in-Resource-clause-held
+returns-in-Resource-clause-held g c =
+    let before = g.E.ValtypeEncoder.view c.args.enc.now in
+    let none = unkind g (goal.at.returns-in-Resource-clause-held g c).In-Some in
+    let held = c.define_resource.ensures.held in
+    let count = counts-one c.args.resolve.now before.scope.own_interface c.args.id.0 in
+    on-both c.define_resource.result _ _ _
+    (λ one counts. holds-number counts.shows.learnt c.args.id.0 counts.shows.numbers counts.keys.lists one.known c.requires.fresh (none-new before.maps _ none) (none-has (g.E.ValtypeEncoder.view c.define_resource.new.enc).maps _ none) (omega (arith, held, count)))
+    c.define_resource.ensures.ok c.define_resource.ensures.counts
+
+pub returns-in_default-clause-held : goal.returns-in_default-clause-held
+returns-in_default-clause-held g c =
+    let before = g.E.ValtypeEncoder.view c.args.enc.now in
+    let none = unkind g (goal.at.returns-in_default-clause-held g c).In-Some in
+    let held = c.define_named.ensures.held in
+    let count = counts-named c.args.resolve.now before.scope.own_interface c.args.id.0 (has_definition c.args.def.now.kind) (by_name g (goal.at.returns-in_default-clause-held g c).After-name_of-name) in
+    on-both c.define_named.result _ _ _
+    (λ one counts. holds-number counts.shows.learnt c.args.id.0 counts.shows.numbers counts.keys.lists one.known c.requires.fresh (none-new before.maps _ none) (none-has (g.E.ValtypeEncoder.view c.define_named.new.enc).maps _ none) (omega (arith, held, count)))
+    c.define_named.ensures.ok c.define_named.ensures.counts
 
 pub returns-in-Resource-clause-size : goal.returns-in-Resource-clause-size
 returns-in-Resource-clause-size g c = λ h.
+    let before = g.E.ValtypeEncoder.view c.args.enc.now in
     let after = g.E.ValtypeEncoder.view c.define_resource.new.enc in
-    lacks-number c.args.resolve.now (g.E.ValtypeEncoder.view c.args.enc.now).scope.own_interface c.args.id c.args.def.now (g.E.ValtypeEncoder.view c.args.enc.now).maps (g.E.ValtypeEncoder.view c.args.enc.now).held after.held after.lacks_room
-    c.requires.there c.requires.fresh (let l = c.define_resource.ensures.held in omega arith)
-    (its_name c.requires.own c.in-Some.label c.in-Some.is (subst after.lacks_room (ap export_name (its_own_name g (goal.at.returns-in-Resource-clause-size g c).After-name_of-name)) (c.define_resource.ensures.size h)))
+    let none = unkind g (goal.at.returns-in-Resource-clause-size g c).In-Some in
+    let refused = c.define_resource.ensures.size h in
+    let held = refused.held in
+    let one = counts-one c.args.resolve.now before.scope.own_interface c.args.id.0 in
+    lacks-number c.args.resolve.now before.scope.own_interface c.args.id c.args.def.now before.maps before.held after.held after.lacks_room
+    c.requires.there c.requires.fresh (none-new _ _ none) (omega (arith, held, one))
+    (its_name c.requires.own c.in-Some.label c.in-Some.is (subst after.lacks_room (ap export_name (its_own_name g (goal.at.returns-in-Resource-clause-size g c).After-name_of-name)) refused.lacks))
 
 pub returns-in_default-clause-size : goal.returns-in_default-clause-size
 returns-in_default-clause-size g c = λ h.
+    let before = g.E.ValtypeEncoder.view c.args.enc.now in
     let after = g.E.ValtypeEncoder.view c.define_named.new.enc in
-    let part : LacksPart c.args.resolve.now (g.E.ValtypeEncoder.view c.args.enc.now).scope.own_interface after.lacks_room c.args.id.0 c.args.def.now = elim (c.define_named.ensures.size h) [
-      | inl d ↦ its_definition c.requires.own d
-      | inr n ↦ its_name c.requires.own c.in-Some.label c.in-Some.is (subst after.lacks_room (ap export_name (its_own_name g (goal.at.returns-in_default-clause-size g c).After-name_of-name)) n)
-    ] in
-    lacks-number c.args.resolve.now (g.E.ValtypeEncoder.view c.args.enc.now).scope.own_interface c.args.id c.args.def.now (g.E.ValtypeEncoder.view c.args.enc.now).maps (g.E.ValtypeEncoder.view c.args.enc.now).held after.held after.lacks_room
-    c.requires.there c.requires.fresh (let l = c.define_named.ensures.held in omega arith) part
+    let none = unkind g (goal.at.returns-in_default-clause-size g c).In-Some in
+    let count = counts-named c.args.resolve.now before.scope.own_interface c.args.id.0 (has_definition c.args.def.now.kind) (by_name g (goal.at.returns-in_default-clause-size g c).After-name_of-name) in
+    elim (c.define_named.ensures.size h) [
+      | inl d ↦ (let held = d.held in lacks-number c.args.resolve.now before.scope.own_interface c.args.id c.args.def.now before.maps before.held after.held after.lacks_room
+          c.requires.there c.requires.fresh (none-new _ _ none) (omega (arith, held, count)) (its_definition c.requires.own d.lacks))
+      | inr n ↦ (let held = n.held in lacks-number c.args.resolve.now before.scope.own_interface c.args.id c.args.def.now before.maps before.held after.held after.lacks_room
+          c.requires.there c.requires.fresh (none-new _ _ none) (omega (arith, held, count))
+          (its_name c.requires.own c.in-Some.label c.in-Some.is (subst after.lacks_room (ap export_name (its_own_name g (goal.at.returns-in_default-clause-size g c).After-name_of-name)) n.lacks)))
+    ]
 
 takes : (g : Over) (c : After-name_of-name g) → own_name_extent c.args.resolve.now c.args.def.now ≡ name_extent (raw_name c.name_of-name.result)
 takes g c = name-extent c.args.resolve.now c.args.def.now c.in-Some.label (raw_name c.name_of-name.result) c.in-Some.is (its_own_name g c)

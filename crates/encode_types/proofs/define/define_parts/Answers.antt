@@ -1,4 +1,4 @@
-use Rattle.std.proofs.Common.{refl, ◌≡◌, ◌∙◌, sym, ap, subst, arith, get_or, rules}
+use Rattle.std.proofs.Common.{refl, ◌≡◌, ◌∙◌, sym, ap, subst, arith, get_or, length, rules}
 use Rattle.encode_types.specs.Scope.{Scope}
 use Rattle.encode_types.specs.Fits.{Fits}
 use Rattle.encode_types.specs.Plan.{IsOrderOf, foreign_owner, Reaches}
@@ -52,7 +52,7 @@ loop-n-preserved g c = record {
   learns = learns-more (g.E.ValtypeEncoder.view c.args.enc.now).maps (g.E.ValtypeEncoder.view c.loop-n.enc).maps (g.E.ValtypeEncoder.view c.define_number.new.enc).maps c.deref-n-items.result.now c.loop-n.n-index c.loop-n-test.true c.loop-n.invariant.learns c.in_ok-define_number.ensures.ok;
   learnt = learns-then (ap (λ (x : Scope). x.own_interface) c.loop-n.invariant.leaves.scope_stays) c.loop-n.invariant.learnt c.in_ok-define_number.ensures.learns;
   leaves = leaves-trans c.loop-n.invariant.leaves c.define_number.ensures.leaves;
-  held = holds-then c.loop-n.invariant.held c.in_ok-define_number.ensures.held;
+  held = holds-then (ap (λ (x : Scope). x.own_interface) c.loop-n.invariant.leaves.scope_stays) c.loop-n.invariant.leaves.maps_grow c.define_number.ensures.leaves.maps_grow c.loop-n.invariant.held c.in_ok-define_number.ensures.held;
   written = writes-then c.loop-n.invariant.leaves.scope_stays c.loop-n.invariant.written c.in_ok-define_number.ensures.written;
   counts = counts-trans c.loop-n.invariant.leaves.scope_stays c.loop-n.invariant.counts c.in_ok-define_number.ensures.counts;
 }
@@ -74,7 +74,7 @@ loop-n-init g c = rw c.order_of.ensures.same (record {
   learns = learns-nothing _ (g.E.ValtypeEncoder.view c.args.enc.now).maps;
   learnt = learns-none c.args.resolve.now (g.E.ValtypeEncoder.view c.args.enc.now).scope.own_interface (g.E.ValtypeEncoder.view c.args.enc.now).maps;
   leaves = leaves-kept c.requires.agree (record { kept = λ i s h. h; more = omega arith; around_ = around-same refl }) refl refl;
-  held = holds-none (g.E.ValtypeEncoder.view c.args.enc.now).maps (g.E.ValtypeEncoder.view c.args.enc.now).held;
+  held = holds-none c.args.resolve.now (g.E.ValtypeEncoder.view c.args.enc.now).scope.own_interface (g.E.ValtypeEncoder.view c.args.enc.now).maps (g.E.ValtypeEncoder.view c.args.enc.now).held;
   written = writes-nothing c.args.resolve.now 0 (g.E.ValtypeEncoder.view c.args.enc.now);
   counts = counts-none c.args.resolve.now (g.E.ValtypeEncoder.view c.args.enc.now).scope (g.E.ValtypeEncoder.view c.args.enc.now).maps (g.E.ValtypeEncoder.view c.args.enc.now).definitions;
 })
@@ -88,7 +88,8 @@ returns-in_err-define_number-clause-size g c = λ h.
     let before = g.E.ValtypeEncoder.view c.args.enc.now in
     let n = get_or c.deref-n-items.result.now c.loop-n.n-index 0 in
     let met = o.added n (Contains-get_or _ _ 0 c.loop-n-test.true) in
-    room-after c.loop-n.invariant.held c.loop-n.invariant.leaves.agree.once (ap (λ (x : Scope). x.own_interface) c.loop-n.invariant.leaves.scope_stays)
+    let keys : length (g.E.ValtypeEncoder.view c.loop-n.enc).maps.func_type_map.entries ≡ length (g.E.ValtypeEncoder.view c.args.enc.now).maps.func_type_map.entries = ap length c.loop-n.invariant.counts.keys.lists in
+    room-after (ap (λ (x : Scope). x.own_interface) c.loop-n.invariant.leaves.scope_stays) c.loop-n.invariant.leaves.maps_grow c.loop-n.invariant.held
     (learns-reached c.args.resolve.now before.scope.own_interface before.maps (g.E.ValtypeEncoder.view c.loop-n.enc).maps c.args.types.now c.deref-n-items.result.now c.loop-n.n-index o c.loop-n.invariant.learns)
     (λ k reached. (
       met.0,
@@ -96,4 +97,4 @@ returns-in_err-define_number-clause-size g c = λ h.
       reaches-then c.args.resolve.now before.scope.own_interface met.0 n (meets-reaches c.args.resolve.now before.scope.own_interface before.maps met.0 n met.2) k
           (subst (λ (t : ValueType). Reaches c.args.resolve.now before.scope.own_interface t k) (sym (one-contained (ty.Id (record { 0 = n })) reached.0 reached.1)) reached.2),
     ))
-    (λ q c. none-in q c) (omega arith) (c.define_number.ensures.size (search rules))
+    (λ q c. none-in q c) (omega (arith, keys)) (c.define_number.ensures.size (search rules))

@@ -11,7 +11,7 @@ invariant-loop-n g l = record {
   learns : LearnsOnly (λ n. Contains (take l.n-index l.n-items) n) (g.E.ValtypeEncoder.view l.fn.enc).maps (g.E.ValtypeEncoder.view l.enc).maps;
   learnt : LearnsParts l.resolve (g.E.ValtypeEncoder.view l.fn.enc) (g.E.ValtypeEncoder.view l.enc);
   leaves : Leaves l.resolve (g.E.ValtypeEncoder.view l.fn.enc) (g.E.ValtypeEncoder.view l.enc);
-  held : HoldsLearnt 0 (g.E.ValtypeEncoder.view l.fn.enc) (g.E.ValtypeEncoder.view l.enc);
+  held : HoldsLearnt l.resolve 0 (g.E.ValtypeEncoder.view l.fn.enc) (g.E.ValtypeEncoder.view l.enc);
   written : WritesLearnt l.resolve 0 (g.E.ValtypeEncoder.view l.fn.enc) (g.E.ValtypeEncoder.view l.enc);
   counts : CountsTypes l.resolve (g.E.ValtypeEncoder.view l.fn.enc) (g.E.ValtypeEncoder.view l.enc);
 }

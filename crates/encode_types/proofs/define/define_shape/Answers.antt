@@ -20,7 +20,7 @@ returns-clause-ok g c =
     c.defined_type.ensures.ok (followed g (goal.at.returns-clause-ok g c).In_ok-def)
 
 pub returns-clause-size : goal.returns-clause-size
-returns-clause-size g c = λ h. c.defined_type.ensures.size h _ (followed g (goal.at.returns-clause-size g c).In_ok-def)
+returns-clause-size g c = λ h. let x = c.defined_type.ensures.size h _ (followed g (goal.at.returns-clause-size g c).In_ok-def) in rw c.definition_of.ensures.same at x
 
 pub returns-clause-written : goal.returns-clause-written
 returns-clause-written g c =

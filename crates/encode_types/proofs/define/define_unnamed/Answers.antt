@@ -1,4 +1,4 @@
-use Rattle.std.proofs.Common.{◌∙◌, ap}
+use Rattle.std.proofs.Common.{◌∙◌, ap, inl, inr, arith}
 use Rattle.encode_types.specs.Scope.{Scope}
 use Rattle.encode_types.specs.Counts.{own_name, is_defined_by_name}
 use Rattle.encode_types.proofs.Learning.{kind-same}
@@ -29,3 +29,13 @@ returns-clause-leaves g c = leaves-trans c.define_unnamed_kind.ensures.leaves c.
 
 pub returns-clause-written : goal.returns-clause-written
 returns-clause-written g c = on_ok c.remember_id.result _ _ (λ l. written-on c.in_ok-index.ensures.written c.remember_id.ensures.written) c.remember_id.ensures.ok
+
+pub returns-clause-held : goal.returns-clause-held
+returns-clause-held g c =
+    let same = c.remember_id.ensures.held in
+    on_ok c.remember_id.result _ _
+    (λ l. elim c.in_ok-index.ensures.held [
+      | inl few ↦ inl (omega (arith, same, few))
+      | inr more ↦ inr (more.0, (let few = more.1 in omega (arith, same, few)))
+    ])
+    c.remember_id.ensures.ok

@@ -1,19 +1,23 @@
-use Rattle.std.proofs.Common.{refl, ◌∙◌, subst, ℕ, List}
+use Rattle.std.proofs.Common.{refl, ◌∙◌, subst, ℕ, List, inl, inr, arith}
 use Rattle.std.specs.List.{Contains}
 use Rattle.encode_types.specs.Codes.{lists_of}
-use Rattle.encode_types.specs.Maps.{HasKind, LacksList}
+use Rattle.encode_types.specs.Maps.{HasKind, LacksKind, LacksList}
 use Rattle.encode_types.proofs.Learning.{kind-had}
 use Rattle.encode_types.proofs.Defining.{kind-stands, counts-none}
 use Rattle.encode_types.proofs.define.define_unnamed_kind.Given.{Over}
 use Rattle.encode_types.proofs.define.define_unnamed_kind.Goals as goal
-use Rattle.encode_types.proofs.define.define_unnamed_kind.Goals.{In-Some}
+use Rattle.encode_types.proofs.define.define_unnamed_kind.Goals.{In-Some, In_default}
 use Rattle.encode_types.proofs.Writing.{written-none}
+use Rattle.encode_types.proofs.Rooms.{on-held}
 
 had : (g : Over) (c : In-Some g) → HasKind (g.E.ValtypeEncoder.view c.args.enc.now).maps c.args.kind.now c.in-Some.index
 had g c = (c.requires.unnamed, subst (λ (xs : List ℕ). Contains (lists_of (g.E.ValtypeEncoder.view c.args.enc.now).maps.def_to_index) (xs, c.in-Some.index)) (c.as_slice.ensures.value ∙ c.in_ok-list.ensures) c.in-Some.ensures.some)
 
 pub returns-in-Some-clause-ok : goal.returns-in-Some-clause-ok
 returns-in-Some-clause-ok g c = rw c.index_of_kind.ensures.same (kind-stands c.args.resolve.now (g.E.ValtypeEncoder.view c.args.enc.now).maps (g.E.ValtypeEncoder.view c.args.enc.now).stands c.args.kind.now c.in-Some.index c.requires.agree (had g (goal.at.returns-in-Some-clause-ok g c).In-Some))
+
+lacks : (g : Over) (c : In_default g) → LacksKind (g.E.ValtypeEncoder.view c.args.enc.now).maps c.args.kind.now
+lacks g c = subst (LacksList (lists_of (g.E.ValtypeEncoder.view c.args.enc.now).maps.def_to_index)) (c.as_slice.ensures.value ∙ c.in_ok-list.ensures) (rw c.in_default.is at c.index_of_kind.ensures.none)
 
 pub define_new_kind-requires : goal.define_new_kind-requires
 define_new_kind-requires g c = λ _. (
@@ -23,7 +27,7 @@ define_new_kind-requires g c = λ _. (
     (
       c.in_ok-list.ensures,
       (
-        subst (LacksList (lists_of (g.E.ValtypeEncoder.view c.args.enc.now).maps.def_to_index)) (c.as_slice.ensures.value ∙ c.in_ok-list.ensures) (rw c.in_default.is at c.index_of_kind.ensures.none),
+        lacks g (goal.at.define_new_kind-requires g c).In_default,
         (c.requires.ready, (c.requires.formed, c.requires.agree)),
       ),
     ),
@@ -41,3 +45,12 @@ returns-in-Some-clause-written g c = rw c.index_of_kind.ensures.same (written-no
 
 pub returns-clause-written : goal.returns-clause-written
 returns-clause-written g c = rw c.index_of_kind.ensures.same at c.define_new_kind.ensures.written
+
+pub returns-in-Some-clause-held : goal.returns-in-Some-clause-held
+returns-in-Some-clause-held g c = rw c.index_of_kind.ensures.same (inl (omega arith))
+
+pub returns-clause-held : goal.returns-clause-held
+returns-clause-held g c = on-held c.define_new_kind.result _ (inr (lacks g (goal.at.returns-clause-held g c).In_default, (rw c.index_of_kind.ensures.same at c.define_new_kind.ensures.held)))
+
+pub returns-clause-size : goal.returns-clause-size
+returns-clause-size g c = λ h. record { new = lacks g (goal.at.returns-clause-size g c).In_default; refuses = (rw c.index_of_kind.ensures.same at (c.define_new_kind.ensures.size h)) }

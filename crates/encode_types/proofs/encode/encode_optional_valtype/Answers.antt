@@ -2,6 +2,7 @@ use Rattle.encode_types.proofs.Learning.{met-nothing, ready-none, ready-single}
 use Rattle.encode_types.proofs.Defining.{counts-none}
 use Rattle.encode_types.proofs.encode.encode_optional_valtype.Goals as goal
 use Rattle.encode_types.proofs.Writing.{writes-nothing}
+use Rattle.encode_types.proofs.Rooms.{holds-none}
 
 pub returns-in_ok-value-in-Some-clause-learns : goal.returns-in_ok-value-in-Some-clause-learns
 returns-in_ok-value-in-Some-clause-learns g c = rw c.in-Some.is c.in_ok-value-in-Some.ensures.learns
@@ -20,3 +21,6 @@ returns-in-None-clause-knows g c = rw c.in-None.is (ready-none (g.E.ValtypeEncod
 
 pub returns-in-None-clause-written : goal.returns-in-None-clause-written
 returns-in-None-clause-written g c = writes-nothing c.args.resolve.now 0 (g.E.ValtypeEncoder.view c.args.enc.now)
+
+pub returns-in-None-clause-held : goal.returns-in-None-clause-held
+returns-in-None-clause-held g c = holds-none c.args.resolve.now (g.E.ValtypeEncoder.view c.args.enc.now).scope.own_interface (g.E.ValtypeEncoder.view c.args.enc.now).maps (g.E.ValtypeEncoder.view c.args.enc.now).held

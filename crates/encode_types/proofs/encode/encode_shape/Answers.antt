@@ -1,4 +1,4 @@
-use Rattle.std.proofs.Common.{◌≡◌, refl, rules, arith, ap, [], Result, Ok, Err, IfErr}
+use Rattle.std.proofs.Common.{◌≡◌, refl, rules, arith, ap, [], length, Result, Ok, Err, IfErr}
 use Rattle.std.specs.Result.{IsErr}
 use Rattle.wit_model.specs.declared.error.Error.{Error}
 use Rattle.wit_model.specs.declared.error.Error.TheVariants.{Size}
@@ -6,7 +6,6 @@ use Rattle.wit_model.specs.declared.model.Resolve.{Resolve}
 use Rattle.wit_model.specs.declared.model.TypeDefKind.{TypeDefKind}
 use Rattle.comp_bytes.specs.Refusal.{IsMemoryOrSize}
 use Rattle.comp_bytes.specs.declared.forms.ComponentValType.{ComponentValType}
-use Rattle.encode_types.specs.declared.maps.TypeEncodingMaps.{TypeEncodingMaps}
 use Rattle.encode_types.specs.Kinds.{parts_of, kind_of, kind_tree}
 use Rattle.encode_types.specs.Scope.{Scope}
 use Rattle.encode_types.specs.Room.{value_type}
@@ -51,7 +50,7 @@ returns g c =
         adds = rw c.define_shape.ensures.maps_stay c.in_ok-define_parts.ensures.counts;
         one_more = c.in_ok-index.ensures.counts;
       };
-      held = holds-same 0 1 (ap (λ (m : TypeEncodingMaps). m.id_to_index.entries) c.define_shape.ensures.maps_stay) c.define_shape.ensures.held c.in_ok-define_parts.ensures.held;
+      held = holds-same 0 1 c.define_shape.ensures.maps_stay c.define_shape.ensures.held c.in_ok-define_parts.ensures.held;
       size = λ h. absurd (let z : ⊥ = cc in z);
       refuses = tt;
     }
@@ -79,7 +78,9 @@ returns-in_err-index g c =
     let after = g.E.ValtypeEncoder.view c.define_shape.new.enc in
     refused c.args.resolve.now (kind_of c.args.shape) before after c.from_residual-in_err-index.result (search rules) (leaves g at.After-branch-index)
     (λ h.
-    room-after c.in_ok-define_parts.ensures.held c.define_parts.ensures.leaves.agree.once (ap (λ (s : Scope). s.own_interface) c.define_parts.ensures.leaves.scope_stays)
-    (only-reached c.args.resolve.now before.scope.own_interface (parts_of (kind_of c.args.shape)) (learnt g at.In_ok-define_parts).only) (λ n x. x) (λ q k. k) (omega arith)
-    (lacks-request c.args.resolve.now between.scope.own_interface (parts_of (kind_of c.args.shape)) (value_type (kind_tree c.args.resolve.now (kind_of c.args.shape))) between.maps between.held after.held after.lacks_room c.define_shape.ensures.held (c.define_shape.ensures.size (search rules))))
+    let keys : length between.maps.func_type_map.entries ≡ length before.maps.func_type_map.entries = ap length c.in_ok-define_parts.ensures.counts.keys.lists in
+    let lacks = c.define_shape.ensures.size (search rules) in
+    room-after (ap (λ (s : Scope). s.own_interface) c.define_parts.ensures.leaves.scope_stays) c.define_parts.ensures.leaves.maps_grow c.in_ok-define_parts.ensures.held
+    (only-reached c.args.resolve.now before.scope.own_interface (parts_of (kind_of c.args.shape)) (learnt g at.In_ok-define_parts).only) (λ n x. x) (λ q k. k) (omega (arith, keys))
+    (lacks-request c.args.resolve.now between.scope.own_interface (parts_of (kind_of c.args.shape)) (value_type (kind_tree c.args.resolve.now (kind_of c.args.shape))) between.maps between.held after.held after.lacks_room lacks.held lacks.lacks))
     (search rules)

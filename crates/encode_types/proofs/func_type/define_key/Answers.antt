@@ -1,16 +1,17 @@
-use Rattle.std.proofs.Common.{refl, ◌∙◌, sym, subst, ap, rules, arith}
+use Rattle.std.proofs.Common.{◌≡◌, refl, ◌∙◌, sym, subst, ap, rules, arith, ℕ, length, Vec}
+use Rattle.std.specs.declared.alloc.Global.{Global}
 use Rattle.wit_model.specs.Parts.{function_types}
 use Rattle.encode_types.specs.Scope.{Scope}
 use Rattle.encode_types.specs.Room.{function_type}
-use Rattle.encode_types.proofs.Rooms.{room-more, room-after, only-reached, lacks-request}
+use Rattle.encode_types.proofs.Rooms.{room-more, room-after, only-reached, lacks-request, holds-key}
 use Rattle.wit_model.specs.Meaning.{Signature}
 use Rattle.wit_model.specs.Meant.{signature_of}
 use Rattle.encode_types.specs.declared.maps.TypeEncodingMaps.{TypeEncodingMaps}
-use Rattle.encode_types.specs.Maps.{LearnsKey}
+use Rattle.encode_types.specs.Maps.{LearnsKey, MapsGrow}
 use Rattle.encode_types.specs.Slots.{function}
-use Rattle.encode_types.proofs.Defining.{leaves-kept, leaves-trans}
+use Rattle.encode_types.proofs.Defining.{leaves-kept, leaves-trans, lists-longer}
 use Rattle.encode_types.proofs.Learning.{met-key}
-use Rattle.encode_types.proofs.Functions.{key-signature, counts-key, lacks-same}
+use Rattle.encode_types.proofs.Functions.{key-signature, key-new, counts-key, lacks-same}
 use Rattle.encode_types.proofs.func_type.define_key.Given.{Over}
 use Rattle.encode_types.proofs.func_type.define_key.Goals as goal
 use Rattle.encode_types.proofs.func_type.define_key.Goals.{In_ok-index}
@@ -64,16 +65,36 @@ returns-in_err-index-clause-leaves g c = leaves-trans c.function_of.ensures.leav
 pub returns-in_err-remember_key-clause-leaves : goal.returns-in_err-remember_key-clause-leaves
 returns-in_err-remember_key-clause-leaves g c = leaves-trans c.function_of.ensures.leaves (leaves-trans (leaves-kept {v = g.E.ValtypeEncoder.view c.function_of.new.enc} {v' = g.E.ValtypeEncoder.view c.define_function_type.new.self} c.function_of.ensures.leaves.agree c.define_function_type.ensures.grows c.define_function_type.ensures.scope_stays c.define_function_type.ensures.maps_stay) c.remember_key.ensures.leaves)
 
+pub returns-clause-held : goal.returns-clause-held
+returns-clause-held g c =
+    let same = c.define_function_type.ensures.maps_stay in
+    let after = (g.E.ValtypeEncoder.view c.remember_key.new.enc).maps in
+    let learns = subst (λ (z : TypeEncodingMaps). LearnsKey z (g.E.ValtypeEncoder.view c.remember_key.new.enc).maps c.args.key c.in_ok-index.index) same c.in_ok-remember_key.ensures.ok in
+    let grow = subst (λ (z : TypeEncodingMaps). MapsGrow z (g.E.ValtypeEncoder.view c.remember_key.new.enc).maps) same c.remember_key.ensures.leaves.maps_grow in
+    let first = c.define_function_type.ensures.held in
+    let second = c.remember_key.ensures.held in
+    holds-key grow learns.rest.numbers (lists-longer (λ (v : Vec ℕ Global). v.items) (g.E.ValtypeEncoder.view c.function_of.new.enc).maps.func_type_map.entries after.func_type_map.entries (learns.list, c.in_ok-index.index) learns.more)
+    (omega (arith, first, second)) c.in_ok-def.ensures.held
+
 pub returns-in_err-def-clause-size : goal.returns-in_err-def-clause-size
-returns-in_err-def-clause-size g c = λ h. room-more refl (λ n x. x) (λ q k. none-in q k) (omega arith) (c.function_of.ensures.size (search rules))
+returns-in_err-def-clause-size g c = λ h. record {
+  new_key = key-new (g.E.ValtypeEncoder.view c.args.enc.now).maps c.args.key c.args.func.now c.requires.is_key c.requires.lacks;
+  room = room-more refl (λ n x. x) (λ q k. none-in q k) (omega arith) (c.function_of.ensures.size (search rules));
+}
 
 pub returns-in_err-index-clause-size : goal.returns-in_err-index-clause-size
 returns-in_err-index-clause-size g c = λ h.
+    let before = g.E.ValtypeEncoder.view c.args.enc.now in
     let between = g.E.ValtypeEncoder.view c.function_of.new.enc in
     let after = g.E.ValtypeEncoder.view c.define_function_type.new.self in
-    room-after c.in_ok-def.ensures.held c.function_of.ensures.leaves.agree.once (ap (λ (s : Scope). s.own_interface) c.function_of.ensures.leaves.scope_stays) (only-reached c.args.resolve.now (g.E.ValtypeEncoder.view c.args.enc.now).scope.own_interface (function_types c.args.func.now) c.in_ok-def.ensures.learns.only) (λ n x. x) (λ q k. k) (omega arith)
-    (lacks-request c.args.resolve.now between.scope.own_interface (function_types c.args.func.now) (function_type (signature_of c.args.resolve.now c.args.func.now)) between.maps between.held after.held after.lacks_room c.define_function_type.ensures.held
-    (c.define_function_type.ensures.size (search rules) (signature_of c.args.resolve.now c.args.func.now) c.in_ok-def.ensures.ok))
+    let keys : length between.maps.func_type_map.entries ≡ length before.maps.func_type_map.entries = ap length c.in_ok-def.ensures.counts.keys.lists in
+    let lacks = c.define_function_type.ensures.size (search rules) (signature_of c.args.resolve.now c.args.func.now) c.in_ok-def.ensures.ok in
+    record {
+      new_key = key-new before.maps c.args.key c.args.func.now c.requires.is_key c.requires.lacks;
+      room = room-after (ap (λ (s : Scope). s.own_interface) c.function_of.ensures.leaves.scope_stays) c.function_of.ensures.leaves.maps_grow c.in_ok-def.ensures.held
+          (only-reached c.args.resolve.now before.scope.own_interface (function_types c.args.func.now) c.in_ok-def.ensures.learns.only) (λ n x. x) (λ q k. k) (omega (arith, keys))
+          (lacks-request c.args.resolve.now between.scope.own_interface (function_types c.args.func.now) (function_type (signature_of c.args.resolve.now c.args.func.now)) between.maps between.held after.held after.lacks_room lacks.held lacks.lacks);
+    }
 
 pub returns-clause-written : goal.returns-clause-written
 returns-clause-written g c =

@@ -5,6 +5,7 @@ use Rattle.encode_types.proofs.Tables.{at-some, at-none}
 use Rattle.encode_types.proofs.Functions.{key-stands, counts-known, ok-map}
 use Rattle.encode_types.proofs.func_type.encode_func_type.Goals as goal
 use Rattle.encode_types.proofs.Writing.{writes-nothing}
+use Rattle.encode_types.proofs.Rooms.{holds-none}
 
 pub returns-in-Some-clause-ok : goal.returns-in-Some-clause-ok
 returns-in-Some-clause-ok g c = rw c.index_of_key.ensures.same (key-stands c.args.resolve.now (g.E.ValtypeEncoder.view c.args.enc.now).maps (g.E.ValtypeEncoder.view c.args.enc.now).stands c.key_of-key.result c.args.func.now c.in-Some.index c.requires.agree c.key_of-key.ensures (at-some c.in_ok-index.field-0 (HasKey (g.E.ValtypeEncoder.view c.args.enc.now).maps c.key_of-key.result) c.in-Some.index c.in-Some.is c.in_ok-index.ensures.some))
@@ -26,3 +27,6 @@ returns-clause-learns g c = rw c.index_of_key.ensures.same at c.define_key.ensur
 
 pub returns-in-Some-clause-written : goal.returns-in-Some-clause-written
 returns-in-Some-clause-written g c = rw c.index_of_key.ensures.same (writes-nothing c.args.resolve.now _ (g.E.ValtypeEncoder.view c.args.enc.now))
+
+pub returns-in-Some-clause-held : goal.returns-in-Some-clause-held
+returns-in-Some-clause-held g c = rw c.index_of_key.ensures.same (holds-none c.args.resolve.now (g.E.ValtypeEncoder.view c.args.enc.now).scope.own_interface (g.E.ValtypeEncoder.view c.args.enc.now).maps (g.E.ValtypeEncoder.view c.args.enc.now).held)

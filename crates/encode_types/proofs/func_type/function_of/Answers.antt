@@ -1,4 +1,4 @@
-use Rattle.std.proofs.Common.{ap, refl, map, option_to_list, rules, arith, []}
+use Rattle.std.proofs.Common.{◌≡◌, ap, refl, map, length, option_to_list, rules, arith, []}
 use Rattle.encode_types.specs.Leaves.{LacksRoom, LearnsFrom}
 use Rattle.encode_types.proofs.Rooms.{room-more, room-after, holds-then, only-more, only-reached, reached-left, reached-right}
 use Rattle.encode_types.specs.Slots.{NamedStands}
@@ -59,11 +59,12 @@ returns-in_err-result-clause-size g c = λ h.
     let answer = option_to_list c.args.func.now.result in
     let learns : LearnsFrom c.args.resolve.now (map (λ p. p.ty) c.args.func.now.params.items) (g.E.ValtypeEncoder.view c.args.enc.now) (g.E.ValtypeEncoder.view c.encode_params.new.enc) = (rw c.deref.ensures.value at c.in_ok-params.ensures.learns) in
     let lacks : LacksRoom c.args.resolve.now (option_to_list c.args.func.now.result) [] (g.E.ValtypeEncoder.view c.encode_params.new.enc) (g.E.ValtypeEncoder.view c.encode_optional_valtype.new.enc) = (rw c.as_ref.ensures.value at (c.encode_optional_valtype.ensures.size (search rules))) in
-    room-after c.in_ok-params.ensures.held c.encode_params.ensures.leaves.agree.once (ap (λ (z : Scope). z.own_interface) c.encode_params.ensures.leaves.scope_stays) (only-more (reached-left params answer) (only-reached c.args.resolve.now (g.E.ValtypeEncoder.view c.args.enc.now).scope.own_interface params learns.only))
-    (reached-right params answer) (λ q k. k) (omega arith) lacks
+    let keys : length between.maps.func_type_map.entries ≡ length (g.E.ValtypeEncoder.view c.args.enc.now).maps.func_type_map.entries = ap length c.in_ok-params.ensures.counts.keys.lists in
+    room-after (ap (λ (z : Scope). z.own_interface) c.encode_params.ensures.leaves.scope_stays) c.encode_params.ensures.leaves.maps_grow c.in_ok-params.ensures.held (only-more (reached-left params answer) (only-reached c.args.resolve.now (g.E.ValtypeEncoder.view c.args.enc.now).scope.own_interface params learns.only))
+    (reached-right params answer) (λ q k. k) (omega (arith, keys)) lacks
 
 pub returns-clause-held : goal.returns-clause-held
-returns-clause-held g c = holds-then c.in_ok-params.ensures.held c.in_ok-result.ensures.held
+returns-clause-held g c = holds-then (ap (λ (z : Scope). z.own_interface) c.encode_params.ensures.leaves.scope_stays) c.encode_params.ensures.leaves.maps_grow c.encode_optional_valtype.ensures.leaves.maps_grow c.in_ok-params.ensures.held c.in_ok-result.ensures.held
 
 pub returns-clause-written : goal.returns-clause-written
 returns-clause-written g c = writes-then c.encode_params.ensures.leaves.scope_stays c.in_ok-params.ensures.written c.in_ok-result.ensures.written

@@ -12,13 +12,13 @@ use Rattle.wit_encode.proofs.Referring.{on-any, from-met}
 use Rattle.wit_model.specs.Parts.{function_types}
 use Rattle.wit_encode.specs.Instance.{own_of}
 use Rattle.wit_encode.proofs.Continuing.{Showed, function-showed, after-types}
-use Rattle.wit_encode.proofs.Counting.{function-counted, function-names}
+use Rattle.wit_encode.proofs.Counting.{adds-function, function-counted, function-names}
 use Rattle.wit_encode.proofs.FunctionExports.{function-stays}
-use Rattle.std.proofs.Common.{rules, arith, ◌∷◌, []}
-use Rattle.std.proofs.lemmas.List.Elements.{Contains-append_left, Contains-append_right}
+use Rattle.std.proofs.Common.{rules, arith}
 use Rattle.wit_encode.specs.Encoders.{encoder_view}
-use Rattle.encode_types.proofs.Rooms.{holds-same, room-more, room-after, only-reached, lacks-request}
-use Rattle.encode_types.specs.Room.{Request, export_name, function_type, function_name}
+use Rattle.encode_types.proofs.Rooms.{holds-same, only-reached}
+use Rattle.wit_encode.proofs.FunctionRoom.{lacks-type, lacks-name}
+use Rattle.encode_types.specs.Room.{export_name, function_name}
 use Rattle.wit_encode.proofs.Refusing.{function-named}
 use Rattle.wit_encode.proofs.interface.InstanceEncoderOf+TypeEncodingMaps.encode_function.Goals as goal
 use Rattle.wit_encode.proofs.interface.InstanceEncoderOf+TypeEncodingMaps.encode_function.Goals.{After-export_function}
@@ -101,21 +101,27 @@ returns-clause-learns c = on-any c.export_function.result (subst (λ (m : TypeEn
     (from-met c.args.resolve.now (own_of c.args.self.now.inner) (function_types c.args.func.now) c.args.self.now.maps c.encode_func_type.new.enc.maps c.in_ok-index.ensures.learns))
 
 pub returns-clause-held : goal.returns-clause-held
-returns-clause-held c = on-any c.export_function.result (holds-same 1 1 (ap (λ (m : TypeEncodingMaps). m.id_to_index.entries) c.export_function.ensures.maps) c.export_function.ensures.held c.in_ok-index.ensures.held)
+returns-clause-held c = on-any c.export_function.result (holds-same 0 1 c.export_function.ensures.maps c.export_function.ensures.held c.in_ok-index.ensures.held)
 
 pub returns-in_err-index-clause-size : goal.returns-in_err-index-clause-size
 returns-in_err-index-clause-size c = λ h.
-    room-more refl (λ n x. x) (λ q k. Contains-append_left (function_type (signature_of c.args.resolve.now c.args.func.now) ∷ []) (export_name (function_name (text_of c.args.name.now, c.args.func.now)) ∷ []) q k) (omega arith) (c.encode_func_type.ensures.size (search rules))
+    let before = encoder_view c.args.self.now in
+    let after = encoder_view c.encode_func_type.new.enc in
+    let refused = c.encode_func_type.ensures.size (search rules) in
+    lacks-type c.args.resolve.now (own_of c.args.self.now.inner) after.lacks_room (text_of c.args.name.now) c.args.func.now c.args.self.now.maps before.held after.held c.requires.open.agree.once refused.new_key refused.room
 
 pub returns-clause-size : goal.returns-clause-size
 returns-clause-size c = λ h.
-    let name : Request = export_name (function_name (text_of c.args.name.now, c.args.func.now)) in
+    let before = encoder_view c.args.self.now in
     let between = encoder_view c.encode_func_type.new.enc in
     let after = encoder_view c.export_function.new.self in
-    room-after c.in_ok-index.ensures.held c.encode_func_type.ensures.leaves.agree.once (ap (λ (s : Scope). s.own_interface) c.encode_func_type.ensures.leaves.scope_stays)
-    (only-reached c.args.resolve.now (own_of c.args.self.now.inner) (function_types c.args.func.now) c.in_ok-index.ensures.learns.only) (λ n x. x) (λ q k. Contains-append_right (function_type (signature_of c.args.resolve.now c.args.func.now) ∷ []) (name ∷ []) q k) (omega arith)
-    (lacks-request c.args.resolve.now between.scope.own_interface (function_types c.args.func.now) name between.maps between.held after.held after.lacks_room c.export_function.ensures.held
-    (subst after.lacks_room (ap export_name (function-named (raw_name c.name_of.result) (text_of c.args.name.now, c.args.func.now) c.name_of.ensures.text c.name_of.ensures.implements c.name_of.ensures.version_suffix c.name_of.ensures.external_id)) (c.export_function.ensures.size h)))
+    let counts = c.in_ok-index.ensures.counts in
+    let adds = adds-function counts.0 c.in_ok-index.index c.args.func.now counts.1 c.requires.open.agree.once counts.2 in
+    let refused = c.export_function.ensures.size h in
+    lacks-name c.args.resolve.now (own_of c.args.self.now.inner) after.lacks_room (text_of c.args.name.now) c.args.func.now c.args.self.now.maps c.encode_func_type.new.enc.maps before.held between.held after.held
+    c.encode_func_type.ensures.leaves.agree.once c.encode_func_type.ensures.leaves.maps_grow c.in_ok-index.ensures.held
+    (only-reached c.args.resolve.now (own_of c.args.self.now.inner) (function_types c.args.func.now) c.in_ok-index.ensures.learns.only) adds.known refused.held
+    (subst after.lacks_room (ap export_name (function-named (raw_name c.name_of.result) (text_of c.args.name.now, c.args.func.now) c.name_of.ensures.text c.name_of.ensures.implements c.name_of.ensures.version_suffix c.name_of.ensures.external_id)) refused.lacks)
 
 pub returns-clause-written : goal.returns-clause-written
 returns-clause-written c =

@@ -1,4 +1,7 @@
-use Rattle.std.proofs.Common.{rules, refl, arith, ℕ, String, Global, ◌∙◌, ap, ◌++◌, map}
+use Rattle.std.proofs.Common.{rules, refl, sym, subst, arith, ℕ, String, Global, List, take, ◌∙◌, ap, ◌++◌, map}
+use Rattle.std.specs.List.{Contains}
+use Rattle.wit_model.specs.Text.{Text}
+use Rattle.wit_encode.proofs.Opening.{map-twice}
 use Rattle.std.specs.Borrow.{Bor}
 use Rattle.std.proofs.lemmas.Grind.{common_steps}
 use Rattle.wit_model.specs.declared.model.Function.{Function}
@@ -13,9 +16,8 @@ use Rattle.wit_encode.proofs.FunctionExports.{used-kept}
 use Rattle.wit_model.proofs.Elements.{contains-map}
 use Rattle.std.proofs.Math.ListN.{length-map}
 use Rattle.wit_model.specs.Parts.{function_types}
-use Rattle.encode_types.specs.Room.{function_requests}
-use Rattle.wit_encode.proofs.Refusing.{two-each}
-use Rattle.encode_types.proofs.Rooms.{holds-most, holds-then, room-after, only-more, flat-taken}
+use Rattle.encode_types.proofs.Rooms.{holds-none, holds-most, holds-then, only-more, flat-taken, map-taken}
+use Rattle.wit_encode.proofs.FunctionRoom.{next-lacks}
 use Rattle.wit_encode.proofs.interface.InstanceEncoderOf+TypeEncodingMaps.encode_functions.Goals as goal
 use Rattle.wit_encode.proofs.BytesWritten.{functions-next, functions-whole}
 use Rattle.encode_types.proofs.Writing.{writes-along, writes-most, writes-nothing}
@@ -43,7 +45,7 @@ loop-entry-preserved c = record {
       (encoder_scope c.args.resolve.now c.loop-entry.self.outer c.loop-entry.self.inner) c.args.self.now.maps c.loop-entry.self.maps c.encode_function.new.self.maps
       c.loop-entry.invariant.own c.loop-entry.invariant.names c.in_ok-encode_function.ensures.names_stay;
   within = omega arith;
-  held = holds-most (omega arith) (holds-then c.loop-entry.invariant.held c.in_ok-encode_function.ensures.held);
+  held = holds-most (omega arith) (holds-then c.loop-entry.invariant.own c.loop-entry.invariant.grow c.encode_function.ensures.maps_grow c.loop-entry.invariant.held c.in_ok-encode_function.ensures.held);
   written =
       let next = functions-next (function_extent c.args.resolve.now) placed_function c.args.functions.now c.loop-entry.entry-index c.entry-item.result c.loop-entry-test.true c.entry-item.is in
       writes-most (omega (arith, next)) (writes-along c.loop-entry.invariant.own c.loop-entry.invariant.written c.in_ok-encode_function.ensures.written);
@@ -75,14 +77,14 @@ returns-clause-held c = holds-most (let w = c.loop-entry.invariant.within in ome
 pub returns-in_err-encode_function-clause-size : goal.returns-in_err-encode_function-clause-size
 returns-in_err-encode_function-clause-size c = λ h.
     let at = contains-at c.args.functions.now c.loop-entry.entry-index c.entry-item.result c.loop-entry-test.true c.entry-item.is in
-    let count = two-each c.args.resolve.now (map placed_function c.args.functions.now) in
     let length-is = length-map c.args.functions.now placed_function in
     let before = c.loop-entry-test.true in
-    room-after c.loop-entry.invariant.held c.loop-entry.invariant.continues.agree.once c.loop-entry.invariant.own
+    next-lacks c.loop-entry.invariant.own c.loop-entry.invariant.grow
     (only-more (λ n x. (x.0, flat-taken function_types (λ (f : ℕ × Bor (String Global) × Bor Function). f.2.now) c.args.functions.now c.loop-entry.entry-index x.0 x.1, x.2)) c.loop-entry.invariant.learns.only)
     (λ n x. (x.0, contains-flat function_types _ c.entry-item.result.2.now x.0 (contains-map (λ (f : ℕ × Bor (String Global) × Bor Function). f.2.now) c.args.functions.now c.entry-item.result at) x.1, x.2))
-    (λ q k. contains-flat (function_requests c.args.resolve.now) _ (placed_function c.entry-item.result) q (contains-map placed_function c.args.functions.now c.entry-item.result at) k)
-    (omega arith) (c.encode_function.ensures.size (search rules))
+    (map placed_function c.args.functions.now) (placed_function c.entry-item.result) (map (λ f. f.2.now) (take c.loop-entry.entry-index c.args.functions.now)) c.loop-entry.invariant.held c.loop-entry.invariant.counts.known
+    (λ f k. subst (λ (fs : List Function). Contains fs f) (sym (map-twice (λ (g : Text × Function). g.1) placed_function c.args.functions.now)) (map-taken (λ (f : ℕ × Bor (String Global) × Bor Function). f.2.now) c.args.functions.now c.loop-entry.entry-index f k))
+    (contains-map placed_function c.args.functions.now c.entry-item.result at) (omega (arith, before, length-is)) (c.encode_function.ensures.size (search rules))
 
 pub loop-entry-init : goal.loop-entry-init
 loop-entry-init c = record {
@@ -94,7 +96,7 @@ loop-entry-init c = record {
   learns = search rules;
   names = search rules;
   within = omega arith;
-  held = search rules;
+  held = holds-most (omega arith) (holds-none c.args.resolve.now (own_of c.args.self.now.inner) c.args.self.now.maps (encoder_view c.args.self.now).held);
   written = writes-nothing c.args.resolve.now _ (encoder_view c.args.self.now);
   grow = search rules;
   types_stay = search rules;

@@ -1,4 +1,4 @@
-use Rattle.std.proofs.Common.{◌≡◌, ◌≤◌, ◌*◌, ◌++◌, map, take, length}
+use Rattle.std.proofs.Common.{◌≡◌, ◌≤◌, ◌++◌, map, take, length}
 use Rattle.encode_types.specs.View.{HoldsLearnt, WritesLearnt}
 use Rattle.wit_encode.specs.Encoders.{encoder_view}
 use Rattle.std.specs.List.{flat_map}
@@ -25,7 +25,7 @@ invariant-loop-entry l = record {
   names : names_defined l.resolve (encoder_scope l.resolve l.fn.self.outer l.fn.self.inner) l.self.maps ≡ names_defined l.resolve
       (encoder_scope l.resolve l.fn.self.outer l.fn.self.inner) l.fn.self.maps;
   within : l.entry-index ≤ length l.functions;
-  held : HoldsLearnt (2 * l.entry-index) (encoder_view l.fn.self) (encoder_view l.self);
+  held : HoldsLearnt l.resolve l.entry-index (encoder_view l.fn.self) (encoder_view l.self);
   written : WritesLearnt l.resolve (sum_by (function_extent l.resolve) (map placed_function (take l.entry-index l.functions))) (encoder_view l.fn.self) (encoder_view l.self);
   grow : MapsGrow l.fn.self.maps l.self.maps;
   types_stay : exports_in l.resolve l.self.outer l.self.inner ≡ exports_in l.resolve l.fn.self.outer l.fn.self.inner;

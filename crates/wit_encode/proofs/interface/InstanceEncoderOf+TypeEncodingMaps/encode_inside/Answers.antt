@@ -101,7 +101,7 @@ encode_parts-outcome-requires-clause-begins c = record {
 pub returns-in_err-outcome-in-Some-clause-size : goal.returns-in_err-outcome-in-Some-clause-size
 returns-in_err-outcome-in-Some-clause-size c = λ h.
     let after = c.encode_parts-outcome.new.self in
-    no-room after.outer after.inner refl (ap length c.new-2.ensures) c.encode_parts-outcome.ensures.continues.packages_
+    no-room after.outer after.inner refl (ap length c.new-2.ensures) (began (goal.at.returns-in_err-outcome-in-Some-clause-size c).In-Some).keys c.encode_parts-outcome.ensures.continues.packages_
     (λ full. record { after = around_at c.encode_parts-outcome.new.self.outer c.in-Some.current.foreign; grown = around-grown (goal.at.returns-in_err-outcome-in-Some-clause-size c).In-Some; full = full })
     (c.encode_parts-outcome.ensures.size (search rules))
 

@@ -1,10 +1,12 @@
-use Rattle.std.proofs.Common.{refl, subst, map, arith, rules}
+use Rattle.std.proofs.Common.{refl, sym, subst, map, arith, rules}
 use Rattle.std.specs.List.{flat_map}
 use Rattle.wit_model.specs.Parts.{function_types}
 use Rattle.wit_model.specs.declared.model.«Type».TheVariants as ty
-use Rattle.encode_types.proofs.Rooms.{room-more, room-after, only-more, reached-left, reached-right}
+use Rattle.encode_types.proofs.Rooms.{only-more, reached-left, reached-right}
+use Rattle.wit_encode.proofs.HeldKeys.{knows-along}
+use Rattle.wit_encode.proofs.FunctionRoom.{lacks-types, lacks-behind}
 use Rattle.encode_types.specs.Scope.{Scope}
-use Rattle.wit_encode.specs.Instance.{CanEncodeFunction, Continues, own_of, declarations_in}
+use Rattle.wit_encode.specs.Instance.{CanEncodeFunction, Continues, own_of, declarations_in, placed_function}
 use Rattle.std.proofs.Common.{ap}
 use Rattle.encode_types.proofs.Agree.{on_ok, known-grow}
 use Rattle.wit_encode.proofs.Referring.{from-then}
@@ -13,7 +15,6 @@ use Rattle.wit_encode.proofs.Counting.{parts-counted, parts-named}
 use Rattle.wit_encode.proofs.FunctionExports.{listed-used, exported-after}
 use Rattle.wit_encode.proofs.interface.InstanceEncoderOf+TypeEncodingMaps.encode_parts.Goals as goal
 use Rattle.wit_encode.proofs.interface.InstanceEncoderOf+TypeEncodingMaps.encode_parts.Goals.{After-encode_types}
-use Rattle.encode_types.proofs.Lists.{none-in}
 use Rattle.encode_types.proofs.Writing.{writes-most, writes-then}
 
 pub encode_functions-requires-clause-encodable : goal.encode_functions-requires-clause-encodable
@@ -59,14 +60,16 @@ pub returns-clause-known : goal.returns-clause-known
 returns-clause-known c = on_ok c.encode_functions.result _ _ (λ l. λ t h. known-grow c.encode_types.new.self.maps c.encode_functions.new.self.maps t.0 l.learns.grow (c.in_ok-encode_types.ensures.known t h)) c.encode_functions.ensures.learns
 
 pub returns-in_err-encode_types-clause-size : goal.returns-in_err-encode_types-clause-size
-returns-in_err-encode_types-clause-size c = λ h. room-more refl (reached-left (map (λ t. ty.Id t) c.args.types.now) (flat_map function_types (map (λ f. f.2.now) c.args.functions.now))) (λ q k. none-in q k) (omega arith) (c.encode_types.ensures.size (search rules))
+returns-in_err-encode_types-clause-size c = λ h. lacks-types (map placed_function c.args.functions.now) c.requires.begins.agree.once (reached-left (map (λ t. ty.Id t) c.args.types.now) (flat_map function_types (map (λ f. f.2.now) c.args.functions.now))) (c.encode_types.ensures.size (search rules))
 
 pub returns-clause-size : goal.returns-clause-size
 returns-clause-size c = λ h.
     let types = map (λ t. ty.Id t) c.args.types.now in
     let others = flat_map function_types (map (λ f. f.2.now) c.args.functions.now) in
-    room-after c.in_ok-encode_types.ensures.held c.encode_types.ensures.leaves.agree.once (ap (λ (s : Scope). s.own_interface) c.encode_types.ensures.leaves.scope_stays)
-    (only-more (reached-left types others) c.in_ok-encode_types.ensures.learns.only) (reached-right types others) (λ q k. k) (omega arith) (c.encode_functions.ensures.size h)
+    let same = c.in_ok-encode_types.ensures.counts.keys in
+    lacks-behind (ap (λ (s : Scope). s.own_interface) c.encode_types.ensures.leaves.scope_stays) c.encode_types.ensures.leaves.maps_grow
+    (only-more (reached-left types others) c.in_ok-encode_types.ensures.learns.only) (reached-right types others) (map placed_function c.args.functions.now) c.in_ok-encode_types.ensures.held
+    (knows-along c.encode_types.new.self.maps c.args.self.now.maps (sym same.lists) (sym same.names_)) (c.encode_functions.ensures.size h)
 
 pub returns-clause-written : goal.returns-clause-written
 returns-clause-written c = on_ok c.encode_functions.result _ _ (λ w. writes-most (omega arith) (writes-then c.encode_types.ensures.leaves.scope_stays c.in_ok-encode_types.ensures.written w)) c.encode_functions.ensures.written

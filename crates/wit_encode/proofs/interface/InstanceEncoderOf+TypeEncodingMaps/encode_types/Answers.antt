@@ -1,4 +1,4 @@
-use Rattle.std.proofs.Common.{◌≡◌, inl, inr, List, take, refl, sym, subst, ap, arith, [], ◌∷◌, get_or, map, rules}
+use Rattle.std.proofs.Common.{◌≡◌, inl, inr, List, take, refl, sym, subst, ap, arith, [], ◌∷◌, get_or, length, map, rules}
 use Rattle.wit_encode.specs.Encoders.{encoder_view}
 use Rattle.encode_types.proofs.Rooms.{holds-none, holds-then, room-after, only-more, map-taken}
 use Rattle.std.proofs.lemmas.Option.{slice_get-get_or}
@@ -23,7 +23,7 @@ use Rattle.wit_model.proofs.Elements.{contains-map, one-contained}
 pub loop-id-init : goal.loop-id-init
 loop-id-init c = record {
   leaves = leaves-kept c.requires.begins.agree (record { kept = λ i m h. h; more = omega arith; around_ = around-same refl }) refl refl;
-  held = holds-none c.args.self.now.maps (encoder_view c.args.self.now).held;
+  held = holds-none c.args.resolve.now (own_of c.args.self.now.inner) c.args.self.now.maps (encoder_view c.args.self.now).held;
   written = writes-nothing c.args.resolve.now 0 (encoder_view c.args.self.now);
   learns = from-none c.args.resolve.now (own_of c.args.self.now.inner) _ c.args.self.now.maps;
   first = exports-start c.args.resolve.now c.requires.begins.valid (encoder_scope c.args.self.now.resolve.now c.args.self.now.outer c.args.self.now.inner) c.args.types.now c.requires.begins.listed (ap (λ (z : Resolve). declarations_in z (own_of c.args.self.now.inner)) c.requires.begins.packages_) c.args.self.now.maps (definitions_with (contents_of c.args.self.now.resolve.now c.args.self.now.outer c.args.self.now.inner)) c.requires.begins.fresh c.requires.begins.unshown;
@@ -42,7 +42,7 @@ encode_valtype-requires c = λ _. (
 pub loop-id-preserved : goal.loop-id-preserved
 loop-id-preserved c = record {
   leaves = leaves-trans c.loop-id.invariant.leaves c.encode_valtype.ensures.leaves;
-  held = holds-then c.loop-id.invariant.held c.in_ok-encode_valtype.ensures.held;
+  held = holds-then (ap (λ (z : Scope). z.own_interface) c.loop-id.invariant.leaves.scope_stays) c.loop-id.invariant.leaves.maps_grow c.encode_valtype.ensures.leaves.maps_grow c.loop-id.invariant.held c.in_ok-encode_valtype.ensures.held;
   written = writes-then c.loop-id.invariant.leaves.scope_stays c.loop-id.invariant.written c.in_ok-encode_valtype.ensures.written;
   learns = from-type c.args.resolve.now (own_of c.args.self.now.inner) (own_of c.loop-id.self.inner) c.args.types.now c.loop-id.id-index (record { 0 = 0 }) c.args.self.now.maps c.loop-id.self.maps c.encode_valtype.new.enc.maps
       c.loop-id-test.true (ap (λ (z : Scope). z.own_interface) c.loop-id.invariant.leaves.scope_stays) c.loop-id.invariant.learns c.in_ok-encode_valtype.ensures.learns;
@@ -77,7 +77,8 @@ returns-clause-learns c = from-types c.args.resolve.now (own_of c.args.self.now.
 pub returns-in_err-encode_valtype-clause-size : goal.returns-in_err-encode_valtype-clause-size
 returns-in_err-encode_valtype-clause-size c = λ h.
     let t : TypeId = get_or c.args.types.now c.loop-id.id-index (record { 0 = 0 }) in
-    room-after c.loop-id.invariant.held c.loop-id.invariant.leaves.agree.once (ap (λ (z : Scope). z.own_interface) c.loop-id.invariant.leaves.scope_stays)
+    let keys : length c.loop-id.self.maps.func_type_map.entries ≡ length c.args.self.now.maps.func_type_map.entries = ap length c.loop-id.invariant.counts.keys.lists in
+    room-after (ap (λ (z : Scope). z.own_interface) c.loop-id.invariant.leaves.scope_stays) c.loop-id.invariant.leaves.maps_grow c.loop-id.invariant.held
     (only-more (λ n x. (x.0, map-taken (λ (t : TypeId). ty.Id t) c.args.types.now c.loop-id.id-index x.0 x.1, x.2)) c.loop-id.invariant.learns.only)
     (λ n x. (x.0, subst (Contains (map (λ (t : TypeId). ty.Id t) c.args.types.now)) (one-contained (ty.Id t) x.0 x.1) (contains-map (λ (t : TypeId). ty.Id t) c.args.types.now t (Contains-get_or c.args.types.now c.loop-id.id-index (record { 0 = 0 }) c.loop-id-test.true)), x.2))
-    (λ q k. k) (omega arith) (c.encode_valtype.ensures.size (search rules))
+    (λ q k. k) (omega (arith, keys)) (c.encode_valtype.ensures.size (search rules))

@@ -12,7 +12,7 @@ abbrev pub invariant-loop-id : goal.invariant-loop-id
 invariant-loop-id l = record {
   leaves : Leaves l.resolve (encoder_view l.fn.self) (encoder_view l.self);
   counts : CountsTypes l.resolve (encoder_view l.fn.self) (encoder_view l.self);
-  held : HoldsLearnt 0 (encoder_view l.fn.self) (encoder_view l.self);
+  held : HoldsLearnt l.resolve 0 (encoder_view l.fn.self) (encoder_view l.self);
   written : WritesLearnt l.resolve 0 (encoder_view l.fn.self) (encoder_view l.self);
   learns : LearnsFrom l.resolve (own_of l.fn.self.inner) (map (λ t. ty.Id t) (take l.id-index l.types)) l.fn.self.maps l.self.maps;
   first : ShowsFirst l.resolve (encoder_view l.fn.self).scope l.types l.id-index l.self.maps (encoder_view l.self).definitions;

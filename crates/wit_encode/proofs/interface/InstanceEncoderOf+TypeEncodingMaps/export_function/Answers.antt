@@ -4,7 +4,7 @@ use Rattle.comp_bytes.specs.declared.forms.ComponentTypeRef.TheVariants as refs
 use Rattle.std.proofs.Common.{inl, sym, subst, List, ◌≡◌, false}
 use Rattle.comp_bytes.specs.Raw.{Declaration}
 use Rattle.comp_bytes.specs.Held.{fits_next}
-use Rattle.wit_encode.proofs.Refusing.{on-size, name-inside, held-inside, one-pushed}
+use Rattle.wit_encode.proofs.Refusing.{on-size, name-inside, held-inside, kept-inside, one-pushed}
 use Rattle.wit_encode.proofs.interface.InstanceEncoderOf+TypeEncodingMaps.export_function.Goals as goal
 use Rattle.wit_encode.proofs.Extents.{bytes-few}
 use Rattle.wit_encode.proofs.BytesWritten.{inside-more}
@@ -17,8 +17,11 @@ pub returns-clause-held : goal.returns-clause-held
 returns-clause-held c = held-inside c.args.self.now.outer c.args.self.now.inner c.in-Some.current c.export.new.self c.in-Some.is (one-pushed c.export.result c.in-Some.current.declared c.export.new.self _ c.export.ensures.ok c.export.ensures.err)
 
 pub returns-clause-size : goal.returns-clause-size
-returns-clause-size c = λ h. inl (name-inside c.args.self.now.resolve.now c.export.new.self (raw_name c.args.name) (refs.Func c.args.index)
-    (subst (λ (ds : List Declaration). fits_next ds (Declaration.exported (raw_name c.args.name) (refs.Func c.args.index)) ≡ false) (sym (on-size c.export.result _ c.export.ensures.err h)) (c.export.ensures.size h)))
+returns-clause-size c = λ h. record {
+  lacks = inl (name-inside c.args.self.now.resolve.now c.export.new.self (raw_name c.args.name) (refs.Func c.args.index)
+      (subst (λ (ds : List Declaration). fits_next ds (Declaration.exported (raw_name c.args.name) (refs.Func c.args.index)) ≡ false) (sym (on-size c.export.result _ c.export.ensures.err h)) (c.export.ensures.size h)));
+  held = kept-inside c.args.self.now.outer c.args.self.now.inner c.in-Some.current c.export.new.self c.in-Some.is (on-size c.export.result _ c.export.ensures.err h);
+}
 
 pub returns-clause-written : goal.returns-clause-written
 returns-clause-written c = on_ok c.export.result _ _

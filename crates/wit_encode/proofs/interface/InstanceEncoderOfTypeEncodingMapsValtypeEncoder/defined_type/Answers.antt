@@ -3,7 +3,7 @@ use Rattle.wit_encode.specs.Instance.{around_of}
 use Rattle.encode_types.proofs.Around.{slots-grow}
 use Rattle.wit_encode.proofs.Within.{defined-within, defined-without, slot-defined}
 use Rattle.wit_encode.specs.Instance.{stands_in}
-use Rattle.wit_encode.proofs.Refusing.{value-inside, value-outside, held-inside, held-outside}
+use Rattle.wit_encode.proofs.Refusing.{value-inside, value-outside, held-inside, held-outside, on-size, kept-inside, kept-outside}
 use Rattle.wit_encode.proofs.interface.InstanceEncoderOfTypeEncodingMapsValtypeEncoder.defined_type.Goals as goal
 use Rattle.wit_encode.proofs.Extents.{bytes-few}
 use Rattle.wit_encode.proofs.BytesWritten.{inside-more, outside-more, when-ok}
@@ -39,10 +39,16 @@ pub returns-clause-held : goal.returns-clause-held
 returns-clause-held c = held-outside c.args.self.now.outer c.define_outside.new.outer c.args.self.now.inner c.in-None.is c.define_outside.ensures.held
 
 pub returns-in-Some-clause-size : goal.returns-in-Some-clause-size
-returns-in-Some-clause-size c = λ h t f. inl (value-inside c.args.self.now.resolve.now c.define_inside.result h (stands_in c.args.self.now.resolve.now c.args.self.now.outer c.args.self.now.inner) c.define_inside.new.inner c.args.def c.define_inside.ensures.size t f)
+returns-in-Some-clause-size c = λ h t f. record {
+  lacks = inl (value-inside c.args.self.now.resolve.now c.define_inside.result h (stands_in c.args.self.now.resolve.now c.args.self.now.outer c.args.self.now.inner) c.define_inside.new.inner c.args.def c.define_inside.ensures.size t f);
+  held = kept-inside c.args.self.now.outer c.args.self.now.inner c.in-Some.current c.define_inside.new.inner c.in-Some.is (on-size c.define_inside.result _ c.define_inside.ensures.err h);
+}
 
 pub returns-clause-size : goal.returns-clause-size
-returns-clause-size c = λ h t f. inl (value-outside c.args.self.now.resolve.now c.define_outside.result h c.define_outside.new.outer c.args.self.now.inner c.in-None.is (stands_in c.args.self.now.resolve.now c.args.self.now.outer c.args.self.now.inner) c.args.def c.define_outside.ensures.size t f)
+returns-clause-size c = λ h t f. record {
+  lacks = inl (value-outside c.args.self.now.resolve.now c.define_outside.result h c.define_outside.new.outer c.args.self.now.inner c.in-None.is (stands_in c.args.self.now.resolve.now c.args.self.now.outer c.args.self.now.inner) c.args.def c.define_outside.ensures.size t f);
+  held = kept-outside c.args.self.now.outer c.define_outside.new.outer c.args.self.now.inner c.in-None.is (on-size c.define_outside.result _ c.define_outside.ensures.err h);
+}
 
 pub returns-in-Some-clause-around_stays : goal.returns-in-Some-clause-around_stays
 returns-in-Some-clause-around_stays c = ap (around_of c.args.self.now.outer) (sym c.in-Some.is)

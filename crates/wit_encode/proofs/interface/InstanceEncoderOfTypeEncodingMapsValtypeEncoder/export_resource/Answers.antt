@@ -3,7 +3,7 @@ use Rattle.wit_encode.specs.Instance.{around_of}
 use Rattle.encode_types.proofs.Around.{slots-grow}
 use Rattle.wit_encode.proofs.Within.{resource-within}
 use Rattle.comp_bytes.specs.declared.forms.ComponentTypeRef.TheVariants as refs
-use Rattle.wit_encode.proofs.Refusing.{name-inside, held-inside}
+use Rattle.wit_encode.proofs.Refusing.{name-inside, held-inside, on-size, kept-inside}
 use Rattle.comp_bytes.specs.RawOf.{raw_name}
 use Rattle.wit_encode.proofs.interface.InstanceEncoderOfTypeEncodingMapsValtypeEncoder.export_resource.Goals as goal
 use Rattle.wit_encode.proofs.Extents.{bytes-few}
@@ -22,7 +22,10 @@ pub returns-clause-counts : goal.returns-clause-counts
 returns-clause-counts c = (resource-within c.export_inside.result c.args.self.now.resolve.now c.args.self.now.outer c.args.self.now.inner c.in-Some.current c.export_inside.new.inner c.in-Some.is _ c.requires c.export_inside.ensures.ok c.export_inside.ensures.err).counted
 
 pub returns-clause-size : goal.returns-clause-size
-returns-clause-size c = λ h. inl (name-inside c.args.self.now.resolve.now c.export_inside.new.inner (raw_name c.args.name) refs.SubResource (c.export_inside.ensures.size h))
+returns-clause-size c = λ h. record {
+  lacks = inl (name-inside c.args.self.now.resolve.now c.export_inside.new.inner (raw_name c.args.name) refs.SubResource (c.export_inside.ensures.size h));
+  held = kept-inside c.args.self.now.outer c.args.self.now.inner c.in-Some.current c.export_inside.new.inner c.in-Some.is (on-size c.export_inside.result _ c.export_inside.ensures.err h);
+}
 
 pub returns-clause-held : goal.returns-clause-held
 returns-clause-held c = held-inside c.args.self.now.outer c.args.self.now.inner c.in-Some.current c.export_inside.new.inner c.in-Some.is c.export_inside.ensures.held

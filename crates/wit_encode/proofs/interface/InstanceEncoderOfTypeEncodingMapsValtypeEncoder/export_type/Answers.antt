@@ -6,7 +6,7 @@ use Rattle.wit_encode.specs.Instance.{around_of}
 use Rattle.encode_types.proofs.Around.{slots-grow}
 use Rattle.wit_encode.proofs.Within.{type-within}
 use Rattle.comp_bytes.specs.declared.forms.ComponentTypeRef.TheVariants as refs
-use Rattle.wit_encode.proofs.Refusing.{name-inside, held-inside}
+use Rattle.wit_encode.proofs.Refusing.{name-inside, held-inside, kept-inside}
 use Rattle.wit_model.specs.declared.error.Error.TheVariants as errors
 use Rattle.wit_encode.proofs.interface.InstanceEncoderOfTypeEncodingMapsValtypeEncoder.export_type.Goals as goal
 use Rattle.wit_encode.proofs.Extents.{bytes-few}
@@ -38,7 +38,10 @@ returns-in_err-slot-in-Some-clause-scope_stays c = ap (encoder_scope c.args.self
 pub returns-in_err-slot-in-Some-clause-size : goal.returns-in_err-slot-in-Some-clause-size
 returns-in_err-slot-in-Some-clause-size c = λ h.
     let refused : ◌≡◌ {A = Result ℕ Error} c.export_inside.result (Err errors.Size) = search rules in
-    inl (name-inside c.args.self.now.resolve.now c.export_inside.new.inner (raw_name c.args.name) (refs.TypeEq c.args.index) (c.export_inside.ensures.size refused))
+    record {
+      lacks = inl (name-inside c.args.self.now.resolve.now c.export_inside.new.inner (raw_name c.args.name) (refs.TypeEq c.args.index) (c.export_inside.ensures.size refused));
+      held = kept-inside c.args.self.now.outer c.args.self.now.inner c.in-Some.current c.export_inside.new.inner c.in-Some.is c.in_err-slot-in-Some.ensures.err;
+    }
 
 pub returns-clause-held : goal.returns-clause-held
 returns-clause-held c = held-inside c.args.self.now.outer c.args.self.now.inner c.in-Some.current c.export_inside.new.inner c.in-Some.is c.export_inside.ensures.held

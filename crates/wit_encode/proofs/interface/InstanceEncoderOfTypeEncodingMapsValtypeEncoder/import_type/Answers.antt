@@ -1,4 +1,4 @@
-use Rattle.std.proofs.Common.{inl, sym, ap, ◌∙◌, subst, arith, Option, Some, rules}
+use Rattle.std.proofs.Common.{inl, sym, ap, ◌∙◌, subst, arith, Option, Some, rules, refl}
 use Rattle.std.proofs.lemmas.Option.{slice_get_within}
 use Rattle.wit_encode.specs.declared.interface.OpenInterface.{OpenInterface}
 use Rattle.encode_types.specs.Scope.{IsImportable}
@@ -6,7 +6,7 @@ use Rattle.encode_types.specs.Known.{Around, GrowsAround}
 use Rattle.wit_encode.specs.Instance.{encoder_scope, scope_with, inner_contents, place_in, around_at, around_of}
 use Rattle.encode_types.proofs.Around.{reaches-grows}
 use Rattle.wit_encode.proofs.Importing.{ImportsTo, imported, imported-stands, import-source, none-outside}
-use Rattle.wit_encode.proofs.Refusing.{alias-inside, alias-outside, held-inside}
+use Rattle.wit_encode.proofs.Refusing.{alias-inside, alias-outside, held-inside, on-size, kept-inside}
 use Rattle.wit_encode.proofs.interface.InstanceEncoderOfTypeEncodingMapsValtypeEncoder.import_type.Goals as goal
 use Rattle.wit_encode.proofs.interface.InstanceEncoderOfTypeEncodingMapsValtypeEncoder.import_type.Goals.{After-alias_inside}
 use Rattle.wit_encode.proofs.BytesWritten.{imported-more, when-ok}
@@ -40,7 +40,10 @@ pub returns-clause-counts : goal.returns-clause-counts
 returns-clause-counts c = (imports (goal.at.returns-clause-counts c).After-alias_inside).counted
 
 pub returns-clause-size : goal.returns-clause-size
-returns-clause-size c = λ h. inl (alias-inside c.args.self.now.resolve.now c.alias_inside.new.inner c.args.id.0 c.in_ok-slot-in-Some.slot (c.alias_inside.ensures.size h))
+returns-clause-size c = λ h. record {
+  lacks = inl (alias-inside c.args.self.now.resolve.now c.alias_inside.new.inner c.args.id.0 c.in_ok-slot-in-Some.slot (c.alias_inside.ensures.size h));
+  held = kept-inside c.args.self.now.outer c.args.self.now.inner c.in-Some.current c.alias_inside.new.inner c.in-Some.is (on-size c.alias_inside.result _ c.alias_inside.ensures.err h);
+}
 
 pub returns-clause-held : goal.returns-clause-held
 returns-clause-held c = held-inside c.args.self.now.outer c.args.self.now.inner c.in-Some.current c.alias_inside.new.inner c.in-Some.is c.alias_inside.ensures.held
@@ -54,7 +57,10 @@ returns-in_err-slot-in-Some-clause-scope_stays c =
     ∙ ap (encoder_scope c.args.self.now.resolve.now c.args.self.now.outer) (sym c.in-Some.is)
 
 pub returns-in_err-slot-in-Some-clause-size : goal.returns-in_err-slot-in-Some-clause-size
-returns-in_err-slot-in-Some-clause-size c = λ h. alias-outside c.args.self.now.resolve.now c.reach.new.outer (Some (record c.in-Some.current { foreign = c.reach.new.foreign })) c.args.id.0 (c.reach.ensures.size (search rules))
+returns-in_err-slot-in-Some-clause-size c = λ h. record {
+  lacks = alias-outside c.args.self.now.resolve.now c.reach.new.outer (Some (record c.in-Some.current { foreign = c.reach.new.foreign })) c.args.id.0 (c.reach.ensures.size (search rules));
+  held = kept-inside c.args.self.now.outer c.args.self.now.inner c.in-Some.current c.in-Some.current.declared c.in-Some.is refl;
+}
 
 pub returns-clause-written : goal.returns-clause-written
 returns-clause-written c = when-ok c.alias_inside.result _ _

@@ -10,7 +10,7 @@ use Rattle.wit_encode.specs.Encoders.{declared_after}
 use Rattle.wit_encode.specs.Worlds.{world_encoder_view}
 use Rattle.wit_encode.specs.WorldItems.{HasShown, IsNext, entry_of, towards}
 use Rattle.wit_encode.proofs.WorldCounting.{function-defined}
-use Rattle.wit_encode.proofs.WorldHolding.{function-few, function-lacks, function-name-lacks}
+use Rattle.wit_encode.proofs.WorldHolding.{function-few, function-lacks, function-name-lacks, one-key}
 use Rattle.wit_encode.proofs.WrittenNames.{function-names}
 use Rattle.wit_encode.proofs.WorldFunctions.{can-encode, function-encoded}
 use Rattle.wit_encode.proofs.world.WorldEncoderOf+TypeEncodingMaps.encode_function.Goals as goal
@@ -51,14 +51,14 @@ pub returns-clause-few : goal.returns-clause-few
 returns-clause-few c = on-each c.declare.result (λ made es h. function-few c.args.resolve.now c.args.self.now.resolve.now c.encode_func_type.new.enc.resolve.now c.args.self.now c.encode_func_type.new.enc es
     c.args.placed.key.now c.args.placed.item.now c.args.func.now (towards c.args.placed.direction) _ (refs.Func c.in_ok-index.index) c.declare.new.outer c.requires.item c.requires.next.shown.packages_
     (ap (λ (s : Scope). s.packages) c.encode_func_type.ensures.leaves.scope_stays ∙ c.requires.next.shown.packages_)
-    (ap (λ (s : Scope). s.others.listed) c.encode_func_type.ensures.leaves.scope_stays) h c.in_ok-index.ensures.held made) c.declare.ensures.ok
+    (ap (λ (s : Scope). s.others.listed) c.encode_func_type.ensures.leaves.scope_stays) h (one-key c.in_ok-index.ensures.counts.2) c.in_ok-index.ensures.held made) c.declare.ensures.ok
 
 pub returns-clause-size : goal.returns-clause-size
 returns-clause-size c = λ refused w done shown next d h. function-name-lacks c.args.resolve.now c.args.self.now.resolve.now c.encode_func_type.new.enc.resolve.now w c.args.self.now c.encode_func_type.new.enc done
     (towards c.args.placed.direction) c.args.placed.canonical_names c.args.placed.key.now c.args.placed.item.now c.args.func.now _ c.in_ok-index.index c.requires.item next d h
     (ap (λ (s : Scope). s.others.listed) c.encode_func_type.ensures.leaves.scope_stays) c.encode_func_type.ensures.leaves.agree.once shown.packages_
     (ap (λ (s : Scope). s.packages) c.encode_func_type.ensures.leaves.scope_stays ∙ shown.packages_)
-    c.in_ok-index.ensures.learns c.in_ok-index.ensures.held c.in_ok-name.ensures.ok (c.declare.ensures.size refused)
+    (one-key c.in_ok-index.ensures.counts.2) c.in_ok-index.ensures.learns c.in_ok-index.ensures.held c.in_ok-name.ensures.ok (c.declare.ensures.size refused)
 
 pub returns-in_err-index-clause-size : goal.returns-in_err-index-clause-size
 returns-in_err-index-clause-size c = λ h.
@@ -66,7 +66,7 @@ returns-in_err-index-clause-size c = λ h.
     λ w done shown next d few. function-lacks c.args.resolve.now c.args.self.now.resolve.now c.encode_func_type.new.enc.resolve.now w c.args.self.now c.encode_func_type.new.enc done
     (towards c.args.placed.direction) c.args.placed.key.now c.args.placed.item.now c.args.func.now c.requires.item next d few
     (ap (λ (s : Scope). s.others.listed) c.encode_func_type.ensures.leaves.scope_stays) shown.agree.once shown.packages_
-    (ap (λ (s : Scope). s.packages) c.encode_func_type.ensures.leaves.scope_stays ∙ shown.packages_) (c.encode_func_type.ensures.size refused)
+    (ap (λ (s : Scope). s.packages) c.encode_func_type.ensures.leaves.scope_stays ∙ shown.packages_) (c.encode_func_type.ensures.size refused).room
 
 pub returns-clause-names : goal.returns-clause-names
 returns-clause-names c = on-each c.declare.result (λ made. function-names c.args.resolve.now c.args.self.now.resolve.now c.args.placed.canonical_names (entry_of c.args.placed) c.args.func.now c.args.self.now.outer c.encode_func_type.new.enc.outer c.declare.new.outer

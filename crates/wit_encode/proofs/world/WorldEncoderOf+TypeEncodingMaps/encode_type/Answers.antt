@@ -31,7 +31,7 @@ returns-clause-once c = λ es h. type-defined c.args.resolve.now c.args.self.now
 pub returns-clause-few : goal.returns-clause-few
 returns-clause-few c = λ es h. type-few c.args.resolve.now c.args.self.now.resolve.now c.encode_valtype.new.enc.resolve.now c.args.self.now c.encode_valtype.new.enc es c.args.placed.key.now c.args.placed.item.now c.args.id c.requires.item
     c.requires.next.shown.packages_ (ap (λ (s : Scope). s.packages) c.encode_valtype.ensures.leaves.scope_stays ∙ c.requires.next.shown.packages_)
-    (ap (λ (s : Scope). s.others.listed) c.encode_valtype.ensures.leaves.scope_stays) h c.in_ok-encode_valtype.ensures.held
+    (ap (λ (s : Scope). s.others.listed) c.encode_valtype.ensures.leaves.scope_stays) h c.in_ok-encode_valtype.ensures.counts.keys.lists c.in_ok-encode_valtype.ensures.held
 
 pub returns-in_err-encode_valtype-clause-size : goal.returns-in_err-encode_valtype-clause-size
 returns-in_err-encode_valtype-clause-size c = λ h.

@@ -2,11 +2,11 @@ use Rattle.std.proofs.Common.{◌≡◌, refl, None}
 use Rattle.encode_types.specs.Known.{outer_slots}
 use Rattle.encode_types.specs.Standing.{SlotsStand}
 use Rattle.wit_encode.specs.Worlds.{world_around, world_definitions, world_encoder_view, world_view}
-use Rattle.wit_encode.proofs.WorldBrought.{beside-more}
+use Rattle.wit_encode.proofs.WorldBrought.{beside-more, beside-kept}
 use Rattle.wit_encode.proofs.WorldScope.{WorldCalls}
 use Rattle.encode_types.specs.Counts.{one_function_more}
 use Rattle.encode_types.specs.Slots.{DefinesFunction}
-use Rattle.wit_encode.proofs.Refusing.{function-outside}
+use Rattle.wit_encode.proofs.Refusing.{function-outside, on-size}
 use Rattle.wit_encode.proofs.WorldCalls.{after_declaring, defines-function}
 use Rattle.wit_encode.proofs.world.WorldEncoderOfTypeEncodingMapsValtypeEncoder.define_function_type.Goals as goal
 use Rattle.wit_encode.proofs.world.WorldEncoderOfTypeEncodingMapsValtypeEncoder.define_function_type.Goals.{After-define_function_outside}
@@ -32,7 +32,10 @@ pub returns-clause-counts : goal.returns-clause-counts
 returns-clause-counts c = (calls (goal.at.returns-clause-counts c).After-define_function_outside).counted
 
 pub returns-clause-size : goal.returns-clause-size
-returns-clause-size c = λ h s f. function-outside c.args.self.now.resolve.now c.define_function_outside.result h c.define_function_outside.new.outer None refl (SlotsStand (outer_slots c.args.self.now.outer)) c.args.def c.define_function_outside.ensures.size s f
+returns-clause-size c = λ h s f. record {
+  lacks = function-outside c.args.self.now.resolve.now c.define_function_outside.result h c.define_function_outside.new.outer None refl (SlotsStand (outer_slots c.args.self.now.outer)) c.args.def c.define_function_outside.ensures.size s f;
+  held = beside-kept c.args.self.now.resolve.now (world_around c.args.self.now) c.define_function_outside.new.outer (on-size c.define_function_outside.result _ c.define_function_outside.ensures.err h);
+}
 
 pub returns-clause-around_stays : goal.returns-clause-around_stays
 returns-clause-around_stays c = (calls (goal.at.returns-clause-around_stays c).After-define_function_outside).around_stays

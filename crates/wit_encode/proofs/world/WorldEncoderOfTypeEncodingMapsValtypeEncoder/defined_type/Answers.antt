@@ -3,11 +3,11 @@ use Rattle.wit_encode.proofs.Within.{slot-defined}
 use Rattle.encode_types.specs.Known.{outer_slots}
 use Rattle.encode_types.specs.Standing.{SlotsStand}
 use Rattle.wit_encode.specs.Worlds.{world_around, world_definitions, world_encoder_view, world_view}
-use Rattle.wit_encode.proofs.WorldBrought.{beside-more}
+use Rattle.wit_encode.proofs.WorldBrought.{beside-more, beside-kept}
 use Rattle.wit_encode.proofs.WorldScope.{WorldCalls}
 use Rattle.encode_types.specs.Counts.{one_type_more}
 use Rattle.encode_types.specs.Slots.{Defines}
-use Rattle.wit_encode.proofs.Refusing.{value-outside}
+use Rattle.wit_encode.proofs.Refusing.{value-outside, on-size}
 use Rattle.wit_encode.proofs.WorldCalls.{after_declaring, defines-value}
 use Rattle.wit_encode.proofs.world.WorldEncoderOfTypeEncodingMapsValtypeEncoder.defined_type.Goals as goal
 use Rattle.wit_encode.proofs.world.WorldEncoderOfTypeEncodingMapsValtypeEncoder.defined_type.Goals.{After-define_outside}
@@ -33,7 +33,10 @@ pub returns-clause-counts : goal.returns-clause-counts
 returns-clause-counts c = let made = calls (goal.at.returns-clause-counts c).After-define_outside in slot-defined c.define_outside.result _ _ _ _ _ _ _ made.ok made.counted
 
 pub returns-clause-size : goal.returns-clause-size
-returns-clause-size c = λ h s f. value-outside c.args.self.now.resolve.now c.define_outside.result h c.define_outside.new.outer None refl (SlotsStand (outer_slots c.args.self.now.outer)) c.args.def c.define_outside.ensures.size s f
+returns-clause-size c = λ h s f. record {
+  lacks = value-outside c.args.self.now.resolve.now c.define_outside.result h c.define_outside.new.outer None refl (SlotsStand (outer_slots c.args.self.now.outer)) c.args.def c.define_outside.ensures.size s f;
+  held = beside-kept c.args.self.now.resolve.now (world_around c.args.self.now) c.define_outside.new.outer (on-size c.define_outside.result _ c.define_outside.ensures.err h);
+}
 
 pub returns-clause-around_stays : goal.returns-clause-around_stays
 returns-clause-around_stays c = (calls (goal.at.returns-clause-around_stays c).After-define_outside).around_stays

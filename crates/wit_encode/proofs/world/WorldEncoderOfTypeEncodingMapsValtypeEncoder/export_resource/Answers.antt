@@ -5,9 +5,9 @@ use Rattle.comp_bytes.specs.declared.forms.ComponentTypeRef.TheVariants as refs
 use Rattle.encode_types.specs.Counts.{ExportsOne}
 use Rattle.encode_types.specs.Slots.{tree}
 use Rattle.wit_encode.specs.Worlds.{world_around, world_definitions, world_encoder_view, world_scope, world_view}
-use Rattle.wit_encode.proofs.Refusing.{name-outside}
+use Rattle.wit_encode.proofs.Refusing.{name-outside, on-size}
 use Rattle.wit_encode.proofs.WorldCalls.{after_declaring, imports-resource}
-use Rattle.wit_encode.proofs.WorldBrought.{beside-more}
+use Rattle.wit_encode.proofs.WorldBrought.{beside-more, beside-kept}
 use Rattle.wit_encode.proofs.WorldScope.{WorldCalls}
 use Rattle.wit_encode.proofs.world.WorldEncoderOfTypeEncodingMapsValtypeEncoder.export_resource.Goals as goal
 use Rattle.wit_encode.proofs.world.WorldEncoderOfTypeEncodingMapsValtypeEncoder.export_resource.Goals.{After-import_type_outside}
@@ -33,7 +33,10 @@ pub returns-clause-counts : goal.returns-clause-counts
 returns-clause-counts c = (calls (goal.at.returns-clause-counts c).After-import_type_outside).counted
 
 pub returns-clause-size : goal.returns-clause-size
-returns-clause-size c = λ h. name-outside c.args.self.now.resolve.now c.import_type_outside.new.outer (raw_name c.args.name) refs.SubResource (c.import_type_outside.ensures.size h)
+returns-clause-size c = λ h. record {
+  lacks = name-outside c.args.self.now.resolve.now c.import_type_outside.new.outer (raw_name c.args.name) refs.SubResource (c.import_type_outside.ensures.size h);
+  held = beside-kept c.args.self.now.resolve.now (world_around c.args.self.now) c.import_type_outside.new.outer (on-size c.import_type_outside.result _ c.import_type_outside.ensures.err h);
+}
 
 pub returns-clause-around_stays : goal.returns-clause-around_stays
 returns-clause-around_stays c = (calls (goal.at.returns-clause-around_stays c).After-import_type_outside).around_stays

@@ -10,9 +10,9 @@ use Rattle.encode_types.specs.Counts.{ExportsOne}
 use Rattle.encode_types.specs.Slots.{tree}
 use Rattle.wit_encode.specs.Encoders.{declared_after}
 use Rattle.wit_encode.specs.Worlds.{world_around, world_definitions, world_encoder_view, world_scope, world_view}
-use Rattle.wit_encode.proofs.Refusing.{name-outside}
+use Rattle.wit_encode.proofs.Refusing.{name-outside, on-size}
 use Rattle.wit_encode.proofs.WorldCalls.{after_declaring, imports-type}
-use Rattle.wit_encode.proofs.WorldBrought.{beside-more}
+use Rattle.wit_encode.proofs.WorldBrought.{beside-more, beside-kept}
 use Rattle.wit_encode.proofs.WorldScope.{WorldCalls}
 use Rattle.wit_encode.proofs.world.WorldEncoderOfTypeEncodingMapsValtypeEncoder.export_type.Goals as goal
 use Rattle.wit_encode.proofs.world.WorldEncoderOfTypeEncodingMapsValtypeEncoder.export_type.Goals.{After-import_type_outside}
@@ -41,7 +41,10 @@ returns-clause-counts c = (calls (goal.at.returns-clause-counts c).After-import_
 pub returns-in_err-slot-clause-size : goal.returns-in_err-slot-clause-size
 returns-in_err-slot-clause-size c = λ h.
     let refused : ◌≡◌ {A = Result ℕ Error} c.import_type_outside.result (Err errors.Size) = search rules in
-    name-outside c.args.self.now.resolve.now c.import_type_outside.new.outer (raw_name c.args.name) (refs.TypeEq c.args.index) (c.import_type_outside.ensures.size refused)
+    record {
+      lacks = name-outside c.args.self.now.resolve.now c.import_type_outside.new.outer (raw_name c.args.name) (refs.TypeEq c.args.index) (c.import_type_outside.ensures.size refused);
+      held = beside-kept c.args.self.now.resolve.now (world_around c.args.self.now) c.import_type_outside.new.outer (on-size c.import_type_outside.result _ c.import_type_outside.ensures.err refused);
+    }
 
 pub returns-clause-around_stays : goal.returns-clause-around_stays
 returns-clause-around_stays c = (calls (goal.at.returns-clause-around_stays c).After-import_type_outside (Ok c.in_ok-slot.slot) c.in_ok-slot.ensures.ok tt).around_stays

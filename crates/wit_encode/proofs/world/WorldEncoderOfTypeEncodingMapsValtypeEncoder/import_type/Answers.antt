@@ -2,8 +2,8 @@ use Rattle.std.proofs.Common.{ℕ, Result, Ok, Err, IfOk, OnOk}
 use Rattle.std.proofs.lemmas.Option.{slice_get_within}
 use Rattle.wit_encode.specs.Instance.{around_at}
 use Rattle.wit_encode.specs.Worlds.{world_around, world_encoder_view, world_view}
-use Rattle.wit_encode.proofs.Refusing.{alias-behind}
-use Rattle.wit_encode.proofs.WorldBrought.{reached-beside}
+use Rattle.wit_encode.proofs.Refusing.{alias-behind, on-size}
+use Rattle.wit_encode.proofs.WorldBrought.{reached-beside, reached-kept}
 use Rattle.wit_encode.proofs.WorldCalls.{WorldImports, world-imports, world-source}
 use Rattle.wit_encode.proofs.world.WorldEncoderOfTypeEncodingMapsValtypeEncoder.import_type.Goals as goal
 use Rattle.wit_encode.proofs.world.WorldEncoderOfTypeEncodingMapsValtypeEncoder.import_type.Goals.{After-reach}
@@ -43,7 +43,10 @@ pub returns-clause-held : goal.returns-clause-held
 returns-clause-held c = reached-beside c.reach.ensures.reaches
 
 pub returns-clause-size : goal.returns-clause-size
-returns-clause-size c = λ h. alias-behind c.args.self.now.resolve.now c.reach.new.outer c.args.id.0 (c.reach.ensures.size h)
+returns-clause-size c = λ h. record {
+  lacks = alias-behind c.args.self.now.resolve.now c.reach.new.outer c.args.id.0 (c.reach.ensures.size h);
+  held = reached-kept c.args.self.now.resolve.now (world_around c.args.self.now) (around_at c.reach.new.outer c.reach.new.foreign) (on-size c.reach.result _ c.reach.ensures.err h);
+}
 
 pub returns-clause-written : goal.returns-clause-written
 returns-clause-written c = on-ok c.reach.result (λ def at. record { extent = (let l = reached-more c.reach.ensures.reaches def at in omega (arith, l)) })

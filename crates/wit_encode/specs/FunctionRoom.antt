@@ -1,0 +1,20 @@
+-- Which functions of an interface have no room, behind what has been learnt.
+use Rattle.std.specs.Prelude.{ℕ, ◌≡◌, ◌+◌, ◌⊎◌, true, List, map, flat_map, length, Option}
+use Rattle.std.specs.List.{IsDistinct}
+use Rattle.std.specs.Set.{is_member}
+use Rattle.wit_model.specs.Text.{Text}
+use Rattle.wit_model.specs.declared.model.Resolve.{Resolve}
+use Rattle.wit_model.specs.declared.model.Function.{Function}
+use Rattle.wit_model.specs.declared.model.InterfaceId.{InterfaceId}
+use Rattle.wit_model.specs.declared.model.«Type».{«Type» as ValueType}
+use Rattle.encode_types.specs.declared.maps.TypeEncodingMaps.{TypeEncodingMaps}
+use Rattle.encode_types.specs.Distinct.{Key, key_of, are_same, KnowsKey}
+use Rattle.encode_types.specs.Room.{Refusals, function_requests, FindsNoRoom}
+
+-- A part of a type that is met from these, or one of these functions, has no room. What is held is less than what was held, what some type
+-- numbers take that are met and were new, one for each key that was known or is that of a function, and wasn't known, and one for each function.
+pub record LacksFunctions (r : Resolve) (own : Option InterfaceId) (ts : List ValueType) (fs : List (Text × Function)) (m : TypeEncodingMaps) (before after : ℕ) (N : Refusals) : Type 0 where
+  pub keys : List Key
+  pub different : IsDistinct are_same keys
+  pub from : (key : Key) → is_member are_same keys key ≡ true → KnowsKey m key ⊎ (is_member are_same (map (λ f. key_of f.1) fs) key ≡ true)
+  pub room : FindsNoRoom r own ts (flat_map (function_requests r) fs) (length keys + length fs) m before (after + length m.func_type_map.entries) N
