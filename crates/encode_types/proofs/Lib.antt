@@ -13,7 +13,6 @@ pub mod Defining
 pub mod Encoding
 pub mod Owning
 pub mod Functions
-pub mod TableSteps
 pub mod Rooms
 pub mod Learning
 pub mod Writing

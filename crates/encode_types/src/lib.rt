@@ -14,7 +14,6 @@ mod maps;
 mod name;
 mod plan;
 mod shape;
-mod table;
 
 pub use encode::{
     encode_enum, encode_flags, encode_future, encode_option, encode_optional_valtype,
@@ -26,4 +25,3 @@ pub use func_type::encode_func_type;
 pub use key::{FunctionKey, ParamSignatures, key_of};
 pub use maps::TypeEncodingMaps;
 pub use name::{extern_name, name_of};
-pub use table::{Slot, Table, TableOf};

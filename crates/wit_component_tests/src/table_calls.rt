@@ -1,4 +1,4 @@
-//! Calls of the encoder's functions, one after the other in the scope of one table, and the slots that they answer.
+//! Calls of the encoder's functions, one after the other on an encoder over one table, and the slots that they answer.
 
 ghost use Rattle.std.specs.Prelude.{◌≡◌, ◌<◌, true, false, length, map, option_to_list, is_some, Some, IfOk, IfSome};
 ghost use Rattle.std.specs.Option.{option_map_or};
@@ -8,18 +8,21 @@ ghost use Rattle.wit_model.specs.Lookup.{interface_at, type_at};
 ghost use Rattle.encode_types.specs.Kinds.{parts_of, has_definition, kind_tree};
 ghost use Rattle.encode_types.specs.Formed.{IsFormed};
 ghost use Rattle.encode_types.specs.Plan.{InRange, AllInRange, foreign_owner};
-ghost use Rattle.encode_types.specs.Table.{has_named_owner, is_met_by, table_scope, IsDefined, AllDefined, IsTable};
+ghost use Rattle.encode_types.specs.Table.{has_named_owner, is_met_by, table_scope, IsDefined, AllDefined, IsTableOf};
+ghost use Rattle.encode_flat.specs.Flat.{flat_view};
 
+use encode_flat::FlatEncoder;
 use std::alloc::Global;
 use std::test::Fail;
 use wit_component::{
-    Check, ComponentValType, Error, Fault, Function, InterfaceId, Param, Resolve, Type, TypeDef,
-    TypeDefKind, TypeId, TypeOwner, encode_enum, encode_flags, encode_func_type, encode_future,
-    encode_option, encode_optional_valtype, encode_params, encode_record, encode_result,
-    encode_stream, encode_tuple, encode_unit_future, encode_unit_stream, encode_valtype,
-    encode_variant, maybe_import_type,
+    Check, ComponentValType, Error, Fault, Function, FunctionKind, InterfaceId, Param, Resolve,
+    Type, TypeDef, TypeDefKind, TypeId, TypeOwner, encode_enum, encode_flags, encode_func_type,
+    encode_future, encode_option, encode_optional_valtype, encode_params, encode_record,
+    encode_result, encode_stream, encode_tuple, encode_unit_future, encode_unit_stream,
+    encode_valtype, encode_variant, maybe_import_type,
 };
-use wit_encode::Table;
+use wit_samples::drafts::{add_interface, add_type_of, draft, nullary, put_function};
+use wit_samples::kinds::{id, record_of};
 use wit_samples::samples::each_kind;
 
 /// The interface whose types are encoded.
@@ -138,11 +141,15 @@ fn slot_of(ty: ComponentValType) -> Option<u32> {
     }
 }
 
-fn call_valtype<'a>(alloc: Global, table: &mut Table<'a>, ty: Type) -> Result<Option<u32>, Error>
-    requires { IsTable table.old }
-    ensures { IsTable table.new }
+fn call_valtype<'a>(
+    alloc: Global,
+    table: &mut FlatEncoder<'a>,
+    resolve: &'a Resolve,
+    ty: Type,
+) -> Result<Option<u32>, Error>
+    requires { IsTableOf resolve.now OWN (flat_view table.old) }
+    ensures { IsTableOf resolve.now OWN (flat_view table.new) }
 {
-    let resolve = table.resolve;
     if !is_in_range(resolve, ty) {
         return Err(Error::Size);
     }
@@ -152,13 +159,13 @@ fn call_valtype<'a>(alloc: Global, table: &mut Table<'a>, ty: Type) -> Result<Op
 
 fn call_optional<'a>(
     alloc: Global,
-    table: &mut Table<'a>,
+    table: &mut FlatEncoder<'a>,
+    resolve: &'a Resolve,
     ty: Option<Type>,
 ) -> Result<Option<u32>, Error>
-    requires { IsTable table.old }
-    ensures { IsTable table.new }
+    requires { IsTableOf resolve.now OWN (flat_view table.old) }
+    ensures { IsTableOf resolve.now OWN (flat_view table.new) }
 {
-    let resolve = table.resolve;
     if !is_optional_in_range(resolve, ty) {
         return Err(Error::Size);
     }
@@ -171,15 +178,15 @@ fn call_optional<'a>(
 // The function that is named after a kind.
 fn encode_kind<'a>(
     alloc: Global,
-    table: &mut Table<'a>,
+    table: &mut FlatEncoder<'a>,
+    resolve: &'a Resolve,
     kind: &'a TypeDefKind,
 ) -> Result<ComponentValType, Error>
-    requires table { IsTable table.old }
-    requires in_range { AllInRange table.old.resolve.now (parts_of kind.now) }
-    requires formed { has_definition kind.now ≡ true → IsFormed (table_scope table.old.resolve.now table.old.owner) (kind_tree table.old.resolve.now kind.now) }
-    ensures { IsTable table.new }
+    requires table { IsTableOf resolve.now OWN (flat_view table.old) }
+    requires in_range { AllInRange resolve.now (parts_of kind.now) }
+    requires formed { has_definition kind.now ≡ true → IsFormed (flat_view table.old).scope (kind_tree resolve.now kind.now) }
+    ensures { IsTableOf resolve.now OWN (flat_view table.new) }
 {
-    let resolve = table.resolve;
     match kind {
         TypeDefKind::Record(record) => encode_record(alloc, table, resolve, record),
         TypeDefKind::Tuple(tuple) => encode_tuple(alloc, table, resolve, tuple),
@@ -194,15 +201,19 @@ fn encode_kind<'a>(
     }
 }
 
-fn call_kind<'a>(alloc: Global, table: &mut Table<'a>, id: TypeId) -> Result<Option<u32>, Error>
-    requires { IsTable table.old }
-    ensures { IsTable table.new }
+fn call_kind<'a>(
+    alloc: Global,
+    table: &mut FlatEncoder<'a>,
+    resolve: &'a Resolve,
+    id: TypeId,
+) -> Result<Option<u32>, Error>
+    requires { IsTableOf resolve.now OWN (flat_view table.old) }
+    ensures { IsTableOf resolve.now OWN (flat_view table.new) }
 {
-    let resolve = table.resolve;
     if !is_number(resolve, id) {
         return Err(Error::Size);
     }
-    let value = encode_kind(alloc, table, &resolve.types[id.0 as usize].kind)?;
+    let value = encode_kind(alloc, table, resolve, &resolve.types[id.0 as usize].kind)?;
     Ok(slot_of(value))
 }
 
@@ -214,13 +225,13 @@ fn slot_of_second(params: &[(&str, ComponentValType)]) -> Option<u32> {
 
 fn call_params<'a>(
     alloc: Global,
-    table: &mut Table<'a>,
+    table: &mut FlatEncoder<'a>,
+    resolve: &'a Resolve,
     params: &'a [Param],
 ) -> Result<Option<u32>, Error>
-    requires { IsTable table.old }
-    ensures { IsTable table.new }
+    requires { IsTableOf resolve.now OWN (flat_view table.old) }
+    ensures { IsTableOf resolve.now OWN (flat_view table.new) }
 {
-    let resolve = table.resolve;
     if !are_in_range(resolve, params) {
         return Err(Error::Size);
     }
@@ -230,13 +241,13 @@ fn call_params<'a>(
 
 fn call_function<'a>(
     alloc: Global,
-    table: &mut Table<'a>,
+    table: &mut FlatEncoder<'a>,
+    resolve: &'a Resolve,
     function: &'a Function,
 ) -> Result<Option<u32>, Error>
-    requires { IsTable table.old }
-    ensures { IsTable table.new }
+    requires { IsTableOf resolve.now OWN (flat_view table.old) }
+    ensures { IsTableOf resolve.now OWN (flat_view table.new) }
 {
-    let resolve = table.resolve;
     if !are_in_range(resolve, &function.params) || !is_optional_in_range(resolve, function.result) {
         return Err(Error::Size);
     }
@@ -247,73 +258,63 @@ fn call_function<'a>(
     Ok(Some(slot))
 }
 
-fn call_import<'a>(alloc: Global, table: &mut Table<'a>, id: TypeId) -> Result<Option<u32>, Error>
-    requires { IsTable table.old }
-    ensures { IsTable table.new }
+fn call_import<'a>(
+    alloc: Global,
+    table: &mut FlatEncoder<'a>,
+    resolve: &'a Resolve,
+    id: TypeId,
+) -> Result<Option<u32>, Error>
+    requires { IsTableOf resolve.now OWN (flat_view table.old) }
+    ensures { IsTableOf resolve.now OWN (flat_view table.new) }
 {
-    let resolve = table.resolve;
     if !is_number(resolve, id) {
         return Err(Error::Size);
     }
     maybe_import_type(alloc, table, resolve, id)
 }
 
-fn call_unit_future<'a>(alloc: Global, table: &mut Table<'a>) -> Result<Option<u32>, Error>
-    requires { IsTable table.old }
-    ensures { IsTable table.new }
-{
-    let slot = encode_unit_future(alloc, table)?;
-    Ok(Some(slot))
-}
-
-fn call_unit_stream<'a>(alloc: Global, table: &mut Table<'a>) -> Result<Option<u32>, Error>
-    requires { IsTable table.old }
-    ensures { IsTable table.new }
-{
-    let slot = encode_unit_stream(alloc, table)?;
-    Ok(Some(slot))
-}
-
 // Makes a call.
 fn answer<'a>(
     alloc: Global,
-    table: &mut Table<'a>,
+    table: &mut FlatEncoder<'a>,
+    resolve: &'a Resolve,
     function: &'a Function,
     call: Call,
 ) -> Result<Option<u32>, Error>
-    requires { IsTable table.old }
-    ensures { IsTable table.new }
+    requires { IsTableOf resolve.now OWN (flat_view table.old) }
+    ensures { IsTableOf resolve.now OWN (flat_view table.new) }
 {
     match call {
-        Call::Valtype(ty) => call_valtype(alloc, table, ty),
-        Call::Optional(ty) => call_optional(alloc, table, ty),
-        Call::Kind(number) => call_kind(alloc, table, TypeId(number)),
-        Call::Params => call_params(alloc, table, &function.params),
-        Call::Function => call_function(alloc, table, function),
-        Call::Import(number) => call_import(alloc, table, TypeId(number)),
-        Call::UnitFuture => call_unit_future(alloc, table),
-        Call::UnitStream => call_unit_stream(alloc, table),
+        Call::Valtype(ty) => call_valtype(alloc, table, resolve, ty),
+        Call::Optional(ty) => call_optional(alloc, table, resolve, ty),
+        Call::Kind(number) => call_kind(alloc, table, resolve, TypeId(number)),
+        Call::Params => call_params(alloc, table, resolve, &function.params),
+        Call::Function => call_function(alloc, table, resolve, function),
+        Call::Import(number) => call_import(alloc, table, resolve, TypeId(number)),
+        Call::UnitFuture => Ok(Some(encode_unit_future(alloc, table)?)),
+        Call::UnitStream => Ok(Some(encode_unit_stream(alloc, table)?)),
     }
 }
 
 /// A call and the slot that it answers.
 type Answered = (Call, Option<u32>);
 
-// How many calls, one after the other, are answered as expected.
+// How many calls, one after the other, are answered as expected, and how many slots there are by then.
 fn right_answers<'a>(
     alloc: Global,
-    table: &mut Table<'a>,
+    table: &mut FlatEncoder<'a>,
+    resolve: &'a Resolve,
     function: &'a Function,
     calls: &[Answered],
-) -> Result<usize, Error>
-    requires { IsTable table.old }
+) -> Result<(usize, u32), Error>
+    requires { IsTableOf resolve.now OWN (flat_view table.old) }
 {
     for (number, (call, expected)) in calls.iter().enumerate() {
-        if answer(alloc, table, function, *call)? != *expected {
-            return Ok(number);
+        if answer(alloc, table, resolve, function, *call)? != *expected {
+            return Ok((number, table.slots()));
         }
     }
-    Ok(calls.len())
+    Ok((calls.len(), table.slots()))
 }
 
 // ---- a table of a valid `Resolve`
@@ -378,13 +379,13 @@ fn is_valid(alloc: Global, resolve: &Resolve) -> Result<bool, Error>
 }
 
 // A table for `OWN`, if the packages are valid.
-fn table_of<'a>(alloc: Global, resolve: &'a Resolve) -> Result<Option<Table<'a>>, Error>
-    ensures { IfOk result (λ o. IfSome o IsTable) }
+fn table_of<'a>(alloc: Global, resolve: &'a Resolve) -> Result<Option<FlatEncoder<'a>>, Error>
+    ensures { IfOk result (λ o. IfSome o (λ table. IsTableOf resolve.now OWN (flat_view table))) }
 {
     if !is_valid(alloc, resolve)? || !are_met(resolve, &resolve.types) {
         return Ok(None);
     }
-    Ok(Some(Table::new(alloc, resolve, TypeOwner::Interface(OWN))))
+    Ok(Some(FlatEncoder::new(alloc, resolve, TypeOwner::Interface(OWN))))
 }
 
 // The first function of `OWN`.
@@ -394,15 +395,18 @@ fn function_of(resolve: &Resolve) -> Option<&Function> {
     Some(function)
 }
 
-// How many calls, one after the other on a table of its own, are answered as expected.
-fn right_on_a_table(alloc: Global, calls: &[Answered]) -> Result<usize, Error> {
-    let resolve = each_kind(alloc)?;
-    let Some(function) = function_of(&resolve) else {
-        return Ok(0);
+// The same on a table of its own.
+fn right_on_a_table(
+    alloc: Global,
+    resolve: &Resolve,
+    calls: &[Answered],
+) -> Result<(usize, u32), Error> {
+    let Some(function) = function_of(resolve) else {
+        return Ok((0, 0));
     };
-    match table_of(alloc, &resolve)? {
-        Some(mut table) => right_answers(alloc, &mut table, function, calls),
-        None => Ok(0),
+    match table_of(alloc, resolve)? {
+        Some(mut table) => right_answers(alloc, &mut table, resolve, function, calls),
+        None => Ok((0, 0)),
     }
 }
 
@@ -416,31 +420,61 @@ static UNITS: [Answered; 6] = [
     (Call::Kind(14), Some(3)),
 ];
 
-// The list is slot 0, the record 1 and its name 2. A function that is named after a kind defines it at each call. The tuple needs the resource
-// and what owns it. Equal functions share a type. A type of another interface is imported, and no other.
-static CALLS: [Answered; 17] = [
+// The list is slot 0 and the record 1, which stands for its name, too. A function that is named after a kind defines it at each call. The tuple
+// needs the resource and what owns it. Equal functions share a type. A type of another interface is imported, once, and no other.
+static CALLS: [Answered; 18] = [
     (Call::Valtype(Type::Bool), None),
-    (Call::Valtype(Type::Id(TypeId(4))), Some(2)),
-    (Call::Kind(4), Some(3)),
-    (Call::Kind(5), Some(6)),
-    (Call::Kind(6), Some(7)),
-    (Call::Kind(7), Some(8)),
-    (Call::Kind(8), Some(9)),
-    (Call::Kind(9), Some(10)),
-    (Call::Kind(10), Some(11)),
-    (Call::Valtype(Type::Id(TypeId(11))), Some(12)),
-    (Call::Optional(Some(Type::Id(TypeId(11)))), Some(12)),
+    (Call::Valtype(Type::Id(TypeId(4))), Some(1)),
+    (Call::Kind(4), Some(2)),
+    (Call::Kind(5), Some(5)),
+    (Call::Kind(6), Some(6)),
+    (Call::Kind(7), Some(7)),
+    (Call::Kind(8), Some(8)),
+    (Call::Kind(9), Some(9)),
+    (Call::Kind(10), Some(10)),
+    (Call::Valtype(Type::Id(TypeId(11))), Some(11)),
+    (Call::Optional(Some(Type::Id(TypeId(11)))), Some(11)),
     (Call::Optional(None), None),
     (Call::Params, Some(0)),
-    (Call::Function, Some(13)),
-    (Call::Function, Some(13)),
-    (Call::Import(0), Some(14)),
+    (Call::Function, Some(12)),
+    (Call::Function, Some(12)),
+    (Call::Import(0), Some(13)),
+    (Call::Import(0), Some(13)),
     (Call::Import(3), None),
 ];
 
 #[test]
 fn one_after_the_other(rt: HostRuntime) -> Result<(), Fail> {
-    assert_eq!(rt; right_on_a_table(rt.alloc(), &UNITS)?, 6);
-    assert_eq!(rt; right_on_a_table(rt.alloc(), &CALLS)?, 17);
+    let resolve = each_kind(rt.alloc())?;
+    assert!(rt; right_on_a_table(rt.alloc(), &resolve, &UNITS)? == (6, 4));
+    assert!(rt; right_on_a_table(rt.alloc(), &resolve, &CALLS)? == (18, 14));
+    Ok(())
+}
+
+// Interface 1 with `type t = u32`, equal records `p` and `q` of two fields of `t`, and a function.
+fn two_equal_records(alloc: Global) -> Result<Resolve, Error> {
+    let mut resolve = draft(alloc)?;
+    add_interface(alloc, &mut resolve, "j")?;
+    add_type_of(alloc, &mut resolve, 1, "t", TypeDefKind::Type_(Type::U32))?;
+    let p = record_of(alloc, &["x", "y"], id(0))?;
+    add_type_of(alloc, &mut resolve, 1, "p", p)?;
+    let q = record_of(alloc, &["x", "y"], id(0))?;
+    add_type_of(alloc, &mut resolve, 1, "q", q)?;
+    let f = nullary(alloc, "f", FunctionKind::Freestanding, None)?;
+    put_function(alloc, &mut resolve, 1, "f", f)?;
+    Ok(resolve)
+}
+
+static RECORDS: [Answered; 4] = [
+    (Call::Valtype(Type::Id(TypeId(0))), Some(0)),
+    (Call::Valtype(Type::Id(TypeId(1))), Some(1)),
+    (Call::Valtype(Type::Id(TypeId(2))), Some(2)),
+    (Call::Valtype(Type::Id(TypeId(1))), Some(1)),
+];
+
+#[test]
+fn equal_records_have_slots_of_their_own(rt: HostRuntime) -> Result<(), Fail> {
+    let resolve = two_equal_records(rt.alloc())?;
+    assert!(rt; right_on_a_table(rt.alloc(), &resolve, &RECORDS)? == (4, 3));
     Ok(())
 }

@@ -1,4 +1,4 @@
--- The table of an interface in valid packages: what can be encoded in it, and that it stays one.
+-- An encoder of an interface of valid packages over one table: what can be encoded in it, and that it stays one.
 use Rattle.std.proofs.Common.{◌⊎◌, ◌≡◌, refl, sym, subst, ap, ◌∙◌, ℕ, suc, ◌+◌, ◌<◌, Bool, true, false, not, ◌&&◌, ◌||◌, is_some, Option, None, option_map, option_to_list, List, [], ◌∷◌, ◌++◌, inl, inr, map, take, length, get_or, Some, unwrap_or, arith}
 use Rattle.std.proofs.lemmas.List.{take_more, map-append}
 use Rattle.std.proofs.lemmas.List.Elements.{Contains-append_cases}
@@ -22,16 +22,15 @@ use Rattle.wit_model.specs.declared.model.TypeOwner.TheVariants as owner
 use Rattle.wit_model.specs.declared.model.InterfaceId.{InterfaceId}
 use Rattle.wit_model.specs.declared.model.«Type».{«Type» as ValueType}
 use Rattle.encode_types.specs.declared.maps.TypeEncodingMaps.{TypeEncodingMaps}
-use Rattle.encode_types.specs.declared.table.TableOf.{TableOf}
+use Rattle.encode_types.specs.View.{Grows, View}
 use Rattle.encode_types.specs.Fits.{CanEncode}
 use Rattle.encode_types.specs.Kinds.{parts_of, has_definition, kind_tree}
 use Rattle.encode_types.specs.Formed.{IsFormed, IsFormedSignature, are_values}
 use Rattle.encode_types.specs.Plan.{InRange, AllInRange, foreign_owner}
 use Rattle.encode_types.specs.Maps.{MapsAgree}
-use Rattle.encode_types.specs.Slots.{SlotsGrow}
 use Rattle.encode_types.specs.Scope.{Scope, IsImportable}
 use Rattle.encode_types.specs.Leaves.{Leaves}
-use Rattle.encode_types.specs.Table.{table_scope, table_view, interface_of_owner, is_met_by, has_named_owner, IsTable, TableReads, IsDefined, AllDefined}
+use Rattle.encode_types.specs.Table.{table_scope, interface_of_owner, is_met_by, has_named_owner, IsTableOf, IsDefined, AllDefined}
 use Rattle.encode_types.proofs.Lists.{both}
 use Rattle.wit_encode.proofs.Forming.{optional-values}
 use Rattle.wit_model.proofs.OnePath.{found-in, some-of}
@@ -45,66 +44,50 @@ use Rattle.wit_model.proofs.Lists.{first_true, second_true}
 use Rattle.wit_model.proofs.Elements.{one-contained}
 use Rattle.encode_shown.proofs.Basics.{same-owner}
 
--- each name that is met is of the owner, or of another interface, which has a name
-named-stands : (t : TableOf TypeEncodingMaps) → IsTable t → (ts : List ValueType) → NamesStand t.resolve.now t.owner (table_scope t.resolve.now t.owner) ts
-named-stands t i ts n def m is named = go (same_owner def.owner t.owner) refl (named-met t.resolve.now i.valid t.owner i.met n def is named)
-  where
-    go : (b : Bool) → same_owner def.owner t.owner ≡ b → (b || (is_some (foreign_owner (interface_of_owner t.owner) def.owner) && has_named_owner t.resolve.now def)) ≡ true
-        → (def.owner ≡ t.owner) ⊎ IsOfInstance t.resolve.now (table_scope t.resolve.now t.owner) def
-    go true e h = inl (same-owner def.owner t.owner e)
-    go false e h =
-        let f = some-of (foreign_owner (interface_of_owner t.owner) def.owner) (first_true _ (has_named_owner t.resolve.now def) h) in
-        inr (record {
-          interface = f.0;
-          owned = foreign-interface (interface_of_owner t.owner) def.owner f.0 f.1;
-          named_ = named-owner t.resolve.now i.valid def (second_true (is_some (foreign_owner (interface_of_owner t.owner) def.owner)) _ h);
-          stands = (importable t.resolve.now i.valid t.owner n def is f.0 f.1).stands;
-        })
+module _ (r : Resolve) (own : InterfaceId) (valid : IsValid r) (met : list_all (is_met_by r (owner.Interface own)) r.types.items ≡ true) where
+  -- each name that is met is of the owner, or of another interface, which has a name
+  named-stands : (ts : List ValueType) → NamesStand r (owner.Interface own) (table_scope r (owner.Interface own)) ts
+  named-stands ts n def m is named = go (same_owner def.owner (owner.Interface own)) refl (named-met r valid (owner.Interface own) met n def is named)
+    where
+      go : (b : Bool) → same_owner def.owner (owner.Interface own) ≡ b → (b || (is_some (foreign_owner (interface_of_owner (owner.Interface own)) def.owner) && has_named_owner r def)) ≡ true
+          → (def.owner ≡ owner.Interface own) ⊎ IsOfInstance r (table_scope r (owner.Interface own)) def
+      go true e h = inl (same-owner def.owner (owner.Interface own) e)
+      go false e h =
+          let f = some-of (foreign_owner (interface_of_owner (owner.Interface own)) def.owner) (first_true _ (has_named_owner r def) h) in
+          inr (record {
+            interface = f.0;
+            owned = foreign-interface (interface_of_owner (owner.Interface own)) def.owner f.0 f.1;
+            named_ = named-owner r valid def (second_true (is_some (foreign_owner (interface_of_owner (owner.Interface own)) def.owner)) _ h);
+            stands = (importable r valid (owner.Interface own) n def is f.0 f.1).stands;
+          })
 
-pub table-encodes : (t : TableOf TypeEncodingMaps) → IsTable t → (ts : List ValueType) → AllInRange t.resolve.now ts → CanEncode t.resolve.now (table_scope t.resolve.now t.owner) ts
-table-encodes t i ts inside = names_encode t.resolve.now t.owner (table_scope t.resolve.now t.owner) ts i.valid (table_is_scope t.resolve.now t.owner i.valid) inside (named-stands t i ts)
+  encodes : (ts : List ValueType) → AllInRange r ts → CanEncode r (table_scope r (owner.Interface own)) ts
+  encodes ts inside = names_encode r (owner.Interface own) (table_scope r (owner.Interface own)) ts valid (table_is_scope r (owner.Interface own) valid) inside (named-stands ts)
 
--- the owner of a table is known by its scope
-same-own : (a : TypeOwner) (i : InterfaceId) → interface_of_owner a ≡ Some i → a ≡ owner.Interface i
-same-own (owner.Interface j) i e = ap (λ o. owner.Interface (unwrap_or o j)) e
-same-own (owner.World w) i e = let wrong : ⊥ = cc in absurd wrong
-same-own owner.None i e = let wrong : ⊥ = cc in absurd wrong
+pub table-encodes : (r : Resolve) (own : InterfaceId) (v : View) → IsTableOf r own v → (ts : List ValueType) → AllInRange r ts → CanEncode r v.scope ts
+table-encodes r own v t ts inside = subst (λ (s : Scope). CanEncode r s ts) (sym t.scope_) (encodes r own t.valid t.met ts inside)
 
-module _ (t t' : TableOf TypeEncodingMaps) (i : IsTable t) (same : table_scope t'.resolve.now t'.owner ≡ table_scope t.resolve.now t.owner) where
-  packages-same : t'.resolve.now ≡ t.resolve.now
-  packages-same = ap (λ (s : Scope). s.packages) same
+-- what it is after a call
+pub table-leaves : (r : Resolve) (own : InterfaceId) (v v' : View) → IsTableOf r own v → Leaves r v v' → IsTableOf r own v'
+table-leaves r own v v' t l = record { valid = t.valid; met = t.met; scope_ = l.scope_stays ∙ t.scope_; agree = l.agree }
 
-  owned-same : t'.owner ≡ owner.Interface i.own
-  owned-same = same-own t'.owner i.own (ap (λ (s : Scope). s.own_interface) same ∙ ap interface_of_owner i.owned)
-
-  owner-same : t'.owner ≡ t.owner
-  owner-same = owned-same ∙ sym i.owned
-
-  stays-table : MapsAgree t.resolve.now t'.maps (TableReads t'.resolve.now (place_of t'.resolve.now t'.owner) t'.slots.items) → IsTable t'
-  stays-table agree = record {
-    own = i.own;
-    owned = owned-same;
-    valid = subst IsValid (sym packages-same) i.valid;
-    met = subst (λ (r : Resolve). list_all (is_met_by r t'.owner) r.types.items ≡ true) (sym packages-same) (subst (λ (o : TypeOwner). list_all (is_met_by t.resolve.now o) t.resolve.now.types.items ≡ true) (sym owner-same) i.met);
-    agree = subst (λ (r : Resolve). MapsAgree r t'.maps (TableReads t'.resolve.now (place_of t'.resolve.now t'.owner) t'.slots.items)) (sym packages-same) agree;
-  }
-
--- a table after a call
-pub table-leaves : (t t' : TableOf TypeEncodingMaps) → IsTable t → Leaves t.resolve.now (table_view t) (table_view t') → IsTable t'
-table-leaves t t' i l = stays-table t t' i l.scope_stays l.agree
-
--- a table after a call that learns nothing
-pub table-grows : (t t' : TableOf TypeEncodingMaps) → IsTable t → table_scope t'.resolve.now t'.owner ≡ table_scope t.resolve.now t.owner → t'.maps ≡ t.maps → {n n' : ℕ} → SlotsGrow (TableReads t.resolve.now (place_of t.resolve.now t.owner) t.slots.items) (TableReads t'.resolve.now (place_of t'.resolve.now t'.owner) t'.slots.items) n n' → IsTable t'
-table-grows t t' i scope maps g = stays-table t t' i scope (subst (λ (m : TypeEncodingMaps). MapsAgree t.resolve.now m (TableReads t'.resolve.now (place_of t'.resolve.now t'.owner) t'.slots.items)) (sym maps) (record { says = λ k j h. g.kept j _ (i.agree.says k j h); once = i.agree.once }))
+-- after a call that learns nothing
+pub table-grows : (r : Resolve) (own : InterfaceId) (v v' : View) → IsTableOf r own v → v'.scope ≡ v.scope → v'.maps ≡ v.maps → Grows v v' → IsTableOf r own v'
+table-grows r own v v' t scope maps g = record {
+  valid = t.valid;
+  met = t.met;
+  scope_ = scope ∙ t.scope_;
+  agree = subst (λ (m : TypeEncodingMaps). MapsAgree r m v'.stands) (sym maps) (record { says = λ k j h. g.kept j _ (t.agree.says k j h); once = t.agree.once });
+}
 
 -- a type of another interface can be imported into a table
-pub table-imports : (t : TableOf TypeEncodingMaps) → IsTable t → (n : ℕ) (def : TypeDef) (i : InterfaceId) → type_at t.resolve.now n ≡ Some def → foreign_owner (interface_of_owner t.owner) def.owner ≡ Some i → IsImportable (table_scope t.resolve.now t.owner) i.0 n
-table-imports t v n def i is f = importable t.resolve.now v.valid t.owner n def is i f
+pub table-imports : (r : Resolve) (own : InterfaceId) (v : View) → IsTableOf r own v → (n : ℕ) (def : TypeDef) (i : InterfaceId) → type_at r n ≡ Some def → foreign_owner v.scope.own_interface def.owner ≡ Some i → IsImportable v.scope i.0 n
+table-imports r own v t n def i is f = subst (λ (s : Scope). IsImportable s i.0 n) (sym t.scope_) (importable r t.valid (owner.Interface own) n def is i (ap (λ (s : Scope). foreign_owner s.own_interface def.owner) (sym t.scope_) ∙ f))
 
 -- the parts of a type are in range
-pub table-parts : (t : TableOf TypeEncodingMaps) → IsTable t → (n : ℕ) (def : TypeDef) → n < length t.resolve.now.types.items → type_at t.resolve.now n ≡ Some def → AllInRange t.resolve.now (parts_of def.kind)
-table-parts t v n def inside is p c id e =
-    let below : id.0 < n = part-smaller t.resolve.now (valid-layered t.resolve.now v.valid) n def id is (subst (λ (x : ValueType). Contains (parts_of def.kind) x) e c) in omega arith
+pub table-parts : (r : Resolve) → IsValid r → (n : ℕ) (def : TypeDef) → n < length r.types.items → type_at r n ≡ Some def → AllInRange r (parts_of def.kind)
+table-parts r valid n def inside is p c id e =
+    let below : id.0 < n = part-smaller r (valid-layered r valid) n def id is (subst (λ (x : ValueType). Contains (parts_of def.kind) x) e c) in omega arith
 
 -- what is in range of two lists is in range of both, one after the other
 pub both-in_range : (r : Resolve) (xs ys : List ValueType) → AllInRange r xs → AllInRange r ys → AllInRange r (xs ++ ys)
@@ -122,12 +105,12 @@ none-in_range r t c = let l = c.1 in absurd (omega arith)
 -- ---- what is well formed
 
 -- what a type of a table is defined as is well formed
-pub table-formed : (t : TableOf TypeEncodingMaps) → IsTable t → (n : ℕ) (def : TypeDef) → n < length t.resolve.now.types.items → type_at t.resolve.now n ≡ Some def → has_definition def.kind ≡ true → IsFormed (table_scope t.resolve.now t.owner) (kind_tree t.resolve.now def.kind)
-table-formed t v n def inside is d = record {
+pub table-formed : (r : Resolve) (own : InterfaceId) (v : View) → IsTableOf r own v → (n : ℕ) (def : TypeDef) → n < length r.types.items → type_at r n ≡ Some def → has_definition def.kind ≡ true → IsFormed v.scope (kind_tree r def.kind)
+table-formed r own v t n def inside is d = subst (λ (s : Scope). IsFormed s (kind_tree r def.kind)) (sym t.scope_) (record {
   sound = refl;
-  formed = valid-formed t.resolve.now (table_scope t.resolve.now t.owner).resources v.valid n def is
-      (table-agree t.resolve.now v.valid t.owner (parts_of def.kind) (table-parts t v n def inside is) (all-met t.resolve.now v.valid t.owner v.met (parts_of def.kind))) d;
-}
+  formed = valid-formed r (table_scope r (owner.Interface own)).resources t.valid n def is
+      (table-agree r t.valid (owner.Interface own) (parts_of def.kind) (table-parts r t.valid n def inside is) (all-met r t.valid (owner.Interface own) t.met (parts_of def.kind))) d;
+})
 
 defined-kind : (f : ℕ → Bool) (k : TypeDefKind) → has_definition k ≡ true → is_resource_kind f k ≡ false
 defined-kind f kind.Resource e = let wrong : ⊥ = cc in absurd wrong
@@ -152,28 +135,11 @@ defined-values r v (t ∷ ts) inside d = both _ _ (ap not (defined-value r v t (
     later : (u : ValueType) → Contains ts u → Contains (t ∷ ts) u
     later u (i, l, e) = (suc i, omega (arith, l), e)
 
--- values of a table are well formed
-table-values : (t : TableOf TypeEncodingMaps) → IsTable t → (o : Option ValueType) → AllInRange t.resolve.now (option_to_list o) → AllDefined t.resolve.now (option_to_list o)
-    → are_values (table_scope t.resolve.now t.owner).resources (option_to_list (option_map (type_tree t.resolve.now) o)) ≡ true
-table-values t v o inside d =
-    optional-values t.resolve.now (table_scope t.resolve.now t.owner).resources o (defined-values t.resolve.now v.valid (option_to_list o) inside d)
-    (table-agree t.resolve.now v.valid t.owner (option_to_list o) inside (all-met t.resolve.now v.valid t.owner v.met (option_to_list o)))
-
-given-children : (o : Option Tree) → child_list (given (o ∷ [])) ≡ option_to_list o
-given-children None = refl
-given-children (Some t) = refl
-
-pub table-future : (t : TableOf TypeEncodingMaps) → IsTable t → (o : Option ValueType) → AllInRange t.resolve.now (option_to_list o) → AllDefined t.resolve.now (option_to_list o) → IsFormed (table_scope t.resolve.now t.owner) (kind_tree t.resolve.now (kind.Future o))
-table-future t v o inside d = record { sound = refl; formed = ap (are_values (table_scope t.resolve.now t.owner).resources) (given-children (option_map (type_tree t.resolve.now) o)) ∙ table-values t v o inside d }
-
-pub table-stream : (t : TableOf TypeEncodingMaps) → IsTable t → (o : Option ValueType) → AllInRange t.resolve.now (option_to_list o) → AllDefined t.resolve.now (option_to_list o) → IsFormed (table_scope t.resolve.now t.owner) (kind_tree t.resolve.now (kind.Stream o))
-table-stream t v o inside d = record { sound = refl; formed = ap (are_values (table_scope t.resolve.now t.owner).resources) (given-children (option_map (type_tree t.resolve.now) o)) ∙ table-values t v o inside d }
-
 -- a function that takes and gives types with definitions of their own
-pub table-signature : (t : TableOf TypeEncodingMaps) → IsTable t → (f : Function) → AllInRange t.resolve.now (function_types f) → AllDefined t.resolve.now (function_types f) → IsFormedSignature (table_scope t.resolve.now t.owner) (signature_of t.resolve.now f)
-table-signature t v f inside d = signature-formed t.resolve.now (table_scope t.resolve.now t.owner) f.params.items f.result refl (is_async f.kind)
-    (defined-values t.resolve.now v.valid (function_types f) inside d)
-    (table-agree t.resolve.now v.valid t.owner (function_types f) inside (all-met t.resolve.now v.valid t.owner v.met (function_types f)))
+pub table-signature : (r : Resolve) (own : InterfaceId) (v : View) → IsTableOf r own v → (f : Function) → AllInRange r (function_types f) → AllDefined r (function_types f) → IsFormedSignature v.scope (signature_of r f)
+table-signature r own v t f inside d = subst (λ (s : Scope). IsFormedSignature s (signature_of r f)) (sym t.scope_) (signature-formed r (table_scope r (owner.Interface own)) f.params.items f.result refl (is_async f.kind)
+    (defined-values r t.valid (function_types f) inside d)
+    (table-agree r t.valid (owner.Interface own) (function_types f) inside (all-met r t.valid (owner.Interface own) t.met (function_types f))))
 
 pub formed-as : (r : Resolve) (scope : Scope) (k k' : TypeDefKind) → k ≡ k' → has_definition k' ≡ true → (has_definition k ≡ true → IsFormed scope (kind_tree r k)) → IsFormed scope (kind_tree r k')
 formed-as r scope k k' e d h = subst (λ (x : TypeDefKind). IsFormed scope (kind_tree r x)) e (h (ap has_definition e ∙ d))

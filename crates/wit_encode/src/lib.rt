@@ -10,7 +10,7 @@ mod world;
 
 pub use component_types::interface_type;
 pub use encode_types::{
-    FunctionKey, LendsMaps, ParamSignatures, Slot, Table, TableOf, TypeEncodingMaps,
+    FunctionKey, LendsMaps, ParamSignatures, TypeEncodingMaps,
     ValtypeEncoder, encode_enum, encode_flags, encode_func_type, encode_future, encode_option,
     encode_optional_valtype, encode_params, encode_record, encode_result, encode_stream,
     encode_tuple, encode_unit_future, encode_unit_stream, encode_valtype, encode_variant,

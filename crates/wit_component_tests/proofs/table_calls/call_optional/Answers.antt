@@ -1,3 +1,4 @@
+use Rattle.encode_flat.specs.Flat.{flat_view}
 use Rattle.std.proofs.Common.{refl, sym, subst, Option}
 use Rattle.std.specs.Prelude.{option_to_list}
 use Rattle.wit_model.specs.declared.model.«Type».{«Type» as ValueType}
@@ -9,7 +10,7 @@ pub encode_optional_valtype-requires : goal.encode_optional_valtype-requires
 encode_optional_valtype-requires c = λ _. (
   (refl, tt),
   (
-    table-encodes c.args.table.now c.requires _ (subst (λ (o : Option ValueType). AllInRange c.args.table.now.resolve.now (option_to_list o)) (sym c.as_ref.ensures.value) (c.is_optional_in_range.ensures c.if-not-is_optional_in_range.false)),
+    table-encodes c.args.resolve.now _ (flat_view c.args.table.now) c.requires _ (subst (λ (o : Option ValueType). AllInRange c.args.resolve.now (option_to_list o)) (sym c.as_ref.ensures.value) (c.is_optional_in_range.ensures c.if-not-is_optional_in_range.false)),
     c.requires.agree,
   ),
 )

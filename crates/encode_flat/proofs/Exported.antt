@@ -1,0 +1,56 @@
+-- Which declaration a name exports.
+use Rattle.std.proofs.Common.{◌≡◌, sym, ◌∙◌, refl, ap, ℕ, zero, suc, ◌<◌, Bool, true, false, cond, List, [], ◌∷◌, arith, Option, Some, None, find}
+use Rattle.std.specs.List.{Contains}
+use Rattle.std.specs.Option.{option_eq}
+use Rattle.std.proofs.lemmas.Cmp.{nat_list_eq_equiv}
+use Rattle.wit_model.specs.Text.{Text, text_eq}
+use Rattle.wit_model.specs.Meaning.{TypeMeaning}
+use Rattle.wit_model.proofs.Lists.{first_true, second_true}
+use Rattle.comp_bytes.specs.Raw.{ExternName}
+use Rattle.encode_types.specs.KeyLaws.{text_same}
+use Rattle.encode_types.specs.Scope.{exported_name}
+use Rattle.encode_types.proofs.Lists.{both}
+use Rattle.encode_flat.specs.Flat.{is_name_of}
+
+text-alike : (t : Text) → text_eq t t ≡ true
+text-alike t = nat_list_eq_equiv.refl t
+
+optional-alike : (o : Option Text) → option_eq text_eq o o ≡ true
+optional-alike None = refl
+optional-alike (Some t) = text-alike t
+
+optional-same : (a b : Option Text) → option_eq text_eq a b ≡ true → a ≡ b
+optional-same None None e = refl
+optional-same None (Some y) e = absurd (let z : ⊥ = cc in z)
+optional-same (Some x) None e = absurd (let z : ⊥ = cc in z)
+optional-same (Some x) (Some y) e = ap Some (text_same x y e)
+
+pub record Found {X : Type 0} (p : X → Bool) (xs : List X) : Type 0 where
+  pub item : X
+  pub is : find p xs ≡ Some item
+  pub there : Contains xs item
+  pub passes : p item ≡ true
+
+pub found-in : {X : Type 0} (p : X → Bool) (xs : List X) (x : X) → Contains xs x → p x ≡ true → Found p xs
+found-in p [] x (i, l, e) h = absurd (omega (arith, l))
+found-in p (y ∷ xs) x c h = go (λ k. found-in p xs x k h) (p y) refl
+  where
+    later : Contains (y ∷ xs) x → p y ≡ false → Contains xs x
+    later (zero, l, e) f = let q : true ≡ false = sym h ∙ ap p (sym e) ∙ f in absurd (let z : ⊥ = cc in z)
+    later (suc i, l, e) f = (i, omega (arith, l), e)
+
+    go : (Contains xs x → Found p xs) → (b : Bool) → p y ≡ b → Found p (y ∷ xs)
+    go more true q = record { item = y; is = ap (λ b. cond b (Some y) (find p xs)) q; there = (0, omega arith, refl); passes = q }
+    go more false q =
+        let rest = more (later c q) in
+        record { item = rest.item; is = ap (λ b. cond b (Some y) (find p xs)) q ∙ rest.is; there = (suc rest.there.0, (let l = rest.there.1 in omega arith), rest.there.2); passes = rest.passes }
+
+pub name-passes : (name : ExternName) (d : Text × TypeMeaning) → name ≡ exported_name d → is_name_of name d ≡ true
+name-passes name d e = ap (λ (n : ExternName). is_name_of n d) e ∙ both (text_eq d.0 d.0) (option_eq text_eq d.1.external_id d.1.external_id) (text-alike d.0) (optional-alike d.1.external_id)
+
+-- a name that declares one of two is exported as the other, where it passes for it
+pub name-same : (name : ExternName) (d d' : Text × TypeMeaning) → name ≡ exported_name d → is_name_of name d' ≡ true → name ≡ exported_name d'
+name-same name d d' e h =
+    let t = text_same name.text d'.0 (first_true (text_eq name.text d'.0) (option_eq text_eq name.external_id d'.1.external_id) h) in
+    let x = optional-same name.external_id d'.1.external_id (second_true (text_eq name.text d'.0) (option_eq text_eq name.external_id d'.1.external_id) h) in
+    λ i. record { text = t i; implements = ap (λ (n : ExternName). n.implements) e i; version_suffix = ap (λ (n : ExternName). n.version_suffix) e i; external_id = x i }

@@ -1,0 +1,136 @@
+-- What one more addition says of the slots of a flat encoder.
+use Rattle.std.proofs.Common.{◌≡◌, sym, subst, ◌∙◌, refl, ap, ℕ, ◌+◌, Bool, true, false, cond, List, [], ◌∷◌, ◌++◌, inl, inr, arith, Result, Ok, Err, IfOk, OnErr, OnOk, Option, Some, None, nat_eq, option_to_list, find}
+use Rattle.std.proofs.lemmas.Bool.{eqb-true}
+use Rattle.std.proofs.lemmas.List.{reverse-append}
+use Rattle.std.specs.Prelude.{reverse}
+use Rattle.std.specs.List.{Contains}
+use Rattle.wit_model.specs.Text.{Text}
+use Rattle.wit_model.specs.Tree.{Place, named}
+use Rattle.wit_model.specs.Types.{number_tree}
+use Rattle.wit_model.specs.Meaning.{TypeMeaning}
+use Rattle.wit_model.specs.declared.model.Resolve.{Resolve}
+use Rattle.comp_bytes.specs.declared.forms.ComponentDefinedType.{ComponentDefinedType}
+use Rattle.comp_bytes.specs.declared.forms.ComponentExternName.{ComponentExternName}
+use Rattle.comp_bytes.specs.declared.forms.ComponentFuncType.{ComponentFuncType}
+use Rattle.comp_bytes.specs.RawOf.{raw_name}
+use Rattle.encode_types.specs.Scope.{Scope, exported_name}
+use Rattle.encode_types.specs.Counts.{Definitions, ExportsOne, one_type_more, one_function_more}
+use Rattle.encode_types.specs.Slots.{Adds, SlotAdded, NameAdded, SlotsGrow, Standing, tree}
+use Rattle.encode_flat.specs.declared.forms.Form.{Form}
+use Rattle.encode_flat.specs.declared.forms.Form.TheVariants as form
+use Rattle.encode_flat.specs.declared.marks.Mark.{Mark}
+use Rattle.encode_flat.specs.declared.marks.Mark.TheVariants as mark
+use Rattle.encode_flat.specs.Marked.{import_slot, slot_count}
+use Rattle.encode_flat.specs.Flat.{FlatReads, ReadsAs, exports_more, flat_definitions, flat-in_range, is_name_of}
+use Rattle.encode_flat.proofs.Exported.{found-in, name-passes, name-same}
+
+-- one form more, the latest first
+reversed : (old new : List Form) (x : Form) → new ≡ old ++ x ∷ [] → reverse new ≡ x ∷ reverse old
+reversed old new x e = ap reverse e ∙ reverse-append old (x ∷ [])
+
+-- what a call adds: a slot of this form
+abbrev pub AddsForm : List Mark → List Form → Form → List Mark → List Form → ℕ → Type 0
+AddsForm ks old x ks' new i = (i ≡ slot_count ks) × (ks' ≡ mark.Form ∷ ks) × (new ≡ old ++ x ∷ [])
+
+module _ (r : Resolve) (place : Place) (ks : List Mark) (xs : List Form) (x : Form) where
+  form-adds : Adds (FlatReads r place ks xs) (FlatReads r place (mark.Form ∷ ks) (x ∷ xs)) (slot_count ks) (ReadsAs place (FlatReads r place ks xs) x)
+  form-adds = record {
+    kept = λ i m h. inl h;
+    new = λ m p. inr (refl, p);
+    only = λ j m h. elim h [ inl q ↦ inl q | inr q ↦ inr (q.0, q.1) ];
+  }
+
+module _ (r : Resolve) (place : Place) (ks : List Mark) (old : List Form) (x : Form) where
+  pub form-ok : {E : Type 0} (res : Result ℕ E) (ks' : List Mark) (new : List Form) → IfOk res (AddsForm ks old x ks' new)
+      → IfOk res (λ i. SlotAdded (FlatReads r place ks (reverse old)) (FlatReads r place ks' (reverse new)) (slot_count ks) (slot_count ks') i (ReadsAs place (FlatReads r place ks (reverse old)) x))
+  form-ok (Ok i) ks' new h =
+      rw h.1 (rw (reversed old new x h.2) (record {
+        index = h.0;
+        one_more = refl;
+        adds = subst (λ (k : ℕ). Adds (FlatReads r place ks (reverse old)) (FlatReads r place (mark.Form ∷ ks) (x ∷ reverse old)) k (ReadsAs place (FlatReads r place ks (reverse old)) x)) (sym h.0) (form-adds r place ks (reverse old) x);
+      }))
+  form-ok (Err e) ks' new h = h
+
+  pub form-grows : {E : Type 0} (res : Result ℕ E) (ks' : List Mark) (new : List Form) → IfOk res (AddsForm ks old x ks' new) → OnErr res (ks' ≡ ks) → OnErr res (new ≡ old)
+      → SlotsGrow (FlatReads r place ks (reverse old)) (FlatReads r place ks' (reverse new)) (slot_count ks) (slot_count ks')
+  form-grows (Ok i) ks' new h g f = rw h.1 (rw (reversed old new x h.2) (record { kept = λ i m q. inl q; more = omega arith }))
+  form-grows (Err e) ks' new h g f = rw g (rw f (record { kept = λ i m q. q; more = omega arith }))
+
+pub definition-added : {E : Type 0} (res : Result ℕ E) (declarations : List (Text × TypeMeaning)) (ks ks' : List Mark) (old new : List Form) (def : ComponentDefinedType) → IfOk res (AddsForm ks old (form.Definition def) ks' new)
+    → IfOk res (λ i. flat_definitions declarations ks' (reverse new) ≡ one_type_more i (flat_definitions declarations ks (reverse old)))
+definition-added (Ok i) declarations ks ks' old new def h = rw h.1 (rw (reversed old new (form.Definition def) h.2) (ap (λ (k : ℕ). one_type_more k (flat_definitions declarations ks (reverse old))) (sym h.0)))
+definition-added (Err e) declarations ks ks' old new def h = h
+
+pub function-added : {E : Type 0} (res : Result ℕ E) (declarations : List (Text × TypeMeaning)) (ks ks' : List Mark) (old new : List Form) (def : ComponentFuncType) → IfOk res (AddsForm ks old (form.Function def) ks' new)
+    → OnOk res (flat_definitions declarations ks' (reverse new) ≡ one_function_more (flat_definitions declarations ks (reverse old)))
+function-added (Ok i) declarations ks ks' old new def h = rw h.1 (rw (reversed old new (form.Function def) h.2) refl)
+function-added (Err e) declarations ks ks' old new def h = h
+
+-- ---- names
+
+no-slot : (n : ℕ) → n + 0 ≡ n
+no-slot n = omega arith
+
+-- a slot that stands gets one more name
+pub name-added : (r : Resolve) (place : Place) (ks ks' : List Mark) (old new : List Form) (i : ℕ) (name : ComponentExternName) (m : Standing) → FlatReads r place ks (reverse old) i m → ks' ≡ mark.Name i ∷ ks → new ≡ old ++ form.Export i name ∷ []
+    → NameAdded (FlatReads r place ks (reverse old)) (FlatReads r place ks' (reverse new)) (slot_count ks) (slot_count ks') i (named place (raw_name name).text) None
+name-added r place ks ks' old new i name m h e f =
+    let l = flat-in_range r place ks (reverse old) i m h in
+    rw e (rw (reversed old new (form.Export i name) f) (
+      no-slot (slot_count ks),
+      record {
+        kept = λ j m q. inl q;
+        new = λ m p. inr (refl, l, p);
+        only = λ j m q. elim q [ inl a ↦ inl a | inr b ↦ inr (b.0, b.2) ];
+      },
+    ))
+
+pub name-grows : {T E : Type 0} (res : Result T E) (r : Resolve) (place : Place) (ks ks' : List Mark) (old new : List Form) (i : ℕ) (name : ComponentExternName) → OnOk res (ks' ≡ mark.Name i ∷ ks) → OnOk res (new ≡ old ++ form.Export i name ∷ []) → OnErr res (ks' ≡ ks) → OnErr res (new ≡ old)
+    → SlotsGrow (FlatReads r place ks (reverse old)) (FlatReads r place ks' (reverse new)) (slot_count ks) (slot_count ks')
+name-grows (Ok u) r place ks ks' old new i name e f g h = rw e (rw (reversed old new (form.Export i name) f) (record { kept = λ j m q. inl q; more = omega arith }))
+name-grows (Err y) r place ks ks' old new i name e f g h = rw g (rw h (record { kept = λ j m q. q; more = omega arith }))
+
+-- what is exported is one declaration more
+exports-one : (scope : Scope) (before : Definitions) (slot : Option ℕ) (name : ComponentExternName) (d : Text × TypeMeaning) → Contains scope.declarations d → raw_name name ≡ exported_name d
+    → ExportsOne scope before (exports_more slot (option_to_list (find (is_name_of (raw_name name)) scope.declarations)) before) slot (raw_name name)
+exports-one scope before slot name d c e =
+    let found = found-in (is_name_of (raw_name name)) scope.declarations d c (name-passes (raw_name name) d e) in
+    record {
+      declaration = found.item;
+      there = found.there;
+      named_ = name-same (raw_name name) d found.item e found.passes;
+      one_more = ap (λ o. exports_more slot (option_to_list o) before) found.is;
+    }
+
+pub name-exported : (scope : Scope) (ks ks' : List Mark) (old new : List Form) (i : ℕ) (name : ComponentExternName) (d : Text × TypeMeaning) → Contains scope.declarations d → raw_name name ≡ exported_name d → ks' ≡ mark.Name i ∷ ks → new ≡ old ++ form.Export i name ∷ []
+    → ExportsOne scope (flat_definitions scope.declarations ks (reverse old)) (flat_definitions scope.declarations ks' (reverse new)) (Some i) (raw_name name)
+name-exported scope ks ks' old new i name d c e h f = rw h (rw (reversed old new (form.Export i name) f) (exports-one scope (flat_definitions scope.declarations ks (reverse old)) (Some i) name d c e))
+
+pub resource-exported : {E : Type 0} (res : Result ℕ E) (scope : Scope) (ks ks' : List Mark) (old new : List Form) (name : ComponentExternName) (d : Text × TypeMeaning) → Contains scope.declarations d → raw_name name ≡ exported_name d → IfOk res (AddsForm ks old (form.Resource name) ks' new)
+    → OnOk res (ExportsOne scope (flat_definitions scope.declarations ks (reverse old)) (flat_definitions scope.declarations ks' (reverse new)) None (raw_name name))
+resource-exported (Ok i) scope ks ks' old new name d c e h = rw h.1 (rw (reversed old new (form.Resource name) h.2) (exports-one scope (flat_definitions scope.declarations ks (reverse old)) None name d c e))
+resource-exported (Err y) scope ks ks' old new name d c e h = h
+
+-- ---- types of other interfaces
+
+not-none : {T : Type 0} (x : T) → None ≡ Some x → ⊥
+not-none x e = let wrong : ⊥ = cc in wrong
+
+some-is : {T : Type 0} (x y : T) → Some x ≡ Some y → x ≡ y
+some-is x y e = cc
+
+pub import-reads : (r : Resolve) (place : Place) (ks : List Mark) (xs : List Form) (n i : ℕ) → import_slot ks n ≡ Some i → FlatReads r place ks xs i (tree (number_tree r n))
+import-reads r place [] xs n i e = absurd (not-none i e)
+import-reads r place (mark.Form ∷ ks) [] n i e = import-reads r place ks [] n i e
+import-reads r place (mark.Form ∷ ks) (x ∷ xs) n i e = inl (import-reads r place ks xs n i e)
+import-reads r place (mark.Name j ∷ ks) [] n i e = import-reads r place ks [] n i e
+import-reads r place (mark.Name j ∷ ks) (x ∷ xs) n i e = inl (import-reads r place ks xs n i e)
+import-reads r place (mark.Import k ∷ ks) xs n i e = go (import-reads r place ks xs n i) (nat_eq n k) refl e
+  where
+    go : (import_slot ks n ≡ Some i → FlatReads r place ks xs i (tree (number_tree r n))) → (b : Bool) → nat_eq n k ≡ b → cond b (Some (slot_count ks)) (import_slot ks n) ≡ Some i → FlatReads r place (mark.Import k ∷ ks) xs i (tree (number_tree r n))
+    go more true q e = inr (sym (some-is (slot_count ks) i e), ap (λ (m : ℕ). tree (number_tree r m)) (eqb-true n k q))
+    go more false q e = inl (more e)
+
+pub import-ok : {E : Type 0} (res : Result ℕ E) (r : Resolve) (place : Place) (ks : List Mark) (xs : List Form) (n : ℕ) → IfOk res (λ i. import_slot ks n ≡ Some i) → IfOk res (λ i. FlatReads r place ks xs i (tree (number_tree r n)))
+import-ok (Ok i) r place ks xs n h = import-reads r place ks xs n i h
+import-ok (Err e) r place ks xs n h = h

@@ -1,0 +1,10 @@
+use Rattle.wit_model.specs.Lookup.{place_of}
+use Rattle.encode_types.specs.Table.{table_scope}
+use Rattle.encode_flat.proofs.FlatSteps.{name-added, name-exported}
+use Rattle.encode_flat.proofs.encoder.FlatEncoderOfTypeEncodingMapsValtypeEncoder.export_type.Goals as goal
+
+pub returns-clause-ok : goal.returns-clause-ok
+returns-clause-ok c = name-added c.args.self.now.resolve.now (place_of c.args.self.now.resolve.now c.args.self.now.owner) c.args.self.now.marks c.add_name.new.marks c.args.self.now.forms.items c.add_name.new.forms.items c.args.index c.args.name _ c.requires.stands c.in_ok-add_name.ensures.ok c.in_ok-add_name.ensures.ok_forms
+
+pub returns-clause-counts : goal.returns-clause-counts
+returns-clause-counts c = name-exported (table_scope c.args.self.now.resolve.now c.args.self.now.owner) c.args.self.now.marks c.add_name.new.marks c.args.self.now.forms.items c.add_name.new.forms.items c.args.index c.args.name c.requires.declaration c.requires.declared.there c.requires.named_ c.in_ok-add_name.ensures.ok c.in_ok-add_name.ensures.ok_forms

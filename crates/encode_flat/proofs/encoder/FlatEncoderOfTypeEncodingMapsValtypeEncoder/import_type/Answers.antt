@@ -1,0 +1,7 @@
+use Rattle.std.specs.Prelude.{reverse}
+use Rattle.wit_model.specs.Lookup.{place_of}
+use Rattle.encode_flat.proofs.FlatSteps.{import-ok}
+use Rattle.encode_flat.proofs.encoder.FlatEncoderOfTypeEncodingMapsValtypeEncoder.import_type.Goals as goal
+
+pub returns-clause-ok : goal.returns-clause-ok
+returns-clause-ok c = import-ok c.import.result c.args.self.now.resolve.now (place_of c.args.self.now.resolve.now c.args.self.now.owner) c.import.new.self (reverse c.args.self.now.forms.items) c.args.id.0 c.import.ensures.ok

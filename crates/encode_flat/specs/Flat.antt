@@ -1,0 +1,109 @@
+-- What the slots of a flat encoder stand for: each is read with what was added before it.
+use Rattle.std.specs.Prelude.{ℕ, ◌^◌, ◌+◌, ◌<◌, ◌≡◌, ◌⊎◌, ◌&&◌, Bool, false, nat_lt, List, [], ◌∷◌, ◌++◌, reverse, Option, Some, None, option_to_list}
+use Rattle.std.proofs.Common.{inl, inr, arith}
+use Rattle.std.specs.List.{find}
+use Rattle.std.specs.Option.{option_eq}
+use Rattle.wit_model.specs.Text.{Text, text_eq}
+use Rattle.wit_model.specs.Tree.{Place, named}
+use Rattle.wit_model.specs.Types.{number_tree}
+use Rattle.wit_model.specs.Meaning.{TypeMeaning}
+use Rattle.wit_model.specs.Lookup.{place_of}
+use Rattle.wit_model.specs.declared.model.Resolve.{Resolve}
+use Rattle.comp_bytes.specs.Raw.{ExternName}
+use Rattle.comp_bytes.specs.RawOf.{raw_name}
+use Rattle.encode_types.specs.declared.maps.TypeEncodingMaps.{TypeEncodingMaps}
+use Rattle.encode_types.specs.Slots.{Defines, DefinesFunction, Pairs, Standing, tree}
+use Rattle.encode_types.specs.Counts.{Definitions, one_type_more, one_function_more}
+use Rattle.encode_types.specs.Known.{no_around}
+use Rattle.encode_types.specs.Table.{table_scope}
+use Rattle.encode_types.specs.View.{View}
+use Rattle.encode_flat.specs.declared.encoder.FlatEncoderOf.{FlatEncoderOf}
+use Rattle.encode_flat.specs.declared.forms.Form.{Form}
+use Rattle.encode_flat.specs.declared.forms.Form.TheVariants as form
+use Rattle.encode_flat.specs.declared.marks.Mark.{Mark}
+use Rattle.encode_flat.specs.declared.marks.Mark.TheVariants as mark
+use Rattle.encode_flat.specs.Marked.{mark_count, slot_count}
+
+-- what a form stands for, after the slots that say S
+abbrev pub ReadsAs : Place → Pairs → Form → Standing → Type 0
+ReadsAs place S (form.Definition d) m = Defines S d m
+ReadsAs place S (form.Function f) m = DefinesFunction S f m
+ReadsAs place S (form.Export i name) m = m ≡ tree (named place (raw_name name).text)
+ReadsAs place S (form.Resource name) m = m ≡ tree (named place (raw_name name).text)
+
+-- What the slots stand for, by what was added and its forms, the latest first. A name is one more name of a slot that stands, and a type of another
+-- interface has no form.
+abbrev pub FlatReads : Resolve → Place → List Mark → List Form → Pairs
+FlatReads r place [] xs i m = ⊥
+FlatReads r place (mark.Import n ∷ ks) xs i m = FlatReads r place ks xs i m ⊎ ((i ≡ slot_count ks) × (m ≡ tree (number_tree r n)))
+FlatReads r place (mark.Form ∷ ks) [] i m = FlatReads r place ks [] i m
+FlatReads r place (mark.Form ∷ ks) (x ∷ xs) i m = FlatReads r place ks xs i m ⊎ ((i ≡ slot_count ks) × ReadsAs place (FlatReads r place ks xs) x m)
+FlatReads r place (mark.Name j ∷ ks) [] i m = FlatReads r place ks [] i m
+FlatReads r place (mark.Name j ∷ ks) (x ∷ xs) i m = FlatReads r place ks xs i m ⊎ ((i ≡ j) × (j < slot_count ks) × ReadsAs place (FlatReads r place ks xs) x m)
+
+-- ---- what has been defined and exported
+
+-- whether a name declares this: the same text and the same external id
+abbrev pub is_name_of : ExternName → Text × TypeMeaning → Bool
+is_name_of name d = text_eq name.text d.0 && option_eq text_eq name.external_id d.1.external_id
+
+-- the declaration that a form exports
+abbrev pub exported_by : List (Text × TypeMeaning) → Form → List (Text × TypeMeaning)
+exported_by declarations (form.Export i name) = option_to_list (find (is_name_of (raw_name name)) declarations)
+exported_by declarations (form.Resource name) = option_to_list (find (is_name_of (raw_name name)) declarations)
+exported_by declarations _ = []
+
+-- the slot whose type it exports
+abbrev pub exported_slot : Form → Option ℕ
+exported_slot (form.Export i name) = Some i
+exported_slot _ = None
+
+-- one declaration more, from this slot or from none
+abbrev pub exports_more : Option ℕ → List (Text × TypeMeaning) → Definitions → Definitions
+exports_more slot more before = record { types = before.types; exported = before.exported ++ option_to_list slot; functions = before.functions; exports = before.exports ++ more }
+
+-- what a form defines, in this slot, or exports
+abbrev pub defined_by : List (Text × TypeMeaning) → ℕ → Form → Definitions → Definitions
+defined_by declarations k (form.Definition d) before = one_type_more k before
+defined_by declarations k (form.Function f) before = one_function_more before
+defined_by declarations k x before = exports_more (exported_slot x) (exported_by declarations x) before
+
+abbrev pub flat_definitions : List (Text × TypeMeaning) → List Mark → List Form → Definitions
+flat_definitions declarations [] xs = record { types = []; exported = []; functions = 0; exports = [] }
+flat_definitions declarations (mark.Import n ∷ ks) xs = flat_definitions declarations ks xs
+flat_definitions declarations (mark.Form ∷ ks) [] = flat_definitions declarations ks []
+flat_definitions declarations (mark.Form ∷ ks) (x ∷ xs) = defined_by declarations (slot_count ks) x (flat_definitions declarations ks xs)
+flat_definitions declarations (mark.Name j ∷ ks) [] = flat_definitions declarations ks []
+flat_definitions declarations (mark.Name j ∷ ks) (x ∷ xs) = defined_by declarations j x (flat_definitions declarations ks xs)
+
+-- the forms, the latest first
+abbrev pub forms_of : FlatEncoderOf TypeEncodingMaps → List Form
+forms_of e = reverse e.forms.items
+
+-- what was added, the latest first
+abbrev pub marks_of : FlatEncoderOf TypeEncodingMaps → List Mark
+marks_of e = e.marks
+
+abbrev pub flat_view : FlatEncoderOf TypeEncodingMaps → View
+flat_view e = record {
+  scope = table_scope e.resolve.now e.owner;
+  around = no_around;
+  slot_count = slot_count e.marks;
+  stands = FlatReads e.resolve.now (place_of e.resolve.now e.owner) e.marks (forms_of e);
+  definitions = flat_definitions (table_scope e.resolve.now e.owner).declarations e.marks (forms_of e);
+  maps = e.maps;
+  held = mark_count e.marks;
+  extent = 0;
+  lacks_room = λ request. nat_lt (slot_count e.marks + 1) (2 ^ 32) ≡ false;
+}
+
+pub flat-in_range : (r : Resolve) (place : Place) (ks : List Mark) (xs : List Form) (i : ℕ) (m : Standing) → FlatReads r place ks xs i m → i < slot_count ks
+flat-in_range r place [] xs i m h = absurd h
+flat-in_range r place (mark.Import n ∷ ks) xs i m (inl h) = let l = flat-in_range r place ks xs i m h in omega arith
+flat-in_range r place (mark.Import n ∷ ks) xs i m (inr h) = let e = h.0 in omega arith
+flat-in_range r place (mark.Form ∷ ks) [] i m h = let l = flat-in_range r place ks [] i m h in omega arith
+flat-in_range r place (mark.Form ∷ ks) (x ∷ xs) i m (inl h) = let l = flat-in_range r place ks xs i m h in omega arith
+flat-in_range r place (mark.Form ∷ ks) (x ∷ xs) i m (inr h) = let e = h.0 in omega arith
+flat-in_range r place (mark.Name j ∷ ks) [] i m h = let l = flat-in_range r place ks [] i m h in omega arith
+flat-in_range r place (mark.Name j ∷ ks) (x ∷ xs) i m (inl h) = let l = flat-in_range r place ks xs i m h in omega arith
+flat-in_range r place (mark.Name j ∷ ks) (x ∷ xs) i m (inr h) = let e = h.0 in let l = h.1 in omega arith

@@ -1,0 +1,169 @@
+//! The encoder, and that it keeps the law.
+
+ghost use Rattle.std.proofs.Common.{rules, refl};
+ghost use Rattle.std.specs.Prelude.{◌≡◌, ◌+◌, ◌^◌, ◌++◌, ◌∷◌, [], nat_lt, false, Err, IfOk, OnErr, OnOk, IfErr};
+ghost use Rattle.wit_model.specs.declared.error.Error.TheVariants.{Size};
+ghost use Rattle.comp_bytes.specs.Refusal.{IsMemoryOrSize};
+ghost use Rattle.encode_flat.specs.declared.forms.Form.TheVariants as form;
+ghost use Rattle.encode_flat.specs.declared.marks.Mark.TheVariants as mark;
+ghost use Rattle.encode_flat.specs.Marked.{slot_count};
+
+use crate::forms::Form;
+use crate::marks::Marks;
+use comp_bytes::{ComponentDefinedType, ComponentExternName, ComponentFuncType};
+use encode_types::{LendsMaps, TypeEncodingMaps, ValtypeEncoder};
+use std::alloc::Global;
+use wit_model::{Error, InterfaceId, Resolve, TypeId, TypeOwner};
+
+/// An encoder over one table of slots. `M` is the type of its maps.
+#[derive(Drop)]
+pub struct FlatEncoderOf<'a, M> {
+    resolve: &'a Resolve,
+    owner: TypeOwner,
+    /// The maps of the scope that types are defined in.
+    pub maps: M,
+    forms: Vec<Form<'a>>,
+    marks: Marks,
+}
+
+/// An encoder over one table of slots: definitions, types of functions, resources, and types of other interfaces, each of which has one slot. The
+/// instances of all interfaces stand from the start. An exported type keeps its slot, which then stands for its name, too.
+pub type FlatEncoder<'a> = FlatEncoderOf<'a, TypeEncodingMaps<'a>>;
+
+/// Adds a slot of this form, or nothing.
+fn add_form<'a>(forms: &mut Vec<Form<'a>>, marks: &mut Marks, added: Form<'a>) -> Result<u32, Error>
+    ensures ok { IfOk result (λ i. (i ≡ slot_count marks.old) × (marks.new ≡ mark.Form ∷ marks.old) × (forms.new.items ≡ forms.old.items ++ added.entry ∷ [])) }
+    ensures err { OnErr result (marks.new ≡ marks.old) }
+    ensures err_forms { OnErr result (forms.new.items ≡ forms.old.items) }
+    ensures size { result ≡ Err Size → nat_lt (slot_count marks.new + 1) (2 ^ 32) ≡ false }
+    ensures refuses { IfErr result IsMemoryOrSize }
+{
+    forms.reserve(1)?;
+    let index = marks.add_form()?;
+    forms.push(added).unwrap();
+    Ok(index)
+}
+
+/// Adds a name of a slot, or nothing.
+fn add_name<'a>(
+    forms: &mut Vec<Form<'a>>,
+    marks: &mut Marks,
+    index: u32,
+    name: ComponentExternName<'a>,
+) -> Result<(), Error>
+    ensures ok { OnOk result (marks.new ≡ mark.Name index ∷ marks.old) }
+    ensures ok_forms { OnOk result (forms.new.items ≡ forms.old.items ++ form.Export index name.entry ∷ []) }
+    ensures err { OnErr result (marks.new ≡ marks.old) }
+    ensures err_forms { OnErr result (forms.new.items ≡ forms.old.items) }
+    ensures size { result ≡ Err Size → ⊥ }
+    ensures refuses { IfErr result IsMemoryOrSize }
+{
+    forms.reserve(1)?;
+    marks.add_name(index)?;
+    forms.push(Form::Export(index, name)).unwrap();
+    Ok(())
+}
+
+impl<'a, M> LendsMaps<M> for FlatEncoderOf<'a, M> {
+    ghost maps_of = { λ e. e.maps };
+
+    ghost with_maps = { λ e m. record e { maps = m } };
+
+    fn type_encoding_maps(&mut self) -> &mut M {
+        &mut self.maps
+    }
+
+    ghost maps_of_with_maps = { λ e m. refl };
+
+    ghost with_own_maps = { λ e. refl };
+}
+
+impl<'a> ValtypeEncoder<'a> for FlatEncoderOf<'a, TypeEncodingMaps<'a>> {
+    ghost use Rattle.wit_model.specs.Lookup.{place_of};
+    ghost use Rattle.wit_model.specs.Types.{number_tree};
+    ghost use Rattle.encode_types.specs.Room.{import_of};
+    ghost use Rattle.encode_types.specs.Slots.{tree};
+    ghost use Rattle.encode_types.specs.View.{Grows, HoldsMore, Refuses, WritesImport};
+    ghost use Rattle.encode_flat.specs.Flat.{flat_view, flat-in_range, forms_of, marks_of};
+    ghost use Rattle.encode_flat.specs.Marked.{Imports};
+
+    ghost view = { λ e. flat_view e };
+
+    fn defined_type(&mut self, def: ComponentDefinedType<'a>) -> Result<u32, Error> {
+        add_form(&mut self.forms, &mut self.marks, Form::Definition(def))
+    }
+
+    fn define_function_type(&mut self, def: ComponentFuncType<'a>) -> Result<u32, Error> {
+        add_form(&mut self.forms, &mut self.marks, Form::Function(def))
+    }
+
+    fn export_type(
+        &mut self,
+        index: u32,
+        name: ComponentExternName<'a>,
+    ) -> Result<Option<u32>, Error> {
+        add_name(&mut self.forms, &mut self.marks, index, name)?;
+        Ok(None)
+    }
+
+    fn export_resource(&mut self, name: ComponentExternName<'a>) -> Result<u32, Error> {
+        add_form(&mut self.forms, &mut self.marks, Form::Resource(name))
+    }
+
+    /// The slot of a type of another interface, which is added the first time that the type is asked for.
+    fn import_type(&mut self, _interface: InterfaceId, id: TypeId) -> Result<u32, Error>
+        ensures ok { IfOk result (λ i. (flat_view self.new).stands i (tree (number_tree (flat_view self.old).scope.packages id.0))) }
+        ensures grows { Grows (flat_view self.old) (flat_view self.new) }
+        ensures scope_stays { (flat_view self.new).scope ≡ (flat_view self.old).scope }
+        ensures maps_stay { (flat_view self.new).maps ≡ (flat_view self.old).maps }
+        ensures counts { OnOk result ((flat_view self.new).definitions ≡ (flat_view self.old).definitions) }
+        ensures held { HoldsMore 1 (flat_view self.old) (flat_view self.new) }
+        ensures written { OnOk result (WritesImport (flat_view self.old) (flat_view self.new) id.0) }
+        ensures size { result ≡ Err Size → Refuses (flat_view self.old) (flat_view self.new) (import_of id.0) }
+        ensures refuses { IfErr result IsMemoryOrSize }
+        ensures once { OnOk result (Imports (marks_of self.old) id.0 (marks_of self.new)) }
+    {
+        self.marks.import(id.0)
+    }
+
+    fn interface(&self) -> Option<InterfaceId> {
+        match self.owner {
+            TypeOwner::Interface(id) => Some(id),
+            _ => None,
+        }
+    }
+
+    ghost in_range = { λ e i m h. flat-in_range e.resolve.now (place_of e.resolve.now e.owner) e.marks (forms_of e) i m h };
+
+    ghost maps_in_view = { λ e. refl };
+
+    ghost view_with_maps = { λ e m. record { scope_ = refl; around_ = refl; slot_count_ = refl; definitions_ = refl; held_ = refl; extent_ = refl; kept = λ i s h. h; back = λ i s h. h } };
+}
+
+impl<'a> FlatEncoderOf<'a, TypeEncodingMaps<'a>> {
+    ghost use Rattle.encode_types.specs.Table.{table_scope};
+    ghost use Rattle.encode_types.specs.View.{Agrees};
+    ghost use Rattle.encode_flat.specs.Flat.{flat_view};
+
+    /// An encoder without slots, for the types of this interface or world. Takes constant time and no memory.
+    pub fn new(alloc: Global, resolve: &'a Resolve, owner: TypeOwner) -> FlatEncoder<'a>
+        ensures scope { (flat_view result).scope ≡ table_scope resolve.entry.now owner }
+        ensures empty { (flat_view result).slot_count ≡ 0 }
+        ensures agree { Agrees resolve.entry.now (flat_view result) }
+    {
+        FlatEncoderOf {
+            resolve,
+            owner,
+            maps: TypeEncodingMaps::new(alloc),
+            forms: Vec::new(alloc),
+            marks: Marks::new(alloc),
+        }
+    }
+
+    /// The number of slots. Takes constant time and no memory.
+    pub fn slots(&self) -> u32
+        ensures { result ≡ (flat_view self.now).slot_count }
+    {
+        self.marks.count()
+    }
+}
