@@ -11,15 +11,14 @@ ghost use Rattle.encode_types.specs.Plan.{InRange, AllInRange, foreign_owner};
 ghost use Rattle.encode_types.specs.Table.{has_named_owner, is_met_by, table_scope, IsDefined, AllDefined, IsTableOf};
 ghost use Rattle.encode_flat.specs.Flat.{flat_view};
 
-use encode_flat::FlatEncoder;
 use std::alloc::Global;
 use std::test::Fail;
 use wit_component::{
-    Check, ComponentValType, Error, Fault, Function, FunctionKind, InterfaceId, Param, Resolve,
-    Type, TypeDef, TypeDefKind, TypeId, TypeOwner, encode_enum, encode_flags, encode_func_type,
-    encode_future, encode_option, encode_optional_valtype, encode_params, encode_record,
-    encode_result, encode_stream, encode_tuple, encode_unit_future, encode_unit_stream,
-    encode_valtype, encode_variant, maybe_import_type,
+    Check, ComponentValType, Error, Fault, FlatEncoder, Function, FunctionKind, InterfaceId, Param,
+    Resolve, Type, TypeDef, TypeDefKind, TypeId, TypeOwner, encode_enum, encode_flags,
+    encode_func_type, encode_future, encode_option, encode_optional_valtype, encode_params,
+    encode_record, encode_result, encode_stream, encode_tuple, encode_unit_future,
+    encode_unit_stream, encode_valtype, encode_variant, maybe_import_type,
 };
 use wit_samples::drafts::{add_interface, add_type_of, draft, nullary, put_function};
 use wit_samples::kinds::{id, record_of};
