@@ -21,6 +21,14 @@ InterfaceEncoder = InterfaceEncoderOf WorldEncoder
 
 -- ---- what it holds
 
+-- the encoder of its component type
+abbrev pub encoder_in : {E : Type 0} → InterfaceEncoderOf E → E
+encoder_in e = e.encoder
+
+-- with another in its place
+abbrev pub with_encoder : {E : Type 0} → InterfaceEncoderOf E → E → InterfaceEncoderOf E
+with_encoder e x = record e { encoder = x }
+
 -- its component type, as the scope of a world that has no types
 abbrev pub interface_encoder_view : InterfaceEncoder → View
 interface_encoder_view e = world_encoder_view e.encoder

@@ -76,9 +76,11 @@ fn import_instance(
 }
 
 impl<M, E: LendsMaps<M>> LendsMaps<M> for InterfaceEncoderOf<E> {
-    ghost maps_of = { λ e. E.maps_of e.encoder };
+    ghost use Rattle.wit_interfaces.specs.InterfaceEncoders.{encoder_in, with_encoder};
 
-    ghost with_maps = { λ e m. record e { encoder = E.with_maps e.encoder m } };
+    ghost maps_of = { λ e. E.maps_of (encoder_in e) };
+
+    ghost with_maps = { λ e m. with_encoder e (E.with_maps (encoder_in e) m) };
 
     fn type_encoding_maps(&mut self) -> &mut M {
         self.encoder.type_encoding_maps()
