@@ -14,4 +14,4 @@ encode_func_type-requires c =
     let defined = both-defined c.args.resolve.now _ _
     (subst (λ (ps : List Param). AllDefined c.args.resolve.now (map (λ p. p.ty) ps)) c.deref-2.ensures.value (c.are_defined.ensures c.if-not-are_defined.false))
     (c.is_optional_defined.ensures c.if-not-is_optional_defined.false) in
-    λ _. ((refl, tt), (table-encodes c.args.resolve.now _ (flat_view c.args.table.now) c.requires _ inside, (table-signature c.args.resolve.now OWN (flat_view c.args.table.now) c.requires c.args.function.now inside defined, c.requires.agree)))
+    λ _. ((refl, tt), (table-encodes c.args.resolve.now _ (flat_view c.args.table.now) c.requires _ inside, (table-signature c.args.resolve.now _ (flat_view c.args.table.now) c.requires c.args.function.now inside defined, c.requires.agree)))
