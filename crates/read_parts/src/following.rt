@@ -88,8 +88,8 @@ fn follow_all<'a>(alloc: Global, parts: &[ExportedPart<'a>]) -> Result<Followed<
 /// Follows all parts at the top of a component into one set of tables, in the order of their exports: of a world the path under which its wrapper
 /// exports it and what it shows, and of an interface what its component type shows (Component Model WIT.md, "Package Format").
 ///
-/// Takes time linear in the bytes of the input, expected, but for aliases, each of which takes time linear in the types that its instance
-/// shows, and memory linear in what is declared.
+/// Takes time linear in the bytes of the input, expected, or n log n where types are used of an interface that shows more than a few, and memory
+/// linear in what is declared.
 ///
 /// Refuses with `Absent` exactly where the definition finds no such parts, and then no package and no world is meant: `NoPackage` where
 /// nothing is exported; as `exported_parts`; `BadName` where a world's name is no path or has other attributes than a version suffix; as
