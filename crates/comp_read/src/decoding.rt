@@ -41,10 +41,10 @@ fn error_of(refusal: Refusal, length: usize) -> Error
 /// worlds in the order of the exports at the top, and of other packages the interfaces that are seen, with the functions of the first view
 /// that shows some. It has no more types than there are bytes.
 ///
-/// Takes time linear in the bytes, expected, but for aliases, each of which takes time linear in the types that its instance shows, and
-/// memory linear in what is declared. Refuses with `NoReading` exactly where the bytes mean no package, at an offset that is at most their
-/// length: with the cause of `component_of` or `follow_parts`, and else, at the end of the bytes, `Disagree` where views of an interface
-/// differ, `TooDeep` where a type has more than 100 levels, or `NotWit`; else with `Memory`.
+/// Takes time linear in the bytes, expected, or n log n where types are used of an interface that shows more than a few, and memory linear in what is
+/// declared. Refuses with `NoReading` exactly where the bytes mean no package, at an offset that is at most their length: with the cause of
+/// `component_of` or `follow_parts`, and else, at the end of the bytes, `Disagree` where views of an interface differ, `TooDeep` where a type has
+/// more than 100 levels, or `NotWit`; else with `Memory`.
 pub fn decode(alloc: Global, bytes: &[u8]) -> Result<(Resolve, PackageId), Error>
     ensures decoded { IfOk result (λ x. IsDecoded bytes.now x.0 x.1.0) }
     ensures refuses { IfErr result (RefusesBytes bytes.now) }
@@ -62,11 +62,11 @@ pub fn decode(alloc: Global, bytes: &[u8]) -> Result<(Resolve, PackageId), Error
 /// imports and exports, each as the world shows it, and their packages. Those of its own package are the package's, in the order in which the world
 /// shows them first. It has no more types than there are bytes.
 ///
-/// Takes time linear in the bytes, expected, but for aliases, each of which takes time linear in the types that its instance shows, and
-/// memory linear in what is declared. Refuses with `NoReading` exactly where the bytes mean no one world, at an offset that is at most their
-/// length: with the cause of `component_of` or `follow_parts`, and else, at the end of the bytes, `Disagree` where there is one world and views of an
-/// interface differ, `TooDeep` where a type has more than 100 levels, or `NotWit`, so where a package has another member beside the world, or where
-/// the world shows an interface under its own path; else with `Memory`.
+/// Takes time linear in the bytes, expected, or n log n where types are used of an interface that shows more than a few, and memory linear in what is
+/// declared. Refuses with `NoReading` exactly where the bytes mean no one world, at an offset that is at most their length: with the cause of
+/// `component_of` or `follow_parts`, and else, at the end of the bytes, `Disagree` where there is one world and views of an interface differ,
+/// `TooDeep` where a type has more than 100 levels, or `NotWit`, so where a package has another member beside the world, or where the world shows an
+/// interface under its own path; else with `Memory`.
 pub fn decode_world(alloc: Global, bytes: &[u8]) -> Result<(Resolve, WorldId), Error>
     ensures decoded { IfOk result (λ x. IsDecodedWorld bytes.now x.0 x.1.0) }
     ensures refuses { IfErr result (RefusesWorldBytes bytes.now) }

@@ -20,6 +20,7 @@ use crate::causes::refusal_over;
 use crate::packages::package_of_members;
 use crate::wanted::Wanted;
 use crate::worlds::world_of_members;
+use keyed_hash::{Digest, KeyedHash};
 use read_exports::Member;
 use read_follow::{Piece, Refusal};
 use read_homes::{Packages, homes_of};
@@ -92,6 +93,15 @@ fn wanted_of_read(
     wanted_of_lent(alloc, wanted, followed, tables, packages, homes, read)
 }
 
+/// The hash that is keyed by the paths.
+fn hash_of(paths: &[Option<&str>]) -> KeyedHash {
+    let mut digest = Digest::new();
+    for path in paths {
+        digest.add(path.unwrap_or("").as_bytes());
+    }
+    digest.hash()
+}
+
 /// The same, of what was followed and what its members show.
 fn wanted_of_scopes<'a>(
     alloc: Global,
@@ -109,7 +119,7 @@ fn wanted_of_scopes<'a>(
     ensures few { IfOk result (λ x. length x.0.types.items ≤ length (numbered_tables tables.now).shapes) }
     ensures absent { (pieces : List RawPiece) → IsFollowed pieces followed.entry.now → IfErr result (λ e. Because e (MeansNone wanted (Some pieces))) }
 {
-    let mut packages: Packages<'a> = Packages::new(alloc);
+    let mut packages: Packages<'a> = Packages::new(alloc, hash_of(tables.paths));
     let homes = homes_of(alloc, &mut packages, tables.paths)?;
     match read_members(
         alloc,

@@ -59,5 +59,6 @@ pub(crate) fn functions_of(
         let value = function_of(alloc, function)?;
         built.insert(name, value)?;
     }
+    built.shrink_to_fit();
     Ok(built)
 }

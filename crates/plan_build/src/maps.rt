@@ -20,5 +20,6 @@ pub(crate) fn numbers_of<N: Copy>(
         let name = copied(alloc, entry.0)?;
         built.insert(name, entry.1)?;
     }
+    built.shrink_to_fit();
     Ok(built)
 }

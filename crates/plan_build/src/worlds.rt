@@ -53,6 +53,7 @@ fn entries_of(
         let item = item_of(alloc, &entry.1)?;
         built.insert(key, item)?;
     }
+    built.shrink_to_fit();
     Ok(built)
 }
 

@@ -14,13 +14,13 @@ ghost use Rattle.read_rules.specs.Views.{numbered_type};
 ghost use Rattle.plan_package.specs.WholeWorlds.{labelled, planned_key, types_seen, world_in_part, worlds_in, PlansFunction, PlansInstance, IsAmong, PlansItem, PlansWorld, SeenIsKept, SeenIsPlaced, WorldIsKept, WorldIsPlaced};
 
 use crate::numbers::{number_of, package_id};
-use indexmap::{IndexMap, IndexSet};
+use indexmap::IndexSet;
 use plan_build::{PlannedItem, PlannedKey, PlannedWorld};
-use plan_parts::{Kept, function_of, types_of};
+use plan_parts::{Kept, Resources, function_of, types_of};
 use read_exports::{Member, Part};
 use read_rules::{InstanceKey, Scope, Seen, Shown, Tables, TypeSlot, ViewType, function_at};
 use std::alloc::{AllocError, Global};
-use wit_model::{InterfaceId, PackageId, TypeId};
+use wit_model::{InterfaceId, PackageId};
 
 // ---- instances
 
@@ -66,7 +66,7 @@ fn function_item<'a>(
     alloc: Global,
     tables: &Tables<'a>,
     kept: &Kept,
-    resources: &IndexMap<&str, TypeId>,
+    resources: &Resources<'_>,
     name: &'a str,
     number: usize,
     external_id: Option<&'a str>,
@@ -85,7 +85,7 @@ fn item_of<'a>(
     tables: &Tables<'a>,
     kept: &Kept,
     places: &IndexSet<u32>,
-    resources: &IndexMap<&str, TypeId>,
+    resources: &Resources<'_>,
     seen: Seen<'a>,
 ) -> Result<(PlannedKey<'a>, PlannedItem<'a>), AllocError>
     requires kept { SeenIsKept (numbered_tables tables.now) kept.now seen }
@@ -117,14 +117,14 @@ fn items_of<'a>(
     tables: &Tables<'a>,
     kept: &Kept,
     places: &IndexSet<u32>,
-    resources: &IndexMap<&str, TypeId>,
+    resources: &Resources<'_>,
     all_seen: &[Seen<'a>],
 ) -> Result<Vec<(PlannedKey<'a>, PlannedItem<'a>)>, AllocError>
     requires kept { AllByRecursion (SeenIsKept (numbered_tables tables.now) kept.now) all_seen.now }
     requires placed { AllByRecursion (SeenIsPlaced places.now.keys) all_seen.now }
     ensures { IfOk result (λ items. AllZip (PlansItem (numbered_tables tables.now) kept.now places.now.keys (found_under resources.now.entries)) all_seen.now (map stated_entry items.items)) }
 {
-    let mut items = Vec::new(alloc);
+    let mut items = Vec::with_capacity(alloc, all_seen.len())?;
     for seen in all_seen {
         items.push(item_of(alloc, tables, kept, places, resources, *seen)?)?;
     }
@@ -169,7 +169,7 @@ fn resources_of<'a>(
     tables: &Tables<'a>,
     kept: &Kept,
     imports: &[Seen<'a>],
-) -> Result<IndexMap<&'a str, TypeId>, AllocError>
+) -> Result<Resources<'a>, AllocError>
     requires { AllByRecursion (SeenIsKept (numbered_tables tables.now) kept.now) imports.now }
     ensures { IfOk result (λ resources. AreResources kept.now (flat_map types_seen imports.now) (found_under resources.entries)) }
 {

@@ -9,6 +9,7 @@ ghost use Rattle.read_rules.specs.Views.{numbered_function, numbered_type};
 ghost use Rattle.plan_parts.specs.Agreement.{are_told as are_told_lem, is_told as is_told_lem, told_function, AreTold};
 
 use indexmap::IndexSet;
+use keyed_hash::{Digest, KeyedHash};
 use read_rules::{ViewFunction, ViewType};
 use std::alloc::{AllocError, Global};
 
@@ -41,6 +42,9 @@ struct ToldFunction<'a> {
     external_id: Option<&'a str>,
 }
 
+/// What a view tells of its functions.
+type Told<'a> = IndexSet<ToldFunction<'a>, KeyedHash>;
+
 fn told<'a>(function: ViewFunction<'a>) -> ToldFunction<'a>
     ensures { told_function result ≡ numbered_function function.entry }
 {
@@ -51,10 +55,16 @@ fn told<'a>(function: ViewFunction<'a>) -> ToldFunction<'a>
     }
 }
 
-fn add_told<'a>(
-    all: &mut IndexSet<ToldFunction<'a>>,
-    function: ViewFunction<'a>,
-) -> Result<(), AllocError>
+/// The hash that is keyed by the names of the functions.
+fn hash_of(functions: &[ViewFunction<'_>]) -> KeyedHash {
+    let mut digest = Digest::new();
+    for function in functions {
+        digest.add(function.name.as_bytes());
+    }
+    digest.hash()
+}
+
+fn add_told<'a>(all: &mut Told<'a>, function: ViewFunction<'a>) -> Result<(), AllocError>
     ensures { IfOk result (λ _. (test : Text × NumberedFunction → Bool) → list_any test (map told_function all.new.keys) ≡ (list_any test (map told_function all.old.keys) || test (numbered_function function.entry))) }
 {
     let _is_new = all.insert(told(function))?;
@@ -62,26 +72,23 @@ fn add_told<'a>(
 }
 
 /// What a view tells of its functions.
-fn all_told<'a>(
-    alloc: Global,
-    functions: &[ViewFunction<'a>],
-) -> Result<IndexSet<ToldFunction<'a>>, AllocError>
+fn all_told<'a>(alloc: Global, functions: &[ViewFunction<'a>]) -> Result<Told<'a>, AllocError>
     ensures { IfOk result (λ all. AreTold (map told_function all.keys) (map numbered_function functions.now)) }
 {
-    let mut all = IndexSet::new(alloc);
+    let mut all = IndexSet::with_hasher(alloc, hash_of(functions));
     for function in functions {
         add_told(&mut all, *function)?;
     }
     Ok(all)
 }
 
-fn is_told(all: &IndexSet<ToldFunction<'_>>, function: ViewFunction<'_>) -> bool
+fn is_told(all: &Told<'_>, function: ViewFunction<'_>) -> bool
     ensures { result ≡ is_told_lem (map told_function all.now.keys) (numbered_function function.entry) }
 {
     all.contains(&told(function))
 }
 
-fn are_told(all: &IndexSet<ToldFunction<'_>>, functions: &[ViewFunction<'_>]) -> bool
+fn are_told(all: &Told<'_>, functions: &[ViewFunction<'_>]) -> bool
     ensures { result ≡ are_told_lem (map told_function all.now.keys) (map numbered_function functions.now) }
 {
     for function in functions {

@@ -11,22 +11,26 @@ ghost use Rattle.plan_parts.specs.Kept.{IsKeptPart};
 
 use crate::kept::Kept;
 use indexmap::IndexMap;
+use keyed_hash::KeyedHash;
 use plan_build::PlannedFunction;
 use read_rules::{FunctionType, resource_in};
 use std::alloc::{AllocError, Global};
 use wit_model::{FunctionKind, Type, TypeId, after_prefix};
 
+/// The numbers of resources by their names.
+pub type Resources<'a> = IndexMap<&'a str, TypeId, KeyedHash>;
+
 // ---- kinds
 
 /// The number of the resource of this name.
-fn resource_at(resources: &IndexMap<&str, TypeId>, name: &str) -> Option<TypeId>
+fn resource_at(resources: &Resources<'_>, name: &str) -> Option<TypeId>
     ensures { result ≡ found_under resources.now.entries name.now }
 {
     resources.get(name).copied()
 }
 
 /// The resource whose constructor has this name.
-fn constructed(resources: &IndexMap<&str, TypeId>, name: &str) -> Option<TypeId>
+fn constructed(resources: &Resources<'_>, name: &str) -> Option<TypeId>
     ensures { IsFoundBy (is_constructor_named name.now) (found_under resources.now.entries) result }
 {
     match after_prefix("[constructor]", name) {
@@ -36,7 +40,7 @@ fn constructed(resources: &IndexMap<&str, TypeId>, name: &str) -> Option<TypeId>
 }
 
 /// The resource of whose members the name begins with the mark.
-fn resource_of(resources: &IndexMap<&str, TypeId>, mark: &str, name: &str) -> Option<TypeId>
+fn resource_of(resources: &Resources<'_>, mark: &str, name: &str) -> Option<TypeId>
     ensures { IsFoundBy (is_behind mark.now name.now) (found_under resources.now.entries) result }
 {
     match resource_in(mark, name) {
@@ -79,7 +83,7 @@ fn freestanding(is_async: bool) -> FunctionKind
 /// method or a static function of one of them, or else of none.
 ///
 /// Takes time linear in the name, expected, and no memory.
-pub fn kind_of(resources: &IndexMap<&str, TypeId>, name: &str, is_async: bool) -> FunctionKind
+pub fn kind_of(resources: &Resources<'_>, name: &str, is_async: bool) -> FunctionKind
     ensures { NamesKind (found_under resources.now.entries) name.now is_async result }
 {
     if let Some(id) = constructed(resources, name) {
@@ -129,7 +133,7 @@ fn result_of(kept: &Kept, part: Option<usize>) -> Option<Type>
 pub fn function_of<'a>(
     alloc: Global,
     kept: &Kept,
-    resources: &IndexMap<&str, TypeId>,
+    resources: &Resources<'_>,
     name: &'a str,
     function: FunctionType<'a>,
     external_id: Option<&'a str>,

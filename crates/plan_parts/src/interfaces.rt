@@ -9,9 +9,10 @@ ghost use Rattle.read_rules.specs.Views.{numbered_function, numbered_slot, numbe
 ghost use Rattle.plan_parts.specs.Functions.{found_under};
 ghost use Rattle.plan_parts.specs.Interfaces.{noted, slot_part as slot_part_lem, AreResources, IsFunctionOver, IsKeptSlot, IsPlannedFunction, ListsType};
 
-use crate::functions::function_of;
+use crate::functions::{Resources, function_of};
 use crate::kept::Kept;
 use indexmap::IndexMap;
+use keyed_hash::{Digest, KeyedHash};
 use plan_build::PlannedFunction;
 use read_rules::{Tables, TypeSlot, ViewFunction, ViewType, function_at};
 use std::alloc::{AllocError, Global};
@@ -27,9 +28,18 @@ fn slot_part(slot: TypeSlot) -> usize
     }
 }
 
+/// The hash that is keyed by the names of the types.
+fn hash_of(types: &[ViewType<'_>]) -> KeyedHash {
+    let mut digest = Digest::new();
+    for ty in types {
+        digest.add(ty.name.as_bytes());
+    }
+    digest.hash()
+}
+
 /// Notes the number of a type under its name, if it is a resource.
 fn note_resource<'a>(
-    resources: &mut IndexMap<&'a str, TypeId>,
+    resources: &mut Resources<'a>,
     ty: ViewType<'a>,
     id: TypeId,
 ) -> Result<(), AllocError>
@@ -49,13 +59,13 @@ pub fn types_of<'a>(
     alloc: Global,
     kept: &Kept,
     types: &[ViewType<'a>],
-) -> Result<(Vec<(&'a str, TypeId)>, IndexMap<&'a str, TypeId>), AllocError>
+) -> Result<(Vec<(&'a str, TypeId)>, Resources<'a>), AllocError>
     requires { AllByRecursion (IsKeptSlot kept.now) (map numbered_type types.now) }
     ensures types { IfOk result (λ x. AllZip (ListsType kept.entry.now) (map numbered_type types.entry.now) (map stated_number x.0.items)) }
     ensures resources { IfOk result (λ x. AreResources kept.entry.now (map numbered_type types.entry.now) (found_under x.1.entries)) }
 {
     let mut planned = Vec::new(alloc);
-    let mut resources = IndexMap::new(alloc);
+    let mut resources = IndexMap::with_hasher(alloc, hash_of(types));
     for ty in types {
         let id = kept.number(slot_part(ty.slot));
         planned.push((ty.name, id))?;
@@ -71,7 +81,7 @@ pub fn functions_of<'a>(
     alloc: Global,
     tables: &Tables<'a>,
     kept: &Kept,
-    resources: &IndexMap<&str, TypeId>,
+    resources: &Resources<'_>,
     functions: &[ViewFunction<'a>],
 ) -> Result<Vec<PlannedFunction<'a>>, AllocError>
     requires { AllByRecursion (IsFunctionOver (numbered_tables tables.now) kept.now) (map numbered_function functions.now) }

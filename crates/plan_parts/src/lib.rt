@@ -12,7 +12,7 @@ mod sights;
 mod views;
 
 pub use agreement::{same_functions, same_types};
-pub use functions::{function_of, kind_of};
+pub use functions::{Resources, function_of, kind_of};
 pub use interfaces::{functions_of, types_of};
 pub use kept::Kept;
 pub use kinds::{kind_of_declared, kind_of_form};

@@ -14,7 +14,7 @@ use Rattle.read_follow.specs.declared.facts.Fact.{Fact}
 use Rattle.read_follow.specs.declared.facts.Names.{Names}
 use Rattle.read_follow.specs.declared.facts.Names.TheVariants as names
 use Rattle.read_follow.specs.declared.facts.Summary.{Summary}
-use Rattle.plan_meaning.specs.Shapes.{Shape, form_code, marked, primitives, part_tree, shape_tree, IsShape, a_name, a_node}
+use Rattle.plan_meaning.specs.Shapes.{Shape, form_code, primitives, part_tree, shape_tree, IsShape, a_name, a_node}
 use Rattle.read_follow.specs.KeyShapes.{label_of}
 use Rattle.read_follow.specs.Facts.{places, places_in, is_plain, are_plain, below, labels_of, cap, joined, with_fact, primitive_fact, name_fact, node_fact, fact_at, is_named_sort, AreOf, Tells, FactsHold, Sums}
 use Rattle.read_follow.proofs.AddLaws.{mapped_get}

@@ -4,7 +4,6 @@ use Rattle.std.specs.Borrow.{Bor}
 use Rattle.std.specs.List.{list_all, list_any}
 use Rattle.wit_model.specs.Text.{Text, text_eq}
 use Rattle.wit_model.specs.Names.{is_label}
-use Rattle.wit_model.specs.Rules.{are_distinct}
 use Rattle.wit_model.proofs.Distinct.{adds_new, adds_distinct, new_turn, old_turn, last_turn}
 use Rattle.comp_meaning.specs.Rules.{distinct, are_labels}
 use Rattle.plan_meaning.proofs.KeptTypes.{distinct_same}

@@ -16,6 +16,7 @@ pub mod KeyLaws
 pub mod LabelLaws
 pub mod LookUpLaws
 pub mod OverLaws
+pub mod NameTableLaws
 pub mod PartTypeLaws
 pub mod PlacedLaws
 pub mod PlacedScopes

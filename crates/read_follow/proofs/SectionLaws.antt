@@ -1,24 +1,19 @@
 -- Sections in front of bytes, and those behind them.
-use Rattle.std.proofs.Common.{◌≡◌, refl, sym, ap, subst, ◌∙◌, ℕ, suc, ◌+◌, ◌<◌, ◌≤◌, ◌^◌, arith, Bool, true, false, ◌&&◌, cond, ◌==◌, ltb, nat_eq, List, [], ◌∷◌, ◌++◌, length, map, take, drop, Option, Some, None, Ok, Err, append_assoc, append-nil}
-use Rattle.std.specs.Prelude.{Result}
+use Rattle.std.proofs.Common.{◌≡◌, refl, sym, ap, ◌∙◌, ℕ, ◌<◌, ◌≤◌, ◌^◌, arith, Bool, true, false, ◌&&◌, cond, ◌==◌, ltb, nat_eq, List, [], ◌∷◌, ◌++◌, length, map, take, drop, Option, Some, None, append_assoc, append-nil}
 use Rattle.std.proofs.lemmas.Bool.{ne_eqb, eq-eqb, eqb-true, false≢true, lt-ltb, ltb-true, false_from_ne_true}
-use Rattle.std.proofs.lemmas.List.{length-append, map-append}
+use Rattle.std.proofs.lemmas.List.{map-append}
 use Rattle.std.proofs.lemmas.Cmp.{nat_list_eq_equiv}
 use Rattle.std.specs.List.{starts_with}
 use Rattle.wit_model.specs.declared.error.Error.{Error}
 use Rattle.wit_model.specs.declared.error.Error.TheVariants as errors
-use Rattle.comp_bytes.specs.declared.frames.Section.{Section}
-use Rattle.comp_bytes.specs.Frames.{Unread, IsNext}
 use Rattle.comp_bytes.specs.Levels.{Piece, piece_of, pieces_in, levels_of}
-use Rattle.comp_bytes.specs.Reading.{◌>>=◌, frame_at, pair_at, byte_at}
+use Rattle.comp_bytes.specs.Reading.{◌>>=◌, frame_at}
 use Rattle.comp_bytes.specs.Spelling.{preamble}
-use Rattle.comp_bytes.proofs.ComponentLaws.{frame_law}
 use Rattle.comp_bytes.proofs.PieceLaws.{pieces_by_frames}
 use Rattle.read_follow.specs.declared.refusal.Refusal.{Refusal}
 use Rattle.read_follow.specs.declared.refusal.Refusal.TheVariants as refusals
 use Rattle.read_follow.specs.Found.{Refuses, refusal_from}
 use Rattle.read_follow.specs.Pieces.{piece_at, AreAlike}
-use Rattle.read_follow.proofs.FrontReaders.{found_at, none_when}
 
 -- ---- the frame in front
 

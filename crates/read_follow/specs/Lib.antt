@@ -16,3 +16,4 @@ pub mod Following
 pub mod InstanceScopes
 pub mod Places
 pub mod Scopes
+pub mod NameTables

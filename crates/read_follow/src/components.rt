@@ -11,6 +11,7 @@ ghost use Rattle.read_follow.specs.Defining.{Grows};
 ghost use Rattle.read_follow.specs.ExternNames.{raw_name};
 ghost use Rattle.read_follow.specs.Following.{AreTables};
 ghost use Rattle.read_follow.specs.Found.{Gives, Refuses};
+ghost use Rattle.read_follow.specs.NameTables.{AreNamesOf};
 ghost use Rattle.read_follow.specs.Placed.{HasNoNames};
 ghost use Rattle.read_follow.specs.Scopes.{are_settled as are_settled_lem, direction, is_settled as is_settled_lem, start_of, taken_from, weight, world_of, Goes, IsFollowedTo, IsScopeOf, IsWorld, Stops};
 
@@ -19,6 +20,7 @@ use crate::declarations::Declared;
 use crate::defining::{define, define_function};
 use crate::functions::Functions;
 use crate::instances::seen_at;
+use crate::name_tables::NameTables;
 use crate::names::ExternName;
 use crate::places::Places;
 use crate::refusal::Refusal;
@@ -29,15 +31,31 @@ use crate::table::Table;
 use comp_bytes::{Alias, ComponentTypeRef};
 use indexmap::IndexSet;
 use std::alloc::Global;
+use std::collections::BTreeMap;
 use wit_model::Cause;
 
 /// The slot that an alias takes over: that of a type which an instance of an interface with a path exports.
-fn aliased<'a>(places: &Places, scope: &Scope<'a>, alias: &Alias<'a>) -> Result<Slot<'a>, Refusal>
-    ensures { Gives (λ s. s) result (taken_from places.now scope.now.instances.items (raw_alias alias.now)) }
+fn aliased<'a>(
+    alloc: Global,
+    places: &Places,
+    names: &mut NameTables<'a>,
+    scope: &Scope<'a>,
+    alias: &Alias<'a>,
+) -> Result<Slot<'a>, Refusal>
+    requires { AreNamesOf names.old scope.now.instances.items }
+    ensures names { AreNamesOf names.new scope.now.instances.items }
+    ensures found { Gives (λ s. s) result (taken_from places.now scope.now.instances.items (raw_alias alias.now)) }
 {
     match alias {
         Alias::InstanceExport { instance, name } => {
-            exported_slot(places.marks(), &scope.instances, *instance, name)
+            exported_slot(
+                alloc,
+                places.marks(),
+                names,
+                &scope.instances,
+                *instance,
+                name,
+            )
         }
         Alias::Outer { .. } => Err(Refusal::Absent(Cause::NotWit, 0)),
     }
@@ -58,6 +76,7 @@ fn see<'a>(
     ensures seen { OnOk result (Goes 1 (see_described_lem (direction is_import) (raw_name name.entry) kind) (world_of table.old functions.old places.old scope.old) (world_of table.new functions.new places.new scope.new)) }
     ensures absent { IfErr result (Stops (see_described_lem (direction is_import) (raw_name name.entry) kind) (world_of table.old functions.old places.old scope.old) places.new) }
     ensures grows { Grows places.old places.new }
+    ensures instances { OnOk result (Grows scope.old.instances.items scope.new.instances.items) }
 {
     match kind {
         ComponentTypeRef::Instance(n) => {
@@ -80,20 +99,23 @@ fn step<'a>(
     table: &mut Table<'a>,
     functions: &mut Functions<'a>,
     places: &mut Places,
+    names: &mut NameTables<'a>,
     scope: &mut Scope<'a>,
     declared: &Declared<'a>,
 ) -> Result<(), Refusal>
-    requires { IsWorld (world_of table.old functions.old places.old scope.old) }
+    requires world { IsWorld (world_of table.old functions.old places.old scope.old) }
+    requires names { AreNamesOf names.old scope.old.instances.items }
     ensures followed { OnOk result (Goes 1 (λ m. component_step m (raw_declared declared.now)) (world_of table.old functions.old places.old scope.old) (world_of table.new functions.new places.new scope.new)) }
     ensures absent { IfErr result (Stops (λ m. component_step m (raw_declared declared.now)) (world_of table.old functions.old places.old scope.old) places.new) }
     ensures grows { Grows places.old places.new }
+    ensures names { OnOk result (AreNamesOf names.new scope.new.instances.items) }
 {
     match declared {
         Declared::Defined(definition) => define(alloc, table, &mut scope.slots, definition),
         Declared::Function(function) => {
             define_function(alloc, functions, &mut scope.slots, function)
         }
-        Declared::Alias(alias) => match aliased(places, scope, alias) {
+        Declared::Alias(alias) => match aliased(alloc, places, names, scope, alias) {
             Ok(slot) => {
                 scope.slots.push(slot)?;
                 Ok(())
@@ -136,17 +158,20 @@ fn enter<'a>(
     table: &mut Table<'a>,
     functions: &mut Functions<'a>,
     places: &mut Places,
+    names: &mut NameTables<'a>,
     scope: &mut Scope<'a>,
     entry: &Entry<'a>,
 ) -> Result<(), Refusal>
     requires world { IsWorld (world_of table.old functions.old places.old scope.old) }
+    requires names { AreNamesOf names.old scope.old.instances.items }
     requires whole { IsWhole entry.now }
     ensures followed { OnOk result (Goes (weight (raw_entry entry.now)) (λ m. entry_step m (raw_entry entry.now)) (world_of table.old functions.old places.old scope.old) (world_of table.new functions.new places.new scope.new)) }
     ensures absent { IfErr result (Stops (λ m. entry_step m (raw_entry entry.now)) (world_of table.old functions.old places.old scope.old) places.new) }
     ensures grows { Grows places.old places.new }
+    ensures names { OnOk result (AreNamesOf names.new scope.new.instances.items) }
 {
     match entry {
-        Entry::Plain(declared) => step(alloc, table, functions, places, scope, declared),
+        Entry::Plain(declared) => step(alloc, table, functions, places, names, scope, declared),
         Entry::Holds(body) => {
             let around = count_of(&scope.slots);
             scope.slots.push(Slot::Instance(*body, around))?;
@@ -200,11 +225,14 @@ fn follow_entries<'a>(
     ensures absent { IfErr result (λ e. Refuses e (entry_scope (items_in entry_at body.entry))) }
 {
     let mut scope = new_scope(alloc, home);
+    let mut names = BTreeMap::new(alloc);
     let mut rest = body.bytes;
     for _ in 0..body.count {
         match entry_of(alloc, rest) {
             Ok((entry, behind)) => {
-                match enter(alloc, table, functions, places, &mut scope, &entry) {
+                match enter(
+                    alloc, table, functions, places, &mut names, &mut scope, &entry,
+                ) {
                     Ok(()) => rest = behind,
                     Err(refusal) => return Err(seen_at(refusal, index_left(&entry, rest.len()))),
                 }
@@ -242,8 +270,8 @@ fn are_settled(used: &IndexSet<usize>, slots: &[Slot<'_>]) -> bool
 /// What a component type shows, followed entry by entry.
 ///
 /// Types that it declares or shows are in the tables from now on, and the places of its own names and of those of its instances among the
-/// places; the tables of types grow by no more types than the body has bytes. Takes time linear in the bytes of the body, but for aliases,
-/// each of which takes time linear in the types that its instance shows; and memory linear in what is declared.
+/// places; the tables of types grow by no more types than the body has bytes. Takes time linear in the bytes of the body, expected, or n log n
+/// where it has aliases of the types of an instance that shows more than a few; and memory linear in what is declared.
 ///
 /// Refuses with `Absent` exactly where the definition shows nothing: `OutOfScope` where no slot or no instance has an index, `BadName` at
 /// a name of another form, or with an attribute, than its kind has, `NotWit` where an index stands for another kind of thing, where an

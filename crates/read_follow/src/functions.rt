@@ -7,13 +7,14 @@ ghost use Rattle.read_follow.specs.declared.refusal.Refusal.TheVariants as refus
 use crate::keys::FunctionKey;
 use crate::refusal::Refusal;
 use indexmap::IndexSet;
+use keyed_hash::KeyedHash;
 use std::alloc::Global;
 use std::marker::Model;
 
 /// Types of functions, each kept once. Their numbers are the order in which they came.
 #[derive(Drop)]
 pub struct Functions<'a> {
-    keys: IndexSet<FunctionKey<'a>>,
+    keys: IndexSet<FunctionKey<'a>, KeyedHash>,
 }
 
 impl<'a> Model for Functions<'a> {
@@ -28,7 +29,10 @@ impl<'a> Model for Functions<'a> {
 }
 
 /// The number of the key among the keys.
-fn put<'a>(keys: &mut IndexSet<FunctionKey<'a>>, key: FunctionKey<'a>) -> Result<usize, Refusal>
+fn put<'a>(
+    keys: &mut IndexSet<FunctionKey<'a>, KeyedHash>,
+    key: FunctionKey<'a>,
+) -> Result<usize, Refusal>
     requires { AreApart (map function_shape keys.old.keys) }
     ensures apart { AreApart (map function_shape keys.new.keys) }
     ensures found { IfOk result (λ n. slice_get (map function_shape keys.new.keys) n ≡ Some (function_shape key.entry)) }
@@ -43,12 +47,12 @@ fn put<'a>(keys: &mut IndexSet<FunctionKey<'a>>, key: FunctionKey<'a>) -> Result
 }
 
 impl<'a> Functions<'a> {
-    /// A table without types of functions. Takes no memory.
-    pub fn new(alloc: Global) -> Functions<'a>
+    /// A table without types of functions, which hashes so. Takes no memory.
+    pub fn new(alloc: Global, hash: KeyedHash) -> Functions<'a>
         ensures { result ≡ [] }
     {
         Functions {
-            keys: IndexSet::new(alloc),
+            keys: IndexSet::with_hasher(alloc, hash),
         }
     }
 

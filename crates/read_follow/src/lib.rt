@@ -15,6 +15,7 @@ mod instances;
 mod items;
 mod keys;
 pub mod laws;
+mod name_tables;
 mod names;
 mod part_types;
 mod paths;

@@ -10,6 +10,7 @@ ghost use Rattle.read_follow.specs.declared.refusal.Refusal.TheVariants as refus
 
 use crate::refusal::Refusal;
 use indexmap::IndexSet;
+use keyed_hash::KeyedHash;
 use std::alloc::Global;
 use std::marker::Model;
 
@@ -24,7 +25,7 @@ struct PlaceKey {
 /// they came.
 #[derive(Drop)]
 pub struct Places {
-    keys: IndexSet<PlaceKey>,
+    keys: IndexSet<PlaceKey, KeyedHash>,
     marks: Vec<bool>,
 }
 
@@ -42,7 +43,7 @@ impl Model for Places {
 
 /// The number of the key among the keys, with its mark among the marks if it is new.
 fn put(
-    keys: &mut IndexSet<PlaceKey>,
+    keys: &mut IndexSet<PlaceKey, KeyedHash>,
     marks: &mut Vec<bool>,
     key: PlaceKey,
 ) -> Result<usize, Refusal>
@@ -77,12 +78,12 @@ fn counted(number: usize) -> Result<u32, Refusal>
 }
 
 impl Places {
-    /// No places yet. Takes no memory.
-    pub fn new(alloc: Global) -> Places
+    /// No places yet, in a table that hashes so. Takes no memory.
+    pub fn new(alloc: Global, hash: KeyedHash) -> Places
         ensures { result ≡ [] }
     {
         Places {
-            keys: IndexSet::new(alloc),
+            keys: IndexSet::with_hasher(alloc, hash),
             marks: Vec::new(alloc),
         }
     }

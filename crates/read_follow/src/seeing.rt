@@ -9,16 +9,18 @@ ghost use Rattle.read_follow.specs.Following.{AreSlotsIn, AreTables};
 ghost use Rattle.read_follow.specs.Found.{Gives};
 ghost use Rattle.read_follow.specs.Functions.{FunctionShape};
 ghost use Rattle.read_follow.specs.InstanceScopes.{tables_of};
+ghost use Rattle.read_follow.specs.NameTables.{marked_slot, AreNamesOf};
 ghost use Rattle.read_follow.specs.Places.{has_path, place_number};
-ghost use Rattle.read_follow.specs.Scopes.{direction, find_slot, slot_of_instance, world_of, Goes, HasNoUsedView, IsInstanceAdded, IsUsedView, IsWorld, Stops};
+ghost use Rattle.read_follow.specs.Scopes.{direction, slot_of_instance, world_of, Goes, HasNoUsedView, IsInstanceAdded, IsUsedView, IsWorld, Stops};
 ghost use Rattle.read_follow.specs.declared.refusal.Refusal.TheVariants as refusals;
 ghost use Rattle.plan_meaning.specs.Shapes.{Shape};
-ghost use Rattle.std.specs.Prelude.{List, Option, Some, slice_get};
+ghost use Rattle.std.specs.Prelude.{List, Option, Some, option_map, slice_get};
 ghost use Rattle.wit_model.specs.Text.{Text};
 
 use crate::functions::Functions;
 use crate::instance_keys::{InstanceKey, key_of};
 use crate::instances::follow_instance;
+use crate::name_tables::{NameTables, find_type};
 use crate::names::ExternName;
 use crate::places::Places;
 use crate::refusal::Refusal;
@@ -27,44 +29,53 @@ use crate::shows::{declared_by, is_simple, name_number, name_slot};
 use crate::signatures::function_in;
 use crate::slots::{Slot, slot_at};
 use crate::table::Table;
-use crate::views::{ShownType, View};
+use crate::views::View;
 use comp_bytes::ComponentTypeRef;
 use indexmap::IndexSet;
 use std::alloc::Global;
 use wit_model::Cause;
 
-/// The slot of the first type of this name. Takes time linear in the types.
-fn find_type<'a>(types: &[ShownType<'a>], name: &str) -> Option<Slot<'a>>
-    ensures { result ≡ find_slot name.now types.now }
+/// The slot that was found, if its place is marked.
+fn marked<'a>(marks: &[bool], place: u32, slot: Option<Slot<'a>>) -> Result<Slot<'a>, Refusal>
+    ensures { (paths : List (Option Text)) → marks.now ≡ map has_path paths → Gives (λ s. s) result (marked_slot paths place slot.entry) }
 {
-    for shown in types {
-        if name == shown.name {
-            return Some(shown.slot);
+    match slot {
+        Some(slot) => {
+            if marks.get(place as usize).copied().unwrap_or(false) {
+                Ok(slot)
+            } else {
+                Err(Refusal::Absent(Cause::NotWit, 0))
+            }
         }
+        None => Err(Refusal::Absent(Cause::NotWit, 0)),
     }
-    None
+}
+
+/// The instance of this number, if there is one.
+fn instance_at<'a, 's>(instances: &'s [Instance<'a>], m: u32) -> Option<&'s Instance<'a>>
+    ensures { option_map (λ i. i.now) result ≡ slice_get instances.now m }
+{
+    instances.get(m as usize)
 }
 
 /// The slot of a type that an instance exports, if its interface has a path.
 pub(crate) fn exported_slot<'a>(
+    alloc: Global,
     marks: &[bool],
+    names: &mut NameTables<'a>,
     instances: &[Instance<'a>],
     m: u32,
-    name: &str,
+    name: &'a str,
 ) -> Result<Slot<'a>, Refusal>
-    ensures { (paths : List (Option Text)) → marks.now ≡ map has_path paths → Gives (λ s. s) result (slot_of_instance paths name.now (slice_get instances.now m)) }
+    requires { AreNamesOf names.old instances.now }
+    ensures found { (paths : List (Option Text)) → marks.now ≡ map has_path paths → Gives (λ s. s) result (slot_of_instance paths name.entry.now (slice_get instances.now m)) }
+    ensures names { AreNamesOf names.new instances.now }
 {
-    match instances.get(m as usize) {
-        Some(instance) => match find_type(&instance.view.types, name) {
-            Some(slot) => {
-                if marks.get(instance.place as usize).copied().unwrap_or(false) {
-                    Ok(slot)
-                } else {
-                    Err(Refusal::Absent(Cause::NotWit, 0))
-                }
-            }
-            None => Err(Refusal::Absent(Cause::NotWit, 0)),
-        },
+    match instance_at(instances, m) {
+        Some(instance) => {
+            let slot = find_type(alloc, names, m, &instance.view.types, name)?;
+            marked(marks, instance.place, slot)
+        }
         None => Err(Refusal::Absent(Cause::OutOfScope, 0)),
     }
 }
@@ -96,6 +107,7 @@ pub(crate) fn see_function<'a>(
 ) -> Result<(), Refusal>
     ensures seen { (shapes : List Shape) (fs : List FunctionShape) (paths : List (Option Text)) → IsWorld (world_of shapes fs paths scope.old) → OnOk result (Goes 1 (see_function_lem (direction is_import) (raw_name name.entry) n) (world_of shapes fs paths scope.old) (world_of shapes fs paths scope.new)) }
     ensures absent { (shapes : List Shape) (fs : List FunctionShape) (paths : List (Option Text)) → IsWorld (world_of shapes fs paths scope.old) → IfErr result (Stops (see_function_lem (direction is_import) (raw_name name.entry) n) (world_of shapes fs paths scope.old) paths) }
+    ensures instances { scope.new.instances ≡ scope.old.instances }
 {
     match function_in(&scope.slots, n) {
         Ok(function) => {
@@ -125,6 +137,7 @@ pub(crate) fn see_type<'a>(
     ensures seen { (fs : List FunctionShape) (paths : List (Option Text)) → IsWorld (world_of table.old fs paths scope.old) → OnOk result (Goes 1 (see_type_lem (raw_name name.entry) kind) (world_of table.old fs paths scope.old) (world_of table.new fs paths scope.new)) }
     ensures absent { (fs : List FunctionShape) (paths : List (Option Text)) → IsWorld (world_of table.old fs paths scope.old) → IfErr result (Stops (see_type_lem (raw_name name.entry) kind) (world_of table.old fs paths scope.old) paths) }
     ensures home { scope.new.home ≡ scope.old.home }
+    ensures instances { scope.new.instances ≡ scope.old.instances }
 {
     match declared_by(&scope.slots, kind) {
         Ok(made) => {
@@ -234,6 +247,7 @@ pub(crate) fn see_instance<'a>(
     ensures seen { OnOk result (Goes 0 (see_instance_lem (direction is_import) (raw_name name.entry) n) (world_of table.old functions.old places.old scope.old) (world_of table.new functions.new places.new scope.new)) }
     ensures absent { IfErr result (Stops (see_instance_lem (direction is_import) (raw_name name.entry) n) (world_of table.old functions.old places.old scope.old) places.new) }
     ensures grows { Grows places.old places.new }
+    ensures instances { OnOk result (Grows scope.old.instances.items scope.new.instances.items) }
 {
     match key_of(alloc, places, name) {
         Ok(key) => {

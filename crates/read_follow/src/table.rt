@@ -11,13 +11,14 @@ use crate::facts::{Fact, fact_at, fact_of};
 use crate::keys::Key;
 use crate::refusal::Refusal;
 use indexmap::IndexSet;
+use keyed_hash::KeyedHash;
 use std::alloc::Global;
 use std::marker::Model;
 
 /// Types, each kept once, and behind its parts. Their numbers are the order in which they came.
 #[derive(Drop)]
 pub struct Table<'a> {
-    keys: IndexSet<Key<'a>>,
+    keys: IndexSet<Key<'a>, KeyedHash>,
     facts: Vec<Fact>,
 }
 
@@ -36,7 +37,7 @@ impl<'a> Model for Table<'a> {
 
 /// The number of the key among the keys, with its fact among the facts if it is new.
 fn put<'a>(
-    keys: &mut IndexSet<Key<'a>>,
+    keys: &mut IndexSet<Key<'a>, KeyedHash>,
     facts: &mut Vec<Fact>,
     key: Key<'a>,
     fact: Fact,
@@ -62,12 +63,12 @@ fn put<'a>(
 }
 
 impl<'a> Table<'a> {
-    /// A table without types. Takes no memory.
-    pub fn new(alloc: Global) -> Table<'a>
+    /// A table without types, which hashes so. Takes no memory.
+    pub fn new(alloc: Global, hash: KeyedHash) -> Table<'a>
         ensures { result ≡ [] }
     {
         Table {
-            keys: IndexSet::new(alloc),
+            keys: IndexSet::with_hasher(alloc, hash),
             facts: Vec::new(alloc),
         }
     }
@@ -84,7 +85,7 @@ impl<'a> Table<'a> {
         ensures memory { IsOkUnless result refusals.Memory }
         ensures err { OnErr result (self.new ≡ self.old) }
     {
-        let fact = fact_of(alloc, &self.facts, &key)?;
+        let fact = fact_of(alloc, *self.keys.hasher(), &self.facts, &key)?;
         put(&mut self.keys, &mut self.facts, key, fact)
     }
 

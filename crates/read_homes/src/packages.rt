@@ -6,6 +6,7 @@ ghost use Rattle.read_homes.specs.Homes.{given_home, identity_of, package_read, 
 
 use crate::paths::read_path;
 use indexmap::IndexSet;
+use keyed_hash::KeyedHash;
 use std::alloc::{AllocError, Global};
 use std::marker::Model;
 
@@ -20,7 +21,7 @@ pub struct PackageTexts<'a> {
 /// Packages, each once. Their numbers are the order in which they came.
 #[derive(Drop)]
 pub struct Packages<'a> {
-    texts: IndexSet<PackageTexts<'a>>,
+    texts: IndexSet<PackageTexts<'a>, KeyedHash>,
 }
 
 impl<'a> Model for Packages<'a> {
@@ -37,7 +38,7 @@ impl<'a> Model for Packages<'a> {
 
 /// The number of the package among the others.
 fn put<'a>(
-    packages: &mut IndexSet<PackageTexts<'a>>,
+    packages: &mut IndexSet<PackageTexts<'a>, KeyedHash>,
     texts: PackageTexts<'a>,
 ) -> Result<usize, AllocError>
     requires packages { ArePackages (map identity_of packages.old.keys) }
@@ -53,12 +54,12 @@ fn put<'a>(
 }
 
 impl<'a> Packages<'a> {
-    /// No packages yet. Takes no memory.
-    pub fn new(alloc: Global) -> Packages<'a>
+    /// No packages yet, in a table that hashes so. Takes no memory.
+    pub fn new(alloc: Global, hash: KeyedHash) -> Packages<'a>
         ensures { result ≡ [] }
     {
         Packages {
-            texts: IndexSet::new(alloc),
+            texts: IndexSet::with_hasher(alloc, hash),
         }
     }
 

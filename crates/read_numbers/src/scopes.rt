@@ -108,7 +108,7 @@ pub fn seen_of<'a>(
     ensures seen { IfOk result (λ all. map numbered_seen all.items ≡ map (followed_seen places.entry.now (map owned_view views.entry.now)) seen.now) }
     ensures parts { IfOk result (λ all. map part_seen all.items ≡ map part_followed seen.now) }
 {
-    let mut all = Vec::new(alloc);
+    let mut all = Vec::with_capacity(alloc, seen.len())?;
     for one in seen {
         all.push(one_seen(places, views, *one))?;
     }

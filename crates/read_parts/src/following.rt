@@ -15,7 +15,8 @@ ghost use Rattle.read_parts.specs.Members.{AreFollowed};
 use crate::exported::{ExportedPart, exported_parts};
 use crate::members::{Member, follow_part};
 use crate::offsets::in_front;
-use read_follow::{Functions, Piece, Places, Refusal, Table};
+use keyed_hash::{Digest, KeyedHash};
+use read_follow::{Functions, PartType, Piece, Places, Refusal, Table};
 use std::alloc::Global;
 use wit_model::Cause;
 
@@ -57,6 +58,23 @@ fn follow_each<'a>(
     Ok(members)
 }
 
+/// The bytes that the entries of a part are read from.
+fn bytes_of<'a>(part: PartType<'a>) -> &'a [u8] {
+    match part {
+        PartType::Wraps(body, _) => body.bytes,
+        PartType::Shows(body) => body.bytes,
+    }
+}
+
+/// The hash that is keyed by the bytes of the parts.
+fn hash_of(parts: &[ExportedPart<'_>]) -> KeyedHash {
+    let mut digest = Digest::new();
+    for exported in parts {
+        digest.add(bytes_of(exported.part));
+    }
+    digest.hash()
+}
+
 /// Follows the parts into tables of their own, if there is one.
 fn follow_all<'a>(alloc: Global, parts: &[ExportedPart<'a>]) -> Result<Followed<'a>, Refusal>
     requires { AllByRecursion (λ x. IsWholePart x.part) parts.now }
@@ -66,9 +84,10 @@ fn follow_all<'a>(alloc: Global, parts: &[ExportedPart<'a>]) -> Result<Followed<
     if parts.is_empty() {
         return Err(Refusal::Absent(Cause::NoPackage, 0));
     }
-    let mut table = Table::new(alloc);
-    let mut functions = Functions::new(alloc);
-    let mut places = Places::new(alloc);
+    let hash = hash_of(parts);
+    let mut table = Table::new(alloc, hash);
+    let mut functions = Functions::new(alloc, hash);
+    let mut places = Places::new(alloc, hash);
     match follow_each(alloc, &mut table, &mut functions, &mut places, parts) {
         Ok(members) => {
             functions.are_apart();
@@ -88,8 +107,8 @@ fn follow_all<'a>(alloc: Global, parts: &[ExportedPart<'a>]) -> Result<Followed<
 /// Follows all parts at the top of a component into one set of tables, in the order of their exports: of a world the path under which its wrapper
 /// exports it and what it shows, and of an interface what its component type shows (Component Model WIT.md, "Package Format").
 ///
-/// Takes time linear in the bytes of the input, expected, but for aliases, each of which takes time linear in the types that its instance
-/// shows, and memory linear in what is declared.
+/// Takes time linear in the bytes of the input, expected, or n log n where types are used of an interface that shows more than a few, and memory
+/// linear in what is declared.
 ///
 /// Refuses with `Absent` exactly where the definition finds no such parts, and then no package and no world is meant: `NoPackage` where
 /// nothing is exported; as `exported_parts`; `BadName` where a world's name is no path or has other attributes than a version suffix; as

@@ -20,8 +20,8 @@ ghost use Rattle.read_rules.specs.FunctionNames.{constructs_one, is_member_of_on
 ghost use Rattle.read_rules.specs.Tables.{known_in, now_of, numbered_function_type, numbered_shape, numbered_tables, param_of};
 
 use crate::parts::is_signature;
+use crate::resources::Resources;
 use crate::tables::{FunctionType, Tables, TypeShape, name_at, shape_at};
-use indexmap::IndexSet;
 use std::alloc::{AllocError, Global};
 use wit_model::{after_prefix, is_label};
 
@@ -147,7 +147,7 @@ pub fn resource_in<'a>(mark: &str, name: &'a str) -> Option<&'a str>
     }
 }
 
-fn is_among(resources: &IndexSet<&str>, resource: &str) -> bool
+fn is_among(resources: &Resources<'_>, resource: &str) -> bool
     ensures { result ≡ list_any (text_eq resource.now) (map now_of resources.now.keys) }
 {
     resources.contains(&resource)
@@ -157,7 +157,7 @@ fn is_among(resources: &IndexSet<&str>, resource: &str) -> bool
 fn is_constructor(
     tables: &Tables<'_>,
     place: u32,
-    resources: &IndexSet<&str>,
+    resources: &Resources<'_>,
     name: &str,
     function: FunctionType<'_>,
 ) -> bool
@@ -176,7 +176,7 @@ fn is_constructor(
 fn is_method(
     tables: &Tables<'_>,
     place: u32,
-    resources: &IndexSet<&str>,
+    resources: &Resources<'_>,
     name: &str,
     function: FunctionType<'_>,
 ) -> bool
@@ -192,7 +192,7 @@ fn is_method(
 }
 
 /// Whether the function is a static one of one of the resources.
-fn is_static(resources: &IndexSet<&str>, name: &str) -> bool
+fn is_static(resources: &Resources<'_>, name: &str) -> bool
     ensures { result ≡ is_static_of_one (map now_of resources.now.keys) name.now }
 {
     match resource_in("[static]", name) {
@@ -205,7 +205,7 @@ fn is_static(resources: &IndexSet<&str>, name: &str) -> bool
 fn is_member(
     tables: &Tables<'_>,
     place: u32,
-    resources: &IndexSet<&str>,
+    resources: &Resources<'_>,
     name: &str,
     function: FunctionType<'_>,
 ) -> bool
@@ -219,7 +219,7 @@ fn is_member(
 fn belongs(
     tables: &Tables<'_>,
     place: u32,
-    resources: &IndexSet<&str>,
+    resources: &Resources<'_>,
     name: &str,
     function: FunctionType<'_>,
 ) -> bool
@@ -236,7 +236,7 @@ pub fn is_function(
     alloc: Global,
     tables: &Tables<'_>,
     place: u32,
-    resources: &IndexSet<&str>,
+    resources: &Resources<'_>,
     name: &str,
     function: FunctionType<'_>,
 ) -> Result<bool, AllocError>

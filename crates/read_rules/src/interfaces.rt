@@ -10,10 +10,9 @@ ghost use Rattle.read_rules.specs.Views.{numbered_function, numbered_type, numbe
 use crate::distinct::are_distinct;
 use crate::functions::is_function;
 use crate::parts::is_declared;
-use crate::resources::resources_of;
+use crate::resources::{Resources, resources_of};
 use crate::tables::{Tables, function_at};
 use crate::views::{View, ViewFunction, ViewType};
-use indexmap::IndexSet;
 use std::alloc::{AllocError, Global};
 use wit_model::is_label;
 
@@ -39,7 +38,7 @@ fn may_stand(
     alloc: Global,
     tables: &Tables<'_>,
     place: u32,
-    resources: &IndexSet<&str>,
+    resources: &Resources<'_>,
     function: ViewFunction<'_>,
 ) -> Result<bool, AllocError>
     ensures { IfOk result (λ b. b ≡ may_stand_lem tables.now place (map now_of resources.now.keys) (numbered_function function.entry)) }
@@ -53,7 +52,7 @@ fn are_functions(
     alloc: Global,
     tables: &Tables<'_>,
     place: u32,
-    resources: &IndexSet<&str>,
+    resources: &Resources<'_>,
     functions: &[ViewFunction<'_>],
 ) -> Result<bool, AllocError>
     ensures { IfOk result (λ b. b ≡ are_functions_lem tables.now place (map now_of resources.now.keys) (map numbered_function functions.now)) }

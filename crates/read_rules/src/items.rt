@@ -13,10 +13,11 @@ use crate::distinct::are_distinct;
 use crate::functions::is_function;
 use crate::interfaces::is_interface;
 use crate::parts::is_declared;
-use crate::resources::add_resource;
+use crate::resources::{Resources, add_resource};
 use crate::scopes::{Seen, Shown, place_of, shows_resource};
 use crate::tables::{Tables, function_at};
 use indexmap::IndexSet;
+use keyed_hash::{Digest, KeyedHash};
 use std::alloc::{AllocError, Global};
 use wit_model::is_label;
 
@@ -32,7 +33,7 @@ fn is_item(
     alloc: Global,
     tables: &Tables<'_>,
     home: u32,
-    resources: &IndexSet<&str>,
+    resources: &Resources<'_>,
     key: &str,
     shown: Shown<'_>,
 ) -> Result<bool, AllocError>
@@ -59,7 +60,7 @@ fn may_be_imported(
     alloc: Global,
     tables: &Tables<'_>,
     home: u32,
-    resources: &IndexSet<&str>,
+    resources: &Resources<'_>,
     import: Seen<'_>,
 ) -> Result<bool, AllocError>
     ensures { IfOk result (λ b. b ≡ may_be_imported_lem tables.now home (map now_of resources.now.keys) (numbered_seen import.entry)) }
@@ -68,10 +69,19 @@ fn may_be_imported(
 }
 
 /// Adds the import, if it is a resource.
-fn add_import<'a>(resources: &mut IndexSet<&'a str>, import: Seen<'a>) -> Result<(), AllocError>
+fn add_import<'a>(resources: &mut Resources<'a>, import: Seen<'a>) -> Result<(), AllocError>
     ensures { IfOk result (λ _. IsAdded (map now_of resources.old.keys) (numbered_seen import.entry) (map now_of resources.new.keys)) }
 {
     add_resource(resources, shows_resource(import.shown), import.key)
+}
+
+/// The hash that is keyed by the keys of the imports.
+fn hash_of(imports: &[Seen<'_>]) -> KeyedHash {
+    let mut digest = Digest::new();
+    for import in imports {
+        digest.add(import.key.as_bytes());
+    }
+    digest.hash()
 }
 
 /// Whether a world may have these imports (WIT.md, "Worlds").
@@ -85,7 +95,7 @@ pub fn are_imports(
 ) -> Result<bool, AllocError>
     ensures { IfOk result (λ b. b ≡ are_imports_lem (numbered_tables tables.now) (known_in tables.now) home [] (map numbered_seen imports.now)) }
 {
-    let mut resources = IndexSet::new(alloc);
+    let mut resources = IndexSet::with_hasher(alloc, hash_of(imports));
     for import in imports {
         if !may_be_imported(alloc, tables, home, &resources, *import)? {
             return Ok(false);
@@ -104,7 +114,7 @@ fn may_be_exported(
 ) -> Result<bool, AllocError>
     ensures { IfOk result (λ b. b ≡ may_be_exported_lem tables.now home (numbered_seen export.entry)) }
 {
-    let resources = IndexSet::new(alloc);
+    let resources = IndexSet::with_hasher(alloc, Digest::new().hash());
     may_be_imported(alloc, tables, home, &resources, export)
 }
 

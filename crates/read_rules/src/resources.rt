@@ -10,11 +10,15 @@ ghost use Rattle.read_rules.specs.Views.{numbered_type};
 
 use crate::views::ViewType;
 use indexmap::IndexSet;
+use keyed_hash::{Digest, KeyedHash};
 use std::alloc::{AllocError, Global};
+
+/// The names of resources.
+pub(crate) type Resources<'a> = IndexSet<&'a str, KeyedHash>;
 
 /// Adds the name, if it is a resource's.
 pub(crate) fn add_resource<'a>(
-    resources: &mut IndexSet<&'a str>,
+    resources: &mut Resources<'a>,
     is_resource: bool,
     name: &'a str,
 ) -> Result<(), AllocError>
@@ -37,14 +41,23 @@ pub(crate) fn is_resource(declared: Option<usize>) -> bool
     }
 }
 
+/// The hash that is keyed by the names of the types.
+fn hash_of(types: &[ViewType<'_>]) -> KeyedHash {
+    let mut digest = Digest::new();
+    for ty in types {
+        digest.add(ty.name.as_bytes());
+    }
+    digest.hash()
+}
+
 /// The names of the types that are resources. Takes time linear in the types, and as much memory as there are resources.
 pub(crate) fn resources_of<'a>(
     alloc: Global,
     types: &[ViewType<'a>],
-) -> Result<IndexSet<&'a str>, AllocError>
+) -> Result<Resources<'a>, AllocError>
     ensures { IfOk result (λ s. AreSame (map now_of s.keys) (resources_of_lem (map numbered_type types.now))) }
 {
-    let mut resources = IndexSet::new(alloc);
+    let mut resources = IndexSet::with_hasher(alloc, hash_of(types));
     for ty in types {
         add_resource(&mut resources, is_resource(ty.declared), ty.name)?;
     }

@@ -1,5 +1,6 @@
 use Rattle.read_follow.specs.Scopes.{start_of, world_of, IsFollowedTo}
+use Rattle.read_follow.specs.NameTables.{AreNamesOf}
 use Rattle.read_follow.proofs.components.follow_entries.Given as goal
 
 abbrev pub invariant-loop : goal.invariant-loop
-invariant-loop l = IsFollowedTo (start_of l.home l.fn.table l.fn.functions l.fn.places) l.body l.counter l.rest (world_of l.table l.functions l.places l.scope)
+invariant-loop l = IsFollowedTo (start_of l.home l.fn.table l.fn.functions l.fn.places) l.body l.counter l.rest (world_of l.table l.functions l.places l.scope) × AreNamesOf l.names l.scope.instances.items

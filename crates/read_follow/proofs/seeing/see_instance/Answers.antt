@@ -1,4 +1,5 @@
-use Rattle.std.proofs.Common.{subst, List, map, Bool, ℕ}
+use Rattle.std.proofs.Common.{subst, List, [], ◌∷◌, map, Bool, ℕ}
+use Rattle.read_follow.specs.Defining.{Grows}
 use Rattle.comp_meaning.specs.Follow.{see_instance}
 use Rattle.read_follow.specs.ExternNames.{raw_name}
 use Rattle.read_follow.specs.InstanceScopes.{tables_of}
@@ -40,3 +41,9 @@ returns-in-Err-used_view-clause-absent c =
     subst (λ (ms : List Bool). HasNoUsedView ms (place_number c.in-Ok.key) start c.args.scope.now.slots.items c.args.scope.now.used.keys c.args.n c.in-Err-used_view.refusal) c.marks.ensures
     (subst (λ (p : ℕ). HasNoUsedView c.marks.result.now p start c.args.scope.now.slots.items c.args.scope.now.used.keys c.args.n c.in-Err-used_view.refusal) c.place_of-here.ensures (rw c.deref.ensures.value at c.in-Err-used_view.ensures.absent)) in
     instance_stops old c.requires c.args.is_import c.args.name c.args.n c.key_of.new.places c.in-Ok.key c.in-Ok.ensures.key c.in-Err-used_view.refusal none
+
+pub returns-in-Ok-used_view-clause-instances : goal.returns-in-Ok-used_view-clause-instances
+returns-in-Ok-used_view-clause-instances c =
+    on_ok (IsInstanceAdded c.args.scope.now c.push_instance.new.scope c.args.is_import c.in-Ok.key c.args.name.external_id c.args.n c.in-Ok-used_view.view)
+    (Grows c.args.scope.now.instances.items c.push_instance.new.scope.instances.items) c.push_instance.result
+    (λ a. record { more = record { place = place_number c.in-Ok.key; view = c.in-Ok-used_view.view } ∷ []; is = a.instances }) c.push_instance.ensures.added

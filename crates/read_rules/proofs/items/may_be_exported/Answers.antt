@@ -5,5 +5,5 @@ use Rattle.read_rules.proofs.items.may_be_exported.Goals as goal
 
 pub returns : goal.returns
 returns c =
-    let none : c.new-resources.result.keys ≡ [] = search rules in
-    no_resources c.args.tables.now c.args.home c.new-resources.result.keys none (numbered_seen c.args.export) c.may_be_imported.result c.may_be_imported.ensures
+    let none : c.with_hasher-resources.result.keys ≡ [] = search rules in
+    no_resources c.args.tables.now c.args.home c.with_hasher-resources.result.keys none (numbered_seen c.args.export) c.may_be_imported.result c.may_be_imported.ensures

@@ -1,7 +1,7 @@
 use Rattle.std.proofs.Common.{◌≡◌, map, drop, []}
 use Rattle.wit_model.specs.Text.{text_eq}
 use Rattle.wit_model.proofs.Distinct.{adds_new}
-use Rattle.read_follow.proofs.facts.are_distinct.Given as goal
+use Rattle.read_follow.proofs.facts.many_are_distinct.Given as goal
 
 -- what is left decides, after the labels that were seen
 abbrev pub invariant-loop-label : goal.invariant-loop-label

@@ -1,5 +1,5 @@
 use Rattle.read_rules.proofs.TextLaws.{text_seen, text_new, texts_all}
-use Rattle.read_rules.proofs.distinct.are_distinct.Goals as goal
+use Rattle.read_rules.proofs.distinct.many_are_distinct.Goals as goal
 
 pub returns-then-not-branch : goal.returns-then-not-branch
 returns-then-not-branch c = text_seen c.args.texts.now c.loop-text.text-index _ c.loop-text-test.true c.loop-text.seen.keys c.in_ok-insert.field-0 c.in_ok-insert.ensures.added c.loop-text.invariant c.if-not-branch.true

@@ -1,6 +1,6 @@
 use Rattle.std.proofs.Common.{◌≡◌, drop}
 use Rattle.read_follow.specs.Scopes.{find_slot}
-use Rattle.read_follow.proofs.seeing.find_type.Given as goal
+use Rattle.read_follow.proofs.name_tables.first_slot.Given as goal
 
 -- what is left decides
 abbrev pub invariant-loop-shown : goal.invariant-loop-shown
