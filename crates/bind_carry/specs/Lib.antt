@@ -1,0 +1,17 @@
+pub mod Numbers
+pub mod Shown
+pub mod Fates
+pub mod Listed
+pub mod First
+pub mod Whole
+pub mod Packaged
+pub mod Which
+pub mod Renumbered
+pub mod Marked
+pub mod CarriedParts
+pub mod ReadyItems
+pub mod Over
+pub mod BoundGains
+pub mod MatchedSame
+pub mod FirstPass
+pub mod Initial

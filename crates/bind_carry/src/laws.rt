@@ -1,0 +1,14 @@
+//! Laws of what is carried.
+
+ghost use Rattle.bind_carry.specs.CarriedParts.{PartsAreCarried};
+ghost use Rattle.bind_carry.specs.FirstPass.{FirstIsCarried};
+
+/// With the owners that are carried, all parts of their types are, and all types of their functions.
+pub fn parts()
+    ensures { PartsAreCarried }
+{}
+
+/// What is carried by path is carried as a union asks for it: types, interfaces, and how their numbers rise.
+pub fn first_pass()
+    ensures { FirstIsCarried }
+{}
