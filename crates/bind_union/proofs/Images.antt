@@ -136,7 +136,7 @@ module _ (f : ℕ → ℕ) (us trees : List Tree) where
 
 -- ---- the numbers of a view
 
-numbers_cons : (t : ValueType) (ts : List ValueType) → filter_map number_of (t ∷ ts) ≡ type_numbers t ++ filter_map number_of ts
+pub numbers_cons : (t : ValueType) (ts : List ValueType) → filter_map number_of (t ∷ ts) ≡ type_numbers t ++ filter_map number_of ts
 numbers_cons ty.Bool ts = refl
 numbers_cons ty.U8 ts = refl
 numbers_cons ty.U16 ts = refl
@@ -180,7 +180,7 @@ behind xs ts e = e ∙ sym (append-nil (filter_map number_of ts))
 one_number : (t : ValueType) → type_numbers t ≡ filter_map number_of (t ∷ [])
 one_number t = sym (append-nil (type_numbers t)) ∙ sym (numbers_cons t [])
 
-given_numbers : (t : Option ValueType) → optional_numbers t ≡ filter_map number_of (option_to_list t)
+pub given_numbers : (t : Option ValueType) → optional_numbers t ≡ filter_map number_of (option_to_list t)
 given_numbers None = refl
 given_numbers (Some t) = one_number t
 
