@@ -21,6 +21,8 @@ use Rattle.wit_model.specs.declared.model.TypeId.{TypeId}
 use Rattle.wit_model.specs.Text.{Text, optional_text, text_eq, text_of}
 use Rattle.wit_model.specs.declared.model.PackageId.{PackageId}
 use Rattle.wit_model.specs.declared.model.TypeDef.{TypeDef}
+use Rattle.wit_model.specs.declared.model.TypeDefKind.{TypeDefKind}
+use Rattle.wit_model.specs.declared.model.TypeDefKind.TheVariants as kind
 use Rattle.wit_model.specs.declared.model.TypeOwner.{TypeOwner}
 use Rattle.wit_model.specs.declared.model.WorldItem.{WorldItem}
 use Rattle.wit_model.specs.declared.model.WorldItem.TheVariants as item
@@ -52,6 +54,27 @@ flag_names flags = map (λ f. text_of f.name) flags
 
 abbrev pub enum_names : List EnumCase → List Text
 enum_names cases = map (λ c. text_of c.name) cases
+
+-- the documentation of fields, cases and flags, one by one
+abbrev pub field_docs : List Field → List (Option Text)
+field_docs fields = map (λ f. optional_text f.docs.contents) fields
+
+abbrev pub case_docs : List Case → List (Option Text)
+case_docs cases = map (λ c. optional_text c.docs.contents) cases
+
+abbrev pub flag_docs : List Flag → List (Option Text)
+flag_docs flags = map (λ f. optional_text f.docs.contents) flags
+
+abbrev pub enum_docs : List EnumCase → List (Option Text)
+enum_docs cases = map (λ c. optional_text c.docs.contents) cases
+
+-- that of what a kind is made of
+abbrev pub member_docs : TypeDefKind → List (Option Text)
+member_docs (kind.Record record_) = field_docs record_.fields.items
+member_docs (kind.Variant variant) = case_docs variant.cases.items
+member_docs (kind.Flags flags) = flag_docs flags.flags.items
+member_docs (kind.Enum enum) = enum_docs enum.cases.items
+member_docs _ = []
 
 -- ---- functions
 
@@ -111,6 +134,7 @@ pub record IsFunctionUnder (numbers : List ℕ) (old new : Function) : Type 0 wh
 pub record IsTypeUnder (numbers : List ℕ) (home : TypeOwner) (old new : TypeDef) : Type 0 where
   pub name : optional_text new.name ≡ optional_text old.name
   pub kind : kind_view new.kind ≡ renamed (number_under numbers) (kind_view old.kind)
+  pub of_members : member_docs new.kind ≡ member_docs old.kind
   pub in_owner : new.owner ≡ home
   pub docs : optional_text new.docs.contents ≡ optional_text old.docs.contents
   pub stability : stability_view new.stability ≡ stability_view old.stability

@@ -1,11 +1,11 @@
 //! Kinds of types under new numbers.
 
-ghost use Rattle.std.specs.Prelude.{◌≡◌, ◌++◌, true, nat_lt, length, map, option_map, IfOk, IfErr};
+ghost use Rattle.std.specs.Prelude.{◌≡◌, ◌++◌, [], true, nat_lt, length, map, option_map, IfOk, IfErr};
 ghost use Rattle.std.specs.List.{list_all};
 ghost use Rattle.wit_model.specs.declared.error.Error.TheVariants.{Memory};
 ghost use Rattle.wit_model.specs.declared.model.TypeDefKind.TheVariants as kinds;
 ghost use Rattle.bind_union.specs.Views.{kind_view, optional_numbers, renamed, renamed_type, type_numbers, view_numbers};
-ghost use Rattle.bind_copy.specs.Copies.{cases_of, cases_under, enum_names, fields_of, fields_under, flag_names, number_under};
+ghost use Rattle.bind_copy.specs.Copies.{case_docs, cases_of, cases_under, enum_docs, enum_names, field_docs, fields_of, fields_under, flag_docs, flag_names, member_docs, number_under};
 
 use crate::texts::{copy_docs, copy_text};
 use std::alloc::Global;
@@ -29,6 +29,7 @@ pub(crate) fn image_of(numbers: &[u32], ty: Type) -> Type
 fn copy_fields(alloc: Global, numbers: &[u32], fields: &[Field]) -> Result<Vec<Field>, Error>
     requires { list_all (λ f. list_all (λ n. nat_lt n (length numbers.now)) (type_numbers f.ty)) fields.now ≡ true }
     ensures fields { IfOk result (λ copy. fields_of copy.items ≡ fields_under numbers.now fields.now) }
+    ensures docs { IfOk result (λ copy. field_docs copy.items ≡ field_docs fields.now) }
     ensures refusal { IfErr result (λ error. error ≡ Memory) }
 {
     let mut copy = Vec::new(alloc);
@@ -58,6 +59,7 @@ pub(crate) fn optional_image(numbers: &[u32], ty: Option<Type>) -> Option<Type>
 fn copy_cases(alloc: Global, numbers: &[u32], cases: &[Case]) -> Result<Vec<Case>, Error>
     requires { list_all (λ c. list_all (λ n. nat_lt n (length numbers.now)) (optional_numbers c.ty)) cases.now ≡ true }
     ensures cases { IfOk result (λ copy. cases_of copy.items ≡ cases_under numbers.now cases.now) }
+    ensures docs { IfOk result (λ copy. case_docs copy.items ≡ case_docs cases.now) }
     ensures refusal { IfErr result (λ error. error ≡ Memory) }
 {
     let mut copy = Vec::new(alloc);
@@ -75,6 +77,7 @@ fn copy_cases(alloc: Global, numbers: &[u32], cases: &[Case]) -> Result<Vec<Case
 
 fn copy_flags(alloc: Global, flags: &[Flag]) -> Result<Vec<Flag>, Error>
     ensures flags { IfOk result (λ copy. flag_names copy.items ≡ flag_names flags.now) }
+    ensures docs { IfOk result (λ copy. flag_docs copy.items ≡ flag_docs flags.now) }
     ensures refusal { IfErr result (λ error. error ≡ Memory) }
 {
     let mut copy = Vec::new(alloc);
@@ -88,6 +91,7 @@ fn copy_flags(alloc: Global, flags: &[Flag]) -> Result<Vec<Flag>, Error>
 
 fn copy_enum_cases(alloc: Global, cases: &[EnumCase]) -> Result<Vec<EnumCase>, Error>
     ensures cases { IfOk result (λ copy. enum_names copy.items ≡ enum_names cases.now) }
+    ensures docs { IfOk result (λ copy. enum_docs copy.items ≡ enum_docs cases.now) }
     ensures refusal { IfErr result (λ error. error ≡ Memory) }
 {
     let mut copy = Vec::new(alloc);
@@ -113,7 +117,8 @@ fn copy_types(alloc: Global, numbers: &[u32], types: &[Type]) -> Result<Vec<Type
 
 fn image_of_handle(numbers: &[u32], handle: &Handle) -> TypeDefKind
     requires { list_all (λ n. nat_lt n (length numbers.now)) (view_numbers (kind_view (kinds.Handle handle.now))) ≡ true }
-    ensures { kind_view result ≡ renamed (number_under numbers.now) (kind_view (kinds.Handle handle.now)) }
+    ensures view { kind_view result ≡ renamed (number_under numbers.now) (kind_view (kinds.Handle handle.now)) }
+    ensures docs { member_docs result ≡ [] }
 {
     match handle {
         Handle::Own(id) => TypeDefKind::Handle(Handle::Own(TypeId(numbers[id.0 as usize]))),
@@ -125,6 +130,7 @@ fn image_of_handle(numbers: &[u32], handle: &Handle) -> TypeDefKind
 fn copy_record(alloc: Global, numbers: &[u32], record_: &Record) -> Result<TypeDefKind, Error>
     requires { list_all (λ n. nat_lt n (length numbers.now)) (view_numbers (kind_view (kinds.Record record_.now))) ≡ true }
     ensures view { IfOk result (λ copy. kind_view copy ≡ renamed (number_under numbers.now) (kind_view (kinds.Record record_.now))) }
+    ensures docs { IfOk result (λ copy. member_docs copy ≡ member_docs (kinds.Record record_.now)) }
     ensures refusal { IfErr result (λ error. error ≡ Memory) }
 {
     Ok(TypeDefKind::Record(Record {
@@ -136,6 +142,7 @@ fn copy_record(alloc: Global, numbers: &[u32], record_: &Record) -> Result<TypeD
 fn copy_variant(alloc: Global, numbers: &[u32], variant: &Variant) -> Result<TypeDefKind, Error>
     requires { list_all (λ n. nat_lt n (length numbers.now)) (view_numbers (kind_view (kinds.Variant variant.now))) ≡ true }
     ensures view { IfOk result (λ copy. kind_view copy ≡ renamed (number_under numbers.now) (kind_view (kinds.Variant variant.now))) }
+    ensures docs { IfOk result (λ copy. member_docs copy ≡ member_docs (kinds.Variant variant.now)) }
     ensures refusal { IfErr result (λ error. error ≡ Memory) }
 {
     Ok(TypeDefKind::Variant(Variant {
@@ -147,6 +154,7 @@ fn copy_variant(alloc: Global, numbers: &[u32], variant: &Variant) -> Result<Typ
 fn copy_tuple(alloc: Global, numbers: &[u32], tuple: &Tuple) -> Result<TypeDefKind, Error>
     requires { list_all (λ n. nat_lt n (length numbers.now)) (view_numbers (kind_view (kinds.Tuple tuple.now))) ≡ true }
     ensures view { IfOk result (λ copy. kind_view copy ≡ renamed (number_under numbers.now) (kind_view (kinds.Tuple tuple.now))) }
+    ensures docs { IfOk result (λ copy. member_docs copy ≡ member_docs (kinds.Tuple tuple.now)) }
     ensures refusal { IfErr result (λ error. error ≡ Memory) }
 {
     Ok(TypeDefKind::Tuple(Tuple {
@@ -167,7 +175,8 @@ fn image_of_result(numbers: &[u32], result_: &Result_) -> Result_
 
 fn image_of_map(numbers: &[u32], key: Type, value: Type) -> TypeDefKind
     requires { list_all (λ n. nat_lt n (length numbers.now)) (type_numbers key ++ type_numbers value) ≡ true }
-    ensures { kind_view result ≡ renamed (number_under numbers.now) (kind_view (kinds.Map key value)) }
+    ensures view { kind_view result ≡ renamed (number_under numbers.now) (kind_view (kinds.Map key value)) }
+    ensures docs { member_docs result ≡ [] }
 {
     TypeDefKind::Map(image_of(numbers, key), image_of(numbers, value))
 }
@@ -180,6 +189,7 @@ pub(crate) fn copy_kind(
 ) -> Result<TypeDefKind, Error>
     requires { list_all (λ n. nat_lt n (length numbers.now)) (view_numbers (kind_view kind.now)) ≡ true }
     ensures view { IfOk result (λ copy. kind_view copy ≡ renamed (number_under numbers.now) (kind_view kind.now)) }
+    ensures docs { IfOk result (λ copy. member_docs copy ≡ member_docs kind.now) }
     ensures refusal { IfErr result (λ error. error ≡ Memory) }
 {
     match kind {
