@@ -12,6 +12,7 @@ use Rattle.wit_model.specs.declared.model.InterfaceId.{InterfaceId}
 use Rattle.wit_model.specs.declared.model.Resolve.{Resolve}
 use Rattle.wit_model.specs.declared.model.TypeDef.{TypeDef}
 use Rattle.wit_model.specs.declared.model.TypeId.{TypeId}
+use Rattle.bind_match.specs.declared.matches.Matches.{Matches}
 use Rattle.wit_model.specs.Lookup.{interface_at, interface_path}
 use Rattle.wit_model.specs.Rules.{interface_type_numbers, package_number}
 use Rattle.wit_model.specs.Uses.{has}
@@ -32,6 +33,8 @@ use Rattle.bind_carry.specs.Marked.{AreChosen}
 use Rattle.bind_carry.specs.MatchedSame.{AreMatchedAt, NoneOfPath}
 use Rattle.bind_carry.specs.Numbers.{interface_number, numbers_of}
 use Rattle.bind_carry.specs.Renumbered.{first_of, is_copied, is_matched}
+use Rattle.bind_carry.specs.InRange.{IsInRange}
+use Rattle.bind_carry.specs.Which.{AreMatchedAll, IsNumbered}
 use Rattle.bind_carry.specs.Whole.{home_under, kept, IsInterfaceCarried}
 use Rattle.bind_carry.specs.declared.fate.Fate.{Fate}
 use Rattle.bind_carry.specs.declared.plan.Carried.{Carried}
@@ -39,6 +42,10 @@ use Rattle.bind_carry.proofs.CopiesPlaced.{flag_is_copied, numbers_by_long}
 use Rattle.bind_carry.proofs.FirstInterfaces.{home_number, interface_copy, type_numbers_under}
 use Rattle.bind_carry.proofs.FirstMatched.{interface_is, interface_stands, names, type_low, types_carried, types_copied, types_hold}
 use Rattle.bind_carry.proofs.FirstTypes.{adds_interface, copied_carried, parts_of}
+use Rattle.bind_carry.proofs.FirstNumbers.{worlds_apart}
+use Rattle.bind_carry.proofs.FirstPackages.{packages_hold}
+use Rattle.bind_carry.proofs.Marking.{are_chosen, AreWorldsBelow}
+use Rattle.bind_carry.proofs.Ranges.{is_in_range, shown_below}
 use Rattle.bind_carry.proofs.KeptPlaced.{kept_placed, IsKeptAt}
 use Rattle.bind_carry.proofs.SettledParts.{settled_long}
 
@@ -192,17 +199,40 @@ module _ (own other : Resolve) (valid_own : IsValid own) (valid_other : IsValid 
       by : number_under (numbers_by first fates) m < number_under (numbers_by first fates) n → f.types m < f.types n
       by less = subst (λ l. number_under l m < number_under l n) (sym numbers_are) less
 
+-- ---- the whole
+
+pub chosen_so : (own other : Resolve) (m : Matches) (c : Carried) → IsInRange other → AreMatchedAll other m → IsNumbered own other m c → AreChosen other m.interfaces.items c.copied_worlds.items c.copied_interfaces.items
+chosen_so own other m c range all is =
+    subst (AreChosen other m.interfaces.items c.copied_worlds.items) (sym is.copied_interfaces) (are_chosen other m.interfaces.items c.copied_worlds.items all.interfaces below)
+  where
+    below : AreWorldsBelow (length other.interfaces.items) other.worlds.items
+    below k w at = (
+      shown_below (length other.interfaces.items) (length other.types.items) w.imports.entries (range.imports k w at),
+      shown_below (length other.interfaces.items) (length other.types.items) w.exports.entries (range.exports k w at),
+    )
+
 -- What the first pass carries is carried.
 pub first_is_carried : FirstIsCarried
-first_is_carried own other merged matched c numbers valid_own valid_other p = record {
-  types = types_hold own other valid_own valid_other matched c numbers p.chosen p.same p.none p.long p.interfaces_are first p.types.numbers_are merged types_begin interfaces_begin p.new_types p.more_types p.types p.types_here;
-  interfaces = interfaces_hold own other valid_own valid_other matched c numbers p.chosen p.same p.none p.long p.interfaces_are first p.types.numbers_are p.count merged types_begin interfaces_begin p.new_interfaces p.more_interfaces p.interfaces p.interfaces_here;
+first_is_carried own other merged m c numbers valid_own valid_other p = record {
+  packages = λ n old at. let x = packages_hold own other merged c m.packages.items p.by_name p.numbered.new_packages p.numbered.packages p.gains p.grown p.new_packages p.gained p.packages p.packages_here (number_under c.packages.items) refl n old at in record { image = x.0; at_image = x.1; name = x.2 };
+  types = types_hold own other valid_own valid_other matched c numbers chosen p.same p.none long p.numbered.interfaces first p.types.numbers_are merged types_begin interfaces_begin p.new_types p.more_types p.types p.types_here;
+  interfaces = interfaces_hold own other valid_own valid_other matched c numbers chosen p.same p.none long p.numbered.interfaces first p.types.numbers_are p.numbered.interface_count merged types_begin interfaces_begin p.new_interfaces p.more_interfaces p.interfaces p.interfaces_here;
   copied_types = copied_carried (first_fates own other matched c);
   copied_interfaces = λ n h. or_left (flag_under c.copied_interfaces.items n) (is_matched matched n) h;
-  types_rise = types_rise own other valid_own valid_other matched c numbers p.chosen p.same p.none p.long p.interfaces_are first p.types.numbers_are p.count at_first types_count;
-  interfaces_rise = interfaces_rise own other valid_own valid_other matched c numbers p.chosen p.same p.none p.long p.interfaces_are first p.types.numbers_are p.count;
+  types_rise = types_rise own other valid_own valid_other matched c numbers chosen p.same p.none long p.numbered.interfaces first p.types.numbers_are p.numbered.interface_count at_first types_count;
+  interfaces_rise = interfaces_rise own other valid_own valid_other matched c numbers chosen p.same p.none long p.numbered.interfaces first p.types.numbers_are p.numbered.interface_count;
+  worlds_apart = worlds_apart (length own.worlds.items) c.copied_worlds.items m.worlds.items c.worlds.items (p.numbered.world_count ∙ sym p.all.worlds) p.numbered.worlds;
 }
   where
+    matched : List (Option InterfaceId)
+    matched = m.interfaces.items
+
+    chosen : AreChosen other matched c.copied_worlds.items c.copied_interfaces.items
+    chosen = chosen_so own other m c (is_in_range other valid_other) p.all p.numbered
+
+    long : length c.copied_interfaces.items ≡ length matched
+    long = p.numbered.interface_count ∙ sym p.all.interfaces
+
     first : ℕ
     first = length own.types.items + length {A = TypeDef} []
 

@@ -97,7 +97,7 @@ module _ (own other : Resolve) (valid_other : IsValid other) (matched : List (Op
 
 -- ---- interfaces with a path
 
-named_of_path : (r : Resolve) (n : ℕ) (i : Interface) → interface_at r n ≡ Some i → is_some (interface_path r n) ≡ true → is_some i.name ≡ true
+pub named_of_path : (r : Resolve) (n : ℕ) (i : Interface) → interface_at r n ≡ Some i → is_some (interface_path r n) ≡ true → is_some i.name ≡ true
 named_of_path r n i at h = go i.name refl (sym (ap (λ o. is_some (option_and_then (path_of_interface r) o)) at) ∙ h)
   where
     go : (o : Option (String Global)) → i.name ≡ o → is_some (option_and_then (λ name. option_and_then (λ p. path_in_package r p.0 (text_of name)) i.«package») o) ≡ true → is_some i.name ≡ true

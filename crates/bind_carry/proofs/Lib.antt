@@ -22,3 +22,10 @@ pub mod WorldsCopied
 pub mod PassedTypes
 pub mod SecondTypes
 pub mod SecondInitial
+pub mod Ranges
+pub mod Ready
+pub mod FirstNumbers
+pub mod FirstPackages
+pub mod KeysCopied
+pub mod SecondMarks
+pub mod FirstCopies

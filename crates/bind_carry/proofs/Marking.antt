@@ -30,12 +30,12 @@ or_false : (a : Bool) → (a || false) ≡ a
 or_false true = refl
 or_false false = refl
 
-no_more : (a b : Bool) → a ≡ (a || (b && false))
+pub no_more : (a b : Bool) → a ≡ (a || (b && false))
 no_more true b = refl
 no_more false true = refl
 no_more false false = refl
 
-joins : (a i x y : Bool) → ((a || (i && x)) || (i && y)) ≡ (a || (i && (x || y)))
+pub joins : (a i x y : Bool) → ((a || (i && x)) || (i && y)) ≡ (a || (i && (x || y)))
 joins true i x y = refl
 joins false true true y = refl
 joins false true false y = refl
@@ -71,7 +71,7 @@ abbrev pub AreWorldsBelow : ℕ → List World → Type 0
 AreWorldsBelow count ws = (k : ℕ) (w : World) → slice_get ws k ≡ Some w → AreShownBelow count w.imports.entries × AreShownBelow count w.exports.entries
 
 module _ (r : Resolve) where
-  mark_one : (marks : List Bool) (i : WorldItem) (n : ℕ) → IsShownBelow (length marks) i → flag_under (mark_item r marks i) n ≡ (flag_under marks n || (is_inline_at r n && is_id n (item_interface i)))
+  pub mark_one : (marks : List Bool) (i : WorldItem) (n : ℕ) → IsShownBelow (length marks) i → flag_under (mark_item r marks i) n ≡ (flag_under marks n || (is_inline_at r n && is_id n (item_interface i)))
   mark_one marks (item.Function f) n below = no_more (flag_under marks n) (is_inline_at r n)
   mark_one marks (item.Type_ id) n below = no_more (flag_under marks n) (is_inline_at r n)
   mark_one marks (item.Interface id stability docs external_id) n below = go (is_inline_at r id.0) refl (id.0 == n) refl
@@ -93,7 +93,7 @@ module _ (r : Resolve) where
       go false e true f = let inline = same_inline false e f in sym ((λ i. flag || (inline i && f i)) ∙ or_false flag)
       go false e false f = sym (elsewhere f)
 
-  mark_item_long : (marks : List Bool) (i : WorldItem) → length (mark_item r marks i) ≡ length marks
+  pub mark_item_long : (marks : List Bool) (i : WorldItem) → length (mark_item r marks i) ≡ length marks
   mark_item_long marks (item.Function f) = refl
   mark_item_long marks (item.Type_ id) = refl
   mark_item_long marks (item.Interface id stability docs external_id) = go (is_inline_at r id.0)

@@ -15,3 +15,6 @@ pub mod BoundGains
 pub mod MatchedSame
 pub mod FirstPass
 pub mod Initial
+pub mod InRange
+pub mod Bound
+pub mod Union

@@ -24,6 +24,12 @@ new_interfaces [] is = []
 new_interfaces (m ∷ ms) [] = []
 new_interfaces (m ∷ ms) (i ∷ is) = (is_none m && not (is_none i.name)) ∷ new_interfaces ms is
 
+-- the table of matches has a place for each package, interface and world of the other
+pub record AreMatchedAll (other : Resolve) (m : Matches) : Type 0 where
+  pub packages : length m.packages.items ≡ length other.packages.items
+  pub interfaces : length m.interfaces.items ≡ length other.interfaces.items
+  pub worlds : length m.worlds.items ≡ length other.worlds.items
+
 -- What is carried, by what is matched.
 pub record IsNumbered (own other : Resolve) (m : Matches) (c : Carried) : Type 0 where
   pub whole : IsWhole c

@@ -1,14 +1,17 @@
 //! What the bound world gains.
 
-ghost use Rattle.std.specs.Prelude.{◌≡◌, ◌<◌, ℕ, IfErr, IfOk, OnOk, true, length, Some};
+ghost use Rattle.std.specs.Prelude.{◌≡◌, ◌<◌, ◌≤◌, ◌+◌, ℕ, Err, IfErr, IfOk, OnOk, true, length, Some};
 ghost use Rattle.wit_model.specs.Lookup.{interface_at, type_at, world_at};
-ghost use Rattle.wit_model.specs.declared.error.Error.TheVariants.{Memory};
+ghost use Rattle.wit_model.specs.declared.error.Error.TheVariants.{Memory, Size};
 ghost use Rattle.wit_model.specs.declared.model.Interface.{Interface as InterfaceValue};
 ghost use Rattle.wit_model.specs.declared.model.World.{World as WorldValue};
-ghost use Rattle.bind_copy.specs.Copies.{are_names_below, AreFunctionsBelow};
+ghost use Rattle.std.specs.List.{AllZip};
+ghost use Rattle.bind_copy.specs.Copies.{are_names_below, AreEntriesBelow, AreFunctionsBelow, AreNewCopied, IsInterfaceUnder};
+ghost use Rattle.bind_carry.specs.Whole.{kept};
 ghost use Rattle.bind_carry.specs.BoundGains.{are_types_below, bound_fates, gained_inline, gains_any, type_under_key, unified, AreInlineCopied, AreKeysUnder, AreWorldKeysBelow};
 ghost use Rattle.bind_carry.specs.Fates.{AreCopied, FallBelow};
-ghost use Rattle.bind_carry.specs.Numbers.{IsMemoryOrSize};
+ghost use Rattle.bind_carry.specs.Bound.{IsBoundOver, IsBoundReady, IsSameButItems};
+ghost use Rattle.bind_carry.specs.Numbers.{copied_count, numbers_of, IsMemoryOrSize};
 ghost use Rattle.bind_carry.specs.Shown.{any_new, are_keys_below, type_in, AreNewShownBelow};
 ghost use Rattle.bind_carry.specs.First.{beside_first, is_named_at, second_from, second_in, IsHomeIn};
 ghost use Rattle.wit_model.specs.declared.model.TypeDef.{TypeDef as TypeDefValue};
@@ -61,7 +64,15 @@ fn other_world(bound: Bound<'_>) -> &World
 // ---- inline interfaces
 
 // Which inline interfaces are copied with the items that the bound world gains.
-fn copied_inline(alloc: Global, bound: Bound<'_>, interfaces: &[u32]) -> Result<Vec<bool>, Error> {
+fn copied_inline(alloc: Global, bound: Bound<'_>, interfaces: &[u32]) -> Result<Vec<bool>, Error>
+    requires own_range { bound.world.0 < length bound.own.now.worlds.items }
+    requires other_range { bound.other_world.0 < length bound.other.now.worlds.items }
+    requires imports { (v : WorldValue) → world_at bound.other.now bound.other_world.0 ≡ Some v → AreNewShownBelow (length interfaces.now) (length bound.other.now.interfaces.items) v.imports.entries }
+    requires exports { (v : WorldValue) → world_at bound.other.now bound.other_world.0 ≡ Some v → AreNewShownBelow (length interfaces.now) (length bound.other.now.interfaces.items) v.exports.entries }
+    ensures flags { IfOk result (λ f. (w v : WorldValue) → world_at bound.entry.own.now bound.entry.world.0 ≡ Some w → world_at bound.entry.other.now bound.entry.other_world.0 ≡ Some v → f.items ≡ gained_inline bound.entry.other.now interfaces.now w v) }
+    ensures count { IfOk result (λ f. length f.items ≡ length bound.entry.other.now.interfaces.items) }
+    ensures refuses { IfErr result (λ error. error ≡ Memory) }
+{
     let mut copied = unmarked(alloc, bound.other.interfaces.len())?;
     let own = own_world(bound);
     let other = other_world(bound);
@@ -82,6 +93,30 @@ fn copied_inline(alloc: Global, bound: Bound<'_>, interfaces: &[u32]) -> Result<
     Ok(copied)
 }
 
+// Inline interfaces that are copied into a package, in their order.
+fn inline_copies(
+    alloc: Global,
+    other: &Resolve,
+    home: Option<PackageId>,
+    copied: &[bool],
+    types: &[u32],
+) -> Result<Vec<wit_model::Interface>, Error>
+    requires flags { length copied.now ≡ length other.now.interfaces.items }
+    requires names { (n : ℕ) (i : InterfaceValue) → interface_at other.now n ≡ Some i → are_names_below (length types.now) i.types.entries ≡ true }
+    requires functions { (n : ℕ) (i : InterfaceValue) → interface_at other.now n ≡ Some i → AreFunctionsBelow (length types.now) i.functions.entries }
+    ensures copies { IfOk result (λ v. AllZip (IsInterfaceUnder types.now home) (kept copied.now other.now.interfaces.items) v.items) }
+    ensures refuses { IfErr result (λ error. error ≡ Memory) }
+{
+    let mut interfaces = Vec::new(alloc);
+    for (number, interface) in other.interfaces.iter().enumerate() {
+        if copied[number] {
+            let copy = copy_interface(alloc, types, interface, home)?;
+            interfaces.push(copy)?;
+        }
+    }
+    Ok(interfaces)
+}
+
 // Copies inline interfaces into the package of the own bound world.
 fn copy_inline(
     alloc: Global,
@@ -97,12 +132,9 @@ fn copy_inline(
     ensures copied { OnOk result ((w : WorldValue) → world_at bound.entry.own.now bound.entry.world.0 ≡ Some w → AreInlineCopied types.now w.«package» copied.now bound.entry.other.now.interfaces.items added.old.items added.new.items) }
     ensures refuses { IfErr result (λ error. error ≡ Memory) }
 {
-    let home = own_world(bound).package;
-    for (number, interface) in bound.other.interfaces.iter().enumerate() {
-        if copied[number] {
-            added.push(copy_interface(alloc, types, interface, home)?)?;
-        }
-    }
+    let world = own_world(bound);
+    let mut copies = inline_copies(alloc, bound.other, world.package, copied, types)?;
+    added.append(&mut copies)?;
     Ok(())
 }
 
@@ -279,6 +311,23 @@ fn bind_types(
 
 // ---- items
 
+// The keys of items under their new numbers.
+fn keys_under(
+    alloc: Global,
+    interfaces: &[u32],
+    items: &Map<WorldKey, WorldItem>,
+) -> Result<IndexSet<WorldKey>, Error>
+    requires { are_keys_below (length interfaces.now) items.now.entries ≡ true }
+    ensures keys { IfOk result (λ keys. AreKeysUnder interfaces.now items.now.entries keys.keys) }
+    ensures refuses { IfErr result (λ error. error ≡ Memory) }
+{
+    let mut keys = IndexSet::new(alloc);
+    for (key, _) in items {
+        keys.insert(copy_key(alloc, interfaces, key)?)?;
+    }
+    Ok(keys)
+}
+
 /// The keys of the other world's exports under their new numbers.
 pub(crate) fn export_keys(
     alloc: Global,
@@ -287,14 +336,53 @@ pub(crate) fn export_keys(
 ) -> Result<IndexSet<WorldKey>, Error>
     requires other_range { bound.other_world.0 < length bound.other.now.worlds.items }
     requires keys { (v : WorldValue) → world_at bound.other.now bound.other_world.0 ≡ Some v → AreWorldKeysBelow (length interfaces.now) v }
-    ensures keys { IfOk result (λ keys. (v : WorldValue) → world_at bound.entry.other.now bound.entry.other_world.0 ≡ Some v → AreKeysUnder interfaces.now v.exports.entries keys.items) }
+    ensures keys { IfOk result (λ keys. (v : WorldValue) → world_at bound.entry.other.now bound.entry.other_world.0 ≡ Some v → AreKeysUnder interfaces.now v.exports.entries keys.keys) }
     ensures refuses { IfErr result (λ error. error ≡ Memory) }
 {
-    let mut keys = IndexSet::new(alloc);
-    for (key, _) in &other_world(bound).exports {
-        keys.insert(copy_key(alloc, interfaces, key)?)?;
-    }
-    Ok(keys)
+    keys_under(alloc, interfaces, &other_world(bound).exports)
+}
+
+// The numbers of interfaces in what the bound world gains: inline ones that are copied stand behind those that were added before.
+fn bound_numbers(
+    alloc: Global,
+    bound: Bound<'_>,
+    added: usize,
+    copied: &[bool],
+    interfaces: &[u32],
+) -> Result<Vec<u32>, Error>
+    requires same { length copied.now ≡ length interfaces.now }
+    requires few { length copied.now ≤ 4294967295 }
+    ensures numbers { IfOk result (λ v. v.items ≡ numbers_of (length bound.entry.own.now.interfaces.items + added) copied.now interfaces.now) }
+    ensures refuses { IfErr result IsMemoryOrSize }
+    ensures size { result ≡ Err Size → 4294967295 ≤ (length bound.entry.own.now.interfaces.items + added) + copied_count copied.now }
+{
+    let Some(behind) = bound.own.interfaces.len().checked_add(added) else {
+        return Err(Error::Size);
+    };
+    numbered(alloc, behind, copied, interfaces)
+}
+
+// Copies the items whose keys the own bound world hasn't.
+fn bind_entries(
+    alloc: Global,
+    bound: Bound<'_>,
+    numbers: Numbers<'_>,
+    added: &mut Added,
+) -> Result<(), Error>
+    requires own_range { bound.world.0 < length bound.own.now.worlds.items }
+    requires other_range { bound.other_world.0 < length bound.other.now.worlds.items }
+    requires imports { (v : WorldValue) → world_at bound.other.now bound.other_world.0 ≡ Some v → AreEntriesBelow (length numbers.interfaces.now) (length numbers.types.now) v.imports.entries }
+    requires exports { (v : WorldValue) → world_at bound.other.now bound.other_world.0 ≡ Some v → AreEntriesBelow (length numbers.interfaces.now) (length numbers.types.now) v.exports.entries }
+    ensures imports { OnOk result ((w v : WorldValue) → world_at bound.entry.own.now bound.entry.world.0 ≡ Some w → world_at bound.entry.other.now bound.entry.other_world.0 ≡ Some v → AreNewCopied numbers.entry.interfaces.now numbers.entry.types.now w.imports.entries v.imports.entries added.new.imports.entries) }
+    ensures exports { OnOk result ((w v : WorldValue) → world_at bound.entry.own.now bound.entry.world.0 ≡ Some w → world_at bound.entry.other.now bound.entry.other_world.0 ≡ Some v → AreNewCopied numbers.entry.interfaces.now numbers.entry.types.now w.exports.entries v.exports.entries added.new.exports.entries) }
+    ensures lists { IsSameButItems added.old added.new }
+    ensures refuses { IfErr result (λ error. error ≡ Memory) }
+{
+    let own = own_world(bound);
+    let other = other_world(bound);
+    added.imports = copy_items(alloc, numbers, &own.imports, &other.imports)?;
+    added.exports = copy_items(alloc, numbers, &own.exports, &other.exports)?;
+    Ok(())
 }
 
 /// Adds the items that the bound world gains, with their inline interfaces and the types of both.
@@ -303,26 +391,19 @@ pub(crate) fn bind_items(
     bound: Bound<'_>,
     first: First<'_>,
     added: &mut Added,
-) -> Result<(), Error> {
+) -> Result<(), Error>
+    requires { IsBoundReady bound.own.now bound.other.now bound.world.0 bound.other_world.0 first.carried.now first.fates.now first.types.now }
+    ensures gained { OnOk result ((w v : WorldValue) → world_at bound.entry.own.now bound.entry.world.0 ≡ Some w → world_at bound.entry.other.now bound.entry.other_world.0 ≡ Some v → IsBoundOver bound.entry.own.now bound.entry.other.now bound.entry.world.0 bound.entry.other_world.0 w v first.entry.carried.now first.entry.fates.now first.entry.types.now added.old added.new) }
+    ensures refuses { IfErr result IsMemoryOrSize }
+{
     let copied = copied_inline(alloc, bound, &first.carried.interfaces)?;
-    let Some(behind) = bound
-        .own
-        .interfaces
-        .len()
-        .checked_add(added.interfaces.len())
-    else {
-        return Err(Error::Size);
-    };
-    let interfaces = numbered(alloc, behind, &copied, &first.carried.interfaces)?;
+    let before = added.interfaces.len();
+    let interfaces = bound_numbers(alloc, bound, before, &copied, &first.carried.interfaces)?;
     let types = bind_types(alloc, bound, &copied, &interfaces, first, &mut added.types)?;
     copy_inline(alloc, bound, &copied, &types, &mut added.interfaces)?;
     let numbers = Numbers {
         interfaces: &interfaces,
         types: &types,
     };
-    let own = own_world(bound);
-    let other = other_world(bound);
-    added.imports = copy_items(alloc, numbers, &own.imports, &other.imports)?;
-    added.exports = copy_items(alloc, numbers, &own.exports, &other.exports)?;
-    Ok(())
+    bind_entries(alloc, bound, numbers, added)
 }

@@ -1,14 +1,15 @@
 //! Laws of what is carried.
 
 ghost use Rattle.bind_carry.specs.CarriedParts.{PartsAreCarried};
-ghost use Rattle.bind_carry.specs.FirstPass.{FirstIsCarried};
+ghost use Rattle.bind_carry.specs.FirstPass.{FirstIsCarried, FirstIsCopied};
 
 /// With the owners that are carried, all parts of their types are, and all types of their functions.
 pub fn parts()
     ensures { PartsAreCarried }
 {}
 
-/// What is carried by path is carried as a union asks for it: types, interfaces, and how their numbers rise.
+/// What is carried by path is carried as a union asks for it: packages, interfaces, worlds and types, and how their numbers rise. What is copied stands behind own entries.
 pub fn first_pass()
-    ensures { FirstIsCarried }
+    ensures carried { FirstIsCarried }
+    ensures copied { FirstIsCopied }
 {}

@@ -1,6 +1,7 @@
 //! Packages, and what stands in them, under new numbers.
 
-ghost use Rattle.std.specs.Prelude.{◌≡◌, ℕ, true, length, IfErr, IfOk, Some};
+ghost use Rattle.std.specs.Prelude.{◌≡◌, ◌++◌, ◌∷◌, [], ℕ, true, false, length, IfErr, IfOk, OnOk, Some};
+ghost use Rattle.bind_add.specs.declared.added.Names.{Names as NamesValue};
 ghost use Rattle.std.specs.List.{AllZip};
 ghost use Rattle.bind_carry.specs.Packaged.{grown_packages, AreInterfaceNames, AreWorldNames, IsGained, IsPackageCarried};
 ghost use Rattle.bind_carry.specs.Whole.{kept};
@@ -115,6 +116,29 @@ fn names(
     })
 }
 
+// Adds what an own package gains, where the other one isn't new.
+fn gain(
+    alloc: Global,
+    carried: &Carried,
+    is_new: bool,
+    own: u32,
+    package: &Package,
+    gained: &mut Vec<Names>,
+) -> Result<(), Error>
+    requires whole { IsWhole carried.now }
+    requires interfaces { are_interfaces_below (length carried.now.copied_interfaces.items) «package».now.interfaces.entries ≡ true }
+    requires worlds { are_worlds_below (length carried.now.copied_worlds.items) «package».now.worlds.entries ≡ true }
+    ensures new { OnOk result (is_new ≡ true → gained.new.items ≡ gained.old.items) }
+    ensures grown { OnOk result (is_new ≡ false → (g : NamesValue) × IsGained carried.now (own, «package».now) g × (gained.new.items ≡ gained.old.items ++ g ∷ [])) }
+    ensures refuses { IfErr result (λ error. error ≡ Memory) }
+{
+    if is_new {
+        return Ok(());
+    }
+    gained.push(names(alloc, carried, PackageId(own), package)?)?;
+    Ok(())
+}
+
 /// What own packages gain.
 pub(crate) fn gained_names(
     alloc: Global,
@@ -130,10 +154,9 @@ pub(crate) fn gained_names(
 {
     let mut gained = Vec::new(alloc);
     for (number, package) in other.packages.iter().enumerate() {
-        if !carried.new_packages[number] {
-            let own = PackageId(carried.packages[number]);
-            gained.push(names(alloc, carried, own, package)?)?;
-        }
+        let is_new = carried.new_packages[number];
+        let own = carried.packages[number];
+        gain(alloc, carried, is_new, own, package, &mut gained)?;
     }
     Ok(gained)
 }

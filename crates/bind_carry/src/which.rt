@@ -1,7 +1,7 @@
 //! Which interfaces and worlds of another `Resolve` are copied.
 
-ghost use Rattle.std.specs.Prelude.{◌≡◌, ◌≤◌, ℕ, is_none, length, IfErr, IfOk, Some};
-ghost use Rattle.bind_carry.specs.Numbers.{IsMemoryOrSize};
+ghost use Rattle.std.specs.Prelude.{◌≡◌, ◌≤◌, ℕ, false, is_none, length, replicate, IfErr, IfOk, Some};
+ghost use Rattle.wit_model.specs.declared.error.Error.TheVariants.{Memory};
 ghost use Rattle.wit_model.specs.Lookup.{world_at};
 ghost use Rattle.wit_model.specs.declared.model.World.{World as WorldValue};
 ghost use Rattle.bind_carry.specs.Which.{new_interfaces, new_worlds};
@@ -131,10 +131,10 @@ pub(crate) fn copied_interfaces(
     Ok(copied)
 }
 
-/// No flags yet, so many.
+/// So many flags, none of them set.
 pub(crate) fn unmarked(alloc: Global, count: usize) -> Result<Vec<bool>, Error>
-    ensures count { IfOk result (λ v. length v.items ≡ count) }
-    ensures refuses { IfErr result IsMemoryOrSize }
+    ensures flags { IfOk result (λ v. v.items ≡ replicate count false) }
+    ensures refuses { IfErr result (λ error. error ≡ Memory) }
 {
     Ok(vec![in alloc; false; count]?)
 }

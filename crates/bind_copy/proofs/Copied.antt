@@ -9,7 +9,7 @@ use Rattle.indexmap.proofs.MapLemmas.{insert_entry-absent}
 use Rattle.bind_copy.specs.Copies.{CopiedSoFar}
 
 -- in a list of keys that differ, each in front differs from the one in the middle
-at_middle : {K : Type 0} (apart : K → K → Bool) (x k : K) (front rest : List K) → AllByRecursion (λ y. apart x y ≡ false) (front ++ k ∷ rest) → apart x k ≡ false
+pub at_middle : {K : Type 0} (apart : K → K → Bool) (x k : K) (front rest : List K) → AllByRecursion (λ y. apart x y ≡ false) (front ++ k ∷ rest) → apart x k ≡ false
 at_middle apart x k [] rest h = h.0
 at_middle apart x k (y ∷ ys) rest h = at_middle apart x k ys rest h.1
 

@@ -28,7 +28,8 @@ pub test_is : world_key.ghosts.eq ≡ key_eq
 test_is = λ i a b. code_eq a b i
 
 module _ (interfaces : List ℕ) where
-  same_images : (x y u v : WorldKey) → IsKeyUnder interfaces x u → IsKeyUnder interfaces y v → key_eq v u ≡ become_one interfaces x y
+  -- keys are one under their new numbers where their images are one
+  pub same_images : (x y u v : WorldKey) → IsKeyUnder interfaces x u → IsKeyUnder interfaces y v → key_eq v u ≡ become_one interfaces x y
   same_images (key.Name x) (key.Name y) (key.Name u) (key.Name v) r s = ap (λ t. text_eq t (text_of u)) s ∙ (ap (text_eq (text_of y)) r ∙ text_eq_flip (text_of y) (text_of x))
   same_images (key.Name x) (key.Interface y) (key.Name u) (key.Interface v) r s = refl
   same_images (key.Interface x) (key.Name y) (key.Interface u) (key.Name v) r s = refl

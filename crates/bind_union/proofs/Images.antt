@@ -72,10 +72,10 @@ renamed_field f x = (x.0, renamed_type f x.1)
 abbrev renamed_case : (ℕ → ℕ) → Text × Option ValueType → Text × Option ValueType
 renamed_case f x = (x.0, option_map (renamed_type f) x.1)
 
-filter_map_none : {X Y : Type 0} (h : X → Option Y) (x : X) (xs : List X) → h x ≡ None → filter_map h (x ∷ xs) ≡ filter_map h xs
+pub filter_map_none : {X Y : Type 0} (h : X → Option Y) (x : X) (xs : List X) → h x ≡ None → filter_map h (x ∷ xs) ≡ filter_map h xs
 filter_map_none h x xs e = ap (λ o. cons_option o (filter_map h xs)) e
 
-filter_map_some : {X Y : Type 0} (h : X → Option Y) (x : X) (y : Y) (xs : List X) → h x ≡ Some y → filter_map h (x ∷ xs) ≡ y ∷ filter_map h xs
+pub filter_map_some : {X Y : Type 0} (h : X → Option Y) (x : X) (y : Y) (xs : List X) → h x ≡ Some y → filter_map h (x ∷ xs) ≡ y ∷ filter_map h xs
 filter_map_some h x y xs e = ap (λ o. cons_option o (filter_map h xs)) e
 
 module _ (f : ℕ → ℕ) (us trees : List Tree) where
