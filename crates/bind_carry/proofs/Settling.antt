@@ -88,6 +88,7 @@ with_more : (xs ys : List ℕ) (home : TypeOwner) (old new : TypeDef) → all_be
 with_more xs ys home old new small is = record {
   name = is.name;
   kind = is.kind ∙ view_agrees (number_under xs) (number_under (xs ++ ys)) (length xs) (in_front xs ys) (kind_view old.kind) small;
+  of_members = is.of_members;
   in_owner = is.in_owner;
   docs = is.docs;
   stability = is.stability;

@@ -1,6 +1,7 @@
 //! What the bound world gains.
 
-ghost use Rattle.std.specs.Prelude.{◌≡◌, ◌<◌, ◌≤◌, ◌+◌, ℕ, Err, IfErr, IfOk, OnOk, true, length, Some};
+ghost use Rattle.std.specs.Prelude.{◌≡◌, ◌<◌, ◌≤◌, ◌+◌, ℕ, Err, IfErr, IfOk, OnOk, nat_lt, true, length, Some};
+ghost use Rattle.std.specs.Option.{option_map_or};
 ghost use Rattle.wit_model.specs.Lookup.{interface_at, type_at, world_at};
 ghost use Rattle.wit_model.specs.declared.error.Error.TheVariants.{Memory, Size};
 ghost use Rattle.wit_model.specs.declared.model.Interface.{Interface as InterfaceValue};
@@ -8,7 +9,7 @@ ghost use Rattle.wit_model.specs.declared.model.World.{World as WorldValue};
 ghost use Rattle.std.specs.List.{AllZip};
 ghost use Rattle.bind_copy.specs.Copies.{are_names_below, AreEntriesBelow, AreFunctionsBelow, AreNewCopied, IsInterfaceUnder};
 ghost use Rattle.bind_carry.specs.Whole.{kept};
-ghost use Rattle.bind_carry.specs.BoundGains.{are_types_below, bound_fates, gained_inline, gains_any, type_under_key, unified, AreInlineCopied, AreKeysUnder, AreWorldKeysBelow};
+ghost use Rattle.bind_carry.specs.BoundGains.{are_types_below, bound_fates, gained_inline, gains_any, type_under_key, unified, unify_one as unify_one_lem, AreInlineCopied, AreKeysUnder, AreWorldKeysBelow};
 ghost use Rattle.bind_carry.specs.Fates.{AreCopied, FallBelow};
 ghost use Rattle.bind_carry.specs.Bound.{IsBoundOver, IsBoundReady, IsSameButItems};
 ghost use Rattle.bind_carry.specs.Numbers.{copied_count, numbers_of, IsMemoryOrSize};
@@ -228,6 +229,34 @@ fn type_under(items: &Map<WorldKey, WorldItem>, key: &WorldKey) -> Option<TypeId
     type_of(items.get(key)?)
 }
 
+// A type stands for the own one under its key, where there is one.
+fn unify_one(fates: &mut [Fate], id: Option<TypeId>, own: Option<TypeId>)
+    requires { option_map_or (λ i. nat_lt i.0 (length fates.old)) id true ≡ true }
+    ensures fates { fates.new ≡ unify_one_lem fates.old id own }
+    ensures count { length fates.new ≡ length fates.old }
+{
+    if let Some(id) = id {
+        if let Some(own) = own {
+            fates[id.0 as usize] = Fate::Stands(own.0);
+        }
+    }
+}
+
+// Types among items under keys that others have too are the types there.
+fn unify(
+    here: &Map<WorldKey, WorldItem>,
+    items: &Map<WorldKey, WorldItem>,
+    fates: &mut [Fate],
+)
+    requires { are_types_below (length fates.old) items.now.entries ≡ true }
+    ensures fates { fates.new ≡ unified here.now.entries items.now.entries fates.old }
+    ensures count { length fates.new ≡ length fates.old }
+{
+    for (key, item) in items {
+        unify_one(fates, type_of(item), type_under(here, key));
+    }
+}
+
 // Types of the other world under keys that the own one has too are the own types.
 fn unify_types(bound: Bound<'_>, fates: &mut [Fate])
     requires own_range { bound.world.0 < length bound.own.now.worlds.items }
@@ -236,14 +265,9 @@ fn unify_types(bound: Bound<'_>, fates: &mut [Fate])
     ensures fates { (w v : WorldValue) → world_at bound.entry.own.now bound.entry.world.0 ≡ Some w → world_at bound.entry.other.now bound.entry.other_world.0 ≡ Some v → fates.new ≡ unified w.imports.entries v.imports.entries fates.old }
     ensures count { length fates.new ≡ length fates.old }
 {
-    let here = &own_world(bound).imports;
-    for (key, item) in &other_world(bound).imports {
-        if let Some(id) = type_of(item) {
-            if let Some(own) = type_under(here, key) {
-                fates[id.0 as usize] = Fate::Stands(own.0);
-            }
-        }
-    }
+    let own = own_world(bound);
+    let other = other_world(bound);
+    unify(&own.imports, &other.imports, fates);
 }
 
 // Whether some key has no item here.
@@ -339,7 +363,8 @@ pub(crate) fn export_keys(
     ensures keys { IfOk result (λ keys. (v : WorldValue) → world_at bound.entry.other.now bound.entry.other_world.0 ≡ Some v → AreKeysUnder interfaces.now v.exports.entries keys.keys) }
     ensures refuses { IfErr result (λ error. error ≡ Memory) }
 {
-    keys_under(alloc, interfaces, &other_world(bound).exports)
+    let other = other_world(bound);
+    keys_under(alloc, interfaces, &other.exports)
 }
 
 // The numbers of interfaces in what the bound world gains: inline ones that are copied stand behind those that were added before.
