@@ -1,5 +1,6 @@
 -- What is carried of a `Resolve` in range can be copied, and so can what the bound world gains.
 use Rattle.std.proofs.Common.{◌≡◌, sym, ap, subst, ◌∙◌, ℕ, ◌+◌, Bool, true, List, length, map, is_none, Some}
+use Rattle.std.specs.Prelude.{Err, Ok, OnOk, Result}
 use Rattle.std.proofs.lemmas.List.{length-map}
 use Rattle.wit_model.specs.Lookup.{interface_at, type_at, world_at}
 use Rattle.wit_model.specs.declared.model.Interface.{Interface}
@@ -18,12 +19,14 @@ use Rattle.bind_carry.specs.Fates.{AreCopied}
 use Rattle.bind_carry.specs.First.{adds_any, fate_of, first_fates, second_from, IsHomeIn}
 use Rattle.bind_carry.specs.InRange.{IsInRange}
 use Rattle.bind_carry.specs.Listed.{are_interfaces_below, are_worlds_below, IsHomeBelow, IsOwnerBelow}
+use Rattle.bind_carry.specs.Numbers.{numbers_of}
 use Rattle.bind_carry.specs.Over.{IsCarriedReady}
 use Rattle.bind_carry.specs.Shown.{are_keys_below, AreNewShownBelow}
 use Rattle.bind_carry.specs.Which.{AreMatchedAll, IsNumbered}
 use Rattle.bind_carry.specs.declared.fate.Fate.{Fate}
 use Rattle.bind_carry.specs.declared.plan.Carried.{Carried}
 use Rattle.bind_carry.proofs.CopiesPlaced.{numbers_by_long}
+use Rattle.bind_carry.proofs.Numbering.{numbers_long}
 use Rattle.bind_carry.proofs.Ranges.{keys_below, new_shown_below, types_below}
 use Rattle.bind_carry.proofs.SecondTypes.{second_long, unified_long}
 use Rattle.bind_carry.proofs.SettledParts.{settled_long}
@@ -126,3 +129,12 @@ bound_long other world other_world w v copied interfaces fates numbers long_fate
     let second = second_from other world other_world copied interfaces other.types.items fates numbers in
     settled_long (gains_any interfaces w v) other.types.items (unified w.imports.entries v.imports.entries second)
     (unified_long w.imports.entries v.imports.entries second ∙ second_long other world other_world copied interfaces other.types.items fates numbers long_fates long_numbers)
+
+-- each has a number
+pub numbers_many : (first : ℕ) (flags : List Bool) (others numbers : List ℕ) (n : ℕ) → numbers ≡ numbers_of first flags others → length flags ≡ n → length others ≡ n → length numbers ≡ n
+numbers_many first flags others numbers n e p q = ap length e ∙ (sym (numbers_long first flags others (p ∙ sym q)) ∙ p)
+
+-- what follows of two things that hold where an answer is there
+pub on_ok_two : {A E P Q R : Type 0} → (P → Q → R) → (r : Result A E) → OnOk r P → OnOk r Q → OnOk r R
+on_ok_two f (Ok a) p q = f p q
+on_ok_two f (Err e) p q = p

@@ -319,6 +319,7 @@ fn bind_types(
     requires imports { (v : WorldValue) → world_at bound.other.now bound.other_world.0 ≡ Some v → are_types_below (length bound.other.now.types.items) v.imports.entries ≡ true }
     requires falls { FallBelow bound.other.now.types.items }
     ensures copied { IfOk result (λ numbers. (w v : WorldValue) → world_at bound.entry.own.now bound.entry.world.0 ≡ Some w → world_at bound.entry.other.now bound.entry.other_world.0 ≡ Some v → AreCopied (length bound.entry.own.now.types.items) numbers.items bound.entry.other.now.types.items (bound_fates bound.entry.other.now bound.entry.world.0 bound.entry.other_world.0 w v copied.now interfaces.now first.entry.fates.now first.entry.types.now) added.old.items added.new.items) }
+    ensures count { IfOk result (λ numbers. length numbers.items ≡ length bound.entry.other.now.types.items) }
     ensures refuses { IfErr result IsMemoryOrSize }
 {
     let mut fates = first_fates(alloc, bound, copied, interfaces, first)?;

@@ -85,6 +85,7 @@ pub(crate) fn copy_types(
     requires fates { length fates.now ≡ length types.now }
     requires falls { FallBelow types.now }
     ensures copied { IfOk result (λ v. AreCopied own v.items types.now fates.now added.old.items added.new.items) }
+    ensures count { IfOk result (λ v. length v.items ≡ length types.now) }
     ensures refuses { IfErr result IsMemoryOrSize }
 {
     let mut numbers = Vec::new(alloc);
