@@ -82,6 +82,15 @@ fates_long own other m c = settled_long (adds_any c) other.types.items (map (fat
 pub numbers_count : (own : ℕ) (numbers : List ℕ) (types : List TypeDef) (fates : List Fate) (old new : List TypeDef) → AreCopied own numbers types fates old new → length numbers ≡ length fates
 numbers_count own numbers types fates old new is = ap length is.numbers_are ∙ numbers_by_long (own + length old) fates
 
+-- ---- keys
+
+-- the keys of a world of what is in range
+pub world_keys_below : (other : Resolve) → IsInRange other → (n : ℕ) (v : World) → world_at other n ≡ Some v → (count : ℕ) → count ≡ length other.interfaces.items → AreWorldKeysBelow count v
+world_keys_below other range n v at count e = record {
+  imports = ap (λ (k : ℕ). are_keys_below k v.imports.entries) e ∙ keys_below (length other.interfaces.items) (length other.types.items) v.imports.entries (range.imports n v at);
+  exports = ap (λ (k : ℕ). are_keys_below k v.exports.entries) e ∙ keys_below (length other.interfaces.items) (length other.types.items) v.exports.entries (range.exports n v at);
+}
+
 -- ---- what the bound world gains
 
 module _ (own other : Resolve) (world other_world : ℕ) (c : Carried) (fates : List Fate) (types : List ℕ) (ready : IsBoundReady own other world other_world c fates types) where
@@ -93,12 +102,6 @@ module _ (own other : Resolve) (world other_world : ℕ) (c : Carried) (fates : 
     pub exports_shown : (count : ℕ) → count ≡ length other.interfaces.items → AreNewShownBelow count (length other.interfaces.items) v.exports.entries
     exports_shown count e = subst (λ (k : ℕ). AreNewShownBelow k (length other.interfaces.items) v.exports.entries) (sym e)
         (new_shown_below (length other.interfaces.items) (length other.types.items) v.exports.entries (ready.in_range.exports other_world v at))
-
-    pub keys_shown : (count : ℕ) → count ≡ length other.interfaces.items → AreWorldKeysBelow count v
-    keys_shown count e = record {
-      imports = ap (λ (k : ℕ). are_keys_below k v.imports.entries) e ∙ keys_below (length other.interfaces.items) (length other.types.items) v.imports.entries (ready.in_range.imports other_world v at);
-      exports = ap (λ (k : ℕ). are_keys_below k v.exports.entries) e ∙ keys_below (length other.interfaces.items) (length other.types.items) v.exports.entries (ready.in_range.exports other_world v at);
-    }
 
     pub types_shown : are_types_below (length other.types.items) v.imports.entries ≡ true
     types_shown = types_below (length other.interfaces.items) (length other.types.items) v.imports.entries (ready.in_range.imports other_world v at)

@@ -29,31 +29,37 @@ module _ (r : Resolve) (interfaces : List ℕ) (here : List (WorldKey × WorldIt
 
   new_marks_long : (es : List (WorldKey × WorldItem)) (marks : List Bool) → length (mark_new_items r interfaces here marks es) ≡ length marks
   new_marks_long [] marks = refl
-  new_marks_long (e ∷ es) marks = go (is_new_under interfaces here e.0)
+  new_marks_long (e ∷ es) marks = go (is_new_under interfaces here e.0) (new_marks_long es (mark_item r marks e.1)) (new_marks_long es marks)
     where
-      go : (b : Bool) → length (mark_new_items r interfaces here (if b then mark_item r marks e.1 else marks) es) ≡ length marks
-      go true = new_marks_long es (mark_item r marks e.1) ∙ mark_item_long r marks e.1
-      go false = new_marks_long es marks
+      go : (b : Bool) → length (mark_new_items r interfaces here (mark_item r marks e.1) es) ≡ length (mark_item r marks e.1) → length (mark_new_items r interfaces here marks es) ≡ length marks
+          → length (mark_new_items r interfaces here (if b then mark_item r marks e.1 else marks) es) ≡ length marks
+      go true set unset = set ∙ mark_item_long r marks e.1
+      go false set unset = unset
 
-  new_marks_in : (es : List (WorldKey × WorldItem)) (marks : List Bool) (n : ℕ) → AreShownBelow (length marks) es → flag_under (mark_new_items r interfaces here marks es) n ≡ (flag_under marks n || (is_inline_at r n && is_shown_new es n))
+  abbrev FlagIs : List (WorldKey × WorldItem) → List Bool → ℕ → Type 0
+  FlagIs es marks n = flag_under (mark_new_items r interfaces here marks es) n ≡ (flag_under marks n || (is_inline_at r n && is_shown_new es n))
+
+  new_marks_in : (es : List (WorldKey × WorldItem)) (marks : List Bool) (n : ℕ) → AreShownBelow (length marks) es → FlagIs es marks n
   new_marks_in [] marks n below = no_more (flag_under marks n) (is_inline_at r n)
-  new_marks_in (e ∷ es) marks n below = go (is_new_under interfaces here e.0)
+  new_marks_in (e ∷ es) marks n below =
+      go (is_new_under interfaces here e.0) (new_marks_in es (mark_item r marks e.1) n (subst (λ (k : ℕ). AreShownBelow k es) (sym (mark_item_long r marks e.1)) below.1)) (new_marks_in es marks n below.1)
     where
-      go : (b : Bool) → flag_under (mark_new_items r interfaces here (if b then mark_item r marks e.1 else marks) es) n ≡ (flag_under marks n || (is_inline_at r n && ((b && is_id n (item_interface e.1)) || is_shown_new es n)))
-      go true =
-          new_marks_in es (mark_item r marks e.1) n (subst (λ (k : ℕ). AreShownBelow k es) (sym (mark_item_long r marks e.1)) below.1)
+      go : (b : Bool) → FlagIs es (mark_item r marks e.1) n → FlagIs es marks n
+          → flag_under (mark_new_items r interfaces here (if b then mark_item r marks e.1 else marks) es) n ≡ (flag_under marks n || (is_inline_at r n && ((b && is_id n (item_interface e.1)) || is_shown_new es n)))
+      go true set unset =
+          set
           ∙ (ap (λ b. b || (is_inline_at r n && is_shown_new es n)) (mark_one r marks e.1 n below.0)
           ∙ joins (flag_under marks n) (is_inline_at r n) (is_id n (item_interface e.1)) (is_shown_new es n))
-      go false = new_marks_in es marks n below.1
+      go false set unset = unset
 
   -- so some key is new
   shown_any : (es : List (WorldKey × WorldItem)) (n : ℕ) → is_shown_new es n ≡ true → any_new interfaces here es ≡ true
   shown_any [] n h = no_true h
-  shown_any (e ∷ es) n h = go (is_new_under interfaces here e.0) h
+  shown_any (e ∷ es) n h = go (is_new_under interfaces here e.0) h (shown_any es n)
     where
-      go : (b : Bool) → ((b && is_id n (item_interface e.1)) || is_shown_new es n) ≡ true → (b || any_new interfaces here es) ≡ true
-      go true h = refl
-      go false h = shown_any es n h
+      go : (b : Bool) → ((b && is_id n (item_interface e.1)) || is_shown_new es n) ≡ true → (is_shown_new es n ≡ true → any_new interfaces here es ≡ true) → (b || any_new interfaces here es) ≡ true
+      go true k rest = refl
+      go false k rest = rest k
 
 module _ (other : Resolve) (interfaces : List ℕ) (w v : World) (imports_below : AreShownBelow (length other.interfaces.items) v.imports.entries) (exports_below : AreShownBelow (length other.interfaces.items) v.exports.entries) where
   abbrev pub is_gained : ℕ → Bool

@@ -5,7 +5,7 @@ use Rattle.bind_copy.specs.Copies.{AreNewCopied}
 use Rattle.bind_carry.specs.BoundGains.{bound_fates, gained_inline, AreInlineCopied}
 use Rattle.bind_carry.specs.Fates.{AreCopied}
 use Rattle.bind_carry.specs.Numbers.{numbers_of}
-use Rattle.bind_carry.proofs.Ready.{exports_below, exports_shown, functions_in, imports_below, imports_shown, keys_shown, names_in, numbers_many, on_ok_two, types_shown}
+use Rattle.bind_carry.proofs.Ready.{exports_below, exports_shown, functions_in, imports_below, imports_shown, names_in, numbers_many, on_ok_two, types_shown, world_keys_below}
 use Rattle.bind_carry.proofs.bound.bind_items.Goals as goal
 
 pub copied_inline-requires-clause-imports : goal.copied_inline-requires-clause-imports
@@ -18,7 +18,7 @@ pub bind_types-requires-clause-keys : goal.bind_types-requires-clause-keys
 bind_types-requires-clause-keys c v at =
     let many = numbers_many (length c.args.bound.own.now.interfaces.items + c.len-before.result) c.deref-2.result.now c.deref-3.result.now c.in_ok-interfaces.interfaces.items (length c.args.bound.other.now.interfaces.items) c.in_ok-interfaces.ensures.numbers
     (ap length c.deref-2.ensures.value ∙ c.in_ok-copied.ensures.count) (ap length c.deref-3.ensures.value ∙ c.requires.interface_count) in
-    keys_shown c.args.bound.own.now c.args.bound.other.now c.args.bound.world.0 c.args.bound.other_world.0 c.args.first.carried.now c.args.first.fates.now c.args.first.types.now c.requires v at (length c.deref-5.result.now) (ap length c.deref-5.ensures.value ∙ many)
+    world_keys_below c.args.bound.other.now c.requires.in_range c.args.bound.other_world.0 v at (length c.deref-5.result.now) (ap length c.deref-5.ensures.value ∙ many)
 
 pub bind_types-requires-clause-same : goal.bind_types-requires-clause-same
 bind_types-requires-clause-same c =
