@@ -62,12 +62,12 @@ some_of : {X : Type 0} (o : Option X) → is_some o ≡ true → (x : X) × (o �
 some_of None h = no_true h
 some_of (Some x) h = (x, refl)
 
-flag_within : (flags : List Bool) (n : ℕ) → flag_under flags n ≡ true → n < length flags
+pub flag_within : (flags : List Bool) (n : ℕ) → flag_under flags n ≡ true → n < length flags
 flag_within [] n h = no_true h
 flag_within (b ∷ bs) zero h = omega arith
 flag_within (b ∷ bs) (suc n) h = let r = flag_within bs n h in omega (arith, r)
 
-within_there : {X : Type 0} (xs : List X) (n : ℕ) → n < length xs → (x : X) × (slice_get xs n ≡ Some x)
+pub within_there : {X : Type 0} (xs : List X) (n : ℕ) → n < length xs → (x : X) × (slice_get xs n ≡ Some x)
 within_there [] n l = absurd (omega (arith, l))
 within_there (x ∷ xs) zero l = (x, refl)
 within_there (x ∷ xs) (suc n) l = within_there xs n (omega (arith, l))

@@ -29,3 +29,5 @@ pub mod FirstPackages
 pub mod KeysCopied
 pub mod SecondMarks
 pub mod FirstCopies
+pub mod FirstOfUnion
+pub mod FirstWorldsCopied

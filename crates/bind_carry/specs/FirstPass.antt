@@ -1,28 +1,34 @@
 -- The first pass, by path, as the code leaves it in what is merged, and what follows of what it carries.
-use Rattle.std.specs.Prelude.{◌≡◌, ℕ, List, [], ◌++◌, length, map}
+use Rattle.std.specs.Prelude.{◌≡◌, ◌≤◌, ℕ, true, List, [], ◌++◌, length, map, Some}
 use Rattle.std.specs.List.{AllZip}
 use Rattle.wit_model.specs.declared.model.Interface.{Interface}
 use Rattle.wit_model.specs.declared.model.Package.{Package}
 use Rattle.wit_model.specs.declared.model.Resolve.{Resolve}
 use Rattle.wit_model.specs.declared.model.TypeDef.{TypeDef}
-use Rattle.wit_model.specs.Valid.{IsValid}
-use Rattle.bind_add.specs.Growth.{HaveGained}
+use Rattle.wit_model.specs.declared.model.World.{World}
+use Rattle.wit_model.specs.declared.model.WorldKey.{WorldKey}
+use Rattle.wit_model.specs.Lookup.{world_at}
+use Rattle.wit_model.specs.Valid.{key_eq, IsValid}
+use Rattle.bind_add.specs.Growth.{HaveGained, IsAdded}
+use Rattle.bind_add.specs.declared.added.Added.{Added}
 use Rattle.bind_add.specs.declared.added.Names.{Names}
+use Rattle.bind_copy.specs.Copies.{number_under}
 use Rattle.bind_match.specs.Matching.{own_package_of}
 use Rattle.bind_match.specs.declared.matches.Matches.{Matches}
 use Rattle.bind_union.specs.Carried.{IsCarried}
-use Rattle.bind_union.specs.Merged.{AreCopies}
+use Rattle.bind_union.specs.Merged.{AreCopies, IsWorldCopy}
 use Rattle.bind_carry.specs.Fates.{AreCopied}
-use Rattle.bind_carry.specs.First.{first_fates}
+use Rattle.bind_carry.specs.First.{first_fates, flag_under}
 use Rattle.bind_carry.specs.MatchedSame.{AreMatchedAt, NoneOfPath}
 use Rattle.bind_carry.specs.Packaged.{IsPackageCarried}
 use Rattle.bind_carry.specs.Renumbered.{first_of}
+use Rattle.bind_carry.specs.Union.{IsUnionOf}
 use Rattle.bind_carry.specs.Which.{AreMatchedAll, IsNumbered}
-use Rattle.bind_carry.specs.Whole.{kept, IsInterfaceCarried}
+use Rattle.bind_carry.specs.Whole.{kept, IsInterfaceCarried, IsWorldCarried}
 use Rattle.bind_carry.specs.declared.plan.Carried.{Carried}
 
 -- What is matched has one name, or one path and one sense. Types and interfaces are copied behind own ones, under the numbers that the matches and what is chosen
--- give; own packages gain names, and new ones stand behind them.
+-- give; own packages gain names, and new packages and worlds stand behind own ones.
 pub record IsFirstPass (own other merged : Resolve) (m : Matches) (c : Carried) (numbers : List ℕ) : Type 0 where
   pub numbered : IsNumbered own other m c
   pub all : AreMatchedAll other m
@@ -43,6 +49,12 @@ pub record IsFirstPass (own other merged : Resolve) (m : Matches) (c : Carried) 
   pub new_packages : List Package
   pub packages : AllZip (IsPackageCarried c) (kept c.new_packages.items other.packages.items) new_packages
   pub packages_here : merged.packages.items ≡ grown ++ new_packages
+  -- own worlds, of which the bound one has grown
+  pub own_worlds : List World
+  pub own_count : length own_worlds ≡ length own.worlds.items
+  pub new_worlds : List World
+  pub worlds : AllZip (IsWorldCarried c numbers) (kept c.copied_worlds.items other.worlds.items) new_worlds
+  pub worlds_here : merged.worlds.items ≡ own_worlds ++ new_worlds
 
 -- It is carried as the laws on unions ask for it.
 abbrev pub FirstIsCarried : Type 0
@@ -53,3 +65,15 @@ FirstIsCarried = (own other merged : Resolve) (m : Matches) (c : Carried) (numbe
 abbrev pub FirstIsCopied : Type 0
 FirstIsCopied = (own other merged : Resolve) (m : Matches) (c : Carried) (numbers : List ℕ) → IsValid own → IsValid other → IsFirstPass own other merged m c numbers →
     AreCopies own other merged (first_of m.interfaces.items c (first_fates own other m.interfaces.items c) numbers)
+
+-- Each world whose flag is set is copied whole, behind own ones.
+abbrev pub FirstWorldsAreCopied : Type 0
+FirstWorldsAreCopied = (own other merged : Resolve) (m : Matches) (c : Carried) (numbers : List ℕ) → IsValid own → IsValid other → IsFirstPass own other merged m c numbers →
+    (n : ℕ) → flag_under c.copied_worlds.items n ≡ true →
+    IsWorldCopy other merged (first_of m.interfaces.items c (first_fates own other m.interfaces.items c) numbers) n × (length own.worlds.items ≤ number_under c.worlds.items n)
+
+-- What a union adds, once it is added, has the first pass, where what is matched has one name, or one path and one sense.
+abbrev pub UnionsHaveTheFirst : Type 0
+UnionsHaveTheFirst = (own other merged : Resolve) (world other_world : ℕ) (m : Matches) (w v : World) (added : Added) (keys : List WorldKey) (u : IsUnionOf own other world other_world m w v added keys) →
+    IsAdded key_eq world added own merged → world_at own world ≡ Some w → AreMatchedAll other m → m.packages.items ≡ map (own_package_of own.packages.items) other.packages.items →
+    AreMatchedAt own other m.interfaces.items u.carried.packages.items → NoneOfPath own other m.interfaces.items → IsFirstPass own other merged m u.carried u.types

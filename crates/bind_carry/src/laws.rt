@@ -1,7 +1,7 @@
 //! Laws of what is carried.
 
 ghost use Rattle.bind_carry.specs.CarriedParts.{PartsAreCarried};
-ghost use Rattle.bind_carry.specs.FirstPass.{FirstIsCarried, FirstIsCopied};
+ghost use Rattle.bind_carry.specs.FirstPass.{FirstIsCarried, FirstIsCopied, FirstWorldsAreCopied, UnionsHaveTheFirst};
 
 /// With the owners that are carried, all parts of their types are, and all types of their functions.
 pub fn parts()
@@ -12,4 +12,10 @@ pub fn parts()
 pub fn first_pass()
     ensures carried { FirstIsCarried }
     ensures copied { FirstIsCopied }
+    ensures worlds { FirstWorldsAreCopied }
+{}
+
+/// What `union_of` answers, once it is added, is carried by path so, where what is matched has one name, or one path and one sense.
+pub fn of_unions()
+    ensures { UnionsHaveTheFirst }
 {}

@@ -17,7 +17,7 @@ use Rattle.wit_model.specs.Valid.{Keeps, IsValid, HasDistinctKeys}
 use Rattle.wit_model.specs.Checks.{references}
 use Rattle.wit_model.proofs.Lists.{first_true, second_true}
 use Rattle.wit_model.proofs.AnyOrder.{text-same}
-use Rattle.wit_model.proofs.Elements.{same-some, equal, none-in, all-contained}
+use Rattle.wit_model.proofs.Elements.{same-some, none-in, all-contained}
 use Rattle.wit_model.proofs.OnePath.{HasPath, has-path, path-listed, path-once, found-in}
 use Rattle.bind_union.specs.Carried.{Renumbering}
 use Rattle.bind_union.specs.Merged.{interface_names, JoinedNames, none, met, left, added, PackageStands, grown, brought, IsCopyUnder, IsMerged}
