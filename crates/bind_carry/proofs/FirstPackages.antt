@@ -147,18 +147,18 @@ grown_name ns own ps h k q at = go (some_gains ns k)
 -- ---- packages of the other
 
 -- whether a thing that isn't flagged was found: flags say of each whether it was
-unflagged_found : (ms : List (Option PackageId)) (n : ℕ) → n < length ms → flag_under (map is_none ms) n ≡ false → (id : PackageId) × (slice_get ms n ≡ Some (Some id))
+pub unflagged_found : (ms : List (Option PackageId)) (n : ℕ) → n < length ms → flag_under (map is_none ms) n ≡ false → (id : PackageId) × (slice_get ms n ≡ Some (Some id))
 unflagged_found [] n l h = absurd (omega (arith, l))
 unflagged_found (None ∷ ms) zero l h = no_true (sym h)
 unflagged_found (Some id ∷ ms) zero l h = (id, refl)
 unflagged_found (m ∷ ms) (suc n) l h = unflagged_found ms n (omega (arith, l)) h
 
-found_number : (ms : List (Option PackageId)) (n : ℕ) (id : PackageId) → slice_get ms n ≡ Some (Some id) → number_under (map package_number ms) n ≡ id.0
+pub found_number : (ms : List (Option PackageId)) (n : ℕ) (id : PackageId) → slice_get ms n ≡ Some (Some id) → number_under (map package_number ms) n ≡ id.0
 found_number [] n id e = let wrong : ⊥ = cc in absurd wrong
 found_number (m ∷ ms) zero id e = ap (λ (o : Option (Option PackageId)). package_number (unwrap_or o m)) e
 found_number (m ∷ ms) (suc n) id e = found_number ms n id e
 
-mapped_at : {X Y : Type 0} (f : X → Y) (xs : List X) (n : ℕ) (x : X) → slice_get xs n ≡ Some x → slice_get (map f xs) n ≡ Some (f x)
+pub mapped_at : {X Y : Type 0} (f : X → Y) (xs : List X) (n : ℕ) (x : X) → slice_get xs n ≡ Some x → slice_get (map f xs) n ≡ Some (f x)
 mapped_at f [] n x e = let wrong : ⊥ = cc in absurd wrong
 mapped_at f (y ∷ ys) zero x e = ap (option_map f) e
 mapped_at f (y ∷ ys) (suc n) x e = mapped_at f ys n x e
@@ -168,7 +168,7 @@ front_at [] ys n x e = let wrong : ⊥ = cc in absurd wrong
 front_at (y ∷ xs) ys zero x e = e
 front_at (y ∷ xs) ys (suc n) x e = front_at xs ys n x e
 
-within_list : {X : Type 0} (xs : List X) (n : ℕ) (x : X) → slice_get xs n ≡ Some x → n < length xs
+pub within_list : {X : Type 0} (xs : List X) (n : ℕ) (x : X) → slice_get xs n ≡ Some x → n < length xs
 within_list [] n x e = let wrong : ⊥ = cc in absurd wrong
 within_list (y ∷ ys) zero x e = omega arith
 within_list (y ∷ ys) (suc n) x e = let r = within_list ys n x e in omega (arith, r)

@@ -31,3 +31,4 @@ pub mod SecondMarks
 pub mod FirstCopies
 pub mod FirstOfUnion
 pub mod FirstWorldsCopied
+pub mod Addable

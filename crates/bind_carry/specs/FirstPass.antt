@@ -1,5 +1,5 @@
 -- The first pass, by path, as the code leaves it in what is merged, and what follows of what it carries.
-use Rattle.std.specs.Prelude.{◌≡◌, ◌≤◌, ℕ, true, List, [], ◌++◌, length, map, Some}
+use Rattle.std.specs.Prelude.{◌≡◌, ◌≤◌, ◌<◌, ℕ, true, List, [], ◌++◌, length, map, Some}
 use Rattle.std.specs.List.{AllZip}
 use Rattle.wit_model.specs.declared.model.Interface.{Interface}
 use Rattle.wit_model.specs.declared.model.Package.{Package}
@@ -9,7 +9,7 @@ use Rattle.wit_model.specs.declared.model.World.{World}
 use Rattle.wit_model.specs.declared.model.WorldKey.{WorldKey}
 use Rattle.wit_model.specs.Lookup.{world_at}
 use Rattle.wit_model.specs.Valid.{key_eq, IsValid}
-use Rattle.bind_add.specs.Growth.{HaveGained, IsAdded}
+use Rattle.bind_add.specs.Growth.{HaveGained, IsAddable, IsAdded}
 use Rattle.bind_add.specs.declared.added.Added.{Added}
 use Rattle.bind_add.specs.declared.added.Names.{Names}
 use Rattle.bind_copy.specs.Copies.{number_under}
@@ -77,3 +77,8 @@ abbrev pub UnionsHaveTheFirst : Type 0
 UnionsHaveTheFirst = (own other merged : Resolve) (world other_world : ℕ) (m : Matches) (w v : World) (added : Added) (keys : List WorldKey) (u : IsUnionOf own other world other_world m w v added keys) →
     IsAdded key_eq world added own merged → world_at own world ≡ Some w → AreMatchedAll other m → m.packages.items ≡ map (own_package_of own.packages.items) other.packages.items →
     AreMatchedAt own other m.interfaces.items u.carried.packages.items → NoneOfPath own other m.interfaces.items → IsFirstPass own other merged m u.carried u.types
+
+-- And it can be added: names are of own packages, and of none twice.
+abbrev pub UnionsAreAddable : Type 0
+UnionsAreAddable = (own other : Resolve) (world other_world : ℕ) (m : Matches) (w v : World) (added : Added) (keys : List WorldKey) → IsValid other → IsUnionOf own other world other_world m w v added keys →
+    world < length own.worlds.items → m.packages.items ≡ map (own_package_of own.packages.items) other.packages.items → IsAddable own world added

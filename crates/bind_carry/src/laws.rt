@@ -1,7 +1,7 @@
 //! Laws of what is carried.
 
 ghost use Rattle.bind_carry.specs.CarriedParts.{PartsAreCarried};
-ghost use Rattle.bind_carry.specs.FirstPass.{FirstIsCarried, FirstIsCopied, FirstWorldsAreCopied, UnionsHaveTheFirst};
+ghost use Rattle.bind_carry.specs.FirstPass.{FirstIsCarried, FirstIsCopied, FirstWorldsAreCopied, UnionsAreAddable, UnionsHaveTheFirst};
 
 /// With the owners that are carried, all parts of their types are, and all types of their functions.
 pub fn parts()
@@ -15,7 +15,9 @@ pub fn first_pass()
     ensures worlds { FirstWorldsAreCopied }
 {}
 
-/// What `union_of` answers, once it is added, is carried by path so, where what is matched has one name, or one path and one sense.
+/// What `union_of` answers can be added where packages are matched by name; and once it is added, it is carried by path so, where what is matched has one
+/// name, or one path and one sense.
 pub fn of_unions()
-    ensures { UnionsHaveTheFirst }
+    ensures first { UnionsHaveTheFirst }
+    ensures addable { UnionsAreAddable }
 {}
