@@ -1,5 +1,6 @@
 pub mod KeyTexts
 pub mod Kept
+pub mod Conflicts
 pub mod Putting
 pub mod FunctionKeys
 pub mod ValidKeys

@@ -11,3 +11,4 @@ pub mod Choices
 pub mod Bindings
 pub mod Extends
 pub mod Merges
+pub mod Unions
