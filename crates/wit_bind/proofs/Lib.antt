@@ -1,6 +1,13 @@
 pub mod KeyTexts
 pub mod Kept
 pub mod Conflicts
+pub mod Refusals
+pub mod Growing
+pub mod Extending
+pub mod Unchanged
+pub mod UnionBound
+pub mod MatchedPaths
+pub mod NumbersAgree
 pub mod Putting
 pub mod FunctionKeys
 pub mod ValidKeys

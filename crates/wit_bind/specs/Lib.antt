@@ -12,3 +12,5 @@ pub mod Bindings
 pub mod Extends
 pub mod Merges
 pub mod Unions
+pub mod MergedLaws
+pub mod Apart
