@@ -1,7 +1,9 @@
 pub mod KeyTexts
 pub mod Kept
 pub mod Conflicts
+pub mod Telling
 pub mod Refusals
+pub mod Uniting
 pub mod Growing
 pub mod Extending
 pub mod Unchanged
