@@ -104,7 +104,7 @@ named_of_path r n i at h = go i.name refl (sym (ap (λ o. is_some (option_and_th
     go None e k = no_true k
     go (Some s) e k = ap is_some e
 
-there_of_path : (r : Resolve) (n : ℕ) → is_some (interface_path r n) ≡ true → (i : Interface) × (interface_at r n ≡ Some i)
+pub there_of_path : (r : Resolve) (n : ℕ) → is_some (interface_path r n) ≡ true → (i : Interface) × (interface_at r n ≡ Some i)
 there_of_path r n h = go (interface_at r n) refl h
   where
     go : (o : Option Interface) → interface_at r n ≡ o → is_some (option_and_then (path_of_interface r) o) ≡ true → (i : Interface) × (interface_at r n ≡ Some i)

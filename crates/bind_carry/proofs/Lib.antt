@@ -18,8 +18,10 @@ pub mod FirstCarried
 pub mod KeysApart
 pub mod JoinedNamed
 pub mod FirstWorlds
+pub mod WorldEntries
 pub mod WorldsCopied
 pub mod PassedTypes
+pub mod SecondStands
 pub mod SecondTypes
 pub mod SecondInitial
 pub mod Ranges
@@ -27,6 +29,7 @@ pub mod Ready
 pub mod FirstNumbers
 pub mod FirstPackages
 pub mod KeysCopied
+pub mod SecondKnown
 pub mod SecondMarks
 pub mod FirstCopies
 pub mod FirstOfUnion

@@ -54,7 +54,7 @@ module _ (other : Resolve) (valid : IsValid other) (f : Renumbering) (adds : Boo
   falls n def at = ap (list_all (λ m. nat_lt m n)) (numbers_of_view def.kind) ∙ refers_below other (references_of other valid.rules) n def at
 
   -- a fate at first that carries carries in the end
-  carried_if : (n : ℕ) (def : TypeDef) (g : Fate) → type_at other n ≡ Some def → slice_get initial n ≡ Some g → carries g ≡ true → is_carried fates n ≡ true
+  pub carried_if : (n : ℕ) (def : TypeDef) (g : Fate) → type_at other n ≡ Some def → slice_get initial n ≡ Some g → carries g ≡ true → is_carried fates n ≡ true
   carried_if n def fate.Left at e h = no_true h
   carried_if n def (fate.Stands k) at e h = ap (λ o. option_map_or carries o false) (stands_still adds other.types.items initial falls n def at k e)
   carried_if n def (fate.Copied home) at e h = ap (λ o. option_map_or carries o false) (copied_still adds other.types.items initial falls n def at home e)

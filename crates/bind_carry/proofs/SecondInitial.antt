@@ -72,18 +72,20 @@ module _ (other : Resolve) (valid : IsValid other) (matched : List (Option Inter
     pub types_add : (n : ℕ) (def : TypeDef) → type_at other n ≡ Some def → def.owner ≡ owner.World (record { 0 = other_world }) → slice_get initial n ≡ Some (fate.Copied (owner.World (record { 0 = world }))) → adds ≡ true
     pub names : (n : ℕ) (i : Interface) → interface_at other n ≡ Some i → is_some i.name ≡ true → (flag_under c.copied_interfaces.items n || is_matched matched n) ≡ true
 
-  record IsBefore (n : ℕ) (def : TypeDef) : Type 0 where
-    old : Fate
-    at_old : slice_get first_fates n ≡ Some old
-    number : ℕ
-    stands : slice_get before n ≡ Some (second_in other world other_world copied interfaces def.owner (beside_first old number))
+  -- What a type was by path, and what becomes of it before own types are looked for.
+  pub record IsBefore (n : ℕ) (def : TypeDef) : Type 0 where
+    pub old : Fate
+    pub at_old : slice_get first_fates n ≡ Some old
+    pub number : ℕ
+    pub at_number : slice_get first_numbers n ≡ Some number
+    pub stands : slice_get before n ≡ Some (second_in other world other_world copied interfaces def.owner (beside_first old number))
 
-  before_at : (n : ℕ) (def : TypeDef) → type_at other n ≡ Some def → IsBefore n def
+  pub before_at : (n : ℕ) (def : TypeDef) → type_at other n ≡ Some def → IsBefore n def
   before_at n def at =
       let less = type_within other.types.items n def at in
       let g = fate_there first_fates n (omega (arith, less, long_fates)) in
       let m = number_there first_numbers n (omega (arith, less, long_numbers)) in
-      record { old = g.0; at_old = g.1; number = m.0; stands = second_at other world other_world copied interfaces other.types.items first_fates first_numbers n def g.0 m.0 at g.1 m.1 }
+      record { old = g.0; at_old = g.1; number = m.0; at_number = m.1; stands = second_at other world other_world copied interfaces other.types.items first_fates first_numbers n def g.0 m.0 at g.1 m.1 }
 
   module _ (adds : Bool) (known : IsKnown adds) where
     -- what is copied at first was so before own types were looked for

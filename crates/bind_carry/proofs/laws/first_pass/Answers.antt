@@ -1,3 +1,7 @@
+use Rattle.bind_carry.proofs.SecondKnown.{is_known}
+use Rattle.bind_carry.proofs.WorldEntries.{label_new}
+use Rattle.bind_carry.proofs.SecondTypes.{unified_set}
+use Rattle.bind_carry.specs.SecondPass.{DoNotClash}
 use Rattle.bind_carry.proofs.FirstCarried.{first_is_carried}
 use Rattle.bind_carry.proofs.FirstCopies.{first_is_copied}
 use Rattle.bind_carry.proofs.FirstWorldsCopied.{first_worlds_are_copied}
