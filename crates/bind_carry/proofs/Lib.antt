@@ -21,7 +21,6 @@ pub mod FirstWorlds
 pub mod WorldEntries
 pub mod WorldsCopied
 pub mod PassedTypes
-pub mod SecondStands
 pub mod SecondTypes
 pub mod SecondInitial
 pub mod Ranges
@@ -30,6 +29,10 @@ pub mod FirstNumbers
 pub mod FirstPackages
 pub mod KeysCopied
 pub mod SecondKnown
+pub mod SecondStands
+pub mod LabelsFound
+pub mod SecondMet
+pub mod SecondInline
 pub mod SecondMarks
 pub mod FirstCopies
 pub mod FirstOfUnion

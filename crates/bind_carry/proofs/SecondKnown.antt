@@ -33,7 +33,7 @@ use Rattle.bind_union.specs.Carried.{carries_owner, Renumbering}
 use Rattle.bind_union.proofs.Lists.{no_true}
 use Rattle.bind_union.proofs.WorldNamesakes.{is_declared, lookup_stands, not_declared, type_imported, world_type, IsImported, IsWorldType}
 use Rattle.bind_carry.specs.BoundGains.{gained_inline, gains_any, type_under_key, unified}
-use Rattle.bind_carry.specs.Fates.{carries, settled_from}
+use Rattle.bind_carry.specs.Fates.{carries, is_carried, settled_from}
 use Rattle.bind_carry.specs.First.{first_fates, flag_under, second_from}
 use Rattle.bind_carry.specs.FirstPass.{IsFirstPass}
 use Rattle.bind_carry.specs.InRange.{IsInRange}
@@ -216,10 +216,13 @@ module _ (own other merged : Resolve) (valid_own : IsValid own) (valid_other : I
       same : x.def ≡ def
       same = some_same x.def def (sym x.found ∙ at)
 
+  -- a type of an interface that is carried by path is so
+  pub first_carried : (n : ℕ) (def : TypeDef) (a : ℕ) → type_at other n ≡ Some def → is_some def.name ≡ true → def.owner ≡ as_interface a → (flag_under c.copied_interfaces.items a || is_matched matched a) ≡ true → is_carried before_fates n ≡ true
+  first_carried n def a at named home carried =
+      named_carried own other valid_other matched c first_numbers chosen (names own other valid_own valid_other matched c first_numbers chosen p.same p.none long p.numbered.interfaces (length own.types.items + length {A = TypeDef} []) p.types.numbers_are) n def at named (ap (carries_owner first) home ∙ carried)
+
   first_carries : (n : ℕ) (def : TypeDef) (g : Fate) (a : ℕ) → type_at other n ≡ Some def → slice_get before_fates n ≡ Some g → is_some def.name ≡ true → def.owner ≡ as_interface a → (flag_under c.copied_interfaces.items a || is_matched matched a) ≡ true → carries g ≡ true
-  first_carries n def g a at at_fate named home carried =
-      sym (ap (λ o. option_map_or carries o false) at_fate)
-      ∙ named_carried own other valid_other matched c first_numbers chosen (names own other valid_own valid_other matched c first_numbers chosen p.same p.none long p.numbered.interfaces (length own.types.items + length {A = TypeDef} []) p.types.numbers_are) n def at named (ap (carries_owner first) home ∙ carried)
+  first_carries n def g a at at_fate named home carried = sym (ap (λ o. option_map_or carries o false) at_fate) ∙ first_carried n def a at named home carried
 
   -- a type of the bound world that is copied is under a new key
   types_add : (n : ℕ) (def : TypeDef) → type_at other n ≡ Some def → def.owner ≡ as_world other_world → slice_get initial n ≡ Some (fate.Copied (as_world world)) → adds ≡ true

@@ -1,3 +1,6 @@
+use Rattle.bind_carry.proofs.SecondStands.{path_stands}
+use Rattle.bind_carry.proofs.SecondMet.{types_agree}
+use Rattle.bind_carry.proofs.SecondInline.{inline_agree}
 use Rattle.bind_carry.proofs.SecondKnown.{is_known}
 use Rattle.bind_carry.proofs.WorldEntries.{label_new}
 use Rattle.bind_carry.proofs.SecondTypes.{unified_set}
