@@ -60,7 +60,7 @@ module _ (n : ℕ) where
   count_next : (i : WorldItem) (is : List WorldItem) → count (i ∷ is) ≡ cond (is_id n (item_interface i)) 1 0 + count is
   count_next i is = sum_by-cons (λ x. cond (is_id n (item_interface x)) 1 0) i is
 
-  some_count : (is : List WorldItem) → has (filter_map item_interface is) n ≡ true → 1 ≤ count is
+  pub some_count : (is : List WorldItem) → has (filter_map item_interface is) n ≡ true → 1 ≤ count is
   some_count [] h = no_true h
   some_count (i ∷ is) h = subst (λ (k : ℕ). 1 ≤ k) (sym (count_next i is)) (go (item_interface i) refl h (some_count is))
     where
@@ -125,7 +125,7 @@ pub count_front : (n : ℕ) (xs ys : List WorldItem) → count_by (λ i. is_id n
 count_front n xs ys = sum_by-append (λ i. cond (is_id n (item_interface i)) 1 0) xs ys
 
 -- so it counts
-times_of : (w : World) (m : ℕ) → (is_shown_in w.imports.entries m || is_shown_in w.exports.entries m) ≡ true → 1 ≤ times_shown m w
+pub times_of : (w : World) (m : ℕ) → (is_shown_in w.imports.entries m || is_shown_in w.exports.entries m) ≡ true → 1 ≤ times_shown m w
 times_of w m h = go (is_shown_in w.imports.entries m) refl h
   where
     items : List (WorldKey × WorldItem) → List WorldItem

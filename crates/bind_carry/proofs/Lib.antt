@@ -33,6 +33,9 @@ pub mod SecondStands
 pub mod LabelsFound
 pub mod SecondMet
 pub mod SecondInline
+pub mod SecondAgreed
+pub mod SecondInterfaces
+pub mod SecondCarried
 pub mod SecondMarks
 pub mod FirstCopies
 pub mod FirstOfUnion

@@ -216,6 +216,7 @@ module _ (own other merged : Resolve) (valid_own : IsValid own) (valid_other : I
 
   -- An own type of the bound world stands for a type under the same key.
   pub met_type : (n : ℕ) (def : TypeDef) → type_at other n ≡ Some def → IsUnified w.imports.entries v.imports.entries initial n → AreWorldNamesakes own other second world other_world n
+  unfolding worlds_agree
   met_type n def at u =
       (met_imports_stand own other second world other_world valid_own valid_other second_matched worlds_agree (there.0, i.0) u.entry there.1 held keys).1 n is_type
       (ap (λ o. passes second.carries_type (option_and_then (λ (d : TypeDef). alias_target d.kind) o)) at ∙ target_carried n def at home (alias_target def.kind) refl)

@@ -1,3 +1,5 @@
+use Rattle.bind_carry.proofs.SecondCarried.{second_is_copied}
+use Rattle.bind_carry.proofs.SecondAgreed.{types_hold}
 use Rattle.bind_carry.proofs.SecondStands.{path_stands}
 use Rattle.bind_carry.proofs.SecondMet.{types_agree}
 use Rattle.bind_carry.proofs.SecondInline.{inline_agree}
