@@ -36,6 +36,8 @@ pub mod SecondInline
 pub mod SecondAgreed
 pub mod SecondInterfaces
 pub mod SecondCarried
+pub mod SecondReady
+pub mod SecondJoined
 pub mod SecondMarks
 pub mod FirstCopies
 pub mod FirstOfUnion

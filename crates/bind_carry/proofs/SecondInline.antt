@@ -41,24 +41,9 @@ use Rattle.bind_carry.proofs.LabelsFound.{label_held}
 use Rattle.bind_carry.proofs.SecondKnown.{any_at, exports_shown, imports_shown}
 use Rattle.bind_carry.proofs.SecondMarks.{gained_flag, is_gained, is_shown_new}
 use Rattle.bind_carry.proofs.SecondStands.{second}
-use Rattle.bind_carry.proofs.WorldEntries.{import_keyed, import_range, label_new, IsKeyed}
+use Rattle.bind_carry.proofs.WorldEntries.{any_place, import_keyed, import_range, label_new, IsKeyed}
 
 -- ---- lists
-
--- something that passes has a place
-record IsPlacedIn {X : Type 0} (test : X → Bool) (xs : List X) : Type 0 where
-  place : ℕ
-  thing : X
-  there : slice_get xs place ≡ Some thing
-  passes_it : test thing ≡ true
-
-any_place : {X : Type 0} (test : X → Bool) (xs : List X) → list_any test xs ≡ true → IsPlacedIn test xs
-any_place test [] h = no_true h
-any_place test (x ∷ xs) h = go (test x) refl h (any_place test xs)
-  where
-    go : (b : Bool) → test x ≡ b → (b || list_any test xs) ≡ true → (list_any test xs ≡ true → IsPlacedIn test xs) → IsPlacedIn test (x ∷ xs)
-    go true e k rest = record { place = zero; thing = x; there = refl; passes_it = e }
-    go false e k rest = let r = rest k in record { place = suc r.place; thing = r.thing; there = r.there; passes_it = r.passes_it }
 
 sum_least : {X : Type 0} (f : X → ℕ) (xs : List X) (n : ℕ) (b : X) → slice_get xs n ≡ Some b → f b ≤ sum_by f xs
 sum_least f [] n b at = let wrong : ⊥ = cc in absurd wrong

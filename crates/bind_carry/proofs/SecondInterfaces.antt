@@ -215,14 +215,14 @@ module _ (own other merged : Resolve) (valid_own : IsValid own) (valid_other : I
       types_back k h =
           let y = t.types k h in
           let stay = passes_at stays (interface_type_numbers t.old) y.0 all_stay y.1 in
-          (y.0, y.1, first_true (is_carried final y.0) (f.types y.0 == by_first.types y.0) stay, equal (f.types y.0) (by_first.types y.0) (second_true (is_carried final y.0) (f.types y.0 == by_first.types y.0) stay) ∙ y.2.1)
+          (y.0, y.1, first_true (is_carried final y.0) (f.types y.0 == by_first.types y.0) stay, equal (f.types y.0) (by_first.types y.0) (second_true (is_carried final y.0) (f.types y.0 == by_first.types y.0) stay) ∙ y.3)
 
   -- each interface that is carried stands under its new number
   pub interfaces_hold : (n : ℕ) → f.carries_interface n ≡ true → IsInterface other merged f n
   interfaces_hold n h = go (flag_under copied n) refl
     where
       go : (b : Bool) → flag_under copied n ≡ b → IsInterface other merged f n
-      go true e = let i = copied_there n e in copy_interface n i.0 i.1.0 i.1.1 e
+      go true e = let i = copied_there n e in copy_interface n i.0 i.1 i.2 e
       go false e = named_interface n (uncopied_named n h e) e
 
   -- ---- numbers

@@ -53,11 +53,11 @@ module _ (own other merged : Resolve) (valid_own : IsValid own) (valid_other : I
   abbrev gained : Bool
   gained = adds own other merged valid_own valid_other world other_world w v m c first_numbers p copied interfaces types s
 
-  typed : (e : WorldKey × WorldItem) → Contains v.imports.entries e → (u : ℕ) → item_type e.1 ≡ Some u → IsWorldType other valid_other other_world v s.other_at e.0 u
+  pub typed : (e : WorldKey × WorldItem) → Contains v.imports.entries e → (u : ℕ) → item_type e.1 ≡ Some u → IsWorldType other valid_other other_world v s.other_at e.0 u
   typed e held u is = world_type other valid_other other_world v s.other_at e.0 e.1 held u is
 
   -- entries of one type have labels of one text
-  one_label : (d e : WorldKey × WorldItem) (held_d : Contains v.imports.entries d) (held_e : Contains v.imports.entries e) (u : ℕ) (is_d : item_type d.1 ≡ Some u) (is_e : item_type e.1 ≡ Some u) → text_of (typed d held_d u is_d).label ≡ text_of (typed e held_e u is_e).label
+  pub one_label : (d e : WorldKey × WorldItem) (held_d : Contains v.imports.entries d) (held_e : Contains v.imports.entries e) (u : ℕ) (is_d : item_type d.1 ≡ Some u) (is_e : item_type e.1 ≡ Some u) → text_of (typed d held_d u is_d).label ≡ text_of (typed e held_e u is_e).label
   one_label d e held_d held_e u is_d is_e = sym x.same_name ∙ (ap text_of names ∙ y.same_name)
     where
       x : IsWorldType other valid_other other_world v s.other_at d.0 u
@@ -69,7 +69,7 @@ module _ (own other merged : Resolve) (valid_own : IsValid own) (valid_other : I
       names : x.name ≡ y.name
       names = some_same x.name y.name (sym x.named_ ∙ (ap (λ (d : TypeDef). d.name) (some_same x.def y.def (sym x.found ∙ y.found)) ∙ y.named_))
 
-  under_label : (e : WorldKey × WorldItem) (held : Contains v.imports.entries e) (u : ℕ) (is : item_type e.1 ≡ Some u) → type_under_key w.imports.entries e.0 ≡ option_and_then type_in (lookup (key_eq (key.Name (typed e held u is).label)) w.imports.entries)
+  pub under_label : (e : WorldKey × WorldItem) (held : Contains v.imports.entries e) (u : ℕ) (is : item_type e.1 ≡ Some u) → type_under_key w.imports.entries e.0 ≡ option_and_then type_in (lookup (key_eq (key.Name (typed e held u is).label)) w.imports.entries)
   under_label e held u is = ap (λ k. option_and_then type_in (lookup (key_eq k) w.imports.entries)) (typed e held u is).keyed
 
   -- a type stands for the own one under its key

@@ -1,5 +1,5 @@
 -- What validity says of the keys of a world, and when a key is new under other numbers.
-use Rattle.std.proofs.Common.{◌≡◌, refl, sym, ap, ap₂, ◌∙◌, ℕ, arith, Bool, true, false, not, ◌&&◌, ◌||◌, ◌==◌, cond, List, [], ◌∷◌, Option, Some, None, is_some}
+use Rattle.std.proofs.Common.{◌≡◌, refl, sym, ap, ap₂, ◌∙◌, ℕ, zero, suc, arith, Bool, true, false, not, ◌&&◌, ◌||◌, ◌==◌, cond, List, [], ◌∷◌, Option, Some, None, is_some, slice_get}
 use Rattle.std.specs.Prelude.{String}
 use Rattle.std.specs.declared.alloc.Global.{Global}
 use Rattle.std.specs.List.{list_all, list_any, Contains}
@@ -19,10 +19,27 @@ use Rattle.wit_model.proofs.Elements.{all-contained, contains-later}
 use Rattle.wit_model.proofs.Lists.{first_true, second_true}
 use Rattle.wit_model.proofs.OnePath.{found-in}
 use Rattle.wit_model.proofs.Entries.{lists_pass}
-use Rattle.bind_union.proofs.Lists.{each_at}
+use Rattle.bind_union.proofs.Lists.{each_at, no_true}
 use Rattle.bind_copy.specs.Copies.{is_key_under, is_new_under, number_under}
 use Rattle.bind_union.proofs.WorldNamesakes.{some_id}
 use Rattle.bind_carry.specs.Shown.{any_new}
+
+-- ---- lists
+
+-- something that passes has a place
+pub record IsPlacedIn {X : Type 0} (test : X → Bool) (xs : List X) : Type 0 where
+  pub place : ℕ
+  pub thing : X
+  pub there : slice_get xs place ≡ Some thing
+  pub passes_it : test thing ≡ true
+
+pub any_place : {X : Type 0} (test : X → Bool) (xs : List X) → list_any test xs ≡ true → IsPlacedIn test xs
+any_place test [] h = no_true h
+any_place test (x ∷ xs) h = go (test x) refl h (any_place test xs)
+  where
+    go : (b : Bool) → test x ≡ b → (b || list_any test xs) ≡ true → (list_any test xs ≡ true → IsPlacedIn test xs) → IsPlacedIn test (x ∷ xs)
+    go true e k rest = record { place = zero; thing = x; there = refl; passes_it = e }
+    go false e k rest = let r = rest k in record { place = suc r.place; thing = r.thing; there = r.there; passes_it = r.passes_it }
 
 -- ---- keys of a valid world
 

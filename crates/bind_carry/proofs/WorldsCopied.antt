@@ -76,10 +76,10 @@ module _ (own other : Resolve) (valid : IsValid other) (matched : List (Option I
         at_image = ap (λ l. slice_get l (f.worlds n)) worlds_here ∙ (ap (slice_get (before ++ (more ++ rest))) (ap (λ l. number_under l n) worlds_are) ∙ place.at_image);
         new_imports = place.image.imports.entries;
         imports = refl;
-        joined_imports = items_join f c.interfaces.items numbers refl refl [] w.imports.entries place.image.imports.entries (place.is.imports imports_apart) (all_new f c.interfaces.items w.imports.entries ready_imports);
+        joined_imports = items_join f c.interfaces.items numbers (λ k h. refl) refl [] w.imports.entries place.image.imports.entries (place.is.imports imports_apart) (all_new f c.interfaces.items w.imports.entries ready_imports);
         new_exports = place.image.exports.entries;
         exports = refl;
-        joined_exports = items_join f c.interfaces.items numbers refl refl [] w.exports.entries place.image.exports.entries (place.is.exports exports_apart) (all_new f c.interfaces.items w.exports.entries ready_exports);
+        joined_exports = items_join f c.interfaces.items numbers (λ k h. refl) refl [] w.exports.entries place.image.exports.entries (place.is.exports exports_apart) (all_new f c.interfaces.items w.exports.entries ready_exports);
       };
       name = place.is.name;
       stability = place.is.stability;

@@ -1,3 +1,5 @@
+use Rattle.bind_carry.proofs.SecondJoined.{exports_join}
+use Rattle.bind_carry.proofs.SecondReady.{key_met}
 use Rattle.bind_carry.proofs.SecondCarried.{second_is_copied}
 use Rattle.bind_carry.proofs.SecondAgreed.{types_hold}
 use Rattle.bind_carry.proofs.SecondStands.{path_stands}
