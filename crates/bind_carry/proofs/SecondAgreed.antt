@@ -25,6 +25,7 @@ use Rattle.wit_model.proofs.Elements.{get-contains, same-number}
 use Rattle.bind_copy.specs.Copies.{number_under}
 use Rattle.bind_match.specs.declared.matches.Matches.{Matches}
 use Rattle.bind_union.specs.Carried.{carries_owner, owner_under, IsCarried, IsType, Renumbering}
+use Rattle.bind_union.specs.Joined.{ItemStandsFor}
 use Rattle.bind_union.specs.Matching.{type_names, AreMatched, AreWorldNamesakes, IsMatch, WorldsAgree}
 use Rattle.bind_union.specs.Merged.{BeginsWith}
 use Rattle.bind_union.proofs.Itself.{get_begin}
@@ -196,6 +197,11 @@ module _ (own other merged : Resolve) (valid_own : IsValid own) (valid_other : I
     types = types_agree own other merged valid_own valid_other world other_world w v m c first_numbers p copied interfaces types s;
     inline = inline_agree own other merged valid_own valid_other world other_world w v m c first_numbers p copied interfaces types s;
   }
+
+  -- an own import stands for the other one of its key
+  pub import_stands_for : (x e : WorldKey × WorldItem) → Contains w.imports.entries x → Contains v.imports.entries e → key_text own x.0 ≡ key_text other e.0 → ItemStandsFor second e.1 x.1
+  unfolding worlds_agree
+  import_stands_for x e held_x held_e keys = (met_imports_stand own other second world other_world valid_own valid_other second_matched worlds_agree x e held_x held_e keys).0
 
   -- ---- types
 

@@ -50,7 +50,7 @@ use Rattle.bind_carry.proofs.JoinedItems.{items_join}
 use Rattle.bind_carry.proofs.KeysApart.{is_key_carried, keys_apart}
 use Rattle.bind_carry.proofs.LabelsFound.{label_found}
 use Rattle.bind_carry.proofs.PassedTypes.{parts_hold}
-use Rattle.bind_carry.proofs.SecondAgreed.{adds, before, before_fates, fates, first, initial, named_is_carried, second, second_matched, worlds_agree}
+use Rattle.bind_carry.proofs.SecondAgreed.{adds, before, before_fates, fates, first, import_stands_for, initial, named_is_carried, second}
 use Rattle.bind_carry.proofs.SecondInitial.{before_at, IsBefore}
 use Rattle.bind_carry.proofs.SecondInterfaces.{carried_number, copied_carries}
 use Rattle.bind_carry.proofs.SecondKnown.{any_at, chosen, export_same, exports_shown, import_same, imports_shown, long, named_number, type_number}
@@ -221,18 +221,12 @@ module _ (own other merged : Resolve) (valid_own : IsValid own) (valid_other : I
   exports_there : AreKeysThere own other merged valid_own valid_other world other_world w v m c first_numbers p copied interfaces types s w.exports.entries
   exports_there x held id is = let k = export_keyed own valid_own world w s.own_at x held id is in (k.def, k.found)
 
-  import_stands_for : (x e : WorldKey × WorldItem) → Contains w.imports.entries x → Contains v.imports.entries e → key_text own x.0 ≡ key_text other e.0 → ItemStandsFor f e.1 x.1
-  unfolding worlds_agree
-  import_stands_for x e held_x held_e keys =
-      (met_imports_stand own other f world other_world valid_own valid_other (second_matched own other merged valid_own valid_other world other_world w v m c first_numbers p copied interfaces types s)
-      (worlds_agree own other merged valid_own valid_other world other_world w v m c first_numbers p copied interfaces types s) x e held_x held_e keys).0
-
   imports_ready : AreReady f interfaces w.imports.entries v.imports.entries
   imports_ready = record {
     new_ready = λ n e at new. let held = get-contains v.imports.entries n e at in (key_ready own other merged valid_own valid_other world other_world w v m c first_numbers p copied interfaces types s e.0 (import_named e held), import_item e held new e.1 refl);
     met = λ n e at old. let held = get-contains v.imports.entries n e at in
         let x = key_met own other merged valid_own valid_other world other_world w v m c first_numbers p copied interfaces types s w.imports.entries keys_there e.0 (import_named e held) old in
-        record { there = x.entry; in_own = x.in_own; becomes = x.becomes; stands = import_stands_for x.entry e x.in_own held x.same_text };
+        record { there = x.entry; in_own = x.in_own; becomes = x.becomes; stands = import_stands_for own other merged valid_own valid_other world other_world w v m c first_numbers p copied interfaces types s x.entry e x.in_own held x.same_text };
   }
 
   -- ---- exports

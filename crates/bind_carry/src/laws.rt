@@ -2,6 +2,7 @@
 
 ghost use Rattle.bind_carry.specs.CarriedParts.{PartsAreCarried};
 ghost use Rattle.bind_carry.specs.FirstPass.{FirstIsCarried, FirstIsCopied, FirstWorldsAreCopied, UnionsAreAddable, UnionsHaveTheFirst};
+ghost use Rattle.bind_carry.specs.SecondPass.{SecondIsCopied, SecondIsJoined};
 
 /// With the owners that are carried, all parts of their types are, and all types of their functions.
 pub fn parts()
@@ -13,6 +14,13 @@ pub fn first_pass()
     ensures carried { FirstIsCarried }
     ensures copied { FirstIsCopied }
     ensures worlds { FirstWorldsAreCopied }
+{}
+
+/// So is what the bound world gains, where the two bound worlds don't clash: it gains the items whose keys it hasn't, with copies of their inline interfaces and
+/// their types, and for each of the others an own one stands.
+pub fn second_pass()
+    ensures copied { SecondIsCopied }
+    ensures joined { SecondIsJoined }
 {}
 
 /// What `union_of` answers can be added where packages are matched by name; and once it is added, it is carried by path so, where what is matched has one

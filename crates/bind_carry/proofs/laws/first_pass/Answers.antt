@@ -1,14 +1,3 @@
-use Rattle.bind_carry.proofs.SecondJoined.{exports_join}
-use Rattle.bind_carry.proofs.SecondReady.{key_met}
-use Rattle.bind_carry.proofs.SecondCarried.{second_is_copied}
-use Rattle.bind_carry.proofs.SecondAgreed.{types_hold}
-use Rattle.bind_carry.proofs.SecondStands.{path_stands}
-use Rattle.bind_carry.proofs.SecondMet.{types_agree}
-use Rattle.bind_carry.proofs.SecondInline.{inline_agree}
-use Rattle.bind_carry.proofs.SecondKnown.{is_known}
-use Rattle.bind_carry.proofs.WorldEntries.{label_new}
-use Rattle.bind_carry.proofs.SecondTypes.{unified_set}
-use Rattle.bind_carry.specs.SecondPass.{DoNotClash}
 use Rattle.bind_carry.proofs.FirstCarried.{first_is_carried}
 use Rattle.bind_carry.proofs.FirstCopies.{first_is_copied}
 use Rattle.bind_carry.proofs.FirstWorldsCopied.{first_worlds_are_copied}
