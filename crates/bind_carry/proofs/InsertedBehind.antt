@@ -17,11 +17,11 @@ use Rattle.bind_union.proofs.Lists.{no_true}
 -- what a filter leaves passes
 pub filter_passes : {X : Type 0} (p : X → Bool) (xs : List X) → list_all p (filter p xs) ≡ true
 filter_passes p [] = refl
-filter_passes p (x ∷ xs) = go (p x) refl
+filter_passes p (x ∷ xs) = go (p x) refl (filter_passes p xs)
   where
-    go : (b : Bool) → p x ≡ b → list_all p (cond b (x ∷ filter p xs) (filter p xs)) ≡ true
-    go true e = both (p x) (list_all p (filter p xs)) e (filter_passes p xs)
-    go false e = filter_passes p xs
+    go : (b : Bool) → p x ≡ b → list_all p (filter p xs) ≡ true → list_all p (cond b (x ∷ filter p xs) (filter p xs)) ≡ true
+    go true e rest = both (p x) (list_all p (filter p xs)) e rest
+    go false e rest = rest
 
 text_apart : (a b : Text) → text_eq a b ≡ false → text_eq b a ≡ false
 text_apart a b h = go (text_eq b a) refl
@@ -32,11 +32,11 @@ text_apart a b h = go (text_eq b a) refl
 
 none_more : {X : Type 0} (p : X → Bool) (xs : List X) (y : X) → not (list_any p xs) ≡ true → p y ≡ false → not (list_any p (xs ++ y ∷ [])) ≡ true
 none_more p [] y h k = ap (λ b. not (b || false)) k
-none_more p (x ∷ xs) y h k = go (p x) h
+none_more p (x ∷ xs) y h k = go (p x) h (λ rest. none_more p xs y rest k)
   where
-    go : (b : Bool) → not (b || list_any p xs) ≡ true → not (b || list_any p (xs ++ y ∷ [])) ≡ true
-    go true h = no_true h
-    go false h = none_more p xs y h k
+    go : (b : Bool) → not (b || list_any p xs) ≡ true → (not (list_any p xs) ≡ true → not (list_any p (xs ++ y ∷ [])) ≡ true) → not (b || list_any p (xs ++ y ∷ [])) ≡ true
+    go true h more = no_true h
+    go false h more = more h
 
 module _ (interfaces types : List ℕ) where
   -- a key's copy is what the key is under its new number
@@ -59,11 +59,12 @@ module _ (interfaces types : List ℕ) where
 
   insert_new : (es : List (WorldKey × WorldItem)) (k y : WorldKey) (i : WorldItem) → IsKeyUnder interfaces k y → is_new_under interfaces es k ≡ true → insert_entry key_eq es y i ≡ es ++ (y, i) ∷ []
   insert_new [] k y i is new = refl
-  insert_new (e ∷ es) k y i is new = go (is_key_under interfaces k e.0) refl new
+  insert_new (e ∷ es) k y i is new = go (is_key_under interfaces k e.0) refl new (λ rest. insert_new es k y i is rest)
     where
-      go : (b : Bool) → is_key_under interfaces k e.0 ≡ b → not (b || list_any (λ (x : WorldKey × WorldItem). is_key_under interfaces k x.0) es) ≡ true → insert_entry key_eq (e ∷ es) y i ≡ (e ∷ es) ++ (y, i) ∷ []
-      go true q h = no_true h
-      go false q h = ap (λ b. if b then (e.0, i) ∷ es else e ∷ insert_entry key_eq es y i) (under_test k y e.0 is ∙ q) ∙ ap (λ l. e ∷ l) (insert_new es k y i is h)
+      go : (b : Bool) → is_key_under interfaces k e.0 ≡ b → not (b || list_any (λ (x : WorldKey × WorldItem). is_key_under interfaces k x.0) es) ≡ true
+          → (is_new_under interfaces es k ≡ true → insert_entry key_eq es y i ≡ es ++ (y, i) ∷ []) → insert_entry key_eq (e ∷ es) y i ≡ (e ∷ es) ++ (y, i) ∷ []
+      go true q h more = no_true h
+      go false q h more = ap (λ b. if b then (e.0, i) ∷ es else e ∷ insert_entry key_eq es y i) (under_test k y e.0 is ∙ q) ∙ ap (λ l. e ∷ l) (more h)
 
   abbrev test : List (WorldKey × WorldItem) → WorldKey × WorldItem → Bool
   test es d = is_new_under interfaces es d.0

@@ -38,6 +38,9 @@ pub mod SecondInterfaces
 pub mod SecondCarried
 pub mod SecondReady
 pub mod SecondJoined
+pub mod InsertedBehind
+pub mod SecondBound
+pub mod NothingElse
 pub mod SecondMarks
 pub mod FirstCopies
 pub mod FirstOfUnion

@@ -1,5 +1,5 @@
 -- The bound world stands as it was, with what it gains behind what it had.
-use Rattle.std.proofs.Common.{◌≡◌, ◌∙◌, ℕ, Bool, List, ◌++◌}
+use Rattle.std.proofs.Common.{◌≡◌, refl, ◌∙◌, ℕ, Bool, List, ◌++◌}
 use Rattle.std.specs.List.{filter}
 use Rattle.std.proofs.lemmas.Map.Made.{IsDistinct-keys_filter}
 use Rattle.wit_model.specs.declared.model.Resolve.{Resolve}
@@ -35,8 +35,8 @@ module _ (own other merged : Resolve) (valid_own : IsValid own) (valid_other : I
       let apart = exports_apart own other merged valid_own valid_other world other_world w v m c first_numbers p copied interfaces types s in
       s.gained.exports ∙ all_behind interfaces types w.exports.entries (filter is_new_export v.exports.entries) s.new_exports (s.exports apart) (filter_passes is_new_export v.exports.entries) (IsDistinct-keys_filter (become_one interfaces) is_new_export v.exports.entries apart)
 
-  pub bound_is_joined : IsJoined other merged (second_pass_of own other m c world other_world w v copied interfaces first_numbers types) other_world w.imports.entries w.exports.entries
-  bound_is_joined = record {
+  pub bound_stands : (j : IsJoined other merged (second_pass_of own other m c world other_world w v copied interfaces first_numbers types) other_world w.imports.entries w.exports.entries) × (j.image ≡ s.image)
+  bound_stands = (record {
     old = v;
     found = s.other_at;
     carries = same-number other_world;
@@ -48,4 +48,4 @@ module _ (own other merged : Resolve) (valid_own : IsValid own) (valid_other : I
     new_exports = s.new_exports;
     exports = exports_behind;
     joined_exports = exports_join own other merged valid_own valid_other world other_world w v m c first_numbers p copied interfaces types s;
-  }
+  }, refl)

@@ -1,5 +1,5 @@
 -- The second pass, over what the own bound world gains, as the code leaves it in what is merged.
-use Rattle.std.specs.Prelude.{◌≡◌, ℕ, Bool, List, ◌++◌, length, Some}
+use Rattle.std.specs.Prelude.{◌≡◌, ◌≤◌, ◌<◌, ◌⊎◌, ℕ, Bool, List, ◌++◌, length, map, Some}
 use Rattle.std.specs.List.{Contains}
 use Rattle.wit_model.specs.declared.model.Interface.{Interface}
 use Rattle.wit_model.specs.declared.model.Resolve.{Resolve}
@@ -11,18 +11,23 @@ use Rattle.wit_model.specs.Lookup.{key_text, world_at}
 use Rattle.wit_model.specs.Meaning.{entry_sense}
 use Rattle.wit_model.specs.Meant.{entry_meaning}
 use Rattle.wit_model.specs.Valid.{key_eq, IsValid}
-use Rattle.bind_add.specs.Growth.{HasGainedItems}
+use Rattle.bind_add.specs.Growth.{HasGainedItems, IsAdded}
+use Rattle.bind_add.specs.declared.added.Added.{Added}
 use Rattle.bind_copy.specs.Copies.{AreNewCopied}
+use Rattle.bind_match.specs.Matching.{own_package_of}
 use Rattle.bind_match.specs.declared.matches.Matches.{Matches}
 use Rattle.bind_union.specs.Carried.{Renumbering}
-use Rattle.bind_union.specs.Joined.{Joined}
-use Rattle.bind_union.specs.Merged.{AreCopies}
+use Rattle.bind_union.specs.Joined.{IsJoined}
+use Rattle.bind_union.specs.Merged.{AreCopies, IsCopyUnder}
 use Rattle.bind_carry.specs.Bound.{bound_interfaces}
 use Rattle.bind_carry.specs.BoundGains.{bound_fates, gained_inline, AreInlineCopied}
 use Rattle.bind_carry.specs.Fates.{AreCopied}
 use Rattle.bind_carry.specs.First.{first_fates}
 use Rattle.bind_carry.specs.FirstPass.{IsFirstPass}
-use Rattle.bind_carry.specs.Renumbered.{second_of}
+use Rattle.bind_carry.specs.MatchedSame.{AreMatchedAt, NoneOfPath}
+use Rattle.bind_carry.specs.Renumbered.{first_of, second_of}
+use Rattle.bind_carry.specs.Union.{IsUnionOf}
+use Rattle.bind_carry.specs.Which.{AreMatchedAll}
 use Rattle.bind_carry.specs.declared.plan.Carried.{Carried}
 
 -- The two worlds don't clash: imports of one key have one sense, and no key is exported by both.
@@ -63,9 +68,27 @@ SecondIsCopied = (own other merged : Resolve) (world other_world : ℕ) (w v : W
     IsSecondPass own other merged world other_world w v m c first_numbers p copied interfaces types →
     AreCopies own other merged (second_pass_of own other m c world other_world w v copied interfaces first_numbers types)
 
--- The bound world gains the items whose keys it hasn't, and own ones stand for the others.
+-- The bound world stands as it was, and behind what it had it has gained the items whose keys it hadn't; own ones stand for the others.
 abbrev pub SecondIsJoined : Type 0
 SecondIsJoined = (own other merged : Resolve) (world other_world : ℕ) (w v : World) (m : Matches) (c : Carried) (first_numbers : List ℕ) (p : IsFirstPass own other merged m c first_numbers) (copied : List Bool) (interfaces types : List ℕ) → IsValid own → IsValid other →
     (s : IsSecondPass own other merged world other_world w v m c first_numbers p copied interfaces types) →
-    Joined (second_pass_of own other m c world other_world w v copied interfaces first_numbers types) w.imports.entries v.imports.entries s.new_imports
-    × Joined (second_pass_of own other m c world other_world w v copied interfaces first_numbers types) w.exports.entries v.exports.entries s.new_exports
+    (j : IsJoined other merged (second_pass_of own other m c world other_world w v copied interfaces first_numbers types) other_world w.imports.entries w.exports.entries) × (j.image ≡ s.image)
+
+-- What a union adds, once it is added, has both passes, where nothing clashes and what is matched has one name, or one path and one sense.
+abbrev pub UnionsHaveTheSecond : Type 0
+UnionsHaveTheSecond = (own other merged : Resolve) (world other_world : ℕ) (m : Matches) (w v : World) (added : Added) (keys : List WorldKey) (u : IsUnionOf own other world other_world m w v added keys) →
+    IsAdded key_eq world added own merged → world_at own world ≡ Some w → world_at other other_world ≡ Some v → DoNotClash own other w v → AreMatchedAll other m → m.packages.items ≡ map (own_package_of own.packages.items) other.packages.items →
+    AreMatchedAt own other m.interfaces.items u.carried.packages.items → NoneOfPath own other m.interfaces.items →
+    (p : IsFirstPass own other merged m u.carried u.types) × IsSecondPass own other merged world other_world w v m u.carried u.types p u.second.copied u.second.interfaces u.second.types
+
+-- Types, interfaces and worlds behind own ones are copies of one or the other.
+pub record AreAllCopies (own merged : Resolve) (first second : Renumbering) : Type 0 where
+  pub types : (n : ℕ) → length own.types.items ≤ n → n < length merged.types.items → IsCopyUnder first.types first.copies_type n ⊎ IsCopyUnder second.types second.copies_type n
+  pub interfaces : (n : ℕ) → length own.interfaces.items ≤ n → n < length merged.interfaces.items → IsCopyUnder first.interfaces first.copies_interface n ⊎ IsCopyUnder second.interfaces second.copies_interface n
+  pub worlds : (n : ℕ) → length own.worlds.items ≤ n → n < length merged.worlds.items → IsCopyUnder first.worlds first.carries_world n
+
+-- Nothing else is added: each type, interface and world behind own ones is a copy.
+abbrev pub NothingElseIsAdded : Type 0
+NothingElseIsAdded = (own other merged : Resolve) (world other_world : ℕ) (w v : World) (m : Matches) (c : Carried) (first_numbers : List ℕ) (p : IsFirstPass own other merged m c first_numbers) (copied : List Bool) (interfaces types : List ℕ) → IsValid own → IsValid other →
+    IsSecondPass own other merged world other_world w v m c first_numbers p copied interfaces types →
+    AreAllCopies own merged (first_of m.interfaces.items c (first_fates own other m.interfaces.items c) first_numbers) (second_pass_of own other m c world other_world w v copied interfaces first_numbers types)
