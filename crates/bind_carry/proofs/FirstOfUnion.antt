@@ -1,5 +1,5 @@
 -- What a union adds, once it is added, has all that is carried by path.
-use Rattle.std.proofs.Common.{◌≡◌, refl, sym, ap, subst, ◌∙◌, ℕ, zero, suc, List, [], ◌∷◌, ◌++◌, length, map}
+use Rattle.std.proofs.Common.{◌≡◌, refl, sym, ap, subst, ◌∙◌, ℕ, zero, suc, true, false, ◌==◌, List, [], ◌∷◌, ◌++◌, length, map}
 use Rattle.std.specs.Prelude.{slice_get, slice_set, Some}
 use Rattle.std.specs.List.{AllZip}
 use Rattle.wit_model.specs.declared.model.Package.{Package}
@@ -9,6 +9,7 @@ use Rattle.wit_model.specs.declared.model.World.{World}
 use Rattle.wit_model.specs.declared.model.WorldKey.{WorldKey}
 use Rattle.wit_model.specs.Lookup.{world_at}
 use Rattle.wit_model.specs.Valid.{key_eq}
+use Rattle.wit_model.proofs.Elements.{same-number}
 use Rattle.bind_add.specs.Growth.{HaveGained, IsAdded}
 use Rattle.bind_add.specs.declared.added.Added.{Added}
 use Rattle.bind_match.specs.Matching.{own_package_of}
@@ -23,6 +24,7 @@ use Rattle.bind_carry.specs.SecondPass.{UnionsHaveTheSecond}
 use Rattle.bind_carry.specs.Union.{IsUnionOf}
 use Rattle.bind_carry.specs.Which.{AreMatchedAll}
 use Rattle.bind_carry.specs.Whole.{kept, IsWorldCarried}
+use Rattle.bind_carry.proofs.FirstPackages.{front_at}
 
 set_count : (ws : List World) (n : ℕ) (v : World) → length (slice_set ws n v) ≡ length ws
 set_count [] n v = refl
@@ -62,6 +64,16 @@ set_at [] more n w v e = let wrong : ⊥ = cc in absurd wrong
 set_at (x ∷ xs) more zero w v e = refl
 set_at (x ∷ xs) more (suc n) w v e = set_at xs more n w v e
 
+set_other : (ws more : List World) (n k : ℕ) (u v : World) → slice_get ws k ≡ Some u → (k ≡ n → ⊥) → slice_get (slice_set ws n v ++ more) k ≡ Some u
+set_other [] more n k u v e h = let wrong : ⊥ = cc in absurd wrong
+set_other (x ∷ xs) more zero zero u v e h = absurd (h refl)
+set_other (x ∷ xs) more zero (suc k) u v e h = front_at xs more k u e
+set_other (x ∷ xs) more (suc n) zero u v e h = e
+set_other (x ∷ xs) more (suc n) (suc k) u v e h = set_other xs more n k u v e (λ q. h (ap suc q))
+
+differ : (k n : ℕ) → (k == n) ≡ false → k ≡ n → ⊥
+differ k n f e = let wrong : true ≡ false = sym (same-number k) ∙ (ap (λ (x : ℕ). k == x) e ∙ f) in let no : ⊥ = cc in no
+
 -- and what the bound world gains
 pub unions_have_the_second : UnionsHaveTheSecond
 unfolding unions_have_the_first
@@ -86,5 +98,6 @@ unions_have_the_second own other merged world other_world m w v added keys u a a
     image = (a.worlds w at).0;
     at_image = ap (λ l. slice_get l world) (a.worlds w at).2 ∙ set_at own.worlds.items added.worlds.items world w (a.worlds w at).0 at;
     gained = (a.worlds w at).1;
+    others = λ n x there apart. ap (λ l. slice_get l n) (a.worlds w at).2 ∙ set_other own.worlds.items added.worlds.items world n x (a.worlds w at).0 there (differ n world apart);
   },
 )

@@ -163,7 +163,7 @@ mapped_at f [] n x e = let wrong : ⊥ = cc in absurd wrong
 mapped_at f (y ∷ ys) zero x e = ap (option_map f) e
 mapped_at f (y ∷ ys) (suc n) x e = mapped_at f ys n x e
 
-front_at : {X : Type 0} (xs ys : List X) (n : ℕ) (x : X) → slice_get xs n ≡ Some x → slice_get (xs ++ ys) n ≡ Some x
+pub front_at : {X : Type 0} (xs ys : List X) (n : ℕ) (x : X) → slice_get xs n ≡ Some x → slice_get (xs ++ ys) n ≡ Some x
 front_at [] ys n x e = let wrong : ⊥ = cc in absurd wrong
 front_at (y ∷ xs) ys zero x e = e
 front_at (y ∷ xs) ys (suc n) x e = front_at xs ys n x e

@@ -228,7 +228,7 @@ module _ (own other merged : Resolve) (valid_own : IsValid own) (valid_other : I
   -- ---- numbers
 
   -- what is carried by path has a number in front of what is gained
-  path_low : (n : ℕ) → by_first.carries_interface n ≡ true → by_first.interfaces n < behind
+  pub path_low : (n : ℕ) → by_first.carries_interface n ≡ true → by_first.interfaces n < behind
   path_low n h = go (flag_under c.copied_interfaces.items n) refl
     where
       flags : length c.copied_interfaces.items ≡ length m.interfaces.items

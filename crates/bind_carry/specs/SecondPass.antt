@@ -1,24 +1,26 @@
 -- The second pass, over what the own bound world gains, as the code leaves it in what is merged.
-use Rattle.std.specs.Prelude.{◌≡◌, ◌≤◌, ◌<◌, ◌⊎◌, ℕ, Bool, List, ◌++◌, length, map, Some}
+use Rattle.std.specs.Prelude.{◌≡◌, ◌≤◌, ◌<◌, ◌⊎◌, ◌==◌, ℕ, Bool, false, List, ◌++◌, length, map, Some}
 use Rattle.std.specs.List.{Contains}
+use Rattle.std.specs.Option.{option_map_or}
 use Rattle.wit_model.specs.declared.model.Interface.{Interface}
+use Rattle.wit_model.specs.declared.model.Package.{Package}
 use Rattle.wit_model.specs.declared.model.Resolve.{Resolve}
 use Rattle.wit_model.specs.declared.model.TypeDef.{TypeDef}
 use Rattle.wit_model.specs.declared.model.World.{World}
 use Rattle.wit_model.specs.declared.model.WorldItem.{WorldItem}
 use Rattle.wit_model.specs.declared.model.WorldKey.{WorldKey}
-use Rattle.wit_model.specs.Lookup.{key_text, world_at}
+use Rattle.wit_model.specs.Lookup.{key_text, package_at, world_at}
 use Rattle.wit_model.specs.Meaning.{entry_sense}
 use Rattle.wit_model.specs.Meant.{entry_meaning}
 use Rattle.wit_model.specs.Valid.{key_eq, IsValid}
 use Rattle.bind_add.specs.Growth.{HasGainedItems, IsAdded}
 use Rattle.bind_add.specs.declared.added.Added.{Added}
 use Rattle.bind_copy.specs.Copies.{AreNewCopied}
-use Rattle.bind_match.specs.Matching.{own_package_of}
+use Rattle.bind_match.specs.Matching.{is_root_world, own_package_of}
 use Rattle.bind_match.specs.declared.matches.Matches.{Matches}
 use Rattle.bind_union.specs.Carried.{Renumbering}
 use Rattle.bind_union.specs.Joined.{IsJoined}
-use Rattle.bind_union.specs.Merged.{AreCopies, IsCopyUnder}
+use Rattle.bind_union.specs.Merged.{AreCopies, IsCopyUnder, IsKeptPackage, IsMerged, IsPackageOf, PackageStands}
 use Rattle.bind_carry.specs.Bound.{bound_interfaces}
 use Rattle.bind_carry.specs.BoundGains.{bound_fates, gained_inline, AreInlineCopied}
 use Rattle.bind_carry.specs.Fates.{AreCopied}
@@ -55,6 +57,8 @@ pub record IsSecondPass (own other merged : Resolve) (world other_world : ℕ) (
   pub image : World
   pub at_image : world_at merged world ≡ Some image
   pub gained : HasGainedItems key_eq new_imports new_exports w image
+  -- other worlds are as they were
+  pub others : (n : ℕ) (u : World) → world_at own n ≡ Some u → (n == world) ≡ false → world_at merged n ≡ Some u
 
 -- the new numbers of the second pass
 abbrev pub second_pass_of : Resolve → Resolve → Matches → Carried → ℕ → ℕ → World → World → List Bool → List ℕ → List ℕ → List ℕ → Renumbering
@@ -92,3 +96,24 @@ abbrev pub NothingElseIsAdded : Type 0
 NothingElseIsAdded = (own other merged : Resolve) (world other_world : ℕ) (w v : World) (m : Matches) (c : Carried) (first_numbers : List ℕ) (p : IsFirstPass own other merged m c first_numbers) (copied : List Bool) (interfaces types : List ℕ) → IsValid own → IsValid other →
     IsSecondPass own other merged world other_world w v m c first_numbers p copied interfaces types →
     AreAllCopies own merged (first_of m.interfaces.items c (first_fates own other m.interfaces.items c) first_numbers) (second_pass_of own other m c world other_world w v copied interfaces first_numbers types)
+
+-- what is left out of the other: its world `root:root/root`
+abbrev pub is_left_out : Resolve → ℕ → Bool
+is_left_out other n = option_map_or (is_root_world other) (world_at other n) false
+
+-- What is left to show of packages and of how long lists are.
+pub record ArePackagesMerged (own other merged : Resolve) (first : Renumbering) (left_out : ℕ → Bool) : Type 0 where
+  pub few_packages : length merged.packages.items ≤ 4294967295
+  pub few_interfaces : length merged.interfaces.items ≤ 4294967295
+  pub few_worlds : length merged.worlds.items ≤ 4294967295
+  pub few_types : length merged.types.items ≤ 4294967295
+  pub package_from : (n : ℕ) → n < length merged.packages.items → IsKeptPackage own merged n ⊎ IsPackageOf other first n
+  pub packages_stand : (n : ℕ) (p : Package) → package_at other n ≡ Some p → PackageStands own merged first left_out n p
+
+-- Where packages and lengths are so, the whole is what the laws on unions ask for.
+abbrev pub PassesAreMerged : Type 0
+PassesAreMerged = (own other merged : Resolve) (world other_world : ℕ) (w v : World) (m : Matches) (c : Carried) (first_numbers : List ℕ) (p : IsFirstPass own other merged m c first_numbers) (copied : List Bool) (interfaces types : List ℕ) → IsValid own → IsValid other →
+    IsSecondPass own other merged world other_world w v m c first_numbers p copied interfaces types →
+    ArePackagesMerged own other merged (first_of m.interfaces.items c (first_fates own other m.interfaces.items c) first_numbers) (is_left_out other) →
+    IsMerged own other merged world other_world (first_of m.interfaces.items c (first_fates own other m.interfaces.items c) first_numbers)
+    (second_pass_of own other m c world other_world w v copied interfaces first_numbers types) (is_left_out other)

@@ -1,3 +1,4 @@
+use Rattle.bind_carry.proofs.MergedWhole.{passes_are_merged}
 use Rattle.bind_carry.proofs.NothingElse.{interface_from, type_from, world_from}
 use Rattle.bind_carry.proofs.SecondBound.{bound_stands}
 use Rattle.bind_carry.proofs.SecondCarried.{second_is_copied}
@@ -15,3 +16,6 @@ returns-clause-all c = λ own other merged world other_world w v m k numbers p c
   interfaces = interface_from own other merged valid_own valid_other world other_world w v m k numbers p copied interfaces types s;
   worlds = world_from own other merged valid_own valid_other world other_world w v m k numbers p copied interfaces types s;
 }
+
+pub returns-clause-merged : goal.returns-clause-merged
+returns-clause-merged c = passes_are_merged
