@@ -12,6 +12,7 @@ use Rattle.wit_model.specs.Valid.{key_eq}
 use Rattle.wit_model.proofs.Elements.{same-number}
 use Rattle.bind_add.specs.Growth.{HaveGained, IsAdded}
 use Rattle.bind_add.specs.declared.added.Added.{Added}
+use Rattle.bind_add.specs.declared.added.Names.{Names}
 use Rattle.bind_match.specs.Matching.{own_package_of}
 use Rattle.bind_match.specs.declared.matches.Matches.{Matches}
 use Rattle.bind_carry.specs.BoundGains.{bound_fates}
@@ -19,7 +20,7 @@ use Rattle.bind_carry.specs.Fates.{AreCopied}
 use Rattle.bind_carry.specs.First.{first_fates}
 use Rattle.bind_carry.specs.FirstPass.{IsFirstPass, UnionsHaveTheFirst}
 use Rattle.bind_carry.specs.MatchedSame.{AreMatchedAt, NoneOfPath}
-use Rattle.bind_carry.specs.Packaged.{IsPackageCarried}
+use Rattle.bind_carry.specs.Packaged.{grown_packages, IsGained, IsPackageCarried}
 use Rattle.bind_carry.specs.SecondPass.{UnionsHaveTheSecond}
 use Rattle.bind_carry.specs.Union.{IsUnionOf}
 use Rattle.bind_carry.specs.Which.{AreMatchedAll}
@@ -98,6 +99,7 @@ unions_have_the_second own other merged world other_world m w v added keys u a a
     image = (a.worlds w at).0;
     at_image = ap (λ l. slice_get l world) (a.worlds w at).2 ∙ set_at own.worlds.items added.worlds.items world w (a.worlds w at).0 at;
     gained = (a.worlds w at).1;
+    names = subst (λ (l : List Names). AllZip (IsGained u.carried) (grown_packages u.carried.new_packages.items u.carried.packages.items other.packages.items) l) (sym u.second.names) u.first.names;
     others = λ n x there apart. ap (λ l. slice_get l n) (a.worlds w at).2 ∙ set_other own.worlds.items added.worlds.items world n x (a.worlds w at).0 there (differ n world apart);
   },
 )

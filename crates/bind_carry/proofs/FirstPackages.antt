@@ -124,7 +124,7 @@ later n ns k e none zero g at same =
 later n ns k e none (suc i) g at same = none i g at same
 
 -- the place of the names that a package gains, if it gains any
-some_gains : (ns : List Names) (k : ℕ) → ((i : ℕ) × (g : Names) × (slice_get ns i ≡ Some g) × (g.«package».0 ≡ k)) ⊎ GainsNone ns k
+pub some_gains : (ns : List Names) (k : ℕ) → ((i : ℕ) × (g : Names) × (slice_get ns i ≡ Some g) × (g.«package».0 ≡ k)) ⊎ GainsNone ns k
 some_gains [] k = inr (λ i g at same. let wrong : ⊥ = cc in wrong)
 some_gains (n ∷ ns) k = go (n.«package».0 == k) refl (some_gains ns k)
   where

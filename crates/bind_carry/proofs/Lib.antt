@@ -41,6 +41,7 @@ pub mod SecondJoined
 pub mod InsertedBehind
 pub mod SecondBound
 pub mod NothingElse
+pub mod PackagesFrom
 pub mod MergedWhole
 pub mod SecondMarks
 pub mod FirstCopies

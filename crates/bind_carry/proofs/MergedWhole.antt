@@ -39,6 +39,7 @@ use Rattle.bind_carry.proofs.FirstPackages.{front_at, grown_name}
 use Rattle.bind_carry.proofs.FirstWorldsCopied.{first_worlds_are_copied}
 use Rattle.bind_carry.proofs.KeptPlaced.{kept_placed, IsKeptAt}
 use Rattle.bind_carry.proofs.NothingElse.{interface_from, type_from, world_from}
+use Rattle.bind_carry.proofs.PackagesFrom.{package_from}
 use Rattle.bind_carry.proofs.SecondBound.{bound_stands}
 use Rattle.bind_carry.proofs.SecondCarried.{second_is_copied}
 use Rattle.bind_carry.proofs.SecondInterfaces.{carried_number, copied_carries, copied_there, inline_at, inline_place, path_low}
@@ -90,7 +91,7 @@ passes_are_merged own other merged world other_world w v m c first_numbers p cop
   type_from = type_from own other merged valid_own valid_other world other_world w v m c first_numbers p copied interfaces types s;
   interface_from = interface_from own other merged valid_own valid_other world other_world w v m c first_numbers p copied interfaces types s;
   world_from = world_from own other merged valid_own valid_other world other_world w v m c first_numbers p copied interfaces types s;
-  package_from = rest.package_from;
+  package_from = package_from own other merged m c first_numbers p s.names;
   packages_stand = rest.packages_stand;
 }
   where

@@ -24,7 +24,7 @@ use Rattle.bind_carry.proofs.SecondAgreed.{before_fates, fates, first, second}
 use Rattle.bind_carry.proofs.SecondInterfaces.{carried_number, copied_carries}
 use Rattle.bind_carry.proofs.SecondKnown.{copied_long, long}
 
-zip_long : {A B : Type 0} (R : A → B → Type 0) (xs : List A) (ys : List B) → AllZip R xs ys → length ys ≡ length xs
+pub zip_long : {A B : Type 0} (R : A → B → Type 0) (xs : List A) (ys : List B) → AllZip R xs ys → length ys ≡ length xs
 zip_long R [] [] h = refl
 zip_long R [] (y ∷ ys) h = absurd h
 zip_long R (x ∷ xs) [] h = absurd h
@@ -37,7 +37,7 @@ equal_or_past (suc a) zero l = absurd (omega (arith, l))
 equal_or_past (suc a) (suc b) l = elim (equal_or_past a b (omega (arith, l))) [ inl e ↦ inl (ap suc e) | inr r ↦ inr (omega (arith, r)) ]
 
 -- each number from the first on, as far as those go whose flags are set, is one's
-kept_from : {X : Type 0} (start : ℕ) (flags : List Bool) (others : List ℕ) (xs : List X) (n : ℕ) → length flags ≡ length others → start ≤ n → n < start + length (kept flags xs)
+pub kept_from : {X : Type 0} (start : ℕ) (flags : List Bool) (others : List ℕ) (xs : List X) (n : ℕ) → length flags ≡ length others → start ≤ n → n < start + length (kept flags xs)
     → (m : ℕ) × (flag_under flags m ≡ true) × (number_under (numbers_of start flags others) m ≡ n)
 kept_from start [] others xs n long low high = absurd (omega (arith, low, high))
 kept_from start (b ∷ bs) [] xs n long low high = absurd (omega (arith, long))
@@ -50,7 +50,7 @@ kept_from start (true ∷ bs) (o ∷ os) (x ∷ xs) n long low high = go (equal_
     go (inl e) rest = (zero, refl, e)
     go (inr l) rest = let r = rest l in (suc r.0, r.1, r.2)
 
-in_two : (n k : ℕ) → (n < k) ⊎ (k ≤ n)
+pub in_two : (n k : ℕ) → (n < k) ⊎ (k ≤ n)
 in_two n k = go (nat_lt n k) refl
   where
     go : (b : Bool) → nat_lt n k ≡ b → (n < k) ⊎ (k ≤ n)

@@ -1,6 +1,6 @@
 -- The second pass, over what the own bound world gains, as the code leaves it in what is merged.
 use Rattle.std.specs.Prelude.{◌≡◌, ◌≤◌, ◌<◌, ◌⊎◌, ◌==◌, ℕ, Bool, false, List, ◌++◌, length, map, Some}
-use Rattle.std.specs.List.{Contains}
+use Rattle.std.specs.List.{AllZip, Contains}
 use Rattle.std.specs.Option.{option_map_or}
 use Rattle.wit_model.specs.declared.model.Interface.{Interface}
 use Rattle.wit_model.specs.declared.model.Package.{Package}
@@ -20,13 +20,14 @@ use Rattle.bind_match.specs.Matching.{is_root_world, own_package_of}
 use Rattle.bind_match.specs.declared.matches.Matches.{Matches}
 use Rattle.bind_union.specs.Carried.{Renumbering}
 use Rattle.bind_union.specs.Joined.{IsJoined}
-use Rattle.bind_union.specs.Merged.{AreCopies, IsCopyUnder, IsKeptPackage, IsMerged, IsPackageOf, PackageStands}
+use Rattle.bind_union.specs.Merged.{AreCopies, IsCopyUnder, IsMerged, PackageStands}
 use Rattle.bind_carry.specs.Bound.{bound_interfaces}
 use Rattle.bind_carry.specs.BoundGains.{bound_fates, gained_inline, AreInlineCopied}
 use Rattle.bind_carry.specs.Fates.{AreCopied}
 use Rattle.bind_carry.specs.First.{first_fates}
 use Rattle.bind_carry.specs.FirstPass.{IsFirstPass}
 use Rattle.bind_carry.specs.MatchedSame.{AreMatchedAt, NoneOfPath}
+use Rattle.bind_carry.specs.Packaged.{grown_packages, IsGained}
 use Rattle.bind_carry.specs.Renumbered.{first_of, second_of}
 use Rattle.bind_carry.specs.Union.{IsUnionOf}
 use Rattle.bind_carry.specs.Which.{AreMatchedAll}
@@ -57,6 +58,8 @@ pub record IsSecondPass (own other merged : Resolve) (world other_world : ℕ) (
   pub image : World
   pub at_image : world_at merged world ≡ Some image
   pub gained : HasGainedItems key_eq new_imports new_exports w image
+  -- own packages gain the names of what is copied into them
+  pub names : AllZip (IsGained c) (grown_packages c.new_packages.items c.packages.items other.packages.items) p.gains
   -- other worlds are as they were
   pub others : (n : ℕ) (u : World) → world_at own n ≡ Some u → (n == world) ≡ false → world_at merged n ≡ Some u
 
@@ -107,7 +110,6 @@ pub record ArePackagesMerged (own other merged : Resolve) (first : Renumbering) 
   pub few_interfaces : length merged.interfaces.items ≤ 4294967295
   pub few_worlds : length merged.worlds.items ≤ 4294967295
   pub few_types : length merged.types.items ≤ 4294967295
-  pub package_from : (n : ℕ) → n < length merged.packages.items → IsKeptPackage own merged n ⊎ IsPackageOf other first n
   pub packages_stand : (n : ℕ) (p : Package) → package_at other n ≡ Some p → PackageStands own merged first left_out n p
 
 -- Where packages and lengths are so, the whole is what the laws on unions ask for.
