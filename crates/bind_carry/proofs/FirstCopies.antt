@@ -1,10 +1,9 @@
 -- What is copied by path stands behind own entries, and inline interfaces come with the world that shows them.
-use Rattle.std.proofs.Common.{◌≡◌, refl, sym, ap, subst, ◌∙◌, ℕ, zero, suc, ◌+◌, ◌≤◌, ◌<◌, arith, Bool, true, false, ◌&&◌, ◌||◌, not, ◌==◌, cond, List, [], ◌∷◌, ◌++◌, length, map, filter_map, Option, Some, None, is_some, option_map, slice_get, unwrap_or}
+use Rattle.std.proofs.Common.{◌≡◌, refl, sym, ap, subst, ◌∙◌, ℕ, zero, suc, ◌+◌, ◌≤◌, arith, Bool, true, false, ◌&&◌, ◌||◌, not, ◌==◌, cond, List, [], ◌∷◌, ◌++◌, length, map, filter_map, Option, Some, None, is_some, slice_get}
 use Rattle.std.specs.Prelude.{count_by, sum_by, option_and_then, String}
 use Rattle.std.specs.declared.alloc.Global.{Global}
-use Rattle.std.specs.List.{list_all, list_any}
+use Rattle.std.specs.List.{list_all}
 use Rattle.std.specs.Option.{option_eq, option_map_or}
-use Rattle.std.proofs.lemmas.Bool.{or_left, or_right}
 use Rattle.std.proofs.lemmas.List.{length-map}
 use Rattle.std.proofs.lemmas.List.Sums.{sum_by-append, sum_by-cons}
 use Rattle.wit_model.specs.declared.model.Interface.{Interface}
@@ -23,18 +22,14 @@ use Rattle.wit_model.proofs.Elements.{equal, same-number}
 use Rattle.wit_model.proofs.Lists.{first_true, second_true}
 use Rattle.wit_model.proofs.OnePath.{interface-passes}
 use Rattle.bind_copy.specs.Copies.{number_under}
-use Rattle.bind_union.specs.Merged.{AreCopies}
 use Rattle.bind_union.proofs.Images.{filter_map_none, filter_map_some}
 use Rattle.bind_union.proofs.Lists.{no_true}
 use Rattle.bind_carry.specs.Fates.{copies, numbers_by, stood}
 use Rattle.bind_carry.specs.First.{first_fates, flag_under}
 use Rattle.bind_carry.specs.FirstPass.{FirstIsCopied}
 use Rattle.bind_carry.specs.Marked.{is_shown_in, is_shown_of, AreChosen}
-use Rattle.bind_carry.specs.MatchedSame.{AreMatchedAt}
 use Rattle.bind_carry.specs.Numbers.{interface_number, numbers_of}
 use Rattle.bind_carry.specs.Renumbered.{first_of, is_matched}
-use Rattle.bind_carry.specs.Whole.{kept}
-use Rattle.bind_carry.specs.declared.plan.Carried.{Carried}
 use Rattle.bind_carry.proofs.CopiesPlaced.{flag_is_copied, some_same}
 use Rattle.bind_carry.proofs.FirstCarried.{chosen_so, first_is_carried}
 use Rattle.bind_carry.proofs.FirstMatched.{named_of_path}

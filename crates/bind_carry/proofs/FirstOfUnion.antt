@@ -1,30 +1,17 @@
 -- What a union adds, once it is added, has all that is carried by path.
-use Rattle.std.proofs.Common.{◌≡◌, refl, sym, ap, subst, ◌∙◌, ℕ, zero, suc, true, false, ◌==◌, List, [], ◌∷◌, ◌++◌, length, map}
+use Rattle.std.proofs.Common.{◌≡◌, refl, sym, ap, subst, ◌∙◌, ℕ, zero, suc, true, false, ◌==◌, List, [], ◌∷◌, ◌++◌, length}
 use Rattle.std.specs.Prelude.{slice_get, slice_set, Some}
 use Rattle.std.specs.List.{AllZip}
-use Rattle.wit_model.specs.declared.model.Package.{Package}
-use Rattle.wit_model.specs.declared.model.Resolve.{Resolve}
 use Rattle.wit_model.specs.declared.model.TypeDef.{TypeDef}
 use Rattle.wit_model.specs.declared.model.World.{World}
-use Rattle.wit_model.specs.declared.model.WorldKey.{WorldKey}
-use Rattle.wit_model.specs.Lookup.{world_at}
-use Rattle.wit_model.specs.Valid.{key_eq}
 use Rattle.wit_model.proofs.Elements.{same-number}
-use Rattle.bind_add.specs.Growth.{HaveGained, IsAdded}
-use Rattle.bind_add.specs.declared.added.Added.{Added}
 use Rattle.bind_add.specs.declared.added.Names.{Names}
-use Rattle.bind_match.specs.Matching.{own_package_of}
-use Rattle.bind_match.specs.declared.matches.Matches.{Matches}
 use Rattle.bind_carry.specs.BoundGains.{bound_fates}
 use Rattle.bind_carry.specs.Fates.{AreCopied}
 use Rattle.bind_carry.specs.First.{first_fates}
-use Rattle.bind_carry.specs.FirstPass.{IsFirstPass, UnionsHaveTheFirst}
-use Rattle.bind_carry.specs.MatchedSame.{AreMatchedAt, NoneOfPath}
-use Rattle.bind_carry.specs.Packaged.{grown_packages, IsGained, IsPackageCarried}
+use Rattle.bind_carry.specs.FirstPass.{UnionsHaveTheFirst}
+use Rattle.bind_carry.specs.Packaged.{grown_packages, IsGained}
 use Rattle.bind_carry.specs.SecondPass.{UnionsHaveTheSecond}
-use Rattle.bind_carry.specs.Union.{IsUnionOf}
-use Rattle.bind_carry.specs.Which.{AreMatchedAll}
-use Rattle.bind_carry.specs.Whole.{kept, IsWorldCarried}
 use Rattle.bind_carry.proofs.FirstPackages.{front_at}
 
 set_count : (ws : List World) (n : ℕ) (v : World) → length (slice_set ws n v) ≡ length ws

@@ -1,43 +1,37 @@
 -- Both passes together are a merge, where packages stand and no list is too long.
-use Rattle.std.proofs.Common.{◌≡◌, inl, inr, refl, sym, ap, subst, ◌∙◌, ℕ, zero, suc, ◌+◌, ◌<◌, ◌≤◌, arith, Bool, true, false, not, ◌&&◌, ◌||◌, ◌==◌, List, [], ◌∷◌, ◌++◌, length, map, Option, Some, None, is_none, is_some, option_map, slice_get, unwrap_or}
+use Rattle.std.proofs.Common.{◌≡◌, refl, sym, ap, subst, ◌∙◌, ℕ, zero, suc, ◌+◌, ◌<◌, arith, Bool, true, false, not, ◌||◌, List, [], ◌∷◌, ◌++◌, length, map, Option, Some, None, is_none, is_some, option_map, slice_get}
 use Rattle.std.specs.Prelude.{String}
 use Rattle.std.specs.declared.alloc.Global.{Global}
 use Rattle.std.specs.Option.{option_map_or}
 use Rattle.std.proofs.lemmas.Bool.{or_left}
 use Rattle.std.proofs.lemmas.List.{length-map}
 use Rattle.wit_model.specs.declared.model.Interface.{Interface}
-use Rattle.wit_model.specs.declared.model.Package.{Package}
 use Rattle.wit_model.specs.declared.model.PackageName.{PackageName}
 use Rattle.wit_model.specs.declared.model.Resolve.{Resolve}
-use Rattle.wit_model.specs.declared.model.TypeDef.{TypeDef}
 use Rattle.wit_model.specs.declared.model.World.{World}
 use Rattle.wit_model.specs.declared.model.WorldId.{WorldId}
-use Rattle.wit_model.specs.Lookup.{interface_at, package_at, world_at}
+use Rattle.wit_model.specs.Lookup.{interface_at}
 use Rattle.wit_model.specs.Rules.{package_number}
-use Rattle.wit_model.specs.Valid.{IsValid}
 use Rattle.wit_model.proofs.Elements.{equal}
 use Rattle.wit_model.proofs.Lists.{second_true}
 use Rattle.bind_copy.specs.Copies.{number_under}
 use Rattle.bind_match.specs.Matching.{is_root_world}
-use Rattle.bind_match.specs.declared.matches.Matches.{Matches}
-use Rattle.bind_union.specs.Carried.{IsInterface, IsSameName, Renumbering}
+use Rattle.bind_union.specs.Carried.{IsInterface, IsSameName}
 use Rattle.bind_union.specs.Joined.{IsJoined}
 use Rattle.bind_union.specs.Merged.{AreCopies}
 use Rattle.bind_union.proofs.Lists.{no_true}
 use Rattle.bind_carry.specs.First.{first_fates, flag_under}
-use Rattle.bind_carry.specs.FirstPass.{IsFirstPass}
 use Rattle.bind_carry.specs.Numbers.{interface_number, numbers_of}
 use Rattle.bind_carry.specs.Renumbered.{first_of, is_matched}
-use Rattle.bind_carry.specs.SecondPass.{is_left_out, second_pass_of, ArePackagesMerged, IsSecondPass, PassesAreMerged}
+use Rattle.bind_carry.specs.SecondPass.{second_pass_of, PassesAreMerged}
 use Rattle.bind_carry.specs.Which.{new_worlds}
-use Rattle.bind_carry.specs.Whole.{kept, IsInterfaceCarried}
-use Rattle.bind_carry.specs.declared.plan.Carried.{Carried}
+use Rattle.bind_carry.specs.Whole.{IsInterfaceCarried}
 use Rattle.bind_carry.proofs.CopiesPlaced.{some_same}
 use Rattle.bind_carry.proofs.FirstCopies.{copied_behind, first_is_copied}
 use Rattle.bind_carry.proofs.FirstInterfaces.{home_number}
 use Rattle.bind_carry.proofs.FirstPackages.{front_at, grown_name}
 use Rattle.bind_carry.proofs.FirstWorldsCopied.{first_worlds_are_copied}
-use Rattle.bind_carry.proofs.KeptPlaced.{kept_placed, IsKeptAt}
+use Rattle.bind_carry.proofs.KeptPlaced.{kept_placed}
 use Rattle.bind_carry.proofs.NothingElse.{interface_from, type_from, world_from}
 use Rattle.bind_carry.proofs.PackagesFrom.{package_from}
 use Rattle.bind_carry.proofs.SecondBound.{bound_stands}

@@ -1,5 +1,5 @@
 -- Each package that is merged is an own one to which nothing comes, or one of the other stands in it.
-use Rattle.std.proofs.Common.{◌≡◌, ◌⊎◌, inl, inr, refl, sym, ap, subst, ◌∙◌, ℕ, zero, suc, ◌+◌, ◌<◌, ◌≤◌, arith, Bool, true, false, List, [], ◌∷◌, ◌++◌, length, map, is_none, Some, slice_get}
+use Rattle.std.proofs.Common.{◌≡◌, ◌⊎◌, inl, inr, refl, sym, ap, subst, ◌∙◌, ℕ, zero, suc, ◌+◌, ◌<◌, arith, Bool, true, false, List, [], ◌∷◌, length, map, is_none, Some, slice_get}
 use Rattle.std.specs.List.{AllZip}
 use Rattle.std.proofs.lemmas.List.{length-append, length-map}
 use Rattle.wit_model.specs.declared.model.Package.{Package}
@@ -10,7 +10,7 @@ use Rattle.bind_add.specs.declared.added.Names.{Names}
 use Rattle.bind_copy.specs.Copies.{number_under}
 use Rattle.bind_match.specs.declared.matches.Matches.{Matches}
 use Rattle.bind_union.specs.Merged.{IsKeptPackage, IsPackageOf}
-use Rattle.bind_carry.specs.First.{first_fates, flag_under}
+use Rattle.bind_carry.specs.First.{first_fates}
 use Rattle.bind_carry.specs.FirstPass.{IsFirstPass}
 use Rattle.bind_carry.specs.Numbers.{package_number}
 use Rattle.bind_carry.specs.Packaged.{grown_packages, IsGained, IsPackageCarried}

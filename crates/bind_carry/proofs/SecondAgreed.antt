@@ -1,5 +1,5 @@
 -- What is carried of types into what the bound world gains: each has its image under its new number.
-use Rattle.std.proofs.Common.{◌≡◌, ◌⊎◌, inl, inr, refl, sym, ap, subst, ◌∙◌, ℕ, zero, suc, ◌+◌, ◌<◌, arith, Bool, true, false, ◌&&◌, ◌||◌, ◌==◌, List, [], ◌∷◌, ◌++◌, append-nil, length, Option, Some, None, is_some, option_map, option_and_then, slice_get, if◌then◌else◌}
+use Rattle.std.proofs.Common.{◌≡◌, inl, inr, refl, sym, ap, subst, ◌∙◌, ℕ, zero, suc, ◌+◌, ◌<◌, arith, Bool, true, false, List, [], ◌∷◌, ◌++◌, append-nil, length, Option, Some, None, is_some, option_and_then, slice_get, if◌then◌else◌}
 use Rattle.std.specs.Prelude.{String}
 use Rattle.std.specs.declared.alloc.Global.{Global}
 use Rattle.std.specs.List.{Contains}
@@ -9,16 +9,13 @@ use Rattle.wit_model.specs.declared.model.Interface.{Interface}
 use Rattle.wit_model.specs.declared.model.InterfaceId.{InterfaceId}
 use Rattle.wit_model.specs.declared.model.Resolve.{Resolve}
 use Rattle.wit_model.specs.declared.model.TypeDef.{TypeDef}
-use Rattle.wit_model.specs.declared.model.TypeId.{TypeId}
-use Rattle.wit_model.specs.declared.model.TypeOwner.{TypeOwner}
 use Rattle.wit_model.specs.declared.model.TypeOwner.TheVariants as owner
 use Rattle.wit_model.specs.declared.model.World.{World}
 use Rattle.wit_model.specs.declared.model.WorldItem.{WorldItem}
 use Rattle.wit_model.specs.declared.model.WorldKey.{WorldKey}
-use Rattle.wit_model.specs.declared.model.WorldKey.TheVariants as key
 use Rattle.wit_model.specs.Lookup.{interface_at, interface_path, key_text, type_at}
 use Rattle.wit_model.specs.Rules.{item_type, passes}
-use Rattle.wit_model.specs.Text.{Text, optional_text, text_of}
+use Rattle.wit_model.specs.Text.{Text, optional_text}
 use Rattle.wit_model.specs.Uses.{alias_target}
 use Rattle.wit_model.specs.Valid.{IsValid, as_interface, as_world, key_eq}
 use Rattle.wit_model.proofs.Elements.{get-contains, same-number}
@@ -30,10 +27,10 @@ use Rattle.bind_union.specs.Matching.{type_names, AreMatched, AreWorldNamesakes,
 use Rattle.bind_union.specs.Merged.{BeginsWith}
 use Rattle.bind_union.proofs.Itself.{get_begin}
 use Rattle.bind_union.proofs.Lists.{no_true}
-use Rattle.bind_union.proofs.Namesakes.{listed_type, target_named, IsListedType, IsTarget}
+use Rattle.bind_union.proofs.Namesakes.{listed_type, target_named, IsTarget}
 use Rattle.bind_union.proofs.WorldNamesakes.{lookup_stands, met_imports_stand, target_home, world_type, IsWorldType}
-use Rattle.bind_carry.specs.BoundGains.{gains_any, type_under_key, unified}
-use Rattle.bind_carry.specs.Fates.{carries, copies, is_carried, settled_from}
+use Rattle.bind_carry.specs.BoundGains.{gains_any, unified}
+use Rattle.bind_carry.specs.Fates.{copies, is_carried, settled_from}
 use Rattle.bind_carry.specs.First.{beside_first, first_fates, flag_under, is_named_at, second_from, second_in}
 use Rattle.bind_carry.specs.FirstPass.{IsFirstPass}
 use Rattle.bind_carry.specs.Renumbered.{first_of, is_copied, second_of}

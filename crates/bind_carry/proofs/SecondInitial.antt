@@ -1,7 +1,5 @@
 -- The pass over what the bound world gains begins as it should: what it copies is of the bound world, or of an inline interface that is gained.
-use Rattle.std.proofs.Common.{◌≡◌, ◌⊎◌, inl, inr, refl, sym, ap, subst, ◌∙◌, ℕ, zero, suc, ◌<◌, arith, Bool, true, false, ◌&&◌, ◌||◌, ◌==◌, List, [], ◌∷◌, length, Option, Some, None, is_some, slice_get, unwrap_or, if◌then◌else◌}
-use Rattle.std.specs.Prelude.{String}
-use Rattle.std.specs.declared.alloc.Global.{Global}
+use Rattle.std.proofs.Common.{◌≡◌, inl, inr, refl, sym, ap, ◌∙◌, ℕ, zero, suc, ◌<◌, arith, Bool, true, false, ◌&&◌, ◌||◌, ◌==◌, List, [], ◌∷◌, length, Option, Some, is_some, slice_get, unwrap_or, if◌then◌else◌}
 use Rattle.std.specs.Option.{option_map_or}
 use Rattle.std.proofs.lemmas.Bool.{or_left, or_right}
 use Rattle.wit_model.specs.declared.model.Interface.{Interface}
@@ -21,7 +19,7 @@ use Rattle.bind_copy.specs.Copies.{number_under}
 use Rattle.bind_union.specs.Carried.{carries_owner, copies_owner, owner_under, Renumbering}
 use Rattle.bind_union.proofs.Lists.{no_true}
 use Rattle.bind_carry.specs.BoundGains.{unified}
-use Rattle.bind_carry.specs.Fates.{carries, is_carried}
+use Rattle.bind_carry.specs.Fates.{carries}
 use Rattle.bind_carry.specs.First.{beside_first, flag_under, is_named_at, second_from, second_in}
 use Rattle.bind_carry.specs.Initial.{IsInitial}
 use Rattle.bind_carry.specs.Renumbered.{is_matched, met_under, second_of}

@@ -1,14 +1,13 @@
 -- Inline interfaces of the other's bound world that stand for own ones: each has the number of the own interface under its label.
-use Rattle.std.proofs.Common.{◌≡◌, refl, sym, ap, subst, ◌∙◌, ℕ, zero, suc, ◌+◌, ◌<◌, ◌≤◌, arith, Bool, true, false, not, ◌&&◌, ◌||◌, ◌==◌, cond, List, [], ◌∷◌, map, Option, Some, None, is_some, is_none, option_and_then, option_map, slice_get, unwrap_or, if◌then◌else◌}
+use Rattle.std.proofs.Common.{◌≡◌, refl, sym, ap, ◌∙◌, ℕ, zero, suc, ◌+◌, ◌≤◌, arith, Bool, true, false, not, ◌&&◌, ◌||◌, ◌==◌, cond, List, [], ◌∷◌, map, Option, Some, None, is_some, option_and_then, option_map, slice_get, unwrap_or, if◌then◌else◌}
 use Rattle.std.specs.Prelude.{String, sum_by}
 use Rattle.std.specs.declared.alloc.Global.{Global}
-use Rattle.std.specs.List.{list_any, Contains}
+use Rattle.std.specs.List.{Contains}
 use Rattle.std.specs.Map.{lookup}
 use Rattle.std.specs.Option.{option_map_or}
 use Rattle.std.proofs.lemmas.List.Sums.{sum_by-cons}
 use Rattle.std.proofs.lemmas.Option.{slice_get-map}
 use Rattle.wit_model.specs.declared.model.Interface.{Interface}
-use Rattle.wit_model.specs.declared.model.InterfaceId.{InterfaceId}
 use Rattle.wit_model.specs.declared.model.Resolve.{Resolve}
 use Rattle.wit_model.specs.declared.model.World.{World}
 use Rattle.wit_model.specs.declared.model.WorldItem.{WorldItem}
@@ -22,13 +21,13 @@ use Rattle.wit_model.specs.Rules.{is_id, item_in_range, key_in_range, times_show
 use Rattle.wit_model.specs.Text.{text_of}
 use Rattle.wit_model.specs.Uses.{item_interface}
 use Rattle.wit_model.specs.Valid.{IsValid, key_eq}
-use Rattle.wit_model.proofs.Elements.{contains-get, equal, get-contains, same-number}
+use Rattle.wit_model.proofs.Elements.{contains-get, equal, same-number}
 use Rattle.wit_model.proofs.Lists.{first_true, second_true}
 use Rattle.wit_model.proofs.OnePath.{found-in, named-path}
 use Rattle.bind_copy.specs.Copies.{is_new_under, number_under}
 use Rattle.bind_match.specs.declared.matches.Matches.{Matches}
 use Rattle.bind_union.proofs.Lists.{no_true}
-use Rattle.bind_union.proofs.WorldNamesakes.{path_is, path_so, some_id}
+use Rattle.bind_union.proofs.WorldNamesakes.{path_is, path_so}
 use Rattle.bind_carry.specs.First.{flag_under, is_named_at}
 use Rattle.bind_carry.specs.FirstPass.{IsFirstPass}
 use Rattle.bind_carry.specs.Marked.{is_inline_at, is_shown_in}
@@ -41,7 +40,7 @@ use Rattle.bind_carry.proofs.LabelsFound.{label_held}
 use Rattle.bind_carry.proofs.SecondKnown.{any_at, exports_shown, imports_shown}
 use Rattle.bind_carry.proofs.SecondMarks.{gained_flag, is_gained, is_shown_new}
 use Rattle.bind_carry.proofs.SecondStands.{second}
-use Rattle.bind_carry.proofs.WorldEntries.{any_place, import_keyed, import_range, label_new, IsKeyed}
+use Rattle.bind_carry.proofs.WorldEntries.{any_place, import_keyed, import_range, label_new}
 
 -- ---- lists
 

@@ -1,6 +1,6 @@
 -- What the bound world gains is carried as the laws on unions ask for it: interfaces, and how numbers rise.
-use Rattle.std.proofs.Common.{◌≡◌, ◌⊎◌, inl, inr, refl, sym, ap, subst, ◌∙◌, ℕ, ◌+◌, ◌<◌, arith, Bool, true, false, ◌&&◌, ◌||◌, ◌==◌, List, [], ◌∷◌, ◌++◌, append-nil, append_assoc, length, map, Option, Some, None, is_none, is_some, slice_get, unwrap_or, if◌then◌else◌}
-use Rattle.std.specs.List.{list_all, AllZip}
+use Rattle.std.proofs.Common.{◌≡◌, refl, sym, ap, subst, ◌∙◌, ℕ, ◌+◌, ◌<◌, arith, Bool, true, false, ◌&&◌, ◌||◌, ◌==◌, List, [], ◌++◌, append-nil, append_assoc, length, map, Option, Some, None, is_none, is_some, slice_get, unwrap_or, if◌then◌else◌}
+use Rattle.std.specs.List.{list_all}
 use Rattle.std.specs.Option.{option_map_or}
 use Rattle.std.specs.String.{string_eq}
 use Rattle.std.proofs.lemmas.Bool.{or_left}
@@ -9,7 +9,6 @@ use Rattle.std.proofs.lemmas.List.Folds.{list_all-map}
 use Rattle.std.proofs.lemmas.Option.{slice_get_within}
 use Rattle.indexmap.specs.IndexMap.{values, IsUnique}
 use Rattle.wit_model.specs.declared.model.Interface.{Interface}
-use Rattle.wit_model.specs.declared.model.InterfaceId.{InterfaceId}
 use Rattle.wit_model.specs.declared.model.Resolve.{Resolve}
 use Rattle.wit_model.specs.declared.model.TypeDef.{TypeDef}
 use Rattle.wit_model.specs.declared.model.TypeId.{TypeId}
@@ -22,33 +21,31 @@ use Rattle.wit_model.proofs.Elements.{both, equal, same-number}
 use Rattle.wit_model.proofs.Lists.{first_true, second_true}
 use Rattle.bind_copy.specs.Copies.{number_under, IsInterfaceUnder}
 use Rattle.bind_match.specs.declared.matches.Matches.{Matches}
-use Rattle.bind_union.specs.Carried.{carries_owner, IsCarried, IsInterface, Renumbering, Rises}
+use Rattle.bind_union.specs.Carried.{carries_owner, IsInterface, Renumbering, Rises}
 use Rattle.bind_union.proofs.Lists.{no_true}
 use Rattle.bind_union.proofs.MatchedStand.{numbers_rise}
 use Rattle.bind_union.proofs.UsedInterfaces.{passes_at}
 use Rattle.bind_carry.specs.CarriedParts.{is_function_carried}
-use Rattle.bind_carry.specs.Fates.{copies, is_carried, stood}
-use Rattle.bind_carry.specs.First.{first_fates, flag_under, is_named_at}
+use Rattle.bind_carry.specs.Fates.{is_carried}
+use Rattle.bind_carry.specs.First.{flag_under, is_named_at}
 use Rattle.bind_carry.specs.FirstPass.{IsFirstPass}
 use Rattle.bind_carry.specs.Marked.{is_inline_at}
 use Rattle.bind_carry.specs.Numbers.{interface_number, numbers_of}
-use Rattle.bind_carry.specs.Renumbered.{is_copied, is_matched, met_under}
+use Rattle.bind_carry.specs.Renumbered.{is_matched, met_under}
 use Rattle.bind_carry.specs.SecondPass.{IsSecondPass}
-use Rattle.bind_carry.specs.Whole.{kept, IsInterfaceCarried}
+use Rattle.bind_carry.specs.Whole.{IsInterfaceCarried}
 use Rattle.bind_carry.specs.declared.fate.Fate.{Fate}
 use Rattle.bind_carry.specs.declared.plan.Carried.{Carried}
-use Rattle.bind_carry.proofs.CopiesPlaced.{copied_home, copy_placed, flag_is_copied, some_same}
 use Rattle.bind_carry.proofs.FirstCarried.{flag_within, has_map, within_there}
 use Rattle.bind_carry.proofs.FirstInterfaces.{interface_copy, type_numbers_under}
-use Rattle.bind_carry.proofs.FirstMatched.{interface_is, type_low, types_are}
-use Rattle.bind_carry.proofs.FirstTypes.{copied_carried}
+use Rattle.bind_carry.proofs.FirstMatched.{interface_is, types_are}
 use Rattle.bind_carry.proofs.KeptPlaced.{kept_placed, IsKeptAt}
 use Rattle.bind_carry.proofs.PassedTypes.{parts_hold}
 use Rattle.bind_carry.proofs.Ready.{interface_count}
-use Rattle.bind_carry.proofs.SecondAgreed.{adds, before_fates, by_path, fates, first, inline_type_copied, initial, matched, met_type, named_carried, named_is_carried, same_types, second, type_there, types_hold}
+use Rattle.bind_carry.proofs.SecondAgreed.{adds, before_fates, by_path, fates, first, inline_type_copied, initial, named_carried, named_is_carried, same_types, second}
 use Rattle.bind_carry.proofs.SecondKnown.{chosen, copied_long, exports_shown, imports_shown, long, range}
 use Rattle.bind_carry.proofs.SecondMarks.{gained_inline_alone}
-use Rattle.bind_carry.proofs.SecondStands.{is_named_there, known, named_uncopied, second_named, starts, stood_how, StandsByPath}
+use Rattle.bind_carry.proofs.SecondStands.{is_named_there, known, second_named, starts}
 
 module _ (own other merged : Resolve) (valid_own : IsValid own) (valid_other : IsValid other) (world other_world : ℕ) (w v : World) (m : Matches) (c : Carried) (first_numbers : List ℕ) (p : IsFirstPass own other merged m c first_numbers) (copied : List Bool) (interfaces types : List ℕ)
     (s : IsSecondPass own other merged world other_world w v m c first_numbers p copied interfaces types) where

@@ -1,8 +1,8 @@
 -- The bound world gains the items whose keys it hasn't, one by one, and own ones stand for the others.
-use Rattle.std.proofs.Common.{◌≡◌, ◌⊎◌, inl, inr, refl, sym, ap, subst, ◌∙◌, ℕ, ◌+◌, arith, Bool, true, false, not, ◌&&◌, ◌||◌, ◌==◌, List, [], ◌∷◌, length, Option, Some, None, is_none, is_some, option_and_then, option_to_list, slice_get, if◌then◌else◌}
+use Rattle.std.proofs.Common.{◌≡◌, inl, inr, refl, sym, ap, ◌∙◌, ℕ, ◌+◌, arith, Bool, true, false, not, ◌&&◌, ◌||◌, List, [], ◌∷◌, length, Option, Some, None, is_none, is_some, option_and_then, option_to_list, slice_get, if◌then◌else◌}
 use Rattle.std.specs.Prelude.{String}
 use Rattle.std.specs.declared.alloc.Global.{Global}
-use Rattle.std.specs.List.{list_all, list_any, Contains, IsDistinct}
+use Rattle.std.specs.List.{list_all, Contains, IsDistinct}
 use Rattle.std.specs.Map.{keys_of, lookup}
 use Rattle.std.specs.Option.{option_map_or}
 use Rattle.std.proofs.lemmas.Bool.{or_left, or_right}
@@ -18,19 +18,19 @@ use Rattle.wit_model.specs.declared.model.WorldItem.{WorldItem}
 use Rattle.wit_model.specs.declared.model.WorldItem.TheVariants as item
 use Rattle.wit_model.specs.declared.model.WorldKey.{WorldKey}
 use Rattle.wit_model.specs.declared.model.WorldKey.TheVariants as key
-use Rattle.wit_model.specs.Lookup.{interface_at, key_text, type_at}
+use Rattle.wit_model.specs.Lookup.{interface_at}
 use Rattle.wit_model.specs.Rules.{export_stands, is_id, item_in_range, item_type, key_in_range}
 use Rattle.wit_model.specs.Uses.{item_interface}
-use Rattle.wit_model.specs.Valid.{IsValid, functions_of_world, item_function, key_eq}
+use Rattle.wit_model.specs.Valid.{IsValid, item_function, key_eq}
 use Rattle.wit_model.proofs.Elements.{all-contained, both, contains-get, contains-later, get-contains, same-number}
 use Rattle.wit_model.proofs.Lists.{first_true, second_true}
 use Rattle.wit_model.proofs.OnePath.{found-in}
 use Rattle.bind_copy.specs.Copies.{become_one, is_new_under, number_under}
 use Rattle.bind_match.specs.declared.matches.Matches.{Matches}
 use Rattle.bind_union.specs.Carried.{Renumbering}
-use Rattle.bind_union.specs.Joined.{ItemStandsFor, Joined}
+use Rattle.bind_union.specs.Joined.{Joined}
 use Rattle.bind_union.proofs.Lists.{no_true}
-use Rattle.bind_union.proofs.WorldNamesakes.{met_imports_stand, IsWorldType}
+use Rattle.bind_union.proofs.WorldNamesakes.{IsWorldType}
 use Rattle.bind_union.proofs.WorldRules.{by_entries}
 use Rattle.bind_carry.specs.BoundGains.{type_under_key}
 use Rattle.bind_carry.specs.CarriedParts.{is_function_carried}
@@ -38,7 +38,7 @@ use Rattle.bind_carry.specs.Fates.{copies}
 use Rattle.bind_carry.specs.First.{beside_first, flag_under, is_named_at, second_in}
 use Rattle.bind_carry.specs.FirstPass.{IsFirstPass}
 use Rattle.bind_carry.specs.Marked.{is_inline_at}
-use Rattle.bind_carry.specs.ReadyItems.{AreReady, IsItemReady, IsKeyReady}
+use Rattle.bind_carry.specs.ReadyItems.{AreReady, IsItemReady}
 use Rattle.bind_carry.specs.Renumbered.{is_copied, is_matched}
 use Rattle.bind_carry.specs.SecondPass.{IsSecondPass}
 use Rattle.bind_carry.specs.Shown.{any_new, type_in, AreShownBelow}
@@ -50,14 +50,14 @@ use Rattle.bind_carry.proofs.JoinedItems.{items_join}
 use Rattle.bind_carry.proofs.KeysApart.{is_key_carried, keys_apart}
 use Rattle.bind_carry.proofs.LabelsFound.{label_found}
 use Rattle.bind_carry.proofs.PassedTypes.{parts_hold}
-use Rattle.bind_carry.proofs.SecondAgreed.{adds, before, before_fates, fates, first, import_stands_for, initial, named_is_carried, second}
+use Rattle.bind_carry.proofs.SecondAgreed.{adds, before, before_fates, fates, import_stands_for, initial, named_is_carried, second}
 use Rattle.bind_carry.proofs.SecondInitial.{before_at, IsBefore}
 use Rattle.bind_carry.proofs.SecondInterfaces.{carried_number, copied_carries}
 use Rattle.bind_carry.proofs.SecondKnown.{any_at, chosen, export_same, exports_shown, import_same, imports_shown, long, named_number, type_number}
 use Rattle.bind_carry.proofs.SecondKnown.{long_fates as fates_count, long_numbers as numbers_are_many}
-use Rattle.bind_carry.proofs.SecondMarks.{gained_flag, is_gained, is_shown_new}
+use Rattle.bind_carry.proofs.SecondMarks.{gained_flag, is_shown_new}
 use Rattle.bind_carry.proofs.SecondMet.{one_label, typed, under_label}
-use Rattle.bind_carry.proofs.SecondReady.{key_met, key_ready, AreKeysThere, IsKeyMet, IsKeyNamed}
+use Rattle.bind_carry.proofs.SecondReady.{key_met, key_ready, AreKeysThere, IsKeyNamed}
 use Rattle.bind_carry.proofs.SecondStands.{falls, named_carried_there, starts}
 use Rattle.bind_carry.proofs.SecondTypes.{unified_at, IsUnified}
 use Rattle.bind_carry.proofs.SettledParts.{copied_still}

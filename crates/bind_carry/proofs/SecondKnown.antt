@@ -1,5 +1,5 @@
 -- What the second pass begins with is known: from validity, from the first pass, and since the two worlds don't clash.
-use Rattle.std.proofs.Common.{◌≡◌, inl, inr, refl, sym, ap, subst, ◌∙◌, ℕ, zero, suc, ◌+◌, ◌<◌, arith, Bool, true, false, not, ◌&&◌, ◌||◌, List, [], ◌∷◌, length, map, Option, Some, None, is_some, is_none, option_and_then, slice_get}
+use Rattle.std.proofs.Common.{◌≡◌, refl, sym, ap, ◌∙◌, ℕ, zero, suc, ◌+◌, ◌<◌, arith, Bool, true, false, not, ◌||◌, List, [], ◌∷◌, length, Option, Some, None, is_some, is_none, option_and_then, slice_get}
 use Rattle.std.specs.Prelude.{String}
 use Rattle.std.specs.declared.alloc.Global.{Global}
 use Rattle.std.specs.List.{list_any, Contains}
@@ -32,7 +32,7 @@ use Rattle.bind_match.specs.declared.matches.Matches.{Matches}
 use Rattle.bind_union.specs.Carried.{carries_owner, Renumbering}
 use Rattle.bind_union.proofs.Lists.{no_true}
 use Rattle.bind_union.proofs.WorldNamesakes.{is_declared, lookup_stands, not_declared, type_imported, world_type, IsImported, IsWorldType}
-use Rattle.bind_carry.specs.BoundGains.{gained_inline, gains_any, type_under_key, unified}
+use Rattle.bind_carry.specs.BoundGains.{gains_any, type_under_key, unified}
 use Rattle.bind_carry.specs.Fates.{carries, is_carried, settled_from}
 use Rattle.bind_carry.specs.First.{first_fates, flag_under, second_from}
 use Rattle.bind_carry.specs.FirstPass.{IsFirstPass}
@@ -54,7 +54,7 @@ use Rattle.bind_carry.proofs.Ready.{fates_long, interface_count, numbers_count}
 use Rattle.bind_carry.proofs.SecondInitial.{IsKnown}
 use Rattle.bind_carry.proofs.SecondMarks.{gained_adds, gained_inline_alone, gained_long}
 use Rattle.bind_carry.proofs.SecondTypes.{second_long, unified_set, IsUnified}
-use Rattle.bind_carry.proofs.WorldEntries.{any_new_same, export_keyed, import_keyed, label_new, IsKeyed, IsNumberedSame}
+use Rattle.bind_carry.proofs.WorldEntries.{any_new_same, export_keyed, import_keyed, label_new, IsNumberedSame}
 
 -- ---- items that are types
 

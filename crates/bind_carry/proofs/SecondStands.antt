@@ -1,5 +1,5 @@
 -- Types that stand in what the bound world gains: those by path for what they stand for by path.
-use Rattle.std.proofs.Common.{◌≡◌, ◌⊎◌, inl, inr, refl, sym, ap, subst, ◌∙◌, ℕ, ◌+◌, ◌<◌, arith, Bool, true, false, ◌&&◌, ◌||◌, ◌==◌, List, [], ◌∷◌, length, Option, Some, None, is_some, is_none, option_map, slice_get, unwrap_or, if◌then◌else◌}
+use Rattle.std.proofs.Common.{◌≡◌, ◌⊎◌, inl, inr, refl, sym, ap, ◌∙◌, ℕ, ◌+◌, Bool, true, false, ◌&&◌, ◌||◌, ◌==◌, List, [], length, Option, Some, None, is_some, is_none, option_map, slice_get, unwrap_or, if◌then◌else◌}
 use Rattle.std.specs.List.{list_all}
 use Rattle.std.specs.Option.{option_map_or}
 use Rattle.std.proofs.lemmas.Bool.{or_right}
@@ -11,10 +11,8 @@ use Rattle.wit_model.specs.declared.model.TypeOwner.{TypeOwner}
 use Rattle.wit_model.specs.declared.model.TypeOwner.TheVariants as owner
 use Rattle.wit_model.specs.declared.model.World.{World}
 use Rattle.wit_model.specs.declared.model.WorldId.{WorldId}
-use Rattle.wit_model.specs.declared.model.WorldItem.{WorldItem}
-use Rattle.wit_model.specs.declared.model.WorldKey.{WorldKey}
 use Rattle.wit_model.specs.Lookup.{interface_at, interface_path, type_at}
-use Rattle.wit_model.specs.Parts.{kind_numbers, same_owner}
+use Rattle.wit_model.specs.Parts.{same_owner}
 use Rattle.wit_model.specs.Rules.{is_resource_itself, passes}
 use Rattle.wit_model.specs.Uses.{alias_target}
 use Rattle.wit_model.specs.Valid.{IsValid, as_interface}
@@ -27,7 +25,7 @@ use Rattle.bind_union.specs.Views.{kind_view, view_numbers}
 use Rattle.bind_union.proofs.Homes.{alias_of_all}
 use Rattle.bind_union.proofs.Images.{numbers_of_view}
 use Rattle.bind_union.proofs.Lists.{no_true}
-use Rattle.bind_union.proofs.Namesakes.{target_home, target_named, IsTarget}
+use Rattle.bind_union.proofs.Namesakes.{target_home, target_named}
 use Rattle.bind_union.proofs.ViewTests.{alias_same, resource_same}
 use Rattle.bind_carry.specs.BoundGains.{gains_any, unified}
 use Rattle.bind_carry.specs.Fates.{are_carried, carries, copies, is_carried, settled, settled_from, FallBelow}
@@ -39,7 +37,7 @@ use Rattle.bind_carry.specs.SecondPass.{IsSecondPass}
 use Rattle.bind_carry.specs.declared.fate.Fate.{Fate}
 use Rattle.bind_carry.specs.declared.fate.Fate.TheVariants as fate
 use Rattle.bind_carry.specs.declared.plan.Carried.{Carried}
-use Rattle.bind_carry.proofs.CopiesPlaced.{some_same, stands_under}
+use Rattle.bind_carry.proofs.CopiesPlaced.{stands_under}
 use Rattle.bind_carry.proofs.FirstMatched.{named_of_path, there_of_path}
 use Rattle.bind_carry.proofs.PartsCarried.{has_home}
 use Rattle.bind_carry.proofs.SecondInitial.{before_at, second_starts, IsBefore, IsKnown}

@@ -1,5 +1,5 @@
 -- Worlds that are copied whole, as the laws on unions ask for them.
-use Rattle.std.proofs.Common.{◌≡◌, refl, sym, ap, ◌∙◌, ℕ, zero, suc, Bool, true, false, ◌&&◌, List, [], ◌∷◌, ◌++◌, length, map, Option, Some, option_map, slice_get}
+use Rattle.std.proofs.Common.{◌≡◌, refl, sym, ap, ◌∙◌, ℕ, zero, suc, true, false, List, [], ◌∷◌, ◌++◌, length, map, Option, Some, slice_get}
 use Rattle.std.specs.Prelude.{String}
 use Rattle.std.specs.declared.alloc.Global.{Global}
 use Rattle.std.specs.List.{list_all, AllZip, IsDistinct}
@@ -29,7 +29,6 @@ use Rattle.bind_carry.specs.Numbers.{numbers_of, world_number}
 use Rattle.bind_carry.specs.ReadyItems.{AreReady, IsItemReady, IsKeyReady}
 use Rattle.bind_carry.specs.Renumbered.{first_of, is_matched}
 use Rattle.bind_carry.specs.Whole.{kept, IsWorldCarried}
-use Rattle.bind_carry.specs.declared.fate.Fate.{Fate}
 use Rattle.bind_carry.specs.declared.plan.Carried.{Carried}
 use Rattle.bind_carry.proofs.FirstInterfaces.{home_number}
 use Rattle.bind_carry.proofs.FirstWorlds.{export_ready, import_ready}
