@@ -1,0 +1,33 @@
+pub mod Lists
+pub mod Images
+mod ViewTests
+pub mod Carrying
+pub mod Homes
+pub mod TypeRules
+mod FunctionRules
+mod UsedInterfaces
+mod InOrder
+mod InterfaceRules
+mod EntryRules
+mod WorldOrder
+pub mod WorldRules
+pub mod Listed
+mod Itself
+mod Sources
+mod Kept
+mod KeptTypes
+pub mod PackageNames
+pub mod KeptPackages
+mod KeptNumbers
+mod KeptPackageNames
+mod Shown
+mod KeptPlaces
+mod Valid
+pub mod Namesakes
+mod Meanings
+mod BoundMeanings
+mod WorldNamesakes
+pub mod United
+pub mod UnitedWorlds
+pub mod MatchedStand
+mod Steps

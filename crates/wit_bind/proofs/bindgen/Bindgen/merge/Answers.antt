@@ -1,0 +1,30 @@
+use Rattle.wit_bind.proofs.AsItWas.{kept_itself}
+use Rattle.wit_bind.proofs.Growing.{on_err, plan_addable}
+use Rattle.wit_bind.proofs.bindgen.Bindgen.merge.Goals as goal
+
+pub grow-requires : goal.grow-requires
+grow-requires c = plan_addable c.args.self.now c.args.other c.requires.own c.requires.others c.in_ok-added.added c.in_ok-added.keys.keys c.in_ok-added.ensures.ok
+
+pub returns-clause-united : goal.returns-clause-united
+returns-clause-united c = c.in_ok-added.ensures.united
+
+pub returns-clause-union : goal.returns-clause-union
+returns-clause-union c = ?
+
+pub returns-clause-valid : goal.returns-clause-valid
+returns-clause-valid c = ?
+
+pub returns-clause-extends : goal.returns-clause-extends
+returns-clause-extends c = ?
+
+pub returns-clause-order : goal.returns-clause-order
+returns-clause-order c = ?
+
+pub returns-clause-added : goal.returns-clause-added
+returns-clause-added c = ?
+
+pub returns-clause-answer : goal.returns-clause-answer
+returns-clause-answer c = ?
+
+pub returns-in_err-added-clause-kept : goal.returns-in_err-added-clause-kept
+returns-in_err-added-clause-kept c = on_err (kept_itself c.args.self.now) c.from_residual.result
