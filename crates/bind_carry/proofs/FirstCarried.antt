@@ -50,7 +50,7 @@ use Rattle.bind_carry.proofs.KeptPlaced.{kept_placed, IsKeptAt}
 use Rattle.bind_carry.proofs.SettledParts.{settled_long}
 
 -- a number of a mapped list is that of one of the list
-has_map : (g : ℕ → ℕ) (ns : List ℕ) (m : ℕ) → has (map g ns) m ≡ true → (k : ℕ) × (has ns k ≡ true) × (g k ≡ m)
+pub has_map : (g : ℕ → ℕ) (ns : List ℕ) (m : ℕ) → has (map g ns) m ≡ true → (k : ℕ) × (has ns k ≡ true) × (g k ≡ m)
 has_map g [] m h = no_true h
 has_map g (n ∷ ns) m h = go (g n == m) refl h (has_map g ns m)
   where

@@ -1,10 +1,9 @@
 -- What is copied by path stands behind own entries, and inline interfaces come with the world that shows them.
-use Rattle.std.proofs.Common.{◌≡◌, refl, sym, ap, subst, ◌∙◌, ℕ, zero, suc, ◌+◌, ◌≤◌, ◌<◌, arith, Bool, true, false, ◌&&◌, ◌||◌, not, ◌==◌, cond, List, [], ◌∷◌, ◌++◌, length, map, filter_map, Option, Some, None, is_some, option_map, slice_get, unwrap_or}
+use Rattle.std.proofs.Common.{◌≡◌, refl, sym, ap, subst, ◌∙◌, ℕ, zero, suc, ◌+◌, ◌≤◌, arith, Bool, true, false, ◌&&◌, ◌||◌, not, ◌==◌, cond, List, [], ◌∷◌, ◌++◌, length, map, filter_map, Option, Some, None, is_some, slice_get}
 use Rattle.std.specs.Prelude.{count_by, sum_by, option_and_then, String}
 use Rattle.std.specs.declared.alloc.Global.{Global}
-use Rattle.std.specs.List.{list_all, list_any}
+use Rattle.std.specs.List.{list_all}
 use Rattle.std.specs.Option.{option_eq, option_map_or}
-use Rattle.std.proofs.lemmas.Bool.{or_left, or_right}
 use Rattle.std.proofs.lemmas.List.{length-map}
 use Rattle.std.proofs.lemmas.List.Sums.{sum_by-append, sum_by-cons}
 use Rattle.wit_model.specs.declared.model.Interface.{Interface}
@@ -23,18 +22,14 @@ use Rattle.wit_model.proofs.Elements.{equal, same-number}
 use Rattle.wit_model.proofs.Lists.{first_true, second_true}
 use Rattle.wit_model.proofs.OnePath.{interface-passes}
 use Rattle.bind_copy.specs.Copies.{number_under}
-use Rattle.bind_union.specs.Merged.{AreCopies}
 use Rattle.bind_union.proofs.Images.{filter_map_none, filter_map_some}
 use Rattle.bind_union.proofs.Lists.{no_true}
 use Rattle.bind_carry.specs.Fates.{copies, numbers_by, stood}
 use Rattle.bind_carry.specs.First.{first_fates, flag_under}
 use Rattle.bind_carry.specs.FirstPass.{FirstIsCopied}
 use Rattle.bind_carry.specs.Marked.{is_shown_in, is_shown_of, AreChosen}
-use Rattle.bind_carry.specs.MatchedSame.{AreMatchedAt}
 use Rattle.bind_carry.specs.Numbers.{interface_number, numbers_of}
 use Rattle.bind_carry.specs.Renumbered.{first_of, is_matched}
-use Rattle.bind_carry.specs.Whole.{kept}
-use Rattle.bind_carry.specs.declared.plan.Carried.{Carried}
 use Rattle.bind_carry.proofs.CopiesPlaced.{flag_is_copied, some_same}
 use Rattle.bind_carry.proofs.FirstCarried.{chosen_so, first_is_carried}
 use Rattle.bind_carry.proofs.FirstMatched.{named_of_path}
@@ -54,13 +49,13 @@ copied_behind first (false ∷ bs) (o ∷ os) (suc n) long h = copied_behind fir
 -- ---- how often worlds show an interface
 
 module _ (n : ℕ) where
-  abbrev count : List WorldItem → ℕ
+  abbrev pub count : List WorldItem → ℕ
   count is = count_by (λ i. is_id n (item_interface i)) is
 
   count_next : (i : WorldItem) (is : List WorldItem) → count (i ∷ is) ≡ cond (is_id n (item_interface i)) 1 0 + count is
   count_next i is = sum_by-cons (λ x. cond (is_id n (item_interface x)) 1 0) i is
 
-  some_count : (is : List WorldItem) → has (filter_map item_interface is) n ≡ true → 1 ≤ count is
+  pub some_count : (is : List WorldItem) → has (filter_map item_interface is) n ≡ true → 1 ≤ count is
   some_count [] h = no_true h
   some_count (i ∷ is) h = subst (λ (k : ℕ). 1 ≤ k) (sym (count_next i is)) (go (item_interface i) refl h (some_count is))
     where
@@ -75,7 +70,7 @@ module _ (n : ℕ) where
       go None e k rest = more (rest (sym (ap (λ ns. has ns n) (filter_map_none item_interface i is e)) ∙ k))
       go (Some m) e k rest = by m e (m == n) refl (sym (ap (λ ns. has ns n) (filter_map_some item_interface i m is e)) ∙ k) rest
 
-  shown_count : (es : List (WorldKey × WorldItem)) → is_shown_in es n ≡ true → 1 ≤ count (map (λ (e : WorldKey × WorldItem). e.1) es)
+  pub shown_count : (es : List (WorldKey × WorldItem)) → is_shown_in es n ≡ true → 1 ≤ count (map (λ (e : WorldKey × WorldItem). e.1) es)
   shown_count [] h = no_true h
   shown_count (e ∷ es) h = subst (λ (k : ℕ). 1 ≤ k) (sym (count_next e.1 (map (λ (x : WorldKey × WorldItem). x.1) es))) (go (is_id n (item_interface e.1)) refl h (shown_count es))
     where
@@ -91,7 +86,7 @@ sum_one f (x ∷ xs) zero b at q = let one : 1 ≤ f x = subst (λ y. 1 ≤ f y)
 sum_one f (x ∷ xs) (suc n) b at q = let r = sum_one f xs n b at q in let total = sum_by-cons f x xs in omega (arith, r, total)
 
 -- where two places hold something, the sum is two at least
-sum_two : {X : Type 0} (f : X → ℕ) (xs : List X) (m n : ℕ) (a b : X) → slice_get xs m ≡ Some a → slice_get xs n ≡ Some b → 1 ≤ f a → 1 ≤ f b → (m ≡ n → ⊥) → 2 ≤ sum_by f xs
+pub sum_two : {X : Type 0} (f : X → ℕ) (xs : List X) (m n : ℕ) (a b : X) → slice_get xs m ≡ Some a → slice_get xs n ≡ Some b → 1 ≤ f a → 1 ≤ f b → (m ≡ n → ⊥) → 2 ≤ sum_by f xs
 sum_two f [] m n a b at_a at_b p q apart = let wrong : ⊥ = cc in absurd wrong
 sum_two f (x ∷ xs) zero zero a b at_a at_b p q apart = absurd (apart refl)
 sum_two f (x ∷ xs) zero (suc n) a b at_a at_b p q apart = let one : 1 ≤ f x = subst (λ y. 1 ≤ f y) (sym (some_same x a at_a)) p in let more = sum_one f xs n b at_b q in let total = sum_by-cons f x xs in omega (arith, one, more, total)
@@ -121,11 +116,11 @@ shown_by (true ∷ bs) (w ∷ ws) m h = go (is_shown_in w.imports.entries m || i
     go true e k rest = record { place = zero; world = w; at_place = refl; set = refl; shows = e }
     go false e k rest = next_shows true bs w ws m (rest k)
 
-count_front : (n : ℕ) (xs ys : List WorldItem) → count_by (λ i. is_id n (item_interface i)) (xs ++ ys) ≡ count_by (λ i. is_id n (item_interface i)) xs + count_by (λ i. is_id n (item_interface i)) ys
+pub count_front : (n : ℕ) (xs ys : List WorldItem) → count_by (λ i. is_id n (item_interface i)) (xs ++ ys) ≡ count_by (λ i. is_id n (item_interface i)) xs + count_by (λ i. is_id n (item_interface i)) ys
 count_front n xs ys = sum_by-append (λ i. cond (is_id n (item_interface i)) 1 0) xs ys
 
 -- so it counts
-times_of : (w : World) (m : ℕ) → (is_shown_in w.imports.entries m || is_shown_in w.exports.entries m) ≡ true → 1 ≤ times_shown m w
+pub times_of : (w : World) (m : ℕ) → (is_shown_in w.imports.entries m || is_shown_in w.exports.entries m) ≡ true → 1 ≤ times_shown m w
 times_of w m h = go (is_shown_in w.imports.entries m) refl h
   where
     items : List (WorldKey × WorldItem) → List WorldItem
@@ -140,7 +135,7 @@ times_of w m h = go (is_shown_in w.imports.entries m) refl h
 
 module _ (r : Resolve) (valid : IsValid r) where
   -- an inline interface is shown once
-  inline_once : (m : ℕ) (i : Interface) → interface_at r m ≡ Some i → i.name ≡ None → sum_by (times_shown m) r.worlds.items ≡ 1
+  pub inline_once : (m : ℕ) (i : Interface) → interface_at r m ≡ Some i → i.name ≡ None → sum_by (times_shown m) r.worlds.items ≡ 1
   unfolding places
   inline_once m i at none = equal (sum_by (times_shown m) r.worlds.items) 1 (first_true (sum_by (times_shown m) r.worlds.items == 1) same_home (of_none named inline i.name none (second_true (is_some i.«package») (option_map_or named i.name inline) h)))
     where
@@ -161,7 +156,7 @@ module _ (r : Resolve) (valid : IsValid r) where
       of_none f d (Some s) e k = let wrong : ⊥ = cc in absurd wrong
 
   -- so by one world
-  one_shows : (m : ℕ) (i : Interface) → interface_at r m ≡ Some i → i.name ≡ None → (a b : ℕ) (w v : World) → world_at r a ≡ Some w → world_at r b ≡ Some v → 1 ≤ times_shown m w → 1 ≤ times_shown m v → a ≡ b
+  pub one_shows : (m : ℕ) (i : Interface) → interface_at r m ≡ Some i → i.name ≡ None → (a b : ℕ) (w v : World) → world_at r a ≡ Some w → world_at r b ≡ Some v → 1 ≤ times_shown m w → 1 ≤ times_shown m v → a ≡ b
   one_shows m i at none a b w v at_w at_v p q = go (a == b) refl
     where
       once : sum_by (times_shown m) r.worlds.items ≡ 1

@@ -104,7 +104,7 @@ named_of_path r n i at h = go i.name refl (sym (ap (λ o. is_some (option_and_th
     go None e k = no_true k
     go (Some s) e k = ap is_some e
 
-there_of_path : (r : Resolve) (n : ℕ) → is_some (interface_path r n) ≡ true → (i : Interface) × (interface_at r n ≡ Some i)
+pub there_of_path : (r : Resolve) (n : ℕ) → is_some (interface_path r n) ≡ true → (i : Interface) × (interface_at r n ≡ Some i)
 there_of_path r n h = go (interface_at r n) refl h
   where
     go : (o : Option Interface) → interface_at r n ≡ o → is_some (option_and_then (path_of_interface r) o) ≡ true → (i : Interface) × (interface_at r n ≡ Some i)
@@ -182,7 +182,7 @@ module _ (own other : Resolve) (valid_own : IsValid own) (valid_other : IsValid 
   path_carried n path = let i = there_of_path other n path in ap (λ b. b || is_matched matched n) (chosen.named n i.0 i.1 (named_of_path other n i.0 i.1 path)) ∙ excluded (is_matched matched n)
 
   -- all types of an interface are named ones of it
-  types_are : (n : ℕ) (i : Interface) → interface_at other n ≡ Some i → (p : ℕ → Bool) → ((t : ℕ) (def : TypeDef) → type_at other t ≡ Some def → is_some def.name ≡ true → def.owner ≡ as_interface n → p t ≡ true) → list_all p (interface_type_numbers i) ≡ true
+  pub types_are : (n : ℕ) (i : Interface) → interface_at other n ≡ Some i → (p : ℕ → Bool) → ((t : ℕ) (def : TypeDef) → type_at other t ≡ Some def → is_some def.name ≡ true → def.owner ≡ as_interface n → p t ≡ true) → list_all p (interface_type_numbers i) ≡ true
   unfolding order_of_types numbers_in_range
   types_are n i at p each = all_two (in_list other.types.items) (is_named_of other (as_interface n)) p one (interface_type_numbers i) range named
     where

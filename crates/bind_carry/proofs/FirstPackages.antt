@@ -1,5 +1,5 @@
 -- Each package of the other stands in one of its name: in a new one, or in the own one that was found.
-use Rattle.std.proofs.Common.{◌≡◌, ◌≢◌, ◌⊎◌, inl, inr, refl, sym, ap, subst, ◌∙◌, ℕ, zero, suc, ◌+◌, ◌<◌, arith, Bool, true, false, not, ◌&&◌, ◌==◌, cond, List, [], ◌∷◌, ◌++◌, length, map, Option, Some, None, is_none, option_map, slice_get, unwrap_or, append-nil}
+use Rattle.std.proofs.Common.{◌≡◌, ◌⊎◌, inl, inr, refl, sym, ap, subst, ◌∙◌, ℕ, zero, suc, ◌+◌, ◌<◌, arith, Bool, true, false, ◌&&◌, ◌==◌, cond, List, [], ◌∷◌, ◌++◌, length, map, Option, Some, None, is_none, option_map, slice_get, unwrap_or, append-nil}
 use Rattle.std.specs.List.{AllZip}
 use Rattle.std.specs.Option.{option_eq}
 use Rattle.std.proofs.lemmas.Bool.{eq-eqb, eqb-true}
@@ -124,7 +124,7 @@ later n ns k e none zero g at same =
 later n ns k e none (suc i) g at same = none i g at same
 
 -- the place of the names that a package gains, if it gains any
-some_gains : (ns : List Names) (k : ℕ) → ((i : ℕ) × (g : Names) × (slice_get ns i ≡ Some g) × (g.«package».0 ≡ k)) ⊎ GainsNone ns k
+pub some_gains : (ns : List Names) (k : ℕ) → ((i : ℕ) × (g : Names) × (slice_get ns i ≡ Some g) × (g.«package».0 ≡ k)) ⊎ GainsNone ns k
 some_gains [] k = inr (λ i g at same. let wrong : ⊥ = cc in wrong)
 some_gains (n ∷ ns) k = go (n.«package».0 == k) refl (some_gains ns k)
   where
@@ -163,7 +163,7 @@ mapped_at f [] n x e = let wrong : ⊥ = cc in absurd wrong
 mapped_at f (y ∷ ys) zero x e = ap (option_map f) e
 mapped_at f (y ∷ ys) (suc n) x e = mapped_at f ys n x e
 
-front_at : {X : Type 0} (xs ys : List X) (n : ℕ) (x : X) → slice_get xs n ≡ Some x → slice_get (xs ++ ys) n ≡ Some x
+pub front_at : {X : Type 0} (xs ys : List X) (n : ℕ) (x : X) → slice_get xs n ≡ Some x → slice_get (xs ++ ys) n ≡ Some x
 front_at [] ys n x e = let wrong : ⊥ = cc in absurd wrong
 front_at (y ∷ xs) ys zero x e = e
 front_at (y ∷ xs) ys (suc n) x e = front_at xs ys n x e

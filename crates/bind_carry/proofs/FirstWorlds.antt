@@ -1,7 +1,6 @@
 -- Worlds that are copied: all that their items name is carried, so each is a copy as the laws on unions ask for it.
-use Rattle.std.proofs.Common.{◌≡◌, refl, sym, ap, ◌∙◌, ℕ, zero, suc, ◌<◌, arith, Bool, true, false, ◌&&◌, ◌||◌, List, [], ◌∷◌, ◌++◌, length, Option, Some, None, is_some, option_map, option_to_list, slice_get, unwrap_or}
-use Rattle.std.specs.List.{list_all, list_any, AllZip, IsDistinct}
-use Rattle.std.specs.Map.{keys_of}
+use Rattle.std.proofs.Common.{◌≡◌, refl, sym, ap, ◌∙◌, ℕ, zero, suc, Bool, true, false, ◌&&◌, ◌||◌, List, [], ◌∷◌, Option, Some, None, is_some, option_to_list, slice_get, unwrap_or}
+use Rattle.std.specs.List.{list_all, list_any}
 use Rattle.std.proofs.lemmas.Bool.{or_left, or_right}
 use Rattle.wit_model.specs.declared.model.Function.{Function}
 use Rattle.wit_model.specs.declared.model.Interface.{Interface}
@@ -15,11 +14,11 @@ use Rattle.wit_model.specs.declared.model.WorldItem.TheVariants as item
 use Rattle.wit_model.specs.declared.model.WorldKey.{WorldKey}
 use Rattle.wit_model.specs.declared.model.WorldKey.TheVariants as key
 use Rattle.wit_model.specs.Lookup.{interface_at, type_at, world_at}
-use Rattle.wit_model.specs.Parts.{function_numbers, same_owner}
-use Rattle.wit_model.specs.Rules.{entries_in_range, export_stands, import_stands, in_list, is_id, is_interface_key, is_own_type, item_in_range, item_type, key_in_range, package_number, passes, text_is}
+use Rattle.wit_model.specs.Parts.{same_owner}
+use Rattle.wit_model.specs.Rules.{entries_in_range, export_stands, import_stands, in_list, is_id, is_interface_key, item_in_range, key_in_range, package_number, passes, text_is}
 use Rattle.wit_model.specs.Text.{text_of}
 use Rattle.wit_model.specs.Uses.{item_interface}
-use Rattle.wit_model.specs.Valid.{IsValid, Keeps, Rule, as_world, functions_of_world, is_place, item_function, numbers_in_range, world_items}
+use Rattle.wit_model.specs.Valid.{IsValid, Keeps, Rule, as_world, is_place, item_function, numbers_in_range, world_items}
 use Rattle.wit_model.proofs.Elements.{same-number}
 use Rattle.wit_model.proofs.Entries.{lists_pass}
 use Rattle.wit_model.proofs.Lists.{first_true, second_true}

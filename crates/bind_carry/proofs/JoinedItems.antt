@@ -46,17 +46,18 @@ module _ (f : Renumbering) (types : List ℕ) (by_type : number_under types ≡ 
     external_id = is.external_id;
   }
 
-module _ (f : Renumbering) (interfaces types : List ℕ) (by_interface : number_under interfaces ≡ f.interfaces) (by_type : number_under types ≡ f.types) where
+-- What is carried has the numbers that were handed on.
+module _ (f : Renumbering) (interfaces types : List ℕ) (by_interface : (n : ℕ) → f.carries_interface n ≡ true → number_under interfaces n ≡ f.interfaces n) (by_type : number_under types ≡ f.types) where
   -- ---- keys
 
   key_becomes : (old new : WorldKey) → IsKeyUnder interfaces old new → IsKeyReady f old → KeyBecomes f old new
   key_becomes (key.Name old) (key.Name new) is ready = is
-  key_becomes (key.Interface old) (key.Interface new) is ready = (is ∙ ap (λ g. g old.0) by_interface, ready)
+  key_becomes (key.Interface old) (key.Interface new) is ready = (is ∙ by_interface old.0 ready, ready)
   key_becomes (key.Name old) (key.Interface new) is ready = absurd is
   key_becomes (key.Interface old) (key.Name new) is ready = absurd is
 
   item_becomes : (old new : WorldItem) → IsItemUnder interfaces types old new → IsItemReady f old → ItemBecomes f old new
-  item_becomes (item.Interface old s d x) (item.Interface new t e y) is ready = (is.0 ∙ ap (λ g. g old.0) by_interface, ready, is.1, is.3)
+  item_becomes (item.Interface old s d x) (item.Interface new t e y) is ready = (is.0 ∙ by_interface old.0 ready, ready, is.1, is.3)
   item_becomes (item.Function old) (item.Function new) is ready = function_copy f types by_type old new is ready
   item_becomes (item.Type_ old) (item.Type_ new) is ready = (is ∙ ap (λ g. g old.0) by_type, ready)
   item_becomes (item.Interface old s d x) (item.Function new) is ready = absurd is
@@ -66,18 +67,18 @@ module _ (f : Renumbering) (interfaces types : List ℕ) (by_interface : number_
   item_becomes (item.Type_ old) (item.Interface new t e y) is ready = absurd is
   item_becomes (item.Type_ old) (item.Function new) is ready = absurd is
 
-  same_test : (k x : WorldKey) → is_key_under interfaces k x ≡ same_key f k x
-  same_test (key.Name old) (key.Name new) = refl
-  same_test (key.Interface old) (key.Interface new) = ap (λ g. g old.0 == new.0) by_interface
-  same_test (key.Name old) (key.Interface new) = refl
-  same_test (key.Interface old) (key.Name new) = refl
+  same_test : (k x : WorldKey) → IsKeyReady f k → is_key_under interfaces k x ≡ same_key f k x
+  same_test (key.Name old) (key.Name new) ready = refl
+  same_test (key.Interface old) (key.Interface new) ready = ap (λ (n : ℕ). n == new.0) (by_interface old.0 ready)
+  same_test (key.Name old) (key.Interface new) ready = refl
+  same_test (key.Interface old) (key.Name new) ready = refl
 
-  any_same : (k : WorldKey) (own : List (WorldKey × WorldItem)) → list_any (λ (x : WorldKey × WorldItem). is_key_under interfaces k x.0) own ≡ list_any (λ (x : WorldKey × WorldItem). same_key f k x.0) own
-  any_same k [] = refl
-  any_same k (x ∷ xs) = ap₂ (λ a b. a || b) (same_test k x.0) (any_same k xs)
+  any_same : (k : WorldKey) → IsKeyReady f k → (own : List (WorldKey × WorldItem)) → list_any (λ (x : WorldKey × WorldItem). is_key_under interfaces k x.0) own ≡ list_any (λ (x : WorldKey × WorldItem). same_key f k x.0) own
+  any_same k ready [] = refl
+  any_same k ready (x ∷ xs) = ap₂ (λ a b. a || b) (same_test k x.0 ready) (any_same k ready xs)
 
-  pub new_same : (own : List (WorldKey × WorldItem)) (k : WorldKey) → is_new_under interfaces own k ≡ is_new f own k
-  new_same own k = ap not (any_same k own)
+  pub new_same : (own : List (WorldKey × WorldItem)) (k : WorldKey) → IsKeyReady f k → is_new_under interfaces own k ≡ is_new f own k
+  new_same own k ready = ap not (any_same k ready own)
 
   -- ---- items
 
@@ -99,5 +100,5 @@ module _ (f : Renumbering) (interfaces types : List ℕ) (by_interface : number_
         go true q [] zip more = absurd zip
         go true q (x ∷ xs) zip more =
             let r = ready.new_ready zero e refl q in
-            joined.added e x es xs (sym (new_same own e.0) ∙ q) (key_becomes e.0 x.0 zip.0.0 r.0, item_becomes e.1 x.1 zip.0.1 r.1) (more xs zip.1)
+            joined.added e x es xs (sym (new_same own e.0 r.0) ∙ q) (key_becomes e.0 x.0 zip.0.0 r.0, item_becomes e.1 x.1 zip.0.1 r.1) (more xs zip.1)
         go false q xs zip more = let m = ready.met zero e refl q in joined.met e m.there es xs m.in_own m.becomes m.stands (more xs zip)

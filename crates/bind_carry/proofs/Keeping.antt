@@ -1,5 +1,5 @@
 -- Things that are copied one after the other, where their flags are set.
-use Rattle.std.proofs.Common.{◌≡◌, refl, sym, subst, Bool, true, false, List, [], ◌∷◌, ◌++◌, append_assoc, append-nil}
+use Rattle.std.proofs.Common.{◌≡◌, sym, subst, Bool, true, false, List, [], ◌∷◌, ◌++◌, append_assoc, append-nil}
 use Rattle.std.specs.List.{AllZip}
 use Rattle.bind_carry.specs.Whole.{kept, KeptSoFar}
 

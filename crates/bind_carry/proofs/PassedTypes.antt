@@ -1,12 +1,9 @@
 -- Types that a pass copies: each stands under its new number, and all its parts are carried. Both passes are so.
-use Rattle.std.proofs.Common.{◌≡◌, inl, refl, sym, ap, ◌∙◌, ℕ, zero, suc, ◌<◌, arith, Bool, true, false, ◌&&◌, nat_lt, List, [], ◌∷◌, ◌++◌, length, Option, Some, None, is_none, is_some, slice_get, unwrap_or}
+use Rattle.std.proofs.Common.{◌≡◌, inl, refl, sym, ap, ◌∙◌, ℕ, zero, suc, ◌<◌, arith, Bool, true, false, ◌&&◌, nat_lt, List, [], ◌∷◌, ◌++◌, length, Option, Some, None, is_none, is_some, slice_get}
 use Rattle.std.specs.List.{list_all}
 use Rattle.std.specs.Option.{option_map_or}
-use Rattle.std.proofs.lemmas.Bool.{lt-ltb}
 use Rattle.wit_model.specs.declared.model.Resolve.{Resolve}
 use Rattle.wit_model.specs.declared.model.TypeDef.{TypeDef}
-use Rattle.wit_model.specs.declared.model.TypeOwner.{TypeOwner}
-use Rattle.wit_model.specs.declared.model.TypeOwner.TheVariants as owner
 use Rattle.wit_model.specs.Lookup.{type_at}
 use Rattle.wit_model.specs.Parts.{kind_numbers}
 use Rattle.wit_model.specs.Valid.{IsValid}
@@ -54,7 +51,7 @@ module _ (other : Resolve) (valid : IsValid other) (f : Renumbering) (adds : Boo
   falls n def at = ap (list_all (λ m. nat_lt m n)) (numbers_of_view def.kind) ∙ refers_below other (references_of other valid.rules) n def at
 
   -- a fate at first that carries carries in the end
-  carried_if : (n : ℕ) (def : TypeDef) (g : Fate) → type_at other n ≡ Some def → slice_get initial n ≡ Some g → carries g ≡ true → is_carried fates n ≡ true
+  pub carried_if : (n : ℕ) (def : TypeDef) (g : Fate) → type_at other n ≡ Some def → slice_get initial n ≡ Some g → carries g ≡ true → is_carried fates n ≡ true
   carried_if n def fate.Left at e h = no_true h
   carried_if n def (fate.Stands k) at e h = ap (λ o. option_map_or carries o false) (stands_still adds other.types.items initial falls n def at k e)
   carried_if n def (fate.Copied home) at e h = ap (λ o. option_map_or carries o false) (copied_still adds other.types.items initial falls n def at home e)

@@ -1,7 +1,5 @@
 -- The pass over what the bound world gains begins as it should: what it copies is of the bound world, or of an inline interface that is gained.
-use Rattle.std.proofs.Common.{◌≡◌, ◌⊎◌, inl, inr, refl, sym, ap, subst, ◌∙◌, ℕ, zero, suc, ◌<◌, arith, Bool, true, false, ◌&&◌, ◌||◌, ◌==◌, List, [], ◌∷◌, length, Option, Some, None, is_some, slice_get, unwrap_or, if◌then◌else◌}
-use Rattle.std.specs.Prelude.{String}
-use Rattle.std.specs.declared.alloc.Global.{Global}
+use Rattle.std.proofs.Common.{◌≡◌, inl, inr, refl, sym, ap, ◌∙◌, ℕ, zero, suc, ◌<◌, arith, Bool, true, false, ◌&&◌, ◌||◌, ◌==◌, List, [], ◌∷◌, length, Option, Some, is_some, slice_get, unwrap_or, if◌then◌else◌}
 use Rattle.std.specs.Option.{option_map_or}
 use Rattle.std.proofs.lemmas.Bool.{or_left, or_right}
 use Rattle.wit_model.specs.declared.model.Interface.{Interface}
@@ -21,7 +19,7 @@ use Rattle.bind_copy.specs.Copies.{number_under}
 use Rattle.bind_union.specs.Carried.{carries_owner, copies_owner, owner_under, Renumbering}
 use Rattle.bind_union.proofs.Lists.{no_true}
 use Rattle.bind_carry.specs.BoundGains.{unified}
-use Rattle.bind_carry.specs.Fates.{carries, is_carried}
+use Rattle.bind_carry.specs.Fates.{carries}
 use Rattle.bind_carry.specs.First.{beside_first, flag_under, is_named_at, second_from, second_in}
 use Rattle.bind_carry.specs.Initial.{IsInitial}
 use Rattle.bind_carry.specs.Renumbered.{is_matched, met_under, second_of}
@@ -72,18 +70,20 @@ module _ (other : Resolve) (valid : IsValid other) (matched : List (Option Inter
     pub types_add : (n : ℕ) (def : TypeDef) → type_at other n ≡ Some def → def.owner ≡ owner.World (record { 0 = other_world }) → slice_get initial n ≡ Some (fate.Copied (owner.World (record { 0 = world }))) → adds ≡ true
     pub names : (n : ℕ) (i : Interface) → interface_at other n ≡ Some i → is_some i.name ≡ true → (flag_under c.copied_interfaces.items n || is_matched matched n) ≡ true
 
-  record IsBefore (n : ℕ) (def : TypeDef) : Type 0 where
-    old : Fate
-    at_old : slice_get first_fates n ≡ Some old
-    number : ℕ
-    stands : slice_get before n ≡ Some (second_in other world other_world copied interfaces def.owner (beside_first old number))
+  -- What a type was by path, and what becomes of it before own types are looked for.
+  pub record IsBefore (n : ℕ) (def : TypeDef) : Type 0 where
+    pub old : Fate
+    pub at_old : slice_get first_fates n ≡ Some old
+    pub number : ℕ
+    pub at_number : slice_get first_numbers n ≡ Some number
+    pub stands : slice_get before n ≡ Some (second_in other world other_world copied interfaces def.owner (beside_first old number))
 
-  before_at : (n : ℕ) (def : TypeDef) → type_at other n ≡ Some def → IsBefore n def
+  pub before_at : (n : ℕ) (def : TypeDef) → type_at other n ≡ Some def → IsBefore n def
   before_at n def at =
       let less = type_within other.types.items n def at in
       let g = fate_there first_fates n (omega (arith, less, long_fates)) in
       let m = number_there first_numbers n (omega (arith, less, long_numbers)) in
-      record { old = g.0; at_old = g.1; number = m.0; stands = second_at other world other_world copied interfaces other.types.items first_fates first_numbers n def g.0 m.0 at g.1 m.1 }
+      record { old = g.0; at_old = g.1; number = m.0; at_number = m.1; stands = second_at other world other_world copied interfaces other.types.items first_fates first_numbers n def g.0 m.0 at g.1 m.1 }
 
   module _ (adds : Bool) (known : IsKnown adds) where
     -- what is copied at first was so before own types were looked for

@@ -1,5 +1,5 @@
 -- What becomes of types in what the bound world gains, before those without a name have their fates.
-use Rattle.std.proofs.Common.{◌≡◌, ◌⊎◌, inl, inr, refl, sym, ap, subst, ◌∙◌, ℕ, zero, suc, ◌<◌, arith, Bool, true, false, ◌&&◌, ◌||◌, ◌==◌, List, [], ◌∷◌, length, Option, Some, None, is_some, slice_get, slice_set, unwrap_or, if◌then◌else◌}
+use Rattle.std.proofs.Common.{◌≡◌, ◌⊎◌, inl, inr, refl, sym, ap, subst, ◌∙◌, ℕ, zero, suc, ◌<◌, arith, Bool, true, false, ◌==◌, List, [], ◌∷◌, length, Option, Some, None, slice_get, slice_set, unwrap_or}
 use Rattle.wit_model.specs.declared.model.Resolve.{Resolve}
 use Rattle.wit_model.specs.declared.model.TypeDef.{TypeDef}
 use Rattle.wit_model.specs.declared.model.TypeId.{TypeId}
@@ -11,6 +11,7 @@ use Rattle.bind_carry.specs.First.{beside_first, second_from, second_in}
 use Rattle.bind_carry.specs.Shown.{type_in}
 use Rattle.bind_carry.specs.declared.fate.Fate.{Fate}
 use Rattle.bind_carry.specs.declared.fate.Fate.TheVariants as fate
+use Rattle.bind_carry.proofs.PassedTypes.{fate_there}
 
 -- ---- by owners
 
@@ -116,3 +117,41 @@ module _ (here : List (WorldKey × WorldItem)) where
       go (Some id) p (Some own) q more = by id own p q more (id.0 == n) refl
       go (Some id) p None q more = keeps fs (more fs g at)
       go None p b q more = keeps fs (more fs g at)
+
+  -- a type that some item is stands for the own one of its key
+  pub unified_set : (es : List (WorldKey × WorldItem)) (fs : List Fate) (k : ℕ) (e : WorldKey × WorldItem) (id own : TypeId) → slice_get es k ≡ Some e → type_in e.1 ≡ Some id → type_under_key here e.0 ≡ Some own → id.0 < length fs
+      → IsUnified es (unified here es fs) id.0
+  unified_set [] fs k e id own at p q less = let wrong : ⊥ = cc in absurd wrong
+  unified_set (x ∷ xs) fs zero e id own at p q less =
+      subst (λ (gs : List Fate). IsUnified (x ∷ xs) gs id.0) (sym step) (elim (unified_at xs set id.0 (fate.Stands own.0) (set_here fs id.0 (fate.Stands own.0) there.0 there.1)) [
+        | inl same ↦ record { place = zero; entry = x; at_place = refl; id = id; is_type = is_type; number = refl; own = own; there = under; stands = same }
+        | inr u ↦ later x xs (unified here xs set) id.0 u
+      ])
+    where
+      same_entry : x ≡ e
+      same_entry = ap (λ o. unwrap_or o x) at
+
+      is_type : type_in x.1 ≡ Some id
+      is_type = ap (λ (y : WorldKey × WorldItem). type_in y.1) same_entry ∙ p
+
+      under : type_under_key here x.0 ≡ Some own
+      under = ap (λ (y : WorldKey × WorldItem). type_under_key here y.0) same_entry ∙ q
+
+      set : List Fate
+      set = slice_set fs id.0 (fate.Stands own.0)
+
+      there : (g : Fate) × (slice_get fs id.0 ≡ Some g)
+      there = fate_there fs id.0 less
+
+      step : unified here (x ∷ xs) fs ≡ unified here xs set
+      step = (λ i. unified here xs (unify_one fs (is_type i) (under i)))
+  unified_set (x ∷ xs) fs (suc k) e id own at p q less =
+      later x xs (unified here xs gs) id.0 (unified_set xs gs k e id own at p q (subst (λ (n : ℕ). id.0 < n) (sym (one_same (type_in x.1) (type_under_key here x.0))) less))
+    where
+      gs : List Fate
+      gs = unify_one fs (type_in x.1) (type_under_key here x.0)
+
+      one_same : (a b : Option TypeId) → length (unify_one fs a b) ≡ length fs
+      one_same (Some i) (Some o) = set_long fs i.0 (fate.Stands o.0)
+      one_same (Some i) None = refl
+      one_same None b = refl

@@ -1,6 +1,6 @@
 -- Types that meet their fates one by one.
-use Rattle.std.proofs.Common.{◌≡◌, refl, sym, ap, ap₂, subst, ◌∙◌, ℕ, ◌+◌, ◌<◌, Bool, true, false, arith, List, [], ◌∷◌, ◌++◌, length, map, slice_get, unwrap_or, nat_lt, ◌&&◌, Option, Some, None, option_map, drop, get_or, zero, suc, append_assoc, append-nil}
-use Rattle.std.specs.List.{list_all, flat_map, AllZip}
+use Rattle.std.proofs.Common.{◌≡◌, refl, sym, ap, subst, ◌∙◌, ℕ, ◌+◌, ◌<◌, true, arith, List, [], ◌∷◌, ◌++◌, length, map, nat_lt, Option, Some, None, option_map, zero, suc, append_assoc, append-nil}
+use Rattle.std.specs.List.{flat_map, AllZip}
 use Rattle.wit_model.proofs.Lists.{first_true, second_true}
 use Rattle.std.proofs.lemmas.Bool.{ltb-true}
 use Rattle.wit_model.specs.Text.{Text}
@@ -11,7 +11,6 @@ use Rattle.wit_model.specs.declared.model.«Type».TheVariants as ty
 use Rattle.bind_copy.specs.Copies.{all_below, number_under, IsTypeUnder}
 use Rattle.std.proofs.lemmas.List.Folds.{list_all-append}
 use Rattle.bind_union.specs.Views.{kind_view, optional_numbers, renamed, renamed_type, type_numbers, view_numbers, KindView, record_view, variant_view, flags_view, enum_view, tuple_view, resource_view, own_view, borrow_view, option_view, result_view, list_view, map_view, fixed_list_view, future_view, stream_view, alias_view}
-use Rattle.bind_carry.specs.Numbers.{numbers_of}
 use Rattle.bind_carry.specs.declared.fate.Fate.{Fate}
 use Rattle.bind_carry.specs.declared.fate.Fate.TheVariants as fate
 use Rattle.bind_carry.specs.Fates.{copied_types, numbers_by, AreCopied, AreCopiedSoFar, IsCopiedType, MeetsFate}

@@ -1,5 +1,5 @@
 -- Worlds that are copied whole, as the laws on unions ask for them.
-use Rattle.std.proofs.Common.{◌≡◌, refl, sym, ap, ◌∙◌, ℕ, zero, suc, Bool, true, false, ◌&&◌, List, [], ◌∷◌, ◌++◌, length, map, Option, Some, option_map, slice_get}
+use Rattle.std.proofs.Common.{◌≡◌, refl, sym, ap, ◌∙◌, ℕ, zero, suc, true, false, List, [], ◌∷◌, ◌++◌, length, map, Option, Some, slice_get}
 use Rattle.std.specs.Prelude.{String}
 use Rattle.std.specs.declared.alloc.Global.{Global}
 use Rattle.std.specs.List.{list_all, AllZip, IsDistinct}
@@ -29,7 +29,6 @@ use Rattle.bind_carry.specs.Numbers.{numbers_of, world_number}
 use Rattle.bind_carry.specs.ReadyItems.{AreReady, IsItemReady, IsKeyReady}
 use Rattle.bind_carry.specs.Renumbered.{first_of, is_matched}
 use Rattle.bind_carry.specs.Whole.{kept, IsWorldCarried}
-use Rattle.bind_carry.specs.declared.fate.Fate.{Fate}
 use Rattle.bind_carry.specs.declared.plan.Carried.{Carried}
 use Rattle.bind_carry.proofs.FirstInterfaces.{home_number}
 use Rattle.bind_carry.proofs.FirstWorlds.{export_ready, import_ready}
@@ -76,10 +75,10 @@ module _ (own other : Resolve) (valid : IsValid other) (matched : List (Option I
         at_image = ap (λ l. slice_get l (f.worlds n)) worlds_here ∙ (ap (slice_get (before ++ (more ++ rest))) (ap (λ l. number_under l n) worlds_are) ∙ place.at_image);
         new_imports = place.image.imports.entries;
         imports = refl;
-        joined_imports = items_join f c.interfaces.items numbers refl refl [] w.imports.entries place.image.imports.entries (place.is.imports imports_apart) (all_new f c.interfaces.items w.imports.entries ready_imports);
+        joined_imports = items_join f c.interfaces.items numbers (λ k h. refl) refl [] w.imports.entries place.image.imports.entries (place.is.imports imports_apart) (all_new f c.interfaces.items w.imports.entries ready_imports);
         new_exports = place.image.exports.entries;
         exports = refl;
-        joined_exports = items_join f c.interfaces.items numbers refl refl [] w.exports.entries place.image.exports.entries (place.is.exports exports_apart) (all_new f c.interfaces.items w.exports.entries ready_exports);
+        joined_exports = items_join f c.interfaces.items numbers (λ k h. refl) refl [] w.exports.entries place.image.exports.entries (place.is.exports exports_apart) (all_new f c.interfaces.items w.exports.entries ready_exports);
       };
       name = place.is.name;
       stability = place.is.stability;

@@ -1,4 +1,5 @@
 pub mod Numbers
+pub mod SecondPass
 pub mod Shown
 pub mod Fates
 pub mod Listed

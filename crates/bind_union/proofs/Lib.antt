@@ -1,18 +1,18 @@
 pub mod Lists
 pub mod Images
-mod ViewTests
+pub mod ViewTests
 pub mod Carrying
 pub mod Homes
 pub mod TypeRules
 mod FunctionRules
-mod UsedInterfaces
+pub mod UsedInterfaces
 mod InOrder
 mod InterfaceRules
 mod EntryRules
 mod WorldOrder
 pub mod WorldRules
 pub mod Listed
-mod Itself
+pub mod Itself
 mod Sources
 mod Kept
 mod KeptTypes
@@ -26,7 +26,7 @@ mod Valid
 pub mod Namesakes
 mod Meanings
 mod BoundMeanings
-mod WorldNamesakes
+pub mod WorldNamesakes
 pub mod United
 pub mod UnitedWorlds
 pub mod MatchedStand

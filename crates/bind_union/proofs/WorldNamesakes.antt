@@ -44,7 +44,7 @@ use Rattle.bind_union.proofs.Namesakes.{alias_declares, name_is_alias, resource_
 
 -- ---- look-ups
 
-lookup_stands : {K X : Type 0} (test : K → Bool) (es : List (K × X)) (v : X) → lookup test es ≡ Some v → (k : K) × Contains es (k, v) × (test k ≡ true)
+pub lookup_stands : {K X : Type 0} (test : K → Bool) (es : List (K × X)) (v : X) → lookup test es ≡ Some v → (k : K) × Contains es (k, v) × (test k ≡ true)
 lookup_stands test [] v h = let wrong : ⊥ = cc in absurd wrong
 lookup_stands {K = K} {X = X} test (e ∷ es) v h = go (lookup_stands {K = K} {X = X} test es v) (test e.0) refl h
   where
@@ -52,22 +52,22 @@ lookup_stands {K = K} {X = X} test (e ∷ es) v h = go (lookup_stands {K = K} {X
     go rest true t h = (e.0, (0, omega arith, λ i. (e.0, same-some e.1 v h i)), t)
     go rest false t h = let r = rest h in (r.0, contains-later e es (r.0, v) r.1, r.2)
 
-some_id : (n : ℕ) (o : Option ℕ) → is_id n o ≡ true → o ≡ Some n
+pub some_id : (n : ℕ) (o : Option ℕ) → is_id n o ≡ true → o ≡ Some n
 some_id n None h = no_true h
 some_id n (Some m) h = ap Some (equal m n h)
 
 -- ---- types of a world
 
 module _ (r : Resolve) (v : IsValid r) (n : ℕ) (w : World) (at : world_at r n ≡ Some w) where
-  record IsWorldType (k : WorldKey) (t : ℕ) : Type 0 where
-    def : TypeDef
-    found : type_at r t ≡ Some def
-    label : String Global
-    keyed : k ≡ key.Name label
-    name : String Global
-    named_ : def.name ≡ Some name
-    same_name : text_of name ≡ text_of label
-    home : def.owner ≡ as_world n
+  pub record IsWorldType (k : WorldKey) (t : ℕ) : Type 0 where
+    pub def : TypeDef
+    pub found : type_at r t ≡ Some def
+    pub label : String Global
+    pub keyed : k ≡ key.Name label
+    pub name : String Global
+    pub named_ : def.name ≡ Some name
+    pub same_name : text_of name ≡ text_of label
+    pub home : def.owner ≡ as_world n
 
   named_so : (o : Option (String Global)) (t : Text) → text_is o t ≡ true → (s : String Global) × (o ≡ Some s) × (text_of s ≡ t)
   named_so None t h = no_true h
@@ -76,7 +76,7 @@ module _ (r : Resolve) (v : IsValid r) (n : ℕ) (w : World) (at : world_at r n 
   range_at : (k : WorldKey) (i : WorldItem) → Contains w.imports.entries (k, i) → item_in_range r i ≡ true
   range_at k i c = second_true (key_in_range r k) (item_in_range r i) (all-contained (λ (e : WorldKey × WorldItem). key_in_range r e.0 && item_in_range r e.1) w.imports.entries (k, i) (world_range r v.rules n w at).0 c)
 
-  world_type : (k : WorldKey) (i : WorldItem) → Contains w.imports.entries (k, i) → (t : ℕ) → item_type i ≡ Some t → IsWorldType k t
+  pub world_type : (k : WorldKey) (i : WorldItem) → Contains w.imports.entries (k, i) → (t : ℕ) → item_type i ≡ Some t → IsWorldType k t
   unfolding world_items
   world_type k i c t e = go k i e (all-contained (λ (e : WorldKey × WorldItem). import_stands r n e.0 e.1) w.imports.entries (k, i) (first_true _ _ rule) c) (range_at k i c)
     where
@@ -104,13 +104,13 @@ module _ (r : Resolve) (v : IsValid r) (n : ℕ) (w : World) (at : world_at r n 
           }
 
   -- a named type of the world stands in its imports
-  record IsImported (s : Text) (t : ℕ) : Type 0 where
-    entry : WorldKey × WorldItem
-    held : Contains w.imports.entries entry
-    is_type : item_type entry.1 ≡ Some t
-    text : key_text r entry.0 ≡ s
+  pub record IsImported (s : Text) (t : ℕ) : Type 0 where
+    pub entry : WorldKey × WorldItem
+    pub held : Contains w.imports.entries entry
+    pub is_type : item_type entry.1 ≡ Some t
+    pub text : key_text r entry.0 ≡ s
 
-  type_imported : (t : ℕ) (def : TypeDef) → type_at r t ≡ Some def → (s : String Global) → def.name ≡ Some s → def.owner ≡ as_world n → IsImported (text_of s) t
+  pub type_imported : (t : ℕ) (def : TypeDef) → type_at r t ≡ Some def → (s : String Global) → def.name ≡ Some s → def.owner ≡ as_world n → IsImported (text_of s) t
   unfolding order_of_types
   type_imported t def e s named_ home = go (lookup (is_name_key (text_of s)) w.imports.entries) refl (first_true _ _ in_it)
     where
@@ -131,7 +131,7 @@ module _ (r : Resolve) (v : IsValid r) (n : ℕ) (w : World) (at : world_at r n 
           record { entry = (x.0, i); held = x.1; is_type = some_id t (item_type i) h; text = key_is x.0 x.2 }
 
   -- what a type of the world is another name of is the world's, or that of an interface with a path
-  target_home : (t : ℕ) (def : TypeDef) → type_at r t ≡ Some def → def.owner ≡ as_world n → (u : ℕ) → alias_target def.kind ≡ Some u → (x : IsTarget r v u) → (x.def.owner ≡ as_world n) ⊎ ((a : ℕ) × (x.def.owner ≡ as_interface a) × (is_some (interface_path r a) ≡ true))
+  pub target_home : (t : ℕ) (def : TypeDef) → type_at r t ≡ Some def → def.owner ≡ as_world n → (u : ℕ) → alias_target def.kind ≡ Some u → (x : IsTarget r v u) → (x.def.owner ≡ as_world n) ⊎ ((a : ℕ) × (x.def.owner ≡ as_interface a) × (is_some (interface_path r a) ≡ true))
   unfolding owners
   target_home t def e home u alias x = go (list_all (has_owner r def.owner) (used_by_type r def)) refl (owned_stays r def (type_passes owners r v.rules.owners t def e) (ap (λ o. same_owner o owner.None) home))
     where
@@ -162,7 +162,7 @@ module _ (r : Resolve) (v : IsValid r) (n : ℕ) (w : World) (at : world_at r n 
 
 -- ---- items of one sense
 
-abbrev is_declared : Item InterfaceSense → Bool
+abbrev pub is_declared : Item InterfaceSense → Bool
 is_declared (interface path) = false
 is_declared (inline i) = false
 is_declared (function s) = false
@@ -180,13 +180,13 @@ declared_so (inline i) = None
 declared_so (function s) = None
 declared_so (declares d) = Some d
 
-abbrev path_so : Item InterfaceSense → Option Text
+abbrev pub path_so : Item InterfaceSense → Option Text
 path_so (interface path) = Some path
 path_so (inline i) = None
 path_so (function s) = None
 path_so (declares d) = None
 
-not_declared : (r : Resolve) (n : ℕ) → is_declared (item_sense (interface_item r n)) ≡ false
+pub not_declared : (r : Resolve) (n : ℕ) → is_declared (item_sense (interface_item r n)) ≡ false
 not_declared r n = go (interface_path r n)
   where
     go : (o : Option Text) → is_declared (item_sense (option_map_or interface o (inline (interface_meaning_at r n)))) ≡ false
@@ -200,7 +200,7 @@ not_function r n = go (interface_path r n)
     go None = refl
     go (Some p) = refl
 
-path_is : (r : Resolve) (n : ℕ) → path_so (item_sense (interface_item r n)) ≡ interface_path r n
+pub path_is : (r : Resolve) (n : ℕ) → path_so (item_sense (interface_item r n)) ≡ interface_path r n
 path_is r n = go (interface_path r n)
   where
     go : (o : Option Text) → path_so (item_sense (option_map_or interface o (inline (interface_meaning_at r n)))) ≡ o

@@ -1,4 +1,4 @@
-use Rattle.std.proofs.Common.{rules, ◌≡◌, ◌∙◌, ◌++◌, sym, subst}
+use Rattle.std.proofs.Common.{rules, ◌≡◌, ◌∙◌, sym, subst}
 use Rattle.std.specs.List.{AllZip}
 use Rattle.wit_model.specs.declared.model.World.{World}
 use Rattle.bind_copy.specs.Copies.{IsInterfaceUnder}

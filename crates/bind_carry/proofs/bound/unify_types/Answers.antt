@@ -1,4 +1,4 @@
-use Rattle.std.proofs.Common.{rules, ◌≡◌, ◌∙◌, sym, subst}
+use Rattle.std.proofs.Common.{◌≡◌, ◌∙◌, sym, subst}
 use Rattle.wit_model.specs.declared.model.World.{World}
 use Rattle.bind_carry.specs.BoundGains.{unified}
 use Rattle.bind_carry.proofs.CopiesPlaced.{some_same}
