@@ -19,3 +19,5 @@ pub mod Initial
 pub mod InRange
 pub mod Bound
 pub mod Union
+pub mod Few
+pub mod Apart

@@ -18,7 +18,8 @@ use Rattle.bind_add.specs.declared.added.Added.{Added}
 use Rattle.bind_add.specs.declared.added.Names.{Names}
 use Rattle.wit_bind.specs.declared.bindgen.Bindgen.{Bindgen}
 use Rattle.wit_bind.specs.declared.metadata.ModuleMetadata.{ModuleMetadata}
-use Rattle.wit_bind.specs.Apart.{GrownExtend, IsApart}
+use Rattle.bind_carry.specs.Apart.{IsApart}
+use Rattle.wit_bind.specs.Apart.{GrownExtend}
 use Rattle.wit_bind.specs.Extends.{Extends, IsGrownPackage, IsGrownWorld}
 use Rattle.wit_bind.specs.Merges.{IsGrownBy}
 use Rattle.wit_bind.proofs.Refusals.{element_at}

@@ -1,27 +1,11 @@
--- What is added stands under keys that weren't there.
-use Rattle.std.specs.Prelude.{◌≡◌, ◌<◌, ℕ, length, ◌++◌, slice_get, string_eq, Some}
-use Rattle.indexmap.specs.IndexMap.{insert_all}
-use Rattle.wit_model.specs.declared.model.Package.{Package}
-use Rattle.wit_model.specs.declared.model.Resolve.{Resolve}
-use Rattle.wit_model.specs.declared.model.World.{World}
-use Rattle.wit_model.specs.Lookup.{package_at, world_at}
-use Rattle.wit_model.specs.Valid.{key_eq}
+-- What is added under keys that weren't there leaves all that was there where it was.
+use Rattle.std.specs.Prelude.{◌<◌, length}
 use Rattle.bind_add.specs.declared.added.Added.{Added}
-use Rattle.bind_add.specs.declared.added.Names.{Names}
+use Rattle.bind_carry.specs.Apart.{IsApart}
 use Rattle.wit_bind.specs.declared.bindgen.Bindgen.{Bindgen}
 use Rattle.wit_bind.specs.declared.metadata.ModuleMetadata.{ModuleMetadata}
 use Rattle.wit_bind.specs.Extends.{Extends}
 use Rattle.wit_bind.specs.Merges.{IsGrownBy}
 
--- So it comes behind what was there.
-pub record IsApart (added : Added) (own : Resolve) (world : ℕ) : Type 0 where
-  pub interfaces : (i : ℕ) (n : Names) (p : Package) → slice_get added.names.items i ≡ Some n → package_at own n.«package».0 ≡ Some p → insert_all string_eq p.interfaces.entries n.interfaces.entries ≡ p.interfaces.entries ++ n.interfaces.entries
-  pub worlds : (i : ℕ) (n : Names) (p : Package) → slice_get added.names.items i ≡ Some n → package_at own n.«package».0 ≡ Some p → insert_all string_eq p.worlds.entries n.worlds.entries ≡ p.worlds.entries ++ n.worlds.entries
-  pub imports : (w : World) → world_at own world ≡ Some w → insert_all key_eq w.imports.entries added.imports.entries ≡ w.imports.entries ++ added.imports.entries
-  pub exports : (w : World) → world_at own world ≡ Some w → insert_all key_eq w.exports.entries added.exports.entries ≡ w.exports.entries ++ added.exports.entries
-
--- ---- law
-
--- All that was there is where it was.
 abbrev pub GrownExtend : Type 0
 GrownExtend = (added : Added) (metadata : ModuleMetadata) (old new : Bindgen) → old.world.0 < length old.resolve.worlds.items → IsApart added old.resolve old.world.0 → IsGrownBy added metadata old new → Extends old.resolve new.resolve old.world.0
