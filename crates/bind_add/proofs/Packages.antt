@@ -1,8 +1,8 @@
 -- Packages that stay what they are while they get room.
-use Rattle.std.proofs.Common.{◌≡◌, refl, sym, ap, subst, ◌∙◌, ◌⊎◌, inl, inr, ℕ, ◌+◌, ◌<◌, ◌≤◌, zero, suc, arith, List, length, get_or, slice_get, Some, Option, None}
+use Rattle.std.proofs.Common.{◌≡◌, ◌≢◌, refl, sym, ap, subst, ◌∙◌, ◌⊎◌, inl, inr, ℕ, ◌+◌, ◌<◌, ◌≤◌, zero, suc, arith, List, length, get_or, slice_get, Some, Option, None}
 use Rattle.std.proofs.lemmas.Option.{slice_get_within, slice_get-get_or, get_or_from_slice_get}
 use Rattle.wit_model.specs.declared.model.Package.{Package}
-use Rattle.bind_add.specs.Growth.{ArePackages, HasRoom, HaveRoom, IsSamePackage, IsSameWithRoom, KeepsPackageRoom}
+use Rattle.bind_add.specs.Growth.{ArePackages, HasRoom, HaveRoom, IsSamePackage, IsSameWithRoom, KeepsPackageRoom, OthersStay}
 use Rattle.bind_add.specs.declared.added.Names.{Names}
 
 -- what stands at a place of the one list stands at it in a list that is as long
@@ -71,3 +71,7 @@ room_more i names xs ys n before same at room k m q below at_m at_q = by (below_
 
 pub room_end : (i : ℕ) (names : List Names) (packages : List Package) → length names ≤ i → HaveRoomBefore i names packages → HaveRoom names packages
 room_end i names packages past h k n p at_n at_p = h k n p (omega (arith, past, slice_get_within names k n at_n)) at_n at_p
+
+-- one more gets room, and those that gain nothing are the very same
+pub others_more : (i : ℕ) (names : List Names) (xs ys zs : List Package) (n : Names) → slice_get names i ≡ Some n → OthersStay names xs ys → ((k : ℕ) → k ≢ n.«package».0 → slice_get zs k ≡ slice_get ys k) → OthersStay names xs zs
+others_more i names xs ys zs n at stay one k none = one k (λ e. none i n at (sym e)) ∙ stay k none

@@ -3,6 +3,7 @@
 
 mod added;
 mod adding;
+pub mod laws;
 mod room;
 
 pub use added::{Added, Names};
