@@ -1,8 +1,8 @@
 -- Packages that stay what they are while they get room.
-use Rattle.std.proofs.Common.{◌≡◌, ◌≢◌, refl, sym, ap, subst, ◌∙◌, ◌⊎◌, inl, inr, ℕ, ◌+◌, ◌<◌, ◌≤◌, zero, suc, arith, List, length, get_or, slice_get, Some, Option, None}
-use Rattle.std.proofs.lemmas.Option.{slice_get_within, slice_get-get_or, get_or_from_slice_get}
+use Rattle.std.proofs.Common.{◌≡◌, ◌≢◌, refl, sym, ap, subst, ◌∙◌, ◌⊎◌, inl, inr, ℕ, ◌+◌, ◌<◌, ◌≤◌, zero, suc, arith, List, length, get_or, slice_get, Some}
+use Rattle.std.proofs.lemmas.Option.{slice_get_within, slice_get-get_or}
 use Rattle.wit_model.specs.declared.model.Package.{Package}
-use Rattle.bind_add.specs.Growth.{ArePackages, HasRoom, HaveRoom, IsSamePackage, IsSameWithRoom, KeepsPackageRoom, OthersStay}
+use Rattle.bind_add.specs.Growth.{ArePackages, HasRoom, HaveRoom, IsSameWithRoom, OthersStay}
 use Rattle.bind_add.specs.declared.added.Names.{Names}
 
 -- what stands at a place of the one list stands at it in a list that is as long

@@ -4,13 +4,11 @@ use Rattle.std.proofs.lemmas.Option.{slice_get-get_or, slice_get_within}
 use Rattle.indexmap.specs.IndexMap.{insert_all}
 use Rattle.wit_model.specs.declared.model.Interface.{Interface}
 use Rattle.wit_model.specs.declared.model.Package.{Package}
-use Rattle.wit_model.specs.declared.model.Resolve.{Resolve}
 use Rattle.wit_model.specs.declared.model.TypeDef.{TypeDef}
 use Rattle.wit_model.specs.declared.model.World.{World}
 use Rattle.wit_model.specs.declared.model.WorldItem.{WorldItem}
 use Rattle.wit_model.specs.declared.model.WorldKey.{WorldKey}
-use Rattle.bind_add.specs.Growth.{HasGained, HasGainedItems, IsAdded, IsSamePackage, IsSameResolve, IsSameWorld, SameThenAdded}
-use Rattle.bind_add.specs.declared.added.Added.{Added}
+use Rattle.bind_add.specs.Growth.{HasGained, HasGainedItems, IsSamePackage, IsSameWorld, SameThenAdded}
 use Rattle.bind_add.specs.declared.added.Names.{Names}
 
 -- ---- entries
@@ -81,8 +79,7 @@ same_then_added same world added old between new room stay h = record {
     bound : (w : World) → slice_get old.worlds.items world ≡ Some w → (v : World) × HasGainedItems same added.imports.entries added.exports.entries w v × (new.worlds.items ≡ slice_set old.worlds.items world v ++ added.worlds.items)
     bound w at =
         let b = also_at old.worlds.items between.worlds.items room.worlds world w at in
-        let g = h.worlds b.0 b.1 in
-        (
+        let g = h.worlds b.0 b.1 in (
           g.0,
           items_of same added.imports.entries added.exports.entries w b.0 g.0 (room.bound w b.0 at b.1) g.1,
           g.2 ∙ ap (λ (xs : List World). xs ++ added.worlds.items) (written_same old.worlds.items between.worlds.items world g.0 room.worlds room.others),
