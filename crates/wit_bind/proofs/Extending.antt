@@ -1,17 +1,12 @@
 -- What is added under new keys comes behind what was there.
-use Rattle.std.proofs.Common.{◌≡◌, refl, sym, ap, subst, ◌∙◌, ◌⊎◌, inl, inr, arith, ℕ, zero, suc, ◌<◌, length, List, [], ◌∷◌, ◌++◌, Some, slice_get, slice_set, string_eq}
+use Rattle.std.proofs.Common.{◌≡◌, refl, sym, ap, ◌∙◌, ◌⊎◌, inl, inr, arith, ℕ, zero, suc, ◌<◌, length, List, [], ◌∷◌, ◌++◌, Some, slice_get, slice_set}
 use Rattle.std.specs.Prelude.{◌≢◌}
 use Rattle.std.proofs.lemmas.Bool.{cases_order}
 use Rattle.std.proofs.lemmas.List.{append-nil}
-use Rattle.std.proofs.lemmas.Option.{slice_get_within}
-use Rattle.indexmap.specs.IndexMap.{insert_all}
-use Rattle.wit_model.specs.declared.model.Interface.{Interface}
 use Rattle.wit_model.specs.declared.model.Package.{Package}
 use Rattle.wit_model.specs.declared.model.Resolve.{Resolve}
-use Rattle.wit_model.specs.declared.model.TypeDef.{TypeDef}
 use Rattle.wit_model.specs.declared.model.World.{World}
 use Rattle.wit_model.specs.Lookup.{package_at, world_at}
-use Rattle.wit_model.specs.Valid.{key_eq}
 use Rattle.wit_model.proofs.Elements.{same-some}
 use Rattle.bind_add.specs.Growth as growth
 use Rattle.bind_add.specs.declared.added.Added.{Added}
@@ -72,78 +67,55 @@ module _ (added : Added) (metadata : ModuleMetadata) (old new : Bindgen) (apart 
   abbrev o : Resolve
   o = old.resolve
 
-  abbrev between : Resolve
-  between = g.between
-
-  -- the package of a number, with room
-  between-at : (n : ℕ) (p : Package) → package_at o n ≡ Some p → (q : Package) × ((slice_get between.packages.items n ≡ Some q) × growth.IsSameWithRoom p q)
-  between-at n p at =
-      let count = g.room.packages.count in
-      let inside = slice_get_within o.packages.items n p at in
-      let q = element_at between.packages.items n (omega (arith, inside, count)) in
-      (q.0, (q.1, g.room.packages.each n p q.0 at q.1))
-
   grown : (n : ℕ) (p : Package) → package_at o n ≡ Some p → (q : Package) × ((slice_get g.all_added.packages.0 n ≡ Some q) × IsGrownPackage p q)
-  grown n p at =
-      let b = between-at n p at in
-      let have = g.all_added.packages.1 in
-      by b have (gain-or-none added.names.items n)
+  grown n p at = by g.all_added.packages.1 (gain-or-none added.names.items n)
     where
-      by : (b : (q : Package) × ((slice_get between.packages.items n ≡ Some q) × growth.IsSameWithRoom p q)) → growth.HaveGained added.names.items between.packages.items g.all_added.packages.0
-          → IsGain added.names.items n ⊎ growth.GainsNone added.names.items n → (q : Package) × ((slice_get g.all_added.packages.0 n ≡ Some q) × IsGrownPackage p q)
-      by b have (inl x) =
-          let here : slice_get between.packages.items x.names.«package».0 ≡ Some b.0 = ap (slice_get between.packages.items) x.number ∙ b.1.0 in
-          let there : package_at o x.names.«package».0 ≡ Some p = ap (package_at o) x.number ∙ at in
-          let r = have.gained x.place x.names b.0 x.at_place here in
+      by : growth.HaveGained added.names.items o.packages.items g.all_added.packages.0 → IsGain added.names.items n ⊎ growth.GainsNone added.names.items n
+          → (q : Package) × ((slice_get g.all_added.packages.0 n ≡ Some q) × IsGrownPackage p q)
+      by have (inl x) =
+          let here : package_at o x.names.«package».0 ≡ Some p = ap (package_at o) x.number ∙ at in
+          let r = have.gained x.place x.names p x.at_place here in
           (r.0, (
             ap (slice_get g.all_added.packages.0) (sym x.number) ∙ r.1,
             record {
-              name = r.2.name ∙ b.1.1.0.name;
-              docs = r.2.docs ∙ b.1.1.0.docs;
-              interfaces = (x.names.interfaces.entries, r.2.interfaces ∙ (ap (λ es. insert_all string_eq es x.names.interfaces.entries) b.1.1.0.interfaces ∙ apart.interfaces x.place x.names p x.at_place there));
-              worlds = (x.names.worlds.entries, r.2.worlds ∙ (ap (λ es. insert_all string_eq es x.names.worlds.entries) b.1.1.0.worlds ∙ apart.worlds x.place x.names p x.at_place there));
+              name = r.2.name;
+              docs = r.2.docs;
+              interfaces = (x.names.interfaces.entries, r.2.interfaces ∙ apart.interfaces x.place x.names p x.at_place here);
+              worlds = (x.names.worlds.entries, r.2.worlds ∙ apart.worlds x.place x.names p x.at_place here);
             },
           ))
-      by b have (inr none) =
-          (b.0, (have.others n none ∙ b.1.0, record {
-            name = b.1.1.0.name;
-            docs = b.1.1.0.docs;
-            interfaces = ([], b.1.1.0.interfaces ∙ sym (append-nil p.interfaces.entries));
-            worlds = ([], b.1.1.0.worlds ∙ sym (append-nil p.worlds.entries));
-          }))
+      by have (inr none) =
+          (p, (have.others n none ∙ at, record { name = refl; docs = refl; interfaces = ([], sym (append-nil p.interfaces.entries)); worlds = ([], sym (append-nil p.worlds.entries)) }))
 
   -- ---- worlds
 
-  bound-between : (w : World) → world_at o old.world.0 ≡ Some w → (v : World) × ((slice_get between.worlds.items old.world.0 ≡ Some v) × growth.IsSameWorld w v)
-  bound-between w at =
-      let count = g.room.worlds in
-      let inside = slice_get_within o.worlds.items old.world.0 w at in
-      let v = element_at between.worlds.items old.world.0 (omega (arith, inside, count)) in
-      (v.0, (v.1, g.room.bound w v.0 at v.1))
-
   other-world : (b : World) → world_at o old.world.0 ≡ Some b → (n : ℕ) (w : World) → n ≢ old.world.0 → world_at o n ≡ Some w → world_at new.resolve n ≡ Some w
   other-world b bound n w ne at =
-      let v = bound-between b bound in
-      let h = g.all_added.worlds v.0 v.1.0 in
-      ap (λ (xs : List World). slice_get xs n) h.2
-      ∙ front (slice_set between.worlds.items old.world.0 h.0) added.worlds.items n w (put-elsewhere between.worlds.items old.world.0 n h.0 ne ∙ (g.room.others n ne ∙ at))
+      let h = g.all_added.worlds b bound in
+      ap (λ (xs : List World). slice_get xs n) h.2 ∙ front (slice_set o.worlds.items old.world.0 h.0) added.worlds.items n w (put-elsewhere o.worlds.items old.world.0 n h.0 ne ∙ at)
 
   bound-world : (w : World) → world_at o old.world.0 ≡ Some w → (v : World) × (world_at new.resolve old.world.0 ≡ Some v) × IsGrownWorld w v
   bound-world w at =
-      let v = bound-between w at in
-      let h = g.all_added.worlds v.0 v.1.0 in
+      let h = g.all_added.worlds w at in
       (
         h.0,
-        ap (λ (xs : List World). slice_get xs old.world.0) h.2 ∙ front (slice_set between.worlds.items old.world.0 h.0) added.worlds.items old.world.0 h.0 (put-there between.worlds.items old.world.0 v.0 h.0 v.1.0),
+        ap (λ (xs : List World). slice_get xs old.world.0) h.2 ∙ front (slice_set o.worlds.items old.world.0 h.0) added.worlds.items old.world.0 h.0 (put-there o.worlds.items old.world.0 w h.0 at),
         record {
-          name = h.1.name ∙ v.1.1.name;
-          docs = h.1.docs ∙ v.1.1.docs;
-          stability = h.1.stability ∙ v.1.1.stability;
-          in_package = h.1.in_package ∙ v.1.1.in_package;
-          imports = (added.imports.entries, h.1.imports ∙ (ap (λ es. insert_all key_eq es added.imports.entries) v.1.1.imports ∙ apart.imports w at));
-          exports = (added.exports.entries, h.1.exports ∙ (ap (λ es. insert_all key_eq es added.exports.entries) v.1.1.exports ∙ apart.exports w at));
+          name = h.1.name;
+          docs = h.1.docs;
+          stability = h.1.stability;
+          in_package = h.1.in_package;
+          imports = (added.imports.entries, h.1.imports ∙ apart.imports w at);
+          exports = (added.exports.entries, h.1.exports ∙ apart.exports w at);
         },
       )
+
+  -- what the bound world exports
+  pub exports-grown : (w : World) → world_at o old.world.0 ≡ Some w → (v : World) × (world_at new.resolve old.world.0 ≡ Some v) × (v.exports.entries ≡ w.exports.entries ++ added.exports.entries)
+  exports-grown w at =
+      let b = bound-world w at in
+      let h = g.all_added.worlds w at in
+      (b.0, b.1, h.1.exports ∙ apart.exports w at)
 
   package-grown : (n : ℕ) (p : Package) → package_at o n ≡ Some p → (q : Package) × (package_at new.resolve n ≡ Some q) × IsGrownPackage p q
   package-grown n p at =
@@ -155,8 +127,8 @@ grown_extend added metadata old new inside apart g =
     let b = element_at old.resolve.worlds.items old.world.0 inside in
     record {
       packages = package-grown added metadata old new apart g;
-      interfaces = (added.interfaces.items, g.all_added.interfaces ∙ ap (λ (xs : List Interface). xs ++ added.interfaces.items) g.room.interfaces);
-      types = (added.types.items, g.all_added.types ∙ ap (λ (xs : List TypeDef). xs ++ added.types.items) g.room.types);
+      interfaces = (added.interfaces.items, g.all_added.interfaces);
+      types = (added.types.items, g.all_added.types);
       other_worlds = other-world added metadata old new apart g b.0 b.1;
       bound_world = bound-world added metadata old new apart g;
     }

@@ -6,6 +6,7 @@ pub mod Refusals
 pub mod Uniting
 pub mod Growing
 pub mod Extending
+pub mod Merging
 pub mod Unchanged
 pub mod UnionBound
 pub mod MatchedPaths

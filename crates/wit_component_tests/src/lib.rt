@@ -17,6 +17,10 @@ mod in_time;
 #[cfg(test)]
 mod instances;
 #[cfg(test)]
+mod merged_samples;
+#[cfg(test)]
+mod merging;
+#[cfg(test)]
 mod names;
 #[cfg(test)]
 mod same;

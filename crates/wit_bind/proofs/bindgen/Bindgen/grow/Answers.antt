@@ -1,4 +1,6 @@
-use Rattle.std.proofs.Common.{◌≡◌, refl}
+use Rattle.std.proofs.Common.{refl}
+use Rattle.wit_model.specs.Valid.{key_eq}
+use Rattle.bind_add.proofs.Roomed.{same_then_added}
 use Rattle.wit_bind.proofs.Growing.{addable_with_room, added_by_key, on_err}
 use Rattle.wit_bind.proofs.Unchanged.{kept_with_room}
 use Rattle.wit_bind.proofs.bindgen.Bindgen.grow.Goals as goal
@@ -14,9 +16,8 @@ returns-in_err-unite-clause-kept c = on_err (kept_with_room c.args.self.now _ c.
 
 pub returns-clause-ok : goal.returns-clause-ok
 returns-clause-ok c = record {
-  between = c.reserve.new.resolve;
-  room = c.reserve.ensures.same;
-  all_added = added_by_key c.args.self.now.world.0 c.args.added c.reserve.new.resolve c.add.new.resolve c.add.ensures;
+  all_added = same_then_added key_eq c.args.self.now.world.0 c.args.added c.args.self.now.resolve c.reserve.new.resolve c.add.new.resolve c.reserve.ensures.same c.reserve.ensures.others
+      (added_by_key c.args.self.now.world.0 c.args.added c.reserve.new.resolve c.add.new.resolve c.add.ensures);
   world = refl;
   imports = c.in_ok-unite.ensures.imports;
   exports = c.in_ok-unite.ensures.exports;
