@@ -14,7 +14,7 @@ use Rattle.bind_carry.specs.Packaged.{grown_packages, IsGained}
 use Rattle.bind_carry.specs.SecondPass.{UnionsHaveTheSecond}
 use Rattle.bind_carry.proofs.FirstPackages.{front_at}
 
-set_count : (ws : List World) (n : ℕ) (v : World) → length (slice_set ws n v) ≡ length ws
+pub set_count : (ws : List World) (n : ℕ) (v : World) → length (slice_set ws n v) ≡ length ws
 set_count [] n v = refl
 set_count (w ∷ ws) zero v = refl
 set_count (w ∷ ws) (suc n) v = ap suc (set_count ws n v)

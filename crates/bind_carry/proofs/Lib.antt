@@ -48,3 +48,8 @@ pub mod FirstCopies
 pub mod FirstOfUnion
 pub mod FirstWorldsCopied
 pub mod Addable
+pub mod NamesBehind
+pub mod NamesListed
+pub mod NamesReady
+pub mod PackagesStand
+pub mod MergedUnion

@@ -21,3 +21,4 @@ pub mod Bound
 pub mod Union
 pub mod Few
 pub mod Apart
+pub mod MergedUnion

@@ -6,6 +6,7 @@ mod carried;
 mod fate;
 mod fates;
 pub mod laws;
+pub mod merged;
 mod numbers;
 mod owned;
 mod packages;
