@@ -48,3 +48,8 @@ pub mod FirstCopies
 pub mod FirstOfUnion
 pub mod FirstWorldsCopied
 pub mod Addable
+pub mod KeysGained
+pub mod NamesGained
+pub mod UnionApart
+pub mod UnionDistinct
+pub mod UnionKeys

@@ -21,3 +21,6 @@ pub mod Bound
 pub mod Union
 pub mod Few
 pub mod Apart
+pub mod AddedApart
+pub mod AddedDistinct
+pub mod AddedKeys
