@@ -53,3 +53,8 @@ pub mod NamesListed
 pub mod NamesReady
 pub mod PackagesStand
 pub mod MergedUnion
+pub mod KeysGained
+pub mod NamesGained
+pub mod UnionApart
+pub mod UnionDistinct
+pub mod UnionKeys

@@ -22,3 +22,6 @@ pub mod Union
 pub mod Few
 pub mod Apart
 pub mod MergedUnion
+pub mod AddedApart
+pub mod AddedDistinct
+pub mod AddedKeys

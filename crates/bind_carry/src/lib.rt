@@ -1,6 +1,7 @@
 //! What the union of a `Resolve` and its bound world with another adds to it.
 #![tactic(auto)]
 
+pub mod added_laws;
 mod bound;
 mod carried;
 mod fate;

@@ -1,0 +1,8 @@
+use Rattle.bind_carry.proofs.UnionKeys.{exports_are_added, keys_keep_texts}
+use Rattle.bind_carry.proofs.added_laws.added_keys.Goals as goal
+
+pub returns-clause-exports : goal.returns-clause-exports
+returns-clause-exports c = exports_are_added
+
+pub returns-clause-texts : goal.returns-clause-texts
+returns-clause-texts c = keys_keep_texts
