@@ -1,5 +1,6 @@
 -- What is planned can be added, and what is added is behind what there was.
 use Rattle.std.proofs.Common.{◌≡◌, sym, subst, ℕ, ◌<◌, Bool, true, List, length, Result, Ok, Err, OnErr, OnOk}
+use Rattle.std.specs.Prelude.{IfOk}
 use Rattle.wit_model.specs.declared.model.Resolve.{Resolve}
 use Rattle.wit_model.specs.declared.model.WorldKey.{WorldKey}
 use Rattle.wit_model.specs.Valid.{key_eq}
@@ -38,3 +39,8 @@ on_err p (Err e) = p
 pub on_ok : {A E P : Type 0} → P → (r : Result A E) → OnOk r P
 on_ok p (Ok x) = p
 on_ok p (Err e) = tt
+
+-- what follows of both at `Ok`
+pub if_ok_both : {X E : Type 0} (P Q R : X → Type 0) → ((x : X) → P x → Q x → R x) → (r : Result X E) → IfOk r P → IfOk r Q → IfOk r R
+if_ok_both P Q R f (Ok x) p q = f x p q
+if_ok_both P Q R f (Err e) p q = tt

@@ -1,30 +1,30 @@
 -- What comes of two bindings that don't clash, once all that the one brings is added to the other.
-use Rattle.std.proofs.Common.{◌≡◌, refl, sym, ap, ◌∙◌, ℕ, List, ◌++◌, map, Some}
+use Rattle.std.proofs.Common.{◌≡◌, sym, ap, ◌∙◌, ℕ, false, List, [], ◌++◌, map, Some}
 use Rattle.std.specs.Map.{keys_of}
 use Rattle.std.specs.Option.{option_map_or}
 use Rattle.std.proofs.lemmas.List.{map-append}
-use Rattle.indexmap.specs.IndexMap.{insert_all}
 use Rattle.wit_model.specs.declared.model.Resolve.{Resolve}
 use Rattle.wit_model.specs.declared.model.World.{World}
 use Rattle.wit_model.specs.declared.model.WorldId.{WorldId}
 use Rattle.wit_model.specs.declared.model.WorldItem.{WorldItem}
 use Rattle.wit_model.specs.declared.model.WorldKey.{WorldKey}
 use Rattle.wit_model.specs.Lookup.{key_text, world_at}
-use Rattle.wit_model.specs.Valid.{HasDistinctKeys}
 use Rattle.bind_add.specs.declared.added.Added.{Added}
-use Rattle.bind_carry.specs.AddedApart.{AreMatchedByName, UnionsAreApart}
+use Rattle.bind_carry.specs.AddedKeys.{key_view}
 use Rattle.bind_carry.specs.Apart.{IsApart}
 use Rattle.bind_carry.specs.First.{first_fates}
 use Rattle.bind_carry.specs.MatchedSame.{AreMatchedAt, NoneOfPath}
-use Rattle.bind_carry.specs.MergedUnion.{UnionsAreMerged}
 use Rattle.bind_carry.specs.Renumbered.{first_of}
 use Rattle.bind_carry.specs.SecondPass.{is_left_out, second_pass_of}
 use Rattle.bind_carry.specs.Union.{IsUnionOf}
 use Rattle.bind_carry.specs.Which.{AreMatchedAll}
+use Rattle.bind_carry.proofs.MergedUnion.{unions_are_merged}
+use Rattle.bind_carry.proofs.UnionApart.{unions_are_apart}
+use Rattle.bind_carry.proofs.UnionDistinct.{unions_have_distinct_keys}
+use Rattle.bind_carry.proofs.UnionKeys.{exports_are_added, keys_keep_texts}
 use Rattle.bind_match.specs.Matching.{is_root_world}
 use Rattle.bind_meaning.specs.Clash.{CanUnite}
 use Rattle.bind_meaning.specs.Union.{union}
-use Rattle.bind_union.specs.Merged.{IsMerged}
 use Rattle.bind_union.proofs.BoundMeanings.{bound_means}
 use Rattle.bind_union.proofs.Valid.{merged_is_valid}
 use Rattle.wit_bind.specs.declared.bindgen.Bindgen.{Bindgen}
@@ -68,58 +68,59 @@ module _ (own other new : Bindgen) (o : IsBindgen own) (t : IsBindgen other) (ca
   agree : AgreeByNumbers r s w v
   agree = united_agree_by_numbers own other o t can w v bound.1 other-bound.1
 
-  by-name : AreMatchedByName r s p.matches
-  by-name = record { packages = p.matched.packages; interfaces = p.matched.interfaces; worlds = p.matched.worlds }
-
   -- ---- the union
 
   -- what is left out is the root world
   root-left-out : (n : ℕ) (x : World) → world_at s n ≡ Some x → is_left_out s n ≡ is_root_world s x
   root-left-out n x at = ap (λ y. option_map_or (is_root_world s) y false) at
 
-  merged : UnionsAreMerged → IsMerged r s new.resolve own.world.0 other.world.0 (first_of p.matches.interfaces.items planned.carried (first_fates r s p.matches.interfaces.items planned.carried) planned.types)
-      (second_pass_of r s p.matches planned.carried own.world.0 other.world.0 w v planned.second.copied planned.second.interfaces planned.types planned.second.types) (is_left_out s)
-  merged law =
-      law r s new.resolve own.world.0 other.world.0 p.matches w v added keys planned o.valid t.valid g.all_added p.few bound.1 other-bound.1 p.matched.packages p.matched.interfaces p.matched.worlds paths.1 paths.2
-      agree.imports agree.exports agree.no_world agree.no_interface
-
-  united : UnionsAreMerged → HasDistinctKeys new.resolve → IsUnited own other new
-  united law distinct = record {
+  united : IsUnited own other new
+  united = record {
     first = first_of p.matches.interfaces.items planned.carried (first_fates r s p.matches.interfaces.items planned.carried) planned.types;
     second = second_pass_of r s p.matches planned.carried own.world.0 other.world.0 w v planned.second.copied planned.second.interfaces planned.types planned.second.types;
     left_out = is_left_out s;
-    merged = merged law;
+    merged = unions_are_merged r s new.resolve own.world.0 other.world.0 p.matches w v added keys planned o.valid t.valid g.all_added p.few bound.1 other-bound.1 p.matched.packages p.matched.interfaces p.matched.worlds
+        paths.1 paths.2 agree.imports agree.exports agree.no_world agree.no_interface;
     root = root-left-out;
-    distinct = distinct;
+    distinct = unions_have_distinct_keys r s new.resolve own.world.0 other.world.0 p.matches w v added keys planned o.valid t.valid g.all_added bound.1 other-bound.1 paths.0 paths.1 paths.2;
     world = g.world;
     imports = g.imports;
     exports = g.exports;
   }
 
-  pub merged_are_the_union : UnionsAreMerged → HasDistinctKeys new.resolve → IsBindgen new × (binding_of new ≡ union (binding_of own) (binding_of other))
-  merged_are_the_union law distinct = united_are_the_union merged_is_valid bound_means own other new o t can (united law distinct)
+  pub merged_are_the_union : IsBindgen new × (binding_of new ≡ union (binding_of own) (binding_of other))
+  merged_are_the_union = united_are_the_union merged_is_valid bound_means own other new o t can united
 
   -- ---- what was there
 
-  apart : UnionsAreApart → IsApart added r own.world.0
-  apart law = law r s own.world.0 other.world.0 p.matches w v added keys planned o.valid t.valid bound.1 other-bound.1 by-name paths.1 paths.2
+  apart : IsApart added r own.world.0
+  apart = unions_are_apart r s own.world.0 other.world.0 p.matches w v added keys planned o.valid t.valid bound.1 other-bound.1 (record { packages = p.matched.packages; interfaces = p.matched.interfaces; worlds = p.matched.worlds }) paths.1 paths.2
 
-  pub merged_extend : UnionsAreApart → Extends r new.resolve own.world.0
-  merged_extend law = grown_extend added other.metadata own new o.in_range (apart law) g
+  pub merged_extend : Extends r new.resolve own.world.0
+  merged_extend = grown_extend added other.metadata own new o.in_range apart g
 
   -- ---- exports
 
   number : new.world.0 ≡ own.world.0
   number = ap (λ (k : WorldId). k.0) g.world
 
-  pub merged_exports : UnionsAreApart → keys_of added.exports.entries ≡ keys → export_keys new.resolve new.world.0 ≡ export_keys r own.world.0 ++ keys
-  merged_exports law named =
-      let h = exports-grown added other.metadata own new (apart law) g w bound.1 in
+  exported : export_keys new.resolve new.world.0 ≡ export_keys r own.world.0 ++ keys_of added.exports.entries
+  exported =
+      let h = exports-grown added other.metadata own new apart g w bound.1 in
       ap (export_keys new.resolve) number
       ∙ (ap (λ y. option_map_or (λ (x : World). keys_of x.exports.entries) y []) h.1
       ∙ (ap keys_of h.2
-      ∙ (map-append _ w.exports.entries added.exports.entries
-      ∙ (ap (λ ks. keys_of w.exports.entries ++ ks) named ∙ sym (ap (λ y. option_map_or (λ (x : World). keys_of x.exports.entries) y [] ++ keys) bound.1)))))
+      ∙ (map-append (λ (e : WorldKey × WorldItem). e.0) w.exports.entries added.exports.entries
+      ∙ sym (ap (λ y. option_map_or (λ (x : World). keys_of x.exports.entries) y [] ++ keys_of added.exports.entries) bound.1))))
 
-  pub merged_answer : map (key_text new.resolve) keys ≡ map (key_text s) (keys_of v.exports.entries) → map (key_text new.resolve) keys ≡ map (key_text s) (export_keys s other.world.0)
-  merged_answer named = named ∙ sym (ap (λ y. map (key_text s) (option_map_or (λ (x : World). keys_of x.exports.entries) y [])) other-bound.1)
+  -- the keys that are answered are those that are new
+  answered : map key_view (keys_of added.exports.entries) ≡ map key_view keys
+  answered = exports_are_added r s own.world.0 other.world.0 p.matches w v added keys planned o.valid t.valid bound.1 other-bound.1 paths.0 paths.1 paths.2 agree.exports
+
+  pub merged_exports : map key_view (export_keys new.resolve new.world.0) ≡ map key_view (export_keys r own.world.0) ++ map key_view keys
+  merged_exports = ap (map key_view) exported ∙ (map-append key_view (export_keys r own.world.0) (keys_of added.exports.entries) ∙ ap (λ ks. map key_view (export_keys r own.world.0) ++ ks) answered)
+
+  pub merged_answer : map (key_text new.resolve) keys ≡ map (key_text s) (export_keys s other.world.0)
+  merged_answer =
+      keys_keep_texts r s new.resolve own.world.0 other.world.0 p.matches w v added keys planned o.valid t.valid g.all_added bound.1 other-bound.1 paths.0 p.matched.packages paths.1 paths.2
+      ∙ sym (ap (λ y. map (key_text s) (option_map_or (λ (x : World). keys_of x.exports.entries) y [])) other-bound.1)

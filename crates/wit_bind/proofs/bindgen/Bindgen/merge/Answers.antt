@@ -1,5 +1,6 @@
 use Rattle.wit_bind.proofs.AsItWas.{kept_itself}
 use Rattle.wit_bind.proofs.Growing.{on_err, plan_addable}
+use Rattle.wit_bind.proofs.Merging.{merged_answer, merged_are_the_union, merged_exports, merged_extend}
 use Rattle.wit_bind.proofs.bindgen.Bindgen.merge.Goals as goal
 
 pub grow-requires : goal.grow-requires

@@ -5,6 +5,7 @@ use Rattle.bind_carry.specs.Numbers.{IsMemoryOrSize}
 use Rattle.bind_clash.specs.Faults.{IsMatched}
 use Rattle.bind_clash.proofs.FirstClash.{err_is, err_said}
 use Rattle.wit_bind.specs.Merges.{IsEncodingRefusal, IsMergeRefusal}
+use Rattle.wit_bind.proofs.Growing.{if_ok_both}
 use Rattle.wit_bind.proofs.MatchedPaths.{all-matched}
 use Rattle.wit_bind.proofs.Refusals.{clash_is, encodings_are}
 use Rattle.wit_bind.proofs.Uniting.{unite}
@@ -49,7 +50,7 @@ returns-clause-ok c =
     let own = c.args.self.now in
     let other = c.args.other.now in
     let matched : IsMatched own.resolve other.resolve c.in_ok-matches.matches = record { packages = c.in_ok-matches.ensures.packages; interfaces = c.in_ok-matches.ensures.interfaces; worlds = c.in_ok-matches.ensures.worlds } in
-    if_ok _ _ (λ plan h. record { matches = c.in_ok-matches.matches; matched = matched; none = c.in_ok-refuse_clash.ensures.none; union = h }) c.union_of.result c.union_of.ensures.union
+    if_ok_both _ _ _ (λ plan h few. record { matches = c.in_ok-matches.matches; matched = matched; none = c.in_ok-refuse_clash.ensures.none; union = h; few = few }) c.union_of.result c.union_of.ensures.union c.union_of.ensures.few
 
 pub returns-clause-refusal : goal.returns-clause-refusal
 returns-clause-refusal c = ?
