@@ -2,6 +2,7 @@ pub mod Numbering
 pub mod Flat
 pub mod Below
 pub mod Settling
+pub mod Counting
 pub mod Keeping
 pub mod NamesCopied
 pub mod CopiesPlaced

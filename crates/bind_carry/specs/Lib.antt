@@ -20,4 +20,5 @@ pub mod InRange
 pub mod Bound
 pub mod Union
 pub mod Few
+pub mod TooLong
 pub mod Apart
