@@ -8,7 +8,6 @@ use Rattle.bind_carry.specs.Fates.{copied_types, copies, AreCopied, IsCopiedType
 use Rattle.bind_carry.specs.Numbers.{copied_count}
 use Rattle.bind_carry.specs.TooLong.{copies_of}
 use Rattle.bind_carry.specs.Whole.{kept}
-use Rattle.bind_carry.proofs.Settling.{length_one}
 
 -- at most as many are kept as flags are set
 pub kept_few : {X : Type 0} (bs : List Bool) (xs : List X) → length (kept bs xs) ≤ copied_count bs
@@ -52,7 +51,7 @@ pub counted_more : (own : ℕ) (numbers : List ℕ) (def : TypeDef) (f : Fate) (
 counted_more own numbers def fate.Left old new n fs left whole at met so = ap (λ l. length l + copies_of fs) met.1 ∙ (ap (λ l. length old + copies_of l) (sym at) ∙ so)
 counted_more own numbers def (fate.Stands k) old new n fs left whole at met so = ap (λ l. length l + copies_of fs) met.1 ∙ (ap (λ l. length old + copies_of l) (sym at) ∙ so)
 counted_more own numbers def (fate.Copied home) old new n fs left whole at met so =
-    let longer : length new ≡ length old + 1 = ap length met.1.2 ∙ length_one old met.1.0 in
+    let longer : length new ≡ length old + 1 = ap length met.1.2 ∙ length_both old (met.1.0 ∷ []) in
     let here : length old + (copies_of fs + 1) ≡ whole = ap (λ l. length old + copies_of l) (sym at) ∙ so in
     omega (arith, longer, here)
 

@@ -3,6 +3,7 @@ pub mod Flat
 pub mod Below
 pub mod Settling
 pub mod Counting
+pub mod CountedCopies
 pub mod Keeping
 pub mod NamesCopied
 pub mod CopiesPlaced

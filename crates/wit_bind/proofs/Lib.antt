@@ -9,6 +9,7 @@ pub mod Extending
 pub mod Unchanged
 pub mod UnionBound
 pub mod MatchedPaths
+pub mod TooMany
 pub mod NumbersAgree
 pub mod Putting
 pub mod FunctionKeys
