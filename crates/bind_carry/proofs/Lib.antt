@@ -2,6 +2,8 @@ pub mod Numbering
 pub mod Flat
 pub mod Below
 pub mod Settling
+pub mod Counting
+pub mod CountedCopies
 pub mod Keeping
 pub mod NamesCopied
 pub mod CopiesPlaced

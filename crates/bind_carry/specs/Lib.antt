@@ -20,6 +20,7 @@ pub mod InRange
 pub mod Bound
 pub mod Union
 pub mod Few
+pub mod TooLong
 pub mod Apart
 pub mod MergedUnion
 pub mod AddedApart

@@ -12,7 +12,9 @@ ghost use Rattle.bind_carry.specs.Whole.{kept};
 ghost use Rattle.bind_carry.specs.BoundGains.{are_types_below, bound_fates, gained_inline, gains_any, type_under_key, unified, unify_one as unify_one_lem, AreInlineCopied, AreKeysUnder, AreWorldKeysBelow};
 ghost use Rattle.bind_carry.specs.Fates.{AreCopied, FallBelow};
 ghost use Rattle.bind_carry.specs.Bound.{IsBoundOver, IsBoundReady, IsSameButItems};
+ghost use Rattle.bind_carry.specs.Few.{AreFew};
 ghost use Rattle.bind_carry.specs.Numbers.{copied_count, numbers_of, IsMemoryOrSize};
+ghost use Rattle.bind_carry.specs.TooLong.{copies_of, AreTooManyGained};
 ghost use Rattle.bind_carry.specs.Shown.{any_new, are_keys_below, type_in, AreNewShownBelow};
 ghost use Rattle.bind_carry.specs.First.{beside_first, is_named_at, second_from, second_in, IsHomeIn};
 ghost use Rattle.wit_model.specs.declared.model.TypeDef.{TypeDef as TypeDefValue};
@@ -316,7 +318,9 @@ fn bind_types(
     requires falls { FallBelow bound.other.now.types.items }
     ensures copied { IfOk result (λ numbers. (w v : WorldValue) → world_at bound.entry.own.now bound.entry.world.0 ≡ Some w → world_at bound.entry.other.now bound.entry.other_world.0 ≡ Some v → AreCopied (length bound.entry.own.now.types.items) numbers.items bound.entry.other.now.types.items (bound_fates bound.entry.other.now bound.entry.world.0 bound.entry.other_world.0 w v copied.now interfaces.now first.entry.fates.now first.entry.types.now) added.old.items added.new.items) }
     ensures count { IfOk result (λ numbers. length numbers.items ≡ length bound.entry.other.now.types.items) }
+    ensures few { IfOk result (λ numbers. length bound.entry.own.now.types.items + length added.new.items ≤ 4294967295) }
     ensures refuses { IfErr result IsMemoryOrSize }
+    ensures size { IfErr result (λ e. e ≡ Size → ((w v : WorldValue) → world_at bound.entry.own.now bound.entry.world.0 ≡ Some w → world_at bound.entry.other.now bound.entry.other_world.0 ≡ Some v → 4294967295 < (length bound.entry.own.now.types.items + length added.old.items) + copies_of (bound_fates bound.entry.other.now bound.entry.world.0 bound.entry.other_world.0 w v copied.now interfaces.now first.entry.fates.now first.entry.types.now))) }
 {
     let mut fates = first_fates(alloc, bound, copied, interfaces, first)?;
     unify_types(bound, &mut fates);
@@ -375,8 +379,9 @@ fn bound_numbers(
     requires same { length copied.now ≡ length interfaces.now }
     requires few { length copied.now ≤ 4294967295 }
     ensures numbers { IfOk result (λ v. v.items ≡ numbers_of (length bound.entry.own.now.interfaces.items + added) copied.now interfaces.now) }
+    ensures few { IfOk result (λ v. (length bound.entry.own.now.interfaces.items + added) + copied_count copied.now ≤ 4294967295) }
     ensures refuses { IfErr result IsMemoryOrSize }
-    ensures size { result ≡ Err Size → 4294967295 ≤ (length bound.entry.own.now.interfaces.items + added) + copied_count copied.now }
+    ensures size { result ≡ Err Size → 4294967295 < (length bound.entry.own.now.interfaces.items + added) + copied_count copied.now }
 {
     let Some(behind) = bound.own.interfaces.len().checked_add(added) else {
         return Err(Error::Size);
@@ -416,7 +421,9 @@ pub(crate) fn bind_items(
 ) -> Result<(), Error>
     requires { IsBoundReady bound.own.now bound.other.now bound.world.0 bound.other_world.0 first.carried.now first.fates.now first.types.now }
     ensures gained { OnOk result ((w v : WorldValue) → world_at bound.entry.own.now bound.entry.world.0 ≡ Some w → world_at bound.entry.other.now bound.entry.other_world.0 ≡ Some v → IsBoundOver bound.entry.own.now bound.entry.other.now bound.entry.world.0 bound.entry.other_world.0 w v first.entry.carried.now first.entry.fates.now first.entry.types.now added.old added.new) }
+    ensures few { OnOk result (length bound.entry.own.now.packages.items + length added.old.packages.items ≤ 4294967295 → length bound.entry.own.now.worlds.items + length added.old.worlds.items ≤ 4294967295 → AreFew bound.entry.own.now added.new) }
     ensures refuses { IfErr result IsMemoryOrSize }
+    ensures size { IfErr result (λ e. e ≡ Size → ((w v : WorldValue) → world_at bound.entry.own.now bound.entry.world.0 ≡ Some w → world_at bound.entry.other.now bound.entry.other_world.0 ≡ Some v → AreTooManyGained bound.entry.own.now bound.entry.other.now bound.entry.world.0 bound.entry.other_world.0 w v first.entry.carried.now first.entry.fates.now first.entry.types.now (length added.old.interfaces.items) (length added.old.types.items))) }
 {
     let copied = copied_inline(alloc, bound, &first.carried.interfaces)?;
     let before = added.interfaces.len();

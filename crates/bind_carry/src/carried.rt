@@ -9,7 +9,9 @@ ghost use Rattle.bind_carry.specs.Which.{IsNumbered};
 ghost use Rattle.bind_carry.specs.First.{fate_named, fate_of, first_fates};
 ghost use Rattle.bind_carry.specs.Numbers.{IsMemoryOrSize};
 ghost use Rattle.bind_carry.specs.Over.{IsCarriedOver, IsCarriedReady};
-ghost use Rattle.wit_model.specs.declared.error.Error.TheVariants.{Memory};
+ghost use Rattle.wit_model.specs.declared.error.Error.TheVariants.{Memory, Size};
+ghost use Rattle.bind_carry.specs.Few.{AreFewNumbered};
+ghost use Rattle.bind_carry.specs.TooLong.{AreTooManyByPath};
 ghost use Rattle.wit_model.specs.Text.{optional_text, text_of};
 ghost use Rattle.bind_carry.specs.Listed.{type_named, IsOwnerBelow, IsWhole};
 
@@ -41,7 +43,9 @@ pub(crate) fn number_carried(
     requires imports { (n : ℕ) (w : WorldValue) → world_at other.now n ≡ Some w → AreShownBelow (length other.now.interfaces.items) w.imports.entries }
     requires exports { (n : ℕ) (w : WorldValue) → world_at other.now n ≡ Some w → AreShownBelow (length other.now.interfaces.items) w.exports.entries }
     ensures numbered { IfOk result (IsNumbered own.now other.now matches.now) }
+    ensures few { IfOk result (AreFewNumbered own.now) }
     ensures refuses { IfErr result IsMemoryOrSize }
+    ensures size { IfErr result (λ e. e ≡ Size → AreTooManyByPath own.now other.now matches.now) }
 {
     let new_packages = new_packages(alloc, &matches.packages)?;
     let known = package_numbers(alloc, &matches.packages)?;

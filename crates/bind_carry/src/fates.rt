@@ -1,15 +1,17 @@
 //! What becomes of each type of another `Resolve`.
 
-ghost use Rattle.std.specs.Prelude.{◌≡◌, ◌&&◌, ◌++◌, ◌∷◌, [], true, is_none, length, IfErr, IfOk, OnOk};
+ghost use Rattle.std.specs.Prelude.{◌≡◌, ◌≤◌, ◌<◌, ◌+◌, ◌&&◌, ◌++◌, ◌∷◌, [], true, is_none, length, IfErr, IfOk, OnOk};
 ghost use Rattle.std.specs.List.{list_any};
 ghost use Rattle.bind_copy.specs.Copies.{all_below};
 ghost use Rattle.bind_union.specs.Views.{kind_view, view_numbers};
 ghost use Rattle.wit_model.specs.declared.model.TypeDef.{TypeDef as TypeDefValue};
 ghost use Rattle.bind_carry.specs.Numbers.{IsMemoryOrSize};
-ghost use Rattle.bind_carry.specs.Fates.{are_carried, settled as settled_lem, settled_from, AreCopied, FallBelow, MeetsFate};
+ghost use Rattle.wit_model.specs.declared.error.Error.TheVariants.{Size};
+ghost use Rattle.bind_carry.specs.TooLong.{copies_of};
+ghost use Rattle.bind_carry.specs.Fates.{are_carried, copies, settled as settled_lem, settled_from, AreCopied, FallBelow, MeetsFate};
 
 use crate::fate::Fate;
-use crate::numbers::number_behind;
+use crate::numbers::{check_length, number_behind};
 use crate::parts::are_parts_carried;
 use bind_copy::copy_type;
 use std::alloc::{AllocError, Global};
@@ -62,6 +64,8 @@ fn carried_type(
     requires { all_below (length numbers.now) (view_numbers (kind_view def.now.kind)) ≡ true }
     ensures met { IfOk result (MeetsFate own numbers.now def.now fate added.old.items added.new.items) }
     ensures refuses { IfErr result IsMemoryOrSize }
+    ensures size { IfErr result (λ e. e ≡ Size → 4294967295 ≤ own + length added.old.items) }
+    ensures copied { IfErr result (λ e. e ≡ Size → copies fate ≡ true) }
 {
     match fate {
         Fate::Left => Ok(0),
@@ -86,13 +90,16 @@ pub(crate) fn copy_types(
     requires falls { FallBelow types.now }
     ensures copied { IfOk result (λ v. AreCopied own v.items types.now fates.now added.old.items added.new.items) }
     ensures count { IfOk result (λ v. length v.items ≡ length types.now) }
+    ensures few { IfOk result (λ v. own + length added.new.items ≤ 4294967295) }
     ensures refuses { IfErr result IsMemoryOrSize }
+    ensures size { IfErr result (λ e. e ≡ Size → 4294967295 < (own + length added.old.items) + copies_of fates.now) }
 {
     let mut numbers = Vec::new(alloc);
     for (number, def) in types.iter().enumerate() {
         let image = carried_type(alloc, own, &numbers, def, fates[number], added)?;
         numbers.push(image)?;
     }
+    check_length(own, added.len())?;
     Ok(numbers)
 }
 

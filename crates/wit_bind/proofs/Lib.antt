@@ -10,6 +10,7 @@ pub mod Merging
 pub mod Unchanged
 pub mod UnionBound
 pub mod MatchedPaths
+pub mod TooMany
 pub mod NumbersAgree
 pub mod Putting
 pub mod FunctionKeys

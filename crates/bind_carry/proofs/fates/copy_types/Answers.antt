@@ -5,6 +5,8 @@ use Rattle.bind_copy.specs.Copies.{all_below}
 use Rattle.bind_union.specs.Views.{kind_view, view_numbers}
 use Rattle.bind_carry.specs.Fates.{AreCopiedSoFar, MeetsFate}
 use Rattle.bind_carry.specs.declared.fate.Fate.TheVariants as fate
+use Rattle.bind_carry.specs.TooLong.{copies_of}
+use Rattle.bind_carry.proofs.Counting.{counted_more}
 use Rattle.bind_carry.proofs.Settling.{all_met, one_more}
 use Rattle.bind_carry.proofs.fates.copy_types.Goals as goal
 
@@ -33,6 +35,7 @@ loop-number-preserved c =
     record {
       count = search rules;
       met = subst (λ l. AreCopiedSoFar own types fates old l (drop (n + 1) types) (drop (n + 1) fates) c.carried_type.new.added.items) (sym c.in_ok-push.ensures.items) more;
+      counted = counted_more own c.deref.result.now def f c.loop-number.added.items c.carried_type.new.added.items c.in_ok-image.image (drop (n + 1) fates) (drop n fates) (length old + copies_of fates) at_fate told c.loop-number.invariant.counted;
     }
 
 pub returns-clause-copied : goal.returns-clause-copied
