@@ -10,22 +10,22 @@ pub returns-clause-united : goal.returns-clause-united
 returns-clause-united c = c.in_ok-added.ensures.united
 
 pub returns-clause-union : goal.returns-clause-union
-returns-clause-union c = ?
+returns-clause-union c = (merged_are_the_union c.args.self.now c.args.other c.grow.new.self c.requires.own c.requires.others c.in_ok-added.ensures.united c.in_ok-added.added c.in_ok-added.keys.keys c.in_ok-added.ensures.ok c.in_ok-grow.ensures.ok).1
 
 pub returns-clause-valid : goal.returns-clause-valid
-returns-clause-valid c = ?
+returns-clause-valid c = (merged_are_the_union c.args.self.now c.args.other c.grow.new.self c.requires.own c.requires.others c.in_ok-added.ensures.united c.in_ok-added.added c.in_ok-added.keys.keys c.in_ok-added.ensures.ok c.in_ok-grow.ensures.ok).0
 
 pub returns-clause-extends : goal.returns-clause-extends
-returns-clause-extends c = ?
+returns-clause-extends c = merged_extend c.args.self.now c.args.other c.grow.new.self c.requires.own c.requires.others c.in_ok-added.ensures.united c.in_ok-added.added c.in_ok-added.keys.keys c.in_ok-added.ensures.ok c.in_ok-grow.ensures.ok
 
 pub returns-clause-order : goal.returns-clause-order
 returns-clause-order c = ?
 
 pub returns-clause-added : goal.returns-clause-added
-returns-clause-added c = ?
+returns-clause-added c = merged_exports c.args.self.now c.args.other c.grow.new.self c.requires.own c.requires.others c.in_ok-added.ensures.united c.in_ok-added.added c.in_ok-added.keys.keys c.in_ok-added.ensures.ok c.in_ok-grow.ensures.ok
 
 pub returns-clause-answer : goal.returns-clause-answer
-returns-clause-answer c = ?
+returns-clause-answer c = merged_answer c.args.self.now c.args.other c.grow.new.self c.requires.own c.requires.others c.in_ok-added.ensures.united c.in_ok-added.added c.in_ok-added.keys.keys c.in_ok-added.ensures.ok c.in_ok-grow.ensures.ok
 
 pub returns-in_err-added-clause-kept : goal.returns-in_err-added-clause-kept
 returns-in_err-added-clause-kept c = on_err (kept_itself c.args.self.now) c.from_residual.result
