@@ -1,10 +1,15 @@
 -- How many are copied.
 use Rattle.std.proofs.Common.{◌≡◌, refl, sym, ap, ◌∙◌, ℕ, ◌+◌, ◌<◌, ◌≤◌, Bool, true, false, arith, List, [], ◌∷◌, ◌++◌, length, map}
 use Rattle.std.specs.List.{AllZip}
+use Rattle.std.specs.Prelude.{Err, IfOk, Ok, OnOk, Option, Result}
+use Rattle.wit_model.specs.declared.model.Interface.{Interface}
+use Rattle.wit_model.specs.declared.model.PackageId.{PackageId}
 use Rattle.wit_model.specs.declared.model.TypeDef.{TypeDef}
 use Rattle.bind_carry.specs.declared.fate.Fate.{Fate}
 use Rattle.bind_carry.specs.declared.fate.Fate.TheVariants as fate
 use Rattle.bind_carry.specs.Fates.{copied_types, copies, AreCopied, IsCopiedType, MeetsFate}
+use Rattle.bind_copy.specs.Copies.{IsInterfaceUnder}
+use Rattle.bind_carry.specs.BoundGains.{AreInlineCopied}
 use Rattle.bind_carry.specs.Numbers.{copied_count}
 use Rattle.bind_carry.specs.TooLong.{copies_of}
 use Rattle.bind_carry.specs.Whole.{kept}
@@ -66,3 +71,34 @@ copied_long own numbers types fates old new long c =
     let both : length new ≡ length old + length c.more = ap length c.behind ∙ length_both old c.more in
     let count : length (copied_types types fates) ≡ copies_of fates = types_counted types fates long in
     omega (arith, more, both, count)
+
+-- ---- inline interfaces
+
+-- at most as many stand behind as flags are set
+pub inline_long : (types : List ℕ) (home : Option PackageId) (copied : List Bool) (interfaces old new : List Interface) → AreInlineCopied types home copied interfaces old new → length new ≤ length old + copied_count copied
+inline_long types home copied interfaces old new c =
+    let more : length (kept copied interfaces) ≡ length c.more = zip_long (IsInterfaceUnder types home) (kept copied interfaces) c.more c.copies in
+    let both : length new ≡ length old + length c.more = ap length c.behind ∙ length_both old c.more in
+    let few : length (kept copied interfaces) ≤ copied_count copied = kept_few copied interfaces in
+    omega (arith, more, both, few)
+
+-- ---- answers
+
+-- what holds anyway holds where an answer is there
+pub on_ok : {A E P : Type 0} → P → (r : Result A E) → OnOk r P
+on_ok p (Ok a) = p
+on_ok p (Err e) = tt
+
+pub if_ok_always : {A E : Type 0} (P : A → Type 0) → ((a : A) → P a) → (r : Result A E) → IfOk r P
+if_ok_always P f (Ok a) = f a
+if_ok_always P f (Err e) = tt
+
+-- ---- lists that are made of what is kept
+
+-- at most as many as flags are set
+pub carried_few : {X Y : Type 0} (P : X → Y → Type 0) (flags : List Bool) (xs : List X) (ys : List Y) → AllZip P (kept flags xs) ys → length ys ≤ copied_count flags
+carried_few P flags xs ys h = let long = zip_long P (kept flags xs) ys h in let few = kept_few flags xs in omega (arith, long, few)
+
+-- and as many where each has a flag
+pub carried_all : {X Y : Type 0} (P : X → Y → Type 0) (flags : List Bool) (xs : List X) (ys : List Y) → length flags ≡ length xs → AllZip P (kept flags xs) ys → length ys ≡ copied_count flags
+carried_all P flags xs ys count h = let long = zip_long P (kept flags xs) ys h in let all = kept_all flags xs count in omega (arith, long, all)

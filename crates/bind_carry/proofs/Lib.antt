@@ -4,6 +4,7 @@ pub mod Below
 pub mod Settling
 pub mod Counting
 pub mod CountedCopies
+pub mod ManyCarried
 pub mod Keeping
 pub mod NamesCopied
 pub mod CopiesPlaced

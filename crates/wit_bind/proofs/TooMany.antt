@@ -1,10 +1,12 @@
 -- Where a union would make a list too long, so would all that may come.
 use Rattle.std.proofs.Common.{◌≡◌, refl, sym, ap, subst, ◌∙◌, ◌⊎◌, inl, inr, arith, ℕ, zero, suc, ◌+◌, ◌<◌, ◌≤◌, length, Bool, true, false, not, ◌&&◌, ◌==◌, cond, List, [], ◌∷◌, ◌++◌, map, filter, unwrap_or, Option, Some, None, is_none, option_and_then, option_map, slice_get, append-nil, String}
-use Rattle.std.specs.Prelude.{◌||◌, count_by, filter_map, is_some}
+use Rattle.std.specs.Prelude.{◌||◌, Err, IfErr, Ok, Result, count_by, filter_map, is_some}
 use Rattle.std.proofs.lemmas.List.{length-map}
 use Rattle.std.specs.List.{cons_option, list_all, list_any}
 use Rattle.std.specs.Option.{option_map_or}
 use Rattle.std.specs.declared.alloc.Global.{Global}
+use Rattle.wit_model.specs.declared.error.Error.{Error}
+use Rattle.wit_model.specs.declared.error.Error.TheVariants as errors
 use Rattle.wit_model.specs.declared.model.Interface.{Interface}
 use Rattle.wit_model.specs.declared.model.Package.{Package}
 use Rattle.wit_model.specs.declared.model.PackageName.{PackageName}
@@ -40,7 +42,7 @@ use Rattle.bind_carry.specs.BoundGains.{gained_inline}
 use Rattle.bind_carry.specs.First.{first_fates, flag_under}
 use Rattle.bind_carry.specs.Listed.{given_interface}
 use Rattle.bind_carry.specs.Marked.{is_inline_at, AreChosen}
-use Rattle.bind_carry.specs.Numbers.{copied_count}
+use Rattle.bind_carry.specs.Numbers.{copied_count, IsMemoryOrSize}
 use Rattle.bind_carry.specs.Renumbered.{is_matched}
 use Rattle.bind_carry.specs.Shown.{AreShownBelow}
 use Rattle.bind_carry.specs.TooLong.{carried_interfaces, carried_packages, carried_worlds, copies_of, gained_fates, IsTooLong}
@@ -48,7 +50,7 @@ use Rattle.bind_carry.specs.Which.{AreMatchedAll, IsNumbered}
 use Rattle.bind_carry.specs.declared.fate.Fate.{Fate}
 use Rattle.bind_carry.specs.declared.plan.Carried.{Carried}
 use Rattle.bind_carry.proofs.CountedCopies.{first_few, flags_few, gained_few, interfaces_flagged, second_few, world_flag, worlds_flagged, IsHomeCopied}
-use Rattle.bind_carry.proofs.FirstCarried.{chosen_so}
+use Rattle.bind_carry.proofs.FirstCarried.{chosen_so, within_there}
 use Rattle.bind_carry.proofs.FirstPackages.{mapped_at}
 use Rattle.bind_carry.proofs.Marking.{are_chosen}
 use Rattle.bind_carry.proofs.PartsCarried.{no_home}
@@ -330,3 +332,20 @@ too-many own other world other_world m w b v u matched at_b (inr (c, numbered, i
     (more-both 4294967295 (length own.interfaces.items) _ _ _ _ h (carried-few own other v u m matched c numbered) (inline-few own other v u m matched c numbered world other_world w b at_b))))
 too-many own other world other_world m w b v u matched at_b (inr (c, numbered, inr (inr h))) =
     inr (inr (inr (more-both 4294967295 (length own.types.items) _ _ _ _ h (types-few own other v u m matched c numbered) (gained-types-few own other v u m matched c numbered world other_world w b at_b _ _ _))))
+
+-- ---- the refusal of a union
+
+module _ (own other : Resolve) (world other_world : ℕ) (m : Matches) (v : IsValid own) (u : IsValid other) (matched : IsMatched own other m) (in_range : world < length own.worlds.items) (other_in_range : other_world < length other.worlds.items)
+    (P : Error → Type 0) (memory : P errors.Memory) (size : AreTooMany own other other_world → P errors.Size) where
+  refusal : (e : Error) → IsMemoryOrSize e → (e ≡ errors.Size → (w b : World) → world_at own world ≡ Some w → world_at other other_world ≡ Some b → IsTooLong own other world other_world m w b) → P e
+  refusal errors.Memory h long = memory
+  refusal errors.Size h long =
+      let w = within_there own.worlds.items world in_range in
+      let b = within_there other.worlds.items other_world other_in_range in
+      size (too-many own other world other_world m w.0 b.0 v u matched b.1 (long refl w.0 b.0 w.1 b.1))
+  refusal e h long = absurd h
+
+  -- a union is refused for want of memory, or where there would be too much
+  pub refused-so : {A : Type 0} (r : Result A Error) → IfErr r IsMemoryOrSize → IfErr r (λ e. e ≡ errors.Size → (w b : World) → world_at own world ≡ Some w → world_at other other_world ≡ Some b → IsTooLong own other world other_world m w b) → IfErr r P
+  refused-so (Ok a) h long = tt
+  refused-so (Err e) h long = refusal e h long

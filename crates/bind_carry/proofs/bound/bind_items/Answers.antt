@@ -1,10 +1,15 @@
-use Rattle.std.proofs.Common.{rules, ◌≡◌, ◌∙◌, ◌+◌, ap, sym, subst, ℕ, List, length}
+use Rattle.std.proofs.Common.{rules, arith, ◌≡◌, ◌≤◌, ◌<◌, ◌∙◌, ◌+◌, inl, inr, refl, ap, sym, subst, ℕ, List, length}
 use Rattle.wit_model.specs.declared.model.Interface.{Interface}
+use Rattle.wit_model.specs.declared.model.Package.{Package}
 use Rattle.wit_model.specs.declared.model.TypeDef.{TypeDef}
+use Rattle.wit_model.specs.declared.model.World.{World}
 use Rattle.bind_copy.specs.Copies.{AreNewCopied}
 use Rattle.bind_carry.specs.BoundGains.{bound_fates, gained_inline, AreInlineCopied}
 use Rattle.bind_carry.specs.Fates.{AreCopied}
-use Rattle.bind_carry.specs.Numbers.{numbers_of}
+use Rattle.bind_carry.specs.Numbers.{copied_count, numbers_of}
+use Rattle.bind_carry.specs.TooLong.{copies_of}
+use Rattle.bind_carry.proofs.Counting.{inline_long, on_ok}
+use Rattle.bind_carry.proofs.FirstCarried.{within_there}
 use Rattle.bind_carry.proofs.Ready.{exports_below, exports_shown, functions_in, imports_below, imports_shown, names_in, numbers_many, on_ok_two, types_shown, world_keys_below}
 use Rattle.bind_carry.proofs.bound.bind_items.Goals as goal
 
@@ -91,3 +96,27 @@ returns-clause-gained c =
           (subst (λ (l : List ℕ). AreNewCopied l c.deref-9.result.now w.exports.entries v.exports.entries new.exports.entries) c.deref-8.ensures.value (exports w v at_w at_v));
     })
     c.bind_entries.result c.bind_entries.ensures.imports c.bind_entries.ensures.exports
+
+pub returns-clause-few : goal.returns-clause-few
+returns-clause-few c =
+    let own = c.args.bound.own.now in
+    let other = c.args.bound.other.now in
+    let old = c.args.added.now in
+    let copied = c.in_ok-copied.copied.items in
+    let lists = c.bind_entries.ensures.lists in
+    let before : c.len-before.result ≡ length old.interfaces.items = search rules in
+    let w = within_there own.worlds.items c.args.bound.world.0 c.requires.own_range in
+    let flags : copied_count c.deref-2.result.now ≡ copied_count copied = ap copied_count c.deref-2.ensures.value in
+    let flags_again : copied_count c.deref-6.result.now ≡ copied_count copied = ap copied_count c.deref-6.ensures.value in
+    let few : (length own.interfaces.items + c.len-before.result) + copied_count c.deref-2.result.now ≤ 4294967295 = c.in_ok-interfaces.ensures.few in
+    let more : length c.copy_inline.new.added.items ≤ length old.interfaces.items + copied_count c.deref-6.result.now
+    = inline_long c.deref-7.result.now w.0.«package» c.deref-6.result.now other.interfaces.items old.interfaces.items c.copy_inline.new.added.items (c.in_ok-copy_inline.ensures.copied w.0 w.1) in
+    let interfaces : length own.interfaces.items + length c.copy_inline.new.added.items ≤ 4294967295 = omega (arith, before, flags, flags_again, few, more) in
+    on_ok
+    (λ packages worlds. record {
+      packages = subst (λ (l : List Package). length own.packages.items + length l ≤ 4294967295) (sym lists.packages) packages;
+      interfaces = subst (λ (l : List Interface). length own.interfaces.items + length l ≤ 4294967295) (sym lists.interfaces) interfaces;
+      worlds = subst (λ (l : List World). length own.worlds.items + length l ≤ 4294967295) (sym lists.worlds) worlds;
+      types = subst (λ (l : List TypeDef). length own.types.items + length l ≤ 4294967295) (sym lists.type_defs) c.in_ok-types.ensures.few;
+    })
+    c.bind_entries.result

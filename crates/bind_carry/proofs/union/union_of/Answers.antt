@@ -1,10 +1,13 @@
-use Rattle.std.proofs.Common.{rules, ◌≡◌, ◌∙◌, ◌≤◌, [], ap, sym, subst, ℕ, List, length}
+use Rattle.std.proofs.Common.{rules, arith, inl, inr, ◌+◌, ◌<◌, ◌≡◌, ◌∙◌, ◌≤◌, [], ap, sym, subst, ℕ, List, length}
 use Rattle.std.specs.List.{slice_get}
 use Rattle.bind_carry.specs.Bound.{IsBoundOver}
 use Rattle.bind_carry.specs.BoundGains.{AreKeysUnder}
 use Rattle.bind_carry.specs.Fates.{AreCopied}
 use Rattle.bind_carry.specs.First.{first_fates}
 use Rattle.bind_carry.specs.Over.{IsCarriedOver}
+use Rattle.bind_carry.specs.Packaged.{IsPackageCarried}
+use Rattle.bind_carry.specs.Whole.{IsWorldCarried}
+use Rattle.bind_carry.proofs.Counting.{carried_few}
 use Rattle.bind_carry.proofs.Ranges.{is_in_range, shown_below}
 use Rattle.bind_carry.proofs.Ready.{carried_ready, interface_count, owners_below, world_keys_below}
 use Rattle.bind_carry.proofs.union.union_of.Goals as goal
@@ -81,3 +84,21 @@ returns-clause-union c w v at_w at_v =
           (subst (λ l. IsBoundOver own other world other_world w v carried l c.deref-5.result.now before new) (c.deref-4.ensures.value ∙ c.in_ok-fates.ensures.fates) (c.in_ok-bind_items.ensures.gained w v at_w at_v));
       keys_are = subst (λ (l : List ℕ). AreKeysUnder l v.exports.entries c.in_ok-keys.keys.keys) c.deref-6.ensures.value (c.in_ok-keys.ensures.keys v at_v);
     }
+
+pub returns-clause-few : goal.returns-clause-few
+returns-clause-few c =
+    let own = c.args.own.now in
+    let other = c.args.other.now in
+    let carried = c.in_ok-carried.carried in
+    let types = c.deref-3.result.now in
+    let before = c.in_ok-added.added in
+    let first : IsCarriedOver other carried types c.copy_types.new.added.items before = c.in_ok-added.ensures.added in
+    let numbered = c.in_ok-carried.ensures.few in
+    let packages = carried_few (IsPackageCarried carried) carried.new_packages.items other.packages.items before.packages.items first.packages in
+    let worlds = carried_few (IsWorldCarried carried types) carried.copied_worlds.items other.worlds.items before.worlds.items first.worlds in
+    let few_packages = numbered.packages in
+    let few_worlds = numbered.worlds in
+    c.in_ok-bind_items.ensures.few (omega (arith, packages, few_packages)) (omega (arith, worlds, few_worlds))
+
+pub returns-in_err-bind_items-clause-size : goal.returns-in_err-bind_items-clause-size
+returns-in_err-bind_items-clause-size c = ?
