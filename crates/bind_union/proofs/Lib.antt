@@ -22,10 +22,10 @@ mod KeptNumbers
 mod KeptPackageNames
 mod Shown
 mod KeptPlaces
-mod Valid
+pub mod Valid
 pub mod Namesakes
 mod Meanings
-mod BoundMeanings
+pub mod BoundMeanings
 pub mod WorldNamesakes
 pub mod United
 pub mod UnitedWorlds

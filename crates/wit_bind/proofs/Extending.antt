@@ -112,6 +112,7 @@ module _ (added : Added) (metadata : ModuleMetadata) (old new : Bindgen) (apart 
 
   -- what the bound world exports
   pub exports-grown : (w : World) → world_at o old.world.0 ≡ Some w → (v : World) × (world_at new.resolve old.world.0 ≡ Some v) × (v.exports.entries ≡ w.exports.entries ++ added.exports.entries)
+  unfolding bound-world
   exports-grown w at =
       let b = bound-world w at in
       let h = g.all_added.worlds w at in

@@ -1,6 +1,6 @@
 -- What is planned can be added, and what is added is behind what there was.
 use Rattle.std.proofs.Common.{◌≡◌, sym, subst, ℕ, ◌<◌, Bool, true, List, length, Result, Ok, Err, OnErr, OnOk}
-use Rattle.std.specs.Prelude.{IfErr, IfOk}
+use Rattle.std.specs.Prelude.{IfOk}
 use Rattle.wit_model.specs.declared.model.Resolve.{Resolve}
 use Rattle.wit_model.specs.declared.model.WorldKey.{WorldKey}
 use Rattle.wit_model.specs.Valid.{key_eq}
@@ -44,8 +44,3 @@ on_ok p (Err e) = tt
 pub if_ok_both : {X E : Type 0} (P Q R : X → Type 0) → ((x : X) → P x → Q x → R x) → (r : Result X E) → IfOk r P → IfOk r Q → IfOk r R
 if_ok_both P Q R f (Ok x) p q = f x p q
 if_ok_both P Q R f (Err e) p q = tt
-
--- and of both at `Err`
-pub if_err_both : {X E : Type 0} (P Q R : E → Type 0) → ((e : E) → P e → Q e → R e) → (r : Result X E) → IfErr r P → IfErr r Q → IfErr r R
-if_err_both P Q R f (Ok x) p q = tt
-if_err_both P Q R f (Err e) p q = f e p q

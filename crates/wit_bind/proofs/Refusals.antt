@@ -8,8 +8,6 @@ use Rattle.wit_model.specs.declared.error.ClashKind.TheVariants as kinds
 use Rattle.wit_model.specs.declared.model.World.{World}
 use Rattle.wit_model.specs.Lookup.{world_at}
 use Rattle.wit_model.specs.Text.{Text, optional_text, text_of}
-use Rattle.bind_carry.specs.Numbers.{IsMemoryOrSize}
-use Rattle.bind_carry.specs.TooLong.{IsTooLong}
 use Rattle.bind_match.specs.declared.matches.Matches.{Matches}
 use Rattle.bind_meaning.specs.Clash.{EncodingFault, IsClash, IsLeast, NoFault}
 use Rattle.bind_clash.specs.Faults.{HasNoClash, IsClashAt, IsFaultError, IsLeastFault, IsMatched}
@@ -19,7 +17,6 @@ use Rattle.wit_bind.specs.declared.bindgen.Bindgen.{Bindgen}
 use Rattle.wit_bind.specs.declared.metadata.ModuleMetadata.{ModuleMetadata}
 use Rattle.wit_bind.specs.Bindings.{binding_of, IsBindgen}
 use Rattle.wit_bind.specs.Merges.{IsEncodingRefusal, IsMergeRefusal}
-use Rattle.wit_bind.proofs.TooMany.{too-many}
 
 -- an element by its number
 pub element_at : {X : Type 0} (xs : List X) (n : ℕ) → n < length xs → (x : X) × (slice_get xs n ≡ Some x)
@@ -79,9 +76,3 @@ module _ (own other : Bindgen) (o : IsBindgen own) (t : IsBindgen other) (m : Ma
       own.metadata.import_encodings own.metadata.export_encodings other.metadata.import_encodings other.metadata.export_encodings
       (none own_world.0 other_world.0 own_world.1 other_world.1) (text_of key) h.1)
   encodings_are none e h = absurd h
-
-  -- where a list would get too long, so would all that may come
-  pub union_refused : (e : Error) → IsMemoryOrSize e → (e ≡ errors.Size → ((w v : World) → world_at own.resolve own.world.0 ≡ Some w → world_at other.resolve other.world.0 ≡ Some v → IsTooLong own.resolve other.resolve own.world.0 other.world.0 m w v)) → IsMergeRefusal own other e
-  union_refused errors.Memory h long = tt
-  union_refused errors.Size h long = too-many own.resolve other.resolve own.world.0 other.world.0 m own_world.0 other_world.0 o.valid t.valid matched other_world.1 (long refl own_world.0 other_world.0 own_world.1 other_world.1)
-  union_refused e h long = absurd h

@@ -1,17 +1,12 @@
 -- What is merged of two bindings, entry by entry, is their union.
-use Rattle.std.specs.Prelude.{◌≡◌, ℕ, Bool, false, List, Some}
-use Rattle.std.specs.List.{Contains}
-use Rattle.wit_model.specs.declared.model.Interface.{Interface}
+use Rattle.std.specs.Prelude.{◌≡◌, ℕ, Bool, List, Some}
 use Rattle.wit_model.specs.declared.model.Resolve.{Resolve}
 use Rattle.wit_model.specs.declared.model.World.{World}
-use Rattle.wit_model.specs.declared.model.WorldItem.{WorldItem}
 use Rattle.wit_model.specs.declared.model.WorldKey.{WorldKey}
-use Rattle.wit_model.specs.Text.{Text}
-use Rattle.wit_model.specs.Lookup.{interface_at, key_text, path_of_interface, path_of_world, world_at}
-use Rattle.wit_model.specs.Meaning.{entry_sense}
-use Rattle.wit_model.specs.Meant.{entry_meaning}
+use Rattle.wit_model.specs.Lookup.{world_at}
 use Rattle.wit_model.specs.Valid.{HasDistinctKeys}
 use Rattle.bind_carry.specs.MatchedSame.{AreMatchedAt, NoneOfPath}
+use Rattle.bind_carry.specs.MergedUnion.{ExportsDiffer, ImportsAgree, NoOwnInterfaceAtPath, NoOwnWorldAtPath}
 use Rattle.bind_add.specs.declared.added.Added.{Added}
 use Rattle.bind_carry.specs.Union.{IsUnionOf}
 use Rattle.bind_carry.specs.Which.{AreMatchedAll}
@@ -54,10 +49,10 @@ MatchesHavePaths = (own other : Bindgen) → IsBindgen own → IsBindgen other �
 -- What has to hold of entries and numbers for two bindings to unite: what has one key has one sense, no export has the key of another, and no path is of an
 -- interface and of a world.
 pub record AgreeByNumbers (own other : Resolve) (w v : World) : Type 0 where
-  pub imports : (x e : WorldKey × WorldItem) → Contains w.imports.entries x → Contains v.imports.entries e → key_text own x.0 ≡ key_text other e.0 → entry_sense (entry_meaning own x.1) ≡ entry_sense (entry_meaning other e.1)
-  pub exports : (x e : WorldKey × WorldItem) → Contains w.exports.entries x → Contains v.exports.entries e → key_text own x.0 ≡ key_text other e.0 → ⊥
-  pub no_world : (n : ℕ) (i : Interface) (k : ℕ) (x : World) (path : Text) → interface_at other n ≡ Some i → path_of_interface other i ≡ Some path → world_at own k ≡ Some x → path_of_world own x ≡ Some path → ⊥
-  pub no_interface : (n : ℕ) (i : Interface) (k : ℕ) (x : World) (path : Text) → interface_at own n ≡ Some i → path_of_interface own i ≡ Some path → world_at other k ≡ Some x → is_root_world other x ≡ false → path_of_world other x ≡ Some path → ⊥
+  pub imports : ImportsAgree own other w v
+  pub exports : ExportsDiffer own other w v
+  pub no_world : NoOwnWorldAtPath own other
+  pub no_interface : NoOwnInterfaceAtPath own other
 
 -- It does where they unite.
 abbrev pub UnitedAgreeByNumbers : Type 0

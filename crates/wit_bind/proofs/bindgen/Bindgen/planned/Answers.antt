@@ -5,9 +5,10 @@ use Rattle.bind_carry.specs.Numbers.{IsMemoryOrSize}
 use Rattle.bind_clash.specs.Faults.{IsMatched}
 use Rattle.bind_clash.proofs.FirstClash.{err_is, err_said}
 use Rattle.wit_bind.specs.Merges.{IsEncodingRefusal, IsMergeRefusal}
-use Rattle.wit_bind.proofs.Growing.{if_err_both, if_ok_both}
+use Rattle.wit_bind.proofs.Growing.{if_ok_both}
 use Rattle.wit_bind.proofs.MatchedPaths.{all-matched}
-use Rattle.wit_bind.proofs.Refusals.{clash_is, encodings_are, union_refused}
+use Rattle.wit_bind.proofs.Refusals.{clash_is, encodings_are}
+use Rattle.wit_bind.proofs.TooMany.{refused-so}
 use Rattle.wit_bind.proofs.Uniting.{unite}
 use Rattle.wit_bind.proofs.bindgen.Bindgen.planned.Goals as goal
 
@@ -57,4 +58,4 @@ returns-clause-refusal c =
     let own = c.args.self.now in
     let other = c.args.other.now in
     let matched : IsMatched own.resolve other.resolve c.in_ok-matches.matches = record { packages = c.in_ok-matches.ensures.packages; interfaces = c.in_ok-matches.ensures.interfaces; worlds = c.in_ok-matches.ensures.worlds } in
-    if_err_both _ _ _ (union_refused own other c.requires.own c.requires.others c.in_ok-matches.matches matched) c.union_of.result c.union_of.ensures.refuses c.union_of.ensures.size
+    refused-so own.resolve other.resolve own.world.0 other.world.0 c.in_ok-matches.matches c.requires.own.valid c.requires.others.valid matched c.requires.own.in_range c.requires.others.in_range (IsMergeRefusal own other) tt (λ h. h) c.union_of.result c.union_of.ensures.refuses c.union_of.ensures.size
