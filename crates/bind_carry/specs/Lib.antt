@@ -24,3 +24,5 @@ pub mod Apart
 pub mod AddedApart
 pub mod AddedDistinct
 pub mod AddedKeys
+pub mod ListedNames
+pub mod AddedNames
