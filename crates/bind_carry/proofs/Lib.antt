@@ -61,3 +61,5 @@ pub mod NamesGained
 pub mod UnionApart
 pub mod UnionDistinct
 pub mod UnionKeys
+pub mod PackageTexts
+pub mod NamesMerged

@@ -231,13 +231,13 @@ grown_of (true ∷ bs) (n ∷ ns) (p ∷ ps) i e at = let r = grown_of bs ns ps 
 grown_of (false ∷ bs) (n ∷ ns) (p ∷ ps) zero e at = let same : (n, p) ≡ e = some_same (n, p) e at in record { place = zero; at_place = ap (λ (x : ℕ × Package). Some x.1) same; bare = refl; number = ap (λ (x : ℕ × Package). x.0) same }
 grown_of (false ∷ bs) (n ∷ ns) (p ∷ ps) (suc i) e at = let r = grown_of bs ns ps i e at in record { place = suc r.place; at_place = r.at_place; bare = r.bare; number = r.number }
 
-new_world_flag : (r : Resolve) (ms : List (Option WorldId)) (ws : List World) (n : ℕ) (o : Option WorldId) (w : World) → slice_get ms n ≡ Some o → slice_get ws n ≡ Some w → flag_under (new_worlds r ms ws) n ≡ (is_none o && not (is_root_world r w))
+pub new_world_flag : (r : Resolve) (ms : List (Option WorldId)) (ws : List World) (n : ℕ) (o : Option WorldId) (w : World) → slice_get ms n ≡ Some o → slice_get ws n ≡ Some w → flag_under (new_worlds r ms ws) n ≡ (is_none o && not (is_root_world r w))
 new_world_flag r [] ws n o w a b = let wrong : ⊥ = cc in absurd wrong
 new_world_flag r (m ∷ ms) [] n o w a b = let wrong : ⊥ = cc in absurd wrong
 new_world_flag r (m ∷ ms) (x ∷ xs) zero o w a b = let p = some_same m o a in let q = some_same x w b in λ i. is_none (p i) && not (is_root_world r (q i))
 new_world_flag r (m ∷ ms) (x ∷ xs) (suc n) o w a b = new_world_flag r ms xs n o w a b
 
-none_not_some : {X : Type 0} (o : Option X) → is_none o ≡ not (is_some o)
+pub none_not_some : {X : Type 0} (o : Option X) → is_none o ≡ not (is_some o)
 none_not_some None = refl
 none_not_some (Some x) = refl
 

@@ -1,10 +1,10 @@
 -- All exports of the other's bound world are added, under the keys that are answered.
-use Rattle.std.proofs.Common.{◌≡◌, refl, sym, ap, ap₂, subst, ◌∙◌, ℕ, ◌+◌, arith, Bool, true, false, not, ◌||◌, cond, List, [], ◌∷◌, length, map, Option, Some, None, option_map, option_and_then, unwrap_or, is_some}
+use Rattle.std.proofs.Common.{◌≡◌, refl, sym, ap, ap₂, subst, ◌∙◌, ℕ, zero, suc, ◌++◌, slice_get, slice_set, ◌+◌, arith, Bool, true, false, not, ◌||◌, cond, List, [], ◌∷◌, length, map, Option, Some, None, option_map, option_and_then, unwrap_or, is_some}
 use Rattle.std.specs.Prelude.{String}
 use Rattle.std.specs.declared.alloc.Global.{Global}
 use Rattle.std.specs.List.{filter, list_any, AllZip, Contains}
 use Rattle.std.specs.Map.{keys_of}
-use Rattle.std.proofs.lemmas.List.{length-map}
+use Rattle.std.proofs.lemmas.List.{length-map, map-append}
 use Rattle.std.proofs.lemmas.Option.{slice_get_within}
 use Rattle.wit_model.specs.declared.model.Interface.{Interface}
 use Rattle.wit_model.specs.declared.model.InterfaceId.{InterfaceId}
@@ -20,16 +20,17 @@ use Rattle.wit_model.specs.Lookup.{identity_of, interface_at, interface_path, ke
 use Rattle.wit_model.specs.Names.{path_in}
 use Rattle.wit_model.specs.Rules.{package_number}
 use Rattle.wit_model.specs.Text.{optional_text, text_of, Text}
-use Rattle.wit_model.specs.Valid.{IsValid}
+use Rattle.wit_model.specs.Valid.{key_eq, IsValid}
 use Rattle.wit_model.proofs.Elements.{contains-later, equal, get-contains}
 use Rattle.wit_model.proofs.VersionLaws.{text_same}
+use Rattle.bind_add.specs.Growth.{HasGainedItems}
 use Rattle.bind_add.specs.declared.added.Added.{Added}
 use Rattle.bind_copy.specs.Copies.{is_key_under, is_new_under, number_under, IsEntryUnder, IsKeyUnder}
 use Rattle.bind_match.specs.declared.matches.Matches.{Matches}
 use Rattle.bind_union.specs.Carried.{IsCarried, IsInterface, Renumbering}
 use Rattle.bind_union.proofs.Carrying.{path_by, path_parts, same_identity}
 use Rattle.bind_union.proofs.Lists.{no_true}
-use Rattle.bind_carry.specs.AddedKeys.{key_view, labelled, numbered, ExportsAreAdded, KeysKeepTexts}
+use Rattle.bind_carry.specs.AddedKeys.{key_view, labelled, numbered, ExportsAreAdded, ExportsComeBehind, KeysKeepTexts}
 use Rattle.bind_carry.specs.First.{first_fates, flag_under}
 use Rattle.bind_carry.specs.Listed.{IsHomeBelow}
 use Rattle.bind_carry.specs.MatchedSame.{AreMatchedAt, NoneOfPath}
@@ -43,7 +44,7 @@ use Rattle.bind_carry.proofs.FirstCarried.{first_is_carried, within_there}
 use Rattle.bind_carry.proofs.FirstCopies.{copied_behind}
 use Rattle.bind_carry.proofs.FirstMatched.{interface_is}
 use Rattle.bind_carry.proofs.FirstOfUnion.{unions_have_the_first}
-use Rattle.bind_carry.proofs.KeysGained.{by_path_apart, chosen, export_named, exports_apart, named_carried, named_number}
+use Rattle.bind_carry.proofs.KeysGained.{by_path_apart, chosen, export_named, exports_apart, exports_behind, named_carried, named_number}
 use Rattle.bind_carry.proofs.Ranges.{is_in_range}
 use Rattle.bind_carry.proofs.WorldEntries.{any_place, export_keyed, IsNumberedSame, IsPlacedIn}
 
@@ -203,3 +204,28 @@ keys_keep_texts own other merged world other_world m w v added keys u valid_own 
     let p = unions_have_the_first own other merged world other_world m w v added keys u a at_own all by_name same none in
     let f : Renumbering = first_of m.interfaces.items u.carried (first_fates own other m.interfaces.items u.carried) u.types in
     texts_kept own other valid_own valid_other world other_world m w v added keys u at_own at all same none merged f refl (carried_path other merged f valid_other (first_is_carried own other merged m u.carried u.types valid_own valid_other p))
+
+-- ---- behind own exports
+
+put_there : {X : Type 0} (xs ys : List X) (n : ℕ) (w x : X) → slice_get xs n ≡ Some w → slice_get (slice_set xs n x ++ ys) n ≡ Some x
+put_there [] ys n w x e = let wrong : ⊥ = cc in absurd wrong
+put_there (z ∷ xs) ys zero w x e = refl
+put_there (z ∷ xs) ys (suc n) w x e = put_there xs ys n w x e
+
+views_append : (es fs : List (WorldKey × WorldItem)) → map key_view (keys_of (es ++ fs)) ≡ map key_view (keys_of es) ++ map key_view (keys_of fs)
+views_append [] fs = refl
+views_append (e ∷ es) fs = ap (λ l. key_view e.0 ∷ l) (views_append es fs)
+
+pub exports_come_behind : ExportsComeBehind
+exports_come_behind own other merged world other_world m w v added keys u valid_own valid_other a at_own at all same none apart x at_x =
+    ap (λ (y : World). map key_view (keys_of y.exports.entries)) (sym here)
+    ∙ (ap (λ es. map key_view (keys_of es)) (h.1.exports ∙ exports_behind own other valid_own valid_other world other_world m w v added keys u at all same none)
+    ∙ (views_append w.exports.entries added.exports.entries
+    ∙ (ap (λ l. map key_view (keys_of w.exports.entries) ++ l) (views_added own other valid_own valid_other world other_world m w v added keys u at_own at all same none apart)
+    ∙ sym (map-append key_view (keys_of w.exports.entries) keys))))
+  where
+    h : (y : World) × HasGainedItems key_eq added.imports.entries added.exports.entries w y × (merged.worlds.items ≡ slice_set own.worlds.items world y ++ added.worlds.items)
+    h = a.worlds w at_own
+
+    here : h.0 ≡ x
+    here = some_same h.0 x (sym (ap (λ l. slice_get l world) h.2 ∙ put_there own.worlds.items added.worlds.items world w h.0 at_own) ∙ at_x)

@@ -26,3 +26,5 @@ pub mod MergedUnion
 pub mod AddedApart
 pub mod AddedDistinct
 pub mod AddedKeys
+pub mod ListedNames
+pub mod AddedNames

@@ -2,7 +2,8 @@
 
 ghost use Rattle.bind_carry.specs.AddedApart.{UnionsAreApart};
 ghost use Rattle.bind_carry.specs.AddedDistinct.{UnionsHaveDistinctKeys};
-ghost use Rattle.bind_carry.specs.AddedKeys.{ExportsAreAdded, KeysKeepTexts};
+ghost use Rattle.bind_carry.specs.AddedKeys.{ExportsAreAdded, ExportsComeBehind, KeysKeepTexts};
+ghost use Rattle.bind_carry.specs.AddedNames.{NamesAreMerged};
 
 /// What a union adds stands under keys that weren't there: names in own packages, and imports and exports of the own bound world, where what is matched has
 /// one name, or one path and one sense.
@@ -16,8 +17,14 @@ pub fn added_distinct()
 {}
 
 /// Where no export has the key of another, the other's exports are all added, under the keys that `union_of` answers, in their order; and once all is added
-/// these keys have the labels and the paths that the others have in the other.
+/// they stand behind what was exported, and these keys have the labels and the paths that those of the other's exports have in the other.
 pub fn added_keys()
     ensures exports { ExportsAreAdded }
+    ensures behind { ExportsComeBehind }
     ensures texts { KeysKeepTexts }
+{}
+
+/// Packages keep their names, each followed by what is new in it, and new packages come behind, all in the other's order.
+pub fn added_names()
+    ensures { NamesAreMerged }
 {}
