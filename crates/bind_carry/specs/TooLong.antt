@@ -10,8 +10,9 @@ use Rattle.bind_carry.specs.First.{first_fates}
 use Rattle.bind_carry.specs.Marked.{mark_worlds}
 use Rattle.bind_carry.specs.Numbers.{copied_count}
 use Rattle.bind_carry.specs.Which.{new_interfaces, new_worlds, IsNumbered}
-use Rattle.bind_carry.specs.declared.fate.Fate.{Fate}
-use Rattle.bind_carry.specs.declared.plan.Carried.{Carried}
+-- words that proofs of callers name
+pub use Rattle.bind_carry.specs.declared.fate.Fate.{Fate}
+pub use Rattle.bind_carry.specs.declared.plan.Carried.{Carried}
 
 -- so many types of these fates are copied
 abbrev pub copies_of : List Fate → ℕ

@@ -110,14 +110,6 @@ module _ (added : Added) (metadata : ModuleMetadata) (old new : Bindgen) (apart 
         },
       )
 
-  -- what the bound world exports
-  pub exports-grown : (w : World) → world_at o old.world.0 ≡ Some w → (v : World) × (world_at new.resolve old.world.0 ≡ Some v) × (v.exports.entries ≡ w.exports.entries ++ added.exports.entries)
-  unfolding bound-world
-  exports-grown w at =
-      let b = bound-world w at in
-      let h = g.all_added.worlds w at in
-      (b.0, b.1, h.1.exports ∙ apart.exports w at)
-
   package-grown : (n : ℕ) (p : Package) → package_at o n ≡ Some p → (q : Package) × (package_at new.resolve n ≡ Some q) × IsGrownPackage p q
   package-grown n p at =
       let q = grown n p at in

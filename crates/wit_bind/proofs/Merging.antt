@@ -2,14 +2,13 @@
 use Rattle.std.proofs.Common.{◌≡◌, sym, ap, ◌∙◌, ℕ, false, List, [], ◌++◌, map, Some}
 use Rattle.std.specs.Map.{keys_of}
 use Rattle.std.specs.Option.{option_map_or}
-use Rattle.std.proofs.lemmas.List.{map-append}
 use Rattle.wit_model.specs.declared.model.Resolve.{Resolve}
 use Rattle.wit_model.specs.declared.model.World.{World}
 use Rattle.wit_model.specs.declared.model.WorldId.{WorldId}
-use Rattle.wit_model.specs.declared.model.WorldItem.{WorldItem}
 use Rattle.wit_model.specs.declared.model.WorldKey.{WorldKey}
 use Rattle.wit_model.specs.Lookup.{key_text, world_at}
 use Rattle.bind_add.specs.declared.added.Added.{Added}
+use Rattle.bind_carry.specs.AddedApart.{AreMatchedByName}
 use Rattle.bind_carry.specs.AddedKeys.{key_view}
 use Rattle.bind_carry.specs.Apart.{IsApart}
 use Rattle.bind_carry.specs.First.{first_fates}
@@ -18,10 +17,11 @@ use Rattle.bind_carry.specs.Renumbered.{first_of}
 use Rattle.bind_carry.specs.SecondPass.{is_left_out, second_pass_of}
 use Rattle.bind_carry.specs.Union.{IsUnionOf}
 use Rattle.bind_carry.specs.Which.{AreMatchedAll}
+use Rattle.bind_carry.proofs.NamesMerged.{names_are_merged}
 use Rattle.bind_carry.proofs.MergedUnion.{unions_are_merged}
 use Rattle.bind_carry.proofs.UnionApart.{unions_are_apart}
 use Rattle.bind_carry.proofs.UnionDistinct.{unions_have_distinct_keys}
-use Rattle.bind_carry.proofs.UnionKeys.{exports_are_added, keys_keep_texts}
+use Rattle.bind_carry.proofs.UnionKeys.{exports_come_behind, keys_keep_texts}
 use Rattle.bind_match.specs.Matching.{is_root_world}
 use Rattle.bind_meaning.specs.Clash.{CanUnite}
 use Rattle.bind_meaning.specs.Union.{union}
@@ -29,10 +29,10 @@ use Rattle.bind_union.proofs.BoundMeanings.{bound_means}
 use Rattle.bind_union.proofs.Valid.{merged_is_valid}
 use Rattle.wit_bind.specs.declared.bindgen.Bindgen.{Bindgen}
 use Rattle.wit_bind.specs.Bindings.{binding_of, IsBindgen}
-use Rattle.wit_bind.specs.Extends.{Extends}
+use Rattle.wit_bind.specs.Extends.{Extends, listed_names, merged_names}
 use Rattle.wit_bind.specs.MergedLaws.{AgreeByNumbers, IsUnited}
 use Rattle.wit_bind.specs.Merges.{export_keys, IsGrownBy, IsPlanOf}
-use Rattle.wit_bind.proofs.Extending.{exports-grown, grown_extend}
+use Rattle.wit_bind.proofs.Extending.{grown_extend}
 use Rattle.wit_bind.proofs.MatchedPaths.{matches_have_paths}
 use Rattle.wit_bind.proofs.NumbersAgree.{united_agree_by_numbers}
 use Rattle.wit_bind.proofs.Refusals.{element_at}
@@ -68,6 +68,9 @@ module _ (own other new : Bindgen) (o : IsBindgen own) (t : IsBindgen other) (ca
   agree : AgreeByNumbers r s w v
   agree = united_agree_by_numbers own other o t can w v bound.1 other-bound.1
 
+  by-name : AreMatchedByName r s p.matches
+  by-name = record { packages = p.matched.packages; interfaces = p.matched.interfaces; worlds = p.matched.worlds }
+
   -- ---- the union
 
   -- what is left out is the root world
@@ -80,7 +83,7 @@ module _ (own other new : Bindgen) (o : IsBindgen own) (t : IsBindgen other) (ca
     second = second_pass_of r s p.matches planned.carried own.world.0 other.world.0 w v planned.second.copied planned.second.interfaces planned.types planned.second.types;
     left_out = is_left_out s;
     merged = unions_are_merged r s new.resolve own.world.0 other.world.0 p.matches w v added keys planned o.valid t.valid g.all_added p.few bound.1 other-bound.1 p.matched.packages p.matched.interfaces p.matched.worlds
-        paths.1 paths.2 agree.imports agree.exports agree.no_world agree.no_interface;
+        paths.1 paths.2 agree.bound agree.no_world agree.no_interface;
     root = root-left-out;
     distinct = unions_have_distinct_keys r s new.resolve own.world.0 other.world.0 p.matches w v added keys planned o.valid t.valid g.all_added bound.1 other-bound.1 paths.0 paths.1 paths.2;
     world = g.world;
@@ -94,31 +97,27 @@ module _ (own other new : Bindgen) (o : IsBindgen own) (t : IsBindgen other) (ca
   -- ---- what was there
 
   apart : IsApart added r own.world.0
-  apart = unions_are_apart r s own.world.0 other.world.0 p.matches w v added keys planned o.valid t.valid bound.1 other-bound.1 (record { packages = p.matched.packages; interfaces = p.matched.interfaces; worlds = p.matched.worlds }) paths.1 paths.2
+  apart = unions_are_apart r s own.world.0 other.world.0 p.matches w v added keys planned o.valid t.valid bound.1 other-bound.1 by-name paths.1 paths.2
 
   pub merged_extend : Extends r new.resolve own.world.0
   merged_extend = grown_extend added other.metadata own new o.in_range apart g
+
+  pub merged_order : listed_names new.resolve ≡ merged_names (listed_names r) (listed_names s)
+  merged_order = names_are_merged r s new.resolve own.world.0 other.world.0 p.matches w v added keys planned o.valid t.valid g.all_added by-name
 
   -- ---- exports
 
   number : new.world.0 ≡ own.world.0
   number = ap (λ (k : WorldId). k.0) g.world
 
-  exported : export_keys new.resolve new.world.0 ≡ export_keys r own.world.0 ++ keys_of added.exports.entries
-  exported =
-      let h = exports-grown added other.metadata own new apart g w bound.1 in
-      ap (export_keys new.resolve) number
-      ∙ (ap (λ y. option_map_or (λ (x : World). keys_of x.exports.entries) y []) h.1
-      ∙ (ap keys_of h.2
-      ∙ (map-append (λ (e : WorldKey × WorldItem). e.0) w.exports.entries added.exports.entries
-      ∙ sym (ap (λ y. option_map_or (λ (x : World). keys_of x.exports.entries) y [] ++ keys_of added.exports.entries) bound.1))))
-
-  -- the keys that are answered are those that are new
-  answered : map key_view (keys_of added.exports.entries) ≡ map key_view keys
-  answered = exports_are_added r s own.world.0 other.world.0 p.matches w v added keys planned o.valid t.valid bound.1 other-bound.1 paths.0 paths.1 paths.2 agree.exports
-
-  pub merged_exports : map key_view (export_keys new.resolve new.world.0) ≡ map key_view (export_keys r own.world.0) ++ map key_view keys
-  merged_exports = ap (map key_view) exported ∙ (map-append key_view (export_keys r own.world.0) (keys_of added.exports.entries) ∙ ap (λ ks. map key_view (export_keys r own.world.0) ++ ks) answered)
+  -- the keys that are answered are those of the new ones
+  pub merged_exports : map key_view (export_keys new.resolve new.world.0) ≡ map key_view (export_keys r own.world.0 ++ keys)
+  merged_exports =
+      let x = merged_extend.bound_world w bound.1 in
+      ap (λ k. map key_view (export_keys new.resolve k)) number
+      ∙ (ap (λ y. map key_view (option_map_or (λ (z : World). keys_of z.exports.entries) y [])) x.1
+      ∙ (exports_come_behind r s new.resolve own.world.0 other.world.0 p.matches w v added keys planned o.valid t.valid g.all_added bound.1 other-bound.1 paths.0 paths.1 paths.2 agree.bound.exports x.0 x.1
+      ∙ sym (ap (λ y. map key_view (option_map_or (λ (z : World). keys_of z.exports.entries) y [] ++ keys)) bound.1)))
 
   pub merged_answer : map (key_text new.resolve) keys ≡ map (key_text s) (export_keys s other.world.0)
   merged_answer =

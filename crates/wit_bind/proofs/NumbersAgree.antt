@@ -94,8 +94,7 @@ module _ (own other : Bindgen) (o : IsBindgen own) (t : IsBindgen other) (can : 
 
 pub united_agree_by_numbers : UnitedAgreeByNumbers
 united_agree_by_numbers own other o t can w v at_w at_v = record {
-  imports = imports-agree own other o t can w v at_w at_v;
-  exports = exports-apart own other o t can w v at_w at_v;
+  bound = record { imports = imports-agree own other o t can w v at_w at_v; exports = exports-apart own other o t can w v at_w at_v };
   no_world = no-own-world own other o t can w v at_w at_v;
   no_interface = no-own-interface own other o t can w v at_w at_v;
 }

@@ -45,10 +45,8 @@ use Rattle.bind_carry.specs.Marked.{is_inline_at, AreChosen}
 use Rattle.bind_carry.specs.Numbers.{copied_count, IsMemoryOrSize}
 use Rattle.bind_carry.specs.Renumbered.{is_matched}
 use Rattle.bind_carry.specs.Shown.{AreShownBelow}
-use Rattle.bind_carry.specs.TooLong.{carried_interfaces, carried_packages, carried_worlds, copies_of, gained_fates, IsTooLong}
+use Rattle.bind_carry.specs.TooLong.{carried_interfaces, carried_packages, carried_worlds, copies_of, gained_fates, IsTooLong, Carried, Fate}
 use Rattle.bind_carry.specs.Which.{AreMatchedAll, IsNumbered}
-use Rattle.bind_carry.specs.declared.fate.Fate.{Fate}
-use Rattle.bind_carry.specs.declared.plan.Carried.{Carried}
 use Rattle.bind_carry.proofs.CountedCopies.{first_few, flags_few, gained_few, interfaces_flagged, second_few, world_flag, worlds_flagged, IsHomeCopied}
 use Rattle.bind_carry.proofs.FirstCarried.{chosen_so, within_there}
 use Rattle.bind_carry.proofs.FirstPackages.{mapped_at}

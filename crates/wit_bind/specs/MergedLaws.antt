@@ -6,7 +6,8 @@ use Rattle.wit_model.specs.declared.model.WorldKey.{WorldKey}
 use Rattle.wit_model.specs.Lookup.{world_at}
 use Rattle.wit_model.specs.Valid.{HasDistinctKeys}
 use Rattle.bind_carry.specs.MatchedSame.{AreMatchedAt, NoneOfPath}
-use Rattle.bind_carry.specs.MergedUnion.{ExportsDiffer, ImportsAgree, NoOwnInterfaceAtPath, NoOwnWorldAtPath}
+use Rattle.bind_carry.specs.MergedUnion.{NoOwnInterfaceAtPath, NoOwnWorldAtPath}
+use Rattle.bind_carry.specs.SecondPass.{DoNotClash}
 use Rattle.bind_add.specs.declared.added.Added.{Added}
 use Rattle.bind_carry.specs.Union.{IsUnionOf}
 use Rattle.bind_carry.specs.Which.{AreMatchedAll}
@@ -49,8 +50,7 @@ MatchesHavePaths = (own other : Bindgen) → IsBindgen own → IsBindgen other �
 -- What has to hold of entries and numbers for two bindings to unite: what has one key has one sense, no export has the key of another, and no path is of an
 -- interface and of a world.
 pub record AgreeByNumbers (own other : Resolve) (w v : World) : Type 0 where
-  pub imports : ImportsAgree own other w v
-  pub exports : ExportsDiffer own other w v
+  pub bound : DoNotClash own other w v
   pub no_world : NoOwnWorldAtPath own other
   pub no_interface : NoOwnInterfaceAtPath own other
 

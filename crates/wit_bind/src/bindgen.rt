@@ -166,7 +166,7 @@ impl Bindgen {
         ensures world { self.new.world ≡ self.old.world }
         ensures extends { OnOk result (Extends self.old.resolve self.new.resolve self.old.world.0) }
         ensures order { OnOk result (listed_names self.new.resolve ≡ merged_names (listed_names self.old.resolve) (listed_names other.resolve)) }
-        ensures added { IfOk result (λ added. map key_view (export_keys self.new.resolve self.new.world.0) ≡ map key_view (export_keys self.old.resolve self.old.world.0) ++ map key_view added.keys) }
+        ensures added { IfOk result (λ added. map key_view (export_keys self.new.resolve self.new.world.0) ≡ map key_view (export_keys self.old.resolve self.old.world.0 ++ added.keys)) }
         ensures answer { IfOk result (λ added. map (key_text self.new.resolve) added.keys ≡ map (key_text other.resolve) (export_keys other.resolve other.world.0)) }
 
         ensures refusal { IfErr result (IsMergeRefusal self.old other) }

@@ -1,6 +1,6 @@
 use Rattle.wit_bind.proofs.AsItWas.{kept_itself}
 use Rattle.wit_bind.proofs.Growing.{on_err, plan_addable}
-use Rattle.wit_bind.proofs.Merging.{merged_answer, merged_are_the_union, merged_exports, merged_extend}
+use Rattle.wit_bind.proofs.Merging.{merged_answer, merged_are_the_union, merged_exports, merged_extend, merged_order}
 use Rattle.wit_bind.proofs.bindgen.Bindgen.merge.Goals as goal
 
 pub grow-requires : goal.grow-requires
@@ -19,7 +19,7 @@ pub returns-clause-extends : goal.returns-clause-extends
 returns-clause-extends c = merged_extend c.args.self.now c.args.other c.grow.new.self c.requires.own c.requires.others c.in_ok-added.ensures.united c.in_ok-added.added c.in_ok-added.keys.keys c.in_ok-added.ensures.ok c.in_ok-grow.ensures.ok
 
 pub returns-clause-order : goal.returns-clause-order
-returns-clause-order c = ?
+returns-clause-order c = merged_order c.args.self.now c.args.other c.grow.new.self c.requires.own c.requires.others c.in_ok-added.ensures.united c.in_ok-added.added c.in_ok-added.keys.keys c.in_ok-added.ensures.ok c.in_ok-grow.ensures.ok
 
 pub returns-clause-added : goal.returns-clause-added
 returns-clause-added c = merged_exports c.args.self.now c.args.other c.grow.new.self c.requires.own c.requires.others c.in_ok-added.ensures.united c.in_ok-added.added c.in_ok-added.keys.keys c.in_ok-added.ensures.ok c.in_ok-grow.ensures.ok
