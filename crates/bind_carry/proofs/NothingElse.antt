@@ -98,8 +98,12 @@ module _ (own other merged : Resolve) (valid_own : IsValid own) (valid_other : I
     | inl less ↦ (let r = kept_from (length own.interfaces.items) c.copied_interfaces.items (map interface_number m.interfaces.items) other.interfaces.items n flags_long low (omega (arith, less, count_first)) in
         inl (r.0, r.1, ap (λ l. number_under l r.0) p.numbered.interfaces ∙ r.2))
     | inr more ↦ (let r = kept_from (length own.interfaces.items + length p.new_interfaces) copied c.interfaces.items other.interfaces.items n (copied_long own other merged valid_own valid_other world other_world w v m c first_numbers p copied interfaces types s) more (omega (arith, high, whole, count_all, count_second)) in
-        inr (r.0, r.1, carried_number own other merged valid_own valid_other world other_world w v m c first_numbers p copied interfaces types s r.0 (copied_carries own other merged valid_own valid_other world other_world w v m c first_numbers p copied interfaces types s r.0 r.1)
-        ∙ (ap (λ (l : List ℕ). number_under l r.0) s.interfaces_are ∙ r.2)))
+        inr (
+          r.0,
+          r.1,
+          carried_number own other merged valid_own valid_other world other_world w v m c first_numbers p copied interfaces types s r.0 (copied_carries own other merged valid_own valid_other world other_world w v m c first_numbers p copied interfaces types s r.0 r.1)
+              ∙ (ap (λ (l : List ℕ). number_under l r.0) s.interfaces_are ∙ r.2),
+        ))
   ]
     where
       count_first : length p.new_interfaces ≡ length (kept c.copied_interfaces.items other.interfaces.items)

@@ -36,16 +36,19 @@ module _ (own other merged : Resolve) (valid_own : IsValid own) (valid_other : I
       s.gained.exports ∙ all_behind interfaces types w.exports.entries (filter is_new_export v.exports.entries) s.new_exports (s.exports apart) (filter_passes is_new_export v.exports.entries) (IsDistinct-keys_filter (become_one interfaces) is_new_export v.exports.entries apart)
 
   pub bound_stands : (j : IsJoined other merged (second_pass_of own other m c world other_world w v copied interfaces first_numbers types) other_world w.imports.entries w.exports.entries) × (j.image ≡ s.image)
-  bound_stands = (record {
-    old = v;
-    found = s.other_at;
-    carries = same-number other_world;
-    image = s.image;
-    at_image = s.at_image;
-    new_imports = s.new_imports;
-    imports = imports_behind;
-    joined_imports = imports_join own other merged valid_own valid_other world other_world w v m c first_numbers p copied interfaces types s;
-    new_exports = s.new_exports;
-    exports = exports_behind;
-    joined_exports = exports_join own other merged valid_own valid_other world other_world w v m c first_numbers p copied interfaces types s;
-  }, refl)
+  bound_stands = (
+    record {
+      old = v;
+      found = s.other_at;
+      carries = same-number other_world;
+      image = s.image;
+      at_image = s.at_image;
+      new_imports = s.new_imports;
+      imports = imports_behind;
+      joined_imports = imports_join own other merged valid_own valid_other world other_world w v m c first_numbers p copied interfaces types s;
+      new_exports = s.new_exports;
+      exports = exports_behind;
+      joined_exports = exports_join own other merged valid_own valid_other world other_world w v m c first_numbers p copied interfaces types s;
+    },
+    refl,
+  )

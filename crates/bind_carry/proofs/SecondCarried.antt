@@ -83,7 +83,7 @@ module _ (own other merged : Resolve) (valid_own : IsValid own) (valid_other : I
           omega (arith, within, whole)
       go false e =
           let low = type_low own other valid_own valid_other m.interfaces.items c first_numbers (chosen own other merged valid_own valid_other world other_world w v m c first_numbers p copied interfaces types s) p.same p.none
-              (long own other merged valid_own valid_other world other_world w v m c first_numbers p copied interfaces types s) p.numbered.interfaces (length own.types.items + length {A = TypeDef} []) p.types.numbers_are n def at h e in
+          (long own other merged valid_own valid_other world other_world w v m c first_numbers p copied interfaces types s) p.numbered.interfaces (length own.types.items + length {A = TypeDef} []) p.types.numbers_are n def at h e in
           omega (arith, low)
 
   uncopied_low : (n : ℕ) → is_carried final n ≡ true → is_copied final n ≡ false → f.types n < behind

@@ -87,8 +87,8 @@ module _ (own other merged : Resolve) (valid_own : IsValid own) (valid_other : I
       less =
           let same = id.2 in
           let many = second_long other world other_world copied interfaces other.types.items (first_fates own other m.interfaces.items c) first_numbers
-              (fates_count own other merged valid_own valid_other world other_world w v m c first_numbers p copied interfaces types s)
-              (numbers_are_many own other merged valid_own valid_other world other_world w v m c first_numbers p copied interfaces types s) in
+          (fates_count own other merged valid_own valid_other world other_world w v m c first_numbers p copied interfaces types s)
+          (numbers_are_many own other merged valid_own valid_other world other_world w v m c first_numbers p copied interfaces types s) in
           omega (arith, inside, same, many)
 
       set : IsUnified w.imports.entries v.imports.entries at_first id.0.0

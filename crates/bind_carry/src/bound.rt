@@ -245,11 +245,7 @@ fn unify_one(fates: &mut [Fate], id: Option<TypeId>, own: Option<TypeId>)
 }
 
 // Types among items under keys that others have too are the types there.
-fn unify(
-    here: &Map<WorldKey, WorldItem>,
-    items: &Map<WorldKey, WorldItem>,
-    fates: &mut [Fate],
-)
+fn unify(here: &Map<WorldKey, WorldItem>, items: &Map<WorldKey, WorldItem>, fates: &mut [Fate])
     requires { are_types_below (length fates.old) items.now.entries ≡ true }
     ensures fates { fates.new ≡ unified here.now.entries items.now.entries fates.old }
     ensures count { length fates.new ≡ length fates.old }
