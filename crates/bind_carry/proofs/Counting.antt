@@ -1,7 +1,9 @@
 -- How many are copied.
-use Rattle.std.proofs.Common.{◌≡◌, refl, sym, ap, ◌∙◌, ℕ, ◌+◌, ◌<◌, ◌≤◌, Bool, true, false, arith, List, [], ◌∷◌, ◌++◌, length, map}
+use Rattle.std.proofs.Common.{◌≡◌, refl, sym, ap, subst, ◌∙◌, ℕ, ◌+◌, ◌≤◌, Bool, true, false, arith, List, [], ◌∷◌, ◌++◌, length, map}
 use Rattle.std.specs.List.{AllZip}
-use Rattle.std.specs.Prelude.{Err, IfOk, Ok, OnOk, Option, Result}
+use Rattle.std.specs.Prelude.{Err, IfErr, Ok, OnOk, Option, Result}
+use Rattle.std.specs.Result.{IsErrAnd}
+use Rattle.wit_model.specs.declared.error.Error.{Error}
 use Rattle.wit_model.specs.declared.model.Interface.{Interface}
 use Rattle.wit_model.specs.declared.model.PackageId.{PackageId}
 use Rattle.wit_model.specs.declared.model.TypeDef.{TypeDef}
@@ -89,10 +91,6 @@ pub on_ok : {A E P : Type 0} → P → (r : Result A E) → OnOk r P
 on_ok p (Ok a) = p
 on_ok p (Err e) = tt
 
-pub if_ok_always : {A E : Type 0} (P : A → Type 0) → ((a : A) → P a) → (r : Result A E) → IfOk r P
-if_ok_always P f (Ok a) = f a
-if_ok_always P f (Err e) = tt
-
 -- ---- lists that are made of what is kept
 
 -- at most as many as flags are set
@@ -102,3 +100,8 @@ carried_few P flags xs ys h = let long = zip_long P (kept flags xs) ys h in let 
 -- and as many where each has a flag
 pub carried_all : {X Y : Type 0} (P : X → Y → Type 0) (flags : List Bool) (xs : List X) (ys : List Y) → length flags ≡ length xs → AllZip P (kept flags xs) ys → length ys ≡ copied_count flags
 carried_all P flags xs ys count h = let long = zip_long P (kept flags xs) ys h in let all = kept_all flags xs count in omega (arith, long, all)
+
+-- what holds of an error holds where that is the answer
+pub err_so : {A : Type 0} (P : Error → Type 0) (r : Result A Error) (e : Error) → IsErrAnd r (λ x. x ≡ e) → P e → IfErr r P
+err_so P (Ok x) e h p = tt
+err_so P (Err x) e h p = subst P (sym h) p

@@ -1,5 +1,5 @@
 -- Where a union would make a list too long, so would all that may come.
-use Rattle.std.proofs.Common.{◌≡◌, refl, sym, ap, subst, ◌∙◌, ◌⊎◌, inl, inr, arith, ℕ, zero, suc, ◌+◌, ◌<◌, ◌≤◌, length, Bool, true, false, not, ◌&&◌, ◌==◌, cond, List, [], ◌∷◌, ◌++◌, map, filter, unwrap_or, Option, Some, None, is_none, option_and_then, option_map, slice_get, append-nil, String}
+use Rattle.std.proofs.Common.{◌≡◌, refl, sym, ap, subst, ◌∙◌, inl, inr, arith, ℕ, zero, suc, ◌+◌, ◌<◌, ◌≤◌, length, Bool, true, false, not, ◌&&◌, ◌==◌, cond, List, [], ◌∷◌, ◌++◌, map, unwrap_or, Option, Some, None, is_none, option_and_then, option_map, slice_get, append-nil, String}
 use Rattle.std.specs.Prelude.{◌||◌, Err, IfErr, Ok, Result, count_by, filter_map, is_some}
 use Rattle.std.proofs.lemmas.List.{length-map}
 use Rattle.std.specs.List.{cons_option, list_all, list_any}
@@ -21,7 +21,7 @@ use Rattle.wit_model.specs.Meant.{interface_meaning, world_meaning}
 use Rattle.wit_model.specs.Names.{PackageIdentity, at_version, is_identity, is_label}
 use Rattle.wit_model.specs.Rules.{same_package_name}
 use Rattle.wit_model.specs.Text.{Text, text_eq, text_of}
-use Rattle.wit_model.specs.Uses.{item_interface, items_of, owner_interface}
+use Rattle.wit_model.specs.Uses.{owner_interface}
 use Rattle.wit_model.specs.Valid.{IsValid}
 use Rattle.wit_model.proofs.AnyOrder.{text-same}
 use Rattle.wit_model.proofs.Elements.{same-number, same-some}

@@ -1,4 +1,4 @@
-use Rattle.std.proofs.Common.{rules, arith, ◌≡◌, ◌≤◌, ◌<◌, ◌∙◌, ◌+◌, inl, inr, refl, ap, sym, subst, ℕ, List, length}
+use Rattle.std.proofs.Common.{rules, arith, ◌≡◌, ◌≤◌, ◌∙◌, ◌+◌, ap, sym, subst, ℕ, List, length}
 use Rattle.wit_model.specs.declared.model.Interface.{Interface}
 use Rattle.wit_model.specs.declared.model.Package.{Package}
 use Rattle.wit_model.specs.declared.model.TypeDef.{TypeDef}
@@ -7,7 +7,6 @@ use Rattle.bind_copy.specs.Copies.{AreNewCopied}
 use Rattle.bind_carry.specs.BoundGains.{bound_fates, gained_inline, AreInlineCopied}
 use Rattle.bind_carry.specs.Fates.{AreCopied}
 use Rattle.bind_carry.specs.Numbers.{copied_count, numbers_of}
-use Rattle.bind_carry.specs.TooLong.{copies_of}
 use Rattle.bind_carry.proofs.Counting.{inline_long, on_ok}
 use Rattle.bind_carry.proofs.FirstCarried.{within_there}
 use Rattle.bind_carry.proofs.Ready.{exports_below, exports_shown, functions_in, imports_below, imports_shown, names_in, numbers_many, on_ok_two, types_shown, world_keys_below}

@@ -1,4 +1,4 @@
-use Rattle.std.proofs.Common.{rules, arith, inl, inr, ◌+◌, ◌<◌, ◌≡◌, ◌∙◌, ◌≤◌, [], ap, sym, subst, ℕ, List, length}
+use Rattle.std.proofs.Common.{rules, arith, inl, inr, Some, ◌≡◌, ◌∙◌, ◌≤◌, [], ap, sym, subst, ℕ, List, length}
 use Rattle.std.specs.List.{slice_get}
 use Rattle.bind_carry.specs.Bound.{IsBoundOver}
 use Rattle.bind_carry.specs.BoundGains.{AreKeysUnder}
@@ -7,7 +7,12 @@ use Rattle.bind_carry.specs.First.{first_fates}
 use Rattle.bind_carry.specs.Over.{IsCarriedOver}
 use Rattle.bind_carry.specs.Packaged.{IsPackageCarried}
 use Rattle.bind_carry.specs.Whole.{IsWorldCarried}
-use Rattle.bind_carry.proofs.Counting.{carried_few}
+use Rattle.bind_carry.specs.TooLong.{copies_of, AreTooManyGained, IsTooLong}
+use Rattle.wit_model.specs.Lookup.{world_at}
+use Rattle.wit_model.specs.declared.error.Error.TheVariants.{Size}
+use Rattle.wit_model.specs.declared.model.World.{World}
+use Rattle.bind_carry.proofs.Counting.{carried_few, err_so}
+use Rattle.bind_carry.proofs.ManyCarried.{gained_by_count}
 use Rattle.bind_carry.proofs.Ranges.{is_in_range, shown_below}
 use Rattle.bind_carry.proofs.Ready.{carried_ready, interface_count, owners_below, world_keys_below}
 use Rattle.bind_carry.proofs.union.union_of.Goals as goal
@@ -100,5 +105,46 @@ returns-clause-few c =
     let few_worlds = numbered.worlds in
     c.in_ok-bind_items.ensures.few (omega (arith, packages, few_packages)) (omega (arith, worlds, few_worlds))
 
+pub returns-in_err-types-clause-size : goal.returns-in_err-types-clause-size
+returns-in_err-types-clause-size c =
+    let own = c.args.own.now in
+    let other = c.args.other.now in
+    let world = c.args.world.0 in
+    let other_world = c.args.other_world.0 in
+    let m = c.args.matches.now in
+    let carried = c.in_ok-carried.carried in
+    let many : c.len.result ≡ length own.types.items = search rules in
+    let none : c.new-defs.result.items ≡ [] = search rules in
+    let empty : length c.new-defs.result.items ≡ 0 = ap length none in
+    let same : copies_of c.deref-2.result.now ≡ copies_of (first_fates own other m.interfaces.items carried) = ap copies_of (c.deref-2.ensures.value ∙ c.in_ok-fates.ensures.fates) in
+    err_so (λ e. e ≡ Size → (w v : World) → world_at own world ≡ Some w → world_at other other_world ≡ Some v → IsTooLong own other world other_world m w v)
+    c.from_residual-in_err-types.result c.in_err-types.field-0.0 c.from_residual-in_err-types.ensures.1
+    (λ is w v at_w at_v. let long = c.in_err-types.ensures.size is in inr (carried, c.in_ok-carried.ensures.numbered, inl (omega (arith, long, many, empty, same))))
+
 pub returns-in_err-bind_items-clause-size : goal.returns-in_err-bind_items-clause-size
-returns-in_err-bind_items-clause-size c = ?
+returns-in_err-bind_items-clause-size c =
+    let own = c.args.own.now in
+    let other = c.args.other.now in
+    let world = c.args.world.0 in
+    let other_world = c.args.other_world.0 in
+    let m = c.args.matches.now in
+    let carried = c.in_ok-carried.carried in
+    let fates = first_fates own other m.interfaces.items carried in
+    let types = c.in_ok-types.types.items in
+    let defs = c.copy_types.new.added.items in
+    let before = c.in_ok-added.added in
+    let many : c.len.result ≡ length own.types.items = search rules in
+    let none : c.new-defs.result.items ≡ [] = search rules in
+    let copied : AreCopied (length own.types.items) types other.types.items fates [] defs =
+    subst (λ l. AreCopied (length own.types.items) types other.types.items l [] defs) (c.deref-2.ensures.value ∙ c.in_ok-fates.ensures.fates)
+    (subst (λ l. AreCopied (length own.types.items) types other.types.items c.deref-2.result.now l defs) none
+    (subst (λ l. AreCopied (length own.types.items) types l c.deref-2.result.now c.new-defs.result.items defs) c.deref.ensures.value
+    (subst (λ (k : ℕ). AreCopied k types c.deref.result.now c.deref-2.result.now c.new-defs.result.items defs) many c.in_ok-types.ensures.copied)))
+    in
+    let first : IsCarriedOver other carried types defs before = subst (λ (l : List ℕ). IsCarriedOver other carried l defs before) c.deref-3.ensures.value c.in_ok-added.ensures.added in
+    err_so (λ e. e ≡ Size → (w v : World) → world_at own world ≡ Some w → world_at other other_world ≡ Some v → IsTooLong own other world other_world m w v)
+    c.from_residual-in_err-bind_items.result c.in_err-bind_items.field-0.0 c.from_residual-in_err-bind_items.ensures.1
+    (λ is w v at_w at_v. inr (carried, c.in_ok-carried.ensures.numbered, inr (gained_by_count own other m carried c.in_ok-carried.ensures.numbered types defs copied before first world other_world w v
+    (subst (λ (l : List ℕ). AreTooManyGained own other world other_world w v carried fates l (length before.interfaces.items) (length before.types.items)) c.deref-5.ensures.value
+    (subst (λ l. AreTooManyGained own other world other_world w v carried l c.deref-5.result.now (length before.interfaces.items) (length before.types.items)) (c.deref-4.ensures.value ∙ c.in_ok-fates.ensures.fates)
+    (c.in_err-bind_items.ensures.size is w v at_w at_v))))))
