@@ -10,9 +10,15 @@ use Rattle.bind_carry.specs.First.{first_fates}
 use Rattle.bind_carry.specs.Marked.{mark_worlds}
 use Rattle.bind_carry.specs.Numbers.{copied_count}
 use Rattle.bind_carry.specs.Which.{new_interfaces, new_worlds, IsNumbered}
--- words that proofs of callers name
-pub use Rattle.bind_carry.specs.declared.fate.Fate.{Fate}
-pub use Rattle.bind_carry.specs.declared.plan.Carried.{Carried}
+use Rattle.bind_carry.specs.declared.fate.Fate.{Fate}
+use Rattle.bind_carry.specs.declared.plan.Carried.{Carried}
+
+-- what is carried, and what becomes of types, by names that callers' proofs can use
+abbrev pub CarriedThings : Type 0
+CarriedThings = Carried
+
+abbrev pub TypeFates : Type 0
+TypeFates = List Fate
 
 -- so many types of these fates are copied
 abbrev pub copies_of : List Fate → ℕ

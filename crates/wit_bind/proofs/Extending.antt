@@ -74,16 +74,18 @@ module _ (added : Added) (metadata : ModuleMetadata) (old new : Bindgen) (apart 
           → (q : Package) × ((slice_get g.all_added.packages.0 n ≡ Some q) × IsGrownPackage p q)
       by have (inl x) =
           let here : package_at o x.names.«package».0 ≡ Some p = ap (package_at o) x.number ∙ at in
-          let r = have.gained x.place x.names p x.at_place here in
-          (r.0, (
-            ap (slice_get g.all_added.packages.0) (sym x.number) ∙ r.1,
-            record {
-              name = r.2.name;
-              docs = r.2.docs;
-              interfaces = (x.names.interfaces.entries, r.2.interfaces ∙ apart.interfaces x.place x.names p x.at_place here);
-              worlds = (x.names.worlds.entries, r.2.worlds ∙ apart.worlds x.place x.names p x.at_place here);
-            },
-          ))
+          let r = have.gained x.place x.names p x.at_place here in (
+            r.0,
+            (
+              ap (slice_get g.all_added.packages.0) (sym x.number) ∙ r.1,
+              record {
+                name = r.2.name;
+                docs = r.2.docs;
+                interfaces = (x.names.interfaces.entries, r.2.interfaces ∙ apart.interfaces x.place x.names p x.at_place here);
+                worlds = (x.names.worlds.entries, r.2.worlds ∙ apart.worlds x.place x.names p x.at_place here);
+              },
+            ),
+          )
       by have (inr none) =
           (p, (have.others n none ∙ at, record { name = refl; docs = refl; interfaces = ([], sym (append-nil p.interfaces.entries)); worlds = ([], sym (append-nil p.worlds.entries)) }))
 
@@ -96,8 +98,7 @@ module _ (added : Added) (metadata : ModuleMetadata) (old new : Bindgen) (apart 
 
   bound-world : (w : World) → world_at o old.world.0 ≡ Some w → (v : World) × (world_at new.resolve old.world.0 ≡ Some v) × IsGrownWorld w v
   bound-world w at =
-      let h = g.all_added.worlds w at in
-      (
+      let h = g.all_added.worlds w at in (
         h.0,
         ap (λ (xs : List World). slice_get xs old.world.0) h.2 ∙ front (slice_set o.worlds.items old.world.0 h.0) added.worlds.items old.world.0 h.0 (put-there o.worlds.items old.world.0 w h.0 at),
         record {

@@ -45,7 +45,7 @@ use Rattle.bind_carry.specs.Marked.{is_inline_at, AreChosen}
 use Rattle.bind_carry.specs.Numbers.{copied_count, IsMemoryOrSize}
 use Rattle.bind_carry.specs.Renumbered.{is_matched}
 use Rattle.bind_carry.specs.Shown.{AreShownBelow}
-use Rattle.bind_carry.specs.TooLong.{carried_interfaces, carried_packages, carried_worlds, copies_of, gained_fates, IsTooLong, Carried, Fate}
+use Rattle.bind_carry.specs.TooLong.{carried_interfaces, carried_packages, carried_worlds, copies_of, gained_fates, IsTooLong, CarriedThings, TypeFates}
 use Rattle.bind_carry.specs.Which.{AreMatchedAll, IsNumbered}
 use Rattle.bind_carry.proofs.CountedCopies.{first_few, flags_few, gained_few, interfaces_flagged, second_few, world_flag, worlds_flagged, IsHomeCopied}
 use Rattle.bind_carry.proofs.FirstCarried.{chosen_so, within_there}
@@ -251,7 +251,7 @@ module _ (own other : Resolve) (v : IsValid own) (u : IsValid other) (m : Matche
 
   -- ---- what comes of those that are numbered
 
-  module _ (c : Carried) (numbered : IsNumbered own other m c) where
+  module _ (c : CarriedThings) (numbered : IsNumbered own other m c) where
     chosen : AreChosen other m.interfaces.items c.copied_worlds.items c.copied_interfaces.items
     chosen = chosen_so own other m c (is_in_range other u) all numbered
 
@@ -303,7 +303,7 @@ module _ (own other : Resolve) (v : IsValid own) (u : IsValid other) (m : Matche
       twice owner.None h = refl
       twice (owner.Interface id) h = no-path id.0 (gained_inline_alone other c.interfaces.items w b (shown other_world b at_b).0 (shown other_world b at_b).1 id.0 h)
 
-      pub gained-types-few : (fates : List Fate) (numbers : List ℕ) (before : ℕ) → copies_of (gained_fates own other world other_world w b c fates numbers before) ≤ count_by (comes_twice other) other.types.items
+      pub gained-types-few : (fates : TypeFates) (numbers : List ℕ) (before : ℕ) → copies_of (gained_fates own other world other_world w b c fates numbers before) ≤ count_by (comes_twice other) other.types.items
       gained-types-few fates numbers before =
           second_few other world other_world gained (bound_interfaces own before c gained) w b fates numbers (comes_twice other) (λ n t at h. twice t.owner h)
           (λ n t at h. ap (λ o. option_map_or (λ k. is_none (interface_path other k)) (owner_interface o) true) (unnamed n t at h))

@@ -103,11 +103,7 @@ impl Bindgen {
     }
 
     // What the union with other bindings adds to the `Resolve`, and the keys of their exports in it; or why there is none.
-    fn planned(
-        &self,
-        alloc: Global,
-        other: &Bindgen,
-    ) -> Result<(Added, IndexSet<WorldKey>), Error>
+    fn planned(&self, alloc: Global, other: &Bindgen) -> Result<(Added, IndexSet<WorldKey>), Error>
         requires own { IsBindgen self.now }
         requires others { IsBindgen other.now }
         ensures united { IfOk result (λ plan. CanUnite (binding_of self.now) (binding_of other.now)) }

@@ -8,7 +8,6 @@ ghost use Rattle.wit_bind.specs.KeyLaws.{EachHasAKey};
 ghost use Rattle.wit_bind.specs.OldKeys.{OneOldKey};
 
 pub use bind_meaning::laws::both_orders;
-
 use bind_union::laws::{meanings, merged_is_valid};
 
 /// In a valid `Resolve` each function that a world imports or exports has a key, under its own name.

@@ -137,7 +137,8 @@ fn outcome(alloc: Global, own: &mut Bindgen, other: Bindgen) -> Result<String, E
     }
 }
 
-/// What is merged onto the empty root world, and then what is merged onto that; in which encoding, and what comes of it.
+/// What is merged onto the empty root world, and then what is merged onto that, in which encoding; and what comes of it: the keys that are
+/// answered or the refusal, how many interfaces, worlds and types there are, the encodings, and the texts of the packages.
 struct Row {
     first: Option<Sample>,
     second: Sample,
@@ -145,7 +146,7 @@ struct Row {
     outcome: &'static str,
     counts: [usize; 3],
     encodings: [Option<StringEncoding>; 4],
-    text: &'static str,
+    packages: [&'static str; 3],
 }
 
 const NONE: [Option<StringEncoding>; 4] = [None, None, None, None];
@@ -158,8 +159,14 @@ const HOST: [Option<StringEncoding>; 4] = [Some(UTF8), None, None, None];
 
 const HOST_AND_GUEST: [Option<StringEncoding>; 4] = [Some(UTF8), None, None, Some(UTF8)];
 
-const HOST_AND_GUEST_TEXT: &str =
-    "package root:root;\n\nworld root {\n  import host: func();\n\n  export guest: func();\n}\npackage a:b;\n\nworld foo {\n  import host: func();\n\n  export guest: func();\n}\n";
+const ROOT_TEXT: &str =
+    "package root:root;\n\nworld root {\n  import host: func();\n\n  export guest: func();\n}\n";
+
+const FOO_TEXT: &str =
+    "package a:b;\n\nworld foo {\n  import host: func();\n\n  export guest: func();\n}\n";
+
+const W_TEXT: &str =
+    "package a:b;\n\ninterface c {\n  f: func();\n}\n\nworld w {\n  import c;\n}\n";
 
 static ROWS: [Row; 18] = [
     Row {
@@ -169,7 +176,7 @@ static ROWS: [Row; 18] = [
         outcome: "guest,",
         counts: [0, 2, 0],
         encodings: HOST_AND_GUEST,
-        text: HOST_AND_GUEST_TEXT,
+        packages: [ROOT_TEXT, FOO_TEXT, ""],
     },
     Row {
         first: Some(Sample::Host),
@@ -178,7 +185,7 @@ static ROWS: [Row; 18] = [
         outcome: "clash of Export guest",
         counts: [0, 2, 0],
         encodings: HOST_AND_GUEST,
-        text: HOST_AND_GUEST_TEXT,
+        packages: [ROOT_TEXT, FOO_TEXT, ""],
     },
     Row {
         first: Some(Sample::Host),
@@ -187,7 +194,7 @@ static ROWS: [Row; 18] = [
         outcome: "clash of World a:b/foo",
         counts: [0, 2, 0],
         encodings: HOST_AND_GUEST,
-        text: HOST_AND_GUEST_TEXT,
+        packages: [ROOT_TEXT, FOO_TEXT, ""],
     },
     Row {
         first: Some(Sample::Host),
@@ -196,7 +203,7 @@ static ROWS: [Row; 18] = [
         outcome: "clash of Import host",
         counts: [0, 2, 0],
         encodings: HOST_AND_GUEST,
-        text: HOST_AND_GUEST_TEXT,
+        packages: [ROOT_TEXT, FOO_TEXT, ""],
     },
     Row {
         first: Some(Sample::Host),
@@ -205,7 +212,7 @@ static ROWS: [Row; 18] = [
         outcome: "clash of Encoding host/host",
         counts: [0, 2, 0],
         encodings: HOST_AND_GUEST,
-        text: HOST_AND_GUEST_TEXT,
+        packages: [ROOT_TEXT, FOO_TEXT, ""],
     },
     Row {
         first: Some(Sample::Shows),
@@ -214,7 +221,11 @@ static ROWS: [Row; 18] = [
         outcome: "clash of Interface a:b/c",
         counts: [1, 2, 0],
         encodings: NONE,
-        text: "package root:root;\n\nworld root {\n  import a:b/c;\n}\npackage a:b;\n\ninterface c {\n  f: func();\n}\n\nworld w {\n  import c;\n}\n",
+        packages: [
+            "package root:root;\n\nworld root {\n  import a:b/c;\n}\n",
+            W_TEXT,
+            "",
+        ],
     },
     Row {
         first: Some(Sample::Shows),
@@ -223,7 +234,11 @@ static ROWS: [Row; 18] = [
         outcome: "",
         counts: [1, 2, 0],
         encodings: NONE,
-        text: "package root:root;\n\nworld root {\n  import a:b/c;\n}\npackage a:b;\n\ninterface c {\n  f: func();\n}\n\nworld w {\n  import c;\n}\n",
+        packages: [
+            "package root:root;\n\nworld root {\n  import a:b/c;\n}\n",
+            W_TEXT,
+            "",
+        ],
     },
     Row {
         first: Some(Sample::ShowsTaken),
@@ -232,7 +247,11 @@ static ROWS: [Row; 18] = [
         outcome: "",
         counts: [1, 2, 2],
         encodings: NONE,
-        text: "package root:root;\n\nworld root {\n  import a:b/c;\n}\npackage a:b;\n\ninterface c {\n  f: func(x: list<u8>);\n}\n\nworld w {\n  import c;\n}\n",
+        packages: [
+            "package root:root;\n\nworld root {\n  import a:b/c;\n}\n",
+            "package a:b;\n\ninterface c {\n  f: func(x: list<u8>);\n}\n\nworld w {\n  import c;\n}\n",
+            "",
+        ],
     },
     Row {
         first: Some(Sample::OtherHost),
@@ -241,7 +260,11 @@ static ROWS: [Row; 18] = [
         outcome: "",
         counts: [0, 2, 0],
         encodings: HOST,
-        text: "package root:root;\n\nworld root {\n  import host: func();\n}\npackage c:d;\n\nworld foo {\n  import host: func();\n}\n",
+        packages: [
+            "package root:root;\n\nworld root {\n  import host: func();\n}\n",
+            "package c:d;\n\nworld foo {\n  import host: func();\n}\n",
+            "",
+        ],
     },
     Row {
         first: Some(Sample::ShowsOf(0, 1)),
@@ -250,7 +273,11 @@ static ROWS: [Row; 18] = [
         outcome: "",
         counts: [2, 3, 0],
         encodings: NONE,
-        text: "package root:root;\n\nworld root {\n  import a:b/c@0.1.0;\n  import a:b/c@0.2.0;\n}\npackage a:b@0.1.0;\n\ninterface c {\n  f: func();\n}\n\nworld w {\n  import c;\n}\npackage a:b@0.2.0;\n\ninterface c {\n  f: func();\n}\n\nworld w {\n  import c;\n}\n",
+        packages: [
+            "package root:root;\n\nworld root {\n  import a:b/c@0.1.0;\n  import a:b/c@0.2.0;\n}\n",
+            "package a:b@0.1.0;\n\ninterface c {\n  f: func();\n}\n\nworld w {\n  import c;\n}\n",
+            "package a:b@0.2.0;\n\ninterface c {\n  f: func();\n}\n\nworld w {\n  import c;\n}\n",
+        ],
     },
     Row {
         first: Some(Sample::ShowsOf(1, 0)),
@@ -259,7 +286,11 @@ static ROWS: [Row; 18] = [
         outcome: "clash of Encoding a:b/c@1/f",
         counts: [1, 2, 0],
         encodings: NONE,
-        text: "package root:root;\n\nworld root {\n  import a:b/c@1.0.0;\n}\npackage a:b@1.0.0;\n\ninterface c {\n  f: func();\n}\n\nworld w {\n  import c;\n}\n",
+        packages: [
+            "package root:root;\n\nworld root {\n  import a:b/c@1.0.0;\n}\n",
+            "package a:b@1.0.0;\n\ninterface c {\n  f: func();\n}\n\nworld w {\n  import c;\n}\n",
+            "",
+        ],
     },
     Row {
         first: Some(Sample::Shows),
@@ -268,7 +299,11 @@ static ROWS: [Row; 18] = [
         outcome: "test:test/test,",
         counts: [2, 3, 0],
         encodings: NONE,
-        text: "package root:root;\n\nworld root {\n  import a:b/c;\n  import test:test/test;\n\n  export test:test/test;\n}\npackage a:b;\n\ninterface c {\n  f: func();\n}\n\nworld w {\n  import c;\n}\npackage test:test;\n\ninterface test {\n  f: func();\n}\n\nworld bar {\n  import test;\n\n  export test;\n}\n",
+        packages: [
+            "package root:root;\n\nworld root {\n  import a:b/c;\n  import test:test/test;\n\n  export test:test/test;\n}\n",
+            W_TEXT,
+            "package test:test;\n\ninterface test {\n  f: func();\n}\n\nworld bar {\n  import test;\n\n  export test;\n}\n",
+        ],
     },
     Row {
         first: Some(Sample::Bar),
@@ -277,7 +312,11 @@ static ROWS: [Row; 18] = [
         outcome: "clash of Export test:test/test",
         counts: [1, 2, 0],
         encodings: NONE,
-        text: "package root:root;\n\nworld root {\n  import test:test/test;\n\n  export test:test/test;\n}\npackage test:test;\n\ninterface test {\n  f: func();\n}\n\nworld bar {\n  import test;\n\n  export test;\n}\n",
+        packages: [
+            "package root:root;\n\nworld root {\n  import test:test/test;\n\n  export test:test/test;\n}\n",
+            "package test:test;\n\ninterface test {\n  f: func();\n}\n\nworld bar {\n  import test;\n\n  export test;\n}\n",
+            "",
+        ],
     },
     Row {
         first: None,
@@ -286,7 +325,11 @@ static ROWS: [Row; 18] = [
         outcome: "",
         counts: [2, 2, 0],
         encodings: NONE,
-        text: "package root:root;\n\nworld root {\n  import x: interface {\n    g: func();\n  }\n}\npackage a:b;\n\nworld foo {\n  import x: interface {\n    g: func();\n  }\n}\n",
+        packages: [
+            "package root:root;\n\nworld root {\n  import x: interface {\n    g: func();\n  }\n}\n",
+            "package a:b;\n\nworld foo {\n  import x: interface {\n    g: func();\n  }\n}\n",
+            "",
+        ],
     },
     Row {
         first: Some(Sample::Resource),
@@ -295,7 +338,11 @@ static ROWS: [Row; 18] = [
         outcome: "",
         counts: [0, 3, 5],
         encodings: NONE,
-        text: "package root:root;\n\nworld root {\n  resource r {\n    m: func();\n  }\n}\npackage a:b;\n\nworld foo {\n  resource r;\n}\npackage c:d;\n\nworld foo {\n  resource r {\n    m: func();\n  }\n}\n",
+        packages: [
+            "package root:root;\n\nworld root {\n  resource r {\n    m: func();\n  }\n}\n",
+            "package a:b;\n\nworld foo {\n  resource r;\n}\n",
+            "package c:d;\n\nworld foo {\n  resource r {\n    m: func();\n  }\n}\n",
+        ],
     },
     Row {
         first: None,
@@ -304,7 +351,11 @@ static ROWS: [Row; 18] = [
         outcome: "",
         counts: [0, 1, 0],
         encodings: HOST,
-        text: "package root:root;\n\nworld root {\n  import host: func();\n}\n",
+        packages: [
+            "package root:root;\n\nworld root {\n  import host: func();\n}\n",
+            "",
+            "",
+        ],
     },
     Row {
         first: None,
@@ -313,7 +364,7 @@ static ROWS: [Row; 18] = [
         outcome: "guest,",
         counts: [0, 2, 0],
         encodings: HOST_AND_GUEST,
-        text: HOST_AND_GUEST_TEXT,
+        packages: [ROOT_TEXT, FOO_TEXT, ""],
     },
     Row {
         first: None,
@@ -322,7 +373,7 @@ static ROWS: [Row; 18] = [
         outcome: "clash of Interface root:root/root",
         counts: [0, 1, 0],
         encodings: NONE,
-        text: "package root:root;\n\nworld root {\n}\n",
+        packages: ["package root:root;\n\nworld root {\n}\n", "", ""],
     },
 ];
 
@@ -338,13 +389,22 @@ fn start(alloc: Global, first: Option<Sample>) -> Result<Bindgen, Fail>
     checked(alloc, own)
 }
 
+fn joined(alloc: Global, texts: [&str; 3]) -> Result<String, Error> {
+    let mut all = String::new(alloc);
+    for text in texts {
+        all.push_str(text)?;
+    }
+    Ok(all)
+}
+
 fn assert_row(rt: &impl Abort, alloc: Global, row: &Row) -> Result<(), Fail> {
     let mut own = start(alloc, row.first)?;
     let other = binding(alloc, sample(alloc, row.second)?, row.encoding)?;
     let found = outcome(alloc, &mut own, other)?;
     assert_eq!(rt; found.as_str(), row.outcome);
     own.resolve.check(alloc)?;
-    assert_eq!(rt; text_of(alloc, &own.resolve)?.as_str(), row.text);
+    let packages = joined(alloc, row.packages)?;
+    assert_eq!(rt; text_of(alloc, &own.resolve)?.as_str(), packages.as_str());
     assert!(rt; counts_of(&own.resolve) == row.counts);
     assert!(rt; encodings_of(alloc, &own)? == row.encodings);
     Ok(())
