@@ -1,8 +1,7 @@
 use Rattle.std.proofs.Common.{◌≡◌, refl, subst, ℕ, ◌∷◌}
-use Rattle.wit_component.specs.SectionBindings.{RefusesSection}
-use Rattle.wit_component.proofs.Refusing.{passed_on}
-use Rattle.wit_component.proofs.SectionLaws.{is-nothing, is-something, other-begins, unread-section}
-use Rattle.wit_component.proofs.metadata.decode_section.Goals as goal
+use Rattle.bind_sections.specs.SectionBindings.{RefusesSection}
+use Rattle.bind_modules.proofs.SectionLaws.{is-nothing, is-something, other-begins, passed_on, unread-section}
+use Rattle.bind_modules.proofs.sections.decode_section.Goals as goal
 
 pub returns-in_default-clause-refuses : goal.returns-in_default-clause-refuses
 returns-in_default-clause-refuses c = RefusesSection.empty (is-nothing c.args.section.now c.in_default.ensures.cases) refl
