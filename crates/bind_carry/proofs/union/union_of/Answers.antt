@@ -144,7 +144,11 @@ returns-in_err-bind_items-clause-size c =
     let first : IsCarriedOver other carried types defs before = subst (λ (l : List ℕ). IsCarriedOver other carried l defs before) c.deref-3.ensures.value c.in_ok-added.ensures.added in
     err_so (λ e. e ≡ Size → (w v : World) → world_at own world ≡ Some w → world_at other other_world ≡ Some v → IsTooLong own other world other_world m w v)
     c.from_residual-in_err-bind_items.result c.in_err-bind_items.field-0.0 c.from_residual-in_err-bind_items.ensures.1
-    (λ is w v at_w at_v. inr (carried, c.in_ok-carried.ensures.numbered, inr (gained_by_count own other m carried c.in_ok-carried.ensures.numbered types defs copied before first world other_world w v
-    (subst (λ (l : List ℕ). AreTooManyGained own other world other_world w v carried fates l (length before.interfaces.items) (length before.types.items)) c.deref-5.ensures.value
-    (subst (λ l. AreTooManyGained own other world other_world w v carried l c.deref-5.result.now (length before.interfaces.items) (length before.types.items)) (c.deref-4.ensures.value ∙ c.in_ok-fates.ensures.fates)
-    (c.in_err-bind_items.ensures.size is w v at_w at_v))))))
+    (λ is w v at_w at_v. inr (
+      carried,
+      c.in_ok-carried.ensures.numbered,
+      inr (gained_by_count own other m carried c.in_ok-carried.ensures.numbered types defs copied before first world other_world w v
+          (subst (λ (l : List ℕ). AreTooManyGained own other world other_world w v carried fates l (length before.interfaces.items) (length before.types.items)) c.deref-5.ensures.value
+          (subst (λ l. AreTooManyGained own other world other_world w v carried l c.deref-5.result.now (length before.interfaces.items) (length before.types.items)) (c.deref-4.ensures.value ∙ c.in_ok-fates.ensures.fates)
+          (c.in_err-bind_items.ensures.size is w v at_w at_v)))),
+    ))
