@@ -21,3 +21,4 @@ pub mod BoundWorlds
 pub mod RootBindings
 pub mod AsItWas
 pub mod KeptBindings
+pub mod PlansGrown
