@@ -23,3 +23,4 @@ pub mod BoundWorlds
 pub mod RootBindings
 pub mod AsItWas
 pub mod KeptBindings
+pub mod PlansGrown

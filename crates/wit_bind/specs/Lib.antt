@@ -14,3 +14,4 @@ pub mod Merges
 pub mod Unions
 pub mod MergedLaws
 pub mod Apart
+pub mod PlanLaws
