@@ -5,6 +5,8 @@
 #[cfg(test)]
 mod binding;
 #[cfg(test)]
+mod carried;
+#[cfg(test)]
 mod changed_bytes;
 #[cfg(test)]
 mod errors;
@@ -21,11 +23,13 @@ mod merged_samples;
 #[cfg(test)]
 mod merging;
 #[cfg(test)]
+mod modules;
+#[cfg(test)]
 mod names;
 #[cfg(test)]
-mod same;
+mod orders;
 #[cfg(test)]
-mod sections;
+mod same;
 #[cfg(test)]
 mod senses;
 #[cfg(test)]
