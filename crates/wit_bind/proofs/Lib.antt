@@ -23,4 +23,3 @@ pub mod BoundWorlds
 pub mod RootBindings
 pub mod AsItWas
 pub mod KeptBindings
-pub mod PlansGrown

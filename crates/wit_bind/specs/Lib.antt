@@ -14,4 +14,3 @@ pub mod Merges
 pub mod Unions
 pub mod MergedLaws
 pub mod Apart
-pub mod PlanLaws

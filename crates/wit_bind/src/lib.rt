@@ -6,7 +6,6 @@ mod encodings;
 mod keys;
 pub mod laws;
 mod metadata;
-pub mod plan_laws;
 mod versions;
 mod wanted;
 
