@@ -92,15 +92,20 @@ module _ (r : Resolve) (v : IsValid r) where
   interface-path-of : (n : ℕ) (i : Interface) → interface_at r n ≡ Some i → (t : Text) → path_of_interface r i ≡ Some t → (s : String Global) × ((i.name ≡ Some s) × IsPathOf r i.«package» (text_of s) t)
   interface-path-of n i at t e =
       let h = has-path r n t (ap (option_and_then (path_of_interface r)) at ∙ e) in
-      let one : i ≡ h.def = same-some i h.def (sym at ∙ h.there) in
-      (h.name, (ap (λ (x : Interface). x.name) one ∙ h.named_, record {
-        id = h.home;
-        home_is = ap (λ (x : Interface). x.«package») one ∙ h.in_package;
-        package_ = h.package_;
-        stands = h.stands;
-        spelled = h.spelled;
-        label = path-label r v n t h;
-      }))
+      let one : i ≡ h.def = same-some i h.def (sym at ∙ h.there) in (
+        h.name,
+        (
+          ap (λ (x : Interface). x.name) one ∙ h.named_,
+          record {
+            id = h.home;
+            home_is = ap (λ (x : Interface). x.«package») one ∙ h.in_package;
+            package_ = h.package_;
+            stands = h.stands;
+            spelled = h.spelled;
+            label = path-label r v n t h;
+          },
+        ),
+      )
 
   pub world-path-of : (n : ℕ) (w : World) → world_at r n ≡ Some w → (t : Text) → path_of_world r w ≡ Some t → IsPathOf r w.«package» (text_of w.name) t
   world-path-of n w at t e =
@@ -185,12 +190,14 @@ module _ (own other : Resolve) (v : IsValid own) (u : IsValid other) (packages :
         let parts = one_path (identity_of h.package_.name) (identity_of is.package_.name) (text_of h.name) name (package-name own v h.home.0 h.package_ h.stands).identity (path-label own v j t h)
         (package-name other u is.id.0 is.package_ is.stands).identity is.label (sym h.spelled ∙ is.spelled) in
         let g = home-there h.home.0 h.package_ h.stands parts.0 in
-        let found = listed-interface j (get_by_text h.package_.interfaces name) (ap (λ (s : Text). interface_is_listed j s h.package_) (sym parts.1) ∙ path-listed own v j t h) in
-        (found.0, (
-          ap (option_and_then (λ (x : PackageId). option_and_then (λ (p : Package). get_by_text p.interfaces name) (package_at own x.0))) g.1.0
-              ∙ (ap (option_and_then (λ (p : Package). get_by_text p.interfaces name)) (ap (package_at own) g.1.1 ∙ h.stands) ∙ found.1.0),
-          found.1.1,
-        ))
+        let found = listed-interface j (get_by_text h.package_.interfaces name) (ap (λ (s : Text). interface_is_listed j s h.package_) (sym parts.1) ∙ path-listed own v j t h) in (
+          found.0,
+          (
+            ap (option_and_then (λ (x : PackageId). option_and_then (λ (p : Package). get_by_text p.interfaces name) (package_at own x.0))) g.1.0
+                ∙ (ap (option_and_then (λ (p : Package). get_by_text p.interfaces name)) (ap (package_at own) g.1.1 ∙ h.stands) ∙ found.1.0),
+            found.1.1,
+          ),
+        )
 
     -- ---- worlds
 
@@ -212,12 +219,14 @@ module _ (own other : Resolve) (v : IsValid own) (u : IsValid other) (packages :
         let parts = one_path (identity_of h.package_.name) (identity_of is.package_.name) (text_of h.def.name) name (package-name own v h.home.0 h.package_ h.stands).identity (world-label own v j t h)
         (package-name other u is.id.0 is.package_ is.stands).identity is.label (sym h.spelled ∙ is.spelled) in
         let g = home-there h.home.0 h.package_ h.stands parts.0 in
-        let found = listed-world j (get_by_text h.package_.worlds name) (ap (λ (s : Text). world_is_listed j s h.package_) (sym parts.1) ∙ world-listed own v j t h) in
-        (found.0, (
-          ap (option_and_then (λ (x : PackageId). option_and_then (λ (p : Package). get_by_text p.worlds name) (package_at own x.0))) g.1.0
-              ∙ (ap (option_and_then (λ (p : Package). get_by_text p.worlds name)) (ap (package_at own) g.1.1 ∙ h.stands) ∙ found.1.0),
-          found.1.1,
-        ))
+        let found = listed-world j (get_by_text h.package_.worlds name) (ap (λ (s : Text). world_is_listed j s h.package_) (sym parts.1) ∙ world-listed own v j t h) in (
+          found.0,
+          (
+            ap (option_and_then (λ (x : PackageId). option_and_then (λ (p : Package). get_by_text p.worlds name) (package_at own x.0))) g.1.0
+                ∙ (ap (option_and_then (λ (p : Package). get_by_text p.worlds name)) (ap (package_at own) g.1.1 ∙ h.stands) ∙ found.1.0),
+            found.1.1,
+          ),
+        )
 
   -- ---- the other's interfaces, with a path
 

@@ -332,7 +332,13 @@ impl Interpreter {
             b"label" => label(words),
             b"module" => self.module(alloc, words),
             b"get" => self.get(alloc, words),
-            b"text" | b"world-text" | b"decode" | b"decode-at" | b"strip" | b"said" | b"bound"
+            b"text"
+            | b"world-text"
+            | b"decode"
+            | b"decode-at"
+            | b"strip"
+            | b"said"
+            | b"bound"
             | b"stripped" => self.with_bytes(alloc, word, words),
             _ => Err(Answer::Bad),
         }

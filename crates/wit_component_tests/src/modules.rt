@@ -6,8 +6,8 @@ use std::process::Abort;
 use std::test::Fail;
 use wit_component::metadata::decode;
 use wit_component::{
-    Bindgen, Check, Error, OutputToString, PackageId, StringEncoding, WitPrinter, WorldKey, write_name,
-    write_u32,
+    Bindgen, Check, Error, OutputToString, PackageId, StringEncoding, WitPrinter, WorldKey,
+    write_name, write_u32,
 };
 use wit_samples::bytes::{CARRIED, HOST_AND_GUEST, INTERFACE_AND_WORLD};
 
@@ -101,7 +101,9 @@ fn assert_outcome(
     let (found, said) = outcome(alloc, bytes)?;
     assert_eq!(rt; said.as_str(), text);
     match module {
-        Some(expected) => assert!(rt; matches!(&found, Some(bytes) if bytes.as_slice() == expected)),
+        Some(expected) => assert!(rt;
+            matches!(&found, Some(bytes) if bytes.as_slice() == expected)
+        ),
         None => assert!(rt; found.is_none()),
     }
     Ok(())
@@ -119,7 +121,9 @@ fn stripped_of_a_world(rt: HostRuntime) -> Result<(), Fail> {
         &[],
     )?;
     assert_eq!(rt; module.len(), 119);
-    let left = [0x00, 0x61, 0x73, 0x6d, 0x01, 0x00, 0x00, 0x00, 0x01, 0x01, 0x00];
+    let left = [
+        0x00, 0x61, 0x73, 0x6d, 0x01, 0x00, 0x00, 0x00, 0x01, 0x01, 0x00,
+    ];
     let (found, _text) = outcome(alloc, &module)?;
     assert!(rt; matches!(&found, Some(bytes) if bytes.as_slice() == left.as_slice()));
     for length in 0..module.len() {
@@ -148,7 +152,11 @@ fn stripped_of_a_world(rt: HostRuntime) -> Result<(), Fail> {
 #[test]
 fn refused(rt: HostRuntime) -> Result<(), Fail> {
     static CASES: [(Sections, &[u8], &str); 9] = [
-        (&[TEST_BAR, TEST_BAR], &[0], "clash of Export test:test/test"),
+        (
+            &[TEST_BAR, TEST_BAR],
+            &[0],
+            "clash of Export test:test/test",
+        ),
         (&[TEST_BAR], &[0], "bad module at 164"),
         (&[], &[0], "bad module at 8"),
         (&[&[]], &[], "no reading: Truncated at 0"),
