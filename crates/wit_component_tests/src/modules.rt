@@ -19,6 +19,23 @@ const PREAMBLE: [u8; 8] = [0x00, 0x61, 0x73, 0x6d, 0x01, 0x00, 0x00, 0x00];
 /// What nothing binds.
 const NOTHING: &str = "package root:root;\n\nworld root {\n}\n";
 
+/// What a module of the world `foo` of `a:b` binds.
+const FOO_TEXT: &str = "package root:root;
+
+world root {
+  import host: func();
+
+  export guest: func();
+}
+package a:b {
+  world foo {
+    import host: func();
+
+    export guest: func();
+  }
+}
+";
+
 /// What a module of the worlds `foo` and `bar` of `test:test` binds.
 const TEST_TEXT: &str = "package root:root;
 
@@ -150,8 +167,8 @@ fn stripped_of_a_world(rt: HostRuntime) -> Result<(), Fail> {
 
 // The first fault is answered, be it of a section's data, of its merge, or of the frames.
 #[test]
-fn refused(rt: HostRuntime) -> Result<(), Fail> {
-    static CASES: [(Sections, &[u8], &str); 9] = [
+fn bound_or_refused(rt: HostRuntime) -> Result<(), Fail> {
+    static CASES: [(Sections, &[u8], &str); 10] = [
         (
             &[TEST_BAR, TEST_BAR],
             &[0],
@@ -168,6 +185,7 @@ fn refused(rt: HostRuntime) -> Result<(), Fail> {
         ),
         (&[CARRIED, CARRIED], &[], "clash of Export guest"),
         (&[TEST_FOO, TEST_BAR], &[], TEST_TEXT),
+        (&[CARRIED], &[], FOO_TEXT),
         (&[], &[], NOTHING),
     ];
     let alloc = rt.alloc();
@@ -190,16 +208,25 @@ fn no_world_and_no_module(rt: HostRuntime) -> Result<(), Fail> {
     assert_outcome(&rt, alloc, &[], None, "not a core module")
 }
 
-/// The world `foo` with other data in its section `wit-component-encoding`.
-fn saying(alloc: Global, data: &[u8]) -> Result<Vec<u8>, Error> {
+/// The world `foo` with these contents in sections `wit-component-encoding`, one after the other.
+fn saying(alloc: Global, all: &[&'static [u8]]) -> Result<Vec<u8>, Error> {
     let mut bytes = HOST_AND_GUEST.split_at(8).0.to_vec(alloc)?;
-    push_custom(alloc, &mut bytes, "wit-component-encoding", data)?;
+    for contents in all {
+        push_custom(alloc, &mut bytes, "wit-component-encoding", contents)?;
+    }
     bytes.extend_from_slice(HOST_AND_GUEST.split_at(8).1)?;
     Ok(bytes)
 }
 
+/// A module with this data in one section.
+fn module_with(alloc: Global, data: &[u8]) -> Result<Vec<u8>, Error> {
+    let mut bytes = PREAMBLE.to_vec(alloc)?;
+    push_custom(alloc, &mut bytes, "component-type", data)?;
+    Ok(bytes)
+}
+
 #[test]
-fn encodings_that_are_said(rt: HostRuntime) -> Result<(), Fail> {
+fn encodings_that_none_says(rt: HostRuntime) -> Result<(), Fail> {
     static CASES: [(&[u8], &str); 5] = [
         (
             &[],
@@ -221,9 +248,31 @@ fn encodings_that_are_said(rt: HostRuntime) -> Result<(), Fail> {
     ];
     let alloc = rt.alloc();
     for (data, text) in &CASES {
-        let mut bytes = PREAMBLE.to_vec(alloc)?;
-        push_custom(alloc, &mut bytes, "component-type", &saying(alloc, data)?)?;
+        let bytes = module_with(alloc, &saying(alloc, &[*data])?)?;
         assert_outcome(&rt, alloc, &bytes, None, text)?;
+    }
+    Ok(())
+}
+
+// The last section of that name says the encoding.
+#[test]
+fn encodings_that_are_said(rt: HostRuntime) -> Result<(), Fail> {
+    static CASES: [(Sections, StringEncoding); 5] = [
+        (&[&[4, 0]], StringEncoding::UTF8),
+        (&[&[4, 1]], StringEncoding::UTF16),
+        (&[&[4, 2]], StringEncoding::CompactUTF16),
+        (&[&[4, 0], &[4, 1]], StringEncoding::UTF16),
+        (&[&[], &[4, 0]], StringEncoding::UTF8),
+    ];
+    let alloc = rt.alloc();
+    let host = WorldKey::Name(String::from_str(alloc, "host")?);
+    for (all, encoding) in &CASES {
+        let (_module, bound) = decode(alloc, &module_with(alloc, &saying(alloc, all)?)?)?;
+        let found = bound
+            .metadata
+            .import_encodings
+            .get(&bound.resolve, &host, "host");
+        assert!(rt; found == Some(*encoding));
     }
     Ok(())
 }
