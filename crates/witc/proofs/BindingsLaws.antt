@@ -1,8 +1,9 @@
 -- Packages by their numbers, and modules that are refused.
-use Rattle.std.proofs.Common.{◌≡◌, ◌≤◌, ◌<◌, ◌+◌, ◌-◌, ◌∙◌, ◌&&◌, refl, sym, ap, subst, ℕ, zero, suc, nat_lt, Bool, true, false, List, [], ◌∷◌, length, map, Some, arith}
+use Rattle.std.proofs.Common.{◌≡◌, ◌≤◌, ◌<◌, ◌+◌, ◌-◌, ◌∙◌, ◌&&◌, refl, sym, ap, subst, ℕ, zero, suc, nat_lt, Bool, true, false, List, [], ◌∷◌, ◌++◌, length, map, Some, arith}
 use Rattle.std.specs.Prelude.{Option, slice_get}
 use Rattle.std.specs.List.{list_all, range_with_len}
 use Rattle.std.proofs.lemmas.Bool.{lt-ltb, ltb-false, ltb-true}
+use Rattle.std.proofs.lemmas.List.FromFn.{map-range_with_len_more}
 use Rattle.wit_model.specs.declared.error.Error.{Error}
 use Rattle.wit_model.specs.declared.error.Error.TheVariants.{Memory}
 use Rattle.wit_model.specs.declared.model.Package.{Package}
@@ -55,6 +56,17 @@ all-there : {X : Type 0} (xs : List X) (from many : ℕ) → from + many ≤ len
 all-there xs from zero within = refl
 all-there xs from (suc many) within = ap (λ b. b && list_all (λ (id : PackageId). in_list xs id.0) (map (λ n. record { 0 = n }) (range_with_len (from + 1) many))) (lt-ltb from (length xs) (omega (arith, within)))
     ∙ all-there xs (from + 1) many (omega (arith, within))
+
+-- a number more
+pub one-more : (number : ℕ) (old new : List PackageId) → 1 ≤ number → old ≡ map (λ n. record { 0 = n }) (range_with_len 1 (number - 1)) → new ≡ old ++ record { 0 = number } ∷ []
+    → new ≡ map (λ n. record { 0 = n }) (range_with_len 1 (number + 1 - 1))
+one-more number old new some is pushed =
+    let numbered : ℕ → PackageId = λ n. record { 0 = n } in
+    let behind : 1 + (number - 1) ≡ number = omega (arith, some) in
+    let longer : (number - 1) + 1 ≡ number + 1 - 1 = omega (arith, some) in
+    pushed
+    ∙ (ap (λ (ids : List PackageId). ids ++ numbered number ∷ []) is
+    ∙ (sym (map-range_with_len_more numbered 1 (number - 1) number behind) ∙ ap (λ (k : ℕ). map numbered (range_with_len 1 k)) longer))
 
 pub others-there : (r : Resolve) → 0 < length r.packages.items → list_all (λ (id : PackageId). in_list r.packages.items id.0) (other_packages_of r) ≡ true
 others-there r some = all-there r.packages.items 1 (length r.packages.items - 1) (omega (arith, some))

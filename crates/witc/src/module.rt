@@ -55,9 +55,9 @@ pub fn strip_input<R: Read>(alloc: Global, reader: &mut R) -> Result<Vec<u8>, Re
     ensures refused { IfErr result (RefusesModuleInput (R.remaining reader.old) (R.remaining reader.new)) }
 {
     let bytes = read_whole(alloc, reader)?;
-    let (module, _bound) = decode(alloc, &bytes)?;
-    match module {
-        Some(module) => Ok(module),
+    let (stripped, _bound) = decode(alloc, &bytes)?;
+    match stripped {
+        Some(kept) => Ok(kept),
         None => Ok(bytes),
     }
 }
