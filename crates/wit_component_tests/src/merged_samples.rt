@@ -224,7 +224,7 @@ fn host_and_root_interface(alloc: Global) -> Result<Resolve, AllocError> {
     Ok(resolve)
 }
 
-pub(super) fn sample(alloc: Global, sample: Sample) -> Result<Resolve, AllocError> {
+pub(super) fn sample_of(alloc: Global, sample: Sample) -> Result<Resolve, AllocError> {
     match sample {
         Sample::Host => host_and_guest(alloc),
         Sample::HostTakes => host_takes(alloc),

@@ -4,7 +4,7 @@ ghost use Rattle.std.specs.Prelude.{◌<◌, length, IfOk};
 ghost use Rattle.wit_component.specs.Bindings.{IsBindgen};
 ghost use Rattle.wit_component.specs.Valid.{IsValid};
 
-use crate::merged_samples::{Sample, sample, tower};
+use crate::merged_samples::{Sample, sample_of, tower};
 use indexmap::IndexSet;
 use std::alloc::Global;
 use std::process::Abort;
@@ -383,7 +383,7 @@ fn start(alloc: Global, first: Option<Sample>) -> Result<Bindgen, Fail>
 {
     let mut own = checked(alloc, Bindgen::default(alloc)?)?;
     if let Some(first) = first {
-        let other = binding(alloc, sample(alloc, first)?, StringEncoding::UTF8)?;
+        let other = binding(alloc, sample_of(alloc, first)?, StringEncoding::UTF8)?;
         own.merge(alloc, other)?;
     }
     checked(alloc, own)
@@ -399,7 +399,7 @@ fn joined(alloc: Global, texts: [&str; 3]) -> Result<String, Error> {
 
 fn assert_row(rt: &impl Abort, alloc: Global, row: &Row) -> Result<(), Fail> {
     let mut own = start(alloc, row.first)?;
-    let other = binding(alloc, sample(alloc, row.second)?, row.encoding)?;
+    let other = binding(alloc, sample_of(alloc, row.second)?, row.encoding)?;
     let found = outcome(alloc, &mut own, other)?;
     assert_eq!(rt; found.as_str(), row.outcome);
     own.resolve.check(alloc)?;
