@@ -5,8 +5,6 @@
 #[cfg(test)]
 mod binding;
 #[cfg(test)]
-mod carried;
-#[cfg(test)]
 mod changed_bytes;
 #[cfg(test)]
 mod errors;
@@ -19,15 +17,7 @@ mod in_time;
 #[cfg(test)]
 mod instances;
 #[cfg(test)]
-mod merged_samples;
-#[cfg(test)]
-mod merging;
-#[cfg(test)]
-mod modules;
-#[cfg(test)]
 mod names;
-#[cfg(test)]
-mod orders;
 #[cfg(test)]
 mod same;
 #[cfg(test)]

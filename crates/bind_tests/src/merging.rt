@@ -70,7 +70,7 @@ fn add_package_text(
 }
 
 // The texts of all packages.
-fn text_of(alloc: Global, resolve: &Resolve) -> Result<String, Error>
+pub(super) fn packages_as_text(alloc: Global, resolve: &Resolve) -> Result<String, Error>
     requires { IsValid resolve.now }
 {
     let mut text = String::new(alloc);
@@ -404,7 +404,10 @@ fn assert_row(rt: &impl Abort, alloc: Global, row: &Row) -> Result<(), Fail> {
     assert_eq!(rt; found.as_str(), row.outcome);
     own.resolve.check(alloc)?;
     let packages = joined(alloc, row.packages)?;
-    assert_eq!(rt; text_of(alloc, &own.resolve)?.as_str(), packages.as_str());
+    assert_eq!(rt;
+        packages_as_text(alloc, &own.resolve)?.as_str(),
+        packages.as_str()
+    );
     assert!(rt; counts_of(&own.resolve) == row.counts);
     assert!(rt; encodings_of(alloc, &own)? == row.encodings);
     Ok(())

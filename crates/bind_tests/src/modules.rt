@@ -1,14 +1,15 @@
 //! What whole modules bind, and what is left of them.
 
+ghost use Rattle.std.specs.Prelude.{IfOk};
+ghost use Rattle.wit_component.specs.Bindings.{IsBindgen};
+
 use super::carried::{TEST_BAR, TEST_FOO};
+use super::merging::packages_as_text;
 use std::alloc::Global;
 use std::process::Abort;
 use std::test::Fail;
 use wit_component::metadata::decode;
-use wit_component::{
-    Bindgen, Check, Error, OutputToString, PackageId, StringEncoding, WitPrinter, WorldKey,
-    write_name, write_u32,
-};
+use wit_component::{Bindgen, Check, Error, StringEncoding, WorldKey, write_name, write_u32};
 use wit_samples::bytes::{CARRIED, HOST_AND_GUEST, INTERFACE_AND_WORLD};
 
 /// The data of sections.
@@ -27,12 +28,12 @@ world root {
 
   export guest: func();
 }
-package a:b {
-  world foo {
-    import host: func();
+package a:b;
 
-    export guest: func();
-  }
+world foo {
+  import host: func();
+
+  export guest: func();
 }
 ";
 
@@ -44,33 +45,27 @@ world root {
 
   export test:test/test;
 }
-package test:test {
-  interface test {
-    f: func();
-  }
-  world foo {
-    import test;
-  }
-  world bar {
-    import test;
+package test:test;
 
-    export test;
-  }
+interface test {
+  f: func();
+}
+
+world foo {
+  import test;
+}
+
+world bar {
+  import test;
+
+  export test;
 }
 ";
 
-/// The text of bindings: package 0, with all others nested.
+/// The text of bindings: that of each package, in order.
 fn text_of(alloc: Global, bound: &Bindgen) -> Result<String, Fail> {
     bound.resolve.check(alloc)?;
-    let mut others = Vec::new(alloc);
-    for number in 1..bound.resolve.packages.len() {
-        others.push(PackageId(u32::try_from(number).unwrap_or(0)))?;
-    }
-    let mut printer = WitPrinter::new(OutputToString::new(alloc));
-    if !bound.resolve.packages.is_empty() {
-        printer.print(alloc, &bound.resolve, PackageId(0), &others)?;
-    }
-    Ok(String::from(printer.output))
+    Ok(packages_as_text(alloc, &bound.resolve)?)
 }
 
 fn push_custom(alloc: Global, out: &mut Vec<u8>, name: &str, data: &[u8]) -> Result<(), Error> {
@@ -278,7 +273,9 @@ fn encodings_that_are_said(rt: HostRuntime) -> Result<(), Fail> {
 }
 
 /// What a module of these sections binds, in their order.
-pub(super) fn bound_by(alloc: Global, sections: &[&'static [u8]]) -> Result<Bindgen, Error> {
+pub(super) fn bound_by(alloc: Global, sections: &[&'static [u8]]) -> Result<Bindgen, Error>
+    ensures { IfOk result IsBindgen }
+{
     let module = module_of(alloc, &[], "component-type", sections, &[])?;
     let (_module, bound) = decode(alloc, &module)?;
     Ok(bound)
