@@ -54,7 +54,6 @@ interface test {
 world foo {
   import test;
 }
-
 world bar {
   import test;
 
